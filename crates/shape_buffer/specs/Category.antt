@@ -1,0 +1,11 @@
+-- General categories (The Unicode Standard, section 4.5).
+use Rattle.std.specs.Prelude.{Bool, true, false}
+use Rattle.shape_buffer.specs.declared.buffer.general_category.hb_unicode_general_category_t.{hb_unicode_general_category_t}
+use Rattle.shape_buffer.specs.declared.buffer.general_category.hb_unicode_general_category_t.TheVariants.{NonspacingMark, SpacingMark, EnclosingMark}
+
+-- the categories of marks
+abbrev pub is_mark_category : hb_unicode_general_category_t → Bool
+is_mark_category NonspacingMark = true
+is_mark_category SpacingMark = true
+is_mark_category EnclosingMark = true
+is_mark_category _ = false

@@ -1,0 +1,6 @@
+-- What a face answers.
+use Rattle.std.specs.Prelude.{ℕ, Option}
+use Rattle.shape_buffer.specs.declared.buffer.settings.GlyphId.{GlyphId}
+
+pub record FaceMeaning : Type 0 where
+  pub nominal_glyph : ℕ → Option GlyphId

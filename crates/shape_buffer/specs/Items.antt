@@ -1,0 +1,51 @@
+-- Items.
+use Rattle.std.specs.Prelude.{ℕ, Bool, false}
+use Rattle.shape_buffer.specs.Category.{is_mark_category}
+use Rattle.shape_buffer.specs.declared.buffer.general_category.hb_unicode_general_category_t.TheVariants.{UppercaseLetter}
+use Rattle.shape_buffer.specs.declared.buffer.items.hb_glyph_info_t.{hb_glyph_info_t}
+
+-- an item
+abbrev pub Item : Type 0
+Item = hb_glyph_info_t
+
+-- an item as a text brings it in
+abbrev pub new_item : ℕ → ℕ → Item
+new_item c cluster = record {
+  codepoint = c;
+  glyph_index = 0;
+  glyph_id = 0;
+  mask = 0;
+  cluster = cluster;
+  properties = record {
+    general_category = UppercaseLetter;
+    modified_class = 0;
+    ignorable = false;
+    hidden = false;
+    continuation = false;
+    zwj = false;
+    zwnj = false;
+    space_type = 0;
+    selector_mark = false;
+    glyph_class = record { 0 = 0 };
+    substituted = false;
+    ligated = false;
+    ligature_id = 0;
+    ligature_component = 0;
+    number_of_components = 1;
+    syllable = 0;
+    shaper_category = 0;
+    shaper_auxiliary = 0;
+  };
+}
+
+-- whether an item is a mark, by its category
+abbrev pub is_mark_item : Item → Bool
+is_mark_item item = is_mark_category item.properties.general_category
+
+-- the modified combining class of an item
+abbrev pub class_of_item : Item → ℕ
+class_of_item item = item.properties.modified_class
+
+-- the character of an item
+abbrev pub char_of : Item → ℕ
+char_of item = item.codepoint

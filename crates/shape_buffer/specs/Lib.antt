@@ -1,0 +1,14 @@
+pub mod Direction
+pub mod Category
+pub mod Properties
+pub mod Positions
+pub mod Items
+pub mod Buffer
+pub mod Text
+pub mod Chain
+pub mod Unicode
+pub mod UnicodeProps
+pub mod Guess
+pub mod Face
+pub mod MapBuilder
+pub mod Layout

@@ -1,0 +1,392 @@
+//! One item of a buffer: a character that becomes a glyph.
+//!
+//! The five fields are open to everybody; the named properties are read by `_hb_glyph_info_get_` and
+//! set by `_hb_glyph_info_set_`, each followed by the property's name.
+ghost use Rattle.std.specs.Prelude.{◌≡◌};
+ghost use Rattle.std.specs.Int.RustNames.{bit_and};
+ghost use Rattle.shape_buffer.specs.UnicodeProps.{is_hidden_char};
+
+use crate::buffer::flags::{GlyphPropsFlags, ScratchFlags};
+use crate::buffer::general_category::hb_unicode_general_category_t;
+use crate::buffer::properties::ItemProperties;
+use crate::interfaces::hb_unicode_funcs_t;
+use bitflags::Flags;
+
+/// U+034F, which keeps apart the marks around it.
+const COMBINING_GRAPHEME_JOINER: char = '\u{34F}';
+
+const ZERO_WIDTH_NON_JOINER: char = '\u{200C}';
+
+const ZERO_WIDTH_JOINER: char = '\u{200D}';
+
+/// A set of bits of a glyph: the features that are on for it, and the three defined flags.
+pub type hb_mask_t = u32;
+
+/// A line mustn't end before this glyph without shaping again.
+pub const UNSAFE_TO_BREAK: hb_mask_t = 1;
+
+/// Texts mustn't be joined before this glyph without shaping again.
+pub const UNSAFE_TO_CONCAT: hb_mask_t = 2;
+
+/// An elongation may be put in before this glyph.
+pub const SAFE_TO_INSERT_TATWEEL: hb_mask_t = 4;
+
+/// The three flags together; the other bits of a mask are features.
+pub const DEFINED: hb_mask_t = 7;
+
+/// An item: its character, the index that the face answers for it, the glyph that lookups make of it,
+/// its mask, and the cluster that leads back to the text.
+#[derive(Clone, Copy, Debug)]
+pub struct hb_glyph_info_t {
+    pub codepoint: char,
+    pub glyph_index: u32,
+    pub glyph_id: u32,
+    pub mask: hb_mask_t,
+    pub cluster: u32,
+    properties: ItemProperties,
+}
+
+impl hb_glyph_info_t {
+    ghost use Rattle.shape_buffer.specs.Items.{new_item};
+    ghost use Rattle.shape_buffer.specs.Category.{is_mark_category};
+    ghost use Rattle.shape_buffer.specs.UnicodeProps.{with_unicode_props, with_scratch_of};
+
+    /// An item for a character of a text: no glyph, no mask, no properties, one ligature component.
+    pub fn new(c: char, cluster: u32) -> Self
+        ensures { result ≡ new_item c cluster }
+    {
+        hb_glyph_info_t {
+            codepoint: c,
+            glyph_index: 0,
+            glyph_id: 0,
+            mask: 0,
+            cluster,
+            properties: ItemProperties {
+                general_category: hb_unicode_general_category_t::UppercaseLetter,
+                modified_class: 0,
+                ignorable: false,
+                hidden: false,
+                continuation: false,
+                zwj: false,
+                zwnj: false,
+                space_type: 0,
+                selector_mark: false,
+                glyph_class: GlyphPropsFlags(0),
+                substituted: false,
+                ligated: false,
+                ligature_id: 0,
+                ligature_component: 0,
+                number_of_components: 1,
+                syllable: 0,
+                shaper_category: 0,
+                shaper_auxiliary: 0,
+            },
+        }
+    }
+
+    /// Sets the eight properties that go by the character alone; the others stay. Adds to
+    /// `scratch_flags` what the character shows of its text.
+    pub fn init_unicode_props<U: hb_unicode_funcs_t>(&mut self, scratch_flags: &mut ScratchFlags)
+        ensures item { self.new ≡ with_unicode_props U.unicode self.old }
+        ensures flags { scratch_flags.new ≡ with_scratch_of U.unicode self.old.codepoint scratch_flags.old }
+    {
+        let c = self.codepoint;
+        let beyond_ascii = c >= '\u{80}';
+        let category = U::general_category(c);
+        let mark = beyond_ascii && category.is_mark();
+        let ignorable = beyond_ascii && U::is_default_ignorable(c);
+        self.properties.general_category = category;
+        self.properties.modified_class = if mark {
+            U::modified_combining_class(c)
+        } else {
+            0
+        };
+        self.properties.ignorable = ignorable;
+        self.properties.hidden = is_hidden(c);
+        self.properties.continuation = mark;
+        self.properties.zwj = c == ZERO_WIDTH_JOINER;
+        self.properties.zwnj = c == ZERO_WIDTH_NON_JOINER;
+        self.properties.space_type = 0;
+        if beyond_ascii {
+            scratch_flags.insert(ScratchFlags::HAS_NON_ASCII);
+        }
+        if ignorable {
+            scratch_flags.insert(ScratchFlags::HAS_DEFAULT_IGNORABLES);
+        }
+        if c == COMBINING_GRAPHEME_JOINER {
+            scratch_flags.insert(ScratchFlags::HAS_CGJ);
+        }
+    }
+
+    /// Whether the category is one of the three of marks.
+    pub fn _hb_glyph_info_is_unicode_mark(&self) -> bool
+        ensures { result ≡ is_mark_category self.now.properties.general_category }
+    {
+        self.properties.general_category.is_mark()
+    }
+
+    /// Reads the general category of the character.
+    pub fn _hb_glyph_info_get_general_category(&self) -> hb_unicode_general_category_t
+        ensures { result ≡ self.now.properties.general_category }
+    {
+        self.properties.general_category
+    }
+
+    /// Sets the general category of the character, and nothing else.
+    pub fn _hb_glyph_info_set_general_category(
+        &mut self,
+        general_category: hb_unicode_general_category_t,
+    )
+        ensures { self.new ≡ record self.old { properties = record self.old.properties { general_category = general_category } } }
+    {
+        self.properties.general_category = general_category;
+    }
+
+    /// Reads the modified combining class, 0 for what is no mark.
+    pub fn _hb_glyph_info_get_modified_class(&self) -> u8
+        ensures { result ≡ self.now.properties.modified_class }
+    {
+        self.properties.modified_class
+    }
+
+    /// Sets the modified combining class, 0 for what is no mark, and nothing else.
+    pub fn _hb_glyph_info_set_modified_class(&mut self, modified_class: u8)
+        ensures { self.new ≡ record self.old { properties = record self.old.properties { modified_class = modified_class } } }
+    {
+        self.properties.modified_class = modified_class;
+    }
+
+    /// Reads whether the character is a default ignorable.
+    pub fn _hb_glyph_info_get_ignorable(&self) -> bool
+        ensures { result ≡ self.now.properties.ignorable }
+    {
+        self.properties.ignorable
+    }
+
+    /// Sets whether the character is a default ignorable, and nothing else.
+    pub fn _hb_glyph_info_set_ignorable(&mut self, ignorable: bool)
+        ensures { self.new ≡ record self.old { properties = record self.old.properties { ignorable = ignorable } } }
+    {
+        self.properties.ignorable = ignorable;
+    }
+
+    /// Reads whether the character is to stay unseen though a lookup took it.
+    pub fn _hb_glyph_info_get_hidden(&self) -> bool
+        ensures { result ≡ self.now.properties.hidden }
+    {
+        self.properties.hidden
+    }
+
+    /// Sets whether the character is to stay unseen though a lookup took it, and nothing else.
+    pub fn _hb_glyph_info_set_hidden(&mut self, hidden: bool)
+        ensures { self.new ≡ record self.old { properties = record self.old.properties { hidden = hidden } } }
+    {
+        self.properties.hidden = hidden;
+    }
+
+    /// Reads whether the item goes on with the grapheme of the item before it (UAX 29).
+    pub fn _hb_glyph_info_get_continuation(&self) -> bool
+        ensures { result ≡ self.now.properties.continuation }
+    {
+        self.properties.continuation
+    }
+
+    /// Sets whether the item goes on with the grapheme of the item before it (UAX 29), and nothing else.
+    pub fn _hb_glyph_info_set_continuation(&mut self, continuation: bool)
+        ensures { self.new ≡ record self.old { properties = record self.old.properties { continuation = continuation } } }
+    {
+        self.properties.continuation = continuation;
+    }
+
+    /// Reads whether the character is U+200D, the zero width joiner.
+    pub fn _hb_glyph_info_get_zwj(&self) -> bool
+        ensures { result ≡ self.now.properties.zwj }
+    {
+        self.properties.zwj
+    }
+
+    /// Sets whether the character is U+200D, the zero width joiner, and nothing else.
+    pub fn _hb_glyph_info_set_zwj(&mut self, zwj: bool)
+        ensures { self.new ≡ record self.old { properties = record self.old.properties { zwj = zwj } } }
+    {
+        self.properties.zwj = zwj;
+    }
+
+    /// Reads whether the character is U+200C, the zero width non-joiner.
+    pub fn _hb_glyph_info_get_zwnj(&self) -> bool
+        ensures { result ≡ self.now.properties.zwnj }
+    {
+        self.properties.zwnj
+    }
+
+    /// Sets whether the character is U+200C, the zero width non-joiner, and nothing else.
+    pub fn _hb_glyph_info_set_zwnj(&mut self, zwnj: bool)
+        ensures { self.new ≡ record self.old { properties = record self.old.properties { zwnj = zwnj } } }
+    {
+        self.properties.zwnj = zwnj;
+    }
+
+    /// Reads the remembered type of a fallback space, 0 for none.
+    pub fn _hb_glyph_info_get_space_type(&self) -> u8
+        ensures { result ≡ self.now.properties.space_type }
+    {
+        self.properties.space_type
+    }
+
+    /// Sets the remembered type of a fallback space, 0 for none, and nothing else.
+    pub fn _hb_glyph_info_set_space_type(&mut self, space_type: u8)
+        ensures { self.new ≡ record self.old { properties = record self.old.properties { space_type = space_type } } }
+    {
+        self.properties.space_type = space_type;
+    }
+
+    /// Reads whether the item is a variation selector that the face has no glyph for.
+    pub fn _hb_glyph_info_get_selector_mark(&self) -> bool
+        ensures { result ≡ self.now.properties.selector_mark }
+    {
+        self.properties.selector_mark
+    }
+
+    /// Sets whether the item is a variation selector that the face has no glyph for, and nothing else.
+    pub fn _hb_glyph_info_set_selector_mark(&mut self, selector_mark: bool)
+        ensures { self.new ≡ record self.old { properties = record self.old.properties { selector_mark = selector_mark } } }
+    {
+        self.properties.selector_mark = selector_mark;
+    }
+
+    /// Reads the glyph class: one or none of the flags of [`GlyphPropsFlags`].
+    pub fn _hb_glyph_info_get_glyph_class(&self) -> GlyphPropsFlags
+        ensures { result ≡ self.now.properties.glyph_class }
+    {
+        self.properties.glyph_class
+    }
+
+    /// Sets the glyph class, and nothing else. Bits that [`GlyphPropsFlags`] doesn't define are dropped.
+    pub fn _hb_glyph_info_set_glyph_class(&mut self, glyph_class: GlyphPropsFlags)
+        ensures { self.new ≡ record self.old { properties = record self.old.properties { glyph_class = record { 0 = bit_and glyph_class.0 14 } } } }
+    {
+        self.properties.glyph_class = GlyphPropsFlags(glyph_class.0 & 14);
+    }
+
+    /// Reads whether a lookup has put the glyph in.
+    pub fn _hb_glyph_info_get_substituted(&self) -> bool
+        ensures { result ≡ self.now.properties.substituted }
+    {
+        self.properties.substituted
+    }
+
+    /// Sets whether a lookup has put the glyph in, and nothing else.
+    pub fn _hb_glyph_info_set_substituted(&mut self, substituted: bool)
+        ensures { self.new ≡ record self.old { properties = record self.old.properties { substituted = substituted } } }
+    {
+        self.properties.substituted = substituted;
+    }
+
+    /// Reads whether the glyph is a ligature that a lookup made.
+    pub fn _hb_glyph_info_get_ligated(&self) -> bool
+        ensures { result ≡ self.now.properties.ligated }
+    {
+        self.properties.ligated
+    }
+
+    /// Sets whether the glyph is a ligature that a lookup made, and nothing else.
+    pub fn _hb_glyph_info_set_ligated(&mut self, ligated: bool)
+        ensures { self.new ≡ record self.old { properties = record self.old.properties { ligated = ligated } } }
+    {
+        self.properties.ligated = ligated;
+    }
+
+    /// Reads the number of the ligature that the glyph is or belongs to, 0 for none.
+    pub fn _hb_glyph_info_get_ligature_id(&self) -> u8
+        ensures { result ≡ self.now.properties.ligature_id }
+    {
+        self.properties.ligature_id
+    }
+
+    /// Sets the number of the ligature that the glyph is or belongs to, 0 for none, and nothing else.
+    pub fn _hb_glyph_info_set_ligature_id(&mut self, ligature_id: u8)
+        ensures { self.new ≡ record self.old { properties = record self.old.properties { ligature_id = ligature_id } } }
+    {
+        self.properties.ligature_id = ligature_id;
+    }
+
+    /// Reads the component of the ligature that a mark belongs to, 0 for none.
+    pub fn _hb_glyph_info_get_ligature_component(&self) -> u8
+        ensures { result ≡ self.now.properties.ligature_component }
+    {
+        self.properties.ligature_component
+    }
+
+    /// Sets the component of the ligature that a mark belongs to, 0 for none, and nothing else.
+    pub fn _hb_glyph_info_set_ligature_component(&mut self, ligature_component: u8)
+        ensures { self.new ≡ record self.old { properties = record self.old.properties { ligature_component = ligature_component } } }
+    {
+        self.properties.ligature_component = ligature_component;
+    }
+
+    /// Reads how many components a ligature has, 1 for what is none.
+    pub fn _hb_glyph_info_get_number_of_components(&self) -> u8
+        ensures { result ≡ self.now.properties.number_of_components }
+    {
+        self.properties.number_of_components
+    }
+
+    /// Sets how many components a ligature has, 1 for what is none, and nothing else.
+    pub fn _hb_glyph_info_set_number_of_components(&mut self, number_of_components: u8)
+        ensures { self.new ≡ record self.old { properties = record self.old.properties { number_of_components = number_of_components } } }
+    {
+        self.properties.number_of_components = number_of_components;
+    }
+
+    /// Reads the syllable that a script shaper counted the item to.
+    pub fn _hb_glyph_info_get_syllable(&self) -> u8
+        ensures { result ≡ self.now.properties.syllable }
+    {
+        self.properties.syllable
+    }
+
+    /// Sets the syllable that a script shaper counted the item to, and nothing else.
+    pub fn _hb_glyph_info_set_syllable(&mut self, syllable: u8)
+        ensures { self.new ≡ record self.old { properties = record self.old.properties { syllable = syllable } } }
+    {
+        self.properties.syllable = syllable;
+    }
+
+    /// Reads the script shaper's own category.
+    pub fn _hb_glyph_info_get_shaper_category(&self) -> u8
+        ensures { result ≡ self.now.properties.shaper_category }
+    {
+        self.properties.shaper_category
+    }
+
+    /// Sets the script shaper's own category, and nothing else.
+    pub fn _hb_glyph_info_set_shaper_category(&mut self, shaper_category: u8)
+        ensures { self.new ≡ record self.old { properties = record self.old.properties { shaper_category = shaper_category } } }
+    {
+        self.properties.shaper_category = shaper_category;
+    }
+
+    /// Reads the script shaper's auxiliary byte.
+    pub fn _hb_glyph_info_get_shaper_auxiliary(&self) -> u8
+        ensures { result ≡ self.now.properties.shaper_auxiliary }
+    {
+        self.properties.shaper_auxiliary
+    }
+
+    /// Sets the script shaper's auxiliary byte, and nothing else.
+    pub fn _hb_glyph_info_set_shaper_auxiliary(&mut self, shaper_auxiliary: u8)
+        ensures { self.new ≡ record self.old { properties = record self.old.properties { shaper_auxiliary = shaper_auxiliary } } }
+    {
+        self.properties.shaper_auxiliary = shaper_auxiliary;
+    }
+}
+
+/// Whether a character is to stay unseen: Mongolian variation selectors, tags, and the grapheme joiner.
+fn is_hidden(c: char) -> bool
+    ensures { result ≡ is_hidden_char c }
+{
+    matches!(
+        c,
+        '\u{180B}'..='\u{180D}' | '\u{180F}' | '\u{E0020}'..='\u{E007F}' | COMBINING_GRAPHEME_JOINER
+    )
+}

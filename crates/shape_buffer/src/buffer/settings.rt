@@ -1,0 +1,129 @@
+//! What a caller sets of a text: tags, scripts, languages, directions, levels, features.
+ghost use Rattle.std.specs.Prelude.{◌≡◌, ◌+◌, ◌*◌, ◌↔◌, IsTrue, slice_index};
+
+/// A glyph of a face, by its number.
+#[derive(Clone, Copy, PartialEq, Eq, Debug)]
+pub struct GlyphId(pub u32);
+
+/// Four bytes as one number, the first byte highest (the tags of OpenType).
+#[derive(Clone, Copy, PartialEq, Eq, Debug)]
+pub struct hb_tag_t(pub u32);
+
+/// A script, by its tag of ISO 15924.
+#[derive(Clone, Copy, PartialEq, Eq, Debug)]
+pub struct Script(pub hb_tag_t);
+
+/// A language, by its name (BCP 47).
+#[derive(Drop, Debug)]
+pub struct Language(pub String);
+
+/// The direction that a text runs in.
+#[derive(Clone, Copy, PartialEq, Eq, Debug)]
+pub enum Direction {
+    Invalid,
+    LeftToRight,
+    RightToLeft,
+    TopToBottom,
+    BottomToTop,
+}
+
+/// How far clusters are merged: the first two levels keep them in order.
+#[derive(Clone, Copy, PartialEq, Eq, Debug)]
+pub enum BufferClusterLevel {
+    MonotoneGraphemes = 0,
+    MonotoneCharacters = 1,
+    Characters = 2,
+}
+
+/// A feature that a user asks for, over the items whose cluster is in `start..end`.
+#[derive(Clone, Copy, PartialEq, Eq, Debug)]
+pub struct Feature {
+    pub tag: hb_tag_t,
+    pub value: u32,
+    pub start: u32,
+    pub end: u32,
+}
+
+impl hb_tag_t {
+    /// The tag of four bytes, the first one highest.
+    pub fn from_bytes(bytes: &[u8; 4]) -> Self
+        ensures { result.0 ≡ slice_index bytes.now 0 * 16777216 + slice_index bytes.now 1 * 65536
+            + slice_index bytes.now 2 * 256 + slice_index bytes.now 3 }
+    {
+        hb_tag_t(u32::from_be_bytes(*bytes))
+    }
+}
+
+impl Feature {
+    /// Whether the feature is asked for over the whole text.
+    pub fn is_global(&self) -> bool
+        ensures { IsTrue result ↔ ((self.now.start ≡ 0) × (self.now.end ≡ u32.MAX)) }
+    {
+        self.start == 0 && self.end == u32::MAX
+    }
+}
+
+impl Direction {
+    ghost use Rattle.shape_buffer.specs.Direction.{is_horizontal, is_vertical, is_forward, is_backward, reverse_of};
+
+    /// Whether this is one of left to right and right to left.
+    pub fn is_horizontal(self) -> bool
+        ensures { result ≡ is_horizontal self }
+    {
+        matches!(self, Direction::LeftToRight | Direction::RightToLeft)
+    }
+
+    /// Whether this is one of top to bottom and bottom to top.
+    pub fn is_vertical(self) -> bool
+        ensures { result ≡ is_vertical self }
+    {
+        matches!(self, Direction::TopToBottom | Direction::BottomToTop)
+    }
+
+    /// Whether text runs to the right or to the bottom.
+    pub fn is_forward(self) -> bool
+        ensures { result ≡ is_forward self }
+    {
+        matches!(self, Direction::LeftToRight | Direction::TopToBottom)
+    }
+
+    /// Whether text runs to the left or to the top.
+    pub fn is_backward(self) -> bool
+        ensures { result ≡ is_backward self }
+    {
+        matches!(self, Direction::RightToLeft | Direction::BottomToTop)
+    }
+
+    /// The opposite direction; Invalid stays.
+    pub fn reverse(self) -> Direction
+        ensures { result ≡ reverse_of self }
+    {
+        match self {
+            Direction::Invalid => Direction::Invalid,
+            Direction::LeftToRight => Direction::RightToLeft,
+            Direction::RightToLeft => Direction::LeftToRight,
+            Direction::TopToBottom => Direction::BottomToTop,
+            Direction::BottomToTop => Direction::TopToBottom,
+        }
+    }
+}
+
+impl Script {
+    ghost use Rattle.shape_buffer.specs.Guess.{is_specific};
+
+    /// Zyyy: characters of many scripts.
+    pub const COMMON: Script = Script(hb_tag_t(0x5A79_7979));
+
+    /// Zinh: characters that take the script of the one before.
+    pub const INHERITED: Script = Script(hb_tag_t(0x5A69_6E68));
+
+    /// Zzzz: characters without a known script.
+    pub const UNKNOWN: Script = Script(hb_tag_t(0x5A7A_7A7A));
+
+    /// Whether the script is neither Common nor Inherited nor Unknown.
+    pub fn is_specific(self) -> bool
+        ensures { result ≡ is_specific self }
+    {
+        self != Script::COMMON && self != Script::INHERITED && self != Script::UNKNOWN
+    }
+}

@@ -1,0 +1,490 @@
+//! The list of items that the stages of shaping work on, with its settings.
+ghost use Rattle.std.specs.Prelude.{◌≡◌, ◌+◌, ◌<◌, ◌≤◌, ◌^◌, ◌↔◌, [], ◌∷◌, ◌++◌, length, insert, remove, slice_set, string_bytes, replicate, vec_len, IsTrue, IsErrOf, IsOkUnless, OnOk, OnErr, Some, None};
+ghost use Rattle.std.specs.Option.{option_map};
+ghost use Rattle.shape_buffer.specs.Positions.{zero_position as zero_position_of};
+ghost use Rattle.shape_buffer.specs.Guess.{first_script as first_script_of, script_or_ltr};
+
+use crate::buffer::context::Context;
+use crate::buffer::error::ShapeError;
+use crate::buffer::flags::{BufferFlags, ScratchFlags};
+use crate::buffer::glyph_buffer::GlyphBuffer;
+use crate::buffer::items::hb_glyph_info_t;
+use crate::buffer::positions::GlyphPosition;
+use crate::buffer::settings::{BufferClusterLevel, Direction, GlyphId, Language, Script};
+use crate::buffer::text::append_text;
+use crate::buffer::unicode_buffer::UnicodeBuffer;
+use crate::interfaces::hb_unicode_funcs_t;
+use std::alloc::{AllocError, Global};
+use std::marker::Model;
+
+/// A run may make 64 items of each that it began with.
+const MAX_LEN_FACTOR: usize = 64;
+
+/// A run may make so many items, however few it began with.
+const MAX_LEN_MIN: usize = 16384;
+
+/// The items of a text with their positions, and its settings. There are always as many positions as
+/// items; an index counts either of them, from 0.
+#[derive(Drop, Debug)]
+pub struct hb_buffer_t {
+    infos: Vec<hb_glyph_info_t>,
+    positions: Vec<GlyphPosition>,
+    direction: Direction,
+    script: Option<Script>,
+    language: Option<Language>,
+    flags: BufferFlags,
+    cluster_level: BufferClusterLevel,
+    invisible_glyph: Option<GlyphId>,
+    not_found_variation_selector_glyph: Option<GlyphId>,
+    scratch_flags: ScratchFlags,
+    length_limit: Option<usize>,
+    pre_context: Context,
+    post_context: Context,
+}
+
+impl Model for hb_buffer_t {
+    ghost use Rattle.std.specs.Prelude.{◌≡◌, length, string_bytes};
+    ghost use Rattle.std.specs.Option.{option_map};
+    ghost use Rattle.shape_buffer.specs.Buffer.{Buffer};
+
+    ghost Value = { Buffer };
+
+    ghost view = { λ b. record {
+      items = b.infos.items;
+      positions = b.positions.items;
+      direction = b.direction;
+      script = b.script;
+      language = option_map (λ language. string_bytes language.0) b.language;
+      flags = b.flags;
+      cluster_level = b.cluster_level;
+      invisible_glyph = b.invisible_glyph;
+      not_found_variation_selector_glyph = b.not_found_variation_selector_glyph;
+      scratch_flags = b.scratch_flags;
+      length_limit = b.length_limit;
+      pre_context = b.pre_context;
+      post_context = b.post_context;
+    } };
+
+    ghost invariant = { λ b. length b.positions.items ≡ length b.infos.items };
+}
+
+impl hb_buffer_t {
+    ghost use Rattle.shape_buffer.specs.Buffer.{new_buffer, cleared, limit_of, run_limit};
+    ghost use Rattle.shape_buffer.specs.Guess.{guessed, guessed_script, guessed_direction};
+    ghost use Rattle.shape_buffer.specs.Items.{new_item};
+    ghost use Rattle.shape_buffer.specs.Text.{text_items};
+    ghost use Rattle.shape_buffer.specs.Positions.{zero_position};
+    ghost use Rattle.shape_buffer.specs.declared.buffer.error.ShapeError.TheVariants.{Length};
+
+    /// A buffer without text, at level MONOTONE_GRAPHEMES and without flags. It keeps the allocator;
+    /// no other call takes one.
+    pub fn new(alloc: Global) -> Self
+        ensures { result ≡ new_buffer }
+    {
+        hb_buffer_t {
+            infos: Vec::new(alloc),
+            positions: Vec::new(alloc),
+            direction: Direction::Invalid,
+            script: None,
+            language: None,
+            flags: BufferFlags(0),
+            cluster_level: BufferClusterLevel::MonotoneGraphemes,
+            invisible_glyph: None,
+            not_found_variation_selector_glyph: None,
+            scratch_flags: ScratchFlags(0),
+            length_limit: None,
+            pre_context: Context::new(),
+            post_context: Context::new(),
+        }
+    }
+
+    /// How many items there are, and how many positions.
+    pub fn len(&self) -> usize
+        ensures items { result ≡ length self.now.items }
+        ensures positions { result ≡ length self.now.positions }
+    {
+        self.infos.len()
+    }
+
+    /// Whether there is no item.
+    pub fn is_empty(&self) -> bool
+        ensures { IsTrue result ↔ (self.now.items ≡ []) }
+    {
+        self.infos.is_empty()
+    }
+
+    /// The items.
+    pub fn infos(&self) -> &[hb_glyph_info_t]
+        ensures { result.now ≡ self.now.items }
+    {
+        self.infos.as_slice()
+    }
+
+    /// The positions, as many as items.
+    pub fn positions(&self) -> &[GlyphPosition]
+        ensures value { result.now ≡ self.now.positions }
+        ensures len { length result.now ≡ length self.now.items }
+    {
+        self.positions.as_slice()
+    }
+
+    /// Reads the direction that the text runs in.
+    pub fn direction(&self) -> Direction
+        ensures { result ≡ self.now.direction }
+    {
+        self.direction
+    }
+
+    /// Sets the direction that the text runs in, and nothing else.
+    pub fn set_direction(&mut self, direction: Direction)
+        ensures { self.new ≡ record self.old { direction = direction } }
+    {
+        self.direction = direction;
+    }
+
+    /// Reads the script of the text, where it is set.
+    pub fn script(&self) -> Option<Script>
+        ensures { result ≡ self.now.script }
+    {
+        self.script
+    }
+
+    /// Sets the script of the text, where it is set, and nothing else.
+    pub fn set_script(&mut self, script: Option<Script>)
+        ensures { self.new ≡ record self.old { script = script } }
+    {
+        self.script = script;
+    }
+
+    /// Reads the language of the text, where it is set.
+    pub fn language(&self) -> Option<&Language>
+        ensures { option_map (λ language. string_bytes language.now.0) result ≡ self.now.language }
+    {
+        self.language.as_ref()
+    }
+
+    /// Sets the language of the text, and nothing else.
+    pub fn set_language(&mut self, language: Option<Language>)
+        ensures { self.new ≡ record self.old { language = option_map (λ language. string_bytes language.0) language } }
+    {
+        self.language = language;
+    }
+
+    /// Reads what the caller asks of a run.
+    pub fn flags(&self) -> BufferFlags
+        ensures { result ≡ self.now.flags }
+    {
+        self.flags
+    }
+
+    /// Sets what the caller asks of a run, and nothing else.
+    pub fn set_flags(&mut self, flags: BufferFlags)
+        ensures { self.new ≡ record self.old { flags = flags } }
+    {
+        self.flags = flags;
+    }
+
+    /// Reads how far clusters are merged.
+    pub fn cluster_level(&self) -> BufferClusterLevel
+        ensures { result ≡ self.now.cluster_level }
+    {
+        self.cluster_level
+    }
+
+    /// Sets how far clusters are merged, and nothing else.
+    pub fn set_cluster_level(&mut self, cluster_level: BufferClusterLevel)
+        ensures { self.new ≡ record self.old { cluster_level = cluster_level } }
+    {
+        self.cluster_level = cluster_level;
+    }
+
+    /// Reads the glyph that stands in for default ignorables, where it is set.
+    pub fn invisible_glyph(&self) -> Option<GlyphId>
+        ensures { result ≡ self.now.invisible_glyph }
+    {
+        self.invisible_glyph
+    }
+
+    /// Sets the glyph that stands in for default ignorables, where it is set, and nothing else.
+    pub fn set_invisible_glyph(&mut self, invisible_glyph: Option<GlyphId>)
+        ensures { self.new ≡ record self.old { invisible_glyph = invisible_glyph } }
+    {
+        self.invisible_glyph = invisible_glyph;
+    }
+
+    /// Reads the glyph that stands in for variation selectors which the face doesn't know, where it is set.
+    pub fn not_found_variation_selector_glyph(&self) -> Option<GlyphId>
+        ensures { result ≡ self.now.not_found_variation_selector_glyph }
+    {
+        self.not_found_variation_selector_glyph
+    }
+
+    /// Sets the glyph that stands in for variation selectors which the face doesn't know, where it is set, and nothing else.
+    pub fn set_not_found_variation_selector_glyph(
+        &mut self,
+        not_found_variation_selector_glyph: Option<GlyphId>,
+    )
+        ensures { self.new ≡ record self.old { not_found_variation_selector_glyph = not_found_variation_selector_glyph } }
+    {
+        self.not_found_variation_selector_glyph = not_found_variation_selector_glyph;
+    }
+
+    /// Reads what the run has seen of its text.
+    pub fn scratch_flags(&self) -> ScratchFlags
+        ensures { result ≡ self.now.scratch_flags }
+    {
+        self.scratch_flags
+    }
+
+    /// Sets what the run has seen of its text, and nothing else.
+    pub fn set_scratch_flags(&mut self, scratch_flags: ScratchFlags)
+        ensures { self.new ≡ record self.old { scratch_flags = scratch_flags } }
+    {
+        self.scratch_flags = scratch_flags;
+    }
+
+    /// The most items that the run may make, `usize::MAX` where no run has set a limit.
+    pub fn length_limit(&self) -> usize
+        ensures { result ≡ limit_of self.now }
+    {
+        self.length_limit.unwrap_or(usize::MAX)
+    }
+
+    /// Begins a run: no scratch flag, and a limit of 64 times as many items as there are, or of 16384
+    /// where that is more.
+    pub fn enter(&mut self)
+        ensures { self.new ≡ record self.old {
+          scratch_flags = record { 0 = 0 };
+          length_limit = Some (run_limit (length self.old.items));
+        } }
+    {
+        self.scratch_flags = ScratchFlags(0);
+        self.length_limit = Some(
+            self.infos
+                .len()
+                .saturating_mul(MAX_LEN_FACTOR)
+                .max(MAX_LEN_MIN),
+        );
+    }
+
+    /// Ends a run: lifts the limit.
+    pub fn leave(&mut self)
+        ensures { self.new ≡ record self.old { length_limit = None } }
+    {
+        self.length_limit = None;
+    }
+
+    /// Replaces an item.
+    pub fn set_info(&mut self, i: usize, item: hb_glyph_info_t)
+        requires { i < length self.old.items }
+        ensures { self.new ≡ record self.old { items = slice_set self.old.items i item } }
+    {
+        self.infos[i] = item;
+    }
+
+    /// Replaces a position.
+    pub fn set_position(&mut self, i: usize, position: GlyphPosition)
+        requires { i < length self.old.items }
+        ensures { self.new ≡ record self.old { positions = slice_set self.old.positions i position } }
+    {
+        self.positions[i] = position;
+    }
+
+    /// Takes an item and its position out.
+    pub fn remove(&mut self, i: usize)
+        requires { i < length self.old.items }
+        ensures { self.new ≡ record self.old {
+          items = remove self.old.items i;
+          positions = remove self.old.positions i;
+        } }
+    {
+        self.infos.remove(i);
+        self.positions.remove(i);
+    }
+
+    /// Puts an item in before the one at `i`, at a position of zeros. Refuses with `Length` where the
+    /// list has reached its limit, and with `Memory` where a growth was refused; a refused call changes
+    /// nothing.
+    pub fn insert(&mut self, i: usize, item: hb_glyph_info_t) -> Result<(), ShapeError>
+        requires { i ≤ length self.old.items }
+        ensures ok { OnOk result (self.new ≡ record self.old {
+          items = insert self.old.items i item;
+          positions = insert self.old.positions i zero_position;
+        }) }
+        ensures at_limit { IsErrOf result Length ↔ (limit_of self.old ≤ length self.old.items) }
+        ensures err { OnErr result (self.new ≡ self.old) }
+    {
+        if self.length_limit() <= self.infos.len() {
+            return Err(ShapeError::Length);
+        }
+        self.positions.reserve(1)?;
+        self.infos.insert(i, item)?;
+        self.positions.insert(i, GlyphPosition::zero())?;
+        Ok(())
+    }
+
+    /// Makes these the items, at positions of zeros. Refuses with `Length` where there are more than the
+    /// limit, and with `Memory` where a growth was refused; a refused call drops what it was given and
+    /// changes nothing.
+    pub fn replace_infos(&mut self, infos: Vec<hb_glyph_info_t>) -> Result<(), ShapeError>
+        ensures ok { OnOk result (self.new ≡ record self.old {
+          items = infos.items;
+          positions = replicate (vec_len infos) zero_position;
+        }) }
+        ensures past_limit { IsErrOf result Length ↔ (limit_of self.old < vec_len infos) }
+        ensures err { OnErr result (self.new ≡ self.old) }
+    {
+        if self.length_limit() < infos.len() {
+            return Err(ShapeError::Length);
+        }
+        self.positions.resize(infos.len(), GlyphPosition::zero())?;
+        zero_positions(self.positions.as_mut_slice());
+        self.infos = infos;
+        Ok(())
+    }
+
+    /// The script of the text as guessing would set it: the one that is set, else the first of its
+    /// characters' scripts that is neither Common nor Inherited nor Unknown.
+    pub fn guessed_script<U: hb_unicode_funcs_t>(&self) -> Option<Script>
+        ensures { result ≡ guessed_script U.unicode self.now }
+    {
+        match self.script {
+            Some(script) => Some(script),
+            None => first_script::<U>(self.infos.as_slice()),
+        }
+    }
+
+    /// The direction of the text as guessing would set it: the one that is set, else that of the guessed
+    /// script, else left to right.
+    pub fn guessed_direction<U: hb_unicode_funcs_t>(&self) -> Direction
+        ensures { result ≡ guessed_direction U.unicode self.now }
+    {
+        if self.direction != Direction::Invalid {
+            return self.direction;
+        }
+        native_direction::<U>(self.guessed_script::<U>())
+    }
+
+    /// Sets script and direction by guessing, where they aren't set.
+    pub fn guess_segment_properties<U: hb_unicode_funcs_t>(&mut self)
+        ensures { self.new ≡ guessed U.unicode self.old }
+    {
+        let script = self.guessed_script::<U>();
+        let direction = self.guessed_direction::<U>();
+        self.script = script;
+        self.direction = direction;
+    }
+
+    /// Appends a character.
+    pub(crate) fn push(&mut self, c: char, cluster: u32) -> Result<(), ShapeError>
+        ensures ok { OnOk result (self.new ≡ record self.old {
+          items = self.old.items ++ new_item c cluster ∷ [];
+          positions = self.old.positions ++ zero_position ∷ [];
+        }) }
+        ensures memory { IsOkUnless result ShapeError.Memory }
+        ensures err { OnErr result (self.new ≡ self.old) }
+    {
+        self.positions.reserve(1)?;
+        self.infos.push(hb_glyph_info_t::new(c, cluster))?;
+        self.positions.push(GlyphPosition::zero())?;
+        Ok(())
+    }
+
+    /// Appends the characters of a text, whose clusters are byte offsets in it.
+    pub(crate) fn push_str(&mut self, text: &str) -> Result<(), ShapeError>
+        requires { length text.now < 2 ^ 32 }
+        ensures ok { OnOk result (self.new ≡ record self.old {
+          items = self.old.items ++ text_items text.now;
+          positions = self.old.positions ++ replicate (length (text_items text.now)) zero_position;
+        }) }
+        ensures memory { IsOkUnless result ShapeError.Memory }
+        ensures err { OnErr result (self.new ≡ self.old) }
+    {
+        let before = self.infos.len();
+        let mut outcome = append_text(&mut self.infos, text);
+        if outcome.is_ok() {
+            outcome = append_zeros(&mut self.positions, self.infos.len() - before);
+        }
+        if outcome.is_err() {
+            self.infos.truncate(before);
+        }
+        outcome?;
+        Ok(())
+    }
+
+    /// Hands the items out as glyphs.
+    pub fn into_glyphs(self) -> GlyphBuffer
+        ensures { result ≡ self }
+    {
+        GlyphBuffer::from_buffer(self)
+    }
+
+    /// Gives the buffer cleared, for new text: flags, level and the two glyph settings stay. Takes no
+    /// memory.
+    pub fn clear(mut self) -> UnicodeBuffer
+        ensures { result ≡ cleared self }
+    {
+        self.reset();
+        UnicodeBuffer::from_buffer(self)
+    }
+
+    /// Leaves the buffer cleared: no item, direction, script, language, context, scratch flag or limit.
+    /// Flags, level and the two glyph settings stay.
+    pub fn reset(&mut self)
+        ensures { self.new ≡ cleared self.old }
+    {
+        self.infos.clear();
+        self.positions.clear();
+        self.direction = Direction::Invalid;
+        self.script = None;
+        self.language = None;
+        self.scratch_flags = ScratchFlags(0);
+        self.length_limit = None;
+        self.pre_context = Context::new();
+        self.post_context = Context::new();
+    }
+}
+
+/// Sets every position to zeros.
+fn zero_positions(positions: &mut [GlyphPosition])
+    ensures { positions.new ≡ replicate (length positions.old) zero_position_of }
+{
+    for position in positions.iter_mut() {
+        *position = GlyphPosition::zero();
+    }
+}
+
+/// The first script of the characters that says something.
+fn first_script<U: hb_unicode_funcs_t>(infos: &[hb_glyph_info_t]) -> Option<Script>
+    ensures { result ≡ first_script_of U.unicode infos.now }
+{
+    infos
+        .iter()
+        .map(|info| U::script(info.codepoint))
+        .find(|script| script.is_specific())
+}
+
+/// The direction of a script, left to right where none is known.
+fn native_direction<U: hb_unicode_funcs_t>(script: Option<Script>) -> Direction
+    ensures { result ≡ script_or_ltr U.unicode script }
+{
+    let Some(script) = script else {
+        return Direction::LeftToRight;
+    };
+    match U::script_direction(script) {
+        None | Some(Direction::Invalid) => Direction::LeftToRight,
+        Some(direction) => direction,
+    }
+}
+
+/// Appends so many positions of zeros; where memory runs out nothing changes.
+fn append_zeros(positions: &mut Vec<GlyphPosition>, count: usize) -> Result<(), AllocError>
+    ensures ok { OnOk result (positions.new.items ≡ positions.old.items ++ replicate count zero_position_of) }
+    ensures err { OnErr result (positions.new.items ≡ positions.old.items) }
+{
+    positions.reserve(count)?;
+    for _ in 0..count {
+        positions.push(GlyphPosition::zero())?;
+    }
+    Ok(())
+}

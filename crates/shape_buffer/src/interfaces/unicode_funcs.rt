@@ -1,0 +1,41 @@
+//! What shaping asks of Unicode.
+ghost use Rattle.std.specs.Prelude.{◌≡◌};
+ghost use Rattle.shape_buffer.specs.Unicode.{UnicodeMeaning, LawfulUnicode};
+
+use crate::buffer::{Direction, Script, hb_unicode_general_category_t};
+
+/// The functions on characters that shaping is generic over. They have no receiver and are called as
+/// `U::decompose(c)`.
+pub trait hb_unicode_funcs_t {
+    /// What the functions answer.
+    ghost unicode: { UnicodeMeaning };
+
+    /// The general category (The Unicode Standard, section 4.5).
+    fn general_category(c: char) -> hb_unicode_general_category_t
+        ensures { result ≡ unicode.category c };
+
+    /// The combining class that shaping orders marks by, 0 for a character that is not ordered.
+    fn modified_combining_class(c: char) -> u8
+        ensures { result ≡ unicode.class c };
+
+    /// The two parts that a character splits into in one step; the second one is U+0000 where the
+    /// character has one part alone (UAX 44, Decomposition_Mapping without a tag).
+    fn decompose(c: char) -> Option<(char, char)>
+        ensures { result ≡ unicode.split c };
+
+    /// Whether a character is to be unseen where the face has no glyph for it (UAX 44,
+    /// Default_Ignorable_Code_Point).
+    fn is_default_ignorable(c: char) -> bool
+        ensures { result ≡ unicode.ignorable c };
+
+    /// The script of a character (UAX 24).
+    fn script(c: char) -> Script
+        ensures { result ≡ unicode.script c };
+
+    /// The direction that a script is written in; `Some(Direction::Invalid)` counts as none known.
+    fn script_direction(s: Script) -> Option<Direction>
+        ensures { result ≡ unicode.script_direction s };
+
+    /// What every implementation proves.
+    ghost lawful: { LawfulUnicode unicode };
+}
