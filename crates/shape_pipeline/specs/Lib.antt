@@ -2,3 +2,5 @@ pub mod Plan
 pub mod Shaper
 pub mod Shapers
 pub mod Steps
+pub mod Rules
+pub mod Normalized
