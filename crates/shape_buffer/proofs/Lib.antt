@@ -1,4 +1,17 @@
 pub mod FillLemmas
 pub mod TextLemmas
+pub mod OptionLemmas
 pub mod ExpansionLemmas
 pub mod WalkLemmas
+pub mod SwapLemmas
+pub mod OrderLemmas
+pub mod ChainLemmas
+pub mod EquivalentLemmas
+pub mod SortLemmas
+pub mod RunLemmas
+pub mod RoundLemmas
+pub mod RecomposeLemmas
+pub mod RecomposeWalkLemmas
+pub mod BlockLemmas
+pub mod MapLemmas
+pub mod CutLemmas

@@ -8,8 +8,12 @@ pub mod Text
 pub mod Chain
 pub mod Expansion
 pub mod Unicode
+pub mod Order
+pub mod Equivalent
 pub mod UnicodeProps
 pub mod Guess
 pub mod Face
 pub mod MapBuilder
 pub mod Layout
+pub mod Runs
+pub mod Recompose
