@@ -15,3 +15,4 @@ pub mod RecomposeWalkLemmas
 pub mod BlockLemmas
 pub mod MapLemmas
 pub mod CutLemmas
+pub mod ChoiceLemmas

@@ -7,6 +7,7 @@ pub mod Buffer
 pub mod Text
 pub mod Chain
 pub mod Expansion
+pub mod Choice
 pub mod Unicode
 pub mod Order
 pub mod Equivalent
