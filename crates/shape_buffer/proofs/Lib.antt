@@ -16,3 +16,4 @@ pub mod BlockLemmas
 pub mod MapLemmas
 pub mod CutLemmas
 pub mod ChoiceLemmas
+pub mod NormaliseLemmas
