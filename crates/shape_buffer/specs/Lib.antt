@@ -7,9 +7,14 @@ pub mod Buffer
 pub mod Text
 pub mod Chain
 pub mod Expansion
+pub mod Choice
 pub mod Unicode
+pub mod Order
+pub mod Equivalent
 pub mod UnicodeProps
 pub mod Guess
 pub mod Face
 pub mod MapBuilder
 pub mod Layout
+pub mod Runs
+pub mod Recompose
