@@ -1,17 +1,14 @@
 -- The laws in the form in which they are stated.
-use Rattle.std.proofs.Common.{◌≡◌, ℕ, zero, suc, ◌<◌, ◌≤◌, ◌⊎◌, ◌↔◌, Bool, true, false, if◌then◌else◌, List, [], ◌∷◌, ◌++◌, Option, Some, None, unwrap_or, flat_map, refl, sym, ap, subst, ◌∙◌, arith, inl, inr, append-nil}
+use Rattle.std.proofs.Common.{◌≡◌, ℕ, zero, suc, ◌≤◌, ◌⊎◌, List, [], ◌∷◌, Option, Some, None, unwrap_or, refl, sym, subst, ◌∙◌, arith, inl, inr, append-nil}
 use Rattle.std.proofs.lemmas.Bool.{cond-true, cond-false}
-use Rattle.std.specs.List.{list_all}
 use Rattle.shape_buffer.proofs.ChainLemmas.{IsFull-full, full-stays, full-splits}
 use Rattle.shape_buffer.proofs.ChoiceLemmas.{greatest_none, greatest_found, least_none, least_found, full_text-expansion, full_text-expanded}
 use Rattle.shape_buffer.proofs.NormaliseLemmas.{canonical_settled, settled_equal_iff, recomposed_equal_iff, equivalent_recomposed}
 use Rattle.shape_buffer.proofs.SwapLemmas.{no_swap}
-use Rattle.shape_buffer.specs.Chain.{FallsAlong, kept, full, full_text, IsFull, stays, splits_into}
+use Rattle.shape_buffer.specs.Chain.{FallsAlong, full, full_text, IsFull, stays, splits_into}
 use Rattle.shape_buffer.specs.Choice.{IsGreatestSupported, IsLeastSupported, HasNoneSupported}
-use Rattle.shape_buffer.specs.Equivalent.{IsEquivalent}
-use Rattle.shape_buffer.specs.Expansion.{expansion, least_supported, greatest_supported, choice}
+use Rattle.shape_buffer.specs.Expansion.{least_supported, greatest_supported}
 use Rattle.shape_buffer.specs.Laws.{FullIsByTwoRules, ExpansionIsEquivalent, ChoicesAreEquivalent, ChoiceIsGreatest, ChoiceIsLeast, ChoiceStays, DecomposedIsCanonical, DecomposedDecides, RecomposedIsEquivalent, RecomposedDecides}
-use Rattle.shape_buffer.specs.Unicode.{SplitsFall}
 
 full_within_rules : (split : ℕ → Option (ℕ × ℕ)) (height : ℕ → ℕ) → FallsAlong split height → (n c : ℕ) → height c ≤ n → IsFull split c (full split height c)
 full_within_rules split height falling zero c low = go (split c) refl

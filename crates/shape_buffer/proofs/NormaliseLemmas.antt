@@ -1,5 +1,5 @@
 -- Expanding, ordering and recomposing a text: each keeps it equivalent, and the longest expansions lead to canonical form.
-use Rattle.std.proofs.Common.{◌≡◌, ℕ, ◌<◌, Bool, true, false, List, [], ◌∷◌, ◌++◌, Option, None, flat_map, refl, sym, ap, ap₂, subst, ◌∙◌, append-nil, ◌↔◌}
+use Rattle.std.proofs.Common.{◌≡◌, ℕ, ◌<◌, Bool, true, false, List, [], ◌∷◌, ◌++◌, Option, None, flat_map, sym, ap, subst, ◌∙◌, append-nil, ◌↔◌}
 use Rattle.std.proofs.lemmas.List.Elements.{All-nil, All-from_recursion}
 use Rattle.std.specs.List.{list_all, AllByRecursion}
 use Rattle.shape_buffer.specs.Chain.{full, full_text}

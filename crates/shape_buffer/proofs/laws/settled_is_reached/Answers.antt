@@ -1,4 +1,4 @@
-use Rattle.std.proofs.Common.{ℕ, ◌<◌, []}
+use Rattle.std.proofs.Common.{◌<◌, []}
 use Rattle.std.proofs.lemmas.List.Elements.{All-nil}
 use Rattle.shape_buffer.proofs.RunLemmas.{AreRunsSettled-swaps, AreRunsSettled-ordered, AreRunsSettled-unique}
 use Rattle.shape_buffer.proofs.laws.settled_is_reached.Goals as goal
