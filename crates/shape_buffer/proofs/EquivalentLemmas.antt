@@ -2,7 +2,7 @@
 use Rattle.std.proofs.Common.{◌≡◌, ◌≢◌, ℕ, ◌<◌, List, [], ◌∷◌, ◌++◌, Option, None, flat_map, refl, sym, ap₂, ◌∙◌, arith, append_assoc}
 use Rattle.std.proofs.lemmas.List.Elements.{All-head, All-tail}
 use Rattle.std.specs.List.{All, AllByRecursion}
-use Rattle.shape_buffer.specs.Chain.{FallsAlong, full, full_text}
+use Rattle.shape_buffer.specs.Chain.{FallsAlong, full_text}
 use Rattle.shape_buffer.specs.Equivalent.{IsEquivalent, IsCanonical}
 use Rattle.shape_buffer.specs.Order.{IsSwap, here, behind, Swaps, done, then}
 use Rattle.shape_buffer.proofs.ChainLemmas.{full-stays}

@@ -17,3 +17,4 @@ pub mod MapLemmas
 pub mod CutLemmas
 pub mod ChoiceLemmas
 pub mod NormaliseLemmas
+pub mod LawLemmas

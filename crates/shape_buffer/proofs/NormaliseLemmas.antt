@@ -1,5 +1,5 @@
 -- Expanding, ordering and recomposing a text: each keeps it equivalent, and the longest expansions lead to canonical form.
-use Rattle.std.proofs.Common.{◌≡◌, ℕ, ◌<◌, Bool, true, false, List, [], ◌∷◌, ◌++◌, Option, None, flat_map, refl, sym, ap, ap₂, subst, ◌∙◌, append-nil, ◌↔◌}
+use Rattle.std.proofs.Common.{◌≡◌, ℕ, ◌<◌, Bool, true, false, List, [], ◌∷◌, ◌++◌, Option, None, flat_map, sym, ap, subst, ◌∙◌, append-nil, ◌↔◌}
 use Rattle.std.proofs.lemmas.List.Elements.{All-nil, All-from_recursion}
 use Rattle.std.specs.List.{list_all, AllByRecursion}
 use Rattle.shape_buffer.specs.Chain.{full, full_text}
@@ -107,13 +107,21 @@ module _ (split : ℕ → Option (ℕ × ℕ)) (height class : ℕ → ℕ) (law
         )
 
     -- and exactly where what is recomposed of them is equal
-    pub recomposed_equal_iff : (is_mark : ℕ → Bool) (join : ℕ → ℕ → Option ℕ) → ComposesSoundly split height class join → (s new t new' : List ℕ) → Glyphs s → Glyphs t → Fits s → Fits t → Settles s new → Settles t new' → (recomposed class (is_blocked_by_last class) is_mark join new ≡ recomposed class (is_blocked_by_last class) is_mark join new') ↔ IsEquivalent split height class s t
+    pub recomposed_equal_iff : (is_mark : ℕ → Bool) (join : ℕ → ℕ → Option ℕ) → ComposesSoundly split height class join → (s new t new' : List ℕ) → Glyphs s → Glyphs t → Fits s → Fits t → Settles s new → Settles t new' → (recomposed class (is_blocked class) is_mark join new ≡ recomposed class (is_blocked class) is_mark join new') ↔ IsEquivalent split height class s t
     recomposed_equal_iff is_mark join sound s new t new' glyphs_s glyphs_t fits_s fits_t settled_s settled_t =
-        let form_s = canonical_settled s new glyphs_s fits_s settled_s in
-        let form_t = canonical_settled t new' glyphs_t fits_t settled_t in
-        let left = equivalent_settled has_glyph false limit s new settled_s ⟫ equivalent_recomposed_by_last is_mark join sound new form_s.ordered in
-        let right = equivalent_settled has_glyph false limit t new' settled_t ⟫ equivalent_recomposed_by_last is_mark join sound new' form_t.ordered in
+        let left = equivalent_settled has_glyph false limit s new settled_s ⟫ equivalent_recomposed is_mark join sound new in
+        let right = equivalent_settled has_glyph false limit t new' settled_t ⟫ equivalent_recomposed is_mark join sound new' in
         let canonical = settled_equal_iff s new t new' glyphs_s glyphs_t fits_s fits_t settled_s settled_t in (
           λ e. left ⟫ no_swap (ap (full_text split height) e) ⟫ Swaps-sym right,
-          λ swaps. ap (recomposed class (is_blocked_by_last class) is_mark join) (canonical.1 swaps),
+          λ swaps. ap (recomposed class (is_blocked class) is_mark join) (canonical.1 swaps),
+        )
+
+    -- by the class put out last too
+    pub recomposed_by_last_equal_iff : (is_mark : ℕ → Bool) (join : ℕ → ℕ → Option ℕ) → ComposesSoundly split height class join → (s new t new' : List ℕ) → Glyphs s → Glyphs t → Fits s → Fits t → Settles s new → Settles t new' → (recomposed class (is_blocked_by_last class) is_mark join new ≡ recomposed class (is_blocked_by_last class) is_mark join new') ↔ IsEquivalent split height class s t
+    recomposed_by_last_equal_iff is_mark join sound s new t new' glyphs_s glyphs_t fits_s fits_t settled_s settled_t =
+        let by_last_s = recomposed_by_last class is_mark join new (canonical_settled s new glyphs_s fits_s settled_s).ordered in
+        let by_last_t = recomposed_by_last class is_mark join new' (canonical_settled t new' glyphs_t fits_t settled_t).ordered in
+        let all = recomposed_equal_iff is_mark join sound s new t new' glyphs_s glyphs_t fits_s fits_t settled_s settled_t in (
+          λ e. all.0 (by_last_s ∙ e ∙ sym by_last_t),
+          λ swaps. sym by_last_s ∙ all.1 swaps ∙ by_last_t,
         )

@@ -18,3 +18,4 @@ pub mod MapBuilder
 pub mod Layout
 pub mod Runs
 pub mod Recompose
+pub mod Laws
