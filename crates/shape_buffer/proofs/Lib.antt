@@ -1,2 +1,5 @@
+pub mod ClusterLemmas
+pub mod DrawsInOrder
+pub mod MergeOrder
 pub mod FillLemmas
 pub mod TextLemmas

@@ -5,6 +5,7 @@
 //! Contracts see each of them as the record `Buffer` of `specs/Buffer.antt`, so no clause names a
 //! field of theirs.
 
+mod clusters;
 mod context;
 mod error;
 mod flags;

@@ -4,6 +4,7 @@ ghost use Rattle.std.specs.Option.{option_map};
 ghost use Rattle.shape_buffer.specs.Positions.{zero_position as zero_position_of};
 ghost use Rattle.shape_buffer.specs.Guess.{first_script as first_script_of, script_or_ltr};
 
+use crate::buffer::clusters::{mark_break, mark_concat, merge_items};
 use crate::buffer::context::Context;
 use crate::buffer::error::ShapeError;
 use crate::buffer::flags::{BufferFlags, ScratchFlags};
@@ -14,6 +15,7 @@ use crate::buffer::settings::{BufferClusterLevel, Direction, GlyphId, Language, 
 use crate::buffer::text::append_text;
 use crate::buffer::unicode_buffer::UnicodeBuffer;
 use crate::interfaces::hb_unicode_funcs_t;
+use bitflags::Flags;
 use std::alloc::{AllocError, Global};
 use std::marker::Model;
 
@@ -70,6 +72,9 @@ impl Model for hb_buffer_t {
 
 impl hb_buffer_t {
     ghost use Rattle.shape_buffer.specs.Buffer.{new_buffer, cleared, limit_of, run_limit};
+    ghost use Rattle.shape_buffer.specs.BufferClusters.{merge_clusters as merge_clusters_of, merge_out_clusters as merge_out_clusters_of, unsafe_to_break as unsafe_to_break_of, unsafe_to_concat as unsafe_to_concat_of};
+    ghost use Rattle.shape_buffer.specs.Clusters.{clusters};
+    ghost use Rattle.shape_buffer.specs.ClusterOrder.{KeepsClusters};
     ghost use Rattle.shape_buffer.specs.Guess.{guessed, guessed_script, guessed_direction};
     ghost use Rattle.shape_buffer.specs.Items.{new_item};
     ghost use Rattle.shape_buffer.specs.Text.{text_items};
@@ -341,6 +346,63 @@ impl hb_buffer_t {
         zero_positions(self.positions.as_mut_slice());
         self.infos = infos;
         Ok(())
+    }
+
+    /// Merges the clusters of the items from `start` up to `end`: they, and the items beside them that
+    /// share a cluster which changes, get the least cluster of the span, and an item whose cluster
+    /// changes loses its defined flags. At level CHARACTERS the span is marked unsafe to break instead.
+    /// A span of fewer than two items changes nothing. Takes time in step with the items it touches.
+    pub fn merge_clusters(&mut self, start: usize, end: usize)
+        requires ordered { start ≤ end }
+        requires within { end ≤ length self.old.items }
+        ensures merged { self.new ≡ merge_clusters_of start end self.old }
+    {
+        if self.cluster_level == BufferClusterLevel::Characters {
+            self.unsafe_to_break(start, end);
+        } else {
+            merge_items(self.infos.as_mut_slice(), start, end);
+        }
+    }
+
+    /// Merges as `merge_clusters` does, but changes nothing at level CHARACTERS.
+    pub fn merge_out_clusters(&mut self, start: usize, end: usize)
+        requires ordered { start ≤ end }
+        requires within { end ≤ length self.old.items }
+        ensures merged { self.new ≡ merge_out_clusters_of start end self.old }
+    {
+        if self.cluster_level != BufferClusterLevel::Characters {
+            merge_items(self.infos.as_mut_slice(), start, end);
+        }
+    }
+
+    /// Marks the items from `start` up to `end` unsafe to break and to concat, but for those of their
+    /// least cluster, and sets the scratch flag HAS_GLYPH_FLAGS. A span of fewer than two items changes
+    /// nothing. Takes time in step with the span.
+    pub fn unsafe_to_break(&mut self, start: usize, end: usize)
+        requires ordered { start ≤ end }
+        requires within { end ≤ length self.old.items }
+        ensures marked { self.new ≡ unsafe_to_break_of start end self.old }
+    {
+        if end - start < 2 {
+            return;
+        }
+        self.scratch_flags.insert(ScratchFlags::HAS_GLYPH_FLAGS);
+        mark_break(self.infos.as_mut_slice(), start, end);
+    }
+
+    /// Marks the items from `start` up to `end` unsafe to concat and sets the scratch flag
+    /// HAS_GLYPH_FLAGS, where the flag PRODUCE_UNSAFE_TO_CONCAT asks for it. Takes time in step with the
+    /// span.
+    pub fn unsafe_to_concat(&mut self, start: usize, end: usize)
+        requires ordered { start ≤ end }
+        requires within { end ≤ length self.old.items }
+        ensures marked { self.new ≡ unsafe_to_concat_of start end self.old }
+    {
+        if !self.flags.contains(BufferFlags::PRODUCE_UNSAFE_TO_CONCAT) {
+            return;
+        }
+        self.scratch_flags.insert(ScratchFlags::HAS_GLYPH_FLAGS);
+        mark_concat(self.infos.as_mut_slice(), start, end);
     }
 
     /// The script of the text as guessing would set it: the one that is set, else the first of its
