@@ -3,3 +3,4 @@ pub mod DrawsInOrder
 pub mod MergeOrder
 pub mod FillLemmas
 pub mod TextLemmas
+pub mod DeleteLemmas

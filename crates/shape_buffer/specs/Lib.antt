@@ -7,6 +7,7 @@ pub mod Clusters
 pub mod ClusterOrder
 pub mod Buffer
 pub mod BufferClusters
+pub mod Delete
 pub mod Text
 pub mod Chain
 pub mod Unicode

@@ -7,6 +7,7 @@
 
 mod clusters;
 mod context;
+mod delete;
 mod error;
 mod flags;
 mod general_category;

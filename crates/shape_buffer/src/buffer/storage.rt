@@ -6,6 +6,7 @@ ghost use Rattle.shape_buffer.specs.Guess.{first_script as first_script_of, scri
 
 use crate::buffer::clusters::{mark_break, mark_concat, merge_items};
 use crate::buffer::context::Context;
+use crate::buffer::delete::delete_items;
 use crate::buffer::error::ShapeError;
 use crate::buffer::flags::{BufferFlags, ScratchFlags};
 use crate::buffer::glyph_buffer::GlyphBuffer;
@@ -75,8 +76,11 @@ impl hb_buffer_t {
     ghost use Rattle.shape_buffer.specs.BufferClusters.{merge_clusters as merge_clusters_of, merge_out_clusters as merge_out_clusters_of, unsafe_to_break as unsafe_to_break_of, unsafe_to_concat as unsafe_to_concat_of};
     ghost use Rattle.shape_buffer.specs.Clusters.{clusters};
     ghost use Rattle.shape_buffer.specs.ClusterOrder.{KeepsClusters};
+    ghost use Rattle.shape_buffer.specs.Delete.{deleted};
+    ghost use Rattle.std.specs.Prelude.{Bool};
+    ghost use Rattle.std.specs.Fn.{FnReturnsAt};
     ghost use Rattle.shape_buffer.specs.Guess.{guessed, guessed_script, guessed_direction};
-    ghost use Rattle.shape_buffer.specs.Items.{new_item};
+    ghost use Rattle.shape_buffer.specs.Items.{Item, new_item};
     ghost use Rattle.shape_buffer.specs.Text.{text_items};
     ghost use Rattle.shape_buffer.specs.Positions.{zero_position};
     ghost use Rattle.shape_buffer.specs.declared.buffer.error.ShapeError.TheVariants.{Length};
@@ -403,6 +407,27 @@ impl hb_buffer_t {
         }
         self.scratch_flags.insert(ScratchFlags::HAS_GLYPH_FLAGS);
         mark_concat(self.infos.as_mut_slice(), start, end);
+    }
+
+    /// Deletes the glyphs that the test picks, from left to right, each with its position. Before a glyph
+    /// of cluster `c` goes, the first case that holds decides: the next item, picked or not, has cluster
+    /// `c`, and nothing is done; items were kept, and where `c` is below the last kept one's cluster,
+    /// the last kept items of that cluster get `c` and the glyph's defined flags; there is a next item,
+    /// and the two are merged as `merge_clusters` does. Takes no memory.
+    pub fn delete_glyphs_inplace<F: Fn(&hb_glyph_info_t) -> bool>(&mut self, test: F)
+    where
+        F: Drop,
+        requires { F.IsAlwaysCallable test }
+        ensures deleted { (picks : Item → Bool) → ((x : Item) (b : Bool) → FnReturnsAt F.Fn test x b → b ≡ picks x)
+            → self.new ≡ deleted picks self.old }
+    {
+        delete_items(
+            &mut self.infos,
+            &mut self.positions,
+            &mut self.scratch_flags,
+            self.cluster_level,
+            test,
+        );
     }
 
     /// The script of the text as guessing would set it: the one that is set, else the first of its
