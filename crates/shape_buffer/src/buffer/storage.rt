@@ -81,7 +81,7 @@ impl hb_buffer_t {
     ghost use Rattle.std.specs.Fn.{FnReturnsAt};
     ghost use Rattle.shape_buffer.specs.Guess.{guessed, guessed_script, guessed_direction};
     ghost use Rattle.shape_buffer.specs.Items.{Item, new_item};
-    ghost use Rattle.shape_buffer.specs.Text.{text_items};
+    ghost use Rattle.shape_buffer.specs.Text.{text_items, context_before, context_after};
     ghost use Rattle.shape_buffer.specs.Positions.{zero_position};
     ghost use Rattle.shape_buffer.specs.declared.buffer.error.ShapeError.TheVariants.{Length};
 
@@ -236,6 +236,34 @@ impl hb_buffer_t {
         ensures { self.new ≡ record self.old { not_found_variation_selector_glyph = not_found_variation_selector_glyph } }
     {
         self.not_found_variation_selector_glyph = not_found_variation_selector_glyph;
+    }
+
+    /// Reads what is kept of the text before this one: at most five characters, in their order.
+    pub fn pre_context(&self) -> &[char]
+        ensures { result.now ≡ self.now.pre_context }
+    {
+        self.pre_context.as_slice()
+    }
+
+    /// Keeps the last five characters of the text before this one, and sets nothing else.
+    pub fn set_pre_context(&mut self, text: &str)
+        ensures { self.new ≡ record self.old { pre_context = context_before text.now } }
+    {
+        self.pre_context = Context::from_end(text);
+    }
+
+    /// Reads what is kept of the text after this one: at most five characters, in their order.
+    pub fn post_context(&self) -> &[char]
+        ensures { result.now ≡ self.now.post_context }
+    {
+        self.post_context.as_slice()
+    }
+
+    /// Keeps the first five characters of the text after this one, and sets nothing else.
+    pub fn set_post_context(&mut self, text: &str)
+        ensures { self.new ≡ record self.old { post_context = context_after text.now } }
+    {
+        self.post_context = Context::from_start(text);
     }
 
     /// Reads what the run has seen of its text.
