@@ -1,3 +1,6 @@
+pub mod ClusterLemmas
+pub mod DrawsInOrder
+pub mod MergeOrder
 pub mod FillLemmas
 pub mod TextLemmas
 pub mod OptionLemmas
@@ -18,3 +21,4 @@ pub mod CutLemmas
 pub mod ChoiceLemmas
 pub mod NormaliseLemmas
 pub mod LawLemmas
+pub mod DeleteLemmas
