@@ -1,0 +1,9 @@
+//! Shapes the texts of its standard input, line by line.
+#![tactic(auto)]
+#![allow(non_camel_case_types)]
+
+mod unicode_tables;
+
+fn main(rt: HostRuntime) {
+    let _ = rt.alloc();
+}
