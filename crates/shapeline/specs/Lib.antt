@@ -5,3 +5,5 @@ pub mod Ignorable
 pub mod Scripts
 pub mod Meaning
 pub mod Laws
+pub mod Face
+pub mod Words

@@ -2,6 +2,9 @@
 #![tactic(auto)]
 #![allow(non_camel_case_types)]
 
+mod face;
+mod no_lookups;
+mod parse;
 mod unicode_tables;
 
 fn main(rt: HostRuntime) {

@@ -21,7 +21,8 @@ fn from_database(category: GeneralCategory) -> hb_unicode_general_category_t
         GeneralCategory::DecimalNumber => hb_unicode_general_category_t::DecimalNumber,
         GeneralCategory::LetterNumber => hb_unicode_general_category_t::LetterNumber,
         GeneralCategory::OtherNumber => hb_unicode_general_category_t::OtherNumber,
-        GeneralCategory::ConnectorPunctuation => hb_unicode_general_category_t::ConnectorPunctuation,
+        GeneralCategory::ConnectorPunctuation =>
+            hb_unicode_general_category_t::ConnectorPunctuation,
         GeneralCategory::DashPunctuation => hb_unicode_general_category_t::DashPunctuation,
         GeneralCategory::OpenPunctuation => hb_unicode_general_category_t::OpenPunctuation,
         GeneralCategory::ClosePunctuation => hb_unicode_general_category_t::ClosePunctuation,
