@@ -1,2 +1,4 @@
 pub mod FillLemmas
 pub mod TextLemmas
+pub mod ExpansionLemmas
+pub mod WalkLemmas

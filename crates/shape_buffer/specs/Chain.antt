@@ -27,9 +27,9 @@ full_within split zero c = c ∷ []
 full_within split (suc steps) c = option_map_or (λ parts. full_within split steps parts.0 ++ kept parts.1) (split c) (c ∷ [])
 
 -- Full: the full canonical decomposition before ordering; a chain is no longer than the height of its character
-abbrev pub full : (ℕ → Option (ℕ × ℕ)) → (ℕ → ℕ) → ℕ → List ℕ
+unfoldable pub full : (ℕ → Option (ℕ × ℕ)) → (ℕ → ℕ) → ℕ → List ℕ
 full split height c = full_within split (height c) c
 
 -- Full of a text: the parts joined
-abbrev pub full_text : (ℕ → Option (ℕ × ℕ)) → (ℕ → ℕ) → List ℕ → List ℕ
+unfoldable pub full_text : (ℕ → Option (ℕ × ℕ)) → (ℕ → ℕ) → List ℕ → List ℕ
 full_text split height text = flat_map (full split height) text

@@ -6,6 +6,7 @@ pub mod Items
 pub mod Buffer
 pub mod Text
 pub mod Chain
+pub mod Expansion
 pub mod Unicode
 pub mod UnicodeProps
 pub mod Guess

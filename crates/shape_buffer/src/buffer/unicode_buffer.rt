@@ -185,7 +185,8 @@ impl UnicodeBuffer {
     )
         ensures { self.new ≡ record self.old { not_found_variation_selector_glyph = not_found_variation_selector_glyph } }
     {
-        self.buffer.set_not_found_variation_selector_glyph(not_found_variation_selector_glyph);
+        self.buffer
+            .set_not_found_variation_selector_glyph(not_found_variation_selector_glyph);
     }
 
     /// Sets script and direction by guessing, where they aren't set: the script becomes the first of the

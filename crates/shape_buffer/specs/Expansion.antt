@@ -1,0 +1,38 @@
+-- The expansions of a character along its chain, and which of them is chosen.
+use Rattle.std.specs.Prelude.{ℕ, zero, suc, Bool, true, false, if◌then◌else◌, List, [], ◌∷◌, ◌++◌, Option, None, Some, unwrap_or}
+use Rattle.std.specs.Option.{option_map, option_map_or, option_or}
+use Rattle.std.specs.List.{list_all}
+use Rattle.shape_buffer.specs.Chain.{kept, chain_point, second_part}
+
+-- the second parts k down to 1 of the chain of c; U+0000 is dropped
+abbrev pub seconds : (ℕ → Option (ℕ × ℕ)) → ℕ → ℕ → List ℕ
+seconds split zero c = []
+seconds split (suc k) c = option_map_or kept (second_part split (suc k) c) [] ++ seconds split k c
+
+-- the expansion of length k: chain point k, then the second parts k down to 1; none where the chain ends before point k
+abbrev pub expansion : (ℕ → Option (ℕ × ℕ)) → ℕ → ℕ → Option (List ℕ)
+expansion split k c = option_map (λ point. point ∷ seconds split k c) (chain_point split k c)
+
+-- an expansion is supported when all its characters have glyphs
+abbrev pub is_supported : (ℕ → Bool) → Option (List ℕ) → Bool
+is_supported has_glyph None = false
+is_supported has_glyph (Some parts) = list_all has_glyph parts
+
+-- the expansion of length k, where it is supported
+abbrev pub supported : (ℕ → Option (ℕ × ℕ)) → (ℕ → Bool) → ℕ → ℕ → Option (List ℕ)
+supported split has_glyph k c = if is_supported has_glyph (expansion split k c) then expansion split k c else None
+
+-- the supported expansion of least length from 1 to n
+abbrev pub least_supported : (ℕ → Option (ℕ × ℕ)) → (ℕ → Bool) → ℕ → ℕ → Option (List ℕ)
+least_supported split has_glyph zero c = None
+least_supported split has_glyph (suc n) c = option_or (least_supported split has_glyph n c) (supported split has_glyph (suc n) c)
+
+-- the supported expansion of greatest length from 1 to n
+abbrev pub greatest_supported : (ℕ → Option (ℕ × ℕ)) → (ℕ → Bool) → ℕ → ℕ → Option (List ℕ)
+greatest_supported split has_glyph zero c = None
+greatest_supported split has_glyph (suc n) c = option_or (supported split has_glyph (suc n) c) (greatest_supported split has_glyph n c)
+
+-- what c becomes, where `true` asks for the shortest: c itself where the shortest is asked and c has a glyph, else the supported expansion of least or of greatest length, and c itself where none is supported; no chain is longer than the height of its character
+abbrev pub choice : (ℕ → Option (ℕ × ℕ)) → (ℕ → ℕ) → (ℕ → Bool) → Bool → ℕ → List ℕ
+choice split height has_glyph true c = if has_glyph c then c ∷ [] else unwrap_or (least_supported split has_glyph (height c) c) (c ∷ [])
+choice split height has_glyph false c = unwrap_or (greatest_supported split has_glyph (height c) c) (c ∷ [])

@@ -1,0 +1,4 @@
+pub mod Plan
+pub mod Shaper
+pub mod Shapers
+pub mod Steps
