@@ -3,6 +3,7 @@ use Rattle.std.proofs.Common.{◌≡◌, ℕ, zero, suc, ◌+◌, ◌-◌, ◌<�
 use Rattle.std.proofs.lemmas.List.Folds.{list_all-append}
 use Rattle.std.specs.List.{list_all}
 use Rattle.std.specs.Option.{option_map, option_map_or, option_and_then, option_or}
+use Rattle.shape_buffer.proofs.OptionLemmas.{option_or-none, option_or-assoc}
 use Rattle.shape_buffer.specs.Chain.{FallsAlong, kept, chain_point, second_part}
 use Rattle.shape_buffer.specs.Expansion.{seconds, expansion, is_supported, supported, least_supported, greatest_supported}
 
@@ -58,14 +59,6 @@ is_supported-extended has_glyph b (Some xs) = list_all-append has_glyph xs (kept
 abbrev pub put_behind : Bool → ℕ → Option (List ℕ) → Option (List ℕ)
 put_behind false b o = None
 put_behind true b o = option_map (λ xs. xs ++ kept b) o
-
-option_or-none : {A : Type 0} (o : Option A) → option_or o None ≡ o
-option_or-none None = refl
-option_or-none (Some x) = refl
-
-option_or-assoc : {A : Type 0} (o p q : Option A) → option_or (option_or o p) q ≡ option_or o (option_or p q)
-option_or-assoc None p q = refl
-option_or-assoc (Some x) p q = refl
 
 put_behind-or : (t : Bool) (b : ℕ) (o p : Option (List ℕ)) → option_or (put_behind t b o) (put_behind t b p) ≡ put_behind t b (option_or o p)
 put_behind-or false b o p = refl

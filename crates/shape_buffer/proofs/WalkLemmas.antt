@@ -1,15 +1,15 @@
 -- A walk along the chain of a character finds its supported expansion of greatest length.
-use Rattle.std.proofs.Common.{◌≡◌, ℕ, ◌≤◌, Bool, true, false, if◌then◌else◌, ◌&&◌, ◌==◌, List, [], ◌∷◌, ◌++◌, reverse, take, length, Option, None, Some, unwrap_or, refl, sym, ◌∙◌, ap, arith, append_assoc, append-nil}
+use Rattle.std.proofs.Common.{◌≡◌, ℕ, ◌≤◌, Bool, true, false, if◌then◌else◌, ◌&&◌, ◌==◌, List, [], ◌∷◌, ◌++◌, reverse, take, length, Option, None, Some, IfSome, refl, sym, ◌∙◌, ap, arith, append_assoc, append-nil}
 use Rattle.std.proofs.lemmas.List.{take_all, take-append-le, reverse-append}
 use Rattle.std.specs.List.{list_all}
 use Rattle.std.specs.Option.{option_map, option_or}
 use Rattle.shape_buffer.specs.Chain.{FallsAlong, kept}
-use Rattle.shape_buffer.specs.Expansion.{supported, greatest_supported}
+use Rattle.shape_buffer.specs.Expansion.{supported, greatest_supported, found_parts}
 use Rattle.shape_buffer.proofs.ExpansionLemmas.{put_behind, greatest-split, greatest-end}
 
 -- what a walk gives in the end that has the second parts `seconds`, last first, and meanwhile found `found`, where the rest of the chain gives `r`
-abbrev pub walked : List ℕ → List ℕ → Option (List ℕ) → List ℕ
-walked found seconds r = unwrap_or (option_map (λ ys. ys ++ reverse seconds) r) found
+abbrev pub walked : Option (List ℕ) → List ℕ → Option (List ℕ) → Option (List ℕ)
+walked found seconds r = option_or (option_map (λ ys. ys ++ reverse seconds) r) found
 
 reverse-kept : (b : ℕ) → reverse (kept b) ≡ kept b
 reverse-kept b = elim (b == 0) as (λ t. reverse (if t then [] else b ∷ []) ≡ (if t then [] else b ∷ [])) [ true ↦ refl | false ↦ refl ]
@@ -18,53 +18,57 @@ reverse-more : (s : List ℕ) (b : ℕ) → reverse (s ++ kept b) ≡ kept b ++ 
 reverse-more s b = reverse-append s (kept b) ∙ ap (λ xs. xs ++ reverse s) (reverse-kept b)
 
 -- what a walk has found once it has passed a
-abbrev pub found_at : (ℕ → Bool) → ℕ → List ℕ → List ℕ → List ℕ
-found_at has_glyph a seconds found = if has_glyph a then a ∷ reverse seconds else found
+abbrev found_at : Bool → ℕ → List ℕ → Option (List ℕ) → Option (List ℕ)
+found_at has_a a seconds found = if has_a then Some (a ∷ reverse seconds) else found
 
-walked-none : (t : Bool) (found seconds : List ℕ) (a b : ℕ) → walked found seconds (put_behind true b (if t && true then Some (a ∷ []) else None)) ≡ (if t then a ∷ reverse (seconds ++ kept b) else found)
-walked-none true found seconds a b = ap (λ xs. a ∷ xs) (sym (reverse-more seconds b))
+walked-none : (t : Bool) (found : Option (List ℕ)) (seconds : List ℕ) (a b : ℕ) → walked found seconds (put_behind true b (if t && true then Some (a ∷ []) else None)) ≡ found_at t a (seconds ++ kept b) found
+walked-none true found seconds a b = ap (λ xs. Some (a ∷ xs)) (sym (reverse-more seconds b))
 walked-none false found seconds a b = refl
 
 module _ (split : ℕ → Option (ℕ × ℕ)) (has_glyph : ℕ → Bool) where
-  walked-step : (found seconds : List ℕ) (a b : ℕ) (r : Option (List ℕ)) → walked found seconds (put_behind true b (option_or r (supported split has_glyph 0 a))) ≡ walked (found_at has_glyph a (seconds ++ kept b) found) (seconds ++ kept b) r
+  walked-step : (found : Option (List ℕ)) (seconds : List ℕ) (a b : ℕ) (r : Option (List ℕ)) → walked found seconds (put_behind true b (option_or r (supported split has_glyph 0 a))) ≡ walked (found_at (has_glyph a) a (seconds ++ kept b) found) (seconds ++ kept b) r
   walked-step found seconds a b None = walked-none (has_glyph a) found seconds a b
-  walked-step found seconds a b (Some ys) = append_assoc ys (kept b) (reverse seconds) ∙ ap (λ xs. ys ++ xs) (sym (reverse-more seconds b))
+  walked-step found seconds a b (Some ys) = ap Some (append_assoc ys (kept b) (reverse seconds) ∙ ap (λ xs. ys ++ xs) (sym (reverse-more seconds b)))
 
   -- nothing walked yet
-  pub walked-start : (c : ℕ) (r : Option (List ℕ)) → unwrap_or r (c ∷ []) ≡ walked (c ∷ []) [] r
-  walked-start c None = refl
-  walked-start c (Some ys) = sym (append-nil ys)
+  pub walked-start : (r : Option (List ℕ)) → r ≡ walked None [] r
+  walked-start None = refl
+  walked-start (Some ys) = ap Some (sym (append-nil ys))
 
-  -- where the chain ends, what was found is the choice
-  pub walk_ended : (start found seconds : List ℕ) (n c : ℕ) → start ≡ walked found seconds (greatest_supported split has_glyph n c) → None ≡ split c → found ≡ start
+  -- where the chain ends, what was found is the expansion
+  pub walk_ended : (start found : Option (List ℕ)) (seconds : List ℕ) (n c : ℕ) → start ≡ walked found seconds (greatest_supported split has_glyph n c) → None ≡ split c → found ≡ start
   walk_ended start found seconds n c inv e = sym (inv ∙ ap (walked found seconds) (greatest-end split has_glyph n c (sym e)))
 
   module _ (height : ℕ → ℕ) (falling : FallsAlong split height) where
     -- a walk goes on past a split whose second part has a glyph
-    walked-split : (found seconds : List ℕ) (c a b : ℕ) → split c ≡ Some (a, b) → list_all has_glyph (kept b) ≡ true →
-        walked found seconds (greatest_supported split has_glyph (height c) c) ≡ walked (found_at has_glyph a (seconds ++ kept b) found) (seconds ++ kept b) (greatest_supported split has_glyph (height a) a)
+    walked-split : (found : Option (List ℕ)) (seconds : List ℕ) (c a b : ℕ) → split c ≡ Some (a, b) → list_all has_glyph (kept b) ≡ true →
+        walked found seconds (greatest_supported split has_glyph (height c) c) ≡ walked (found_at (has_glyph a) a (seconds ++ kept b) found) (seconds ++ kept b) (greatest_supported split has_glyph (height a) a)
     walked-split found seconds c a b e h =
         ap (walked found seconds) (greatest-split split has_glyph height falling c a b e ∙ ap (λ t. put_behind t b (option_or (greatest_supported split has_glyph (height a) a) (supported split has_glyph 0 a))) h)
         ∙ walked-step found seconds a b (greatest_supported split has_glyph (height a) a)
 
     -- a walk that keeps the second part b and finds a glyph of a
-    pub walk_found : (start found seconds after : List ℕ) (n c a b : ℕ) →
+    pub walk_found : (start found : Option (List ℕ)) (seconds after : List ℕ) (n c a b : ℕ) →
         start ≡ walked found seconds (greatest_supported split has_glyph (height c) c) → Some (a, b) ≡ split c → true ≡ list_all has_glyph (kept b) → after ≡ seconds ++ kept b → true ≡ has_glyph a → n ≡ length after →
-        start ≡ walked (a ∷ reverse (take n after)) after (greatest_supported split has_glyph (height a) a)
+        start ≡ walked (found_parts (Some (a, n)) after) after (greatest_supported split has_glyph (height a) a)
     walk_found start found seconds after n c a b inv e kept_b grown glyph len =
         let q : take n after ≡ after = take_all n after (omega arith) in
-        rw (q, grown) (inv ∙ walked-split found seconds c a b (sym e) (sym kept_b) ∙ ap (λ t. walked (if t then a ∷ reverse (seconds ++ kept b) else found) (seconds ++ kept b) (greatest_supported split has_glyph (height a) a)) (sym glyph))
+        rw (q, grown) (inv ∙ walked-split found seconds c a b (sym e) (sym kept_b) ∙ ap (λ t. walked (found_at t a (seconds ++ kept b) found) (seconds ++ kept b) (greatest_supported split has_glyph (height a) a)) (sym glyph))
+
+    -- more second parts don't change what was found
+    pub found_parts-more : (found : Option (ℕ × ℕ)) (seconds more : List ℕ) → IfSome found (λ f. f.1 ≤ length seconds) → found_parts found (seconds ++ more) ≡ found_parts found seconds
+    found_parts-more None seconds more within = refl
+    found_parts-more (Some found) seconds more within = rw take-append-le
 
     -- the same, where a has none
-    pub walk_passed : (start seconds after : List ℕ) (first depth c a b : ℕ) →
-        start ≡ walked (first ∷ reverse (take depth seconds)) seconds (greatest_supported split has_glyph (height c) c) → depth ≤ length seconds → Some (a, b) ≡ split c → true ≡ list_all has_glyph (kept b) → after ≡ seconds ++ kept b → false ≡ has_glyph a →
-        start ≡ walked (first ∷ reverse (take depth after)) after (greatest_supported split has_glyph (height a) a)
-    walk_passed start seconds after first depth c a b inv within e kept_b grown glyph =
-        let found : List ℕ = first ∷ reverse (take depth seconds) in
-        rw (grown, take-append-le) (inv ∙ walked-split found seconds c a b (sym e) (sym kept_b) ∙ ap (λ t. walked (if t then a ∷ reverse (seconds ++ kept b) else found) (seconds ++ kept b) (greatest_supported split has_glyph (height a) a)) (sym glyph))
+    pub walk_passed : (start : Option (List ℕ)) (seconds after : List ℕ) (found : Option (ℕ × ℕ)) (c a b : ℕ) →
+        start ≡ walked (found_parts found seconds) seconds (greatest_supported split has_glyph (height c) c) → IfSome found (λ f. f.1 ≤ length seconds) → Some (a, b) ≡ split c → true ≡ list_all has_glyph (kept b) → after ≡ seconds ++ kept b → false ≡ has_glyph a →
+        start ≡ walked (found_parts found after) after (greatest_supported split has_glyph (height a) a)
+    walk_passed start seconds after found c a b inv within e kept_b grown glyph =
+        rw (grown, found_parts-more found seconds (kept b) within) (inv ∙ walked-split (found_parts found seconds) seconds c a b (sym e) (sym kept_b) ∙ ap (λ t. walked (found_at t a (seconds ++ kept b) (found_parts found seconds)) (seconds ++ kept b) (greatest_supported split has_glyph (height a) a)) (sym glyph))
 
-    -- before a split whose second part has no glyph, what was found is the choice
-    pub walk_broken : (start found seconds : List ℕ) (c a b : ℕ) →
+    -- before a split whose second part has no glyph, what was found is the expansion
+    pub walk_broken : (start found : Option (List ℕ)) (seconds : List ℕ) (c a b : ℕ) →
         start ≡ walked found seconds (greatest_supported split has_glyph (height c) c) → Some (a, b) ≡ split c → false ≡ list_all has_glyph (kept b) → found ≡ start
     walk_broken start found seconds c a b inv e kept_b =
         sym (inv ∙ ap (walked found seconds) (greatest-split split has_glyph height falling c a b (sym e) ∙ ap (λ t. put_behind t b (option_or (greatest_supported split has_glyph (height a) a) (supported split has_glyph 0 a))) (sym kept_b)))

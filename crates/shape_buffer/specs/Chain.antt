@@ -33,3 +33,8 @@ full split height c = full_within split (height c) c
 -- Full of a text: the parts joined
 unfoldable pub full_text : (ℕ → Option (ℕ × ℕ)) → (ℕ → ℕ) → List ℕ → List ℕ
 full_text split height text = flat_map (full split height) text
+
+-- Full by its two rules, without a number of steps
+pub data IsFull (split : ℕ → Option (ℕ × ℕ)) : ℕ → List ℕ → Type 0 where
+  stays : {c : ℕ} → split c ≡ None → IsFull split c (c ∷ [])
+  splits_into : {c a b : ℕ} {xs : List ℕ} → split c ≡ Some (a, b) → IsFull split a xs → IsFull split c (xs ++ kept b)

@@ -1,5 +1,5 @@
 -- The expansions of a character along its chain, and which of them is chosen.
-use Rattle.std.specs.Prelude.{ℕ, zero, suc, Bool, true, false, if◌then◌else◌, List, [], ◌∷◌, ◌++◌, Option, None, Some, unwrap_or}
+use Rattle.std.specs.Prelude.{ℕ, zero, suc, Bool, true, false, if◌then◌else◌, List, [], ◌∷◌, ◌++◌, reverse, take, Option, None, Some, unwrap_or}
 use Rattle.std.specs.Option.{option_map, option_map_or, option_or}
 use Rattle.std.specs.List.{list_all}
 use Rattle.shape_buffer.specs.Chain.{kept, chain_point, second_part}
@@ -32,7 +32,17 @@ abbrev pub greatest_supported : (ℕ → Option (ℕ × ℕ)) → (ℕ → Bool)
 greatest_supported split has_glyph zero c = None
 greatest_supported split has_glyph (suc n) c = option_or (supported split has_glyph (suc n) c) (greatest_supported split has_glyph n c)
 
+-- the expansion that is chosen for c, where `true` asks for the shortest, which is c itself where c has a glyph; no chain is longer than the height of its character
+abbrev pub chosen_expansion : (ℕ → Option (ℕ × ℕ)) → (ℕ → ℕ) → (ℕ → Bool) → Bool → ℕ → Option (List ℕ)
+chosen_expansion split height has_glyph true c = if has_glyph c then None else least_supported split has_glyph (height c) c
+chosen_expansion split height has_glyph false c = greatest_supported split has_glyph (height c) c
+
 -- what c becomes, where `true` asks for the shortest: c itself where the shortest is asked and c has a glyph, else the supported expansion of least or of greatest length, and c itself where none is supported; no chain is longer than the height of its character
 abbrev pub choice : (ℕ → Option (ℕ × ℕ)) → (ℕ → ℕ) → (ℕ → Bool) → Bool → ℕ → List ℕ
 choice split height has_glyph true c = if has_glyph c then c ∷ [] else unwrap_or (least_supported split has_glyph (height c) c) (c ∷ [])
 choice split height has_glyph false c = unwrap_or (greatest_supported split has_glyph (height c) c) (c ∷ [])
+
+-- what a walk along a chain has found, where it keeps second parts from the first to the last: nothing, or a point with so many second parts behind it
+abbrev pub found_parts : Option (ℕ × ℕ) → List ℕ → Option (List ℕ)
+found_parts None kept_parts = None
+found_parts (Some found) kept_parts = Some (found.0 ∷ reverse (take found.1 kept_parts))

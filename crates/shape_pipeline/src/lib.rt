@@ -7,5 +7,7 @@
 #![allow(non_camel_case_types)]
 
 pub mod ot_shape;
+pub mod ot_shape_normalize;
 pub mod ot_shape_plan;
 pub mod ot_shaper;
+pub mod shape;

@@ -1,0 +1,127 @@
+-- Expanding, ordering and recomposing a text: each keeps it equivalent, and the longest expansions lead to canonical form.
+use Rattle.std.proofs.Common.{◌≡◌, ℕ, ◌<◌, Bool, true, false, List, [], ◌∷◌, ◌++◌, Option, None, flat_map, sym, ap, subst, ◌∙◌, append-nil, ◌↔◌}
+use Rattle.std.proofs.lemmas.List.Elements.{All-nil, All-from_recursion}
+use Rattle.std.specs.List.{list_all, AllByRecursion}
+use Rattle.shape_buffer.specs.Chain.{full, full_text}
+use Rattle.shape_buffer.specs.Equivalent.{IsEquivalent, IsCanonical, ComposesSoundly}
+use Rattle.shape_buffer.specs.Expansion.{choice}
+use Rattle.shape_buffer.specs.Order.{Swaps, IsOrdered}
+use Rattle.shape_buffer.specs.Recompose.{is_blocked, is_blocked_by_last, recomposed}
+use Rattle.shape_buffer.specs.Runs.{AreRunsSettled, HasNoLongerRun}
+use Rattle.shape_buffer.specs.Unicode.{SplitsFall}
+use Rattle.shape_buffer.proofs.BlockLemmas.{recomposed_by_last}
+use Rattle.shape_buffer.proofs.ChainLemmas.{append_all, full-class, full-whole}
+use Rattle.shape_buffer.proofs.ChoiceLemmas.{full_text-expanded, expanded-full}
+use Rattle.shape_buffer.proofs.EquivalentLemmas.{parts-swaps, canonical_equal}
+use Rattle.shape_buffer.proofs.RecomposeLemmas.{recomposed-keeps}
+use Rattle.shape_buffer.proofs.RunLemmas.{AreRunsSettled-swaps, AreRunsSettled-ordered}
+use Rattle.shape_buffer.proofs.SwapLemmas.{◌⟫◌, no_swap, Swaps-sym, all-swaps}
+
+-- every number is a character here
+abbrev IsAny : ℕ → Type 0
+IsAny c = Unit {0}
+
+all_any : (cs : List ℕ) → AllByRecursion IsAny cs
+all_any [] = tt
+all_any (c ∷ cs) = (tt, all_any cs)
+
+module _ (split : ℕ → Option (ℕ × ℕ)) (height class : ℕ → ℕ) (lawful : SplitsFall split height class) where
+  -- swaps of characters keep a text equivalent
+  pub equivalent_from_swaps : (xs ys : List ℕ) → Swaps class xs ys → IsEquivalent split height class xs ys
+  unfolding full_text
+  equivalent_from_swaps xs ys swaps =
+      parts-swaps IsAny class class (full split height) (λ c any mark. full-class split height class lawful c mark) swaps (all_any xs)
+
+  -- so does recomposing, where what composes is equivalent to its parts
+  pub equivalent_recomposed : (is_mark : ℕ → Bool) (join : ℕ → ℕ → Option ℕ) → ComposesSoundly split height class join → (xs : List ℕ) → IsEquivalent split height class xs (recomposed class (is_blocked class) is_mark join xs)
+  unfolding full_text
+  equivalent_recomposed is_mark join sound xs =
+      recomposed-keeps IsAny class class (full split height) is_mark join
+      (record {
+        marks = λ c any mark. full-class split height class lawful c mark;
+        items = λ s c d any_s any_c joins. tt;
+        joins = λ s c d any_s any_c joins.
+            no_swap (sym (append-nil (full split height d))) ⟫ sound.equivalent s c d joins
+            ⟫ no_swap (ap (λ l. full split height s ++ l) (append-nil (full split height c)));
+      })
+      xs (all_any xs)
+
+  -- by the class put out last too, where the list is ordered
+  pub equivalent_recomposed_by_last : (is_mark : ℕ → Bool) (join : ℕ → ℕ → Option ℕ) → ComposesSoundly split height class join → (xs : List ℕ) → IsOrdered class xs → IsEquivalent split height class xs (recomposed class (is_blocked_by_last class) is_mark join xs)
+  equivalent_recomposed_by_last is_mark join sound xs up =
+      subst (IsEquivalent split height class xs) (recomposed_by_last class is_mark join xs up) (equivalent_recomposed is_mark join sound xs)
+
+  module _ (has_glyph : ℕ → Bool) (short : Bool) where
+    abbrev expanded : List ℕ → List ℕ
+    expanded text = flat_map (choice split height has_glyph short) text
+
+    -- expanding and settling the runs keeps a text equivalent
+    pub equivalent_settled : (limit : ℕ) (text new : List ℕ) → AreRunsSettled class limit [] (expanded text) new → IsEquivalent split height class text new
+    equivalent_settled limit text new settled =
+        no_swap (sym (full_text-expanded split height class lawful has_glyph short text))
+        ⟫ equivalent_from_swaps (expanded text) new (AreRunsSettled-swaps class limit [] (expanded text) new settled)
+
+    -- and recomposing the result by the class put out last, where no run is too long
+    pub equivalent_normalised : (is_mark : ℕ → Bool) (join : ℕ → ℕ → Option ℕ) → ComposesSoundly split height class join → (limit : ℕ) (text new : List ℕ) → HasNoLongerRun class limit (expanded text) → AreRunsSettled class limit [] (expanded text) new → IsEquivalent split height class text (recomposed class (is_blocked_by_last class) is_mark join new)
+    equivalent_normalised is_mark join sound limit text new fits settled =
+        equivalent_settled limit text new settled
+        ⟫ equivalent_recomposed_by_last is_mark join sound new (AreRunsSettled-ordered class limit [] (expanded text) new (All-nil (λ x. 0 < class x)) fits settled)
+
+  full_text-splits_nowhere : (text : List ℕ) → AllByRecursion (λ d. split d ≡ None) (full_text split height text)
+  unfolding full_text
+  full_text-splits_nowhere [] = tt
+  full_text-splits_nowhere (c ∷ text) =
+      append_all (λ d. split d ≡ None) _ _ (full-whole split height class lawful c) (full_text-splits_nowhere text)
+
+  module _ (has_glyph : ℕ → Bool) (limit : ℕ) where
+    -- a glyph for each character of Full, and no run that is too long
+    abbrev Glyphs : List ℕ → Type 0
+    Glyphs text = list_all has_glyph (full_text split height text) ≡ true
+
+    abbrev Fits : List ℕ → Type 0
+    Fits text = HasNoLongerRun class limit (full_text split height text)
+
+    abbrev Settles : List ℕ → List ℕ → Type 0
+    Settles text new = AreRunsSettled class limit [] (flat_map (choice split height has_glyph false) text) new
+
+    -- then the settled list is canonical
+    pub canonical_settled : (text new : List ℕ) → Glyphs text → Fits text → Settles text new → IsCanonical split class new
+    canonical_settled text new glyphs fits settled =
+        let at = subst (λ l. AreRunsSettled class limit [] l new) (expanded-full split height lawful.height_falls has_glyph text glyphs) settled in
+        let swaps = AreRunsSettled-swaps class limit [] (full_text split height text) new at in
+        record {
+          whole = All-from_recursion (λ d. split d ≡ None) new (all-swaps (λ d. split d ≡ None) swaps (full_text-splits_nowhere text));
+          ordered = AreRunsSettled-ordered class limit [] (full_text split height text) new (All-nil (λ x. 0 < class x)) fits at;
+        }
+
+    -- two texts are equivalent exactly where their settled lists are equal
+    pub settled_equal_iff : (s new t new' : List ℕ) → Glyphs s → Glyphs t → Fits s → Fits t → Settles s new → Settles t new' → (new ≡ new') ↔ IsEquivalent split height class s t
+    settled_equal_iff s new t new' glyphs_s glyphs_t fits_s fits_t settled_s settled_t =
+        let left = equivalent_settled has_glyph false limit s new settled_s in
+        let right = equivalent_settled has_glyph false limit t new' settled_t in (
+          λ e. left ⟫ no_swap (ap (full_text split height) e) ⟫ Swaps-sym right,
+          λ swaps.
+              canonical_equal split height lawful.height_falls class new new'
+              (canonical_settled s new glyphs_s fits_s settled_s) (canonical_settled t new' glyphs_t fits_t settled_t)
+              (Swaps-sym left ⟫ swaps ⟫ right),
+        )
+
+    -- and exactly where what is recomposed of them is equal
+    pub recomposed_equal_iff : (is_mark : ℕ → Bool) (join : ℕ → ℕ → Option ℕ) → ComposesSoundly split height class join → (s new t new' : List ℕ) → Glyphs s → Glyphs t → Fits s → Fits t → Settles s new → Settles t new' → (recomposed class (is_blocked class) is_mark join new ≡ recomposed class (is_blocked class) is_mark join new') ↔ IsEquivalent split height class s t
+    recomposed_equal_iff is_mark join sound s new t new' glyphs_s glyphs_t fits_s fits_t settled_s settled_t =
+        let left = equivalent_settled has_glyph false limit s new settled_s ⟫ equivalent_recomposed is_mark join sound new in
+        let right = equivalent_settled has_glyph false limit t new' settled_t ⟫ equivalent_recomposed is_mark join sound new' in
+        let canonical = settled_equal_iff s new t new' glyphs_s glyphs_t fits_s fits_t settled_s settled_t in (
+          λ e. left ⟫ no_swap (ap (full_text split height) e) ⟫ Swaps-sym right,
+          λ swaps. ap (recomposed class (is_blocked class) is_mark join) (canonical.1 swaps),
+        )
+
+    -- by the class put out last too
+    pub recomposed_by_last_equal_iff : (is_mark : ℕ → Bool) (join : ℕ → ℕ → Option ℕ) → ComposesSoundly split height class join → (s new t new' : List ℕ) → Glyphs s → Glyphs t → Fits s → Fits t → Settles s new → Settles t new' → (recomposed class (is_blocked_by_last class) is_mark join new ≡ recomposed class (is_blocked_by_last class) is_mark join new') ↔ IsEquivalent split height class s t
+    recomposed_by_last_equal_iff is_mark join sound s new t new' glyphs_s glyphs_t fits_s fits_t settled_s settled_t =
+        let by_last_s = recomposed_by_last class is_mark join new (canonical_settled s new glyphs_s fits_s settled_s).ordered in
+        let by_last_t = recomposed_by_last class is_mark join new' (canonical_settled t new' glyphs_t fits_t settled_t).ordered in
+        let all = recomposed_equal_iff is_mark join sound s new t new' glyphs_s glyphs_t fits_s fits_t settled_s settled_t in (
+          λ e. all.0 (by_last_s ∙ e ∙ sym by_last_t),
+          λ swaps. sym by_last_s ∙ all.1 swaps ∙ by_last_t,
+        )

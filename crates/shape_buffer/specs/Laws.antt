@@ -1,0 +1,153 @@
+-- What the crate proves of equivalence, of choices, of order and of recomposing, for every split whose heights fall.
+use Rattle.std.specs.Prelude.{◌≡◌, ℕ, ◌<◌, ◌⊎◌, ◌↔◌, Bool, true, false, ◌==◌, List, [], ◌∷◌, ◌++◌, Option, Some}
+use Rattle.std.specs.Ordering.{nat_cmp}
+use Rattle.std.specs.List.{All, list_all, flat_map}
+use Rattle.std.specs.List.Sorted.{IsNonDecreasingBy, IsStableByKey}
+use Rattle.shape_buffer.specs.Chain.{FallsAlong, full, full_text, IsFull}
+use Rattle.shape_buffer.specs.Choice.{IsGreatestSupported, IsLeastSupported, HasNoneSupported, HasGlyphOrIs}
+use Rattle.shape_buffer.specs.Equivalent.{IsEquivalent, IsCanonical, ComposesSoundly}
+use Rattle.shape_buffer.specs.Expansion.{expansion, choice}
+use Rattle.shape_buffer.specs.Order.{Swaps, IsOrdered, IsPutInOrder}
+use Rattle.shape_buffer.specs.Recompose.{is_blocked, is_blocked_by_last, is_blocked_by_greatest, recomposed}
+use Rattle.shape_buffer.specs.Runs.{AreRunsSettled, HasNoLongerRun}
+use Rattle.shape_buffer.specs.Unicode.{SplitsFall}
+
+-- a split, with its heights and the classes
+abbrev pub ForLawfulSplits : ((ℕ → Option (ℕ × ℕ)) → (ℕ → ℕ) → (ℕ → ℕ) → Type 0) → Type 0
+ForLawfulSplits Law = (split : ℕ → Option (ℕ × ℕ)) (height class : ℕ → ℕ) → SplitsFall split height class → Law split height class
+
+-- ---- Full
+
+abbrev pub FullIsByTwoRules : Type 0
+FullIsByTwoRules =
+    (split : ℕ → Option (ℕ × ℕ)) (height : ℕ → ℕ) → FallsAlong split height → (c : ℕ) (parts : List ℕ) → IsFull split c parts ↔ (parts ≡ full split height c)
+
+-- ---- equivalence, whatever the split
+
+abbrev pub IsReflexive : Type 0
+IsReflexive = (split : ℕ → Option (ℕ × ℕ)) (height class : ℕ → ℕ) (s : List ℕ) → IsEquivalent split height class s s
+
+abbrev pub IsSymmetric : Type 0
+IsSymmetric =
+    (split : ℕ → Option (ℕ × ℕ)) (height class : ℕ → ℕ) (s t : List ℕ) → IsEquivalent split height class s t → IsEquivalent split height class t s
+
+abbrev pub IsTransitive : Type 0
+IsTransitive =
+    (split : ℕ → Option (ℕ × ℕ)) (height class : ℕ → ℕ) (s t u : List ℕ)
+    → IsEquivalent split height class s t → IsEquivalent split height class t u → IsEquivalent split height class s u
+
+-- ---- expansions and choices
+
+abbrev pub ExpansionIsEquivalent : Type 0
+ExpansionIsEquivalent = ForLawfulSplits (λ split height class.
+    (k c : ℕ) (parts : List ℕ) → expansion split k c ≡ Some parts → IsEquivalent split height class (c ∷ []) parts)
+
+abbrev pub ChoicesAreEquivalent : Type 0
+ChoicesAreEquivalent = ForLawfulSplits (λ split height class.
+    (has_glyph : ℕ → Bool) (short : Bool) (text : List ℕ) → IsEquivalent split height class text (flat_map (choice split height has_glyph short) text))
+
+abbrev pub ChoiceIsGreatest : Type 0
+ChoiceIsGreatest =
+    (split : ℕ → Option (ℕ × ℕ)) (height : ℕ → ℕ) → FallsAlong split height → (has_glyph : ℕ → Bool) (c : ℕ)
+    → IsGreatestSupported split has_glyph c (choice split height has_glyph false c) ⊎ (HasNoneSupported split has_glyph c × (choice split height has_glyph false c ≡ c ∷ []))
+
+abbrev pub ChoiceIsLeast : Type 0
+ChoiceIsLeast =
+    (split : ℕ → Option (ℕ × ℕ)) (height : ℕ → ℕ) → FallsAlong split height → (has_glyph : ℕ → Bool) (c : ℕ) → has_glyph c ≡ false
+    → IsLeastSupported split has_glyph c (choice split height has_glyph true c) ⊎ (HasNoneSupported split has_glyph c × (choice split height has_glyph true c ≡ c ∷ []))
+
+abbrev pub ChoiceStays : Type 0
+ChoiceStays =
+    (split : ℕ → Option (ℕ × ℕ)) (height : ℕ → ℕ) (has_glyph : ℕ → Bool) (c : ℕ) → has_glyph c ≡ true → choice split height has_glyph true c ≡ c ∷ []
+
+abbrev pub ChoiceBringsGlyphs : Type 0
+ChoiceBringsGlyphs =
+    (split : ℕ → Option (ℕ × ℕ)) (height : ℕ → ℕ) (has_glyph : ℕ → Bool) (short : Bool) (c : ℕ) → All (HasGlyphOrIs has_glyph c) (choice split height has_glyph short c)
+
+abbrev pub ChoiceIsFull : Type 0
+ChoiceIsFull =
+    (split : ℕ → Option (ℕ × ℕ)) (height : ℕ → ℕ) → FallsAlong split height → (has_glyph : ℕ → Bool) (c : ℕ)
+    → list_all has_glyph (full split height c) ≡ true → choice split height has_glyph false c ≡ full split height c
+
+-- ---- order, of anything that has a class
+
+abbrev pub StableOrderIsReached : Type 0 → Type 0
+StableOrderIsReached A =
+    (class : A → ℕ) (run new : List A) → All (λ x. 0 < class x) run → IsNonDecreasingBy class new → IsStableByKey class nat_cmp run new → IsPutInOrder class run new
+
+abbrev pub OrderIsUnique : Type 0 → Type 0
+OrderIsUnique A = (class : A → ℕ) (xs ys : List A) → IsOrdered class xs → IsOrdered class ys → Swaps class xs ys → xs ≡ ys
+
+abbrev pub SettledIsReached : Type 0 → Type 0
+SettledIsReached A = (class : A → ℕ) (limit : ℕ) (old new : List A) → AreRunsSettled class limit [] old new → Swaps class old new
+
+abbrev pub SettledIsOrdered : Type 0 → Type 0
+SettledIsOrdered A =
+    (class : A → ℕ) (limit : ℕ) (old new : List A) → HasNoLongerRun class limit old → AreRunsSettled class limit [] old new → IsOrdered class new
+
+abbrev pub SettledIsUnique : Type 0 → Type 0
+SettledIsUnique A =
+    (class : A → ℕ) (limit : ℕ) (old new other : List A) → AreRunsSettled class limit [] old new → AreRunsSettled class limit [] old other → new ≡ other
+
+-- ---- canonical form
+
+abbrev pub CanonicalIsUnique : Type 0
+CanonicalIsUnique =
+    (split : ℕ → Option (ℕ × ℕ)) (height class : ℕ → ℕ) → FallsAlong split height → (s t : List ℕ)
+    → IsCanonical split class s → IsCanonical split class t → IsEquivalent split height class s t → s ≡ t
+
+-- a text with a glyph for each character of its Full, and no run of marks in it that is longer than the limit
+pub record IsWhollySupported (split : ℕ → Option (ℕ × ℕ)) (height class : ℕ → ℕ) (has_glyph : ℕ → Bool) (limit : ℕ) (text : List ℕ) : Type 0 where
+  pub glyphs : list_all has_glyph (full_text split height text) ≡ true
+  pub fits : HasNoLongerRun class limit (full_text split height text)
+
+-- what expanding by the greatest choice and settling the runs leave
+abbrev pub IsDecomposed : (ℕ → Option (ℕ × ℕ)) → (ℕ → ℕ) → (ℕ → ℕ) → (ℕ → Bool) → ℕ → List ℕ → List ℕ → Type 0
+IsDecomposed split height class has_glyph limit text new = AreRunsSettled class limit [] (flat_map (choice split height has_glyph false) text) new
+
+abbrev pub DecomposedIsCanonical : Type 0
+DecomposedIsCanonical = ForLawfulSplits (λ split height class.
+    (has_glyph : ℕ → Bool) (limit : ℕ) (text new : List ℕ) → IsWhollySupported split height class has_glyph limit text
+    → IsDecomposed split height class has_glyph limit text new → IsCanonical split class new)
+
+abbrev pub DecomposedDecides : Type 0
+DecomposedDecides = ForLawfulSplits (λ split height class.
+    (has_glyph : ℕ → Bool) (limit : ℕ) (s new t other : List ℕ)
+    → IsWhollySupported split height class has_glyph limit s → IsWhollySupported split height class has_glyph limit t
+    → IsDecomposed split height class has_glyph limit s new → IsDecomposed split height class has_glyph limit t other
+    → (new ≡ other) ↔ IsEquivalent split height class s t)
+
+-- ---- recomposing
+
+abbrev pub RecomposedIsEquivalent : Type 0
+RecomposedIsEquivalent = ForLawfulSplits (λ split height class.
+    (join : ℕ → ℕ → Option ℕ) → ComposesSoundly split height class join → (is_mark : ℕ → Bool) (text : List ℕ)
+    → IsEquivalent split height class text (recomposed class (is_blocked class) is_mark join text))
+
+abbrev pub LastDecides : Type 0 → Type 0
+LastDecides A =
+    (class : A → ℕ) (is_mark : A → Bool) (join : A → A → Option A) (xs : List A) → IsOrdered class xs
+    → recomposed class (is_blocked class) is_mark join xs ≡ recomposed class (is_blocked_by_last class) is_mark join xs
+
+abbrev pub GreatestDecides : Type 0 → Type 0
+GreatestDecides A =
+    (class : A → ℕ) (is_mark : A → Bool) (join : A → A → Option A) (xs : List A)
+    → recomposed class (is_blocked class) is_mark join xs ≡ recomposed class (is_blocked_by_greatest class) is_mark join xs
+
+abbrev pub RecomposedDecides : Type 0
+RecomposedDecides = ForLawfulSplits (λ split height class.
+    (join : ℕ → ℕ → Option ℕ) → ComposesSoundly split height class join → (is_mark has_glyph : ℕ → Bool) (limit : ℕ) (s new t other : List ℕ)
+    → IsWhollySupported split height class has_glyph limit s → IsWhollySupported split height class has_glyph limit t
+    → IsDecomposed split height class has_glyph limit s new → IsDecomposed split height class has_glyph limit t other
+    → (recomposed class (is_blocked class) is_mark join new ≡ recomposed class (is_blocked class) is_mark join other) ↔ IsEquivalent split height class s t)
+
+-- ---- cutting
+
+-- what normalising leaves of a list, and of it recomposed
+abbrev pub CutsApart : Type 0 → Type 0
+CutsApart A =
+    (class : A → ℕ) (limit : ℕ) (blocks : List A → A → Bool) (is_mark : A → Bool) (join : A → A → Option A) (choices : A → List A)
+    (s t : List A) (c : A) (rest new other : List A) → flat_map choices t ≡ c ∷ rest → is_mark c ≡ false → (class c == 0) ≡ true
+    → AreRunsSettled class limit [] (flat_map choices s) new → AreRunsSettled class limit [] (flat_map choices t) other
+    → AreRunsSettled class limit [] (flat_map choices (s ++ t)) (new ++ other)
+    × (recomposed class blocks is_mark join (new ++ other) ≡ recomposed class blocks is_mark join new ++ recomposed class blocks is_mark join other)
