@@ -7,3 +7,4 @@ pub mod Meaning
 pub mod Laws
 pub mod Face
 pub mod Words
+pub mod Preferences
