@@ -6,7 +6,7 @@ use Rattle.std.proofs.Common.{cond, inl, inr, ap, sym, ◌∙◌, arith, subst}
 use Rattle.std.proofs.lemmas.Bool.Decides.{nat_tests}
 use Rattle.unicode.specs.GeneralCategory.{general_category}
 use Rattle.shape_buffer.specs.Category.{is_mark_category}
-use Rattle.shape_buffer.specs.Unicode.{LawfulUnicode}
+use Rattle.shape_buffer.specs.Unicode.{LawfulUnicode, SplitsFall}
 use Rattle.shape_buffer.specs.declared.buffer.general_category.hb_unicode_general_category_t.{hb_unicode_general_category_t}
 use Rattle.shape_buffer.specs.declared.buffer.general_category.hb_unicode_general_category_t.TheVariants.{Unassigned}
 use Rattle.shapeline.specs.Category.{category_from, is_marked}
@@ -35,26 +35,38 @@ found_passes p test (y ∷ ys) x all found =
     ] in
     cases refl found
 
--- an entry of the table of splits
+-- an entry of the table of splits: a character and its two parts
 abbrev Entry : Type 0
 Entry = ℕ × ℕ × ℕ
 
--- what each split of the table passes
-module _ (test : ℕ → ℕ × ℕ → Bool) (all : list_all (λ (e : Entry). test e.0 (e.1, e.2)) SPLITS ≡ true) where
-  split_passes : (c a b : ℕ) → split_in_table c ≡ Some (a, b) → test c (a, b) ≡ true
-  split_passes c a b splits =
-      let is_key : Entry → Bool = λ e. e.0 == c in
-      let parts_of : Entry → ℕ × ℕ = λ e. (e.1, e.2) in
-      let P : Option Entry → Type 0 = λ v. find is_key SPLITS ≡ v → option_map parts_of v ≡ Some (a, b) → test c (a, b) ≡ true in
-      let cases : P (find is_key SPLITS) = elim (find is_key SPLITS) as P [
-        | None ↦ λ e h. cc
-        | Some entry ↦ λ e h.
-            let passes = found_passes is_key (λ e. test e.0 (e.1, e.2)) SPLITS entry all e in
-            let key : entry.0 ≡ c = grind (arith, nat_tests, passes.0) in
-            let into : parts_of entry ≡ (a, b) = cc in
-            subst (λ z. test c z ≡ true) into (subst (λ z. test z (parts_of entry) ≡ true) key passes.1)
-      ] in
-      cases refl splits
+-- the first part is lower than the whole
+abbrev falls : Entry → Bool
+falls e = nat_lt (height_of e.1) (height_of e.0)
+
+-- the second part is U+0000 or splits no more
+abbrev ends : Entry → Bool
+ends e = e.2 == 0 || is_none (split_in_table e.2)
+
+-- the parts have the class of the whole, where that isn't 0; U+0000 has none
+abbrev keeps_class : Entry → Bool
+keeps_class e = class_in_table e.0 == 0 || (class_in_table e.1 == class_in_table e.0 && (e.2 == 0 || class_in_table e.2 == class_in_table e.0))
+
+-- each split of the table passes a test that the whole table passes
+split_passes : (test : Entry → Bool) → list_all test SPLITS ≡ true → (c a b : ℕ) → split_in_table c ≡ Some (a, b) → test (c, a, b) ≡ true
+split_passes test all c a b splits =
+    let is_key : Entry → Bool = λ e. e.0 == c in
+    let parts_of : Entry → ℕ × ℕ = λ e. (e.1, e.2) in
+    let P : Option Entry → Type 0 = λ v. find is_key SPLITS ≡ v → option_map parts_of v ≡ Some (a, b) → test (c, a, b) ≡ true in
+    let cases : P (find is_key SPLITS) = elim (find is_key SPLITS) as P [
+      | None ↦ λ e h. cc
+      | Some entry ↦ λ e h.
+          let passes = found_passes is_key test SPLITS entry all e in
+          let key : entry.0 ≡ c = grind (arith, nat_tests, passes.0) in
+          let into : parts_of entry ≡ (a, b) = cc in
+          let Q : ℕ → ℕ × ℕ → Type 0 = λ x parts. test (x, parts.0, parts.1) ≡ true in
+          subst (λ parts. Q c parts) into (subst (λ x. Q x (parts_of entry)) key passes.1)
+    ] in
+    cases refl splits
 
 -- a split of the functions is one of the table, and keeps marks
 split_of_cases : (c a b : ℕ) → split_of c ≡ Some (a, b) → (split_in_table c ≡ Some (a, b)) × (keeps_marks c (a, b) ≡ true)
@@ -72,9 +84,9 @@ split_of_cases c a b splits =
     ] in
     cases splits
 
-height_of-falls : (c a b : ℕ) → split_of c ≡ Some (a, b) → height_of a < height_of c
-height_of-falls c a b splits =
-    let test = split_passes (λ x parts. nat_lt (height_of parts.0) (height_of x)) refl c a b (split_of_cases c a b splits).0 in
+height_of-falls : list_all falls SPLITS ≡ true → (c a b : ℕ) → split_of c ≡ Some (a, b) → height_of a < height_of c
+height_of-falls all c a b splits =
+    let test = split_passes falls all c a b (split_of_cases c a b splits).0 in
     grind (arith, nat_tests, test)
 
 none_is : (o : Option (ℕ × ℕ)) → is_none o ≡ true → o ≡ None
@@ -84,9 +96,9 @@ none_is (Some x) h = cc
 unsplit : (c : ℕ) → split_in_table c ≡ None → split_of c ≡ None
 unsplit c whole = ap (λ v. option_and_then (λ parts. cond (keeps_marks c parts) (Some parts) None) v) whole
 
-second_is_last : (c a b : ℕ) → split_of c ≡ Some (a, b) → (b ≡ 0) ⊎ (split_of b ≡ None)
-second_is_last c a b splits =
-    let test = split_passes (λ x parts. parts.1 == 0 || is_none (split_in_table parts.1)) refl c a b (split_of_cases c a b splits).0 in
+second_is_last : list_all ends SPLITS ≡ true → (c a b : ℕ) → split_of c ≡ Some (a, b) → (b ≡ 0) ⊎ (split_of b ≡ None)
+second_is_last all c a b splits =
+    let test = split_passes ends all c a b (split_of_cases c a b splits).0 in
     elim (or_cases (b == 0) (is_none (split_in_table b)) test) [ inl h ↦ inl (grind (arith, nat_tests, h)) | inr h ↦ inr (unsplit b (none_is (split_in_table b) h)) ]
 
 cond_nonzero : (t : Bool) (n : ℕ) → cond t n 0 ≢ 0 → (t ≡ true) × (cond t n 0 ≡ n)
@@ -97,14 +109,14 @@ class_of_mark : (c : ℕ) → is_marked c ≡ true → class_of c ≡ class_in_t
 class_of_mark c marked = ap (λ t. cond t (class_in_table c) 0) marked
 
 -- the parts of a mark with a class have that class
-class_of_parts : (c a b : ℕ) → class_of c ≢ 0 → split_of c ≡ Some (a, b) → (class_of a ≡ class_of c) × ((b ≡ 0) ⊎ (class_of b ≡ class_of c))
-class_of_parts c a b nonzero splits =
+class_of_parts : list_all keeps_class SPLITS ≡ true → (c a b : ℕ) → class_of c ≢ 0 → split_of c ≡ Some (a, b) → (class_of a ≡ class_of c) × ((b ≡ 0) ⊎ (class_of b ≡ class_of c))
+class_of_parts all c a b nonzero splits =
     let was = cond_nonzero (is_marked c) (class_in_table c) nonzero in
     let cases = split_of_cases c a b splits in
     let kept_marks : (is_marked a && (b == 0 || is_marked b)) ≡ true =
     elim (or_cases (is_marked a && (b == 0 || is_marked b)) (not (is_marked c)) cases.1) [ inl h ↦ h | inr h ↦ let e : is_marked c ≡ true = was.0 in absurd (grind (arith, nat_tests, h, e)) ] in
     let marks = true_and (is_marked a) (b == 0 || is_marked b) kept_marks in
-    let test = split_passes (λ x parts. class_in_table x == 0 || (class_in_table parts.0 == class_in_table x && (parts.1 == 0 || class_in_table parts.1 == class_in_table x))) refl c a b cases.0 in
+    let test = split_passes keeps_class all c a b cases.0 in
     let same_classes : (class_in_table a == class_in_table c && (b == 0 || class_in_table b == class_in_table c)) ≡ true =
     elim (or_cases (class_in_table c == 0) (class_in_table a == class_in_table c && (b == 0 || class_in_table b == class_in_table c)) test) [ inl h ↦ absurd (nonzero (was.1 ∙ grind (arith, nat_tests, h))) | inr h ↦ h ] in
     let classes = true_and (class_in_table a == class_in_table c) (b == 0 || class_in_table b == class_in_table c) same_classes in
@@ -126,14 +138,18 @@ ascii_is_no_mark true k h =
     let cases : P (is_mark_category k) = elim (is_mark_category k) as P [ true ↦ λ e. refl | false ↦ λ e. e ] in
     cases refl
 
+splits_fall : list_all falls SPLITS ≡ true → list_all ends SPLITS ≡ true → list_all keeps_class SPLITS ≡ true → SplitsFall split_of height_of class_of
+splits_fall all_fall all_end all_keep = record {
+  height_falls = record { falls = height_of-falls all_fall };
+  second_is_last = second_is_last all_end;
+  first_class = λ c a b h e. (class_of_parts all_keep c a b h e).0;
+  second_class = λ c a b h e. (class_of_parts all_keep c a b h e).1;
+}
+
+-- here the three tests compute
 pub unicode_tables-lawful : LawfulUnicode unicode_tables
 unicode_tables-lawful = record {
   marks_have_classes = λ c h. (cond_nonzero (is_marked c) (class_in_table c) h).0;
   ascii_is_no_mark = λ c h. ascii_is_no_mark (nat_lt c 128) (category_from (general_category c)) (grind (arith, nat_tests, h));
-  splits_fall = record {
-    height_falls = record { falls = height_of-falls };
-    second_is_last = second_is_last;
-    first_class = λ c a b h e. (class_of_parts c a b h e).0;
-    second_class = λ c a b h e. (class_of_parts c a b h e).1;
-  };
+  splits_fall = splits_fall refl refl refl;
 }
