@@ -1,6 +1,7 @@
 pub mod ClusterLemmas
 pub mod DrawsInOrder
 pub mod MergeOrder
+pub mod FlagLemmas
 pub mod FillLemmas
 pub mod TextLemmas
 pub mod OptionLemmas
@@ -22,3 +23,4 @@ pub mod ChoiceLemmas
 pub mod NormaliseLemmas
 pub mod LawLemmas
 pub mod DeleteLemmas
+pub mod DeleteKeeps

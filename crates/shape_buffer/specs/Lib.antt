@@ -8,6 +8,7 @@ pub mod ClusterOrder
 pub mod Buffer
 pub mod BufferClusters
 pub mod Delete
+pub mod KeepsFlags
 pub mod Text
 pub mod Chain
 pub mod Expansion
