@@ -1,5 +1,5 @@
 -- The laws in the form in which they are stated.
-use Rattle.std.proofs.Common.{◌≡◌, ℕ, zero, suc, ◌≤◌, ◌⊎◌, List, [], ◌∷◌, Option, Some, None, unwrap_or, refl, sym, subst, ◌∙◌, arith, inl, inr, append-nil}
+use Rattle.std.proofs.Common.{◌≡◌, ℕ, zero, suc, ◌≤◌, ◌⊎◌, List, [], ◌∷◌, Option, Some, None, unwrap_or, refl, sym, ap, subst, ◌∙◌, arith, inl, inr, append-nil}
 use Rattle.std.proofs.lemmas.Bool.{cond-true, cond-false}
 use Rattle.shape_buffer.proofs.ChainLemmas.{IsFull-full, full-stays, full-splits}
 use Rattle.shape_buffer.proofs.ChoiceLemmas.{greatest_none, greatest_found, least_none, least_found, full_text-expansion, full_text-expanded}
@@ -47,8 +47,8 @@ choice_is_greatest split height falling has_glyph c = go (greatest_supported spl
 
 pub choice_is_least : ChoiceIsLeast
 choice_is_least split height falling has_glyph c lacks =
-    subst (λ l. IsLeastSupported split has_glyph c l ⊎ (HasNoneSupported split has_glyph c × (l ≡ c ∷ [])))
-    (sym (cond-false (has_glyph c) (c ∷ []) (unwrap_or (least_supported split has_glyph (height c) c) (c ∷ [])) lacks))
+    subst (λ o. IsLeastSupported split has_glyph c (unwrap_or o (c ∷ [])) ⊎ (HasNoneSupported split has_glyph c × (unwrap_or o (c ∷ []) ≡ c ∷ [])))
+    (sym (cond-false (has_glyph c) None (least_supported split has_glyph (height c) c) lacks))
     (go (least_supported split has_glyph (height c) c) refl)
   where
     go : (o : Option (List ℕ)) → least_supported split has_glyph (height c) c ≡ o → IsLeastSupported split has_glyph c (unwrap_or o (c ∷ [])) ⊎ (HasNoneSupported split has_glyph c × (unwrap_or o (c ∷ []) ≡ c ∷ []))
@@ -56,7 +56,8 @@ choice_is_least split height falling has_glyph c lacks =
     go (Some parts) e = inl (least_found split has_glyph (height c) c parts e)
 
 pub choice_stays : ChoiceStays
-choice_stays split height has_glyph c glyph = cond-true (has_glyph c) (c ∷ []) (unwrap_or (least_supported split has_glyph (height c) c) (c ∷ [])) glyph
+choice_stays split height has_glyph c glyph =
+    ap (λ o. unwrap_or o (c ∷ [])) (cond-true (has_glyph c) None (least_supported split has_glyph (height c) c) glyph)
 
 pub decomposed_is_canonical : DecomposedIsCanonical
 decomposed_is_canonical split height class lawful has_glyph limit text new supports settled =

@@ -18,3 +18,4 @@ pub mod CutLemmas
 pub mod ChoiceLemmas
 pub mod NormaliseLemmas
 pub mod LawLemmas
+pub mod ShortestWalkLemmas

@@ -1,19 +1,21 @@
 -- Expanding, ordering and recomposing a text: each keeps it equivalent, and the longest expansions lead to canonical form.
-use Rattle.std.proofs.Common.{◌≡◌, ℕ, ◌<◌, Bool, true, false, List, [], ◌∷◌, ◌++◌, Option, None, flat_map, sym, ap, subst, ◌∙◌, append-nil, ◌↔◌}
+use Rattle.std.proofs.Common.{◌≡◌, ℕ, ◌<◌, Bool, true, false, if◌then◌else◌, List, [], ◌∷◌, ◌++◌, Option, None, Some, flat_map, refl, sym, ap, subst, ◌∙◌, append-nil, ◌↔◌}
 use Rattle.std.proofs.lemmas.List.Elements.{All-nil, All-from_recursion}
+use Rattle.std.proofs.lemmas.Option.{none-some, cond_some}
 use Rattle.std.specs.List.{list_all, AllByRecursion}
+use Rattle.std.specs.Option.{option_and_then}
 use Rattle.shape_buffer.specs.Chain.{full, full_text}
 use Rattle.shape_buffer.specs.Equivalent.{IsEquivalent, IsCanonical, ComposesSoundly}
 use Rattle.shape_buffer.specs.Expansion.{choice}
 use Rattle.shape_buffer.specs.Order.{Swaps, IsOrdered}
-use Rattle.shape_buffer.specs.Recompose.{is_blocked, is_blocked_by_last, recomposed}
+use Rattle.shape_buffer.specs.Recompose.{is_blocked, is_blocked_by_last, is_blocked_by_greatest, join_with_glyph, recomposed}
 use Rattle.shape_buffer.specs.Runs.{AreRunsSettled, HasNoLongerRun}
 use Rattle.shape_buffer.specs.Unicode.{SplitsFall}
-use Rattle.shape_buffer.proofs.BlockLemmas.{recomposed_by_last}
+use Rattle.shape_buffer.proofs.BlockLemmas.{recomposed_by_last, recomposed_by_greatest}
 use Rattle.shape_buffer.proofs.ChainLemmas.{append_all, full-class, full-whole}
 use Rattle.shape_buffer.proofs.ChoiceLemmas.{full_text-expanded, expanded-full}
 use Rattle.shape_buffer.proofs.EquivalentLemmas.{parts-swaps, canonical_equal}
-use Rattle.shape_buffer.proofs.RecomposeLemmas.{recomposed-keeps}
+use Rattle.shape_buffer.proofs.RecomposeLemmas.{JoinsLawfully, joined, recomposed-keeps}
 use Rattle.shape_buffer.proofs.RunLemmas.{AreRunsSettled-swaps, AreRunsSettled-ordered}
 use Rattle.shape_buffer.proofs.SwapLemmas.{◌⟫◌, no_swap, Swaps-sym, all-swaps}
 
@@ -25,6 +27,14 @@ all_any : (cs : List ℕ) → AllByRecursion IsAny cs
 all_any [] = tt
 all_any (c ∷ cs) = (tt, all_any cs)
 
+-- what composes soundly does so where the composed character has a glyph
+pub sound_with_glyph : (split : ℕ → Option (ℕ × ℕ)) (height class : ℕ → ℕ) (join : ℕ → ℕ → Option ℕ) (has_glyph : ℕ → Bool) → ComposesSoundly split height class join → ComposesSoundly split height class (join_with_glyph join has_glyph)
+sound_with_glyph split height class join has_glyph sound = record { equivalent = λ a b c e. go a b c (join a b) refl e }
+  where
+    go : (a b c : ℕ) → (o : Option ℕ) → join a b ≡ o → option_and_then (λ c. if has_glyph c then Some c else None) o ≡ Some c → IsEquivalent split height class (c ∷ []) (a ∷ b ∷ [])
+    go a b c None found e = absurd (none-some c e)
+    go a b c (Some d) found e = sound.equivalent a b c (found ∙ ap Some (cond_some (has_glyph d) d c e).1)
+
 module _ (split : ℕ → Option (ℕ × ℕ)) (height class : ℕ → ℕ) (lawful : SplitsFall split height class) where
   -- swaps of characters keep a text equivalent
   pub equivalent_from_swaps : (xs ys : List ℕ) → Swaps class xs ys → IsEquivalent split height class xs ys
@@ -32,24 +42,37 @@ module _ (split : ℕ → Option (ℕ × ℕ)) (height class : ℕ → ℕ) (law
   equivalent_from_swaps xs ys swaps =
       parts-swaps IsAny class class (full split height) (λ c any mark. full-class split height class lawful c mark) swaps (all_any xs)
 
+  joins_soundly : (join : ℕ → ℕ → Option ℕ) → ComposesSoundly split height class join → JoinsLawfully IsAny class class (full split height) join
+  unfolding full_text
+  joins_soundly join sound = record {
+    marks = λ c any mark. full-class split height class lawful c mark;
+    items = λ s c d any_s any_c joins. tt;
+    joins = λ s c d any_s any_c joins.
+        no_swap (sym (append-nil (full split height d))) ⟫ sound.equivalent s c d joins
+        ⟫ no_swap (ap (λ l. full split height s ++ l) (append-nil (full split height c)));
+  }
+
   -- so does recomposing, where what composes is equivalent to its parts
   pub equivalent_recomposed : (is_mark : ℕ → Bool) (join : ℕ → ℕ → Option ℕ) → ComposesSoundly split height class join → (xs : List ℕ) → IsEquivalent split height class xs (recomposed class (is_blocked class) is_mark join xs)
   unfolding full_text
   equivalent_recomposed is_mark join sound xs =
-      recomposed-keeps IsAny class class (full split height) is_mark join
-      (record {
-        marks = λ c any mark. full-class split height class lawful c mark;
-        items = λ s c d any_s any_c joins. tt;
-        joins = λ s c d any_s any_c joins.
-            no_swap (sym (append-nil (full split height d))) ⟫ sound.equivalent s c d joins
-            ⟫ no_swap (ap (λ l. full split height s ++ l) (append-nil (full split height c)));
-      })
-      xs (all_any xs)
+      recomposed-keeps IsAny class class (full split height) is_mark join (joins_soundly join sound) xs (all_any xs)
 
   -- by the class put out last too, where the list is ordered
   pub equivalent_recomposed_by_last : (is_mark : ℕ → Bool) (join : ℕ → ℕ → Option ℕ) → ComposesSoundly split height class join → (xs : List ℕ) → IsOrdered class xs → IsEquivalent split height class xs (recomposed class (is_blocked_by_last class) is_mark join xs)
   equivalent_recomposed_by_last is_mark join sound xs up =
       subst (IsEquivalent split height class xs) (recomposed_by_last class is_mark join xs up) (equivalent_recomposed is_mark join sound xs)
+
+  -- by the greatest class too, whatever the list
+  pub equivalent_recomposed_by_greatest : (is_mark : ℕ → Bool) (join : ℕ → ℕ → Option ℕ) → ComposesSoundly split height class join → (xs : List ℕ) → IsEquivalent split height class xs (recomposed class (is_blocked_by_greatest class) is_mark join xs)
+  equivalent_recomposed_by_greatest is_mark join sound xs =
+      subst (IsEquivalent split height class xs) (recomposed_by_greatest class is_mark join xs) (equivalent_recomposed is_mark join sound xs)
+
+  -- a starter and a mark past others that don't block it, and what the two compose to
+  pub equivalent_joined : (join : ℕ → ℕ → Option ℕ) → ComposesSoundly split height class join → (s c d : ℕ) (ms rest : List ℕ) → is_blocked class ms c ≡ false → join s c ≡ Some d → IsEquivalent split height class (s ∷ ms ++ c ∷ rest) (d ∷ ms ++ rest)
+  unfolding full_text
+  equivalent_joined join sound s c d ms rest free joins =
+      joined IsAny class class (full split height) (λ c. true) join (joins_soundly join sound) s c d ms rest tt tt (all_any ms) free joins
 
   module _ (has_glyph : ℕ → Bool) (short : Bool) where
     abbrev expanded : List ℕ → List ℕ

@@ -12,7 +12,7 @@ use Rattle.shape_buffer.specs.Recompose.{is_blocked, is_blocked_by_last, is_bloc
 use Rattle.shape_buffer.specs.Runs.{AreRunsSettled, HasNoLongerRun}
 use Rattle.shape_buffer.specs.Unicode.{SplitsFall}
 
--- a split, with its heights and the classes
+-- a law of every split, with its heights and the classes, whose heights fall and whose marks keep their class
 abbrev pub ForLawfulSplits : ((ℕ → Option (ℕ × ℕ)) → (ℕ → ℕ) → (ℕ → ℕ) → Type 0) → Type 0
 ForLawfulSplits Law = (split : ℕ → Option (ℕ × ℕ)) (height class : ℕ → ℕ) → SplitsFall split height class → Law split height class
 
@@ -24,15 +24,15 @@ FullIsByTwoRules =
 
 -- ---- equivalence, whatever the split
 
-abbrev pub IsReflexive : Type 0
-IsReflexive = (split : ℕ → Option (ℕ × ℕ)) (height class : ℕ → ℕ) (s : List ℕ) → IsEquivalent split height class s s
+abbrev pub EquivalenceIsReflexive : Type 0
+EquivalenceIsReflexive = (split : ℕ → Option (ℕ × ℕ)) (height class : ℕ → ℕ) (s : List ℕ) → IsEquivalent split height class s s
 
-abbrev pub IsSymmetric : Type 0
-IsSymmetric =
+abbrev pub EquivalenceIsSymmetric : Type 0
+EquivalenceIsSymmetric =
     (split : ℕ → Option (ℕ × ℕ)) (height class : ℕ → ℕ) (s t : List ℕ) → IsEquivalent split height class s t → IsEquivalent split height class t s
 
-abbrev pub IsTransitive : Type 0
-IsTransitive =
+abbrev pub EquivalenceIsTransitive : Type 0
+EquivalenceIsTransitive =
     (split : ℕ → Option (ℕ × ℕ)) (height class : ℕ → ℕ) (s t u : List ℕ)
     → IsEquivalent split height class s t → IsEquivalent split height class t u → IsEquivalent split height class s u
 
@@ -124,6 +124,11 @@ RecomposedIsEquivalent = ForLawfulSplits (λ split height class.
     (join : ℕ → ℕ → Option ℕ) → ComposesSoundly split height class join → (is_mark : ℕ → Bool) (text : List ℕ)
     → IsEquivalent split height class text (recomposed class (is_blocked class) is_mark join text))
 
+abbrev pub JoinedPastMarksIsEquivalent : Type 0
+JoinedPastMarksIsEquivalent = ForLawfulSplits (λ split height class.
+    (join : ℕ → ℕ → Option ℕ) → ComposesSoundly split height class join → (s c d : ℕ) (marks rest : List ℕ)
+    → is_blocked class marks c ≡ false → join s c ≡ Some d → IsEquivalent split height class (s ∷ marks ++ c ∷ rest) (d ∷ marks ++ rest))
+
 abbrev pub LastDecides : Type 0 → Type 0
 LastDecides A =
     (class : A → ℕ) (is_mark : A → Bool) (join : A → A → Option A) (xs : List A) → IsOrdered class xs
@@ -143,7 +148,7 @@ RecomposedDecides = ForLawfulSplits (λ split height class.
 
 -- ---- cutting
 
--- what normalising leaves of a list, and of it recomposed
+-- where the choices of t begin with an item of class 0 that is no mark, what two lists settle to, joined, is what the joined lists settle to, and so for what is recomposed of it
 abbrev pub CutsApart : Type 0 → Type 0
 CutsApart A =
     (class : A → ℕ) (limit : ℕ) (blocks : List A → A → Bool) (is_mark : A → Bool) (join : A → A → Option A) (choices : A → List A)
