@@ -1,3 +1,6 @@
+pub mod ClusterLemmas
+pub mod DrawsInOrder
+pub mod MergeOrder
 pub mod FillLemmas
 pub mod TextLemmas
 pub mod OptionLemmas
@@ -19,3 +22,4 @@ pub mod ChoiceLemmas
 pub mod NormaliseLemmas
 pub mod LawLemmas
 pub mod ShortestWalkLemmas
+pub mod DeleteLemmas

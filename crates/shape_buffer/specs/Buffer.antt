@@ -1,5 +1,5 @@
 -- A buffer as its callers see it.
-use Rattle.std.specs.Prelude.{◌≡◌, ℕ, ◌*◌, min, max, List, [], Option, Some, None, unwrap_or}
+use Rattle.std.specs.Prelude.{ℕ, ◌*◌, min, max, List, [], Option, None, unwrap_or}
 use Rattle.shape_buffer.specs.Items.{Item}
 use Rattle.shape_buffer.specs.declared.buffer.positions.GlyphPosition.{GlyphPosition}
 use Rattle.shape_buffer.specs.declared.buffer.settings.Direction.{Direction}

@@ -1,5 +1,5 @@
 -- Guessing what a caller left open.
-use Rattle.std.specs.Prelude.{ℕ, List, Option, Some, None, Bool, ◌==◌, ◌||◌, not, map, find}
+use Rattle.std.specs.Prelude.{List, Option, Some, None, Bool, ◌==◌, ◌||◌, not, map, find}
 use Rattle.shape_buffer.specs.Items.{Item}
 use Rattle.shape_buffer.specs.Buffer.{Buffer}
 use Rattle.shape_buffer.specs.Unicode.{UnicodeMeaning}

@@ -1,5 +1,6 @@
 -- Items.
-use Rattle.std.specs.Prelude.{ℕ, Bool, false}
+use Rattle.std.specs.Prelude.{ℕ, Bool, false, ◌==◌, if◌then◌else◌}
+use Rattle.std.specs.Int.RustNames.{bit_and}
 use Rattle.shape_buffer.specs.Category.{is_mark_category}
 use Rattle.shape_buffer.specs.declared.buffer.general_category.hb_unicode_general_category_t.TheVariants.{UppercaseLetter}
 use Rattle.shape_buffer.specs.declared.buffer.items.hb_glyph_info_t.{hb_glyph_info_t}
@@ -49,3 +50,16 @@ class_of_item item = item.properties.modified_class
 -- the character of an item
 abbrev pub char_of : Item → ℕ
 char_of item = item.codepoint
+
+-- a mask without the three defined flags
+abbrev pub feature_bits : ℕ → ℕ
+feature_bits mask = bit_and mask 4294967288
+
+-- whether an item stands in the cluster
+abbrev pub has_cluster : ℕ → Item → Bool
+has_cluster cluster item = item.cluster == cluster
+
+-- the item in this cluster: where its cluster changes it loses its defined flags
+abbrev pub put_in : ℕ → Item → Item
+put_in cluster item =
+    if item.cluster == cluster then item else record item { cluster = cluster; mask = feature_bits item.mask }

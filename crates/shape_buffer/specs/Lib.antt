@@ -3,7 +3,11 @@ pub mod Category
 pub mod Properties
 pub mod Positions
 pub mod Items
+pub mod Clusters
+pub mod ClusterOrder
 pub mod Buffer
+pub mod BufferClusters
+pub mod Delete
 pub mod Text
 pub mod Chain
 pub mod Expansion

@@ -1,5 +1,5 @@
 -- The requests of a plan.
-use Rattle.std.specs.Prelude.{ℕ, Bool, true, List, [], ◌++◌, Option}
+use Rattle.std.specs.Prelude.{Bool, true, List, [], Option}
 use Rattle.shape_buffer.specs.declared.buffer.settings.hb_tag_t.{hb_tag_t}
 use Rattle.shape_buffer.specs.declared.interfaces.map_request.MapRequest.{MapRequest}
 use Rattle.shape_buffer.specs.declared.interfaces.map_request.TableIndex.{TableIndex}

@@ -18,16 +18,18 @@ abbrev pub with_unicode_props : UnicodeMeaning → Item → Item
 with_unicode_props unicode item =
     let c = item.codepoint in
     let mark = beyond_ascii c && is_mark unicode c in
-    record item { properties = record item.properties {
-      general_category = unicode.category c;
-      modified_class = if mark then unicode.class c else 0;
-      ignorable = beyond_ascii c && unicode.ignorable c;
-      hidden = is_hidden_char c;
-      continuation = mark;
-      zwj = c == 0x200D;
-      zwnj = c == 0x200C;
-      space_type = 0;
-    } }
+    record item {
+      properties = record item.properties {
+        general_category = unicode.category c;
+        modified_class = if mark then unicode.class c else 0;
+        ignorable = beyond_ascii c && unicode.ignorable c;
+        hidden = is_hidden_char c;
+        continuation = mark;
+        zwj = c == 0x200D;
+        zwnj = c == 0x200C;
+        space_type = 0;
+      };
+    }
 
 -- flags with one more, where the test holds
 abbrev pub flag_if : Bool → ℕ → ℕ → ℕ

@@ -5,7 +5,9 @@
 //! Contracts see each of them as the record `Buffer` of `specs/Buffer.antt`, so no clause names a
 //! field of theirs.
 
+mod clusters;
 mod context;
+mod delete;
 mod error;
 mod flags;
 mod general_category;

@@ -1,3 +1,4 @@
 pub mod StepLemmas
 pub mod RulesLemmas
 pub mod PieceLemmas
+pub mod RoundOneLemmas

@@ -4,3 +4,4 @@ pub mod Shapers
 pub mod Steps
 pub mod Rules
 pub mod Normalized
+pub mod Shaped

@@ -1,8 +1,8 @@
 -- The normalised list, as far as round one makes it.
-use Rattle.std.specs.Prelude.{◌≡◌, ◌⊎◌, ℕ, Bool, true, false, List, [], ◌∷◌, map, fold, replicate, length, All, Contains, Option, unwrap_or}
+use Rattle.std.specs.Prelude.{◌≡◌, ◌⊎◌, ℕ, true, false, List, [], ◌∷◌, map, fold, replicate, length, All, Contains, Option, unwrap_or}
 use Rattle.std.specs.Option.{option_map, option_map_or}
 use Rattle.std.specs.List.{flat_map}
-use Rattle.shape_buffer.specs.Items.{Item, char_of}
+use Rattle.shape_buffer.specs.Items.{Item}
 use Rattle.shape_buffer.specs.Positions.{zero_position}
 use Rattle.shape_buffer.specs.Buffer.{Buffer}
 use Rattle.shape_buffer.specs.Expansion.{chosen_expansion}
@@ -53,5 +53,5 @@ normalized rules b = record b {
 }
 
 -- each character that isn't among those before has a glyph
-abbrev pub BroughtInHaveGlyphs : (ℕ → Option GlyphId) → List Item → List Item → Type 0
-BroughtInHaveGlyphs glyph before after = All (λ item. (has_glyph glyph item.codepoint ≡ true) ⊎ Contains (map char_of before) item.codepoint) after
+abbrev pub BroughtInHaveGlyphs : (ℕ → Option GlyphId) → List ℕ → List ℕ → Type 0
+BroughtInHaveGlyphs glyph before after = All (λ c. (has_glyph glyph c ≡ true) ⊎ Contains before c) after

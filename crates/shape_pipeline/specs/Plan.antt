@@ -1,5 +1,5 @@
 -- What a plan is to its callers.
-use Rattle.std.specs.Prelude.{◌≡◌, ℕ, Option, Some, None, unwrap_or}
+use Rattle.std.specs.Prelude.{◌≡◌, Option, Some, None, unwrap_or}
 use Rattle.std.specs.Option.{option_map}
 use Rattle.shape_buffer.specs.Buffer.{Buffer}
 use Rattle.shape_buffer.specs.Guess.{guessed_direction, guessed_script}

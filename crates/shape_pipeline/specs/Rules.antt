@@ -1,6 +1,6 @@
 -- What normalising goes by, as functions on characters.
-use Rattle.std.specs.Prelude.{ℕ, Bool, Option, is_some, unwrap_or, if◌then◌else◌}
-use Rattle.std.specs.Option.{option_map, option_map_or}
+use Rattle.std.specs.Prelude.{ℕ, Bool, Option, is_some, if◌then◌else◌}
+use Rattle.std.specs.Option.{option_map_or}
 use Rattle.shape_buffer.specs.Unicode.{UnicodeMeaning}
 use Rattle.shape_buffer.specs.Face.{FaceMeaning}
 use Rattle.shape_buffer.specs.declared.buffer.settings.GlyphId.{GlyphId}

@@ -1,5 +1,5 @@
 -- The steps of a run that go over the whole list, each as a function from buffer to buffer.
-use Rattle.std.specs.Prelude.{map, fold, List}
+use Rattle.std.specs.Prelude.{map, fold}
 use Rattle.shape_buffer.specs.Items.{Item}
 use Rattle.shape_buffer.specs.Buffer.{Buffer}
 use Rattle.shape_buffer.specs.Unicode.{UnicodeMeaning}

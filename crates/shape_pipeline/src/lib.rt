@@ -10,4 +10,4 @@ pub mod ot_shape;
 pub mod ot_shape_normalize;
 pub mod ot_shape_plan;
 pub mod ot_shaper;
-
+pub mod shape;

@@ -4,8 +4,9 @@
 //! character is expanded along the chain of its splits, where its first part may split again, and so on;
 //! the characters of some point of the chain are put in its place, if the face has glyphs for all of
 //! them. A shaper may bring splits of its own (UAX 15; The Unicode Standard, D68 and D107).
-ghost use Rattle.std.specs.Prelude.{◌≡◌, ◌<◌, ◌≤◌, [], length, IsOk, OnOk, OnErr, Err};
+ghost use Rattle.std.specs.Prelude.{◌≡◌, ◌<◌, ◌≤◌, [], length, map, IsOk, OnOk, OnErr, Err};
 ghost use Rattle.shape_buffer.specs.Buffer.{cleared, limit_of};
+ghost use Rattle.shape_buffer.specs.Items.{char_of};
 ghost use Rattle.shape_pipeline.specs.Plan.{hooks_of};
 ghost use Rattle.shape_pipeline.specs.Rules.{rules_of};
 ghost use Rattle.shape_pipeline.specs.Normalized.{normalized, BroughtInHaveGlyphs};
@@ -37,15 +38,16 @@ where
     S: hb_ot_shaper_t<U, F, M>,
     ensures ok { OnOk result (buffer.new ≡ normalized
         (rules_of U.unicode S.constants.has_decompose (hooks_of S.hooks plan.now face.now) (F.face face.now)) buffer.old) }
-    ensures brought_in { OnOk result (BroughtInHaveGlyphs (F.face face.now).nominal_glyph buffer.old.items buffer.new.items) }
-    ensures within { OnOk result (length buffer.old.items ≤ limit_of buffer.old → length buffer.new.items ≤ limit_of buffer.old) }
+    ensures brought_in { OnOk result (BroughtInHaveGlyphs (F.face face.now).nominal_glyph
+        (map char_of buffer.old.items) (map char_of buffer.new.items)) }
+    ensures within { OnOk result (length buffer.new.items ≤ limit_of buffer.old) }
 
     ensures length { result ≡ Err ShapeError.Length → limit_of buffer.old < length (normalized
         (rules_of U.unicode S.constants.has_decompose (hooks_of S.hooks plan.now face.now) (F.face face.now)) buffer.old).items }
     ensures cleared { OnErr result (buffer.new ≡ cleared buffer.old) }
     ensures empty { buffer.old.items ≡ [] → IsOk result }
 {
-    if buffer.is_empty() {
+    if buffer.len() == 0 {
         return Ok(());
     }
     let outcome = expand::<U, F, M, S>(alloc, plan, buffer, face);

@@ -9,11 +9,10 @@ ghost use Rattle.shape_pipeline.specs.Shaper.{ShaperConstants, HookMeaning, Lawf
 
 mod shapers;
 
-pub use shapers::{DEFAULT_SHAPER, DUMBER_SHAPER, hb_default_shaper_t, hb_dumber_shaper_t};
-
 use crate::ot_shape_plan::hb_ot_shape_plan_t;
 use shape_buffer::buffer::hb_tag_t;
 use shape_buffer::interfaces::{hb_font_t, hb_ot_layout_t, hb_unicode_funcs_t};
+pub use shapers::{DEFAULT_SHAPER, DUMBER_SHAPER, hb_default_shaper_t, hb_dumber_shaper_t};
 
 /// The longest run of marks that is put in order.
 pub const MAX_COMBINING_MARKS: usize = 32;

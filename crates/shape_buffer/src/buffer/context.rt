@@ -1,6 +1,6 @@
 //! The characters beside a text.
-ghost use Rattle.std.specs.Prelude.{◌≡◌, ◌<◌, [], ◌∷◌, ◌++◌, length, take};
-ghost use Rattle.std.specs.Str.{chars as chars_of};
+ghost use Rattle.std.specs.Prelude.{◌≡◌, ◌+◌, ◌-◌, ◌<◌, ◌≤◌, [], ◌∷◌, ◌++◌, length, drop};
+ghost use Rattle.shape_buffer.specs.Text.{context_before, context_after};
 
 use std::marker::Model;
 
@@ -35,6 +35,13 @@ impl Context {
         }
     }
 
+    /// The characters, in the order of the text.
+    pub(crate) fn as_slice(&self) -> &[char]
+        ensures { result.now ≡ self.now }
+    {
+        &self.chars[..self.len]
+    }
+
     fn push(&mut self, c: char)
         requires { length self.old < 5 }
         ensures { self.new ≡ self.old ++ c ∷ [] }
@@ -43,9 +50,31 @@ impl Context {
         self.len += 1;
     }
 
-    /// The first characters of a text.
+    fn remove_first(&mut self)
+        requires { 0 < length self.old }
+        ensures { self.new ≡ drop 1 self.old }
+    {
+        self.chars.copy_within(1.., 0);
+        self.len -= 1;
+    }
+
+    /// Appends a character to the `kept` ones; the first one goes where all places are taken.
+    fn push_last(&mut self, c: char, kept: usize)
+        requires all { kept ≡ length self.old }
+        requires fit { kept ≤ 5 }
+        ensures { self.new ≡ drop (kept + 1 - 5) (self.old ++ c ∷ []) }
+    {
+        if kept < CONTEXT_LENGTH {
+            self.push(c);
+            return;
+        }
+        self.remove_first();
+        self.push(c);
+    }
+
+    /// The first characters of a text, which comes after the one to be shaped.
     pub(crate) fn from_start(text: &str) -> Self
-        ensures { result ≡ take 5 (chars_of text.now) }
+        ensures { result ≡ context_after text.now }
     {
         let mut context = Context::new();
         let mut kept = 0;
@@ -55,6 +84,19 @@ impl Context {
             }
             context.push(c);
             kept += 1;
+        }
+        context
+    }
+
+    /// The last characters of a text, which comes before the one to be shaped.
+    pub(crate) fn from_end(text: &str) -> Self
+        ensures { result ≡ context_before text.now }
+    {
+        let mut context = Context::new();
+        let mut kept = 0;
+        for c in text.chars() {
+            context.push_last(c, kept);
+            kept = CONTEXT_LENGTH.min(kept + 1);
         }
         context
     }

@@ -47,7 +47,7 @@ pub struct hb_glyph_info_t {
 }
 
 impl hb_glyph_info_t {
-    ghost use Rattle.shape_buffer.specs.Items.{new_item};
+    ghost use Rattle.shape_buffer.specs.Items.{new_item, put_in};
     ghost use Rattle.shape_buffer.specs.Category.{is_mark_category};
     ghost use Rattle.shape_buffer.specs.UnicodeProps.{with_unicode_props, with_scratch_of};
 
@@ -115,6 +115,16 @@ impl hb_glyph_info_t {
         }
         if c == COMBINING_GRAPHEME_JOINER {
             scratch_flags.insert(ScratchFlags::HAS_CGJ);
+        }
+    }
+
+    /// Puts the item into a cluster; where its cluster changes it loses its defined flags.
+    pub(crate) fn put_in(&mut self, cluster: u32)
+        ensures { self.new ≡ put_in cluster self.old }
+    {
+        if self.cluster != cluster {
+            self.cluster = cluster;
+            self.mask &= !DEFINED;
         }
     }
 

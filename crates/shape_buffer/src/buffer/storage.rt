@@ -4,7 +4,9 @@ ghost use Rattle.std.specs.Option.{option_map};
 ghost use Rattle.shape_buffer.specs.Positions.{zero_position as zero_position_of};
 ghost use Rattle.shape_buffer.specs.Guess.{first_script as first_script_of, script_or_ltr};
 
+use crate::buffer::clusters::{mark_break, mark_concat, merge_items};
 use crate::buffer::context::Context;
+use crate::buffer::delete::delete_items;
 use crate::buffer::error::ShapeError;
 use crate::buffer::flags::{BufferFlags, ScratchFlags};
 use crate::buffer::glyph_buffer::GlyphBuffer;
@@ -14,6 +16,7 @@ use crate::buffer::settings::{BufferClusterLevel, Direction, GlyphId, Language, 
 use crate::buffer::text::append_text;
 use crate::buffer::unicode_buffer::UnicodeBuffer;
 use crate::interfaces::hb_unicode_funcs_t;
+use bitflags::Flags;
 use std::alloc::{AllocError, Global};
 use std::marker::Model;
 
@@ -70,9 +73,15 @@ impl Model for hb_buffer_t {
 
 impl hb_buffer_t {
     ghost use Rattle.shape_buffer.specs.Buffer.{new_buffer, cleared, limit_of, run_limit};
+    ghost use Rattle.shape_buffer.specs.BufferClusters.{merge_clusters as merge_clusters_of, merge_out_clusters as merge_out_clusters_of, unsafe_to_break as unsafe_to_break_of, unsafe_to_concat as unsafe_to_concat_of};
+    ghost use Rattle.shape_buffer.specs.Clusters.{clusters};
+    ghost use Rattle.shape_buffer.specs.ClusterOrder.{KeepsClusters};
+    ghost use Rattle.shape_buffer.specs.Delete.{deleted};
+    ghost use Rattle.std.specs.Prelude.{Bool};
+    ghost use Rattle.std.specs.Fn.{FnReturnsAt};
     ghost use Rattle.shape_buffer.specs.Guess.{guessed, guessed_script, guessed_direction};
-    ghost use Rattle.shape_buffer.specs.Items.{new_item};
-    ghost use Rattle.shape_buffer.specs.Text.{text_items};
+    ghost use Rattle.shape_buffer.specs.Items.{Item, new_item};
+    ghost use Rattle.shape_buffer.specs.Text.{text_items, context_before, context_after};
     ghost use Rattle.shape_buffer.specs.Positions.{zero_position};
     ghost use Rattle.shape_buffer.specs.declared.buffer.error.ShapeError.TheVariants.{Length};
 
@@ -229,6 +238,34 @@ impl hb_buffer_t {
         self.not_found_variation_selector_glyph = not_found_variation_selector_glyph;
     }
 
+    /// Reads what is kept of the text before this one: at most five characters, in their order.
+    pub fn pre_context(&self) -> &[char]
+        ensures { result.now ≡ self.now.pre_context }
+    {
+        self.pre_context.as_slice()
+    }
+
+    /// Keeps the last five characters of the text before this one, and sets nothing else.
+    pub fn set_pre_context(&mut self, text: &str)
+        ensures { self.new ≡ record self.old { pre_context = context_before text.now } }
+    {
+        self.pre_context = Context::from_end(text);
+    }
+
+    /// Reads what is kept of the text after this one: at most five characters, in their order.
+    pub fn post_context(&self) -> &[char]
+        ensures { result.now ≡ self.now.post_context }
+    {
+        self.post_context.as_slice()
+    }
+
+    /// Keeps the first five characters of the text after this one, and sets nothing else.
+    pub fn set_post_context(&mut self, text: &str)
+        ensures { self.new ≡ record self.old { post_context = context_after text.now } }
+    {
+        self.post_context = Context::from_start(text);
+    }
+
     /// Reads what the run has seen of its text.
     pub fn scratch_flags(&self) -> ScratchFlags
         ensures { result ≡ self.now.scratch_flags }
@@ -341,6 +378,84 @@ impl hb_buffer_t {
         zero_positions(self.positions.as_mut_slice());
         self.infos = infos;
         Ok(())
+    }
+
+    /// Merges the clusters of the items from `start` up to `end`: they, and the items beside them that
+    /// share a cluster which changes, get the least cluster of the span, and an item whose cluster
+    /// changes loses its defined flags. At level CHARACTERS the span is marked unsafe to break instead.
+    /// A span of fewer than two items changes nothing. Takes time in step with the items it touches.
+    pub fn merge_clusters(&mut self, start: usize, end: usize)
+        requires ordered { start ≤ end }
+        requires within { end ≤ length self.old.items }
+        ensures merged { self.new ≡ merge_clusters_of start end self.old }
+    {
+        if self.cluster_level == BufferClusterLevel::Characters {
+            self.unsafe_to_break(start, end);
+        } else {
+            merge_items(self.infos.as_mut_slice(), start, end);
+        }
+    }
+
+    /// Merges as `merge_clusters` does, but changes nothing at level CHARACTERS.
+    pub fn merge_out_clusters(&mut self, start: usize, end: usize)
+        requires ordered { start ≤ end }
+        requires within { end ≤ length self.old.items }
+        ensures merged { self.new ≡ merge_out_clusters_of start end self.old }
+    {
+        if self.cluster_level != BufferClusterLevel::Characters {
+            merge_items(self.infos.as_mut_slice(), start, end);
+        }
+    }
+
+    /// Marks the items from `start` up to `end` unsafe to break and to concat, but for those of their
+    /// least cluster, and sets the scratch flag HAS_GLYPH_FLAGS. A span of fewer than two items changes
+    /// nothing. Takes time in step with the span.
+    pub fn unsafe_to_break(&mut self, start: usize, end: usize)
+        requires ordered { start ≤ end }
+        requires within { end ≤ length self.old.items }
+        ensures marked { self.new ≡ unsafe_to_break_of start end self.old }
+    {
+        if end - start < 2 {
+            return;
+        }
+        self.scratch_flags.insert(ScratchFlags::HAS_GLYPH_FLAGS);
+        mark_break(self.infos.as_mut_slice(), start, end);
+    }
+
+    /// Marks the items from `start` up to `end` unsafe to concat and sets the scratch flag
+    /// HAS_GLYPH_FLAGS, where the flag PRODUCE_UNSAFE_TO_CONCAT asks for it. Takes time in step with the
+    /// span.
+    pub fn unsafe_to_concat(&mut self, start: usize, end: usize)
+        requires ordered { start ≤ end }
+        requires within { end ≤ length self.old.items }
+        ensures marked { self.new ≡ unsafe_to_concat_of start end self.old }
+    {
+        if !self.flags.contains(BufferFlags::PRODUCE_UNSAFE_TO_CONCAT) {
+            return;
+        }
+        self.scratch_flags.insert(ScratchFlags::HAS_GLYPH_FLAGS);
+        mark_concat(self.infos.as_mut_slice(), start, end);
+    }
+
+    /// Deletes the glyphs that the test picks, from left to right, each with its position. Before a glyph
+    /// of cluster `c` goes, the first case that holds decides: the next item, picked or not, has cluster
+    /// `c`, and nothing is done; items were kept, and where `c` is below the last kept one's cluster,
+    /// the last kept items of that cluster get `c` and the glyph's defined flags; there is a next item,
+    /// and the two are merged as `merge_clusters` does. Takes no memory.
+    pub fn delete_glyphs_inplace<F: Fn(&hb_glyph_info_t) -> bool>(&mut self, test: F)
+    where
+        F: Drop,
+        requires { F.IsAlwaysCallable test }
+        ensures deleted { (picks : Item → Bool) → ((x : Item) (b : Bool) → FnReturnsAt F.Fn test x b → b ≡ picks x)
+            → self.new ≡ deleted picks self.old }
+    {
+        delete_items(
+            &mut self.infos,
+            &mut self.positions,
+            &mut self.scratch_flags,
+            self.cluster_level,
+            test,
+        );
     }
 
     /// The script of the text as guessing would set it: the one that is set, else the first of its

@@ -28,7 +28,7 @@ impl UnicodeBuffer {
     ghost use Rattle.shape_buffer.specs.Buffer.{new_buffer};
     ghost use Rattle.shape_buffer.specs.Guess.{guessed};
     ghost use Rattle.shape_buffer.specs.Items.{new_item};
-    ghost use Rattle.shape_buffer.specs.Text.{text_items};
+    ghost use Rattle.shape_buffer.specs.Text.{text_items, context_before, context_after};
     ghost use Rattle.shape_buffer.specs.Positions.{zero_position};
 
     /// A buffer without text, at level MONOTONE_GRAPHEMES and without flags. It keeps the allocator.
@@ -185,7 +185,36 @@ impl UnicodeBuffer {
     )
         ensures { self.new ≡ record self.old { not_found_variation_selector_glyph = not_found_variation_selector_glyph } }
     {
-        self.buffer.set_not_found_variation_selector_glyph(not_found_variation_selector_glyph);
+        self.buffer
+            .set_not_found_variation_selector_glyph(not_found_variation_selector_glyph);
+    }
+
+    /// Reads what is kept of the text before this one: at most five characters, in their order.
+    pub fn pre_context(&self) -> &[char]
+        ensures { result.now ≡ self.now.pre_context }
+    {
+        self.buffer.pre_context()
+    }
+
+    /// Keeps the last five characters of the text before this one, and sets nothing else.
+    pub fn set_pre_context(&mut self, text: &str)
+        ensures { self.new ≡ record self.old { pre_context = context_before text.now } }
+    {
+        self.buffer.set_pre_context(text);
+    }
+
+    /// Reads what is kept of the text after this one: at most five characters, in their order.
+    pub fn post_context(&self) -> &[char]
+        ensures { result.now ≡ self.now.post_context }
+    {
+        self.buffer.post_context()
+    }
+
+    /// Keeps the first five characters of the text after this one, and sets nothing else.
+    pub fn set_post_context(&mut self, text: &str)
+        ensures { self.new ≡ record self.old { post_context = context_after text.now } }
+    {
+        self.buffer.set_post_context(text);
     }
 
     /// Sets script and direction by guessing, where they aren't set: the script becomes the first of the

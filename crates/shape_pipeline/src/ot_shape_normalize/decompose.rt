@@ -73,8 +73,8 @@ where
     requires { seconds.old.items ≡ [] }
     ensures { IfOk result (λ found. found_parts found seconds.new.items
         ≡ chosen_expansion (used_split U.unicode S.constants.has_decompose (hooks_of S.hooks plan.now face.now))
-            (used_height U.unicode S.constants.has_decompose (hooks_of S.hooks plan.now face.now))
-            (has_glyph (F.face face.now).nominal_glyph) false c) }
+        (used_height U.unicode S.constants.has_decompose (hooks_of S.hooks plan.now face.now))
+        (has_glyph (F.face face.now).nominal_glyph) false c) }
 {
     let mut found = None;
     let mut point = c;
@@ -104,8 +104,8 @@ where
     S: hb_ot_shaper_t<U, F, M>,
     ensures { IfOk result (λ found. option_map (λ x. x.first ∷ reverse x.seconds.items) found
         ≡ chosen_expansion (used_split U.unicode S.constants.has_decompose (hooks_of S.hooks plan.now face.now))
-            (used_height U.unicode S.constants.has_decompose (hooks_of S.hooks plan.now face.now))
-            (has_glyph (F.face face.now).nominal_glyph) false c) }
+        (used_height U.unicode S.constants.has_decompose (hooks_of S.hooks plan.now face.now))
+        (has_glyph (F.face face.now).nominal_glyph) false c) }
 {
     let mut seconds = Vec::new(alloc);
     let Some((first, depth)) = walk_chain::<U, F, M, S>(plan, face, c, &mut seconds)? else {

@@ -68,7 +68,11 @@ impl Expanded {
     }
 
     /// Puts out an item that keeps its character.
-    fn put_whole<F: hb_font_t>(&mut self, face: &F, info: &hb_glyph_info_t) -> Result<(), AllocError>
+    fn put_whole<F: hb_font_t>(
+        &mut self,
+        face: &F,
+        info: &hb_glyph_info_t,
+    ) -> Result<(), AllocError>
         ensures infos { OnOk result (self.new.infos.items
             ≡ self.old.infos.items ++ whole_item (F.face face.now).nominal_glyph info.now ∷ []) }
         ensures flags { self.new.scratch_flags ≡ self.old.scratch_flags }

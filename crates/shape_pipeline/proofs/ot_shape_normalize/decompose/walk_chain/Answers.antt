@@ -1,4 +1,4 @@
-use Rattle.std.proofs.Common.{◌≡◌, ℕ, ◌≤◌, true, false, Bool, Option, None, Some, Ok, sym, ◌∙◌, ap, length, ◌++◌, arith, refl, IfSome}
+use Rattle.std.proofs.Common.{◌≡◌, ℕ, ◌≤◌, true, false, Option, None, Some, Ok, sym, ◌∙◌, ap, length, ◌++◌, arith, IfSome}
 use Rattle.std.proofs.lemmas.List.{length-append}
 use Rattle.std.specs.List.{list_all}
 use Rattle.shape_buffer.specs.Chain.{kept}

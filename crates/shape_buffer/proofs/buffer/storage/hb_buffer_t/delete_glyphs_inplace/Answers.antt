@@ -1,0 +1,9 @@
+use Rattle.std.proofs.Common.{ap, refl, ◌∙◌}
+use Rattle.shape_buffer.specs.Delete.{deleted}
+use Rattle.shape_buffer.specs.contracts.buffer.storage.hb_buffer_t.{the_view}
+use Rattle.shape_buffer.proofs.buffer.storage.hb_buffer_t.delete_glyphs_inplace.Goals as goal
+
+pub returns : goal.returns
+returns g c = record {
+  deleted = λ picks tells. c.delete_items.ensures.deleted picks tells (the_view c.self.inside) refl ∙ ap (deleted picks) c.self.view_is;
+}
