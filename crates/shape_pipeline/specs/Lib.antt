@@ -5,3 +5,4 @@ pub mod Steps
 pub mod Rules
 pub mod Normalized
 pub mod Shaped
+pub mod Prepared
