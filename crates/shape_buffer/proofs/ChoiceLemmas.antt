@@ -10,9 +10,11 @@ use Rattle.std.specs.List.{All, list_all}
 use Rattle.std.specs.Option.{option_map, option_or}
 use Rattle.shape_buffer.proofs.ChainLemmas.{full-stays, full-splits, full_text-kept}
 use Rattle.shape_buffer.proofs.ExpansionLemmas.{expansion-suc, expansion-end, expansion-none}
+use Rattle.shape_buffer.proofs.ExpandedLemmas.{expanded-parts, expanded-plain}
 use Rattle.shape_buffer.proofs.OptionLemmas.{cases_Option}
 use Rattle.shape_buffer.specs.Chain.{FallsAlong, kept, full, full_text}
 use Rattle.shape_buffer.specs.Choice.{IsGreatestSupported, IsLeastSupported, HasNoneSupported, HasGlyphOrIs}
+use Rattle.shape_buffer.specs.Expanded.{expanded_text}
 use Rattle.shape_buffer.specs.Expansion.{expansion, is_supported, supported, least_supported, greatest_supported, chosen_expansion, choice}
 use Rattle.shape_buffer.specs.Unicode.{SplitsFall}
 
@@ -222,13 +224,12 @@ module _ (split : ℕ → Option (ℕ × ℕ)) (height class : ℕ → ℕ) (law
       let at = choice_expansion split has_glyph height short c in
       full_text-expansion at.0 c _ at.1
 
-  -- so do the choices of a text
-  pub full_text-expanded : (has_glyph : ℕ → Bool) (short : Bool) (text : List ℕ) → full_text split height (flat_map (choice split height has_glyph short) text) ≡ full_text split height text
+  -- so do the choices of a text, in clusters and out of them
+  pub full_text-expanded : (has_glyph is_mark : ℕ → Bool) (short : Bool → Bool) (text : List ℕ) → full_text split height (expanded_text split height has_glyph is_mark short text) ≡ full_text split height text
   unfolding full_text
-  full_text-expanded has_glyph short [] = refl
-  full_text-expanded has_glyph short (c ∷ text) =
-      flat_map-append (full split height) (choice split height has_glyph short c) (flat_map (choice split height has_glyph short) text)
-      ∙ ap₂ ◌++◌ (full_text-choice has_glyph short c) (full_text-expanded has_glyph short text)
+  full_text-expanded has_glyph is_mark short text =
+      expanded-parts is_mark (λ in_cluster. choice split height has_glyph (short in_cluster)) (full split height) (full split height)
+      (λ in_cluster c. full_text-choice has_glyph (short in_cluster) c) text
 
 -- ---- with a glyph for all of Full
 
@@ -303,9 +304,14 @@ module _ (split : ℕ → Option (ℕ × ℕ)) (height : ℕ → ℕ) (falling :
       at_end has_glyph c end.0 end.1 glyphs (greatest_supported split has_glyph (height c) c) refl
 
   -- and of a text, Full of the text
-  pub expanded-full : (has_glyph : ℕ → Bool) (text : List ℕ) → list_all has_glyph (full_text split height text) ≡ true → flat_map (choice split height has_glyph false) text ≡ full_text split height text
+  choices-full : (has_glyph : ℕ → Bool) (text : List ℕ) → list_all has_glyph (full_text split height text) ≡ true → flat_map (choice split height has_glyph false) text ≡ full_text split height text
   unfolding full_text
-  expanded-full has_glyph [] glyphs = refl
-  expanded-full has_glyph (c ∷ text) glyphs =
+  choices-full has_glyph [] glyphs = refl
+  choices-full has_glyph (c ∷ text) glyphs =
       let parts = and_parts _ _ (sym (list_all-append has_glyph (full split height c) (flat_map (full split height) text)) ∙ glyphs) in
-      ap₂ ◌++◌ (choice-full has_glyph c parts.0) (expanded-full has_glyph text parts.1)
+      ap₂ ◌++◌ (choice-full has_glyph c parts.0) (choices-full has_glyph text parts.1)
+
+  pub expanded-full : (has_glyph is_mark : ℕ → Bool) (text : List ℕ) → list_all has_glyph (full_text split height text) ≡ true → expanded_text split height has_glyph is_mark (λ in_cluster. false) text ≡ full_text split height text
+  expanded-full has_glyph is_mark text glyphs =
+      expanded-plain is_mark (λ in_cluster. choice split height has_glyph false) (choice split height has_glyph false) (λ in_cluster c. refl) text
+      ∙ choices-full has_glyph text glyphs

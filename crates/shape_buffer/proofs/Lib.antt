@@ -23,3 +23,4 @@ pub mod NormaliseLemmas
 pub mod LawLemmas
 pub mod ShortestWalkLemmas
 pub mod DeleteLemmas
+pub mod ExpandedLemmas

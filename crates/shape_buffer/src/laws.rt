@@ -3,7 +3,7 @@
 //! They hold for every split whose heights fall and whose marks keep their class, so for the
 //! functions of Unicode as for a shaper's own. Equivalence is that of UAX 15 with the classes at
 //! hand; a canonical text has the form of its NFD.
-ghost use Rattle.shape_buffer.specs.Laws.{FullIsByTwoRules, EquivalenceIsReflexive, EquivalenceIsSymmetric, EquivalenceIsTransitive, ExpansionIsEquivalent, ChoicesAreEquivalent, ChoiceIsGreatest, ChoiceIsLeast, ChoiceStays, ChoiceBringsGlyphs, ChoiceIsFull, StableOrderIsReached, OrderIsUnique, SettledIsReached, SettledIsOrdered, SettledIsUnique, CanonicalIsUnique, DecomposedIsCanonical, DecomposedDecides, RecomposedIsEquivalent, JoinedPastMarksIsEquivalent, LastDecides, GreatestDecides, RecomposedDecides, CutsApart};
+ghost use Rattle.shape_buffer.specs.Laws.{FullIsByTwoRules, EquivalenceIsReflexive, EquivalenceIsSymmetric, EquivalenceIsTransitive, ExpansionIsEquivalent, ChoicesAreEquivalent, ChoiceIsGreatest, ChoiceIsLeast, ChoiceStays, ChoiceBringsGlyphs, ChoiceIsFull, StableOrderIsReached, OrderIsUnique, SettledIsReached, SettledIsOrdered, SettledIsUnique, CanonicalIsUnique, DecomposedIsCanonical, DecomposedDecides, RecomposedIsEquivalent, JoinedPastMarksIsEquivalent, LastDecides, GreatestDecides, RecomposedDecides, OrderedIsEquivalent, NormalisedIsEquivalent, ExpandedCutsApart, SettledCutsApart};
 
 /// Full of a character is what two rules give: the character itself where it does not split, else
 /// Full of its first part and then its second part.
@@ -92,8 +92,17 @@ pub fn one_class_decides<T>()
     ensures greatest { GreatestDecides T }
 {}
 
-/// Before an item that is no mark, whose choice begins with none, a list may be cut: the parts,
+/// Normalising keeps a text equivalent in every mode: expanded, with the shortest choices asked for
+/// all characters, for simple ones or for none, then settled run by run, and then recomposed where
+/// the composed characters have glyphs.
+pub fn normalised_is_equivalent()
+    ensures ordered { OrderedIsEquivalent }
+    ensures recomposed { NormalisedIsEquivalent }
+{}
+
+/// Before an item that is no mark, and whose choice begins with none, a list may be cut: the parts,
 /// normalised each by itself, joined, are the whole one normalised.
 pub fn cuts_apart<T>()
-    ensures { CutsApart T }
+    ensures expanded { ExpandedCutsApart T }
+    ensures settled { SettledCutsApart T }
 {}
