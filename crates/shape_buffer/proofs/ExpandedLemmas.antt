@@ -3,6 +3,7 @@ use Rattle.std.proofs.Common.{◌≡◌, ℕ, Bool, true, false, ◌&&◌, ◌||
 use Rattle.std.proofs.lemmas.Grind.{flat_map-append}
 use Rattle.std.proofs.lemmas.List.{map-append}
 use Rattle.std.specs.List.{AllByRecursion}
+use Rattle.shape_buffer.proofs.EveryLemmas.{append_all}
 use Rattle.shape_buffer.specs.Expanded.{begins_with_mark, expanded_from, expanded_in_clusters}
 
 module _ {A B : Type 0} (is_mark : A → Bool) (become : Bool → A → List B) where
@@ -25,14 +26,10 @@ module _ {A B : Type 0} (is_mark : A → Bool) (become : Bool → A → List B) 
   expanded-parts parts whole keeps xs = expanded_from-parts parts whole keeps true xs
 
   -- what holds of all that an item becomes holds of all that the list becomes
-  append_every : (P : B → Type 0) (xs ys : List B) → AllByRecursion P xs → AllByRecursion P ys → AllByRecursion P (xs ++ ys)
-  append_every P [] ys front back = back
-  append_every P (x ∷ xs) ys front back = (front.0, append_every P xs ys front.1 back)
-
   expanded_from-all : (P : B → Type 0) (Q : A → Type 0) → ((in_cluster : Bool) (x : A) → Q x → AllByRecursion P (become in_cluster x)) → (first : Bool) (xs : List A) → AllByRecursion Q xs → AllByRecursion P (expanded_from is_mark become first xs)
   expanded_from-all P Q each first [] h = tt
   expanded_from-all P Q each first (x ∷ xs) h =
-      append_every P (become ((is_mark x && not first) || begins_with_mark is_mark xs) x) (expanded_from is_mark become false xs)
+      append_all P (become ((is_mark x && not first) || begins_with_mark is_mark xs) x) (expanded_from is_mark become false xs)
       (each ((is_mark x && not first) || begins_with_mark is_mark xs) x h.0) (expanded_from-all P Q each false xs h.1)
 
   pub expanded-all : (P : B → Type 0) (Q : A → Type 0) → ((in_cluster : Bool) (x : A) → Q x → AllByRecursion P (become in_cluster x)) → (xs : List A) → AllByRecursion Q xs → AllByRecursion P (expanded_in_clusters is_mark become xs)

@@ -6,6 +6,7 @@ pub mod TextLemmas
 pub mod OptionLemmas
 pub mod ExpansionLemmas
 pub mod WalkLemmas
+pub mod EveryLemmas
 pub mod SwapLemmas
 pub mod OrderLemmas
 pub mod ChainLemmas

@@ -12,8 +12,9 @@ use Rattle.shape_buffer.specs.Recompose.{is_blocked, is_blocked_by_last, is_bloc
 use Rattle.shape_buffer.specs.Runs.{AreRunsSettled, HasNoLongerRun}
 use Rattle.shape_buffer.specs.Unicode.{SplitsFall}
 use Rattle.shape_buffer.proofs.BlockLemmas.{recomposed_by_last, recomposed_by_greatest}
-use Rattle.shape_buffer.proofs.ChainLemmas.{append_all, full-class, full-whole}
+use Rattle.shape_buffer.proofs.ChainLemmas.{full-class, full-whole}
 use Rattle.shape_buffer.proofs.ChoiceLemmas.{full_text-expanded, expanded-full}
+use Rattle.shape_buffer.proofs.EveryLemmas.{append_all}
 use Rattle.shape_buffer.proofs.EquivalentLemmas.{parts-swaps, canonical_equal}
 use Rattle.shape_buffer.proofs.RecomposeLemmas.{JoinsLawfully, joined, recomposed-keeps}
 use Rattle.shape_buffer.proofs.RunLemmas.{AreRunsSettled-swaps, AreRunsSettled-ordered}

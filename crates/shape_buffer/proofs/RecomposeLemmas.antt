@@ -7,6 +7,7 @@ use Rattle.std.specs.List.{AllByRecursion}
 use Rattle.shape_buffer.specs.Order.{Swaps, done}
 use Rattle.shape_buffer.specs.Recompose.{is_blocked, composed, recomposed_from, recomposed}
 use Rattle.shape_buffer.proofs.OptionLemmas.{cases_Option}
+use Rattle.shape_buffer.proofs.EveryLemmas.{append_all, push_all}
 use Rattle.shape_buffer.proofs.EquivalentLemmas.{past_mark}
 use Rattle.shape_buffer.proofs.SwapLemmas.{◌⟫◌, no_swap, Swaps-sym, Swaps-after, Swaps-before}
 
@@ -62,14 +63,6 @@ module _ {A : Type 0} (class : A → ℕ) (blocks : List A → A → Bool) (is_m
       ]
 
   -- what holds of each item, and of what two items join to, holds of each recomposed item
-  push_one : (P : A → Type 0) (ms : List A) (c : A) → AllByRecursion P ms → P c → AllByRecursion P (ms ++ c ∷ [])
-  push_one P [] c items item = (item, tt)
-  push_one P (m ∷ ms) c items item = (items.0, push_one P ms c items.1 item)
-
-  append_two : (P : A → Type 0) (ms xs : List A) → AllByRecursion P ms → AllByRecursion P xs → AllByRecursion P (ms ++ xs)
-  append_two P [] xs front back = back
-  append_two P (m ∷ ms) xs front back = (front.0, append_two P ms xs front.1 back)
-
   recomposed_from-all : (P : A → Type 0) → ((s c d : A) → P s → P c → join s c ≡ Some d → P d) → (s : A) (ms rest : List A) → P s → AllByRecursion P ms → AllByRecursion P rest → AllByRecursion P (recomposed_from class blocks is_mark join s ms rest)
   recomposed_from-all P joins s ms [] of_s of_ms of_rest = (of_s, of_ms)
   recomposed_from-all P joins s ms (c ∷ rest) of_s of_ms of_rest =
@@ -81,10 +74,10 @@ module _ {A : Type 0} (class : A → ℕ) (blocks : List A → A → Bool) (is_m
             elim (cases_Bool (class c == 0)) [
               | inl start ↦
                   subst (AllByRecursion P) (sym (recomposed_from-starter s ms c rest none start))
-                  (of_s, append_two P ms _ of_ms (recomposed_from-all P joins c [] rest of_rest.0 tt of_rest.1))
+                  (of_s, append_all P ms _ of_ms (recomposed_from-all P joins c [] rest of_rest.0 tt of_rest.1))
               | inr mark ↦
                   subst (AllByRecursion P) (sym (recomposed_from-mark s ms c rest none mark))
-                  (recomposed_from-all P joins s (ms ++ c ∷ []) rest of_s (push_one P ms c of_ms of_rest.0) of_rest.1)
+                  (recomposed_from-all P joins s (ms ++ c ∷ []) rest of_s (push_all P ms c of_ms of_rest.0) of_rest.1)
             ]
       ]
 
@@ -140,7 +133,7 @@ module _ {A B : Type 0} (IsItem : A → Type 0) (class : A → ℕ) (class_of_pa
                   ⟫ no_swap (ap Fulls (sym (recomposed_from-starter class (is_blocked class) is_mark join s ms c rest none starter)))
               | inr mark ↦
                   no_swap (ap (λ l. Fulls (s ∷ l)) (sym (append_assoc ms (c ∷ []) rest)))
-                  ⟫ recomposed_from-keeps s (ms ++ c ∷ []) rest item_s (push_one class (is_blocked class) is_mark join IsItem ms c items rest_items.0) rest_items.1
+                  ⟫ recomposed_from-keeps s (ms ++ c ∷ []) rest item_s (push_all IsItem ms c items rest_items.0) rest_items.1
                   ⟫ no_swap (ap Fulls (sym (recomposed_from-mark class (is_blocked class) is_mark join s ms c rest none mark)))
             ]
       ]

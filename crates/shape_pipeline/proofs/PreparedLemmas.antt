@@ -10,7 +10,7 @@ use Rattle.shape_buffer.specs.Unicode.{UnicodeMeaning, LawfulUnicode, is_mark}
 use Rattle.shape_buffer.specs.UnicodeProps.{with_unicode_props, beyond_ascii}
 use Rattle.shape_buffer.specs.Order.{Swaps}
 use Rattle.shape_buffer.specs.Runs.{AreRunsSettled}
-use Rattle.shape_buffer.proofs.ChainLemmas.{append_all}
+use Rattle.shape_buffer.proofs.EveryLemmas.{append_all}
 use Rattle.shape_buffer.proofs.MapLemmas.{AreRunsSettled-map}
 use Rattle.shape_pipeline.specs.Prepared.{IsPreparedItem, IsPrepared}
 use Rattle.shape_pipeline.specs.Rules.{Rules}
