@@ -1,7 +1,6 @@
 -- Before an item that is no mark a text may be cut, and its parts settled and recomposed each by itself.
-use Rattle.std.proofs.Common.{◌≡◌, ℕ, true, false, Bool, ◌==◌, List, [], ◌∷◌, ◌++◌, Option, flat_map, refl, sym, ap, subst, ◌∙◌, inl, inr}
+use Rattle.std.proofs.Common.{◌≡◌, ℕ, true, false, Bool, ◌==◌, List, [], ◌∷◌, ◌++◌, Option, refl, sym, ap, subst, ◌∙◌, inl, inr}
 use Rattle.std.proofs.lemmas.Bool.{both_ways}
-use Rattle.std.proofs.lemmas.Grind.{flat_map-append}
 use Rattle.shape_buffer.specs.Recompose.{recomposed}
 use Rattle.shape_buffer.specs.Runs.{AreRunsSettled}
 use Rattle.shape_buffer.proofs.RecomposeLemmas.{recomposed_from-append}
