@@ -25,3 +25,4 @@ pub mod LawLemmas
 pub mod ShortestWalkLemmas
 pub mod DeleteLemmas
 pub mod ExpandedLemmas
+pub mod KeyLemmas

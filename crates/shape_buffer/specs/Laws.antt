@@ -8,7 +8,7 @@ use Rattle.shape_buffer.specs.Choice.{IsGreatestSupported, IsLeastSupported, Has
 use Rattle.shape_buffer.specs.Equivalent.{IsEquivalent, IsCanonical, ComposesSoundly}
 use Rattle.shape_buffer.specs.Expansion.{expansion, choice}
 use Rattle.shape_buffer.specs.Expanded.{begins_with_mark, expanded_in_clusters, expanded_text}
-use Rattle.shape_buffer.specs.Order.{Swaps, IsOrdered, IsPutInOrder}
+use Rattle.shape_buffer.specs.Order.{in_order, Swaps, IsOrdered, IsPutInOrder}
 use Rattle.shape_buffer.specs.Recompose.{is_blocked, is_blocked_by_last, is_blocked_by_greatest, join_with_glyph, recomposed}
 use Rattle.shape_buffer.specs.Runs.{AreRunsSettled, HasNoLongerRun}
 use Rattle.shape_buffer.specs.Unicode.{SplitsFall}
@@ -75,6 +75,9 @@ ChoiceIsFull =
 abbrev pub StableOrderIsReached : Type 0 → Type 0
 StableOrderIsReached A =
     (class : A → ℕ) (run new : List A) → All (λ x. 0 < class x) run → IsNonDecreasingBy class new → IsStableByKey class nat_cmp run new → IsPutInOrder class run new
+
+abbrev pub OrderIsReached : Type 0 → Type 0
+OrderIsReached A = (class : A → ℕ) (xs : List A) → IsPutInOrder class xs (in_order class xs)
 
 abbrev pub OrderIsUnique : Type 0 → Type 0
 OrderIsUnique A = (class : A → ℕ) (xs ys : List A) → IsOrdered class xs → IsOrdered class ys → Swaps class xs ys → xs ≡ ys

@@ -3,7 +3,7 @@
 //! They hold for every split whose heights fall and whose marks keep their class, so for the
 //! functions of Unicode as for a shaper's own. Equivalence is that of UAX 15 with the classes at
 //! hand; a canonical text has the form of its NFD.
-ghost use Rattle.shape_buffer.specs.Laws.{FullIsByTwoRules, EquivalenceIsReflexive, EquivalenceIsSymmetric, EquivalenceIsTransitive, ExpansionIsEquivalent, ChoicesAreEquivalent, ChoiceIsGreatest, ChoiceIsLeast, ChoiceStays, ChoiceBringsGlyphs, ChoiceIsFull, StableOrderIsReached, OrderIsUnique, SettledIsReached, SettledIsOrdered, SettledIsUnique, CanonicalIsUnique, DecomposedIsCanonical, DecomposedDecides, RecomposedIsEquivalent, JoinedPastMarksIsEquivalent, LastDecides, GreatestDecides, RecomposedDecides, OrderedIsEquivalent, NormalisedIsEquivalent, ExpandedCutsApart, SettledCutsApart};
+ghost use Rattle.shape_buffer.specs.Laws.{FullIsByTwoRules, EquivalenceIsReflexive, EquivalenceIsSymmetric, EquivalenceIsTransitive, ExpansionIsEquivalent, ChoicesAreEquivalent, ChoiceIsGreatest, ChoiceIsLeast, ChoiceStays, ChoiceBringsGlyphs, ChoiceIsFull, StableOrderIsReached, OrderIsReached, OrderIsUnique, SettledIsReached, SettledIsOrdered, SettledIsUnique, CanonicalIsUnique, DecomposedIsCanonical, DecomposedDecides, RecomposedIsEquivalent, JoinedPastMarksIsEquivalent, LastDecides, GreatestDecides, RecomposedDecides, OrderedIsEquivalent, NormalisedIsEquivalent, ExpandedCutsApart, SettledCutsApart};
 
 /// Full of a character is what two rules give: the character itself where it does not split, else
 /// Full of its first part and then its second part.
@@ -48,9 +48,11 @@ pub fn stable_order_is_reached<T>()
     ensures { StableOrderIsReached T }
 {}
 
-/// Two ordered lists that swaps lead from one to the other are equal.
+/// The canonical order of a list is reached by swaps and is ordered, and two ordered lists that swaps
+/// lead from one to the other are equal.
 pub fn order_is_unique<T>()
-    ensures { OrderIsUnique T }
+    ensures reached { OrderIsReached T }
+    ensures unique { OrderIsUnique T }
 {}
 
 /// A list whose runs are settled is reached by swaps, is ordered where no run is too long, and is

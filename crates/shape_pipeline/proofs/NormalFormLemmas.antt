@@ -11,7 +11,7 @@ use Rattle.shape_buffer.proofs.ExpandedLemmas.{expanded-plain}
 use Rattle.shape_buffer.proofs.LawLemmas.{ordered_is_equivalent, decomposed_is_canonical, decomposed_decides}
 use Rattle.shape_pipeline.proofs.PreparedLemmas.{ArePrepared, settled_chars}
 use Rattle.shape_pipeline.proofs.RoundOneLemmas.{chars-expanded, longest_choice}
-use Rattle.shape_pipeline.specs.Normalized.{expanded}
+use Rattle.shape_pipeline.specs.RoundOne.{expanded}
 use Rattle.shape_pipeline.specs.Rules.{Rules, has_glyph}
 
 module _ (rules : Rules) (lawful : SplitsFall rules.split rules.height rules.unicode.class) (limit : ℕ) where

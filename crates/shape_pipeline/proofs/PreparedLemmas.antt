@@ -14,7 +14,7 @@ use Rattle.shape_buffer.proofs.EveryLemmas.{append_all}
 use Rattle.shape_buffer.proofs.MapLemmas.{AreRunsSettled-map}
 use Rattle.shape_pipeline.specs.Prepared.{IsPreparedItem, IsPrepared}
 use Rattle.shape_pipeline.specs.Rules.{Rules}
-use Rattle.shape_pipeline.specs.Normalized.{part_item, whole_item, expanded_item, expanded, expansion_of}
+use Rattle.shape_pipeline.specs.RoundOne.{part_item, whole_item, expanded_item, expanded, expansion_of}
 
 -- the same by recursion on the list, for proofs that go along it
 abbrev pub ArePrepared : UnicodeMeaning → List Item → Type 0
