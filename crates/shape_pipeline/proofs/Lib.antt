@@ -4,3 +4,4 @@ pub mod PieceLemmas
 pub mod RoundOneLemmas
 pub mod PreparedLemmas
 pub mod NormalFormLemmas
+pub mod OrderedLemmas

@@ -1,18 +1,16 @@
 -- Prepared lists stay prepared, and what is settled of their items is settled of their characters.
-use Rattle.std.proofs.Common.{◌≡◌, ℕ, ◌<◌, ◌≤◌, ◌⊎◌, Bool, true, false, if◌then◌else◌, ◌&&◌, ◌==◌, nat_le, List, [], ◌∷◌, ◌++◌, map, Option, None, Some, refl, sym, ◌∙◌, ap, subst, arith, inl, inr, eqb-true}
-use Rattle.std.proofs.lemmas.Bool.{cases_Bool, cases_eq, cond-true, cond-false, both_ways, and_from}
+use Rattle.std.proofs.Common.{◌≡◌, ℕ, ◌<◌, Bool, true, false, if◌then◌else◌, ◌&&◌, List, [], ◌∷◌, map, Option, None, Some, refl, sym, ◌∙◌, ap, arith, inl, inr}
+use Rattle.std.proofs.lemmas.Bool.{cases_Bool, cases_eq, cond-true, both_ways, and_from}
 use Rattle.std.proofs.lemmas.Bool.Decides.{nat_tests}
-use Rattle.std.proofs.lemmas.List.Elements.{recursion_from_All, All-from_recursion}
-use Rattle.std.specs.List.{All, AllByRecursion, flat_map}
+use Rattle.std.specs.List.{AllByRecursion}
 use Rattle.std.specs.Option.{option_map_or}
-use Rattle.shape_buffer.specs.Items.{Item, char_of, is_mark_item, class_of_item}
+use Rattle.shape_buffer.specs.Items.{Item, char_of, class_of_item}
 use Rattle.shape_buffer.specs.Unicode.{UnicodeMeaning, LawfulUnicode, is_mark}
 use Rattle.shape_buffer.specs.UnicodeProps.{with_unicode_props, beyond_ascii}
-use Rattle.shape_buffer.specs.Order.{Swaps}
 use Rattle.shape_buffer.specs.Runs.{AreRunsSettled}
 use Rattle.shape_buffer.proofs.EveryLemmas.{append_all}
 use Rattle.shape_buffer.proofs.MapLemmas.{AreRunsSettled-map}
-use Rattle.shape_pipeline.specs.Prepared.{IsPreparedItem, IsPrepared}
+use Rattle.shape_pipeline.specs.Prepared.{IsPreparedItem}
 use Rattle.shape_pipeline.specs.Rules.{Rules}
 use Rattle.shape_pipeline.specs.RoundOne.{part_item, whole_item, expanded_item, expanded, expansion_of}
 
