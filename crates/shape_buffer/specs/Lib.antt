@@ -13,6 +13,7 @@ pub mod Text
 pub mod Chain
 pub mod Expansion
 pub mod Choice
+pub mod Expanded
 pub mod Unicode
 pub mod Order
 pub mod Equivalent

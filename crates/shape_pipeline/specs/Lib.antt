@@ -6,4 +6,5 @@ pub mod Rules
 pub mod RoundOne
 pub mod Normalized
 pub mod Shaped
+pub mod Prepared
 pub mod RoundTwo
