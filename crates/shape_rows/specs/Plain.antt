@@ -1,5 +1,5 @@
 -- Functions of Unicode by which every character is a letter that neither splits nor composes.
-use Rattle.std.specs.Prelude.{◌≡◌, ℕ, false, Option, None, refl}
+use Rattle.std.specs.Prelude.{false, None, refl}
 use Rattle.shape_buffer.specs.Unicode.{UnicodeMeaning, LawfulUnicode}
 use Rattle.shape_buffer.specs.declared.buffer.general_category.hb_unicode_general_category_t.TheVariants.{OtherLetter}
 
