@@ -2,3 +2,6 @@ pub mod StepLemmas
 pub mod RulesLemmas
 pub mod PieceLemmas
 pub mod RoundOneLemmas
+pub mod PreparedLemmas
+pub mod NormalFormLemmas
+pub mod OrderedLemmas

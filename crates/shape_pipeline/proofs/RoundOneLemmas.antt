@@ -13,7 +13,8 @@ use Rattle.shape_buffer.specs.Unicode.{UnicodeMeaning}
 use Rattle.shape_buffer.specs.UnicodeProps.{with_unicode_props}
 use Rattle.shape_buffer.proofs.ChoiceLemmas.{choice_glyphs}
 use Rattle.shape_pipeline.specs.Rules.{Rules, has_glyph}
-use Rattle.shape_pipeline.specs.Normalized.{part_item, whole_item, expanded_item, expanded, expansion_of, normalized, BroughtInHaveGlyphs}
+use Rattle.shape_pipeline.specs.RoundOne.{part_item, whole_item, expanded_item, expanded, expansion_of}
+use Rattle.shape_pipeline.specs.Normalized.{normalized, BroughtInHaveGlyphs}
 use Rattle.shape_pipeline.specs.Steps.{with_mapped_glyph, glyphs_mapped}
 use Rattle.shape_pipeline.specs.Shaped.{prepared}
 

@@ -3,5 +3,8 @@ pub mod Shaper
 pub mod Shapers
 pub mod Steps
 pub mod Rules
+pub mod RoundOne
 pub mod Normalized
 pub mod Shaped
+pub mod Prepared
+pub mod RoundTwo

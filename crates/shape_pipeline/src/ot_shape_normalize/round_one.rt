@@ -4,7 +4,7 @@ ghost use Rattle.shape_buffer.specs.Buffer.{limit_of};
 ghost use Rattle.shape_buffer.specs.UnicodeProps.{with_scratch_of};
 ghost use Rattle.shape_pipeline.specs.Plan.{hooks_of};
 ghost use Rattle.shape_pipeline.specs.Rules.{rules_of};
-ghost use Rattle.shape_pipeline.specs.Normalized.{part_item, whole_item, expanded_item, expanded, seen_chars, seen_parts, glyph_index as glyph_index_of};
+ghost use Rattle.shape_pipeline.specs.RoundOne.{part_item, whole_item, expanded_item, expanded, seen_chars, seen_parts, glyph_index as glyph_index_of};
 
 use crate::ot_shape_normalize::decompose::{Expansion, decompose};
 use crate::ot_shape_plan::hb_ot_shape_plan_t;

@@ -1,7 +1,7 @@
 use Rattle.std.proofs.Common.{rules, arith}
 use Rattle.shape_pipeline.specs.Plan.{hooks_of}
 use Rattle.shape_pipeline.specs.Rules.{rules_of}
-use Rattle.shape_pipeline.specs.Normalized.{expanded_item}
+use Rattle.shape_pipeline.specs.RoundOne.{expanded_item}
 use Rattle.shape_pipeline.proofs.PieceLemmas.{passed_by_all}
 use Rattle.shape_pipeline.proofs.ot_shape_normalize.round_one.expand_all.Goals as goal
 

@@ -1,7 +1,7 @@
 use Rattle.std.proofs.Common.{◌≡◌, ◌≤◌, take, fold, vec_len}
 use Rattle.shape_pipeline.specs.Plan.{hooks_of}
 use Rattle.shape_pipeline.specs.Rules.{rules_of}
-use Rattle.shape_pipeline.specs.Normalized.{expanded, seen_parts}
+use Rattle.shape_pipeline.specs.RoundOne.{expanded, seen_parts}
 use Rattle.shape_pipeline.proofs.ot_shape_normalize.round_one.expand_all.Given as goal
 
 abbrev pub invariant-items : goal.invariant-items

@@ -1,5 +1,5 @@
 use Rattle.std.proofs.Common.{◌≡◌, ◌++◌, reverse, map, vec_len}
-use Rattle.shape_pipeline.specs.Normalized.{part_item, seen_chars}
+use Rattle.shape_pipeline.specs.RoundOne.{part_item, seen_chars}
 use Rattle.shape_pipeline.proofs.ot_shape_normalize.round_one.Expanded.put_back.Given as goal
 
 abbrev pub invariant-loop-c : goal.invariant-loop-c
