@@ -1,4 +1,5 @@
 pub mod ClusterLemmas
+pub mod KeptLemmas
 pub mod DrawsInOrder
 pub mod MergeOrder
 pub mod FillLemmas
