@@ -5,6 +5,7 @@ use Rattle.std.proofs.lemmas.Bool.Decides.{nat_tests}
 use Rattle.std.specs.List.{AllByRecursion}
 use Rattle.shape_buffer.specs.Order.{IsOrdered}
 use Rattle.shape_buffer.specs.Recompose.{is_blocked, is_blocked_by_last, last_class, is_blocked_by_greatest, composed, recomposed_from, recomposed}
+use Rattle.shape_buffer.proofs.EveryLemmas.{push_all}
 use Rattle.shape_buffer.proofs.OptionLemmas.{cases_Option}
 use Rattle.shape_buffer.proofs.RecomposeLemmas.{composed-some, recomposed_from-some, recomposed_from-starter, recomposed_from-mark}
 
@@ -63,8 +64,7 @@ module _ {A : Type 0} (class : A → ℕ) (is_mark : A → Bool) (join : A → A
 
 module _ {A : Type 0} (class : A → ℕ) (is_mark : A → Bool) (join : A → A → Option A) where
   push_marks : (ms : List A) (c : A) → AllByRecursion (λ m. 0 < class m) ms → (class c == 0) ≡ false → AllByRecursion (λ m. 0 < class m) (ms ++ c ∷ [])
-  push_marks [] c marks mark = (grind (arith, nat_tests), tt)
-  push_marks (m ∷ ms) c marks mark = (marks.0, push_marks ms c marks.1 mark)
+  push_marks ms c marks mark = push_all (λ m. 0 < class m) ms c marks (grind (arith, nat_tests))
 
   -- for every list, the greatest class alone decides
   pub recomposed_by_greatest : (xs : List A) → recomposed class (is_blocked class) is_mark join xs ≡ recomposed class (is_blocked_by_greatest class) is_mark join xs

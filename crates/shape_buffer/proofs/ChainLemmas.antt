@@ -4,6 +4,7 @@ use Rattle.std.proofs.lemmas.Bool.{cases_Bool}
 use Rattle.std.proofs.lemmas.Bool.Decides.{nat_tests}
 use Rattle.std.specs.List.{AllByRecursion}
 use Rattle.std.specs.Option.{option_map_or}
+use Rattle.shape_buffer.proofs.EveryLemmas.{append_all}
 use Rattle.shape_buffer.specs.Chain.{FallsAlong, kept, full_within, full, full_text, IsFull, stays, splits_into}
 use Rattle.shape_buffer.specs.Unicode.{SplitsFall}
 
@@ -17,10 +18,6 @@ step rest c o = option_map_or (λ parts. rest parts.0 ++ kept parts.1) o (c ∷ 
 step-same : (f g : ℕ → List ℕ) (c : ℕ) (o : Option (ℕ × ℕ)) → ((a b : ℕ) → o ≡ Some (a, b) → f a ≡ g a) → step f c o ≡ step g c o
 step-same f g c None h = refl
 step-same f g c (Some p) h = ap (λ l. l ++ kept p.1) (h p.0 p.1 refl)
-
-pub append_all : {A : Type 0} (P : A → Type 0) (xs ys : List A) → AllByRecursion P xs → AllByRecursion P ys → AllByRecursion P (xs ++ ys)
-append_all P [] ys front back = back
-append_all P (x ∷ xs) ys front back = (front.0, append_all P xs ys front.1 back)
 
 pub kept_all : (P : ℕ → Type 0) (b : ℕ) → (b ≡ 0) ⊎ P b → AllByRecursion P (kept b)
 kept_all P b h =

@@ -10,10 +10,12 @@ use Rattle.std.specs.List.{All, list_all}
 use Rattle.std.specs.Option.{option_map, option_or}
 use Rattle.shape_buffer.proofs.ChainLemmas.{full-stays, full-splits, full_text-kept}
 use Rattle.shape_buffer.proofs.ExpansionLemmas.{expansion-suc, expansion-end, expansion-none}
+use Rattle.shape_buffer.proofs.ExpandedLemmas.{expanded-parts, expanded-plain}
 use Rattle.shape_buffer.proofs.OptionLemmas.{cases_Option}
 use Rattle.shape_buffer.specs.Chain.{FallsAlong, kept, full, full_text}
 use Rattle.shape_buffer.specs.Choice.{IsGreatestSupported, IsLeastSupported, HasNoneSupported, HasGlyphOrIs}
-use Rattle.shape_buffer.specs.Expansion.{expansion, is_supported, supported, least_supported, greatest_supported, choice}
+use Rattle.shape_buffer.specs.Expanded.{expanded_text}
+use Rattle.shape_buffer.specs.Expansion.{expansion, is_supported, supported, least_supported, greatest_supported, chosen_expansion, choice}
 use Rattle.shape_buffer.specs.Unicode.{SplitsFall}
 
 or_none : {A : Type 0} (o p : Option A) → option_or o p ≡ None → (o ≡ None) × (p ≡ None)
@@ -158,14 +160,22 @@ module _ (split : ℕ → Option (ℕ × ℕ)) (has_glyph : ℕ → Bool) where
   or_itself_glyphs c None glyphs = itself_glyphs c
   or_itself_glyphs c (Some l) glyphs = λ k d h. inl (AllPass-from_list_all has_glyph l (glyphs l refl) k d h)
 
+  -- what is chosen is found by one of the two searches
+  chosen_by : (height : ℕ → ℕ) (short : Bool) (c : ℕ) (l : List ℕ) → chosen_expansion split height has_glyph short c ≡ Some l → (greatest_supported split has_glyph (height c) c ≡ Some l) ⊎ (least_supported split has_glyph (height c) c ≡ Some l)
+  chosen_by height false c l e = inl e
+  chosen_by height true c l e =
+      elim (cases_Bool (has_glyph c)) [
+        | inl whole ↦ absurd (none-some l (sym (cond-true _ None (least_supported split has_glyph (height c) c) whole) ∙ e))
+        | inr lacks ↦ inr (sym (cond-false _ None (least_supported split has_glyph (height c) c) lacks) ∙ e)
+      ]
+
+  pub chosen_glyphs : (height : ℕ → ℕ) (short : Bool) (c : ℕ) (l : List ℕ) → chosen_expansion split height has_glyph short c ≡ Some l → list_all has_glyph l ≡ true
+  chosen_glyphs height short c l e =
+      elim (chosen_by height short c l e) [ inl longest ↦ greatest_glyphs (height c) c l longest | inr shortest ↦ least_glyphs (height c) c l shortest ]
+
   -- each character of a choice is the character itself or has a glyph
   pub choice_glyphs : (height : ℕ → ℕ) (short : Bool) (c : ℕ) → All (HasGlyphOrIs has_glyph c) (choice split height has_glyph short c)
-  choice_glyphs height false c = or_itself_glyphs c (greatest_supported split has_glyph (height c) c) (λ l e. greatest_glyphs (height c) c l e)
-  choice_glyphs height true c =
-      elim (has_glyph c) as (λ t. All (HasGlyphOrIs has_glyph c) (if t then c ∷ [] else unwrap_or (least_supported split has_glyph (height c) c) (c ∷ []))) [
-        | true ↦ itself_glyphs c
-        | false ↦ or_itself_glyphs c (least_supported split has_glyph (height c) c) (λ l e. least_glyphs (height c) c l e)
-      ]
+  choice_glyphs height short c = or_itself_glyphs c (chosen_expansion split height has_glyph short c) (λ l e. chosen_glyphs height short c l e)
 
   -- a choice is the character itself or an expansion
   abbrev pub IsSomeExpansion : ℕ → List ℕ → Type 0
@@ -175,17 +185,15 @@ module _ (split : ℕ → Option (ℕ × ℕ)) (has_glyph : ℕ → Bool) where
   or_itself_expansion c None found = (0, refl)
   or_itself_expansion c (Some l) found = found l refl
 
-  pub choice_expansion : (height : ℕ → ℕ) (short : Bool) (c : ℕ) → IsSomeExpansion c (choice split height has_glyph short c)
-  choice_expansion height false c =
-      or_itself_expansion c (greatest_supported split has_glyph (height c) c)
-      (λ l e. let at = greatest-some (height c) c l e in (at.0, (if_supported has_glyph (expansion split at.0 c) l at.3).0))
-  choice_expansion height true c =
-      elim (has_glyph c) as (λ t. IsSomeExpansion c (if t then c ∷ [] else unwrap_or (least_supported split has_glyph (height c) c) (c ∷ []))) [
-        | true ↦ (0, refl)
-        | false ↦
-            or_itself_expansion c (least_supported split has_glyph (height c) c)
-            (λ l e. let at = least-some (height c) c l e in (at.0, (if_supported has_glyph (expansion split at.0 c) l at.3).0))
+  chosen_is_expansion : (height : ℕ → ℕ) (short : Bool) (c : ℕ) (l : List ℕ) → chosen_expansion split height has_glyph short c ≡ Some l → IsSomeExpansion c l
+  chosen_is_expansion height short c l e =
+      elim (chosen_by height short c l e) [
+        | inl longest ↦ let at = greatest-some (height c) c l longest in (at.0, (if_supported has_glyph (expansion split at.0 c) l at.3).0)
+        | inr shortest ↦ let at = least-some (height c) c l shortest in (at.0, (if_supported has_glyph (expansion split at.0 c) l at.3).0)
       ]
+
+  pub choice_expansion : (height : ℕ → ℕ) (short : Bool) (c : ℕ) → IsSomeExpansion c (choice split height has_glyph short c)
+  choice_expansion height short c = or_itself_expansion c (chosen_expansion split height has_glyph short c) (λ l e. chosen_is_expansion height short c l e)
 
 -- ---- Full
 
@@ -216,13 +224,12 @@ module _ (split : ℕ → Option (ℕ × ℕ)) (height class : ℕ → ℕ) (law
       let at = choice_expansion split has_glyph height short c in
       full_text-expansion at.0 c _ at.1
 
-  -- so do the choices of a text
-  pub full_text-expanded : (has_glyph : ℕ → Bool) (short : Bool) (text : List ℕ) → full_text split height (flat_map (choice split height has_glyph short) text) ≡ full_text split height text
+  -- so do the choices of a text, in clusters and out of them
+  pub full_text-expanded : (has_glyph is_mark : ℕ → Bool) (short : Bool → Bool) (text : List ℕ) → full_text split height (expanded_text split height has_glyph is_mark short text) ≡ full_text split height text
   unfolding full_text
-  full_text-expanded has_glyph short [] = refl
-  full_text-expanded has_glyph short (c ∷ text) =
-      flat_map-append (full split height) (choice split height has_glyph short c) (flat_map (choice split height has_glyph short) text)
-      ∙ ap₂ ◌++◌ (full_text-choice has_glyph short c) (full_text-expanded has_glyph short text)
+  full_text-expanded has_glyph is_mark short text =
+      expanded-parts is_mark (λ in_cluster. choice split height has_glyph (short in_cluster)) (full split height) (full split height)
+      (λ in_cluster c. full_text-choice has_glyph (short in_cluster) c) text
 
 -- ---- with a glyph for all of Full
 
@@ -297,9 +304,14 @@ module _ (split : ℕ → Option (ℕ × ℕ)) (height : ℕ → ℕ) (falling :
       at_end has_glyph c end.0 end.1 glyphs (greatest_supported split has_glyph (height c) c) refl
 
   -- and of a text, Full of the text
-  pub expanded-full : (has_glyph : ℕ → Bool) (text : List ℕ) → list_all has_glyph (full_text split height text) ≡ true → flat_map (choice split height has_glyph false) text ≡ full_text split height text
+  choices-full : (has_glyph : ℕ → Bool) (text : List ℕ) → list_all has_glyph (full_text split height text) ≡ true → flat_map (choice split height has_glyph false) text ≡ full_text split height text
   unfolding full_text
-  expanded-full has_glyph [] glyphs = refl
-  expanded-full has_glyph (c ∷ text) glyphs =
+  choices-full has_glyph [] glyphs = refl
+  choices-full has_glyph (c ∷ text) glyphs =
       let parts = and_parts _ _ (sym (list_all-append has_glyph (full split height c) (flat_map (full split height) text)) ∙ glyphs) in
-      ap₂ ◌++◌ (choice-full has_glyph c parts.0) (expanded-full has_glyph text parts.1)
+      ap₂ ◌++◌ (choice-full has_glyph c parts.0) (choices-full has_glyph text parts.1)
+
+  pub expanded-full : (has_glyph is_mark : ℕ → Bool) (text : List ℕ) → list_all has_glyph (full_text split height text) ≡ true → expanded_text split height has_glyph is_mark (λ in_cluster. false) text ≡ full_text split height text
+  expanded-full has_glyph is_mark text glyphs =
+      expanded-plain is_mark (λ in_cluster. choice split height has_glyph false) (choice split height has_glyph false) (λ in_cluster c. refl) text
+      ∙ choices-full has_glyph text glyphs

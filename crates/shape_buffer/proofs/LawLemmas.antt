@@ -1,14 +1,15 @@
 -- The laws in the form in which they are stated.
-use Rattle.std.proofs.Common.{◌≡◌, ℕ, zero, suc, ◌≤◌, ◌⊎◌, List, [], ◌∷◌, Option, Some, None, unwrap_or, refl, sym, subst, ◌∙◌, arith, inl, inr, append-nil}
+use Rattle.std.proofs.Common.{◌≡◌, ℕ, zero, suc, ◌≤◌, ◌⊎◌, List, [], ◌∷◌, Option, Some, None, unwrap_or, refl, sym, ap, subst, ◌∙◌, arith, inl, inr, append-nil}
 use Rattle.std.proofs.lemmas.Bool.{cond-true, cond-false}
 use Rattle.shape_buffer.proofs.ChainLemmas.{IsFull-full, full-stays, full-splits}
 use Rattle.shape_buffer.proofs.ChoiceLemmas.{greatest_none, greatest_found, least_none, least_found, full_text-expansion, full_text-expanded}
-use Rattle.shape_buffer.proofs.NormaliseLemmas.{canonical_settled, settled_equal_iff, recomposed_equal_iff, equivalent_recomposed}
+use Rattle.shape_buffer.proofs.NormaliseLemmas.{sound_with_glyph, equivalent_settled, equivalent_normalised, canonical_settled, settled_equal_iff, recomposed_equal_iff, equivalent_recomposed}
 use Rattle.shape_buffer.proofs.SwapLemmas.{no_swap}
 use Rattle.shape_buffer.specs.Chain.{FallsAlong, full, full_text, IsFull, stays, splits_into}
 use Rattle.shape_buffer.specs.Choice.{IsGreatestSupported, IsLeastSupported, HasNoneSupported}
 use Rattle.shape_buffer.specs.Expansion.{least_supported, greatest_supported}
-use Rattle.shape_buffer.specs.Laws.{FullIsByTwoRules, ExpansionIsEquivalent, ChoicesAreEquivalent, ChoiceIsGreatest, ChoiceIsLeast, ChoiceStays, DecomposedIsCanonical, DecomposedDecides, RecomposedIsEquivalent, RecomposedDecides}
+use Rattle.shape_buffer.specs.Recompose.{join_with_glyph}
+use Rattle.shape_buffer.specs.Laws.{FullIsByTwoRules, ExpansionIsEquivalent, ChoicesAreEquivalent, ChoiceIsGreatest, ChoiceIsLeast, ChoiceStays, DecomposedIsCanonical, DecomposedDecides, RecomposedIsEquivalent, RecomposedDecides, OrderedIsEquivalent, NormalisedIsEquivalent}
 
 full_within_rules : (split : ℕ → Option (ℕ × ℕ)) (height : ℕ → ℕ) → FallsAlong split height → (n c : ℕ) → height c ≤ n → IsFull split c (full split height c)
 full_within_rules split height falling zero c low = go (split c) refl
@@ -36,7 +37,7 @@ expansion_is_equivalent split height class lawful k c parts e =
     no_swap (append-nil (full split height c) ∙ sym (full_text-expansion split height class lawful k c parts e))
 
 pub choices_are_equivalent : ChoicesAreEquivalent
-choices_are_equivalent split height class lawful has_glyph short text = no_swap (sym (full_text-expanded split height class lawful has_glyph short text))
+choices_are_equivalent split height class lawful has_glyph is_mark short text = no_swap (sym (full_text-expanded split height class lawful has_glyph is_mark short text))
 
 pub choice_is_greatest : ChoiceIsGreatest
 choice_is_greatest split height falling has_glyph c = go (greatest_supported split has_glyph (height c) c) refl
@@ -47,8 +48,8 @@ choice_is_greatest split height falling has_glyph c = go (greatest_supported spl
 
 pub choice_is_least : ChoiceIsLeast
 choice_is_least split height falling has_glyph c lacks =
-    subst (λ l. IsLeastSupported split has_glyph c l ⊎ (HasNoneSupported split has_glyph c × (l ≡ c ∷ [])))
-    (sym (cond-false (has_glyph c) (c ∷ []) (unwrap_or (least_supported split has_glyph (height c) c) (c ∷ [])) lacks))
+    subst (λ o. IsLeastSupported split has_glyph c (unwrap_or o (c ∷ [])) ⊎ (HasNoneSupported split has_glyph c × (unwrap_or o (c ∷ []) ≡ c ∷ [])))
+    (sym (cond-false (has_glyph c) None (least_supported split has_glyph (height c) c) lacks))
     (go (least_supported split has_glyph (height c) c) refl)
   where
     go : (o : Option (List ℕ)) → least_supported split has_glyph (height c) c ≡ o → IsLeastSupported split has_glyph c (unwrap_or o (c ∷ [])) ⊎ (HasNoneSupported split has_glyph c × (unwrap_or o (c ∷ []) ≡ c ∷ []))
@@ -56,19 +57,29 @@ choice_is_least split height falling has_glyph c lacks =
     go (Some parts) e = inl (least_found split has_glyph (height c) c parts e)
 
 pub choice_stays : ChoiceStays
-choice_stays split height has_glyph c glyph = cond-true (has_glyph c) (c ∷ []) (unwrap_or (least_supported split has_glyph (height c) c) (c ∷ [])) glyph
+choice_stays split height has_glyph c glyph =
+    ap (λ o. unwrap_or o (c ∷ [])) (cond-true (has_glyph c) None (least_supported split has_glyph (height c) c) glyph)
 
 pub decomposed_is_canonical : DecomposedIsCanonical
-decomposed_is_canonical split height class lawful has_glyph limit text new supports settled =
-    canonical_settled split height class lawful has_glyph limit text new supports.glyphs supports.fits settled
+decomposed_is_canonical split height class lawful has_glyph is_mark limit text new supports settled =
+    canonical_settled split height class lawful has_glyph is_mark limit text new supports.glyphs supports.fits settled
 
 pub decomposed_decides : DecomposedDecides
-decomposed_decides split height class lawful has_glyph limit s new t other of_s of_t settled_s settled_t =
-    settled_equal_iff split height class lawful has_glyph limit s new t other of_s.glyphs of_t.glyphs of_s.fits of_t.fits settled_s settled_t
+decomposed_decides split height class lawful has_glyph is_mark limit s new t other of_s of_t settled_s settled_t =
+    settled_equal_iff split height class lawful has_glyph is_mark limit s new t other of_s.glyphs of_t.glyphs of_s.fits of_t.fits settled_s settled_t
 
 pub recomposed_is_equivalent : RecomposedIsEquivalent
 recomposed_is_equivalent split height class lawful join sound is_mark text = equivalent_recomposed split height class lawful is_mark join sound text
 
 pub recomposed_decides : RecomposedDecides
 recomposed_decides split height class lawful join sound is_mark has_glyph limit s new t other of_s of_t settled_s settled_t =
-    recomposed_equal_iff split height class lawful has_glyph limit is_mark join sound s new t other of_s.glyphs of_t.glyphs of_s.fits of_t.fits settled_s settled_t
+    recomposed_equal_iff split height class lawful has_glyph is_mark limit join sound s new t other of_s.glyphs of_t.glyphs of_s.fits of_t.fits settled_s settled_t
+
+pub ordered_is_equivalent : OrderedIsEquivalent
+ordered_is_equivalent split height class lawful has_glyph is_mark short limit text new settled =
+    equivalent_settled split height class lawful limit text _ new (full_text-expanded split height class lawful has_glyph is_mark short text) settled
+
+pub normalised_is_equivalent : NormalisedIsEquivalent
+normalised_is_equivalent split height class lawful join sound has_glyph is_mark short limit text new settled =
+    equivalent_normalised split height class lawful is_mark (join_with_glyph join has_glyph) (sound_with_glyph split height class join has_glyph sound) limit text _ new
+    (full_text-expanded split height class lawful has_glyph is_mark short text) settled

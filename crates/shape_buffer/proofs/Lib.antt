@@ -1,12 +1,13 @@
 pub mod ClusterLemmas
-pub mod KeptLemmas
 pub mod DrawsInOrder
 pub mod MergeOrder
+pub mod FlagLemmas
 pub mod FillLemmas
 pub mod TextLemmas
 pub mod OptionLemmas
 pub mod ExpansionLemmas
 pub mod WalkLemmas
+pub mod EveryLemmas
 pub mod SwapLemmas
 pub mod OrderLemmas
 pub mod ChainLemmas
@@ -22,4 +23,8 @@ pub mod CutLemmas
 pub mod ChoiceLemmas
 pub mod NormaliseLemmas
 pub mod LawLemmas
+pub mod ShortestWalkLemmas
 pub mod DeleteLemmas
+pub mod DeleteKeeps
+pub mod ExpandedLemmas
+pub mod KeyLemmas

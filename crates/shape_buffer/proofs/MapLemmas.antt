@@ -7,6 +7,7 @@ use Rattle.shape_buffer.specs.Order.{IsSwap, here, behind, Swaps, done, then, Is
 use Rattle.shape_buffer.specs.Recompose.{is_blocked, composed, recomposed_from, recomposed}
 use Rattle.shape_buffer.specs.Runs.{IsSettled, AreRunsSettled}
 use Rattle.shape_buffer.proofs.SwapLemmas.{all-swap, all-swaps}
+use Rattle.shape_buffer.proofs.EveryLemmas.{push_all}
 use Rattle.shape_buffer.proofs.OptionLemmas.{cases_Option}
 use Rattle.shape_buffer.proofs.RecomposeLemmas.{composed-some, recomposed_from-some, recomposed_from-starter, recomposed_from-mark}
 use Rattle.shape_buffer.proofs.RunLemmas.{cases_item, from_starter}
@@ -41,10 +42,6 @@ module _ {A B : Type 0} (IsItem : A → Type 0) (f : A → B) (class : A → ℕ
         | inr long ↦ rw (length-map, long) (ap (map f) (MatchBool-at_false (IsPutInOrder class run new) (new ≡ run) long h))
       ]
 
-  push_all : (ms : List A) (c : A) → AllByRecursion IsItem ms → IsItem c → AllByRecursion IsItem (ms ++ c ∷ [])
-  push_all [] c items item = (item, tt)
-  push_all (m ∷ ms) c items item = (items.0, push_all ms c items.1 item)
-
   pub AreRunsSettled-map : (limit : ℕ) (pending xs new : List A) → AllByRecursion IsItem pending → AllByRecursion IsItem xs → AreRunsSettled class limit pending xs new → AreRunsSettled class' limit (map f pending) (map f xs) (map f new)
   AreRunsSettled-map limit pending [] new marks items h = IsSettled-map limit pending new marks h
   AreRunsSettled-map limit pending (x ∷ xs) new marks items h =
@@ -55,7 +52,7 @@ module _ {A B : Type 0} (IsItem : A → Type 0) (f : A → B) (class : A → ℕ
             (from_starter class' limit (map f pending) (f x) (map f xs) (map f parts.run) (map f parts.rest) (test ∙ start)
             (IsSettled-map limit pending parts.run marks parts.settled) (AreRunsSettled-map limit [] xs parts.rest tt items.1 parts.later))
         | inr (mark, later) ↦
-            let inner = AreRunsSettled-map limit (pending ++ x ∷ []) xs new (push_all pending x marks items.0) items.1 later in
+            let inner = AreRunsSettled-map limit (pending ++ x ∷ []) xs new (push_all IsItem pending x marks items.0) items.1 later in
             let is_mark = test ∙ mark in
             rw is_mark (subst (λ l. AreRunsSettled class' limit l (map f xs) (map f new)) (map-append f pending (x ∷ [])) inner)
       ]
@@ -103,7 +100,7 @@ module _ {A B : Type 0} (IsItem : A → Type 0) (f : A → B) (class : A → ℕ
                     ∙ sym (recomposed_from-starter class' (is_blocked class') is_mark' join' (f s) (map f ms) (f c) (map f rest) (other ∙ ap (option_map f) none) (test ∙ start))
                 | inr mark ↦
                     ap (map f) (recomposed_from-mark class (is_blocked class) is_mark join s ms c rest none mark)
-                    ∙ recomposed_from-map s (ms ++ c ∷ []) rest item_s (push_all ms c items later.0) later.1
+                    ∙ recomposed_from-map s (ms ++ c ∷ []) rest item_s (push_all IsItem ms c items later.0) later.1
                     ∙ ap (λ l. after' (f s) l (map f rest)) (map-append f ms (c ∷ []))
                     ∙ sym (recomposed_from-mark class' (is_blocked class') is_mark' join' (f s) (map f ms) (f c) (map f rest) (other ∙ ap (option_map f) none) (test ∙ mark))
               ]

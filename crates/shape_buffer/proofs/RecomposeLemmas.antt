@@ -1,5 +1,5 @@
 -- Recomposing keeps the full decomposition, up to swaps.
-use Rattle.std.proofs.Common.{◌≡◌, ℕ, ◌<◌, Bool, true, false, not, ◌==◌, ◌&&◌, ◌||◌, nat_le, List, [], ◌∷◌, ◌++◌, Option, Some, None, flat_map, sym, ap, ◌∙◌, arith, inl, inr, append-nil, append_assoc}
+use Rattle.std.proofs.Common.{◌≡◌, ℕ, ◌<◌, Bool, true, false, not, ◌==◌, ◌&&◌, ◌||◌, nat_le, List, [], ◌∷◌, ◌++◌, Option, Some, None, flat_map, sym, ap, subst, ◌∙◌, arith, inl, inr, append-nil, append_assoc}
 use Rattle.std.proofs.lemmas.Bool.{cond-true, cond-false, cases_Bool, or_parts, and_parts, and_left, not-true}
 use Rattle.std.proofs.lemmas.Bool.Decides.{nat_tests}
 use Rattle.std.proofs.lemmas.Grind.{flat_map-append}
@@ -7,6 +7,7 @@ use Rattle.std.specs.List.{AllByRecursion}
 use Rattle.shape_buffer.specs.Order.{Swaps, done}
 use Rattle.shape_buffer.specs.Recompose.{is_blocked, composed, recomposed_from, recomposed}
 use Rattle.shape_buffer.proofs.OptionLemmas.{cases_Option}
+use Rattle.shape_buffer.proofs.EveryLemmas.{append_all, push_all}
 use Rattle.shape_buffer.proofs.EquivalentLemmas.{past_mark}
 use Rattle.shape_buffer.proofs.SwapLemmas.{◌⟫◌, no_swap, Swaps-sym, Swaps-after, Swaps-before}
 
@@ -61,6 +62,29 @@ module _ {A : Type 0} (class : A → ℕ) (blocks : List A → A → Bool) (is_m
             ]
       ]
 
+  -- what holds of each item, and of what two items join to, holds of each recomposed item
+  recomposed_from-all : (P : A → Type 0) → ((s c d : A) → P s → P c → join s c ≡ Some d → P d) → (s : A) (ms rest : List A) → P s → AllByRecursion P ms → AllByRecursion P rest → AllByRecursion P (recomposed_from class blocks is_mark join s ms rest)
+  recomposed_from-all P joins s ms [] of_s of_ms of_rest = (of_s, of_ms)
+  recomposed_from-all P joins s ms (c ∷ rest) of_s of_ms of_rest =
+      elim (cases_Option (composed class blocks is_mark join s ms c)) [
+        | inr (d, found) ↦
+            subst (AllByRecursion P) (sym (recomposed_from-some s ms c rest d found))
+            (recomposed_from-all P joins d ms rest (joins s c d of_s of_rest.0 (composed-some s ms c d found).1) of_ms of_rest.1)
+        | inl none ↦
+            elim (cases_Bool (class c == 0)) [
+              | inl start ↦
+                  subst (AllByRecursion P) (sym (recomposed_from-starter s ms c rest none start))
+                  (of_s, append_all P ms _ of_ms (recomposed_from-all P joins c [] rest of_rest.0 tt of_rest.1))
+              | inr mark ↦
+                  subst (AllByRecursion P) (sym (recomposed_from-mark s ms c rest none mark))
+                  (recomposed_from-all P joins s (ms ++ c ∷ []) rest of_s (push_all P ms c of_ms of_rest.0) of_rest.1)
+            ]
+      ]
+
+  pub recomposed-all : (P : A → Type 0) → ((s c d : A) → P s → P c → join s c ≡ Some d → P d) → (xs : List A) → AllByRecursion P xs → AllByRecursion P (recomposed class blocks is_mark join xs)
+  recomposed-all P joins [] items = tt
+  recomposed-all P joins (x ∷ xs) items = recomposed_from-all P joins x [] xs items.0 tt items.1
+
 module _ {A B : Type 0} (IsItem : A → Type 0) (class : A → ℕ) (class_of_part : B → ℕ) (full : A → List B) (is_mark : A → Bool) (join : A → A → Option A) (lawful : JoinsLawfully IsItem class class_of_part full join) where
   abbrev Fulls : List A → List B
   Fulls xs = flat_map full xs
@@ -82,17 +106,13 @@ module _ {A B : Type 0} (IsItem : A → Type 0) (class : A → ℕ) (class_of_pa
       ⟫ no_swap (append_assoc (full c) (full m) (Fulls ms))
 
   -- what a starter and c compose to, in their place
-  joined : (s c d : A) (ms rest : List A) → IsItem s → IsItem c → AllByRecursion IsItem ms → is_blocked class ms c ≡ false → join s c ≡ Some d → Swaps class_of_part (Fulls (s ∷ ms ++ c ∷ rest)) (Fulls (d ∷ ms ++ rest))
+  pub joined : (s c d : A) (ms rest : List A) → IsItem s → IsItem c → AllByRecursion IsItem ms → is_blocked class ms c ≡ false → join s c ≡ Some d → Swaps class_of_part (Fulls (s ∷ ms ++ c ∷ rest)) (Fulls (d ∷ ms ++ rest))
   joined s c d ms rest item_s item_c items free joins =
       no_swap (ap (λ l. full s ++ l) (flat_map-append full ms (c ∷ rest) ∙ sym (append_assoc (Fulls ms) (full c) (Fulls rest))))
       ⟫ Swaps-after (full s) (Swaps-before (Fulls rest) (past_marks ms c items item_c free))
       ⟫ no_swap (ap (λ l. full s ++ l) (append_assoc (full c) (Fulls ms) (Fulls rest)) ∙ sym (append_assoc (full s) (full c) (Fulls ms ++ Fulls rest)))
       ⟫ Swaps-before (Fulls ms ++ Fulls rest) (Swaps-sym (lawful.joins s c d item_s item_c joins))
       ⟫ no_swap (ap (λ l. full d ++ l) (sym (flat_map-append full ms rest)))
-
-  push_all : (ms : List A) (c : A) → AllByRecursion IsItem ms → IsItem c → AllByRecursion IsItem (ms ++ c ∷ [])
-  push_all [] c items item = (item, tt)
-  push_all (m ∷ ms) c items item = (items.0, push_all ms c items.1 item)
 
   pub recomposed_from-keeps : (s : A) (ms rest : List A) → IsItem s → AllByRecursion IsItem ms → AllByRecursion IsItem rest → Swaps class_of_part (Fulls (s ∷ ms ++ rest)) (Fulls (recomposed_from class (is_blocked class) is_mark join s ms rest))
   recomposed_from-keeps s ms [] item_s items rest_items = no_swap (ap (λ l. Fulls (s ∷ l)) (append-nil ms))
@@ -113,7 +133,7 @@ module _ {A B : Type 0} (IsItem : A → Type 0) (class : A → ℕ) (class_of_pa
                   ⟫ no_swap (ap Fulls (sym (recomposed_from-starter class (is_blocked class) is_mark join s ms c rest none starter)))
               | inr mark ↦
                   no_swap (ap (λ l. Fulls (s ∷ l)) (sym (append_assoc ms (c ∷ []) rest)))
-                  ⟫ recomposed_from-keeps s (ms ++ c ∷ []) rest item_s (push_all ms c items rest_items.0) rest_items.1
+                  ⟫ recomposed_from-keeps s (ms ++ c ∷ []) rest item_s (push_all IsItem ms c items rest_items.0) rest_items.1
                   ⟫ no_swap (ap Fulls (sym (recomposed_from-mark class (is_blocked class) is_mark join s ms c rest none mark)))
             ]
       ]

@@ -14,7 +14,7 @@ walked found seconds r = option_or (option_map (λ ys. ys ++ reverse seconds) r)
 reverse-kept : (b : ℕ) → reverse (kept b) ≡ kept b
 reverse-kept b = elim (b == 0) as (λ t. reverse (if t then [] else b ∷ []) ≡ (if t then [] else b ∷ [])) [ true ↦ refl | false ↦ refl ]
 
-reverse-more : (s : List ℕ) (b : ℕ) → reverse (s ++ kept b) ≡ kept b ++ reverse s
+pub reverse-more : (s : List ℕ) (b : ℕ) → reverse (s ++ kept b) ≡ kept b ++ reverse s
 reverse-more s b = reverse-append s (kept b) ∙ ap (λ xs. xs ++ reverse s) (reverse-kept b)
 
 -- what a walk has found once it has passed a

@@ -37,10 +37,9 @@ abbrev pub chosen_expansion : (ℕ → Option (ℕ × ℕ)) → (ℕ → ℕ) �
 chosen_expansion split height has_glyph true c = if has_glyph c then None else least_supported split has_glyph (height c) c
 chosen_expansion split height has_glyph false c = greatest_supported split has_glyph (height c) c
 
--- what c becomes, where `true` asks for the shortest: c itself where the shortest is asked and c has a glyph, else the supported expansion of least or of greatest length, and c itself where none is supported; no chain is longer than the height of its character
+-- what c becomes: its chosen expansion, or itself
 abbrev pub choice : (ℕ → Option (ℕ × ℕ)) → (ℕ → ℕ) → (ℕ → Bool) → Bool → ℕ → List ℕ
-choice split height has_glyph true c = if has_glyph c then c ∷ [] else unwrap_or (least_supported split has_glyph (height c) c) (c ∷ [])
-choice split height has_glyph false c = unwrap_or (greatest_supported split has_glyph (height c) c) (c ∷ [])
+choice split height has_glyph short c = unwrap_or (chosen_expansion split height has_glyph short c) (c ∷ [])
 
 -- what a walk along a chain has found, where it keeps second parts from the first to the last: nothing, or a point with so many second parts behind it
 abbrev pub found_parts : Option (ℕ × ℕ) → List ℕ → Option (List ℕ)

@@ -8,10 +8,12 @@ pub mod ClusterOrder
 pub mod Buffer
 pub mod BufferClusters
 pub mod Delete
+pub mod KeepsFlags
 pub mod Text
 pub mod Chain
 pub mod Expansion
 pub mod Choice
+pub mod Expanded
 pub mod Unicode
 pub mod Order
 pub mod Equivalent

@@ -17,6 +17,8 @@ mod positions;
 mod properties;
 mod settings;
 mod storage;
+#[cfg(test)]
+mod tests;
 mod text;
 mod unicode_buffer;
 

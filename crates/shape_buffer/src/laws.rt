@@ -3,7 +3,7 @@
 //! They hold for every split whose heights fall and whose marks keep their class, so for the
 //! functions of Unicode as for a shaper's own. Equivalence is that of UAX 15 with the classes at
 //! hand; a canonical text has the form of its NFD.
-ghost use Rattle.shape_buffer.specs.Laws.{FullIsByTwoRules, IsReflexive, IsSymmetric, IsTransitive, ExpansionIsEquivalent, ChoicesAreEquivalent, ChoiceIsGreatest, ChoiceIsLeast, ChoiceStays, ChoiceBringsGlyphs, ChoiceIsFull, StableOrderIsReached, OrderIsUnique, SettledIsReached, SettledIsOrdered, SettledIsUnique, CanonicalIsUnique, DecomposedIsCanonical, DecomposedDecides, RecomposedIsEquivalent, LastDecides, GreatestDecides, RecomposedDecides, CutsApart};
+ghost use Rattle.shape_buffer.specs.Laws.{FullIsByTwoRules, EquivalenceIsReflexive, EquivalenceIsSymmetric, EquivalenceIsTransitive, ExpansionIsEquivalent, ChoicesAreEquivalent, ChoiceIsGreatest, ChoiceIsLeast, ChoiceStays, ChoiceBringsGlyphs, ChoiceIsFull, StableOrderIsReached, OrderIsReached, OrderIsUnique, SettledIsReached, SettledIsOrdered, SettledIsUnique, CanonicalIsUnique, DecomposedIsCanonical, DecomposedDecides, RecomposedIsEquivalent, JoinedPastMarksIsEquivalent, LastDecides, GreatestDecides, RecomposedDecides, OrderedIsEquivalent, NormalisedIsEquivalent, ExpandedCutsApart, SettledCutsApart};
 
 /// Full of a character is what two rules give: the character itself where it does not split, else
 /// Full of its first part and then its second part.
@@ -13,9 +13,9 @@ pub fn full_is_by_two_rules()
 
 /// Equivalence is reflexive, symmetric and transitive.
 pub fn equivalence_is_an_equivalence()
-    ensures reflexive { IsReflexive }
-    ensures symmetric { IsSymmetric }
-    ensures transitive { IsTransitive }
+    ensures reflexive { EquivalenceIsReflexive }
+    ensures symmetric { EquivalenceIsSymmetric }
+    ensures transitive { EquivalenceIsTransitive }
 {}
 
 /// An expansion is equivalent to its character, and the choices of a text to the text.
@@ -48,9 +48,11 @@ pub fn stable_order_is_reached<T>()
     ensures { StableOrderIsReached T }
 {}
 
-/// Two ordered lists that swaps lead from one to the other are equal.
+/// The canonical order of a list is reached by swaps and is ordered, and two ordered lists that swaps
+/// lead from one to the other are equal.
 pub fn order_is_unique<T>()
-    ensures { OrderIsUnique T }
+    ensures reached { OrderIsReached T }
+    ensures unique { OrderIsUnique T }
 {}
 
 /// A list whose runs are settled is reached by swaps, is ordered where no run is too long, and is
@@ -73,10 +75,11 @@ pub fn decomposed_is_canonical()
     ensures decides { DecomposedDecides }
 {}
 
-/// Recomposing leaves a text that is equivalent, also where a starter composes past marks between
-/// (The Unicode Standard, D115 to D117).
+/// Recomposing leaves a text that is equivalent, and so does each of its steps: a starter composes with
+/// a mark past others that do not block it (The Unicode Standard, D115 to D117).
 pub fn recomposed_is_equivalent()
-    ensures { RecomposedIsEquivalent }
+    ensures whole { RecomposedIsEquivalent }
+    ensures step { JoinedPastMarksIsEquivalent }
 {}
 
 /// Two equivalent texts have equal recomposed forms, and two others have different ones.
@@ -91,8 +94,17 @@ pub fn one_class_decides<T>()
     ensures greatest { GreatestDecides T }
 {}
 
-/// Before an item that is no mark, whose choice begins with none, a list may be cut: the parts,
+/// Normalising keeps a text equivalent in every mode: expanded, with the shortest choices asked for
+/// all characters, for simple ones or for none, then settled run by run, and then recomposed where
+/// the composed characters have glyphs.
+pub fn normalised_is_equivalent()
+    ensures ordered { OrderedIsEquivalent }
+    ensures recomposed { NormalisedIsEquivalent }
+{}
+
+/// Before an item that is no mark, and whose choice begins with none, a list may be cut: the parts,
 /// normalised each by itself, joined, are the whole one normalised.
 pub fn cuts_apart<T>()
-    ensures { CutsApart T }
+    ensures expanded { ExpandedCutsApart T }
+    ensures settled { SettledCutsApart T }
 {}

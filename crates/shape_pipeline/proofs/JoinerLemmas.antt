@@ -1,19 +1,34 @@
--- A walk over the items between the first and the last that shows joiners.
-use Rattle.std.proofs.Common.{◌≡◌, ℕ, zero, suc, ◌+◌, ◌<◌, ◌≤◌, ◌==◌, ◌&&◌, Bool, true, false, cond, List, [], ◌∷◌, ◌++◌, map, take, drop, length, get_or, set, refl, ap, ap₂, arith, add-one}
+-- What showing joiners keeps, and a walk over the items between the first and the last that shows them.
+use Rattle.std.proofs.Common.{◌≡◌, ℕ, zero, suc, ◌+◌, ◌<◌, ◌≤◌, ◌==◌, ◌&&◌, bit_and, if◌then◌else◌, true, false, List, [], ◌∷◌, ◌++◌, map, take, drop, length, get_or, set, refl, ap, ap₂, arith, add-one}
 use Rattle.shape_buffer.specs.Items.{Item, class_of_item, char_of}
-use Rattle.shape_pipeline.specs.RoundTwo.{keeps_nothing_apart, joiner_shown, joiners_shown_after, joiners_shown}
+use Rattle.shape_buffer.specs.Buffer.{Buffer}
+use Rattle.shape_pipeline.specs.RoundTwo.{keeps_nothing_apart, shown, joiner_shown, joiners_shown_after, joiners_shown, joiners_settled}
 
-same_class_shown : (before item after : Item) → class_of_item (joiner_shown before item after) ≡ class_of_item item
-same_class_shown before item after =
-    let test = item.codepoint == 0x34F && keeps_nothing_apart before after in
-    elim test as (λ (t : Bool). let shown : Item = cond t (record item { properties = record item.properties { hidden = false } }) item in class_of_item shown ≡ class_of_item item)
-    [ true ↦ refl | false ↦ refl ]
+-- ---- what showing keeps
 
-same_char_shown : (before item after : Item) → char_of (joiner_shown before item after) ≡ char_of item
-same_char_shown before item after =
-    let test = item.codepoint == 0x34F && keeps_nothing_apart before after in
-    elim test as (λ (t : Bool). let shown : Item = cond t (record item { properties = record item.properties { hidden = false } }) item in char_of shown ≡ char_of item)
-    [ true ↦ refl | false ↦ refl ]
+module _ {B : Type 0} (key : Item → B) (same : (item : Item) → key (shown item) ≡ key item) where
+  key-joiner_shown : (before item after : Item) → key (joiner_shown before item after) ≡ key item
+  key-joiner_shown before item after =
+      elim (item.codepoint == 0x34F && keeps_nothing_apart before after) as (λ t. key (if t then shown item else item) ≡ key item) [ true ↦ same item | false ↦ refl ]
+
+  keys-joiners_shown_after : (before : Item) (items : List Item) → map key (joiners_shown_after before items) ≡ map key items
+  keys-joiners_shown_after before [] = refl
+  keys-joiners_shown_after before (item ∷ []) = refl
+  keys-joiners_shown_after before (item ∷ after ∷ rest) = ap₂ ◌∷◌ (key-joiner_shown before item after) (keys-joiners_shown_after item (after ∷ rest))
+
+  keys-joiners_shown : (items : List Item) → map key (joiners_shown items) ≡ map key items
+  keys-joiners_shown [] = refl
+  keys-joiners_shown (first ∷ rest) = ap (λ l. key first ∷ l) (keys-joiners_shown_after first rest)
+
+  -- what doesn't go by the hidden bit stays
+  pub keys-joiners_settled : (b : Buffer) → map key (joiners_settled b).items ≡ map key b.items
+  keys-joiners_settled b =
+      elim (bit_and b.scratch_flags.0 8 == 8) as (λ t. map key (if t then record b { items = joiners_shown b.items } else b).items ≡ map key b.items) [ true ↦ keys-joiners_shown b.items | false ↦ refl ]
+
+pub chars-joiners_settled : (b : Buffer) → map char_of (joiners_settled b).items ≡ map char_of b.items
+chars-joiners_settled b = keys-joiners_settled char_of (λ item. refl) b
+
+-- ---- the walk
 
 -- of the item before only its class counts
 shown_after_class : (before before' : Item) (items : List Item) → class_of_item before ≡ class_of_item before' → joiners_shown_after before items ≡ joiners_shown_after before' items
@@ -27,7 +42,7 @@ shown_step k [] a b c within at_a at_b at_c = absurd (omega arith)
 shown_step k (x ∷ []) a b c within at_a at_b at_c = absurd (omega arith)
 shown_step k (x ∷ y ∷ []) a b c within at_a at_b at_c = absurd (omega arith)
 shown_step zero (x ∷ y ∷ z ∷ rest) a b c within at_a at_b at_c =
-    rw (at_a, at_b, at_c) (ap (λ zs. x ∷ joiner_shown x y z ∷ zs) (shown_after_class (joiner_shown x y z) y (z ∷ rest) (same_class_shown x y z)))
+    rw (at_a, at_b, at_c) (ap (λ zs. x ∷ joiner_shown x y z ∷ zs) (shown_after_class (joiner_shown x y z) y (z ∷ rest) (key-joiner_shown class_of_item (λ item. refl) x y z)))
 shown_step (suc k) (x ∷ y ∷ z ∷ rest) a b c within at_a at_b at_c = ap (λ zs. x ∷ zs) (shown_step k (y ∷ z ∷ rest) a b c (omega arith) at_a at_b at_c)
 
 -- a walk shows the item behind place k, whose neighbours are a and c
@@ -45,21 +60,3 @@ shown_all zero (x ∷ y ∷ []) over = refl
 shown_all zero (x ∷ y ∷ z ∷ rest) over = absurd (omega arith)
 shown_all (suc k) [] over = refl
 shown_all (suc k) (x ∷ rest) over = ap (λ zs. x ∷ zs) (shown_all k rest (omega arith))
-
--- ---- what the joiners that are shown keep
-
-module _ {Y : Type 0} (h : Item → Y) (stays : (before item after : Item) → h (joiner_shown before item after) ≡ h item) where
-  map-joiners_shown_after : (before : Item) (items : List Item) → map h (joiners_shown_after before items) ≡ map h items
-  map-joiners_shown_after before [] = refl
-  map-joiners_shown_after before (item ∷ []) = refl
-  map-joiners_shown_after before (item ∷ after ∷ rest) = ap₂ (λ y ys. y ∷ ys) (stays before item after) (map-joiners_shown_after item (after ∷ rest))
-
-  map-joiners_shown : (items : List Item) → map h (joiners_shown items) ≡ map h items
-  map-joiners_shown [] = refl
-  map-joiners_shown (item ∷ items) = ap (λ ys. h item ∷ ys) (map-joiners_shown_after item items)
-
-pub chars-joiners_shown : (items : List Item) → map char_of (joiners_shown items) ≡ map char_of items
-chars-joiners_shown items = map-joiners_shown char_of same_char_shown items
-
-pub classes-joiners_shown : (items : List Item) → map class_of_item (joiners_shown items) ≡ map class_of_item items
-classes-joiners_shown items = map-joiners_shown class_of_item same_class_shown items

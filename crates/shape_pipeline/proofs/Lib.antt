@@ -6,3 +6,6 @@ pub mod SpanLemmas
 pub mod SettleLemmas
 pub mod JoinerLemmas
 pub mod NormalizedLemmas
+pub mod PreparedLemmas
+pub mod NormalFormLemmas
+pub mod OrderedLemmas

@@ -16,13 +16,9 @@ use Rattle.shape_pipeline.specs.Steps.{with_mapped_glyph, glyphs_mapped}
 use Rattle.shape_pipeline.specs.Shaped.{prepared, shaped}
 use Rattle.shape_pipeline.proofs.RoundOneLemmas.{expanded_brings_in}
 use Rattle.shape_pipeline.proofs.SettleLemmas.{length-marks_ordered, chars-marks_ordered}
-use Rattle.shape_pipeline.proofs.JoinerLemmas.{chars-joiners_shown}
+use Rattle.shape_pipeline.proofs.JoinerLemmas.{chars-joiners_settled}
 
 -- ---- the later rounds
-
-chars-joiners_settled : (b : Buffer) → map char_of (joiners_settled b).items ≡ map char_of b.items
-chars-joiners_settled b =
-    elim (cases_Bool (bit_and b.scratch_flags.0 8 == 8)) [ inl seen ↦ rw seen (chars-joiners_shown b.items) | inr none ↦ rw none refl ]
 
 length-joiners_settled : (b : Buffer) → length (joiners_settled b).items ≡ length b.items
 length-joiners_settled b =

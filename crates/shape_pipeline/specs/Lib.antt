@@ -7,3 +7,4 @@ pub mod RoundOne
 pub mod RoundTwo
 pub mod Normalized
 pub mod Shaped
+pub mod Prepared

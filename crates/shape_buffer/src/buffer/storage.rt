@@ -77,6 +77,7 @@ impl hb_buffer_t {
     ghost use Rattle.shape_buffer.specs.Clusters.{clusters};
     ghost use Rattle.shape_buffer.specs.ClusterOrder.{KeepsClusters};
     ghost use Rattle.shape_buffer.specs.Delete.{deleted};
+    ghost use Rattle.shape_buffer.specs.KeepsFlags.{KeepsFlags};
     ghost use Rattle.std.specs.Prelude.{Bool};
     ghost use Rattle.std.specs.Fn.{FnReturnsAt};
     ghost use Rattle.shape_buffer.specs.Guess.{guessed, guessed_script, guessed_direction};
@@ -388,6 +389,7 @@ impl hb_buffer_t {
         requires ordered { start ≤ end }
         requires within { end ≤ length self.old.items }
         ensures merged { self.new ≡ merge_clusters_of start end self.old }
+        ensures keeps { KeepsClusters (clusters self.old.items) (clusters self.new.items) × KeepsFlags self.old self.new }
     {
         if self.cluster_level == BufferClusterLevel::Characters {
             self.unsafe_to_break(start, end);
@@ -401,6 +403,7 @@ impl hb_buffer_t {
         requires ordered { start ≤ end }
         requires within { end ≤ length self.old.items }
         ensures merged { self.new ≡ merge_out_clusters_of start end self.old }
+        ensures keeps { KeepsClusters (clusters self.old.items) (clusters self.new.items) × KeepsFlags self.old self.new }
     {
         if self.cluster_level != BufferClusterLevel::Characters {
             merge_items(self.infos.as_mut_slice(), start, end);
@@ -414,6 +417,7 @@ impl hb_buffer_t {
         requires ordered { start ≤ end }
         requires within { end ≤ length self.old.items }
         ensures marked { self.new ≡ unsafe_to_break_of start end self.old }
+        ensures keeps { KeepsFlags self.old self.new }
     {
         if end - start < 2 {
             return;
@@ -429,6 +433,7 @@ impl hb_buffer_t {
         requires ordered { start ≤ end }
         requires within { end ≤ length self.old.items }
         ensures marked { self.new ≡ unsafe_to_concat_of start end self.old }
+        ensures keeps { KeepsFlags self.old self.new }
     {
         if !self.flags.contains(BufferFlags::PRODUCE_UNSAFE_TO_CONCAT) {
             return;
@@ -448,6 +453,8 @@ impl hb_buffer_t {
         requires { F.IsAlwaysCallable test }
         ensures deleted { (picks : Item → Bool) → ((x : Item) (b : Bool) → FnReturnsAt F.Fn test x b → b ≡ picks x)
             → self.new ≡ deleted picks self.old }
+        ensures keeps { (picks : Item → Bool) → ((x : Item) (b : Bool) → FnReturnsAt F.Fn test x b → b ≡ picks x)
+            → KeepsClusters (clusters self.old.items) (clusters self.new.items) × KeepsFlags self.old self.new }
     {
         delete_items(
             &mut self.infos,

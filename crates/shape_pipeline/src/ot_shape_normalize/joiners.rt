@@ -17,8 +17,8 @@ fn keeps_nothing_apart(before: &hb_glyph_info_t, after: &hb_glyph_info_t) -> boo
     class == 0 || before._hb_glyph_info_get_modified_class() <= class
 }
 
-/// An item between two others, seen where it is a joiner that keeps nothing apart.
-fn shown(
+/// An item between two others, shown where it is a joiner that keeps nothing apart.
+fn show_joiner(
     before: &hb_glyph_info_t,
     info: &hb_glyph_info_t,
     after: &hb_glyph_info_t,
@@ -42,7 +42,7 @@ pub(crate) fn show_joiners(buffer: &mut hb_buffer_t)
     }
     for i in 1..buffer.len().saturating_sub(1) {
         let infos = buffer.infos();
-        let info = shown(&infos[i - 1], &infos[i], &infos[i + 1]);
+        let info = show_joiner(&infos[i - 1], &infos[i], &infos[i + 1]);
         buffer.set_info(i, info);
     }
 }

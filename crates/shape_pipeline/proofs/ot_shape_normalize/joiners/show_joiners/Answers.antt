@@ -19,12 +19,12 @@ loop-i-preserved c =
     let moved : i + 1 - 1 ≡ i - 1 + 1 = omega arith in
     let within : i - 1 + 2 < length items = omega arith in
     let written : c.set_info.new.self.items ≡ set items (i - 1 + 1) (joiner_shown before item after) =
-    ap (λ (b : Buffer). b.items) c.set_info.ensures ∙ ap₂ (λ n x. set items n x) here c.shown-info.ensures in
+    ap (λ (b : Buffer). b.items) c.set_info.ensures ∙ ap₂ (λ n x. set items n x) here c.show_joiner-info.ensures in
     let at_before : before ≡ get_or items (i - 1) before = c.index-infos-i.is ∙ ap (λ xs. get_or xs (i - 1) before) c.infos-infos.ensures in
     let at_item : item ≡ get_or items (i - 1 + 1) item = c.index-infos-i-in-loop-i.is ∙ ap₂ (λ xs n. get_or xs n item) c.infos-infos.ensures here in
     let at_after : after ≡ get_or items (i - 1 + 2) after = c.index-infos-i-in-loop-i-2.is ∙ ap₂ (λ xs n. get_or xs n after) c.infos-infos.ensures next in
     record {
-      items = c.set_info.ensures ∙ ap (λ (b : Buffer). record b { items = set items i c.shown-info.result }) c.loop-i.invariant.items
+      items = c.set_info.ensures ∙ ap (λ (b : Buffer). record b { items = set items i c.show_joiner-info.result }) c.loop-i.invariant.items
           ∙ ap (λ (xs : List Item). record old { items = xs }) (sym (ap (λ (b : Buffer). b.items) c.set_info.ensures));
       walk = rw (moved, written) (shown_more (i - 1) items before item after within at_before at_item at_after ∙ c.loop-i.invariant.walk);
       same_length = grind (arith, common_steps);

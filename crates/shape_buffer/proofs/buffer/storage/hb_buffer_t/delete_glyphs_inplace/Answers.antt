@@ -1,9 +1,18 @@
-use Rattle.std.proofs.Common.{ap, refl, ◌∙◌}
+use Rattle.std.proofs.Common.{◌≡◌, ap, refl, sym, subst, ◌∙◌}
+use Rattle.shape_buffer.specs.Buffer.{Buffer}
+use Rattle.shape_buffer.specs.Clusters.{clusters}
+use Rattle.shape_buffer.specs.ClusterOrder.{KeepsClusters}
+use Rattle.shape_buffer.specs.KeepsFlags.{KeepsFlags}
 use Rattle.shape_buffer.specs.Delete.{deleted}
 use Rattle.shape_buffer.specs.contracts.buffer.storage.hb_buffer_t.{the_view}
+use Rattle.shape_buffer.proofs.DeleteKeeps.{deleted_keeps}
 use Rattle.shape_buffer.proofs.buffer.storage.hb_buffer_t.delete_glyphs_inplace.Goals as goal
 
-pub returns : goal.returns
-returns g c = record {
-  deleted = λ picks tells. c.delete_items.ensures.deleted picks tells (the_view c.self.inside) refl ∙ ap (deleted picks) c.self.view_is;
-}
+pub returns-clause-deleted : goal.returns-clause-deleted
+returns-clause-deleted g c =
+    λ picks tells. c.delete_items.ensures.deleted picks tells (the_view c.self.inside) refl ∙ ap (deleted picks) c.self.view_is
+
+pub returns-clause-keeps : goal.returns-clause-keeps
+returns-clause-keeps g c =
+    λ picks tells. deleted_keeps picks c.args.self.now _
+    (c.delete_items.ensures.deleted picks tells (the_view c.self.inside) refl ∙ ap (deleted picks) c.self.view_is)

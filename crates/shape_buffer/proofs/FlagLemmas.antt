@@ -1,0 +1,175 @@
+-- Merging, marking and deletion keep the flags of glyphs.
+use Rattle.std.proofs.Common.{◌≡◌, ℕ, ◌+◌, ◌-◌, ◌<◌, ◌≤◌, Bool, true, false, nat_lt, eqb, ◌||◌, List, [], ◌∷◌, ◌++◌, length, take, drop, map, refl, ap, sym, ◌∙◌, arith, suc, zero, slice_range, slice_index, inl, inr, ◌⊎◌, remove, bit_and, bit_or}
+use Rattle.std.proofs.lemmas.Grind.{common_steps}
+use Rattle.std.proofs.lemmas.Bool.Decides.{nat_tests}
+use Rattle.std.proofs.lemmas.Nat.{and_assoc, and_or_apart, and_or_self}
+use Rattle.std.specs.Int.Bits.{and_zero_r}
+use Rattle.std.proofs.lemmas.List.{take-append-drop}
+use Rattle.std.proofs.lemmas.List.Folds.{list_any-append}
+use Rattle.std.specs.List.{list_any, suffix_len}
+use Rattle.shape_buffer.specs.Items.{Item, put_in, has_cluster, feature_bits}
+use Rattle.shape_buffer.specs.Clusters.{clusters, map_range, put_range, merge, least_cluster, growth_left, growth_right}
+use Rattle.shape_buffer.specs.Buffer.{Buffer}
+use Rattle.shape_buffer.specs.declared.buffer.settings.BufferClusterLevel.{BufferClusterLevel}
+use Rattle.shape_buffer.specs.declared.buffer.settings.BufferClusterLevel.TheVariants.{MonotoneGraphemes, MonotoneCharacters, Characters}
+use Rattle.shape_buffer.specs.BufferClusters.{with_glyph_flags, merge_at, unsafe_to_break, unsafe_to_concat, merge_clusters, merge_out_clusters}
+use Rattle.shape_buffer.specs.KeepsFlags.{IsDefinedFlag, has_flag, some_has, has_glyph_flags, KeepsFlags}
+use Rattle.shape_buffer.proofs.ClusterLemmas.{merge_short, merge_long}
+use Rattle.shape_buffer.proofs.MergeOrder.{bool_cases}
+
+or_cases : (a b : Bool) → (a || b) ≡ true → (a ≡ true) ⊎ (b ≡ true)
+or_cases true b e = inl refl
+or_cases false b e = inr e
+
+or_right : (a b : Bool) → b ≡ true → (a || b) ≡ true
+or_right true b e = refl
+or_right false b e = e
+
+rule_out : (a b : Bool) → (a || b) ≡ true → a ≡ false → b ≡ true
+rule_out true b e f = grind (arith, nat_tests)
+rule_out false b e f = e
+
+-- the has-flags bit is set
+pub glyph_flags_set : (b : Buffer) → has_glyph_flags (with_glyph_flags b) ≡ true
+glyph_flags_set b = rw (and_or_self 32 b.scratch_flags.0) refl
+
+-- features have no defined flag
+pub no_flag : (m flag : ℕ) → IsDefinedFlag flag → bit_and (feature_bits m) flag ≡ 0
+no_flag m flag (inl e) = rw (e, and_assoc 1 m 4294967288) (and_zero_r m)
+no_flag m flag (inr (inl e)) = rw (e, and_assoc 2 m 4294967288) (and_zero_r m)
+no_flag m flag (inr (inr e)) = rw (e, and_assoc 4 m 4294967288) (and_zero_r m)
+
+-- and a defined flag is one of the three bits
+pub defined_flag : (flag : ℕ) → IsDefinedFlag flag → bit_and 7 flag ≡ flag
+defined_flag flag (inl e) = rw e refl
+defined_flag flag (inr (inl e)) = rw e refl
+defined_flag flag (inr (inr e)) = rw e refl
+
+-- a flag that an item has once it was put into a cluster it had before
+put_in-flag : (c flag : ℕ) → IsDefinedFlag flag → (x : Item) → has_flag flag (put_in c x) ≡ true → has_flag flag x ≡ true
+put_in-flag c flag d x h =
+    let e = no_flag x.mask flag d in
+    grind (arith, nat_tests)
+
+pub append-cases : (p : Item → Bool) (xs ys : List Item) → list_any p (xs ++ ys) ≡ true → (list_any p xs ≡ true) ⊎ (list_any p ys ≡ true)
+append-cases p xs ys some = or_cases _ _ (sym (list_any-append p xs ys) ∙ some)
+
+append-left : (p : Item → Bool) (xs ys : List Item) → list_any p xs ≡ true → list_any p (xs ++ ys) ≡ true
+append-left p xs ys some = rw (list_any-append p xs ys, some) refl
+
+append-right : (p : Item → Bool) (xs ys : List Item) → list_any p ys ≡ true → list_any p (xs ++ ys) ≡ true
+append-right p xs ys some = list_any-append p xs ys ∙ or_right (list_any p xs) _ some
+
+pub take_in : (p : Item → Bool) (a : ℕ) (xs : List Item) → list_any p (take a xs) ≡ true → list_any p xs ≡ true
+take_in p a xs some = ap (list_any p) (sym (take-append-drop a xs)) ∙ append-left p (take a xs) (drop a xs) some
+
+pub drop_in : (p : Item → Bool) (a : ℕ) (xs : List Item) → list_any p (drop a xs) ≡ true → list_any p xs ≡ true
+drop_in p a xs some = ap (list_any p) (sym (take-append-drop a xs)) ∙ append-right p (take a xs) (drop a xs) some
+
+-- where f brings a test to an item only if q holds, so it does to a list
+map_brings : (f : Item → Item) (p : Item → Bool) (q : Bool) → ((x : Item) → p (f x) ≡ true → (p x ≡ true) ⊎ (q ≡ true))
+    → (xs : List Item) → list_any p (map f xs) ≡ true → (list_any p xs ≡ true) ⊎ (q ≡ true)
+map_brings f p q h [] some = inl some
+map_brings f p q h (x ∷ xs) some =
+    elim (or_cases (p (f x)) (list_any p (map f xs)) some) [
+      | inl here ↦ elim (h x here) [
+        | inl there ↦ inl (rw there refl)
+        | inr brought ↦ inr brought
+      ]
+      | inr later ↦ elim (map_brings f p q h xs later) [
+        | inl there ↦ inl (or_right (p x) _ there)
+        | inr brought ↦ inr brought
+      ]
+    ]
+
+pub range_brings : (f : Item → Item) (p : Item → Bool) (q : Bool) → ((x : Item) → p (f x) ≡ true → (p x ≡ true) ⊎ (q ≡ true)) → (a b : ℕ) (xs : List Item)
+    → list_any p (map_range f a b xs) ≡ true → (list_any p xs ≡ true) ⊎ (q ≡ true)
+range_brings f p q h a b xs some =
+    elim (append-cases p (take a xs) _ some) [
+      | inl before ↦ inl (take_in p a xs before)
+      | inr rest ↦ elim (append-cases p (map f (slice_range xs a b)) (drop b xs) rest) [
+        | inl within ↦ elim (map_brings f p q h (slice_range xs a b) within) [
+          | inl there ↦ inl (drop_in p a xs (take_in p (b - a) (drop a xs) there))
+          | inr brought ↦ inr brought
+        ]
+        | inr after ↦ inl (drop_in p b xs after)
+      ]
+    ]
+
+merge_brings_none : (start end flag : ℕ) → IsDefinedFlag flag → (xs : List Item) → some_has flag (merge start end xs) ≡ true → some_has flag xs ≡ true
+merge_brings_none start end flag d xs some =
+    elim (bool_cases (nat_lt (start + 1) end)) [
+      | inl long ↦ elim (range_brings (put_in (least_cluster (slice_range xs start end))) (has_flag flag) false (λ x h. inl (put_in-flag _ flag d x h))
+          (start - growth_left xs start (least_cluster (slice_range xs start end))) (end + growth_right xs (end - 1) (least_cluster (slice_range xs start end))) xs
+          (ap (some_has flag) (sym (merge_long start end xs long)) ∙ some)) [
+            | inl there ↦ there
+            | inr brought ↦ grind (arith, nat_tests)
+          ]
+      | inr short ↦ ap (some_has flag) (sym (merge_short start end xs short)) ∙ some
+    ]
+
+-- a buffer that only has other items, and no new flag on them
+pub KeepsFlags-items : (b : Buffer) (ys : List Item) → ((flag : ℕ) → IsDefinedFlag flag → some_has flag ys ≡ true → some_has flag b.items ≡ true)
+    → KeepsFlags b (record b { items = ys })
+KeepsFlags-items b ys h = record { flags = refl; stays_set = λ e. e; none_new = λ flag d some. inl (h flag d some) }
+
+-- one that has the has-flags bit may have any flag
+KeepsFlags-set : (b : Buffer) (ys : List Item) → KeepsFlags b (record (with_glyph_flags b) { items = ys })
+KeepsFlags-set b ys = record { flags = refl; stays_set = λ e. glyph_flags_set b; none_new = λ flag d some. inr (glyph_flags_set b) }
+
+pub KeepsFlags-same : (b : Buffer) → KeepsFlags b b
+KeepsFlags-same b = record { flags = refl; stays_set = λ e. e; none_new = λ flag d some. inl some }
+
+pub KeepsFlags-then : (a b c : Buffer) → KeepsFlags a b → KeepsFlags b c → KeepsFlags a c
+KeepsFlags-then a b c f g = record {
+  flags = g.flags ∙ f.flags;
+  stays_set = λ e. g.stays_set (f.stays_set e);
+  none_new = λ flag d some. elim (g.none_new flag d some) [
+    | inl there ↦ elim (f.none_new flag d there) [
+      | inl before ↦ inl before
+      | inr set ↦ inr (g.stays_set set)
+    ]
+    | inr set ↦ inr set
+  ];
+}
+
+merge_at_keeps : (start end : ℕ) (b : Buffer) → KeepsFlags b (merge_at start end b)
+merge_at_keeps start end b = KeepsFlags-items b _ (λ flag d some. merge_brings_none start end flag d b.items some)
+
+pub unsafe_to_break_keeps : (start end : ℕ) (b : Buffer) → KeepsFlags b (unsafe_to_break start end b)
+unsafe_to_break_keeps start end b =
+    elim (bool_cases (nat_lt (start + 1) end)) [
+      | inl long ↦ rw long (KeepsFlags-set b _)
+      | inr short ↦ rw short (KeepsFlags-same b)
+    ]
+
+pub unsafe_to_concat_keeps : (start end : ℕ) (b : Buffer) → KeepsFlags b (unsafe_to_concat start end b)
+unsafe_to_concat_keeps start end b =
+    elim (bool_cases (eqb (bit_and b.flags.0 64) 64)) [
+      | inl asked ↦ rw asked (KeepsFlags-set b _)
+      | inr unasked ↦ rw unasked (KeepsFlags-same b)
+    ]
+
+at_level_keeps : (start end : ℕ) (b : Buffer) (level : BufferClusterLevel) → KeepsFlags b (elim level [
+  | MonotoneGraphemes ↦ merge_at start end b
+  | MonotoneCharacters ↦ merge_at start end b
+  | Characters ↦ unsafe_to_break start end b
+])
+at_level_keeps start end b MonotoneGraphemes = merge_at_keeps start end b
+at_level_keeps start end b MonotoneCharacters = merge_at_keeps start end b
+at_level_keeps start end b Characters = unsafe_to_break_keeps start end b
+
+pub merge_clusters_keeps : (start end : ℕ) (b : Buffer) → KeepsFlags b (merge_clusters start end b)
+merge_clusters_keeps start end b = at_level_keeps start end b b.cluster_level
+
+at_level_keeps_out : (start end : ℕ) (b : Buffer) (level : BufferClusterLevel) → KeepsFlags b (elim level [
+  | MonotoneGraphemes ↦ merge_at start end b
+  | MonotoneCharacters ↦ merge_at start end b
+  | Characters ↦ b
+])
+at_level_keeps_out start end b MonotoneGraphemes = merge_at_keeps start end b
+at_level_keeps_out start end b MonotoneCharacters = merge_at_keeps start end b
+at_level_keeps_out start end b Characters = KeepsFlags-same b
+
+pub merge_out_clusters_keeps : (start end : ℕ) (b : Buffer) → KeepsFlags b (merge_out_clusters start end b)
+merge_out_clusters_keeps start end b = at_level_keeps_out start end b b.cluster_level

@@ -1,0 +1,29 @@
+-- What keeps the flags of glyphs.
+use Rattle.std.specs.Prelude.{◌≡◌, ℕ, ◌==◌, ◌⊎◌, Bool, true, nat_lt, List}
+use Rattle.std.specs.Int.RustNames.{bit_and}
+use Rattle.std.specs.List.{list_any}
+use Rattle.shape_buffer.specs.Items.{Item}
+use Rattle.shape_buffer.specs.Buffer.{Buffer}
+
+-- UNSAFE_TO_BREAK, UNSAFE_TO_CONCAT or SAFE_TO_INSERT_TATWEEL
+abbrev pub IsDefinedFlag : ℕ → Type 0
+IsDefinedFlag flag = (flag ≡ 1) ⊎ (flag ≡ 2) ⊎ (flag ≡ 4)
+
+-- the flag stands in the mask
+abbrev pub has_flag : ℕ → Item → Bool
+has_flag flag item = nat_lt 0 (bit_and item.mask flag)
+
+-- the flag stands in some mask
+abbrev pub some_has : ℕ → List Item → Bool
+some_has flag xs = list_any (has_flag flag) xs
+
+-- the has-flags bit is set
+abbrev pub has_glyph_flags : Buffer → Bool
+has_glyph_flags b = bit_and b.scratch_flags.0 32 == 32
+
+-- what Keepers asks of a call: a defined flag that no mask had comes with the has-flags bit, which stays set, and the buffer's flags stay
+pub record KeepsFlags (before after : Buffer) : Type 0 where
+  pub flags : after.flags ≡ before.flags
+  pub stays_set : has_glyph_flags before ≡ true → has_glyph_flags after ≡ true
+  pub none_new : (flag : ℕ) → IsDefinedFlag flag → some_has flag after.items ≡ true
+      → (some_has flag before.items ≡ true) ⊎ (has_glyph_flags after ≡ true)

@@ -1,0 +1,27 @@
+-- Functions of Unicode by which every character is a letter that doesn't split.
+use Rattle.std.specs.Prelude.{◌≡◌, ℕ, false, Option, None, refl}
+use Rattle.shape_buffer.specs.Unicode.{UnicodeMeaning, LawfulUnicode}
+use Rattle.shape_buffer.specs.declared.buffer.general_category.hb_unicode_general_category_t.TheVariants.{OtherLetter}
+
+abbrev pub plain_unicode : UnicodeMeaning
+plain_unicode = record {
+  category = λ _. OtherLetter;
+  class = λ _. 0;
+  split = λ _. None;
+  height = λ _. 0;
+  ignorable = λ _. false;
+  script = λ _. record { 0 = record { 0 = 1517976186 } };
+  script_direction = λ _. None;
+}
+
+pub plain_unicode-lawful : LawfulUnicode plain_unicode
+plain_unicode-lawful = record {
+  marks_have_classes = λ c marked. absurd (marked refl);
+  ascii_is_no_mark = λ c _. refl;
+  splits_fall = record {
+    height_falls = record { falls = λ c a b splits. cc };
+    second_is_last = λ c a b splits. cc;
+    first_class = λ c a b marked. absurd (marked refl);
+    second_class = λ c a b marked. absurd (marked refl);
+  };
+}

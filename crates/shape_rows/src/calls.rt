@@ -1,0 +1,74 @@
+//! Calls on their happy path whose answers no clause of another test shows.
+
+use crate::support::{FaceOf, NoLookups, PlainUnicode};
+use shape_buffer::buffer::{Direction, Feature, Language, Script, UnicodeBuffer, hb_tag_t};
+use shape_buffer::interfaces::{TableIndex, hb_ot_map_builder_t};
+use shape_pipeline::ot_shape_normalize::_hb_ot_shape_normalize;
+use shape_pipeline::ot_shape_plan::hb_ot_shape_plan_t;
+use shape_pipeline::ot_shaper::{DEFAULT_SHAPER, hb_default_shaper_t};
+use std::test::Fail;
+
+#[test]
+fn a_plan_fits_by_direction_and_script(rt: HostRuntime) -> Result<(), Fail> {
+    let alloc = rt.alloc();
+    let face = FaceOf(&['a']);
+    let latin = Some(Script(hb_tag_t::from_bytes(b"Latn")));
+    let language = Language(String::from_str(alloc, "en")?);
+    let feature = Feature {
+        tag: hb_tag_t::from_bytes(b"kern"),
+        value: 0,
+        start: 0,
+        end: u32::MAX,
+    };
+    let plan = hb_ot_shape_plan_t::new::<PlainUnicode, FaceOf<'_>, NoLookups>(
+        alloc,
+        &face,
+        &DEFAULT_SHAPER,
+        Direction::LeftToRight,
+        latin,
+        Some(&language),
+        &[feature],
+    )?;
+    let mut text = UnicodeBuffer::new(alloc);
+    assert!(rt; !plan.fits::<PlainUnicode>(&text), "no script is Unknown");
+    text.set_script(latin);
+    assert!(rt; plan.fits::<PlainUnicode>(&text));
+    text.set_direction(Direction::RightToLeft);
+    assert!(rt; !plan.fits::<PlainUnicode>(&text));
+    assert_eq!(rt; plan.direction(), Direction::LeftToRight);
+    assert_eq!(rt; plan.script(), latin);
+    assert!(rt; plan.shaper().is_some() && plan.data().is_none());
+    let builder = hb_ot_map_builder_t::new::<FaceOf<'_>, NoLookups>(alloc, &face, latin, None);
+    assert!(rt; builder.requests().is_empty() && builder.is_simple());
+    assert_eq!(rt; builder.chosen_script(TableIndex::GPOS), None);
+    Ok(())
+}
+
+#[test]
+fn normalising_keeps_what_is_not_split(rt: HostRuntime) -> Result<(), Fail> {
+    let alloc = rt.alloc();
+    let face = FaceOf(&['a']);
+    let plan = hb_ot_shape_plan_t::new::<PlainUnicode, FaceOf<'_>, NoLookups>(
+        alloc,
+        &face,
+        &DEFAULT_SHAPER,
+        Direction::LeftToRight,
+        None,
+        None,
+        &[],
+    )?;
+    let mut text = UnicodeBuffer::new(alloc);
+    text.push_str("a\u{e9}")?;
+    let mut buffer = text.into_inner();
+    _hb_ot_shape_normalize::<PlainUnicode, FaceOf<'_>, NoLookups, hb_default_shaper_t>(
+        alloc,
+        &plan,
+        &mut buffer,
+        &face,
+    )?;
+    assert_eq!(rt; buffer.len(), 2);
+    for (info, (c, glyph)) in buffer.infos().iter().zip([('a', 0x61), ('\u{e9}', 0)]) {
+        assert_eq!(rt; (info.codepoint, info.glyph_index), (c, glyph));
+    }
+    Ok(())
+}

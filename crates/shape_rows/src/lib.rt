@@ -1,0 +1,11 @@
+//! Tests that cross the crates: texts shaped with faces, functions of Unicode and shapers of the tests'
+//! own, whose answers are worked out by hand.
+#![tactic(auto)]
+#![allow(non_camel_case_types)]
+
+#[cfg(test)]
+mod calls;
+#[cfg(test)]
+mod rows;
+#[cfg(test)]
+mod support;

@@ -1,0 +1,106 @@
+//! Whole runs with the answers that the rules give.
+
+use crate::support::{DeepShaper, EveryGlyph, FaceOf, NoLookups, PlainUnicode, StackedShaper};
+use shape_buffer::buffer::{Direction, GlyphBuffer, ShapeError, ShapeFault, UnicodeBuffer};
+use shape_buffer::interfaces::hb_font_t;
+use shape_pipeline::ot_shape_plan::hb_ot_shape_plan_t;
+use shape_pipeline::ot_shaper::hb_ot_shaper_t;
+use shape_pipeline::shape::shape_with_plan;
+use std::alloc::Global;
+use std::process::Abort;
+use std::test::Fail;
+
+/// Shapes one character, in cluster 7.
+fn shaped<F, S>(
+    alloc: Global,
+    face: &F,
+    shaper: &S,
+    c: char,
+) -> Result<Result<GlyphBuffer, ShapeFault>, Fail>
+where
+    F: hb_font_t,
+    S: hb_ot_shaper_t<PlainUnicode, F, NoLookups, Data = ()>,
+{
+    let mut text = UnicodeBuffer::new(alloc);
+    text.add(c, 7)?;
+    let plan = hb_ot_shape_plan_t::new::<PlainUnicode, F, NoLookups>(
+        alloc,
+        face,
+        shaper,
+        Direction::LeftToRight,
+        None,
+        None,
+        &[],
+    )?;
+    if !plan.fits::<PlainUnicode>(&text) {
+        return Err(Fail::from("the plan doesn't fit"));
+    }
+    Ok(shape_with_plan::<PlainUnicode, F, NoLookups, S>(alloc, face, &plan, text))
+}
+
+fn assert_glyphs(rt: &impl Abort, answer: Result<GlyphBuffer, ShapeFault>, chars: &[char]) {
+    let Ok(glyphs) = answer else {
+        assert!(rt; false, "refused");
+        return;
+    };
+    assert_eq!(rt; glyphs.len(), chars.len());
+    for (info, c) in glyphs.glyph_infos().iter().zip(chars) {
+        assert_eq!(rt; info.codepoint, *c);
+        assert_eq!(rt; info.cluster, 7);
+        assert_eq!(rt; info.glyph_id, info.glyph_index);
+    }
+}
+
+#[test]
+fn greatest_expansion(rt: HostRuntime) -> Result<(), Fail> {
+    let alloc = rt.alloc();
+    let cases: [(&[char], &[char]); 5] = [
+        (
+            &['A', '\u{302}', '\u{301}', '\u{C2}'],
+            &['A', '\u{302}', '\u{301}'],
+        ),
+        (&['\u{301}', '\u{C2}'], &['\u{C2}', '\u{301}']),
+        (&['A', '\u{301}', '\u{C2}'], &['\u{C2}', '\u{301}']),
+        (&['A', '\u{302}', '\u{C2}'], &['\u{1EA4}']),
+        (&[], &['\u{1EA4}']),
+    ];
+    for (face, chars) in cases {
+        assert_glyphs(
+            &rt,
+            shaped(alloc, &FaceOf(face), &StackedShaper, '\u{1EA4}')?,
+            chars,
+        );
+    }
+    Ok(())
+}
+
+#[test]
+fn length_limit(rt: HostRuntime) -> Result<(), Fail> {
+    let alloc = rt.alloc();
+    match shaped(
+        alloc,
+        &EveryGlyph,
+        &DeepShaper { depth: 16383 },
+        '\u{F0000}',
+    )? {
+        Ok(glyphs) => {
+            assert_eq!(rt; glyphs.len(), 16384);
+            assert!(rt; glyphs.glyph_infos().iter().all(|info| info.cluster == 7));
+        }
+        Err(_) => return Err(Fail::from("refused")),
+    }
+    match shaped(
+        alloc,
+        &EveryGlyph,
+        &DeepShaper { depth: 16384 },
+        '\u{F0000}',
+    )? {
+        Ok(_) => return Err(Fail::from("not refused")),
+        Err(fault) => {
+            assert_eq!(rt; fault.cause, ShapeError::Length);
+            assert!(rt; fault.buffer.is_empty());
+            assert_eq!(rt; fault.buffer.direction(), Direction::Invalid);
+        }
+    }
+    Ok(())
+}

@@ -1,0 +1,37 @@
+//! Functions of Unicode by which every character is a letter that doesn't split.
+ghost use Rattle.shape_rows.specs.Plain.{plain_unicode, plain_unicode-lawful};
+
+use shape_buffer::buffer::{Direction, Script};
+use shape_buffer::interfaces::{hb_unicode_funcs_t, hb_unicode_general_category_t};
+
+pub struct PlainUnicode;
+
+impl hb_unicode_funcs_t for PlainUnicode {
+    ghost unicode = { plain_unicode };
+
+    ghost lawful = { plain_unicode-lawful };
+
+    fn general_category(_c: char) -> hb_unicode_general_category_t {
+        hb_unicode_general_category_t::OtherLetter
+    }
+
+    fn modified_combining_class(_c: char) -> u8 {
+        0
+    }
+
+    fn decompose(_c: char) -> Option<(char, char)> {
+        None
+    }
+
+    fn is_default_ignorable(_c: char) -> bool {
+        false
+    }
+
+    fn script(_c: char) -> Script {
+        Script::UNKNOWN
+    }
+
+    fn script_direction(_s: Script) -> Option<Direction> {
+        None
+    }
+}

@@ -1,0 +1,10 @@
+pub mod Category
+pub mod Class
+pub mod Split
+pub mod Ignorable
+pub mod Scripts
+pub mod Meaning
+pub mod Laws
+pub mod Face
+pub mod Words
+pub mod Preferences

@@ -1,0 +1,18 @@
+-- What the program's functions of Unicode answer.
+use Rattle.shape_buffer.specs.Unicode.{UnicodeMeaning}
+use Rattle.shapeline.specs.Category.{category_of}
+use Rattle.shapeline.specs.Class.{class_of}
+use Rattle.shapeline.specs.Split.{split_of, height_of}
+use Rattle.shapeline.specs.Ignorable.{is_ignorable}
+use Rattle.shapeline.specs.Scripts.{script_of, direction_of_script}
+
+abbrev pub unicode_tables : UnicodeMeaning
+unicode_tables = record {
+  category = category_of;
+  class = class_of;
+  split = split_of;
+  height = height_of;
+  ignorable = is_ignorable;
+  script = script_of;
+  script_direction = direction_of_script;
+}

@@ -1,0 +1,195 @@
+//! Lines with what they answer, and runs whose reader or writer fails at one of its calls.
+
+use super::run;
+use std::alloc::Global;
+use std::io;
+use std::io::{BufReader, ErrorKind, Read, Write};
+use std::process::Abort;
+use std::test::Fail;
+
+/// A face for U+1EA4, and for its parts but the last one.
+const PARTS: &[u8] = b"glyph 0041 1 600\nglyph 0302 2 0\nglyph 00C2 4 600\n";
+
+/// The same with the last part.
+const FACE: &[u8] = b"glyph 0041 1 600\nglyph 0302 2 0\nglyph 0301 3 0\nglyph 00C2 4 600\n";
+
+/// Runs the program on two inputs in a row, and compares its status and its output.
+fn expect_run(
+    rt: &impl Abort,
+    alloc: Global,
+    first: &[u8],
+    rest: &[u8],
+    status: u8,
+    output: &[u8],
+) {
+    let mut written: Vec<u8> = Vec::new(alloc);
+    let answer = run(alloc, first.chain(rest), &mut written);
+    assert_eq!(rt; written.as_slice(), output, "for {rest:?}");
+    assert_eq!(rt; answer, status, "for {rest:?}");
+}
+
+#[test]
+fn texts(rt: HostRuntime) {
+    let cases: [(&[u8], &[u8], &[u8]); 8] = [
+        (
+            FACE,
+            b"mode 1\ntext 1EA4\n",
+            b"normal 0041@0 0302@0 0301@0\n",
+        ),
+        (PARTS, b"mode 1\ntext 1EA4\n", b"normal 1EA4@0\n"),
+        (FACE, b"text\n", b"normal\n"),
+        (
+            FACE,
+            b"text 0041 5d0 0302 1F600 41",
+            b"normal 0041@0 05D0@1 0302@3 1F600@5 0041@9\n",
+        ),
+        (
+            FACE,
+            b"  text   41  301 \r\n# text 41\n#\xC3\x82\r\n\n  \r\ntext 41\r",
+            b"normal 0041@0 0301@1\nnormal 0041@0\n",
+        ),
+        (FACE, b"face 1000\ntext 1EA4\n", b"normal 1EA4@0\n"),
+        (
+            PARTS,
+            b"glyph 000301 065535 -2147483648\ntext 1EA4\n",
+            b"normal 0041@0 0302@0 0301@0\n",
+        ),
+        (
+            FACE,
+            b"face 65535\nglyph 212B 0 2147483647\nglyph C5 0 -0\nmode 01\ntext 212B\n",
+            b"normal 00C5@0\n",
+        ),
+    ];
+    for (face, lines, output) in cases {
+        expect_run(&rt, rt.alloc(), face, lines, 0, output);
+    }
+}
+
+#[test]
+fn malformed_lines(rt: HostRuntime) {
+    let lines: [&[u8]; 26] = [
+        b"text 110000",
+        b"text D800",
+        b"text +41",
+        b"text 0000041",
+        b"text 41 g",
+        b"text 41\r\r\n",
+        b"text\t41",
+        b"mode",
+        b"mode 5",
+        b"mode -1",
+        b"mode 1 1",
+        b"glyph 61 65536 1",
+        b"glyph 61 +1 1",
+        b"glyph 61 1 +1",
+        b"glyph 61 1 --1",
+        b"glyph 61 1 -",
+        b"glyph 61 1 2147483648",
+        b"glyph 61 1 -2147483649",
+        b"glyph 61 1",
+        b"glyph 61 1 1 1",
+        b"face 0",
+        b"face 65536",
+        b"face",
+        b"word",
+        b"# \xFF",
+        b"Text 41",
+    ];
+    for line in lines {
+        expect_run(
+            &rt,
+            rt.alloc(),
+            b"\n# two\n text\n",
+            line,
+            2,
+            b"normal\nerror: line 4\n",
+        );
+    }
+}
+
+/// A reader that fails at one of its calls.
+#[derive(Drop)]
+struct FailingReader<'a> {
+    rest: &'a [u8],
+    calls: u32,
+    fails_at: u32,
+}
+
+impl Read for FailingReader<'_> {
+    fn read(&mut self, buf: &mut [u8]) -> io::Result<usize> {
+        self.calls = self.calls.saturating_add(1);
+        if self.calls == self.fails_at {
+            return Err(ErrorKind::Other.into());
+        }
+        self.rest.read(buf)
+    }
+}
+
+/// A writer that fails at one of its calls, and counts them.
+#[derive(Drop)]
+struct FailingWriter {
+    written: Vec<u8>,
+    calls: u32,
+    fails_at: u32,
+}
+
+impl Write for FailingWriter {
+    fn write(&mut self, buf: &[u8]) -> io::Result<usize> {
+        self.calls = self.calls.saturating_add(1);
+        if self.calls == self.fails_at {
+            return Err(ErrorKind::Other.into());
+        }
+        self.written.write(buf)
+    }
+
+    fn flush(&mut self) -> io::Result<()> {
+        Ok(())
+    }
+}
+
+#[test]
+fn reads_fail(rt: HostRuntime) -> Result<(), Fail> {
+    let alloc = rt.alloc();
+    for fails_at in 1..100u32 {
+        let reader = FailingReader {
+            rest: FACE,
+            calls: 0,
+            fails_at,
+        };
+        let reader = BufReader::with_capacity(alloc, 8, reader)?;
+        let mut written: Vec<u8> = Vec::new(alloc);
+        let status = run(alloc, reader, &mut written);
+        if status == 0 {
+            assert!(rt; fails_at > 8 && written.is_empty());
+            return Ok(());
+        }
+        assert_eq!(rt; status, 1, "at {fails_at}");
+        assert_eq!(rt;
+            written.as_slice(),
+            b"error: input\n".as_slice(),
+            "at {fails_at}"
+        );
+    }
+    Err(Fail::from("no run was whole"))
+}
+
+#[test]
+fn writes_fail(rt: HostRuntime) -> Result<(), Fail> {
+    let alloc = rt.alloc();
+    for fails_at in 1..100u32 {
+        let mut writer = FailingWriter {
+            written: Vec::new(alloc),
+            calls: 0,
+            fails_at,
+        };
+        let status = run(alloc, &b"text 41\ntext\nword\n"[..], &mut writer);
+        if writer.calls < fails_at {
+            assert_eq!(rt; status, 2);
+            assert!(rt; fails_at > 3);
+            return Ok(());
+        }
+        assert_eq!(rt; status, 1, "at {fails_at}");
+        assert_eq!(rt; writer.calls, fails_at, "more is written");
+    }
+    Err(Fail::from("no run was whole"))
+}

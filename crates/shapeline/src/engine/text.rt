@@ -1,0 +1,89 @@
+//! The line `text C ..`: shapes the characters, and prints what became of them.
+
+use crate::engine::Outcome;
+use crate::face::Face;
+use crate::no_lookups::NoLookups;
+use crate::parse::{Words, character};
+use crate::preferring::{Decomposed, Preferring};
+use crate::unicode_tables::UnicodeTables;
+use shape_buffer::buffer::{GlyphBuffer, ShapeError, UnicodeBuffer};
+use shape_pipeline::ot_shape_plan::hb_ot_shape_plan_t;
+use shape_pipeline::shape::shape_with_plan;
+use std::alloc::{AllocError, Global};
+use std::io::Write;
+
+/// The shaper of the one mode.
+type Shaper = Preferring<Decomposed>;
+
+/// Shapes a text and writes its answer, or the number of the refusal.
+pub fn answer<W: Write>(alloc: Global, face: &Face, words: Words, writer: &mut W) -> Outcome {
+    if text_len(words).is_none() {
+        return Outcome::Malformed;
+    }
+    let written = match normal_line(alloc, face, words) {
+        Ok(line) => writer.write_all(line.as_bytes()),
+        Err(ShapeError::Memory) => writer.write_all(b"refused 1\n"),
+        Err(ShapeError::Length) => writer.write_all(b"refused 2\n"),
+    };
+    match written {
+        Ok(()) => Outcome::Done,
+        Err(_) => Outcome::WriteFailed,
+    }
+}
+
+/// How many bytes a text takes in UTF-8, where each word is a character and 32 bits can count them. Takes
+/// no memory, so that a malformed text is malformed however little there is.
+fn text_len(mut words: Words) -> Option<u32> {
+    words.try_fold(0u32, |len, word| {
+        len.checked_add(character(word)?.len_utf8() as u32)
+    })
+}
+
+/// A text whose clusters are byte offsets in UTF-8.
+fn filled(alloc: Global, words: Words) -> Result<UnicodeBuffer, ShapeError> {
+    let mut buffer = UnicodeBuffer::new(alloc);
+    let mut offset: u32 = 0;
+    for c in words.filter_map(character) {
+        buffer.add(c, offset)?;
+        offset = offset.saturating_add(c.len_utf8() as u32);
+    }
+    Ok(buffer)
+}
+
+/// Shapes a text under a plan of its own.
+fn shaped(alloc: Global, face: &Face, text: UnicodeBuffer) -> Result<GlyphBuffer, ShapeError> {
+    let shaper = Shaper::new();
+    let direction = text.as_inner().guessed_direction::<UnicodeTables>();
+    let script = text.as_inner().guessed_script::<UnicodeTables>();
+    let plan = hb_ot_shape_plan_t::new::<UnicodeTables, Face, NoLookups>(
+        alloc,
+        face,
+        &shaper,
+        direction,
+        script,
+        None,
+        &[],
+    )?;
+    match shape_with_plan::<UnicodeTables, Face, NoLookups, Shaper>(alloc, face, &plan, text) {
+        Ok(glyphs) => Ok(glyphs),
+        Err(fault) => Err(fault.cause),
+    }
+}
+
+/// The line that answers a text.
+fn normal_line(alloc: Global, face: &Face, words: Words) -> Result<String, ShapeError> {
+    let glyphs = shaped(alloc, face, filled(alloc, words)?)?;
+    Ok(printed(alloc, "normal", &glyphs)?)
+}
+
+/// A line of the characters of the items, each with its cluster.
+fn printed(alloc: Global, name: &str, glyphs: &GlyphBuffer) -> Result<String, AllocError> {
+    let mut line = String::from_str(alloc, name)?;
+    for info in glyphs.glyph_infos() {
+        let code = u32::from(info.codepoint);
+        let cluster = info.cluster;
+        write!(line, " {code:04X}@{cluster}")?;
+    }
+    line.push('\n')?;
+    Ok(line)
+}

@@ -1,0 +1,105 @@
+//! Shapers that differ from the default one in how they normalise, and in nothing else.
+//!
+//! The way to normalise is a type, since a shaper's preference is a constant.
+ghost use Rattle.std.specs.Prelude.{◌≤ℤ◌, ℤ, true, false, None, pos, refl};
+ghost use Rattle.std.proofs.Common.{rules};
+ghost use Rattle.shape_pipeline.specs.Shapers.{plain_constants, no_hooks, plain_constants-lawful, no_hooks-owed};
+
+use shape_buffer::buffer::hb_tag_t;
+use shape_buffer::interfaces::{hb_font_t, hb_ot_layout_t, hb_unicode_funcs_t};
+use shape_pipeline::ot_shape_plan::hb_ot_shape_plan_t;
+use shape_pipeline::ot_shaper::{HB_OT_SHAPE_ZERO_WIDTH_MARKS_BY_GDEF_LATE, hb_ot_shaper_t};
+use std::marker::PhantomData;
+
+/// A way to normalise, as a type.
+pub trait Preference {
+    ghost PREFERENCE: { ℤ };
+
+    /// The mode of normalising, 0 to 4.
+    const PREFERENCE: i32;
+
+    ghost low: { pos 0 ≤ℤ PREFERENCE };
+
+    ghost high: { PREFERENCE ≤ℤ pos 4 };
+}
+
+/// Every character is split as far as the face allows, and nothing is composed.
+pub struct Decomposed;
+
+impl Preference for Decomposed {
+    ghost use Rattle.shapeline.specs.Preferences.{decomposed_is_low, decomposed_is_high};
+
+    ghost PREFERENCE = { pos 1 };
+
+    const PREFERENCE: i32 = 1;
+
+    ghost low = { decomposed_is_low };
+
+    ghost high = { decomposed_is_high };
+}
+
+/// The default shaper with the preference `T`, and not as the default one.
+#[derive(Drop)]
+pub struct Preferring<T> {
+    preference: PhantomData<T>,
+}
+
+impl<T> Preferring<T> {
+    /// The one value of the type.
+    pub fn new() -> Preferring<T> {
+        Preferring {
+            preference: PhantomData,
+        }
+    }
+}
+
+impl<T: Preference, U: hb_unicode_funcs_t, F: hb_font_t, M: hb_ot_layout_t<F>> hb_ot_shaper_t<
+    U,
+    F,
+    M,
+> for Preferring<T> {
+    type Data = ();
+
+    ghost constants = { plain_constants false T.PREFERENCE 2 true };
+
+    ghost hooks = { λ _ _ _. no_hooks U.unicode };
+
+    ghost IS_DEFAULT = { false };
+
+    ghost NORMALIZATION_PREFERENCE = { T.PREFERENCE };
+
+    ghost GPOS_TAG = { None };
+
+    ghost ZERO_WIDTH_MARKS = { 2 };
+
+    ghost FALLBACK_POSITION = { true };
+
+    ghost HAS_DECOMPOSE = { false };
+
+    const IS_DEFAULT: bool = false;
+
+    const NORMALIZATION_PREFERENCE: i32 = T::PREFERENCE;
+
+    const GPOS_TAG: Option<hb_tag_t> = None;
+
+    const ZERO_WIDTH_MARKS: u32 = HB_OT_SHAPE_ZERO_WIDTH_MARKS_BY_GDEF_LATE;
+
+    const FALLBACK_POSITION: bool = true;
+
+    const HAS_DECOMPOSE: bool = false;
+
+    ghost constants_agree = { refl };
+
+    fn decompose(
+        &self,
+        _plan: &hb_ot_shape_plan_t<'_, Self, M::Map, ()>,
+        _face: &F,
+        c: char,
+    ) -> Option<(char, char)> {
+        U::decompose(c)
+    }
+
+    ghost lawful_constants = { plain_constants-lawful false T.PREFERENCE 2 true T.low T.high (Prim.search rules) };
+
+    ghost lawful_hooks = { λ _ _ _. no_hooks-owed U.lawful };
+}

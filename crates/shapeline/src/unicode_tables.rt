@@ -1,0 +1,52 @@
+//! The program's functions of Unicode: categories and scripts of the Unicode Character Database, and
+//! small tables for everything else.
+//!
+//! A file for each property. No proof knows the value of a category, so the laws may not rest on one:
+//! where a law speaks of marks, the function asks for the category as it runs. A class counts only for
+//! a mark, a mark splits only into marks, and an ASCII character would be no mark whatever the database
+//! said. On these tables none of the tests changes an answer.
+
+mod category;
+mod class;
+mod ignorable;
+mod script;
+mod split;
+
+use shape_buffer::buffer::{Direction, Script};
+use shape_buffer::interfaces::{hb_unicode_funcs_t, hb_unicode_general_category_t};
+
+/// The program's functions of Unicode.
+pub struct UnicodeTables;
+
+impl hb_unicode_funcs_t for UnicodeTables {
+    ghost use Rattle.shapeline.specs.Laws.{unicode_tables-lawful};
+    ghost use Rattle.shapeline.specs.Meaning.{unicode_tables};
+
+    ghost unicode = { unicode_tables };
+
+    ghost lawful = { unicode_tables-lawful };
+
+    fn general_category(c: char) -> hb_unicode_general_category_t {
+        category::general_category(c)
+    }
+
+    fn modified_combining_class(c: char) -> u8 {
+        class::modified_combining_class(c)
+    }
+
+    fn decompose(c: char) -> Option<(char, char)> {
+        split::decompose(c)
+    }
+
+    fn is_default_ignorable(c: char) -> bool {
+        ignorable::is_default_ignorable(c)
+    }
+
+    fn script(c: char) -> Script {
+        script::script(c)
+    }
+
+    fn script_direction(s: Script) -> Option<Direction> {
+        script::script_direction(s)
+    }
+}
