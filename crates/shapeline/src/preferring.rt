@@ -23,19 +23,65 @@ pub trait Preference {
     ghost high: { PREFERENCE ≤ℤ pos 4 };
 }
 
+/// A character is split only where the face lacks it, and then no further than the face asks for.
+pub struct Shortest;
+
+impl Preference for Shortest {
+    ghost use Rattle.shapeline.specs.Preferences.{at_least_none, at_most_auto};
+
+    ghost PREFERENCE = { pos 0 };
+
+    const PREFERENCE: i32 = 0;
+
+    ghost low = { at_least_none 0 };
+
+    ghost high = { at_most_auto 0 refl };
+}
+
 /// Every character is split as far as the face allows, and nothing is composed.
 pub struct Decomposed;
 
 impl Preference for Decomposed {
-    ghost use Rattle.shapeline.specs.Preferences.{decomposed_is_low, decomposed_is_high};
+    ghost use Rattle.shapeline.specs.Preferences.{at_least_none, at_most_auto};
 
     ghost PREFERENCE = { pos 1 };
 
     const PREFERENCE: i32 = 1;
 
-    ghost low = { decomposed_is_low };
+    ghost low = { at_least_none 1 };
 
-    ghost high = { decomposed_is_high };
+    ghost high = { at_most_auto 1 refl };
+}
+
+/// A character with marks behind it is split as far as the face allows, and composed with them again;
+/// every other one is split only where the face lacks it.
+pub struct ComposedDiacritics;
+
+impl Preference for ComposedDiacritics {
+    ghost use Rattle.shapeline.specs.Preferences.{at_least_none, at_most_auto};
+
+    ghost PREFERENCE = { pos 2 };
+
+    const PREFERENCE: i32 = 2;
+
+    ghost low = { at_least_none 2 };
+
+    ghost high = { at_most_auto 2 refl };
+}
+
+/// Every character is split as far as the face allows, and composed again with the marks behind it.
+pub struct ComposedDiacriticsNoShortCircuit;
+
+impl Preference for ComposedDiacriticsNoShortCircuit {
+    ghost use Rattle.shapeline.specs.Preferences.{at_least_none, at_most_auto};
+
+    ghost PREFERENCE = { pos 3 };
+
+    const PREFERENCE: i32 = 3;
+
+    ghost low = { at_least_none 3 };
+
+    ghost high = { at_most_auto 3 refl };
 }
 
 /// The default shaper with the preference `T`, and not as the default one.

@@ -15,6 +15,8 @@ mod script;
 mod selector;
 mod space;
 mod split;
+#[cfg(test)]
+mod tests;
 
 use shape_buffer::buffer::{Direction, Script};
 use shape_buffer::interfaces::space_types::space_t;
