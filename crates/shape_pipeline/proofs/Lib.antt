@@ -1,5 +1,6 @@
 pub mod StepLemmas
 pub mod RulesLemmas
+pub mod ReorderLemmas
 pub mod PieceLemmas
 pub mod RoundOneLemmas
 pub mod SpanLemmas

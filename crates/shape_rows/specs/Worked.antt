@@ -1,5 +1,5 @@
 -- The definitions, computed on small cases whose answers are worked out by hand.
-use Rattle.std.specs.Prelude.{◌≡◌, ℕ, ◌==◌, ◌||◌, Bool, true, false, if◌then◌else◌, List, [], ◌∷◌, Option, Some, None, refl}
+use Rattle.std.specs.Prelude.{◌≡◌, ℕ, ◌==◌, ◌||◌, Bool, true, false, if◌then◌else◌, [], ◌∷◌, Some, None, refl}
 use Rattle.shape_buffer.specs.Buffer.{run_limit}
 use Rattle.shape_buffer.specs.Chain.{chain_point, second_part, full}
 use Rattle.shape_buffer.specs.Expansion.{expansion, choice}
