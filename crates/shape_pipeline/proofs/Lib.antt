@@ -9,3 +9,4 @@ pub mod NormalizedLemmas
 pub mod PreparedLemmas
 pub mod NormalFormLemmas
 pub mod OrderedLemmas
+pub mod CanonicalFormLemmas

@@ -12,6 +12,7 @@ ghost use Rattle.shape_pipeline.specs.Plan.{hooks_of};
 ghost use Rattle.shape_pipeline.specs.Rules.{rules_of};
 ghost use Rattle.shape_pipeline.specs.RoundOne.{round_one};
 ghost use Rattle.shape_pipeline.specs.RoundTwo.{has_mark_past_first as has_mark_past_first_of};
+ghost use Rattle.shape_pipeline.specs.CanonicalForm.{NormalizesCanonically};
 ghost use Rattle.shape_pipeline.specs.Normalized.{normalized, BroughtInHaveGlyphs};
 
 mod decompose;
@@ -50,6 +51,8 @@ where
         (rules_of U.unicode S.constants.has_decompose (hooks_of S.hooks plan.now face.now) (F.face face.now)) buffer.old) }
     ensures brought_in { OnOk result (BroughtInHaveGlyphs (F.face face.now).nominal_glyph
         (map char_of buffer.old.items) (map char_of buffer.new.items)) }
+    ensures canonical_form { OnOk result (NormalizesCanonically
+        (rules_of U.unicode S.constants.has_decompose (hooks_of S.hooks plan.now face.now) (F.face face.now)) buffer.old buffer.new) }
     ensures within { OnOk result (length buffer.new.items ≤ limit_of buffer.old) }
     ensures counted { OnOk result (length (round_one
         (rules_of U.unicode S.constants.has_decompose (hooks_of S.hooks plan.now face.now) (F.face face.now)) buffer.old).items ≤ limit_of buffer.old) }
