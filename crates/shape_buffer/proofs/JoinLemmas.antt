@@ -1,5 +1,5 @@
 -- Neighbours that share a cluster: merging makes them, and parts none of those before its span.
-use Rattle.std.proofs.Common.{◌≡◌, ℕ, zero, suc, ◌+◌, ◌-◌, ◌<◌, ◌≤◌, Bool, true, false, ◌==◌, nat_lt, List, length, get_or, take, map, refl, sym, ap, ◌∙◌, arith, slice_range, slice_index, inl, inr}
+use Rattle.std.proofs.Common.{◌≡◌, ℕ, zero, suc, ◌+◌, ◌-◌, ◌<◌, ◌≤◌, Bool, true, false, ◌==◌, nat_lt, List, length, get_or, take, refl, sym, ap, ◌∙◌, arith, slice_range, slice_index, inl, inr}
 use Rattle.std.proofs.lemmas.Bool.{cases_Bool, cases_eq, cases_order, both_ways}
 use Rattle.std.proofs.lemmas.Bool.Decides.{nat_tests}
 use Rattle.std.proofs.lemmas.List.{get_or-map, length-map}
@@ -8,7 +8,7 @@ use Rattle.std.specs.List.{suffix_len}
 use Rattle.shape_buffer.specs.Items.{Item, new_item, has_cluster, class_of_item}
 use Rattle.shape_buffer.specs.Clusters.{clusters, merge, least_cluster, growth_left, growth_right}
 use Rattle.shape_buffer.proofs.ClusterLemmas.{merge_short, merge_long}
-use Rattle.shape_buffer.proofs.KeyLemmas.{IsKey, keys-merge}
+use Rattle.shape_buffer.proofs.KeyLemmas.{IsKey-class_of_item, keys-merge}
 use Rattle.shape_buffer.proofs.MergeOrder.{growth_right-within, put_range_below, put_range_inside}
 
 -- the cluster of the item at a place
@@ -18,9 +18,6 @@ cluster_at xs k = get_or (clusters xs) k 0
 -- the item at a place and the next one share a cluster
 abbrev pub Joined : List Item → ℕ → Type 0
 Joined xs k = cluster_at xs k ≡ cluster_at xs (k + 1)
-
-IsKey-class_of_item : IsKey class_of_item
-IsKey-class_of_item = record { by_cluster = λ item cluster. refl; by_break = λ item. refl }
 
 pub length-merge : (start end : ℕ) (xs : List Item) → length (merge start end xs) ≡ length xs
 length-merge start end xs =

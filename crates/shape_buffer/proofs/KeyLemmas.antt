@@ -97,6 +97,9 @@ char_and_class item = (char_of item, class_of_item item)
 pub IsKey-char_and_class : IsKey char_and_class
 IsKey-char_and_class = record { by_cluster = λ item cluster. refl; by_break = λ item. refl }
 
+pub IsKey-class_of_item : IsKey class_of_item
+IsKey-class_of_item = record { by_cluster = λ item cluster. refl; by_break = λ item. refl }
+
 -- an item without its cluster and its defined flags
 abbrev pub unflagged : Item → Item
 unflagged item = record item { cluster = 0; mask = feature_bits item.mask }

@@ -5,5 +5,5 @@ pub mod RoundOneLemmas
 pub mod PreparedLemmas
 pub mod NormalFormLemmas
 pub mod OrderedLemmas
-pub mod SpanLemmas
+pub mod RunClusterLemmas
 pub mod ClusterOrderLemmas
