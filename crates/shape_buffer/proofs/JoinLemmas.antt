@@ -8,7 +8,7 @@ use Rattle.std.specs.List.{suffix_len}
 use Rattle.shape_buffer.specs.Items.{Item, new_item, has_cluster, class_of_item}
 use Rattle.shape_buffer.specs.Clusters.{clusters, merge, least_cluster, growth_left, growth_right}
 use Rattle.shape_buffer.proofs.ClusterLemmas.{merge_short, merge_long}
-use Rattle.shape_buffer.proofs.KeyLemmas.{IsKey-class_of_item, keys-merge}
+use Rattle.shape_buffer.proofs.KeyLemmas.{IsKey-class, keys-merge}
 use Rattle.shape_buffer.proofs.MergeOrder.{growth_right-within, put_range_below, put_range_inside}
 
 -- the cluster of the item at a place
@@ -21,7 +21,7 @@ Joined xs k = cluster_at xs k ≡ cluster_at xs (k + 1)
 
 pub length-merge : (start end : ℕ) (xs : List Item) → length (merge start end xs) ≡ length xs
 length-merge start end xs =
-    sym (length-map (merge start end xs) class_of_item) ∙ ap length (keys-merge class_of_item IsKey-class_of_item start end xs) ∙ length-map xs class_of_item
+    sym (length-map (merge start end xs) class_of_item) ∙ ap length (keys-merge class_of_item IsKey-class start end xs) ∙ length-map xs class_of_item
 
 -- from this place on to the end each item passes, and the one before it doesn't
 record PassesFrom (p : Item → Bool) (xs : List Item) (d : Item) (from end : ℕ) : Type 0 where

@@ -1,4 +1,4 @@
--- What goes by neither clusters nor the defined flags: merging keeps it, and ordering goes by it.
+-- What goes by neither clusters nor the defined flags: merging keeps it, and ordering goes by it. Merging keeps the settings too.
 use Rattle.std.proofs.Common.{◌≡◌, ℕ, ◌+◌, ◌-◌, ◌<◌, ◌≤◌, Bool, true, false, if◌then◌else◌, ◌==◌, ◌&&◌, bit_or, nat_lt, List, [], ◌∷◌, ◌++◌, map, take, drop, slice_range, refl, sym, ap, ap₂, ◌∙◌, arith, inl, inr}
 use Rattle.std.proofs.lemmas.Bool.{cases_Bool}
 use Rattle.std.proofs.lemmas.Bool.Decides.{nat_tests}
@@ -6,7 +6,7 @@ use Rattle.std.proofs.lemmas.Nat.{and_assoc, and_or_apart}
 use Rattle.std.proofs.lemmas.List.{map-append, take-append-drop}
 use Rattle.std.proofs.lemmas.List.Folds.{drop_split}
 use Rattle.shape_buffer.proofs.ClusterLemmas.{merge_short, merge_long}
-use Rattle.shape_buffer.specs.Buffer.{Buffer}
+use Rattle.shape_buffer.specs.Buffer.{Buffer, cleared}
 use Rattle.shape_buffer.specs.BufferClusters.{merge_clusters, merge_at, unsafe_to_break}
 use Rattle.shape_buffer.specs.Clusters.{map_range, merge, mark_break, least_cluster, growth_left, growth_right}
 use Rattle.shape_buffer.specs.Items.{Item, char_of, class_of_item, put_in, feature_bits}
@@ -97,8 +97,8 @@ char_and_class item = (char_of item, class_of_item item)
 pub IsKey-char_and_class : IsKey char_and_class
 IsKey-char_and_class = record { by_cluster = λ item cluster. refl; by_break = λ item. refl }
 
-pub IsKey-class_of_item : IsKey class_of_item
-IsKey-class_of_item = record { by_cluster = λ item cluster. refl; by_break = λ item. refl }
+pub IsKey-class : IsKey class_of_item
+IsKey-class = record { by_cluster = λ item cluster. refl; by_break = λ item. refl }
 
 -- an item without its cluster and its defined flags
 abbrev pub unflagged : Item → Item
@@ -109,3 +109,18 @@ IsKey-unflagged = record {
   by_cluster = λ item cluster. ap (λ mask. record item { cluster = 0; mask = mask }) (and_assoc 4294967288 item.mask 4294967288);
   by_break = λ item. ap (λ mask. record item { cluster = 0; mask = mask }) (and_or_apart 4294967288 item.mask 3 refl);
 }
+
+-- ---- the settings
+
+cleared-unsafe_to_break : (start end : ℕ) (b : Buffer) → cleared (unsafe_to_break start end b) ≡ cleared b
+cleared-unsafe_to_break start end b =
+    elim (cases_Bool (nat_lt (start + 1) end)) [ inl long ↦ rw long refl | inr short ↦ rw short refl ]
+
+-- merging keeps the settings that clearing keeps
+pub cleared-merge_clusters : (start end : ℕ) (b : Buffer) → cleared (merge_clusters start end b) ≡ cleared b
+cleared-merge_clusters start end b = at_level b.cluster_level
+  where
+    at_level : (level : BufferClusterLevel) → cleared (elim level as (λ v. Buffer) [ MonotoneGraphemes ↦ merge_at start end b | MonotoneCharacters ↦ merge_at start end b | Characters ↦ unsafe_to_break start end b ]) ≡ cleared b
+    at_level MonotoneGraphemes = refl
+    at_level MonotoneCharacters = refl
+    at_level Characters = cleared-unsafe_to_break start end b

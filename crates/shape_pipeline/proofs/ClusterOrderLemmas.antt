@@ -1,5 +1,5 @@
 -- Normalising keeps the order of clusters at the monotone levels, and brings no new one.
-use Rattle.std.proofs.Common.{◌≡◌, ℕ, ◌+◌, ◌-◌, ◌≤◌, Bool, true, false, if◌then◌else◌, ◌==◌, ◌&&◌, nat_le, List, [], ◌∷◌, ◌++◌, map, Option, None, Some, refl, sym, ap, ap₂, subst, ◌∙◌, arith, inl, inr, bit_and}
+use Rattle.std.proofs.Common.{◌≡◌, ℕ, ◌+◌, ◌-◌, ◌≤◌, Bool, true, false, if◌then◌else◌, ◌==◌, nat_le, List, [], ◌∷◌, ◌++◌, map, Option, None, Some, refl, sym, ap, subst, ◌∙◌, arith, inl, inr}
 use Rattle.std.proofs.lemmas.Bool.{cases_Bool}
 use Rattle.std.proofs.lemmas.List.{map-append}
 use Rattle.std.specs.List.{AllByRecursion, fold}
@@ -14,10 +14,12 @@ use Rattle.shape_buffer.specs.declared.buffer.settings.BufferClusterLevel.{Buffe
 use Rattle.shape_buffer.specs.declared.buffer.settings.BufferClusterLevel.TheVariants.{MonotoneGraphemes, MonotoneCharacters, Characters}
 use Rattle.shape_buffer.proofs.DrawsInOrder.{DrawsInOrder-same, DrawsInOrder-then, DrawsInOrder-behind, DrawsInOrder-again, KeepsClusters-from_draws}
 use Rattle.shape_buffer.proofs.KeyLemmas.{unflagged, IsKey-unflagged}
+use Rattle.shape_pipeline.proofs.JoinerLemmas.{keys-joiners_settled}
 use Rattle.shape_pipeline.proofs.OrderedLemmas.{marks_ordered_settles}
 use Rattle.shape_pipeline.proofs.RunClusterLemmas.{merged_spans, run_draws}
 use Rattle.shape_pipeline.specs.RoundOne.{part_item, whole_item, expanded_item, expanded, expansion_of, round_one}
-use Rattle.shape_pipeline.specs.RoundTwo.{max_run, runs_from, runs, spans, run_classes, run_settled, marks_ordered, has_mark_past_first, keeps_nothing_apart, joiner_shown, joiners_shown_after, joiners_shown, joiners_settled}
+use Rattle.shape_pipeline.specs.RoundTwo.{max_run, runs_from, runs, spans, run_classes, run_settled, marks_ordered, has_mark_past_first, joiners_settled}
+use Rattle.shape_pipeline.specs.Normalized.{normalized}
 use Rattle.shape_pipeline.specs.Rules.{Rules}
 
 -- ---- round one
@@ -107,39 +109,19 @@ marks_ordered_keeps b monotone = KeepsClusters-from_draws _ _ (marks_ordered_dra
 pub marks_ordered_keeps_features : (b : Buffer) → AreRunsSettled class_of_item max_run [] (map unflagged b.items) (map unflagged (marks_ordered b).items)
 marks_ordered_keeps_features b = marks_ordered_settles unflagged IsKey-unflagged class_of_item (λ item. refl) b
 
--- ---- joiners
-
-cluster-joiner : (before item after : Item) → (joiner_shown before item after).cluster ≡ item.cluster
-cluster-joiner before item after =
-    elim (item.codepoint == 0x34F && keeps_nothing_apart before after) as (λ t. (if t then record item { properties = record item.properties { hidden = false } } else item).cluster ≡ item.cluster) [ true ↦ refl | false ↦ refl ]
-
-clusters-joiners_after : (before : Item) (items : List Item) → clusters (joiners_shown_after before items) ≡ clusters items
-clusters-joiners_after before [] = refl
-clusters-joiners_after before (item ∷ []) = refl
-clusters-joiners_after before (item ∷ after ∷ rest) = ap₂ ◌∷◌ (cluster-joiner before item after) (clusters-joiners_after item (after ∷ rest))
-
-clusters-joiners : (items : List Item) → clusters (joiners_shown items) ≡ clusters items
-clusters-joiners [] = refl
-clusters-joiners (item ∷ items) = ap (λ l. item.cluster ∷ l) (clusters-joiners_after item items)
-
--- showing joiners changes no cluster
-pub joiners_settled_clusters : (b : Buffer) → clusters (joiners_settled b).items ≡ clusters b.items
-joiners_settled_clusters b =
-    elim (bit_and b.scratch_flags.0 8 == 8) as (λ t. clusters (if t then record b { items = joiners_shown b.items } else b).items ≡ clusters b.items) [
-      | true ↦ clusters-joiners b.items
-      | false ↦ refl
-    ]
-
 -- ---- the rounds together
 
 ordered_if_draws : (marked : Bool) (b : Buffer) → IsMonotoneLevel b.cluster_level → DrawsInOrder (clusters b.items) (clusters (if marked then marks_ordered b else b).items)
 ordered_if_draws true b monotone = marks_ordered_draws b monotone
 ordered_if_draws false b monotone = DrawsInOrder-same (clusters b.items)
 
--- normalising keeps the order of clusters, and brings no new one
-pub normalising_keeps : (rules : Rules) (b : Buffer) → IsMonotoneLevel b.cluster_level
-    → KeepsClusters (clusters b.items) (clusters (joiners_settled (if has_mark_past_first b.items then marks_ordered (round_one rules b) else round_one rules b)).items)
-normalising_keeps rules b monotone =
+-- showing joiners changes no cluster
+pub joiners_settled_clusters : (b : Buffer) → clusters (joiners_settled b).items ≡ clusters b.items
+joiners_settled_clusters b = keys-joiners_settled (λ item. item.cluster) (λ item. refl) b
+
+-- normalising keeps the order of clusters at the monotone levels, and brings no new one
+pub normalized_keeps : (rules : Rules) (b : Buffer) → IsMonotoneLevel b.cluster_level → KeepsClusters (clusters b.items) (clusters (normalized rules b).items)
+normalized_keeps rules b monotone =
     let ordered : Buffer = if has_mark_past_first b.items then marks_ordered (round_one rules b) else round_one rules b in
     rw (joiners_settled_clusters ordered)
     (KeepsClusters-from_draws _ _ (DrawsInOrder-then _ _ _ (expanded_draws rules b.items) (ordered_if_draws (has_mark_past_first b.items) (round_one rules b) monotone)))

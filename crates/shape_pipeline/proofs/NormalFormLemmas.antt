@@ -1,5 +1,5 @@
 -- The ordered list of a prepared text: it is equivalent to the text, canonical where glyphs and runs allow it, and tells equivalent texts.
-use Rattle.std.proofs.Common.{◌≡◌, ◌↔◌, ℕ, true, false, if◌then◌else◌, ◌==◌, ◌&&◌, List, [], ◌∷◌, map, refl, sym, ◌∙◌, ap, ap₂, subst, bit_and}
+use Rattle.std.proofs.Common.{◌≡◌, ◌↔◌, ℕ, false, List, [], ◌∷◌, map, refl, sym, ◌∙◌, ap, subst}
 use Rattle.std.specs.List.{AllByRecursion}
 use Rattle.shape_buffer.proofs.ExpandedLemmas.{expanded-plain}
 use Rattle.shape_buffer.proofs.KeyLemmas.{IsKey}
@@ -15,11 +15,12 @@ use Rattle.shape_buffer.specs.Laws.{IsWhollySupported, IsDecomposed}
 use Rattle.shape_buffer.specs.Runs.{AreRunsSettled}
 use Rattle.shape_buffer.specs.Unicode.{UnicodeMeaning, LawfulUnicode, SplitsFall, is_mark}
 use Rattle.shape_buffer.specs.declared.buffer.general_category.hb_unicode_general_category_t.{hb_unicode_general_category_t}
+use Rattle.shape_pipeline.proofs.JoinerLemmas.{keys-joiners_settled, chars-joiners_settled}
 use Rattle.shape_pipeline.proofs.OrderedLemmas.{marks_ordered_settles}
 use Rattle.shape_pipeline.proofs.PreparedLemmas.{ArePrepared, prepared-expanded}
 use Rattle.shape_pipeline.proofs.RoundOneLemmas.{chars-expanded, longest_choice}
 use Rattle.shape_pipeline.specs.RoundOne.{round_one}
-use Rattle.shape_pipeline.specs.RoundTwo.{max_run, marks_ordered, joiner_shown, joiners_shown_after, joiners_shown, joiners_settled, keeps_nothing_apart}
+use Rattle.shape_pipeline.specs.RoundTwo.{max_run, marks_ordered, joiners_settled}
 use Rattle.shape_pipeline.specs.Rules.{Rules, has_glyph}
 
 -- what being prepared goes by: the character, the class and the category
@@ -64,32 +65,10 @@ prepared-ordered unicode b h =
     (AreRunsSettled-swaps (λ (face : Face). face.1.0) max_run [] (map face_of b.items) (map face_of (marks_ordered b).items) (marks_ordered_settles face_of IsKey-face_of (λ (face : Face). face.1.0) (λ item. refl) b))
     (prepared_faces unicode b.items h))
 
--- a joiner that is shown keeps its character, class and category
-face-joiner : (before item after : Item) → face_of (joiner_shown before item after) ≡ face_of item
-face-joiner before item after =
-    elim (item.codepoint == 0x34F && keeps_nothing_apart before after) as (λ t. face_of (if t then record item { properties = record item.properties { hidden = false } } else item) ≡ face_of item) [ true ↦ refl | false ↦ refl ]
-
-faces-joiners_after : (before : Item) (items : List Item) → map face_of (joiners_shown_after before items) ≡ map face_of items
-faces-joiners_after before [] = refl
-faces-joiners_after before (item ∷ []) = refl
-faces-joiners_after before (item ∷ after ∷ rest) = ap₂ ◌∷◌ (face-joiner before item after) (faces-joiners_after item (after ∷ rest))
-
-faces-joiners : (items : List Item) → map face_of (joiners_shown items) ≡ map face_of items
-faces-joiners [] = refl
-faces-joiners (first ∷ rest) = ap (λ l. face_of first ∷ l) (faces-joiners_after first rest)
-
-faces-joiners_settled : (b : Buffer) → map face_of (joiners_settled b).items ≡ map face_of b.items
-faces-joiners_settled b =
-    elim (bit_and b.scratch_flags.0 8 == 8) as (λ t. map face_of (if t then record b { items = joiners_shown b.items } else b).items ≡ map face_of b.items) [ true ↦ faces-joiners b.items | false ↦ refl ]
-
--- settling the joiners changes no character, and the buffer stays prepared
-pub chars-joiners_settled : (b : Buffer) → map char_of (joiners_settled b).items ≡ map char_of b.items
-chars-joiners_settled b =
-    sym (chars_of_faces (joiners_settled b).items) ∙ ap (map (λ (face : Face). face.0)) (faces-joiners_settled b) ∙ chars_of_faces b.items
-
+-- settling the joiners keeps the buffer prepared
 pub prepared-joiners_settled : (unicode : UnicodeMeaning) (b : Buffer) → ArePrepared unicode b.items → ArePrepared unicode (joiners_settled b).items
 prepared-joiners_settled unicode b h =
-    prepared_from_faces unicode (joiners_settled b).items (subst (AllByRecursion (IsPreparedFace unicode)) (sym (faces-joiners_settled b)) (prepared_faces unicode b.items h))
+    prepared_from_faces unicode (joiners_settled b).items (subst (AllByRecursion (IsPreparedFace unicode)) (sym (keys-joiners_settled face_of (λ item. refl) b)) (prepared_faces unicode b.items h))
 
 module _ (rules : Rules) (lawful : LawfulUnicode rules.unicode) (splits : SplitsFall rules.split rules.height rules.unicode.class) where
   -- the characters of a prepared buffer, expanded and with its marks in order

@@ -1,22 +1,16 @@
 -- What round one makes of a list.
-use Rattle.std.proofs.Common.{◌≡◌, ℕ, suc, ◌⊎◌, inl, inr, true, false, List, [], ◌∷◌, ◌++◌, length, map, Option, None, Some, unwrap_or, refl, ◌∙◌, ap, ap₂, arith}
+use Rattle.std.proofs.Common.{◌≡◌, ℕ, suc, ◌⊎◌, inl, inr, true, false, List, [], ◌∷◌, ◌++◌, map, Option, None, Some, unwrap_or, refl, ◌∙◌, ap, ap₂, arith}
 use Rattle.std.specs.List.{All, Contains, flat_map}
 use Rattle.std.specs.Option.{option_map_or}
 use Rattle.std.proofs.lemmas.List.{map-append}
 use Rattle.std.proofs.lemmas.List.Elements.{All-append, All-contains_itself}
 use Rattle.shape_buffer.specs.Items.{Item, char_of}
-use Rattle.shape_buffer.specs.Buffer.{Buffer}
 use Rattle.shape_buffer.specs.Choice.{HasGlyphOrIs}
 use Rattle.shape_buffer.specs.Expansion.{choice}
-use Rattle.shape_buffer.specs.declared.buffer.positions.GlyphPosition.{GlyphPosition}
-use Rattle.shape_buffer.specs.Unicode.{UnicodeMeaning}
-use Rattle.shape_buffer.specs.UnicodeProps.{with_unicode_props}
 use Rattle.shape_buffer.proofs.ChoiceLemmas.{choice_glyphs}
 use Rattle.shape_pipeline.specs.Rules.{Rules, has_glyph}
 use Rattle.shape_pipeline.specs.RoundOne.{part_item, whole_item, expanded_item, expanded, expansion_of}
-use Rattle.shape_pipeline.specs.Normalized.{normalized, BroughtInHaveGlyphs}
-use Rattle.shape_pipeline.specs.Steps.{with_mapped_glyph, glyphs_mapped}
-use Rattle.shape_pipeline.specs.Shaped.{prepared}
+use Rattle.shape_pipeline.specs.Normalized.{BroughtInHaveGlyphs}
 
 -- what a character becomes when its longest supported expansion is asked for
 abbrev pub longest_choice : Rules → ℕ → List ℕ
@@ -56,34 +50,3 @@ module _ (rules : Rules) where
   -- every character that the expanded list brings in has a glyph
   pub expanded_brings_in : (items : List Item) → BroughtInHaveGlyphs rules.glyph (map char_of items) (map char_of (expanded rules items))
   expanded_brings_in items = rw (chars-expanded items) (all_fine (map char_of items) (map char_of items) (All-contains_itself (map char_of items)))
-
-  same_when_empty : (b : Buffer) (items : List Item) (positions : List GlyphPosition) → length items ≡ 0 → length positions ≡ 0 →
-      record b { items = items; positions = positions } ≡ normalized rules (record b { items = items; positions = positions })
-  same_when_empty b [] [] none as_many = refl
-  same_when_empty b [] (p ∷ ps) none as_many = absurd (omega arith)
-  same_when_empty b (x ∷ xs) positions none as_many = absurd (omega arith)
-
-  -- an empty buffer is normalised
-  pub empty_is_normalized : (b : Buffer) → length b.items ≡ 0 → length b.positions ≡ 0 → b ≡ normalized rules b
-  empty_is_normalized b none as_many = same_when_empty b b.items b.positions none as_many
-
-  pub normalized_brings_in : (b new : Buffer) → new ≡ normalized rules b → BroughtInHaveGlyphs rules.glyph (map char_of b.items) (map char_of new.items)
-  normalized_brings_in b new is = rw is (expanded_brings_in b.items)
-
--- ---- the run
-
-chars-mapped : (items : List Item) → map char_of (map with_mapped_glyph items) ≡ map char_of items
-chars-mapped [] = refl
-chars-mapped (item ∷ items) = ap (λ rest. item.codepoint ∷ rest) (chars-mapped items)
-
-chars-with_props : (unicode : UnicodeMeaning) (items : List Item) → map char_of (map (with_unicode_props unicode) items) ≡ map char_of items
-chars-with_props unicode [] = refl
-chars-with_props unicode (item ∷ items) = ap (λ rest. item.codepoint ∷ rest) (chars-with_props unicode items)
-
--- every character that a run brings in has a glyph
-pub run_brings_in : (rules : Rules) (b glyphs : Buffer) → glyphs ≡ glyphs_mapped (normalized rules (prepared rules.unicode b)) → BroughtInHaveGlyphs rules.glyph (map char_of b.items) (map char_of glyphs.items)
-run_brings_in rules b glyphs is =
-    let text = prepared rules.unicode b in
-    let before : map char_of text.items ≡ map char_of b.items = chars-with_props rules.unicode b.items in
-    let after : map char_of glyphs.items ≡ map char_of (normalized rules text).items = ap (λ (g : Buffer). map char_of g.items) is ∙ chars-mapped (normalized rules text).items in
-    rw (after, ← before) (normalized_brings_in rules text (normalized rules text) refl)

@@ -4,7 +4,7 @@ pub mod Shapers
 pub mod Steps
 pub mod Rules
 pub mod RoundOne
+pub mod RoundTwo
 pub mod Normalized
 pub mod Shaped
 pub mod Prepared
-pub mod RoundTwo

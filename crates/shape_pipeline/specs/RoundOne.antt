@@ -1,5 +1,5 @@
 -- Round one of normalising: each item becomes the items of its character's expansion.
-use Rattle.std.specs.Prelude.{◌≡◌, ◌⊎◌, ℕ, true, false, List, [], ◌∷◌, map, fold, replicate, length, All, Contains, Option, unwrap_or}
+use Rattle.std.specs.Prelude.{ℕ, false, List, [], ◌∷◌, map, fold, replicate, length, Option, unwrap_or}
 use Rattle.std.specs.Option.{option_map, option_map_or}
 use Rattle.std.specs.List.{flat_map}
 use Rattle.shape_buffer.specs.Items.{Item}

@@ -3,28 +3,38 @@
 //! A character may be spelled in several ways, and a face rarely has glyphs for all of them. So each
 //! character is expanded along the chain of its splits, where its first part may split again, and so on;
 //! the characters of some point of the chain are put in its place, if the face has glyphs for all of
-//! them. A shaper may bring splits of its own (UAX 15; The Unicode Standard, D68 and D107).
+//! them. A shaper may bring splits of its own. The marks behind a character are then put in one order,
+//! so that spellings of one text become one list (UAX 15; The Unicode Standard, D68 and D107 to D109).
 ghost use Rattle.std.specs.Prelude.{◌≡◌, ◌<◌, ◌≤◌, [], length, map, IsOk, OnOk, OnErr, Err};
 ghost use Rattle.shape_buffer.specs.Buffer.{cleared, limit_of};
 ghost use Rattle.shape_buffer.specs.Items.{char_of};
 ghost use Rattle.shape_pipeline.specs.Plan.{hooks_of};
 ghost use Rattle.shape_pipeline.specs.Rules.{rules_of};
+ghost use Rattle.shape_pipeline.specs.RoundOne.{round_one};
+ghost use Rattle.shape_pipeline.specs.RoundTwo.{has_mark_past_first as has_mark_past_first_of};
 ghost use Rattle.shape_pipeline.specs.Normalized.{normalized, BroughtInHaveGlyphs};
 
 mod decompose;
+mod joiners;
 mod round_one;
+mod round_two;
 
+use crate::ot_shape_normalize::joiners::show_joiners;
 use crate::ot_shape_normalize::round_one::expand_all;
+use crate::ot_shape_normalize::round_two::order_runs;
 use crate::ot_shape_plan::hb_ot_shape_plan_t;
 use crate::ot_shaper::hb_ot_shaper_t;
-use shape_buffer::buffer::{ShapeError, hb_buffer_t};
+use shape_buffer::buffer::{ShapeError, hb_buffer_t, hb_glyph_info_t};
 use shape_buffer::interfaces::{hb_font_t, hb_ot_layout_t, hb_unicode_funcs_t};
 use std::alloc::Global;
 
 /// Makes the list of a buffer the normalised one, at positions of zeros: each item becomes the items of
-/// its character's longest expansion that the face has glyphs for. Refuses with `Length` where that list
-/// is longer than the buffer's limit, and with `Memory` where a growth was refused; after a refusal the
-/// buffer is cleared. An empty buffer is left as it is, and no memory is taken.
+/// its character's longest expansion that the face has glyphs for. Where a mark stood past the first
+/// item as normalising began, each run of at most 32 marks is put in the order of their classes, and the
+/// clusters of the spans that this moves are merged. Joiners that keep nothing apart are shown. Refuses
+/// with `Length` where the expanded list is longer than the buffer's limit, and with `Memory` where a
+/// growth was refused; after a refusal the buffer is cleared. An empty buffer is left as it is, and no
+/// memory is taken.
 pub fn _hb_ot_shape_normalize<U, F, M, S>(
     alloc: Global,
     plan: &hb_ot_shape_plan_t<'_, S, M::Map, S::Data>,
@@ -41,8 +51,10 @@ where
     ensures brought_in { OnOk result (BroughtInHaveGlyphs (F.face face.now).nominal_glyph
         (map char_of buffer.old.items) (map char_of buffer.new.items)) }
     ensures within { OnOk result (length buffer.new.items ≤ limit_of buffer.old) }
+    ensures counted { OnOk result (length (round_one
+        (rules_of U.unicode S.constants.has_decompose (hooks_of S.hooks plan.now face.now) (F.face face.now)) buffer.old).items ≤ limit_of buffer.old) }
 
-    ensures length { result ≡ Err ShapeError.Length → limit_of buffer.old < length (normalized
+    ensures length { result ≡ Err ShapeError.Length → limit_of buffer.old < length (round_one
         (rules_of U.unicode S.constants.has_decompose (hooks_of S.hooks plan.now face.now) (F.face face.now)) buffer.old).items }
     ensures cleared { OnErr result (buffer.new ≡ cleared buffer.old) }
     ensures empty { buffer.old.items ≡ [] → IsOk result }
@@ -50,11 +62,50 @@ where
     if buffer.len() == 0 {
         return Ok(());
     }
-    let outcome = expand::<U, F, M, S>(alloc, plan, buffer, face);
+    let outcome = run_rounds::<U, F, M, S>(alloc, plan, buffer, face);
     if outcome.is_err() {
         buffer.reset();
     }
     outcome
+}
+
+/// Expands the items, puts marks in order where there are any past the first item, and shows joiners.
+fn run_rounds<U, F, M, S>(
+    alloc: Global,
+    plan: &hb_ot_shape_plan_t<'_, S, M::Map, S::Data>,
+    buffer: &mut hb_buffer_t,
+    face: &F,
+) -> Result<(), ShapeError>
+where
+    U: hb_unicode_funcs_t,
+    F: hb_font_t,
+    M: hb_ot_layout_t<F>,
+    S: hb_ot_shaper_t<U, F, M>,
+    ensures ok { OnOk result (buffer.new ≡ normalized
+        (rules_of U.unicode S.constants.has_decompose (hooks_of S.hooks plan.now face.now) (F.face face.now)) buffer.old) }
+    ensures counted { OnOk result (length (round_one
+        (rules_of U.unicode S.constants.has_decompose (hooks_of S.hooks plan.now face.now) (F.face face.now)) buffer.old).items ≤ limit_of buffer.old) }
+    ensures length { result ≡ Err ShapeError.Length → limit_of buffer.old < length (round_one
+        (rules_of U.unicode S.constants.has_decompose (hooks_of S.hooks plan.now face.now) (F.face face.now)) buffer.old).items }
+    ensures settings { OnErr result (cleared buffer.new ≡ cleared buffer.old) }
+{
+    let has_marks = has_mark_past_first(buffer.infos());
+    expand::<U, F, M, S>(alloc, plan, buffer, face)?;
+    if has_marks {
+        order_runs(alloc, buffer)?;
+    }
+    show_joiners(buffer);
+    Ok(())
+}
+
+/// Whether a mark stands past the first item.
+fn has_mark_past_first(infos: &[hb_glyph_info_t]) -> bool
+    ensures { result ≡ has_mark_past_first_of infos.now }
+{
+    infos
+        .iter()
+        .skip(1)
+        .any(|info| info._hb_glyph_info_is_unicode_mark())
 }
 
 /// Puts what the items become in their place; a refusal leaves them as they were.
@@ -69,10 +120,10 @@ where
     F: hb_font_t,
     M: hb_ot_layout_t<F>,
     S: hb_ot_shaper_t<U, F, M>,
-    ensures ok { OnOk result (buffer.new ≡ normalized
+    ensures ok { OnOk result (buffer.new ≡ round_one
         (rules_of U.unicode S.constants.has_decompose (hooks_of S.hooks plan.now face.now) (F.face face.now)) buffer.old) }
     ensures within { OnOk result (length buffer.new.items ≤ limit_of buffer.old) }
-    ensures length { result ≡ Err ShapeError.Length → limit_of buffer.old < length (normalized
+    ensures length { result ≡ Err ShapeError.Length → limit_of buffer.old < length (round_one
         (rules_of U.unicode S.constants.has_decompose (hooks_of S.hooks plan.now face.now) (F.face face.now)) buffer.old).items }
     ensures err { OnErr result (buffer.new ≡ buffer.old) }
 {

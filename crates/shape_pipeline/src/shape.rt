@@ -4,7 +4,8 @@ ghost use Rattle.shape_buffer.specs.Buffer.{cleared, run_limit};
 ghost use Rattle.shape_buffer.specs.Items.{char_of};
 ghost use Rattle.shape_pipeline.specs.Plan.{Fits, hooks_of};
 ghost use Rattle.shape_pipeline.specs.Rules.{rules_of};
-ghost use Rattle.shape_pipeline.specs.Normalized.{normalized, BroughtInHaveGlyphs};
+ghost use Rattle.shape_pipeline.specs.RoundOne.{round_one};
+ghost use Rattle.shape_pipeline.specs.Normalized.{BroughtInHaveGlyphs};
 ghost use Rattle.shape_pipeline.specs.Shaped.{prepared, shaped};
 
 use crate::ot_shape::{map_glyphs_fast, set_unicode_props};
@@ -17,7 +18,7 @@ use std::alloc::Global;
 
 /// The glyphs of a text by a plan that fits it, with clusters that lead back to the text; positions are
 /// zeros. Script and direction are guessed where they aren't set. Refuses with `Length` where the
-/// normalised list is longer than the run's limit, and with `Memory` where a growth was refused; the
+/// expanded list is longer than the run's limit, and with `Memory` where a growth was refused; the
 /// fault holds the cleared buffer. An empty text gives an empty result and takes no memory.
 pub fn shape_with_plan<U, F, M, S>(
     alloc: Global,
@@ -36,8 +37,10 @@ where
     ensures brought_in { IfOk result (λ glyphs. BroughtInHaveGlyphs (F.face face.now).nominal_glyph
         (map char_of buffer.items) (map char_of glyphs.items)) }
     ensures within { IfOk result (λ glyphs. length glyphs.items ≤ run_limit (length buffer.items)) }
+    ensures counted { IfOk result (λ _. length (round_one
+        (rules_of U.unicode S.constants.has_decompose (hooks_of S.hooks plan.now face.now) (F.face face.now)) (prepared U.unicode buffer)).items ≤ run_limit (length buffer.items)) }
 
-    ensures length { IfErr result (λ fault. fault.cause ≡ ShapeError.Length → run_limit (length buffer.items) < length (normalized
+    ensures length { IfErr result (λ fault. fault.cause ≡ ShapeError.Length → run_limit (length buffer.items) < length (round_one
         (rules_of U.unicode S.constants.has_decompose (hooks_of S.hooks plan.now face.now) (F.face face.now)) (prepared U.unicode buffer)).items) }
     ensures cleared { IfErr result (λ fault. fault.buffer ≡ cleared buffer) }
     ensures empty { buffer.items ≡ [] → IsOk result }

@@ -1,3 +1,4 @@
 pub mod Plain
 pub mod Faces
 pub mod Splitting
+pub mod Worked

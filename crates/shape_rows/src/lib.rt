@@ -9,3 +9,4 @@ mod calls;
 mod rows;
 #[cfg(test)]
 mod support;
+pub mod worked;

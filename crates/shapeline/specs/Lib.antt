@@ -8,3 +8,4 @@ pub mod Laws
 pub mod Face
 pub mod Words
 pub mod Preferences
+pub mod Text

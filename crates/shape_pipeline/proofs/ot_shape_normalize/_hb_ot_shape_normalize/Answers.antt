@@ -2,7 +2,7 @@ use Rattle.std.proofs.Common.{arith}
 use Rattle.std.proofs.lemmas.Result.{on_ok_weaker}
 use Rattle.shape_pipeline.specs.Plan.{hooks_of}
 use Rattle.shape_pipeline.specs.Rules.{rules_of}
-use Rattle.shape_pipeline.proofs.RoundOneLemmas.{empty_is_normalized, normalized_brings_in}
+use Rattle.shape_pipeline.proofs.NormalizedLemmas.{empty_is_normalized, normalized_brings_in, within_normalized}
 use Rattle.shape_pipeline.proofs.ot_shape_normalize._hb_ot_shape_normalize.Goals as goal
 
 pub returns-then-len-eq0-clause-ok : goal.returns-then-len-eq0-clause-ok
@@ -15,4 +15,11 @@ pub returns-else-is_err-clause-brought_in : goal.returns-else-is_err-clause-brou
 returns-else-is_err-clause-brought_in g c =
     let shaper = g.S.hb_ot_shaper_t in
     let rules = rules_of g.U.hb_unicode_funcs_t.unicode shaper.constants.has_decompose (hooks_of shaper.hooks c.args.plan.now c.args.face.now) (g.F.hb_font_t.face c.args.face.now) in
-    on_ok_weaker c.expand-outcome.result (normalized_brings_in rules c.args.buffer.now c.expand-outcome.new.buffer) c.expand-outcome.ensures.ok
+    on_ok_weaker c.run_rounds-outcome.result (normalized_brings_in rules c.args.buffer.now c.run_rounds-outcome.new.buffer) c.run_rounds-outcome.ensures.ok
+
+pub returns-else-is_err-clause-within : goal.returns-else-is_err-clause-within
+returns-else-is_err-clause-within g c =
+    let shaper = g.S.hb_ot_shaper_t in
+    let rules = rules_of g.U.hb_unicode_funcs_t.unicode shaper.constants.has_decompose (hooks_of shaper.hooks c.args.plan.now c.args.face.now) (g.F.hb_font_t.face c.args.face.now) in
+    let made = c.run_rounds-outcome.ensures in
+    within_normalized rules c.args.buffer.now c.run_rounds-outcome.new.buffer c.run_rounds-outcome.result _ made.ok made.counted

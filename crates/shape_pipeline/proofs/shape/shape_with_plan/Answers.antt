@@ -1,10 +1,10 @@
-use Rattle.std.proofs.Common.{◌≡◌, rules}
+use Rattle.std.proofs.Common.{◌≡◌, ◌<◌, length, rules, ◌∙◌, arith}
 use Rattle.shape_pipeline.specs.Plan.{hooks_of}
 use Rattle.shape_pipeline.specs.Rules.{rules_of}
 use Rattle.shape_pipeline.specs.Normalized.{normalized}
 use Rattle.shape_pipeline.specs.Steps.{glyphs_mapped}
 use Rattle.shape_pipeline.specs.Shaped.{prepared}
-use Rattle.shape_pipeline.proofs.RoundOneLemmas.{run_brings_in}
+use Rattle.shape_pipeline.proofs.NormalizedLemmas.{run_brings_in, shaped_of_any}
 use Rattle.shape_pipeline.proofs.shape.shape_with_plan.Goals as goal
 
 pub returns-in-Ok-clause-brought_in : goal.returns-in-Ok-clause-brought_in
@@ -14,3 +14,12 @@ returns-in-Ok-clause-brought_in g c =
     let planned = rules_of unicode shaper.constants.has_decompose (hooks_of shaper.hooks c.args.plan.now c.args.face.now) (g.F.hb_font_t.face c.args.face.now) in
     let made : c.into_glyphs-in-Ok.result ≡ glyphs_mapped (normalized planned (prepared unicode c.args.buffer)) = search rules in
     run_brings_in planned c.args.buffer c.into_glyphs-in-Ok.result made
+
+pub returns-in-Ok-clause-glyphs : goal.returns-in-Ok-clause-glyphs
+returns-in-Ok-clause-glyphs g c =
+    let unicode = g.U.hb_unicode_funcs_t.unicode in
+    let shaper = g.S.hb_ot_shaper_t in
+    let planned = rules_of unicode shaper.constants.has_decompose (hooks_of shaper.hooks c.args.plan.now c.args.face.now) (g.F.hb_font_t.face c.args.face.now) in
+    let made : c.into_glyphs-in-Ok.result ≡ glyphs_mapped (normalized planned (prepared unicode c.args.buffer)) = search rules in
+    let any : 0 < length c.args.buffer.items = grind arith in
+    made ∙ shaped_of_any planned c.args.buffer any
