@@ -10,3 +10,5 @@ pub mod PreparedLemmas
 pub mod NormalFormLemmas
 pub mod OrderedLemmas
 pub mod CanonicalFormLemmas
+pub mod RunClusterLemmas
+pub mod ClusterOrderLemmas
