@@ -13,13 +13,17 @@ use Rattle.shape_buffer.specs.Runs.{AreRunsSettled}
 use Rattle.shape_buffer.specs.declared.buffer.settings.BufferClusterLevel.{BufferClusterLevel}
 use Rattle.shape_buffer.specs.declared.buffer.settings.BufferClusterLevel.TheVariants.{MonotoneGraphemes, MonotoneCharacters, Characters}
 use Rattle.shape_buffer.proofs.DrawsInOrder.{DrawsInOrder-same, DrawsInOrder-then, DrawsInOrder-behind, DrawsInOrder-again, KeepsClusters-from_draws}
-use Rattle.shape_buffer.proofs.KeyLemmas.{unflagged, IsKey-unflagged}
+use Rattle.shape_buffer.proofs.KeyLemmas.{IsKey, unflagged, IsKey-unflagged}
 use Rattle.shape_pipeline.proofs.JoinerLemmas.{keys-joiners_settled}
 use Rattle.shape_pipeline.proofs.OrderedLemmas.{marks_ordered_settles}
 use Rattle.shape_pipeline.proofs.RunClusterLemmas.{merged_spans, run_draws}
 use Rattle.shape_pipeline.specs.RoundOne.{part_item, whole_item, expanded_item, expanded, expansion_of, round_one}
-use Rattle.shape_pipeline.specs.RoundTwo.{max_run, runs_from, runs, spans, run_classes, run_settled, marks_ordered, has_mark_past_first, joiners_settled}
+use Rattle.shape_pipeline.specs.RoundTwo.{max_run, runs_from, runs, spans, run_classes, run_settled, marks_ordered, has_mark_past_first, joiners_settled, unplaced, OrdersMarks}
+use Rattle.shape_buffer.specs.Unicode.{UnicodeMeaning}
+use Rattle.shape_buffer.specs.UnicodeProps.{with_unicode_props}
 use Rattle.shape_pipeline.specs.Normalized.{normalized}
+use Rattle.shape_pipeline.specs.Shaped.{prepared}
+use Rattle.shape_pipeline.specs.Steps.{with_mapped_glyph, glyphs_mapped}
 use Rattle.shape_pipeline.specs.Rules.{Rules}
 
 -- ---- round one
@@ -125,3 +129,41 @@ normalized_keeps rules b monotone =
     let ordered : Buffer = if has_mark_past_first b.items then marks_ordered (round_one rules b) else round_one rules b in
     rw (joiners_settled_clusters ordered)
     (KeepsClusters-from_draws _ _ (DrawsInOrder-then _ _ _ (expanded_draws rules b.items) (ordered_if_draws (has_mark_past_first b.items) (round_one rules b) monotone)))
+
+-- ---- what is kept of the items
+
+abbrev without_hidden : Item → Item
+without_hidden item = record item { properties = record item.properties { hidden = false } }
+
+IsKey-unplaced : IsKey unplaced
+IsKey-unplaced = record {
+  by_cluster = λ item cluster. ap without_hidden (IsKey-unflagged.by_cluster item cluster);
+  by_break = λ item. ap without_hidden (IsKey-unflagged.by_break item);
+}
+
+-- with a mark past the first item, the normalised list is the expanded one with its runs settled
+normalized_orders_marks : (rules : Rules) (b : Buffer) → has_mark_past_first b.items ≡ true → OrdersMarks (round_one rules b).items (normalized rules b).items
+normalized_orders_marks rules b marked =
+    let one : Buffer = round_one rules b in
+    let ordered : (normalized rules b).items ≡ (joiners_settled (marks_ordered one)).items = ap (λ t. (joiners_settled (if t then marks_ordered one else one)).items) marked in
+    rw (ordered, keys-joiners_settled unplaced (λ item. refl) (marks_ordered one))
+    (marks_ordered_settles unplaced IsKey-unplaced class_of_item (λ item. refl) one)
+
+pub normalized_orders : (rules : Rules) (b new : Buffer) → new ≡ normalized rules b → has_mark_past_first b.items ≡ true → OrdersMarks (round_one rules b).items new.items
+normalized_orders rules b new is marked = rw is (normalized_orders_marks rules b marked)
+
+-- a run keeps the order of clusters too
+pub run_keeps : (rules : Rules) (old new : Buffer) → IsMonotoneLevel old.cluster_level → new ≡ glyphs_mapped (normalized rules (prepared rules.unicode old)) → KeepsClusters (clusters old.items) (clusters new.items)
+run_keeps rules old new monotone is =
+    let text = prepared rules.unicode old in
+    let before : clusters text.items ≡ clusters old.items = clusters-with_props rules.unicode old.items in
+    let after : clusters new.items ≡ clusters (normalized rules text).items = ap (λ (b : Buffer). clusters b.items) is ∙ clusters-mapped (normalized rules text).items in
+    rw (after, ← before) (normalized_keeps rules text monotone)
+  where
+    clusters-mapped : (items : List Item) → clusters (map with_mapped_glyph items) ≡ clusters items
+    clusters-mapped [] = refl
+    clusters-mapped (item ∷ items) = ap (λ l. item.cluster ∷ l) (clusters-mapped items)
+
+    clusters-with_props : (unicode : UnicodeMeaning) (items : List Item) → clusters (map (with_unicode_props unicode) items) ≡ clusters items
+    clusters-with_props unicode [] = refl
+    clusters-with_props unicode (item ∷ items) = ap (λ l. item.cluster ∷ l) (clusters-with_props unicode items)

@@ -7,6 +7,7 @@ use Rattle.shape_pipeline.specs.Normalized.{normalized}
 use Rattle.shape_pipeline.specs.Steps.{glyphs_mapped}
 use Rattle.shape_pipeline.specs.Shaped.{prepared}
 use Rattle.shape_pipeline.proofs.CanonicalFormLemmas.{ShapesCanonically-run, ShapesCanonically-none}
+use Rattle.shape_pipeline.proofs.ClusterOrderLemmas.{run_keeps}
 use Rattle.shape_pipeline.proofs.NormalizedLemmas.{run_brings_in, shaped_of_any}
 use Rattle.shape_pipeline.proofs.shape.shape_with_plan.Goals as goal
 
@@ -43,3 +44,11 @@ returns-then-len-eq0-clause-canonical_form g c =
     let guessed_now : c.into_glyphs.result ≡ guessed unicode c.args.buffer = search rules in
     let none : length c.args.buffer.items ≡ 0 = grind arith in
     ShapesCanonically-none planned g.met.U.hb_unicode_funcs_t.lawful c.args.buffer c.into_glyphs.result none (ap (λ (b : Buffer). b.items) guessed_now)
+
+pub returns-in-Ok-clause-clusters : goal.returns-in-Ok-clause-clusters
+returns-in-Ok-clause-clusters g c = λ monotone.
+    let unicode = g.U.hb_unicode_funcs_t.unicode in
+    let shaper = g.S.hb_ot_shaper_t in
+    let planned = rules_of unicode shaper.constants.has_decompose (hooks_of shaper.hooks c.args.plan.now c.args.face.now) (g.F.hb_font_t.face c.args.face.now) in
+    let made : c.into_glyphs-in-Ok.result ≡ glyphs_mapped (normalized planned (prepared unicode c.args.buffer)) = search rules in
+    run_keeps planned c.args.buffer c.into_glyphs-in-Ok.result monotone made
