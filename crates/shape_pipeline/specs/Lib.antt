@@ -1,5 +1,6 @@
 pub mod Plan
 pub mod Shaper
+pub mod Reorder
 pub mod Shapers
 pub mod Steps
 pub mod Rules

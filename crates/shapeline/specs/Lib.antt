@@ -1,7 +1,10 @@
 pub mod Category
 pub mod Class
 pub mod Split
+pub mod Join
+pub mod Spaces
 pub mod Ignorable
+pub mod Selector
 pub mod Scripts
 pub mod Meaning
 pub mod Laws
