@@ -1,6 +1,7 @@
 pub mod ClusterLemmas
 pub mod DrawsInOrder
 pub mod MergeOrder
+pub mod JoinLemmas
 pub mod FlagLemmas
 pub mod FillLemmas
 pub mod TextLemmas

@@ -10,3 +10,6 @@ pub mod NormalizedLemmas
 pub mod PreparedLemmas
 pub mod NormalFormLemmas
 pub mod OrderedLemmas
+pub mod CanonicalFormLemmas
+pub mod RunClusterLemmas
+pub mod ClusterOrderLemmas

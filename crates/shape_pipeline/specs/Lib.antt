@@ -9,3 +9,4 @@ pub mod RoundTwo
 pub mod Normalized
 pub mod Shaped
 pub mod Prepared
+pub mod CanonicalForm
