@@ -24,3 +24,4 @@ pub mod NormaliseLemmas
 pub mod LawLemmas
 pub mod DeleteLemmas
 pub mod DeleteKeeps
+pub mod UnwrittenLemmas
