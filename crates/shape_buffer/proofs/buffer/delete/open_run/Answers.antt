@@ -1,0 +1,22 @@
+use Rattle.std.proofs.Common.{rules, ◌≡◌, ◌+◌, ◌<◌, ◌≤◌, List, [], ◌∷◌, ◌++◌, length, take, drop, Bool, ℕ, ◌-◌, ◌*◌, ◌/◌, ◌%◌, true, false, nat_eq, nat_lt, slice_index_or, slice_set, bit_and, bit_or, Fits, w8, w32, w64, Bor, MutBor}
+use Rattle.std.specs.Fn.{FnReturnsAt}
+use Rattle.shape_buffer.specs.Items.{Item}
+use Rattle.shape_buffer.specs.Buffer.{Buffer}
+use Rattle.shape_buffer.specs.BufferClusters.{merge_clusters}
+use Rattle.shape_buffer.specs.Delete.{give_to_kept}
+use Rattle.shape_buffer.specs.Delete.{hand_over as hand_over_of}
+use Rattle.shape_buffer.specs.Delete.{hand_on as hand_on_of}
+use Rattle.shape_buffer.specs.Delete.{begins_in as begins_in_of}
+use Rattle.shape_buffer.specs.Delete.{deleted}
+use Rattle.shape_buffer.specs.Unwritten.{StandsFor}
+use Rattle.shape_buffer.specs.Unwritten.{follow as follow_of}
+use Rattle.shape_buffer.specs.Unwritten.{written}
+use Rattle.shape_buffer.proofs.buffer.delete.open_run.Goals as goal
+
+-- src/buffer/delete.rt:78:13
+pub returns-then-last-cluster-clause-stands : goal.returns-then-last-cluster-clause-stands
+returns-then-last-cluster-clause-stands c = ?
+
+-- src/buffer/delete.rt:69:1
+pub returns-clause-stands : goal.returns-clause-stands
+returns-clause-stands c = ?
