@@ -73,12 +73,15 @@ fn open_run(kept: &[hb_glyph_info_t], starts: &mut [usize], count: usize, cluste
     ensures at_most { result ≤ count + 1 }
     ensures as_many { length starts.new ≡ length starts.old }
 {
-    if let Some(last) = kept.last() {
-        if last.cluster == cluster {
-            return count;
-        }
+    let len = kept.len();
+    if len == 0 {
+        starts[count] = len;
+        return count + 1;
     }
-    starts[count] = kept.len();
+    if kept[len - 1].cluster == cluster {
+        return count;
+    }
+    starts[count] = len;
     count + 1
 }
 

@@ -1,22 +1,20 @@
-use Rattle.std.proofs.Common.{rules, ◌≡◌, ◌+◌, ◌<◌, ◌≤◌, List, [], ◌∷◌, ◌++◌, length, take, drop, Bool, ℕ, ◌-◌, ◌*◌, ◌/◌, ◌%◌, true, false, nat_eq, nat_lt, slice_index_or, slice_set, bit_and, bit_or, Fits, w8, w32, w64, Bor, MutBor}
-use Rattle.std.specs.Fn.{FnReturnsAt}
-use Rattle.shape_buffer.specs.Items.{Item}
-use Rattle.shape_buffer.specs.Buffer.{Buffer}
-use Rattle.shape_buffer.specs.BufferClusters.{merge_clusters}
-use Rattle.shape_buffer.specs.Delete.{give_to_kept}
-use Rattle.shape_buffer.specs.Delete.{hand_over as hand_over_of}
-use Rattle.shape_buffer.specs.Delete.{hand_on as hand_on_of}
-use Rattle.shape_buffer.specs.Delete.{begins_in as begins_in_of}
-use Rattle.shape_buffer.specs.Delete.{deleted}
-use Rattle.shape_buffer.specs.Unwritten.{StandsFor}
-use Rattle.shape_buffer.specs.Unwritten.{follow as follow_of}
-use Rattle.shape_buffer.specs.Unwritten.{written}
+use Rattle.std.proofs.Common.{◌≡◌, ◌+◌, ◌-◌, ◌∷◌, [], length, take, arith, ap, sym, ◌∙◌}
+use Rattle.std.proofs.lemmas.List.{take_more_set}
+use Rattle.shape_buffer.proofs.UnwrittenLemmas.{open_first, open_next, more}
 use Rattle.shape_buffer.proofs.buffer.delete.open_run.Goals as goal
 
--- src/buffer/delete.rt:78:13
-pub returns-then-last-cluster-clause-stands : goal.returns-then-last-cluster-clause-stands
-returns-then-last-cluster-clause-stands c = ?
+pub returns-then-len-eq0-clause-stands : goal.returns-then-len-eq0-clause-stands
+returns-then-len-eq0-clause-stands c = λ x e given s.
+    rw (take_more_set c.args.starts.now c.args.count (length c.args.kept.now) c.requires)
+    (open_first c.args.kept.now (take c.args.count c.args.starts.now) given x c.if-len-eq0.true s)
 
--- src/buffer/delete.rt:69:1
+pub returns-then-kept-len-clause-stands : goal.returns-then-kept-len-clause-stands
+returns-then-kept-len-clause-stands c = λ x e given s.
+    more c.args.kept.now (take c.args.count c.args.starts.now) given x c.index-kept-len.result (length c.args.kept.now - 1) (omega (arith, c.if-len-eq0.false))
+    (e ∙ sym c.if-kept-len.true) s
+
 pub returns-clause-stands : goal.returns-clause-stands
-returns-clause-stands c = ?
+returns-clause-stands c = λ x e given s.
+    rw (take_more_set c.args.starts.now c.args.count (length c.args.kept.now) c.requires)
+    (open_next c.args.kept.now (take c.args.count c.args.starts.now) given x c.index-kept-len.result (length c.args.kept.now - 1) (omega (arith, c.if-len-eq0.false))
+      (λ same. c.if-kept-len.false (sym same ∙ e)) s)

@@ -1,22 +1,19 @@
-use Rattle.std.proofs.Common.{rules, ◌≡◌, ◌+◌, ◌<◌, ◌≤◌, List, [], ◌∷◌, ◌++◌, length, take, drop, Bool, ℕ, ◌-◌, ◌*◌, ◌/◌, ◌%◌, true, false, nat_eq, nat_lt, slice_index_or, slice_set, bit_and, bit_or, Fits, w8, w32, w64, Bor, MutBor}
-use Rattle.std.specs.Fn.{FnReturnsAt}
-use Rattle.shape_buffer.specs.Items.{Item}
-use Rattle.shape_buffer.specs.Buffer.{Buffer}
-use Rattle.shape_buffer.specs.BufferClusters.{merge_clusters}
-use Rattle.shape_buffer.specs.Delete.{give_to_kept}
-use Rattle.shape_buffer.specs.Delete.{hand_over as hand_over_of}
-use Rattle.shape_buffer.specs.Delete.{hand_on as hand_on_of}
-use Rattle.shape_buffer.specs.Delete.{begins_in as begins_in_of}
-use Rattle.shape_buffer.specs.Delete.{deleted}
-use Rattle.shape_buffer.specs.Unwritten.{StandsFor}
-use Rattle.shape_buffer.specs.Unwritten.{follow as follow_of}
-use Rattle.shape_buffer.specs.Unwritten.{written}
+use Rattle.std.proofs.Common.{◌≡◌, ◌-◌, ◌∷◌, [], length, set, take, drop, arith, ap, sym, ◌∙◌}
+use Rattle.std.proofs.lemmas.Grind.{common_steps}
+use Rattle.shape_buffer.specs.Unwritten.{follow}
+use Rattle.shape_buffer.proofs.UnwrittenLemmas.{write_begins, write_step}
 use Rattle.shape_buffer.proofs.buffer.delete.write_run.Goals as goal
 
--- src/buffer/delete.rt:46:5
 pub loop-i-init : goal.loop-i-init
-loop-i-init c = ?
+loop-i-init c = record { within = omega arith; done = write_begins c.args.infos.now }
 
--- src/buffer/delete.rt:46:5
 pub loop-i-preserved : goal.loop-i-preserved
-loop-i-preserved c = ?
+loop-i-preserved c =
+    let y = c.index-infos-i.result in
+    let x = c.index-infos-i-in-loop-i.result in
+    let e : c.follow.new.info ≡ follow x (y ∷ []) = c.follow.ensures ∙ ap (λ z. follow z (y ∷ [])) (sym c.index-infos-i-in-loop-i.is) in
+    record {
+      within = omega (arith, c.loop-i.invariant.within);
+      done = ap (λ z. set c.loop-i.infos (c.loop-i.i - 1 - 1) z) e
+          ∙ write_step c.args.infos.now c.loop-i.infos c.loop-i.i x y c.loop-i-test.true c.loop-i.invariant.within c.loop-i.invariant.done c.index-infos-i.is c.index-infos-i-in-loop-i.is;
+    }
