@@ -190,7 +190,7 @@ give-append k x xs ys some e =
     ap (λ z. get_or z (k - 1) 0) (map-append (λ y. y.cluster) xs ys) ∙ get_or_append_left (clusters xs) (clusters ys) 0 (k - 1) (omega arith) in
     let whole : take k (xs ++ ys) ≡ take k xs = take-append-le k xs ys (omega arith) in
     rw (last, whole) (cond-append (nat_lt x.cluster (slice_index (clusters xs) (k - 1))) (hand_over x)
-      (k - suffix_len (has_cluster (slice_index (clusters xs) (k - 1))) (take k xs)) k xs ys (omega arith) e)
+    (k - suffix_len (has_cluster (slice_index (clusters xs) (k - 1))) (take k xs)) k xs ys (omega arith) e)
 
 -- the four cases
 pub hand_on-first : (k : ℕ) (x : Item) (rest : List Item) (b : Buffer) → begins_in x.cluster rest ≡ true → hand_on k x rest b ≡ b

@@ -508,10 +508,14 @@ write_last infos given places e c (run ∷ before) le lt ei ep eg =
     sym (take-take start e infos fits) ∙ ap (take start) ei ∙ take_at (stored_runs before) (items_of run) start refl in
     let tail : drop start (take e infos) ≡ items_of run = ap (drop start) ei ∙ drop_at (stored_runs before) (items_of run) start refl in
     let fewer : take c places ≡ starts before =
-    sym (take-take c (c + 1) places (omega arith)) ∙ ap (take c) ep ∙ take_at (starts before) (start ∷ []) c (sym c_is) in
-    (before, omega (arith, at), ap (λ k. take k infos) at ∙ head, fewer,
+    sym (take-take c (c + 1) places (omega arith)) ∙ ap (take c) ep ∙ take_at (starts before) (start ∷ []) c (sym c_is) in (
+      before,
+      omega (arith, at),
+      ap (λ k. take k infos) at ∙ head,
+      fewer,
       eg ∙ append_assoc (written_runs before) (written (items_of run)) (drop e infos)
-      ∙ ap (λ z. written_runs before ++ (written z ++ drop e infos)) (sym (ap (λ k. drop k (take e infos)) at ∙ tail)))
+          ∙ ap (λ z. written_runs before ++ (written z ++ drop e infos)) (sym (ap (λ k. drop k (take e infos)) at ∙ tail)),
+    )
 
 pub write_ends : (infos given : List Item) (places : List ℕ) (e : ℕ) (runs : List Run) → e ≤ length infos
     → take e infos ≡ stored_runs runs → take 0 places ≡ starts runs → given ≡ written_runs runs ++ drop e infos → infos ≡ given

@@ -149,7 +149,7 @@ fn hand_on(
         × ((b : Buffer) → b.cluster_level ≡ level
         → record b { items = left ++ drop i infos.new; scratch_flags = scratch_flags.new }
         ≡ hand_on_of kept picked.now (drop (i + 1) infos.old)
-          (record b { items = given ++ drop i infos.old; scratch_flags = scratch_flags.old })) }
+        (record b { items = given ++ drop i infos.old; scratch_flags = scratch_flags.old })) }
     ensures as_many { length infos.new ≡ length infos.old }
     ensures at_most { result ≤ length starts.now }
 {
@@ -211,7 +211,15 @@ where
             kept += 1;
             continue;
         }
-        runs = hand_on(infos.as_mut_slice(), &starts[..runs], scratch_flags, level, kept, i, &info);
+        runs = hand_on(
+            infos.as_mut_slice(),
+            &starts[..runs],
+            scratch_flags,
+            level,
+            kept,
+            i,
+            &info,
+        );
     }
     infos.truncate(kept);
     positions.truncate(kept);

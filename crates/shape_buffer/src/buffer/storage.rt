@@ -454,7 +454,7 @@ impl hb_buffer_t {
     /// of cluster `c` goes, the first case that holds decides: the next item, picked or not, has cluster
     /// `c`, and nothing is done; items were kept, and where `c` is below the last kept one's cluster,
     /// the last kept items of that cluster get `c` and the glyph's defined flags; there is a next item,
-    /// and the two are merged as `merge_clusters` does. Takes no memory.
+    /// and the two are merged as `merge_clusters` does. Takes no memory, and time in step with the list, whatever the clusters are.
     pub fn delete_glyphs_inplace<F: Fn(&hb_glyph_info_t) -> bool>(&mut self, test: F)
     where
         F: Drop,

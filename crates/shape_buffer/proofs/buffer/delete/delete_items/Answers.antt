@@ -16,8 +16,12 @@ loop-i-init g c =
       items_len = refl;
       positions_len = c.requires.as_many;
       starts_len = refl;
-      left = ([], StandsFor-none, λ picks tells b level.
-          ap (λ n. delete_from picks n 0 (with_glyphs c.args.infos.now.items c.args.positions.now.items c.args.scratch_flags.now b)) all);
+      left = (
+        [],
+        StandsFor-none,
+        λ picks tells b level.
+            ap (λ n. delete_from picks n 0 (with_glyphs c.args.infos.now.items c.args.positions.now.items c.args.scratch_flags.now b)) all,
+      );
     }
 
 pub loop-i-preserved-then-not-test : goal.loop-i-preserved-then-not-test
@@ -40,14 +44,17 @@ loop-i-preserved-then-not-test g c =
       items_len = grind (arith, common_steps);
       positions_len = grind (arith, common_steps);
       starts_len = c.open_run-runs.ensures.as_many ∙ c.loop-i.invariant.starts_len;
-      left = (given ++ x ∷ [], subst (λ z. StandsFor z (take c.open_run-runs.result c.open_run-runs.new.starts) (given ++ x ∷ [])) (sym more) opened,
+      left = (
+        given ++ x ∷ [],
+        subst (λ z. StandsFor z (take c.open_run-runs.result c.open_run-runs.new.starts) (given ++ x ∷ [])) (sym more) opened,
         λ picks tells b level.
-          let picked : picks x ≡ false =
-          sym (tells x c.test.result (record { shown = _; shows = refl; says = record { met = c.test.ensures } })) ∙ c.if-not-test.true in
-          sym (kept_after picks (c.len-len.result - i) (c.len-len.result - (i + 1)) k i given xs (set xs k x) c.loop-i.positions.items
+            let picked : picks x ≡ false =
+            sym (tells x c.test.result (record { shown = _; shows = refl; says = record { met = c.test.ensures } })) ∙ c.if-not-test.true in
+            sym (kept_after picks (c.len-len.result - i) (c.len-len.result - (i + 1)) k i given xs (set xs k x) c.loop-i.positions.items
             c.loop-i.scratch_flags b x c.index-then-not-test.result.now
             (omega arith) (omega arith) (omega arith) size (omega arith) (grind (arith, common_steps)) (grind (arith, common_steps)) picked refl)
-          ∙ c.loop-i.invariant.left.2 picks tells b level);
+            ∙ c.loop-i.invariant.left.2 picks tells b level,
+      );
     }
 
 pub loop-i-preserved : goal.loop-i-preserved
@@ -76,17 +83,20 @@ loop-i-preserved g c =
       items_len = ap length written ∙ long ∙ c.loop-i.invariant.items_len;
       positions_len = c.loop-i.invariant.positions_len;
       starts_len = c.loop-i.invariant.starts_len;
-      left = (left, subst (λ z. StandsFor (take k z) (take c.hand_on-runs.result c.loop-i.starts) left) (sym written) stands,
+      left = (
+        left,
+        subst (λ z. StandsFor (take k z) (take c.hand_on-runs.result c.loop-i.starts) left) (sym written) stands,
         λ picks tells b level.
-          let picked : picks x ≡ true =
-          sym (tells x c.test.result (record { shown = _; shows = refl; says = record { met = c.test.ensures } })) ∙ c.if-not-test.false in
-          let base = with_glyphs xs (standing k i c.loop-i.positions.items) c.loop-i.scratch_flags b in
-          let goes = handed.2 base level ∙ ap (λ z. hand_on k x (drop (i + 1) z) (record base { items = given ++ drop i z })) value in
-          ap (λ z. delete_from picks (c.len-len.result - (i + 1)) k (with_glyphs (left ++ drop (i + 1) z) (standing k (i + 1) c.loop-i.positions.items) c.hand_on-runs.new.scratch_flags b)) written
-          ∙ sym (lost_after picks (c.len-len.result - i) (c.len-len.result - (i + 1)) k i given left xs ys c.loop-i.positions.items
+            let picked : picks x ≡ true =
+            sym (tells x c.test.result (record { shown = _; shows = refl; says = record { met = c.test.ensures } })) ∙ c.if-not-test.false in
+            let base = with_glyphs xs (standing k i c.loop-i.positions.items) c.loop-i.scratch_flags b in
+            let goes = handed.2 base level ∙ ap (λ z. hand_on k x (drop (i + 1) z) (record base { items = given ++ drop i z })) value in
+            ap (λ z. delete_from picks (c.len-len.result - (i + 1)) k (with_glyphs (left ++ drop (i + 1) z) (standing k (i + 1) c.loop-i.positions.items) c.hand_on-runs.new.scratch_flags b)) written
+            ∙ sym (lost_after picks (c.len-len.result - i) (c.len-len.result - (i + 1)) k i given left xs ys c.loop-i.positions.items
             c.loop-i.scratch_flags c.hand_on-runs.new.scratch_flags b x
             (omega arith) (omega arith) (omega arith) size size' (omega arith) long (grind (arith, common_steps)) picked goes)
-          ∙ c.loop-i.invariant.left.2 picks tells b level);
+            ∙ c.loop-i.invariant.left.2 picks tells b level,
+      );
     }
 
 pub returns-clause-deleted : goal.returns-clause-deleted

@@ -9,8 +9,10 @@ pub returns-then-infos-last-clause-stands : goal.returns-then-infos-last-clause-
 returns-then-infos-last-clause-stands c = λ given s.
     let x = c.index-infos-last.result in
     let below : x.cluster ≤ c.args.picked.now.cluster = omega (arith, ap (λ y. y.cluster) c.index-infos-last.is, c.if-infos-last.true) in
-    rw (take_all (length c.args.starts.now) c.args.starts.now (omega arith),
-      give_nothing c.args.infos.now c.args.starts.now given c.args.picked.now x (length c.args.infos.now - 1) (omega arith) c.index-infos-last.is below s) s
+    rw (
+      take_all (length c.args.starts.now) c.args.starts.now (omega arith),
+      give_nothing c.args.infos.now c.args.starts.now given c.args.picked.now x (length c.args.infos.now - 1) (omega arith) c.index-infos-last.is below s,
+    ) s
 
 pub overflow_sub-start : goal.overflow_sub-start
 overflow_sub-start c = some_start c.args.infos.now c.args.starts.now c.requires.stands.0 c.requires.stands.1 c.requires.some
@@ -30,7 +32,7 @@ returns-then-start-eq0-clause-stands c = λ given s.
     let some = some_start c.args.infos.now c.args.starts.now given s c.requires.some in
     rw (take_all (length c.args.starts.now) c.args.starts.now (omega arith), e)
     (give_apart c.args.infos.now c.args.starts.now given c.args.picked.now x x n (length c.args.starts.now - 1) (omega arith) (omega arith) c.index-infos-last-2.is smaller
-      (λ later. absurd (omega (arith, c.if-start-eq0.true))) s)
+    (λ later. absurd (omega (arith, c.if-start-eq0.true))) s)
 
 pub offset_bounds-infos-start : goal.offset_bounds-infos-start
 offset_bounds-infos-start c =
@@ -58,7 +60,7 @@ returns-then-infos-start-clause-stands c = λ given s.
     let start = get_or c.args.starts.now (length c.args.starts.now - 1) 0 in
     rw (take_all (length c.args.starts.now) c.args.starts.now (omega arith), e)
     (give_apart c.args.infos.now c.args.starts.now given c.args.picked.now x c.index-infos-start.result n (length c.args.starts.now - 1) (omega arith) (omega arith) c.index-infos-last-2.is smaller
-      (λ later equal. c.if-infos-start.true (ap (λ z. (get_or (set c.args.infos.now n z) (start - 1) c.index-infos-start.result).cluster) e ∙ equal)) s)
+    (λ later equal. c.if-infos-start.true (ap (λ z. (get_or (set c.args.infos.now n z) (start - 1) c.index-infos-start.result).cluster) e ∙ equal)) s)
 
 pub returns-clause-stands : goal.returns-clause-stands
 returns-clause-stands c = λ given s.
@@ -71,5 +73,5 @@ returns-clause-stands c = λ given s.
     let start = get_or c.args.starts.now (length c.args.starts.now - 1) 0 in
     rw e
     (give_joins c.args.infos.now c.args.starts.now given c.args.picked.now x c.index-infos-start.result n (length c.args.starts.now - 1) (omega arith) (omega arith) c.index-infos-last-2.is smaller
-      (omega (arith, c.if-start-eq0.false))
-      (sym (ap (λ z. (get_or (set c.args.infos.now n z) (start - 1) c.index-infos-start.result).cluster) e) ∙ c.if-infos-start.false) s)
+    (omega (arith, c.if-start-eq0.false))
+    (sym (ap (λ z. (get_or (set c.args.infos.now n z) (start - 1) c.index-infos-start.result).cluster) e) ∙ c.if-infos-start.false) s)

@@ -17,4 +17,4 @@ pub returns-clause-stands : goal.returns-clause-stands
 returns-clause-stands c = λ x e given s.
     rw (take_more_set c.args.starts.now c.args.count (length c.args.kept.now) c.requires)
     (open_next c.args.kept.now (take c.args.count c.args.starts.now) given x c.index-kept-len.result (length c.args.kept.now - 1) (omega (arith, c.if-len-eq0.false))
-      (λ same. c.if-kept-len.false (sym same ∙ e)) s)
+    (λ same. c.if-kept-len.false (sym same ∙ e)) s)

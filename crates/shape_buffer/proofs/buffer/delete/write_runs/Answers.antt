@@ -29,9 +29,12 @@ pub loop-count-init : goal.loop-count-init
 loop-count-init c = record {
   within = omega arith;
   counted = omega arith;
-  left = λ given s. (s.runs, take_all (length c.args.infos.now) c.args.infos.now (omega arith) ∙ s.items_are,
+  left = λ given s. (
+    s.runs,
+    take_all (length c.args.infos.now) c.args.infos.now (omega arith) ∙ s.items_are,
     take_all (length c.args.starts.now) c.args.starts.now (omega arith) ∙ s.places_are,
-    s.given_are ∙ sym (ap (λ z. written_runs s.runs ++ z) (drop_all (length c.args.infos.now) c.args.infos.now (omega arith)) ∙ append-nil (written_runs s.runs)));
+    s.given_are ∙ sym (ap (λ z. written_runs s.runs ++ z) (drop_all (length c.args.infos.now) c.args.infos.now (omega arith)) ∙ append-nil (written_runs s.runs)),
+  );
 }
 
 pub loop-count-preserved : goal.loop-count-preserved
