@@ -1,4 +1,4 @@
-use Rattle.std.proofs.Common.{◌≡◌, ◌+◌, ◌-◌, ◌∷◌, [], length, take, arith, ap, sym, ◌∙◌}
+use Rattle.std.proofs.Common.{◌-◌, length, take, arith, sym, ◌∙◌}
 use Rattle.std.proofs.lemmas.List.{take_more_set}
 use Rattle.shape_buffer.proofs.UnwrittenLemmas.{open_first, open_next, more}
 use Rattle.shape_buffer.proofs.buffer.delete.open_run.Goals as goal

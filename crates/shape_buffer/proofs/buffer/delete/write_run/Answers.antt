@@ -1,5 +1,4 @@
-use Rattle.std.proofs.Common.{◌≡◌, ◌-◌, ◌∷◌, [], length, set, take, drop, arith, ap, sym, ◌∙◌}
-use Rattle.std.proofs.lemmas.Grind.{common_steps}
+use Rattle.std.proofs.Common.{◌≡◌, ◌-◌, ◌∷◌, [], set, arith, ap, sym, ◌∙◌}
 use Rattle.shape_buffer.specs.Unwritten.{follow}
 use Rattle.shape_buffer.proofs.UnwrittenLemmas.{write_begins, write_step}
 use Rattle.shape_buffer.proofs.buffer.delete.write_run.Goals as goal

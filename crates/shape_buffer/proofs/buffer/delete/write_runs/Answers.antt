@@ -1,7 +1,7 @@
-use Rattle.std.proofs.Common.{◌≡◌, ◌+◌, ◌-◌, ◌≤◌, ◌++◌, length, get_or, take, drop, arith, refl, ap, sym, ◌∙◌}
+use Rattle.std.proofs.Common.{◌≡◌, ◌+◌, ◌-◌, ◌≤◌, ◌++◌, length, get_or, take, arith, ap, sym, ◌∙◌}
 use Rattle.std.proofs.lemmas.Grind.{common_steps}
 use Rattle.std.proofs.lemmas.List.{take_all, drop_all, append-nil}
-use Rattle.shape_buffer.specs.Unwritten.{stored_runs, written_runs, starts}
+use Rattle.shape_buffer.specs.Unwritten.{written_runs}
 use Rattle.shape_buffer.proofs.UnwrittenLemmas.{write_last-in_place, write_ends, start_before}
 use Rattle.shape_buffer.proofs.buffer.delete.write_runs.Goals as goal
 
