@@ -104,7 +104,7 @@ fn limits(rt: HostRuntime) -> Result<(), Fail> {
     many.resize(16384, item)?;
     buffer.replace_infos(many)?;
     assert_eq!(rt; buffer.len(), 16384);
-    let refused = buffer.insert(0, item);
+    let refused = buffer.insert(0, hb_glyph_info_t::new('b', 1));
     assert_eq!(rt; refused, Err(ShapeError::Length));
     let mut more: Vec<hb_glyph_info_t> = Vec::new(rt.alloc());
     more.resize(16385, item)?;
