@@ -29,3 +29,4 @@ pub mod DeleteLemmas
 pub mod DeleteKeeps
 pub mod ExpandedLemmas
 pub mod KeyLemmas
+pub mod UnwrittenLemmas
