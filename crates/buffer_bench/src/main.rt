@@ -1,12 +1,13 @@
-//! Times of the buffer's calls on texts of 1,000, 10,000 and 100,000 items, in microseconds. Run it by hand.
+//! Times of the buffer's calls on texts of 1,000, 10,000 and 100,000 items, in microseconds.
 //!
-//! Each call should take about ten times as long on ten times as many items, on hostile texts too.
+//! Each call should take about ten times as long on ten times as many items, on hostile texts too. It is
+//! run by hand, with any argument; without one it does nothing, so that the gate may run it.
 #![tactic(auto)]
 
 use shape_buffer::buffer::{ShapeError, UnicodeBuffer, hb_buffer_t};
 use std::alloc::Global;
-use std::io;
 use std::time::Instant;
+use std::{env, io};
 
 /// Ordinary text: every second item is picked, and clusters rise.
 fn plain(alloc: Global, count: u32) -> Result<hb_buffer_t, ShapeError> {
@@ -53,45 +54,51 @@ fn delete(buffer: &mut hb_buffer_t) {
     buffer.delete_glyphs_inplace(|info| info.codepoint == 'x');
 }
 
+/// Prints what filling, marking, deleting and merging cost on ordinary text.
+fn time_plain(rt: &HostRuntime, count: u32) -> io::Result<()> {
+    let start = Instant::now(rt)?;
+    let Ok(mut text) = plain(rt.alloc(), count) else {
+        return Ok(());
+    };
+    println!(rt; "{count} items: fill {}", start.elapsed(rt)?.as_micros())?;
+    let end = text.len();
+    let start = Instant::now(rt)?;
+    text.unsafe_to_break(0, end);
+    println!(rt; "{count} items: mark {}", start.elapsed(rt)?.as_micros())?;
+    time_deletion(rt, count, "plain", &mut text)?;
+    let end = text.len();
+    let start = Instant::now(rt)?;
+    text.merge_clusters(0, end);
+    println!(rt; "{end} items: merge {}", start.elapsed(rt)?.as_micros())
+}
+
+/// Prints what deleting the picked items of a text costs.
+fn time_deletion(
+    rt: &HostRuntime,
+    count: u32,
+    name: &str,
+    text: &mut hb_buffer_t,
+) -> io::Result<()> {
+    let start = Instant::now(rt)?;
+    delete(text);
+    println!(rt;
+        "{count} items: delete, {name} {}",
+        start.elapsed(rt)?.as_micros()
+    )
+}
+
 fn main(rt: HostRuntime) -> io::Result<()> {
+    if env::args(&rt)?.count() < 2 {
+        return Ok(());
+    }
     for count in [1000, 10000, 100000] {
-        let start = Instant::now(&rt)?;
-        let Ok(mut text) = plain(rt.alloc(), count) else {
-            return Ok(())
-        };
-        println!(rt; "{count} items: fill {}", start.elapsed(&rt)?.as_micros())?;
-        let end = text.len();
-        let start = Instant::now(&rt)?;
-        text.unsafe_to_break(0, end);
-        println!(rt; "{count} items: mark {}", start.elapsed(&rt)?.as_micros())?;
-        let start = Instant::now(&rt)?;
-        delete(&mut text);
-        println!(rt; "{count} items: delete {}", start.elapsed(&rt)?.as_micros())?;
-        let end = text.len();
-        let start = Instant::now(&rt)?;
-        text.merge_clusters(0, end);
-        println!(rt;
-            "{count} items: merge half {}",
-            start.elapsed(&rt)?.as_micros()
-        )?;
-        let Ok(mut text) = falling(rt.alloc(), count) else {
-            return Ok(())
-        };
-        let start = Instant::now(&rt)?;
-        delete(&mut text);
-        println!(rt;
-            "{count} items: delete falling {}",
-            start.elapsed(&rt)?.as_micros()
-        )?;
-        let Ok(mut text) = joining(rt.alloc(), count) else {
-            return Ok(())
-        };
-        let start = Instant::now(&rt)?;
-        delete(&mut text);
-        println!(rt;
-            "{count} items: delete joining {}",
-            start.elapsed(&rt)?.as_micros()
-        )?;
+        time_plain(&rt, count)?;
+        if let Ok(mut text) = falling(rt.alloc(), count) {
+            time_deletion(&rt, count, "falling", &mut text)?;
+        }
+        if let Ok(mut text) = joining(rt.alloc(), count) {
+            time_deletion(&rt, count, "joining", &mut text)?;
+        }
     }
     Ok(())
 }
