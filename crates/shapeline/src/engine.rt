@@ -10,7 +10,7 @@ mod text;
 
 use crate::face::Face;
 use crate::parse::{Words, character, integer, natural};
-use shape_buffer::buffer::GlyphId;
+use shape_buffer::buffer::{BufferClusterLevel, GlyphId};
 use std::alloc::Global;
 use std::io::{BufRead, Write};
 use std::str;
@@ -39,6 +39,7 @@ enum Outcome {
 #[derive(Drop)]
 struct Session {
     face: Face,
+    level: BufferClusterLevel,
 }
 
 /// Obeys the lines of the reader and gives the exit status: 0 at the end of the input, 1 where a read or
@@ -49,6 +50,7 @@ pub fn run<R: BufRead + Drop, W: Write + Drop>(alloc: Global, mut reader: R, mut
 {
     let mut session = Session {
         face: Face::new(alloc, UNITS_PER_EM),
+        level: BufferClusterLevel::MonotoneGraphemes,
     };
     let mut line: Vec<u8> = Vec::new(alloc);
     let mut number: u64 = 0;
@@ -108,7 +110,8 @@ impl Session {
             "face" => self.set_face(alloc, words),
             "glyph" => self.set_glyph(words),
             "mode" => set_mode(words),
-            "text" => text::answer(alloc, &self.face, words, writer),
+            "level" => self.set_level(words),
+            "text" => text::answer(alloc, &self.face, self.level, words, writer),
             _ => Outcome::Malformed,
         }
     }
@@ -139,6 +142,21 @@ impl Session {
             }
             _ => Outcome::Malformed,
         }
+    }
+
+    /// `level N`: how far clusters are merged.
+    fn set_level(&mut self, mut words: Words) -> Outcome {
+        let level = match words.next().and_then(|word| natural(word, 2)) {
+            Some(0) => BufferClusterLevel::MonotoneGraphemes,
+            Some(1) => BufferClusterLevel::MonotoneCharacters,
+            Some(2) => BufferClusterLevel::Characters,
+            _ => return Outcome::Malformed,
+        };
+        if words.next().is_some() {
+            return Outcome::Malformed;
+        }
+        self.level = level;
+        Outcome::Done
     }
 }
 

@@ -65,9 +65,63 @@ fn texts(rt: HostRuntime) {
     }
 }
 
+/// A face for U+0061 and the marks that the orders below are about.
+const MARKS: &[u8] =
+    b"glyph 61 1 600\nglyph 5BC 2 0\nglyph 5C1 3 0\nglyph 301 4 0\nglyph 323 5 0\nglyph 34F 6 0\nglyph 5E9 7 500\n";
+
+#[test]
+fn orders(rt: HostRuntime) {
+    let cases: [(&[u8], &[u8]); 9] = [
+        // Each span of a run is merged by itself.
+        (
+            b"level 1\ntext 61 5BC 5C1 301 323\n",
+            b"normal 0061@0 05C1@1 05BC@1 0323@5 0301@5\n",
+        ),
+        (
+            b"level 1\ntext 61 301 323\n",
+            b"normal 0061@0 0323@1 0301@1\n",
+        ),
+        (
+            b"level 0\ntext 61 301 323\n",
+            b"normal 0061@0 0323@1 0301@1\n",
+        ),
+        (
+            b"level 2\ntext 61 301 323\n",
+            b"normal 0061@0 0323@3 0301@1\n",
+        ),
+        // Marks of one class keep their order.
+        (
+            b"level 1\ntext 61 301 301 323 301\n",
+            b"normal 0061@0 0323@1 0301@1 0301@1 0301@7\n",
+        ),
+        // Nothing is put in order where no mark stands past the first item.
+        (
+            b"text FB2C\ntext 5E9 5BC 5C1\n",
+            b"normal 05E9@0 05BC@0 05C1@0\nnormal 05E9@0 05C1@2 05BC@2\n",
+        ),
+        // A joiner keeps apart what stands around it.
+        (
+            b"text 61 301 34F 323\ntext 61 323 34F 301\n",
+            b"normal 0061@0 0301@1 034F@3 0323@5\nnormal 0061@0 0323@1 034F@3 0301@5\n",
+        ),
+        // A run of 33 marks stays, and one of 32 is put in order.
+        (
+            b"text 61 301 301 301 301 301 301 301 301 301 301 301 301 301 301 301 301 301 301 301 301 301 301 301 301 301 301 301 301 301 301 301 301 323",
+            b"normal 0061@0 0301@1 0301@3 0301@5 0301@7 0301@9 0301@11 0301@13 0301@15 0301@17 0301@19 0301@21 0301@23 0301@25 0301@27 0301@29 0301@31 0301@33 0301@35 0301@37 0301@39 0301@41 0301@43 0301@45 0301@47 0301@49 0301@51 0301@53 0301@55 0301@57 0301@59 0301@61 0301@63 0323@65\n",
+        ),
+        (
+            b"text 61 301 301 301 301 301 301 301 301 301 301 301 301 301 301 301 301 301 301 301 301 301 301 301 301 301 301 301 301 301 301 301 323",
+            b"normal 0061@0 0323@1 0301@1 0301@1 0301@1 0301@1 0301@1 0301@1 0301@1 0301@1 0301@1 0301@1 0301@1 0301@1 0301@1 0301@1 0301@1 0301@1 0301@1 0301@1 0301@1 0301@1 0301@1 0301@1 0301@1 0301@1 0301@1 0301@1 0301@1 0301@1 0301@1 0301@1 0301@1\n",
+        ),
+    ];
+    for (lines, output) in cases {
+        expect_run(&rt, rt.alloc(), MARKS, lines, 0, output);
+    }
+}
+
 #[test]
 fn malformed_lines(rt: HostRuntime) {
-    let lines: [&[u8]; 26] = [
+    let lines: [&[u8]; 29] = [
         b"text 110000",
         b"text D800",
         b"text +41",
@@ -75,6 +129,9 @@ fn malformed_lines(rt: HostRuntime) {
         b"text 41 g",
         b"text 41\r\r\n",
         b"text\t41",
+        b"level",
+        b"level 3",
+        b"level 1 1",
         b"mode",
         b"mode 5",
         b"mode -1",

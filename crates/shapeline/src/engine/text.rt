@@ -11,7 +11,7 @@ use crate::no_lookups::NoLookups;
 use crate::parse::{Words, character};
 use crate::preferring::{Decomposed, Preferring};
 use crate::unicode_tables::UnicodeTables;
-use shape_buffer::buffer::{GlyphBuffer, ShapeError, UnicodeBuffer};
+use shape_buffer::buffer::{BufferClusterLevel, GlyphBuffer, ShapeError, UnicodeBuffer};
 use shape_pipeline::ot_shape_plan::hb_ot_shape_plan_t;
 use shape_pipeline::shape::shape_with_plan;
 use std::alloc::{AllocError, Global};
@@ -22,14 +22,20 @@ type Shaper = Preferring<Decomposed>;
 
 /// Shapes a text and writes its answer, or the number of the refusal. Malformed where a word is no
 /// character, and where 32 bits can't count the bytes in UTF-8.
-pub fn answer<W: Write>(alloc: Global, face: &Face, words: Words, writer: &mut W) -> Outcome
+pub fn answer<W: Write>(
+    alloc: Global,
+    face: &Face,
+    level: BufferClusterLevel,
+    words: Words,
+    writer: &mut W,
+) -> Outcome
     ensures text { IsText (words_of words.entry.rest.now) → result ≢ Outcome.Malformed }
     ensures malformed { ¬ IsText (words_of words.entry.rest.now) → result ≡ Outcome.Malformed }
 {
     if text_len(words).is_none() {
         return Outcome::Malformed;
     }
-    let written = match normal_line(alloc, face, words) {
+    let written = match normal_line(alloc, face, level, words) {
         Ok(line) => writer.write_all(line.as_bytes()),
         Err(ShapeError::Memory) => writer.write_all(b"refused 1\n"),
         Err(ShapeError::Length) => writer.write_all(b"refused 2\n"),
@@ -91,10 +97,17 @@ fn shaped(alloc: Global, face: &Face, text: UnicodeBuffer) -> Result<GlyphBuffer
 }
 
 /// The line that answers a text.
-fn normal_line(alloc: Global, face: &Face, words: Words) -> Result<String, ShapeError>
+fn normal_line(
+    alloc: Global,
+    face: &Face,
+    level: BufferClusterLevel,
+    words: Words,
+) -> Result<String, ShapeError>
     requires { IsText (words_of words.rest.now) }
 {
-    let glyphs = shaped(alloc, face, filled(alloc, words)?)?;
+    let mut text = filled(alloc, words)?;
+    text.set_cluster_level(level);
+    let glyphs = shaped(alloc, face, text)?;
     Ok(printed(alloc, "normal", &glyphs)?)
 }
 
