@@ -10,6 +10,7 @@ program=crates/shapeline/out/shapeline
 input=crates/shapeline/stdin
 whole=crates/shapeline/stdout
 
+[ -x "$program" ] || (cd crates/shapeline && rt run < stdin > /dev/null) || exit 1
 work=$(mktemp -d) || exit 1
 trap 'rm -rf "$work"' EXIT
 gcc -O1 -Wall -Werror -shared -fPIC -o "$work/refuse.so" tests/refuse.c -ldl || exit 1

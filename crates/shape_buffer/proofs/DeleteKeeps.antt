@@ -1,12 +1,11 @@
 -- Deletion keeps the order of clusters and the flags of glyphs, and brings no new cluster.
-use Rattle.std.proofs.Common.{◌≡◌, ℕ, ◌+◌, ◌-◌, ◌<◌, ◌≤◌, Bool, true, false, cond, nat_lt, List, [], ◌∷◌, ◌++◌, length, get_or, take, drop, map, refl, ap, sym, ◌∙◌, arith, suc, zero, replicate, slice_range, slice_index, inl, inr, ◌⊎◌, remove, add-zero, bit_and}
-use Rattle.std.proofs.lemmas.Grind.{common_steps}
+use Rattle.std.proofs.Common.{◌≡◌, ℕ, ◌+◌, ◌-◌, ◌<◌, ◌≤◌, Bool, true, cond, nat_lt, List, [], ◌∷◌, ◌++◌, length, get_or, take, drop, map, refl, ap, sym, ◌∙◌, arith, suc, zero, replicate, slice_range, slice_index, inl, inr, ◌⊎◌, remove, add-zero, bit_and}
 use Rattle.std.proofs.lemmas.Bool.Decides.{nat_tests}
 use Rattle.std.proofs.lemmas.List.{map-append, take-map, drop-map, length-map, length-drop, get_or-drop, drop-drop, take-append-drop, take_all, drop_all, append-nil}
 use Rattle.std.proofs.lemmas.List.Edits.{length-remove, get_or-remove_below, get_or-remove_above}
 use Rattle.std.specs.List.{suffix_len}
 use Rattle.shape_buffer.specs.Items.{Item, has_cluster, feature_bits}
-use Rattle.shape_buffer.specs.Clusters.{clusters, map_range, put_range, merge, mark_break, least_cluster}
+use Rattle.shape_buffer.specs.Clusters.{clusters, map_range, put_range, mark_break, least_cluster}
 use Rattle.shape_buffer.specs.Buffer.{Buffer}
 use Rattle.shape_buffer.specs.BufferClusters.{merge_at, unsafe_to_break, merge_clusters, merge_out_clusters}
 use Rattle.shape_buffer.specs.KeepsFlags.{IsDefinedFlag, has_flag, some_has, KeepsFlags}

@@ -1,24 +1,22 @@
 -- Lemmas on deletion in place.
 use Rattle.std.proofs.Common.{◌≡◌, ℕ, ◌+◌, ◌-◌, ◌<◌, ◌≤◌, Bool, true, false, cond, nat_lt, List, [], ◌∷◌, ◌++◌, length, get_or, take, drop, set, map, refl, ap, sym, ◌∙◌, arith, suc, slice_range, slice_index, remove, add-one}
-use Rattle.std.proofs.lemmas.List.{drop_at, take_at, take-take, drop_more, take_more_set, drop-set-lt, append_assoc, length-take-le, drop-drop, take-map, drop-map, get_or_append_left, get_or-take, length-append, length-map, length-take, length-drop, map-append}
-use Rattle.std.proofs.lemmas.Slice.{between_is, drop-append-drop}
+use Rattle.std.proofs.lemmas.List.{drop_at, take_at, drop_more, take_more_set, drop-set-lt, append_assoc, length-take-le, drop-drop, get_or_append_left, length-map, map-append, take-append-le, take_all, drop_all, append-nil}
+use Rattle.std.proofs.lemmas.Slice.{between_is}
 use Rattle.std.specs.List.{suffix_len}
 use Rattle.shape_buffer.specs.declared.buffer.positions.GlyphPosition.{GlyphPosition}
 use Rattle.shape_buffer.specs.declared.buffer.flags.ScratchFlags.{ScratchFlags}
 use Rattle.shape_buffer.specs.Buffer.{Buffer}
 use Rattle.shape_buffer.specs.Items.{Item, has_cluster}
 use Rattle.shape_buffer.specs.Clusters.{clusters, map_range}
-use Rattle.shape_buffer.specs.Delete.{standing, give_to_kept, hand_on, hand_over, lose, visit, delete_from}
+use Rattle.shape_buffer.specs.BufferClusters.{merge_clusters}
+use Rattle.std.proofs.lemmas.Bool.Decides.{nat_tests}
+use Rattle.shape_buffer.specs.Delete.{begins_in, standing, give_to_kept, hand_on, hand_over, lose, visit, delete_from}
 
 take-standing : {X : Type 0} (k i : ℕ) (xs : List X) → k ≤ length xs → take k (standing k i xs) ≡ take k xs
 take-standing k i xs le = take_at (take k xs) (drop i xs) k (length-take-le k xs le)
 
 drop-standing : {X : Type 0} (k i : ℕ) (xs : List X) → k ≤ length xs → drop k (standing k i xs) ≡ drop i xs
 drop-standing k i xs le = drop_at (take k xs) (drop i xs) k (length-take-le k xs le)
-
-pub next-standing : {X : Type 0} (k i : ℕ) (xs : List X) (d : X) → k ≤ i → i < length xs
-    → drop k (standing k i xs) ≡ get_or xs i d ∷ drop (i + 1) xs
-next-standing k i xs d le lt = drop-standing k i xs (omega arith) ∙ drop_more xs i d lt
 
 -- a glyph that stays moves to the end of those kept
 pub standing_kept : {X : Type 0} (k i : ℕ) (xs : List X) (d : X) → k ≤ i → i < length xs
@@ -35,50 +33,6 @@ standing_lost k i xs le lt =
     let rest : drop (suc k) (standing k i xs) ≡ drop (i + 1) xs =
     rw (← add-one k, ← drop-drop 1 k (standing k i xs), drop-standing k i xs fits, drop-drop 1 i xs) refl in
     rw (take-standing k i xs fits, rest) refl
-
--- an edit of the kept part
-pub standing-map_range : (f : Item → Item) (a k i : ℕ) (xs : List Item) → a ≤ k → k ≤ i → i ≤ length xs
-    → standing k i (map_range f a k xs) ≡ map_range f a k (standing k i xs)
-standing-map_range f a k i xs ak ki within =
-    let fits : k ≤ length xs = omega arith in
-    let part : slice_range (standing k i xs) a k ≡ slice_range xs a k =
-    between_is (standing k i xs) a k ∙ ap (drop a) (take-standing k i xs fits) ∙ sym (between_is xs a k) in
-    let head : take a (standing k i xs) ≡ take a xs =
-    sym (take-take a k (standing k i xs) ak) ∙ ap (take a) (take-standing k i xs fits) ∙ take-take a k xs ak in
-    let size : length (take a xs ++ map f (slice_range xs a k)) ≡ k =
-    simp (length-append, length-take, length-map, length-drop) (omega arith) in
-    let front : take k (map_range f a k xs) ≡ take a xs ++ map f (slice_range xs a k) =
-    rw (← append_assoc (take a xs) (map f (slice_range xs a k)) (drop k xs)) (take_at _ (drop k xs) k size) in
-    let back : drop i (map_range f a k xs) ≡ drop i xs =
-    rw (← append_assoc (take a xs) (map f (slice_range xs a k)) (drop k xs)) (drop-append-drop k xs _ i ki size) in
-    let left : standing k i (map_range f a k xs) ≡ (take a xs ++ map f (slice_range xs a k)) ++ drop i xs = rw (front, back) refl in
-    let right : map_range f a k (standing k i xs) ≡ take a xs ++ (map f (slice_range xs a k) ++ drop i xs) =
-    rw (head, part, drop-standing k i xs fits) refl in
-    left ∙ append_assoc (take a xs) (map f (slice_range xs a k)) (drop i xs) ∙ sym right
-
-standing-cond : (b : Bool) (f : Item → Item) (a k i : ℕ) (xs : List Item) → a ≤ k → k ≤ i → i ≤ length xs
-    → standing k i (cond b (map_range f a k xs) xs) ≡ cond b (map_range f a k (standing k i xs)) (standing k i xs)
-standing-cond true f a k i xs ak ki within = standing-map_range f a k i xs ak ki within
-standing-cond false f a k i xs ak ki within = refl
-
-last-standing : (k i : ℕ) (xs : List Item) → 0 < k → k ≤ length xs
-    → slice_index (clusters (standing k i xs)) (k - 1) ≡ slice_index (clusters xs) (k - 1)
-last-standing k i xs some fits =
-    let e : clusters (standing k i xs) ≡ take k (clusters xs) ++ drop i (clusters xs) = simp (map-append, take-map, drop-map) in
-    let n : length (clusters xs) ≡ length xs = length-map xs (λ x. x.cluster) in
-    let below : k - 1 < k = omega arith in
-    let last : k - 1 < length (take k (clusters xs)) = rw (length-take-le k (clusters xs) (omega arith)) (omega arith) in
-    rw e (get_or_append_left (take k (clusters xs)) (drop i (clusters xs)) 0 (k - 1) last ∙ get_or-take k (clusters xs) (k - 1) 0 below)
-
--- what the kept items take
-pub standing-give : (k i : ℕ) (x : Item) (xs : List Item) → 0 < k → k ≤ i → i ≤ length xs
-    → standing k i (give_to_kept k x xs) ≡ give_to_kept k x (standing k i xs)
-standing-give k i x xs some ki within =
-    let fits : k ≤ length xs = omega arith in
-    let last = last-standing k i xs some fits in
-    let from : k - suffix_len (has_cluster (slice_index (clusters xs) (k - 1))) (take k xs) ≤ k = omega arith in
-    rw (last, take-standing k i xs fits)
-    (standing-cond (nat_lt x.cluster (slice_index (clusters xs) (k - 1))) (hand_over x) _ k i xs from ki within)
 
 -- a visit
 pub visit_kept : (p : Item → Bool) (k : ℕ) (next : ℕ → Buffer → Buffer) (b : Buffer) (x : Item) (rest : List Item) → p x ≡ false
@@ -124,38 +78,97 @@ same_glyphs : (xs xs' : List Item) (ps ps' : List GlyphPosition) (fs : ScratchFl
 same_glyphs xs xs' ps ps' fs b items positions =
     ap (λ ys. with_glyphs ys ps fs b) items ∙ ap (λ qs. with_glyphs xs' qs fs b) positions
 
--- a glyph that stays, in two vectors
-pub kept_in_place : (p : Item → Bool) (m n k i : ℕ) (xs : List Item) (ps : List GlyphPosition) (fs : ScratchFlags) (b : Buffer) (x : Item) (q : GlyphPosition)
-    → m ≡ n + 1 → k ≤ i → i < length xs → length ps ≡ length xs → x ≡ get_or xs i x → q ≡ get_or ps i q → p x ≡ false
-    → delete_from p m k (with_glyphs (standing k i xs) (standing k i ps) fs b)
-    ≡ delete_from p n (k + 1) (with_glyphs (standing (k + 1) (i + 1) (set xs k x)) (standing (k + 1) (i + 1) (set ps k q)) fs b)
-kept_in_place p m n k i xs ps fs b x q em le lt same ex eq picked =
-    let lt' : i < length ps = omega arith in
-    let next : drop k (standing k i xs) ≡ x ∷ drop (i + 1) xs = next-standing k i xs x le lt ∙ ap (λ y. y ∷ drop (i + 1) xs) (sym ex) in
-    let items : standing k i xs ≡ standing (k + 1) (i + 1) (set xs k x) =
-    sym (ap (λ y. standing (k + 1) (i + 1) (set xs k y)) ex ∙ standing_kept k i xs x le lt) in
-    let positions : standing k i ps ≡ standing (k + 1) (i + 1) (set ps k q) =
-    sym (ap (λ y. standing (k + 1) (i + 1) (set ps k y)) eq ∙ standing_kept k i ps q le lt') in
-    step_kept p m n k (with_glyphs (standing k i xs) (standing k i ps) fs b) x (drop (i + 1) xs) em next picked
-    ∙ ap (delete_from p n (k + 1)) (same_glyphs _ _ _ _ fs b items positions)
-
--- a glyph that goes, in two vectors, where ys are the items that have its cluster now
-pub lost_in_place : (p : Item → Bool) (m n k i : ℕ) (xs ys : List Item) (ps : List GlyphPosition) (fs fs' : ScratchFlags) (b : Buffer) (x : Item)
-    → m ≡ n + 1 → k ≤ i → i < length xs → length ps ≡ length xs → length ys ≡ length xs → x ≡ get_or xs i x → p x ≡ true
-    → with_glyphs (standing k i ys) (standing k i ps) fs' b
-    ≡ hand_on k x (drop (i + 1) xs) (with_glyphs (standing k i xs) (standing k i ps) fs b)
-    → delete_from p m k (with_glyphs (standing k i xs) (standing k i ps) fs b)
-    ≡ delete_from p n k (with_glyphs (standing k (i + 1) ys) (standing k (i + 1) ps) fs' b)
-lost_in_place p m n k i xs ys ps fs fs' b x em le lt same size ex picked handed =
-    let lt_ps : i < length ps = omega arith in
-    let lt_ys : i < length ys = omega arith in
-    let next : drop k (standing k i xs) ≡ x ∷ drop (i + 1) xs = next-standing k i xs x le lt ∙ ap (λ y. y ∷ drop (i + 1) xs) (sym ex) in
-    step_lost p m n k (with_glyphs (standing k i xs) (standing k i ps) fs b) (with_glyphs (standing k (i + 1) ys) (standing k (i + 1) ps) fs' b) x (drop (i + 1) xs) em next picked
-    (sym (same_glyphs _ _ _ _ fs' b (standing_lost k i ys le lt_ys) (standing_lost k i ps le lt_ps)) ∙ ap (lose k) handed)
-
 -- nothing is left to visit
 pub finished : (p : Item → Bool) (m k : ℕ) (xs xs' : List Item) (ps ps' : List GlyphPosition) (fs : ScratchFlags) (b : Buffer) → m ≡ 0 → xs ≡ xs' → ps ≡ ps'
     → delete_from p m k (with_glyphs xs ps fs b) ≡ with_glyphs xs' ps' fs b
 finished p m k xs xs' ps ps' fs b none items positions =
     ap (λ z. delete_from p z k (with_glyphs xs ps fs b)) none ∙ delete_from-zero p k (with_glyphs xs ps fs b)
     ∙ same_glyphs _ _ _ _ fs b items positions
+
+map_range-append : (f : Item → Item) (a k : ℕ) (xs ys : List Item) → a ≤ k → k ≡ length xs → map_range f a k (xs ++ ys) ≡ map_range f a k xs ++ ys
+map_range-append f a k xs ys le e =
+    let head : take a (xs ++ ys) ≡ take a xs = take-append-le a xs ys (omega arith) in
+    let whole : take k (xs ++ ys) ≡ xs = take_at xs ys k (sym e) in
+    let part : slice_range (xs ++ ys) a k ≡ drop a xs = between_is (xs ++ ys) a k ∙ ap (drop a) whole in
+    let part' : slice_range xs a k ≡ drop a xs = between_is xs a k ∙ ap (drop a) (take_all k xs (omega arith)) in
+    let tail : drop k (xs ++ ys) ≡ ys = drop_at xs ys k (sym e) in
+    let none : drop k xs ≡ [] = drop_all k xs (omega arith) in
+    let left : map_range f a k (xs ++ ys) ≡ take a xs ++ (map f (drop a xs) ++ ys) =
+    ap (λ z. z ++ (map f (slice_range (xs ++ ys) a k) ++ drop k (xs ++ ys))) head
+    ∙ ap (λ z. take a xs ++ (map f z ++ drop k (xs ++ ys))) part ∙ ap (λ z. take a xs ++ (map f (drop a xs) ++ z)) tail in
+    let right : map_range f a k xs ≡ take a xs ++ map f (drop a xs) =
+    ap (λ z. take a xs ++ (map f z ++ drop k xs)) part' ∙ ap (λ z. take a xs ++ (map f (drop a xs) ++ z)) none ∙ ap (λ z. take a xs ++ z) (append-nil (map f (drop a xs))) in
+    left ∙ sym (append_assoc (take a xs) (map f (drop a xs)) ys) ∙ ap (λ z. z ++ ys) (sym right)
+
+cond-append : (b : Bool) (f : Item → Item) (a k : ℕ) (xs ys : List Item) → a ≤ k → k ≡ length xs
+    → cond b (map_range f a k (xs ++ ys)) (xs ++ ys) ≡ cond b (map_range f a k xs) xs ++ ys
+cond-append true f a k xs ys le e = map_range-append f a k xs ys le e
+cond-append false f a k xs ys le e = refl
+
+-- what the kept items take, where others come after them
+pub give-append : (k : ℕ) (x : Item) (xs ys : List Item) → 0 < k → k ≡ length xs → give_to_kept k x (xs ++ ys) ≡ give_to_kept k x xs ++ ys
+give-append k x xs ys some e =
+    let n : length (clusters xs) ≡ length xs = length-map xs (λ y. y.cluster) in
+    let last : slice_index (clusters (xs ++ ys)) (k - 1) ≡ slice_index (clusters xs) (k - 1) =
+    ap (λ z. get_or z (k - 1) 0) (map-append (λ y. y.cluster) xs ys) ∙ get_or_append_left (clusters xs) (clusters ys) 0 (k - 1) (omega arith) in
+    let whole : take k (xs ++ ys) ≡ take k xs = take-append-le k xs ys (omega arith) in
+    rw (last, whole) (cond-append (nat_lt x.cluster (slice_index (clusters xs) (k - 1))) (hand_over x)
+    (k - suffix_len (has_cluster (slice_index (clusters xs) (k - 1))) (take k xs)) k xs ys (omega arith) e)
+
+-- the four cases
+pub hand_on-first : (k : ℕ) (x : Item) (rest : List Item) (b : Buffer) → begins_in x.cluster rest ≡ true → hand_on k x rest b ≡ b
+hand_on-first k x rest b e = rw e refl
+
+pub hand_on-second : (k : ℕ) (x : Item) (rest : List Item) (b : Buffer) → begins_in x.cluster rest ≡ false → 0 < k
+    → hand_on k x rest b ≡ record b { items = give_to_kept k x b.items }
+hand_on-second k x rest b e some = let holds : nat_lt 0 k ≡ true = grind (arith, nat_tests) in rw (e, holds) refl
+
+pub hand_on-third : (k : ℕ) (x : Item) (rest : List Item) (b : Buffer) → begins_in x.cluster rest ≡ false → k ≡ 0 → 0 < length rest
+    → hand_on k x rest b ≡ merge_clusters 0 2 b
+hand_on-third k x rest b e none some =
+    let fails : nat_lt 0 k ≡ false = grind (arith, nat_tests) in
+    let holds : nat_lt 0 (length rest) ≡ true = grind (arith, nat_tests) in
+    rw (e, fails, holds) refl
+
+pub hand_on-fourth : (k : ℕ) (x : Item) (rest : List Item) (b : Buffer) → begins_in x.cluster rest ≡ false → k ≡ 0 → length rest ≡ 0
+    → hand_on k x rest b ≡ b
+hand_on-fourth k x rest b e none last =
+    let fails : nat_lt 0 k ≡ false = grind (arith, nat_tests) in
+    let fails' : nat_lt 0 (length rest) ≡ false = grind (arith, nat_tests) in
+    rw (e, fails, fails') refl
+
+-- a vector whose first k items stand for others: the one at i is kept
+pub kept_after : (p : Item → Bool) (m n k i : ℕ) (given xs xs' : List Item) (ps : List GlyphPosition) (fs : ScratchFlags) (b : Buffer) (x : Item) (q : GlyphPosition)
+    → m ≡ n + 1 → k ≤ i → i < length xs → k ≡ length given → length ps ≡ length xs → x ≡ get_or xs i x → q ≡ get_or ps i q → p x ≡ false
+    → xs' ≡ set xs k x
+    → delete_from p m k (with_glyphs (given ++ drop i xs) (standing k i ps) fs b)
+    ≡ delete_from p n (k + 1) (with_glyphs ((given ++ x ∷ []) ++ drop (i + 1) xs') (standing (k + 1) (i + 1) (set ps k q)) fs b)
+kept_after p m n k i given xs xs' ps fs b x q em le lt size same ex eq picked exs =
+    let lt' : i < length ps = omega arith in
+    let next' : drop i xs ≡ x ∷ drop (i + 1) xs = drop_more xs i x lt ∙ ap (λ y. y ∷ drop (i + 1) xs) (sym ex) in
+    let next : drop k (given ++ drop i xs) ≡ x ∷ drop (i + 1) xs = drop_at given (drop i xs) k (sym size) ∙ next' in
+    let rest : drop (i + 1) xs' ≡ drop (i + 1) xs = ap (drop (i + 1)) exs ∙ drop-set-lt (i + 1) xs k x (omega arith) in
+    let items : given ++ drop i xs ≡ (given ++ x ∷ []) ++ drop (i + 1) xs' =
+    ap (λ z. given ++ z) next' ∙ sym (append_assoc given (x ∷ []) (drop (i + 1) xs)) ∙ ap (λ z. (given ++ x ∷ []) ++ z) (sym rest) in
+    let positions : standing k i ps ≡ standing (k + 1) (i + 1) (set ps k q) =
+    sym (ap (λ y. standing (k + 1) (i + 1) (set ps k y)) eq ∙ standing_kept k i ps q le lt') in
+    step_kept p m n k (with_glyphs (given ++ drop i xs) (standing k i ps) fs b) x (drop (i + 1) xs) em next picked
+    ∙ ap (delete_from p n (k + 1)) (same_glyphs _ _ _ _ fs b items positions)
+
+-- and the one at i goes, where `left` is what the kept ones are then
+pub lost_after : (p : Item → Bool) (m n k i : ℕ) (given left xs ys : List Item) (ps : List GlyphPosition) (fs fs' : ScratchFlags) (b : Buffer) (x : Item)
+    → m ≡ n + 1 → k ≤ i → i < length xs → k ≡ length given → k ≡ length left → length ps ≡ length xs → length ys ≡ length xs → x ≡ get_or xs i x → p x ≡ true
+    → with_glyphs (left ++ drop i ys) (standing k i ps) fs' b ≡ hand_on k x (drop (i + 1) xs) (with_glyphs (given ++ drop i xs) (standing k i ps) fs b)
+    → delete_from p m k (with_glyphs (given ++ drop i xs) (standing k i ps) fs b)
+    ≡ delete_from p n k (with_glyphs (left ++ drop (i + 1) ys) (standing k (i + 1) ps) fs' b)
+lost_after p m n k i given left xs ys ps fs fs' b x em le lt size size' same long ex picked handed =
+    let lt_ps : i < length ps = omega arith in
+    let lt_ys : i < length ys = omega arith in
+    let next : drop k (given ++ drop i xs) ≡ x ∷ drop (i + 1) xs =
+    drop_at given (drop i xs) k (sym size) ∙ drop_more xs i x lt ∙ ap (λ y. y ∷ drop (i + 1) xs) (sym ex) in
+    let head : take k (left ++ drop i ys) ≡ left = take_at left (drop i ys) k (sym size') in
+    let tail : drop (suc k) (left ++ drop i ys) ≡ drop (i + 1) ys =
+    ap (λ j. drop j (left ++ drop i ys)) (sym (add-one k)) ∙ sym (drop-drop 1 k (left ++ drop i ys)) ∙ ap (drop 1) (drop_at left (drop i ys) k (sym size')) ∙ drop-drop 1 i ys in
+    let gone : remove (left ++ drop i ys) k ≡ left ++ drop (i + 1) ys = ap (λ z. z ++ drop (suc k) (left ++ drop i ys)) head ∙ ap (λ z. left ++ z) tail in
+    step_lost p m n k (with_glyphs (given ++ drop i xs) (standing k i ps) fs b) (with_glyphs (left ++ drop (i + 1) ys) (standing k (i + 1) ps) fs' b) x (drop (i + 1) xs) em next picked
+    (sym (same_glyphs _ _ _ _ fs' b gone (standing_lost k i ps le lt_ps)) ∙ ap (lose k) handed)

@@ -1,14 +1,13 @@
 -- Merging, marking and deletion keep the flags of glyphs.
-use Rattle.std.proofs.Common.{◌≡◌, ℕ, ◌+◌, ◌-◌, ◌<◌, ◌≤◌, Bool, true, false, nat_lt, eqb, ◌||◌, List, [], ◌∷◌, ◌++◌, length, take, drop, map, refl, ap, sym, ◌∙◌, arith, suc, zero, slice_range, slice_index, inl, inr, ◌⊎◌, remove, bit_and, bit_or}
-use Rattle.std.proofs.lemmas.Grind.{common_steps}
+use Rattle.std.proofs.Common.{◌≡◌, ℕ, ◌+◌, ◌-◌, Bool, true, false, nat_lt, eqb, ◌||◌, List, [], ◌∷◌, ◌++◌, take, drop, map, refl, ap, sym, ◌∙◌, arith, slice_range, inl, inr, ◌⊎◌, bit_and}
 use Rattle.std.proofs.lemmas.Bool.Decides.{nat_tests}
-use Rattle.std.proofs.lemmas.Nat.{and_assoc, and_or_apart, and_or_self}
+use Rattle.std.proofs.lemmas.Nat.{and_assoc, and_or_self}
 use Rattle.std.specs.Int.Bits.{and_zero_r}
 use Rattle.std.proofs.lemmas.List.{take-append-drop}
 use Rattle.std.proofs.lemmas.List.Folds.{list_any-append}
-use Rattle.std.specs.List.{list_any, suffix_len}
-use Rattle.shape_buffer.specs.Items.{Item, put_in, has_cluster, feature_bits}
-use Rattle.shape_buffer.specs.Clusters.{clusters, map_range, put_range, merge, least_cluster, growth_left, growth_right}
+use Rattle.std.specs.List.{list_any}
+use Rattle.shape_buffer.specs.Items.{Item, put_in, feature_bits}
+use Rattle.shape_buffer.specs.Clusters.{map_range, merge, least_cluster, growth_left, growth_right}
 use Rattle.shape_buffer.specs.Buffer.{Buffer}
 use Rattle.shape_buffer.specs.declared.buffer.settings.BufferClusterLevel.{BufferClusterLevel}
 use Rattle.shape_buffer.specs.declared.buffer.settings.BufferClusterLevel.TheVariants.{MonotoneGraphemes, MonotoneCharacters, Characters}

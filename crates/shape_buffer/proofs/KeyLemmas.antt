@@ -1,7 +1,8 @@
--- What goes by neither clusters nor masks: merging keeps it, and ordering goes by it. Merging keeps the settings too.
+-- What goes by neither clusters nor the defined flags: merging keeps it, and ordering goes by it. Merging keeps the settings too.
 use Rattle.std.proofs.Common.{◌≡◌, ℕ, ◌+◌, ◌-◌, ◌<◌, ◌≤◌, Bool, true, false, if◌then◌else◌, ◌==◌, ◌&&◌, bit_or, nat_lt, List, [], ◌∷◌, ◌++◌, map, take, drop, slice_range, refl, sym, ap, ap₂, ◌∙◌, arith, inl, inr}
 use Rattle.std.proofs.lemmas.Bool.{cases_Bool}
 use Rattle.std.proofs.lemmas.Bool.Decides.{nat_tests}
+use Rattle.std.proofs.lemmas.Nat.{and_assoc, and_or_apart}
 use Rattle.std.proofs.lemmas.List.{map-append, take-append-drop}
 use Rattle.std.proofs.lemmas.List.Folds.{drop_split}
 use Rattle.shape_buffer.proofs.ClusterLemmas.{merge_short, merge_long}
@@ -30,24 +31,24 @@ module _ {A B : Type 0} (class : A → ℕ) (class' : B → ℕ) (f : A → B) (
   in_order-map [] = refl
   in_order-map (x ∷ xs) = sink-map x (in_order class xs) ∙ ap (sink class' (f x)) (in_order-map xs)
 
--- a part of items that goes by neither their clusters nor their masks
+-- a part of items that goes by neither their clusters nor the defined flags of their masks
 pub record IsKey {B : Type 0} (key : Item → B) : Type 0 where
-  pub by_cluster : (item : Item) (cluster mask : ℕ) → key (record item { cluster = cluster; mask = mask }) ≡ key item
-  pub by_mask : (item : Item) (mask : ℕ) → key (record item { mask = mask }) ≡ key item
+  pub by_cluster : (item : Item) (cluster : ℕ) → key (record item { cluster = cluster; mask = feature_bits item.mask }) ≡ key item
+  pub by_break : (item : Item) → key (record item { mask = bit_or item.mask 3 }) ≡ key item
 
 module _ {B : Type 0} (key : Item → B) (is_key : IsKey key) where
   key-put_in : (cluster : ℕ) (item : Item) → key (put_in cluster item) ≡ key item
   key-put_in cluster item =
       elim (item.cluster == cluster) as (λ t. key (if t then item else record item { cluster = cluster; mask = feature_bits item.mask }) ≡ key item) [
         | true ↦ refl
-        | false ↦ is_key.by_cluster item cluster (feature_bits item.mask)
+        | false ↦ is_key.by_cluster item cluster
       ]
 
   key-mark_break : (least : ℕ) (item : Item) → key (mark_break least item) ≡ key item
   key-mark_break least item =
       elim (item.cluster == least) as (λ t. key (if t then item else record item { mask = bit_or item.mask 3 }) ≡ key item) [
         | true ↦ refl
-        | false ↦ is_key.by_mask item (bit_or item.mask 3)
+        | false ↦ is_key.by_break item
       ]
 
   keys-map : (f : Item → Item) → ((item : Item) → key (f item) ≡ key item) → (xs : List Item) → map key (map f xs) ≡ map key xs
@@ -60,7 +61,7 @@ module _ {B : Type 0} (key : Item → B) (is_key : IsKey key) where
       ∙ ap (λ l. map key (take from xs) ++ l) (map-append key (map f (slice_range xs from to)) (drop to xs) ∙ ap (λ l. l ++ map key (drop to xs)) (keys-map f same (slice_range xs from to)) ∙ sym (map-append key (slice_range xs from to) (drop to xs)) ∙ ap (map key) (sym (drop_split xs from to le)))
       ∙ sym (map-append key (take from xs) (drop from xs)) ∙ ap (map key) (take-append-drop from xs)
 
-  keys-merge : (start end : ℕ) (xs : List Item) → map key (merge start end xs) ≡ map key xs
+  pub keys-merge : (start end : ℕ) (xs : List Item) → map key (merge start end xs) ≡ map key xs
   keys-merge start end xs =
       elim (cases_Bool (nat_lt (start + 1) end)) [
         | inl long ↦
@@ -94,10 +95,20 @@ abbrev pub char_and_class : Item → ℕ × ℕ
 char_and_class item = (char_of item, class_of_item item)
 
 pub IsKey-char_and_class : IsKey char_and_class
-IsKey-char_and_class = record { by_cluster = λ item cluster mask. refl; by_mask = λ item mask. refl }
+IsKey-char_and_class = record { by_cluster = λ item cluster. refl; by_break = λ item. refl }
 
 pub IsKey-class : IsKey class_of_item
-IsKey-class = record { by_cluster = λ item cluster mask. refl; by_mask = λ item mask. refl }
+IsKey-class = record { by_cluster = λ item cluster. refl; by_break = λ item. refl }
+
+-- an item without its cluster and its defined flags
+abbrev pub unflagged : Item → Item
+unflagged item = record item { cluster = 0; mask = feature_bits item.mask }
+
+pub IsKey-unflagged : IsKey unflagged
+IsKey-unflagged = record {
+  by_cluster = λ item cluster. ap (λ mask. record item { cluster = 0; mask = mask }) (and_assoc 4294967288 item.mask 4294967288);
+  by_break = λ item. ap (λ mask. record item { cluster = 0; mask = mask }) (and_or_apart 4294967288 item.mask 3 refl);
+}
 
 -- ---- the settings
 

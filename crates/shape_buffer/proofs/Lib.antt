@@ -1,6 +1,7 @@
 pub mod ClusterLemmas
 pub mod DrawsInOrder
 pub mod MergeOrder
+pub mod JoinLemmas
 pub mod FlagLemmas
 pub mod FillLemmas
 pub mod TextLemmas
@@ -28,3 +29,4 @@ pub mod DeleteLemmas
 pub mod DeleteKeeps
 pub mod ExpandedLemmas
 pub mod KeyLemmas
+pub mod UnwrittenLemmas

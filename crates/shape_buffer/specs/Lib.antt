@@ -9,6 +9,7 @@ pub mod Buffer
 pub mod BufferClusters
 pub mod Delete
 pub mod KeepsFlags
+pub mod Unwritten
 pub mod Text
 pub mod Chain
 pub mod Expansion

@@ -1,6 +1,7 @@
 -- What the functions of Unicode mean, and the laws that every implementation proves.
 use Rattle.std.specs.Prelude.{◌≡◌, ◌≢◌, ℕ, ◌<◌, ◌⊎◌, Bool, true, false, Option, Some, None}
 use Rattle.shape_buffer.specs.Chain.{FallsAlong}
+use Rattle.shape_buffer.specs.Equivalent.{ComposesSoundly}
 use Rattle.shape_buffer.specs.Category.{is_mark_category}
 use Rattle.shape_buffer.specs.declared.buffer.general_category.hb_unicode_general_category_t.{hb_unicode_general_category_t}
 use Rattle.shape_buffer.specs.declared.buffer.settings.Direction.{Direction}
@@ -12,7 +13,10 @@ pub record UnicodeMeaning : Type 0 where
   pub class : ℕ → ℕ
   pub split : ℕ → Option (ℕ × ℕ)
   pub height : ℕ → ℕ
+  pub join : ℕ → ℕ → Option ℕ
+  pub space_fallback : ℕ → ℕ
   pub ignorable : ℕ → Bool
+  pub selector : ℕ → Bool
   pub script : ℕ → Script
   pub script_direction : Script → Option Direction
 
@@ -32,3 +36,4 @@ pub record LawfulUnicode (unicode : UnicodeMeaning) : Type 0 where
   pub marks_have_classes : (c : ℕ) → unicode.class c ≢ 0 → is_mark unicode c ≡ true
   pub ascii_is_no_mark : (c : ℕ) → c < 128 → is_mark unicode c ≡ false
   pub splits_fall : SplitsFall unicode.split unicode.height unicode.class
+  pub composes_soundly : ComposesSoundly unicode.split unicode.height unicode.class unicode.join

@@ -7,6 +7,7 @@ mod face;
 mod layout;
 mod map_builder;
 mod map_request;
+pub mod space_types;
 mod unicode_funcs;
 
 pub use crate::buffer::hb_unicode_general_category_t;

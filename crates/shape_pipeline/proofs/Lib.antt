@@ -1,5 +1,6 @@
 pub mod StepLemmas
 pub mod RulesLemmas
+pub mod ReorderLemmas
 pub mod PieceLemmas
 pub mod RoundOneLemmas
 pub mod SpanLemmas
@@ -9,3 +10,6 @@ pub mod NormalizedLemmas
 pub mod PreparedLemmas
 pub mod NormalFormLemmas
 pub mod OrderedLemmas
+pub mod CanonicalFormLemmas
+pub mod RunClusterLemmas
+pub mod ClusterOrderLemmas

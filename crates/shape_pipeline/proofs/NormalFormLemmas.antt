@@ -31,7 +31,7 @@ abbrev face_of : Item → Face
 face_of item = (item.codepoint, (item.properties.modified_class, item.properties.general_category))
 
 IsKey-face_of : IsKey face_of
-IsKey-face_of = record { by_cluster = λ item cluster mask. refl; by_mask = λ item mask. refl }
+IsKey-face_of = record { by_cluster = λ item cluster. refl; by_break = λ item. refl }
 
 abbrev IsPreparedFace : UnicodeMeaning → Face → Type 0
 IsPreparedFace unicode face = (is_mark_category face.1.1 ≡ is_mark unicode face.0) × (face.1.0 ≡ unicode.class face.0)

@@ -73,11 +73,11 @@ shaped_from rules b (x ∷ xs) any = refl
 pub shaped_of_any : (rules : Rules) (b : Buffer) → 0 < length b.items → glyphs_mapped (normalized rules (prepared rules.unicode b)) ≡ shaped rules b
 shaped_of_any rules b any = shaped_from rules b b.items any
 
-chars-mapped : (items : List Item) → map char_of (map with_mapped_glyph items) ≡ map char_of items
+pub chars-mapped : (items : List Item) → map char_of (map with_mapped_glyph items) ≡ map char_of items
 chars-mapped [] = refl
 chars-mapped (item ∷ items) = ap (λ rest. item.codepoint ∷ rest) (chars-mapped items)
 
-chars-with_props : (unicode : UnicodeMeaning) (items : List Item) → map char_of (map (with_unicode_props unicode) items) ≡ map char_of items
+pub chars-with_props : (unicode : UnicodeMeaning) (items : List Item) → map char_of (map (with_unicode_props unicode) items) ≡ map char_of items
 chars-with_props unicode [] = refl
 chars-with_props unicode (item ∷ items) = ap (λ rest. item.codepoint ∷ rest) (chars-with_props unicode items)
 

@@ -1,5 +1,6 @@
 pub mod Plan
 pub mod Shaper
+pub mod Reorder
 pub mod Shapers
 pub mod Steps
 pub mod Rules
@@ -8,3 +9,4 @@ pub mod RoundTwo
 pub mod Normalized
 pub mod Shaped
 pub mod Prepared
+pub mod CanonicalForm

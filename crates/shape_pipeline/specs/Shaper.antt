@@ -11,12 +11,15 @@ pub record ShaperConstants : Type 0 where
   pub zero_width_marks : ℕ
   pub fallback_position : Bool
   pub has_decompose : Bool
+  pub has_compose : Bool
+  pub has_reorder_marks : Bool
 
 -- what the hooks of a shaper do under a plan and over a face
 pub record HookMeaning : Type 0 where
   pub split : ℕ → Option (ℕ × ℕ)
   -- falls from a character to the first part of its split
   pub height : ℕ → ℕ
+  pub join : ℕ → ℕ → Option ℕ
 
 -- what every shaper owes of its constants
 pub record LawfulConstants (constants : ShaperConstants) : Type 0 where

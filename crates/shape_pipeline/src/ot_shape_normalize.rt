@@ -5,13 +5,16 @@
 //! the characters of some point of the chain are put in its place, if the face has glyphs for all of
 //! them. A shaper may bring splits of its own. The marks behind a character are then put in one order,
 //! so that spellings of one text become one list (UAX 15; The Unicode Standard, D68 and D107 to D109).
-ghost use Rattle.std.specs.Prelude.{◌≡◌, ◌<◌, ◌≤◌, [], length, map, IsOk, OnOk, OnErr, Err};
+ghost use Rattle.std.specs.Prelude.{◌≡◌, ◌<◌, ◌≤◌, true, [], length, map, IsOk, OnOk, OnErr, Err};
 ghost use Rattle.shape_buffer.specs.Buffer.{cleared, limit_of};
+ghost use Rattle.shape_buffer.specs.Clusters.{clusters};
+ghost use Rattle.shape_buffer.specs.ClusterOrder.{KeepsClusters, IsMonotoneLevel};
 ghost use Rattle.shape_buffer.specs.Items.{char_of};
 ghost use Rattle.shape_pipeline.specs.Plan.{hooks_of};
 ghost use Rattle.shape_pipeline.specs.Rules.{rules_of};
 ghost use Rattle.shape_pipeline.specs.RoundOne.{round_one};
-ghost use Rattle.shape_pipeline.specs.RoundTwo.{has_mark_past_first as has_mark_past_first_of};
+ghost use Rattle.shape_pipeline.specs.RoundTwo.{has_mark_past_first as has_mark_past_first_of, OrdersMarks};
+ghost use Rattle.shape_pipeline.specs.CanonicalForm.{NormalizesCanonically};
 ghost use Rattle.shape_pipeline.specs.Normalized.{normalized, BroughtInHaveGlyphs};
 
 mod decompose;
@@ -50,6 +53,11 @@ where
         (rules_of U.unicode S.constants.has_decompose (hooks_of S.hooks plan.now face.now) (F.face face.now)) buffer.old) }
     ensures brought_in { OnOk result (BroughtInHaveGlyphs (F.face face.now).nominal_glyph
         (map char_of buffer.old.items) (map char_of buffer.new.items)) }
+    ensures canonical_form { OnOk result (NormalizesCanonically
+        (rules_of U.unicode S.constants.has_decompose (hooks_of S.hooks plan.now face.now) (F.face face.now)) buffer.old buffer.new) }
+    ensures ordered { OnOk result (has_mark_past_first_of buffer.old.items ≡ true → OrdersMarks (round_one
+        (rules_of U.unicode S.constants.has_decompose (hooks_of S.hooks plan.now face.now) (F.face face.now)) buffer.old).items buffer.new.items) }
+    ensures clusters { OnOk result (IsMonotoneLevel buffer.old.cluster_level → KeepsClusters (clusters buffer.old.items) (clusters buffer.new.items)) }
     ensures within { OnOk result (length buffer.new.items ≤ limit_of buffer.old) }
     ensures counted { OnOk result (length (round_one
         (rules_of U.unicode S.constants.has_decompose (hooks_of S.hooks plan.now face.now) (F.face face.now)) buffer.old).items ≤ limit_of buffer.old) }

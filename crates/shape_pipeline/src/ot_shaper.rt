@@ -2,15 +2,17 @@
 //!
 //! A shaper says by constants which hooks it gives; one that isn't given is never called. What the hooks
 //! mean is one record of functions, and what every shaper owes is a law of the trait.
-ghost use Rattle.std.specs.Prelude.{◌≡◌, ℕ, ℤ, Bool, Option};
+ghost use Rattle.std.specs.Prelude.{◌≡◌, ◌≤◌, ℕ, ℤ, Bool, Option, length};
+ghost use Rattle.shape_buffer.specs.Buffer.{Buffer};
 ghost use Rattle.shape_buffer.specs.declared.buffer.settings.hb_tag_t.{hb_tag_t};
 ghost use Rattle.shape_pipeline.specs.Plan.{Plan};
+ghost use Rattle.shape_pipeline.specs.Reorder.{PermutesRanges};
 ghost use Rattle.shape_pipeline.specs.Shaper.{ShaperConstants, HookMeaning, LawfulConstants, OwedHooks};
 
 mod shapers;
 
 use crate::ot_shape_plan::hb_ot_shape_plan_t;
-use shape_buffer::buffer::hb_tag_t;
+use shape_buffer::buffer::{hb_buffer_t, hb_tag_t};
 use shape_buffer::interfaces::{hb_font_t, hb_ot_layout_t, hb_unicode_funcs_t};
 pub use shapers::{DEFAULT_SHAPER, DUMBER_SHAPER, hb_default_shaper_t, hb_dumber_shaper_t};
 
@@ -40,6 +42,9 @@ pub trait hb_ot_shaper_t<U: hb_unicode_funcs_t, F: hb_font_t, M: hb_ot_layout_t<
     /// What the hooks do under a plan and over a face.
     ghost hooks: { Self → Plan Self M.Map Self.Data → F → HookMeaning };
 
+    /// The buffer after `reorder_marks` under a plan.
+    ghost reordered: { Self → Plan Self M.Map Self.Data → Buffer → ℕ → ℕ → Buffer };
+
     ghost IS_DEFAULT: { Bool };
 
     ghost NORMALIZATION_PREFERENCE: { ℤ };
@@ -51,6 +56,10 @@ pub trait hb_ot_shaper_t<U: hb_unicode_funcs_t, F: hb_font_t, M: hb_ot_layout_t<
     ghost FALLBACK_POSITION: { Bool };
 
     ghost HAS_DECOMPOSE: { Bool };
+
+    ghost HAS_COMPOSE: { Bool };
+
+    ghost HAS_REORDER_MARKS: { Bool };
 
     /// Whether this is the shaper of texts whose script needs nothing of its own.
     const IS_DEFAULT: bool;
@@ -70,6 +79,12 @@ pub trait hb_ot_shaper_t<U: hb_unicode_funcs_t, F: hb_font_t, M: hb_ot_layout_t<
     /// Whether `decompose` is given.
     const HAS_DECOMPOSE: bool;
 
+    /// Whether `compose` is given.
+    const HAS_COMPOSE: bool;
+
+    /// Whether `reorder_marks` is given.
+    const HAS_REORDER_MARKS: bool;
+
     /// The record of the constants has their values.
     ghost constants_agree: { constants ≡ record {
       is_default = IS_DEFAULT;
@@ -78,6 +93,8 @@ pub trait hb_ot_shaper_t<U: hb_unicode_funcs_t, F: hb_font_t, M: hb_ot_layout_t<
       zero_width_marks = ZERO_WIDTH_MARKS;
       fallback_position = FALLBACK_POSITION;
       has_decompose = HAS_DECOMPOSE;
+      has_compose = HAS_COMPOSE;
+      has_reorder_marks = HAS_REORDER_MARKS;
     } };
 
     /// The two parts that a character splits into in one step, in place of Unicode's.
@@ -89,10 +106,38 @@ pub trait hb_ot_shaper_t<U: hb_unicode_funcs_t, F: hb_font_t, M: hb_ot_layout_t<
     ) -> Option<(char, char)>
         ensures { result ≡ (hooks self.now plan.now face.now).split c };
 
+    /// The character that two characters make in one step, in place of Unicode's.
+    fn compose(
+        &self,
+        plan: &hb_ot_shape_plan_t<'_, Self, M::Map, Self::Data>,
+        face: &F,
+        a: char,
+        b: char,
+    ) -> Option<char>
+        ensures { result ≡ (hooks self.now plan.now face.now).join a b };
+
+    /// Puts the items from place `start` up to `end`, a run of marks in canonical order, in an order of
+    /// the shaper's own. May merge clusters.
+    fn reorder_marks(
+        &self,
+        plan: &hb_ot_shape_plan_t<'_, Self, M::Map, Self::Data>,
+        buffer: &mut hb_buffer_t,
+        start: usize,
+        end: usize,
+    )
+        requires ordered { start ≤ end }
+        requires within { end ≤ length buffer.old.items }
+        ensures { buffer.new ≡ reordered self.now plan.now buffer.old start end };
+
     /// The preference and the zero width type are in their ranges.
     ghost lawful_constants: { LawfulConstants constants };
 
     /// A height of the shaper's own falls along the splits of its hook.
     ghost lawful_hooks: { (shaper : Self) (plan : Plan Self M.Map Self.Data) (face : F)
         → OwedHooks (hooks shaper plan face) };
+
+    /// `reorder_marks` puts the items of its range in another order; but for clusters and flags of
+    /// glyphs, it changes nothing else.
+    ghost permutes: { (shaper : Self) (plan : Plan Self M.Map Self.Data)
+        → PermutesRanges (reordered shaper plan) };
 }

@@ -1,10 +1,13 @@
 //! The entry: text goes in, glyphs come out.
 ghost use Rattle.std.specs.Prelude.{◌≡◌, ◌<◌, ◌≤◌, [], length, map, IsOk, IfOk, IfErr};
 ghost use Rattle.shape_buffer.specs.Buffer.{cleared, run_limit};
+ghost use Rattle.shape_buffer.specs.Clusters.{clusters};
+ghost use Rattle.shape_buffer.specs.ClusterOrder.{KeepsClusters, IsMonotoneLevel};
 ghost use Rattle.shape_buffer.specs.Items.{char_of};
 ghost use Rattle.shape_pipeline.specs.Plan.{Fits, hooks_of};
 ghost use Rattle.shape_pipeline.specs.Rules.{rules_of};
 ghost use Rattle.shape_pipeline.specs.RoundOne.{round_one};
+ghost use Rattle.shape_pipeline.specs.CanonicalForm.{ShapesCanonically};
 ghost use Rattle.shape_pipeline.specs.Normalized.{BroughtInHaveGlyphs};
 ghost use Rattle.shape_pipeline.specs.Shaped.{prepared, shaped};
 
@@ -36,6 +39,9 @@ where
         (rules_of U.unicode S.constants.has_decompose (hooks_of S.hooks plan.now face.now) (F.face face.now)) buffer) }
     ensures brought_in { IfOk result (λ glyphs. BroughtInHaveGlyphs (F.face face.now).nominal_glyph
         (map char_of buffer.items) (map char_of glyphs.items)) }
+    ensures canonical_form { IfOk result (λ glyphs. ShapesCanonically
+        (rules_of U.unicode S.constants.has_decompose (hooks_of S.hooks plan.now face.now) (F.face face.now)) buffer glyphs) }
+    ensures clusters { IfOk result (λ glyphs. IsMonotoneLevel buffer.cluster_level → KeepsClusters (clusters buffer.items) (clusters glyphs.items)) }
     ensures within { IfOk result (λ glyphs. length glyphs.items ≤ run_limit (length buffer.items)) }
     ensures counted { IfOk result (λ _. length (round_one
         (rules_of U.unicode S.constants.has_decompose (hooks_of S.hooks plan.now face.now) (F.face face.now)) (prepared U.unicode buffer)).items ≤ run_limit (length buffer.items)) }

@@ -1,3 +1,5 @@
 pub mod Plain
 pub mod Faces
 pub mod Splitting
+pub mod Reversing
+pub mod Worked

@@ -1,5 +1,5 @@
--- Functions of Unicode by which every character is a letter that doesn't split.
-use Rattle.std.specs.Prelude.{◌≡◌, ℕ, false, Option, None, refl}
+-- Functions of Unicode by which every character is a letter that neither splits nor composes.
+use Rattle.std.specs.Prelude.{false, None, refl}
 use Rattle.shape_buffer.specs.Unicode.{UnicodeMeaning, LawfulUnicode}
 use Rattle.shape_buffer.specs.declared.buffer.general_category.hb_unicode_general_category_t.TheVariants.{OtherLetter}
 
@@ -9,7 +9,10 @@ plain_unicode = record {
   class = λ _. 0;
   split = λ _. None;
   height = λ _. 0;
+  join = λ _ _. None;
+  space_fallback = λ _. 0;
   ignorable = λ _. false;
+  selector = λ _. false;
   script = λ _. record { 0 = record { 0 = 1517976186 } };
   script_direction = λ _. None;
 }
@@ -24,4 +27,5 @@ plain_unicode-lawful = record {
     first_class = λ c a b marked. absurd (marked refl);
     second_class = λ c a b marked. absurd (marked refl);
   };
+  composes_soundly = record { equivalent = λ a b c joins. cc };
 }

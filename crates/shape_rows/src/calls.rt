@@ -1,11 +1,11 @@
 //! Calls on their happy path whose answers no clause of another test shows.
 
-use crate::support::{FaceOf, NoLookups, PlainUnicode};
+use crate::support::{FaceOf, NoLookups, PlainUnicode, ReversingShaper};
 use shape_buffer::buffer::{Direction, Feature, Language, Script, UnicodeBuffer, hb_tag_t};
 use shape_buffer::interfaces::{TableIndex, hb_ot_map_builder_t};
 use shape_pipeline::ot_shape_normalize::_hb_ot_shape_normalize;
 use shape_pipeline::ot_shape_plan::hb_ot_shape_plan_t;
-use shape_pipeline::ot_shaper::{DEFAULT_SHAPER, hb_default_shaper_t};
+use shape_pipeline::ot_shaper::{DEFAULT_SHAPER, hb_default_shaper_t, hb_ot_shaper_t};
 use std::test::Fail;
 
 #[test]
@@ -69,6 +69,44 @@ fn normalising_keeps_what_is_not_split(rt: HostRuntime) -> Result<(), Fail> {
     assert_eq!(rt; buffer.len(), 2);
     for (info, (c, glyph)) in buffer.infos().iter().zip([('a', 0x61), ('\u{e9}', 0)]) {
         assert_eq!(rt; (info.codepoint, info.glyph_index), (c, glyph));
+    }
+    Ok(())
+}
+
+#[test]
+fn a_hook_reverses_its_range(rt: HostRuntime) -> Result<(), Fail> {
+    let alloc = rt.alloc();
+    let face = FaceOf(&[]);
+    let plan = hb_ot_shape_plan_t::new::<PlainUnicode, FaceOf<'_>, NoLookups>(
+        alloc,
+        &face,
+        &ReversingShaper,
+        Direction::LeftToRight,
+        None,
+        None,
+        &[],
+    )?;
+    let mut text = UnicodeBuffer::new(alloc);
+    text.push_str("abcdef")?;
+    let mut buffer = text.into_inner();
+    for (start, end) in [(1, 4), (2, 6), (6, 6)] {
+        <ReversingShaper as hb_ot_shaper_t<PlainUnicode, FaceOf<'_>, NoLookups>>::reorder_marks(
+            &ReversingShaper,
+            &plan,
+            &mut buffer,
+            start,
+            end,
+        );
+    }
+    for (info, (c, cluster)) in buffer.infos().iter().zip([
+        ('a', 0),
+        ('d', 3),
+        ('f', 5),
+        ('e', 4),
+        ('b', 1),
+        ('c', 2),
+    ]) {
+        assert_eq!(rt; (info.codepoint, info.cluster), (c, cluster));
     }
     Ok(())
 }

@@ -7,5 +7,5 @@
 mod calls;
 #[cfg(test)]
 mod rows;
-#[cfg(test)]
 mod support;
+pub mod worked;

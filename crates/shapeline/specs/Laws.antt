@@ -1,19 +1,26 @@
 -- The laws of the program's functions of Unicode: the rule of a table is a test that computes over the whole table.
-use Rattle.std.specs.Prelude.{◌≡◌, ◌≢◌, ℕ, ◌<◌, ◌⊎◌, ◌==◌, ◌&&◌, ◌||◌, not, nat_lt, Bool, true, false, List, [], ◌∷◌, Option, Some, None, is_none, option_and_then, refl}
+use Rattle.std.specs.Prelude.{◌≡◌, ◌≢◌, ℕ, ◌<◌, ◌⊎◌, ◌==◌, ◌&&◌, ◌||◌, not, nat_lt, Bool, true, false, List, [], ◌∷◌, Option, Some, None, ◌++◌, is_none, option_and_then, refl}
 use Rattle.std.specs.List.{find, list_all}
 use Rattle.std.specs.Option.{option_map}
 use Rattle.std.proofs.Common.{cond, inl, inr, ap, sym, ◌∙◌, arith, subst}
 use Rattle.std.proofs.lemmas.Bool.Decides.{nat_tests}
+use Rattle.std.proofs.lemmas.List.{append_assoc}
 use Rattle.unicode.specs.GeneralCategory.{general_category}
 use Rattle.shape_buffer.specs.Category.{is_mark_category}
+use Rattle.shape_buffer.specs.Chain.{kept, full, full_text}
+use Rattle.shape_buffer.specs.Order.{Swaps, done}
+use Rattle.shape_buffer.specs.Equivalent.{ComposesSoundly}
 use Rattle.shape_buffer.specs.Unicode.{LawfulUnicode, SplitsFall}
 use Rattle.shape_buffer.specs.declared.buffer.general_category.hb_unicode_general_category_t.{hb_unicode_general_category_t}
 use Rattle.shape_buffer.specs.declared.buffer.general_category.hb_unicode_general_category_t.TheVariants.{Unassigned}
 use Rattle.shapeline.specs.Category.{category_from, is_marked}
 use Rattle.shapeline.specs.Class.{class_in_table, class_of}
 use Rattle.shapeline.specs.Split.{split_in_table, split_of, height_of, keeps_marks}
+use Rattle.shapeline.specs.Join.{join_in_table, join_of, is_split_into}
 use Rattle.shapeline.specs.Meaning.{unicode_tables}
 use Rattle.shapeline.specs.declared.unicode_tables.split.TheConstants.{SPLITS}
+use Rattle.shapeline.specs.declared.unicode_tables.join.TheConstants.{COMPOSITES}
+use Rattle.shape_buffer.proofs.ChainLemmas.{full-stays, full-splits}
 
 true_and : (a b : Bool) → (a && b) ≡ true → (a ≡ true) × (b ≡ true)
 true_and true b h = (refl, h)
@@ -146,10 +153,82 @@ splits_fall all_fall all_end all_keep = record {
   second_class = λ c a b h e. (class_of_parts all_keep c a b h e).1;
 }
 
--- here the three tests compute
+-- a join of the functions is one of the table, and splits into the two again
+join_of_cases : (a b c : ℕ) → join_of a b ≡ Some c → (join_in_table a b ≡ Some c) × (is_split_into a b (split_of c) ≡ true)
+join_of_cases a b c joined =
+    let P : Option ℕ → Type 0 = λ v. option_and_then (λ d. cond (is_split_into a b (split_of d)) (Some d) None) v ≡ Some c → (v ≡ Some c) × (is_split_into a b (split_of c) ≡ true) in
+    let cases : P (join_in_table a b) = elim (join_in_table a b) as P [
+      | None ↦ λ h. cc
+      | Some d ↦ λ h.
+          let Q : Bool → Type 0 = λ t. is_split_into a b (split_of d) ≡ t → cond t (Some d) None ≡ Some c → (Some d ≡ Some c) × (is_split_into a b (split_of c) ≡ true) in
+          let inner : Q (is_split_into a b (split_of d)) = elim (is_split_into a b (split_of d)) as Q [
+            | true ↦ λ e k. let same_one : d ≡ c = cc in (k, subst (λ z. is_split_into a b (split_of z) ≡ true) same_one e)
+            | false ↦ λ e k. cc
+          ] in
+          inner refl h
+    ] in
+    cases joined
+
+split_into : (a b : ℕ) (o : Option (ℕ × ℕ)) → is_split_into a b o ≡ true → o ≡ Some (a, b)
+split_into a b None h = cc
+split_into a b (Some parts) h =
+    let both = true_and (parts.0 == a) (parts.1 == b) h in
+    let first : parts.0 ≡ a = grind (arith, nat_tests, both.0) in
+    let second : parts.1 ≡ b = grind (arith, nat_tests, both.1) in
+    ap Some (ap (λ x. (x, parts.1)) first ∙ ap (λ y. (a, y)) second)
+
+-- a composite has two parts: the second one isn't U+0000
+abbrev has_two_parts : Entry → Bool
+has_two_parts e = not (e.1 == 0)
+
+joined_second : list_all has_two_parts COMPOSITES ≡ true → (a b c : ℕ) → join_in_table a b ≡ Some c → b ≢ 0
+joined_second all a b c joined =
+    let is_key : Entry → Bool = λ e. e.0 == a && e.1 == b in
+    let made : Entry → ℕ = λ e. e.2 in
+    let P : Option Entry → Type 0 = λ v. find is_key COMPOSITES ≡ v → option_map made v ≡ Some c → b ≢ 0 in
+    let cases : P (find is_key COMPOSITES) = elim (find is_key COMPOSITES) as P [
+      | None ↦ λ e h. cc
+      | Some entry ↦ λ e h zero_second.
+          let passes = found_passes is_key has_two_parts COMPOSITES entry all e in
+          let key = true_and (entry.0 == a) (entry.1 == b) passes.0 in
+          let second : entry.1 ≡ b = grind (arith, nat_tests, key.1) in
+          let nonzero = passes.1 in
+          grind (arith, nat_tests)
+    ] in
+    cases refl joined
+
+kept_nonzero : (b : ℕ) → b ≢ 0 → kept b ≡ b ∷ []
+kept_nonzero b nonzero = let e : (b == 0) ≡ false = grind (arith, nat_tests) in ap (λ t. cond t [] (b ∷ [])) e
+
+-- Full of the composite is Full of the first part, and then the second part, which is its own Full
+full_of_join : SplitsFall split_of height_of class_of → list_all has_two_parts COMPOSITES ≡ true → (a b c : ℕ) → join_of a b ≡ Some c
+    → full split_of height_of c ≡ full split_of height_of a ++ full split_of height_of b
+full_of_join falling all a b c joined =
+    let cases = join_of_cases a b c joined in
+    let splits : split_of c ≡ Some (a, b) = split_into a b (split_of c) cases.1 in
+    let nonzero : b ≢ 0 = joined_second all a b c cases.0 in
+    let last : split_of b ≡ None = elim (falling.second_is_last c a b splits) [ inl z ↦ absurd (nonzero z) | inr h ↦ h ] in
+    let second : kept b ≡ full split_of height_of b = kept_nonzero b nonzero ∙ sym (full-stays split_of height_of falling.height_falls b last) in
+    full-splits split_of height_of falling.height_falls c a b splits ∙ ap (λ xs. full split_of height_of a ++ xs) second
+
+composes_soundly : SplitsFall split_of height_of class_of → list_all has_two_parts COMPOSITES ≡ true → ComposesSoundly split_of height_of class_of join_of
+unfolding full_text
+composes_soundly falling all = record { equivalent = sound }
+  where
+    full_of : ℕ → List ℕ
+    full_of c = full split_of height_of c
+
+    sound : (a b c : ℕ) → join_of a b ≡ Some c → Swaps class_of (full_text split_of height_of (c ∷ [])) (full_text split_of height_of (a ∷ b ∷ []))
+    sound a b c joined =
+        let same_text : (full_of c ++ []) ≡ (full_of a ++ (full_of b ++ [])) =
+        ap (λ xs. xs ++ []) (full_of_join falling all a b c joined) ∙ append_assoc (full_of a) (full_of b) [] in
+        subst (λ xs. Swaps class_of (full_of c ++ []) xs) same_text done
+
+-- here the tests compute
 pub unicode_tables-lawful : LawfulUnicode unicode_tables
 unicode_tables-lawful = record {
   marks_have_classes = λ c h. (cond_nonzero (is_marked c) (class_in_table c) h).0;
   ascii_is_no_mark = λ c h. ascii_is_no_mark (nat_lt c 128) (category_from (general_category c)) (grind (arith, nat_tests, h));
   splits_fall = splits_fall refl refl refl;
+  composes_soundly = composes_soundly (splits_fall refl refl refl) refl;
 }

@@ -1,10 +1,14 @@
 pub mod Category
 pub mod Class
 pub mod Split
+pub mod Join
+pub mod Spaces
 pub mod Ignorable
+pub mod Selector
 pub mod Scripts
 pub mod Meaning
 pub mod Laws
 pub mod Face
 pub mod Words
 pub mod Preferences
+pub mod Text

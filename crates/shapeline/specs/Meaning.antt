@@ -3,7 +3,10 @@ use Rattle.shape_buffer.specs.Unicode.{UnicodeMeaning}
 use Rattle.shapeline.specs.Category.{category_of}
 use Rattle.shapeline.specs.Class.{class_of}
 use Rattle.shapeline.specs.Split.{split_of, height_of}
+use Rattle.shapeline.specs.Join.{join_of}
+use Rattle.shapeline.specs.Spaces.{space_type_of}
 use Rattle.shapeline.specs.Ignorable.{is_ignorable}
+use Rattle.shapeline.specs.Selector.{is_selector}
 use Rattle.shapeline.specs.Scripts.{script_of, direction_of_script}
 
 abbrev pub unicode_tables : UnicodeMeaning
@@ -12,7 +15,10 @@ unicode_tables = record {
   class = class_of;
   split = split_of;
   height = height_of;
+  join = join_of;
+  space_fallback = space_type_of;
   ignorable = is_ignorable;
+  selector = is_selector;
   script = script_of;
   script_direction = direction_of_script;
 }

@@ -59,4 +59,8 @@ impl hb_font_t for Face {
     fn has_glyph(&self, c: char) -> bool {
         self.glyphs.contains_key(&c)
     }
+
+    fn glyph_variation_index(&self, _c: char, _selector: char) -> Option<GlyphId> {
+        None
+    }
 }

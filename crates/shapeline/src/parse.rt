@@ -4,9 +4,9 @@
 //! is none but one minus before a signed number.
 ghost use Rattle.std.specs.Prelude.{◌≡◌, ◌≤◌, ◌≢◌, [], ◌∷◌, ◌^◌, ◌<◌, length, slice_index};
 ghost use Rattle.std.specs.Option.{SomeIff, MatchOption};
-ghost use Rattle.std.specs.Char.{IsScalar};
 ghost use Rattle.std.specs.Iterator.{at_most};
 ghost use Rattle.std.specs.Str.Parse.{IsNumeral, digits_value, signed_digits_value, without_leading_sign};
+ghost use Rattle.shapeline.specs.Text.{IsCharacterWord};
 ghost use Rattle.shapeline.specs.Words.{words};
 ghost use mir.Syntax.{w32};
 ghost use mir.Val.{SFits};
@@ -14,7 +14,7 @@ ghost use mir.Val.{SFits};
 /// The words of a line that are left, from the first one on.
 #[derive(Clone, Copy)]
 pub struct Words<'a> {
-    rest: &'a str,
+    pub(crate) rest: &'a str,
 }
 
 impl<'a> Words<'a> {
@@ -61,7 +61,7 @@ fn digits(word: &str, radix: u32) -> Option<u32>
 /// The character that one to six hexadecimal digits write. Refuses every other word, and a number that
 /// is no character.
 pub fn character(word: &str) -> Option<char>
-    ensures { SomeIff result ((length word.now ≤ 6) × IsNumeral 16 word.now × IsScalar (digits_value 16 word.now)) (digits_value 16 word.now) }
+    ensures { SomeIff result (IsCharacterWord word.now) (digits_value 16 word.now) }
 {
     if word.len() > 6 {
         return None;

@@ -3,16 +3,23 @@
 //!
 //! A file for each property. No proof knows the value of a category, so the laws may not rest on one:
 //! where a law speaks of marks, the function asks for the category as it runs. A class counts only for
-//! a mark, a mark splits only into marks, and an ASCII character would be no mark whatever the database
-//! said. On these tables none of the tests changes an answer.
+//! a mark, a mark splits only into marks, characters compose only into one that splits into them, and an
+//! ASCII character would be no mark whatever the database said. On these tables none of the tests changes
+//! an answer.
 
 mod category;
 mod class;
 mod ignorable;
+mod join;
 mod script;
+mod selector;
+mod space;
 mod split;
+#[cfg(test)]
+mod tests;
 
 use shape_buffer::buffer::{Direction, Script};
+use shape_buffer::interfaces::space_types::space_t;
 use shape_buffer::interfaces::{hb_unicode_funcs_t, hb_unicode_general_category_t};
 
 /// The program's functions of Unicode.
@@ -38,8 +45,20 @@ impl hb_unicode_funcs_t for UnicodeTables {
         split::decompose(c)
     }
 
+    fn compose(a: char, b: char) -> Option<char> {
+        join::compose(a, b)
+    }
+
+    fn space_fallback(c: char) -> space_t {
+        space::space_fallback(c)
+    }
+
     fn is_default_ignorable(c: char) -> bool {
         ignorable::is_default_ignorable(c)
+    }
+
+    fn is_variation_selector(c: char) -> bool {
+        selector::is_variation_selector(c)
     }
 
     fn script(c: char) -> Script {

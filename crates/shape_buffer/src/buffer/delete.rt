@@ -2,43 +2,113 @@
 //!
 //! The kept glyphs are moved to the front, one by one. Before a picked glyph goes, its cluster is handed
 //! on, so that no piece of the text is without a glyph that leads to it.
-ghost use Rattle.std.specs.Prelude.{◌≡◌, ◌+◌, ◌<◌, ◌≤◌, length, drop, map, Bool};
+//!
+//! A kept run of one cluster may take smaller clusters again and again. So that each item is written
+//! once, only the last item of the run is, and where each run begins is noted. An item of a run whose
+//! last item ends in a smaller cluster than its own has taken that one's: it is written at the end.
+ghost use Rattle.std.specs.Prelude.{◌≡◌, ◌+◌, ◌<◌, ◌≤◌, List, [], ◌∷◌, ◌++◌, length, take, drop, Bool};
 ghost use Rattle.std.specs.Fn.{FnReturnsAt};
 ghost use Rattle.shape_buffer.specs.Items.{Item};
 ghost use Rattle.shape_buffer.specs.Buffer.{Buffer};
 ghost use Rattle.shape_buffer.specs.BufferClusters.{merge_clusters};
-ghost use Rattle.shape_buffer.specs.Delete.{give_to_kept as give_to_kept_of, hand_over, hand_on as hand_on_of, begins_in as begins_in_of, standing, deleted};
+ghost use Rattle.shape_buffer.specs.Delete.{give_to_kept, hand_over as hand_over_of, hand_on as hand_on_of, begins_in as begins_in_of, deleted};
+ghost use Rattle.shape_buffer.specs.Unwritten.{StandsFor, follow as follow_of, written};
 
-use crate::buffer::clusters::{count_at_end, mark_break, merge_items};
+use crate::buffer::clusters::{mark_break, merge_items};
 use crate::buffer::flags::ScratchFlags;
 use crate::buffer::items::{DEFINED, hb_glyph_info_t};
 use crate::buffer::positions::GlyphPosition;
 use crate::buffer::settings::BufferClusterLevel;
 use bitflags::Flags;
 
-/// Gives the picked item's cluster and flags to the kept items at the end of one cluster, where it is below theirs.
-fn give_to_kept(infos: &mut [hb_glyph_info_t], kept: usize, picked: &hb_glyph_info_t)
-    requires some { 0 < kept }
-    requires within { kept ≤ length infos.old }
-    ensures { infos.new ≡ give_to_kept_of kept picked.now infos.old }
+/// Gives the picked item's cluster and flags to an item.
+fn hand_over(info: &mut hb_glyph_info_t, picked: &hb_glyph_info_t)
+    ensures { info.new ≡ hand_over_of picked.now info.old }
 {
-    let items: &[hb_glyph_info_t] = infos;
-    let last = items[kept - 1].cluster;
-    if last <= picked.cluster {
-        return;
-    }
-    let from = kept - count_at_end(&items[..kept], last);
-    hand_over_all(&mut infos[from..kept], picked);
+    info.cluster = picked.cluster;
+    info.mask = (info.mask & !DEFINED) | (picked.mask & DEFINED);
 }
 
-/// Gives every item the picked item's cluster and flags.
-fn hand_over_all(infos: &mut [hb_glyph_info_t], picked: &hb_glyph_info_t)
-    ensures { infos.new ≡ map (hand_over picked.now) infos.old }
+/// Writes the item before one that is written: it takes that one's cluster where it is smaller.
+fn follow(info: &mut hb_glyph_info_t, next: &hb_glyph_info_t)
+    ensures { info.new ≡ follow_of info.old (next.now ∷ []) }
 {
-    for info in infos.iter_mut() {
-        info.cluster = picked.cluster;
-        info.mask = (info.mask & !DEFINED) | (picked.mask & DEFINED);
+    if next.cluster < info.cluster {
+        hand_over(info, next);
     }
+}
+
+/// Writes a run, from its end.
+fn write_run(infos: &mut [hb_glyph_info_t])
+    ensures { infos.new ≡ written infos.old }
+{
+    let mut i = infos.len();
+    while 1 < i {
+        i -= 1;
+        let next = infos[i];
+        follow(&mut infos[i - 1], &next);
+    }
+}
+
+/// Writes every run of kept items.
+fn write_runs(infos: &mut [hb_glyph_info_t], starts: &[usize])
+    requires { (given : List Item) × StandsFor infos.old starts.now given }
+    ensures { (given : List Item) → StandsFor infos.old starts.now given → infos.new ≡ given }
+{
+    let mut end = infos.len();
+    let mut count = starts.len();
+    while 0 < count {
+        count -= 1;
+        let start = starts[count];
+        write_run(&mut infos[start..end]);
+        end = start;
+    }
+}
+
+/// Notes where an item of that cluster, kept after these, begins a run; gives how many runs there are.
+fn open_run(kept: &[hb_glyph_info_t], starts: &mut [usize], count: usize, cluster: u32) -> usize
+    requires { count < length starts.old }
+    ensures stands { (x : Item) → x.cluster ≡ cluster → (given : List Item) → StandsFor kept.now (take count starts.old) given
+        → StandsFor (kept.now ++ x ∷ []) (take result starts.new) (given ++ x ∷ []) }
+    ensures at_most { result ≤ count + 1 }
+    ensures as_many { length starts.new ≡ length starts.old }
+{
+    let len = kept.len();
+    if len == 0 {
+        starts[count] = len;
+        return count + 1;
+    }
+    if kept[len - 1].cluster == cluster {
+        return count;
+    }
+    starts[count] = len;
+    count + 1
+}
+
+/// Gives the picked item's cluster and flags to the last run, where that is below its own; gives how many
+/// runs there are, one fewer where the last one joins the one before it.
+fn give_to_last(infos: &mut [hb_glyph_info_t], starts: &[usize], picked: &hb_glyph_info_t) -> usize
+    requires some { 0 < length infos.old }
+    requires stands { (given : List Item) × StandsFor infos.old starts.now given }
+    ensures stands { (given : List Item) → StandsFor infos.old starts.now given
+        → StandsFor infos.new (take result starts.now) (give_to_kept (length infos.old) picked.now given) }
+    ensures as_many { length infos.new ≡ length infos.old }
+    ensures at_most { result ≤ length starts.now }
+{
+    let last = infos.len() - 1;
+    let count = starts.len();
+    if infos[last].cluster <= picked.cluster {
+        return count;
+    }
+    hand_over(&mut infos[last], picked);
+    let start = starts[count - 1];
+    if start == 0 {
+        return count;
+    }
+    if infos[start - 1].cluster != picked.cluster {
+        return count;
+    }
+    count - 1
 }
 
 /// Merges the first two items, as a buffer of that level does.
@@ -60,32 +130,40 @@ fn merge_first_two(
     }
 }
 
-/// Hands the cluster of the picked glyph at `i` on, where the first `kept` items are kept.
+/// Hands the cluster of the picked glyph at `i` on, where the first `kept` items are kept in `count`
+/// runs; gives how many runs there are.
 fn hand_on(
     infos: &mut [hb_glyph_info_t],
+    starts: &[usize],
     scratch_flags: &mut ScratchFlags,
     level: BufferClusterLevel,
     kept: usize,
     i: usize,
     picked: &hb_glyph_info_t,
-)
+) -> usize
     requires kept_le { kept ≤ i }
     requires within { i < length infos.old }
-    ensures handed { (b : Buffer) → b.cluster_level ≡ level
-        → record b { items = standing kept i infos.new; scratch_flags = scratch_flags.new }
+    requires stands { (given : List Item) × StandsFor (take kept infos.old) starts.now given }
+    ensures handed { (given : List Item) → StandsFor (take kept infos.old) starts.now given
+        → (left : List Item) × StandsFor (take kept infos.new) (take result starts.now) left
+        × ((b : Buffer) → b.cluster_level ≡ level
+        → record b { items = left ++ drop i infos.new; scratch_flags = scratch_flags.new }
         ≡ hand_on_of kept picked.now (drop (i + 1) infos.old)
-        (record b { items = standing kept i infos.old; scratch_flags = scratch_flags.old }) }
+        (record b { items = given ++ drop i infos.old; scratch_flags = scratch_flags.old })) }
     ensures as_many { length infos.new ≡ length infos.old }
+    ensures at_most { result ≤ length starts.now }
 {
     let items: &[hb_glyph_info_t] = infos;
     if begins_in(&items[i + 1..], picked.cluster) {
-        return;
+        return starts.len();
     }
     if 0 < kept {
-        give_to_kept(infos, kept, picked);
-    } else if i + 1 < infos.len() {
+        return give_to_last(&mut infos[..kept], starts, picked);
+    }
+    if i + 1 < infos.len() {
         merge_first_two(&mut infos[i..], scratch_flags, level);
     }
+    starts.len()
 }
 
 /// Whether the first item is in the cluster.
@@ -98,10 +176,12 @@ fn begins_in(infos: &[hb_glyph_info_t], cluster: u32) -> bool
     }
 }
 
-/// Deletes the glyphs that the test picks, from a buffer of that level.
+/// Deletes the glyphs that the test picks, from a buffer of that level. `starts` has room for a number for
+/// each item.
 pub(crate) fn delete_items<F: Fn(&hb_glyph_info_t) -> bool>(
     infos: &mut Vec<hb_glyph_info_t>,
     positions: &mut Vec<GlyphPosition>,
+    starts: &mut [usize],
     scratch_flags: &mut ScratchFlags,
     level: BufferClusterLevel,
     test: F,
@@ -110,24 +190,38 @@ where
     F: Drop,
     requires callable { F.IsAlwaysCallable test }
     requires as_many { length positions.old.items ≡ length infos.old.items }
+    requires room { length infos.old.items ≤ length starts.old }
     ensures deleted { (picks : Item → Bool) → ((x : Item) (b : Bool) → FnReturnsAt F.Fn test x b → b ≡ picks x)
         → (b : Buffer) → b.cluster_level ≡ level
         → record b { items = infos.new.items; positions = positions.new.items; scratch_flags = scratch_flags.new }
         ≡ deleted picks (record b { items = infos.old.items; positions = positions.old.items; scratch_flags = scratch_flags.old }) }
     ensures as_many { length positions.new.items ≡ length infos.new.items }
+    ensures fewer { length infos.new.items ≤ length infos.old.items }
+    ensures room { length starts.new ≡ length starts.old }
 {
     let len = infos.len();
     let mut kept = 0;
+    let mut runs = 0;
     for i in 0..len {
         let info = infos[i];
         if !test(&info) {
+            runs = open_run(&infos[..kept], starts, runs, info.cluster);
             infos[kept] = info;
             positions[kept] = positions[i];
             kept += 1;
             continue;
         }
-        hand_on(infos.as_mut_slice(), scratch_flags, level, kept, i, &info);
+        runs = hand_on(
+            infos.as_mut_slice(),
+            &starts[..runs],
+            scratch_flags,
+            level,
+            kept,
+            i,
+            &info,
+        );
     }
     infos.truncate(kept);
     positions.truncate(kept);
+    write_runs(infos.as_mut_slice(), &starts[..runs]);
 }

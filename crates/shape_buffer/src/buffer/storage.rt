@@ -32,6 +32,8 @@ const MAX_LEN_MIN: usize = 16384;
 pub struct hb_buffer_t {
     infos: Vec<hb_glyph_info_t>,
     positions: Vec<GlyphPosition>,
+    /// Room for deletion, which takes no memory: a number for each item, at least.
+    run_starts: Vec<usize>,
     direction: Direction,
     script: Option<Script>,
     language: Option<Language>,
@@ -46,7 +48,7 @@ pub struct hb_buffer_t {
 }
 
 impl Model for hb_buffer_t {
-    ghost use Rattle.std.specs.Prelude.{◌≡◌, length, string_bytes};
+    ghost use Rattle.std.specs.Prelude.{◌≡◌, ◌≤◌, length, string_bytes};
     ghost use Rattle.std.specs.Option.{option_map};
     ghost use Rattle.shape_buffer.specs.Buffer.{Buffer};
 
@@ -68,7 +70,10 @@ impl Model for hb_buffer_t {
       post_context = b.post_context;
     } };
 
-    ghost invariant = { λ b. length b.positions.items ≡ length b.infos.items };
+    ghost invariant = { λ b. record {
+      as_many : length b.positions.items ≡ length b.infos.items;
+      room : length b.infos.items ≤ length b.run_starts.items;
+    } };
 }
 
 impl hb_buffer_t {
@@ -94,6 +99,7 @@ impl hb_buffer_t {
         hb_buffer_t {
             infos: Vec::new(alloc),
             positions: Vec::new(alloc),
+            run_starts: Vec::new(alloc),
             direction: Direction::Invalid,
             script: None,
             language: None,
@@ -355,6 +361,7 @@ impl hb_buffer_t {
         if self.length_limit() <= self.infos.len() {
             return Err(ShapeError::Length);
         }
+        self.run_starts.push(0)?;
         self.positions.reserve(1)?;
         self.infos.insert(i, item)?;
         self.positions.insert(i, GlyphPosition::zero())?;
@@ -375,6 +382,7 @@ impl hb_buffer_t {
         if self.length_limit() < infos.len() {
             return Err(ShapeError::Length);
         }
+        make_room(&mut self.run_starts, infos.len())?;
         self.positions.resize(infos.len(), GlyphPosition::zero())?;
         zero_positions(self.positions.as_mut_slice());
         self.infos = infos;
@@ -446,7 +454,7 @@ impl hb_buffer_t {
     /// of cluster `c` goes, the first case that holds decides: the next item, picked or not, has cluster
     /// `c`, and nothing is done; items were kept, and where `c` is below the last kept one's cluster,
     /// the last kept items of that cluster get `c` and the glyph's defined flags; there is a next item,
-    /// and the two are merged as `merge_clusters` does. Takes no memory.
+    /// and the two are merged as `merge_clusters` does. Takes no memory, and time in step with the list, whatever the clusters are.
     pub fn delete_glyphs_inplace<F: Fn(&hb_glyph_info_t) -> bool>(&mut self, test: F)
     where
         F: Drop,
@@ -459,6 +467,7 @@ impl hb_buffer_t {
         delete_items(
             &mut self.infos,
             &mut self.positions,
+            self.run_starts.as_mut_slice(),
             &mut self.scratch_flags,
             self.cluster_level,
             test,
@@ -506,6 +515,7 @@ impl hb_buffer_t {
         ensures memory { IsOkUnless result ShapeError.Memory }
         ensures err { OnErr result (self.new ≡ self.old) }
     {
+        self.run_starts.push(0)?;
         self.positions.reserve(1)?;
         self.infos.push(hb_glyph_info_t::new(c, cluster))?;
         self.positions.push(GlyphPosition::zero())?;
@@ -524,6 +534,9 @@ impl hb_buffer_t {
     {
         let before = self.infos.len();
         let mut outcome = append_text(&mut self.infos, text);
+        if outcome.is_ok() {
+            outcome = make_room(&mut self.run_starts, self.infos.len());
+        }
         if outcome.is_ok() {
             outcome = append_zeros(&mut self.positions, self.infos.len() - before);
         }
@@ -607,6 +620,17 @@ fn append_zeros(positions: &mut Vec<GlyphPosition>, count: usize) -> Result<(), 
     positions.reserve(count)?;
     for _ in 0..count {
         positions.push(GlyphPosition::zero())?;
+    }
+    Ok(())
+}
+
+/// Makes room for so many numbers, at least; where memory runs out nothing changes.
+fn make_room(numbers: &mut Vec<usize>, count: usize) -> Result<(), AllocError>
+    ensures room { OnOk result (count ≤ length numbers.new.items) }
+    ensures longer { length numbers.old.items ≤ length numbers.new.items }
+{
+    if numbers.len() < count {
+        numbers.resize(count, 0)?;
     }
     Ok(())
 }

@@ -17,4 +17,9 @@ pub trait hb_font_t {
     /// Whether `get_nominal_glyph` answers.
     fn has_glyph(&self, c: char) -> bool
         ensures { result ≡ is_some ((face self.now).nominal_glyph c) };
+
+    /// The glyph that stands for a character before a variation selector, where the face has one for
+    /// the two (OpenType, `cmap` format 14).
+    fn glyph_variation_index(&self, c: char, selector: char) -> Option<GlyphId>
+        ensures { result ≡ (face self.now).variation_glyph c selector };
 }

@@ -3,6 +3,7 @@ ghost use Rattle.std.specs.Prelude.{◌≡◌};
 ghost use Rattle.shape_buffer.specs.Unicode.{UnicodeMeaning, LawfulUnicode};
 
 use crate::buffer::{Direction, Script, hb_unicode_general_category_t};
+use crate::interfaces::space_types::space_t;
 
 /// The functions on characters that shaping is generic over. They have no receiver and are called as
 /// `U::decompose(c)`.
@@ -23,10 +24,24 @@ pub trait hb_unicode_funcs_t {
     fn decompose(c: char) -> Option<(char, char)>
         ensures { result ≡ unicode.split c };
 
+    /// The character that two characters make in one step (The Unicode Standard, D114, primary
+    /// composites), where there is one.
+    fn compose(a: char, b: char) -> Option<char>
+        ensures { result ≡ unicode.join a b };
+
+    /// How wide a space is that the face has no glyph for: one of [`crate::interfaces::space_types`],
+    /// `NOT_SPACE` for every other character.
+    fn space_fallback(c: char) -> space_t
+        ensures { result ≡ unicode.space_fallback c };
+
     /// Whether a character is to be unseen where the face has no glyph for it (UAX 44,
     /// Default_Ignorable_Code_Point).
     fn is_default_ignorable(c: char) -> bool
         ensures { result ≡ unicode.ignorable c };
+
+    /// Whether a character picks a variant of the one before it (UAX 44, Variation_Selector).
+    fn is_variation_selector(c: char) -> bool
+        ensures { result ≡ unicode.selector c };
 
     /// The script of a character (UAX 24).
     fn script(c: char) -> Script

@@ -1,4 +1,4 @@
-//! Faces that know characters alone.
+//! Faces that know characters alone, and no variants of them.
 ghost use Rattle.shape_rows.specs.Faces.{every_glyph, glyphs_of};
 
 use shape_buffer::buffer::GlyphId;
@@ -16,6 +16,10 @@ impl hb_font_t for EveryGlyph {
 
     fn has_glyph(&self, _c: char) -> bool {
         true
+    }
+
+    fn glyph_variation_index(&self, _c: char, _selector: char) -> Option<GlyphId> {
+        None
     }
 }
 
@@ -35,5 +39,9 @@ impl hb_font_t for FaceOf<'_> {
 
     fn has_glyph(&self, c: char) -> bool {
         self.get_nominal_glyph(c).is_some()
+    }
+
+    fn glyph_variation_index(&self, _c: char, _selector: char) -> Option<GlyphId> {
+        None
     }
 }

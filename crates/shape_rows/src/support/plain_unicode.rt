@@ -1,7 +1,8 @@
-//! Functions of Unicode by which every character is a letter that doesn't split.
+//! Functions of Unicode by which every character is a letter that neither splits nor composes.
 ghost use Rattle.shape_rows.specs.Plain.{plain_unicode, plain_unicode-lawful};
 
 use shape_buffer::buffer::{Direction, Script};
+use shape_buffer::interfaces::space_types::{NOT_SPACE, space_t};
 use shape_buffer::interfaces::{hb_unicode_funcs_t, hb_unicode_general_category_t};
 
 pub struct PlainUnicode;
@@ -23,7 +24,19 @@ impl hb_unicode_funcs_t for PlainUnicode {
         None
     }
 
+    fn compose(_a: char, _b: char) -> Option<char> {
+        None
+    }
+
+    fn space_fallback(_c: char) -> space_t {
+        NOT_SPACE
+    }
+
     fn is_default_ignorable(_c: char) -> bool {
+        false
+    }
+
+    fn is_variation_selector(_c: char) -> bool {
         false
     }
 

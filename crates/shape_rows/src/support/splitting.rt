@@ -1,10 +1,10 @@
 //! Shapers whose `decompose` hook splits.
 ghost use Rattle.std.specs.Prelude.{◌≡◌, true, false, None, pos, refl};
 ghost use Rattle.std.proofs.Common.{rules};
-ghost use Rattle.shape_pipeline.specs.Shapers.{plain_constants};
+ghost use Rattle.shape_pipeline.specs.Shapers.{plain_constants, no_reordering, no_reordering-permutes};
 ghost use Rattle.shape_rows.specs.Splitting.{deep_split, deep_hooks, deep_hooks-owed, stacked_split, stacked_hooks, stacked_hooks-owed};
 
-use shape_buffer::buffer::hb_tag_t;
+use shape_buffer::buffer::{hb_buffer_t, hb_tag_t};
 use shape_buffer::interfaces::{hb_font_t, hb_ot_layout_t, hb_unicode_funcs_t};
 use shape_pipeline::ot_shape_plan::hb_ot_shape_plan_t;
 use shape_pipeline::ot_shaper::hb_ot_shaper_t;
@@ -48,7 +48,9 @@ impl<U: hb_unicode_funcs_t, F: hb_font_t, M: hb_ot_layout_t<F>> hb_ot_shaper_t<U
 
     ghost constants = { record (plain_constants false (pos 1) 0 false) { has_decompose = true } };
 
-    ghost hooks = { λ shaper _ _. deep_hooks shaper.depth };
+    ghost hooks = { λ shaper _ _. deep_hooks U.unicode shaper.depth };
+
+    ghost reordered = { λ _ _. no_reordering };
 
     ghost IS_DEFAULT = { false };
 
@@ -62,6 +64,10 @@ impl<U: hb_unicode_funcs_t, F: hb_font_t, M: hb_ot_layout_t<F>> hb_ot_shaper_t<U
 
     ghost HAS_DECOMPOSE = { true };
 
+    ghost HAS_COMPOSE = { false };
+
+    ghost HAS_REORDER_MARKS = { false };
+
     const IS_DEFAULT: bool = false;
 
     const NORMALIZATION_PREFERENCE: i32 = 1;
@@ -73,6 +79,10 @@ impl<U: hb_unicode_funcs_t, F: hb_font_t, M: hb_ot_layout_t<F>> hb_ot_shaper_t<U
     const FALLBACK_POSITION: bool = false;
 
     const HAS_DECOMPOSE: bool = true;
+
+    const HAS_COMPOSE: bool = false;
+
+    const HAS_REORDER_MARKS: bool = false;
 
     ghost constants_agree = { refl };
 
@@ -85,9 +95,29 @@ impl<U: hb_unicode_funcs_t, F: hb_font_t, M: hb_ot_layout_t<F>> hb_ot_shaper_t<U
         split_deep(self.depth, c)
     }
 
+    fn compose(
+        &self,
+        _plan: &hb_ot_shape_plan_t<'_, Self, M::Map, ()>,
+        _face: &F,
+        a: char,
+        b: char,
+    ) -> Option<char> {
+        U::compose(a, b)
+    }
+
+    fn reorder_marks(
+        &self,
+        _plan: &hb_ot_shape_plan_t<'_, Self, M::Map, ()>,
+        _buffer: &mut hb_buffer_t,
+        _start: usize,
+        _end: usize,
+    ) {}
+
     ghost lawful_constants = { record { lowest_preference = Prim.search rules; highest_preference = Prim.search rules; zero_width = Prim.search rules } };
 
-    ghost lawful_hooks = { λ shaper _ _. deep_hooks-owed shaper.depth };
+    ghost lawful_hooks = { λ shaper _ _. deep_hooks-owed U.unicode shaper.depth };
+
+    ghost permutes = { λ _ _. no_reordering-permutes };
 }
 
 impl<U: hb_unicode_funcs_t, F: hb_font_t, M: hb_ot_layout_t<F>> hb_ot_shaper_t<U, F, M>
@@ -96,7 +126,9 @@ impl<U: hb_unicode_funcs_t, F: hb_font_t, M: hb_ot_layout_t<F>> hb_ot_shaper_t<U
 
     ghost constants = { record (plain_constants false (pos 1) 0 false) { has_decompose = true } };
 
-    ghost hooks = { λ shaper _ _. stacked_hooks };
+    ghost hooks = { λ _ _ _. stacked_hooks U.unicode };
+
+    ghost reordered = { λ _ _. no_reordering };
 
     ghost IS_DEFAULT = { false };
 
@@ -110,6 +142,10 @@ impl<U: hb_unicode_funcs_t, F: hb_font_t, M: hb_ot_layout_t<F>> hb_ot_shaper_t<U
 
     ghost HAS_DECOMPOSE = { true };
 
+    ghost HAS_COMPOSE = { false };
+
+    ghost HAS_REORDER_MARKS = { false };
+
     const IS_DEFAULT: bool = false;
 
     const NORMALIZATION_PREFERENCE: i32 = 1;
@@ -122,6 +158,10 @@ impl<U: hb_unicode_funcs_t, F: hb_font_t, M: hb_ot_layout_t<F>> hb_ot_shaper_t<U
 
     const HAS_DECOMPOSE: bool = true;
 
+    const HAS_COMPOSE: bool = false;
+
+    const HAS_REORDER_MARKS: bool = false;
+
     ghost constants_agree = { refl };
 
     fn decompose(
@@ -133,7 +173,27 @@ impl<U: hb_unicode_funcs_t, F: hb_font_t, M: hb_ot_layout_t<F>> hb_ot_shaper_t<U
         split_stacked(c)
     }
 
+    fn compose(
+        &self,
+        _plan: &hb_ot_shape_plan_t<'_, Self, M::Map, ()>,
+        _face: &F,
+        a: char,
+        b: char,
+    ) -> Option<char> {
+        U::compose(a, b)
+    }
+
+    fn reorder_marks(
+        &self,
+        _plan: &hb_ot_shape_plan_t<'_, Self, M::Map, ()>,
+        _buffer: &mut hb_buffer_t,
+        _start: usize,
+        _end: usize,
+    ) {}
+
     ghost lawful_constants = { record { lowest_preference = Prim.search rules; highest_preference = Prim.search rules; zero_width = Prim.search rules } };
 
-    ghost lawful_hooks = { λ shaper _ _. stacked_hooks-owed };
+    ghost lawful_hooks = { λ _ _ _. stacked_hooks-owed U.unicode };
+
+    ghost permutes = { λ _ _. no_reordering-permutes };
 }

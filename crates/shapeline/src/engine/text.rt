@@ -1,4 +1,9 @@
 //! The line `text C ..`: shapes the characters, and prints what became of them.
+ghost use Rattle.std.specs.Prelude.{◌≡◌, ◌≢◌, IfOk, IsOkUnless};
+ghost use Rattle.std.specs.Option.{SomeIff};
+ghost use Rattle.shape_buffer.specs.Text.{items_from};
+ghost use Rattle.shapeline.specs.Text.{IsText, characters, utf8_len};
+ghost use Rattle.shapeline.specs.Words.{words as words_of};
 
 use crate::engine::Outcome;
 use crate::face::Face;
@@ -15,8 +20,12 @@ use std::io::Write;
 /// The shaper of the one mode.
 type Shaper = Preferring<Decomposed>;
 
-/// Shapes a text and writes its answer, or the number of the refusal.
-pub fn answer<W: Write>(alloc: Global, face: &Face, words: Words, writer: &mut W) -> Outcome {
+/// Shapes a text and writes its answer, or the number of the refusal. Malformed where a word is no
+/// character, and where 32 bits can't count the bytes in UTF-8.
+pub fn answer<W: Write>(alloc: Global, face: &Face, words: Words, writer: &mut W) -> Outcome
+    ensures text { IsText (words_of words.entry.rest.now) → result ≢ Outcome.Malformed }
+    ensures malformed { ¬ IsText (words_of words.entry.rest.now) → result ≡ Outcome.Malformed }
+{
     if text_len(words).is_none() {
         return Outcome::Malformed;
     }
@@ -33,19 +42,30 @@ pub fn answer<W: Write>(alloc: Global, face: &Face, words: Words, writer: &mut W
 
 /// How many bytes a text takes in UTF-8, where each word is a character and 32 bits can count them. Takes
 /// no memory, so that a malformed text is malformed however little there is.
-fn text_len(mut words: Words) -> Option<u32> {
-    words.try_fold(0u32, |len, word| {
-        len.checked_add(character(word)?.len_utf8() as u32)
-    })
+fn text_len(words: Words) -> Option<u32>
+    ensures { SomeIff result (IsText (words_of words.entry.rest.now)) (utf8_len (words_of words.entry.rest.now)) }
+{
+    let mut len: u32 = 0;
+    for word in words {
+        len = len.checked_add(character(word)?.len_utf8() as u32)?;
+    }
+    Some(len)
 }
 
-/// A text whose clusters are byte offsets in UTF-8.
-fn filled(alloc: Global, words: Words) -> Result<UnicodeBuffer, ShapeError> {
+/// A buffer with a text, whose clusters are byte offsets in UTF-8. Refuses with `Memory` where a growth was
+/// refused.
+fn filled(alloc: Global, words: Words) -> Result<UnicodeBuffer, ShapeError>
+    requires { IsText (words_of words.rest.now) }
+    ensures ok { IfOk result (λ buffer. buffer.items ≡ items_from 0 (characters (words_of words.entry.rest.now))) }
+    ensures memory { IsOkUnless result ShapeError.Memory }
+{
     let mut buffer = UnicodeBuffer::new(alloc);
     let mut offset: u32 = 0;
-    for c in words.filter_map(character) {
-        buffer.add(c, offset)?;
-        offset = offset.saturating_add(c.len_utf8() as u32);
+    for word in words {
+        if let Some(c) = character(word) {
+            buffer.add(c, offset)?;
+            offset = offset.saturating_add(c.len_utf8() as u32);
+        }
     }
     Ok(buffer)
 }
@@ -71,7 +91,9 @@ fn shaped(alloc: Global, face: &Face, text: UnicodeBuffer) -> Result<GlyphBuffer
 }
 
 /// The line that answers a text.
-fn normal_line(alloc: Global, face: &Face, words: Words) -> Result<String, ShapeError> {
+fn normal_line(alloc: Global, face: &Face, words: Words) -> Result<String, ShapeError>
+    requires { IsText (words_of words.rest.now) }
+{
     let glyphs = shaped(alloc, face, filled(alloc, words)?)?;
     Ok(printed(alloc, "normal", &glyphs)?)
 }

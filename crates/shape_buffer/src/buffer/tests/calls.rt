@@ -99,15 +99,14 @@ fn lists(rt: HostRuntime) -> Result<(), Fail> {
 fn limits(rt: HostRuntime) -> Result<(), Fail> {
     let mut buffer = hb_buffer_t::new(rt.alloc());
     buffer.enter();
-    let item = hb_glyph_info_t::new('a', 0);
     let mut many: Vec<hb_glyph_info_t> = Vec::new(rt.alloc());
-    many.resize(16384, item)?;
+    many.resize(16384, hb_glyph_info_t::new('a', 0))?;
     buffer.replace_infos(many)?;
     assert_eq!(rt; buffer.len(), 16384);
-    let refused = buffer.insert(0, item);
+    let refused = buffer.insert(0, hb_glyph_info_t::new('b', 1));
     assert_eq!(rt; refused, Err(ShapeError::Length));
     let mut more: Vec<hb_glyph_info_t> = Vec::new(rt.alloc());
-    more.resize(16385, item)?;
+    more.resize(16385, hb_glyph_info_t::new('a', 0))?;
     let refused = buffer.replace_infos(more);
     assert_eq!(rt; refused, Err(ShapeError::Length));
     assert_eq!(rt; buffer.len(), 16384);

@@ -1,8 +1,4 @@
-use Rattle.std.proofs.Common.{◌≡◌, ap, refl, sym, subst, ◌∙◌}
-use Rattle.shape_buffer.specs.Buffer.{Buffer}
-use Rattle.shape_buffer.specs.Clusters.{clusters}
-use Rattle.shape_buffer.specs.ClusterOrder.{KeepsClusters}
-use Rattle.shape_buffer.specs.KeepsFlags.{KeepsFlags}
+use Rattle.std.proofs.Common.{ap, refl, ◌∙◌}
 use Rattle.shape_buffer.specs.Delete.{deleted}
 use Rattle.shape_buffer.specs.contracts.buffer.storage.hb_buffer_t.{the_view}
 use Rattle.shape_buffer.proofs.DeleteKeeps.{deleted_keeps}

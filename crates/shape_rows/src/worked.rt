@@ -1,0 +1,8 @@
+//! The definitions, computed on small cases whose answers are worked out by hand.
+ghost use Rattle.shape_rows.specs.Worked.{WorkedCases};
+
+/// The chain of U+1EA4 with its expansions and choices, limits of runs, and the order of some marks, as
+/// the definitions have them.
+pub fn definitions_meet_worked_cases()
+    ensures { WorkedCases }
+{}
