@@ -361,7 +361,7 @@ impl hb_buffer_t {
         if self.length_limit() <= self.infos.len() {
             return Err(ShapeError::Length);
         }
-        self.run_starts.push(0)?;
+        make_room(&mut self.run_starts, self.infos.len() + 1)?;
         self.positions.reserve(1)?;
         self.infos.insert(i, item)?;
         self.positions.insert(i, GlyphPosition::zero())?;
@@ -515,7 +515,7 @@ impl hb_buffer_t {
         ensures memory { IsOkUnless result ShapeError.Memory }
         ensures err { OnErr result (self.new ≡ self.old) }
     {
-        self.run_starts.push(0)?;
+        make_room(&mut self.run_starts, self.infos.len() + 1)?;
         self.positions.reserve(1)?;
         self.infos.push(hb_glyph_info_t::new(c, cluster))?;
         self.positions.push(GlyphPosition::zero())?;
