@@ -90,6 +90,7 @@ fn a_hook_reverses_its_range(rt: HostRuntime) -> Result<(), Fail> {
     text.push_str("abcdef")?;
     let mut buffer = text.into_inner();
     for (start, end) in [(1, 4), (2, 6), (6, 6)] {
+        assert!(rt; start <= end && end <= buffer.len());
         <ReversingShaper as hb_ot_shaper_t<PlainUnicode, FaceOf<'_>, NoLookups>>::reorder_marks(
             &ReversingShaper,
             &plan,
