@@ -1,6 +1,9 @@
 //! Lines with what they answer, and runs whose reader or writer fails at one of its calls.
 
 use super::run;
+use super::text::shaped;
+use crate::face::Face;
+use shape_buffer::buffer::UnicodeBuffer;
 use std::alloc::Global;
 use std::io;
 use std::io::{BufReader, ErrorKind, Read, Write};
@@ -40,12 +43,12 @@ fn texts(rt: HostRuntime) {
         (FACE, b"text\n", b"normal\n"),
         (
             FACE,
-            b"text 0041 5d0 0302 1F600 41",
+            b"level 1\ntext 0041 5d0 0302 1F600 41",
             b"normal 0041@0 05D0@1 0302@3 1F600@5 0041@9\n",
         ),
         (
             FACE,
-            b"  text   41  301 \r\n# text 41\n#\xC3\x82\r\n\n  \r\ntext 41\r",
+            b" level  1 \n  text   41  301 \r\n# text 41\n#\xC3\x82\r\n\n  \r\ntext 41\r",
             b"normal 0041@0 0301@1\nnormal 0041@0\n",
         ),
         (FACE, b"face 1000\ntext 1EA4\n", b"normal 1EA4@0\n"),
@@ -65,58 +68,98 @@ fn texts(rt: HostRuntime) {
     }
 }
 
-/// A face for U+0061 and the marks that the orders below are about.
+/// A face for U+0061 and the marks that the orders below are about, and a level that keeps graphemes apart.
 const MARKS: &[u8] =
-    b"glyph 61 1 600\nglyph 5BC 2 0\nglyph 5C1 3 0\nglyph 301 4 0\nglyph 323 5 0\nglyph 34F 6 0\nglyph 5E9 7 500\n";
+    b"level 1\nglyph 61 1 600\nglyph 5BC 2 0\nglyph 5C1 3 0\nglyph 301 4 0\nglyph 323 5 0\nglyph 34F 6 0\nglyph 5E9 7 500\n";
+
+/// Runs the program on the face of these marks and each of the lines.
+fn expect_orders(rt: &impl Abort, alloc: Global, cases: &[(&[u8], &[u8])]) {
+    for (lines, output) in cases {
+        expect_run(rt, alloc, MARKS, lines, 0, output);
+    }
+}
 
 #[test]
-fn orders(rt: HostRuntime) {
-    let cases: [(&[u8], &[u8]); 9] = [
-        // Each span of a run is merged by itself.
-        (
-            b"level 1\ntext 61 5BC 5C1 301 323\n",
-            b"normal 0061@0 05C1@1 05BC@1 0323@5 0301@5\n",
-        ),
-        (
-            b"level 1\ntext 61 301 323\n",
-            b"normal 0061@0 0323@1 0301@1\n",
-        ),
-        (
-            b"level 0\ntext 61 301 323\n",
-            b"normal 0061@0 0323@1 0301@1\n",
-        ),
-        (
-            b"level 2\ntext 61 301 323\n",
-            b"normal 0061@0 0323@3 0301@1\n",
-        ),
-        // Marks of one class keep their order.
-        (
-            b"level 1\ntext 61 301 301 323 301\n",
-            b"normal 0061@0 0323@1 0301@1 0301@1 0301@7\n",
-        ),
-        // Nothing is put in order where no mark stands past the first item.
-        (
+fn ordering_merges(rt: HostRuntime) {
+    expect_orders(
+        &rt,
+        rt.alloc(),
+        &[
+            (b"text 61 301 323\n", b"normal 0061@0 0323@1 0301@1\n"),
+            // Each span of a run is merged by itself.
+            (
+                b"text 61 5BC 5C1 301 323\n",
+                b"normal 0061@0 05C1@1 05BC@1 0323@5 0301@5\n",
+            ),
+            // Marks of one class keep their order.
+            (
+                b"text 61 301 301 323 301\n",
+                b"normal 0061@0 0323@1 0301@1 0301@1 0301@7\n",
+            ),
+            // At this level nothing is merged.
+            (
+                b"level 2\ntext 61 301 323\n",
+                b"normal 0061@0 0323@3 0301@1\n",
+            ),
+        ],
+    );
+}
+
+#[test]
+fn no_mark_past_first(rt: HostRuntime) {
+    expect_orders(
+        &rt,
+        rt.alloc(),
+        &[(
             b"text FB2C\ntext 5E9 5BC 5C1\n",
             b"normal 05E9@0 05BC@0 05C1@0\nnormal 05E9@0 05C1@2 05BC@2\n",
-        ),
-        // A joiner keeps apart what stands around it.
-        (
+        )],
+    );
+}
+
+#[test]
+fn thirty_two(rt: HostRuntime) {
+    expect_orders(
+        &rt,
+        rt.alloc(),
+        &[
+            // A run of 33 marks stays, and one of 32 is put in order.
+            (
+                b"text 61 301 301 301 301 301 301 301 301 301 301 301 301 301 301 301 301 301 301 301 301 301 301 301 301 301 301 301 301 301 301 301 301 323",
+                b"normal 0061@0 0301@1 0301@3 0301@5 0301@7 0301@9 0301@11 0301@13 0301@15 0301@17 0301@19 0301@21 0301@23 0301@25 0301@27 0301@29 0301@31 0301@33 0301@35 0301@37 0301@39 0301@41 0301@43 0301@45 0301@47 0301@49 0301@51 0301@53 0301@55 0301@57 0301@59 0301@61 0301@63 0323@65\n",
+            ),
+            (
+                b"text 61 301 301 301 301 301 301 301 301 301 301 301 301 301 301 301 301 301 301 301 301 301 301 301 301 301 301 301 301 301 301 301 323",
+                b"normal 0061@0 0323@1 0301@1 0301@1 0301@1 0301@1 0301@1 0301@1 0301@1 0301@1 0301@1 0301@1 0301@1 0301@1 0301@1 0301@1 0301@1 0301@1 0301@1 0301@1 0301@1 0301@1 0301@1 0301@1 0301@1 0301@1 0301@1 0301@1 0301@1 0301@1 0301@1 0301@1 0301@1\n",
+            ),
+        ],
+    );
+}
+
+/// Whether the third of four characters is hidden once they are shaped.
+fn third_is_hidden(alloc: Global, text: [char; 4]) -> Result<bool, Fail> {
+    let mut buffer = UnicodeBuffer::new(alloc);
+    for c in text {
+        buffer.add(c, 0)?;
+    }
+    let glyphs = shaped(alloc, &Face::new(alloc, 1000), buffer)?;
+    let third = glyphs.glyph_infos().get(2);
+    Ok(third.is_some_and(|info| info._hb_glyph_info_get_hidden()))
+}
+
+#[test]
+fn grapheme_joiner(rt: HostRuntime) -> Result<(), Fail> {
+    expect_orders(
+        &rt,
+        rt.alloc(),
+        &[(
             b"text 61 301 34F 323\ntext 61 323 34F 301\n",
             b"normal 0061@0 0301@1 034F@3 0323@5\nnormal 0061@0 0323@1 034F@3 0301@5\n",
-        ),
-        // A run of 33 marks stays, and one of 32 is put in order.
-        (
-            b"text 61 301 301 301 301 301 301 301 301 301 301 301 301 301 301 301 301 301 301 301 301 301 301 301 301 301 301 301 301 301 301 301 301 323",
-            b"normal 0061@0 0301@1 0301@3 0301@5 0301@7 0301@9 0301@11 0301@13 0301@15 0301@17 0301@19 0301@21 0301@23 0301@25 0301@27 0301@29 0301@31 0301@33 0301@35 0301@37 0301@39 0301@41 0301@43 0301@45 0301@47 0301@49 0301@51 0301@53 0301@55 0301@57 0301@59 0301@61 0301@63 0323@65\n",
-        ),
-        (
-            b"text 61 301 301 301 301 301 301 301 301 301 301 301 301 301 301 301 301 301 301 301 301 301 301 301 301 301 301 301 301 301 301 301 323",
-            b"normal 0061@0 0323@1 0301@1 0301@1 0301@1 0301@1 0301@1 0301@1 0301@1 0301@1 0301@1 0301@1 0301@1 0301@1 0301@1 0301@1 0301@1 0301@1 0301@1 0301@1 0301@1 0301@1 0301@1 0301@1 0301@1 0301@1 0301@1 0301@1 0301@1 0301@1 0301@1 0301@1 0301@1\n",
-        ),
-    ];
-    for (lines, output) in cases {
-        expect_run(&rt, rt.alloc(), MARKS, lines, 0, output);
-    }
+        )],
+    );
+    assert!(rt; third_is_hidden(rt.alloc(), ['a', '\u{301}', '\u{34f}', '\u{323}'])?);
+    assert!(rt; !third_is_hidden(rt.alloc(), ['a', '\u{323}', '\u{34f}', '\u{301}'])?);
+    Ok(())
 }
 
 #[test]

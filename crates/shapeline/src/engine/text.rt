@@ -77,7 +77,11 @@ fn filled(alloc: Global, words: Words) -> Result<UnicodeBuffer, ShapeError>
 }
 
 /// Shapes a text under a plan of its own.
-fn shaped(alloc: Global, face: &Face, text: UnicodeBuffer) -> Result<GlyphBuffer, ShapeError> {
+pub(super) fn shaped(
+    alloc: Global,
+    face: &Face,
+    text: UnicodeBuffer,
+) -> Result<GlyphBuffer, ShapeError> {
     let shaper = Shaper::new();
     let direction = text.as_inner().guessed_direction::<UnicodeTables>();
     let script = text.as_inner().guessed_script::<UnicodeTables>();
