@@ -6,7 +6,7 @@ use shape_buffer::buffer::hb_buffer_t;
 use shape_buffer::interfaces::hb_unicode_funcs_t;
 
 /// Sets the properties of each item that go by its character, and what they show of the text.
-pub fn set_unicode_props<U: hb_unicode_funcs_t>(buffer: &mut hb_buffer_t)
+pub(crate) fn set_unicode_props<U: hb_unicode_funcs_t>(buffer: &mut hb_buffer_t)
     ensures { buffer.new ≡ properties_set U.unicode buffer.old }
 {
     let mut scratch_flags = buffer.scratch_flags();
@@ -19,7 +19,7 @@ pub fn set_unicode_props<U: hb_unicode_funcs_t>(buffer: &mut hb_buffer_t)
 }
 
 /// Makes the index that the face answered for each item its glyph.
-pub fn map_glyphs_fast(buffer: &mut hb_buffer_t)
+pub(crate) fn map_glyphs_fast(buffer: &mut hb_buffer_t)
     ensures { buffer.new ≡ glyphs_mapped buffer.old }
 {
     for i in 0..buffer.len() {

@@ -48,7 +48,8 @@ impl<'a, S, P, D> Model for hb_ot_shape_plan_t<'a, S, P, D> {
 impl<'a, S, P, D> hb_ot_shape_plan_t<'a, S, P, D> {
     ghost use Rattle.shape_pipeline.specs.Plan.{Plan, Fits};
 
-    /// Plans for a direction, a script and a language, with the given shaper and no lookup requested.
+    /// Plans for a direction, a script and a language, with the given shaper and no lookup requested;
+    /// user features are unused so far.
     /// Refuses with `Memory` alone, where a growth was refused.
     pub fn new<U, F, M>(
         alloc: Global,
