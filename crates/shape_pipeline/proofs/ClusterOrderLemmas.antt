@@ -135,7 +135,7 @@ normalized_keeps rules b monotone =
 abbrev without_hidden : Item → Item
 without_hidden item = record item { properties = record item.properties { hidden = false } }
 
-IsKey-unplaced : IsKey unplaced
+pub IsKey-unplaced : IsKey unplaced
 IsKey-unplaced = record {
   by_cluster = λ item cluster. ap without_hidden (IsKey-unflagged.by_cluster item cluster);
   by_break = λ item. ap without_hidden (IsKey-unflagged.by_break item);

@@ -13,3 +13,4 @@ pub mod OrderedLemmas
 pub mod CanonicalFormLemmas
 pub mod RunClusterLemmas
 pub mod ClusterOrderLemmas
+pub mod ItemGlyphLemmas

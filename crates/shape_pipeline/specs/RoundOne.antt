@@ -1,5 +1,5 @@
 -- Round one of normalising: each item becomes the items of its character's expansion.
-use Rattle.std.specs.Prelude.{ℕ, false, List, [], ◌∷◌, map, fold, replicate, length, Option, unwrap_or}
+use Rattle.std.specs.Prelude.{◌≡◌, ℕ, false, List, [], ◌∷◌, map, fold, replicate, length, Option, unwrap_or}
 use Rattle.std.specs.Option.{option_map, option_map_or}
 use Rattle.std.specs.List.{flat_map}
 use Rattle.shape_buffer.specs.Items.{Item}
@@ -15,6 +15,10 @@ use Rattle.shape_pipeline.specs.Rules.{Rules, has_glyph}
 -- the index of the glyph of a character, 0 where it has none
 abbrev pub glyph_index : (ℕ → Option GlyphId) → ℕ → ℕ
 glyph_index glyph c = unwrap_or (option_map (λ g. g.0) (glyph c)) 0
+
+-- the item has the index that the face answers for its character
+abbrev pub HasIndexOfChar : (ℕ → Option GlyphId) → Item → Type 0
+HasIndexOfChar glyph item = item.glyph_index ≡ glyph_index glyph item.codepoint
 
 -- the expansion of an item's character, where one is supported
 abbrev pub expansion_of : Rules → Item → Option (List ℕ)

@@ -5,14 +5,14 @@
 //! the characters of some point of the chain are put in its place, if the face has glyphs for all of
 //! them. A shaper may bring splits of its own. The marks behind a character are then put in one order,
 //! so that spellings of one text become one list (UAX 15; The Unicode Standard, D68 and D107 to D109).
-ghost use Rattle.std.specs.Prelude.{◌≡◌, ◌<◌, ◌≤◌, true, [], length, map, IsOk, OnOk, OnErr, Err};
+ghost use Rattle.std.specs.Prelude.{◌≡◌, ◌<◌, ◌≤◌, true, [], length, map, All, IsOk, OnOk, OnErr, Err};
 ghost use Rattle.shape_buffer.specs.Buffer.{cleared, limit_of};
 ghost use Rattle.shape_buffer.specs.Clusters.{clusters};
 ghost use Rattle.shape_buffer.specs.ClusterOrder.{KeepsClusters, IsMonotoneLevel};
 ghost use Rattle.shape_buffer.specs.Items.{char_of};
 ghost use Rattle.shape_pipeline.specs.Plan.{hooks_of};
 ghost use Rattle.shape_pipeline.specs.Rules.{rules_of};
-ghost use Rattle.shape_pipeline.specs.RoundOne.{round_one};
+ghost use Rattle.shape_pipeline.specs.RoundOne.{round_one, HasIndexOfChar};
 ghost use Rattle.shape_pipeline.specs.RoundTwo.{has_mark_past_first as has_mark_past_first_of, OrdersMarks};
 ghost use Rattle.shape_pipeline.specs.CanonicalForm.{NormalizesCanonically};
 ghost use Rattle.shape_pipeline.specs.Normalized.{normalized, BroughtInHaveGlyphs};
@@ -34,10 +34,10 @@ use std::alloc::Global;
 /// Makes the list of a buffer the normalised one, at positions of zeros: each item becomes the items of
 /// its character's longest expansion that the face has glyphs for. Where a mark stood past the first
 /// item as normalising began, each run of at most 32 marks is put in the order of their classes, and the
-/// clusters of the spans that this moves are merged. Joiners that keep nothing apart are shown. Refuses
-/// with `Length` where the expanded list is longer than the buffer's limit, and with `Memory` where a
-/// growth was refused; after a refusal the buffer is cleared. An empty buffer is left as it is, and no
-/// memory is taken.
+/// clusters of the spans that this moves are merged. Joiners that keep nothing apart are shown. Each item
+/// has the glyph that the face answers for its character. Refuses with `Length` where the expanded list
+/// is longer than the buffer's limit, and with `Memory` where a growth was refused; after a refusal the
+/// buffer is cleared. An empty buffer is left as it is, and no memory is taken.
 pub fn _hb_ot_shape_normalize<U, F, M, S>(
     alloc: Global,
     plan: &hb_ot_shape_plan_t<'_, S, M::Map, S::Data>,
@@ -53,6 +53,7 @@ where
         (rules_of U.unicode S.constants.has_decompose (hooks_of S.hooks plan.now face.now) (F.face face.now)) buffer.old) }
     ensures brought_in { OnOk result (BroughtInHaveGlyphs (F.face face.now).nominal_glyph
         (map char_of buffer.old.items) (map char_of buffer.new.items)) }
+    ensures item_glyphs { OnOk result (All (HasIndexOfChar (F.face face.now).nominal_glyph) buffer.new.items) }
     ensures canonical_form { OnOk result (NormalizesCanonically
         (rules_of U.unicode S.constants.has_decompose (hooks_of S.hooks plan.now face.now) (F.face face.now)) buffer.old buffer.new) }
     ensures ordered { OnOk result (has_mark_past_first_of buffer.old.items ≡ true → OrdersMarks (round_one

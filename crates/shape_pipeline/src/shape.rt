@@ -1,5 +1,5 @@
 //! The entry: text goes in, glyphs come out.
-ghost use Rattle.std.specs.Prelude.{◌≡◌, ◌<◌, ◌≤◌, [], length, map, IsOk, IfOk, IfErr};
+ghost use Rattle.std.specs.Prelude.{◌≡◌, ◌<◌, ◌≤◌, [], length, map, All, IsOk, IfOk, IfErr};
 ghost use Rattle.shape_buffer.specs.Buffer.{cleared, run_limit};
 ghost use Rattle.shape_buffer.specs.Clusters.{clusters};
 ghost use Rattle.shape_buffer.specs.ClusterOrder.{KeepsClusters, IsMonotoneLevel};
@@ -9,7 +9,7 @@ ghost use Rattle.shape_pipeline.specs.Rules.{rules_of};
 ghost use Rattle.shape_pipeline.specs.RoundOne.{round_one};
 ghost use Rattle.shape_pipeline.specs.CanonicalForm.{ShapesCanonically};
 ghost use Rattle.shape_pipeline.specs.Normalized.{BroughtInHaveGlyphs};
-ghost use Rattle.shape_pipeline.specs.Shaped.{prepared, shaped};
+ghost use Rattle.shape_pipeline.specs.Shaped.{prepared, shaped, HasGlyphOfChar};
 
 use crate::ot_shape::{map_glyphs_fast, set_unicode_props};
 use crate::ot_shape_normalize::_hb_ot_shape_normalize;
@@ -20,9 +20,10 @@ use shape_buffer::interfaces::{hb_font_t, hb_ot_layout_t, hb_unicode_funcs_t};
 use std::alloc::Global;
 
 /// The glyphs of a text by a plan that fits it, with clusters that lead back to the text; positions are
-/// zeros. Script and direction are guessed where they aren't set. Refuses with `Length` where the
-/// expanded list is longer than the run's limit, and with `Memory` where a growth was refused; the
-/// fault holds the cleared buffer. An empty text gives an empty result and takes no memory.
+/// zeros. Each item has the glyph that the face answers for its character. Script and direction are
+/// guessed where they aren't set. Refuses with `Length` where the expanded list is longer than the run's
+/// limit, and with `Memory` where a growth was refused; the fault holds the cleared buffer. An empty
+/// text gives an empty result and takes no memory.
 pub fn shape_with_plan<U, F, M, S>(
     alloc: Global,
     face: &F,
@@ -39,6 +40,7 @@ where
         (rules_of U.unicode S.constants.has_decompose (hooks_of S.hooks plan.now face.now) (F.face face.now)) buffer) }
     ensures brought_in { IfOk result (λ glyphs. BroughtInHaveGlyphs (F.face face.now).nominal_glyph
         (map char_of buffer.items) (map char_of glyphs.items)) }
+    ensures item_glyphs { IfOk result (λ glyphs. All (HasGlyphOfChar (F.face face.now).nominal_glyph) glyphs.items) }
     ensures canonical_form { IfOk result (λ glyphs. ShapesCanonically
         (rules_of U.unicode S.constants.has_decompose (hooks_of S.hooks plan.now face.now) (F.face face.now)) buffer glyphs) }
     ensures clusters { IfOk result (λ glyphs. IsMonotoneLevel buffer.cluster_level → KeepsClusters (clusters buffer.items) (clusters glyphs.items)) }

@@ -1,9 +1,11 @@
 use Rattle.std.proofs.Common.{arith}
 use Rattle.std.proofs.lemmas.Result.{on_ok_weaker}
 use Rattle.shape_pipeline.specs.Plan.{hooks_of}
+use Rattle.shape_pipeline.specs.RoundOne.{HasIndexOfChar}
 use Rattle.shape_pipeline.specs.Rules.{rules_of}
 use Rattle.shape_pipeline.proofs.CanonicalFormLemmas.{NormalizesCanonically-normalized}
 use Rattle.shape_pipeline.proofs.ClusterOrderLemmas.{normalized_keeps, normalized_orders}
+use Rattle.shape_pipeline.proofs.ItemGlyphLemmas.{normalized_has_indexes, all_of_none}
 use Rattle.shape_pipeline.proofs.NormalizedLemmas.{empty_is_normalized, normalized_brings_in, within_normalized}
 use Rattle.shape_pipeline.proofs.ot_shape_normalize._hb_ot_shape_normalize.Goals as goal
 
@@ -58,3 +60,13 @@ returns-else-is_err-clause-clusters g c =
     let shaper = g.S.hb_ot_shaper_t in
     let rules = rules_of g.U.hb_unicode_funcs_t.unicode shaper.constants.has_decompose (hooks_of shaper.hooks c.args.plan.now c.args.face.now) (g.F.hb_font_t.face c.args.face.now) in
     on_ok_weaker c.run_rounds-outcome.result (λ is monotone. rw is (normalized_keeps rules c.args.buffer.now monotone)) c.run_rounds-outcome.ensures.ok
+
+pub returns-then-len-eq0-clause-item_glyphs : goal.returns-then-len-eq0-clause-item_glyphs
+returns-then-len-eq0-clause-item_glyphs g c =
+    all_of_none (HasIndexOfChar (g.F.hb_font_t.face c.args.face.now).nominal_glyph) c.args.buffer.now.items (omega arith)
+
+pub returns-else-is_err-clause-item_glyphs : goal.returns-else-is_err-clause-item_glyphs
+returns-else-is_err-clause-item_glyphs g c =
+    let shaper = g.S.hb_ot_shaper_t in
+    let rules = rules_of g.U.hb_unicode_funcs_t.unicode shaper.constants.has_decompose (hooks_of shaper.hooks c.args.plan.now c.args.face.now) (g.F.hb_font_t.face c.args.face.now) in
+    on_ok_weaker c.run_rounds-outcome.result (normalized_has_indexes rules c.args.buffer.now c.run_rounds-outcome.new.buffer) c.run_rounds-outcome.ensures.ok

@@ -5,9 +5,10 @@ use Rattle.shape_pipeline.specs.Plan.{hooks_of}
 use Rattle.shape_pipeline.specs.Rules.{rules_of}
 use Rattle.shape_pipeline.specs.Normalized.{normalized}
 use Rattle.shape_pipeline.specs.Steps.{glyphs_mapped}
-use Rattle.shape_pipeline.specs.Shaped.{prepared}
+use Rattle.shape_pipeline.specs.Shaped.{prepared, HasGlyphOfChar}
 use Rattle.shape_pipeline.proofs.CanonicalFormLemmas.{ShapesCanonically-run, ShapesCanonically-none}
 use Rattle.shape_pipeline.proofs.ClusterOrderLemmas.{run_keeps}
+use Rattle.shape_pipeline.proofs.ItemGlyphLemmas.{run_has_glyphs, all_of_none}
 use Rattle.shape_pipeline.proofs.NormalizedLemmas.{run_brings_in, shaped_of_any}
 use Rattle.shape_pipeline.proofs.shape.shape_with_plan.Goals as goal
 
@@ -52,3 +53,17 @@ returns-in-Ok-clause-clusters g c = λ monotone.
     let planned = rules_of unicode shaper.constants.has_decompose (hooks_of shaper.hooks c.args.plan.now c.args.face.now) (g.F.hb_font_t.face c.args.face.now) in
     let made : c.into_glyphs-in-Ok.result ≡ glyphs_mapped (normalized planned (prepared unicode c.args.buffer)) = search rules in
     run_keeps planned c.args.buffer c.into_glyphs-in-Ok.result monotone made
+
+pub returns-in-Ok-clause-item_glyphs : goal.returns-in-Ok-clause-item_glyphs
+returns-in-Ok-clause-item_glyphs g c =
+    let unicode = g.U.hb_unicode_funcs_t.unicode in
+    let shaper = g.S.hb_ot_shaper_t in
+    let planned = rules_of unicode shaper.constants.has_decompose (hooks_of shaper.hooks c.args.plan.now c.args.face.now) (g.F.hb_font_t.face c.args.face.now) in
+    let made : c.into_glyphs-in-Ok.result ≡ glyphs_mapped (normalized planned (prepared unicode c.args.buffer)) = search rules in
+    run_has_glyphs planned c.args.buffer c.into_glyphs-in-Ok.result made
+
+pub returns-then-len-eq0-clause-item_glyphs : goal.returns-then-len-eq0-clause-item_glyphs
+returns-then-len-eq0-clause-item_glyphs g c =
+    let guessed_now : c.into_glyphs.result ≡ guessed g.U.hb_unicode_funcs_t.unicode c.args.buffer = search rules in
+    let none : length c.args.buffer.items ≡ 0 = grind arith in
+    all_of_none (HasGlyphOfChar (g.F.hb_font_t.face c.args.face.now).nominal_glyph) c.into_glyphs.result.items (ap (λ (b : Buffer). length b.items) guessed_now ∙ none)
