@@ -450,11 +450,13 @@ impl hb_buffer_t {
         mark_concat(self.infos.as_mut_slice(), start, end);
     }
 
-    /// Deletes the glyphs that the test picks, from left to right, each with its position. Before a glyph
-    /// of cluster `c` goes, the first case that holds decides: the next item, picked or not, has cluster
-    /// `c`, and nothing is done; items were kept, and where `c` is below the last kept one's cluster,
-    /// the last kept items of that cluster get `c` and the glyph's defined flags; there is a next item,
-    /// and the two are merged as `merge_clusters` does. Takes no memory, and time in step with the list, whatever the clusters are.
+    /// Deletes the glyphs that the test picks, from left to right, each with its position. The test is
+    /// asked of an item as it stands when it is reached. Before a glyph of cluster `c` goes, the first
+    /// case that holds decides: the next item, picked or not, has cluster `c`, and nothing is done; items
+    /// were kept, and where `c` is below the last kept one's cluster, the last kept items with that
+    /// cluster get the picked item's cluster and its defined bits in place of theirs; there is a next
+    /// item, and the two are merged as `merge_clusters` does. Takes no memory; the time is in step with
+    /// the list, whatever the clusters are (measured, not proved).
     pub fn delete_glyphs_inplace<F: Fn(&hb_glyph_info_t) -> bool>(&mut self, test: F)
     where
         F: Drop,
@@ -463,6 +465,10 @@ impl hb_buffer_t {
             → self.new ≡ deleted picks self.old }
         ensures keeps { (picks : Item → Bool) → ((x : Item) (b : Bool) → FnReturnsAt F.Fn test x b → b ≡ picks x)
             → KeepsClusters (clusters self.old.items) (clusters self.new.items) × KeepsFlags self.old self.new }
+        ensures fewer { length self.new.items ≤ length self.old.items }
+        ensures as_many { length self.new.positions ≡ length self.new.items }
+        ensures rest { record self.new { items = []; positions = []; scratch_flags = record { 0 = 0 } }
+            ≡ record self.old { items = []; positions = []; scratch_flags = record { 0 = 0 } } }
     {
         delete_items(
             &mut self.infos,
