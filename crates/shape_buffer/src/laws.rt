@@ -1,4 +1,4 @@
-//! Laws of canonical form: each function has one as its contract, and nothing to do.
+//! Laws of canonical form: each function has laws as its contract, and nothing to do.
 //!
 //! They hold for every split whose heights fall and whose marks keep their class, so for the
 //! functions of Unicode as for a shaper's own. Equivalence is that of UAX 15 with the classes at
