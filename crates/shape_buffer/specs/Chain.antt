@@ -1,4 +1,4 @@
--- The chain of a character: its splits, and those of the first parts (The Unicode Standard, D68 and D107).
+-- The chain of a character: its splits, and those of the first parts (The Unicode Standard, D68).
 use Rattle.std.specs.Prelude.{◌≡◌, ℕ, zero, suc, ◌<◌, ◌==◌, if◌then◌else◌, List, [], ◌∷◌, ◌++◌, Option, Some, None, option_and_then}
 use Rattle.std.specs.Option.{option_map, option_map_or}
 use Rattle.std.specs.List.{flat_map}

@@ -17,11 +17,12 @@ has_flag flag item = nat_lt 0 (bit_and item.mask flag)
 abbrev pub some_has : ℕ → List Item → Bool
 some_has flag xs = list_any (has_flag flag) xs
 
--- the has-flags bit is set
+-- the scratch flag "has glyph flags" is set
 abbrev pub has_glyph_flags : Buffer → Bool
 has_glyph_flags b = bit_and b.scratch_flags.0 32 == 32
 
--- what Keepers asks of a call: a defined flag that no mask had comes with the has-flags bit, which stays set, and the buffer's flags stay
+-- a defined bit that no mask of the list had before comes only with the scratch flag "has glyph flags", which stays where it was set, and the
+-- buffer's flags stay; nothing is said of one item: a bit may pass from item to item without the scratch flag, as in deletion
 pub record KeepsFlags (before after : Buffer) : Type 0 where
   pub flags : after.flags ≡ before.flags
   pub stays_set : has_glyph_flags before ≡ true → has_glyph_flags after ≡ true

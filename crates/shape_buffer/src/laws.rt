@@ -1,4 +1,4 @@
-//! Laws of canonical form: each function has one as its contract, and nothing to do.
+//! Laws of canonical form: each function has laws as its contract, and nothing to do.
 //!
 //! They hold for every split whose heights fall and whose marks keep their class, so for the
 //! functions of Unicode as for a shaper's own. Equivalence is that of UAX 15 with the classes at
@@ -75,14 +75,17 @@ pub fn decomposed_is_canonical()
     ensures decides { DecomposedDecides }
 {}
 
-/// Recomposing leaves a text that is equivalent, and so does each of its steps: a starter composes with
-/// a mark past others that do not block it (The Unicode Standard, D115 to D117).
+/// Where a composed character is always equivalent to its two parts, recomposing leaves a text that is
+/// equivalent, and so does each of its steps: a starter composes with a mark past others that do not
+/// block it (The Unicode Standard, D115 to D117).
 pub fn recomposed_is_equivalent()
     ensures whole { RecomposedIsEquivalent }
     ensures step { JoinedPastMarksIsEquivalent }
 {}
 
-/// Two equivalent texts have equal recomposed forms, and two others have different ones.
+/// Where a composed character is always equivalent to its two parts, each character of Full of both
+/// texts has a glyph, and no run is too long: two equivalent texts, decomposed and settled, have equal
+/// recomposed forms, and two others have different ones.
 pub fn recomposed_decides()
     ensures { RecomposedDecides }
 {}
@@ -95,8 +98,8 @@ pub fn one_class_decides<T>()
 {}
 
 /// Normalising keeps a text equivalent in every mode: expanded, with the shortest choices asked for
-/// all characters, for simple ones or for none, then settled run by run, and then recomposed where
-/// the composed characters have glyphs.
+/// all characters, for simple ones or for none, then settled run by run; and then, where a composed
+/// character is always equivalent to its two parts, recomposed to composed characters that have glyphs.
 pub fn normalised_is_equivalent()
     ensures ordered { OrderedIsEquivalent }
     ensures recomposed { NormalisedIsEquivalent }

@@ -79,7 +79,7 @@ fn put_all_in(infos: &mut [hb_glyph_info_t], cluster: u32)
     }
 }
 
-/// Merges the clusters of a span, in time that goes with the items it touches.
+/// Merges the clusters of a span, and of the items beside it that share a cluster which changes.
 pub(crate) fn merge_items(infos: &mut [hb_glyph_info_t], start: usize, end: usize)
     requires ordered { start ≤ end }
     requires within { end ≤ length infos.old }

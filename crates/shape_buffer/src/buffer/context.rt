@@ -37,7 +37,8 @@ impl Context {
 
     /// The characters, in the order of the text.
     pub(crate) fn as_slice(&self) -> &[char]
-        ensures { result.now ≡ self.now }
+        ensures value { result.now ≡ self.now }
+        ensures len { length result.now ≤ 5 }
     {
         &self.chars[..self.len]
     }

@@ -135,7 +135,7 @@ impl hb_glyph_info_t {
         self.properties.general_category.is_mark()
     }
 
-    /// Reads the general category of the character.
+    /// Reads the general category: `init_unicode_props` sets it to the character's.
     pub fn _hb_glyph_info_get_general_category(&self) -> hb_unicode_general_category_t
         ensures { result ≡ self.now.properties.general_category }
     {
@@ -152,217 +152,226 @@ impl hb_glyph_info_t {
         self.properties.general_category = general_category;
     }
 
-    /// Reads the modified combining class, 0 for what is no mark.
+    /// Reads the modified combining class: `init_unicode_props` sets it to the character's for marks of
+    /// U+0080 and more, and to 0 for all others.
     pub fn _hb_glyph_info_get_modified_class(&self) -> u8
         ensures { result ≡ self.now.properties.modified_class }
     {
         self.properties.modified_class
     }
 
-    /// Sets the modified combining class, 0 for what is no mark, and nothing else.
+    /// Sets the modified combining class, and nothing else.
     pub fn _hb_glyph_info_set_modified_class(&mut self, modified_class: u8)
         ensures { self.new ≡ record self.old { properties = record self.old.properties { modified_class = modified_class } } }
     {
         self.properties.modified_class = modified_class;
     }
 
-    /// Reads whether the character is a default ignorable.
+    /// Reads the ignorable bit: `init_unicode_props` sets it for default ignorables of U+0080 and more, and
+    /// unsets it for all others.
     pub fn _hb_glyph_info_get_ignorable(&self) -> bool
         ensures { result ≡ self.now.properties.ignorable }
     {
         self.properties.ignorable
     }
 
-    /// Sets whether the character is a default ignorable, and nothing else.
+    /// Sets or unsets the ignorable bit, and nothing else.
     pub fn _hb_glyph_info_set_ignorable(&mut self, ignorable: bool)
         ensures { self.new ≡ record self.old { properties = record self.old.properties { ignorable = ignorable } } }
     {
         self.properties.ignorable = ignorable;
     }
 
-    /// Reads whether the character is to stay unseen though a lookup took it.
+    /// Reads the hidden bit, of items that are to stay unseen: `init_unicode_props` sets it for U+180B to
+    /// U+180D, U+180F, U+E0020 to U+E007F and U+034F, and unsets it for all others.
     pub fn _hb_glyph_info_get_hidden(&self) -> bool
         ensures { result ≡ self.now.properties.hidden }
     {
         self.properties.hidden
     }
 
-    /// Sets whether the character is to stay unseen though a lookup took it, and nothing else.
+    /// Sets or unsets the hidden bit, and nothing else.
     pub fn _hb_glyph_info_set_hidden(&mut self, hidden: bool)
         ensures { self.new ≡ record self.old { properties = record self.old.properties { hidden = hidden } } }
     {
         self.properties.hidden = hidden;
     }
 
-    /// Reads whether the item goes on with the grapheme of the item before it (UAX 29).
+    /// Reads the continuation bit, of items that go on with the grapheme of the one before them:
+    /// `init_unicode_props` sets it for marks of U+0080 and more, and unsets it for all others.
     pub fn _hb_glyph_info_get_continuation(&self) -> bool
         ensures { result ≡ self.now.properties.continuation }
     {
         self.properties.continuation
     }
 
-    /// Sets whether the item goes on with the grapheme of the item before it (UAX 29), and nothing else.
+    /// Sets or unsets the continuation bit, and nothing else.
     pub fn _hb_glyph_info_set_continuation(&mut self, continuation: bool)
         ensures { self.new ≡ record self.old { properties = record self.old.properties { continuation = continuation } } }
     {
         self.properties.continuation = continuation;
     }
 
-    /// Reads whether the character is U+200D, the zero width joiner.
+    /// Reads the bit of zero width joiners: `init_unicode_props` sets it for U+200D, and unsets it for all
+    /// others.
     pub fn _hb_glyph_info_get_zwj(&self) -> bool
         ensures { result ≡ self.now.properties.zwj }
     {
         self.properties.zwj
     }
 
-    /// Sets whether the character is U+200D, the zero width joiner, and nothing else.
+    /// Sets or unsets the bit of zero width joiners, and nothing else.
     pub fn _hb_glyph_info_set_zwj(&mut self, zwj: bool)
         ensures { self.new ≡ record self.old { properties = record self.old.properties { zwj = zwj } } }
     {
         self.properties.zwj = zwj;
     }
 
-    /// Reads whether the character is U+200C, the zero width non-joiner.
+    /// Reads the bit of zero width non-joiners: `init_unicode_props` sets it for U+200C, and unsets it for
+    /// all others.
     pub fn _hb_glyph_info_get_zwnj(&self) -> bool
         ensures { result ≡ self.now.properties.zwnj }
     {
         self.properties.zwnj
     }
 
-    /// Sets whether the character is U+200C, the zero width non-joiner, and nothing else.
+    /// Sets or unsets the bit of zero width non-joiners, and nothing else.
     pub fn _hb_glyph_info_set_zwnj(&mut self, zwnj: bool)
         ensures { self.new ≡ record self.old { properties = record self.old.properties { zwnj = zwnj } } }
     {
         self.properties.zwnj = zwnj;
     }
 
-    /// Reads the remembered type of a fallback space, 0 for none.
+    /// Reads the remembered type of a space without a glyph: `init_unicode_props` sets it to 0, for none.
     pub fn _hb_glyph_info_get_space_type(&self) -> u8
         ensures { result ≡ self.now.properties.space_type }
     {
         self.properties.space_type
     }
 
-    /// Sets the remembered type of a fallback space, 0 for none, and nothing else.
+    /// Sets the remembered type of a space without a glyph, and nothing else.
     pub fn _hb_glyph_info_set_space_type(&mut self, space_type: u8)
         ensures { self.new ≡ record self.old { properties = record self.old.properties { space_type = space_type } } }
     {
         self.properties.space_type = space_type;
     }
 
-    /// Reads whether the item is a variation selector that the face has no glyph for.
+    /// Reads the selector mark, of a variation selector for which the face has no variation glyph with the
+    /// item before it. A new item has none.
     pub fn _hb_glyph_info_get_selector_mark(&self) -> bool
         ensures { result ≡ self.now.properties.selector_mark }
     {
         self.properties.selector_mark
     }
 
-    /// Sets whether the item is a variation selector that the face has no glyph for, and nothing else.
+    /// Sets or unsets the selector mark, of a variation selector for which the face has no variation glyph
+    /// with the item before it, and nothing else.
     pub fn _hb_glyph_info_set_selector_mark(&mut self, selector_mark: bool)
         ensures { self.new ≡ record self.old { properties = record self.old.properties { selector_mark = selector_mark } } }
     {
         self.properties.selector_mark = selector_mark;
     }
 
-    /// Reads the glyph class: one or none of the flags of [`GlyphPropsFlags`].
+    /// Reads the flags of the glyph's class, which are flags of [`GlyphPropsFlags`].
     pub fn _hb_glyph_info_get_glyph_class(&self) -> GlyphPropsFlags
         ensures { result ≡ self.now.properties.glyph_class }
     {
         self.properties.glyph_class
     }
 
-    /// Sets the glyph class, and nothing else. Bits that [`GlyphPropsFlags`] doesn't define are dropped.
+    /// Sets the flags of the glyph's class, and nothing else. Bits that [`GlyphPropsFlags`] doesn't define
+    /// are dropped.
     pub fn _hb_glyph_info_set_glyph_class(&mut self, glyph_class: GlyphPropsFlags)
         ensures { self.new ≡ record self.old { properties = record self.old.properties { glyph_class = record { 0 = bit_and glyph_class.0 14 } } } }
     {
         self.properties.glyph_class = GlyphPropsFlags(glyph_class.0 & 14);
     }
 
-    /// Reads whether a lookup has put the glyph in.
+    /// Reads the substituted bit, of glyphs that a lookup has put in. That of a new item is unset.
     pub fn _hb_glyph_info_get_substituted(&self) -> bool
         ensures { result ≡ self.now.properties.substituted }
     {
         self.properties.substituted
     }
 
-    /// Sets whether a lookup has put the glyph in, and nothing else.
+    /// Sets or unsets the substituted bit, and nothing else.
     pub fn _hb_glyph_info_set_substituted(&mut self, substituted: bool)
         ensures { self.new ≡ record self.old { properties = record self.old.properties { substituted = substituted } } }
     {
         self.properties.substituted = substituted;
     }
 
-    /// Reads whether the glyph is a ligature that a lookup made.
+    /// Reads the ligated bit, of ligatures that a lookup made. That of a new item is unset.
     pub fn _hb_glyph_info_get_ligated(&self) -> bool
         ensures { result ≡ self.now.properties.ligated }
     {
         self.properties.ligated
     }
 
-    /// Sets whether the glyph is a ligature that a lookup made, and nothing else.
+    /// Sets or unsets the ligated bit, and nothing else.
     pub fn _hb_glyph_info_set_ligated(&mut self, ligated: bool)
         ensures { self.new ≡ record self.old { properties = record self.old.properties { ligated = ligated } } }
     {
         self.properties.ligated = ligated;
     }
 
-    /// Reads the number of the ligature that the glyph is or belongs to, 0 for none.
+    /// Reads the number of the ligature that the glyph is or belongs to. That of a new item is 0, for none.
     pub fn _hb_glyph_info_get_ligature_id(&self) -> u8
         ensures { result ≡ self.now.properties.ligature_id }
     {
         self.properties.ligature_id
     }
 
-    /// Sets the number of the ligature that the glyph is or belongs to, 0 for none, and nothing else.
+    /// Sets the number of the ligature that the glyph is or belongs to, and nothing else.
     pub fn _hb_glyph_info_set_ligature_id(&mut self, ligature_id: u8)
         ensures { self.new ≡ record self.old { properties = record self.old.properties { ligature_id = ligature_id } } }
     {
         self.properties.ligature_id = ligature_id;
     }
 
-    /// Reads the component of the ligature that a mark belongs to, 0 for none.
+    /// Reads the component of the ligature that a mark belongs to. That of a new item is 0, for none.
     pub fn _hb_glyph_info_get_ligature_component(&self) -> u8
         ensures { result ≡ self.now.properties.ligature_component }
     {
         self.properties.ligature_component
     }
 
-    /// Sets the component of the ligature that a mark belongs to, 0 for none, and nothing else.
+    /// Sets the component of the ligature that a mark belongs to, and nothing else.
     pub fn _hb_glyph_info_set_ligature_component(&mut self, ligature_component: u8)
         ensures { self.new ≡ record self.old { properties = record self.old.properties { ligature_component = ligature_component } } }
     {
         self.properties.ligature_component = ligature_component;
     }
 
-    /// Reads how many components a ligature has, 1 for what is none.
+    /// Reads how many components a ligature has. A new item has 1.
     pub fn _hb_glyph_info_get_number_of_components(&self) -> u8
         ensures { result ≡ self.now.properties.number_of_components }
     {
         self.properties.number_of_components
     }
 
-    /// Sets how many components a ligature has, 1 for what is none, and nothing else.
+    /// Sets how many components a ligature has, and nothing else.
     pub fn _hb_glyph_info_set_number_of_components(&mut self, number_of_components: u8)
         ensures { self.new ≡ record self.old { properties = record self.old.properties { number_of_components = number_of_components } } }
     {
         self.properties.number_of_components = number_of_components;
     }
 
-    /// Reads the syllable that a script shaper counted the item to.
+    /// Reads the syllable that a script shaper counts the item to. That of a new item is 0.
     pub fn _hb_glyph_info_get_syllable(&self) -> u8
         ensures { result ≡ self.now.properties.syllable }
     {
         self.properties.syllable
     }
 
-    /// Sets the syllable that a script shaper counted the item to, and nothing else.
+    /// Sets the syllable that a script shaper counts the item to, and nothing else.
     pub fn _hb_glyph_info_set_syllable(&mut self, syllable: u8)
         ensures { self.new ≡ record self.old { properties = record self.old.properties { syllable = syllable } } }
     {
         self.properties.syllable = syllable;
     }
 
-    /// Reads the script shaper's own category.
+    /// Reads the script shaper's own category. That of a new item is 0.
     pub fn _hb_glyph_info_get_shaper_category(&self) -> u8
         ensures { result ≡ self.now.properties.shaper_category }
     {
@@ -376,7 +385,7 @@ impl hb_glyph_info_t {
         self.properties.shaper_category = shaper_category;
     }
 
-    /// Reads the script shaper's auxiliary byte.
+    /// Reads the script shaper's auxiliary byte. That of a new item is 0.
     pub fn _hb_glyph_info_get_shaper_auxiliary(&self) -> u8
         ensures { result ≡ self.now.properties.shaper_auxiliary }
     {

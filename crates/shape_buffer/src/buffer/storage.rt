@@ -165,7 +165,7 @@ impl hb_buffer_t {
         self.script
     }
 
-    /// Sets the script of the text, where it is set, and nothing else.
+    /// Sets or unsets the script of the text, and nothing else.
     pub fn set_script(&mut self, script: Option<Script>)
         ensures { self.new ≡ record self.old { script = script } }
     {
@@ -179,7 +179,7 @@ impl hb_buffer_t {
         self.language.as_ref()
     }
 
-    /// Sets the language of the text, and nothing else.
+    /// Sets or unsets the language of the text, and nothing else.
     pub fn set_language(&mut self, language: Option<Language>)
         ensures { self.new ≡ record self.old { language = option_map (λ language. string_bytes language.0) language } }
     {
@@ -221,21 +221,22 @@ impl hb_buffer_t {
         self.invisible_glyph
     }
 
-    /// Sets the glyph that stands in for default ignorables, where it is set, and nothing else.
+    /// Sets or unsets the glyph that stands in for default ignorables, and nothing else.
     pub fn set_invisible_glyph(&mut self, invisible_glyph: Option<GlyphId>)
         ensures { self.new ≡ record self.old { invisible_glyph = invisible_glyph } }
     {
         self.invisible_glyph = invisible_glyph;
     }
 
-    /// Reads the glyph that stands in for variation selectors which the face doesn't know, where it is set.
+    /// Reads the glyph that stands in for variation selectors without a variation glyph, where it is set.
     pub fn not_found_variation_selector_glyph(&self) -> Option<GlyphId>
         ensures { result ≡ self.now.not_found_variation_selector_glyph }
     {
         self.not_found_variation_selector_glyph
     }
 
-    /// Sets the glyph that stands in for variation selectors which the face doesn't know, where it is set, and nothing else.
+    /// Sets or unsets the glyph that stands in for variation selectors without a variation glyph, and
+    /// nothing else.
     pub fn set_not_found_variation_selector_glyph(
         &mut self,
         not_found_variation_selector_glyph: Option<GlyphId>,
@@ -247,7 +248,8 @@ impl hb_buffer_t {
 
     /// Reads what is kept of the text before this one: at most five characters, in their order.
     pub fn pre_context(&self) -> &[char]
-        ensures { result.now ≡ self.now.pre_context }
+        ensures value { result.now ≡ self.now.pre_context }
+        ensures len { length result.now ≤ 5 }
     {
         self.pre_context.as_slice()
     }
@@ -261,7 +263,8 @@ impl hb_buffer_t {
 
     /// Reads what is kept of the text after this one: at most five characters, in their order.
     pub fn post_context(&self) -> &[char]
-        ensures { result.now ≡ self.now.post_context }
+        ensures value { result.now ≡ self.now.post_context }
+        ensures len { length result.now ≤ 5 }
     {
         self.post_context.as_slice()
     }
@@ -392,7 +395,8 @@ impl hb_buffer_t {
     /// Merges the clusters of the items from `start` up to `end`: they, and the items beside them that
     /// share a cluster which changes, get the least cluster of the span, and an item whose cluster
     /// changes loses its defined flags. At level CHARACTERS the span is marked unsafe to break instead.
-    /// A span of fewer than two items changes nothing. Takes time in step with the items it touches.
+    /// A span of fewer than two items changes nothing. The time is in step with the items it touches
+    /// (measured, not proved).
     pub fn merge_clusters(&mut self, start: usize, end: usize)
         requires ordered { start ≤ end }
         requires within { end ≤ length self.old.items }
@@ -420,7 +424,7 @@ impl hb_buffer_t {
 
     /// Marks the items from `start` up to `end` unsafe to break and to concat, but for those of their
     /// least cluster, and sets the scratch flag HAS_GLYPH_FLAGS. A span of fewer than two items changes
-    /// nothing. Takes time in step with the span.
+    /// nothing. The time is in step with the span (measured, not proved).
     pub fn unsafe_to_break(&mut self, start: usize, end: usize)
         requires ordered { start ≤ end }
         requires within { end ≤ length self.old.items }
@@ -435,8 +439,7 @@ impl hb_buffer_t {
     }
 
     /// Marks the items from `start` up to `end` unsafe to concat and sets the scratch flag
-    /// HAS_GLYPH_FLAGS, where the flag PRODUCE_UNSAFE_TO_CONCAT asks for it. Takes time in step with the
-    /// span.
+    /// HAS_GLYPH_FLAGS, where the flag PRODUCE_UNSAFE_TO_CONCAT asks for it.
     pub fn unsafe_to_concat(&mut self, start: usize, end: usize)
         requires ordered { start ≤ end }
         requires within { end ≤ length self.old.items }
@@ -450,11 +453,13 @@ impl hb_buffer_t {
         mark_concat(self.infos.as_mut_slice(), start, end);
     }
 
-    /// Deletes the glyphs that the test picks, from left to right, each with its position. Before a glyph
-    /// of cluster `c` goes, the first case that holds decides: the next item, picked or not, has cluster
-    /// `c`, and nothing is done; items were kept, and where `c` is below the last kept one's cluster,
-    /// the last kept items of that cluster get `c` and the glyph's defined flags; there is a next item,
-    /// and the two are merged as `merge_clusters` does. Takes no memory, and time in step with the list, whatever the clusters are.
+    /// Deletes the glyphs that the test picks, from left to right, each with its position. The test is
+    /// asked of an item as it stands when it is reached. Before a glyph of cluster `c` goes, the first
+    /// case that holds decides: the next item, picked or not, has cluster `c`, and nothing is done; items
+    /// were kept, and where `c` is below the last kept one's cluster, the last kept items with that
+    /// cluster get the picked item's cluster and its defined bits in place of theirs; there is a next
+    /// item, and the two are merged as `merge_clusters` does. Takes no memory; the time is in step with
+    /// the list, whatever the clusters are (measured, not proved).
     pub fn delete_glyphs_inplace<F: Fn(&hb_glyph_info_t) -> bool>(&mut self, test: F)
     where
         F: Drop,
@@ -463,6 +468,10 @@ impl hb_buffer_t {
             → self.new ≡ deleted picks self.old }
         ensures keeps { (picks : Item → Bool) → ((x : Item) (b : Bool) → FnReturnsAt F.Fn test x b → b ≡ picks x)
             → KeepsClusters (clusters self.old.items) (clusters self.new.items) × KeepsFlags self.old self.new }
+        ensures fewer { length self.new.items ≤ length self.old.items }
+        ensures as_many { length self.new.positions ≡ length self.new.items }
+        ensures rest { record self.new { items = []; positions = []; scratch_flags = record { 0 = 0 } }
+            ≡ record self.old { items = []; positions = []; scratch_flags = record { 0 = 0 } } }
     {
         delete_items(
             &mut self.infos,
@@ -624,7 +633,7 @@ fn append_zeros(positions: &mut Vec<GlyphPosition>, count: usize) -> Result<(), 
     Ok(())
 }
 
-/// Makes room for so many numbers, at least; where memory runs out nothing changes.
+/// Makes a list at least so long. It gets no shorter, also where memory is refused.
 fn make_room(numbers: &mut Vec<usize>, count: usize) -> Result<(), AllocError>
     ensures room { OnOk result (count ≤ length numbers.new.items) }
     ensures longer { length numbers.old.items ≤ length numbers.new.items }

@@ -1,5 +1,5 @@
 //! Text that waits to be shaped.
-ghost use Rattle.std.specs.Prelude.{◌≡◌, ◌<◌, ◌^◌, ◌↔◌, [], ◌∷◌, ◌++◌, length, replicate, string_bytes, IsTrue, IsOkUnless, OnOk, OnErr};
+ghost use Rattle.std.specs.Prelude.{◌≡◌, ◌<◌, ◌≤◌, ◌^◌, ◌↔◌, [], ◌∷◌, ◌++◌, length, replicate, string_bytes, IsTrue, IsOkUnless, OnOk, OnErr};
 ghost use Rattle.std.specs.Option.{option_map};
 
 use crate::buffer::error::ShapeError;
@@ -108,7 +108,7 @@ impl UnicodeBuffer {
         self.buffer.script()
     }
 
-    /// Sets the script of the text, where it is set, and nothing else.
+    /// Sets or unsets the script of the text, and nothing else.
     pub fn set_script(&mut self, script: Option<Script>)
         ensures { self.new ≡ record self.old { script = script } }
     {
@@ -122,7 +122,7 @@ impl UnicodeBuffer {
         self.buffer.language()
     }
 
-    /// Sets the language of the text, and nothing else.
+    /// Sets or unsets the language of the text, and nothing else.
     pub fn set_language(&mut self, language: Option<Language>)
         ensures { self.new ≡ record self.old { language = option_map (λ language. string_bytes language.0) language } }
     {
@@ -164,21 +164,22 @@ impl UnicodeBuffer {
         self.buffer.invisible_glyph()
     }
 
-    /// Sets the glyph that stands in for default ignorables, where it is set, and nothing else.
+    /// Sets or unsets the glyph that stands in for default ignorables, and nothing else.
     pub fn set_invisible_glyph(&mut self, invisible_glyph: Option<GlyphId>)
         ensures { self.new ≡ record self.old { invisible_glyph = invisible_glyph } }
     {
         self.buffer.set_invisible_glyph(invisible_glyph);
     }
 
-    /// Reads the glyph that stands in for variation selectors which the face doesn't know, where it is set.
+    /// Reads the glyph that stands in for variation selectors without a variation glyph, where it is set.
     pub fn not_found_variation_selector_glyph(&self) -> Option<GlyphId>
         ensures { result ≡ self.now.not_found_variation_selector_glyph }
     {
         self.buffer.not_found_variation_selector_glyph()
     }
 
-    /// Sets the glyph that stands in for variation selectors which the face doesn't know, where it is set, and nothing else.
+    /// Sets or unsets the glyph that stands in for variation selectors without a variation glyph, and
+    /// nothing else.
     pub fn set_not_found_variation_selector_glyph(
         &mut self,
         not_found_variation_selector_glyph: Option<GlyphId>,
@@ -191,7 +192,8 @@ impl UnicodeBuffer {
 
     /// Reads what is kept of the text before this one: at most five characters, in their order.
     pub fn pre_context(&self) -> &[char]
-        ensures { result.now ≡ self.now.pre_context }
+        ensures value { result.now ≡ self.now.pre_context }
+        ensures len { length result.now ≤ 5 }
     {
         self.buffer.pre_context()
     }
@@ -205,7 +207,8 @@ impl UnicodeBuffer {
 
     /// Reads what is kept of the text after this one: at most five characters, in their order.
     pub fn post_context(&self) -> &[char]
-        ensures { result.now ≡ self.now.post_context }
+        ensures value { result.now ≡ self.now.post_context }
+        ensures len { length result.now ≤ 5 }
     {
         self.buffer.post_context()
     }

@@ -58,7 +58,8 @@ impl hb_ot_map_builder_t {
         self.requests.as_slice()
     }
 
-    /// Whether nothing but what every plan asks for was requested.
+    /// Begins true; false where a collect hook is given or user features are passed (no call here adds
+    /// requests yet).
     pub fn is_simple(&self) -> bool
         ensures { result ≡ self.now.is_simple }
     {

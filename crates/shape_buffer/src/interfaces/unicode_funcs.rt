@@ -29,12 +29,12 @@ pub trait hb_unicode_funcs_t {
     fn compose(a: char, b: char) -> Option<char>
         ensures { result ≡ unicode.join a b };
 
-    /// How wide a space is that the face has no glyph for: one of [`crate::interfaces::space_types`],
-    /// `NOT_SPACE` for every other character.
+    /// How wide a space is that the face has no glyph for. The types of
+    /// [`crate::interfaces::space_types`] are meant, `NOT_SPACE` for what is no space; no law fixes the set.
     fn space_fallback(c: char) -> space_t
         ensures { result ≡ unicode.space_fallback c };
 
-    /// Whether a character is to be unseen where the face has no glyph for it (UAX 44,
+    /// Whether a character is unseen unless the buffer's flags preserve it (UAX 44,
     /// Default_Ignorable_Code_Point).
     fn is_default_ignorable(c: char) -> bool
         ensures { result ≡ unicode.ignorable c };

@@ -43,51 +43,80 @@ fn leaves(
     Ok(())
 }
 
+/// A list whose clusters fall and rise.
+const THREE: [(u32, u32); 4] = [(4, 8), (2, 4), (6, 0), (6, 0)];
+
+/// The list once its first three items are marked unsafe to break.
+const BROKEN: [(u32, u32); 4] = [(4, 11), (2, 4), (6, 3), (6, 0)];
+
 #[test]
-fn spans(rt: HostRuntime) -> Result<(), Fail> {
-    let alloc = rt.alloc();
-    let rt = &rt;
-    let none = BufferFlags(0);
-    let graphemes = (Call::Merge, BufferClusterLevel::MonotoneGraphemes, none);
-    let characters = (Call::Merge, BufferClusterLevel::MonotoneCharacters, none);
-    // grows left over the first item's cluster
-    let falling = [(5, 8), (5, 8), (3, 8), (3, 8)];
+fn merge_grows_left(rt: HostRuntime) -> Result<(), Fail> {
+    // over the first item's cluster
     leaves(
-        rt,
-        alloc,
-        characters,
-        &falling,
+        &rt,
+        rt.alloc(),
+        (
+            Call::Merge,
+            BufferClusterLevel::MonotoneCharacters,
+            BufferFlags(0),
+        ),
+        &[(5, 8), (5, 8), (3, 8), (3, 8)],
         (1, 3),
         &[(3, 8), (3, 8), (3, 8), (3, 8)],
         false,
-    )?;
-    // grows right over the last item's cluster
-    let rising = [(1, 0), (5, 0), (5, 0), (5, 0), (6, 0)];
+    )
+}
+
+#[test]
+fn merge_grows_right(rt: HostRuntime) -> Result<(), Fail> {
+    // over the last item's cluster
     leaves(
-        rt,
-        alloc,
-        graphemes,
-        &rising,
+        &rt,
+        rt.alloc(),
+        (
+            Call::Merge,
+            BufferClusterLevel::MonotoneGraphemes,
+            BufferFlags(0),
+        ),
+        &[(1, 0), (5, 0), (5, 0), (5, 0), (6, 0)],
         (0, 2),
         &[(1, 0), (1, 0), (1, 0), (1, 0), (6, 0)],
         false,
-    )?;
+    )
+}
+
+#[test]
+fn merge_stays_within(rt: HostRuntime) -> Result<(), Fail> {
     // grows on neither side where the outer items are in the least cluster
-    let valley = [(3, 7), (3, 7), (9, 7), (3, 7), (3, 7)];
     leaves(
-        rt,
-        alloc,
-        graphemes,
-        &valley,
+        &rt,
+        rt.alloc(),
+        (
+            Call::Merge,
+            BufferClusterLevel::MonotoneGraphemes,
+            BufferFlags(0),
+        ),
+        &[(3, 7), (3, 7), (9, 7), (3, 7), (3, 7)],
         (1, 4),
         &[(3, 7), (3, 7), (3, 0), (3, 7), (3, 7)],
         false,
-    )?;
+    )
+}
+
+#[test]
+fn merge_drops_defined_flags(rt: HostRuntime) -> Result<(), Fail> {
+    let alloc = rt.alloc();
+    let rt = &rt;
+    let merge = (
+        Call::Merge,
+        BufferClusterLevel::MonotoneCharacters,
+        BufferFlags(0),
+    );
     // features stay, defined flags go where the cluster changes
     leaves(
         rt,
         alloc,
-        characters,
+        merge,
         &[(5, 15), (3, 15)],
         (0, 2),
         &[(3, 8), (3, 15)],
@@ -97,83 +126,51 @@ fn spans(rt: HostRuntime) -> Result<(), Fail> {
     leaves(
         rt,
         alloc,
-        characters,
+        merge,
         &[(5, 15), (5, 7), (3, 15)],
         (1, 2),
         &[(5, 15), (5, 7), (3, 15)],
         false,
-    )?;
-    // at level CHARACTERS the span is marked instead, or nothing happens
-    let marked = (Call::Merge, BufferClusterLevel::Characters, none);
-    let three = [(4, 8), (2, 4), (6, 0), (6, 0)];
-    let broken = [(4, 11), (2, 4), (6, 3), (6, 0)];
-    leaves(rt, alloc, marked, &three, (0, 3), &broken, true)?;
-    leaves(
-        rt,
-        alloc,
-        (Call::MergeOut, BufferClusterLevel::Characters, none),
-        &three,
-        (0, 3),
-        &three,
-        false,
-    )?;
+    )
+}
+
+#[test]
+fn merge_at_level_characters(rt: HostRuntime) -> Result<(), Fail> {
+    let alloc = rt.alloc();
+    let rt = &rt;
+    let none = BufferFlags(0);
+    let level = BufferClusterLevel::Characters;
+    // the span is marked instead, or nothing happens
+    let marked = (Call::Merge, level, none);
+    leaves(rt, alloc, marked, &THREE, (0, 3), &BROKEN, true)?;
+    let kept = (Call::MergeOut, level, none);
+    leaves(rt, alloc, kept, &THREE, (0, 3), &THREE, false)?;
+    let out = (Call::MergeOut, BufferClusterLevel::MonotoneGraphemes, none);
     let merged = [(2, 8), (2, 4), (2, 0), (2, 0)];
-    leaves(
-        rt,
-        alloc,
-        (Call::MergeOut, BufferClusterLevel::MonotoneGraphemes, none),
-        &three,
-        (0, 3),
-        &merged,
-        false,
-    )?;
-    // marks at every level
-    leaves(
-        rt,
-        alloc,
-        (Call::Break, BufferClusterLevel::MonotoneGraphemes, none),
-        &three,
-        (0, 3),
-        &broken,
-        true,
-    )?;
-    leaves(
-        rt,
-        alloc,
-        (Call::Break, BufferClusterLevel::Characters, none),
-        &three,
-        (2, 3),
-        &three,
-        false,
-    )?;
-    let concat = BufferFlags::PRODUCE_UNSAFE_TO_CONCAT;
+    leaves(rt, alloc, out, &THREE, (0, 3), &merged, false)
+}
+
+#[test]
+fn unsafe_to_break_at_every_level(rt: HostRuntime) -> Result<(), Fail> {
+    let alloc = rt.alloc();
+    let rt = &rt;
+    let none = BufferFlags(0);
+    let graphemes = (Call::Break, BufferClusterLevel::MonotoneGraphemes, none);
+    leaves(rt, alloc, graphemes, &THREE, (0, 3), &BROKEN, true)?;
+    let characters = (Call::Break, BufferClusterLevel::Characters, none);
+    leaves(rt, alloc, characters, &THREE, (2, 3), &THREE, false)
+}
+
+#[test]
+fn unsafe_to_concat_where_asked_for(rt: HostRuntime) -> Result<(), Fail> {
+    let alloc = rt.alloc();
+    let rt = &rt;
+    let asked = BufferFlags::PRODUCE_UNSAFE_TO_CONCAT;
     let joined = [(4, 8), (2, 6), (6, 2), (6, 0)];
-    leaves(
-        rt,
-        alloc,
-        (Call::Concat, BufferClusterLevel::MonotoneCharacters, concat),
-        &three,
-        (1, 3),
-        &joined,
-        true,
-    )?;
-    leaves(
-        rt,
-        alloc,
-        (Call::Concat, BufferClusterLevel::Characters, concat),
-        &three,
-        (2, 2),
-        &three,
-        true,
-    )?;
-    leaves(
-        rt,
-        alloc,
-        (Call::Concat, BufferClusterLevel::Characters, none),
-        &three,
-        (1, 3),
-        &three,
-        false,
-    )?;
-    Ok(())
+    let monotone = (Call::Concat, BufferClusterLevel::MonotoneCharacters, asked);
+    leaves(rt, alloc, monotone, &THREE, (1, 3), &joined, true)?;
+    let empty = (Call::Concat, BufferClusterLevel::Characters, asked);
+    leaves(rt, alloc, empty, &THREE, (2, 2), &THREE, true)?;
+    let unasked = (Call::Concat, BufferClusterLevel::Characters, BufferFlags(0));
+    leaves(rt, alloc, unasked, &THREE, (1, 3), &THREE, false)
 }

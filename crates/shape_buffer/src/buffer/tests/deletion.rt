@@ -39,49 +39,45 @@ fn leaves(
 }
 
 #[test]
-fn cases(rt: HostRuntime) -> Result<(), Fail> {
-    let alloc = rt.alloc();
-    let rt = &rt;
-    let graphemes = BufferClusterLevel::MonotoneGraphemes;
-    let monotone = BufferClusterLevel::MonotoneCharacters;
-    let characters = BufferClusterLevel::Characters;
-    // case 1: the next item has the cluster, picked or not
+fn next_item_has_the_cluster(rt: HostRuntime) -> Result<(), Fail> {
+    // case 1: picked or not
     leaves(
-        rt,
-        alloc,
-        graphemes,
+        &rt,
+        rt.alloc(),
+        BufferClusterLevel::MonotoneGraphemes,
         &[(0, 2, 8), (1, 1, 15), (1, 1, 7), (0, 1, 4)],
         &[(2, 8), (1, 4)],
         false,
-    )?;
+    )
+}
+
+#[test]
+fn last_kept_take_a_smaller_cluster(rt: HostRuntime) -> Result<(), Fail> {
+    let alloc = rt.alloc();
+    let rt = &rt;
     // case 2: the last kept items of one cluster take a smaller one, with the flags; features stay
     let before = [(0, 4, 5), (0, 2, 9), (0, 2, 10), (1, 1, 20), (0, 3, 0)];
+    let after = [(4, 5), (1, 12), (1, 12), (3, 0)];
+    let monotone = BufferClusterLevel::MonotoneCharacters;
+    leaves(rt, alloc, monotone, &before, &after, false)?;
+    let characters = BufferClusterLevel::Characters;
+    leaves(rt, alloc, characters, &before, &after, false)
+}
+
+#[test]
+fn cluster_that_is_not_smaller_goes(rt: HostRuntime) -> Result<(), Fail> {
     leaves(
-        rt,
-        alloc,
-        monotone,
-        &before,
-        &[(4, 5), (1, 12), (1, 12), (3, 0)],
-        false,
-    )?;
-    leaves(
-        rt,
-        alloc,
-        characters,
-        &before,
-        &[(4, 5), (1, 12), (1, 12), (3, 0)],
-        false,
-    )?;
-    // a cluster that isn't smaller goes
-    leaves(
-        rt,
-        alloc,
-        graphemes,
+        &rt,
+        rt.alloc(),
+        BufferClusterLevel::MonotoneGraphemes,
         &[(0, 1, 3), (1, 1, 7), (0, 4, 0), (1, 9, 7)],
         &[(1, 3), (4, 0)],
         false,
-    )?;
-    // a number that falls with each picked item
+    )
+}
+
+#[test]
+fn clusters_fall_with_each_picked_item(rt: HostRuntime) -> Result<(), Fail> {
     let falling = [
         (0, 9, 8),
         (0, 9, 16),
@@ -91,23 +87,24 @@ fn cases(rt: HostRuntime) -> Result<(), Fail> {
         (0, 6, 1),
     ];
     leaves(
-        rt,
-        alloc,
-        graphemes,
+        &rt,
+        rt.alloc(),
+        BufferClusterLevel::MonotoneGraphemes,
         &falling,
         &[(5, 12), (5, 20), (6, 1)],
         false,
-    )?;
-    // the last kept item joins the cluster before it, whose flags are its own until the next one falls
+    )
+}
+
+#[test]
+fn last_kept_joins_the_cluster_before(rt: HostRuntime) -> Result<(), Fail> {
+    let alloc = rt.alloc();
+    let rt = &rt;
+    let graphemes = BufferClusterLevel::MonotoneGraphemes;
+    // its flags are its own until the next one falls
     let joining = [(0, 5, 1), (0, 7, 1), (1, 5, 4), (0, 9, 2)];
-    leaves(
-        rt,
-        alloc,
-        graphemes,
-        &joining,
-        &[(5, 1), (5, 4), (9, 2)],
-        false,
-    )?;
+    let after = [(5, 1), (5, 4), (9, 2)];
+    leaves(rt, alloc, graphemes, &joining, &after, false)?;
     let joined = [
         (0, 5, 1),
         (0, 7, 1),
@@ -117,75 +114,51 @@ fn cases(rt: HostRuntime) -> Result<(), Fail> {
         (1, 4, 1),
         (1, 3, 4),
     ];
-    leaves(
-        rt,
-        alloc,
-        graphemes,
-        &joined,
-        &[(3, 4), (3, 4), (3, 4)],
-        false,
-    )?;
-    // case 3: none was kept, and the two first items are merged, or marked at level CHARACTERS
-    leaves(
-        rt,
-        alloc,
-        monotone,
-        &[(1, 5, 7), (0, 3, 15), (0, 5, 1)],
-        &[(3, 15), (5, 1)],
-        false,
-    )?;
+    let after = [(3, 4), (3, 4), (3, 4)];
+    leaves(rt, alloc, graphemes, &joined, &after, false)
+}
+
+#[test]
+fn first_items_are_merged(rt: HostRuntime) -> Result<(), Fail> {
+    let alloc = rt.alloc();
+    let rt = &rt;
+    let graphemes = BufferClusterLevel::MonotoneGraphemes;
+    let monotone = BufferClusterLevel::MonotoneCharacters;
+    // case 3: none was kept
+    let rising = [(1, 5, 7), (0, 3, 15), (0, 5, 1)];
+    let after = [(3, 15), (5, 1)];
+    leaves(rt, alloc, monotone, &rising, &after, false)?;
     let leading = [(1, 3, 7), (0, 5, 15), (0, 5, 9), (0, 6, 1)];
-    leaves(
-        rt,
-        alloc,
-        graphemes,
-        &leading,
-        &[(3, 8), (3, 8), (6, 1)],
-        false,
-    )?;
-    leaves(
-        rt,
-        alloc,
-        characters,
-        &leading,
-        &[(5, 15), (5, 9), (6, 1)],
-        true,
-    )?;
-    leaves(
-        rt,
-        alloc,
-        characters,
-        &[(1, 3, 0), (0, 5, 8), (0, 5, 8)],
-        &[(5, 11), (5, 8)],
-        true,
-    )?;
-    leaves(
-        rt,
-        alloc,
-        characters,
-        &[(1, 5, 0), (0, 3, 8)],
-        &[(3, 8)],
-        true,
-    )?;
-    leaves(
-        rt,
-        alloc,
-        graphemes,
-        &[(1, 3, 0), (1, 5, 0), (0, 7, 1)],
-        &[(3, 0)],
-        false,
-    )?;
-    // case 4: nothing is left; and nothing is picked
+    let after = [(3, 8), (3, 8), (6, 1)];
+    leaves(rt, alloc, graphemes, &leading, &after, false)?;
+    let twice = [(1, 3, 0), (1, 5, 0), (0, 7, 1)];
+    leaves(rt, alloc, graphemes, &twice, &[(3, 0)], false)
+}
+
+#[test]
+fn first_items_are_marked_at_level_characters(rt: HostRuntime) -> Result<(), Fail> {
+    let alloc = rt.alloc();
+    let rt = &rt;
+    let level = BufferClusterLevel::Characters;
+    // case 3: none was kept
+    let leading = [(1, 3, 7), (0, 5, 15), (0, 5, 9), (0, 6, 1)];
+    let after = [(5, 15), (5, 9), (6, 1)];
+    leaves(rt, alloc, level, &leading, &after, true)?;
+    let unmarked = [(1, 3, 0), (0, 5, 8), (0, 5, 8)];
+    leaves(rt, alloc, level, &unmarked, &[(5, 11), (5, 8)], true)?;
+    let picked_is_greater = [(1, 5, 0), (0, 3, 8)];
+    leaves(rt, alloc, level, &picked_is_greater, &[(3, 8)], true)
+}
+
+#[test]
+fn nothing_is_left_or_picked(rt: HostRuntime) -> Result<(), Fail> {
+    let alloc = rt.alloc();
+    let rt = &rt;
+    let graphemes = BufferClusterLevel::MonotoneGraphemes;
+    // case 4
     leaves(rt, alloc, graphemes, &[(1, 3, 7)], &[], false)?;
-    leaves(
-        rt,
-        alloc,
-        graphemes,
-        &[(0, 3, 7), (0, 2, 5)],
-        &[(3, 7), (2, 5)],
-        false,
-    )?;
-    Ok(())
+    let kept = [(0, 3, 7), (0, 2, 5)];
+    leaves(rt, alloc, graphemes, &kept, &[(3, 7), (2, 5)], false)
 }
 
 #[test]
