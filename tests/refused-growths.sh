@@ -1,19 +1,45 @@
 #!/bin/sh
-# Runs the built program on its stored input with the first growth of memory refused, then the second, and
-# so on until a run is whole. Each run must end in one of three ways:
+# Runs the test of the buffer's calls and then the built program on its stored input, with the first growth of
+# memory refused, then the second, and so on until a run is whole.
+#
+# A run of the test must pass, or say that a call was `refused` (behind its own comparisons of what that call
+# left), or that a list of the test's own could not grow (`AllocError`). A run of the program must end in one of
+# three ways:
 #
 #   the stored output, status 0;
 #   `refused 1` in place of the text's answer, status 0;
 #   `error: input`, status 1.
 cd "$(dirname "$0")/.." || exit 1
+calls=crates/shape_buffer/out/shape_buffer_tests
 program=crates/shapeline/out/shapeline
 input=crates/shapeline/stdin
 whole=crates/shapeline/stdout
 
+[ -x "$calls" ] || (cd crates/shape_buffer && rt test > /dev/null) || exit 1
 [ -x "$program" ] || (cd crates/shapeline && rt run < stdin > /dev/null) || exit 1
 work=$(mktemp -d) || exit 1
 trap 'rm -rf "$work"' EXIT
 gcc -O1 -Wall -Werror -shared -fPIC -o "$work/refuse.so" tests/refuse.c -ldl || exit 1
+
+n=1 refused=0
+while :; do
+    answer=$(REFUSED_GROWTH=$n LD_PRELOAD="$work/refuse.so" "$calls" buffer::tests::refusals::growths 2>&1)
+    status=$?
+    case "$status $answer" in
+        "0 "*) break ;;
+        *'error: "refused"'*) refused=$((refused + 1)) ;;
+        *'error: AllocError'*) ;;
+        *) n=1000 ;;
+    esac
+    if [ "$n" -ge 1000 ]; then
+        echo "the buffer's calls: status $status and this answer:"
+        echo "$answer"
+        exit 1
+    fi
+    n=$((n + 1))
+done
+echo "refused growths: $refused of the buffer's calls refused, run $n was whole"
+[ "$refused" -gt 0 ] || exit 1
 
 n=1 texts=0 inputs=0
 while [ "$n" -le 1000 ]; do
