@@ -3,7 +3,7 @@
 use super::run;
 use super::text::shaped;
 use crate::face::Face;
-use shape_buffer::buffer::UnicodeBuffer;
+use shape_buffer::buffer::{BufferClusterLevel, GlyphBuffer, UnicodeBuffer};
 use std::alloc::Global;
 use std::io;
 use std::io::{BufReader, ErrorKind, Read, Write};
@@ -136,13 +136,43 @@ fn thirty_two(rt: HostRuntime) {
     );
 }
 
-/// Whether the third of four characters is hidden once they are shaped.
-fn third_is_hidden(alloc: Global, text: [char; 4]) -> Result<bool, Fail> {
+/// Shapes these characters, each in the cluster of its place, over a face without glyphs and at the level that
+/// keeps graphemes apart.
+fn glyphs_of(alloc: Global, text: &[char]) -> Result<GlyphBuffer, Fail> {
     let mut buffer = UnicodeBuffer::new(alloc);
+    buffer.set_cluster_level(BufferClusterLevel::MonotoneCharacters);
+    let mut place: u32 = 0;
     for c in text {
-        buffer.add(c, 0)?;
+        buffer.add(*c, place)?;
+        place = place.saturating_add(1);
     }
-    let glyphs = shaped(alloc, &Face::new(alloc, 1000), buffer)?;
+    Ok(shaped(alloc, &Face::new(alloc, 1000), buffer)?)
+}
+
+/// Compares characters and clusters.
+fn assert_rows(rt: &impl Abort, glyphs: &GlyphBuffer, rows: &[(char, u32)]) {
+    assert_eq!(rt; glyphs.len(), rows.len());
+    for (info, row) in glyphs.glyph_infos().iter().zip(rows) {
+        assert_eq!(rt; (info.codepoint, info.cluster), *row);
+    }
+}
+
+#[test]
+fn orders_through_the_library(rt: HostRuntime) -> Result<(), Fail> {
+    let glyphs = glyphs_of(rt.alloc(), &['a', '\u{301}', '\u{323}'])?;
+    assert_rows(&rt, &glyphs, &[('a', 0), ('\u{323}', 1), ('\u{301}', 1)]);
+    let glyphs = glyphs_of(rt.alloc(), &['\u{5e9}', '\u{5bc}', '\u{5c1}'])?;
+    assert_rows(
+        &rt,
+        &glyphs,
+        &[('\u{5e9}', 0), ('\u{5c1}', 1), ('\u{5bc}', 1)],
+    );
+    Ok(())
+}
+
+/// Whether the third of the characters is hidden once they are shaped.
+fn third_is_hidden(alloc: Global, text: &[char]) -> Result<bool, Fail> {
+    let glyphs = glyphs_of(alloc, text)?;
     let third = glyphs.glyph_infos().get(2);
     Ok(third.is_some_and(|info| info._hb_glyph_info_get_hidden()))
 }
@@ -157,8 +187,8 @@ fn grapheme_joiner(rt: HostRuntime) -> Result<(), Fail> {
             b"normal 0061@0 0301@1 034F@3 0323@5\nnormal 0061@0 0323@1 034F@3 0301@5\n",
         )],
     );
-    assert!(rt; third_is_hidden(rt.alloc(), ['a', '\u{301}', '\u{34f}', '\u{323}'])?);
-    assert!(rt; !third_is_hidden(rt.alloc(), ['a', '\u{323}', '\u{34f}', '\u{301}'])?);
+    assert!(rt; third_is_hidden(rt.alloc(), &['a', '\u{301}', '\u{34f}', '\u{323}'])?);
+    assert!(rt; !third_is_hidden(rt.alloc(), &['a', '\u{323}', '\u{34f}', '\u{301}'])?);
     Ok(())
 }
 
