@@ -170,6 +170,23 @@ fn orders_through_the_library(rt: HostRuntime) -> Result<(), Fail> {
     Ok(())
 }
 
+/// The second character after shaping one with so many marks of class 230, and one of class 220 behind them.
+fn second_of_many(alloc: Global, marks: usize) -> Result<Option<char>, Fail> {
+    let mut text = Vec::new(alloc);
+    text.resize(marks, '\u{301}')?;
+    text.insert(0, 'a')?;
+    text.push('\u{323}')?;
+    let glyphs = glyphs_of(alloc, text.as_slice())?;
+    Ok(glyphs.glyph_infos().get(1).map(|info| info.codepoint))
+}
+
+#[test]
+fn thirty_two_through_the_library(rt: HostRuntime) -> Result<(), Fail> {
+    assert_eq!(rt; second_of_many(rt.alloc(), 32)?, Some('\u{301}'));
+    assert_eq!(rt; second_of_many(rt.alloc(), 31)?, Some('\u{323}'));
+    Ok(())
+}
+
 /// Whether the third of the characters is hidden once they are shaped.
 fn third_is_hidden(alloc: Global, text: &[char]) -> Result<bool, Fail> {
     let glyphs = glyphs_of(alloc, text)?;
