@@ -15,6 +15,7 @@ pub mod Chain
 pub mod Expansion
 pub mod Choice
 pub mod Expanded
+pub mod Divided
 pub mod Unicode
 pub mod Order
 pub mod Equivalent

@@ -1,16 +1,20 @@
 -- Canonical form: what normalising promises of equivalent texts (UAX 15; The Unicode Standard, D70 and D118).
-use Rattle.std.specs.Prelude.{◌≡◌, ◌↔◌, ℕ, true, List, map, drop}
+use Rattle.std.specs.Prelude.{◌≡◌, ◌↔◌, ℕ, Bool, true, false, List, ◌++◌, map, drop, All, None}
 use Rattle.std.specs.List.{list_any}
 use Rattle.shape_buffer.specs.Buffer.{Buffer}
-use Rattle.shape_buffer.specs.Equivalent.{IsEquivalent, IsCanonical}
-use Rattle.shape_buffer.specs.Items.{char_of}
+use Rattle.shape_buffer.specs.Equivalent.{IsEquivalent, IsCanonical, ComposesSoundly}
+use Rattle.shape_buffer.specs.Expanded.{begins_with_mark}
+use Rattle.shape_buffer.specs.Items.{char_of, is_mark_item}
 use Rattle.shape_buffer.specs.Laws.{IsWhollySupported}
+use Rattle.shape_buffer.specs.Recompose.{is_blocked, join_with_glyph, recomposed}
+use Rattle.shape_buffer.specs.Runs.{HasNoLongerRun}
 use Rattle.shape_buffer.specs.Unicode.{SplitsFall, is_mark}
 use Rattle.shape_pipeline.specs.Normalized.{normalized}
 use Rattle.shape_pipeline.specs.Prepared.{IsPrepared}
+use Rattle.shape_pipeline.specs.RoundOne.{round_one}
 use Rattle.shape_pipeline.specs.RoundTwo.{max_run, has_mark_past_first}
 use Rattle.shape_pipeline.specs.Rules.{Rules, has_glyph}
-use Rattle.shape_pipeline.specs.Shaped.{shaped}
+use Rattle.shape_pipeline.specs.Shaped.{prepared, shaped}
 
 -- the characters of a buffer
 abbrev pub text_of : Buffer → List ℕ
@@ -24,39 +28,79 @@ AreEquivalent rules s t = IsEquivalent rules.split rules.height rules.unicode.cl
 abbrev pub HasCanonicalForm : Rules → List ℕ → Type 0
 HasCanonicalForm rules text = IsCanonical rules.split rules.unicode.class text
 
--- the hooks are lawful: their splits fall as Unicode's do
-abbrev pub HasLawfulHooks : Rules → Type 0
-HasLawfulHooks rules = SplitsFall rules.split rules.height rules.unicode.class
+-- the hooks are lawful: their splits fall as Unicode's do, and in the modes that compose what they compose is equivalent to its parts
+pub record HasLawfulHooks (rules : Rules) : Type 0 where
+  pub splits : SplitsFall rules.split rules.height rules.unicode.class
+  pub joins : rules.recomposes ≡ true → ComposesSoundly rules.split rules.height rules.unicode.class rules.join
+
+-- no character of a text is a variation selector
+abbrev pub HasNoSelector : Rules → List ℕ → Type 0
+HasNoSelector rules text = All (λ c. rules.unicode.selector c ≡ false) text
 
 -- a text has a glyph for each character of its Full, and no run of more than 32 marks in it
 abbrev pub IsSupported : Rules → List ℕ → Type 0
 IsSupported rules text = IsWhollySupported rules.split rules.height rules.unicode.class (has_glyph rules.glyph) max_run text
 
--- what equivalence asks of a buffer: lawful hooks, and that each item's mark and class are those of its character
-pub record EquivalencePremises (rules : Rules) (b : Buffer) : Type 0 where
+-- what equivalence asks of a shaper and a text: lawful hooks, no variation selector, no hook that reorders, and in the modes that compose no run of more than 32 marks in the expanded list
+pub record TextPremises (rules : Rules) (text expanded : List ℕ) : Type 0 where
   pub lawful_hooks : HasLawfulHooks rules
+  pub no_selector : HasNoSelector rules text
+  pub no_reordering : rules.reorder ≡ None
+  pub short_runs : rules.recomposes ≡ true → HasNoLongerRun rules.unicode.class max_run expanded
+
+-- what it asks of a buffer: that, and that each item's mark and class are those of its character
+pub record EquivalencePremises (rules : Rules) (b : Buffer) : Type 0 where
+  pub text : TextPremises rules (text_of b) (text_of (round_one rules b))
   pub prepared : IsPrepared rules.unicode b.items
 
--- what canonical form asks besides: glyphs for all of Full, runs that are short enough, and a mark past the first character
-pub record CanonicalFormPremises (rules : Rules) (b : Buffer) : Type 0 where
-  pub equivalence : EquivalencePremises rules b
-  pub supported : IsSupported rules (text_of b)
-  pub marked : has_mark_past_first b.items ≡ true
-
--- normalising leads from the one text to an equivalent one, which is canonical, and the same for equivalent texts alone
-pub record NormalizesCanonically (rules : Rules) (old new : Buffer) : Type 0 where
-  pub equivalent : EquivalencePremises rules old → AreEquivalent rules (text_of old) (text_of new)
-  pub canonical : CanonicalFormPremises rules old → HasCanonicalForm rules (text_of new)
-  pub decides : (other : Buffer) → CanonicalFormPremises rules old → CanonicalFormPremises rules other → (text_of new ≡ text_of (normalized rules other)) ↔ AreEquivalent rules (text_of old) (text_of other)
-
--- what canonical form asks of a text that is shaped; the run itself prepares its items
+-- what canonical form asks besides: a mode that decomposes fully, glyphs for all of Full, runs that are short enough, and a mark past the first character
 pub record CanonicalTextPremises (rules : Rules) (text : List ℕ) : Type 0 where
-  pub lawful_hooks : HasLawfulHooks rules
+  pub decomposes_fully : (with_marks : Bool) → rules.short with_marks ≡ false
   pub supported : IsSupported rules text
   pub marked : list_any (is_mark rules.unicode) (drop 1 text) ≡ true
 
+pub record CanonicalFormPremises (rules : Rules) (b : Buffer) : Type 0 where
+  pub equivalence : EquivalencePremises rules b
+  pub canonical : CanonicalTextPremises rules (text_of b)
+
+-- a text recomposed: marks join the starter before them where the composed character has a glyph
+abbrev pub recomposed_text : Rules → List ℕ → List ℕ
+recomposed_text rules text = recomposed rules.unicode.class (is_blocked rules.unicode.class) (is_mark rules.unicode) (join_with_glyph rules.join (has_glyph rules.glyph)) text
+
+-- the recomposed form of a text: that of an equivalent text in canonical form, of which there is one
+pub record IsRecomposedForm (rules : Rules) (text new : List ℕ) : Type 0 where
+  pub canonical : List ℕ
+  pub is_canonical : HasCanonicalForm rules canonical
+  pub equivalent : AreEquivalent rules text canonical
+  pub is : new ≡ recomposed_text rules canonical
+
+-- what is asked of a buffer that is cut in two: its items are prepared, there are no variation selectors and no hook that reorders, the second part and its expanded list begin with no mark, and each part has a mark past its first item
+pub record CutPremises (rules : Rules) (old front back : Buffer) : Type 0 where
+  pub parts : old.items ≡ front.items ++ back.items
+  pub prepared : IsPrepared rules.unicode old.items
+  pub no_selector : HasNoSelector rules (text_of old)
+  pub no_reordering : rules.reorder ≡ None
+  pub unmarked : begins_with_mark is_mark_item back.items ≡ false
+  pub unmarked_choice : begins_with_mark (is_mark rules.unicode) (text_of (round_one rules back)) ≡ false
+  pub front_marked : has_mark_past_first front.items ≡ true
+  pub back_marked : has_mark_past_first back.items ≡ true
+
+-- normalising leads from the one text to an equivalent one, which is canonical or recomposed of a canonical one, and the same for equivalent texts alone; and it may be done part by part
+pub record NormalizesCanonically (rules : Rules) (old new : Buffer) : Type 0 where
+  pub equivalent : EquivalencePremises rules old → AreEquivalent rules (text_of old) (text_of new)
+  pub canonical : rules.recomposes ≡ false → CanonicalFormPremises rules old → HasCanonicalForm rules (text_of new)
+  pub recomposed : rules.recomposes ≡ true → CanonicalFormPremises rules old → IsRecomposedForm rules (text_of old) (text_of new)
+  pub decides : (other : Buffer) → CanonicalFormPremises rules old → CanonicalFormPremises rules other → (text_of new ≡ text_of (normalized rules other)) ↔ AreEquivalent rules (text_of old) (text_of other)
+  pub cuts : (front back : Buffer) → CutPremises rules old front back → text_of new ≡ text_of (normalized rules front) ++ text_of (normalized rules back)
+
+-- what shaping asks of a text, whose items it prepares itself
+abbrev pub RunPremises : Rules → Buffer → Type 0
+RunPremises rules b = TextPremises rules (text_of b) (text_of (round_one rules (prepared rules.unicode b)))
+
 -- shaping does so too
 pub record ShapesCanonically (rules : Rules) (old new : Buffer) : Type 0 where
-  pub equivalent : HasLawfulHooks rules → AreEquivalent rules (text_of old) (text_of new)
-  pub canonical : CanonicalTextPremises rules (text_of old) → HasCanonicalForm rules (text_of new)
-  pub decides : (other : Buffer) → CanonicalTextPremises rules (text_of old) → CanonicalTextPremises rules (text_of other) → (text_of new ≡ text_of (shaped rules other)) ↔ AreEquivalent rules (text_of old) (text_of other)
+  pub equivalent : RunPremises rules old → AreEquivalent rules (text_of old) (text_of new)
+  pub canonical : rules.recomposes ≡ false → RunPremises rules old → CanonicalTextPremises rules (text_of old) → HasCanonicalForm rules (text_of new)
+  pub recomposed : rules.recomposes ≡ true → RunPremises rules old → CanonicalTextPremises rules (text_of old) → IsRecomposedForm rules (text_of old) (text_of new)
+  pub decides : (other : Buffer) → RunPremises rules old → CanonicalTextPremises rules (text_of old) → RunPremises rules other → CanonicalTextPremises rules (text_of other)
+      → (text_of new ≡ text_of (shaped rules other)) ↔ AreEquivalent rules (text_of old) (text_of other)

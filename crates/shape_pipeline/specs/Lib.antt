@@ -6,6 +6,7 @@ pub mod Steps
 pub mod Rules
 pub mod RoundOne
 pub mod RoundTwo
+pub mod RoundThree
 pub mod Normalized
 pub mod Shaped
 pub mod Prepared

@@ -1,17 +1,45 @@
 -- The normalised list.
-use Rattle.std.specs.Prelude.{◌≡◌, ◌⊎◌, ℕ, true, if◌then◌else◌, List, All, Contains, Option}
+use Rattle.std.specs.Prelude.{◌≡◌, ◌⊎◌, ◌&&◌, ℕ, ◌≤◌, true, if◌then◌else◌, List, map, length, All, Contains, Option, None, Some}
 use Rattle.shape_buffer.specs.Buffer.{Buffer}
+use Rattle.shape_buffer.specs.Clusters.{clusters}
+use Rattle.shape_buffer.specs.ClusterOrder.{KeepsClusters}
+use Rattle.shape_buffer.specs.Items.{Item, char_of}
 use Rattle.shape_buffer.specs.declared.buffer.settings.GlyphId.{GlyphId}
 use Rattle.shape_pipeline.specs.Rules.{Rules, has_glyph}
-use Rattle.shape_pipeline.specs.RoundOne.{round_one}
-use Rattle.shape_pipeline.specs.RoundTwo.{has_mark_past_first, marks_ordered, joiners_settled}
+use Rattle.shape_pipeline.specs.RoundOne.{round_one, item_glyph, sequences, has_selector}
+use Rattle.shape_pipeline.specs.RoundThree.{round_three}
+use Rattle.shape_pipeline.specs.RoundTwo.{has_mark_past_first, marks_ordered, joiners_settled, OrdersMarks}
 
--- the buffer with its normalised list: the expanded one, with its marks in order where a mark stood past the first item as normalising began, and with joiners shown that keep nothing apart
-abbrev pub normalized : Rules → Buffer → Buffer
-normalized rules b =
+-- the buffer with its expanded list, with its marks in order where a mark stood past the first item as normalising began, and with joiners shown that keep nothing apart
+abbrev pub ordered : Rules → Buffer → Buffer
+ordered rules b =
     let expanded = round_one rules b in
-    joiners_settled (if has_mark_past_first b.items then marks_ordered expanded else expanded)
+    joiners_settled (if has_mark_past_first b.items then marks_ordered rules.reorder expanded else expanded)
+
+-- the buffer with its normalised list: the ordered one, recomposed in the modes that compose, where a mark stood past the first item
+abbrev pub normalized : Rules → Buffer → Buffer
+normalized rules b = if has_mark_past_first b.items && rules.recomposes then round_three rules (ordered rules b) else ordered rules b
 
 -- each character that isn't among those before has a glyph
 abbrev pub BroughtInHaveGlyphs : (ℕ → Option GlyphId) → List ℕ → List ℕ → Type 0
 BroughtInHaveGlyphs glyph before after = All (λ c. (has_glyph glyph c ≡ true) ⊎ Contains before c) after
+
+-- the reorder hook keeps clusters, where one is given: each of its calls keeps their order and brings no new one
+abbrev pub HookKeepsClusters : Rules → Type 0
+HookKeepsClusters rules =
+    (reorder : Buffer → ℕ → ℕ → Buffer) → rules.reorder ≡ Some reorder
+    → (b : Buffer) (start end : ℕ) → start ≤ end → end ≤ length b.items → KeepsClusters (clusters b.items) (clusters (reorder b start end).items)
+
+-- a character of one of these sequences that holds a variation selector
+abbrev pub SomeHoldsSelectorAnd : Rules → ℕ → List (List Item) → Type 0
+SomeHoldsSelectorAnd rules c parts = (sequence : List Item) × Contains parts sequence × (has_selector rules sequence ≡ true) × Contains (map char_of sequence) c
+
+-- each item has the glyph of its character, or what stands in for it; where an item's character stands in a sequence of the text that holds a variation selector, nothing is said
+abbrev pub HasItemGlyph : Rules → Buffer → Item → Type 0
+HasItemGlyph rules old item =
+    (item.glyph_index ≡ item_glyph rules old.invisible_glyph item) ⊎ SomeHoldsSelectorAnd rules item.codepoint (sequences old.items)
+
+-- the marks of the expanded list were put in order: swaps reach the ordered list, in which each run of at most 32 is in canonical order
+abbrev pub OrdersExpanded : Rules → Buffer → Type 0
+OrdersExpanded rules old =
+    has_mark_past_first old.items ≡ true → rules.reorder ≡ None → OrdersMarks (round_one rules old).items (ordered rules old).items

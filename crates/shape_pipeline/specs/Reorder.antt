@@ -1,25 +1,19 @@
--- What putting marks in another order may change.
-use Rattle.std.specs.Prelude.{◌≡◌, ℕ, ◌≤◌, [], map, take, drop, length, slice_range, IsPermutation}
-use Rattle.shape_buffer.specs.Items.{Item, feature_bits}
+-- What `reorder_marks` may do.
+use Rattle.std.specs.Prelude.{ℕ, ◌<◌, ◌≤◌, length}
+use Rattle.std.specs.List.{swap}
 use Rattle.shape_buffer.specs.Buffer.{Buffer}
-use Rattle.shape_buffer.specs.BufferClusters.{with_glyph_flags}
+use Rattle.shape_buffer.specs.BufferClusters.{merge_clusters}
 
--- the item without what merging and marking may change: its cluster and the defined flags
-abbrev pub without_cluster : Item → Item
-without_cluster item = record item { cluster = 0; mask = feature_bits item.mask }
+-- the items at two places exchanged
+abbrev pub exchanged : ℕ → ℕ → Buffer → Buffer
+exchanged i j b = record b { items = swap b.items i j }
 
--- the buffer without its items and without what marking may change: whether the has-flags bit is set
-abbrev pub without_items : Buffer → Buffer
-without_items b = record (with_glyph_flags b) { items = [] }
-
--- the items from place `start` up to `end` are in another order, clusters may have merged and items may be marked; all else is as it was
-pub record PermutesRange (start end : ℕ) (old new : Buffer) : Type 0 where
-  pub before : map without_cluster (take start new.items) ≡ map without_cluster (take start old.items)
-  pub range : IsPermutation (map without_cluster (slice_range old.items start end)) (map without_cluster (slice_range new.items start end))
-  pub behind : map without_cluster (drop end new.items) ≡ map without_cluster (drop end old.items)
-  pub count : length new.items ≡ length old.items
-  pub rest : without_items new ≡ without_items old
+-- the items from place `start` up to `end` in another order: finitely many steps lead there, each of which exchanges two of them or merges the clusters of some that are neighbours
+pub data Reorders (start end : ℕ) : Buffer → Buffer → Type 0 where
+  done : {b : Buffer} → Reorders start end b b
+  exchange : {b c : Buffer} (i j : ℕ) → start ≤ i → i < end → start ≤ j → j < end → Reorders start end (exchanged i j b) c → Reorders start end b c
+  merge : {b c : Buffer} (from to : ℕ) → start ≤ from → from ≤ to → to ≤ end → Reorders start end (merge_clusters from to b) c → Reorders start end b c
 
 -- each range of a buffer is put in another order
-pub record PermutesRanges (reordered : Buffer → ℕ → ℕ → Buffer) : Type 0 where
-  pub permutes : (b : Buffer) (start end : ℕ) → start ≤ end → end ≤ length b.items → PermutesRange start end b (reordered b start end)
+pub record ReordersRanges (reordered : Buffer → ℕ → ℕ → Buffer) : Type 0 where
+  pub reorders : (b : Buffer) (start end : ℕ) → start ≤ end → end ≤ length b.items → Reorders start end b (reordered b start end)

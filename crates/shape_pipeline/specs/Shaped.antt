@@ -1,13 +1,11 @@
 -- What a run makes of a text, as far as its steps are built.
-use Rattle.std.specs.Prelude.{◌≡◌, ℕ, Option, [], ◌∷◌, Some, length}
+use Rattle.std.specs.Prelude.{◌≡◌, ℕ, [], ◌∷◌, Some, length}
 use Rattle.shape_buffer.specs.Buffer.{Buffer, run_limit}
 use Rattle.shape_buffer.specs.Guess.{guessed}
 use Rattle.shape_buffer.specs.Items.{Item}
 use Rattle.shape_buffer.specs.Unicode.{UnicodeMeaning}
-use Rattle.shape_buffer.specs.declared.buffer.settings.GlyphId.{GlyphId}
 use Rattle.shape_pipeline.specs.Rules.{Rules}
-use Rattle.shape_pipeline.specs.RoundOne.{glyph_index}
-use Rattle.shape_pipeline.specs.Normalized.{normalized}
+use Rattle.shape_pipeline.specs.Normalized.{normalized, HasItemGlyph}
 use Rattle.shape_pipeline.specs.Steps.{properties_set, glyphs_mapped}
 
 -- the text as a run begins: no scratch flag, and a limit by its length
@@ -25,6 +23,6 @@ shaped rules b = elim b.items [
   | _ ∷ _ ↦ glyphs_mapped (normalized rules (prepared rules.unicode b))
 ]
 
--- the item, handed out, has the glyph that the face answers for its character
-abbrev pub HasGlyphOfChar : (ℕ → Option GlyphId) → Item → Type 0
-HasGlyphOfChar glyph item = item.glyph_id ≡ glyph_index glyph item.codepoint
+-- an item that is handed out: its glyph is its index, which is that of its character or what stands in for it
+abbrev pub IsHandedOut : Rules → Buffer → Item → Type 0
+IsHandedOut rules text item = (item.glyph_id ≡ item.glyph_index) × HasItemGlyph rules (prepared rules.unicode text) item

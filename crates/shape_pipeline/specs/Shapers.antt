@@ -1,9 +1,8 @@
 -- Shapers that give no hook.
-use Rattle.std.specs.Prelude.{ℕ, ℤ, pos, ◌≤◌, ◌≤ℤ◌, Bool, false, None, refl}
-use Rattle.std.proofs.Common.{rules}
+use Rattle.std.specs.Prelude.{ℕ, ℤ, pos, ◌≤◌, ◌≤ℤ◌, Bool, false, None}
 use Rattle.shape_buffer.specs.Buffer.{Buffer}
 use Rattle.shape_buffer.specs.Unicode.{UnicodeMeaning, LawfulUnicode}
-use Rattle.shape_pipeline.specs.Reorder.{PermutesRanges}
+use Rattle.shape_pipeline.specs.Reorder.{ReordersRanges, done}
 use Rattle.shape_pipeline.specs.Shaper.{ShaperConstants, HookMeaning, LawfulConstants, OwedHooks}
 
 -- the constants of a shaper without hooks and GPOS tag
@@ -33,5 +32,5 @@ plain_constants-lawful is_default preference zero_width_marks fallback_position 
 pub no_hooks-owed : {unicode : UnicodeMeaning} → LawfulUnicode unicode → OwedHooks (no_hooks unicode)
 no_hooks-owed lawful = record { height_falls = lawful.splits_fall.height_falls }
 
-pub no_reordering-permutes : PermutesRanges no_reordering
-no_reordering-permutes = record { permutes = λ b start end _ _. record { before = refl; range = search rules; behind = refl; count = refl; rest = refl } }
+pub no_reordering-reorders : ReordersRanges no_reordering
+no_reordering-reorders = record { reorders = λ b start end _ _. done }

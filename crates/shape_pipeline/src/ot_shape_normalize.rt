@@ -5,39 +5,55 @@
 //! the characters of some point of the chain are put in its place, if the face has glyphs for all of
 //! them. A shaper may bring splits of its own. The marks behind a character are then put in one order,
 //! so that spellings of one text become one list (UAX 15; The Unicode Standard, D68 and D107 to D109).
-ghost use Rattle.std.specs.Prelude.{◌≡◌, ◌<◌, ◌≤◌, true, [], length, map, All, IsOk, OnOk, OnErr, Err};
+ghost use Rattle.std.specs.Prelude.{◌≡◌, ◌<◌, ◌≤◌, [], length, map, All, IsOk, OnOk, OnErr, Err};
 ghost use Rattle.shape_buffer.specs.Buffer.{cleared, limit_of};
 ghost use Rattle.shape_buffer.specs.Clusters.{clusters};
 ghost use Rattle.shape_buffer.specs.ClusterOrder.{KeepsClusters, IsMonotoneLevel};
 ghost use Rattle.shape_buffer.specs.Items.{char_of};
-ghost use Rattle.shape_pipeline.specs.Plan.{hooks_of};
 ghost use Rattle.shape_pipeline.specs.Rules.{rules_of};
-ghost use Rattle.shape_pipeline.specs.RoundOne.{round_one, HasIndexOfChar};
-ghost use Rattle.shape_pipeline.specs.RoundTwo.{has_mark_past_first as has_mark_past_first_of, OrdersMarks};
+ghost use Rattle.shape_pipeline.specs.RoundOne.{round_one};
+ghost use Rattle.shape_pipeline.specs.RoundTwo.{has_mark_past_first as has_mark_past_first_of};
 ghost use Rattle.shape_pipeline.specs.CanonicalForm.{NormalizesCanonically};
-ghost use Rattle.shape_pipeline.specs.Normalized.{normalized, BroughtInHaveGlyphs};
+ghost use Rattle.shape_pipeline.specs.Normalized.{normalized, BroughtInHaveGlyphs, HasItemGlyph, HookKeepsClusters, OrdersExpanded};
 
 mod decompose;
 mod joiners;
+mod mode;
 mod round_one;
+mod round_three;
 mod round_two;
 
 use crate::ot_shape_normalize::joiners::show_joiners;
-use crate::ot_shape_normalize::round_one::expand_all;
+use crate::ot_shape_normalize::mode::recomposes;
+use crate::ot_shape_normalize::round_one::expand;
+use crate::ot_shape_normalize::round_three::recompose;
 use crate::ot_shape_normalize::round_two::order_runs;
 use crate::ot_shape_plan::hb_ot_shape_plan_t;
 use crate::ot_shaper::hb_ot_shaper_t;
+pub use mode::{
+    HB_OT_SHAPE_NORMALIZATION_MODE_AUTO, HB_OT_SHAPE_NORMALIZATION_MODE_COMPOSED_DIACRITICS,
+    HB_OT_SHAPE_NORMALIZATION_MODE_COMPOSED_DIACRITICS_NO_SHORT_CIRCUIT,
+    HB_OT_SHAPE_NORMALIZATION_MODE_DECOMPOSED, HB_OT_SHAPE_NORMALIZATION_MODE_DEFAULT,
+    HB_OT_SHAPE_NORMALIZATION_MODE_NONE, hb_ot_shape_normalization_mode_t,
+};
 use shape_buffer::buffer::{ShapeError, hb_buffer_t, hb_glyph_info_t};
 use shape_buffer::interfaces::{hb_font_t, hb_ot_layout_t, hb_unicode_funcs_t};
 use std::alloc::Global;
 
-/// Makes the list of a buffer the normalised one, at positions of zeros: each item becomes the items of
-/// its character's longest expansion that the face has glyphs for. Where a mark stood past the first
-/// item as normalising began, each run of at most 32 marks is put in the order of their classes, and the
-/// clusters of the spans that this moves are merged. Joiners that keep nothing apart are shown. Each item
-/// has the glyph that the face answers for its character. Refuses with `Length` where the expanded list
-/// is longer than the buffer's limit, and with `Memory` where a growth was refused; after a refusal the
-/// buffer is cleared. An empty buffer is left as it is, and no memory is taken.
+/// Makes the list of a buffer the normalised one, at positions of zeros, by the mode that the plan's shaper
+/// prefers: see [`HB_OT_SHAPE_NORMALIZATION_MODE_NONE`] and the others.
+///
+/// Each item becomes the items of an expansion of its character that the face has glyphs for, the
+/// shortest or the longest one, and takes the glyph that the face answers; a space or a non-breaking
+/// hyphen without a glyph takes that of another. A sequence of an item and its marks that holds a
+/// variation selector isn't expanded. Where a mark stood past the first item as normalising began, each
+/// run of at most 32 marks is put in the order of their classes, the clusters of the spans that this
+/// moves are merged, the shaper may reorder the run, and in the modes that compose, marks are composed
+/// with their starters again, whose clusters are merged. Joiners that keep nothing apart are shown.
+///
+/// Refuses with `Length` where the expanded list is longer than the buffer's limit, and with `Memory`
+/// where a growth was refused; after a refusal the buffer is cleared. An empty buffer is left as it is,
+/// and no memory is taken.
 pub fn _hb_ot_shape_normalize<U, F, M, S>(
     alloc: Global,
     plan: &hb_ot_shape_plan_t<'_, S, M::Map, S::Data>,
@@ -49,22 +65,24 @@ where
     F: hb_font_t,
     M: hb_ot_layout_t<F>,
     S: hb_ot_shaper_t<U, F, M>,
-    ensures ok { OnOk result (buffer.new ≡ normalized
-        (rules_of U.unicode S.constants.has_decompose (hooks_of S.hooks plan.now face.now) (F.face face.now)) buffer.old) }
+    ensures ok { OnOk result (buffer.new ≡ normalized (rules_of U.unicode S.constants S.hooks S.reordered F.face plan.now face.now) buffer.old) }
     ensures brought_in { OnOk result (BroughtInHaveGlyphs (F.face face.now).nominal_glyph
         (map char_of buffer.old.items) (map char_of buffer.new.items)) }
-    ensures item_glyphs { OnOk result (All (HasIndexOfChar (F.face face.now).nominal_glyph) buffer.new.items) }
+    ensures item_glyphs { OnOk result (All (HasItemGlyph
+        (rules_of U.unicode S.constants S.hooks S.reordered F.face plan.now face.now) buffer.old) buffer.new.items) }
     ensures canonical_form { OnOk result (NormalizesCanonically
-        (rules_of U.unicode S.constants.has_decompose (hooks_of S.hooks plan.now face.now) (F.face face.now)) buffer.old buffer.new) }
-    ensures ordered { OnOk result (has_mark_past_first_of buffer.old.items ≡ true → OrdersMarks (round_one
-        (rules_of U.unicode S.constants.has_decompose (hooks_of S.hooks plan.now face.now) (F.face face.now)) buffer.old).items buffer.new.items) }
-    ensures clusters { OnOk result (IsMonotoneLevel buffer.old.cluster_level → KeepsClusters (clusters buffer.old.items) (clusters buffer.new.items)) }
+        (rules_of U.unicode S.constants S.hooks S.reordered F.face plan.now face.now) buffer.old buffer.new) }
+    ensures ordered { OnOk result (OrdersExpanded
+        (rules_of U.unicode S.constants S.hooks S.reordered F.face plan.now face.now) buffer.old) }
+    ensures clusters { OnOk result (IsMonotoneLevel buffer.old.cluster_level
+        → HookKeepsClusters (rules_of U.unicode S.constants S.hooks S.reordered F.face plan.now face.now)
+        → KeepsClusters (clusters buffer.old.items) (clusters buffer.new.items)) }
     ensures within { OnOk result (length buffer.new.items ≤ limit_of buffer.old) }
     ensures counted { OnOk result (length (round_one
-        (rules_of U.unicode S.constants.has_decompose (hooks_of S.hooks plan.now face.now) (F.face face.now)) buffer.old).items ≤ limit_of buffer.old) }
+        (rules_of U.unicode S.constants S.hooks S.reordered F.face plan.now face.now) buffer.old).items ≤ limit_of buffer.old) }
 
     ensures length { result ≡ Err ShapeError.Length → limit_of buffer.old < length (round_one
-        (rules_of U.unicode S.constants.has_decompose (hooks_of S.hooks plan.now face.now) (F.face face.now)) buffer.old).items }
+        (rules_of U.unicode S.constants S.hooks S.reordered F.face plan.now face.now) buffer.old).items }
     ensures cleared { OnErr result (buffer.new ≡ cleared buffer.old) }
     ensures empty { buffer.old.items ≡ [] → IsOk result }
 {
@@ -78,7 +96,8 @@ where
     outcome
 }
 
-/// Expands the items, puts marks in order where there are any past the first item, and shows joiners.
+/// Expands the items and shows joiners; where there are marks past the first item, puts them in order, and
+/// composes them in the modes that do.
 fn run_rounds<U, F, M, S>(
     alloc: Global,
     plan: &hb_ot_shape_plan_t<'_, S, M::Map, S::Data>,
@@ -90,20 +109,22 @@ where
     F: hb_font_t,
     M: hb_ot_layout_t<F>,
     S: hb_ot_shaper_t<U, F, M>,
-    ensures ok { OnOk result (buffer.new ≡ normalized
-        (rules_of U.unicode S.constants.has_decompose (hooks_of S.hooks plan.now face.now) (F.face face.now)) buffer.old) }
+    ensures ok { OnOk result (buffer.new ≡ normalized (rules_of U.unicode S.constants S.hooks S.reordered F.face plan.now face.now) buffer.old) }
     ensures counted { OnOk result (length (round_one
-        (rules_of U.unicode S.constants.has_decompose (hooks_of S.hooks plan.now face.now) (F.face face.now)) buffer.old).items ≤ limit_of buffer.old) }
+        (rules_of U.unicode S.constants S.hooks S.reordered F.face plan.now face.now) buffer.old).items ≤ limit_of buffer.old) }
     ensures length { result ≡ Err ShapeError.Length → limit_of buffer.old < length (round_one
-        (rules_of U.unicode S.constants.has_decompose (hooks_of S.hooks plan.now face.now) (F.face face.now)) buffer.old).items }
+        (rules_of U.unicode S.constants S.hooks S.reordered F.face plan.now face.now) buffer.old).items }
     ensures settings { OnErr result (cleared buffer.new ≡ cleared buffer.old) }
 {
     let has_marks = has_mark_past_first(buffer.infos());
     expand::<U, F, M, S>(alloc, plan, buffer, face)?;
     if has_marks {
-        order_runs(alloc, buffer)?;
+        order_runs::<U, F, M, S>(alloc, plan, buffer)?;
     }
     show_joiners(buffer);
+    if has_marks && recomposes::<U, F, M, S>(plan) {
+        recompose::<U, F, M, S>(alloc, plan, buffer, face)?;
+    }
     Ok(())
 }
 
@@ -115,30 +136,4 @@ fn has_mark_past_first(infos: &[hb_glyph_info_t]) -> bool
         .iter()
         .skip(1)
         .any(|info| info._hb_glyph_info_is_unicode_mark())
-}
-
-/// Puts what the items become in their place; a refusal leaves them as they were.
-fn expand<U, F, M, S>(
-    alloc: Global,
-    plan: &hb_ot_shape_plan_t<'_, S, M::Map, S::Data>,
-    buffer: &mut hb_buffer_t,
-    face: &F,
-) -> Result<(), ShapeError>
-where
-    U: hb_unicode_funcs_t,
-    F: hb_font_t,
-    M: hb_ot_layout_t<F>,
-    S: hb_ot_shaper_t<U, F, M>,
-    ensures ok { OnOk result (buffer.new ≡ round_one
-        (rules_of U.unicode S.constants.has_decompose (hooks_of S.hooks plan.now face.now) (F.face face.now)) buffer.old) }
-    ensures within { OnOk result (length buffer.new.items ≤ limit_of buffer.old) }
-    ensures length { result ≡ Err ShapeError.Length → limit_of buffer.old < length (round_one
-        (rules_of U.unicode S.constants.has_decompose (hooks_of S.hooks plan.now face.now) (F.face face.now)) buffer.old).items }
-    ensures err { OnErr result (buffer.new ≡ buffer.old) }
-{
-    let expanded = expand_all::<U, F, M, S>(alloc, plan, face, buffer)?;
-    let scratch_flags = expanded.scratch_flags;
-    buffer.replace_infos(expanded.infos)?;
-    buffer.set_scratch_flags(scratch_flags);
-    Ok(())
 }

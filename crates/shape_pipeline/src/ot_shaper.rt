@@ -6,7 +6,7 @@ ghost use Rattle.std.specs.Prelude.{◌≡◌, ◌≤◌, ℕ, ℤ, Bool, Option
 ghost use Rattle.shape_buffer.specs.Buffer.{Buffer};
 ghost use Rattle.shape_buffer.specs.declared.buffer.settings.hb_tag_t.{hb_tag_t};
 ghost use Rattle.shape_pipeline.specs.Plan.{Plan};
-ghost use Rattle.shape_pipeline.specs.Reorder.{PermutesRanges};
+ghost use Rattle.shape_pipeline.specs.Reorder.{ReordersRanges};
 ghost use Rattle.shape_pipeline.specs.Shaper.{ShaperConstants, HookMeaning, LawfulConstants, OwedHooks};
 
 mod shapers;
@@ -137,8 +137,8 @@ pub trait hb_ot_shaper_t<U: hb_unicode_funcs_t, F: hb_font_t, M: hb_ot_layout_t<
     ghost lawful_hooks: { (shaper : Self) (plan : Plan Self M.Map Self.Data) (face : F)
         → OwedHooks (hooks shaper plan face) };
 
-    /// `reorder_marks` puts the items of its range in another order; but for clusters and flags of
-    /// glyphs, it changes nothing else.
-    ghost permutes: { (shaper : Self) (plan : Plan Self M.Map Self.Data)
-        → PermutesRanges (reordered shaper plan) };
+    /// `reorder_marks` puts the items of its range in another order: it exchanges them, and merges
+    /// clusters of theirs.
+    ghost reorders: { (shaper : Self) (plan : Plan Self M.Map Self.Data)
+        → ReordersRanges (reordered shaper plan) };
 }

@@ -37,19 +37,19 @@ where
     S: hb_ot_shaper_t<U, F, M>,
     requires { Fits U.unicode plan.now buffer }
     ensures glyphs { IfOk result (λ glyphs. glyphs ≡ shaped
-        (rules_of U.unicode S.constants.has_decompose (hooks_of S.hooks plan.now face.now) (F.face face.now)) buffer) }
+        (rules_of U.unicode S.constants S.hooks S.reordered F.face plan.now face.now) buffer) }
     ensures brought_in { IfOk result (λ glyphs. BroughtInHaveGlyphs (F.face face.now).nominal_glyph
         (map char_of buffer.items) (map char_of glyphs.items)) }
     ensures item_glyphs { IfOk result (λ glyphs. All (HasGlyphOfChar (F.face face.now).nominal_glyph) glyphs.items) }
     ensures canonical_form { IfOk result (λ glyphs. ShapesCanonically
-        (rules_of U.unicode S.constants.has_decompose (hooks_of S.hooks plan.now face.now) (F.face face.now)) buffer glyphs) }
+        (rules_of U.unicode S.constants S.hooks S.reordered F.face plan.now face.now) buffer glyphs) }
     ensures clusters { IfOk result (λ glyphs. IsMonotoneLevel buffer.cluster_level → KeepsClusters (clusters buffer.items) (clusters glyphs.items)) }
     ensures within { IfOk result (λ glyphs. length glyphs.items ≤ run_limit (length buffer.items)) }
     ensures counted { IfOk result (λ _. length (round_one
-        (rules_of U.unicode S.constants.has_decompose (hooks_of S.hooks plan.now face.now) (F.face face.now)) (prepared U.unicode buffer)).items ≤ run_limit (length buffer.items)) }
+        (rules_of U.unicode S.constants S.hooks S.reordered F.face plan.now face.now) (prepared U.unicode buffer)).items ≤ run_limit (length buffer.items)) }
 
     ensures length { IfErr result (λ fault. fault.cause ≡ ShapeError.Length → run_limit (length buffer.items) < length (round_one
-        (rules_of U.unicode S.constants.has_decompose (hooks_of S.hooks plan.now face.now) (F.face face.now)) (prepared U.unicode buffer)).items) }
+        (rules_of U.unicode S.constants S.hooks S.reordered F.face plan.now face.now) (prepared U.unicode buffer)).items) }
     ensures cleared { IfErr result (λ fault. fault.buffer ≡ cleared buffer) }
     ensures empty { buffer.items ≡ [] → IsOk result }
 {

@@ -3,7 +3,7 @@
 //! The way to normalise is a type, since a shaper's preference is a constant.
 ghost use Rattle.std.specs.Prelude.{◌≤ℤ◌, ℤ, true, false, None, pos, refl};
 ghost use Rattle.std.proofs.Common.{rules};
-ghost use Rattle.shape_pipeline.specs.Shapers.{plain_constants, no_hooks, plain_constants-lawful, no_hooks-owed, no_reordering, no_reordering-permutes};
+ghost use Rattle.shape_pipeline.specs.Shapers.{plain_constants, no_hooks, plain_constants-lawful, no_hooks-owed, no_reordering, no_reordering-reorders};
 
 use shape_buffer::buffer::{hb_buffer_t, hb_tag_t};
 use shape_buffer::interfaces::{hb_font_t, hb_ot_layout_t, hb_unicode_funcs_t};
@@ -177,5 +177,5 @@ impl<T: Preference, U: hb_unicode_funcs_t, F: hb_font_t, M: hb_ot_layout_t<F>> h
 
     ghost lawful_hooks = { λ _ _ _. no_hooks-owed U.lawful };
 
-    ghost permutes = { λ _ _. no_reordering-permutes };
+    ghost reorders = { λ _ _. no_reordering-reorders };
 }

@@ -99,12 +99,12 @@ impl Expanded {
         S: hb_ot_shaper_t<U, F, M>,
         requires { vec_len self.old.infos ≤ limit }
         ensures infos { OnOk result (self.new.infos.items ≡ self.old.infos.items ++ expanded_item
-            (rules_of U.unicode S.constants.has_decompose (hooks_of S.hooks plan.now face.now) (F.face face.now)) info.now) }
+            (rules_of U.unicode S.constants S.hooks S.reordered F.face plan.now face.now) info.now) }
         ensures flags { OnOk result (self.new.scratch_flags ≡ seen_parts
-            (rules_of U.unicode S.constants.has_decompose (hooks_of S.hooks plan.now face.now) (F.face face.now)) self.old.scratch_flags info.now) }
+            (rules_of U.unicode S.constants S.hooks S.reordered F.face plan.now face.now) self.old.scratch_flags info.now) }
         ensures within { OnOk result (vec_len self.new.infos ≤ limit) }
         ensures length { result ≡ Err ShapeError.Length → limit < length (self.old.infos.items ++ expanded_item
-            (rules_of U.unicode S.constants.has_decompose (hooks_of S.hooks plan.now face.now) (F.face face.now)) info.now) }
+            (rules_of U.unicode S.constants S.hooks S.reordered F.face plan.now face.now) info.now) }
     {
         let room = limit - self.infos.len();
         match decompose::<U, F, M, S>(alloc, plan, face, info.codepoint)? {
@@ -127,6 +127,32 @@ impl Expanded {
     }
 }
 
+/// Puts what the items become in their place. Refuses with `Length` where that passes the limit; after a
+/// refusal the settings that clearing keeps are as they were.
+pub(crate) fn expand<U, F, M, S>(
+    alloc: Global,
+    plan: &hb_ot_shape_plan_t<'_, S, M::Map, S::Data>,
+    buffer: &mut hb_buffer_t,
+    face: &F,
+) -> Result<(), ShapeError>
+where
+    U: hb_unicode_funcs_t,
+    F: hb_font_t,
+    M: hb_ot_layout_t<F>,
+    S: hb_ot_shaper_t<U, F, M>,
+    ensures ok { OnOk result (buffer.new ≡ round_one (rules_of U.unicode S.constants S.hooks S.reordered F.face plan.now face.now) buffer.old) }
+    ensures within { OnOk result (length buffer.new.items ≤ limit_of buffer.old) }
+    ensures length { result ≡ Err ShapeError.Length → limit_of buffer.old < length (round_one
+        (rules_of U.unicode S.constants S.hooks S.reordered F.face plan.now face.now) buffer.old).items }
+    ensures settings { OnErr result (cleared buffer.new ≡ cleared buffer.old) }
+{
+    let expanded = expand_all::<U, F, M, S>(alloc, plan, face, buffer)?;
+    let scratch_flags = expanded.scratch_flags;
+    buffer.replace_infos(expanded.infos)?;
+    buffer.set_scratch_flags(scratch_flags);
+    Ok(())
+}
+
 /// What the items of a list become, in order. Refuses with `Length` where that passes the limit.
 pub(crate) fn expand_all<U, F, M, S>(
     alloc: Global,
@@ -140,13 +166,13 @@ where
     M: hb_ot_layout_t<F>,
     S: hb_ot_shaper_t<U, F, M>,
     ensures infos { IfOk result (λ out. out.infos.items ≡ expanded
-        (rules_of U.unicode S.constants.has_decompose (hooks_of S.hooks plan.now face.now) (F.face face.now)) buffer.now.items) }
+        (rules_of U.unicode S.constants S.hooks S.reordered F.face plan.now face.now) buffer.now.items) }
     ensures flags { IfOk result (λ out. out.scratch_flags ≡ fold
-        (seen_parts (rules_of U.unicode S.constants.has_decompose (hooks_of S.hooks plan.now face.now) (F.face face.now)))
+        (seen_parts (rules_of U.unicode S.constants S.hooks S.reordered F.face plan.now face.now))
         buffer.now.scratch_flags buffer.now.items) }
     ensures within { IfOk result (λ out. vec_len out.infos ≤ limit_of buffer.now) }
     ensures length { result ≡ Err ShapeError.Length → limit_of buffer.now < length (expanded
-        (rules_of U.unicode S.constants.has_decompose (hooks_of S.hooks plan.now face.now) (F.face face.now)) buffer.now.items) }
+        (rules_of U.unicode S.constants S.hooks S.reordered F.face plan.now face.now) buffer.now.items) }
 {
     let limit = buffer.length_limit();
     let mut out = Expanded {

@@ -1,7 +1,7 @@
 //! The two shapers that give no hook.
 ghost use Rattle.std.specs.Prelude.{true, false, None, pos, refl};
 ghost use Rattle.std.proofs.Common.{rules};
-ghost use Rattle.shape_pipeline.specs.Shapers.{plain_constants, no_hooks, plain_constants-lawful, no_hooks-owed, no_reordering, no_reordering-permutes};
+ghost use Rattle.shape_pipeline.specs.Shapers.{plain_constants, no_hooks, plain_constants-lawful, no_hooks-owed, no_reordering, no_reordering-reorders};
 
 use crate::ot_shape_plan::hb_ot_shape_plan_t;
 use crate::ot_shaper::{
@@ -92,7 +92,7 @@ impl<U: hb_unicode_funcs_t, F: hb_font_t, M: hb_ot_layout_t<F>> hb_ot_shaper_t<U
 
     ghost lawful_hooks = { λ _ _ _. no_hooks-owed U.lawful };
 
-    ghost permutes = { λ _ _. no_reordering-permutes };
+    ghost reorders = { λ _ _. no_reordering-reorders };
 }
 
 /// The shaper that leaves all to the face: it neither zeroes nor places marks.
@@ -177,5 +177,5 @@ impl<U: hb_unicode_funcs_t, F: hb_font_t, M: hb_ot_layout_t<F>> hb_ot_shaper_t<U
 
     ghost lawful_hooks = { λ _ _ _. no_hooks-owed U.lawful };
 
-    ghost permutes = { λ _ _. no_reordering-permutes };
+    ghost reorders = { λ _ _. no_reordering-reorders };
 }

@@ -2,7 +2,7 @@
 ghost use Rattle.std.specs.Prelude.{◌≡◌, ◌<◌, ◌≤◌, true, false, None, pos, refl, length};
 ghost use Rattle.std.proofs.Common.{rules};
 ghost use Rattle.shape_pipeline.specs.Shapers.{plain_constants, no_hooks, no_hooks-owed};
-ghost use Rattle.shape_rows.specs.Reversing.{exchanged, reversed, reversed-permutes};
+ghost use Rattle.shape_rows.specs.Reversing.{exchanged, reversed, reversed-reorders};
 
 use shape_buffer::buffer::{hb_buffer_t, hb_tag_t};
 use shape_buffer::interfaces::{hb_font_t, hb_ot_layout_t, hb_unicode_funcs_t};
@@ -111,5 +111,5 @@ impl<U: hb_unicode_funcs_t, F: hb_font_t, M: hb_ot_layout_t<F>> hb_ot_shaper_t<U
 
     ghost lawful_hooks = { λ _ _ _. no_hooks-owed U.lawful };
 
-    ghost permutes = { λ _ _. reversed-permutes };
+    ghost reorders = { λ _ _. reversed-reorders };
 }

@@ -1,7 +1,7 @@
 //! Shapers whose `decompose` hook splits.
 ghost use Rattle.std.specs.Prelude.{◌≡◌, true, false, None, pos, refl};
 ghost use Rattle.std.proofs.Common.{rules};
-ghost use Rattle.shape_pipeline.specs.Shapers.{plain_constants, no_reordering, no_reordering-permutes};
+ghost use Rattle.shape_pipeline.specs.Shapers.{plain_constants, no_reordering, no_reordering-reorders};
 ghost use Rattle.shape_rows.specs.Splitting.{deep_split, deep_hooks, deep_hooks-owed, stacked_split, stacked_hooks, stacked_hooks-owed};
 
 use shape_buffer::buffer::{hb_buffer_t, hb_tag_t};
@@ -117,7 +117,7 @@ impl<U: hb_unicode_funcs_t, F: hb_font_t, M: hb_ot_layout_t<F>> hb_ot_shaper_t<U
 
     ghost lawful_hooks = { λ shaper _ _. deep_hooks-owed U.unicode shaper.depth };
 
-    ghost permutes = { λ _ _. no_reordering-permutes };
+    ghost reorders = { λ _ _. no_reordering-reorders };
 }
 
 impl<U: hb_unicode_funcs_t, F: hb_font_t, M: hb_ot_layout_t<F>> hb_ot_shaper_t<U, F, M>
@@ -195,5 +195,5 @@ impl<U: hb_unicode_funcs_t, F: hb_font_t, M: hb_ot_layout_t<F>> hb_ot_shaper_t<U
 
     ghost lawful_hooks = { λ _ _ _. stacked_hooks-owed U.unicode };
 
-    ghost permutes = { λ _ _. no_reordering-permutes };
+    ghost reorders = { λ _ _. no_reordering-reorders };
 }

@@ -12,32 +12,32 @@ use Rattle.shape_pipeline.proofs.ot_shape_normalize._hb_ot_shape_normalize.Goals
 pub returns-then-len-eq0-clause-ok : goal.returns-then-len-eq0-clause-ok
 returns-then-len-eq0-clause-ok g c =
     let shaper = g.S.hb_ot_shaper_t in
-    let rules = rules_of g.U.hb_unicode_funcs_t.unicode shaper.constants.has_decompose (hooks_of shaper.hooks c.args.plan.now c.args.face.now) (g.F.hb_font_t.face c.args.face.now) in
+    let rules = rules_of g.U.hb_unicode_funcs_t.unicode shaper.constants shaper.hooks shaper.reordered g.F.hb_font_t.face c.args.plan.now c.args.face.now in
     empty_is_normalized rules c.args.buffer.now (omega arith) (omega arith)
 
 pub returns-else-is_err-clause-brought_in : goal.returns-else-is_err-clause-brought_in
 returns-else-is_err-clause-brought_in g c =
     let shaper = g.S.hb_ot_shaper_t in
-    let rules = rules_of g.U.hb_unicode_funcs_t.unicode shaper.constants.has_decompose (hooks_of shaper.hooks c.args.plan.now c.args.face.now) (g.F.hb_font_t.face c.args.face.now) in
+    let rules = rules_of g.U.hb_unicode_funcs_t.unicode shaper.constants shaper.hooks shaper.reordered g.F.hb_font_t.face c.args.plan.now c.args.face.now in
     on_ok_weaker c.run_rounds-outcome.result (normalized_brings_in rules c.args.buffer.now c.run_rounds-outcome.new.buffer) c.run_rounds-outcome.ensures.ok
 
 pub returns-else-is_err-clause-within : goal.returns-else-is_err-clause-within
 returns-else-is_err-clause-within g c =
     let shaper = g.S.hb_ot_shaper_t in
-    let rules = rules_of g.U.hb_unicode_funcs_t.unicode shaper.constants.has_decompose (hooks_of shaper.hooks c.args.plan.now c.args.face.now) (g.F.hb_font_t.face c.args.face.now) in
+    let rules = rules_of g.U.hb_unicode_funcs_t.unicode shaper.constants shaper.hooks shaper.reordered g.F.hb_font_t.face c.args.plan.now c.args.face.now in
     let made = c.run_rounds-outcome.ensures in
     within_normalized rules c.args.buffer.now c.run_rounds-outcome.new.buffer c.run_rounds-outcome.result _ made.ok made.counted
 
 pub returns-then-len-eq0-clause-canonical_form : goal.returns-then-len-eq0-clause-canonical_form
 returns-then-len-eq0-clause-canonical_form g c =
     let shaper = g.S.hb_ot_shaper_t in
-    let rules = rules_of g.U.hb_unicode_funcs_t.unicode shaper.constants.has_decompose (hooks_of shaper.hooks c.args.plan.now c.args.face.now) (g.F.hb_font_t.face c.args.face.now) in
+    let rules = rules_of g.U.hb_unicode_funcs_t.unicode shaper.constants shaper.hooks shaper.reordered g.F.hb_font_t.face c.args.plan.now c.args.face.now in
     NormalizesCanonically-normalized rules g.met.U.hb_unicode_funcs_t.lawful c.args.buffer.now c.args.buffer.now (empty_is_normalized rules c.args.buffer.now (omega arith) (omega arith))
 
 pub returns-else-is_err-clause-canonical_form : goal.returns-else-is_err-clause-canonical_form
 returns-else-is_err-clause-canonical_form g c =
     let shaper = g.S.hb_ot_shaper_t in
-    let rules = rules_of g.U.hb_unicode_funcs_t.unicode shaper.constants.has_decompose (hooks_of shaper.hooks c.args.plan.now c.args.face.now) (g.F.hb_font_t.face c.args.face.now) in
+    let rules = rules_of g.U.hb_unicode_funcs_t.unicode shaper.constants shaper.hooks shaper.reordered g.F.hb_font_t.face c.args.plan.now c.args.face.now in
     on_ok_weaker c.run_rounds-outcome.result (NormalizesCanonically-normalized rules g.met.U.hb_unicode_funcs_t.lawful c.args.buffer.now c.run_rounds-outcome.new.buffer) c.run_rounds-outcome.ensures.ok
 
 pub returns-then-len-eq0-clause-clusters : goal.returns-then-len-eq0-clause-clusters
@@ -46,19 +46,19 @@ returns-then-len-eq0-clause-clusters g c = λ monotone. record { rising = λ h. 
 pub returns-then-len-eq0-clause-ordered : goal.returns-then-len-eq0-clause-ordered
 returns-then-len-eq0-clause-ordered g c = λ marked.
     let shaper = g.S.hb_ot_shaper_t in
-    let rules = rules_of g.U.hb_unicode_funcs_t.unicode shaper.constants.has_decompose (hooks_of shaper.hooks c.args.plan.now c.args.face.now) (g.F.hb_font_t.face c.args.face.now) in
+    let rules = rules_of g.U.hb_unicode_funcs_t.unicode shaper.constants shaper.hooks shaper.reordered g.F.hb_font_t.face c.args.plan.now c.args.face.now in
     normalized_orders rules c.args.buffer.now c.args.buffer.now (empty_is_normalized rules c.args.buffer.now (omega arith) (omega arith)) marked
 
 pub returns-else-is_err-clause-ordered : goal.returns-else-is_err-clause-ordered
 returns-else-is_err-clause-ordered g c =
     let shaper = g.S.hb_ot_shaper_t in
-    let rules = rules_of g.U.hb_unicode_funcs_t.unicode shaper.constants.has_decompose (hooks_of shaper.hooks c.args.plan.now c.args.face.now) (g.F.hb_font_t.face c.args.face.now) in
+    let rules = rules_of g.U.hb_unicode_funcs_t.unicode shaper.constants shaper.hooks shaper.reordered g.F.hb_font_t.face c.args.plan.now c.args.face.now in
     on_ok_weaker c.run_rounds-outcome.result (normalized_orders rules c.args.buffer.now c.run_rounds-outcome.new.buffer) c.run_rounds-outcome.ensures.ok
 
 pub returns-else-is_err-clause-clusters : goal.returns-else-is_err-clause-clusters
 returns-else-is_err-clause-clusters g c =
     let shaper = g.S.hb_ot_shaper_t in
-    let rules = rules_of g.U.hb_unicode_funcs_t.unicode shaper.constants.has_decompose (hooks_of shaper.hooks c.args.plan.now c.args.face.now) (g.F.hb_font_t.face c.args.face.now) in
+    let rules = rules_of g.U.hb_unicode_funcs_t.unicode shaper.constants shaper.hooks shaper.reordered g.F.hb_font_t.face c.args.plan.now c.args.face.now in
     on_ok_weaker c.run_rounds-outcome.result (λ is monotone. rw is (normalized_keeps rules c.args.buffer.now monotone)) c.run_rounds-outcome.ensures.ok
 
 pub returns-then-len-eq0-clause-item_glyphs : goal.returns-then-len-eq0-clause-item_glyphs
@@ -68,5 +68,5 @@ returns-then-len-eq0-clause-item_glyphs g c =
 pub returns-else-is_err-clause-item_glyphs : goal.returns-else-is_err-clause-item_glyphs
 returns-else-is_err-clause-item_glyphs g c =
     let shaper = g.S.hb_ot_shaper_t in
-    let rules = rules_of g.U.hb_unicode_funcs_t.unicode shaper.constants.has_decompose (hooks_of shaper.hooks c.args.plan.now c.args.face.now) (g.F.hb_font_t.face c.args.face.now) in
+    let rules = rules_of g.U.hb_unicode_funcs_t.unicode shaper.constants shaper.hooks shaper.reordered g.F.hb_font_t.face c.args.plan.now c.args.face.now in
     on_ok_weaker c.run_rounds-outcome.result (normalized_has_indexes rules c.args.buffer.now c.run_rounds-outcome.new.buffer) c.run_rounds-outcome.ensures.ok

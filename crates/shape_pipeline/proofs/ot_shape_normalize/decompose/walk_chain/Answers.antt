@@ -14,7 +14,7 @@ IfSome-weaker found m n le within = elim found as (λ o. IfSome o (λ f. f.1 ≤
 pub chain-preserved-then-has_glyph : goal.chain-preserved-then-has_glyph
 chain-preserved-then-has_glyph g c =
     let shaper = g.S.hb_ot_shaper_t in
-    let rules = rules_of g.U.hb_unicode_funcs_t.unicode shaper.constants.has_decompose (hooks_of shaper.hooks c.args.plan.now c.args.face.now) (g.F.hb_font_t.face c.args.face.now) in
+    let rules = rules_of g.U.hb_unicode_funcs_t.unicode shaper.constants shaper.hooks shaper.reordered g.F.hb_font_t.face c.args.plan.now c.args.face.now in
     let falls = FallsAlong-planned g.met.U.hb_unicode_funcs_t.lawful shaper.constants.has_decompose shaper.hooks g.met.S.hb_ot_shaper_t.lawful_hooks c.args.plan.now c.args.face.now in
     let grown : c.keep_second.new.seconds.items ≡ c.chain.seconds.items ++ kept c.in-Some.b = c.in_ok-keep_second.ensures.kept (ap Ok c.if-not-branch.false) in
     let kept_b : true ≡ list_all (has_glyph rules.glyph) (kept c.in-Some.b) = sym c.if-not-branch.false ∙ c.in_ok-keep_second.ensures.test in
@@ -26,7 +26,7 @@ chain-preserved-then-has_glyph g c =
 pub chain-preserved : goal.chain-preserved
 chain-preserved g c =
     let shaper = g.S.hb_ot_shaper_t in
-    let rules = rules_of g.U.hb_unicode_funcs_t.unicode shaper.constants.has_decompose (hooks_of shaper.hooks c.args.plan.now c.args.face.now) (g.F.hb_font_t.face c.args.face.now) in
+    let rules = rules_of g.U.hb_unicode_funcs_t.unicode shaper.constants shaper.hooks shaper.reordered g.F.hb_font_t.face c.args.plan.now c.args.face.now in
     let falls = FallsAlong-planned g.met.U.hb_unicode_funcs_t.lawful shaper.constants.has_decompose shaper.hooks g.met.S.hb_ot_shaper_t.lawful_hooks c.args.plan.now c.args.face.now in
     let grown : c.keep_second.new.seconds.items ≡ c.chain.seconds.items ++ kept c.in-Some.b = c.in_ok-keep_second.ensures.kept (ap Ok c.if-not-branch.false) in
     let kept_b : true ≡ list_all (has_glyph rules.glyph) (kept c.in-Some.b) = sym c.if-not-branch.false ∙ c.in_ok-keep_second.ensures.test in
@@ -38,7 +38,7 @@ chain-preserved g c =
 pub returns-then-not-branch : goal.returns-then-not-branch
 returns-then-not-branch g c =
     let shaper = g.S.hb_ot_shaper_t in
-    let rules = rules_of g.U.hb_unicode_funcs_t.unicode shaper.constants.has_decompose (hooks_of shaper.hooks c.args.plan.now c.args.face.now) (g.F.hb_font_t.face c.args.face.now) in
+    let rules = rules_of g.U.hb_unicode_funcs_t.unicode shaper.constants shaper.hooks shaper.reordered g.F.hb_font_t.face c.args.plan.now c.args.face.now in
     let falls = FallsAlong-planned g.met.U.hb_unicode_funcs_t.lawful shaper.constants.has_decompose shaper.hooks g.met.S.hb_ot_shaper_t.lawful_hooks c.args.plan.now c.args.face.now in
     let same : c.keep_second.new.seconds.items ≡ c.chain.seconds.items = c.in_ok-keep_second.ensures.same (ap Ok c.if-not-branch.true) in
     let kept_b : false ≡ list_all (has_glyph rules.glyph) (kept c.in-Some.b) = sym c.if-not-branch.true ∙ c.in_ok-keep_second.ensures.test in
@@ -47,5 +47,5 @@ returns-then-not-branch g c =
 pub returns : goal.returns
 returns g c =
     let shaper = g.S.hb_ot_shaper_t in
-    let rules = rules_of g.U.hb_unicode_funcs_t.unicode shaper.constants.has_decompose (hooks_of shaper.hooks c.args.plan.now c.args.face.now) (g.F.hb_font_t.face c.args.face.now) in
+    let rules = rules_of g.U.hb_unicode_funcs_t.unicode shaper.constants shaper.hooks shaper.reordered g.F.hb_font_t.face c.args.plan.now c.args.face.now in
     walk_ended rules.split (has_glyph rules.glyph) _ _ c.chain.seconds.items (rules.height c.chain.point) c.chain.point c.chain.invariant.walk c.in_default.ensures

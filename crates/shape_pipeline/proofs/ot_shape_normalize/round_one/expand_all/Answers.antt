@@ -9,6 +9,6 @@ use Rattle.shape_pipeline.proofs.ot_shape_normalize.round_one.expand_all.Goals a
 pub returns-in_err-put_item-clause-length : goal.returns-in_err-put_item-clause-length
 returns-in_err-put_item-clause-length g c is_length =
     let shaper = g.S.hb_ot_shaper_t in
-    let planned = rules_of g.U.hb_unicode_funcs_t.unicode shaper.constants.has_decompose (hooks_of shaper.hooks c.args.plan.now c.args.face.now) (g.F.hb_font_t.face c.args.face.now) in
+    let planned = rules_of g.U.hb_unicode_funcs_t.unicode shaper.constants shaper.hooks shaper.reordered g.F.hb_font_t.face c.args.plan.now c.args.face.now in
     rw (← c.length_limit-limit.ensures, ← c.infos-infos.ensures)
     (passed_by_all (expanded_item planned) c.infos-infos.result.now c.items.info-index c.info-item.result _ c.length_limit-limit.result (omega arith) c.info-item.is c.items.invariant.infos (c.in_err-put_item.ensures.length (search rules)))

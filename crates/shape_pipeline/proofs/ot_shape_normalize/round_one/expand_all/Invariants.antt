@@ -7,7 +7,7 @@ use Rattle.shape_pipeline.proofs.ot_shape_normalize.round_one.expand_all.Given a
 abbrev pub invariant-items : goal.invariant-items
 invariant-items g l =
     let shaper = g.S.hb_ot_shaper_t in
-    let rules = rules_of g.U.hb_unicode_funcs_t.unicode shaper.constants.has_decompose (hooks_of shaper.hooks l.plan l.face) (g.F.hb_font_t.face l.face) in
+    let rules = rules_of g.U.hb_unicode_funcs_t.unicode shaper.constants shaper.hooks shaper.reordered g.F.hb_font_t.face l.plan l.face in
     record {
       infos : l.out.infos.items ≡ expanded rules (take l.info-index l.infos);
       flags : l.out.scratch_flags ≡ fold (seen_parts rules) l.buffer.scratch_flags (take l.info-index l.infos);
