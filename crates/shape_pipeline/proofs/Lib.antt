@@ -1,3 +1,4 @@
+pub mod CompareLemmas
 pub mod StepLemmas
 pub mod RulesLemmas
 pub mod ReorderLemmas

@@ -4,12 +4,12 @@ ghost use Rattle.shape_buffer.specs.Buffer.{cleared, run_limit};
 ghost use Rattle.shape_buffer.specs.Clusters.{clusters};
 ghost use Rattle.shape_buffer.specs.ClusterOrder.{KeepsClusters, IsMonotoneLevel};
 ghost use Rattle.shape_buffer.specs.Items.{char_of};
-ghost use Rattle.shape_pipeline.specs.Plan.{Fits, hooks_of};
+ghost use Rattle.shape_pipeline.specs.Plan.{Fits};
 ghost use Rattle.shape_pipeline.specs.Rules.{rules_of};
 ghost use Rattle.shape_pipeline.specs.RoundOne.{round_one};
 ghost use Rattle.shape_pipeline.specs.CanonicalForm.{ShapesCanonically};
-ghost use Rattle.shape_pipeline.specs.Normalized.{BroughtInHaveGlyphs};
-ghost use Rattle.shape_pipeline.specs.Shaped.{prepared, shaped, HasGlyphOfChar};
+ghost use Rattle.shape_pipeline.specs.Normalized.{BroughtInHaveGlyphs, HookKeepsClusters};
+ghost use Rattle.shape_pipeline.specs.Shaped.{prepared, shaped, IsHandedOut};
 
 use crate::ot_shape::{map_glyphs_fast, set_unicode_props};
 use crate::ot_shape_normalize::_hb_ot_shape_normalize;
@@ -20,8 +20,9 @@ use shape_buffer::interfaces::{hb_font_t, hb_ot_layout_t, hb_unicode_funcs_t};
 use std::alloc::Global;
 
 /// The glyphs of a text by a plan that fits it, with clusters that lead back to the text; positions are
-/// zeros. Each item has the glyph that the face answers for its character. Script and direction are
-/// guessed where they aren't set. Refuses with `Length` where the expanded list is longer than the run's
+/// zeros. The text is normalised in the mode that the plan's shaper prefers, and each item has the glyph
+/// that the face answers for its character, or what stands in for it. Script and direction are guessed
+/// where they aren't set. Refuses with `Length` where the expanded list is longer than the run's
 /// limit, and with `Memory` where a growth was refused; the fault holds the cleared buffer. An empty
 /// text gives an empty result and takes no memory.
 pub fn shape_with_plan<U, F, M, S>(
@@ -40,10 +41,13 @@ where
         (rules_of U.unicode S.constants S.hooks S.reordered F.face plan.now face.now) buffer) }
     ensures brought_in { IfOk result (λ glyphs. BroughtInHaveGlyphs (F.face face.now).nominal_glyph
         (map char_of buffer.items) (map char_of glyphs.items)) }
-    ensures item_glyphs { IfOk result (λ glyphs. All (HasGlyphOfChar (F.face face.now).nominal_glyph) glyphs.items) }
+    ensures item_glyphs { IfOk result (λ glyphs. All (IsHandedOut
+        (rules_of U.unicode S.constants S.hooks S.reordered F.face plan.now face.now) buffer) glyphs.items) }
     ensures canonical_form { IfOk result (λ glyphs. ShapesCanonically
         (rules_of U.unicode S.constants S.hooks S.reordered F.face plan.now face.now) buffer glyphs) }
-    ensures clusters { IfOk result (λ glyphs. IsMonotoneLevel buffer.cluster_level → KeepsClusters (clusters buffer.items) (clusters glyphs.items)) }
+    ensures clusters { IfOk result (λ glyphs. IsMonotoneLevel buffer.cluster_level
+        → HookKeepsClusters (rules_of U.unicode S.constants S.hooks S.reordered F.face plan.now face.now)
+        → KeepsClusters (clusters buffer.items) (clusters glyphs.items)) }
     ensures within { IfOk result (λ glyphs. length glyphs.items ≤ run_limit (length buffer.items)) }
     ensures counted { IfOk result (λ _. length (round_one
         (rules_of U.unicode S.constants S.hooks S.reordered F.face plan.now face.now) (prepared U.unicode buffer)).items ≤ run_limit (length buffer.items)) }
