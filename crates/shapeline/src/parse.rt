@@ -24,6 +24,18 @@ impl<'a> Words<'a> {
     {
         Words { rest: line }
     }
+
+    /// The words before and behind the first `/`, where that is a word by itself.
+    pub fn parted(self) -> Option<(Words<'a>, Words<'a>)> {
+        let (first, second) = self.rest.split_once('/')?;
+        let ends = first.is_empty() || first.ends_with(' ');
+        let begins = second.is_empty() || second.starts_with(' ');
+        if ends && begins {
+            Some((Words::new(first), Words::new(second)))
+        } else {
+            None
+        }
+    }
 }
 
 impl<'a> Iterator for Words<'a> {
