@@ -8,7 +8,7 @@ use shape_buffer::interfaces::hb_font_t;
 use shape_buffer::interfaces::space_types::{SPACE_EM, SPACE_FIGURE};
 use shape_pipeline::ot_shape_normalize::{_hb_ot_shape_normalize, normalized_equal};
 use shape_pipeline::ot_shape_plan::hb_ot_shape_plan_t;
-use shape_pipeline::ot_shaper::{DEFAULT_SHAPER, hb_ot_shaper_t};
+use shape_pipeline::ot_shaper::{DEFAULT_SHAPER, hb_default_shaper_t, hb_ot_shaper_t};
 use std::alloc::Global;
 use std::process::Abort;
 use std::test::Fail;
@@ -196,7 +196,7 @@ fn two_texts_are_compared(rt: HostRuntime) -> Result<(), Fail> {
     for (text, equal) in cases {
         let mut a = prepared(alloc, &['a', '\u{301}', '\u{323}'])?;
         let mut b = prepared(alloc, text)?;
-        let answer = normalized_equal::<MarkedUnicode, FaceOf<'_>, NoLookups, _>(
+        let answer = normalized_equal::<MarkedUnicode, FaceOf<'_>, NoLookups, hb_default_shaper_t>(
             alloc, &plan, &face, &mut a, &mut b,
         )?;
         assert_eq!(rt; answer, equal);
