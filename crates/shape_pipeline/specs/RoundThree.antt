@@ -62,6 +62,7 @@ abbrev pub with_cluster_at : List Item → Placed → Item
 with_cluster_at items p = let at = get_or items p.place p.item in record p.item { cluster = at.cluster; mask = at.mask }
 
 -- round three of normalising: the buffer with its recomposed list, each span of a composition merged, at positions of zeros
+-- the spans are merged while the marks that go still stand: each is in one cluster with the item before it from then on, so that a later merge grows over both or neither
 abbrev pub round_three : Rules → Buffer → Buffer
 round_three rules b =
     let out = recomposed_items rules b.items in
