@@ -43,19 +43,22 @@ module _ (split : ℕ → Option (ℕ × ℕ)) (has_glyph : ℕ → Bool) where
         ∙ ap (λ u. put_behind t b (option_or (if u && true then Some (a ∷ []) else None) (least_supported split has_glyph (height a) a))) glyph
 
     -- the shortest is found at the first point that has a glyph
-    pub sought_first : (start found : Option (List ℕ)) (seconds after : List ℕ) (n c a b : ℕ) →
-        start ≡ walked found seconds (sought true (height c) c) → Some (a, b) ≡ split c → true ≡ list_all has_glyph (kept b) → after ≡ seconds ++ kept b → true ≡ has_glyph a → n ≡ length after →
+    pub sought_first : (short : Bool) (start found : Option (List ℕ)) (seconds after : List ℕ) (n c a b : ℕ) → short ≡ true →
+        start ≡ walked found seconds (sought short (height c) c) → Some (a, b) ≡ split c → true ≡ list_all has_glyph (kept b) → after ≡ seconds ++ kept b → true ≡ has_glyph a → n ≡ length after →
         found_parts (Some (a, n)) after ≡ start
-    sought_first start found seconds after n c a b inv e kept_b grown glyph len =
+    sought_first false start found seconds after n c a b clash inv e kept_b grown glyph len = absurd (both_ways _ refl clash)
+    sought_first true start found seconds after n c a b asked inv e kept_b grown glyph len =
         ap (λ l. Some (a ∷ reverse l)) (take_all n after (omega arith) ∙ grown)
         ∙ ap (λ l. Some (a ∷ l)) (reverse-more seconds b)
         ∙ sym (inv ∙ ap (walked found seconds) (least-at c a b true true (sym e) (sym kept_b) (sym glyph)))
 
     -- the greatest is looked for on past it
-    pub sought_found : (start found : Option (List ℕ)) (seconds after : List ℕ) (n c a b : ℕ) →
-        start ≡ walked found seconds (sought false (height c) c) → Some (a, b) ≡ split c → true ≡ list_all has_glyph (kept b) → after ≡ seconds ++ kept b → true ≡ has_glyph a → n ≡ length after →
-        start ≡ walked (found_parts (Some (a, n)) after) after (sought false (height a) a)
-    sought_found = walk_found split has_glyph height falling
+    pub sought_found : (short : Bool) (start found : Option (List ℕ)) (seconds after : List ℕ) (n c a b : ℕ) → short ≡ false →
+        start ≡ walked found seconds (sought short (height c) c) → Some (a, b) ≡ split c → true ≡ list_all has_glyph (kept b) → after ≡ seconds ++ kept b → true ≡ has_glyph a → n ≡ length after →
+        start ≡ walked (found_parts (Some (a, n)) after) after (sought short (height a) a)
+    sought_found true start found seconds after n c a b clash inv e kept_b grown glyph len = absurd (both_ways _ clash refl)
+    sought_found false start found seconds after n c a b asked inv e kept_b grown glyph len =
+        walk_found split has_glyph height falling start found seconds after n c a b inv e kept_b grown glyph len
 
     -- both go on past a point that has none
     pub sought_passed : (short : Bool) (start : Option (List ℕ)) (seconds after : List ℕ) (found : Option (ℕ × ℕ)) (c a b : ℕ) →
