@@ -1,13 +1,13 @@
 -- The walk along a chain that stops at the first point it finds, where the shortest is asked.
-use Rattle.std.proofs.Common.{◌≡◌, ℕ, ◌≤◌, ◌⊎◌, inl, inr, Bool, true, false, if◌then◌else◌, ◌&&◌, List, [], ◌∷◌, ◌++◌, reverse, length, Option, None, Some, IfSome, refl, sym, ◌∙◌, ap, arith, append_assoc}
-use Rattle.std.proofs.lemmas.Bool.{cond-true, cond-false, both_ways}
+use Rattle.std.proofs.Common.{◌≡◌, ℕ, ◌≤◌, Bool, true, false, if◌then◌else◌, ◌&&◌, List, [], ◌∷◌, ◌++◌, reverse, length, Option, None, Some, IfSome, refl, sym, ◌∙◌, ap, arith, append_assoc}
+use Rattle.std.proofs.lemmas.Bool.{both_ways}
 use Rattle.std.proofs.lemmas.List.{take_all}
 use Rattle.std.specs.List.{list_all}
 use Rattle.std.specs.Option.{option_or}
 use Rattle.shape_buffer.specs.Chain.{FallsAlong, kept}
-use Rattle.shape_buffer.specs.Expansion.{supported, least_supported, greatest_supported, chosen_expansion}
+use Rattle.shape_buffer.specs.Expansion.{supported, least_supported, greatest_supported}
 use Rattle.shape_buffer.proofs.ExpansionLemmas.{put_behind, least-split, least-end}
-use Rattle.shape_buffer.proofs.WalkLemmas.{found_parts, walked, reverse-more, walked-start, found_parts-more, walk_found, walk_passed, walk_ended, walk_broken}
+use Rattle.shape_buffer.proofs.WalkLemmas.{found_parts, walked, reverse-more, found_parts-more, walk_found, walk_passed, walk_ended, walk_broken}
 
 module _ (split : ℕ → Option (ℕ × ℕ)) (has_glyph : ℕ → Bool) where
   -- what a walk looks for: the least, where the shortest is asked, else the greatest
@@ -18,17 +18,6 @@ module _ (split : ℕ → Option (ℕ × ℕ)) (has_glyph : ℕ → Bool) where
   walked-pass : (found : Option (List ℕ)) (seconds : List ℕ) (b : ℕ) (r : Option (List ℕ)) → walked found seconds (put_behind true b r) ≡ walked found (seconds ++ kept b) r
   walked-pass found seconds b None = refl
   walked-pass found seconds b (Some ys) = ap Some (append_assoc ys (kept b) (reverse seconds) ∙ ap (λ xs. ys ++ xs) (sym (reverse-more seconds b)))
-
-  -- nothing walked yet
-  pub sought_start : (height : ℕ → ℕ) (short : Bool) (c : ℕ) → (short ≡ false) ⊎ (has_glyph c ≡ false) → chosen_expansion split height has_glyph short c ≡ walked None [] (sought short (height c) c)
-  sought_start height false c bare = walked-start split has_glyph (greatest_supported split has_glyph (height c) c)
-  sought_start height true c (inl clash) = absurd (both_ways _ clash refl)
-  sought_start height true c (inr bare) = cond-false _ None (least_supported split has_glyph (height c) c) bare ∙ walked-start split has_glyph (least_supported split has_glyph (height c) c)
-
-  -- the shortest of a character with a glyph is itself
-  pub sought_itself : (height : ℕ → ℕ) (short : Bool) (c : ℕ) → short ≡ true → has_glyph c ≡ true → None ≡ chosen_expansion split height has_glyph short c
-  sought_itself height short c asked glyph =
-      sym (ap (λ s. chosen_expansion split height has_glyph s c) asked ∙ cond-true _ None (least_supported split has_glyph (height c) c) glyph)
 
   -- where the chain ends, what was found is the expansion
   pub sought_ended : (short : Bool) (start found : Option (List ℕ)) (seconds : List ℕ) (n c : ℕ) → start ≡ walked found seconds (sought short n c) → None ≡ split c → found ≡ start
