@@ -2,7 +2,7 @@
 //!
 //! An item without a glyph that has no expansion either may take that of another character: a space that
 //! of U+0020, or the invisible glyph, and remembers how wide it is; U+2011 that of U+2010.
-ghost use Rattle.std.specs.Prelude.{◌≡◌, ◌<◌, ◌≤◌, [], ◌∷◌, ◌++◌, length, map, reverse, vec_len, OnOk, Err};
+ghost use Rattle.std.specs.Prelude.{◌≡◌, ◌<◌, ◌≤◌, [], ◌∷◌, ◌++◌, length, map, reverse, vec_len, if◌then◌else◌, OnOk, Err};
 ghost use Rattle.std.specs.Option.{option_or};
 ghost use Rattle.shape_buffer.specs.UnicodeProps.{with_scratch_of};
 ghost use Rattle.shape_pipeline.specs.Rules.{rules_of, rules_without_shaper};
