@@ -1,7 +1,8 @@
 //! What one item becomes: the items of an expansion of its character, or itself with a glyph.
 //!
 //! An item without a glyph that has no expansion either may take that of another character: a space that
-//! of U+0020, or the invisible glyph, and remembers how wide it is; U+2011 that of U+2010.
+//! of U+0020, or the invisible glyph, and remembers how wide it is; U+2011 that of U+2010. No shaper has a
+//! say in that, so the functions for one item that stays whole state it by the rules without a shaper.
 ghost use Rattle.std.specs.Prelude.{◌≡◌, ◌<◌, ◌≤◌, [], ◌∷◌, ◌++◌, length, map, reverse, vec_len, if◌then◌else◌, OnOk, Err};
 ghost use Rattle.std.specs.Option.{option_or};
 ghost use Rattle.shape_buffer.specs.UnicodeProps.{with_scratch_of};

@@ -58,3 +58,15 @@ returns g c =
     let shaper = g.S.hb_ot_shaper_t in
     let rules = rules_of g.U.hb_unicode_funcs_t.unicode shaper.constants shaper.hooks shaper.reordered g.F.hb_font_t.face c.args.plan.now c.args.face.now in
     sought_ended rules.split (has_glyph rules.glyph) c.args.shortest _ _ c.chain.seconds.items (rules.height c.chain.point) c.chain.point c.chain.invariant.walk c.in_default.ensures
+
+pub chain-smaller-else-shortest-2 : goal.chain-smaller-else-shortest-2
+chain-smaller-else-shortest-2 g c =
+    let shaper = g.S.hb_ot_shaper_t in
+    let falls = FallsAlong-planned g.met.U.hb_unicode_funcs_t.lawful shaper.constants.has_decompose shaper.hooks g.met.S.hb_ot_shaper_t.lawful_hooks c.args.plan.now c.args.face.now in
+    falls.falls c.chain.point c.in-Some.a c.in-Some.b (sym c.in-Some.ensures)
+
+pub chain-smaller : goal.chain-smaller
+chain-smaller g c =
+    let shaper = g.S.hb_ot_shaper_t in
+    let falls = FallsAlong-planned g.met.U.hb_unicode_funcs_t.lawful shaper.constants.has_decompose shaper.hooks g.met.S.hb_ot_shaper_t.lawful_hooks c.args.plan.now c.args.face.now in
+    falls.falls c.chain.point c.in-Some.a c.in-Some.b (sym c.in-Some.ensures)
