@@ -3,7 +3,6 @@ use Rattle.std.proofs.lemmas.List.{length-append}
 use Rattle.std.specs.List.{list_all}
 use Rattle.shape_buffer.specs.Chain.{kept}
 use Rattle.shape_buffer.proofs.ShortestWalkLemmas.{sought_ended, sought_first, sought_found, sought_passed, sought_broken}
-use Rattle.shape_pipeline.specs.Plan.{hooks_of}
 use Rattle.shape_pipeline.specs.Rules.{rules_of, has_glyph}
 use Rattle.shape_pipeline.proofs.RulesLemmas.{FallsAlong-planned}
 use Rattle.shape_pipeline.proofs.ot_shape_normalize.decompose.walk_chain.Goals as goal
