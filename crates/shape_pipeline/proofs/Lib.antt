@@ -12,5 +12,6 @@ pub mod NormalFormLemmas
 pub mod OrderedLemmas
 pub mod CanonicalFormLemmas
 pub mod RunClusterLemmas
+pub mod OrderedClusterLemmas
 pub mod ClusterOrderLemmas
 pub mod ItemGlyphLemmas
