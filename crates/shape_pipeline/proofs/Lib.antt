@@ -5,6 +5,7 @@ pub mod PieceLemmas
 pub mod RoundOneLemmas
 pub mod SpanLemmas
 pub mod SettleLemmas
+pub mod RunWalkLemmas
 pub mod JoinerLemmas
 pub mod NormalizedLemmas
 pub mod PreparedLemmas
