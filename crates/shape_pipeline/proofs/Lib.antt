@@ -6,6 +6,7 @@ pub mod PieceLemmas
 pub mod RoundOneLemmas
 pub mod SpanLemmas
 pub mod SettleLemmas
+pub mod RunWalkLemmas
 pub mod JoinerLemmas
 pub mod NormalizedLemmas
 pub mod PreparedLemmas
@@ -13,5 +14,6 @@ pub mod NormalFormLemmas
 pub mod OrderedLemmas
 pub mod CanonicalFormLemmas
 pub mod RunClusterLemmas
+pub mod OrderedClusterLemmas
 pub mod ClusterOrderLemmas
 pub mod ItemGlyphLemmas
