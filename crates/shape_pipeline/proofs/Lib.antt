@@ -2,6 +2,7 @@ pub mod StepLemmas
 pub mod RulesLemmas
 pub mod ReorderLemmas
 pub mod PieceLemmas
+pub mod SequenceLemmas
 pub mod RoundOneLemmas
 pub mod SpanLemmas
 pub mod SettleLemmas
