@@ -1,5 +1,5 @@
 -- Sequences: what holds of a list holds of its parts, and an item stands in a sequence with marks exactly where it stands in a cluster of the list.
-use Rattle.std.proofs.Common.{◌≡◌, Bool, true, false, if◌then◌else◌, ◌&&◌, ◌||◌, not, List, [], ◌∷◌, ◌++◌, flat_map, refl, sym, ap, ap₂, ◌∙◌, inl, inr, append_assoc, append-nil}
+use Rattle.std.proofs.Common.{◌≡◌, Bool, true, false, if◌then◌else◌, ◌&&◌, ◌||◌, not, List, [], ◌∷◌, ◌++◌, map, flat_map, refl, sym, ap, ap₂, ◌∙◌, inl, inr, append_assoc, append-nil}
 use Rattle.std.proofs.lemmas.Bool.{cases_Bool, cond-true, cond-false, and_right, or_right}
 use Rattle.std.specs.List.{AllByRecursion}
 use Rattle.shape_buffer.proofs.EveryLemmas.{append_all}
@@ -12,6 +12,25 @@ use Rattle.shape_pipeline.specs.RoundOne.{sequences, is_with_marks}
 pub flat_map_all : {A B : Type 0} (P : A → Type 0) (Q : B → Type 0) (become : A → List B) → ((x : A) → P x → AllByRecursion Q (become x)) → (items : List A) → AllByRecursion P items → AllByRecursion Q (flat_map become items)
 flat_map_all P Q become keeps [] each = tt
 flat_map_all P Q become keeps (x ∷ items) each = append_all Q (become x) (flat_map become items) (keeps x each.0) (flat_map_all P Q become keeps items each.1)
+
+-- items that become alike make lists that become alike
+pub flat_map_same : {A B : Type 0} (f g : A → List B) (items : List A) → AllByRecursion (λ x. f x ≡ g x) items → flat_map f items ≡ flat_map g items
+flat_map_same f g [] same = refl
+flat_map_same f g (x ∷ items) same = ap₂ ◌++◌ same.0 (flat_map_same f g items same.1)
+
+-- what holds of each of some values holds of the items that they are values of, and the other way round
+pub each_of_values : {A B : Type 0} (f : A → B) (P : B → Type 0) (items : List A) → AllByRecursion P (map f items) → AllByRecursion (λ x. P (f x)) items
+each_of_values f P [] each = tt
+each_of_values f P (x ∷ items) each = (each.0, each_of_values f P items each.1)
+
+pub each_value : {A B : Type 0} (f : A → B) (P : B → Type 0) (items : List A) → AllByRecursion (λ x. P (f x)) items → AllByRecursion P (map f items)
+each_value f P [] each = tt
+each_value f P (x ∷ items) each = (each.0, each_value f P items each.1)
+
+-- what holds where something else does, item by item
+pub each_weaker : {A : Type 0} (P Q : A → Type 0) → ((x : A) → P x → Q x) → (items : List A) → AllByRecursion P items → AllByRecursion Q items
+each_weaker P Q weaker [] each = tt
+each_weaker P Q weaker (x ∷ items) each = (weaker x each.0, each_weaker P Q weaker items each.1)
 
 module _ {A : Type 0} (belongs : A → Bool) where
   pub divided-joins : (x y : A) (rest : List A) → belongs y ≡ true → divided belongs (x ∷ y ∷ rest) ≡ put_first x (divided belongs (y ∷ rest))
