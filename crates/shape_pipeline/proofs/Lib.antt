@@ -9,6 +9,7 @@ pub mod SettleLemmas
 pub mod JoinerLemmas
 pub mod NormalizedLemmas
 pub mod PreparedLemmas
+pub mod RecomposedCharsLemmas
 pub mod NormalFormLemmas
 pub mod OrderedLemmas
 pub mod CanonicalFormLemmas

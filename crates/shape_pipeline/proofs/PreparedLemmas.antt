@@ -87,9 +87,13 @@ pub prepared-joiners_settled : (unicode : UnicodeMeaning) (b : Buffer) → ArePr
 prepared-joiners_settled unicode b h = prepared_by_faces unicode b.items (joiners_settled b).items (keys-joiners_settled face_of (λ item. refl) b) h
 
 module _ (rules : Rules) (lawful : LawfulUnicode rules.unicode) where
+  -- an item of an expansion is prepared, and so is one that is recomposed
+  pub prepared-part : (item : Item) (c : ℕ) → IsPreparedItem rules.unicode (part_item rules.unicode rules.glyph item c)
+  prepared-part item c = record { mark = refl; class = class_with_props rules.unicode lawful c }
+
   prepared-parts : (item : Item) (cs : List ℕ) → ArePrepared rules.unicode (map (part_item rules.unicode rules.glyph item) cs)
   prepared-parts item [] = tt
-  prepared-parts item (c ∷ cs) = (record { mark = refl; class = class_with_props rules.unicode lawful c }, prepared-parts item cs)
+  prepared-parts item (c ∷ cs) = (prepared-part item c, prepared-parts item cs)
 
   prepared-found : (invisible : Option GlyphId) (item : Item) (found : Option (List ℕ)) → IsPreparedItem rules.unicode item → ArePrepared rules.unicode (option_map_or (map (part_item rules.unicode rules.glyph item)) found (whole_item rules invisible item ∷ []))
   prepared-found invisible item None h =
