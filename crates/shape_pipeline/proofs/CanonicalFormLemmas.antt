@@ -1,6 +1,6 @@
 -- The normalised list is equivalent to its text, canonical or recomposed of a canonical one where glyphs and runs allow it, and equal exactly for equivalent texts.
 use Rattle.std.proofs.Common.{◌≡◌, ◌↔◌, ℕ, ◌<◌, Bool, true, false, ◌&&◌, List, [], ◌∷◌, length, map, drop, refl, sym, ◌∙◌, ap, subst, inl, inr, arith}
-use Rattle.std.proofs.lemmas.Bool.{cases_Bool, and_left, and_right, both_ways}
+use Rattle.std.proofs.lemmas.Bool.{cases_Bool, cases_eq}
 use Rattle.std.proofs.lemmas.List.Elements.{All-from_recursion}
 use Rattle.std.specs.List.{AllByRecursion, list_any}
 use Rattle.shape_buffer.proofs.ChoiceLemmas.{full_text-expanded}
@@ -19,12 +19,18 @@ use Rattle.shape_buffer.specs.Recompose.{join_with_glyph}
 use Rattle.shape_buffer.specs.Runs.{AreRunsSettled, HasNoLongerRun}
 use Rattle.shape_buffer.specs.Unicode.{LawfulUnicode, is_mark}
 use Rattle.shape_buffer.specs.UnicodeProps.{with_unicode_props}
-use Rattle.shape_pipeline.specs.CanonicalForm.{text_of, AreEquivalent, HasCanonicalForm, IsRecomposedForm, EquivalencePremises, CanonicalFormPremises}
+use Rattle.shape_pipeline.specs.CanonicalForm.{text_of, AreEquivalent, HasCanonicalForm, IsRecomposedForm, TextPremises, EquivalencePremises, CanonicalTextPremises, CanonicalFormPremises, NormalizesCanonically, RunPremises, ShapesCanonically}
 use Rattle.shape_pipeline.specs.Normalized.{ordered, normalized}
 use Rattle.shape_pipeline.specs.RoundOne.{round_one}
 use Rattle.shape_pipeline.specs.RoundTwo.{max_run, has_mark_past_first}
 use Rattle.shape_pipeline.specs.Rules.{Rules, has_glyph}
-use Rattle.shape_pipeline.proofs.NormalFormLemmas.{IsPlain, IsPlain-from, choices, recomposed_by_last_text, mark_past_first_char, ordered_is_choices, ordered_settles, normalized-ordered, normalized_is_recomposed}
+use Rattle.shape_pipeline.specs.Prepared.{IsPreparedItem}
+use Rattle.shape_pipeline.specs.Shaped.{prepared, shaped}
+use Rattle.shape_pipeline.specs.Steps.{glyphs_mapped}
+use Rattle.shape_pipeline.proofs.CutFormLemmas.{normalized_cuts}
+use Rattle.shape_pipeline.proofs.NormalFormLemmas.{IsPlain, IsPlain-from, choices, recomposed_by_last_text, mark_past_first_char, normalized_is_ordered, normalized_is_choices, ordered_settles, normalized_is_recomposed}
+use Rattle.shape_pipeline.proofs.NormalizedLemmas.{shaped_of_any, chars-mapped, chars-with_props}
+use Rattle.shape_pipeline.proofs.PreparedLemmas.{prepared-with_props}
 use Rattle.shape_pipeline.proofs.RoundOneLemmas.{chars-round_one}
 
 module _ (rules : Rules) where
@@ -35,7 +41,7 @@ module _ (rules : Rules) where
       expanded-plain (is_mark rules.unicode) (λ in_cluster. of (rules.short in_cluster)) (of false) (λ in_cluster c. ap (λ short. of short c) (never in_cluster)) text
       ∙ sym (expanded-plain (is_mark rules.unicode) (λ in_cluster. of false) (of false) (λ in_cluster c. refl) text)
 
-  pub plain_of : (b : Buffer) → EquivalencePremises rules b → IsPlain rules b
+  plain_of : (b : Buffer) → EquivalencePremises rules b → IsPlain rules b
   plain_of b premises = IsPlain-from rules b premises.prepared premises.text.no_selector premises.text.no_reordering
 
   module _ (lawful : LawfulUnicode rules.unicode) where
@@ -43,8 +49,7 @@ module _ (rules : Rules) where
 
     unmarked_is_equivalent : (b : Buffer) → EquivalencePremises rules b → has_mark_past_first b.items ≡ false → AreEquivalent rules (text_of b) (text_of (normalized rules b))
     unmarked_is_equivalent b premises unmarked =
-        subst (AreEquivalent rules (text_of b))
-        (sym (ap text_of (normalized-ordered rules b (and_left (has_mark_past_first b.items) rules.recomposes unmarked)) ∙ ordered_is_choices rules b (plain_of b premises) unmarked))
+        subst (AreEquivalent rules (text_of b)) (sym (normalized_is_choices rules b (plain_of b premises) unmarked))
         (choices_are_equivalent rules.split rules.height rules.unicode.class premises.text.lawful_hooks.splits (has_glyph rules.glyph) (is_mark rules.unicode) rules.short (text_of b))
 
     ordered_is_equivalent_to_text : (b : Buffer) → EquivalencePremises rules b → has_mark_past_first b.items ≡ true → AreEquivalent rules (text_of b) (text_of (ordered rules b))
@@ -72,8 +77,7 @@ module _ (rules : Rules) where
               elim (cases_Bool rules.recomposes) [
                 | inl composes ↦ recomposed_is_equivalent_to_text b premises marked composes
                 | inr leaves ↦
-                    subst (λ (c : Buffer). AreEquivalent rules (text_of b) (text_of c))
-                    (sym (normalized-ordered rules b (and_right (has_mark_past_first b.items) rules.recomposes leaves))) (ordered_is_equivalent_to_text b premises marked)
+                    subst (AreEquivalent rules (text_of b)) (sym (normalized_is_ordered rules b leaves)) (ordered_is_equivalent_to_text b premises marked)
               ]
         ]
 
@@ -95,14 +99,11 @@ module _ (rules : Rules) where
         decomposed_is_canonical rules.split rules.height rules.unicode.class premises.equivalence.text.lawful_hooks.splits (has_glyph rules.glyph) (is_mark rules.unicode) max_run
         (text_of b) (text_of (ordered rules b)) premises.canonical.supported (ordered_is_decomposed b premises)
 
-    text_of-uncomposed : (b : Buffer) → rules.recomposes ≡ false → text_of (normalized rules b) ≡ text_of (ordered rules b)
-    text_of-uncomposed b leaves = ap text_of (normalized-ordered rules b (and_right (has_mark_past_first b.items) rules.recomposes leaves))
-
     text_of-composed : (b : Buffer) → CanonicalFormPremises rules b → rules.recomposes ≡ true → text_of (normalized rules b) ≡ recomposed_by_last_text rules (text_of (ordered rules b))
     text_of-composed b premises composes = normalized_is_recomposed rules lawful b (plain_of b premises.equivalence) (marked_items b premises) composes
 
     pub normalized_is_canonical : (b : Buffer) → rules.recomposes ≡ false → CanonicalFormPremises rules b → HasCanonicalForm rules (text_of (normalized rules b))
-    normalized_is_canonical b leaves premises = subst (HasCanonicalForm rules) (sym (text_of-uncomposed b leaves)) (ordered_is_canonical b premises)
+    normalized_is_canonical b leaves premises = subst (HasCanonicalForm rules) (sym (normalized_is_ordered rules b leaves)) (ordered_is_canonical b premises)
 
     pub normalized_is_recomposed_form : (b : Buffer) → rules.recomposes ≡ true → CanonicalFormPremises rules b → IsRecomposedForm rules (text_of b) (text_of (normalized rules b))
     normalized_is_recomposed_form b composes premises =
@@ -122,7 +123,7 @@ module _ (rules : Rules) where
         let hooks = of_b.equivalence.text.lawful_hooks in
         elim (cases_Bool rules.recomposes) [
           | inr leaves ↦
-              rw (text_of-uncomposed b leaves, text_of-uncomposed c leaves)
+              rw (normalized_is_ordered rules b leaves, normalized_is_ordered rules c leaves)
               (decomposed_decides rules.split rules.height rules.unicode.class hooks.splits (has_glyph rules.glyph) (is_mark rules.unicode) max_run
               (text_of b) (text_of (ordered rules b)) (text_of c) (text_of (ordered rules c))
               of_b.canonical.supported of_c.canonical.supported (ordered_is_decomposed b of_b) (ordered_is_decomposed c of_c))
@@ -132,4 +133,91 @@ module _ (rules : Rules) where
               (join_with_glyph rules.join (has_glyph rules.glyph)) (sound_with_glyph rules.split rules.height rules.unicode.class rules.join (has_glyph rules.glyph) (hooks.joins composes))
               (text_of b) (text_of (ordered rules b)) (text_of c) (text_of (ordered rules c))
               of_b.canonical.supported.glyphs of_c.canonical.supported.glyphs of_b.canonical.supported.fits of_c.canonical.supported.fits (ordered_is_decomposed b of_b) (ordered_is_decomposed c of_c))
+        ]
+
+    -- what a normalised buffer has of the one that it was made of
+    pub NormalizesCanonically-normalized : (old new : Buffer) → new ≡ normalized rules old → NormalizesCanonically rules old new
+    NormalizesCanonically-normalized old new is =
+        rw is (record {
+          equivalent = normalized_is_equivalent old;
+          canonical = normalized_is_canonical old;
+          recomposed = normalized_is_recomposed_form old;
+          decides = λ other. normalized_decides old other;
+          cuts = λ front back. normalized_cuts rules lawful old front back;
+        })
+
+    -- ---- the run
+
+    prepared_by_run : (items : List Item) → AllByRecursion (IsPreparedItem rules.unicode) (map (with_unicode_props rules.unicode) items)
+    prepared_by_run [] = tt
+    prepared_by_run (item ∷ items) = (prepared-with_props rules.unicode lawful item, prepared_by_run items)
+
+    text_of-prepared : (b : Buffer) → text_of (prepared rules.unicode b) ≡ text_of b
+    text_of-prepared b = chars-with_props rules.unicode b.items
+
+    -- the run prepares its text
+    run_premises : (b : Buffer) → RunPremises rules b → EquivalencePremises rules (prepared rules.unicode b)
+    run_premises b premises = record {
+      text = subst (λ text. TextPremises rules text (text_of (round_one rules (prepared rules.unicode b)))) (sym (text_of-prepared b)) premises;
+      prepared = All-from_recursion (IsPreparedItem rules.unicode) (prepared rules.unicode b).items (prepared_by_run b.items);
+    }
+
+    run_canonical_premises : (b : Buffer) → RunPremises rules b → CanonicalTextPremises rules (text_of b) → CanonicalFormPremises rules (prepared rules.unicode b)
+    run_canonical_premises b premises canonical = record {
+      equivalence = run_premises b premises;
+      canonical = subst (CanonicalTextPremises rules) (sym (text_of-prepared b)) canonical;
+    }
+
+    -- what is handed out for a text that isn't empty, by its characters
+    abbrev run_text : Buffer → List ℕ
+    run_text b = text_of (normalized rules (prepared rules.unicode b))
+
+    some_item : (items : List Item) → list_any (is_mark rules.unicode) (drop 1 (map char_of items)) ≡ true → 0 < length items
+    some_item [] marked = cc
+    some_item (item ∷ items) marked = omega arith
+
+    text_of-run : (b new : Buffer) → new ≡ glyphs_mapped (normalized rules (prepared rules.unicode b)) → text_of new ≡ run_text b
+    text_of-run b new is = ap text_of is ∙ chars-mapped (normalized rules (prepared rules.unicode b)).items
+
+    text_of-shaped : (b : Buffer) → CanonicalTextPremises rules (text_of b) → text_of (shaped rules b) ≡ run_text b
+    text_of-shaped b premises = text_of-run b (shaped rules b) (sym (shaped_of_any rules b (some_item b.items premises.marked)))
+
+    -- what a run hands out for a text that isn't empty
+    pub ShapesCanonically-run : (old new : Buffer) → new ≡ glyphs_mapped (normalized rules (prepared rules.unicode old)) → ShapesCanonically rules old new
+    ShapesCanonically-run old new is =
+        let text : text_of new ≡ run_text old = text_of-run old new is in
+        record {
+          equivalent = λ premises. rw text (subst (λ l. AreEquivalent rules l (run_text old)) (text_of-prepared old) (normalized_is_equivalent (prepared rules.unicode old) (run_premises old premises)));
+          canonical = λ leaves premises canonical. rw text (normalized_is_canonical (prepared rules.unicode old) leaves (run_canonical_premises old premises canonical));
+          recomposed = λ composes premises canonical.
+              rw text (subst (λ l. IsRecomposedForm rules l (run_text old)) (text_of-prepared old) (normalized_is_recomposed_form (prepared rules.unicode old) composes (run_canonical_premises old premises canonical)));
+          decides = λ other of_old canonical_old of_other canonical_other.
+              rw (text, text_of-shaped other canonical_other, ← text_of-prepared old, ← text_of-prepared other)
+              (normalized_decides (prepared rules.unicode old) (prepared rules.unicode other) (run_canonical_premises old of_old canonical_old) (run_canonical_premises other of_other canonical_other));
+        }
+
+    -- and for an empty one
+    pub ShapesCanonically-none : (old new : Buffer) → length old.items ≡ 0 → new.items ≡ old.items → ShapesCanonically rules old new
+    ShapesCanonically-none old new none same =
+        let unmarked : (premises : CanonicalTextPremises rules (text_of old)) → ⊥ = λ premises. let some : 0 < length old.items = some_item old.items premises.marked in absurd (omega arith) in
+        record {
+          equivalent = λ premises. no_swap (ap (λ items. full_text rules.split rules.height (map char_of items)) (sym same));
+          canonical = λ leaves premises canonical. absurd (unmarked canonical);
+          recomposed = λ composes premises canonical. absurd (unmarked canonical);
+          decides = λ other of_old canonical_old of_other canonical_other. absurd (unmarked canonical_old);
+        }
+
+    shaped_of_none : (b : Buffer) → length b.items ≡ 0 → (shaped rules b).items ≡ b.items
+    shaped_of_none b none =
+        elim b.items as (λ items. length items ≡ 0 → (shaped rules (record b { items = items })).items ≡ items) [
+          | [] ↦ λ none. refl
+          | item ∷ items ↦ λ none. absurd (omega arith)
+        ] none
+
+    -- so shaping does, for every text
+    pub ShapesCanonically-shaped : (old new : Buffer) → new ≡ shaped rules old → ShapesCanonically rules old new
+    ShapesCanonically-shaped old new is =
+        elim (cases_eq (length old.items) 0) [
+          | inl none ↦ ShapesCanonically-none old new none (ap (λ (b : Buffer). b.items) is ∙ shaped_of_none old none)
+          | inr some ↦ ShapesCanonically-run old new (is ∙ sym (shaped_of_any rules old (omega arith)))
         ]

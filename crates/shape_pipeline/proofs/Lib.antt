@@ -12,6 +12,7 @@ pub mod PreparedLemmas
 pub mod RecomposedCharsLemmas
 pub mod NormalFormLemmas
 pub mod OrderedLemmas
+pub mod CutFormLemmas
 pub mod CanonicalFormLemmas
 pub mod RunClusterLemmas
 pub mod ClusterOrderLemmas

@@ -1,6 +1,6 @@
 -- The rounds of a text without variation selectors and without a hook that reorders, by its characters: choices, settled runs, recomposed.
 use Rattle.std.proofs.Common.{◌≡◌, ℕ, Bool, true, false, if◌then◌else◌, ◌&&◌, ◌||◌, List, [], ◌∷◌, map, drop, Option, None, refl, sym, ◌∙◌, ap, ap₂, subst}
-use Rattle.std.proofs.lemmas.Bool.{cond-true, cond-false, and_from}
+use Rattle.std.proofs.lemmas.Bool.{cond-true, cond-false, and_from, and_left, and_right}
 use Rattle.std.proofs.lemmas.List.Elements.{recursion_from_All}
 use Rattle.std.specs.List.{AllByRecursion, list_any}
 use Rattle.shape_buffer.proofs.MapLemmas.{AreRunsSettled-map}
@@ -86,17 +86,21 @@ module _ (rules : Rules) where
   ordered-unmarked : (b : Buffer) → has_mark_past_first b.items ≡ false → ordered rules b ≡ joiners_settled (round_one rules b)
   ordered-unmarked b unmarked = ap (λ test. ordered_if test rules.reorder (round_one rules b)) unmarked
 
-  -- without a mark past the first item the ordered text is that of the choices
-  pub ordered_is_choices : (b : Buffer) → IsPlain rules b → has_mark_past_first b.items ≡ false → text_of (ordered rules b) ≡ choices (text_of b)
-  ordered_is_choices b plain unmarked =
-      ap text_of (ordered-unmarked b unmarked) ∙ chars-joiners_settled (round_one rules b) ∙ chars-round_one rules b plain.prepared plain.no_selector
-
   -- without recomposing the normalised list is the ordered one
-  pub normalized-ordered : (b : Buffer) → (has_mark_past_first b.items && rules.recomposes) ≡ false → normalized rules b ≡ ordered rules b
-  normalized-ordered b plain = cond-false _ _ _ plain
+  normalized-ordered : (b : Buffer) → (has_mark_past_first b.items && rules.recomposes) ≡ false → text_of (normalized rules b) ≡ text_of (ordered rules b)
+  normalized-ordered b stays = ap text_of (cond-false _ (round_three rules (ordered rules b)) (ordered rules b) stays)
+
+  pub normalized_is_ordered : (b : Buffer) → rules.recomposes ≡ false → text_of (normalized rules b) ≡ text_of (ordered rules b)
+  normalized_is_ordered b leaves = normalized-ordered b (and_right (has_mark_past_first b.items) rules.recomposes leaves)
+
+  -- without a mark past the first item it is the choices alone
+  pub normalized_is_choices : (b : Buffer) → IsPlain rules b → has_mark_past_first b.items ≡ false → text_of (normalized rules b) ≡ choices (text_of b)
+  normalized_is_choices b plain unmarked =
+      normalized-ordered b (and_left (has_mark_past_first b.items) rules.recomposes unmarked)
+      ∙ ap text_of (ordered-unmarked b unmarked) ∙ chars-joiners_settled (round_one rules b) ∙ chars-round_one rules b plain.prepared plain.no_selector
 
   module _ (lawful : LawfulUnicode rules.unicode) where
-    -- with one, its runs are settled
+    -- with one, the runs of the ordered list are settled
     pub ordered_settles : (b : Buffer) → IsPlain rules b → has_mark_past_first b.items ≡ true → AreRunsSettled rules.unicode.class max_run [] (choices (text_of b)) (text_of (ordered rules b))
     ordered_settles b plain marked =
         let one : Buffer = round_one rules b in
@@ -110,7 +114,7 @@ module _ (rules : Rules) where
         subst (λ (c : Buffer). ArePrepared rules.unicode c.items) (sym (ordered-marked b plain marked))
         (prepared-joiners_settled rules.unicode (marks_ordered None one) (prepared-ordered rules.unicode one (prepared-round_one rules lawful b plain.prepared)))
 
-    -- in the modes that compose it is recomposed
+    -- and in the modes that compose that list is recomposed
     pub normalized_is_recomposed : (b : Buffer) → IsPlain rules b → has_mark_past_first b.items ≡ true → rules.recomposes ≡ true → text_of (normalized rules b) ≡ recomposed_by_last_text (text_of (ordered rules b))
     normalized_is_recomposed b plain marked composes =
         let both = and_from (has_mark_past_first b.items) rules.recomposes marked composes in

@@ -31,7 +31,7 @@ module _ (unicode : UnicodeMeaning) (lawful : LawfulUnicode unicode) where
         | inr low ↦ let below : c < 128 = grind (arith, nat_tests) in absurd (both_ways _ (lawful.ascii_is_no_mark c below) mark)
       ]
 
-  unmarked_class : (c : ℕ) → is_mark unicode c ≡ false → unicode.class c ≡ 0
+  pub unmarked_class : (c : ℕ) → is_mark unicode c ≡ false → unicode.class c ≡ 0
   unmarked_class c no_mark =
       elim (cases_eq (unicode.class c) 0) [
         | inl none ↦ none
