@@ -2,7 +2,7 @@
 use Rattle.std.proofs.Common.{◌≡◌, ℕ, Bool, true, false, if◌then◌else◌, ◌&&◌, ◌||◌, List, [], ◌∷◌, map, drop, Option, None, refl, sym, ◌∙◌, ap, ap₂, subst}
 use Rattle.std.proofs.lemmas.Bool.{cond-true, cond-false, and_from, and_left, and_right}
 use Rattle.std.proofs.lemmas.List.Elements.{recursion_from_All}
-use Rattle.std.specs.List.{AllByRecursion, list_any}
+use Rattle.std.specs.List.{list_any}
 use Rattle.shape_buffer.proofs.MapLemmas.{AreRunsSettled-map}
 use Rattle.shape_buffer.proofs.RunLemmas.{AreRunsSettled-swaps}
 use Rattle.shape_buffer.proofs.SwapLemmas.{all-swaps}

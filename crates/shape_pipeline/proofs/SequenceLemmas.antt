@@ -1,6 +1,6 @@
 -- Sequences: what holds of a list holds of its parts, and an item stands in a sequence with marks exactly where it stands in a cluster of the list.
-use Rattle.std.proofs.Common.{◌≡◌, Bool, true, false, if◌then◌else◌, ◌&&◌, ◌||◌, not, List, [], ◌∷◌, ◌++◌, map, flat_map, refl, sym, ap, ap₂, ◌∙◌, inl, inr, append_assoc, append-nil}
-use Rattle.std.proofs.lemmas.Bool.{cases_Bool, cond-true, cond-false, and_right, or_right}
+use Rattle.std.proofs.Common.{◌≡◌, Bool, true, false, if◌then◌else◌, ◌&&◌, ◌||◌, List, [], ◌∷◌, ◌++◌, map, flat_map, refl, sym, ap, ap₂, ◌∙◌, inl, inr, append_assoc, append-nil}
+use Rattle.std.proofs.lemmas.Bool.{cases_Bool, and_right, or_right}
 use Rattle.std.specs.List.{AllByRecursion}
 use Rattle.shape_buffer.proofs.EveryLemmas.{append_all}
 use Rattle.shape_buffer.specs.Divided.{put_first, divided}
