@@ -21,30 +21,30 @@ use Rattle.shape_pipeline.specs.RoundTwo.{max_run, has_mark_past_first, marks_or
 use Rattle.shape_pipeline.specs.Rules.{Rules, has_glyph}
 use Rattle.shape_pipeline.proofs.JoinerLemmas.{chars-joiners_settled}
 use Rattle.shape_pipeline.proofs.OrderedLemmas.{marks_ordered_settles}
-use Rattle.shape_pipeline.proofs.PreparedLemmas.{ArePrepared, Face, face_of, IsKey-face_of, IsPreparedFace, chars_of_faces, prepared_faces, prepared_from_faces, prepared-round_one, prepared-joiners_settled}
+use Rattle.shape_pipeline.proofs.PreparedLemmas.{ArePrepared, PreparedKey, prepared_key, IsKey-prepared_key, IsPreparedKey, chars_of_keys, prepared_keys, prepared_from_keys, prepared-round_one, prepared-joiners_settled}
 use Rattle.shape_pipeline.proofs.RecomposedCharsLemmas.{chars-round_three}
 use Rattle.shape_pipeline.proofs.RoundOneLemmas.{HasNoSelectorItem, chars-round_one}
 use Rattle.shape_pipeline.proofs.SequenceLemmas.{each_of_values}
 
-abbrev class_of_face : Face → ℕ
-class_of_face face = face.1.0
+abbrev class_of_key : PreparedKey → ℕ
+class_of_key key = key.1.0
 
-faces_settled : (b : Buffer) → AreRunsSettled class_of_face max_run [] (map face_of b.items) (map face_of (marks_ordered None b).items)
-faces_settled b = marks_ordered_settles face_of IsKey-face_of class_of_face (λ item. refl) b
+keys_settled : (b : Buffer) → AreRunsSettled class_of_key max_run [] (map prepared_key b.items) (map prepared_key (marks_ordered None b).items)
+keys_settled b = marks_ordered_settles prepared_key IsKey-prepared_key class_of_key (λ item. refl) b
 
 -- the marks of a prepared buffer in order: the runs of its characters are settled
 pub ordered_chars : (unicode : UnicodeMeaning) (b : Buffer) → ArePrepared unicode b.items → AreRunsSettled unicode.class max_run [] (text_of b) (text_of (marks_ordered None b))
 ordered_chars unicode b h =
-    let settled = AreRunsSettled-map (IsPreparedFace unicode) (λ (face : Face). face.0) class_of_face unicode.class (λ face prepared. sym prepared.1)
-    max_run [] (map face_of b.items) (map face_of (marks_ordered None b).items) tt (prepared_faces unicode b.items h) (faces_settled b) in
-    subst (λ l. AreRunsSettled unicode.class max_run [] l (text_of (marks_ordered None b))) (chars_of_faces b.items)
-    (subst (AreRunsSettled unicode.class max_run [] (map (λ (face : Face). face.0) (map face_of b.items))) (chars_of_faces (marks_ordered None b).items) settled)
+    let settled = AreRunsSettled-map (IsPreparedKey unicode) (λ (key : PreparedKey). key.0) class_of_key unicode.class (λ key prepared. sym prepared.1)
+    max_run [] (map prepared_key b.items) (map prepared_key (marks_ordered None b).items) tt (prepared_keys unicode b.items h) (keys_settled b) in
+    subst (λ l. AreRunsSettled unicode.class max_run [] l (text_of (marks_ordered None b))) (chars_of_keys b.items)
+    (subst (AreRunsSettled unicode.class max_run [] (map (λ (key : PreparedKey). key.0) (map prepared_key b.items))) (chars_of_keys (marks_ordered None b).items) settled)
 
 -- and the buffer stays prepared
 pub prepared-ordered : (unicode : UnicodeMeaning) (b : Buffer) → ArePrepared unicode b.items → ArePrepared unicode (marks_ordered None b).items
 prepared-ordered unicode b h =
-    prepared_from_faces unicode (marks_ordered None b).items
-    (all-swaps (IsPreparedFace unicode) (AreRunsSettled-swaps class_of_face max_run [] (map face_of b.items) (map face_of (marks_ordered None b).items) (faces_settled b)) (prepared_faces unicode b.items h))
+    prepared_from_keys unicode (marks_ordered None b).items
+    (all-swaps (IsPreparedKey unicode) (AreRunsSettled-swaps class_of_key max_run [] (map prepared_key b.items) (map prepared_key (marks_ordered None b).items) (keys_settled b)) (prepared_keys unicode b.items h))
 
 -- the marks of a prepared list are those of its characters
 marks_of_chars : (unicode : UnicodeMeaning) (items : List Item) → ArePrepared unicode items → list_any is_mark_item items ≡ list_any (is_mark unicode) (map char_of items)

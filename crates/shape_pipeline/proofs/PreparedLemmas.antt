@@ -54,37 +54,37 @@ module _ (unicode : UnicodeMeaning) (lawful : LawfulUnicode unicode) where
   prepared-with_props item = record { mark = refl; class = class_with_props item.codepoint }
 
 -- what being prepared goes by: the character, the class and the category
-abbrev pub Face : Type 0
-Face = ℕ × (ℕ × hb_unicode_general_category_t)
+abbrev pub PreparedKey : Type 0
+PreparedKey = ℕ × (ℕ × hb_unicode_general_category_t)
 
-abbrev pub face_of : Item → Face
-face_of item = (item.codepoint, (item.properties.modified_class, item.properties.general_category))
+abbrev pub prepared_key : Item → PreparedKey
+prepared_key item = (item.codepoint, (item.properties.modified_class, item.properties.general_category))
 
-pub IsKey-face_of : IsKey face_of
-IsKey-face_of = record { by_cluster = λ item cluster. refl; by_break = λ item. refl }
+pub IsKey-prepared_key : IsKey prepared_key
+IsKey-prepared_key = record { by_cluster = λ item cluster. refl; by_break = λ item. refl }
 
-abbrev pub IsPreparedFace : UnicodeMeaning → Face → Type 0
-IsPreparedFace unicode face = (is_mark_category face.1.1 ≡ is_mark unicode face.0) × (face.1.0 ≡ unicode.class face.0)
+abbrev pub IsPreparedKey : UnicodeMeaning → PreparedKey → Type 0
+IsPreparedKey unicode key = (is_mark_category key.1.1 ≡ is_mark unicode key.0) × (key.1.0 ≡ unicode.class key.0)
 
-pub chars_of_faces : (items : List Item) → map (λ (face : Face). face.0) (map face_of items) ≡ map char_of items
-chars_of_faces [] = refl
-chars_of_faces (item ∷ items) = ap (λ l. item.codepoint ∷ l) (chars_of_faces items)
+pub chars_of_keys : (items : List Item) → map (λ (key : PreparedKey). key.0) (map prepared_key items) ≡ map char_of items
+chars_of_keys [] = refl
+chars_of_keys (item ∷ items) = ap (λ l. item.codepoint ∷ l) (chars_of_keys items)
 
-pub prepared_faces : (unicode : UnicodeMeaning) (items : List Item) → ArePrepared unicode items → AllByRecursion (IsPreparedFace unicode) (map face_of items)
-prepared_faces unicode [] h = tt
-prepared_faces unicode (item ∷ items) h = ((h.0.mark, h.0.class), prepared_faces unicode items h.1)
+pub prepared_keys : (unicode : UnicodeMeaning) (items : List Item) → ArePrepared unicode items → AllByRecursion (IsPreparedKey unicode) (map prepared_key items)
+prepared_keys unicode [] h = tt
+prepared_keys unicode (item ∷ items) h = ((h.0.mark, h.0.class), prepared_keys unicode items h.1)
 
-pub prepared_from_faces : (unicode : UnicodeMeaning) (items : List Item) → AllByRecursion (IsPreparedFace unicode) (map face_of items) → ArePrepared unicode items
-prepared_from_faces unicode [] h = tt
-prepared_from_faces unicode (item ∷ items) h = (record { mark = h.0.0; class = h.0.1 }, prepared_from_faces unicode items h.1)
+pub prepared_from_keys : (unicode : UnicodeMeaning) (items : List Item) → AllByRecursion (IsPreparedKey unicode) (map prepared_key items) → ArePrepared unicode items
+prepared_from_keys unicode [] h = tt
+prepared_from_keys unicode (item ∷ items) h = (record { mark = h.0.0; class = h.0.1 }, prepared_from_keys unicode items h.1)
 
--- what keeps the faces keeps a list prepared
-pub prepared_by_faces : (unicode : UnicodeMeaning) (old new : List Item) → map face_of new ≡ map face_of old → ArePrepared unicode old → ArePrepared unicode new
-prepared_by_faces unicode old new same h = prepared_from_faces unicode new (subst (AllByRecursion (IsPreparedFace unicode)) (sym same) (prepared_faces unicode old h))
+-- what keeps these keys keeps a list prepared
+pub prepared_by_keys : (unicode : UnicodeMeaning) (old new : List Item) → map prepared_key new ≡ map prepared_key old → ArePrepared unicode old → ArePrepared unicode new
+prepared_by_keys unicode old new same h = prepared_from_keys unicode new (subst (AllByRecursion (IsPreparedKey unicode)) (sym same) (prepared_keys unicode old h))
 
 -- so does showing joiners
 pub prepared-joiners_settled : (unicode : UnicodeMeaning) (b : Buffer) → ArePrepared unicode b.items → ArePrepared unicode (joiners_settled b).items
-prepared-joiners_settled unicode b h = prepared_by_faces unicode b.items (joiners_settled b).items (keys-joiners_settled face_of (λ item. refl) b) h
+prepared-joiners_settled unicode b h = prepared_by_keys unicode b.items (joiners_settled b).items (keys-joiners_settled prepared_key (λ item. refl) b) h
 
 module _ (rules : Rules) (lawful : LawfulUnicode rules.unicode) where
   -- an item of an expansion is prepared, and so is one that is recomposed
@@ -108,4 +108,4 @@ module _ (rules : Rules) (lawful : LawfulUnicode rules.unicode) where
       (λ item glyph prepared. record { mark = prepared.mark; class = prepared.class })
       (λ short item prepared. prepared-found b.invisible_glyph item (expansion_of rules short item) prepared)
       (pairs_merged rules b).items
-      (prepared_by_faces rules.unicode b.items (pairs_merged rules b).items (keys-pairs_merged rules face_of IsKey-face_of b) h)
+      (prepared_by_keys rules.unicode b.items (pairs_merged rules b).items (keys-pairs_merged rules prepared_key IsKey-prepared_key b) h)
