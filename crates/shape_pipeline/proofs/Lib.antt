@@ -3,6 +3,7 @@ pub mod StepLemmas
 pub mod RulesLemmas
 pub mod ReorderLemmas
 pub mod PieceLemmas
+pub mod SequenceLemmas
 pub mod RoundOneLemmas
 pub mod SpanLemmas
 pub mod SettleLemmas
@@ -10,8 +11,10 @@ pub mod RunWalkLemmas
 pub mod JoinerLemmas
 pub mod NormalizedLemmas
 pub mod PreparedLemmas
+pub mod RecomposedCharsLemmas
 pub mod NormalFormLemmas
 pub mod OrderedLemmas
+pub mod CutFormLemmas
 pub mod CanonicalFormLemmas
 pub mod RunClusterLemmas
 pub mod OrderedClusterLemmas
