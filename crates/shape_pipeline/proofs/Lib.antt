@@ -3,6 +3,7 @@ pub mod RulesLemmas
 pub mod ReorderLemmas
 pub mod PieceLemmas
 pub mod RoundOneLemmas
+pub mod RoundThreeLemmas
 pub mod SpanLemmas
 pub mod SettleLemmas
 pub mod JoinerLemmas
