@@ -7,7 +7,6 @@ use Rattle.shape_buffer.specs.Positions.{zero_position}
 use Rattle.shape_buffer.specs.Buffer.{Buffer}
 use Rattle.shape_buffer.specs.BufferClusters.{merge_out_clusters}
 use Rattle.shape_buffer.specs.Recompose.{is_blocked_by_last, join_with_glyph, recomposed}
-use Rattle.shape_buffer.specs.declared.buffer.flags.ScratchFlags.{ScratchFlags}
 use Rattle.shape_pipeline.specs.Rules.{Rules, has_glyph}
 use Rattle.shape_pipeline.specs.declared.ot_shape_normalize.round_three.PlacedInfo.{PlacedInfo}
 use Rattle.shape_pipeline.specs.RoundOne.{part_item, seen_chars}

@@ -1,4 +1,4 @@
-use Rattle.std.proofs.Common.{◌≡◌, ◌+◌, drop, get_or, length, refl, sym, ap, ◌∙◌, arith}
+use Rattle.std.proofs.Common.{◌+◌, drop, length, sym, ap, ◌∙◌, arith}
 use Rattle.std.proofs.lemmas.List.{take_rest}
 use Rattle.shape_pipeline.specs.Rules.{rules_of}
 use Rattle.shape_pipeline.proofs.RoundThreeLemmas.{IsRecomposedTo-first, IsRecomposedTo-joined, IsRecomposedTo-starter, IsRecomposedTo-mark, walked_all}
@@ -50,3 +50,10 @@ loop-place-preserved g c =
             walked = rw (w.starter-is, items) (IsRecomposedTo-mark rules _ _ _ _ _ _ _ _ _ _ (omega arith) c.index-infos-place.is c.index.ensures marks c.loop-place.invariant.walked none (λ e. w.if-hb_glyph_info_get_modified_class-eq0.false (c._hb_glyph_info_get_modified_class.ensures ∙ e)));
           }
     ]
+
+pub returns : goal.returns
+returns g c =
+    let shaper = g.S.hb_ot_shaper_t in
+    let rules = rules_of g.U.hb_unicode_funcs_t.unicode shaper.constants shaper.hooks shaper.reordered g.F.hb_font_t.face c.args.plan.now c.args.face.now in
+    let all = walked_all rules c.args.infos.now c.args.scratch_flags c.loop-place.place c.loop-place.out.items c.loop-place.spans.items c.loop-place.scratch_flags c.loop-place.starter c.loop-place-test.false c.loop-place.invariant.walked in
+    record { out = all.0; spans = all.1; flags = all.2 }
