@@ -1,5 +1,5 @@
 -- Round three: what the walk that recomposes has put out, and what it leaves.
-use Rattle.std.proofs.Common.{◌≡◌, ℕ, suc, ◌+◌, ◌<◌, ◌≤◌, Bool, true, false, ◌&&◌, not, nat_le, if◌then◌else◌, List, [], ◌∷◌, ◌++◌, length, map, get_or, set, drop, ◌==◌, Option, None, Some, refl, sym, ap, ap₂, subst, ◌∙◌, arith, inl, inr, add-one, append_assoc, append-nil, drop-cons, eq-eqb, ne_eqb}
+use Rattle.std.proofs.Common.{◌≡◌, ℕ, suc, ◌+◌, ◌<◌, ◌≤◌, Bool, true, false, ◌&&◌, not, nat_le, if◌then◌else◌, List, [], ◌∷◌, ◌++◌, length, map, replicate, get_or, set, drop, ◌==◌, Option, None, Some, Result, Ok, Err, IsErrAnd, IsOkUnless, refl, sym, ap, ap₂, subst, ◌∙◌, arith, inl, inr, add-one, append_assoc, append-nil, drop-cons, eq-eqb, ne_eqb}
 use Rattle.std.specs.Option.{option_map}
 use Rattle.std.specs.List.{All, AllByRecursion, flat_map, slice_get}
 use Rattle.std.proofs.lemmas.Bool.{cases_Bool}
@@ -7,22 +7,25 @@ use Rattle.std.proofs.lemmas.List.{map-append, length-map, drop_all}
 use Rattle.std.proofs.lemmas.Grind.{flat_map-append}
 use Rattle.std.proofs.lemmas.List.Elements.{All-from_recursion}
 use Rattle.std.proofs.lemmas.List.Sums.{fold-append}
-use Rattle.shape_buffer.specs.Buffer.{Buffer}
+use Rattle.shape_buffer.specs.Buffer.{Buffer, cleared, limit_of}
 use Rattle.shape_buffer.specs.BufferClusters.{merge_at, merge_out_clusters}
 use Rattle.shape_buffer.specs.Clusters.{merge}
 use Rattle.shape_buffer.specs.Items.{Item, class_of_item, is_mark_item}
+use Rattle.shape_buffer.specs.Positions.{zero_position}
 use Rattle.shape_buffer.specs.Recompose.{composed, recomposed_from, last_class, is_blocked_by_last, join_with_glyph}
 use Rattle.shape_buffer.specs.UnicodeProps.{with_scratch_of}
 use Rattle.shape_buffer.specs.declared.buffer.flags.ScratchFlags.{ScratchFlags}
 use Rattle.shape_buffer.specs.declared.buffer.settings.BufferClusterLevel.{BufferClusterLevel}
 use Rattle.shape_buffer.specs.declared.buffer.settings.BufferClusterLevel.TheVariants.{MonotoneGraphemes, MonotoneCharacters, Characters}
+use Rattle.shape_buffer.specs.declared.buffer.error.ShapeError.{ShapeError}
+use Rattle.shape_buffer.specs.declared.buffer.error.ShapeError.TheVariants.{Memory, Length}
 use Rattle.shape_buffer.proofs.EveryLemmas.{append_all, push_all}
 use Rattle.shape_buffer.proofs.KeyLemmas.{keys-merge, IsKey-class}
 use Rattle.shape_buffer.proofs.OptionLemmas.{cases_Option}
 use Rattle.shape_buffer.proofs.RecomposeLemmas.{composed-some, recomposed_from-some, recomposed_from-starter, recomposed_from-mark}
 use Rattle.shape_buffer.proofs.RecomposeWalkLemmas.{at_split, drop_split, set_split}
 use Rattle.shape_pipeline.specs.RoundOne.{part_item, seen_chars}
-use Rattle.shape_pipeline.specs.RoundThree.{Joined, Placed, placed, class_of_placed, is_mark_placed, join_placed, recomposed_items, joined_spans, composed_chars, spans_merged_out, placed_info, class_of_placed_info, composed_char}
+use Rattle.shape_pipeline.specs.RoundThree.{Joined, Placed, placed, class_of_placed, is_mark_placed, join_placed, recomposed_items, joined_spans, composed_chars, spans_merged_out, placed_info, class_of_placed_info, composed_char, with_cluster_at, settled_info, round_three}
 use Rattle.shape_pipeline.specs.Rules.{Rules, has_glyph}
 use Rattle.shape_pipeline.specs.declared.ot_shape_normalize.round_three.PlacedInfo.{PlacedInfo}
 
@@ -374,3 +377,45 @@ length-spans_merged_out (span ∷ spans) b = length-spans_merged_out spans (merg
 -- one more span merged
 pub spans_merged_next : (spans : List (ℕ × ℕ)) (i : ℕ) (d : ℕ × ℕ) (b new : Buffer) → i < length spans → new ≡ merge_out_clusters (get_or spans i d).0 (get_or spans i d).1 b → spans_merged_out (drop (i + 1) spans) new ≡ spans_merged_out (drop i spans) b
 spans_merged_next spans i d b new lt is = rw (is, add-one, drop-cons spans i d) refl
+
+pub cleared-spans_merged_out : (spans : List (ℕ × ℕ)) (b : Buffer) → cleared (spans_merged_out spans b) ≡ cleared b
+cleared-spans_merged_out spans b = ap cleared (spans_merged_out_is spans b)
+
+pub limit-spans_merged_out : (spans : List (ℕ × ℕ)) (b : Buffer) → limit_of (spans_merged_out spans b) ≡ limit_of b
+limit-spans_merged_out spans b = ap limit_of (spans_merged_out_is spans b)
+
+-- ---- the round
+
+settled_all : (items : List Item) (out : List Placed) → map (settled_info items) (map placed_info out) ≡ map (with_cluster_at items) out
+settled_all items [] = refl
+settled_all items (p ∷ out) = ap (λ l. with_cluster_at items p ∷ l) (settled_all items out)
+
+-- the buffer with what was put out, its clusters merged, is that of the round
+pub is_round_three : (rules : Rules) (old merged : Buffer) (out : List PlacedInfo) (settled : List Item) (n : ℕ) (seen : ScratchFlags) → merged ≡ spans_merged_out (joined_spans (recomposed_items rules old.items)) old → out ≡ map placed_info (recomposed_items rules old.items) → settled ≡ map (settled_info merged.items) out → n ≡ length settled → seen ≡ seen_chars rules.unicode old.scratch_flags (composed_chars (recomposed_items rules old.items))
+    → record merged { items = settled; positions = replicate n zero_position; scratch_flags = seen } ≡ round_three rules old
+is_round_three rules old merged out settled n seen merged_is out_is settled_is n_is seen_is =
+    let put_out = recomposed_items rules old.items in
+    let spanned : Buffer = spans_merged_out (joined_spans put_out) old in
+    let items : settled ≡ map (with_cluster_at spanned.items) put_out =
+    settled_is ∙ ap₂ (λ (m : Buffer) o. map (settled_info m.items) o) merged_is out_is ∙ settled_all spanned.items put_out in
+    let as_many : n ≡ length put_out = n_is ∙ ap length items ∙ length-map put_out (with_cluster_at spanned.items) in
+    ap (λ (m : Buffer). record m { items = settled; positions = replicate n zero_position; scratch_flags = seen }) merged_is
+    ∙ ap₂ (λ (xs : List Item) k. record spanned { items = xs; positions = replicate k zero_position; scratch_flags = seen }) items as_many
+    ∙ ap (λ (f : ScratchFlags). record spanned { items = map (with_cluster_at spanned.items) put_out; positions = replicate (length put_out) zero_position; scratch_flags = f }) seen_is
+
+-- what was put out is within the limit that the list was in
+pub settled_within : (rules : Rules) (old merged : Buffer) (out : List PlacedInfo) (settled : List Item) → merged ≡ spans_merged_out (joined_spans (recomposed_items rules old.items)) old → out ≡ map placed_info (recomposed_items rules old.items) → settled ≡ map (settled_info merged.items) out → length old.items ≤ limit_of old → length settled ≤ limit_of merged
+settled_within rules old merged out settled merged_is out_is settled_is within =
+    let put_out = recomposed_items rules old.items in
+    let as_many : length settled ≡ length put_out = ap length settled_is ∙ length-map out (settled_info merged.items) ∙ ap length out_is ∙ length-map put_out placed_info in
+    let same : limit_of merged ≡ limit_of old = ap limit_of merged_is ∙ limit-spans_merged_out (joined_spans put_out) old in
+    omega (arith, length-recomposed rules old.items)
+
+-- a refusal that isn't for the length is for memory
+only_memory : (e : ShapeError) → (e ≡ Length → ⊥) → e ≡ Memory
+only_memory Memory other = refl
+only_memory Length other = absurd (other refl)
+
+pub refused_for_memory : (result : Result (Unit {0}) ShapeError) (e : ShapeError) → IsErrAnd result (λ x. x ≡ e) → (e ≡ Length → ⊥) → IsOkUnless result Memory
+refused_for_memory (Ok x) e is other = absurd is
+refused_for_memory (Err x) e is other = is ∙ only_memory e other
