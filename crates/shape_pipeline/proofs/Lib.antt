@@ -5,6 +5,7 @@ pub mod ReorderLemmas
 pub mod PieceLemmas
 pub mod SequenceLemmas
 pub mod RoundOneLemmas
+pub mod RoundThreeLemmas
 pub mod SpanLemmas
 pub mod SettleLemmas
 pub mod RunWalkLemmas
