@@ -4,6 +4,7 @@ pub mod ReorderLemmas
 pub mod PieceLemmas
 pub mod RoundOneLemmas
 pub mod RoundThreeLemmas
+pub mod RecomposedLemmas
 pub mod SpanLemmas
 pub mod SettleLemmas
 pub mod JoinerLemmas
