@@ -1,30 +1,29 @@
 -- What round three keeps: it makes no list longer, recomposes the characters, and keeps the order of clusters and what holds of each item.
-use Rattle.std.proofs.Common.{◌≡◌, ℕ, zero, suc, ◌+◌, ◌<◌, ◌≤◌, Bool, true, false, if◌then◌else◌, List, [], ◌∷◌, length, map, get_or, Option, None, Some, option_and_then, refl, sym, ap, ap₂, subst, ◌∙◌, arith, inl, inr}
+use Rattle.std.proofs.Common.{◌≡◌, ◌⊎◌, is_some, unwrap_or, Contains, ℕ, zero, suc, ◌+◌, ◌<◌, ◌≤◌, Bool, true, if◌then◌else◌, List, [], ◌∷◌, length, map, get_or, Option, None, Some, option_and_then, refl, sym, ap, subst, ◌∙◌, arith, inl, inr}
 use Rattle.std.proofs.lemmas.Bool.{cases_Bool, cond-true, cond-false}
-use Rattle.std.proofs.lemmas.List.{length-map, get_or-map, get_or_default}
-use Rattle.std.proofs.lemmas.List.Elements.{recursion_from_All}
-use Rattle.std.specs.List.{All, AllByRecursion}
-use Rattle.std.specs.Option.{option_map}
+use Rattle.std.proofs.lemmas.List.{length-map, get_or-map}
+use Rattle.std.proofs.lemmas.List.Elements.{All-from_recursion, recursion_from_All}
+use Rattle.std.specs.List.{AllByRecursion}
+use Rattle.std.specs.Option.{option_map, option_map_or}
 use Rattle.shape_buffer.specs.Buffer.{Buffer}
-use Rattle.shape_buffer.specs.BufferClusters.{merge_at, merge_out_clusters}
+use Rattle.shape_buffer.specs.BufferClusters.{merge_out_clusters}
 use Rattle.shape_buffer.specs.Clusters.{clusters}
 use Rattle.shape_buffer.specs.ClusterOrder.{DrawsInOrder, KeepsClusters}
-use Rattle.shape_buffer.specs.Items.{Item, char_of, class_of_item, is_mark_item, feature_bits}
+use Rattle.shape_buffer.specs.Items.{Item, char_of}
 use Rattle.shape_buffer.specs.Recompose.{is_blocked_by_last, join_with_glyph, recomposed}
 use Rattle.shape_buffer.specs.Unicode.{LawfulUnicode, is_mark}
-use Rattle.shape_buffer.specs.declared.buffer.settings.BufferClusterLevel.{BufferClusterLevel}
-use Rattle.shape_buffer.specs.declared.buffer.settings.BufferClusterLevel.TheVariants.{MonotoneGraphemes, MonotoneCharacters, Characters}
+use Rattle.shape_buffer.specs.declared.buffer.settings.GlyphId.{GlyphId}
+use Rattle.shape_buffer.proofs.DeleteKeeps.{Draws, merge_out_clusters_draws}
 use Rattle.shape_buffer.proofs.DrawsInOrder.{DrawsInOrder-same, DrawsInOrder-then, KeepsClusters-from_draws}
-use Rattle.shape_buffer.proofs.KeyLemmas.{keys-merge, IsKey}
 use Rattle.shape_buffer.proofs.MapLemmas.{is_blocked_by_last-map, recomposed-map}
-use Rattle.shape_buffer.proofs.MergeOrder.{merge_draws}
 use Rattle.shape_buffer.proofs.RecomposeLemmas.{recomposed-all}
 use Rattle.shape_pipeline.specs.Prepared.{IsPreparedItem}
-use Rattle.shape_pipeline.specs.RoundOne.{part_item}
+use Rattle.shape_pipeline.specs.Normalized.{BroughtInHaveGlyphs, HasItemGlyph}
+use Rattle.shape_pipeline.specs.RoundOne.{part_item, item_glyph, fallback_index}
 use Rattle.shape_pipeline.specs.RoundThree.{Placed, placed, class_of_placed, is_mark_placed, join_placed, recomposed_items, joined_spans, spans_merged_out, with_cluster_at, round_three}
 use Rattle.shape_pipeline.specs.Rules.{Rules, has_glyph}
 use Rattle.shape_pipeline.proofs.PreparedLemmas.{ArePrepared, prepared-with_props}
-use Rattle.shape_pipeline.proofs.RoundThreeLemmas.{AreRising, AreRising-fit, ArePlaced, IsSpan, recomposed_placed, recomposed_spans_within, length-recomposed, length-merge_out, length-spans_merged_out, joined_to, joined_is}
+use Rattle.shape_pipeline.proofs.RoundThreeLemmas.{AreRising, AreRising-fit, IsSpan, recomposed_placed, recomposed_spans_within, length-recomposed, length-merge_out, length-spans_merged_out, spans_merged_out_is, joined_to, joined_is}
 
 -- ---- length
 
@@ -150,12 +149,8 @@ placed_draws items out up =
     }
 
 merge_out_draws : (start end : ℕ) (b : Buffer) → end ≤ length b.items → DrawsInOrder (clusters b.items) (clusters (merge_out_clusters start end b).items)
-merge_out_draws start end b within = at_level b.cluster_level
-  where
-    at_level : (level : BufferClusterLevel) → DrawsInOrder (clusters b.items) (clusters (elim level as (λ v. Buffer) [ MonotoneGraphemes ↦ merge_at start end b | MonotoneCharacters ↦ merge_at start end b | Characters ↦ b ]).items)
-    at_level MonotoneGraphemes = merge_draws start end b.items within
-    at_level MonotoneCharacters = merge_draws start end b.items within
-    at_level Characters = DrawsInOrder-same (clusters b.items)
+unfolding Draws
+merge_out_draws start end b within = merge_out_clusters_draws start end b within
 
 spans_draw : (n : ℕ) (spans : List (ℕ × ℕ)) (b : Buffer) → length b.items ≡ n → AllByRecursion (IsSpan n) spans → DrawsInOrder (clusters b.items) (clusters (spans_merged_out spans b).items)
 spans_draw n [] b is h = DrawsInOrder-same (clusters b.items)
@@ -179,3 +174,46 @@ round_three_draws rules b =
 
 pub round_three_keeps : (rules : Rules) (b : Buffer) → KeepsClusters (clusters b.items) (clusters (round_three rules b).items)
 round_three_keeps rules b = KeepsClusters-from_draws (clusters b.items) (clusters (round_three rules b).items) (round_three_draws rules b)
+
+-- ---- glyphs
+
+-- a part of a character with a glyph has that glyph
+part_item_glyph : (rules : Rules) (invisible : Option GlyphId) (item : Item) (c : ℕ) → has_glyph rules.glyph c ≡ true → (part_item rules.unicode rules.glyph item c).glyph_index ≡ item_glyph rules invisible (part_item rules.unicode rules.glyph item c)
+part_item_glyph rules invisible item c has = go (rules.glyph c) has
+  where
+    go : (g : Option GlyphId) → is_some g ≡ true → unwrap_or (option_map (λ (g : GlyphId). g.0) g) 0 ≡ option_map_or (λ (g : GlyphId). g.0) g (fallback_index rules invisible (part_item rules.unicode rules.glyph item c))
+    go None has = cc
+    go (Some g) has = refl
+
+-- where each item has its glyph, each item of round three has
+pub round_three_item_glyphs : (rules : Rules) (old b : Buffer) → AllByRecursion (HasItemGlyph rules old) b.items → AllByRecursion (HasItemGlyph rules old) (round_three rules b).items
+round_three_item_glyphs rules old b h =
+    round_three-all (HasItemGlyph rules old) rules (λ item cluster mask has. has) (λ item c has glyph. inl (part_item_glyph rules old.invisible_glyph item c glyph)) b h
+
+-- what is brought in has a glyph
+abbrev HasGlyphOrWas : Rules → List ℕ → ℕ → Type 0
+HasGlyphOrWas rules before c = (has_glyph rules.glyph c ≡ true) ⊎ Contains before c
+
+-- round three brings in no character without a glyph
+pub round_three_brings_in : (rules : Rules) (before : List ℕ) (b : Buffer) → BroughtInHaveGlyphs rules.glyph before (map char_of b.items) → BroughtInHaveGlyphs rules.glyph before (map char_of (round_three rules b).items)
+round_three_brings_in rules before b h =
+    All-from_recursion (HasGlyphOrWas rules before) (map char_of (round_three rules b).items)
+    (to_chars (round_three rules b).items
+    (round_three-all (λ item. HasGlyphOrWas rules before item.codepoint) rules (λ item cluster mask has. has) (λ item c has glyph. inl glyph) b
+    (from_chars b.items (recursion_from_All (HasGlyphOrWas rules before) (map char_of b.items) h))))
+  where
+    from_chars : (items : List Item) → AllByRecursion (HasGlyphOrWas rules before) (map char_of items) → AllByRecursion (λ (item : Item). HasGlyphOrWas rules before item.codepoint) items
+    from_chars [] h = tt
+    from_chars (x ∷ items) h = (h.0, from_chars items h.1)
+
+    to_chars : (items : List Item) → AllByRecursion (λ (item : Item). HasGlyphOrWas rules before item.codepoint) items → AllByRecursion (HasGlyphOrWas rules before) (map char_of items)
+    to_chars [] h = tt
+    to_chars (x ∷ items) h = (h.0, to_chars items h.1)
+
+-- ---- settings
+
+-- round three changes items, positions and scratch flags alone
+pub round_three_is : (rules : Rules) (b : Buffer) → round_three rules b ≡ record b { items = (round_three rules b).items; positions = (round_three rules b).positions; scratch_flags = (round_three rules b).scratch_flags }
+round_three_is rules b =
+    ap (λ (m : Buffer). record m { items = (round_three rules b).items; positions = (round_three rules b).positions; scratch_flags = (round_three rules b).scratch_flags })
+    (spans_merged_out_is (joined_spans (recomposed_items rules b.items)) b)

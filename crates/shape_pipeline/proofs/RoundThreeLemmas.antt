@@ -134,8 +134,7 @@ module _ (rules : Rules) where
       → (out ≡ map placed_info (recomposed_items rules items)) × (spans ≡ joined_spans (recomposed_items rules items)) × (seen ≡ seen_chars rules.unicode flags (composed_chars (recomposed_items rules items)))
   walked_all items flags i out spans seen starter le h =
       let none : placed i (drop i items) ≡ [] = ap (placed i) (drop_all i items le) in
-      let all : recomposed_items rules items ≡ h.before ++ h.at ∷ h.marks = h.whole ∙ ap (λ rest. h.before ++ after h.at h.marks rest) none in
-      (
+      let all : recomposed_items rules items ≡ h.before ++ h.at ∷ h.marks = h.whole ∙ ap (λ rest. h.before ++ after h.at h.marks rest) none in (
         h.out_is ∙ sym (map-append placed_info h.before (h.at ∷ h.marks)) ∙ ap (map placed_info) (sym all),
         h.spans_are ∙ sym (adds_to_starter spans_of h.before h.at h.marks h.none_spanned) ∙ ap joined_spans (sym all),
         h.seen_is ∙ ap (seen_chars rules.unicode flags) (sym (adds_to_starter chars_of h.before h.at h.marks h.none_seen) ∙ ap composed_chars (sym all)),
@@ -340,6 +339,11 @@ spans_within n (p ∷ out) h = append_all (IsSpan n) (spans_of p) (joined_spans 
 pub recomposed_spans_within : (rules : Rules) (items : List Item) → All (IsSpan (length items)) (joined_spans (recomposed_items rules items))
 recomposed_spans_within rules items = All-from_recursion (IsSpan (length items)) (joined_spans (recomposed_items rules items)) (spans_within (length items) (recomposed_items rules items) (recomposed_placed rules items).within)
 
+-- the spans of a walk over these items are within them
+pub walked_spans_within : (rules : Rules) (items infos : List Item) (spans : List (ℕ × ℕ)) → infos ≡ items → spans ≡ joined_spans (recomposed_items rules infos) → All (IsSpan (length items)) spans
+walked_spans_within rules items infos spans infos_are spans_are =
+    subst (All (IsSpan (length items))) (sym (spans_are ∙ ap (λ xs. joined_spans (recomposed_items rules xs)) infos_are)) (recomposed_spans_within rules items)
+
 -- ---- the spans are merged
 
 merge_out_at_level : (start end : ℕ) (b : Buffer) (level : BufferClusterLevel) → elim level as (λ v. Buffer) [ MonotoneGraphemes ↦ merge_at start end b | MonotoneCharacters ↦ merge_at start end b | Characters ↦ b ]
@@ -425,7 +429,7 @@ module _ (rules : Rules) (old merged : Buffer) (infos merged_infos settled : Lis
       ap (λ (m : Buffer). record m { items = settled; positions = replicate n zero_position; scratch_flags = seen }) merged_spanned
       ∙ ap₂ (λ (xs : List Item) k. record spanned { items = xs; positions = replicate k zero_position; scratch_flags = seen }) settled_items (n_is ∙ settled_length)
       ∙ ap (λ (f : ScratchFlags). record spanned { items = map (with_cluster_at spanned.items) put_out; positions = replicate (length put_out) zero_position; scratch_flags = f })
-          (seen_is ∙ ap₂ (λ f xs. seen_chars rules.unicode f (composed_chars (recomposed_items rules xs))) flags_are infos_are)
+      (seen_is ∙ ap₂ (λ f xs. seen_chars rules.unicode f (composed_chars (recomposed_items rules xs))) flags_are infos_are)
 
 -- a refusal that isn't for the length is for memory
 only_memory : (e : ShapeError) → (e ≡ Length → ⊥) → e ≡ Memory

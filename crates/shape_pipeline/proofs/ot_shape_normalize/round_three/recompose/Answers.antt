@@ -1,17 +1,14 @@
-use Rattle.std.proofs.Common.{◌≡◌, ◌<◌, ◌≤◌, Err, length, sym, ap, subst, ◌∙◌, All, arith}
+use Rattle.std.proofs.Common.{◌<◌, ◌≤◌, Err, length, ap, ◌∙◌, arith}
 use Rattle.shape_buffer.specs.Buffer.{Buffer, cleared, limit_of}
-use Rattle.shape_pipeline.specs.RoundThree.{recomposed_items, joined_spans}
 use Rattle.shape_pipeline.specs.Rules.{rules_of}
-use Rattle.shape_pipeline.proofs.RoundThreeLemmas.{IsSpan, recomposed_spans_within, cleared-spans_merged_out, is_round_three, settled_within, refused_for_memory}
+use Rattle.shape_pipeline.proofs.RoundThreeLemmas.{walked_spans_within, cleared-spans_merged_out, is_round_three, settled_within, refused_for_memory}
 use Rattle.shape_pipeline.proofs.ot_shape_normalize.round_three.recompose.Goals as goal
 
 pub merge_spans_out-requires : goal.merge_spans_out-requires
 merge_spans_out-requires g c =
     let shaper = g.S.hb_ot_shaper_t in
     let rules = rules_of g.U.hb_unicode_funcs_t.unicode shaper.constants shaper.hooks shaper.reordered g.F.hb_font_t.face c.args.plan.now c.args.face.now in
-    let items = c.args.buffer.now.items in
-    let spans : c.deref.result.now ≡ joined_spans (recomposed_items rules items) = c.deref.ensures.value ∙ c.in_ok-recomposed.ensures.spans ∙ ap (λ xs. joined_spans (recomposed_items rules xs)) c.infos.ensures in
-    subst (All (IsSpan (length items))) (sym spans) (recomposed_spans_within rules items)
+    walked_spans_within rules c.args.buffer.now.items c.infos.result.now c.deref.result.now c.infos.ensures (c.deref.ensures.value ∙ c.in_ok-recomposed.ensures.spans)
 
 pub returns-in_err-infos-clause-settings : goal.returns-in_err-infos-clause-settings
 returns-in_err-infos-clause-settings g c = ap cleared c.merge_spans_out.ensures ∙ cleared-spans_merged_out c.deref.result.now c.args.buffer.now
@@ -39,7 +36,7 @@ returns-clause-ok g c =
     let walked = c.in_ok-recomposed.ensures in
     c.set_scratch_flags.ensures ∙ ap (λ (b : Buffer). record b { scratch_flags = seen }) c.in_ok-replace_infos.ensures.ok
     ∙ is_round_three rules c.args.buffer.now c.merge_spans_out.new.buffer _ _ _ _ _ c.infos.ensures (c.deref.ensures.value ∙ walked.spans) c.merge_spans_out.ensures (c.deref-2.ensures.value ∙ walked.out) c.infos-2.ensures c.in_ok-infos.ensures
-        c.in_ok-infos.infos.len c.scratch_flags.result seen (omega (arith, c.in_ok-infos.infos.ok.0)) c.scratch_flags.ensures walked.flags
+    c.in_ok-infos.infos.len c.scratch_flags.result seen (omega (arith, c.in_ok-infos.infos.ok.0)) c.scratch_flags.ensures walked.flags
 
 pub returns-clause-settings : goal.returns-clause-settings
 returns-clause-settings g c =
