@@ -52,7 +52,7 @@ give_draws k x rest xs e =
     ]
 
 -- the clusters of a buffer are drawn in order from those of another
-pub Draws : Buffer → Buffer → Type 0
+unfoldable pub Draws : Buffer → Buffer → Type 0
 Draws b c = DrawsInOrder (clusters b.items) (clusters c.items)
 
 mark_break-cluster : (least : ℕ) (x : Item) → (mark_break least x).cluster ≡ x.cluster

@@ -6,6 +6,7 @@ pub mod PieceLemmas
 pub mod SequenceLemmas
 pub mod RoundOneLemmas
 pub mod RoundThreeLemmas
+pub mod RecomposedLemmas
 pub mod SpanLemmas
 pub mod SettleLemmas
 pub mod RunWalkLemmas

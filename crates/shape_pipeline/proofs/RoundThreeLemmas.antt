@@ -1,5 +1,5 @@
 -- Round three: what the walk that recomposes has put out, and what it leaves.
-use Rattle.std.proofs.Common.{◌≡◌, ℕ, suc, ◌+◌, ◌<◌, ◌≤◌, Bool, true, false, ◌&&◌, not, nat_le, if◌then◌else◌, List, [], ◌∷◌, ◌++◌, length, map, replicate, get_or, set, drop, ◌==◌, Option, None, Some, Result, Ok, Err, IsErrAnd, IsOkUnless, refl, sym, ap, ap₂, subst, ◌∙◌, arith, inl, inr, add-one, append_assoc, append-nil, drop-cons, eq-eqb, ne_eqb}
+use Rattle.std.proofs.Common.{◌≡◌, ℕ, suc, ◌+◌, ◌<◌, ◌≤◌, Bool, true, false, ◌&&◌, not, if◌then◌else◌, List, [], ◌∷◌, ◌++◌, length, map, replicate, get_or, set, drop, ◌==◌, Option, None, Some, Result, Ok, Err, IsErrAnd, IsOkUnless, refl, sym, ap, ap₂, subst, ◌∙◌, arith, inl, inr, add-one, append_assoc, append-nil, drop-cons, eq-eqb, ne_eqb}
 use Rattle.std.specs.Option.{option_map}
 use Rattle.std.specs.List.{All, AllByRecursion, flat_map, slice_get}
 use Rattle.std.proofs.lemmas.Bool.{cases_Bool}
@@ -12,7 +12,7 @@ use Rattle.shape_buffer.specs.BufferClusters.{merge_at, merge_out_clusters}
 use Rattle.shape_buffer.specs.Clusters.{merge}
 use Rattle.shape_buffer.specs.Items.{Item, class_of_item, is_mark_item}
 use Rattle.shape_buffer.specs.Positions.{zero_position}
-use Rattle.shape_buffer.specs.Recompose.{composed, recomposed_from, last_class, is_blocked_by_last, join_with_glyph}
+use Rattle.shape_buffer.specs.Recompose.{composed, recomposed_from, is_blocked_by_last, join_with_glyph}
 use Rattle.shape_buffer.specs.UnicodeProps.{with_scratch_of}
 use Rattle.shape_buffer.specs.declared.buffer.flags.ScratchFlags.{ScratchFlags}
 use Rattle.shape_buffer.specs.declared.buffer.settings.BufferClusterLevel.{BufferClusterLevel}
@@ -21,6 +21,7 @@ use Rattle.shape_buffer.specs.declared.buffer.error.ShapeError.{ShapeError}
 use Rattle.shape_buffer.specs.declared.buffer.error.ShapeError.TheVariants.{Memory, Length}
 use Rattle.shape_buffer.proofs.EveryLemmas.{append_all, push_all}
 use Rattle.shape_buffer.proofs.KeyLemmas.{keys-merge, IsKey-class}
+use Rattle.shape_buffer.proofs.MapLemmas.{is_blocked_by_last-map}
 use Rattle.shape_buffer.proofs.OptionLemmas.{cases_Option}
 use Rattle.shape_buffer.proofs.RecomposeLemmas.{composed-some, recomposed_from-some, recomposed_from-starter, recomposed_from-mark}
 use Rattle.shape_buffer.proofs.RecomposeWalkLemmas.{at_split, drop_split, set_split}
@@ -31,14 +32,12 @@ use Rattle.shape_pipeline.specs.declared.ot_shape_normalize.round_three.PlacedIn
 
 -- ---- the test of blocking goes by the items alone
 
-last_class_of_infos : (ms : List Placed) → last_class class_of_placed_info (map placed_info ms) ≡ last_class class_of_placed ms
-last_class_of_infos [] = refl
-last_class_of_infos (m ∷ []) = refl
-last_class_of_infos (m ∷ n ∷ ms) = last_class_of_infos (n ∷ ms)
+each_placed : (ms : List Placed) → AllByRecursion (λ (p : Placed). Unit {0}) ms
+each_placed [] = tt
+each_placed (m ∷ ms) = (tt, each_placed ms)
 
 blocked_infos : (ms : List Placed) (c : Placed) → is_blocked_by_last class_of_placed_info (map placed_info ms) (placed_info c) ≡ is_blocked_by_last class_of_placed ms c
-blocked_infos [] c = refl
-blocked_infos (m ∷ ms) c = ap (λ n. nat_le (class_of_placed c) n) (last_class_of_infos (m ∷ ms))
+blocked_infos ms c = is_blocked_by_last-map (λ (p : Placed). Unit {0}) placed_info class_of_placed class_of_placed_info (λ p h. refl) ms c (each_placed ms) tt
 
 option_map-if : {A B : Type 0} (f : A → B) (t : Bool) (o : Option A) → (if t then option_map f o else None) ≡ option_map f (if t then o else None)
 option_map-if f true o = refl
@@ -84,7 +83,7 @@ module _ (rules : Rules) where
   item_at place item = record { item = item; place = place; joined = [] }
 
   -- the starter with the character that it makes with a mark
-  abbrev joined_to : Placed → Placed → ℕ → Placed
+  abbrev pub joined_to : Placed → Placed → ℕ → Placed
   joined_to starter mark c = record {
     item = part_item rules.unicode rules.glyph starter.item c;
     place = starter.place;
@@ -135,8 +134,7 @@ module _ (rules : Rules) where
       → (out ≡ map placed_info (recomposed_items rules items)) × (spans ≡ joined_spans (recomposed_items rules items)) × (seen ≡ seen_chars rules.unicode flags (composed_chars (recomposed_items rules items)))
   walked_all items flags i out spans seen starter le h =
       let none : placed i (drop i items) ≡ [] = ap (placed i) (drop_all i items le) in
-      let all : recomposed_items rules items ≡ h.before ++ h.at ∷ h.marks = h.whole ∙ ap (λ rest. h.before ++ after h.at h.marks rest) none in
-      (
+      let all : recomposed_items rules items ≡ h.before ++ h.at ∷ h.marks = h.whole ∙ ap (λ rest. h.before ++ after h.at h.marks rest) none in (
         h.out_is ∙ sym (map-append placed_info h.before (h.at ∷ h.marks)) ∙ ap (map placed_info) (sym all),
         h.spans_are ∙ sym (adds_to_starter spans_of h.before h.at h.marks h.none_spanned) ∙ ap joined_spans (sym all),
         h.seen_is ∙ ap (seen_chars rules.unicode flags) (sym (adds_to_starter chars_of h.before h.at h.marks h.none_seen) ∙ ap composed_chars (sym all)),
@@ -190,14 +188,14 @@ module _ (rules : Rules) where
           none_seen = h.none_seen;
         }
 
-    put_out : out ++ placed_info next ∷ [] ≡ map placed_info h.before ++ placed_info h.at ∷ map placed_info (h.marks ++ next ∷ [])
-    put_out =
+    put_behind : out ++ placed_info next ∷ [] ≡ map placed_info h.before ++ placed_info h.at ∷ map placed_info (h.marks ++ next ∷ [])
+    put_behind =
         ap (λ l. l ++ placed_info next ∷ []) h.out_is
         ∙ append_assoc (map placed_info h.before) (placed_info h.at ∷ map placed_info h.marks) (placed_info next ∷ [])
         ∙ ap (λ l. map placed_info h.before ++ placed_info h.at ∷ l) (sym (map-append placed_info h.marks (next ∷ [])))
 
-    all_put_out : out ≡ map placed_info (h.before ++ h.at ∷ h.marks)
-    all_put_out = h.out_is ∙ sym (map-append placed_info h.before (h.at ∷ h.marks))
+    whole_out : out ≡ map placed_info (h.before ++ h.at ∷ h.marks)
+    whole_out = h.out_is ∙ sym (map-append placed_info h.before (h.at ∷ h.marks))
 
     -- the next item is put out, and is the starter from then on
     pub IsRecomposedTo-starter : None ≡ composed_char rules s marks (placed_info next) → class_of_item x ≡ 0
@@ -208,8 +206,8 @@ module _ (rules : Rules) where
           before = done;
           at = next;
           marks = [];
-          out_is = ap (λ l. l ++ placed_info next ∷ []) all_put_out;
-          starter_is = ap length all_put_out;
+          out_is = ap (λ l. l ++ placed_info next ∷ []) whole_out;
+          starter_is = ap length whole_out;
           whole =
               whole_next
               ∙ ap (λ l. h.before ++ l) (recomposed_from-starter class_of_placed (is_blocked_by_last class_of_placed) is_mark_placed (join_placed rules) h.at h.marks next rest (composed_at None was) (eq-eqb _ 0 zero_class))
@@ -228,7 +226,7 @@ module _ (rules : Rules) where
           before = h.before;
           at = h.at;
           marks = h.marks ++ next ∷ [];
-          out_is = put_out;
+          out_is = put_behind;
           starter_is = h.starter_is;
           whole =
               whole_next
@@ -259,7 +257,7 @@ AreRising-higher : (low high higher : ℕ) (xs : List Placed) → high ≤ highe
 AreRising-higher low high higher [] le up = omega arith
 AreRising-higher low high higher (x ∷ xs) le up = (up.0, AreRising-higher (x.place + 1) high higher xs le up.1)
 
-AreRising-fit : (low high : ℕ) (xs : List Placed) → AreRising low high xs → low + length xs ≤ high
+pub AreRising-fit : (low high : ℕ) (xs : List Placed) → AreRising low high xs → low + length xs ≤ high
 AreRising-fit low high [] up = omega arith
 AreRising-fit low high (x ∷ xs) up = omega (arith, up.0, AreRising-fit (x.place + 1) high xs up.1)
 
@@ -341,6 +339,11 @@ spans_within n (p ∷ out) h = append_all (IsSpan n) (spans_of p) (joined_spans 
 pub recomposed_spans_within : (rules : Rules) (items : List Item) → All (IsSpan (length items)) (joined_spans (recomposed_items rules items))
 recomposed_spans_within rules items = All-from_recursion (IsSpan (length items)) (joined_spans (recomposed_items rules items)) (spans_within (length items) (recomposed_items rules items) (recomposed_placed rules items).within)
 
+-- the spans of a walk over these items are within them
+pub walked_spans_within : (rules : Rules) (items infos : List Item) (spans : List (ℕ × ℕ)) → infos ≡ items → spans ≡ joined_spans (recomposed_items rules infos) → All (IsSpan (length items)) spans
+walked_spans_within rules items infos spans infos_are spans_are =
+    subst (All (IsSpan (length items))) (sym (spans_are ∙ ap (λ xs. joined_spans (recomposed_items rules xs)) infos_are)) (recomposed_spans_within rules items)
+
 -- ---- the spans are merged
 
 merge_out_at_level : (start end : ℕ) (b : Buffer) (level : BufferClusterLevel) → elim level as (λ v. Buffer) [ MonotoneGraphemes ↦ merge_at start end b | MonotoneCharacters ↦ merge_at start end b | Characters ↦ b ]
@@ -390,26 +393,43 @@ settled_all : (items : List Item) (out : List Placed) → map (settled_info item
 settled_all items [] = refl
 settled_all items (p ∷ out) = ap (λ l. with_cluster_at items p ∷ l) (settled_all items out)
 
--- the buffer with what was put out, its clusters merged, is that of the round
-pub is_round_three : (rules : Rules) (old merged : Buffer) (out : List PlacedInfo) (settled : List Item) (n : ℕ) (seen : ScratchFlags) → merged ≡ spans_merged_out (joined_spans (recomposed_items rules old.items)) old → out ≡ map placed_info (recomposed_items rules old.items) → settled ≡ map (settled_info merged.items) out → n ≡ length settled → seen ≡ seen_chars rules.unicode old.scratch_flags (composed_chars (recomposed_items rules old.items))
-    → record merged { items = settled; positions = replicate n zero_position; scratch_flags = seen } ≡ round_three rules old
-is_round_three rules old merged out settled n seen merged_is out_is settled_is n_is seen_is =
-    let put_out = recomposed_items rules old.items in
-    let spanned : Buffer = spans_merged_out (joined_spans put_out) old in
-    let items : settled ≡ map (with_cluster_at spanned.items) put_out =
-    settled_is ∙ ap₂ (λ (m : Buffer) o. map (settled_info m.items) o) merged_is out_is ∙ settled_all spanned.items put_out in
-    let as_many : n ≡ length put_out = n_is ∙ ap length items ∙ length-map put_out (with_cluster_at spanned.items) in
-    ap (λ (m : Buffer). record m { items = settled; positions = replicate n zero_position; scratch_flags = seen }) merged_is
-    ∙ ap₂ (λ (xs : List Item) k. record spanned { items = xs; positions = replicate k zero_position; scratch_flags = seen }) items as_many
-    ∙ ap (λ (f : ScratchFlags). record spanned { items = map (with_cluster_at spanned.items) put_out; positions = replicate (length put_out) zero_position; scratch_flags = f }) seen_is
+-- the items of a buffer were walked over, their clusters merged, and what was put out took these
+module _ (rules : Rules) (old merged : Buffer) (infos merged_infos settled : List Item) (spans : List (ℕ × ℕ)) (out : List PlacedInfo) (infos_are : infos ≡ old.items) (spans_are : spans ≡ joined_spans (recomposed_items rules infos)) (merged_is : merged ≡ spans_merged_out spans old) (out_is : out ≡ map placed_info (recomposed_items rules infos)) (merged_infos_are : merged_infos ≡ merged.items) (settled_is : settled ≡ map (settled_info merged_infos) out) where
+  put_out : List Placed
+  put_out = recomposed_items rules old.items
 
--- what was put out is within the limit that the list was in
-pub settled_within : (rules : Rules) (old merged : Buffer) (out : List PlacedInfo) (settled : List Item) → merged ≡ spans_merged_out (joined_spans (recomposed_items rules old.items)) old → out ≡ map placed_info (recomposed_items rules old.items) → settled ≡ map (settled_info merged.items) out → length old.items ≤ limit_of old → length settled ≤ limit_of merged
-settled_within rules old merged out settled merged_is out_is settled_is within =
-    let put_out = recomposed_items rules old.items in
-    let as_many : length settled ≡ length put_out = ap length settled_is ∙ length-map out (settled_info merged.items) ∙ ap length out_is ∙ length-map put_out placed_info in
-    let same : limit_of merged ≡ limit_of old = ap limit_of merged_is ∙ limit-spans_merged_out (joined_spans put_out) old in
-    omega (arith, length-recomposed rules old.items)
+  spanned : Buffer
+  spanned = spans_merged_out (joined_spans put_out) old
+
+  merged_spanned : merged ≡ spanned
+  unfolding put_out spanned
+  merged_spanned = merged_is ∙ ap (λ s. spans_merged_out s old) (spans_are ∙ ap (λ xs. joined_spans (recomposed_items rules xs)) infos_are)
+
+  settled_items : settled ≡ map (with_cluster_at spanned.items) put_out
+  unfolding put_out
+  settled_items =
+      settled_is
+      ∙ ap₂ (λ xs o. map (settled_info xs) o) (merged_infos_are ∙ ap (λ (b : Buffer). b.items) merged_spanned) (out_is ∙ ap (λ xs. map placed_info (recomposed_items rules xs)) infos_are)
+      ∙ settled_all spanned.items put_out
+
+  settled_length : length settled ≡ length put_out
+  settled_length = ap length settled_items ∙ length-map put_out (with_cluster_at spanned.items)
+
+  -- that is within the limit that the list was in
+  pub settled_within : length old.items ≤ limit_of old → length settled ≤ limit_of merged
+  unfolding put_out spanned
+  settled_within within =
+      let same : limit_of merged ≡ limit_of old = ap limit_of merged_spanned ∙ limit-spans_merged_out (joined_spans put_out) old in
+      omega (arith, settled_length, length-recomposed rules old.items)
+
+  -- and makes the buffer that of the round
+  pub is_round_three : (n : ℕ) (flags seen : ScratchFlags) → n ≡ length settled → flags ≡ old.scratch_flags → seen ≡ seen_chars rules.unicode flags (composed_chars (recomposed_items rules infos)) → record merged { items = settled; positions = replicate n zero_position; scratch_flags = seen } ≡ round_three rules old
+  unfolding put_out spanned
+  is_round_three n flags seen n_is flags_are seen_is =
+      ap (λ (m : Buffer). record m { items = settled; positions = replicate n zero_position; scratch_flags = seen }) merged_spanned
+      ∙ ap₂ (λ (xs : List Item) k. record spanned { items = xs; positions = replicate k zero_position; scratch_flags = seen }) settled_items (n_is ∙ settled_length)
+      ∙ ap (λ (f : ScratchFlags). record spanned { items = map (with_cluster_at spanned.items) put_out; positions = replicate (length put_out) zero_position; scratch_flags = f })
+      (seen_is ∙ ap₂ (λ f xs. seen_chars rules.unicode f (composed_chars (recomposed_items rules xs))) flags_are infos_are)
 
 -- a refusal that isn't for the length is for memory
 only_memory : (e : ShapeError) → (e ≡ Length → ⊥) → e ≡ Memory

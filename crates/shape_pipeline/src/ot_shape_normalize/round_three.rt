@@ -224,7 +224,9 @@ fn settle_all(
 ) -> Result<Vec<hb_glyph_info_t>, AllocError>
     ensures { IfOk result (λ settled. settled.items ≡ map (settled_info infos.now) out.now) }
 {
-    out.iter().map(|placed| placed.settled(infos)).collect(alloc)
+    out.iter()
+        .map(|placed| placed.settled(infos))
+        .collect(alloc)
 }
 
 /// Composes marks with their starters. Refuses with `Memory` where a growth was refused; the settings that

@@ -1,4 +1,4 @@
-use Rattle.std.proofs.Common.{◌≡◌, ◌<◌, length, ap, ◌∙◌, arith}
+use Rattle.std.proofs.Common.{◌<◌, length, ap, ◌∙◌, arith}
 use Rattle.shape_buffer.specs.Buffer.{Buffer}
 use Rattle.shape_pipeline.proofs.RoundThreeLemmas.{length-merge_out, spans_merged_next}
 use Rattle.shape_pipeline.proofs.ot_shape_normalize.round_three.merge_spans_out.Goals as goal
