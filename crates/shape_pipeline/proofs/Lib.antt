@@ -14,3 +14,4 @@ pub mod CanonicalFormLemmas
 pub mod RunClusterLemmas
 pub mod ClusterOrderLemmas
 pub mod ItemGlyphLemmas
+pub mod SelectorLemmas

@@ -70,6 +70,10 @@ rules_of unicode constants hooks reordered faces plan face = record {
   recomposes = mode_recomposes (used_mode constants.preference plan);
 }
 
+-- the face that the rules go by
+abbrev pub face_of : Rules → FaceMeaning
+face_of rules = record { nominal_glyph = rules.glyph; variation_glyph = rules.variation }
+
 -- whether a character has a glyph
 abbrev pub has_glyph : (ℕ → Option GlyphId) → ℕ → Bool
 has_glyph glyph c = is_some (glyph c)
