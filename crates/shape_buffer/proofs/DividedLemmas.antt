@@ -1,8 +1,8 @@
 -- A list divided into parts, part by part.
-use Rattle.std.proofs.Common.{◌≡◌, ℕ, ◌+◌, ◌<◌, ◌≤◌, Bool, true, false, if◌then◌else◌, cond, List, [], ◌∷◌, ◌++◌, length, take, drop, refl, sym, ap, ap₂, ◌∙◌, arith, one-add}
+use Rattle.std.proofs.Common.{◌≡◌, ℕ, suc, ◌+◌, ◌<◌, ◌≤◌, Bool, true, false, if◌then◌else◌, cond, List, [], ◌∷◌, ◌++◌, length, take, drop, sum_by, refl, sym, ap, ap₂, ◌∙◌, arith, one-add}
 use Rattle.std.specs.List.{prefix_len}
 use Rattle.std.proofs.lemmas.List.{length-take, length-drop}
-use Rattle.std.proofs.lemmas.List.Sums.{prefix_len-le-length}
+use Rattle.std.proofs.lemmas.List.Sums.{prefix_len-le-length, sum_by-cons}
 use Rattle.shape_buffer.specs.Divided.{divided, put_first, IsFirstPart}
 
 module _ {A : Type 0} (belongs : A → Bool) where
@@ -30,3 +30,17 @@ module _ {A : Type 0} (belongs : A → Bool) where
         some = omega (arith, front_length);
         whole = omega (arith, front_length, back_length, full, length-take (prefix_len belongs rest) rest, length-drop (prefix_len belongs rest) rest);
       }
+
+  -- the parts are as long as the list
+  pub lengths-divided : (xs : List A) → sum_by length (divided belongs xs) ≡ length xs
+  lengths-divided [] = refl
+  lengths-divided (x ∷ []) = refl
+  lengths-divided (x ∷ y ∷ rest) =
+      elim (belongs y) as (λ t. sum_by length (if t then put_first x (divided belongs (y ∷ rest)) else (x ∷ []) ∷ divided belongs (y ∷ rest)) ≡ suc (length (y ∷ rest))) [
+        | true ↦ lengths-put_first x (divided belongs (y ∷ rest)) ∙ ap suc (lengths-divided (y ∷ rest))
+        | false ↦ sum_by-cons length (x ∷ []) (divided belongs (y ∷ rest)) ∙ rw (lengths-divided (y ∷ rest)) (omega arith)
+      ]
+    where
+      lengths-put_first : (x : A) (parts : List (List A)) → sum_by length (put_first x parts) ≡ suc (sum_by length parts)
+      lengths-put_first x [] = refl
+      lengths-put_first x (part ∷ parts) = rw (sum_by-cons length (x ∷ part) parts, sum_by-cons length part parts) (omega arith)

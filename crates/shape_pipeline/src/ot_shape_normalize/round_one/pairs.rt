@@ -73,7 +73,7 @@ pub(super) fn merge_pairs<U: hb_unicode_funcs_t, F: hb_font_t>(
     ensures unchanged { OnErr result (buffer.new ≡ buffer.old) }
 {
     let places = pairs::<U, F>(alloc, face, buffer.infos())?;
-    'pairs: for place in &places {
+    'merges: for place in &places {
         buffer.merge_clusters(*place, *place + 2);
     }
     Ok(())
