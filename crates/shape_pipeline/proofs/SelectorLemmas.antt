@@ -1,20 +1,23 @@
 -- Sequences that hold a variation selector, and the items that become one with it.
-use Rattle.std.proofs.Common.{◌≡◌, ℕ, suc, ◌+◌, ◌<◌, ◌≤◌, nat_lt, true, false, if◌then◌else◌, Option, Some, None, is_some, List, [], ◌∷◌, ◌++◌, map, length, sum_by, refl, sym, ap, ◌∙◌, arith, rules, inl, inr}
+use Rattle.std.proofs.Common.{◌≡◌, ℕ, suc, ◌+◌, ◌<◌, ◌≤◌, nat_lt, true, false, if◌then◌else◌, Option, Some, None, is_some, List, [], ◌∷◌, ◌++◌, map, length, sum_by, fold, replicate, refl, sym, ap, ap₂, ◌∙◌, arith, rules, inl, inr}
 use Rattle.std.specs.List.{All}
 use Rattle.std.proofs.lemmas.Bool.{cases_Bool}
 use Rattle.std.proofs.lemmas.List.{length-map}
 use Rattle.std.proofs.lemmas.List.Elements.{All-nil, All-cons, All-append, All-weaker}
 use Rattle.std.proofs.lemmas.List.Sums.{sum_by-cons}
-use Rattle.shape_buffer.specs.Buffer.{Buffer}
+use Rattle.shape_buffer.specs.Buffer.{Buffer, cleared, limit_of}
 use Rattle.shape_buffer.specs.BufferClusters.{merge_clusters, merge_at, unsafe_to_break}
 use Rattle.shape_buffer.specs.Face.{FaceMeaning}
 use Rattle.shape_buffer.specs.Items.{Item, is_mark_item}
+use Rattle.shape_buffer.specs.Positions.{zero_position}
 use Rattle.shape_buffer.specs.Unicode.{UnicodeMeaning}
+use Rattle.shape_buffer.specs.declared.buffer.flags.ScratchFlags.{ScratchFlags}
 use Rattle.shape_buffer.specs.declared.buffer.settings.BufferClusterLevel.{BufferClusterLevel}
 use Rattle.shape_buffer.specs.declared.buffer.settings.BufferClusterLevel.TheVariants.{MonotoneGraphemes, MonotoneCharacters, Characters}
 use Rattle.shape_buffer.proofs.DividedLemmas.{lengths-divided}
 use Rattle.shape_buffer.proofs.KeyLemmas.{IsKey, keys-merge_clusters}
-use Rattle.shape_pipeline.specs.RoundOne.{is_with_marks, is_selector_item, has_selector, variants, sequences, pair_glyph, pair_places, pairs_from, merged_at}
+use Rattle.shape_pipeline.specs.Rules.{Rules, face_of}
+use Rattle.shape_pipeline.specs.RoundOne.{is_with_marks, is_selector_item, has_selector, variants, sequences, pair_glyph, pair_places, pairs_from, merged_at, pairs_merged, expanded, seen_sequence, round_one}
 
 -- a sequence has marks where it has more than one item
 pub is_with_marks-length : (sequence : List Item) → is_with_marks sequence ≡ nat_lt 1 (length sequence)
@@ -98,3 +101,42 @@ pub length-merged_at : (b : Buffer) (places : List ℕ) → length (merged_at b 
 length-merged_at b places =
     let key : Item → ℕ = λ item. 0 in
     sym (length-map (merged_at b places).items key) ∙ ap length (keys-merged_at key (record { by_cluster = λ item cluster. refl; by_break = λ item. refl }) b places) ∙ length-map b.items key
+
+-- ---- round one
+
+module _ (rules : Rules) (b merged : Buffer) (is_merged : merged ≡ pairs_merged rules b) where
+  settings : unlisted merged ≡ unlisted b
+  settings = ap unlisted is_merged ∙ unlisted-merged_at b (pairs_from rules.unicode (face_of rules) 0 (sequences b.items))
+
+  -- merging keeps the limit, and what clearing keeps
+  pub limit-merged : limit_of merged ≡ limit_of b
+  limit-merged = ap limit_of settings
+
+  pub cleared-merged : cleared merged ≡ cleared b
+  cleared-merged = ap cleared settings
+
+  invisible-merged : merged.invisible_glyph ≡ b.invisible_glyph
+  invisible-merged = ap (λ (m : Buffer). m.invisible_glyph) settings
+
+  not_found-merged : merged.not_found_variation_selector_glyph ≡ b.not_found_variation_selector_glyph
+  not_found-merged = ap (λ (m : Buffer). m.not_found_variation_selector_glyph) settings
+
+  -- what the merged items become is the list of round one
+  pub items-round_one : expanded rules merged.invisible_glyph merged.not_found_variation_selector_glyph merged.items ≡ (round_one rules b).items
+  items-round_one =
+      ap₂ (λ invisible not_found. expanded rules invisible not_found merged.items) invisible-merged not_found-merged
+      ∙ ap (λ (m : Buffer). expanded rules b.invisible_glyph b.not_found_variation_selector_glyph m.items) is_merged
+
+  flags-round_one : fold (seen_sequence rules merged.invisible_glyph) merged.scratch_flags (sequences merged.items) ≡ (round_one rules b).scratch_flags
+  flags-round_one =
+      ap (λ invisible. fold (seen_sequence rules invisible) merged.scratch_flags (sequences merged.items)) invisible-merged
+      ∙ ap (λ (m : Buffer). fold (seen_sequence rules b.invisible_glyph) m.scratch_flags (sequences m.items)) is_merged
+
+  -- and so is the whole buffer
+  pub round_one-from_merged : (items : List Item) (flags : ScratchFlags)
+      → items ≡ expanded rules merged.invisible_glyph merged.not_found_variation_selector_glyph merged.items
+      → flags ≡ fold (seen_sequence rules merged.invisible_glyph) merged.scratch_flags (sequences merged.items)
+      → record merged { items = items; positions = replicate (length items) zero_position; scratch_flags = flags } ≡ round_one rules b
+  round_one-from_merged items flags items_are flags_are =
+      ap (λ (m : Buffer). record m { items = items; positions = replicate (length items) zero_position; scratch_flags = flags }) is_merged
+      ∙ ap₂ (λ xs f. record (pairs_merged rules b) { items = xs; positions = replicate (length xs) zero_position; scratch_flags = f }) (items_are ∙ items-round_one) (flags_are ∙ flags-round_one)
