@@ -1,5 +1,5 @@
 -- A list divided into parts, part by part.
-use Rattle.std.proofs.Common.{◌≡◌, ℕ, suc, ◌+◌, ◌<◌, ◌≤◌, Bool, true, false, if◌then◌else◌, cond, List, [], ◌∷◌, ◌++◌, length, take, drop, sum_by, refl, sym, ap, ap₂, ◌∙◌, arith, one-add}
+use Rattle.std.proofs.Common.{◌≡◌, ℕ, suc, ◌+◌, Bool, true, false, if◌then◌else◌, cond, List, [], ◌∷◌, length, take, drop, sum_by, refl, sym, ap, ap₂, ◌∙◌, arith, one-add}
 use Rattle.std.specs.List.{prefix_len}
 use Rattle.std.proofs.lemmas.List.{length-take, length-drop}
 use Rattle.std.proofs.lemmas.List.Sums.{prefix_len-le-length, sum_by-cons}
@@ -11,7 +11,7 @@ module _ {A : Type 0} (belongs : A → Bool) where
   divided-first x [] = refl
   divided-first x (y ∷ rest) =
       elim (belongs y) as (λ t. (if t then put_first x (divided belongs (y ∷ rest)) else (x ∷ []) ∷ divided belongs (y ∷ rest))
-          ≡ (x ∷ take (cond t (1 + prefix_len belongs rest) 0) (y ∷ rest)) ∷ divided belongs (drop (cond t (1 + prefix_len belongs rest) 0) (y ∷ rest))) [
+      ≡ (x ∷ take (cond t (1 + prefix_len belongs rest) 0) (y ∷ rest)) ∷ divided belongs (drop (cond t (1 + prefix_len belongs rest) 0) (y ∷ rest))) [
         | true ↦ rw one-add (ap (put_first x) (divided-first y rest))
         | false ↦ refl
       ]

@@ -1,5 +1,5 @@
 -- Sequences that hold a variation selector, and the items that become one with it.
-use Rattle.std.proofs.Common.{◌≡◌, ℕ, suc, ◌+◌, ◌<◌, ◌≤◌, nat_lt, true, false, if◌then◌else◌, Option, Some, None, is_some, List, [], ◌∷◌, ◌++◌, map, length, sum_by, fold, replicate, refl, sym, ap, ap₂, ◌∙◌, arith, rules, inl, inr}
+use Rattle.std.proofs.Common.{◌≡◌, ℕ, ◌+◌, ◌≤◌, nat_lt, true, false, if◌then◌else◌, is_some, List, [], ◌∷◌, ◌++◌, map, length, sum_by, fold, replicate, refl, sym, ap, ap₂, ◌∙◌, arith, rules, inl, inr}
 use Rattle.std.specs.List.{All}
 use Rattle.std.proofs.lemmas.Bool.{cases_Bool}
 use Rattle.std.proofs.lemmas.List.{length-map}

@@ -1,5 +1,5 @@
 -- Round one of normalising: each item becomes the items of its character's expansion, or takes a glyph with the variation selector behind it.
-use Rattle.std.specs.Prelude.{◌≡◌, ℕ, ◌+◌, ◌==◌, ◌&&◌, not, Bool, true, false, if◌then◌else◌, List, [], ◌∷◌, ◌++◌, map, fold, replicate, length, Option, None, Some, is_some, unwrap_or}
+use Rattle.std.specs.Prelude.{ℕ, ◌+◌, ◌==◌, ◌&&◌, not, Bool, true, false, if◌then◌else◌, List, [], ◌∷◌, ◌++◌, map, fold, replicate, length, Option, None, Some, is_some, unwrap_or}
 use Rattle.std.specs.Option.{option_map, option_map_or, option_or}
 use Rattle.std.specs.List.{flat_map, list_any}
 use Rattle.std.specs.Int.RustNames.{bit_or}
@@ -94,10 +94,12 @@ passed_item glyph item = record item { glyph_index = option_map_or (λ g. g.0) (
 
 -- a selector that no glyph came of: it is marked, and seen where there is a glyph for such
 abbrev pub marked_selector : Option GlyphId → Item → Item
-marked_selector not_found item = record item { properties = record item.properties {
-  selector_mark = true;
-  ignorable = if is_some not_found then false else item.properties.ignorable;
-} }
+marked_selector not_found item = record item {
+  properties = record item.properties {
+    selector_mark = true;
+    ignorable = if is_some not_found then false else item.properties.ignorable;
+  };
+}
 
 -- an item with the selectors directly after it: of the item and the first of them becomes one item, where the face has a glyph for the two
 abbrev pub variant_items : FaceMeaning → Option GlyphId → List Item → List Item

@@ -1,7 +1,6 @@
 use Rattle.std.proofs.Common.{◌≡◌, replicate, length, vec_len, rules, ap, ◌∙◌, arith}
-use Rattle.shape_buffer.specs.Buffer.{Buffer, cleared, limit_of}
+use Rattle.shape_buffer.specs.Buffer.{Buffer, cleared}
 use Rattle.shape_buffer.specs.Positions.{zero_position}
-use Rattle.shape_pipeline.specs.Plan.{hooks_of}
 use Rattle.shape_pipeline.specs.Rules.{rules_of}
 use Rattle.shape_pipeline.proofs.SelectorLemmas.{limit-merged, cleared-merged, items-round_one, round_one-from_merged}
 use Rattle.shape_pipeline.proofs.ot_shape_normalize.round_one.expand.Goals as goal

@@ -1,5 +1,4 @@
 use Rattle.std.proofs.Common.{◌≡◌, ◌≤◌, ◌++◌, length, fold, vec_len}
-use Rattle.shape_pipeline.specs.Plan.{hooks_of}
 use Rattle.shape_buffer.specs.Buffer.{limit_of}
 use Rattle.shape_pipeline.specs.Rules.{rules_of}
 use Rattle.shape_pipeline.specs.RoundOne.{expanded, seen_sequence, sequences}

@@ -1,4 +1,4 @@
-use Rattle.std.proofs.Common.{◌≡◌, ◌+◌, ◌≤◌, take, length, ap, ◌∙◌, arith}
+use Rattle.std.proofs.Common.{◌+◌, ◌≤◌, take, length, ap, ◌∙◌, arith}
 use Rattle.std.specs.List.{All}
 use Rattle.shape_buffer.specs.Buffer.{Buffer}
 use Rattle.shape_pipeline.proofs.SelectorLemmas.{pairs_within, length-merged_at}

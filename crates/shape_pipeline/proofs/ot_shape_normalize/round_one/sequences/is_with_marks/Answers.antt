@@ -1,4 +1,4 @@
-use Rattle.std.proofs.Common.{rules, sym, ◌∙◌}
+use Rattle.std.proofs.Common.{rules}
 use Rattle.shape_pipeline.proofs.SelectorLemmas.{is_with_marks-length}
 use Rattle.shape_pipeline.proofs.ot_shape_normalize.round_one.sequences.is_with_marks.Goals as goal
 

@@ -1,5 +1,4 @@
 use Rattle.std.proofs.Common.{rules, arith}
-use Rattle.shape_pipeline.specs.Plan.{hooks_of}
 use Rattle.shape_pipeline.specs.Rules.{rules_of}
 use Rattle.shape_pipeline.specs.RoundOne.{expanded_item}
 use Rattle.shape_pipeline.proofs.PieceLemmas.{passed_by_all}

@@ -1,6 +1,5 @@
 use Rattle.std.proofs.Common.{◌≡◌, ◌≤◌, ◌++◌, take, fold, vec_len}
 use Rattle.std.specs.List.{flat_map}
-use Rattle.shape_pipeline.specs.Plan.{hooks_of}
 use Rattle.shape_pipeline.specs.Rules.{rules_of}
 use Rattle.shape_pipeline.specs.RoundOne.{expanded_item, seen_expanded}
 use Rattle.shape_pipeline.proofs.ot_shape_normalize.round_one.expanded.Expanded.put_items.Given as goal
