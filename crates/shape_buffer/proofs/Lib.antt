@@ -30,3 +30,4 @@ pub mod DeleteKeeps
 pub mod ExpandedLemmas
 pub mod KeyLemmas
 pub mod UnwrittenLemmas
+pub mod DividedLemmas

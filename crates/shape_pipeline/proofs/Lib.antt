@@ -22,3 +22,4 @@ pub mod RunClusterLemmas
 pub mod OrderedClusterLemmas
 pub mod ClusterOrderLemmas
 pub mod ItemGlyphLemmas
+pub mod SelectorLemmas

@@ -32,7 +32,7 @@ HookKeepsClusters rules =
 
 -- a character of one of these sequences that holds a variation selector
 abbrev pub SomeHoldsSelectorAnd : Rules → ℕ → List (List Item) → Type 0
-SomeHoldsSelectorAnd rules c parts = (sequence : List Item) × Contains parts sequence × (has_selector rules sequence ≡ true) × Contains (map char_of sequence) c
+SomeHoldsSelectorAnd rules c parts = (sequence : List Item) × Contains parts sequence × (has_selector rules.unicode sequence ≡ true) × Contains (map char_of sequence) c
 
 -- each item has the glyph of its character, or what stands in for it; where an item's character stands in a sequence of the text that holds a variation selector, nothing is said
 abbrev pub HasItemGlyph : Rules → Buffer → Item → Type 0

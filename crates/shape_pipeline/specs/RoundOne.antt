@@ -1,5 +1,5 @@
 -- Round one of normalising: each item becomes the items of its character's expansion, or takes a glyph with the variation selector behind it.
-use Rattle.std.specs.Prelude.{◌≡◌, ℕ, ◌+◌, ◌==◌, ◌&&◌, not, Bool, true, false, if◌then◌else◌, List, [], ◌∷◌, ◌++◌, map, fold, replicate, length, Option, None, Some, is_some, unwrap_or}
+use Rattle.std.specs.Prelude.{ℕ, ◌+◌, ◌==◌, ◌&&◌, not, Bool, true, false, if◌then◌else◌, List, [], ◌∷◌, ◌++◌, map, fold, replicate, length, Option, None, Some, is_some, unwrap_or}
 use Rattle.std.specs.Option.{option_map, option_map_or, option_or}
 use Rattle.std.specs.List.{flat_map, list_any}
 use Rattle.std.specs.Int.RustNames.{bit_or}
@@ -10,11 +10,12 @@ use Rattle.shape_buffer.specs.Positions.{zero_position}
 use Rattle.shape_buffer.specs.Buffer.{Buffer}
 use Rattle.shape_buffer.specs.BufferClusters.{merge_clusters}
 use Rattle.shape_buffer.specs.Expansion.{chosen_expansion}
+use Rattle.shape_buffer.specs.Face.{FaceMeaning}
 use Rattle.shape_buffer.specs.Unicode.{UnicodeMeaning}
 use Rattle.shape_buffer.specs.UnicodeProps.{with_unicode_props, with_scratch_of}
 use Rattle.shape_buffer.specs.declared.buffer.flags.ScratchFlags.{ScratchFlags}
 use Rattle.shape_buffer.specs.declared.buffer.settings.GlyphId.{GlyphId}
-use Rattle.shape_pipeline.specs.Rules.{Rules, has_glyph}
+use Rattle.shape_pipeline.specs.Rules.{Rules, face_of, has_glyph}
 
 -- ---- the glyph of an item
 
@@ -84,50 +85,58 @@ seen_expanded rules invisible short flags item =
 
 -- ---- sequences with variation selectors
 
-abbrev pub is_selector_item : Rules → Item → Bool
-is_selector_item rules item = rules.unicode.selector item.codepoint
+abbrev pub is_selector_item : UnicodeMeaning → Item → Bool
+is_selector_item unicode item = unicode.selector item.codepoint
 
 -- an item that passes: it has the glyph of its character, or keeps the index that it had
-abbrev pub passed_item : Rules → Item → Item
-passed_item rules item = record item { glyph_index = option_map_or (λ g. g.0) (rules.glyph item.codepoint) item.glyph_index }
+abbrev pub passed_item : (ℕ → Option GlyphId) → Item → Item
+passed_item glyph item = record item { glyph_index = option_map_or (λ g. g.0) (glyph item.codepoint) item.glyph_index }
 
 -- a selector that no glyph came of: it is marked, and no longer ignorable where there is a glyph for such
 abbrev pub marked_selector : Option GlyphId → Item → Item
-marked_selector not_found item = record item { properties = record item.properties {
-  selector_mark = true;
-  ignorable = if is_some not_found then false else item.properties.ignorable;
-} }
+marked_selector not_found item = record item {
+  properties = record item.properties {
+    selector_mark = true;
+    ignorable = if is_some not_found then false else item.properties.ignorable;
+  };
+}
 
 -- an item with the selectors directly after it: of the item and the first of them becomes one item, where the face has a glyph for the two
-abbrev pub variant_items : Rules → Option GlyphId → List Item → List Item
-variant_items rules not_found [] = []
-variant_items rules not_found (x ∷ []) = passed_item rules x ∷ []
-variant_items rules not_found (x ∷ v ∷ rest) =
-    elim (rules.variation x.codepoint v.codepoint) [
-      | Some g ↦ record x { glyph_index = g.0 } ∷ map (passed_item rules) rest
-      | None ↦ passed_item rules x ∷ marked_selector not_found (passed_item rules v) ∷ map (passed_item rules) rest
+abbrev pub variant_items : FaceMeaning → Option GlyphId → List Item → List Item
+variant_items face not_found [] = []
+variant_items face not_found (x ∷ []) = passed_item face.nominal_glyph x ∷ []
+variant_items face not_found (x ∷ v ∷ rest) =
+    let passed = passed_item face.nominal_glyph in
+    elim (face.variation_glyph x.codepoint v.codepoint) [
+      | Some g ↦ record x { glyph_index = g.0 } ∷ map passed rest
+      | None ↦ passed x ∷ marked_selector not_found (passed v) ∷ map passed rest
     ]
 
 -- scratch flags with "has variation selector fallback"
 abbrev pub with_selector_fallback : ScratchFlags → ScratchFlags
 with_selector_fallback flags = record { 0 = bit_or flags.0 16 }
 
-abbrev pub seen_variant : Rules → ScratchFlags → List Item → ScratchFlags
-seen_variant rules flags [] = flags
-seen_variant rules flags (x ∷ []) = flags
-seen_variant rules flags (x ∷ v ∷ rest) = if is_some (rules.variation x.codepoint v.codepoint) then flags else with_selector_fallback flags
+abbrev pub seen_variant : FaceMeaning → ScratchFlags → List Item → ScratchFlags
+seen_variant face flags [] = flags
+seen_variant face flags (x ∷ []) = flags
+seen_variant face flags (x ∷ v ∷ rest) = if is_some (face.variation_glyph x.codepoint v.codepoint) then flags else with_selector_fallback flags
 
 -- a sequence in parts: each item that is no selector, and the first of all, with the selectors directly after it
-abbrev pub variants : Rules → List Item → List (List Item)
-variants rules sequence = divided (is_selector_item rules) sequence
+abbrev pub variants : UnicodeMeaning → List Item → List (List Item)
+variants unicode sequence = divided (is_selector_item unicode) sequence
+
+-- the glyph of the first two of these items, where the face has one for the two
+abbrev pub pair_glyph : FaceMeaning → List Item → Option GlyphId
+pair_glyph face [] = None
+pair_glyph face (x ∷ []) = None
+pair_glyph face (x ∷ v ∷ rest) = face.variation_glyph x.codepoint v.codepoint
 
 -- the places of the items that become one with the selector behind them, in parts that begin at this place
-abbrev pub pair_places : Rules → ℕ → List (List Item) → List ℕ
-pair_places rules place [] = []
-pair_places rules place ((x ∷ v ∷ rest) ∷ parts) =
-    let later = pair_places rules (place + length (x ∷ v ∷ rest)) parts in
-    if is_some (rules.variation x.codepoint v.codepoint) then place ∷ later else later
-pair_places rules place (part ∷ parts) = pair_places rules (place + length part) parts
+abbrev pub pair_places : FaceMeaning → ℕ → List (List Item) → List ℕ
+pair_places face place [] = []
+pair_places face place (part ∷ parts) =
+    let later = pair_places face (place + length part) parts in
+    if is_some (pair_glyph face part) then place ∷ later else later
 
 -- ---- combining sequences (as those of The Unicode Standard, D56, but of marks alone; one item may be a sequence too)
 
@@ -135,39 +144,43 @@ pair_places rules place (part ∷ parts) = pair_places rules (place + length par
 abbrev pub sequences : List Item → List (List Item)
 sequences items = divided is_mark_item items
 
--- a sequence that is not expanded: one with marks that holds a variation selector
-abbrev pub has_selector : Rules → List Item → Bool
-has_selector rules [] = false
-has_selector rules (x ∷ []) = false
-has_selector rules (x ∷ y ∷ rest) = list_any (is_selector_item rules) (x ∷ y ∷ rest)
-
 -- whether an item stands in a sequence with marks
 abbrev pub is_with_marks : List Item → Bool
 is_with_marks [] = false
 is_with_marks (x ∷ []) = false
 is_with_marks (x ∷ y ∷ rest) = true
 
+-- a sequence that is not expanded: one with marks that holds a variation selector
+abbrev pub has_selector : UnicodeMeaning → List Item → Bool
+has_selector unicode sequence = is_with_marks sequence && list_any (is_selector_item unicode) sequence
+
+-- the places of the items that become one with the selector behind them, in sequences that begin at this place
+abbrev pub pairs_from : UnicodeMeaning → FaceMeaning → ℕ → List (List Item) → List ℕ
+pairs_from unicode face place [] = []
+pairs_from unicode face place (sequence ∷ rest) =
+    let later = pairs_from unicode face (place + length sequence) rest in
+    if has_selector unicode sequence then pair_places face place (variants unicode sequence) ++ later else later
+
+-- the buffer with the clusters of such items merged, each with its selector, from left to right
+abbrev pub merged_at : Buffer → List ℕ → Buffer
+merged_at b places = fold (λ b place. merge_clusters place (place + 2) b) b places
+
+-- ---- round one
+
 -- what a sequence becomes
 abbrev pub sequence_items : Rules → Option GlyphId → Option GlyphId → List Item → List Item
 sequence_items rules invisible not_found sequence =
-    if has_selector rules sequence then flat_map (variant_items rules not_found) (variants rules sequence)
+    if has_selector rules.unicode sequence then flat_map (variant_items (face_of rules) not_found) (variants rules.unicode sequence)
     else flat_map (expanded_item rules invisible (rules.short (is_with_marks sequence))) sequence
 
 abbrev pub seen_sequence : Rules → Option GlyphId → ScratchFlags → List Item → ScratchFlags
 seen_sequence rules invisible flags sequence =
-    if has_selector rules sequence then fold (seen_variant rules) flags (variants rules sequence)
+    if has_selector rules.unicode sequence then fold (seen_variant (face_of rules)) flags (variants rules.unicode sequence)
     else fold (seen_expanded rules invisible (rules.short (is_with_marks sequence))) flags sequence
-
--- the places of the items that become one with the selector behind them, in sequences that begin at this place
-abbrev pub pairs_from : Rules → ℕ → List (List Item) → List ℕ
-pairs_from rules place [] = []
-pairs_from rules place (sequence ∷ rest) =
-    let later = pairs_from rules (place + length sequence) rest in
-    if has_selector rules sequence then pair_places rules place (variants rules sequence) ++ later else later
 
 -- two items that become one are merged first, from left to right; that this is done before the walk changes nothing, since the selector that goes is next to its item and in one cluster with it, so that a merge grows over both or neither
 abbrev pub pairs_merged : Rules → Buffer → Buffer
-pairs_merged rules b = fold (λ b place. merge_clusters place (place + 2) b) b (pairs_from rules 0 (sequences b.items))
+pairs_merged rules b = merged_at b (pairs_from rules.unicode (face_of rules) 0 (sequences b.items))
 
 -- what the items of a list become
 abbrev pub expanded : Rules → Option GlyphId → Option GlyphId → List Item → List Item

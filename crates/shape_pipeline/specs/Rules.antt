@@ -84,6 +84,10 @@ rules_without_shaper unicode face = record {
   recomposes = mode_recomposes (pos 4);
 }
 
+-- the face that the rules go by
+abbrev pub face_of : Rules → FaceMeaning
+face_of rules = record { nominal_glyph = rules.glyph; variation_glyph = rules.variation }
+
 -- whether a character has a glyph
 abbrev pub has_glyph : (ℕ → Option GlyphId) → ℕ → Bool
 has_glyph glyph c = is_some (glyph c)
