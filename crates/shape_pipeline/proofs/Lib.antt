@@ -2,6 +2,8 @@ pub mod StepLemmas
 pub mod RulesLemmas
 pub mod ReorderLemmas
 pub mod PieceLemmas
+pub mod PartLemmas
+pub mod DrawnLemmas
 pub mod RoundOneLemmas
 pub mod SpanLemmas
 pub mod SettleLemmas
@@ -13,4 +15,5 @@ pub mod OrderedLemmas
 pub mod CanonicalFormLemmas
 pub mod RunClusterLemmas
 pub mod ClusterOrderLemmas
+pub mod RecomposedClusterLemmas
 pub mod ItemGlyphLemmas

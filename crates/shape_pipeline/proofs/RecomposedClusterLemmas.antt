@@ -1,0 +1,203 @@
+-- Recomposing keeps the order of clusters, and brings no new one; and it makes no list longer.
+use Rattle.std.proofs.Common.{◌≡◌, ℕ, zero, suc, ◌+◌, ◌<◌, ◌≤◌, Bool, true, false, if◌then◌else◌, ◌==◌, List, [], ◌∷◌, ◌++◌, map, length, drop, get_or, Option, Some, None, refl, sym, ap, ap₂, subst, ◌∙◌, arith, inl, inr, append_assoc, append-nil, length-append, drop-cons}
+use Rattle.std.specs.List.{AllByRecursion}
+use Rattle.std.specs.Option.{option_map, option_and_then}
+use Rattle.std.proofs.lemmas.Bool.{cases_Bool, cond-true, cond-false}
+use Rattle.std.proofs.lemmas.List.{map-append, length-map, drop_all}
+use Rattle.shape_buffer.specs.Buffer.{Buffer}
+use Rattle.shape_buffer.specs.BufferClusters.{merge_at, merge_out_clusters}
+use Rattle.shape_buffer.specs.Clusters.{clusters}
+use Rattle.shape_buffer.specs.ClusterOrder.{DrawsInOrder, KeepsClusters}
+use Rattle.shape_buffer.specs.Items.{Item}
+use Rattle.shape_buffer.specs.Recompose.{composed, recomposed_from, recomposed, is_blocked_by_last, join_with_glyph}
+use Rattle.shape_buffer.specs.declared.buffer.settings.BufferClusterLevel.{BufferClusterLevel}
+use Rattle.shape_buffer.specs.declared.buffer.settings.BufferClusterLevel.TheVariants.{MonotoneGraphemes, MonotoneCharacters, Characters}
+use Rattle.shape_buffer.proofs.DeleteKeeps.{merged_out_keeps}
+use Rattle.shape_buffer.proofs.DrawsInOrder.{DrawsInOrder-same, DrawsInOrder-then, KeepsClusters-from_draws}
+use Rattle.shape_buffer.proofs.EveryLemmas.{append_all, push_all}
+use Rattle.shape_buffer.proofs.JoinLemmas.{length-merge}
+use Rattle.shape_buffer.proofs.OptionLemmas.{cases_Option}
+use Rattle.shape_buffer.proofs.RecomposeLemmas.{composed-some, recomposed_from-some, recomposed_from-starter, recomposed_from-mark, recomposed-all}
+use Rattle.shape_pipeline.specs.Rules.{Rules, has_glyph}
+use Rattle.shape_pipeline.specs.RoundOne.{part_item}
+use Rattle.shape_pipeline.specs.RoundThree.{Joined, Placed, placed, class_of_placed, is_mark_placed, join_placed, recomposed_items, joined_spans, spans_merged_out, with_cluster_at, round_three}
+use Rattle.shape_pipeline.proofs.DrawnLemmas.{DrawsBefore-same, draws_without, KeepsClusters-same, KeepsClusters-then}
+
+-- ---- recomposing, of anything
+
+module _ {A : Type 0} (class : A → ℕ) (blocks : List A → A → Bool) (is_mark : A → Bool) (join : A → A → Option A) where
+  -- where what is joined has the number of the starter, the numbers are drawn in order
+  module _ (number : A → ℕ) (joins : (s c d : A) → join s c ≡ Some d → number d ≡ number s) where
+    recomposed_from_draws : (s : A) (ms rest : List A) → DrawsInOrder (number s ∷ map number ms ++ map number rest) (map number (recomposed_from class blocks is_mark join s ms rest))
+    recomposed_from_draws s ms [] = rw (append-nil (map number ms)) (DrawsInOrder-same (number s ∷ map number ms))
+    recomposed_from_draws s ms (c ∷ rest) =
+        elim (cases_Option (composed class blocks is_mark join s ms c)) [
+          | inr (d, found) ↦
+              let same = joins s c d (composed-some class blocks is_mark join s ms c d found).1 in
+              rw (recomposed_from-some class blocks is_mark join s ms c rest d found)
+              (DrawsInOrder-then _ _ _ (draws_without (number s ∷ map number ms) (number c) (map number rest))
+              (subst (λ n. DrawsInOrder (n ∷ map number ms ++ map number rest) (map number (recomposed_from class blocks is_mark join d ms rest))) same (recomposed_from_draws d ms rest)))
+          | inl none ↦
+              elim (cases_Bool (class c == 0)) [
+                | inl start ↦
+                    rw (recomposed_from-starter class blocks is_mark join s ms c rest none start, map-append number ms (recomposed_from class blocks is_mark join c [] rest))
+                    (DrawsBefore-same (number s ∷ map number ms) _ _ (recomposed_from_draws c [] rest))
+                | inr mark ↦
+                    rw (recomposed_from-mark class blocks is_mark join s ms c rest none mark)
+                    (subst (λ l. DrawsInOrder (number s ∷ l) (map number (recomposed_from class blocks is_mark join s (ms ++ c ∷ []) rest)))
+                    (ap (λ l. l ++ map number rest) (map-append number ms (c ∷ [])) ∙ append_assoc (map number ms) (number c ∷ []) (map number rest))
+                    (recomposed_from_draws s (ms ++ c ∷ []) rest))
+              ]
+        ]
+
+    pub recomposed_draws : (xs : List A) → DrawsInOrder (map number xs) (map number (recomposed class blocks is_mark join xs))
+    recomposed_draws [] = DrawsInOrder-same []
+    recomposed_draws (x ∷ xs) = recomposed_from_draws x [] xs
+
+  length-recomposed_from : (s : A) (ms rest : List A) → length (recomposed_from class blocks is_mark join s ms rest) ≤ suc (length ms + length rest)
+  length-recomposed_from s ms [] = omega arith
+  length-recomposed_from s ms (c ∷ rest) =
+      elim (cases_Option (composed class blocks is_mark join s ms c)) [
+        | inr (d, found) ↦
+            rw (recomposed_from-some class blocks is_mark join s ms c rest d found) (omega (arith, length-recomposed_from d ms rest))
+        | inl none ↦
+            elim (cases_Bool (class c == 0)) [
+              | inl start ↦
+                  rw (recomposed_from-starter class blocks is_mark join s ms c rest none start)
+                  (omega (arith, length-append ms (recomposed_from class blocks is_mark join c [] rest), length-recomposed_from c [] rest))
+              | inr mark ↦
+                  rw (recomposed_from-mark class blocks is_mark join s ms c rest none mark)
+                  (omega (arith, length-append ms (c ∷ []), length-recomposed_from s (ms ++ c ∷ []) rest))
+            ]
+      ]
+
+  -- no list gets longer
+  pub length-recomposed : (xs : List A) → length (recomposed class blocks is_mark join xs) ≤ length xs
+  length-recomposed [] = omega arith
+  length-recomposed (x ∷ xs) = omega (arith, length-recomposed_from x [] xs)
+
+-- ---- the items that are put out
+
+glyph_of_joined : (has : ℕ → Bool) (o : Option ℕ) (c : ℕ) → option_and_then (λ c. if has c then Some c else None) o ≡ Some c → has c ≡ true
+glyph_of_joined has None c is = absurd (cc)
+glyph_of_joined has (Some d) c is =
+    elim (cases_Bool (has d)) [
+      | inl has_one ↦ let same : Some d ≡ Some c = sym (cond-true _ (Some d) None has_one) ∙ is in let d_is : d ≡ c = cc in rw (← d_is) has_one
+      | inr has_none ↦ let none : None ≡ Some c = sym (cond-false _ (Some d) None has_none) ∙ is in absurd (cc)
+    ]
+
+module _ (rules : Rules) where
+  -- the starter once it has made this character with a mark
+  abbrev pub starter_with : Placed → Placed → ℕ → Placed
+  starter_with starter mark c = record {
+    item = part_item rules.unicode rules.glyph starter.item c;
+    place = starter.place;
+    joined = starter.joined ++ record { place = mark.place; char = c } ∷ [];
+  }
+
+  starter_of : (starter mark made : Placed) (found : Option ℕ) → option_map (starter_with starter mark) found ≡ Some made → (c : ℕ) × (found ≡ Some c) × (made ≡ starter_with starter mark c)
+  starter_of starter mark made None is = absurd (cc)
+  starter_of starter mark made (Some c) is = (c, refl, cc)
+
+  -- what is joined is the starter with a character that has a glyph
+  pub join_placed-is : (starter mark made : Placed) → join_placed rules starter mark ≡ Some made → (c : ℕ) × (has_glyph rules.glyph c ≡ true) × (made ≡ starter_with starter mark c)
+  join_placed-is starter mark made is =
+      let at = starter_of starter mark made (join_with_glyph rules.join (has_glyph rules.glyph) starter.item.codepoint mark.item.codepoint) is in
+      (at.0, glyph_of_joined (has_glyph rules.glyph) (rules.join starter.item.codepoint mark.item.codepoint) at.0 at.1, at.2)
+
+-- ---- the spans of compositions
+
+abbrev PlacedWithin : ℕ → Placed → Type 0
+PlacedWithin n p = (p.place < n) × AllByRecursion (λ (mark : Joined). mark.place < n) p.joined
+
+module _ (rules : Rules) where
+  placed_within : (n place : ℕ) (items : List Item) → place + length items ≤ n → AllByRecursion (PlacedWithin n) (placed place items)
+  placed_within n place [] le = tt
+  placed_within n place (item ∷ items) le = ((omega arith, tt), placed_within n (suc place) items (omega arith))
+
+  joined_within : (n : ℕ) (starter mark made : Placed) → PlacedWithin n starter → PlacedWithin n mark → join_placed rules starter mark ≡ Some made → PlacedWithin n made
+  joined_within n starter mark made of_starter of_mark is =
+      let at = join_placed-is rules starter mark made is in
+      subst (PlacedWithin n) (sym at.2)
+      (of_starter.0, push_all (λ (m : Joined). m.place < n) starter.joined (record { place = mark.place; char = at.0 }) of_starter.1 of_mark.0)
+
+  recomposed_within : (items : List Item) → AllByRecursion (PlacedWithin (length items)) (recomposed_items rules items)
+  recomposed_within items =
+      recomposed-all class_of_placed (is_blocked_by_last class_of_placed) is_mark_placed (join_placed rules) (PlacedWithin (length items)) (joined_within (length items)) (placed 0 items)
+      (placed_within (length items) 0 items (omega arith))
+
+spans_of_marks : (n place : ℕ) (marks : List Joined) → AllByRecursion (λ (mark : Joined). mark.place < n) marks → AllByRecursion (λ (span : ℕ × ℕ). span.1 ≤ n) (map (λ (mark : Joined). (place, mark.place + 1)) marks)
+spans_of_marks n place [] within = tt
+spans_of_marks n place (mark ∷ marks) within = (omega (arith, within.0), spans_of_marks n place marks within.1)
+
+spans_within : (n : ℕ) (out : List Placed) → AllByRecursion (PlacedWithin n) out → AllByRecursion (λ (span : ℕ × ℕ). span.1 ≤ n) (joined_spans out)
+spans_within n [] within = tt
+spans_within n (p ∷ out) within =
+    append_all (λ (span : ℕ × ℕ). span.1 ≤ n) (map (λ (mark : Joined). (p.place, mark.place + 1)) p.joined) (joined_spans out) (spans_of_marks n p.place p.joined within.0.1) (spans_within n out within.1)
+
+length-merge_out : (start end : ℕ) (b : Buffer) → length (merge_out_clusters start end b).items ≡ length b.items
+length-merge_out start end b = at_level b.cluster_level
+  where
+    at_level : (level : BufferClusterLevel) → length (elim level as (λ v. Buffer) [ MonotoneGraphemes ↦ merge_at start end b | MonotoneCharacters ↦ merge_at start end b | Characters ↦ b ]).items ≡ length b.items
+    at_level MonotoneGraphemes = length-merge start end b.items
+    at_level MonotoneCharacters = length-merge start end b.items
+    at_level Characters = refl
+
+pub length-spans_merged_out : (spans : List (ℕ × ℕ)) (b : Buffer) → length (spans_merged_out spans b).items ≡ length b.items
+length-spans_merged_out [] b = refl
+length-spans_merged_out (span ∷ spans) b = length-spans_merged_out spans (merge_out_clusters span.0 span.1 b) ∙ length-merge_out span.0 span.1 b
+
+spans_merged_out_keep : (n : ℕ) (spans : List (ℕ × ℕ)) (b : Buffer) → length b.items ≡ n → AllByRecursion (λ (span : ℕ × ℕ). span.1 ≤ n) spans → KeepsClusters (clusters b.items) (clusters (spans_merged_out spans b).items)
+spans_merged_out_keep n [] b as_many within = KeepsClusters-same (clusters b.items)
+spans_merged_out_keep n (span ∷ spans) b as_many within =
+    let merged = merge_out_clusters span.0 span.1 b in
+    let first = merged_out_keeps span.0 span.1 b merged (omega (arith, within.0)) refl in
+    KeepsClusters-then _ _ _ first.0 (spans_merged_out_keep n spans merged (length-merge_out span.0 span.1 b ∙ as_many) within.1)
+
+-- ---- the clusters of the items that are put out
+
+abbrev cluster_at_place : List ℕ → Placed → ℕ
+cluster_at_place cs p = get_or cs p.place p.item.cluster
+
+cluster-get_or : (items : List Item) (k : ℕ) (d : Item) → (get_or items k d).cluster ≡ get_or (clusters items) k d.cluster
+cluster-get_or [] k d = refl
+cluster-get_or (item ∷ items) zero d = refl
+cluster-get_or (item ∷ items) (suc k) d = cluster-get_or items k d
+
+clusters-put_out : (items : List Item) (out : List Placed) → clusters (map (with_cluster_at items) out) ≡ map (cluster_at_place (clusters items)) out
+clusters-put_out items [] = refl
+clusters-put_out items (p ∷ out) = ap₂ ◌∷◌ (cluster-get_or items p.place p.item) (clusters-put_out items out)
+
+clusters-placed : (cs : List ℕ) (place : ℕ) (items : List Item) → length cs ≡ place + length items → map (cluster_at_place cs) (placed place items) ≡ drop place cs
+clusters-placed cs place [] as_many = sym (drop_all place cs (omega arith))
+clusters-placed cs place (item ∷ items) as_many =
+    ap (λ l. get_or cs place item.cluster ∷ l) (clusters-placed cs (suc place) items (omega arith)) ∙ sym (drop-cons cs place item.cluster (omega arith))
+
+module _ (rules : Rules) where
+  put_out_draws : (items merged : List Item) → length merged ≡ length items → DrawsInOrder (clusters merged) (clusters (map (with_cluster_at merged) (recomposed_items rules items)))
+  put_out_draws items merged as_many =
+      let cs = clusters merged in
+      let begins : map (cluster_at_place cs) (placed 0 items) ≡ cs = clusters-placed cs 0 items (omega (arith, length-map merged (λ (item : Item). item.cluster))) in
+      rw (clusters-put_out merged (recomposed_items rules items))
+      (subst (λ l. DrawsInOrder l (map (cluster_at_place cs) (recomposed_items rules items))) begins
+      (recomposed_draws class_of_placed (is_blocked_by_last class_of_placed) is_mark_placed (join_placed rules) (cluster_at_place cs)
+      (λ starter mark made is. ap (cluster_at_place cs) (join_placed-is rules starter mark made is).2) (placed 0 items)))
+
+  -- recomposing keeps the order of clusters, and brings no new one
+  pub round_three_keeps : (b : Buffer) → KeepsClusters (clusters b.items) (clusters (round_three rules b).items)
+  round_three_keeps b =
+      let out = recomposed_items rules b.items in
+      let merged = spans_merged_out (joined_spans out) b in
+      KeepsClusters-then _ _ _
+      (spans_merged_out_keep (length b.items) (joined_spans out) b refl (spans_within (length b.items) out (recomposed_within rules b.items)))
+      (KeepsClusters-from_draws _ _ (put_out_draws b.items merged.items (length-spans_merged_out (joined_spans out) b)))
+
+  -- and the list gets no longer
+  pub length-round_three : (b : Buffer) → length (round_three rules b).items ≤ length b.items
+  length-round_three b =
+      let out = recomposed_items rules b.items in
+      omega (arith, length-map out (with_cluster_at (spans_merged_out (joined_spans out) b).items), length-recomposed class_of_placed (is_blocked_by_last class_of_placed) is_mark_placed (join_placed rules) (placed 0 b.items), length-placed 0 b.items)
+    where
+      length-placed : (place : ℕ) (items : List Item) → length (placed place items) ≡ length items
+      length-placed place [] = refl
+      length-placed place (item ∷ items) = ap suc (length-placed (suc place) items)
