@@ -3,6 +3,7 @@ pub mod RulesLemmas
 pub mod ReorderLemmas
 pub mod PieceLemmas
 pub mod PartLemmas
+pub mod SequenceLemmas
 pub mod DrawnLemmas
 pub mod RoundOneLemmas
 pub mod SpanLemmas
