@@ -16,5 +16,6 @@ pub mod OrderedLemmas
 pub mod CanonicalFormLemmas
 pub mod RunClusterLemmas
 pub mod ClusterOrderLemmas
+pub mod RecomposedItemLemmas
 pub mod RecomposedClusterLemmas
 pub mod ItemGlyphLemmas

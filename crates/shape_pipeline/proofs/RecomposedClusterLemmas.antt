@@ -1,8 +1,9 @@
--- Recomposing keeps the order of clusters, and brings no new one; and it makes no list longer.
+-- Recomposing keeps the order of clusters, and brings no new one.
 use Rattle.std.proofs.Common.{◌≡◌, ℕ, zero, suc, ◌+◌, ◌<◌, ◌≤◌, Bool, true, false, if◌then◌else◌, ◌==◌, List, [], ◌∷◌, ◌++◌, map, length, drop, get_or, Option, Some, None, refl, sym, ap, ap₂, subst, ◌∙◌, arith, inl, inr, append_assoc, append-nil, length-append, drop-cons}
 use Rattle.std.specs.List.{AllByRecursion}
 use Rattle.std.specs.Option.{option_map, option_and_then}
-use Rattle.std.proofs.lemmas.Bool.{cases_Bool, cond-true, cond-false}
+use Rattle.std.proofs.Math.ListN.{get_or-map}
+use Rattle.std.proofs.lemmas.Bool.{cases_Bool}
 use Rattle.std.proofs.lemmas.List.{map-append, length-map, drop_all}
 use Rattle.shape_buffer.specs.Buffer.{Buffer}
 use Rattle.shape_buffer.specs.BufferClusters.{merge_at, merge_out_clusters}
@@ -21,6 +22,7 @@ use Rattle.shape_buffer.proofs.RecomposeLemmas.{composed-some, recomposed_from-s
 use Rattle.shape_pipeline.specs.Rules.{Rules, has_glyph}
 use Rattle.shape_pipeline.specs.RoundOne.{part_item}
 use Rattle.shape_pipeline.specs.RoundThree.{Joined, Placed, placed, class_of_placed, is_mark_placed, join_placed, recomposed_items, joined_spans, spans_merged_out, with_cluster_at, round_three}
+use Rattle.shape_pipeline.proofs.RecomposedItemLemmas.{join_placed-is, length-merge_out, length-spans_merged_out}
 use Rattle.shape_pipeline.proofs.DrawnLemmas.{DrawsBefore-same, draws_without, KeepsClusters-same, KeepsClusters-then}
 
 -- ---- recomposing, of anything
@@ -54,57 +56,6 @@ module _ {A : Type 0} (class : A → ℕ) (blocks : List A → A → Bool) (is_m
     recomposed_draws [] = DrawsInOrder-same []
     recomposed_draws (x ∷ xs) = recomposed_from_draws x [] xs
 
-  length-recomposed_from : (s : A) (ms rest : List A) → length (recomposed_from class blocks is_mark join s ms rest) ≤ suc (length ms + length rest)
-  length-recomposed_from s ms [] = omega arith
-  length-recomposed_from s ms (c ∷ rest) =
-      elim (cases_Option (composed class blocks is_mark join s ms c)) [
-        | inr (d, found) ↦
-            rw (recomposed_from-some class blocks is_mark join s ms c rest d found) (omega (arith, length-recomposed_from d ms rest))
-        | inl none ↦
-            elim (cases_Bool (class c == 0)) [
-              | inl start ↦
-                  rw (recomposed_from-starter class blocks is_mark join s ms c rest none start)
-                  (omega (arith, length-append ms (recomposed_from class blocks is_mark join c [] rest), length-recomposed_from c [] rest))
-              | inr mark ↦
-                  rw (recomposed_from-mark class blocks is_mark join s ms c rest none mark)
-                  (omega (arith, length-append ms (c ∷ []), length-recomposed_from s (ms ++ c ∷ []) rest))
-            ]
-      ]
-
-  -- no list gets longer
-  pub length-recomposed : (xs : List A) → length (recomposed class blocks is_mark join xs) ≤ length xs
-  length-recomposed [] = omega arith
-  length-recomposed (x ∷ xs) = omega (arith, length-recomposed_from x [] xs)
-
--- ---- the items that are put out
-
-glyph_of_joined : (has : ℕ → Bool) (o : Option ℕ) (c : ℕ) → option_and_then (λ c. if has c then Some c else None) o ≡ Some c → has c ≡ true
-glyph_of_joined has None c is = absurd (cc)
-glyph_of_joined has (Some d) c is =
-    elim (cases_Bool (has d)) [
-      | inl has_one ↦ let same : Some d ≡ Some c = sym (cond-true _ (Some d) None has_one) ∙ is in let d_is : d ≡ c = cc in rw (← d_is) has_one
-      | inr has_none ↦ let none : None ≡ Some c = sym (cond-false _ (Some d) None has_none) ∙ is in absurd (cc)
-    ]
-
-module _ (rules : Rules) where
-  -- the starter once it has made this character with a mark
-  abbrev pub starter_with : Placed → Placed → ℕ → Placed
-  starter_with starter mark c = record {
-    item = part_item rules.unicode rules.glyph starter.item c;
-    place = starter.place;
-    joined = starter.joined ++ record { place = mark.place; char = c } ∷ [];
-  }
-
-  starter_of : (starter mark made : Placed) (found : Option ℕ) → option_map (starter_with starter mark) found ≡ Some made → (c : ℕ) × (found ≡ Some c) × (made ≡ starter_with starter mark c)
-  starter_of starter mark made None is = absurd (cc)
-  starter_of starter mark made (Some c) is = (c, refl, cc)
-
-  -- what is joined is the starter with a character that has a glyph
-  pub join_placed-is : (starter mark made : Placed) → join_placed rules starter mark ≡ Some made → (c : ℕ) × (has_glyph rules.glyph c ≡ true) × (made ≡ starter_with starter mark c)
-  join_placed-is starter mark made is =
-      let at = starter_of starter mark made (join_with_glyph rules.join (has_glyph rules.glyph) starter.item.codepoint mark.item.codepoint) is in
-      (at.0, glyph_of_joined (has_glyph rules.glyph) (rules.join starter.item.codepoint mark.item.codepoint) at.0 at.1, at.2)
-
 -- ---- the spans of compositions
 
 abbrev PlacedWithin : ℕ → Placed → Type 0
@@ -135,18 +86,6 @@ spans_within n [] within = tt
 spans_within n (p ∷ out) within =
     append_all (λ (span : ℕ × ℕ). span.1 ≤ n) (map (λ (mark : Joined). (p.place, mark.place + 1)) p.joined) (joined_spans out) (spans_of_marks n p.place p.joined within.0.1) (spans_within n out within.1)
 
-length-merge_out : (start end : ℕ) (b : Buffer) → length (merge_out_clusters start end b).items ≡ length b.items
-length-merge_out start end b = at_level b.cluster_level
-  where
-    at_level : (level : BufferClusterLevel) → length (elim level as (λ v. Buffer) [ MonotoneGraphemes ↦ merge_at start end b | MonotoneCharacters ↦ merge_at start end b | Characters ↦ b ]).items ≡ length b.items
-    at_level MonotoneGraphemes = length-merge start end b.items
-    at_level MonotoneCharacters = length-merge start end b.items
-    at_level Characters = refl
-
-pub length-spans_merged_out : (spans : List (ℕ × ℕ)) (b : Buffer) → length (spans_merged_out spans b).items ≡ length b.items
-length-spans_merged_out [] b = refl
-length-spans_merged_out (span ∷ spans) b = length-spans_merged_out spans (merge_out_clusters span.0 span.1 b) ∙ length-merge_out span.0 span.1 b
-
 spans_merged_out_keep : (n : ℕ) (spans : List (ℕ × ℕ)) (b : Buffer) → length b.items ≡ n → AllByRecursion (λ (span : ℕ × ℕ). span.1 ≤ n) spans → KeepsClusters (clusters b.items) (clusters (spans_merged_out spans b).items)
 spans_merged_out_keep n [] b as_many within = KeepsClusters-same (clusters b.items)
 spans_merged_out_keep n (span ∷ spans) b as_many within =
@@ -159,14 +98,9 @@ spans_merged_out_keep n (span ∷ spans) b as_many within =
 abbrev cluster_at_place : List ℕ → Placed → ℕ
 cluster_at_place cs p = get_or cs p.place p.item.cluster
 
-cluster-get_or : (items : List Item) (k : ℕ) (d : Item) → (get_or items k d).cluster ≡ get_or (clusters items) k d.cluster
-cluster-get_or [] k d = refl
-cluster-get_or (item ∷ items) zero d = refl
-cluster-get_or (item ∷ items) (suc k) d = cluster-get_or items k d
-
 clusters-put_out : (items : List Item) (out : List Placed) → clusters (map (with_cluster_at items) out) ≡ map (cluster_at_place (clusters items)) out
 clusters-put_out items [] = refl
-clusters-put_out items (p ∷ out) = ap₂ ◌∷◌ (cluster-get_or items p.place p.item) (clusters-put_out items out)
+clusters-put_out items (p ∷ out) = ap₂ ◌∷◌ (sym (get_or-map (λ (item : Item). item.cluster) items p.place p.item)) (clusters-put_out items out)
 
 clusters-placed : (cs : List ℕ) (place : ℕ) (items : List Item) → length cs ≡ place + length items → map (cluster_at_place cs) (placed place items) ≡ drop place cs
 clusters-placed cs place [] as_many = sym (drop_all place cs (omega arith))
@@ -191,13 +125,3 @@ module _ (rules : Rules) where
       KeepsClusters-then _ _ _
       (spans_merged_out_keep (length b.items) (joined_spans out) b refl (spans_within (length b.items) out (recomposed_within rules b.items)))
       (KeepsClusters-from_draws _ _ (put_out_draws b.items merged.items (length-spans_merged_out (joined_spans out) b)))
-
-  -- and the list gets no longer
-  pub length-round_three : (b : Buffer) → length (round_three rules b).items ≤ length b.items
-  length-round_three b =
-      let out = recomposed_items rules b.items in
-      omega (arith, length-map out (with_cluster_at (spans_merged_out (joined_spans out) b).items), length-recomposed class_of_placed (is_blocked_by_last class_of_placed) is_mark_placed (join_placed rules) (placed 0 b.items), length-placed 0 b.items)
-    where
-      length-placed : (place : ℕ) (items : List Item) → length (placed place items) ≡ length items
-      length-placed place [] = refl
-      length-placed place (item ∷ items) = ap suc (length-placed (suc place) items)
