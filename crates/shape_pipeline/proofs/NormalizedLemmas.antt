@@ -36,19 +36,19 @@ module _ (rules : Rules) where
   recomposed_where test b = if test then round_three rules b else b
 
   -- what holds after round one, and what ordering, showing joiners and recomposing keep, holds of the normalised list
-  pub kept_by_rounds : (P : Buffer → Type 0) → ((b : Buffer) → P b → P (marks_ordered rules.reorder b)) → ((b : Buffer) → P b → P (joiners_settled b)) → ((b : Buffer) → P b → P (round_three rules b))
-      → (b : Buffer) → P (round_one rules b) → P (normalized rules b)
-  kept_by_rounds P orders shows recomposes b of_one =
+  pub kept_by_rounds : (P : Buffer → Type 0) (b : Buffer) → (P (round_one rules b) → P (marks_ordered rules.reorder (round_one rules b))) → ((c : Buffer) → P c → P (joiners_settled c)) → ((c : Buffer) → P c → P (round_three rules c))
+      → P (round_one rules b) → P (normalized rules b)
+  kept_by_rounds P b orders shows recomposes of_one =
       let test = has_mark_past_first b.items in
-      recomposed_cases (test && rules.recomposes) (ordered rules b) (shows (ordered_where test (round_one rules b)) (ordered_cases test (round_one rules b) of_one))
+      recomposed_cases (test && rules.recomposes) (ordered rules b) (shows (ordered_where test (round_one rules b)) (ordered_cases test))
     where
-      ordered_cases : (test : Bool) (b : Buffer) → P b → P (ordered_where test b)
-      ordered_cases true b h = orders b h
-      ordered_cases false b h = h
+      ordered_cases : (test : Bool) → P (ordered_where test (round_one rules b))
+      ordered_cases true = orders of_one
+      ordered_cases false = of_one
 
-      recomposed_cases : (test : Bool) (b : Buffer) → P b → P (recomposed_where test b)
-      recomposed_cases true b h = recomposes b h
-      recomposed_cases false b h = h
+      recomposed_cases : (test : Bool) (c : Buffer) → P c → P (recomposed_where test c)
+      recomposed_cases true c h = recomposes c h
+      recomposed_cases false c h = h
 
 -- ---- the number of items
 
@@ -60,8 +60,8 @@ module _ (rules : Rules) (lawful : LawfulReorder rules.reorder) where
   -- the later rounds bring in no item
   pub length-normalized : (b : Buffer) → length (normalized rules b).items ≤ length (round_one rules b).items
   length-normalized b =
-      kept_by_rounds rules (λ c. length c.items ≤ length (round_one rules b).items)
-      (λ c below. omega (arith, length-marks_ordered rules.reorder lawful c)) (λ c below. omega (arith, length-joiners_settled c)) (λ c below. omega (arith, length-round_three rules c)) b (omega arith)
+      kept_by_rounds rules (λ c. length c.items ≤ length (round_one rules b).items) b
+      (λ below. omega (arith, length-marks_ordered rules.reorder lawful (round_one rules b))) (λ c below. omega (arith, length-joiners_settled c)) (λ c below. omega (arith, length-round_three rules c)) (omega arith)
 
   -- so the list is within a limit that the expanded one is within
   pub within_normalized : {E : Type 0} (b new : Buffer) (result : Result (Unit {0}) E) (limit : ℕ) → OnOk result (new ≡ normalized rules b) → OnOk result (length (round_one rules b).items ≤ limit) → OnOk result (length new.items ≤ limit)
@@ -81,12 +81,12 @@ module _ (rules : Rules) (lawful : LawfulReorder rules.reorder) (P : Item → Ty
   -- what goes by neither cluster, mask nor hidden bit, and holds of each composed item, holds of each item of the normalised list where it does of the expanded one
   pub normalized_all : (b : Buffer) → AllByRecursion (λ item. P (content item)) (round_one rules b).items → AllByRecursion (λ item. P (content item)) (normalized rules b).items
   normalized_all b each =
-      let Each : Buffer → Type 0 = λ c. AllByRecursion (λ item. P (content item)) c.items in
-      kept_by_rounds rules Each
-      (λ c of. each_of_values content P (marks_ordered rules.reorder c).items (keys-marks_ordered rules.reorder lawful content IsKey-content P c (each_value content P c.items of)))
+      let one : Buffer = round_one rules b in
+      kept_by_rounds rules (λ c. AllByRecursion (λ item. P (content item)) c.items) b
+      (λ of. each_of_values content P (marks_ordered rules.reorder one).items (keys-marks_ordered rules.reorder lawful content IsKey-content P one (each_value content P one.items of)))
       (λ c of. each_of_values content P (joiners_settled c).items (subst (AllByRecursion P) (sym (keys-joiners_settled content (λ item. refl) c)) (each_value content P c.items of)))
       (λ c of. round_three_all rules (λ item. P (content item)) (λ item cluster mask h. h) (λ item c has h. composes item c has) c of)
-      b each
+      each
 
 -- every character that is brought in has a glyph
 pub normalized_brings_in : (rules : Rules) → LawfulReorder rules.reorder → (b new : Buffer) → new ≡ normalized rules b → BroughtInHaveGlyphs rules.glyph (map char_of b.items) (map char_of new.items)
