@@ -7,17 +7,28 @@ use Rattle.std.specs.Option.{option_map_or}
 use Rattle.shape_buffer.specs.Buffer.{Buffer}
 use Rattle.shape_buffer.specs.BufferClusters.{merge_clusters}
 use Rattle.shape_buffer.specs.Clusters.{clusters}
-use Rattle.shape_buffer.specs.ClusterOrder.{DrawsInOrder, KeepsClusters}
+use Rattle.shape_buffer.specs.ClusterOrder.{DrawsInOrder, KeepsClusters, IsMonotoneLevel}
 use Rattle.shape_buffer.specs.Items.{Item, is_mark_item}
+use Rattle.shape_buffer.specs.Unicode.{UnicodeMeaning}
+use Rattle.shape_buffer.specs.UnicodeProps.{with_unicode_props}
 use Rattle.shape_buffer.specs.declared.buffer.settings.GlyphId.{GlyphId}
 use Rattle.shape_buffer.proofs.DeleteKeeps.{merged_keeps}
 use Rattle.shape_buffer.proofs.DrawsInOrder.{DrawsInOrder-behind, DrawsInOrder-again, KeepsClusters-from_draws}
 use Rattle.shape_buffer.proofs.EveryLemmas.{append_all}
+use Rattle.shape_buffer.proofs.KeyLemmas.{cleared-merge_clusters}
 use Rattle.shape_pipeline.specs.Rules.{Rules}
 use Rattle.shape_pipeline.specs.RoundOne.{part_item, whole_item, remembers_space, item_glyph, expansion_of, expanded_item, passed_item, marked_selector, variant_items, variants, is_selector_item, has_selector, is_with_marks, pair_places, pairs_from, pairs_merged, sequences, sequence_items, expanded, round_one}
+use Rattle.shape_pipeline.specs.RoundTwo.{joiners_settled}
+use Rattle.shape_pipeline.specs.Normalized.{normalized, HookKeepsClusters}
+use Rattle.shape_pipeline.specs.Steps.{with_mapped_glyph, glyphs_mapped}
+use Rattle.shape_pipeline.specs.Shaped.{prepared}
 use Rattle.shape_pipeline.proofs.DrawnLemmas.{DrawsBefore, DrawsBefore-same, draws_whole, draws_pieces, KeepsClusters-same, KeepsClusters-then}
 use Rattle.shape_pipeline.proofs.PartLemmas.{whole, whole-divided, values-divided}
-use Rattle.shape_pipeline.proofs.ReorderLemmas.{length-merge_clusters}
+use Rattle.shape_pipeline.proofs.JoinerLemmas.{keys-joiners_settled}
+use Rattle.shape_pipeline.proofs.NormalizedLemmas.{kept_by_rounds}
+use Rattle.shape_pipeline.proofs.OrderedClusterLemmas.{marks_ordered_keeps}
+use Rattle.shape_pipeline.proofs.RecomposedClusterLemmas.{round_three_keeps}
+use Rattle.shape_pipeline.proofs.ReorderLemmas.{LawfulReorder, length-merge_clusters}
 use Rattle.shape_pipeline.proofs.RoundOneLemmas.{whole_item_is}
 
 -- ---- round one: what the items become
@@ -112,3 +123,44 @@ module _ (rules : Rules) where
   pub round_one_keeps : (b : Buffer) → KeepsClusters (clusters b.items) (clusters (round_one rules b).items)
   round_one_keeps b =
       KeepsClusters-then _ _ _ (pairs_merged_keeps b) (KeepsClusters-from_draws _ _ (expanded_draws rules b.invisible_glyph b.not_found_variation_selector_glyph (pairs_merged rules b).items))
+
+  level-merges : (places : List ℕ) (b : Buffer) → (fold (λ b place. merge_clusters place (place + 2) b) b places).cluster_level ≡ b.cluster_level
+  level-merges [] b = refl
+  level-merges (place ∷ places) b = level-merges places (merge_clusters place (place + 2) b) ∙ ap (λ (c : Buffer). c.cluster_level) (cleared-merge_clusters place (place + 2) b)
+
+  -- round one keeps the level
+  pub level-round_one : (b : Buffer) → (round_one rules b).cluster_level ≡ b.cluster_level
+  level-round_one b = level-merges (pairs_from rules 0 (sequences b.items)) b
+
+-- ---- the rounds together
+
+-- showing joiners changes no cluster
+pub joiners_settled_clusters : (b : Buffer) → clusters (joiners_settled b).items ≡ clusters b.items
+joiners_settled_clusters b = keys-joiners_settled (λ item. item.cluster) (λ item. refl) b
+
+module _ (rules : Rules) (lawful : LawfulReorder rules.reorder) where
+  -- normalising keeps the order of clusters at the monotone levels, and brings no new one, where the reorder hook does
+  pub normalized_keeps : (b new : Buffer) → new ≡ normalized rules b → IsMonotoneLevel b.cluster_level → HookKeepsClusters rules → KeepsClusters (clusters b.items) (clusters new.items)
+  normalized_keeps b new is monotone hook =
+      let one : Buffer = round_one rules b in
+      rw is (kept_by_rounds rules (λ c. KeepsClusters (clusters b.items) (clusters c.items)) b
+      (λ so_far. KeepsClusters-then _ _ _ so_far (marks_ordered_keeps rules.reorder lawful hook one (subst IsMonotoneLevel (sym (level-round_one rules b)) monotone)))
+      (λ c so_far. rw (joiners_settled_clusters c) so_far)
+      (λ c so_far. KeepsClusters-then _ _ _ so_far (round_three_keeps rules c))
+      (round_one_keeps rules b))
+
+  -- and so does a run
+  pub run_keeps : (old new : Buffer) → new ≡ glyphs_mapped (normalized rules (prepared rules.unicode old)) → IsMonotoneLevel old.cluster_level → HookKeepsClusters rules → KeepsClusters (clusters old.items) (clusters new.items)
+  run_keeps old new is monotone hook =
+      let text = prepared rules.unicode old in
+      let before : clusters text.items ≡ clusters old.items = clusters-with_props rules.unicode old.items in
+      let after : clusters new.items ≡ clusters (normalized rules text).items = ap (λ (b : Buffer). clusters b.items) is ∙ clusters-mapped (normalized rules text).items in
+      rw (after, ← before) (normalized_keeps text (normalized rules text) refl monotone hook)
+    where
+      clusters-mapped : (items : List Item) → clusters (map with_mapped_glyph items) ≡ clusters items
+      clusters-mapped [] = refl
+      clusters-mapped (item ∷ items) = ap (λ l. item.cluster ∷ l) (clusters-mapped items)
+
+      clusters-with_props : (unicode : UnicodeMeaning) (items : List Item) → clusters (map (with_unicode_props unicode) items) ≡ clusters items
+      clusters-with_props unicode [] = refl
+      clusters-with_props unicode (item ∷ items) = ap (λ l. item.cluster ∷ l) (clusters-with_props unicode items)

@@ -15,6 +15,7 @@ pub mod NormalFormLemmas
 pub mod OrderedLemmas
 pub mod CanonicalFormLemmas
 pub mod RunClusterLemmas
+pub mod OrderedClusterLemmas
 pub mod ClusterOrderLemmas
 pub mod RecomposedItemLemmas
 pub mod RecomposedClusterLemmas
