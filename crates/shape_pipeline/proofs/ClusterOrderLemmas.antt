@@ -17,7 +17,7 @@ use Rattle.shape_buffer.proofs.DrawsInOrder.{DrawsInOrder-behind, DrawsInOrder-a
 use Rattle.shape_buffer.proofs.EveryLemmas.{append_all}
 use Rattle.shape_buffer.proofs.KeyLemmas.{cleared-merge_clusters}
 use Rattle.shape_pipeline.specs.Rules.{Rules}
-use Rattle.shape_pipeline.specs.RoundOne.{part_item, whole_item, remembers_space, item_glyph, expansion_of, expanded_item, passed_item, marked_selector, variant_items, variants, is_selector_item, has_selector, is_with_marks, pair_places, pairs_from, pairs_merged, sequences, sequence_items, expanded, round_one}
+use Rattle.shape_pipeline.specs.RoundOne.{part_item, whole_item, expansion_of, expanded_item, passed_item, marked_selector, variant_items, variants, is_selector_item, has_selector, is_with_marks, pair_places, pairs_from, pairs_merged, sequences, sequence_items, expanded, round_one}
 use Rattle.shape_pipeline.specs.RoundTwo.{joiners_settled}
 use Rattle.shape_pipeline.specs.Normalized.{normalized, HookKeepsClusters}
 use Rattle.shape_pipeline.specs.Steps.{with_mapped_glyph, glyphs_mapped}

@@ -1,5 +1,5 @@
 -- Each item of a normalised list has the glyph of its character, or what stands in for it, where no variation selector stands in its sequence.
-use Rattle.std.proofs.Common.{◌≡◌, ℕ, ◌<◌, ◌⊎◌, if◌then◌else◌, ◌||◌, Bool, true, false, List, [], ◌∷◌, ◌++◌, length, get_or, map, Option, None, Some, is_some, unwrap_or, refl, sym, ap, ap₂, subst, ◌∙◌, arith, inl, inr}
+use Rattle.std.proofs.Common.{◌≡◌, ℕ, ◌<◌, ◌⊎◌, ◌||◌, Bool, true, List, [], ◌∷◌, length, get_or, map, Option, None, Some, is_some, unwrap_or, refl, sym, ap, subst, ◌∙◌, arith, inl, inr}
 use Rattle.std.specs.List.{All, AllByRecursion, Contains, flat_map, list_any}
 use Rattle.std.specs.Option.{option_map, option_map_or}
 use Rattle.std.proofs.Math.ListN.{get_or-map}
@@ -11,10 +11,9 @@ use Rattle.shape_buffer.specs.Items.{Item, char_of, is_mark_item}
 use Rattle.shape_buffer.specs.Buffer.{Buffer}
 use Rattle.shape_buffer.specs.declared.buffer.settings.GlyphId.{GlyphId}
 use Rattle.shape_buffer.proofs.ChoiceLemmas.{chosen_glyphs}
-use Rattle.shape_buffer.proofs.EveryLemmas.{append_all}
 use Rattle.shape_buffer.proofs.KeyLemmas.{unflagged, IsKey-unflagged}
 use Rattle.shape_pipeline.specs.Rules.{Rules, has_glyph}
-use Rattle.shape_pipeline.specs.RoundOne.{glyph_index, item_glyph, remembers_space, part_item, whole_item, expanded_item, expansion_of, is_selector_item, passed_item, marked_selector, variant_items, variants, sequences, has_selector, is_with_marks, pairs_merged, sequence_items, expanded, round_one}
+use Rattle.shape_pipeline.specs.RoundOne.{item_glyph, remembers_space, part_item, whole_item, expanded_item, expansion_of, is_selector_item, passed_item, marked_selector, variant_items, variants, sequences, has_selector, is_with_marks, pairs_merged, sequence_items, expanded, round_one}
 use Rattle.shape_pipeline.specs.Normalized.{normalized, HasItemGlyph, SomeHoldsSelectorAnd}
 use Rattle.shape_pipeline.specs.Steps.{with_mapped_glyph, glyphs_mapped}
 use Rattle.shape_pipeline.specs.Shaped.{prepared, IsHandedOut}

@@ -1,6 +1,6 @@
 -- What a normalised list has of the list that it was made of.
 use Rattle.std.proofs.Common.{◌≡◌, ℕ, ◌<◌, ◌≤◌, ◌⊎◌, ◌==◌, ◌&&◌, Result, Ok, Err, OnOk, Bool, true, false, if◌then◌else◌, List, [], ◌∷◌, length, map, bit_and, Option, None, refl, sym, subst, ◌∙◌, ap, arith, inl, inr}
-use Rattle.std.specs.List.{All, AllByRecursion, Contains}
+use Rattle.std.specs.List.{AllByRecursion, Contains}
 use Rattle.std.proofs.lemmas.Bool.{cases_Bool, cond-true}
 use Rattle.std.proofs.lemmas.List.{length-map}
 use Rattle.std.proofs.lemmas.List.Elements.{All-from_recursion, recursion_from_All}
@@ -9,7 +9,7 @@ use Rattle.shape_buffer.specs.Buffer.{Buffer}
 use Rattle.shape_buffer.specs.declared.buffer.positions.GlyphPosition.{GlyphPosition}
 use Rattle.shape_buffer.specs.Unicode.{UnicodeMeaning}
 use Rattle.shape_buffer.specs.UnicodeProps.{with_unicode_props}
-use Rattle.shape_buffer.proofs.KeyLemmas.{IsKey, unflagged, IsKey-unflagged}
+use Rattle.shape_buffer.proofs.KeyLemmas.{IsKey, IsKey-unflagged}
 use Rattle.shape_pipeline.specs.Rules.{Rules, has_glyph}
 use Rattle.shape_pipeline.specs.RoundOne.{round_one, part_item}
 use Rattle.shape_pipeline.specs.RoundTwo.{has_mark_past_first, marks_ordered, joiners_settled, unplaced, OrdersMarks}

@@ -1,26 +1,21 @@
 -- Recomposing keeps the order of clusters, and brings no new one.
-use Rattle.std.proofs.Common.{◌≡◌, ℕ, zero, suc, ◌+◌, ◌<◌, ◌≤◌, Bool, true, false, if◌then◌else◌, ◌==◌, List, [], ◌∷◌, ◌++◌, map, length, drop, get_or, Option, Some, None, refl, sym, ap, ap₂, subst, ◌∙◌, arith, inl, inr, append_assoc, append-nil, length-append, drop-cons}
+use Rattle.std.proofs.Common.{◌≡◌, ℕ, suc, ◌+◌, ◌<◌, ◌≤◌, Bool, ◌==◌, List, [], ◌∷◌, ◌++◌, map, length, drop, get_or, Option, Some, refl, sym, ap, ap₂, subst, ◌∙◌, arith, inl, inr, append_assoc, append-nil, drop-cons}
 use Rattle.std.specs.List.{AllByRecursion}
-use Rattle.std.specs.Option.{option_map, option_and_then}
 use Rattle.std.proofs.Math.ListN.{get_or-map}
 use Rattle.std.proofs.lemmas.Bool.{cases_Bool}
 use Rattle.std.proofs.lemmas.List.{map-append, length-map, drop_all}
 use Rattle.shape_buffer.specs.Buffer.{Buffer}
-use Rattle.shape_buffer.specs.BufferClusters.{merge_at, merge_out_clusters}
+use Rattle.shape_buffer.specs.BufferClusters.{merge_out_clusters}
 use Rattle.shape_buffer.specs.Clusters.{clusters}
 use Rattle.shape_buffer.specs.ClusterOrder.{DrawsInOrder, KeepsClusters}
 use Rattle.shape_buffer.specs.Items.{Item}
-use Rattle.shape_buffer.specs.Recompose.{composed, recomposed_from, recomposed, is_blocked_by_last, join_with_glyph}
-use Rattle.shape_buffer.specs.declared.buffer.settings.BufferClusterLevel.{BufferClusterLevel}
-use Rattle.shape_buffer.specs.declared.buffer.settings.BufferClusterLevel.TheVariants.{MonotoneGraphemes, MonotoneCharacters, Characters}
+use Rattle.shape_buffer.specs.Recompose.{composed, recomposed_from, recomposed, is_blocked_by_last}
 use Rattle.shape_buffer.proofs.DeleteKeeps.{merged_out_keeps}
 use Rattle.shape_buffer.proofs.DrawsInOrder.{DrawsInOrder-same, DrawsInOrder-then, KeepsClusters-from_draws}
 use Rattle.shape_buffer.proofs.EveryLemmas.{append_all, push_all}
-use Rattle.shape_buffer.proofs.JoinLemmas.{length-merge}
 use Rattle.shape_buffer.proofs.OptionLemmas.{cases_Option}
 use Rattle.shape_buffer.proofs.RecomposeLemmas.{composed-some, recomposed_from-some, recomposed_from-starter, recomposed_from-mark, recomposed-all}
-use Rattle.shape_pipeline.specs.Rules.{Rules, has_glyph}
-use Rattle.shape_pipeline.specs.RoundOne.{part_item}
+use Rattle.shape_pipeline.specs.Rules.{Rules}
 use Rattle.shape_pipeline.specs.RoundThree.{Joined, Placed, placed, class_of_placed, is_mark_placed, join_placed, recomposed_items, joined_spans, spans_merged_out, with_cluster_at, round_three}
 use Rattle.shape_pipeline.proofs.RecomposedItemLemmas.{join_placed-is, length-merge_out, length-spans_merged_out}
 use Rattle.shape_pipeline.proofs.DrawnLemmas.{DrawsBefore-same, draws_without, KeepsClusters-same, KeepsClusters-then}
