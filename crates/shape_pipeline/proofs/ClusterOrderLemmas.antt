@@ -15,7 +15,6 @@ use Rattle.shape_buffer.specs.declared.buffer.settings.GlyphId.{GlyphId}
 use Rattle.shape_buffer.proofs.DeleteKeeps.{merged_keeps}
 use Rattle.shape_buffer.proofs.DrawsInOrder.{DrawsInOrder-behind, DrawsInOrder-again, KeepsClusters-from_draws}
 use Rattle.shape_buffer.proofs.EveryLemmas.{append_all}
-use Rattle.shape_buffer.proofs.KeyLemmas.{cleared-merge_clusters}
 use Rattle.shape_pipeline.specs.Rules.{Rules}
 use Rattle.shape_pipeline.specs.RoundOne.{part_item, whole_item, expansion_of, expanded_item, passed_item, marked_selector, variant_items, variants, is_selector_item, has_selector, is_with_marks, pair_places, pairs_from, pairs_merged, sequences, sequence_items, expanded, round_one}
 use Rattle.shape_pipeline.specs.RoundTwo.{joiners_settled}
@@ -30,6 +29,7 @@ use Rattle.shape_pipeline.proofs.OrderedClusterLemmas.{marks_ordered_keeps}
 use Rattle.shape_pipeline.proofs.RecomposedClusterLemmas.{round_three_keeps}
 use Rattle.shape_pipeline.proofs.ReorderLemmas.{LawfulReorder, length-merge_clusters}
 use Rattle.shape_pipeline.proofs.RoundOneLemmas.{whole_item_is}
+use Rattle.shape_pipeline.proofs.SettingLemmas.{level-round_one}
 
 -- ---- round one: what the items become
 
@@ -123,14 +123,6 @@ module _ (rules : Rules) where
   pub round_one_keeps : (b : Buffer) → KeepsClusters (clusters b.items) (clusters (round_one rules b).items)
   round_one_keeps b =
       KeepsClusters-then _ _ _ (pairs_merged_keeps b) (KeepsClusters-from_draws _ _ (expanded_draws rules b.invisible_glyph b.not_found_variation_selector_glyph (pairs_merged rules b).items))
-
-  level-merges : (places : List ℕ) (b : Buffer) → (fold (λ b place. merge_clusters place (place + 2) b) b places).cluster_level ≡ b.cluster_level
-  level-merges [] b = refl
-  level-merges (place ∷ places) b = level-merges places (merge_clusters place (place + 2) b) ∙ ap (λ (c : Buffer). c.cluster_level) (cleared-merge_clusters place (place + 2) b)
-
-  -- round one keeps the level
-  pub level-round_one : (b : Buffer) → (round_one rules b).cluster_level ≡ b.cluster_level
-  level-round_one b = level-merges (pairs_from rules 0 (sequences b.items)) b
 
 -- ---- the rounds together
 

@@ -10,6 +10,7 @@ pub mod SpanLemmas
 pub mod SettleLemmas
 pub mod JoinerLemmas
 pub mod NormalizedLemmas
+pub mod SettingLemmas
 pub mod PreparedLemmas
 pub mod NormalFormLemmas
 pub mod OrderedLemmas

@@ -57,6 +57,14 @@ length-joiners_settled b =
     sym (length-map (joiners_settled b).items char_of) ∙ ap length (chars-joiners_settled b) ∙ length-map b.items char_of
 
 module _ (rules : Rules) (lawful : LawfulReorder rules.reorder) where
+  -- ordering keeps the number of items
+  pub length-ordered : (b : Buffer) → length (ordered rules b).items ≡ length (round_one rules b).items
+  length-ordered b = length-joiners_settled (ordered_where rules (has_mark_past_first b.items) (round_one rules b)) ∙ by_test (has_mark_past_first b.items)
+    where
+      by_test : (test : Bool) → length (ordered_where rules test (round_one rules b)).items ≡ length (round_one rules b).items
+      by_test true = length-marks_ordered rules.reorder lawful (round_one rules b)
+      by_test false = refl
+
   -- the later rounds bring in no item
   pub length-normalized : (b : Buffer) → length (normalized rules b).items ≤ length (round_one rules b).items
   length-normalized b =
