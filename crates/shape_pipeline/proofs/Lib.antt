@@ -18,6 +18,7 @@ pub mod CanonicalFormLemmas
 pub mod RunClusterLemmas
 pub mod OrderedClusterLemmas
 pub mod ClusterOrderLemmas
+pub mod RoundThreeLemmas
 pub mod RecomposedItemLemmas
 pub mod RecomposedClusterLemmas
 pub mod ItemGlyphLemmas

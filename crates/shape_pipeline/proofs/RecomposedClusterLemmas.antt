@@ -1,9 +1,10 @@
 -- Recomposing keeps the order of clusters, and brings no new one.
-use Rattle.std.proofs.Common.{◌≡◌, ℕ, suc, ◌+◌, ◌<◌, ◌≤◌, Bool, ◌==◌, List, [], ◌∷◌, ◌++◌, map, length, drop, get_or, Option, Some, refl, sym, ap, ap₂, subst, ◌∙◌, arith, inl, inr, append_assoc, append-nil, drop-cons}
+use Rattle.std.proofs.Common.{◌≡◌, ℕ, suc, ◌+◌, Bool, ◌==◌, List, [], ◌∷◌, ◌++◌, map, length, drop, get_or, Option, Some, refl, sym, ap, ap₂, subst, ◌∙◌, arith, inl, inr, append_assoc, append-nil, drop-cons}
 use Rattle.std.specs.List.{AllByRecursion}
 use Rattle.std.proofs.Math.ListN.{get_or-map}
 use Rattle.std.proofs.lemmas.Bool.{cases_Bool}
 use Rattle.std.proofs.lemmas.List.{map-append, length-map, drop_all}
+use Rattle.std.proofs.lemmas.List.Elements.{recursion_from_All}
 use Rattle.shape_buffer.specs.Buffer.{Buffer}
 use Rattle.shape_buffer.specs.BufferClusters.{merge_out_clusters}
 use Rattle.shape_buffer.specs.Clusters.{clusters}
@@ -12,12 +13,11 @@ use Rattle.shape_buffer.specs.Items.{Item}
 use Rattle.shape_buffer.specs.Recompose.{composed, recomposed_from, recomposed, is_blocked_by_last}
 use Rattle.shape_buffer.proofs.DeleteKeeps.{merged_out_keeps}
 use Rattle.shape_buffer.proofs.DrawsInOrder.{DrawsInOrder-same, DrawsInOrder-then, KeepsClusters-from_draws}
-use Rattle.shape_buffer.proofs.EveryLemmas.{append_all, push_all}
 use Rattle.shape_buffer.proofs.OptionLemmas.{cases_Option}
-use Rattle.shape_buffer.proofs.RecomposeLemmas.{composed-some, recomposed_from-some, recomposed_from-starter, recomposed_from-mark, recomposed-all}
+use Rattle.shape_buffer.proofs.RecomposeLemmas.{composed-some, recomposed_from-some, recomposed_from-starter, recomposed_from-mark}
 use Rattle.shape_pipeline.specs.Rules.{Rules}
-use Rattle.shape_pipeline.specs.RoundThree.{Joined, Placed, placed, class_of_placed, is_mark_placed, join_placed, recomposed_items, joined_spans, spans_merged_out, with_cluster_at, round_three}
-use Rattle.shape_pipeline.proofs.RecomposedItemLemmas.{join_placed-is, length-merge_out, length-spans_merged_out}
+use Rattle.shape_pipeline.specs.RoundThree.{Placed, placed, class_of_placed, is_mark_placed, join_placed, recomposed_items, joined_spans, spans_merged_out, with_cluster_at, round_three}
+use Rattle.shape_pipeline.proofs.RoundThreeLemmas.{joined_is, IsSpan, recomposed_spans_within, length-merge_out, length-spans_merged_out}
 use Rattle.shape_pipeline.proofs.DrawnLemmas.{DrawsBefore-same, draws_without, KeepsClusters-same, KeepsClusters-then}
 
 -- ---- recomposing, of anything
@@ -53,35 +53,7 @@ module _ {A : Type 0} (class : A → ℕ) (blocks : List A → A → Bool) (is_m
 
 -- ---- the spans of compositions
 
-abbrev PlacedWithin : ℕ → Placed → Type 0
-PlacedWithin n p = (p.place < n) × AllByRecursion (λ (mark : Joined). mark.place < n) p.joined
-
-module _ (rules : Rules) where
-  placed_within : (n place : ℕ) (items : List Item) → place + length items ≤ n → AllByRecursion (PlacedWithin n) (placed place items)
-  placed_within n place [] le = tt
-  placed_within n place (item ∷ items) le = ((omega arith, tt), placed_within n (suc place) items (omega arith))
-
-  joined_within : (n : ℕ) (starter mark made : Placed) → PlacedWithin n starter → PlacedWithin n mark → join_placed rules starter mark ≡ Some made → PlacedWithin n made
-  joined_within n starter mark made of_starter of_mark is =
-      let at = join_placed-is rules starter mark made is in
-      subst (PlacedWithin n) (sym at.2)
-      (of_starter.0, push_all (λ (m : Joined). m.place < n) starter.joined (record { place = mark.place; char = at.0 }) of_starter.1 of_mark.0)
-
-  recomposed_within : (items : List Item) → AllByRecursion (PlacedWithin (length items)) (recomposed_items rules items)
-  recomposed_within items =
-      recomposed-all class_of_placed (is_blocked_by_last class_of_placed) is_mark_placed (join_placed rules) (PlacedWithin (length items)) (joined_within (length items)) (placed 0 items)
-      (placed_within (length items) 0 items (omega arith))
-
-spans_of_marks : (n place : ℕ) (marks : List Joined) → AllByRecursion (λ (mark : Joined). mark.place < n) marks → AllByRecursion (λ (span : ℕ × ℕ). span.1 ≤ n) (map (λ (mark : Joined). (place, mark.place + 1)) marks)
-spans_of_marks n place [] within = tt
-spans_of_marks n place (mark ∷ marks) within = (omega (arith, within.0), spans_of_marks n place marks within.1)
-
-spans_within : (n : ℕ) (out : List Placed) → AllByRecursion (PlacedWithin n) out → AllByRecursion (λ (span : ℕ × ℕ). span.1 ≤ n) (joined_spans out)
-spans_within n [] within = tt
-spans_within n (p ∷ out) within =
-    append_all (λ (span : ℕ × ℕ). span.1 ≤ n) (map (λ (mark : Joined). (p.place, mark.place + 1)) p.joined) (joined_spans out) (spans_of_marks n p.place p.joined within.0.1) (spans_within n out within.1)
-
-spans_merged_out_keep : (n : ℕ) (spans : List (ℕ × ℕ)) (b : Buffer) → length b.items ≡ n → AllByRecursion (λ (span : ℕ × ℕ). span.1 ≤ n) spans → KeepsClusters (clusters b.items) (clusters (spans_merged_out spans b).items)
+spans_merged_out_keep : (n : ℕ) (spans : List (ℕ × ℕ)) (b : Buffer) → length b.items ≡ n → AllByRecursion (IsSpan n) spans → KeepsClusters (clusters b.items) (clusters (spans_merged_out spans b).items)
 spans_merged_out_keep n [] b as_many within = KeepsClusters-same (clusters b.items)
 spans_merged_out_keep n (span ∷ spans) b as_many within =
     let merged = merge_out_clusters span.0 span.1 b in
@@ -110,7 +82,7 @@ module _ (rules : Rules) where
       rw (clusters-put_out merged (recomposed_items rules items))
       (subst (λ l. DrawsInOrder l (map (cluster_at_place cs) (recomposed_items rules items))) begins
       (recomposed_draws class_of_placed (is_blocked_by_last class_of_placed) is_mark_placed (join_placed rules) (cluster_at_place cs)
-      (λ starter mark made is. ap (cluster_at_place cs) (join_placed-is rules starter mark made is).2) (placed 0 items)))
+      (λ starter mark made is. ap (cluster_at_place cs) (joined_is rules starter mark made is).2) (placed 0 items)))
 
   -- recomposing keeps the order of clusters, and brings no new one
   pub round_three_keeps : (b : Buffer) → KeepsClusters (clusters b.items) (clusters (round_three rules b).items)
@@ -118,5 +90,5 @@ module _ (rules : Rules) where
       let out = recomposed_items rules b.items in
       let merged = spans_merged_out (joined_spans out) b in
       KeepsClusters-then _ _ _
-      (spans_merged_out_keep (length b.items) (joined_spans out) b refl (spans_within (length b.items) out (recomposed_within rules b.items)))
+      (spans_merged_out_keep (length b.items) (joined_spans out) b refl (recursion_from_All (IsSpan (length b.items)) (joined_spans out) (recomposed_spans_within rules b.items)))
       (KeepsClusters-from_draws _ _ (put_out_draws b.items merged.items (length-spans_merged_out (joined_spans out) b)))

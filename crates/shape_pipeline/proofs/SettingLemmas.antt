@@ -1,5 +1,5 @@
 -- Normalising keeps the settings that clearing keeps, and the limit.
-use Rattle.std.proofs.Common.{◌≡◌, ℕ, ◌+◌, ◌≤◌, ◌==◌, nat_lt, Bool, true, false, if◌then◌else◌, List, [], ◌∷◌, map, length, bit_and, Option, refl, sym, ap, ◌∙◌, arith, inl, inr}
+use Rattle.std.proofs.Common.{◌≡◌, ℕ, ◌+◌, ◌≤◌, ◌==◌, nat_lt, Bool, true, false, if◌then◌else◌, List, [], ◌∷◌, length, bit_and, Option, refl, ap, ◌∙◌, arith, inl, inr}
 use Rattle.std.specs.List.{fold}
 use Rattle.std.proofs.lemmas.Bool.{cases_Bool}
 use Rattle.shape_buffer.specs.Buffer.{Buffer, cleared, limit_of}
@@ -9,7 +9,7 @@ use Rattle.shape_buffer.specs.declared.buffer.settings.BufferClusterLevel.TheVar
 use Rattle.shape_buffer.proofs.KeyLemmas.{cleared-merge_clusters}
 use Rattle.shape_pipeline.specs.Rules.{Rules}
 use Rattle.shape_pipeline.specs.RoundOne.{sequences, pairs_from, round_one}
-use Rattle.shape_pipeline.specs.RoundTwo.{spans, run_classes, run_reordered, run_settled, marks_ordered, joiners_settled, joiners_shown, has_mark_past_first}
+use Rattle.shape_pipeline.specs.RoundTwo.{spans, run_classes, run_settled, marks_ordered, joiners_settled, joiners_shown, has_mark_past_first}
 use Rattle.shape_pipeline.specs.Normalized.{ordered}
 use Rattle.shape_pipeline.proofs.NormalizedLemmas.{length-ordered}
 use Rattle.shape_pipeline.proofs.ReorderLemmas.{LawfulReorder, without_items-Reorders}
