@@ -4,12 +4,12 @@ ghost use Rattle.shape_buffer.specs.Buffer.{cleared, run_limit};
 ghost use Rattle.shape_buffer.specs.Clusters.{clusters};
 ghost use Rattle.shape_buffer.specs.ClusterOrder.{KeepsClusters, IsMonotoneLevel};
 ghost use Rattle.shape_buffer.specs.Items.{char_of};
-ghost use Rattle.shape_pipeline.specs.Plan.{Fits, hooks_of};
+ghost use Rattle.shape_pipeline.specs.Plan.{Fits};
 ghost use Rattle.shape_pipeline.specs.Rules.{rules_of};
 ghost use Rattle.shape_pipeline.specs.RoundOne.{round_one};
 ghost use Rattle.shape_pipeline.specs.CanonicalForm.{ShapesCanonically};
-ghost use Rattle.shape_pipeline.specs.Normalized.{BroughtInHaveGlyphs};
-ghost use Rattle.shape_pipeline.specs.Shaped.{prepared, shaped, HasGlyphOfChar};
+ghost use Rattle.shape_pipeline.specs.Normalized.{BroughtInHaveGlyphs, HookKeepsClusters};
+ghost use Rattle.shape_pipeline.specs.Shaped.{prepared, shaped, IsHandedOut};
 
 use crate::ot_shape::{map_glyphs_fast, set_unicode_props};
 use crate::ot_shape_normalize::_hb_ot_shape_normalize;
@@ -40,10 +40,13 @@ where
         (rules_of U.unicode S.constants S.hooks S.reordered F.face plan.now face.now) buffer) }
     ensures brought_in { IfOk result (λ glyphs. BroughtInHaveGlyphs (F.face face.now).nominal_glyph
         (map char_of buffer.items) (map char_of glyphs.items)) }
-    ensures item_glyphs { IfOk result (λ glyphs. All (HasGlyphOfChar (F.face face.now).nominal_glyph) glyphs.items) }
+    ensures item_glyphs { IfOk result (λ glyphs. All (IsHandedOut
+        (rules_of U.unicode S.constants S.hooks S.reordered F.face plan.now face.now) buffer) glyphs.items) }
     ensures canonical_form { IfOk result (λ glyphs. ShapesCanonically
         (rules_of U.unicode S.constants S.hooks S.reordered F.face plan.now face.now) buffer glyphs) }
-    ensures clusters { IfOk result (λ glyphs. IsMonotoneLevel buffer.cluster_level → KeepsClusters (clusters buffer.items) (clusters glyphs.items)) }
+    ensures clusters { IfOk result (λ glyphs. IsMonotoneLevel buffer.cluster_level
+        → HookKeepsClusters (rules_of U.unicode S.constants S.hooks S.reordered F.face plan.now face.now)
+        → KeepsClusters (clusters buffer.items) (clusters glyphs.items)) }
     ensures within { IfOk result (λ glyphs. length glyphs.items ≤ run_limit (length buffer.items)) }
     ensures counted { IfOk result (λ _. length (round_one
         (rules_of U.unicode S.constants S.hooks S.reordered F.face plan.now face.now) (prepared U.unicode buffer)).items ≤ run_limit (length buffer.items)) }
