@@ -1,10 +1,10 @@
 -- From items to their characters: where each item has the class and mark of its character, both are settled and recomposed alike.
-use Rattle.std.proofs.Common.{◌≡◌, ℕ, Bool, true, false, not, ◌==◌, ◌&&◌, ◌||◌, nat_le, cond, List, [], ◌∷◌, ◌++◌, length, map, Option, Some, None, option_map, refl, sym, ap, ap₂, subst, ◌∙◌, arith, inl, inr}
+use Rattle.std.proofs.Common.{◌≡◌, ℕ, Bool, true, false, not, ◌==◌, ◌&&◌, nat_le, cond, List, [], ◌∷◌, ◌++◌, length, map, Option, Some, None, option_map, refl, sym, ap, ap₂, subst, ◌∙◌, arith, inl, inr}
 use Rattle.std.proofs.lemmas.Bool.{cases_Bool, MatchBool-at_true, MatchBool-at_false}
 use Rattle.std.proofs.lemmas.List.{map-append, length-map}
 use Rattle.std.specs.List.{AllByRecursion}
 use Rattle.shape_buffer.specs.Order.{IsSwap, here, behind, Swaps, done, then, IsOrdered, IsPutInOrder}
-use Rattle.shape_buffer.specs.Recompose.{is_blocked, composed, recomposed_from, recomposed}
+use Rattle.shape_buffer.specs.Recompose.{last_class, is_blocked_by_last, composed, recomposed_from, recomposed}
 use Rattle.shape_buffer.specs.Runs.{IsSettled, AreRunsSettled}
 use Rattle.shape_buffer.proofs.SwapLemmas.{all-swap, all-swaps}
 use Rattle.shape_buffer.proofs.EveryLemmas.{push_all}
@@ -57,55 +57,58 @@ module _ {A B : Type 0} (IsItem : A → Type 0) (f : A → B) (class : A → ℕ
             rw is_mark (subst (λ l. AreRunsSettled class' limit l (map f xs) (map f new)) (map-append f pending (x ∷ [])) inner)
       ]
 
-  is_blocked-map : (ms : List A) (c : A) → AllByRecursion IsItem ms → IsItem c → is_blocked class' (map f ms) (f c) ≡ is_blocked class ms c
-  is_blocked-map [] c items item = refl
-  is_blocked-map (m ∷ ms) c items item =
-      ap₂ (λ a b. (a == 0 || nat_le b a) || is_blocked class' (map f ms) (f c)) (same m items.0) (same c item)
-      ∙ ap (λ b. (class m == 0 || nat_le (class c) (class m)) || b) (is_blocked-map ms c items.1 item)
+  last_class-map : (ms : List A) → AllByRecursion IsItem ms → last_class class' (map f ms) ≡ last_class class ms
+  last_class-map [] items = refl
+  last_class-map (m ∷ []) items = same m items.0
+  last_class-map (m ∷ n ∷ ms) items = last_class-map (n ∷ ms) items.1
 
-  module _ (is_mark : A → Bool) (is_mark' : B → Bool) (join : A → A → Option A) (join' : B → B → Option B) (marks : (x : A) → IsItem x → is_mark' (f x) ≡ is_mark x) (joined : (s c d : A) → IsItem s → IsItem c → join s c ≡ Some d → IsItem d) (joins : (s c : A) → IsItem s → IsItem c → join' (f s) (f c) ≡ option_map f (join s c)) where
+  pub is_blocked_by_last-map : (ms : List A) (c : A) → AllByRecursion IsItem ms → IsItem c → is_blocked_by_last class' (map f ms) (f c) ≡ is_blocked_by_last class ms c
+  is_blocked_by_last-map [] c items item = refl
+  is_blocked_by_last-map (m ∷ ms) c items item = ap₂ nat_le (same c item) (last_class-map (m ∷ ms) items)
+
+  module _ (blocks : List A → A → Bool) (blocks' : List B → B → Bool) (block : (ms : List A) (c : A) → AllByRecursion IsItem ms → IsItem c → blocks' (map f ms) (f c) ≡ blocks ms c) (is_mark : A → Bool) (is_mark' : B → Bool) (join : A → A → Option A) (join' : B → B → Option B) (marks : (x : A) → IsItem x → is_mark' (f x) ≡ is_mark x) (joined : (s c d : A) → IsItem s → IsItem c → join s c ≡ Some d → IsItem d) (joins : (s c : A) → IsItem s → IsItem c → join' (f s) (f c) ≡ option_map f (join s c)) where
     abbrev after : A → List A → List A → List A
-    after = recomposed_from class (is_blocked class) is_mark join
+    after = recomposed_from class blocks is_mark join
 
     abbrev after' : B → List B → List B → List B
-    after' = recomposed_from class' (is_blocked class') is_mark' join'
+    after' = recomposed_from class' blocks' is_mark' join'
 
     option_map-cond : (b : Bool) (o : Option A) → option_map f (cond b o None) ≡ cond b (option_map f o) None
     option_map-cond true o = refl
     option_map-cond false o = refl
 
-    composed-map : (s : A) (ms : List A) (c : A) → IsItem s → AllByRecursion IsItem ms → IsItem c → composed class' (is_blocked class') is_mark' join' (f s) (map f ms) (f c) ≡ option_map f (composed class (is_blocked class) is_mark join s ms c)
+    composed-map : (s : A) (ms : List A) (c : A) → IsItem s → AllByRecursion IsItem ms → IsItem c → composed class' blocks' is_mark' join' (f s) (map f ms) (f c) ≡ option_map f (composed class blocks is_mark join s ms c)
     composed-map s ms c item_s items item_c =
-        ap₂ (λ a b. cond (a && not b) (join' (f s) (f c)) None) (marks c item_c) (is_blocked-map ms c items item_c)
-        ∙ ap (λ o. cond (is_mark c && not (is_blocked class ms c)) o None) (joins s c item_s item_c)
-        ∙ sym (option_map-cond (is_mark c && not (is_blocked class ms c)) (join s c))
+        ap₂ (λ a b. cond (a && not b) (join' (f s) (f c)) None) (marks c item_c) (block ms c items item_c)
+        ∙ ap (λ o. cond (is_mark c && not (blocks ms c)) o None) (joins s c item_s item_c)
+        ∙ sym (option_map-cond (is_mark c && not (blocks ms c)) (join s c))
 
     recomposed_from-map : (s : A) (ms rest : List A) → IsItem s → AllByRecursion IsItem ms → AllByRecursion IsItem rest → map f (after s ms rest) ≡ after' (f s) (map f ms) (map f rest)
     recomposed_from-map s ms [] item_s items later = refl
     recomposed_from-map s ms (c ∷ rest) item_s items later =
         let other = composed-map s ms c item_s items later.0 in
         let test : (class' (f c) == 0) ≡ (class c == 0) = ap (λ n. n == 0) (same c later.0) in
-        elim (cases_Option (composed class (is_blocked class) is_mark join s ms c)) [
+        elim (cases_Option (composed class blocks is_mark join s ms c)) [
           | inr found ↦
               let d = found.0 in
-              let item_d = joined s c d item_s later.0 (composed-some class (is_blocked class) is_mark join s ms c d found.1).1 in
-              ap (map f) (recomposed_from-some class (is_blocked class) is_mark join s ms c rest d found.1)
+              let item_d = joined s c d item_s later.0 (composed-some class blocks is_mark join s ms c d found.1).1 in
+              ap (map f) (recomposed_from-some class blocks is_mark join s ms c rest d found.1)
               ∙ recomposed_from-map d ms rest item_d items later.1
-              ∙ sym (recomposed_from-some class' (is_blocked class') is_mark' join' (f s) (map f ms) (f c) (map f rest) (f d) (other ∙ ap (option_map f) found.1))
+              ∙ sym (recomposed_from-some class' blocks' is_mark' join' (f s) (map f ms) (f c) (map f rest) (f d) (other ∙ ap (option_map f) found.1))
           | inl none ↦
               elim (cases_Bool (class c == 0)) [
                 | inl start ↦
-                    ap (map f) (recomposed_from-starter class (is_blocked class) is_mark join s ms c rest none start)
+                    ap (map f) (recomposed_from-starter class blocks is_mark join s ms c rest none start)
                     ∙ ap (λ l. f s ∷ l) (map-append f ms (after c [] rest) ∙ ap (λ l. map f ms ++ l) (recomposed_from-map c [] rest later.0 tt later.1))
-                    ∙ sym (recomposed_from-starter class' (is_blocked class') is_mark' join' (f s) (map f ms) (f c) (map f rest) (other ∙ ap (option_map f) none) (test ∙ start))
+                    ∙ sym (recomposed_from-starter class' blocks' is_mark' join' (f s) (map f ms) (f c) (map f rest) (other ∙ ap (option_map f) none) (test ∙ start))
                 | inr mark ↦
-                    ap (map f) (recomposed_from-mark class (is_blocked class) is_mark join s ms c rest none mark)
+                    ap (map f) (recomposed_from-mark class blocks is_mark join s ms c rest none mark)
                     ∙ recomposed_from-map s (ms ++ c ∷ []) rest item_s (push_all IsItem ms c items later.0) later.1
                     ∙ ap (λ l. after' (f s) l (map f rest)) (map-append f ms (c ∷ []))
-                    ∙ sym (recomposed_from-mark class' (is_blocked class') is_mark' join' (f s) (map f ms) (f c) (map f rest) (other ∙ ap (option_map f) none) (test ∙ mark))
+                    ∙ sym (recomposed_from-mark class' blocks' is_mark' join' (f s) (map f ms) (f c) (map f rest) (other ∙ ap (option_map f) none) (test ∙ mark))
               ]
         ]
 
-    pub recomposed-map : (xs : List A) → AllByRecursion IsItem xs → map f (recomposed class (is_blocked class) is_mark join xs) ≡ recomposed class' (is_blocked class') is_mark' join' (map f xs)
+    pub recomposed-map : (xs : List A) → AllByRecursion IsItem xs → map f (recomposed class blocks is_mark join xs) ≡ recomposed class' blocks' is_mark' join' (map f xs)
     recomposed-map [] items = refl
     recomposed-map (x ∷ xs) items = recomposed_from-map x [] xs items.0 tt items.1

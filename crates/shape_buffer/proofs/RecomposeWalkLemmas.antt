@@ -19,15 +19,15 @@ blocked_by_found class [] c x found = cc
 blocked_by_found class (m ∷ ms) c x found =
     ap (λ n. nat_le (class c) n) (ap class (sym (get_or_from_slice_get (m ∷ ms) (length (m ∷ ms) - 1) x x (sym found))) ∙ sym (last_class_is class (m ∷ ms) x (omega arith)))
 
-at_split : {A : Type 0} (done ms : List A) (s d : A) → get_or (done ++ s ∷ ms) (length done) d ≡ s
+pub at_split : {A : Type 0} (done ms : List A) (s d : A) → get_or (done ++ s ∷ ms) (length done) d ≡ s
 at_split [] ms s d = refl
 at_split (x ∷ done) ms s d = at_split done ms s d
 
-drop_split : {A : Type 0} (done ms : List A) (s : A) → drop (suc (length done)) (done ++ s ∷ ms) ≡ ms
+pub drop_split : {A : Type 0} (done ms : List A) (s : A) → drop (suc (length done)) (done ++ s ∷ ms) ≡ ms
 drop_split [] ms s = refl
 drop_split (x ∷ done) ms s = drop_split done ms s
 
-set_split : {A : Type 0} (done ms : List A) (s d : A) → set (done ++ s ∷ ms) (length done) d ≡ done ++ d ∷ ms
+pub set_split : {A : Type 0} (done ms : List A) (s d : A) → set (done ++ s ∷ ms) (length done) d ≡ done ++ d ∷ ms
 set_split [] ms s d = refl
 set_split (x ∷ done) ms s d = ap (λ l. x ∷ l) (set_split done ms s d)
 

@@ -1,12 +1,13 @@
 -- The walk along a chain that stops at the first point it finds, where the shortest is asked.
 use Rattle.std.proofs.Common.{◌≡◌, ℕ, ◌≤◌, Bool, true, false, if◌then◌else◌, ◌&&◌, List, [], ◌∷◌, ◌++◌, reverse, length, Option, None, Some, IfSome, refl, sym, ◌∙◌, ap, arith, append_assoc}
+use Rattle.std.proofs.lemmas.Bool.{both_ways}
 use Rattle.std.proofs.lemmas.List.{take_all}
 use Rattle.std.specs.List.{list_all}
 use Rattle.std.specs.Option.{option_or}
 use Rattle.shape_buffer.specs.Chain.{FallsAlong, kept}
-use Rattle.shape_buffer.specs.Expansion.{supported, least_supported, greatest_supported, found_parts}
+use Rattle.shape_buffer.specs.Expansion.{supported, least_supported, greatest_supported}
 use Rattle.shape_buffer.proofs.ExpansionLemmas.{put_behind, least-split, least-end}
-use Rattle.shape_buffer.proofs.WalkLemmas.{walked, reverse-more, found_parts-more, walk_found, walk_passed, walk_ended, walk_broken}
+use Rattle.shape_buffer.proofs.WalkLemmas.{found_parts, walked, reverse-more, found_parts-more, walk_found, walk_passed, walk_ended, walk_broken}
 
 module _ (split : ℕ → Option (ℕ × ℕ)) (has_glyph : ℕ → Bool) where
   -- what a walk looks for: the least, where the shortest is asked, else the greatest
@@ -31,19 +32,22 @@ module _ (split : ℕ → Option (ℕ × ℕ)) (has_glyph : ℕ → Bool) where
         ∙ ap (λ u. put_behind t b (option_or (if u && true then Some (a ∷ []) else None) (least_supported split has_glyph (height a) a))) glyph
 
     -- the shortest is found at the first point that has a glyph
-    pub sought_first : (start found : Option (List ℕ)) (seconds after : List ℕ) (n c a b : ℕ) →
-        start ≡ walked found seconds (sought true (height c) c) → Some (a, b) ≡ split c → true ≡ list_all has_glyph (kept b) → after ≡ seconds ++ kept b → true ≡ has_glyph a → n ≡ length after →
+    pub sought_first : (short : Bool) (start found : Option (List ℕ)) (seconds after : List ℕ) (n c a b : ℕ) → short ≡ true →
+        start ≡ walked found seconds (sought short (height c) c) → Some (a, b) ≡ split c → true ≡ list_all has_glyph (kept b) → after ≡ seconds ++ kept b → true ≡ has_glyph a → n ≡ length after →
         found_parts (Some (a, n)) after ≡ start
-    sought_first start found seconds after n c a b inv e kept_b grown glyph len =
+    sought_first false start found seconds after n c a b clash inv e kept_b grown glyph len = absurd (both_ways _ refl clash)
+    sought_first true start found seconds after n c a b asked inv e kept_b grown glyph len =
         ap (λ l. Some (a ∷ reverse l)) (take_all n after (omega arith) ∙ grown)
         ∙ ap (λ l. Some (a ∷ l)) (reverse-more seconds b)
         ∙ sym (inv ∙ ap (walked found seconds) (least-at c a b true true (sym e) (sym kept_b) (sym glyph)))
 
     -- the greatest is looked for on past it
-    pub sought_found : (start found : Option (List ℕ)) (seconds after : List ℕ) (n c a b : ℕ) →
-        start ≡ walked found seconds (sought false (height c) c) → Some (a, b) ≡ split c → true ≡ list_all has_glyph (kept b) → after ≡ seconds ++ kept b → true ≡ has_glyph a → n ≡ length after →
-        start ≡ walked (found_parts (Some (a, n)) after) after (sought false (height a) a)
-    sought_found = walk_found split has_glyph height falling
+    pub sought_found : (short : Bool) (start found : Option (List ℕ)) (seconds after : List ℕ) (n c a b : ℕ) → short ≡ false →
+        start ≡ walked found seconds (sought short (height c) c) → Some (a, b) ≡ split c → true ≡ list_all has_glyph (kept b) → after ≡ seconds ++ kept b → true ≡ has_glyph a → n ≡ length after →
+        start ≡ walked (found_parts (Some (a, n)) after) after (sought short (height a) a)
+    sought_found true start found seconds after n c a b clash inv e kept_b grown glyph len = absurd (both_ways _ clash refl)
+    sought_found false start found seconds after n c a b asked inv e kept_b grown glyph len =
+        walk_found split has_glyph height falling start found seconds after n c a b inv e kept_b grown glyph len
 
     -- both go on past a point that has none
     pub sought_passed : (short : Bool) (start : Option (List ℕ)) (seconds after : List ℕ) (found : Option (ℕ × ℕ)) (c a b : ℕ) →

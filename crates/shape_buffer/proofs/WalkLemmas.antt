@@ -4,8 +4,12 @@ use Rattle.std.proofs.lemmas.List.{take_all, take-append-le, reverse-append}
 use Rattle.std.specs.List.{list_all}
 use Rattle.std.specs.Option.{option_map, option_or}
 use Rattle.shape_buffer.specs.Chain.{FallsAlong, kept}
-use Rattle.shape_buffer.specs.Expansion.{supported, greatest_supported, found_parts}
+use Rattle.shape_buffer.specs.Expansion.{supported, greatest_supported}
 use Rattle.shape_buffer.proofs.ExpansionLemmas.{put_behind, greatest-split, greatest-end}
+
+-- what a walk has found that keeps second parts from the first to the last: nothing, or a point with so many second parts behind it
+abbrev pub found_parts : Option (ℕ × ℕ) → List ℕ → Option (List ℕ)
+found_parts found kept_parts = option_map (λ f. f.0 ∷ reverse (take f.1 kept_parts)) found
 
 -- what a walk gives in the end that has the second parts `seconds`, last first, and meanwhile found `found`, where the rest of the chain gives `r`
 abbrev pub walked : Option (List ℕ) → List ℕ → Option (List ℕ) → Option (List ℕ)

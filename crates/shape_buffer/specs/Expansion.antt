@@ -1,5 +1,5 @@
 -- The expansions of a character along its chain, and which of them is chosen.
-use Rattle.std.specs.Prelude.{ℕ, zero, suc, Bool, true, false, if◌then◌else◌, List, [], ◌∷◌, ◌++◌, reverse, take, Option, None, Some, unwrap_or}
+use Rattle.std.specs.Prelude.{ℕ, zero, suc, Bool, true, false, if◌then◌else◌, List, [], ◌∷◌, ◌++◌, Option, None, Some, unwrap_or}
 use Rattle.std.specs.Option.{option_map, option_map_or, option_or}
 use Rattle.std.specs.List.{list_all}
 use Rattle.shape_buffer.specs.Chain.{kept, chain_point, second_part}
@@ -40,8 +40,3 @@ chosen_expansion split height has_glyph false c = greatest_supported split has_g
 -- what c becomes: its chosen expansion, or itself
 abbrev pub choice : (ℕ → Option (ℕ × ℕ)) → (ℕ → ℕ) → (ℕ → Bool) → Bool → ℕ → List ℕ
 choice split height has_glyph short c = unwrap_or (chosen_expansion split height has_glyph short c) (c ∷ [])
-
--- what a walk along a chain has found, where it keeps second parts from the first to the last: nothing, or a point with so many second parts behind it
-abbrev pub found_parts : Option (ℕ × ℕ) → List ℕ → Option (List ℕ)
-found_parts None kept_parts = None
-found_parts (Some found) kept_parts = Some (found.0 ∷ reverse (take found.1 kept_parts))

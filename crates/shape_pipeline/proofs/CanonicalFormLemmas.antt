@@ -1,121 +1,223 @@
--- The normalised list is equivalent to its text, canonical where glyphs and runs allow it, and equal exactly for equivalent texts.
-use Rattle.std.proofs.Common.{◌≡◌, ◌↔◌, ℕ, ◌<◌, ◌||◌, if◌then◌else◌, true, false, List, [], ◌∷◌, length, map, drop, sym, ◌∙◌, ap, subst, refl, arith}
-use Rattle.std.specs.List.{list_any, AllByRecursion}
-use Rattle.std.proofs.lemmas.List.Elements.{recursion_from_All, All-from_recursion}
+-- The normalised list is equivalent to its text, canonical or recomposed of a canonical one where glyphs and runs allow it, and equal exactly for equivalent texts.
+use Rattle.std.proofs.Common.{◌≡◌, ◌↔◌, ℕ, ◌<◌, Bool, true, false, List, [], ◌∷◌, length, map, drop, refl, sym, ◌∙◌, ap, subst, inl, inr, arith}
+use Rattle.std.proofs.lemmas.Bool.{cases_Bool, cases_eq}
+use Rattle.std.proofs.lemmas.List.Elements.{All-from_recursion}
+use Rattle.std.specs.List.{AllByRecursion, list_any}
+use Rattle.shape_buffer.proofs.ChoiceLemmas.{full_text-expanded}
+use Rattle.shape_buffer.proofs.ExpandedLemmas.{expanded-plain}
+use Rattle.shape_buffer.proofs.LawLemmas.{choices_are_equivalent, ordered_is_equivalent, decomposed_is_canonical, decomposed_decides}
+use Rattle.shape_buffer.proofs.BlockLemmas.{recomposed_by_last}
+use Rattle.shape_buffer.proofs.NormaliseLemmas.{sound_with_glyph, equivalent_normalised_by_last, recomposed_by_last_equal_iff}
+use Rattle.shape_buffer.proofs.SwapLemmas.{no_swap}
 use Rattle.shape_buffer.specs.Buffer.{Buffer}
 use Rattle.shape_buffer.specs.Chain.{full_text}
-use Rattle.shape_buffer.specs.Items.{Item, char_of, is_mark_item}
+use Rattle.shape_buffer.specs.Expanded.{expanded_text}
+use Rattle.shape_buffer.specs.Expansion.{choice}
+use Rattle.shape_buffer.specs.Items.{Item, char_of}
+use Rattle.shape_buffer.specs.Laws.{IsDecomposed}
+use Rattle.shape_buffer.specs.Recompose.{join_with_glyph}
+use Rattle.shape_buffer.specs.Runs.{AreRunsSettled, HasNoLongerRun}
 use Rattle.shape_buffer.specs.Unicode.{LawfulUnicode, is_mark}
 use Rattle.shape_buffer.specs.UnicodeProps.{with_unicode_props}
-use Rattle.shape_buffer.proofs.SwapLemmas.{no_swap}
-use Rattle.shape_pipeline.specs.CanonicalForm.{text_of, AreEquivalent, HasCanonicalForm, HasLawfulHooks, EquivalencePremises, CanonicalFormPremises, NormalizesCanonically, CanonicalTextPremises, ShapesCanonically}
-use Rattle.shape_pipeline.specs.Normalized.{normalized}
-use Rattle.shape_pipeline.specs.Prepared.{IsPreparedItem}
+use Rattle.shape_pipeline.specs.CanonicalForm.{text_of, AreEquivalent, HasCanonicalForm, IsRecomposedForm, TextPremises, EquivalencePremises, CanonicalTextPremises, CanonicalFormPremises, NormalizesCanonically, RunPremises, ShapesCanonically}
+use Rattle.shape_pipeline.specs.Normalized.{ordered, normalized}
 use Rattle.shape_pipeline.specs.RoundOne.{round_one}
-use Rattle.shape_pipeline.specs.RoundTwo.{has_mark_past_first, marks_ordered, joiners_settled}
-use Rattle.shape_pipeline.specs.Rules.{Rules}
-use Rattle.shape_pipeline.proofs.NormalFormLemmas.{expanded_is_equivalent_to_text, ordered_is_equivalent_to_text, ordered_is_canonical, ordered_decides}
+use Rattle.shape_pipeline.specs.RoundTwo.{max_run, has_mark_past_first}
+use Rattle.shape_pipeline.specs.Rules.{Rules, has_glyph}
+use Rattle.shape_pipeline.specs.Prepared.{IsPreparedItem}
 use Rattle.shape_pipeline.specs.Shaped.{prepared, shaped}
 use Rattle.shape_pipeline.specs.Steps.{glyphs_mapped}
+use Rattle.shape_pipeline.proofs.CutFormLemmas.{normalized_cuts}
+use Rattle.shape_pipeline.proofs.NormalFormLemmas.{IsPlain, IsPlain-from, choices, recomposed_by_last_text, mark_past_first_char, normalized_is_ordered, normalized_is_choices, ordered_settles, normalized_is_recomposed}
 use Rattle.shape_pipeline.proofs.NormalizedLemmas.{shaped_of_any, chars-mapped, chars-with_props}
-use Rattle.shape_pipeline.proofs.JoinerLemmas.{chars-joiners_settled}
-use Rattle.shape_pipeline.proofs.PreparedLemmas.{ArePrepared, prepared-with_props}
+use Rattle.shape_pipeline.proofs.PreparedLemmas.{prepared-with_props}
+use Rattle.shape_pipeline.proofs.RoundOneLemmas.{chars-round_one}
 
-module _ (rules : Rules) (lawful : LawfulUnicode rules.unicode) where
-  are_prepared : (b : Buffer) → EquivalencePremises rules b → ArePrepared rules.unicode b.items
-  are_prepared b premises = recursion_from_All (IsPreparedItem rules.unicode) b.items premises.prepared
+module _ (rules : Rules) where
+  -- where no mode goes short each character is asked for its longest expansion
+  choices_are_longest : ((with_marks : Bool) → rules.short with_marks ≡ false) → (text : List ℕ) → choices rules text ≡ expanded_text rules.split rules.height (has_glyph rules.glyph) (is_mark rules.unicode) (λ in_cluster. false) text
+  choices_are_longest never text =
+      let of : Bool → ℕ → List ℕ = λ short c. choice rules.split rules.height (has_glyph rules.glyph) short c in
+      expanded-plain (is_mark rules.unicode) (λ in_cluster. of (rules.short in_cluster)) (of false) (λ in_cluster c. ap (λ short. of short c) (never in_cluster)) text
+      ∙ sym (expanded-plain (is_mark rules.unicode) (λ in_cluster. of false) (of false) (λ in_cluster c. refl) text)
 
-  pub normalized_is_equivalent : (b : Buffer) → EquivalencePremises rules b → AreEquivalent rules (text_of b) (text_of (normalized rules b))
-  normalized_is_equivalent b premises =
-      let one : Buffer = round_one rules b in
-      elim (has_mark_past_first b.items) as (λ marked. AreEquivalent rules (text_of b) (text_of (joiners_settled (if marked then marks_ordered one else one)))) [
-        | true ↦ ordered_is_equivalent_to_text rules lawful premises.lawful_hooks b (are_prepared b premises)
-        | false ↦ subst (AreEquivalent rules (text_of b)) (sym (chars-joiners_settled one)) (expanded_is_equivalent_to_text rules lawful premises.lawful_hooks b)
-      ]
+  plain_of : (b : Buffer) → EquivalencePremises rules b → IsPlain rules b
+  plain_of b premises = IsPlain-from rules b premises.prepared premises.text.no_selector premises.text.no_reordering
 
-  -- with a mark past the first item the normalised list is the ordered one
-  normalized-marked : (b : Buffer) → has_mark_past_first b.items ≡ true → text_of (normalized rules b) ≡ text_of (joiners_settled (marks_ordered (round_one rules b)))
-  normalized-marked b marked = let one : Buffer = round_one rules b in ap (λ t. text_of (joiners_settled (if t then marks_ordered one else one))) marked
+  module _ (lawful : LawfulUnicode rules.unicode) where
+    -- ---- equivalence
 
-  pub normalized_is_canonical : (b : Buffer) → CanonicalFormPremises rules b → HasCanonicalForm rules (text_of (normalized rules b))
-  normalized_is_canonical b premises =
-      subst (HasCanonicalForm rules) (sym (normalized-marked b premises.marked))
-      (ordered_is_canonical rules lawful premises.equivalence.lawful_hooks b (are_prepared b premises.equivalence) premises.supported)
+    unmarked_is_equivalent : (b : Buffer) → EquivalencePremises rules b → has_mark_past_first b.items ≡ false → AreEquivalent rules (text_of b) (text_of (normalized rules b))
+    unmarked_is_equivalent b premises unmarked =
+        subst (AreEquivalent rules (text_of b)) (sym (normalized_is_choices rules b (plain_of b premises) unmarked))
+        (choices_are_equivalent rules.split rules.height rules.unicode.class premises.text.lawful_hooks.splits (has_glyph rules.glyph) (is_mark rules.unicode) rules.short (text_of b))
 
-  pub normalized_decides : (b c : Buffer) → CanonicalFormPremises rules b → CanonicalFormPremises rules c → (text_of (normalized rules b) ≡ text_of (normalized rules c)) ↔ AreEquivalent rules (text_of b) (text_of c)
-  normalized_decides b c of_b of_c =
-      rw (normalized-marked b of_b.marked, normalized-marked c of_c.marked)
-      (ordered_decides rules lawful of_b.equivalence.lawful_hooks b c (are_prepared b of_b.equivalence) (are_prepared c of_c.equivalence) of_b.supported of_c.supported)
+    ordered_is_equivalent_to_text : (b : Buffer) → EquivalencePremises rules b → has_mark_past_first b.items ≡ true → AreEquivalent rules (text_of b) (text_of (ordered rules b))
+    ordered_is_equivalent_to_text b premises marked =
+        ordered_is_equivalent rules.split rules.height rules.unicode.class premises.text.lawful_hooks.splits (has_glyph rules.glyph) (is_mark rules.unicode) rules.short max_run
+        (text_of b) (text_of (ordered rules b)) (ordered_settles rules lawful b (plain_of b premises) marked)
 
-  -- what a normalised buffer has of the one that it was made of
-  pub NormalizesCanonically-normalized : (old new : Buffer) → new ≡ normalized rules old → NormalizesCanonically rules old new
-  NormalizesCanonically-normalized old new is =
-      rw is (record {
-        equivalent = normalized_is_equivalent old;
-        canonical = normalized_is_canonical old;
-        decides = λ other. normalized_decides old other;
-      })
+    recomposed_is_equivalent_to_text : (b : Buffer) → EquivalencePremises rules b → has_mark_past_first b.items ≡ true → rules.recomposes ≡ true → AreEquivalent rules (text_of b) (text_of (normalized rules b))
+    recomposed_is_equivalent_to_text b premises marked composes =
+        let plain = plain_of b premises in
+        let hooks = premises.text.lawful_hooks in
+        subst (AreEquivalent rules (text_of b)) (sym (normalized_is_recomposed rules lawful b plain marked composes))
+        (equivalent_normalised_by_last rules.split rules.height rules.unicode.class hooks.splits (is_mark rules.unicode) (join_with_glyph rules.join (has_glyph rules.glyph))
+        (sound_with_glyph rules.split rules.height rules.unicode.class rules.join (has_glyph rules.glyph) (hooks.joins composes)) max_run
+        (text_of b) (choices rules (text_of b)) (text_of (ordered rules b))
+        (full_text-expanded rules.split rules.height rules.unicode.class hooks.splits (has_glyph rules.glyph) (is_mark rules.unicode) rules.short (text_of b))
+        (subst (HasNoLongerRun rules.unicode.class max_run) (chars-round_one rules b plain.prepared plain.no_selector) (premises.text.short_runs composes))
+        (ordered_settles rules lawful b plain marked))
 
-  -- ---- the run
+    pub normalized_is_equivalent : (b : Buffer) → EquivalencePremises rules b → AreEquivalent rules (text_of b) (text_of (normalized rules b))
+    normalized_is_equivalent b premises =
+        elim (cases_Bool (has_mark_past_first b.items)) [
+          | inr unmarked ↦ unmarked_is_equivalent b premises unmarked
+          | inl marked ↦
+              elim (cases_Bool rules.recomposes) [
+                | inl composes ↦ recomposed_is_equivalent_to_text b premises marked composes
+                | inr leaves ↦
+                    subst (AreEquivalent rules (text_of b)) (sym (normalized_is_ordered rules b leaves)) (ordered_is_equivalent_to_text b premises marked)
+              ]
+        ]
 
-  marks-with_props : (items : List Item) → list_any is_mark_item (map (with_unicode_props rules.unicode) items) ≡ list_any (is_mark rules.unicode) (map char_of items)
-  marks-with_props [] = refl
-  marks-with_props (item ∷ items) = ap (λ t. is_mark rules.unicode item.codepoint || t) (marks-with_props items)
+    -- ---- canonical form
 
-  marked_text : (items : List Item) → has_mark_past_first (map (with_unicode_props rules.unicode) items) ≡ list_any (is_mark rules.unicode) (drop 1 (map char_of items))
-  marked_text [] = refl
-  marked_text (item ∷ items) = marks-with_props items
+    marked_items : (b : Buffer) → CanonicalFormPremises rules b → has_mark_past_first b.items ≡ true
+    marked_items b premises = mark_past_first_char rules.unicode b.items (plain_of b premises.equivalence).prepared ∙ premises.canonical.marked
 
-  prepared_by_run : (items : List Item) → AllByRecursion (IsPreparedItem rules.unicode) (map (with_unicode_props rules.unicode) items)
-  prepared_by_run [] = tt
-  prepared_by_run (item ∷ items) = (prepared-with_props rules.unicode lawful item, prepared_by_run items)
+    abbrev IsDecomposedTo : List ℕ → List ℕ → Type 0
+    IsDecomposedTo text new = IsDecomposed rules.split rules.height rules.unicode.class (has_glyph rules.glyph) (is_mark rules.unicode) max_run text new
 
-  -- the run prepares its text
-  run_premises : (b : Buffer) → HasLawfulHooks rules → EquivalencePremises rules (prepared rules.unicode b)
-  run_premises b hooks = record { lawful_hooks = hooks; prepared = All-from_recursion (IsPreparedItem rules.unicode) (prepared rules.unicode b).items (prepared_by_run b.items) }
+    ordered_is_decomposed : (b : Buffer) → CanonicalFormPremises rules b → IsDecomposedTo (text_of b) (text_of (ordered rules b))
+    ordered_is_decomposed b premises =
+        subst (λ l. AreRunsSettled rules.unicode.class max_run [] l (text_of (ordered rules b))) (choices_are_longest premises.canonical.decomposes_fully (text_of b))
+        (ordered_settles rules lawful b (plain_of b premises.equivalence) (marked_items b premises))
 
-  run_canonical_premises : (b : Buffer) → CanonicalTextPremises rules (text_of b) → CanonicalFormPremises rules (prepared rules.unicode b)
-  run_canonical_premises b premises = record {
-    equivalence = run_premises b premises.lawful_hooks;
-    supported = rw (chars-with_props rules.unicode b.items) premises.supported;
-    marked = marked_text b.items ∙ premises.marked;
-  }
+    ordered_is_canonical : (b : Buffer) → CanonicalFormPremises rules b → HasCanonicalForm rules (text_of (ordered rules b))
+    ordered_is_canonical b premises =
+        decomposed_is_canonical rules.split rules.height rules.unicode.class premises.equivalence.text.lawful_hooks.splits (has_glyph rules.glyph) (is_mark rules.unicode) max_run
+        (text_of b) (text_of (ordered rules b)) premises.canonical.supported (ordered_is_decomposed b premises)
 
-  -- what is handed out for a text that isn't empty, by its characters
-  abbrev run_text : Buffer → List ℕ
-  run_text b = text_of (normalized rules (prepared rules.unicode b))
+    text_of-composed : (b : Buffer) → CanonicalFormPremises rules b → rules.recomposes ≡ true → text_of (normalized rules b) ≡ recomposed_by_last_text rules (text_of (ordered rules b))
+    text_of-composed b premises composes = normalized_is_recomposed rules lawful b (plain_of b premises.equivalence) (marked_items b premises) composes
 
-  some_item : (items : List Item) → list_any (is_mark rules.unicode) (drop 1 (map char_of items)) ≡ true → 0 < length items
-  some_item [] marked = cc
-  some_item (item ∷ items) marked = omega arith
+    pub normalized_is_canonical : (b : Buffer) → rules.recomposes ≡ false → CanonicalFormPremises rules b → HasCanonicalForm rules (text_of (normalized rules b))
+    normalized_is_canonical b leaves premises = subst (HasCanonicalForm rules) (sym (normalized_is_ordered rules b leaves)) (ordered_is_canonical b premises)
 
-  text_of-run : (b new : Buffer) → new ≡ glyphs_mapped (normalized rules (prepared rules.unicode b)) → text_of new ≡ run_text b
-  text_of-run b new is = ap text_of is ∙ chars-mapped (normalized rules (prepared rules.unicode b)).items
+    pub normalized_is_recomposed_form : (b : Buffer) → rules.recomposes ≡ true → CanonicalFormPremises rules b → IsRecomposedForm rules (text_of b) (text_of (normalized rules b))
+    normalized_is_recomposed_form b composes premises =
+        let canonical = ordered_is_canonical b premises in
+        record {
+          canonical = text_of (ordered rules b);
+          is_canonical = canonical;
+          equivalent = ordered_is_equivalent_to_text b premises.equivalence (marked_items b premises);
+          is = text_of-composed b premises composes
+              ∙ sym (recomposed_by_last rules.unicode.class (is_mark rules.unicode) (join_with_glyph rules.join (has_glyph rules.glyph)) (text_of (ordered rules b)) canonical.ordered);
+        }
 
-  text_of-shaped : (b : Buffer) → CanonicalTextPremises rules (text_of b) → text_of (shaped rules b) ≡ run_text b
-  text_of-shaped b premises = text_of-run b (shaped rules b) (sym (shaped_of_any rules b (some_item b.items premises.marked)))
+    -- ---- comparing texts
 
-  text_of-prepared : (b : Buffer) → text_of (prepared rules.unicode b) ≡ text_of b
-  text_of-prepared b = chars-with_props rules.unicode b.items
+    pub normalized_decides : (b c : Buffer) → CanonicalFormPremises rules b → CanonicalFormPremises rules c → (text_of (normalized rules b) ≡ text_of (normalized rules c)) ↔ AreEquivalent rules (text_of b) (text_of c)
+    normalized_decides b c of_b of_c =
+        let hooks = of_b.equivalence.text.lawful_hooks in
+        elim (cases_Bool rules.recomposes) [
+          | inr leaves ↦
+              rw (normalized_is_ordered rules b leaves, normalized_is_ordered rules c leaves)
+              (decomposed_decides rules.split rules.height rules.unicode.class hooks.splits (has_glyph rules.glyph) (is_mark rules.unicode) max_run
+              (text_of b) (text_of (ordered rules b)) (text_of c) (text_of (ordered rules c))
+              of_b.canonical.supported of_c.canonical.supported (ordered_is_decomposed b of_b) (ordered_is_decomposed c of_c))
+          | inl composes ↦
+              rw (text_of-composed b of_b composes, text_of-composed c of_c composes)
+              (recomposed_by_last_equal_iff rules.split rules.height rules.unicode.class hooks.splits (has_glyph rules.glyph) (is_mark rules.unicode) max_run
+              (join_with_glyph rules.join (has_glyph rules.glyph)) (sound_with_glyph rules.split rules.height rules.unicode.class rules.join (has_glyph rules.glyph) (hooks.joins composes))
+              (text_of b) (text_of (ordered rules b)) (text_of c) (text_of (ordered rules c))
+              of_b.canonical.supported.glyphs of_c.canonical.supported.glyphs of_b.canonical.supported.fits of_c.canonical.supported.fits (ordered_is_decomposed b of_b) (ordered_is_decomposed c of_c))
+        ]
 
-  -- what a run hands out for a text that isn't empty
-  pub ShapesCanonically-run : (old new : Buffer) → new ≡ glyphs_mapped (normalized rules (prepared rules.unicode old)) → ShapesCanonically rules old new
-  ShapesCanonically-run old new is =
-      let text : text_of new ≡ run_text old = text_of-run old new is in
-      record {
-        equivalent = λ hooks. rw text (subst (λ l. AreEquivalent rules l (run_text old)) (text_of-prepared old) (normalized_is_equivalent (prepared rules.unicode old) (run_premises old hooks)));
-        canonical = λ premises. rw text (normalized_is_canonical (prepared rules.unicode old) (run_canonical_premises old premises));
-        decides = λ other of_old of_other.
-            rw (text, text_of-shaped other of_other, ← text_of-prepared old, ← text_of-prepared other)
-            (normalized_decides (prepared rules.unicode old) (prepared rules.unicode other) (run_canonical_premises old of_old) (run_canonical_premises other of_other));
-      }
+    -- what a normalised buffer has of the one that it was made of
+    pub NormalizesCanonically-normalized : (old new : Buffer) → new ≡ normalized rules old → NormalizesCanonically rules old new
+    NormalizesCanonically-normalized old new is =
+        rw is (record {
+          equivalent = normalized_is_equivalent old;
+          canonical = normalized_is_canonical old;
+          recomposed = normalized_is_recomposed_form old;
+          decides = λ other. normalized_decides old other;
+          cuts = λ front back. normalized_cuts rules lawful old front back;
+        })
 
-  -- and for an empty one
-  pub ShapesCanonically-none : (old new : Buffer) → length old.items ≡ 0 → new.items ≡ old.items → ShapesCanonically rules old new
-  ShapesCanonically-none old new none same =
-      let unmarked : (premises : CanonicalTextPremises rules (text_of old)) → ⊥ = λ premises. let some : 0 < length old.items = some_item old.items premises.marked in absurd (omega arith) in
-      record {
-        equivalent = λ hooks. no_swap (ap (λ items. full_text rules.split rules.height (map char_of items)) (sym same));
-        canonical = λ premises. absurd (unmarked premises);
-        decides = λ other of_old of_other. absurd (unmarked of_old);
-      }
+    -- ---- the run
+
+    prepared_by_run : (items : List Item) → AllByRecursion (IsPreparedItem rules.unicode) (map (with_unicode_props rules.unicode) items)
+    prepared_by_run [] = tt
+    prepared_by_run (item ∷ items) = (prepared-with_props rules.unicode lawful item, prepared_by_run items)
+
+    text_of-prepared : (b : Buffer) → text_of (prepared rules.unicode b) ≡ text_of b
+    text_of-prepared b = chars-with_props rules.unicode b.items
+
+    -- the run prepares its text
+    run_premises : (b : Buffer) → RunPremises rules b → EquivalencePremises rules (prepared rules.unicode b)
+    run_premises b premises = record {
+      text = subst (λ text. TextPremises rules text (text_of (round_one rules (prepared rules.unicode b)))) (sym (text_of-prepared b)) premises;
+      prepared = All-from_recursion (IsPreparedItem rules.unicode) (prepared rules.unicode b).items (prepared_by_run b.items);
+    }
+
+    run_canonical_premises : (b : Buffer) → RunPremises rules b → CanonicalTextPremises rules (text_of b) → CanonicalFormPremises rules (prepared rules.unicode b)
+    run_canonical_premises b premises canonical = record {
+      equivalence = run_premises b premises;
+      canonical = subst (CanonicalTextPremises rules) (sym (text_of-prepared b)) canonical;
+    }
+
+    -- what is handed out for a text that isn't empty, by its characters
+    abbrev run_text : Buffer → List ℕ
+    run_text b = text_of (normalized rules (prepared rules.unicode b))
+
+    some_item : (items : List Item) → list_any (is_mark rules.unicode) (drop 1 (map char_of items)) ≡ true → 0 < length items
+    some_item [] marked = cc
+    some_item (item ∷ items) marked = omega arith
+
+    text_of-run : (b new : Buffer) → new ≡ glyphs_mapped (normalized rules (prepared rules.unicode b)) → text_of new ≡ run_text b
+    text_of-run b new is = ap text_of is ∙ chars-mapped (normalized rules (prepared rules.unicode b)).items
+
+    text_of-shaped : (b : Buffer) → CanonicalTextPremises rules (text_of b) → text_of (shaped rules b) ≡ run_text b
+    text_of-shaped b premises = text_of-run b (shaped rules b) (sym (shaped_of_any rules b (some_item b.items premises.marked)))
+
+    -- what a run hands out for a text that isn't empty
+    pub ShapesCanonically-run : (old new : Buffer) → new ≡ glyphs_mapped (normalized rules (prepared rules.unicode old)) → ShapesCanonically rules old new
+    ShapesCanonically-run old new is =
+        let text : text_of new ≡ run_text old = text_of-run old new is in
+        record {
+          equivalent = λ premises. rw text (subst (λ l. AreEquivalent rules l (run_text old)) (text_of-prepared old) (normalized_is_equivalent (prepared rules.unicode old) (run_premises old premises)));
+          canonical = λ leaves premises canonical. rw text (normalized_is_canonical (prepared rules.unicode old) leaves (run_canonical_premises old premises canonical));
+          recomposed = λ composes premises canonical.
+              rw text (subst (λ l. IsRecomposedForm rules l (run_text old)) (text_of-prepared old) (normalized_is_recomposed_form (prepared rules.unicode old) composes (run_canonical_premises old premises canonical)));
+          decides = λ other of_old canonical_old of_other canonical_other.
+              rw (text, text_of-shaped other canonical_other, ← text_of-prepared old, ← text_of-prepared other)
+              (normalized_decides (prepared rules.unicode old) (prepared rules.unicode other) (run_canonical_premises old of_old canonical_old) (run_canonical_premises other of_other canonical_other));
+        }
+
+    -- and for an empty one
+    pub ShapesCanonically-none : (old new : Buffer) → length old.items ≡ 0 → new.items ≡ old.items → ShapesCanonically rules old new
+    ShapesCanonically-none old new none same =
+        let unmarked : (premises : CanonicalTextPremises rules (text_of old)) → ⊥ = λ premises. let some : 0 < length old.items = some_item old.items premises.marked in absurd (omega arith) in
+        record {
+          equivalent = λ premises. no_swap (ap (λ items. full_text rules.split rules.height (map char_of items)) (sym same));
+          canonical = λ leaves premises canonical. absurd (unmarked canonical);
+          recomposed = λ composes premises canonical. absurd (unmarked canonical);
+          decides = λ other of_old canonical_old of_other canonical_other. absurd (unmarked canonical_old);
+        }
+
+    shaped_of_none : (b : Buffer) → length b.items ≡ 0 → (shaped rules b).items ≡ b.items
+    shaped_of_none b none =
+        elim b.items as (λ items. length items ≡ 0 → (shaped rules (record b { items = items })).items ≡ items) [
+          | [] ↦ λ none. refl
+          | item ∷ items ↦ λ none. absurd (omega arith)
+        ] none
+
+    -- so shaping does, for every text
+    pub ShapesCanonically-shaped : (old new : Buffer) → new ≡ shaped rules old → ShapesCanonically rules old new
+    ShapesCanonically-shaped old new is =
+        elim (cases_eq (length old.items) 0) [
+          | inl none ↦ ShapesCanonically-none old new none (ap (λ (b : Buffer). b.items) is ∙ shaped_of_none old none)
+          | inr some ↦ ShapesCanonically-run old new (is ∙ sym (shaped_of_any rules old (omega arith)))
+        ]

@@ -1,112 +1,122 @@
--- The ordered list of a prepared text: it is equivalent to the text, canonical where glyphs and runs allow it, and tells equivalent texts.
-use Rattle.std.proofs.Common.{◌≡◌, ◌↔◌, ℕ, false, List, [], ◌∷◌, map, refl, sym, ◌∙◌, ap, subst}
-use Rattle.std.specs.List.{AllByRecursion}
-use Rattle.shape_buffer.proofs.ExpandedLemmas.{expanded-plain}
-use Rattle.shape_buffer.proofs.KeyLemmas.{IsKey}
-use Rattle.shape_buffer.proofs.LawLemmas.{choices_are_equivalent, ordered_is_equivalent, decomposed_is_canonical, decomposed_decides}
+-- The rounds of a text without variation selectors and without a hook that reorders, by its characters: choices, settled runs, recomposed.
+use Rattle.std.proofs.Common.{◌≡◌, ℕ, Bool, true, false, if◌then◌else◌, ◌&&◌, ◌||◌, List, [], ◌∷◌, map, drop, Option, None, refl, sym, ◌∙◌, ap, ap₂, subst}
+use Rattle.std.proofs.lemmas.Bool.{cond-true, cond-false, and_from, and_left, and_right}
+use Rattle.std.proofs.lemmas.List.Elements.{recursion_from_All}
+use Rattle.std.specs.List.{list_any}
 use Rattle.shape_buffer.proofs.MapLemmas.{AreRunsSettled-map}
 use Rattle.shape_buffer.proofs.RunLemmas.{AreRunsSettled-swaps}
 use Rattle.shape_buffer.proofs.SwapLemmas.{all-swaps}
 use Rattle.shape_buffer.specs.Buffer.{Buffer}
-use Rattle.shape_buffer.specs.Equivalent.{IsEquivalent, IsCanonical}
-use Rattle.shape_buffer.specs.Items.{Item, char_of}
-use Rattle.shape_buffer.specs.Category.{is_mark_category}
-use Rattle.shape_buffer.specs.Laws.{IsWhollySupported, IsDecomposed}
+use Rattle.shape_buffer.specs.Expanded.{expanded_text}
+use Rattle.shape_buffer.specs.Items.{Item, char_of, is_mark_item}
+use Rattle.shape_buffer.specs.Recompose.{is_blocked_by_last, join_with_glyph, recomposed}
 use Rattle.shape_buffer.specs.Runs.{AreRunsSettled}
-use Rattle.shape_buffer.specs.Unicode.{UnicodeMeaning, LawfulUnicode, SplitsFall, is_mark}
-use Rattle.shape_buffer.specs.declared.buffer.general_category.hb_unicode_general_category_t.{hb_unicode_general_category_t}
-use Rattle.shape_pipeline.proofs.JoinerLemmas.{keys-joiners_settled, chars-joiners_settled}
-use Rattle.shape_pipeline.proofs.OrderedLemmas.{marks_ordered_settles}
-use Rattle.shape_pipeline.proofs.PreparedLemmas.{ArePrepared, prepared-expanded}
-use Rattle.shape_pipeline.proofs.RoundOneLemmas.{chars-expanded, longest_choice}
+use Rattle.shape_buffer.specs.Unicode.{UnicodeMeaning, LawfulUnicode, is_mark}
+use Rattle.shape_pipeline.specs.CanonicalForm.{text_of, HasNoSelector}
+use Rattle.shape_pipeline.specs.Normalized.{ordered, normalized}
+use Rattle.shape_pipeline.specs.Prepared.{IsPrepared, IsPreparedItem}
 use Rattle.shape_pipeline.specs.RoundOne.{round_one}
-use Rattle.shape_pipeline.specs.RoundTwo.{max_run, marks_ordered, joiners_settled}
+use Rattle.shape_pipeline.specs.RoundThree.{round_three}
+use Rattle.shape_pipeline.specs.RoundTwo.{max_run, has_mark_past_first, marks_ordered, joiners_settled}
 use Rattle.shape_pipeline.specs.Rules.{Rules, has_glyph}
+use Rattle.shape_pipeline.proofs.JoinerLemmas.{chars-joiners_settled}
+use Rattle.shape_pipeline.proofs.OrderedLemmas.{marks_ordered_settles}
+use Rattle.shape_pipeline.proofs.PreparedLemmas.{ArePrepared, PreparedKey, prepared_key, IsKey-prepared_key, IsPreparedKey, chars_of_keys, prepared_keys, prepared_from_keys, prepared-round_one, prepared-joiners_settled}
+use Rattle.shape_pipeline.proofs.RecomposedCharsLemmas.{chars-round_three}
+use Rattle.shape_pipeline.proofs.RoundOneLemmas.{HasNoSelectorItem, chars-round_one}
+use Rattle.shape_pipeline.proofs.SequenceLemmas.{each_of_values}
 
--- what being prepared goes by: the character, the class and the category
-abbrev Face : Type 0
-Face = ℕ × (ℕ × hb_unicode_general_category_t)
+abbrev class_of_key : PreparedKey → ℕ
+class_of_key key = key.1.0
 
-abbrev face_of : Item → Face
-face_of item = (item.codepoint, (item.properties.modified_class, item.properties.general_category))
-
-IsKey-face_of : IsKey face_of
-IsKey-face_of = record { by_cluster = λ item cluster. refl; by_break = λ item. refl }
-
-abbrev IsPreparedFace : UnicodeMeaning → Face → Type 0
-IsPreparedFace unicode face = (is_mark_category face.1.1 ≡ is_mark unicode face.0) × (face.1.0 ≡ unicode.class face.0)
-
-chars_of_faces : (items : List Item) → map (λ (face : Face). face.0) (map face_of items) ≡ map char_of items
-chars_of_faces [] = refl
-chars_of_faces (item ∷ items) = ap (λ l. item.codepoint ∷ l) (chars_of_faces items)
-
-prepared_faces : (unicode : UnicodeMeaning) (items : List Item) → ArePrepared unicode items → AllByRecursion (IsPreparedFace unicode) (map face_of items)
-prepared_faces unicode [] h = tt
-prepared_faces unicode (item ∷ items) h = ((h.0.mark, h.0.class), prepared_faces unicode items h.1)
-
-prepared_from_faces : (unicode : UnicodeMeaning) (items : List Item) → AllByRecursion (IsPreparedFace unicode) (map face_of items) → ArePrepared unicode items
-prepared_from_faces unicode [] h = tt
-prepared_from_faces unicode (item ∷ items) h = (record { mark = h.0.0; class = h.0.1 }, prepared_from_faces unicode items h.1)
+keys_settled : (b : Buffer) → AreRunsSettled class_of_key max_run [] (map prepared_key b.items) (map prepared_key (marks_ordered None b).items)
+keys_settled b = marks_ordered_settles prepared_key IsKey-prepared_key class_of_key (λ item. refl) b
 
 -- the marks of a prepared buffer in order: the runs of its characters are settled
-pub ordered_chars : (unicode : UnicodeMeaning) (b : Buffer) → ArePrepared unicode b.items → AreRunsSettled unicode.class max_run [] (map char_of b.items) (map char_of (marks_ordered b).items)
+pub ordered_chars : (unicode : UnicodeMeaning) (b : Buffer) → ArePrepared unicode b.items → AreRunsSettled unicode.class max_run [] (text_of b) (text_of (marks_ordered None b))
 ordered_chars unicode b h =
-    let settled = AreRunsSettled-map (IsPreparedFace unicode) (λ (face : Face). face.0) (λ (face : Face). face.1.0) unicode.class (λ face prepared. sym prepared.1)
-    max_run [] (map face_of b.items) (map face_of (marks_ordered b).items) tt (prepared_faces unicode b.items h)
-    (marks_ordered_settles face_of IsKey-face_of (λ (face : Face). face.1.0) (λ item. refl) b) in
-    subst (λ l. AreRunsSettled unicode.class max_run [] l (map char_of (marks_ordered b).items)) (chars_of_faces b.items)
-    (subst (AreRunsSettled unicode.class max_run [] (map (λ (face : Face). face.0) (map face_of b.items))) (chars_of_faces (marks_ordered b).items) settled)
+    let settled = AreRunsSettled-map (IsPreparedKey unicode) (λ (key : PreparedKey). key.0) class_of_key unicode.class (λ key prepared. sym prepared.1)
+    max_run [] (map prepared_key b.items) (map prepared_key (marks_ordered None b).items) tt (prepared_keys unicode b.items h) (keys_settled b) in
+    subst (λ l. AreRunsSettled unicode.class max_run [] l (text_of (marks_ordered None b))) (chars_of_keys b.items)
+    (subst (AreRunsSettled unicode.class max_run [] (map (λ (key : PreparedKey). key.0) (map prepared_key b.items))) (chars_of_keys (marks_ordered None b).items) settled)
 
 -- and the buffer stays prepared
-pub prepared-ordered : (unicode : UnicodeMeaning) (b : Buffer) → ArePrepared unicode b.items → ArePrepared unicode (marks_ordered b).items
+pub prepared-ordered : (unicode : UnicodeMeaning) (b : Buffer) → ArePrepared unicode b.items → ArePrepared unicode (marks_ordered None b).items
 prepared-ordered unicode b h =
-    prepared_from_faces unicode (marks_ordered b).items
-    (all-swaps (IsPreparedFace unicode)
-    (AreRunsSettled-swaps (λ (face : Face). face.1.0) max_run [] (map face_of b.items) (map face_of (marks_ordered b).items) (marks_ordered_settles face_of IsKey-face_of (λ (face : Face). face.1.0) (λ item. refl) b))
-    (prepared_faces unicode b.items h))
+    prepared_from_keys unicode (marks_ordered None b).items
+    (all-swaps (IsPreparedKey unicode) (AreRunsSettled-swaps class_of_key max_run [] (map prepared_key b.items) (map prepared_key (marks_ordered None b).items) (keys_settled b)) (prepared_keys unicode b.items h))
 
--- settling the joiners keeps the buffer prepared
-pub prepared-joiners_settled : (unicode : UnicodeMeaning) (b : Buffer) → ArePrepared unicode b.items → ArePrepared unicode (joiners_settled b).items
-prepared-joiners_settled unicode b h =
-    prepared_from_faces unicode (joiners_settled b).items (subst (AllByRecursion (IsPreparedFace unicode)) (sym (keys-joiners_settled face_of (λ item. refl) b)) (prepared_faces unicode b.items h))
+-- the marks of a prepared list are those of its characters
+marks_of_chars : (unicode : UnicodeMeaning) (items : List Item) → ArePrepared unicode items → list_any is_mark_item items ≡ list_any (is_mark unicode) (map char_of items)
+marks_of_chars unicode [] h = refl
+marks_of_chars unicode (item ∷ items) h = ap₂ (λ s t. s || t) h.0.mark (marks_of_chars unicode items h.1)
 
-module _ (rules : Rules) (lawful : LawfulUnicode rules.unicode) (splits : SplitsFall rules.split rules.height rules.unicode.class) where
-  -- the characters of a prepared buffer, expanded and with its marks in order
-  abbrev pub ordered_text : Buffer → List ℕ
-  ordered_text b = map char_of (joiners_settled (marks_ordered (round_one rules b))).items
+pub mark_past_first_char : (unicode : UnicodeMeaning) (items : List Item) → ArePrepared unicode items → has_mark_past_first items ≡ list_any (is_mark unicode) (drop 1 (map char_of items))
+mark_past_first_char unicode [] h = refl
+mark_past_first_char unicode (item ∷ items) h = marks_of_chars unicode items h.1
 
-  abbrev text_of : Buffer → List ℕ
-  text_of b = map char_of b.items
+-- a prepared text without variation selectors, and no hook that reorders
+pub record IsPlain (rules : Rules) (b : Buffer) : Type 0 where
+  pub prepared : ArePrepared rules.unicode b.items
+  pub no_selector : HasNoSelectorItem rules b.items
+  pub no_reordering : rules.reorder ≡ None
 
-  decomposed_text : (b : Buffer) → ArePrepared rules.unicode b.items → IsDecomposed rules.split rules.height rules.unicode.class (has_glyph rules.glyph) (is_mark rules.unicode) max_run (text_of b) (ordered_text b)
-  decomposed_text b h =
-      subst (AreRunsSettled rules.unicode.class max_run [] _) (sym (chars-joiners_settled (marks_ordered (round_one rules b))))
-      (subst (λ l. AreRunsSettled rules.unicode.class max_run [] l (map char_of (marks_ordered (round_one rules b)).items))
-      (chars-expanded rules b.items ∙ sym (expanded-plain (is_mark rules.unicode) (λ in_cluster. longest_choice rules) (longest_choice rules) (λ in_cluster c. refl) (text_of b)))
-      (ordered_chars rules.unicode (round_one rules b) (prepared-expanded rules lawful b.items h)))
+pub IsPlain-from : (rules : Rules) (b : Buffer) → IsPrepared rules.unicode b.items → HasNoSelector rules (text_of b) → rules.reorder ≡ None → IsPlain rules b
+IsPlain-from rules b prepared no_selector no_reordering = record {
+  prepared = recursion_from_All (IsPreparedItem rules.unicode) b.items prepared;
+  no_selector = each_of_values char_of (λ c. rules.unicode.selector c ≡ false) b.items (recursion_from_All (λ c. rules.unicode.selector c ≡ false) (text_of b) no_selector);
+  no_reordering = no_reordering;
+}
 
-  -- the expanded list alone is equivalent to the text
-  pub expanded_is_equivalent_to_text : (b : Buffer) → IsEquivalent rules.split rules.height rules.unicode.class (text_of b) (map char_of (round_one rules b).items)
-  expanded_is_equivalent_to_text b =
-      subst (IsEquivalent rules.split rules.height rules.unicode.class (text_of b))
-      (expanded-plain (is_mark rules.unicode) (λ in_cluster. longest_choice rules) (longest_choice rules) (λ in_cluster c. refl) (text_of b) ∙ sym (chars-expanded rules b.items))
-      (choices_are_equivalent rules.split rules.height rules.unicode.class splits (has_glyph rules.glyph) (is_mark rules.unicode) (λ in_cluster. false) (text_of b))
+module _ (rules : Rules) where
+  -- the choices of the characters of a text
+  abbrev pub choices : List ℕ → List ℕ
+  choices text = expanded_text rules.split rules.height (has_glyph rules.glyph) (is_mark rules.unicode) rules.short text
 
-  -- so is the ordered one
-  pub ordered_is_equivalent_to_text : (b : Buffer) → ArePrepared rules.unicode b.items → IsEquivalent rules.split rules.height rules.unicode.class (text_of b) (ordered_text b)
-  ordered_is_equivalent_to_text b h =
-      ordered_is_equivalent rules.split rules.height rules.unicode.class splits (has_glyph rules.glyph) (is_mark rules.unicode) (λ in_cluster. false) max_run (text_of b) (ordered_text b) (decomposed_text b h)
+  -- a text recomposed by the class put out last
+  abbrev pub recomposed_by_last_text : List ℕ → List ℕ
+  recomposed_by_last_text text = recomposed rules.unicode.class (is_blocked_by_last rules.unicode.class) (is_mark rules.unicode) (join_with_glyph rules.join (has_glyph rules.glyph)) text
 
-  abbrev pub Supported : Buffer → Type 0
-  Supported b = IsWhollySupported rules.split rules.height rules.unicode.class (has_glyph rules.glyph) max_run (text_of b)
+  abbrev ordered_if : Bool → Option (Buffer → ℕ → ℕ → Buffer) → Buffer → Buffer
+  ordered_if test reorder one = joiners_settled (if test then marks_ordered reorder one else one)
 
-  -- canonical, with a glyph for each character of Full and no run that is too long
-  pub ordered_is_canonical : (b : Buffer) → ArePrepared rules.unicode b.items → Supported b → IsCanonical rules.split rules.unicode.class (ordered_text b)
-  ordered_is_canonical b h supports =
-      decomposed_is_canonical rules.split rules.height rules.unicode.class splits (has_glyph rules.glyph) (is_mark rules.unicode) max_run (text_of b) (ordered_text b) supports (decomposed_text b h)
+  ordered-marked : (b : Buffer) → IsPlain rules b → has_mark_past_first b.items ≡ true → ordered rules b ≡ joiners_settled (marks_ordered None (round_one rules b))
+  ordered-marked b plain marked = ap₂ (λ test reorder. ordered_if test reorder (round_one rules b)) marked plain.no_reordering
 
-  -- and equal exactly for equivalent texts
-  pub ordered_decides : (b c : Buffer) → ArePrepared rules.unicode b.items → ArePrepared rules.unicode c.items → Supported b → Supported c → (ordered_text b ≡ ordered_text c) ↔ IsEquivalent rules.split rules.height rules.unicode.class (text_of b) (text_of c)
-  ordered_decides b c h_b h_c of_b of_c =
-      decomposed_decides rules.split rules.height rules.unicode.class splits (has_glyph rules.glyph) (is_mark rules.unicode) max_run (text_of b) (ordered_text b) (text_of c) (ordered_text c)
-      of_b of_c (decomposed_text b h_b) (decomposed_text c h_c)
+  ordered-unmarked : (b : Buffer) → has_mark_past_first b.items ≡ false → ordered rules b ≡ joiners_settled (round_one rules b)
+  ordered-unmarked b unmarked = ap (λ test. ordered_if test rules.reorder (round_one rules b)) unmarked
+
+  -- without recomposing the normalised list is the ordered one
+  normalized-ordered : (b : Buffer) → (has_mark_past_first b.items && rules.recomposes) ≡ false → text_of (normalized rules b) ≡ text_of (ordered rules b)
+  normalized-ordered b stays = ap text_of (cond-false _ (round_three rules (ordered rules b)) (ordered rules b) stays)
+
+  pub normalized_is_ordered : (b : Buffer) → rules.recomposes ≡ false → text_of (normalized rules b) ≡ text_of (ordered rules b)
+  normalized_is_ordered b leaves = normalized-ordered b (and_right (has_mark_past_first b.items) rules.recomposes leaves)
+
+  -- without a mark past the first item it is the choices alone
+  pub normalized_is_choices : (b : Buffer) → IsPlain rules b → has_mark_past_first b.items ≡ false → text_of (normalized rules b) ≡ choices (text_of b)
+  normalized_is_choices b plain unmarked =
+      normalized-ordered b (and_left (has_mark_past_first b.items) rules.recomposes unmarked)
+      ∙ ap text_of (ordered-unmarked b unmarked) ∙ chars-joiners_settled (round_one rules b) ∙ chars-round_one rules b plain.prepared plain.no_selector
+
+  module _ (lawful : LawfulUnicode rules.unicode) where
+    -- with one, the runs of the ordered list are settled
+    pub ordered_settles : (b : Buffer) → IsPlain rules b → has_mark_past_first b.items ≡ true → AreRunsSettled rules.unicode.class max_run [] (choices (text_of b)) (text_of (ordered rules b))
+    ordered_settles b plain marked =
+        let one : Buffer = round_one rules b in
+        subst (AreRunsSettled rules.unicode.class max_run [] (choices (text_of b))) (sym (ap text_of (ordered-marked b plain marked) ∙ chars-joiners_settled (marks_ordered None one)))
+        (subst (λ l. AreRunsSettled rules.unicode.class max_run [] l (text_of (marks_ordered None one))) (chars-round_one rules b plain.prepared plain.no_selector)
+        (ordered_chars rules.unicode one (prepared-round_one rules lawful b plain.prepared)))
+
+    prepared-ordered_list : (b : Buffer) → IsPlain rules b → has_mark_past_first b.items ≡ true → ArePrepared rules.unicode (ordered rules b).items
+    prepared-ordered_list b plain marked =
+        let one : Buffer = round_one rules b in
+        subst (λ (c : Buffer). ArePrepared rules.unicode c.items) (sym (ordered-marked b plain marked))
+        (prepared-joiners_settled rules.unicode (marks_ordered None one) (prepared-ordered rules.unicode one (prepared-round_one rules lawful b plain.prepared)))
+
+    -- and in the modes that compose that list is recomposed
+    pub normalized_is_recomposed : (b : Buffer) → IsPlain rules b → has_mark_past_first b.items ≡ true → rules.recomposes ≡ true → text_of (normalized rules b) ≡ recomposed_by_last_text (text_of (ordered rules b))
+    normalized_is_recomposed b plain marked composes =
+        let both = and_from (has_mark_past_first b.items) rules.recomposes marked composes in
+        ap text_of (cond-true _ (round_three rules (ordered rules b)) (ordered rules b) both)
+        ∙ chars-round_three rules lawful (ordered rules b) (prepared-ordered_list b plain marked)

@@ -1,18 +1,23 @@
--- Prepared lists stay prepared, and what is settled of their items is settled of their characters.
-use Rattle.std.proofs.Common.{◌≡◌, ℕ, ◌<◌, Bool, true, false, if◌then◌else◌, ◌&&◌, List, [], ◌∷◌, map, Option, None, Some, refl, sym, ◌∙◌, ap, arith, inl, inr}
+-- Prepared lists stay prepared: what preparing goes by, and what round one, joiners and changes of clusters keep of it.
+use Rattle.std.proofs.Common.{◌≡◌, ℕ, ◌<◌, Bool, true, false, if◌then◌else◌, ◌&&◌, List, [], ◌∷◌, map, Option, None, Some, refl, sym, ◌∙◌, ap, subst, arith, inl, inr}
 use Rattle.std.proofs.lemmas.Bool.{cases_Bool, cases_eq, cond-true, both_ways, and_from}
 use Rattle.std.proofs.lemmas.Bool.Decides.{nat_tests}
 use Rattle.std.specs.List.{AllByRecursion}
 use Rattle.std.specs.Option.{option_map_or}
-use Rattle.shape_buffer.specs.Items.{Item, char_of, class_of_item}
+use Rattle.shape_buffer.specs.Buffer.{Buffer}
+use Rattle.shape_buffer.specs.Category.{is_mark_category}
+use Rattle.shape_buffer.specs.Items.{Item, char_of}
 use Rattle.shape_buffer.specs.Unicode.{UnicodeMeaning, LawfulUnicode, is_mark}
 use Rattle.shape_buffer.specs.UnicodeProps.{with_unicode_props, beyond_ascii}
-use Rattle.shape_buffer.specs.Runs.{AreRunsSettled}
-use Rattle.shape_buffer.proofs.EveryLemmas.{append_all}
-use Rattle.shape_buffer.proofs.MapLemmas.{AreRunsSettled-map}
+use Rattle.shape_buffer.specs.declared.buffer.general_category.hb_unicode_general_category_t.{hb_unicode_general_category_t}
+use Rattle.shape_buffer.specs.declared.buffer.settings.GlyphId.{GlyphId}
+use Rattle.shape_buffer.proofs.KeyLemmas.{IsKey}
 use Rattle.shape_pipeline.specs.Prepared.{IsPreparedItem}
 use Rattle.shape_pipeline.specs.Rules.{Rules}
-use Rattle.shape_pipeline.specs.RoundOne.{part_item, whole_item, expanded_item, expanded, expansion_of}
+use Rattle.shape_pipeline.specs.RoundOne.{part_item, whole_item, expansion_of, pairs_merged, round_one}
+use Rattle.shape_pipeline.specs.RoundTwo.{joiners_settled}
+use Rattle.shape_pipeline.proofs.JoinerLemmas.{keys-joiners_settled}
+use Rattle.shape_pipeline.proofs.RoundOneLemmas.{whole_item_is, expanded_all, keys-pairs_merged}
 
 -- the same by recursion on the list, for proofs that go along it
 abbrev pub ArePrepared : UnicodeMeaning → List Item → Type 0
@@ -26,7 +31,7 @@ module _ (unicode : UnicodeMeaning) (lawful : LawfulUnicode unicode) where
         | inr low ↦ let below : c < 128 = grind (arith, nat_tests) in absurd (both_ways _ (lawful.ascii_is_no_mark c below) mark)
       ]
 
-  unmarked_class : (c : ℕ) → is_mark unicode c ≡ false → unicode.class c ≡ 0
+  pub unmarked_class : (c : ℕ) → is_mark unicode c ≡ false → unicode.class c ≡ 0
   unmarked_class c no_mark =
       elim (cases_eq (unicode.class c) 0) [
         | inl none ↦ none
@@ -48,23 +53,59 @@ module _ (unicode : UnicodeMeaning) (lawful : LawfulUnicode unicode) where
   pub prepared-with_props : (item : Item) → IsPreparedItem unicode (with_unicode_props unicode item)
   prepared-with_props item = record { mark = refl; class = class_with_props item.codepoint }
 
+-- what being prepared goes by: the character, the class and the category
+abbrev pub PreparedKey : Type 0
+PreparedKey = ℕ × (ℕ × hb_unicode_general_category_t)
+
+abbrev pub prepared_key : Item → PreparedKey
+prepared_key item = (item.codepoint, (item.properties.modified_class, item.properties.general_category))
+
+pub IsKey-prepared_key : IsKey prepared_key
+IsKey-prepared_key = record { by_cluster = λ item cluster. refl; by_break = λ item. refl }
+
+abbrev pub IsPreparedKey : UnicodeMeaning → PreparedKey → Type 0
+IsPreparedKey unicode key = (is_mark_category key.1.1 ≡ is_mark unicode key.0) × (key.1.0 ≡ unicode.class key.0)
+
+pub chars_of_keys : (items : List Item) → map (λ (key : PreparedKey). key.0) (map prepared_key items) ≡ map char_of items
+chars_of_keys [] = refl
+chars_of_keys (item ∷ items) = ap (λ l. item.codepoint ∷ l) (chars_of_keys items)
+
+pub prepared_keys : (unicode : UnicodeMeaning) (items : List Item) → ArePrepared unicode items → AllByRecursion (IsPreparedKey unicode) (map prepared_key items)
+prepared_keys unicode [] h = tt
+prepared_keys unicode (item ∷ items) h = ((h.0.mark, h.0.class), prepared_keys unicode items h.1)
+
+pub prepared_from_keys : (unicode : UnicodeMeaning) (items : List Item) → AllByRecursion (IsPreparedKey unicode) (map prepared_key items) → ArePrepared unicode items
+prepared_from_keys unicode [] h = tt
+prepared_from_keys unicode (item ∷ items) h = (record { mark = h.0.0; class = h.0.1 }, prepared_from_keys unicode items h.1)
+
+-- what keeps these keys keeps a list prepared
+pub prepared_by_keys : (unicode : UnicodeMeaning) (old new : List Item) → map prepared_key new ≡ map prepared_key old → ArePrepared unicode old → ArePrepared unicode new
+prepared_by_keys unicode old new same h = prepared_from_keys unicode new (subst (AllByRecursion (IsPreparedKey unicode)) (sym same) (prepared_keys unicode old h))
+
+-- so does showing joiners
+pub prepared-joiners_settled : (unicode : UnicodeMeaning) (b : Buffer) → ArePrepared unicode b.items → ArePrepared unicode (joiners_settled b).items
+prepared-joiners_settled unicode b h = prepared_by_keys unicode b.items (joiners_settled b).items (keys-joiners_settled prepared_key (λ item. refl) b) h
+
 module _ (rules : Rules) (lawful : LawfulUnicode rules.unicode) where
+  -- an item of an expansion is prepared, and so is one that is recomposed
+  pub prepared-part : (item : Item) (c : ℕ) → IsPreparedItem rules.unicode (part_item rules.unicode rules.glyph item c)
+  prepared-part item c = record { mark = refl; class = class_with_props rules.unicode lawful c }
+
   prepared-parts : (item : Item) (cs : List ℕ) → ArePrepared rules.unicode (map (part_item rules.unicode rules.glyph item) cs)
   prepared-parts item [] = tt
-  prepared-parts item (c ∷ cs) = (record { mark = refl; class = class_with_props rules.unicode lawful c }, prepared-parts item cs)
+  prepared-parts item (c ∷ cs) = (prepared-part item c, prepared-parts item cs)
 
-  prepared-found : (item : Item) (found : Option (List ℕ)) → IsPreparedItem rules.unicode item → ArePrepared rules.unicode (option_map_or (map (part_item rules.unicode rules.glyph item)) found (whole_item rules.glyph item ∷ []))
-  prepared-found item None h = (record { mark = h.mark; class = h.class }, tt)
-  prepared-found item (Some cs) h = prepared-parts item cs
+  prepared-found : (invisible : Option GlyphId) (item : Item) (found : Option (List ℕ)) → IsPreparedItem rules.unicode item → ArePrepared rules.unicode (option_map_or (map (part_item rules.unicode rules.glyph item)) found (whole_item rules invisible item ∷ []))
+  prepared-found invisible item None h =
+      (whole_item_is rules invisible (IsPreparedItem rules.unicode) item (λ glyph. record { mark = h.mark; class = h.class }) (λ glyph space. record { mark = h.mark; class = h.class }), tt)
+  prepared-found invisible item (Some cs) h = prepared-parts item cs
 
-  -- expanding keeps a list prepared
-  pub prepared-expanded : (items : List Item) → ArePrepared rules.unicode items → ArePrepared rules.unicode (expanded rules items)
-  prepared-expanded [] h = tt
-  prepared-expanded (item ∷ items) h =
-      append_all (IsPreparedItem rules.unicode) (expanded_item rules item) (expanded rules items)
-      (prepared-found item (expansion_of rules item) h.0) (prepared-expanded items h.1)
-
--- what is settled of the items of a prepared list is settled of their characters
-pub settled_chars : (unicode : UnicodeMeaning) (limit : ℕ) (items new : List Item) → ArePrepared unicode items → AreRunsSettled class_of_item limit [] items new → AreRunsSettled unicode.class limit [] (map char_of items) (map char_of new)
-settled_chars unicode limit items new h settled =
-    AreRunsSettled-map (IsPreparedItem unicode) char_of class_of_item unicode.class (λ item prepared. sym prepared.class) limit [] items new tt h settled
+  -- round one keeps a list prepared
+  pub prepared-round_one : (b : Buffer) → ArePrepared rules.unicode b.items → ArePrepared rules.unicode (round_one rules b).items
+  prepared-round_one b h =
+      expanded_all rules b.invisible_glyph b.not_found_variation_selector_glyph (IsPreparedItem rules.unicode) (IsPreparedItem rules.unicode)
+      (λ item glyph prepared. record { mark = prepared.mark; class = prepared.class })
+      (λ item glyph prepared. record { mark = prepared.mark; class = prepared.class })
+      (λ short item prepared. prepared-found b.invisible_glyph item (expansion_of rules short item) prepared)
+      (pairs_merged rules b).items
+      (prepared_by_keys rules.unicode b.items (pairs_merged rules b).items (keys-pairs_merged rules prepared_key IsKey-prepared_key b) h)

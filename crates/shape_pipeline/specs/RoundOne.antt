@@ -91,7 +91,7 @@ is_selector_item rules item = rules.unicode.selector item.codepoint
 abbrev pub passed_item : Rules → Item → Item
 passed_item rules item = record item { glyph_index = option_map_or (λ g. g.0) (rules.glyph item.codepoint) item.glyph_index }
 
--- a selector that no glyph came of: it is marked, and seen where there is a glyph for such
+-- a selector that no glyph came of: it is marked, and no longer ignorable where there is a glyph for such
 abbrev pub marked_selector : Option GlyphId → Item → Item
 marked_selector not_found item = record item { properties = record item.properties {
   selector_mark = true;
@@ -129,7 +129,7 @@ pair_places rules place ((x ∷ v ∷ rest) ∷ parts) =
     if is_some (rules.variation x.codepoint v.codepoint) then place ∷ later else later
 pair_places rules place (part ∷ parts) = pair_places rules (place + length part) parts
 
--- ---- combining sequences (The Unicode Standard, D56)
+-- ---- combining sequences (as those of The Unicode Standard, D56, but of marks alone; one item may be a sequence too)
 
 -- an item with the marks directly after it; the first item of a list may be a mark itself
 abbrev pub sequences : List Item → List (List Item)
@@ -165,7 +165,7 @@ pairs_from rules place (sequence ∷ rest) =
     let later = pairs_from rules (place + length sequence) rest in
     if has_selector rules sequence then pair_places rules place (variants rules sequence) ++ later else later
 
--- two items that become one are merged first, from left to right
+-- two items that become one are merged first, from left to right; that this is done before the walk changes nothing, since the selector that goes is next to its item and in one cluster with it, so that a merge grows over both or neither
 abbrev pub pairs_merged : Rules → Buffer → Buffer
 pairs_merged rules b = fold (λ b place. merge_clusters place (place + 2) b) b (pairs_from rules 0 (sequences b.items))
 

@@ -1,5 +1,5 @@
 -- Round three of normalising: marks are composed with their starters again (The Unicode Standard, D115 to D117).
-use Rattle.std.specs.Prelude.{ℕ, suc, ◌+◌, Bool, List, [], ◌∷◌, ◌++◌, map, fold, replicate, length, get_or, Option}
+use Rattle.std.specs.Prelude.{ℕ, suc, ◌+◌, ◌&&◌, not, if◌then◌else◌, Bool, List, [], ◌∷◌, ◌++◌, map, fold, replicate, length, get_or, Option, None}
 use Rattle.std.specs.Option.{option_map}
 use Rattle.std.specs.List.{flat_map}
 use Rattle.shape_buffer.specs.Items.{Item, class_of_item, is_mark_item}
@@ -7,8 +7,8 @@ use Rattle.shape_buffer.specs.Positions.{zero_position}
 use Rattle.shape_buffer.specs.Buffer.{Buffer}
 use Rattle.shape_buffer.specs.BufferClusters.{merge_out_clusters}
 use Rattle.shape_buffer.specs.Recompose.{is_blocked_by_last, join_with_glyph, recomposed}
-use Rattle.shape_buffer.specs.declared.buffer.flags.ScratchFlags.{ScratchFlags}
 use Rattle.shape_pipeline.specs.Rules.{Rules, has_glyph}
+use Rattle.shape_pipeline.specs.declared.ot_shape_normalize.round_three.PlacedInfo.{PlacedInfo}
 use Rattle.shape_pipeline.specs.RoundOne.{part_item, seen_chars}
 
 -- a mark that was composed with a starter: the place where it stood, and the character that the two made
@@ -61,7 +61,26 @@ composed_chars out = flat_map (λ p. map (λ mark. mark.char) p.joined) out
 abbrev pub with_cluster_at : List Item → Placed → Item
 with_cluster_at items p = let at = get_or items p.place p.item in record p.item { cluster = at.cluster; mask = at.mask }
 
+-- an item that was put out, as the walk keeps it: with its place alone
+abbrev pub placed_info : Placed → PlacedInfo
+placed_info p = record { info = p.item; place = p.place }
+
+abbrev pub class_of_placed_info : PlacedInfo → ℕ
+class_of_placed_info p = class_of_item p.info
+
+-- the character that a starter makes with an item behind it and these marks, where the two compose
+abbrev pub composed_char : Rules → PlacedInfo → List PlacedInfo → PlacedInfo → Option ℕ
+composed_char rules starter marks next =
+    if is_mark_item next.info && not (is_blocked_by_last class_of_placed_info marks next)
+    then join_with_glyph rules.join (has_glyph rules.glyph) starter.info.codepoint next.info.codepoint
+    else None
+
+-- an item that was put out, with the cluster and the mask that stand at its place
+abbrev pub settled_info : List Item → PlacedInfo → Item
+settled_info items p = let at = get_or items p.place p.info in record p.info { cluster = at.cluster; mask = at.mask }
+
 -- round three of normalising: the buffer with its recomposed list, each span of a composition merged, at positions of zeros
+-- the spans are merged while the marks that go still stand: each is in one cluster with the item before it from then on, so that a later merge grows over both or neither
 abbrev pub round_three : Rules → Buffer → Buffer
 round_three rules b =
     let out = recomposed_items rules b.items in

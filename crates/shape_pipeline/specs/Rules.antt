@@ -70,6 +70,20 @@ rules_of unicode constants hooks reordered faces plan face = record {
   recomposes = mode_recomposes (used_mode constants.preference plan);
 }
 
+-- the rules where no shaper is kept: those of Unicode and a face alone
+abbrev pub rules_without_shaper : UnicodeMeaning → FaceMeaning → Rules
+rules_without_shaper unicode face = record {
+  unicode = unicode;
+  split = unicode.split;
+  height = unicode.height;
+  join = unicode.join;
+  glyph = face.nominal_glyph;
+  variation = face.variation_glyph;
+  reorder = None;
+  short = goes_short (pos 4);
+  recomposes = mode_recomposes (pos 4);
+}
+
 -- whether a character has a glyph
 abbrev pub has_glyph : (ℕ → Option GlyphId) → ℕ → Bool
 has_glyph glyph c = is_some (glyph c)

@@ -16,6 +16,8 @@ ghost use Rattle.shape_pipeline.specs.RoundTwo.{has_mark_past_first as has_mark_
 ghost use Rattle.shape_pipeline.specs.CanonicalForm.{NormalizesCanonically};
 ghost use Rattle.shape_pipeline.specs.Normalized.{normalized, BroughtInHaveGlyphs, HasItemGlyph, HookKeepsClusters, OrdersExpanded};
 
+mod compare;
+mod context;
 mod decompose;
 mod joiners;
 mod mode;
@@ -30,6 +32,8 @@ use crate::ot_shape_normalize::round_three::recompose;
 use crate::ot_shape_normalize::round_two::order_runs;
 use crate::ot_shape_plan::hb_ot_shape_plan_t;
 use crate::ot_shaper::hb_ot_shaper_t;
+pub use compare::normalized_equal;
+pub use context::hb_ot_shape_normalize_context_t;
 pub use mode::{
     HB_OT_SHAPE_NORMALIZATION_MODE_AUTO, HB_OT_SHAPE_NORMALIZATION_MODE_COMPOSED_DIACRITICS,
     HB_OT_SHAPE_NORMALIZATION_MODE_COMPOSED_DIACRITICS_NO_SHORT_CIRCUIT,
@@ -83,13 +87,19 @@ where
 
     ensures length { result ≡ Err ShapeError.Length → limit_of buffer.old < length (round_one
         (rules_of U.unicode S.constants S.hooks S.reordered F.face plan.now face.now) buffer.old).items }
+    ensures settings { cleared buffer.new ≡ cleared buffer.old }
     ensures cleared { OnErr result (buffer.new ≡ cleared buffer.old) }
     ensures empty { buffer.old.items ≡ [] → IsOk result }
 {
     if buffer.len() == 0 {
         return Ok(());
     }
-    let outcome = run_rounds::<U, F, M, S>(alloc, plan, buffer, face);
+    let mut ctx = hb_ot_shape_normalize_context_t {
+        plan,
+        buffer: &mut *buffer,
+        face,
+    };
+    let outcome = run_rounds::<U, F, M, S>(alloc, &mut ctx);
     if outcome.is_err() {
         buffer.reset();
     }
@@ -100,30 +110,29 @@ where
 /// composes them in the modes that do.
 fn run_rounds<U, F, M, S>(
     alloc: Global,
-    plan: &hb_ot_shape_plan_t<'_, S, M::Map, S::Data>,
-    buffer: &mut hb_buffer_t,
-    face: &F,
+    ctx: &mut hb_ot_shape_normalize_context_t<'_, F, S, M::Map, S::Data>,
 ) -> Result<(), ShapeError>
 where
     U: hb_unicode_funcs_t,
     F: hb_font_t,
     M: hb_ot_layout_t<F>,
     S: hb_ot_shaper_t<U, F, M>,
-    ensures ok { OnOk result (buffer.new ≡ normalized (rules_of U.unicode S.constants S.hooks S.reordered F.face plan.now face.now) buffer.old) }
+    ensures same_reference { ctx.new.buffer.ghost_name ≡ ctx.old.buffer.ghost_name }
+    ensures ok { OnOk result (ctx.new.buffer.now ≡ normalized (rules_of U.unicode S.constants S.hooks S.reordered F.face ctx.old.plan.now ctx.old.face.now) ctx.old.buffer.now) }
     ensures counted { OnOk result (length (round_one
-        (rules_of U.unicode S.constants S.hooks S.reordered F.face plan.now face.now) buffer.old).items ≤ limit_of buffer.old) }
-    ensures length { result ≡ Err ShapeError.Length → limit_of buffer.old < length (round_one
-        (rules_of U.unicode S.constants S.hooks S.reordered F.face plan.now face.now) buffer.old).items }
-    ensures settings { OnErr result (cleared buffer.new ≡ cleared buffer.old) }
+        (rules_of U.unicode S.constants S.hooks S.reordered F.face ctx.old.plan.now ctx.old.face.now) ctx.old.buffer.now).items ≤ limit_of ctx.old.buffer.now) }
+    ensures length { result ≡ Err ShapeError.Length → limit_of ctx.old.buffer.now < length (round_one
+        (rules_of U.unicode S.constants S.hooks S.reordered F.face ctx.old.plan.now ctx.old.face.now) ctx.old.buffer.now).items }
+    ensures settings { cleared ctx.new.buffer.now ≡ cleared ctx.old.buffer.now }
 {
-    let has_marks = has_mark_past_first(buffer.infos());
-    expand::<U, F, M, S>(alloc, plan, buffer, face)?;
+    let has_marks = has_mark_past_first(ctx.buffer.infos());
+    expand::<U, F, M, S>(alloc, ctx.plan, ctx.buffer, ctx.face)?;
     if has_marks {
-        order_runs::<U, F, M, S>(alloc, plan, buffer)?;
+        order_runs::<U, F, M, S>(alloc, ctx.plan, ctx.buffer)?;
     }
-    show_joiners(buffer);
-    if has_marks && recomposes::<U, F, M, S>(plan) {
-        recompose::<U, F, M, S>(alloc, plan, buffer, face)?;
+    show_joiners(ctx.buffer);
+    if has_marks && recomposes::<U, F, M, S>(ctx.plan) {
+        recompose::<U, F, M, S>(alloc, ctx.plan, ctx.buffer, ctx.face)?;
     }
     Ok(())
 }

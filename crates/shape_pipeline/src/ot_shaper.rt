@@ -64,8 +64,9 @@ pub trait hb_ot_shaper_t<U: hb_unicode_funcs_t, F: hb_font_t, M: hb_ot_layout_t<
     /// Whether this is the shaper of texts whose script needs nothing of its own.
     const IS_DEFAULT: bool;
 
-    /// How texts are to be normalised: 0 as far as the face needs, 1 decomposed, 2 and 3 composed with marks,
-    /// in 3 decomposed first wherever it can be, 4 as the layer chooses. Each acts as 1 so far.
+    /// How texts are to be normalised, 0 to 4: see
+    /// [`HB_OT_SHAPE_NORMALIZATION_MODE_NONE`](crate::ot_shape_normalize::HB_OT_SHAPE_NORMALIZATION_MODE_NONE)
+    /// and the others.
     const NORMALIZATION_PREFERENCE: i32;
 
     /// The script whose positioning lookups the shaper is made for.
@@ -80,10 +81,10 @@ pub trait hb_ot_shaper_t<U: hb_unicode_funcs_t, F: hb_font_t, M: hb_ot_layout_t<
     /// Whether `decompose` is given.
     const HAS_DECOMPOSE: bool;
 
-    /// Whether `compose` is given. Nothing composes so far.
+    /// Whether `compose` is given.
     const HAS_COMPOSE: bool;
 
-    /// Whether `reorder_marks` is given. Nothing calls it so far.
+    /// Whether `reorder_marks` is given.
     const HAS_REORDER_MARKS: bool;
 
     /// The record of the constants has their values.

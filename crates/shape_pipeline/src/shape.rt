@@ -20,8 +20,9 @@ use shape_buffer::interfaces::{hb_font_t, hb_ot_layout_t, hb_unicode_funcs_t};
 use std::alloc::Global;
 
 /// The glyphs of a text by a plan that fits it, with clusters that lead back to the text; positions are
-/// zeros. Each item has the glyph that the face answers for its character. Script and direction are
-/// guessed where they aren't set. Refuses with `Length` where the expanded list is longer than the run's
+/// zeros. The text is normalised in the mode that the plan's shaper prefers, and each item has the glyph
+/// that the face answers for its character, or what stands in for it. Script and direction are guessed
+/// where they aren't set. Refuses with `Length` where the expanded list is longer than the run's
 /// limit, and with `Memory` where a growth was refused; the fault holds the cleared buffer. An empty
 /// text gives an empty result and takes no memory.
 pub fn shape_with_plan<U, F, M, S>(

@@ -1,4 +1,5 @@
 pub mod Plain
+pub mod Marked
 pub mod Faces
 pub mod Splitting
 pub mod Reversing

@@ -6,6 +6,8 @@
 #[cfg(test)]
 mod calls;
 #[cfg(test)]
+mod modes;
+#[cfg(test)]
 mod rows;
 mod support;
 pub mod worked;

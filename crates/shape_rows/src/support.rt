@@ -1,13 +1,17 @@
-//! What the tests bring to shaping: plain functions of Unicode, faces of a few characters, no lookups,
-//! and shapers that split or reorder.
+//! What the tests bring to shaping: small functions of Unicode, faces of a few characters, no lookups, and
+//! shapers that split, compose or reorder.
 
+mod absorbing;
 mod faces;
+mod marked_unicode;
 mod no_lookups;
 mod plain_unicode;
 mod reversing;
 mod splitting;
 
-pub use faces::{EveryGlyph, FaceOf};
+pub use absorbing::AbsorbingShaper;
+pub use faces::{EveryGlyph, FaceOf, VariantFace};
+pub use marked_unicode::MarkedUnicode;
 pub use no_lookups::NoLookups;
 pub use plain_unicode::PlainUnicode;
 pub use reversing::ReversingShaper;

@@ -4,10 +4,13 @@
 //! read. The first line that can't be obeyed ends the run, with a status that says why.
 ghost use Rattle.std.specs.Prelude.{◌≡◌, ◌≤◌};
 
+mod mode;
+mod same;
 #[cfg(test)]
 mod tests;
 mod text;
 
+use crate::engine::mode::Mode;
 use crate::face::Face;
 use crate::parse::{Words, character, integer, natural};
 use shape_buffer::buffer::{BufferClusterLevel, GlyphId};
@@ -39,6 +42,7 @@ enum Outcome {
 #[derive(Drop)]
 struct Session {
     face: Face,
+    mode: Mode,
     level: BufferClusterLevel,
 }
 
@@ -50,6 +54,7 @@ pub fn run<R: BufRead + Drop, W: Write + Drop>(alloc: Global, mut reader: R, mut
 {
     let mut session = Session {
         face: Face::new(alloc, UNITS_PER_EM),
+        mode: Mode::Auto,
         level: BufferClusterLevel::MonotoneGraphemes,
     };
     let mut line: Vec<u8> = Vec::new(alloc);
@@ -109,9 +114,10 @@ impl Session {
         match command {
             "face" => self.set_face(alloc, words),
             "glyph" => self.set_glyph(words),
-            "mode" => set_mode(words),
+            "mode" => self.set_mode(words),
             "level" => self.set_level(words),
-            "text" => text::answer(alloc, &self.face, self.level, words, writer),
+            "text" => text::answer(alloc, &self.face, self.mode, self.level, words, writer),
+            "same" => same::answer(alloc, &self.face, self.mode, words, writer),
             _ => Outcome::Malformed,
         }
     }
@@ -144,6 +150,18 @@ impl Session {
         }
     }
 
+    /// `mode M`: how texts are normalised.
+    fn set_mode(&mut self, mut words: Words) -> Outcome {
+        let mode = words.next().and_then(|word| natural(word, 4));
+        match (mode.and_then(Mode::from_number), words.next()) {
+            (Some(mode), None) => {
+                self.mode = mode;
+                Outcome::Done
+            }
+            _ => Outcome::Malformed,
+        }
+    }
+
     /// `level N`: how far clusters are merged.
     fn set_level(&mut self, mut words: Words) -> Outcome {
         let level = match words.next().and_then(|word| natural(word, 2)) {
@@ -157,14 +175,5 @@ impl Session {
         }
         self.level = level;
         Outcome::Done
-    }
-}
-
-/// `mode M`: how texts are normalised, as yet in the one way that the run begins with.
-fn set_mode(mut words: Words) -> Outcome {
-    let mode = words.next().and_then(|word| natural(word, 4));
-    match (mode, words.next()) {
-        (Some(1), None) => Outcome::Done,
-        _ => Outcome::Malformed,
     }
 }

@@ -2,7 +2,7 @@
 //!
 //! A space, and nothing else, parts words. A digit is an ASCII digit; leading zeros are fine, a sign
 //! is none but one minus before a signed number.
-ghost use Rattle.std.specs.Prelude.{◌≡◌, ◌≤◌, ◌≢◌, [], ◌∷◌, ◌^◌, ◌<◌, length, slice_index};
+ghost use Rattle.std.specs.Prelude.{◌≡◌, ◌≤◌, ◌≢◌, ℕ, List, [], ◌∷◌, ◌++◌, ◌^◌, ◌<◌, length, slice_index, All};
 ghost use Rattle.std.specs.Option.{SomeIff, MatchOption};
 ghost use Rattle.std.specs.Iterator.{at_most};
 ghost use Rattle.std.specs.Str.Parse.{IsNumeral, digits_value, signed_digits_value, without_leading_sign};
@@ -23,6 +23,22 @@ impl<'a> Words<'a> {
         ensures { result.rest.now ≡ line.now }
     {
         Words { rest: line }
+    }
+
+    /// The words before and behind the first `/`, where that is a word by itself.
+    pub fn parted(self) -> Option<(Words<'a>, Words<'a>)>
+        ensures { MatchOption result
+            ((before behind : List (List ℕ)) → All (All (λ b. b ≢ 47)) before → words self.entry.rest.now ≢ before ++ (47 ∷ []) ∷ behind)
+            (λ sides. (words self.entry.rest.now ≡ words sides.0.rest.now ++ (47 ∷ []) ∷ words sides.1.rest.now) × All (λ b. b ≢ 47) sides.0.rest.now) }
+    {
+        let (first, second) = self.rest.split_once('/')?;
+        let ends = first.is_empty() || first.ends_with(' ');
+        let begins = second.is_empty() || second.starts_with(' ');
+        if ends && begins {
+            Some((Words::new(first), Words::new(second)))
+        } else {
+            None
+        }
     }
 }
 

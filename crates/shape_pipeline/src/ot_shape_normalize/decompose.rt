@@ -2,11 +2,11 @@
 //!
 //! The chain is walked in a loop that keeps the second parts in a list, so its depth is bounded by
 //! memory alone and the length of the expansion is known before any of it is put out.
-ghost use Rattle.std.specs.Prelude.{◌≡◌, [], ◌∷◌, ◌++◌, reverse, IfOk, Ok, true, false};
+ghost use Rattle.std.specs.Prelude.{◌≡◌, [], ◌∷◌, ◌++◌, reverse, take, IfOk, Ok, true, false};
 ghost use Rattle.std.specs.List.{list_all};
 ghost use Rattle.std.specs.Option.{option_map};
 ghost use Rattle.shape_buffer.specs.Chain.{kept};
-ghost use Rattle.shape_buffer.specs.Expansion.{chosen_expansion, found_parts};
+ghost use Rattle.shape_buffer.specs.Expansion.{chosen_expansion};
 ghost use Rattle.shape_pipeline.specs.Plan.{hooks_of};
 ghost use Rattle.shape_pipeline.specs.Rules.{used_split, used_height, has_glyph};
 
@@ -58,11 +58,13 @@ fn keep_second<F: hb_font_t>(face: &F, b: char, seconds: &mut Vec<char>) -> Resu
 }
 
 /// Walks along the chain of a character and keeps its second parts. Answers the last point that has a
-/// glyph behind which all second parts have, and how many second parts these are.
+/// glyph behind which all second parts have, and how many second parts these are; where the shortest
+/// expansion is asked, the first such point, and none for a character that has a glyph itself.
 fn walk_chain<U, F, M, S>(
     plan: &hb_ot_shape_plan_t<'_, S, M::Map, S::Data>,
     face: &F,
     c: char,
+    shortest: bool,
     seconds: &mut Vec<char>,
 ) -> Result<Option<(char, usize)>, AllocError>
 where
@@ -71,11 +73,14 @@ where
     M: hb_ot_layout_t<F>,
     S: hb_ot_shaper_t<U, F, M>,
     requires { seconds.old.items ≡ [] }
-    ensures { IfOk result (λ found. found_parts found seconds.new.items
+    ensures { IfOk result (λ found. option_map (λ f. f.0 ∷ reverse (take f.1 seconds.new.items)) found
         ≡ chosen_expansion (used_split U.unicode S.constants.has_decompose (hooks_of S.hooks plan.now face.now))
         (used_height U.unicode S.constants.has_decompose (hooks_of S.hooks plan.now face.now))
-        (has_glyph (F.face face.now).nominal_glyph) false c) }
+        (has_glyph (F.face face.now).nominal_glyph) shortest c) }
 {
+    if shortest && face.has_glyph(c) {
+        return Ok(None);
+    }
     let mut found = None;
     let mut point = c;
     'chain: while let Some((a, b)) = split_of::<U, F, M, S>(plan, face, point) {
@@ -85,17 +90,22 @@ where
         point = a;
         if face.has_glyph(a) {
             found = Some((a, seconds.len()));
+            if shortest {
+                return Ok(found);
+            }
         }
     }
     Ok(found)
 }
 
-/// The supported expansion of greatest length, `None` where none is supported.
+/// The supported expansion of greatest length, `None` where none is supported. Where the shortest is
+/// asked, the one of least length, `None` for a character that has a glyph too.
 pub(crate) fn decompose<U, F, M, S>(
     alloc: Global,
     plan: &hb_ot_shape_plan_t<'_, S, M::Map, S::Data>,
     face: &F,
     c: char,
+    shortest: bool,
 ) -> Result<Option<Expansion>, AllocError>
 where
     U: hb_unicode_funcs_t,
@@ -105,10 +115,11 @@ where
     ensures { IfOk result (λ found. option_map (λ x. x.first ∷ reverse x.seconds.items) found
         ≡ chosen_expansion (used_split U.unicode S.constants.has_decompose (hooks_of S.hooks plan.now face.now))
         (used_height U.unicode S.constants.has_decompose (hooks_of S.hooks plan.now face.now))
-        (has_glyph (F.face face.now).nominal_glyph) false c) }
+        (has_glyph (F.face face.now).nominal_glyph) shortest c) }
 {
     let mut seconds = Vec::new(alloc);
-    let Some((first, depth)) = walk_chain::<U, F, M, S>(plan, face, c, &mut seconds)? else {
+    let walked = walk_chain::<U, F, M, S>(plan, face, c, shortest, &mut seconds)?;
+    let Some((first, depth)) = walked else {
         return Ok(None);
     };
     seconds.truncate(depth);

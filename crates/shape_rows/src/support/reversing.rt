@@ -1,8 +1,9 @@
 //! A shaper whose `reorder_marks` hook reverses.
 ghost use Rattle.std.specs.Prelude.{◌≡◌, ◌<◌, ◌≤◌, true, false, None, pos, refl, length};
 ghost use Rattle.std.proofs.Common.{rules};
+ghost use Rattle.shape_pipeline.specs.Reorder.{exchanged};
 ghost use Rattle.shape_pipeline.specs.Shapers.{plain_constants, no_hooks, no_hooks-owed};
-ghost use Rattle.shape_rows.specs.Reversing.{exchanged, reversed, reversed-reorders};
+ghost use Rattle.shape_rows.specs.Reversing.{reversed, reversed-reorders};
 
 use shape_buffer::buffer::{hb_buffer_t, hb_tag_t};
 use shape_buffer::interfaces::{hb_font_t, hb_ot_layout_t, hb_unicode_funcs_t};

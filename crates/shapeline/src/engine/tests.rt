@@ -1,9 +1,9 @@
 //! Lines with what they answer, and runs whose reader or writer fails at one of its calls.
 
+mod modes;
+mod orders;
+
 use super::run;
-use super::text::shaped;
-use crate::face::Face;
-use shape_buffer::buffer::{BufferClusterLevel, GlyphBuffer, UnicodeBuffer};
 use std::alloc::Global;
 use std::io;
 use std::io::{BufReader, ErrorKind, Read, Write};
@@ -17,7 +17,7 @@ const PARTS: &[u8] = b"glyph 0041 1 600\nglyph 0302 2 0\nglyph 00C2 4 600\n";
 const FACE: &[u8] = b"glyph 0041 1 600\nglyph 0302 2 0\nglyph 0301 3 0\nglyph 00C2 4 600\n";
 
 /// Runs the program on two inputs in a row, and compares its status and its output.
-fn expect_run(
+pub(super) fn expect_run(
     rt: &impl Abort,
     alloc: Global,
     first: &[u8],
@@ -43,7 +43,7 @@ fn texts(rt: HostRuntime) {
         (FACE, b"text\n", b"normal\n"),
         (
             FACE,
-            b"level 1\ntext 0041 5d0 0302 1F600 41",
+            b"mode 1\nlevel 1\ntext 0041 5d0 0302 1F600 41",
             b"normal 0041@0 05D0@1 0302@3 1F600@5 0041@9\n",
         ),
         (
@@ -51,10 +51,10 @@ fn texts(rt: HostRuntime) {
             b" level  1 \n  text   41  301 \r\n# text 41\n#\xC3\x82\r\n\n  \r\ntext 41\r",
             b"normal 0041@0 0301@1\nnormal 0041@0\n",
         ),
-        (FACE, b"face 1000\ntext 1EA4\n", b"normal 1EA4@0\n"),
+        (FACE, b"mode 1\nface 1000\ntext 1EA4\n", b"normal 1EA4@0\n"),
         (
             PARTS,
-            b"glyph 000301 065535 -2147483648\ntext 1EA4\n",
+            b"mode 1\nglyph 000301 065535 -2147483648\ntext 1EA4\n",
             b"normal 0041@0 0302@0 0301@0\n",
         ),
         (
@@ -68,150 +68,9 @@ fn texts(rt: HostRuntime) {
     }
 }
 
-/// A face for U+0061 and the marks that the orders below are about, and a level that keeps graphemes apart.
-const MARKS: &[u8] =
-    b"level 1\nglyph 61 1 600\nglyph 5BC 2 0\nglyph 5C1 3 0\nglyph 301 4 0\nglyph 323 5 0\nglyph 34F 6 0\nglyph 5E9 7 500\n";
-
-/// Runs the program on the face of these marks and each of the lines.
-fn expect_orders(rt: &impl Abort, alloc: Global, cases: &[(&[u8], &[u8])]) {
-    for (lines, output) in cases {
-        expect_run(rt, alloc, MARKS, lines, 0, output);
-    }
-}
-
-#[test]
-fn ordering_merges(rt: HostRuntime) {
-    expect_orders(
-        &rt,
-        rt.alloc(),
-        &[
-            (b"text 61 301 323\n", b"normal 0061@0 0323@1 0301@1\n"),
-            // Each span of a run is merged by itself.
-            (
-                b"text 61 5BC 5C1 301 323\n",
-                b"normal 0061@0 05C1@1 05BC@1 0323@5 0301@5\n",
-            ),
-            // Marks of one class keep their order.
-            (
-                b"text 61 301 301 323 301\n",
-                b"normal 0061@0 0323@1 0301@1 0301@1 0301@7\n",
-            ),
-            // At this level nothing is merged.
-            (
-                b"level 2\ntext 61 301 323\n",
-                b"normal 0061@0 0323@3 0301@1\n",
-            ),
-        ],
-    );
-}
-
-#[test]
-fn no_mark_past_first(rt: HostRuntime) {
-    expect_orders(
-        &rt,
-        rt.alloc(),
-        &[(
-            b"text FB2C\ntext 5E9 5BC 5C1\n",
-            b"normal 05E9@0 05BC@0 05C1@0\nnormal 05E9@0 05C1@2 05BC@2\n",
-        )],
-    );
-}
-
-#[test]
-fn thirty_two(rt: HostRuntime) {
-    expect_orders(
-        &rt,
-        rt.alloc(),
-        &[
-            // A run of 33 marks stays, and one of 32 is put in order.
-            (
-                b"text 61 301 301 301 301 301 301 301 301 301 301 301 301 301 301 301 301 301 301 301 301 301 301 301 301 301 301 301 301 301 301 301 301 323",
-                b"normal 0061@0 0301@1 0301@3 0301@5 0301@7 0301@9 0301@11 0301@13 0301@15 0301@17 0301@19 0301@21 0301@23 0301@25 0301@27 0301@29 0301@31 0301@33 0301@35 0301@37 0301@39 0301@41 0301@43 0301@45 0301@47 0301@49 0301@51 0301@53 0301@55 0301@57 0301@59 0301@61 0301@63 0323@65\n",
-            ),
-            (
-                b"text 61 301 301 301 301 301 301 301 301 301 301 301 301 301 301 301 301 301 301 301 301 301 301 301 301 301 301 301 301 301 301 301 323",
-                b"normal 0061@0 0323@1 0301@1 0301@1 0301@1 0301@1 0301@1 0301@1 0301@1 0301@1 0301@1 0301@1 0301@1 0301@1 0301@1 0301@1 0301@1 0301@1 0301@1 0301@1 0301@1 0301@1 0301@1 0301@1 0301@1 0301@1 0301@1 0301@1 0301@1 0301@1 0301@1 0301@1 0301@1\n",
-            ),
-        ],
-    );
-}
-
-/// Shapes these characters, each in the cluster of its place, over a face without glyphs and at the level that
-/// keeps graphemes apart.
-fn glyphs_of(alloc: Global, text: &[char]) -> Result<GlyphBuffer, Fail> {
-    let mut buffer = UnicodeBuffer::new(alloc);
-    buffer.set_cluster_level(BufferClusterLevel::MonotoneCharacters);
-    let mut place: u32 = 0;
-    for c in text {
-        buffer.add(*c, place)?;
-        place = place.saturating_add(1);
-    }
-    Ok(shaped(alloc, &Face::new(alloc, 1000), buffer)?)
-}
-
-/// Compares characters and clusters.
-fn assert_rows(rt: &impl Abort, glyphs: &GlyphBuffer, rows: &[(char, u32)]) {
-    assert_eq!(rt; glyphs.len(), rows.len());
-    for (info, row) in glyphs.glyph_infos().iter().zip(rows) {
-        assert_eq!(rt; (info.codepoint, info.cluster), *row);
-    }
-}
-
-#[test]
-fn orders_through_the_library(rt: HostRuntime) -> Result<(), Fail> {
-    let glyphs = glyphs_of(rt.alloc(), &['a', '\u{301}', '\u{323}'])?;
-    assert_rows(&rt, &glyphs, &[('a', 0), ('\u{323}', 1), ('\u{301}', 1)]);
-    let glyphs = glyphs_of(rt.alloc(), &['\u{5e9}', '\u{5bc}', '\u{5c1}'])?;
-    assert_rows(
-        &rt,
-        &glyphs,
-        &[('\u{5e9}', 0), ('\u{5c1}', 1), ('\u{5bc}', 1)],
-    );
-    Ok(())
-}
-
-/// The second character after shaping one with so many marks of class 230, and one of class 220 behind them.
-fn second_of_many(alloc: Global, marks: usize) -> Result<Option<char>, Fail> {
-    let mut text = Vec::new(alloc);
-    text.resize(marks, '\u{301}')?;
-    text.insert(0, 'a')?;
-    text.push('\u{323}')?;
-    let glyphs = glyphs_of(alloc, text.as_slice())?;
-    Ok(glyphs.glyph_infos().get(1).map(|info| info.codepoint))
-}
-
-#[test]
-fn thirty_two_through_the_library(rt: HostRuntime) -> Result<(), Fail> {
-    assert_eq!(rt; second_of_many(rt.alloc(), 32)?, Some('\u{301}'));
-    assert_eq!(rt; second_of_many(rt.alloc(), 31)?, Some('\u{323}'));
-    Ok(())
-}
-
-/// Whether the third of the characters is hidden once they are shaped.
-fn third_is_hidden(alloc: Global, text: &[char]) -> Result<bool, Fail> {
-    let glyphs = glyphs_of(alloc, text)?;
-    let third = glyphs.glyph_infos().get(2);
-    Ok(third.is_some_and(|info| info._hb_glyph_info_get_hidden()))
-}
-
-#[test]
-fn grapheme_joiner(rt: HostRuntime) -> Result<(), Fail> {
-    expect_orders(
-        &rt,
-        rt.alloc(),
-        &[(
-            b"text 61 301 34F 323\ntext 61 323 34F 301\n",
-            b"normal 0061@0 0301@1 034F@3 0323@5\nnormal 0061@0 0323@1 034F@3 0301@5\n",
-        )],
-    );
-    assert!(rt; third_is_hidden(rt.alloc(), &['a', '\u{301}', '\u{34f}', '\u{323}'])?);
-    assert!(rt; !third_is_hidden(rt.alloc(), &['a', '\u{323}', '\u{34f}', '\u{301}'])?);
-    Ok(())
-}
-
 #[test]
 fn malformed_lines(rt: HostRuntime) {
-    let lines: [&[u8]; 29] = [
+    let lines: [&[u8]; 36] = [
         b"text 110000",
         b"text D800",
         b"text +41",
@@ -226,6 +85,13 @@ fn malformed_lines(rt: HostRuntime) {
         b"mode 5",
         b"mode -1",
         b"mode 1 1",
+        b"same",
+        b"same 41",
+        b"same 41/41",
+        b"same 41 /41",
+        b"same 41/ 41",
+        b"same 41 / 41 / 41",
+        b"same 41 / g",
         b"glyph 61 65536 1",
         b"glyph 61 +1 1",
         b"glyph 61 1 +1",

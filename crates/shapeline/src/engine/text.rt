@@ -6,25 +6,27 @@ ghost use Rattle.shapeline.specs.Text.{IsText, characters, utf8_len};
 ghost use Rattle.shapeline.specs.Words.{words as words_of};
 
 use crate::engine::Outcome;
+use crate::engine::mode::Mode;
 use crate::face::Face;
 use crate::no_lookups::NoLookups;
 use crate::parse::{Words, character};
-use crate::preferring::{Decomposed, Preferring};
+use crate::preferring::{
+    ComposedDiacritics, ComposedDiacriticsNoShortCircuit, Decomposed, Preferring, Shortest,
+};
 use crate::unicode_tables::UnicodeTables;
 use shape_buffer::buffer::{BufferClusterLevel, GlyphBuffer, ShapeError, UnicodeBuffer};
 use shape_pipeline::ot_shape_plan::hb_ot_shape_plan_t;
+use shape_pipeline::ot_shaper::{DEFAULT_SHAPER, hb_ot_shaper_t};
 use shape_pipeline::shape::shape_with_plan;
 use std::alloc::{AllocError, Global};
 use std::io::Write;
-
-/// The shaper of the one mode.
-type Shaper = Preferring<Decomposed>;
 
 /// Shapes a text and writes its answer, or the number of the refusal. Malformed where a word is no
 /// character, and where 32 bits can't count the bytes in UTF-8.
 pub fn answer<W: Write>(
     alloc: Global,
     face: &Face,
+    mode: Mode,
     level: BufferClusterLevel,
     words: Words,
     writer: &mut W,
@@ -35,7 +37,7 @@ pub fn answer<W: Write>(
     if text_len(words).is_none() {
         return Outcome::Malformed;
     }
-    let written = match normal_line(alloc, face, level, words) {
+    let written = match normal_line(alloc, face, mode, level, words) {
         Ok(line) => writer.write_all(line.as_bytes()),
         Err(ShapeError::Memory) => writer.write_all(b"refused 1\n"),
         Err(ShapeError::Length) => writer.write_all(b"refused 2\n"),
@@ -48,7 +50,7 @@ pub fn answer<W: Write>(
 
 /// How many bytes a text takes in UTF-8, where each word is a character and 32 bits can count them. Takes
 /// no memory, so that a malformed text is malformed however little there is.
-fn text_len(words: Words) -> Option<u32>
+pub(super) fn text_len(words: Words) -> Option<u32>
     ensures { SomeIff result (IsText (words_of words.entry.rest.now)) (utf8_len (words_of words.entry.rest.now)) }
 {
     let mut len: u32 = 0;
@@ -60,7 +62,7 @@ fn text_len(words: Words) -> Option<u32>
 
 /// A buffer with a text, whose clusters are byte offsets in UTF-8. Refuses with `Memory` where a growth was
 /// refused.
-fn filled(alloc: Global, words: Words) -> Result<UnicodeBuffer, ShapeError>
+pub(super) fn filled(alloc: Global, words: Words) -> Result<UnicodeBuffer, ShapeError>
     requires { IsText (words_of words.rest.now) }
     ensures ok { IfOk result (λ buffer. buffer.items ≡ items_from 0 (characters (words_of words.entry.rest.now))) }
     ensures memory { IsOkUnless result ShapeError.Memory }
@@ -76,25 +78,46 @@ fn filled(alloc: Global, words: Words) -> Result<UnicodeBuffer, ShapeError>
     Ok(buffer)
 }
 
-/// Shapes a text under a plan of its own.
+/// Shapes a text by the shaper of a mode.
 pub(super) fn shaped(
     alloc: Global,
     face: &Face,
+    mode: Mode,
     text: UnicodeBuffer,
 ) -> Result<GlyphBuffer, ShapeError> {
-    let shaper = Shaper::new();
+    match mode {
+        Mode::Shortest => shaped_by(alloc, face, &Preferring::<Shortest>::new(), text),
+        Mode::Decomposed => shaped_by(alloc, face, &Preferring::<Decomposed>::new(), text),
+        Mode::ComposedDiacritics => {
+            shaped_by(alloc, face, &Preferring::<ComposedDiacritics>::new(), text)
+        }
+        Mode::ComposedDiacriticsNoShortCircuit => {
+            let shaper = Preferring::<ComposedDiacriticsNoShortCircuit>::new();
+            shaped_by(alloc, face, &shaper, text)
+        }
+        Mode::Auto => shaped_by(alloc, face, &DEFAULT_SHAPER, text),
+    }
+}
+
+/// Shapes a text under a plan of its own.
+fn shaped_by<S: hb_ot_shaper_t<UnicodeTables, Face, NoLookups>>(
+    alloc: Global,
+    face: &Face,
+    shaper: &S,
+    text: UnicodeBuffer,
+) -> Result<GlyphBuffer, ShapeError> {
     let direction = text.as_inner().guessed_direction::<UnicodeTables>();
     let script = text.as_inner().guessed_script::<UnicodeTables>();
     let plan = hb_ot_shape_plan_t::new::<UnicodeTables, Face, NoLookups>(
         alloc,
         face,
-        &shaper,
+        shaper,
         direction,
         script,
         None,
         &[],
     )?;
-    match shape_with_plan::<UnicodeTables, Face, NoLookups, Shaper>(alloc, face, &plan, text) {
+    match shape_with_plan::<UnicodeTables, Face, NoLookups, S>(alloc, face, &plan, text) {
         Ok(glyphs) => Ok(glyphs),
         Err(fault) => Err(fault.cause),
     }
@@ -104,6 +127,7 @@ pub(super) fn shaped(
 fn normal_line(
     alloc: Global,
     face: &Face,
+    mode: Mode,
     level: BufferClusterLevel,
     words: Words,
 ) -> Result<String, ShapeError>
@@ -111,7 +135,7 @@ fn normal_line(
 {
     let mut text = filled(alloc, words)?;
     text.set_cluster_level(level);
-    let glyphs = shaped(alloc, face, text)?;
+    let glyphs = shaped(alloc, face, mode, text)?;
     Ok(printed(alloc, "normal", &glyphs)?)
 }
 

@@ -1,6 +1,7 @@
-use Rattle.std.proofs.Common.{◌≡◌, ◌≤◌, false, length, IfSome}
-use Rattle.shape_buffer.specs.Expansion.{chosen_expansion, greatest_supported, found_parts}
-use Rattle.shape_buffer.proofs.WalkLemmas.{walked}
+use Rattle.std.proofs.Common.{◌≡◌, ◌≤◌, length, IfSome}
+use Rattle.shape_buffer.specs.Expansion.{chosen_expansion}
+use Rattle.shape_buffer.proofs.ShortestWalkLemmas.{sought}
+use Rattle.shape_buffer.proofs.WalkLemmas.{found_parts, walked}
 use Rattle.shape_pipeline.specs.Plan.{hooks_of}
 use Rattle.shape_pipeline.specs.Rules.{used_split, used_height, has_glyph}
 use Rattle.shape_pipeline.proofs.ot_shape_normalize.decompose.walk_chain.Given as goal
@@ -14,7 +15,7 @@ invariant-chain g l =
     let height = used_height g.U.hb_unicode_funcs_t.unicode shaper.constants.has_decompose hooks in
     let test = has_glyph (g.F.hb_font_t.face l.face).nominal_glyph in
     record {
-      walk : chosen_expansion split height test false l.fn.c ≡ walked (found_parts l.found l.seconds.items) l.seconds.items (greatest_supported split test (height l.point) l.point);
+      walk : chosen_expansion split height test l.shortest l.fn.c ≡ walked (found_parts l.found l.seconds.items) l.seconds.items (sought split test l.shortest (height l.point) l.point);
       within : IfSome l.found (λ f. f.1 ≤ length l.seconds.items);
     }
 

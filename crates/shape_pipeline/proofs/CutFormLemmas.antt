@@ -1,0 +1,105 @@
+-- A text may be cut before an item that is no mark, and its parts normalised each by itself.
+use Rattle.std.proofs.Common.{◌≡◌, ℕ, true, false, List, [], ◌∷◌, ◌++◌, map, refl, sym, ◌∙◌, ap, ap₂, subst, inl, inr, append-nil, eq-eqb}
+use Rattle.std.proofs.lemmas.Bool.{cases_Bool, or_left}
+use Rattle.std.proofs.lemmas.List.{map-append}
+use Rattle.std.proofs.lemmas.List.Folds.{list_any-append}
+use Rattle.std.specs.List.{AllByRecursion, list_any}
+use Rattle.shape_buffer.proofs.CutLemmas.{cut}
+use Rattle.shape_buffer.proofs.ExpandedLemmas.{expanded-cut}
+use Rattle.shape_buffer.proofs.RunLemmas.{AreRunsSettled-unique, Swaps-nil, IsSettled-swaps}
+use Rattle.shape_buffer.specs.Buffer.{Buffer}
+use Rattle.shape_buffer.specs.Expanded.{begins_with_mark}
+use Rattle.shape_buffer.specs.Expansion.{choice}
+use Rattle.shape_buffer.specs.Items.{Item, char_of, is_mark_item}
+use Rattle.shape_buffer.specs.Recompose.{is_blocked_by_last, join_with_glyph}
+use Rattle.shape_buffer.specs.Runs.{AreRunsSettled}
+use Rattle.shape_buffer.specs.Unicode.{UnicodeMeaning, LawfulUnicode, is_mark}
+use Rattle.shape_pipeline.specs.CanonicalForm.{text_of, CutPremises}
+use Rattle.shape_pipeline.specs.Normalized.{ordered, normalized}
+use Rattle.shape_pipeline.specs.RoundTwo.{max_run, has_mark_past_first}
+use Rattle.shape_pipeline.specs.Rules.{Rules, has_glyph}
+use Rattle.shape_pipeline.proofs.NormalFormLemmas.{IsPlain, IsPlain-from, choices, recomposed_by_last_text, normalized_is_ordered, ordered_settles, normalized_is_recomposed}
+use Rattle.shape_pipeline.proofs.PreparedLemmas.{ArePrepared, unmarked_class}
+use Rattle.shape_pipeline.proofs.RoundOneLemmas.{HasNoSelectorItem, chars-round_one}
+
+-- what holds of each item of two lists joined holds of each item of the two
+parts_all : {A : Type 0} (P : A → Type 0) (xs ys : List A) → AllByRecursion P (xs ++ ys) → AllByRecursion P xs × AllByRecursion P ys
+parts_all P [] ys each = (tt, each)
+parts_all P (x ∷ xs) ys each = let rest = parts_all P xs ys each.1 in ((each.0, rest.0), rest.1)
+
+unmarked_text : (unicode : UnicodeMeaning) (items : List Item) → ArePrepared unicode items → begins_with_mark is_mark_item items ≡ false → begins_with_mark (is_mark unicode) (map char_of items) ≡ false
+unmarked_text unicode [] prepared unmarked = refl
+unmarked_text unicode (item ∷ items) prepared unmarked = sym prepared.0.mark ∙ unmarked
+
+-- a mark past the first item of the front is one past the first of the whole
+marked_whole : (front back : List Item) → has_mark_past_first front ≡ true → has_mark_past_first (front ++ back) ≡ true
+marked_whole [] back marked = cc
+marked_whole (x ∷ front) back marked = list_any-append is_mark_item front back ∙ or_left (list_any is_mark_item front) (list_any is_mark_item back) marked
+
+module _ (rules : Rules) where
+  abbrev Settles : List ℕ → List ℕ → Type 0
+  Settles old new = AreRunsSettled rules.unicode.class max_run [] old new
+
+  -- the parts of a plain text are plain
+  plain_parts : (old front back : Buffer) → old.items ≡ front.items ++ back.items → IsPlain rules old → IsPlain rules front × IsPlain rules back
+  plain_parts old front back parts plain =
+      let prepared = parts_all _ front.items back.items (subst (ArePrepared rules.unicode) parts plain.prepared) in
+      let no_selector = parts_all _ front.items back.items (subst (HasNoSelectorItem rules) parts plain.no_selector) in (
+        record { prepared = prepared.0; no_selector = no_selector.0; no_reordering = plain.no_reordering },
+        record { prepared = prepared.1; no_selector = no_selector.1; no_reordering = plain.no_reordering },
+      )
+
+  module _ (lawful : LawfulUnicode rules.unicode) where
+    -- settling and recomposing go part by part, where the second part begins with no mark or is empty
+    cut_text : (front back new other : List ℕ) → begins_with_mark (is_mark rules.unicode) back ≡ false → Settles front new → Settles back other
+        → Settles (front ++ back) (new ++ other) × (recomposed_by_last_text rules (new ++ other) ≡ recomposed_by_last_text rules new ++ recomposed_by_last_text rules other)
+    cut_text front [] new other unmarked settled_front settled_back =
+        let none : other ≡ [] = Swaps-nil rules.unicode.class max_run (IsSettled-swaps rules.unicode.class max_run [] other settled_back) in (
+          rw (none, append-nil front, append-nil new) settled_front,
+          rw (none, append-nil new) (sym (append-nil (recomposed_by_last_text rules new))),
+        )
+    cut_text front (c ∷ rest) new other unmarked settled_front settled_back =
+        cut rules.unicode.class max_run (is_blocked_by_last rules.unicode.class) (is_mark rules.unicode) (join_with_glyph rules.join (has_glyph rules.glyph))
+        front (c ∷ rest) c rest new other refl unmarked (eq-eqb (rules.unicode.class c) 0 (unmarked_class rules.unicode lawful c unmarked)) settled_front settled_back
+
+    module _ (old front back : Buffer) (premises : CutPremises rules old front back) where
+      whole : IsPlain rules old
+      whole = IsPlain-from rules old premises.prepared premises.no_selector premises.no_reordering
+
+      of_front : IsPlain rules front
+      of_front = (plain_parts old front back premises.parts whole).0
+
+      of_back : IsPlain rules back
+      of_back = (plain_parts old front back premises.parts whole).1
+
+      marked : has_mark_past_first old.items ≡ true
+      marked = rw premises.parts (marked_whole front.items back.items premises.front_marked)
+
+      choices_cut : choices rules (text_of old) ≡ choices rules (text_of front) ++ choices rules (text_of back)
+      choices_cut =
+          ap (λ items. choices rules (map char_of items)) premises.parts ∙ ap (choices rules) (map-append char_of front.items back.items)
+          ∙ expanded-cut (is_mark rules.unicode) (λ in_cluster. choice rules.split rules.height (has_glyph rules.glyph) (rules.short in_cluster)) (text_of front) (text_of back)
+          (unmarked_text rules.unicode back.items of_back.prepared premises.unmarked)
+
+      unmarked_choices : begins_with_mark (is_mark rules.unicode) (choices rules (text_of back)) ≡ false
+      unmarked_choices = ap (begins_with_mark (is_mark rules.unicode)) (sym (chars-round_one rules back of_back.prepared of_back.no_selector)) ∙ premises.unmarked_choice
+
+      both : Settles (choices rules (text_of front) ++ choices rules (text_of back)) (text_of (ordered rules front) ++ text_of (ordered rules back))
+          × (recomposed_by_last_text rules (text_of (ordered rules front) ++ text_of (ordered rules back)) ≡ recomposed_by_last_text rules (text_of (ordered rules front)) ++ recomposed_by_last_text rules (text_of (ordered rules back)))
+      both = cut_text (choices rules (text_of front)) (choices rules (text_of back)) (text_of (ordered rules front)) (text_of (ordered rules back)) unmarked_choices
+          (ordered_settles rules lawful front of_front premises.front_marked) (ordered_settles rules lawful back of_back premises.back_marked)
+
+      ordered_cuts : text_of (ordered rules old) ≡ text_of (ordered rules front) ++ text_of (ordered rules back)
+      ordered_cuts =
+          AreRunsSettled-unique rules.unicode.class max_run [] (choices rules (text_of old)) (text_of (ordered rules old)) (text_of (ordered rules front) ++ text_of (ordered rules back))
+          (ordered_settles rules lawful old whole marked)
+          (subst (λ l. Settles l (text_of (ordered rules front) ++ text_of (ordered rules back))) (sym choices_cut) both.0)
+
+      pub normalized_cuts : text_of (normalized rules old) ≡ text_of (normalized rules front) ++ text_of (normalized rules back)
+      normalized_cuts =
+          elim (cases_Bool rules.recomposes) [
+            | inr leaves ↦ normalized_is_ordered rules old leaves ∙ ordered_cuts ∙ sym (ap₂ ◌++◌ (normalized_is_ordered rules front leaves) (normalized_is_ordered rules back leaves))
+            | inl composes ↦
+                normalized_is_recomposed rules lawful old whole marked composes ∙ ap (recomposed_by_last_text rules) ordered_cuts ∙ both.1
+                ∙ sym (ap₂ ◌++◌ (normalized_is_recomposed rules lawful front of_front premises.front_marked composes) (normalized_is_recomposed rules lawful back of_back premises.back_marked composes))
+          ]

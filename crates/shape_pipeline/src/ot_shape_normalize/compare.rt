@@ -1,0 +1,95 @@
+//! Comparing two texts by their normalised lists.
+ghost use Rattle.std.specs.Prelude.{◌≡◌, ◌<◌, ◌↔◌, ◌⊎◌, ◌==◌, IsTrue, IfOk, OnOk, OnErr, Err, length, map};
+ghost use Rattle.std.specs.List.{list_all, zip};
+ghost use Rattle.shape_buffer.specs.Buffer.{cleared, limit_of};
+ghost use Rattle.shape_buffer.specs.Items.{char_of};
+ghost use Rattle.shape_pipeline.specs.CanonicalForm.{text_of, AreEquivalent, CanonicalFormPremises};
+ghost use Rattle.shape_pipeline.specs.Normalized.{normalized};
+ghost use Rattle.shape_pipeline.specs.RoundOne.{round_one};
+ghost use Rattle.shape_pipeline.specs.Rules.{rules_of};
+
+use crate::ot_shape_normalize::_hb_ot_shape_normalize;
+use crate::ot_shape_plan::hb_ot_shape_plan_t;
+use crate::ot_shaper::hb_ot_shaper_t;
+use shape_buffer::buffer::{ShapeError, hb_buffer_t, hb_glyph_info_t};
+use shape_buffer::interfaces::{hb_font_t, hb_ot_layout_t, hb_unicode_funcs_t};
+use std::alloc::Global;
+
+/// Normalises two buffers and says whether they have the same characters then. In the two modes that
+/// decompose fully, prepared texts of which the face has all characters of their full decompositions are
+/// told so to be canonically equivalent or not (UAX 15), where each has a mark past its first character.
+///
+/// Refuses as [`_hb_ot_shape_normalize`] does for one of the buffers; both are cleared then.
+pub fn normalized_equal<U, F, M, S>(
+    alloc: Global,
+    plan: &hb_ot_shape_plan_t<'_, S, M::Map, S::Data>,
+    face: &F,
+    a: &mut hb_buffer_t,
+    b: &mut hb_buffer_t,
+) -> Result<bool, ShapeError>
+where
+    U: hb_unicode_funcs_t,
+    F: hb_font_t,
+    M: hb_ot_layout_t<F>,
+    S: hb_ot_shaper_t<U, F, M>,
+    ensures first { OnOk result (a.new ≡ normalized (rules_of U.unicode S.constants S.hooks S.reordered F.face plan.now face.now) a.old) }
+    ensures second { OnOk result (b.new ≡ normalized (rules_of U.unicode S.constants S.hooks S.reordered F.face plan.now face.now) b.old) }
+    ensures equal { IfOk result (λ equal. IsTrue equal ↔ (text_of a.new ≡ text_of b.new)) }
+    ensures equivalent { IfOk result (λ equal. CanonicalFormPremises (rules_of U.unicode S.constants S.hooks S.reordered F.face plan.now face.now) a.old
+        → CanonicalFormPremises (rules_of U.unicode S.constants S.hooks S.reordered F.face plan.now face.now) b.old
+        → IsTrue equal ↔ AreEquivalent (rules_of U.unicode S.constants S.hooks S.reordered F.face plan.now face.now) (text_of a.old) (text_of b.old)) }
+    ensures length { result ≡ Err ShapeError.Length → (limit_of a.old < length (round_one
+        (rules_of U.unicode S.constants S.hooks S.reordered F.face plan.now face.now) a.old).items) ⊎ (limit_of b.old < length (round_one
+        (rules_of U.unicode S.constants S.hooks S.reordered F.face plan.now face.now) b.old).items) }
+    ensures cleared_first { OnErr result (a.new ≡ cleared a.old) }
+    ensures cleared_second { OnErr result (b.new ≡ cleared b.old) }
+{
+    let outcome = normalize_both::<U, F, M, S>(alloc, plan, face, a, b);
+    if outcome.is_err() {
+        a.reset();
+        b.reset();
+    }
+    outcome?;
+    Ok(have_same_characters(a.infos(), b.infos()))
+}
+
+/// Normalises the first buffer, then the second.
+fn normalize_both<U, F, M, S>(
+    alloc: Global,
+    plan: &hb_ot_shape_plan_t<'_, S, M::Map, S::Data>,
+    face: &F,
+    a: &mut hb_buffer_t,
+    b: &mut hb_buffer_t,
+) -> Result<(), ShapeError>
+where
+    U: hb_unicode_funcs_t,
+    F: hb_font_t,
+    M: hb_ot_layout_t<F>,
+    S: hb_ot_shaper_t<U, F, M>,
+    ensures first { OnOk result (a.new ≡ normalized (rules_of U.unicode S.constants S.hooks S.reordered F.face plan.now face.now) a.old) }
+    ensures second { OnOk result (b.new ≡ normalized (rules_of U.unicode S.constants S.hooks S.reordered F.face plan.now face.now) b.old) }
+    ensures length { result ≡ Err ShapeError.Length → (limit_of a.old < length (round_one
+        (rules_of U.unicode S.constants S.hooks S.reordered F.face plan.now face.now) a.old).items) ⊎ (limit_of b.old < length (round_one
+        (rules_of U.unicode S.constants S.hooks S.reordered F.face plan.now face.now) b.old).items) }
+    ensures settings_first { cleared a.new ≡ cleared a.old }
+    ensures settings_second { cleared b.new ≡ cleared b.old }
+{
+    _hb_ot_shape_normalize::<U, F, M, S>(alloc, plan, a, face)?;
+    _hb_ot_shape_normalize::<U, F, M, S>(alloc, plan, b, face)
+}
+
+/// Whether two lists have the same characters.
+fn have_same_characters(a: &[hb_glyph_info_t], b: &[hb_glyph_info_t]) -> bool
+    ensures { IsTrue result ↔ (map char_of a.now ≡ map char_of b.now) }
+{
+    a.len() == b.len() && begin_alike(a, b)
+}
+
+/// Whether two lists have the same characters as far as both go.
+fn begin_alike(a: &[hb_glyph_info_t], b: &[hb_glyph_info_t]) -> bool
+    ensures { result ≡ list_all (λ pair. pair.0.codepoint == pair.1.codepoint) (zip a.now b.now) }
+{
+    a.iter()
+        .zip(b.iter())
+        .all(|(x, y)| x.codepoint == y.codepoint)
+}

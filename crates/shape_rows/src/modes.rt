@@ -1,0 +1,205 @@
+//! Normalised lists of texts with marks, selectors and spaces, over hooks and faces of the tests' own.
+
+use crate::support::{
+    AbsorbingShaper, FaceOf, MarkedUnicode, NoLookups, ReversingShaper, VariantFace,
+};
+use shape_buffer::buffer::{Direction, GlyphId, ScratchFlags, UnicodeBuffer, hb_buffer_t};
+use shape_buffer::interfaces::hb_font_t;
+use shape_buffer::interfaces::space_types::{SPACE_EM, SPACE_FIGURE};
+use shape_pipeline::ot_shape_normalize::{_hb_ot_shape_normalize, normalized_equal};
+use shape_pipeline::ot_shape_plan::hb_ot_shape_plan_t;
+use shape_pipeline::ot_shaper::{DEFAULT_SHAPER, hb_default_shaper_t, hb_ot_shaper_t};
+use std::alloc::Global;
+use std::process::Abort;
+use std::test::Fail;
+
+/// A text whose items have the properties of their characters, each in the cluster of its place.
+fn prepared(alloc: Global, text: &[char]) -> Result<hb_buffer_t, Fail> {
+    let mut buffer = UnicodeBuffer::new(alloc);
+    let mut place: u32 = 0;
+    for c in text {
+        buffer.add(*c, place)?;
+        place = place.saturating_add(1);
+    }
+    let mut buffer = buffer.into_inner();
+    let mut scratch_flags = buffer.scratch_flags();
+    for i in 0..buffer.len() {
+        let mut info = buffer.infos()[i];
+        info.init_unicode_props::<MarkedUnicode>(&mut scratch_flags);
+        buffer.set_info(i, info);
+    }
+    buffer.set_scratch_flags(scratch_flags);
+    Ok(buffer)
+}
+
+/// Normalises a prepared buffer under a plan of its own.
+fn normalize<F, S>(
+    alloc: Global,
+    face: &F,
+    shaper: &S,
+    buffer: &mut hb_buffer_t,
+) -> Result<(), Fail>
+where
+    F: hb_font_t,
+    S: hb_ot_shaper_t<MarkedUnicode, F, NoLookups, Data = ()>,
+{
+    let plan = hb_ot_shape_plan_t::new::<MarkedUnicode, F, NoLookups>(
+        alloc,
+        face,
+        shaper,
+        Direction::LeftToRight,
+        None,
+        None,
+        &[],
+    )?;
+    _hb_ot_shape_normalize::<MarkedUnicode, F, NoLookups, S>(alloc, &plan, buffer, face)?;
+    Ok(())
+}
+
+/// Compares characters, glyphs and clusters.
+fn assert_items(rt: &impl Abort, buffer: &hb_buffer_t, items: &[(char, u32, u32)]) {
+    assert_eq!(rt; buffer.len(), items.len());
+    for (info, item) in buffer.infos().iter().zip(items) {
+        assert_eq!(rt; (info.codepoint, info.glyph_index, info.cluster), *item);
+    }
+}
+
+#[test]
+fn a_reorder_hook_has_the_last_word(rt: HostRuntime) -> Result<(), Fail> {
+    let alloc = rt.alloc();
+    let face = FaceOf(&['a', '\u{301}', '\u{323}']);
+    for text in [['a', '\u{323}', '\u{301}'], ['a', '\u{301}', '\u{323}']] {
+        let mut buffer = prepared(alloc, &text)?;
+        normalize(alloc, &face, &ReversingShaper, &mut buffer)?;
+        let clusters = if text[1] == '\u{323}' { (2, 1) } else { (1, 1) };
+        assert_items(
+            &rt,
+            &buffer,
+            &[
+                ('a', 0x61, 0),
+                ('\u{301}', 0x301, clusters.0),
+                ('\u{323}', 0x323, clusters.1),
+            ],
+        );
+    }
+    Ok(())
+}
+
+#[test]
+fn a_compose_hook_is_asked(rt: HostRuntime) -> Result<(), Fail> {
+    let alloc = rt.alloc();
+    let mut buffer = prepared(alloc, &['a', '\u{301}', '\u{301}', 'b'])?;
+    normalize(alloc, &FaceOf(&['a']), &AbsorbingShaper, &mut buffer)?;
+    assert_items(&rt, &buffer, &[('a', 0x61, 0), ('b', 0, 3)]);
+    Ok(())
+}
+
+#[test]
+fn a_selector_takes_part_in_the_choice_of_a_glyph(rt: HostRuntime) -> Result<(), Fail> {
+    let alloc = rt.alloc();
+    let text = ['a', '\u{FE00}', '\u{FE01}', 'a', '\u{FE01}', 'b'];
+    let mut buffer = prepared(alloc, &text)?;
+    normalize(alloc, &VariantFace(&['a', 'b']), &DEFAULT_SHAPER, &mut buffer)?;
+    assert_items(
+        &rt,
+        &buffer,
+        &[
+            ('a', 7, 0),
+            ('\u{FE01}', 0, 2),
+            ('a', 0x61, 3),
+            ('\u{FE01}', 0, 4),
+            ('b', 0x62, 5),
+        ],
+    );
+    let marks = [false, false, false, true, false];
+    for (info, mark) in buffer.infos().iter().zip(marks) {
+        assert_eq!(rt; info._hb_glyph_info_get_selector_mark(), mark);
+    }
+    assert!(rt; buffer.infos()[3]._hb_glyph_info_get_ignorable());
+    assert_eq!(rt; buffer.scratch_flags().0 & 16, 16);
+    Ok(())
+}
+
+#[test]
+fn a_selector_without_a_variant_is_marked(rt: HostRuntime) -> Result<(), Fail> {
+    let alloc = rt.alloc();
+    let mut buffer = prepared(alloc, &['a', '\u{FE00}', '\u{FE01}'])?;
+    buffer.set_not_found_variation_selector_glyph(Some(GlyphId(9)));
+    normalize(alloc, &FaceOf(&['a']), &DEFAULT_SHAPER, &mut buffer)?;
+    assert_items(
+        &rt,
+        &buffer,
+        &[('a', 0x61, 0), ('\u{FE00}', 0, 1), ('\u{FE01}', 0, 2)],
+    );
+    let infos = buffer.infos();
+    assert!(rt; infos[1]._hb_glyph_info_get_selector_mark() && !infos[1]._hb_glyph_info_get_ignorable());
+    assert!(rt; !infos[2]._hb_glyph_info_get_selector_mark() && infos[2]._hb_glyph_info_get_ignorable());
+    Ok(())
+}
+
+/// The glyph and the remembered space type of one character, and whether the run has seen such a space.
+fn space_of(
+    alloc: Global,
+    face: &FaceOf<'_>,
+    invisible: Option<GlyphId>,
+    c: char,
+) -> Result<(u32, u8, bool), Fail> {
+    let mut buffer = prepared(alloc, &[c])?;
+    buffer.set_invisible_glyph(invisible);
+    normalize(alloc, face, &DEFAULT_SHAPER, &mut buffer)?;
+    let info = buffer.infos().first().ok_or(Fail::from("no item"))?;
+    let seen = buffer.scratch_flags().0 & 4 == 4;
+    Ok((info.glyph_index, info._hb_glyph_info_get_space_type(), seen))
+}
+
+#[test]
+fn spaces_without_a_glyph(rt: HostRuntime) -> Result<(), Fail> {
+    let alloc = rt.alloc();
+    let (none, space) = (FaceOf(&[]), FaceOf(&[' ']));
+    let invisible = Some(GlyphId(5));
+    assert_eq!(rt; space_of(alloc, &space, None, '\u{2003}')?, (0x20, SPACE_EM, true));
+    assert_eq!(rt; space_of(alloc, &space, invisible, '\u{2007}')?, (0x20, SPACE_FIGURE, true));
+    assert_eq!(rt; space_of(alloc, &none, invisible, '\u{2003}')?, (5, SPACE_EM, true));
+    assert_eq!(rt; space_of(alloc, &none, None, '\u{2003}')?, (0, 0, false));
+    assert_eq!(rt; space_of(alloc, &FaceOf(&['\u{2003}']), None, '\u{2003}')?, (0x2003, 0, false));
+    Ok(())
+}
+
+#[test]
+fn no_break_hyphen(rt: HostRuntime) -> Result<(), Fail> {
+    let alloc = rt.alloc();
+    let mut buffer = prepared(alloc, &['\u{2011}'])?;
+    normalize(alloc, &FaceOf(&['\u{2010}']), &DEFAULT_SHAPER, &mut buffer)?;
+    assert_items(&rt, &buffer, &[('\u{2011}', 0x2010, 0)]);
+    Ok(())
+}
+
+#[test]
+fn two_texts_are_compared(rt: HostRuntime) -> Result<(), Fail> {
+    let alloc = rt.alloc();
+    let face = FaceOf(&['a', '\u{301}', '\u{323}']);
+    let plan = hb_ot_shape_plan_t::new::<MarkedUnicode, FaceOf<'_>, NoLookups>(
+        alloc,
+        &face,
+        &DEFAULT_SHAPER,
+        Direction::LeftToRight,
+        None,
+        None,
+        &[],
+    )?;
+    let cases: [(&[char], bool); 4] = [
+        (&['a', '\u{301}', '\u{323}'], true),
+        (&['a', '\u{323}', '\u{301}'], true),
+        (&['a', '\u{323}', '\u{323}'], false),
+        (&['a', '\u{323}'], false),
+    ];
+    for (text, equal) in cases {
+        let mut a = prepared(alloc, &['a', '\u{301}', '\u{323}'])?;
+        let mut b = prepared(alloc, text)?;
+        let answer = normalized_equal::<MarkedUnicode, FaceOf<'_>, NoLookups, hb_default_shaper_t>(
+            alloc, &plan, &face, &mut a, &mut b,
+        )?;
+        assert_eq!(rt; answer, equal);
+    }
+    Ok(())
+}
