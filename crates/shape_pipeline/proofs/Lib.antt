@@ -3,7 +3,9 @@ pub mod StepLemmas
 pub mod RulesLemmas
 pub mod ReorderLemmas
 pub mod PieceLemmas
+pub mod PartLemmas
 pub mod SequenceLemmas
+pub mod DrawnLemmas
 pub mod RoundOneLemmas
 pub mod RoundThreeLemmas
 pub mod RecomposedLemmas
@@ -12,6 +14,7 @@ pub mod SettleLemmas
 pub mod RunWalkLemmas
 pub mod JoinerLemmas
 pub mod NormalizedLemmas
+pub mod SettingLemmas
 pub mod PreparedLemmas
 pub mod RecomposedCharsLemmas
 pub mod NormalFormLemmas
@@ -21,5 +24,7 @@ pub mod CanonicalFormLemmas
 pub mod RunClusterLemmas
 pub mod OrderedClusterLemmas
 pub mod ClusterOrderLemmas
+pub mod RecomposedItemLemmas
+pub mod RecomposedClusterLemmas
 pub mod ItemGlyphLemmas
 pub mod SelectorLemmas

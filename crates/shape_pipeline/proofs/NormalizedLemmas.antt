@@ -1,58 +1,135 @@
 -- What a normalised list has of the list that it was made of.
-use Rattle.std.proofs.Common.{◌≡◌, ℕ, ◌<◌, ◌≤◌, ◌⊎◌, ◌==◌, Result, Ok, Err, OnOk, Bool, true, false, cond, List, [], ◌∷◌, length, map, bit_and, refl, sym, ◌∙◌, ap, arith, inl, inr}
-use Rattle.std.specs.List.{All, Contains}
-use Rattle.std.proofs.lemmas.Bool.{cases_Bool}
+use Rattle.std.proofs.Common.{◌≡◌, ℕ, ◌<◌, ◌≤◌, ◌⊎◌, ◌==◌, ◌&&◌, Result, Ok, Err, OnOk, Bool, true, false, if◌then◌else◌, List, [], ◌∷◌, length, map, bit_and, Option, None, refl, sym, subst, ◌∙◌, ap, arith, inl, inr}
+use Rattle.std.specs.List.{AllByRecursion, Contains}
+use Rattle.std.proofs.lemmas.Bool.{cases_Bool, cond-true}
 use Rattle.std.proofs.lemmas.List.{length-map}
-use Rattle.shape_buffer.specs.Items.{Item, char_of}
+use Rattle.std.proofs.lemmas.List.Elements.{All-from_recursion, recursion_from_All}
+use Rattle.shape_buffer.specs.Items.{Item, char_of, class_of_item}
 use Rattle.shape_buffer.specs.Buffer.{Buffer}
 use Rattle.shape_buffer.specs.declared.buffer.positions.GlyphPosition.{GlyphPosition}
 use Rattle.shape_buffer.specs.Unicode.{UnicodeMeaning}
 use Rattle.shape_buffer.specs.UnicodeProps.{with_unicode_props}
+use Rattle.shape_buffer.proofs.KeyLemmas.{IsKey, IsKey-unflagged}
 use Rattle.shape_pipeline.specs.Rules.{Rules, has_glyph}
-use Rattle.shape_pipeline.specs.RoundOne.{round_one}
-use Rattle.shape_pipeline.specs.RoundTwo.{has_mark_past_first, marks_ordered, joiners_settled}
-use Rattle.shape_pipeline.specs.Normalized.{normalized, BroughtInHaveGlyphs}
+use Rattle.shape_pipeline.specs.RoundOne.{round_one, part_item}
+use Rattle.shape_pipeline.specs.RoundTwo.{has_mark_past_first, marks_ordered, joiners_settled, unplaced, OrdersMarks}
+use Rattle.shape_pipeline.specs.RoundThree.{round_three}
+use Rattle.shape_pipeline.specs.Normalized.{ordered, normalized, BroughtInHaveGlyphs, OrdersExpanded}
 use Rattle.shape_pipeline.specs.Steps.{with_mapped_glyph, glyphs_mapped}
 use Rattle.shape_pipeline.specs.Shaped.{prepared, shaped}
-use Rattle.shape_pipeline.proofs.RoundOneLemmas.{expanded_brings_in}
-use Rattle.shape_pipeline.proofs.SettleLemmas.{length-marks_ordered, chars-marks_ordered}
-use Rattle.shape_pipeline.proofs.JoinerLemmas.{chars-joiners_settled}
+use Rattle.shape_pipeline.proofs.JoinerLemmas.{keys-joiners_settled, chars-joiners_settled}
+use Rattle.shape_pipeline.proofs.OrderedLemmas.{marks_ordered_settles}
+use Rattle.shape_pipeline.proofs.RecomposedItemLemmas.{round_three_all, length-round_three}
+use Rattle.shape_pipeline.proofs.ReorderLemmas.{LawfulReorder}
+use Rattle.shape_pipeline.proofs.RoundOneLemmas.{round_one_brings_in}
+use Rattle.shape_pipeline.proofs.SequenceLemmas.{each_of_values, each_value}
+use Rattle.shape_pipeline.proofs.SettleLemmas.{length-marks_ordered, keys-marks_ordered}
 
--- ---- the later rounds
+-- ---- the rounds by their tests
+
+module _ (rules : Rules) where
+  -- marks in order where the test says so
+  abbrev ordered_where : Bool → Buffer → Buffer
+  ordered_where test b = if test then marks_ordered rules.reorder b else b
+
+  abbrev recomposed_where : Bool → Buffer → Buffer
+  recomposed_where test b = if test then round_three rules b else b
+
+  -- what holds after round one, and what ordering, showing joiners and recomposing keep, holds of the normalised list
+  pub kept_by_rounds : (P : Buffer → Type 0) (b : Buffer) → (P (round_one rules b) → P (marks_ordered rules.reorder (round_one rules b))) → ((c : Buffer) → P c → P (joiners_settled c)) → ((c : Buffer) → P c → P (round_three rules c))
+      → P (round_one rules b) → P (normalized rules b)
+  kept_by_rounds P b orders shows recomposes of_one =
+      let test = has_mark_past_first b.items in
+      recomposed_cases (test && rules.recomposes) (ordered rules b) (shows (ordered_where test (round_one rules b)) (ordered_cases test))
+    where
+      ordered_cases : (test : Bool) → P (ordered_where test (round_one rules b))
+      ordered_cases true = orders of_one
+      ordered_cases false = of_one
+
+      recomposed_cases : (test : Bool) (c : Buffer) → P c → P (recomposed_where test c)
+      recomposed_cases true c h = recomposes c h
+      recomposed_cases false c h = h
+
+-- ---- the number of items
 
 length-joiners_settled : (b : Buffer) → length (joiners_settled b).items ≡ length b.items
 length-joiners_settled b =
     sym (length-map (joiners_settled b).items char_of) ∙ ap length (chars-joiners_settled b) ∙ length-map b.items char_of
 
-abbrev ordered_where : Bool → Buffer → Buffer
-ordered_where test b = cond test (marks_ordered b) b
+module _ (rules : Rules) (lawful : LawfulReorder rules.reorder) where
+  -- ordering keeps the number of items
+  pub length-ordered : (b : Buffer) → length (ordered rules b).items ≡ length (round_one rules b).items
+  length-ordered b = length-joiners_settled (ordered_where rules (has_mark_past_first b.items) (round_one rules b)) ∙ by_test (has_mark_past_first b.items)
+    where
+      by_test : (test : Bool) → length (ordered_where rules test (round_one rules b)).items ≡ length (round_one rules b).items
+      by_test true = length-marks_ordered rules.reorder lawful (round_one rules b)
+      by_test false = refl
 
-length-ordered_where : (test : Bool) (b : Buffer) → length (ordered_where test b).items ≡ length b.items
-length-ordered_where true b = length-marks_ordered b
-length-ordered_where false b = refl
-
-chars-ordered_where : (test : Bool) (P : ℕ → Type 0) (b : Buffer) → All P (map char_of b.items) → All P (map char_of (ordered_where test b).items)
-chars-ordered_where true P b all = chars-marks_ordered P b all
-chars-ordered_where false P b all = all
-
-module _ (rules : Rules) where
-  -- the later rounds keep the number of items
-  pub length-normalized : (b : Buffer) → length (normalized rules b).items ≡ length (round_one rules b).items
+  -- the later rounds bring in no item
+  pub length-normalized : (b : Buffer) → length (normalized rules b).items ≤ length (round_one rules b).items
   length-normalized b =
-      let test = has_mark_past_first b.items in
-      length-joiners_settled (ordered_where test (round_one rules b)) ∙ length-ordered_where test (round_one rules b)
+      kept_by_rounds rules (λ c. length c.items ≤ length (round_one rules b).items) b
+      (λ below. omega (arith, length-marks_ordered rules.reorder lawful (round_one rules b))) (λ c below. omega (arith, length-joiners_settled c)) (λ c below. omega (arith, length-round_three rules c)) (omega arith)
 
   -- so the list is within a limit that the expanded one is within
   pub within_normalized : {E : Type 0} (b new : Buffer) (result : Result (Unit {0}) E) (limit : ℕ) → OnOk result (new ≡ normalized rules b) → OnOk result (length (round_one rules b).items ≤ limit) → OnOk result (length new.items ≤ limit)
-  within_normalized b new (Ok done) limit is within = rw (is, length-normalized b) within
+  within_normalized b new (Ok done) limit is within = rw is (omega (arith, length-normalized b))
   within_normalized b new (Err e) limit is within = tt
 
-  pub normalized_brings_in : (b new : Buffer) → new ≡ normalized rules b → BroughtInHaveGlyphs rules.glyph (map char_of b.items) (map char_of new.items)
-  normalized_brings_in b new is =
-      let test = has_mark_past_first b.items in
-      let P : ℕ → Type 0 = λ c. (has_glyph rules.glyph c ≡ true) ⊎ Contains (map char_of b.items) c in
-      rw (is, chars-joiners_settled (ordered_where test (round_one rules b))) (chars-ordered_where test P (round_one rules b) (expanded_brings_in rules b.items))
+-- ---- what holds of each item
 
+-- an item but for its cluster, its mask and its hidden bit, which the later rounds change
+abbrev pub content : Item → Item
+content item = record item { cluster = 0; mask = 0; properties = record item.properties { hidden = false } }
+
+IsKey-content : IsKey content
+IsKey-content = record { by_cluster = λ item cluster. refl; by_break = λ item. refl }
+
+module _ (rules : Rules) (lawful : LawfulReorder rules.reorder) (P : Item → Type 0) (composes : (item : Item) (c : ℕ) → has_glyph rules.glyph c ≡ true → P (content (part_item rules.unicode rules.glyph item c))) where
+  -- what goes by neither cluster, mask nor hidden bit, and holds of each composed item, holds of each item of the normalised list where it does of the expanded one
+  pub normalized_all : (b : Buffer) → AllByRecursion (λ item. P (content item)) (round_one rules b).items → AllByRecursion (λ item. P (content item)) (normalized rules b).items
+  normalized_all b each =
+      let one : Buffer = round_one rules b in
+      kept_by_rounds rules (λ c. AllByRecursion (λ item. P (content item)) c.items) b
+      (λ of. each_of_values content P (marks_ordered rules.reorder one).items (keys-marks_ordered rules.reorder lawful content IsKey-content P one (each_value content P one.items of)))
+      (λ c of. each_of_values content P (joiners_settled c).items (subst (AllByRecursion P) (sym (keys-joiners_settled content (λ item. refl) c)) (each_value content P c.items of)))
+      (λ c of. round_three_all rules (λ item. P (content item)) (λ item cluster mask h. h) (λ item c has h. composes item c has) c of)
+      each
+
+-- every character that is brought in has a glyph
+pub normalized_brings_in : (rules : Rules) → LawfulReorder rules.reorder → (b new : Buffer) → new ≡ normalized rules b → BroughtInHaveGlyphs rules.glyph (map char_of b.items) (map char_of new.items)
+normalized_brings_in rules lawful b new is =
+    let P : ℕ → Type 0 = λ c. (has_glyph rules.glyph c ≡ true) ⊎ Contains (map char_of b.items) c in
+    let one = (round_one rules b).items in
+    let all = (normalized rules b).items in
+    rw is (All-from_recursion P (map char_of all)
+    (each_value char_of P all (normalized_all rules lawful (λ item. P item.codepoint) (λ item c has. inl has) b
+    (each_of_values char_of P one (recursion_from_All P (map char_of one) (round_one_brings_in rules b))))))
+
+-- ---- the order of the marks
+
+without_hidden : Item → Item
+without_hidden item = record item { properties = record item.properties { hidden = false } }
+
+pub IsKey-unplaced : IsKey unplaced
+unfolding without_hidden
+IsKey-unplaced = record {
+  by_cluster = λ item cluster. ap without_hidden (IsKey-unflagged.by_cluster item cluster);
+  by_break = λ item. ap without_hidden (IsKey-unflagged.by_break item);
+}
+
+-- with a mark past the first item, and with no hook, the ordered list is the expanded one with its runs settled
+pub normalized_orders : (rules : Rules) (b : Buffer) → OrdersExpanded rules b
+normalized_orders rules b = λ marked none.
+    let one : Buffer = round_one rules b in
+    let by_none : OrdersMarks one.items (joiners_settled (marks_ordered None one)).items =
+    rw (keys-joiners_settled unplaced (λ item. refl) (marks_ordered None one)) (marks_ordered_settles unplaced IsKey-unplaced class_of_item (λ item. refl) one) in
+    let by_hook : OrdersMarks one.items (joiners_settled (marks_ordered rules.reorder one)).items = subst (λ (hook : Option (Buffer → ℕ → ℕ → Buffer)). OrdersMarks one.items (joiners_settled (marks_ordered hook one)).items) (sym none) by_none in
+    subst (λ (c : Buffer). OrdersMarks one.items (joiners_settled c).items) (sym (cond-true _ (marks_ordered rules.reorder one) one marked)) by_hook
+
+-- ---- the empty text
+
+module _ (rules : Rules) where
   same_when_empty : (b : Buffer) (items : List Item) (positions : List GlyphPosition) → length items ≡ 0 → length positions ≡ 0 →
       record b { items = items; positions = positions } ≡ normalized rules (record b { items = items; positions = positions })
   same_when_empty b [] [] none as_many = elim (cases_Bool (bit_and b.scratch_flags.0 8 == 8)) [ inl seen ↦ rw seen refl | inr unseen ↦ rw unseen refl ]
@@ -82,9 +159,9 @@ chars-with_props unicode [] = refl
 chars-with_props unicode (item ∷ items) = ap (λ rest. item.codepoint ∷ rest) (chars-with_props unicode items)
 
 -- every character that a run brings in has a glyph
-pub run_brings_in : (rules : Rules) (b glyphs : Buffer) → glyphs ≡ glyphs_mapped (normalized rules (prepared rules.unicode b)) → BroughtInHaveGlyphs rules.glyph (map char_of b.items) (map char_of glyphs.items)
-run_brings_in rules b glyphs is =
+pub run_brings_in : (rules : Rules) → LawfulReorder rules.reorder → (b glyphs : Buffer) → glyphs ≡ glyphs_mapped (normalized rules (prepared rules.unicode b)) → BroughtInHaveGlyphs rules.glyph (map char_of b.items) (map char_of glyphs.items)
+run_brings_in rules lawful b glyphs is =
     let text = prepared rules.unicode b in
     let before : map char_of text.items ≡ map char_of b.items = chars-with_props rules.unicode b.items in
     let after : map char_of glyphs.items ≡ map char_of (normalized rules text).items = ap (λ (g : Buffer). map char_of g.items) is ∙ chars-mapped (normalized rules text).items in
-    rw (after, ← before) (normalized_brings_in rules text (normalized rules text) refl)
+    rw (after, ← before) (normalized_brings_in rules lawful text (normalized rules text) refl)

@@ -1,12 +1,12 @@
 use Rattle.std.proofs.Common.{arith}
 use Rattle.std.proofs.lemmas.Result.{on_ok_weaker}
-use Rattle.shape_pipeline.specs.Plan.{hooks_of}
-use Rattle.shape_pipeline.specs.RoundOne.{HasIndexOfChar}
+use Rattle.shape_pipeline.specs.Normalized.{HasItemGlyph}
 use Rattle.shape_pipeline.specs.Rules.{rules_of}
 use Rattle.shape_pipeline.proofs.CanonicalFormLemmas.{NormalizesCanonically-normalized}
-use Rattle.shape_pipeline.proofs.ClusterOrderLemmas.{normalized_keeps, normalized_orders}
-use Rattle.shape_pipeline.proofs.ItemGlyphLemmas.{normalized_has_indexes, all_of_none}
-use Rattle.shape_pipeline.proofs.NormalizedLemmas.{empty_is_normalized, normalized_brings_in, within_normalized}
+use Rattle.shape_pipeline.proofs.ClusterOrderLemmas.{normalized_keeps}
+use Rattle.shape_pipeline.proofs.ItemGlyphLemmas.{normalized_has_glyphs, all_of_none}
+use Rattle.shape_pipeline.proofs.NormalizedLemmas.{empty_is_normalized, normalized_brings_in, normalized_orders, within_normalized}
+use Rattle.shape_pipeline.proofs.RulesLemmas.{used_reorder-lawful}
 use Rattle.shape_pipeline.proofs.ot_shape_normalize._hb_ot_shape_normalize.Goals as goal
 
 pub returns-then-len-eq0-clause-ok : goal.returns-then-len-eq0-clause-ok
@@ -19,14 +19,50 @@ pub returns-else-is_err-clause-brought_in : goal.returns-else-is_err-clause-brou
 returns-else-is_err-clause-brought_in g c =
     let shaper = g.S.hb_ot_shaper_t in
     let rules = rules_of g.U.hb_unicode_funcs_t.unicode shaper.constants shaper.hooks shaper.reordered g.F.hb_font_t.face c.args.plan.now c.args.face.now in
-    on_ok_weaker c.run_rounds-outcome.result (normalized_brings_in rules c.args.buffer.now c.run_rounds-outcome.new.buffer) c.run_rounds-outcome.ensures.ok
+    let lawful = used_reorder-lawful shaper.reordered g.met.S.hb_ot_shaper_t.reorders shaper.constants.has_reorder_marks c.args.plan.now in
+    on_ok_weaker c.run_rounds-outcome.result (normalized_brings_in rules lawful c.args.buffer.now c.run_rounds-outcome.new.buffer) c.run_rounds-outcome.ensures.ok
 
 pub returns-else-is_err-clause-within : goal.returns-else-is_err-clause-within
 returns-else-is_err-clause-within g c =
     let shaper = g.S.hb_ot_shaper_t in
     let rules = rules_of g.U.hb_unicode_funcs_t.unicode shaper.constants shaper.hooks shaper.reordered g.F.hb_font_t.face c.args.plan.now c.args.face.now in
+    let lawful = used_reorder-lawful shaper.reordered g.met.S.hb_ot_shaper_t.reorders shaper.constants.has_reorder_marks c.args.plan.now in
     let made = c.run_rounds-outcome.ensures in
-    within_normalized rules c.args.buffer.now c.run_rounds-outcome.new.buffer c.run_rounds-outcome.result _ made.ok made.counted
+    within_normalized rules lawful c.args.buffer.now c.run_rounds-outcome.new.buffer c.run_rounds-outcome.result _ made.ok made.counted
+
+pub returns-then-len-eq0-clause-clusters : goal.returns-then-len-eq0-clause-clusters
+returns-then-len-eq0-clause-clusters g c = λ monotone hook. record { rising = λ h. h; falling = λ h. h; none_new = λ k h. h }
+
+pub returns-else-is_err-clause-clusters : goal.returns-else-is_err-clause-clusters
+returns-else-is_err-clause-clusters g c =
+    let shaper = g.S.hb_ot_shaper_t in
+    let rules = rules_of g.U.hb_unicode_funcs_t.unicode shaper.constants shaper.hooks shaper.reordered g.F.hb_font_t.face c.args.plan.now c.args.face.now in
+    let lawful = used_reorder-lawful shaper.reordered g.met.S.hb_ot_shaper_t.reorders shaper.constants.has_reorder_marks c.args.plan.now in
+    on_ok_weaker c.run_rounds-outcome.result (normalized_keeps rules lawful c.args.buffer.now c.run_rounds-outcome.new.buffer) c.run_rounds-outcome.ensures.ok
+
+pub returns-then-len-eq0-clause-ordered : goal.returns-then-len-eq0-clause-ordered
+returns-then-len-eq0-clause-ordered g c =
+    let shaper = g.S.hb_ot_shaper_t in
+    normalized_orders (rules_of g.U.hb_unicode_funcs_t.unicode shaper.constants shaper.hooks shaper.reordered g.F.hb_font_t.face c.args.plan.now c.args.face.now) c.args.buffer.now
+
+pub returns-else-is_err-clause-ordered : goal.returns-else-is_err-clause-ordered
+returns-else-is_err-clause-ordered g c =
+    let shaper = g.S.hb_ot_shaper_t in
+    let rules = rules_of g.U.hb_unicode_funcs_t.unicode shaper.constants shaper.hooks shaper.reordered g.F.hb_font_t.face c.args.plan.now c.args.face.now in
+    on_ok_weaker c.run_rounds-outcome.result (λ is. normalized_orders rules c.args.buffer.now) c.run_rounds-outcome.ensures.ok
+
+pub returns-then-len-eq0-clause-item_glyphs : goal.returns-then-len-eq0-clause-item_glyphs
+returns-then-len-eq0-clause-item_glyphs g c =
+    let shaper = g.S.hb_ot_shaper_t in
+    let rules = rules_of g.U.hb_unicode_funcs_t.unicode shaper.constants shaper.hooks shaper.reordered g.F.hb_font_t.face c.args.plan.now c.args.face.now in
+    all_of_none (HasItemGlyph rules c.args.buffer.now) c.args.buffer.now.items (omega arith)
+
+pub returns-else-is_err-clause-item_glyphs : goal.returns-else-is_err-clause-item_glyphs
+returns-else-is_err-clause-item_glyphs g c =
+    let shaper = g.S.hb_ot_shaper_t in
+    let rules = rules_of g.U.hb_unicode_funcs_t.unicode shaper.constants shaper.hooks shaper.reordered g.F.hb_font_t.face c.args.plan.now c.args.face.now in
+    let lawful = used_reorder-lawful shaper.reordered g.met.S.hb_ot_shaper_t.reorders shaper.constants.has_reorder_marks c.args.plan.now in
+    on_ok_weaker c.run_rounds-outcome.result (normalized_has_glyphs rules lawful c.args.buffer.now c.run_rounds-outcome.new.buffer) c.run_rounds-outcome.ensures.ok
 
 pub returns-then-len-eq0-clause-canonical_form : goal.returns-then-len-eq0-clause-canonical_form
 returns-then-len-eq0-clause-canonical_form g c =
@@ -39,34 +75,3 @@ returns-else-is_err-clause-canonical_form g c =
     let shaper = g.S.hb_ot_shaper_t in
     let rules = rules_of g.U.hb_unicode_funcs_t.unicode shaper.constants shaper.hooks shaper.reordered g.F.hb_font_t.face c.args.plan.now c.args.face.now in
     on_ok_weaker c.run_rounds-outcome.result (NormalizesCanonically-normalized rules g.met.U.hb_unicode_funcs_t.lawful c.args.buffer.now c.run_rounds-outcome.new.buffer) c.run_rounds-outcome.ensures.ok
-
-pub returns-then-len-eq0-clause-clusters : goal.returns-then-len-eq0-clause-clusters
-returns-then-len-eq0-clause-clusters g c = λ monotone. record { rising = λ h. h; falling = λ h. h; none_new = λ k h. h }
-
-pub returns-then-len-eq0-clause-ordered : goal.returns-then-len-eq0-clause-ordered
-returns-then-len-eq0-clause-ordered g c = λ marked.
-    let shaper = g.S.hb_ot_shaper_t in
-    let rules = rules_of g.U.hb_unicode_funcs_t.unicode shaper.constants shaper.hooks shaper.reordered g.F.hb_font_t.face c.args.plan.now c.args.face.now in
-    normalized_orders rules c.args.buffer.now c.args.buffer.now (empty_is_normalized rules c.args.buffer.now (omega arith) (omega arith)) marked
-
-pub returns-else-is_err-clause-ordered : goal.returns-else-is_err-clause-ordered
-returns-else-is_err-clause-ordered g c =
-    let shaper = g.S.hb_ot_shaper_t in
-    let rules = rules_of g.U.hb_unicode_funcs_t.unicode shaper.constants shaper.hooks shaper.reordered g.F.hb_font_t.face c.args.plan.now c.args.face.now in
-    on_ok_weaker c.run_rounds-outcome.result (normalized_orders rules c.args.buffer.now c.run_rounds-outcome.new.buffer) c.run_rounds-outcome.ensures.ok
-
-pub returns-else-is_err-clause-clusters : goal.returns-else-is_err-clause-clusters
-returns-else-is_err-clause-clusters g c =
-    let shaper = g.S.hb_ot_shaper_t in
-    let rules = rules_of g.U.hb_unicode_funcs_t.unicode shaper.constants shaper.hooks shaper.reordered g.F.hb_font_t.face c.args.plan.now c.args.face.now in
-    on_ok_weaker c.run_rounds-outcome.result (λ is monotone. rw is (normalized_keeps rules c.args.buffer.now monotone)) c.run_rounds-outcome.ensures.ok
-
-pub returns-then-len-eq0-clause-item_glyphs : goal.returns-then-len-eq0-clause-item_glyphs
-returns-then-len-eq0-clause-item_glyphs g c =
-    all_of_none (HasIndexOfChar (g.F.hb_font_t.face c.args.face.now).nominal_glyph) c.args.buffer.now.items (omega arith)
-
-pub returns-else-is_err-clause-item_glyphs : goal.returns-else-is_err-clause-item_glyphs
-returns-else-is_err-clause-item_glyphs g c =
-    let shaper = g.S.hb_ot_shaper_t in
-    let rules = rules_of g.U.hb_unicode_funcs_t.unicode shaper.constants shaper.hooks shaper.reordered g.F.hb_font_t.face c.args.plan.now c.args.face.now in
-    on_ok_weaker c.run_rounds-outcome.result (normalized_has_indexes rules c.args.buffer.now c.run_rounds-outcome.new.buffer) c.run_rounds-outcome.ensures.ok

@@ -1,0 +1,45 @@
+-- Lists that are drawn in order from others, piece by piece.
+use Rattle.std.proofs.Common.{ℕ, List, [], ◌∷◌, ◌++◌, append_assoc, append-nil}
+use Rattle.std.specs.List.{flat_map}
+use Rattle.std.proofs.lemmas.List.{map-append}
+use Rattle.shape_buffer.specs.Clusters.{clusters}
+use Rattle.shape_buffer.specs.ClusterOrder.{DrawsInOrder, KeepsClusters}
+use Rattle.shape_buffer.specs.Items.{Item}
+use Rattle.shape_buffer.proofs.DrawsInOrder.{DrawsInOrder-same, DrawsInOrder-behind, DrawsInOrder-again}
+
+pub KeepsClusters-same : (xs : List ℕ) → KeepsClusters xs xs
+KeepsClusters-same xs = record { rising = λ h. h; falling = λ h. h; none_new = λ k h. h }
+
+pub KeepsClusters-then : (xs ys zs : List ℕ) → KeepsClusters xs ys → KeepsClusters ys zs → KeepsClusters xs zs
+KeepsClusters-then xs ys zs first later = record {
+  rising = λ h. later.rising (first.rising h);
+  falling = λ h. later.falling (first.falling h);
+  none_new = λ k h. first.none_new k (later.none_new k h);
+}
+
+-- what is drawn in order from a list stays so where the first list goes before that one, and the second before it
+abbrev pub DrawsBefore : List ℕ → List ℕ → Type 0
+DrawsBefore xs ys = (from drawn : List ℕ) → DrawsInOrder from drawn → DrawsInOrder (xs ++ from) (ys ++ drawn)
+
+pub DrawsBefore-same : (xs : List ℕ) → DrawsBefore xs xs
+DrawsBefore-same [] from drawn h = h
+DrawsBefore-same (x ∷ xs) from drawn h =
+    DrawsInOrder-again x (xs ++ from) (xs ++ drawn) (DrawsInOrder-behind x (xs ++ from) (xs ++ drawn) (DrawsBefore-same xs from drawn h))
+
+pub DrawsBefore-append : (xs ys xs' ys' : List ℕ) → DrawsBefore xs xs' → DrawsBefore ys ys' → DrawsBefore (xs ++ ys) (xs' ++ ys')
+DrawsBefore-append xs ys xs' ys' first later = λ from drawn h.
+    rw (append_assoc xs ys from, append_assoc xs' ys' drawn) (first (ys ++ from) (ys' ++ drawn) (later from drawn h))
+
+pub draws_whole : (xs ys : List ℕ) → DrawsBefore xs ys → DrawsInOrder xs ys
+draws_whole xs ys h = rw (append-nil xs, append-nil ys) at (h [] [] (DrawsInOrder-same []))
+
+-- without one of them
+pub draws_without : (xs : List ℕ) (x : ℕ) (ys : List ℕ) → DrawsInOrder (xs ++ x ∷ ys) (xs ++ ys)
+draws_without xs x ys = DrawsBefore-same xs (x ∷ ys) ys (DrawsInOrder-behind x ys ys (DrawsInOrder-same ys))
+
+-- where each becomes a list whose clusters are drawn from its own, so does the whole
+pub draws_pieces : {A : Type 0} (become : A → List Item) (own : A → List ℕ) → ((x : A) → DrawsBefore (own x) (clusters (become x))) → (xs : List A) → DrawsBefore (flat_map own xs) (clusters (flat_map become xs))
+draws_pieces become own each [] = DrawsBefore-same []
+draws_pieces become own each (x ∷ xs) =
+    rw (map-append (λ (item : Item). item.cluster) (become x) (flat_map become xs))
+    (DrawsBefore-append (own x) (flat_map own xs) (clusters (become x)) (clusters (flat_map become xs)) (each x) (draws_pieces become own each xs))
