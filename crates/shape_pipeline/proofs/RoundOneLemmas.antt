@@ -1,8 +1,8 @@
 -- What round one makes of a list: its characters are choices or stay, and each that is brought in has a glyph.
-use Rattle.std.proofs.Common.{◌≡◌, ℕ, ◌+◌, ◌⊎◌, inl, inr, Bool, true, false, if◌then◌else◌, List, [], ◌∷◌, map, fold, length, Option, None, Some, unwrap_or, refl, sym, ◌∙◌, ap, subst}
-use Rattle.std.specs.List.{AllByRecursion, Contains, flat_map}
+use Rattle.std.proofs.Common.{◌≡◌, ℕ, ◌+◌, ◌⊎◌, inl, inr, Bool, true, false, if◌then◌else◌, List, [], ◌∷◌, map, length, Option, None, Some, unwrap_or, refl, sym, ◌∙◌, ap, subst}
+use Rattle.std.specs.List.{AllByRecursion, Contains, flat_map, list_any}
 use Rattle.std.specs.Option.{option_map_or}
-use Rattle.std.proofs.lemmas.Bool.{cond-false}
+use Rattle.std.proofs.lemmas.Bool.{cond-false, and_right}
 use Rattle.std.proofs.lemmas.List.Elements.{All-from_recursion, recursion_from_All, All-contains_itself}
 use Rattle.std.proofs.lemmas.List.Folds.{list_any_none}
 use Rattle.shape_buffer.proofs.ChoiceLemmas.{choice_glyphs}
@@ -18,20 +18,20 @@ use Rattle.shape_buffer.specs.Unicode.{is_mark}
 use Rattle.shape_buffer.specs.declared.buffer.settings.GlyphId.{GlyphId}
 use Rattle.shape_pipeline.specs.Normalized.{BroughtInHaveGlyphs}
 use Rattle.shape_pipeline.specs.Prepared.{IsPreparedItem}
-use Rattle.shape_pipeline.specs.RoundOne.{item_glyph, passed_item, part_item, whole_item, remembers_space, expanded_item, expanded, expansion_of, is_selector_item, has_selector, is_with_marks, marked_selector, variant_items, variants, sequences, sequence_items, pairs_from, pairs_merged, round_one}
-use Rattle.shape_pipeline.specs.Rules.{Rules, has_glyph}
+use Rattle.shape_pipeline.specs.RoundOne.{item_glyph, passed_item, part_item, whole_item, remembers_space, expanded_item, expanded, expansion_of, is_selector_item, has_selector, is_with_marks, marked_selector, variant_items, variants, sequences, sequence_items, pairs_from, merged_at, pairs_merged, round_one}
+use Rattle.shape_pipeline.specs.Rules.{Rules, face_of, has_glyph}
 use Rattle.shape_pipeline.proofs.SequenceLemmas.{each_part, each_of_values, each_value, each_weaker, flat_map_all, flat_map_same, flat_map_parts_all, sequence_becomes, sequences-expanded}
 
 -- ---- merging the pairs
 
 module _ (rules : Rules) where
-  keys-merge_pairs : {B : Type 0} (key : Item → B) → IsKey key → (places : List ℕ) (b : Buffer) → map key (fold (λ b place. merge_clusters place (place + 2) b) b places).items ≡ map key b.items
+  keys-merge_pairs : {B : Type 0} (key : Item → B) → IsKey key → (places : List ℕ) (b : Buffer) → map key (merged_at b places).items ≡ map key b.items
   keys-merge_pairs key is_key [] b = refl
   keys-merge_pairs key is_key (place ∷ places) b = keys-merge_pairs key is_key places (merge_clusters place (place + 2) b) ∙ keys-merge_clusters key is_key place (place + 2) b
 
   -- what goes by neither clusters nor the defined flags stays
   pub keys-pairs_merged : {B : Type 0} (key : Item → B) → IsKey key → (b : Buffer) → map key (pairs_merged rules b).items ≡ map key b.items
-  keys-pairs_merged key is_key b = keys-merge_pairs key is_key (pairs_from rules 0 (sequences b.items)) b
+  keys-pairs_merged key is_key b = keys-merge_pairs key is_key (pairs_from rules.unicode (face_of rules) 0 (sequences b.items)) b
 
 -- ---- what an item becomes
 
@@ -60,23 +60,23 @@ module _ (rules : Rules) (invisible : Option GlyphId) where
 
 -- what holds of an item holds, of what it becomes, whether it takes a glyph with a selector, is such a selector, or is expanded
 module _ (rules : Rules) (invisible not_found : Option GlyphId) (P Q : Item → Type 0) (takes_glyph : (item : Item) (glyph : ℕ) → P item → Q (record item { glyph_index = glyph })) (is_marked : (item : Item) (glyph : ℕ) → P item → Q (marked_selector not_found (record item { glyph_index = glyph }))) (expands : (short : Bool) (item : Item) → P item → AllByRecursion Q (expanded_item rules invisible short item)) where
-  passed_all : (rest : List Item) → AllByRecursion P rest → AllByRecursion Q (map (passed_item rules) rest)
+  passed_all : (rest : List Item) → AllByRecursion P rest → AllByRecursion Q (map (passed_item rules.glyph) rest)
   passed_all [] each = tt
   passed_all (item ∷ rest) each = (takes_glyph item _ each.0, passed_all rest each.1)
 
-  variant_all : (part : List Item) → AllByRecursion P part → AllByRecursion Q (variant_items rules not_found part)
+  variant_all : (part : List Item) → AllByRecursion P part → AllByRecursion Q (variant_items (face_of rules) not_found part)
   variant_all [] each = tt
   variant_all (x ∷ []) each = (takes_glyph x _ each.0, tt)
   variant_all (x ∷ v ∷ rest) each =
-      elim (rules.variation x.codepoint v.codepoint) as (λ o. AllByRecursion Q (elim o [ Some g ↦ record x { glyph_index = g.0 } ∷ map (passed_item rules) rest | None ↦ passed_item rules x ∷ marked_selector not_found (passed_item rules v) ∷ map (passed_item rules) rest ])) [
+      elim (rules.variation x.codepoint v.codepoint) as (λ o. AllByRecursion Q (elim o [ Some g ↦ record x { glyph_index = g.0 } ∷ map (passed_item rules.glyph) rest | None ↦ passed_item rules.glyph x ∷ marked_selector not_found (passed_item rules.glyph v) ∷ map (passed_item rules.glyph) rest ])) [
         | Some g ↦ (takes_glyph x g.0 each.0, passed_all rest each.1.1)
         | None ↦ (takes_glyph x _ each.0, (is_marked v _ each.1.0, passed_all rest each.1.1))
       ]
 
   sequence_all : (sequence : List Item) → AllByRecursion P sequence → AllByRecursion Q (sequence_items rules invisible not_found sequence)
   sequence_all sequence each =
-      elim (has_selector rules sequence) as (λ t. AllByRecursion Q (if t then flat_map (variant_items rules not_found) (variants rules sequence) else flat_map (expanded_item rules invisible (rules.short (is_with_marks sequence))) sequence)) [
-        | true ↦ flat_map_parts_all (is_selector_item rules) P Q (variant_items rules not_found) variant_all sequence each
+      elim (has_selector rules.unicode sequence) as (λ t. AllByRecursion Q (if t then flat_map (variant_items (face_of rules) not_found) (variants rules.unicode sequence) else flat_map (expanded_item rules invisible (rules.short (is_with_marks sequence))) sequence)) [
+        | true ↦ flat_map_parts_all (is_selector_item rules.unicode) P Q (variant_items (face_of rules) not_found) variant_all sequence each
         | false ↦ flat_map_all P Q (expanded_item rules invisible (rules.short (is_with_marks sequence))) (expands (rules.short (is_with_marks sequence))) sequence each
       ]
 
@@ -121,23 +121,23 @@ round_one_brings_in rules b =
 module _ (rules : Rules) where
   -- no item of a list is a variation selector
   abbrev pub HasNoSelectorItem : List Item → Type 0
-  HasNoSelectorItem items = AllByRecursion (λ item. is_selector_item rules item ≡ false) items
+  HasNoSelectorItem items = AllByRecursion (λ item. is_selector_item rules.unicode item ≡ false) items
 
-  has_selector-none : (sequence : List Item) → HasNoSelectorItem sequence → has_selector rules sequence ≡ false
-  has_selector-none [] none = refl
-  has_selector-none (x ∷ []) none = refl
-  has_selector-none (x ∷ y ∷ rest) none = list_any_none (is_selector_item rules) (x ∷ y ∷ rest) (All-from_recursion (λ item. is_selector_item rules item ≡ false) (x ∷ y ∷ rest) none)
+  has_selector-none : (sequence : List Item) → HasNoSelectorItem sequence → has_selector rules.unicode sequence ≡ false
+  has_selector-none sequence none =
+      and_right (is_with_marks sequence) (list_any (is_selector_item rules.unicode) sequence)
+      (list_any_none (is_selector_item rules.unicode) sequence (All-from_recursion (λ item. is_selector_item rules.unicode item ≡ false) sequence none))
 
-  pairs_from-none : (place : ℕ) (parts : List (List Item)) → AllByRecursion HasNoSelectorItem parts → pairs_from rules place parts ≡ []
+  pairs_from-none : (place : ℕ) (parts : List (List Item)) → AllByRecursion HasNoSelectorItem parts → pairs_from rules.unicode (face_of rules) place parts ≡ []
   pairs_from-none place [] none = refl
   pairs_from-none place (sequence ∷ parts) none = cond-false _ _ _ (has_selector-none sequence none.0) ∙ pairs_from-none (place + length sequence) parts none.1
 
   none_by_sequences : (items : List Item) → HasNoSelectorItem items → AllByRecursion HasNoSelectorItem (sequences items)
-  none_by_sequences items none = each_part is_mark_item (λ item. is_selector_item rules item ≡ false) items none
+  none_by_sequences items none = each_part is_mark_item (λ item. is_selector_item rules.unicode item ≡ false) items none
 
   -- nothing is merged
   pub pairs_merged-none : (b : Buffer) → HasNoSelectorItem b.items → pairs_merged rules b ≡ b
-  pairs_merged-none b none = ap (fold (λ b place. merge_clusters place (place + 2) b) b) (pairs_from-none 0 (sequences b.items) (none_by_sequences b.items none))
+  pairs_merged-none b none = ap (merged_at b) (pairs_from-none 0 (sequences b.items) (none_by_sequences b.items none))
 
   -- what an item becomes by whether it stands in a sequence with marks
   abbrev pub item_becomes : Option GlyphId → Bool → Item → List Item
