@@ -15,7 +15,7 @@ use Rattle.shape_buffer.specs.declared.buffer.settings.GlyphId.{GlyphId}
 use Rattle.shape_buffer.proofs.DeleteKeeps.{merged_keeps}
 use Rattle.shape_buffer.proofs.DrawsInOrder.{DrawsInOrder-behind, DrawsInOrder-again, KeepsClusters-from_draws}
 use Rattle.shape_buffer.proofs.EveryLemmas.{append_all}
-use Rattle.shape_pipeline.specs.Rules.{Rules}
+use Rattle.shape_pipeline.specs.Rules.{Rules, face_of}
 use Rattle.shape_pipeline.specs.RoundOne.{part_item, whole_item, expansion_of, expanded_item, passed_item, marked_selector, variant_items, variants, is_selector_item, has_selector, is_with_marks, pair_places, pairs_from, pairs_merged, sequences, sequence_items, expanded, round_one}
 use Rattle.shape_pipeline.specs.RoundTwo.{joiners_settled}
 use Rattle.shape_pipeline.specs.Normalized.{normalized, HookKeepsClusters}
@@ -53,27 +53,27 @@ module _ (rules : Rules) where
       rw (← flat_map_single (λ (item : Item). item.cluster) items)
       (draws_pieces (expanded_item rules invisible short) (λ (item : Item). item.cluster ∷ []) (λ item. draws_found invisible item (expansion_of rules short item)) items)
 
-  clusters-passed : (items : List Item) → clusters (map (passed_item rules) items) ≡ clusters items
+  clusters-passed : (items : List Item) → clusters (map (passed_item rules.glyph) items) ≡ clusters items
   clusters-passed [] = refl
   clusters-passed (item ∷ items) = ap (λ l. item.cluster ∷ l) (clusters-passed items)
 
   -- of an item and its selectors the first selector may go
-  draws_variant : (not_found : Option GlyphId) (part : List Item) → DrawsBefore (clusters part) (clusters (variant_items rules not_found part))
+  draws_variant : (not_found : Option GlyphId) (part : List Item) → DrawsBefore (clusters part) (clusters (variant_items (face_of rules) not_found part))
   draws_variant not_found [] = DrawsBefore-same []
   draws_variant not_found (x ∷ []) = DrawsBefore-same (x.cluster ∷ [])
   draws_variant not_found (x ∷ v ∷ rest) =
-      elim (rules.variation x.codepoint v.codepoint) as (λ o. DrawsBefore (clusters (x ∷ v ∷ rest)) (clusters (elim o [ Some g ↦ record x { glyph_index = g.0 } ∷ map (passed_item rules) rest | None ↦ passed_item rules x ∷ marked_selector not_found (passed_item rules v) ∷ map (passed_item rules) rest ]))) [
+      elim (rules.variation x.codepoint v.codepoint) as (λ o. DrawsBefore (clusters (x ∷ v ∷ rest)) (clusters (elim o [ Some g ↦ record x { glyph_index = g.0 } ∷ map (passed_item rules.glyph) rest | None ↦ passed_item rules.glyph x ∷ marked_selector not_found (passed_item rules.glyph v) ∷ map (passed_item rules.glyph) rest ]))) [
         | Some g ↦ rw (clusters-passed rest) (λ from drawn h. DrawsInOrder-again x.cluster _ _ (DrawsInOrder-behind x.cluster _ _ (DrawsInOrder-behind v.cluster _ _ (DrawsBefore-same (clusters rest) from drawn h))))
         | None ↦ rw (clusters-passed rest) (DrawsBefore-same (clusters (x ∷ v ∷ rest)))
       ]
 
-  draws_variants : (not_found : Option GlyphId) (sequence : List Item) → DrawsBefore (clusters sequence) (clusters (flat_map (variant_items rules not_found) (variants rules sequence)))
+  draws_variants : (not_found : Option GlyphId) (sequence : List Item) → DrawsBefore (clusters sequence) (clusters (flat_map (variant_items (face_of rules) not_found) (variants rules.unicode sequence)))
   draws_variants not_found sequence =
-      rw (← values-divided (is_selector_item rules) (λ (item : Item). item.cluster) sequence) (draws_pieces (variant_items rules not_found) clusters (draws_variant not_found) (variants rules sequence))
+      rw (← values-divided (is_selector_item rules.unicode) (λ (item : Item). item.cluster) sequence) (draws_pieces (variant_items (face_of rules) not_found) clusters (draws_variant not_found) (variants rules.unicode sequence))
 
   draws_sequence : (invisible not_found : Option GlyphId) (sequence : List Item) → DrawsBefore (clusters sequence) (clusters (sequence_items rules invisible not_found sequence))
   draws_sequence invisible not_found sequence =
-      elim (has_selector rules sequence) as (λ t. DrawsBefore (clusters sequence) (clusters (if t then flat_map (variant_items rules not_found) (variants rules sequence) else flat_map (expanded_item rules invisible (rules.short (is_with_marks sequence))) sequence))) [
+      elim (has_selector rules.unicode sequence) as (λ t. DrawsBefore (clusters sequence) (clusters (if t then flat_map (variant_items (face_of rules) not_found) (variants rules.unicode sequence) else flat_map (expanded_item rules invisible (rules.short (is_with_marks sequence))) sequence))) [
         | true ↦ draws_variants not_found sequence
         | false ↦ draws_expanded_items invisible (rules.short (is_with_marks sequence)) sequence
       ]
@@ -87,7 +87,7 @@ module _ (rules : Rules) where
 
 module _ (rules : Rules) where
   -- the two of a pair stand within the list
-  pair_places_within : (limit place : ℕ) (parts : List (List Item)) → place + length (whole parts) ≤ limit → AllByRecursion (λ pair. pair + 2 ≤ limit) (pair_places rules place parts)
+  pair_places_within : (limit place : ℕ) (parts : List (List Item)) → place + length (whole parts) ≤ limit → AllByRecursion (λ pair. pair + 2 ≤ limit) (pair_places (face_of rules) place parts)
   pair_places_within limit place [] within = tt
   pair_places_within limit place ([] ∷ parts) within = pair_places_within limit (place + 0) parts (omega arith)
   pair_places_within limit place ((x ∷ []) ∷ parts) within = pair_places_within limit (place + 1) parts (omega arith)
@@ -99,13 +99,13 @@ module _ (rules : Rules) where
         | inr passes ↦ rw passes later
       ]
 
-  pairs_within : (limit place : ℕ) (parts : List (List Item)) → place + length (whole parts) ≤ limit → AllByRecursion (λ pair. pair + 2 ≤ limit) (pairs_from rules place parts)
+  pairs_within : (limit place : ℕ) (parts : List (List Item)) → place + length (whole parts) ≤ limit → AllByRecursion (λ pair. pair + 2 ≤ limit) (pairs_from rules.unicode (face_of rules) place parts)
   pairs_within limit place [] within = tt
   pairs_within limit place (sequence ∷ parts) within =
       let as_many = length-append sequence (whole parts) in
       let later = pairs_within limit (place + length sequence) parts (omega arith) in
-      elim (cases_Bool (has_selector rules sequence)) [
-        | inl has ↦ rw has (append_all (λ pair. pair + 2 ≤ limit) (pair_places rules place (variants rules sequence)) (pairs_from rules (place + length sequence) parts) (pair_places_within limit place (variants rules sequence) (omega (arith, ap length (whole-divided (is_selector_item rules) sequence)))) later)
+      elim (cases_Bool (has_selector rules.unicode sequence)) [
+        | inl has ↦ rw has (append_all (λ pair. pair + 2 ≤ limit) (pair_places (face_of rules) place (variants rules.unicode sequence)) (pairs_from rules.unicode (face_of rules) (place + length sequence) parts) (pair_places_within limit place (variants rules.unicode sequence) (omega (arith, ap length (whole-divided (is_selector_item rules.unicode) sequence)))) later)
         | inr has_none ↦ rw has_none later
       ]
 
@@ -117,7 +117,7 @@ module _ (rules : Rules) where
       KeepsClusters-then _ _ _ first.0 (merges_keep n places merged (length-merge_clusters place (place + 2) b ∙ as_many) within.1)
 
   pub pairs_merged_keeps : (b : Buffer) → KeepsClusters (clusters b.items) (clusters (pairs_merged rules b).items)
-  pairs_merged_keeps b = merges_keep (length b.items) (pairs_from rules 0 (sequences b.items)) b refl (pairs_within (length b.items) 0 (sequences b.items) (omega (arith, ap length (whole-divided is_mark_item b.items))))
+  pairs_merged_keeps b = merges_keep (length b.items) (pairs_from rules.unicode (face_of rules) 0 (sequences b.items)) b refl (pairs_within (length b.items) 0 (sequences b.items) (omega (arith, ap length (whole-divided is_mark_item b.items))))
 
   -- expanding keeps the order of clusters
   pub round_one_keeps : (b : Buffer) → KeepsClusters (clusters b.items) (clusters (round_one rules b).items)

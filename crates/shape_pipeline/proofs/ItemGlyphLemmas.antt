@@ -12,7 +12,7 @@ use Rattle.shape_buffer.specs.Buffer.{Buffer}
 use Rattle.shape_buffer.specs.declared.buffer.settings.GlyphId.{GlyphId}
 use Rattle.shape_buffer.proofs.ChoiceLemmas.{chosen_glyphs}
 use Rattle.shape_buffer.proofs.KeyLemmas.{unflagged, IsKey-unflagged}
-use Rattle.shape_pipeline.specs.Rules.{Rules, has_glyph}
+use Rattle.shape_pipeline.specs.Rules.{Rules, face_of, has_glyph}
 use Rattle.shape_pipeline.specs.RoundOne.{item_glyph, remembers_space, part_item, whole_item, expanded_item, expansion_of, is_selector_item, passed_item, marked_selector, variant_items, variants, sequences, has_selector, is_with_marks, pairs_merged, sequence_items, expanded, round_one}
 use Rattle.shape_pipeline.specs.Normalized.{normalized, HasItemGlyph, SomeHoldsSelectorAnd}
 use Rattle.shape_pipeline.specs.Steps.{with_mapped_glyph, glyphs_mapped}
@@ -65,15 +65,15 @@ module _ (rules : Rules) (invisible not_found : Option GlyphId) where
     abbrev IsAmong : Item → Type 0
     IsAmong item = Contains among item.codepoint
 
-    passed_among : (rest : List Item) → AllByRecursion IsAmong rest → AllByRecursion IsAmong (map (passed_item rules) rest)
+    passed_among : (rest : List Item) → AllByRecursion IsAmong rest → AllByRecursion IsAmong (map (passed_item rules.glyph) rest)
     passed_among [] each = tt
     passed_among (item ∷ rest) each = (each.0, passed_among rest each.1)
 
-    variant_among : (part : List Item) → AllByRecursion IsAmong part → AllByRecursion IsAmong (variant_items rules not_found part)
+    variant_among : (part : List Item) → AllByRecursion IsAmong part → AllByRecursion IsAmong (variant_items (face_of rules) not_found part)
     variant_among [] each = tt
     variant_among (x ∷ []) each = each
     variant_among (x ∷ v ∷ rest) each =
-        elim (rules.variation x.codepoint v.codepoint) as (λ o. AllByRecursion IsAmong (elim o [ Some g ↦ record x { glyph_index = g.0 } ∷ map (passed_item rules) rest | None ↦ passed_item rules x ∷ marked_selector not_found (passed_item rules v) ∷ map (passed_item rules) rest ])) [
+        elim (rules.variation x.codepoint v.codepoint) as (λ o. AllByRecursion IsAmong (elim o [ Some g ↦ record x { glyph_index = g.0 } ∷ map (passed_item rules.glyph) rest | None ↦ passed_item rules.glyph x ∷ marked_selector not_found (passed_item rules.glyph v) ∷ map (passed_item rules.glyph) rest ])) [
           | Some g ↦ (each.0, passed_among rest each.1.1)
           | None ↦ (each.0, (each.1.0, passed_among rest each.1.1))
         ]
@@ -88,10 +88,10 @@ module _ (rules : Rules) (invisible not_found : Option GlyphId) where
         let among : List ℕ = map char_of sequence in
         let itself : AllByRecursion (IsAmong among) sequence = each_of_values char_of (Contains among) sequence (recursion_from_All (Contains among) among (All-contains_itself among)) in
         let short = rules.short (is_with_marks sequence) in
-        elim (cases_Bool (has_selector rules sequence)) [
+        elim (cases_Bool (has_selector rules.unicode sequence)) [
           | inl has ↦
-              rw has (each_weaker (IsAmong among) HasGlyphOrSelector (λ item there. inr (sequence, here, has, there)) (flat_map (variant_items rules not_found) (variants rules sequence))
-              (flat_map_parts_all (is_selector_item rules) (IsAmong among) (IsAmong among) (variant_items rules not_found) (variant_among among) sequence itself))
+              rw has (each_weaker (IsAmong among) HasGlyphOrSelector (λ item there. inr (sequence, here, has, there)) (flat_map (variant_items (face_of rules) not_found) (variants rules.unicode sequence))
+              (flat_map_parts_all (is_selector_item rules.unicode) (IsAmong among) (IsAmong among) (variant_items (face_of rules) not_found) (variant_among among) sequence itself))
           | inr has_none ↦
               rw has_none (each_weaker HasOwnGlyph HasGlyphOrSelector (λ item own. inl own) (flat_map (expanded_item rules invisible short) sequence)
               (flat_map_all (IsAmong among) HasOwnGlyph (expanded_item rules invisible short) (λ item there. item_has_glyphs short item) sequence itself))
@@ -105,12 +105,12 @@ module _ (rules : Rules) (invisible not_found : Option GlyphId) where
 -- ---- sequences that hold a selector
 
 module _ (rules : Rules) where
-  some_selector : (items : List Item) → list_any (is_selector_item rules) (map unflagged items) ≡ list_any (is_selector_item rules) items
+  some_selector : (items : List Item) → list_any (is_selector_item rules.unicode) (map unflagged items) ≡ list_any (is_selector_item rules.unicode) items
   some_selector [] = refl
-  some_selector (item ∷ items) = ap (λ t. is_selector_item rules item || t) (some_selector items)
+  some_selector (item ∷ items) = ap (λ t. is_selector_item rules.unicode item || t) (some_selector items)
 
   -- it goes by neither clusters nor flags
-  has_selector-unflagged : (sequence : List Item) → has_selector rules (map unflagged sequence) ≡ has_selector rules sequence
+  has_selector-unflagged : (sequence : List Item) → has_selector rules.unicode (map unflagged sequence) ≡ has_selector rules.unicode sequence
   has_selector-unflagged [] = refl
   has_selector-unflagged (x ∷ []) = refl
   has_selector-unflagged (x ∷ y ∷ rest) = some_selector (x ∷ y ∷ rest)
@@ -133,7 +133,7 @@ module _ (rules : Rules) where
         sym (get_or-map (map unflagged) parts' k []) ∙ ap (λ l. get_or l k []) (sym same) ∙ get_or-map (map unflagged) parts k [] in
         let is : get_or parts k [] ≡ sequence = get_or_default parts k [] sequence some.1.1 ∙ some.1.2 in
         let alike : map unflagged part ≡ map unflagged sequence = at ∙ ap (map unflagged) is in
-        let holds : has_selector rules part ≡ true = sym (has_selector-unflagged part) ∙ ap (has_selector rules) alike ∙ has_selector-unflagged sequence ∙ some.2 in
+        let holds : has_selector rules.unicode part ≡ true = sym (has_selector-unflagged part) ∙ ap (has_selector rules.unicode) alike ∙ has_selector-unflagged sequence ∙ some.2 in
         let chars : map char_of sequence ≡ map char_of part = sym (chars-unflagged sequence) ∙ ap (map char_of) (sym alike) ∙ chars-unflagged part in
         (part, Contains-get_or parts' k [] there, holds, subst (λ l. Contains l c) chars some.3)
 

@@ -7,7 +7,7 @@ use Rattle.shape_buffer.specs.BufferClusters.{merge_clusters, merge_at, unsafe_t
 use Rattle.shape_buffer.specs.declared.buffer.settings.BufferClusterLevel.{BufferClusterLevel}
 use Rattle.shape_buffer.specs.declared.buffer.settings.BufferClusterLevel.TheVariants.{MonotoneGraphemes, MonotoneCharacters, Characters}
 use Rattle.shape_buffer.proofs.KeyLemmas.{cleared-merge_clusters}
-use Rattle.shape_pipeline.specs.Rules.{Rules}
+use Rattle.shape_pipeline.specs.Rules.{Rules, face_of}
 use Rattle.shape_pipeline.specs.RoundOne.{sequences, pairs_from, round_one}
 use Rattle.shape_pipeline.specs.RoundTwo.{spans, run_classes, run_settled, marks_ordered, joiners_settled, joiners_shown, has_mark_past_first}
 use Rattle.shape_pipeline.specs.Normalized.{ordered}
@@ -38,14 +38,14 @@ limit-merge_clusters from to b = at_level b.cluster_level
 module _ (rules : Rules) (b : Buffer) where
   pub cleared-round_one : cleared (round_one rules b) ≡ cleared b
   cleared-round_one =
-      kept_by_merges (λ c. cleared c ≡ cleared b) (λ from to c so_far. cleared-merge_clusters from to c ∙ so_far) (λ place. place) (λ place. place + 2) (pairs_from rules 0 (sequences b.items)) b refl
+      kept_by_merges (λ c. cleared c ≡ cleared b) (λ from to c so_far. cleared-merge_clusters from to c ∙ so_far) (λ place. place) (λ place. place + 2) (pairs_from rules.unicode (face_of rules) 0 (sequences b.items)) b refl
 
   pub level-round_one : (round_one rules b).cluster_level ≡ b.cluster_level
   level-round_one = ap (λ (c : Buffer). c.cluster_level) cleared-round_one
 
   limit-round_one : (round_one rules b).length_limit ≡ b.length_limit
   limit-round_one =
-      kept_by_merges (λ c. c.length_limit ≡ b.length_limit) (λ from to c so_far. limit-merge_clusters from to c ∙ so_far) (λ place. place) (λ place. place + 2) (pairs_from rules 0 (sequences b.items)) b refl
+      kept_by_merges (λ c. c.length_limit ≡ b.length_limit) (λ from to c so_far. limit-merge_clusters from to c ∙ so_far) (λ place. place) (λ place. place + 2) (pairs_from rules.unicode (face_of rules) 0 (sequences b.items)) b refl
 
 -- ---- round two
 

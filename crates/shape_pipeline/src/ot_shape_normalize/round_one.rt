@@ -145,7 +145,7 @@ where
     ensures within { OnOk result (length buffer.new.items ≤ limit_of buffer.old) }
     ensures length { result ≡ Err ShapeError.Length → limit_of buffer.old < length (round_one
         (rules_of U.unicode S.constants S.hooks S.reordered F.face plan.now face.now) buffer.old).items }
-    ensures settings { OnErr result (cleared buffer.new ≡ cleared buffer.old) }
+    ensures settings { cleared buffer.new ≡ cleared buffer.old }
 {
     merge_pairs::<U, F>(alloc, face, buffer)?;
     let expanded = expand_all::<U, F, M, S>(alloc, plan, face, buffer)?;

@@ -50,3 +50,9 @@ returns-clause-within g c =
     let limit = limit-merged planned c.args.buffer.now c.merge_pairs.new.buffer c.in_ok-merge_pairs.ensures.merged in
     let within = c.in_ok-expanded.ensures.within in
     omega (arith, as_many, limit, within)
+
+pub returns-clause-settings : goal.returns-clause-settings
+returns-clause-settings g c =
+    let shaper = g.S.hb_ot_shaper_t in
+    let planned = rules_of g.U.hb_unicode_funcs_t.unicode shaper.constants shaper.hooks shaper.reordered g.F.hb_font_t.face c.args.plan.now c.args.face.now in
+    ap cleared c.set_scratch_flags.ensures ∙ ap cleared c.in_ok-replace_infos.ensures.ok ∙ cleared-merged planned c.args.buffer.now c.merge_pairs.new.buffer c.in_ok-merge_pairs.ensures.merged
