@@ -16,6 +16,8 @@ use Rattle.shape_buffer.proofs.DeleteKeeps.{merged_keeps}
 use Rattle.shape_buffer.proofs.DrawsInOrder.{DrawsInOrder-behind, DrawsInOrder-again, KeepsClusters-from_draws}
 use Rattle.shape_buffer.proofs.EveryLemmas.{append_all}
 use Rattle.shape_pipeline.specs.Rules.{Rules, face_of}
+use Rattle.shape_pipeline.proofs.SelectorLemmas.{pairs_within}
+use Rattle.std.proofs.lemmas.List.Elements.{recursion_from_All}
 use Rattle.shape_pipeline.specs.RoundOne.{part_item, whole_item, expansion_of, expanded_item, passed_item, marked_selector, variant_items, variants, is_selector_item, has_selector, is_with_marks, pair_places, pairs_from, pairs_merged, sequences, sequence_items, expanded, round_one}
 use Rattle.shape_pipeline.specs.RoundTwo.{joiners_settled}
 use Rattle.shape_pipeline.specs.Normalized.{normalized, HookKeepsClusters}
@@ -86,29 +88,6 @@ module _ (rules : Rules) where
 -- ---- round one: the pairs that are merged
 
 module _ (rules : Rules) where
-  -- the two of a pair stand within the list
-  pair_places_within : (limit place : ℕ) (parts : List (List Item)) → place + length (whole parts) ≤ limit → AllByRecursion (λ pair. pair + 2 ≤ limit) (pair_places (face_of rules) place parts)
-  pair_places_within limit place [] within = tt
-  pair_places_within limit place ([] ∷ parts) within = pair_places_within limit (place + 0) parts (omega arith)
-  pair_places_within limit place ((x ∷ []) ∷ parts) within = pair_places_within limit (place + 1) parts (omega arith)
-  pair_places_within limit place ((x ∷ v ∷ rest) ∷ parts) within =
-      let as_many = length-append (x ∷ v ∷ rest) (whole parts) in
-      let later = pair_places_within limit (place + length (x ∷ v ∷ rest)) parts (omega arith) in
-      elim (cases_Bool (is_some (rules.variation x.codepoint v.codepoint))) [
-        | inl pairs ↦ rw pairs (omega arith, later)
-        | inr passes ↦ rw passes later
-      ]
-
-  pairs_within : (limit place : ℕ) (parts : List (List Item)) → place + length (whole parts) ≤ limit → AllByRecursion (λ pair. pair + 2 ≤ limit) (pairs_from rules.unicode (face_of rules) place parts)
-  pairs_within limit place [] within = tt
-  pairs_within limit place (sequence ∷ parts) within =
-      let as_many = length-append sequence (whole parts) in
-      let later = pairs_within limit (place + length sequence) parts (omega arith) in
-      elim (cases_Bool (has_selector rules.unicode sequence)) [
-        | inl has ↦ rw has (append_all (λ pair. pair + 2 ≤ limit) (pair_places (face_of rules) place (variants rules.unicode sequence)) (pairs_from rules.unicode (face_of rules) (place + length sequence) parts) (pair_places_within limit place (variants rules.unicode sequence) (omega (arith, ap length (whole-divided (is_selector_item rules.unicode) sequence)))) later)
-        | inr has_none ↦ rw has_none later
-      ]
-
   merges_keep : (n : ℕ) (places : List ℕ) (b : Buffer) → length b.items ≡ n → AllByRecursion (λ place. place + 2 ≤ n) places → KeepsClusters (clusters b.items) (clusters (fold (λ b place. merge_clusters place (place + 2) b) b places).items)
   merges_keep n [] b as_many within = KeepsClusters-same (clusters b.items)
   merges_keep n (place ∷ places) b as_many within =
@@ -117,7 +96,7 @@ module _ (rules : Rules) where
       KeepsClusters-then _ _ _ first.0 (merges_keep n places merged (length-merge_clusters place (place + 2) b ∙ as_many) within.1)
 
   pub pairs_merged_keeps : (b : Buffer) → KeepsClusters (clusters b.items) (clusters (pairs_merged rules b).items)
-  pairs_merged_keeps b = merges_keep (length b.items) (pairs_from rules.unicode (face_of rules) 0 (sequences b.items)) b refl (pairs_within (length b.items) 0 (sequences b.items) (omega (arith, ap length (whole-divided is_mark_item b.items))))
+  pairs_merged_keeps b = merges_keep (length b.items) (pairs_from rules.unicode (face_of rules) 0 (sequences b.items)) b refl (recursion_from_All (λ place. place + 2 ≤ length b.items) _ (pairs_within rules.unicode (face_of rules) b.items))
 
   -- expanding keeps the order of clusters
   pub round_one_keeps : (b : Buffer) → KeepsClusters (clusters b.items) (clusters (round_one rules b).items)

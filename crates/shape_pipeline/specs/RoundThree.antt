@@ -61,7 +61,21 @@ composed_chars out = flat_map (λ p. map (λ mark. mark.char) p.joined) out
 abbrev pub with_cluster_at : List Item → Placed → Item
 with_cluster_at items p = let at = get_or items p.place p.item in record p.item { cluster = at.cluster; mask = at.mask }
 
--- an item that was put out, as the walk keeps it: with its place alone
+-- round three of normalising: the buffer with its recomposed list, each span of a composition merged, at positions of zeros
+-- the spans are merged while the marks that go still stand: each is in one cluster with the item before it from then on, so that a later merge grows over both or neither
+abbrev pub round_three : Rules → Buffer → Buffer
+round_three rules b =
+    let out = recomposed_items rules b.items in
+    let merged = spans_merged_out (joined_spans out) b in
+    record merged {
+      items = map (with_cluster_at merged.items) out;
+      positions = replicate (length out) zero_position;
+      scratch_flags = seen_chars rules.unicode b.scratch_flags (composed_chars out);
+    }
+
+-- ---- the walk of the code, which keeps the spans and the flags beside what it puts out
+
+-- an item that was put out, with its place alone
 abbrev pub placed_info : Placed → PlacedInfo
 placed_info p = record { info = p.item; place = p.place }
 
@@ -75,18 +89,5 @@ composed_char rules starter marks next =
     then join_with_glyph rules.join (has_glyph rules.glyph) starter.info.codepoint next.info.codepoint
     else None
 
--- an item that was put out, with the cluster and the mask that stand at its place
 abbrev pub settled_info : List Item → PlacedInfo → Item
-settled_info items p = let at = get_or items p.place p.info in record p.info { cluster = at.cluster; mask = at.mask }
-
--- round three of normalising: the buffer with its recomposed list, each span of a composition merged, at positions of zeros
--- the spans are merged while the marks that go still stand: each is in one cluster with the item before it from then on, so that a later merge grows over both or neither
-abbrev pub round_three : Rules → Buffer → Buffer
-round_three rules b =
-    let out = recomposed_items rules b.items in
-    let merged = spans_merged_out (joined_spans out) b in
-    record merged {
-      items = map (with_cluster_at merged.items) out;
-      positions = replicate (length out) zero_position;
-      scratch_flags = seen_chars rules.unicode b.scratch_flags (composed_chars out);
-    }
+settled_info items p = with_cluster_at items (record { item = p.info; place = p.place; joined = [] })

@@ -21,7 +21,7 @@ use std::alloc::{AllocError, Global};
 
 /// An item that was put out, and the place where it stood.
 #[derive(Clone, Copy)]
-pub(crate) struct PlacedInfo {
+struct PlacedInfo {
     info: hb_glyph_info_t,
     place: usize,
 }
@@ -29,7 +29,7 @@ pub(crate) struct PlacedInfo {
 /// What the walk leaves: the items that were put out, the span from each starter to each mark that was
 /// composed with it, and the scratch flags that the composed characters show.
 #[derive(Drop)]
-pub(crate) struct Recomposed {
+struct Recomposed {
     out: Vec<PlacedInfo>,
     spans: Vec<(usize, usize)>,
     scratch_flags: ScratchFlags,
@@ -168,42 +168,37 @@ where
     ensures flags { IfOk result (λ r. r.scratch_flags ≡ seen_chars U.unicode scratch_flags (composed_chars (recomposed_items
         (rules_of U.unicode S.constants S.hooks S.reordered F.face plan.now face.now) infos.now))) }
 {
-    let mut out = Vec::new(alloc);
-    let mut spans = Vec::new(alloc);
-    let mut scratch_flags = scratch_flags;
-    let mut starter = 0;
-    let Some(first) = infos.first() else {
-        return Ok(Recomposed {
-            out,
-            spans,
-            scratch_flags,
-        });
+    let mut walk = Recomposed {
+        out: Vec::new(alloc),
+        spans: Vec::new(alloc),
+        scratch_flags,
     };
-    out.push(PlacedInfo {
+    let Some(first) = infos.first() else {
+        return Ok(walk);
+    };
+    walk.out.push(PlacedInfo {
         info: *first,
         place: 0,
     })?;
+    let mut starter = 0;
     for place in 1..infos.len() {
         let next = PlacedInfo {
             info: infos[place],
             place,
         };
-        let at = out[starter];
-        if let Some(c) = composed_of::<U, F, M, S>(plan, face, &at, &out[starter + 1..], &next) {
-            spans.push((at.place, place + 1))?;
-            out[starter] = at.with_char::<U, F>(face, c, &mut scratch_flags);
+        let at = walk.out[starter];
+        let marks = &walk.out[starter + 1..];
+        if let Some(c) = composed_of::<U, F, M, S>(plan, face, &at, marks, &next) {
+            walk.spans.push((at.place, place + 1))?;
+            walk.out[starter] = at.with_char::<U, F>(face, c, &mut walk.scratch_flags);
             continue;
         }
         if next.info._hb_glyph_info_get_modified_class() == 0 {
-            starter = out.len();
+            starter = walk.out.len();
         }
-        out.push(next)?;
+        walk.out.push(next)?;
     }
-    Ok(Recomposed {
-        out,
-        spans,
-        scratch_flags,
-    })
+    Ok(walk)
 }
 
 /// Merges the clusters of each span, in order.

@@ -9,11 +9,11 @@ pub loop-place-init : goal.loop-place-init
 loop-place-init g c =
     let shaper = g.S.hb_ot_shaper_t in
     let rules = rules_of g.U.hb_unicode_funcs_t.unicode shaper.constants shaper.hooks shaper.reordered g.F.hb_font_t.face c.args.plan.now c.args.face.now in
-    let none = c.new-out.ensures.items in
+    let none = c.new.ensures.items in
     let items = c.in_ok-push.ensures.items in
     record {
       within = omega (arith, c.in_ok-push.ensures.len);
-      walked = rw (items, none, c.new-spans.ensures.items) (IsRecomposedTo-first rules c.args.infos.now c.args.scratch_flags c.in-Some.first.now c.in-Some.ensures.value);
+      walked = rw (items, none, c.new-2.ensures.items) (IsRecomposedTo-first rules c.args.infos.now c.args.scratch_flags c.in-Some.first.now c.in-Some.ensures.value);
     }
 
 pub loop-place-preserved-in-Some-composed_of : goal.loop-place-preserved-in-Some-composed_of
@@ -55,5 +55,5 @@ pub returns : goal.returns
 returns g c =
     let shaper = g.S.hb_ot_shaper_t in
     let rules = rules_of g.U.hb_unicode_funcs_t.unicode shaper.constants shaper.hooks shaper.reordered g.F.hb_font_t.face c.args.plan.now c.args.face.now in
-    let all = walked_all rules c.args.infos.now c.args.scratch_flags c.loop-place.place c.loop-place.out.items c.loop-place.spans.items c.loop-place.scratch_flags c.loop-place.starter c.loop-place-test.false c.loop-place.invariant.walked in
+    let all = walked_all rules c.args.infos.now c.args.scratch_flags c.loop-place.place c.loop-place.walk.out.items c.loop-place.walk.spans.items c.loop-place.walk.scratch_flags c.loop-place.starter c.loop-place-test.false c.loop-place.invariant.walked in
     record { out = all.0; spans = all.1; flags = all.2 }

@@ -8,6 +8,6 @@ invariant-loop-place g l =
     let shaper = g.S.hb_ot_shaper_t in
     let rules = rules_of g.U.hb_unicode_funcs_t.unicode shaper.constants shaper.hooks shaper.reordered g.F.hb_font_t.face l.plan l.face in
     record {
-      within : l.starter < vec_len l.out;
-      walked : IsRecomposedTo rules l.infos l.fn.scratch_flags l.place l.out.items l.spans.items l.scratch_flags l.starter;
+      within : l.starter < vec_len l.walk.out;
+      walked : IsRecomposedTo rules l.infos l.fn.scratch_flags l.place l.walk.out.items l.walk.spans.items l.walk.scratch_flags l.starter;
     }
