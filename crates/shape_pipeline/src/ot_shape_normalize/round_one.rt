@@ -17,7 +17,9 @@ mod sequences;
 use crate::ot_shape_normalize::mode::goes_short;
 use crate::ot_shape_normalize::round_one::expanded::Expanded;
 use crate::ot_shape_normalize::round_one::pairs::merge_pairs;
-use crate::ot_shape_normalize::round_one::sequences::{first_sequence, has_selector};
+use crate::ot_shape_normalize::round_one::sequences::{
+    first_sequence, has_selector, is_with_marks,
+};
 use crate::ot_shape_plan::hb_ot_shape_plan_t;
 use crate::ot_shaper::hb_ot_shaper_t;
 use shape_buffer::buffer::{ShapeError, hb_buffer_t, hb_glyph_info_t};
@@ -88,7 +90,7 @@ impl Expanded {
         if has_selector::<U>(sequence) {
             return self.put_variants::<U, F>(face, buffer, sequence);
         }
-        let shortest = goes_short::<U, F, M, S>(plan, sequence.len() > 1);
+        let shortest = goes_short::<U, F, M, S>(plan, is_with_marks(sequence));
         self.put_items::<U, F, M, S>(alloc, plan, face, buffer, sequence, shortest)
     }
 }

@@ -10,7 +10,7 @@ use shape_buffer::interfaces::{hb_font_t, hb_unicode_funcs_t};
 use std::alloc::{AllocError, Global};
 
 /// The glyph of the first two of these items, where the face has one for the two.
-pub(super) fn pair_glyph<F: hb_font_t>(face: &F, part: &[hb_glyph_info_t]) -> Option<GlyphId>
+fn pair_glyph<F: hb_font_t>(face: &F, part: &[hb_glyph_info_t]) -> Option<GlyphId>
     ensures { result ≡ pair_glyph_of (F.face face.now) part.now }
 {
     let (info, behind) = part.split_first()?;

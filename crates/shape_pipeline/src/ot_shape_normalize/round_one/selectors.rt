@@ -1,6 +1,6 @@
 //! Sequences that hold a variation selector: an item and its selector become one item where the face has a
 //! glyph for the two; all other items pass.
-ghost use Rattle.std.specs.Prelude.{◌≡◌, ◌<◌, ◌≤◌, [], ◌∷◌, ◌++◌, length, map, fold, vec_len, OnOk, Err};
+ghost use Rattle.std.specs.Prelude.{◌≡◌, ◌<◌, ◌≤◌, ◌∷◌, ◌++◌, length, map, fold, vec_len, OnOk, Err};
 ghost use Rattle.std.specs.List.{flat_map};
 ghost use Rattle.shape_buffer.specs.Buffer.{limit_of};
 ghost use Rattle.shape_pipeline.specs.RoundOne.{marked_selector, passed_item, seen_variant, variant_items, variants, with_selector_fallback};
