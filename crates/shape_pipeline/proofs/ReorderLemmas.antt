@@ -148,33 +148,33 @@ flag-merge_clusters flag from to b other = at_level b.cluster_level
 
 module _ (start end : ℕ) (P : Buffer → Type 0)
     (by_exchange : (b : Buffer) (i j : ℕ) → start ≤ i → i < end → start ≤ j → j < end → end ≤ length b.items → P b → P (exchanged i j b))
-    (by_merge : (b : Buffer) (from to : ℕ) → start ≤ from → from ≤ to → to ≤ end → end ≤ length b.items → P b → P (merge_clusters from to b)) where
+    (by_merge : (b : Buffer) (from to : ℕ) → from ≤ to → to ≤ length b.items → P b → P (merge_clusters from to b)) where
   pub kept_by_steps : {b c : Buffer} → Reorders start end b c → end ≤ length b.items → P b → P c
   kept_by_steps done within h = h
   kept_by_steps {b} (exchange i j low_i high_i low_j high_j rest) within h =
       kept_by_steps rest (rw (length-swap b.items i j) within) (by_exchange b i j low_i high_i low_j high_j within h)
-  kept_by_steps {b} (merge from to low ordered high rest) within h =
-      kept_by_steps rest (rw (length-merge_clusters from to b) within) (by_merge b from to low ordered high within h)
+  kept_by_steps {b} (merge from to ordered inside rest) within h =
+      kept_by_steps rest (rw (length-merge_clusters from to b) within) (by_merge b from to ordered inside h)
 
 module _ (start end : ℕ) (b : Buffer) (within : end ≤ length b.items) where
   pub length-Reorders : {c : Buffer} → Reorders start end b c → length c.items ≡ length b.items
   length-Reorders steps =
       kept_by_steps start end (λ x. length x.items ≡ length b.items)
       (λ x i j low_i high_i low_j high_j inside so_far. length-swap x.items i j ∙ so_far)
-      (λ x from to low ordered high inside so_far. length-merge_clusters from to x ∙ so_far) steps within refl
+      (λ x from to ordered inside so_far. length-merge_clusters from to x ∙ so_far) steps within refl
 
   -- all but the items and the scratch flags stays
   pub without_items-Reorders : {c : Buffer} → Reorders start end b c → without_items c ≡ without_items b
   without_items-Reorders steps =
       kept_by_steps start end (λ x. without_items x ≡ without_items b)
       (λ x i j low_i high_i low_j high_j inside so_far. so_far)
-      (λ x from to low ordered high inside so_far. without_items-merge_clusters from to x ∙ so_far) steps within refl
+      (λ x from to ordered inside so_far. without_items-merge_clusters from to x ∙ so_far) steps within refl
 
   pub flag-Reorders : {c : Buffer} (flag : ℕ) → bit_and 32 flag ≡ 0 → Reorders start end b c → bit_and c.scratch_flags.0 flag ≡ bit_and b.scratch_flags.0 flag
   flag-Reorders flag other steps =
       kept_by_steps start end (λ x. bit_and x.scratch_flags.0 flag ≡ bit_and b.scratch_flags.0 flag)
       (λ x i j low_i high_i low_j high_j inside so_far. so_far)
-      (λ x from to low ordered high inside so_far. flag-merge_clusters flag from to x other ∙ so_far) steps within refl
+      (λ x from to ordered inside so_far. flag-merge_clusters flag from to x other ∙ so_far) steps within refl
 
   pub cleared-Reorders : {c : Buffer} → Reorders start end b c → cleared c ≡ cleared b
   cleared-Reorders steps = ap cleared (without_items-Reorders steps)
@@ -192,7 +192,7 @@ module _ (start end : ℕ) (b : Buffer) (within : end ≤ length b.items) where
       (λ x i j low_i high_i low_j high_j inside so_far.
       PermutesRange-trans start end (map key b.items) (map key x.items) (map key (swap x.items i j)) so_far
       (PermutesRange-map start end key x.items (swap x.items i j) (swap_permutes x.items start end i j low_i high_i low_j high_j inside)))
-      (λ x from to low ordered high inside so_far. rw (keys-merge_clusters key is_key from to x) so_far) steps within (PermutesRange-refl start end (map key b.items))
+      (λ x from to ordered inside so_far. rw (keys-merge_clusters key is_key from to x) so_far) steps within (PermutesRange-refl start end (map key b.items))
 
   pub keys-Reorders : {B : Type 0} (key : Item → B) → IsKey key → start ≤ end → {c : Buffer} → Reorders start end b c → IsPermutation (map key b.items) (map key c.items)
   keys-Reorders key is_key ordered {c} steps = IsPermutation-range start end (map key b.items) (map key c.items) ordered (Reorders-permutes key is_key steps)
@@ -204,7 +204,7 @@ module _ (start end : ℕ) (b : Buffer) (within : end ≤ length b.items) where
       (λ x i j low_i high_i low_j high_j inside so_far cluster there.
       let moved = IsPermutation-map (λ (item : Item). item.cluster) x.items (swap x.items i j) (IsPermutation-swap x.items (swap x.items i j) i j (omega arith) (omega arith) refl) in
       so_far cluster (Contains-permutation (clusters (swap x.items i j)) (clusters x.items) cluster (IsPermutation-sym (clusters x.items) (clusters (swap x.items i j)) moved) there))
-      (λ x from to low ordered high inside so_far cluster there.
+      (λ x from to ordered inside so_far cluster there.
       so_far cluster ((draws_keeps x (merge_clusters from to x) (merge_clusters_draws from to x ordered (omega arith))).none_new cluster there)) steps within (λ cluster there. there)
 
   pub Reorders-keeps_flags : {c : Buffer} → Reorders start end b c → KeepsFlags b c
@@ -213,4 +213,4 @@ module _ (start end : ℕ) (b : Buffer) (within : end ≤ length b.items) where
       (λ x i j low_i high_i low_j high_j inside so_far.
       let moved = IsPermutation-swap x.items (swap x.items i j) i j (omega arith) (omega arith) refl in
       KeepsFlags-then b x (exchanged i j x) so_far (KeepsFlags-items x (swap x.items i j) (λ flag defined some. list_any-IsPermutation (has_flag flag) x.items (swap x.items i j) moved ∙ some)))
-      (λ x from to low ordered high inside so_far. KeepsFlags-then b x (merge_clusters from to x) so_far (merge_clusters_keeps from to x)) steps within (KeepsFlags-same b)
+      (λ x from to ordered inside so_far. KeepsFlags-then b x (merge_clusters from to x) so_far (merge_clusters_keeps from to x)) steps within (KeepsFlags-same b)

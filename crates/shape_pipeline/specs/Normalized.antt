@@ -2,7 +2,7 @@
 use Rattle.std.specs.Prelude.{◌≡◌, ◌⊎◌, ◌&&◌, ℕ, ◌≤◌, true, if◌then◌else◌, List, map, length, All, Contains, Option, None, Some}
 use Rattle.shape_buffer.specs.Buffer.{Buffer}
 use Rattle.shape_buffer.specs.Clusters.{clusters}
-use Rattle.shape_buffer.specs.ClusterOrder.{KeepsClusters}
+use Rattle.shape_buffer.specs.ClusterOrder.{KeepsClusters, IsMonotoneLevel}
 use Rattle.shape_buffer.specs.Items.{Item, char_of}
 use Rattle.shape_buffer.specs.declared.buffer.settings.GlyphId.{GlyphId}
 use Rattle.shape_pipeline.specs.Rules.{Rules, has_glyph}
@@ -24,11 +24,11 @@ normalized rules b = if has_mark_past_first b.items && rules.recomposes then rou
 abbrev pub BroughtInHaveGlyphs : (ℕ → Option GlyphId) → List ℕ → List ℕ → Type 0
 BroughtInHaveGlyphs glyph before after = All (λ c. (has_glyph glyph c ≡ true) ⊎ Contains before c) after
 
--- the reorder hook keeps clusters, where one is given: each of its calls keeps their order and brings no new one
+-- the reorder hook keeps clusters at the monotone levels, where one is given: each of its calls keeps their order and brings no new one
 abbrev pub HookKeepsClusters : Rules → Type 0
 HookKeepsClusters rules =
     (reorder : Buffer → ℕ → ℕ → Buffer) → rules.reorder ≡ Some reorder
-    → (b : Buffer) (start end : ℕ) → start ≤ end → end ≤ length b.items → KeepsClusters (clusters b.items) (clusters (reorder b start end).items)
+    → (b : Buffer) (start end : ℕ) → IsMonotoneLevel b.cluster_level → start ≤ end → end ≤ length b.items → KeepsClusters (clusters b.items) (clusters (reorder b start end).items)
 
 -- a character of one of these sequences that holds a variation selector
 abbrev pub SomeHoldsSelectorAnd : Rules → ℕ → List (List Item) → Type 0

@@ -94,16 +94,38 @@ where
     if buffer.len() == 0 {
         return Ok(());
     }
+    let outcome = normalize::<U, F, M, S>(alloc, plan, buffer, face);
+    if outcome.is_err() {
+        buffer.reset();
+    }
+    outcome
+}
+
+/// Runs the rounds over a context of their own.
+fn normalize<U, F, M, S>(
+    alloc: Global,
+    plan: &hb_ot_shape_plan_t<'_, S, M::Map, S::Data>,
+    buffer: &mut hb_buffer_t,
+    face: &F,
+) -> Result<(), ShapeError>
+where
+    U: hb_unicode_funcs_t,
+    F: hb_font_t,
+    M: hb_ot_layout_t<F>,
+    S: hb_ot_shaper_t<U, F, M>,
+    ensures ok { OnOk result (buffer.new ≡ normalized (rules_of U.unicode S.constants S.hooks S.reordered F.face plan.now face.now) buffer.old) }
+    ensures counted { OnOk result (length (round_one
+        (rules_of U.unicode S.constants S.hooks S.reordered F.face plan.now face.now) buffer.old).items ≤ limit_of buffer.old) }
+    ensures length { result ≡ Err ShapeError.Length → limit_of buffer.old < length (round_one
+        (rules_of U.unicode S.constants S.hooks S.reordered F.face plan.now face.now) buffer.old).items }
+    ensures settings { cleared buffer.new ≡ cleared buffer.old }
+{
     let mut ctx = hb_ot_shape_normalize_context_t {
         plan,
         buffer: &mut *buffer,
         face,
     };
-    let outcome = run_rounds::<U, F, M, S>(alloc, &mut ctx);
-    if outcome.is_err() {
-        buffer.reset();
-    }
-    outcome
+    run_rounds::<U, F, M, S>(alloc, &mut ctx)
 }
 
 /// Expands the items and shows joiners; where there are marks past the first item, puts them in order, and

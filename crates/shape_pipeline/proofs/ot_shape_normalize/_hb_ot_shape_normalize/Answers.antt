@@ -1,4 +1,4 @@
-use Rattle.std.proofs.Common.{arith}
+use Rattle.std.proofs.Common.{◌∙◌, arith}
 use Rattle.std.proofs.lemmas.Result.{on_ok_weaker}
 use Rattle.shape_pipeline.specs.Normalized.{HasItemGlyph}
 use Rattle.shape_pipeline.specs.Rules.{rules_of}
@@ -15,41 +15,21 @@ returns-then-len-eq0-clause-ok g c =
     let rules = rules_of g.U.hb_unicode_funcs_t.unicode shaper.constants shaper.hooks shaper.reordered g.F.hb_font_t.face c.args.plan.now c.args.face.now in
     empty_is_normalized rules c.args.buffer.now (omega arith) (omega arith)
 
-pub returns-else-is_err-clause-brought_in : goal.returns-else-is_err-clause-brought_in
-returns-else-is_err-clause-brought_in g c =
+pub returns-then-len-eq0-clause-canonical_form : goal.returns-then-len-eq0-clause-canonical_form
+returns-then-len-eq0-clause-canonical_form g c =
     let shaper = g.S.hb_ot_shaper_t in
     let rules = rules_of g.U.hb_unicode_funcs_t.unicode shaper.constants shaper.hooks shaper.reordered g.F.hb_font_t.face c.args.plan.now c.args.face.now in
-    let lawful = used_reorder-lawful shaper.reordered g.met.S.hb_ot_shaper_t.reorders shaper.constants.has_reorder_marks c.args.plan.now in
-    on_ok_weaker c.run_rounds-outcome.result (normalized_brings_in rules lawful c.args.buffer.now c.run_rounds-outcome.new.buffer) c.run_rounds-outcome.ensures.ok
-
-pub returns-else-is_err-clause-within : goal.returns-else-is_err-clause-within
-returns-else-is_err-clause-within g c =
-    let shaper = g.S.hb_ot_shaper_t in
-    let rules = rules_of g.U.hb_unicode_funcs_t.unicode shaper.constants shaper.hooks shaper.reordered g.F.hb_font_t.face c.args.plan.now c.args.face.now in
-    let lawful = used_reorder-lawful shaper.reordered g.met.S.hb_ot_shaper_t.reorders shaper.constants.has_reorder_marks c.args.plan.now in
-    let made = c.run_rounds-outcome.ensures in
-    within_normalized rules lawful c.args.buffer.now c.run_rounds-outcome.new.buffer c.run_rounds-outcome.result _ made.ok made.counted
-
-pub returns-then-len-eq0-clause-clusters : goal.returns-then-len-eq0-clause-clusters
-returns-then-len-eq0-clause-clusters g c = λ monotone hook. record { rising = λ h. h; falling = λ h. h; none_new = λ k h. h }
-
-pub returns-else-is_err-clause-clusters : goal.returns-else-is_err-clause-clusters
-returns-else-is_err-clause-clusters g c =
-    let shaper = g.S.hb_ot_shaper_t in
-    let rules = rules_of g.U.hb_unicode_funcs_t.unicode shaper.constants shaper.hooks shaper.reordered g.F.hb_font_t.face c.args.plan.now c.args.face.now in
-    let lawful = used_reorder-lawful shaper.reordered g.met.S.hb_ot_shaper_t.reorders shaper.constants.has_reorder_marks c.args.plan.now in
-    on_ok_weaker c.run_rounds-outcome.result (normalized_keeps rules lawful c.args.buffer.now c.run_rounds-outcome.new.buffer) c.run_rounds-outcome.ensures.ok
+    NormalizesCanonically-normalized rules g.met.U.hb_unicode_funcs_t.lawful c.args.buffer.now c.args.buffer.now (empty_is_normalized rules c.args.buffer.now (omega arith) (omega arith))
 
 pub returns-then-len-eq0-clause-ordered : goal.returns-then-len-eq0-clause-ordered
 returns-then-len-eq0-clause-ordered g c =
     let shaper = g.S.hb_ot_shaper_t in
-    normalized_orders (rules_of g.U.hb_unicode_funcs_t.unicode shaper.constants shaper.hooks shaper.reordered g.F.hb_font_t.face c.args.plan.now c.args.face.now) c.args.buffer.now
-
-pub returns-else-is_err-clause-ordered : goal.returns-else-is_err-clause-ordered
-returns-else-is_err-clause-ordered g c =
-    let shaper = g.S.hb_ot_shaper_t in
     let rules = rules_of g.U.hb_unicode_funcs_t.unicode shaper.constants shaper.hooks shaper.reordered g.F.hb_font_t.face c.args.plan.now c.args.face.now in
-    on_ok_weaker c.run_rounds-outcome.result (λ is. normalized_orders rules c.args.buffer.now) c.run_rounds-outcome.ensures.ok
+    normalized_orders rules c.args.buffer.now
+
+pub returns-then-len-eq0-clause-clusters : goal.returns-then-len-eq0-clause-clusters
+returns-then-len-eq0-clause-clusters g c = λ monotone keeps.
+    record { rising = λ h. h; falling = λ h. h; none_new = λ k h. h }
 
 pub returns-then-len-eq0-clause-item_glyphs : goal.returns-then-len-eq0-clause-item_glyphs
 returns-then-len-eq0-clause-item_glyphs g c =
@@ -57,21 +37,42 @@ returns-then-len-eq0-clause-item_glyphs g c =
     let rules = rules_of g.U.hb_unicode_funcs_t.unicode shaper.constants shaper.hooks shaper.reordered g.F.hb_font_t.face c.args.plan.now c.args.face.now in
     all_of_none (HasItemGlyph rules c.args.buffer.now) c.args.buffer.now.items (omega arith)
 
+pub returns-else-is_err-clause-brought_in : goal.returns-else-is_err-clause-brought_in
+returns-else-is_err-clause-brought_in g c =
+    let shaper = g.S.hb_ot_shaper_t in
+    let rules = rules_of g.U.hb_unicode_funcs_t.unicode shaper.constants shaper.hooks shaper.reordered g.F.hb_font_t.face c.args.plan.now c.args.face.now in
+    let lawful = used_reorder-lawful shaper.reordered g.met.S.hb_ot_shaper_t.reorders shaper.constants.has_reorder_marks c.args.plan.now in
+    on_ok_weaker c.normalize-outcome.result (normalized_brings_in rules lawful c.args.buffer.now c.normalize-outcome.new.buffer) c.normalize-outcome.ensures.ok
+
 pub returns-else-is_err-clause-item_glyphs : goal.returns-else-is_err-clause-item_glyphs
 returns-else-is_err-clause-item_glyphs g c =
     let shaper = g.S.hb_ot_shaper_t in
     let rules = rules_of g.U.hb_unicode_funcs_t.unicode shaper.constants shaper.hooks shaper.reordered g.F.hb_font_t.face c.args.plan.now c.args.face.now in
     let lawful = used_reorder-lawful shaper.reordered g.met.S.hb_ot_shaper_t.reorders shaper.constants.has_reorder_marks c.args.plan.now in
-    on_ok_weaker c.run_rounds-outcome.result (normalized_has_glyphs rules lawful c.args.buffer.now c.run_rounds-outcome.new.buffer) c.run_rounds-outcome.ensures.ok
-
-pub returns-then-len-eq0-clause-canonical_form : goal.returns-then-len-eq0-clause-canonical_form
-returns-then-len-eq0-clause-canonical_form g c =
-    let shaper = g.S.hb_ot_shaper_t in
-    let rules = rules_of g.U.hb_unicode_funcs_t.unicode shaper.constants shaper.hooks shaper.reordered g.F.hb_font_t.face c.args.plan.now c.args.face.now in
-    NormalizesCanonically-normalized rules g.met.U.hb_unicode_funcs_t.lawful c.args.buffer.now c.args.buffer.now (empty_is_normalized rules c.args.buffer.now (omega arith) (omega arith))
+    on_ok_weaker c.normalize-outcome.result (normalized_has_glyphs rules lawful c.args.buffer.now c.normalize-outcome.new.buffer) c.normalize-outcome.ensures.ok
 
 pub returns-else-is_err-clause-canonical_form : goal.returns-else-is_err-clause-canonical_form
 returns-else-is_err-clause-canonical_form g c =
     let shaper = g.S.hb_ot_shaper_t in
     let rules = rules_of g.U.hb_unicode_funcs_t.unicode shaper.constants shaper.hooks shaper.reordered g.F.hb_font_t.face c.args.plan.now c.args.face.now in
-    on_ok_weaker c.run_rounds-outcome.result (NormalizesCanonically-normalized rules g.met.U.hb_unicode_funcs_t.lawful c.args.buffer.now c.run_rounds-outcome.new.buffer) c.run_rounds-outcome.ensures.ok
+    on_ok_weaker c.normalize-outcome.result (NormalizesCanonically-normalized rules g.met.U.hb_unicode_funcs_t.lawful c.args.buffer.now c.normalize-outcome.new.buffer) c.normalize-outcome.ensures.ok
+
+pub returns-else-is_err-clause-ordered : goal.returns-else-is_err-clause-ordered
+returns-else-is_err-clause-ordered g c =
+    let shaper = g.S.hb_ot_shaper_t in
+    let rules = rules_of g.U.hb_unicode_funcs_t.unicode shaper.constants shaper.hooks shaper.reordered g.F.hb_font_t.face c.args.plan.now c.args.face.now in
+    on_ok_weaker c.normalize-outcome.result (λ is. normalized_orders rules c.args.buffer.now) c.normalize-outcome.ensures.ok
+
+pub returns-else-is_err-clause-clusters : goal.returns-else-is_err-clause-clusters
+returns-else-is_err-clause-clusters g c =
+    let shaper = g.S.hb_ot_shaper_t in
+    let rules = rules_of g.U.hb_unicode_funcs_t.unicode shaper.constants shaper.hooks shaper.reordered g.F.hb_font_t.face c.args.plan.now c.args.face.now in
+    let lawful = used_reorder-lawful shaper.reordered g.met.S.hb_ot_shaper_t.reorders shaper.constants.has_reorder_marks c.args.plan.now in
+    on_ok_weaker c.normalize-outcome.result (normalized_keeps rules lawful c.args.buffer.now c.normalize-outcome.new.buffer) c.normalize-outcome.ensures.ok
+
+pub returns-else-is_err-clause-within : goal.returns-else-is_err-clause-within
+returns-else-is_err-clause-within g c =
+    let shaper = g.S.hb_ot_shaper_t in
+    let rules = rules_of g.U.hb_unicode_funcs_t.unicode shaper.constants shaper.hooks shaper.reordered g.F.hb_font_t.face c.args.plan.now c.args.face.now in
+    let lawful = used_reorder-lawful shaper.reordered g.met.S.hb_ot_shaper_t.reorders shaper.constants.has_reorder_marks c.args.plan.now in
+    within_normalized rules lawful c.args.buffer.now c.normalize-outcome.new.buffer c.normalize-outcome.result _ c.normalize-outcome.ensures.ok c.normalize-outcome.ensures.counted
