@@ -10,6 +10,7 @@ use Rattle.shape_pipeline.proofs.ClusterOrderLemmas.{run_keeps}
 use Rattle.shape_pipeline.proofs.ItemGlyphLemmas.{run_has_glyphs, all_of_none}
 use Rattle.shape_pipeline.proofs.NormalizedLemmas.{run_brings_in, shaped_of_any}
 use Rattle.shape_pipeline.proofs.RulesLemmas.{used_reorder-lawful}
+use Rattle.shape_pipeline.proofs.RulesLemmas.{used_reorder-lawful}
 use Rattle.shape_pipeline.proofs.shape.shape_with_plan.Goals as goal
 
 pub returns-in-Ok-clause-brought_in : goal.returns-in-Ok-clause-brought_in
