@@ -1,8 +1,7 @@
 -- Normalising keeps the order of clusters at the monotone levels, and brings no new one.
-use Rattle.std.proofs.Common.{◌≡◌, ℕ, ◌+◌, ◌≤◌, Bool, true, false, if◌then◌else◌, List, [], ◌∷◌, ◌++◌, map, length, Option, None, Some, is_some, refl, sym, ap, subst, ◌∙◌, arith, inl, inr, length-append}
-use Rattle.std.proofs.lemmas.Bool.{cases_Bool}
+use Rattle.std.proofs.Common.{◌≡◌, ℕ, ◌+◌, ◌≤◌, Bool, true, false, if◌then◌else◌, List, [], ◌∷◌, ◌++◌, map, length, Option, None, Some, refl, sym, ap, subst, ◌∙◌, arith}
 use Rattle.std.proofs.lemmas.List.Concat.{flat_map_single}
-use Rattle.std.specs.List.{AllByRecursion, fold, flat_map}
+use Rattle.std.specs.List.{AllByRecursion, flat_map}
 use Rattle.std.specs.Option.{option_map_or}
 use Rattle.shape_buffer.specs.Buffer.{Buffer}
 use Rattle.shape_buffer.specs.BufferClusters.{merge_clusters}
@@ -14,17 +13,16 @@ use Rattle.shape_buffer.specs.UnicodeProps.{with_unicode_props}
 use Rattle.shape_buffer.specs.declared.buffer.settings.GlyphId.{GlyphId}
 use Rattle.shape_buffer.proofs.DeleteKeeps.{merged_keeps}
 use Rattle.shape_buffer.proofs.DrawsInOrder.{DrawsInOrder-behind, DrawsInOrder-again, KeepsClusters-from_draws}
-use Rattle.shape_buffer.proofs.EveryLemmas.{append_all}
 use Rattle.shape_pipeline.specs.Rules.{Rules, face_of}
 use Rattle.shape_pipeline.proofs.SelectorLemmas.{pairs_within}
 use Rattle.std.proofs.lemmas.List.Elements.{recursion_from_All}
-use Rattle.shape_pipeline.specs.RoundOne.{part_item, whole_item, expansion_of, expanded_item, passed_item, marked_selector, variant_items, variants, is_selector_item, has_selector, is_with_marks, pair_places, pairs_from, pairs_merged, sequences, sequence_items, expanded, round_one}
+use Rattle.shape_pipeline.specs.RoundOne.{part_item, whole_item, expansion_of, expanded_item, passed_item, marked_selector, variant_items, variants, is_selector_item, has_selector, is_with_marks, pairs_from, merged_at, pairs_merged, sequences, sequence_items, expanded, round_one}
 use Rattle.shape_pipeline.specs.RoundTwo.{joiners_settled}
 use Rattle.shape_pipeline.specs.Normalized.{normalized, HookKeepsClusters}
 use Rattle.shape_pipeline.specs.Steps.{with_mapped_glyph, glyphs_mapped}
 use Rattle.shape_pipeline.specs.Shaped.{prepared}
 use Rattle.shape_pipeline.proofs.DrawnLemmas.{DrawsBefore, DrawsBefore-same, draws_whole, draws_pieces, KeepsClusters-same, KeepsClusters-then}
-use Rattle.shape_pipeline.proofs.PartLemmas.{whole, whole-divided, values-divided}
+use Rattle.shape_pipeline.proofs.PartLemmas.{values-divided}
 use Rattle.shape_pipeline.proofs.JoinerLemmas.{keys-joiners_settled}
 use Rattle.shape_pipeline.proofs.NormalizedLemmas.{kept_by_rounds}
 use Rattle.shape_pipeline.proofs.OrderedClusterLemmas.{marks_ordered_keeps}
@@ -88,15 +86,15 @@ module _ (rules : Rules) where
 -- ---- round one: the pairs that are merged
 
 module _ (rules : Rules) where
-  merges_keep : (n : ℕ) (places : List ℕ) (b : Buffer) → length b.items ≡ n → AllByRecursion (λ place. place + 2 ≤ n) places → KeepsClusters (clusters b.items) (clusters (fold (λ b place. merge_clusters place (place + 2) b) b places).items)
-  merges_keep n [] b as_many within = KeepsClusters-same (clusters b.items)
-  merges_keep n (place ∷ places) b as_many within =
+  merged_at_keeps : (n : ℕ) (places : List ℕ) (b : Buffer) → length b.items ≡ n → AllByRecursion (λ place. place + 2 ≤ n) places → KeepsClusters (clusters b.items) (clusters (merged_at b places).items)
+  merged_at_keeps n [] b as_many within = KeepsClusters-same (clusters b.items)
+  merged_at_keeps n (place ∷ places) b as_many within =
       let merged = merge_clusters place (place + 2) b in
       let first = merged_keeps place (place + 2) b merged (omega arith) (omega (arith, within.0)) refl in
-      KeepsClusters-then _ _ _ first.0 (merges_keep n places merged (length-merge_clusters place (place + 2) b ∙ as_many) within.1)
+      KeepsClusters-then _ _ _ first.0 (merged_at_keeps n places merged (length-merge_clusters place (place + 2) b ∙ as_many) within.1)
 
-  pub pairs_merged_keeps : (b : Buffer) → KeepsClusters (clusters b.items) (clusters (pairs_merged rules b).items)
-  pairs_merged_keeps b = merges_keep (length b.items) (pairs_from rules.unicode (face_of rules) 0 (sequences b.items)) b refl (recursion_from_All (λ place. place + 2 ≤ length b.items) _ (pairs_within rules.unicode (face_of rules) b.items))
+  pairs_merged_keeps : (b : Buffer) → KeepsClusters (clusters b.items) (clusters (pairs_merged rules b).items)
+  pairs_merged_keeps b = merged_at_keeps (length b.items) (pairs_from rules.unicode (face_of rules) 0 (sequences b.items)) b refl (recursion_from_All (λ place. place + 2 ≤ length b.items) _ (pairs_within rules.unicode (face_of rules) b.items))
 
   -- expanding keeps the order of clusters
   pub round_one_keeps : (b : Buffer) → KeepsClusters (clusters b.items) (clusters (round_one rules b).items)

@@ -1,26 +1,21 @@
--- Normalising keeps the settings that clearing keeps, and the limit.
+-- Normalising keeps the cluster level, and the limit, which the lists of its rounds stay within.
 use Rattle.std.proofs.Common.{◌≡◌, ℕ, ◌+◌, ◌≤◌, ◌==◌, nat_lt, Bool, true, false, if◌then◌else◌, List, [], ◌∷◌, length, bit_and, Option, refl, ap, ◌∙◌, arith, inl, inr}
 use Rattle.std.specs.List.{fold}
 use Rattle.std.proofs.lemmas.Bool.{cases_Bool}
-use Rattle.shape_buffer.specs.Buffer.{Buffer, cleared, limit_of}
+use Rattle.shape_buffer.specs.Buffer.{Buffer, limit_of}
 use Rattle.shape_buffer.specs.BufferClusters.{merge_clusters, merge_at, unsafe_to_break}
 use Rattle.shape_buffer.specs.declared.buffer.settings.BufferClusterLevel.{BufferClusterLevel}
 use Rattle.shape_buffer.specs.declared.buffer.settings.BufferClusterLevel.TheVariants.{MonotoneGraphemes, MonotoneCharacters, Characters}
-use Rattle.shape_buffer.proofs.KeyLemmas.{cleared-merge_clusters}
 use Rattle.shape_pipeline.specs.Rules.{Rules, face_of}
 use Rattle.shape_pipeline.specs.RoundOne.{sequences, pairs_from, round_one}
 use Rattle.shape_pipeline.specs.RoundTwo.{spans, run_classes, run_settled, marks_ordered, joiners_settled, joiners_shown, has_mark_past_first}
 use Rattle.shape_pipeline.specs.Normalized.{ordered}
 use Rattle.shape_pipeline.proofs.NormalizedLemmas.{length-ordered}
 use Rattle.shape_pipeline.proofs.ReorderLemmas.{LawfulReorder, without_items-Reorders}
-use Rattle.shape_pipeline.proofs.SettleLemmas.{run_placed, length-run_placed, settled_cases, Reorders-run_reordered, kept_by_marks_ordered, cleared-marks_ordered}
+use Rattle.shape_pipeline.proofs.SelectorLemmas.{unlisted-merged_at}
+use Rattle.shape_pipeline.proofs.SettleLemmas.{run_placed, length-run_placed, settled_cases, Reorders-run_reordered, kept_by_marks_ordered}
 
 -- ---- merging
-
--- what each merge keeps, any number of them do
-kept_by_merges : {X : Type 0} (P : Buffer → Type 0) → ((from to : ℕ) (c : Buffer) → P c → P (merge_clusters from to c)) → (from to : X → ℕ) (xs : List X) (b : Buffer) → P b → P (fold (λ c x. merge_clusters (from x) (to x) c) b xs)
-kept_by_merges P merges from to [] b h = h
-kept_by_merges P merges from to (x ∷ xs) b h = kept_by_merges P merges from to xs (merge_clusters (from x) (to x) b) (merges (from x) (to x) b h)
 
 limit-unsafe_to_break : (from to : ℕ) (b : Buffer) → (unsafe_to_break from to b).length_limit ≡ b.length_limit
 limit-unsafe_to_break from to b = elim (cases_Bool (nat_lt (from + 1) to)) [ inl long ↦ rw long refl | inr short ↦ rw short refl ]
@@ -33,19 +28,18 @@ limit-merge_clusters from to b = at_level b.cluster_level
     at_level MonotoneCharacters = refl
     at_level Characters = limit-unsafe_to_break from to b
 
+limit-merge_spans : (start : ℕ) (parts : List (ℕ × ℕ)) (b : Buffer) → (fold (λ b span. merge_clusters (start + span.0) (start + span.1) b) b parts).length_limit ≡ b.length_limit
+limit-merge_spans start [] b = refl
+limit-merge_spans start (span ∷ parts) b = limit-merge_spans start parts (merge_clusters (start + span.0) (start + span.1) b) ∙ limit-merge_clusters (start + span.0) (start + span.1) b
+
 -- ---- round one
 
 module _ (rules : Rules) (b : Buffer) where
-  pub cleared-round_one : cleared (round_one rules b) ≡ cleared b
-  cleared-round_one =
-      kept_by_merges (λ c. cleared c ≡ cleared b) (λ from to c so_far. cleared-merge_clusters from to c ∙ so_far) (λ place. place) (λ place. place + 2) (pairs_from rules.unicode (face_of rules) 0 (sequences b.items)) b refl
-
   pub level-round_one : (round_one rules b).cluster_level ≡ b.cluster_level
-  level-round_one = ap (λ (c : Buffer). c.cluster_level) cleared-round_one
+  level-round_one = ap (λ (c : Buffer). c.cluster_level) (unlisted-merged_at b (pairs_from rules.unicode (face_of rules) 0 (sequences b.items)))
 
   limit-round_one : (round_one rules b).length_limit ≡ b.length_limit
-  limit-round_one =
-      kept_by_merges (λ c. c.length_limit ≡ b.length_limit) (λ from to c so_far. limit-merge_clusters from to c ∙ so_far) (λ place. place) (λ place. place + 2) (pairs_from rules.unicode (face_of rules) 0 (sequences b.items)) b refl
+  limit-round_one = ap (λ (c : Buffer). c.length_limit) (unlisted-merged_at b (pairs_from rules.unicode (face_of rules) 0 (sequences b.items)))
 
 -- ---- round two
 
@@ -54,8 +48,7 @@ module _ (reorder : Option (Buffer → ℕ → ℕ → Buffer)) (lawful : Lawful
   limit-run_settled start end b in_order within =
       let placed = run_placed start end b in
       let inside : end ≤ length placed.items = omega (arith, length-run_placed start end b in_order) in
-      let merged : placed.length_limit ≡ b.length_limit =
-      kept_by_merges (λ c. c.length_limit ≡ b.length_limit) (λ from to c so_far. limit-merge_clusters from to c ∙ so_far) (λ (span : ℕ × ℕ). start + span.0) (λ (span : ℕ × ℕ). start + span.1) (spans (run_classes start end b)) b refl in
+      let merged : placed.length_limit ≡ b.length_limit = limit-merge_spans start (spans (run_classes start end b)) b in
       settled_cases reorder start end b (λ c. c.length_limit ≡ b.length_limit)
       (ap (λ (c : Buffer). c.length_limit) (without_items-Reorders start end placed inside (Reorders-run_reordered reorder lawful start end placed in_order inside)) ∙ merged) refl
 
@@ -65,20 +58,10 @@ module _ (reorder : Option (Buffer → ℕ → ℕ → Buffer)) (lawful : Lawful
 
 -- ---- the ordered list
 
-cleared-joiners_settled : (b : Buffer) → cleared (joiners_settled b) ≡ cleared b
-cleared-joiners_settled b = elim (bit_and b.scratch_flags.0 8 == 8) as (λ t. cleared (if t then record b { items = joiners_shown b.items } else b) ≡ cleared b) [ true ↦ refl | false ↦ refl ]
-
 limit-joiners_settled : (b : Buffer) → (joiners_settled b).length_limit ≡ b.length_limit
 limit-joiners_settled b = elim (bit_and b.scratch_flags.0 8 == 8) as (λ t. (if t then record b { items = joiners_shown b.items } else b).length_limit ≡ b.length_limit) [ true ↦ refl | false ↦ refl ]
 
 module _ (rules : Rules) (lawful : LawfulReorder rules.reorder) where
-  pub cleared-ordered : (b : Buffer) → cleared (ordered rules b) ≡ cleared b
-  cleared-ordered b = cleared-joiners_settled _ ∙ by_test (has_mark_past_first b.items) ∙ cleared-round_one rules b
-    where
-      by_test : (test : Bool) → cleared (if test then marks_ordered rules.reorder (round_one rules b) else round_one rules b) ≡ cleared (round_one rules b)
-      by_test true = cleared-marks_ordered rules.reorder lawful (round_one rules b)
-      by_test false = refl
-
   limit-ordered : (b : Buffer) → (ordered rules b).length_limit ≡ b.length_limit
   limit-ordered b = limit-joiners_settled _ ∙ by_test (has_mark_past_first b.items) ∙ limit-round_one rules b
     where
