@@ -8,7 +8,6 @@ pub mod SequenceLemmas
 pub mod DrawnLemmas
 pub mod RoundOneLemmas
 pub mod RoundThreeLemmas
-pub mod RecomposedLemmas
 pub mod SpanLemmas
 pub mod SettleLemmas
 pub mod RunWalkLemmas
