@@ -5,8 +5,9 @@ ghost use Rattle.shape_pipeline.specs.Steps.{properties_set, glyphs_mapped};
 use shape_buffer::buffer::hb_buffer_t;
 use shape_buffer::interfaces::hb_unicode_funcs_t;
 
-/// Sets the properties of each item that go by its character, and what they show of the text.
-pub(crate) fn set_unicode_props<U: hb_unicode_funcs_t>(buffer: &mut hb_buffer_t)
+/// Sets the properties of each item that go by its character, and the scratch flags that they show of the
+/// text, as a run does before it normalises: the items are prepared then. Takes no memory.
+pub fn set_unicode_props<U: hb_unicode_funcs_t>(buffer: &mut hb_buffer_t)
     ensures { buffer.new ≡ properties_set U.unicode buffer.old }
 {
     let mut scratch_flags = buffer.scratch_flags();

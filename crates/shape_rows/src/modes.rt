@@ -6,6 +6,7 @@ use crate::support::{
 use shape_buffer::buffer::{Direction, GlyphId, ScratchFlags, UnicodeBuffer, hb_buffer_t};
 use shape_buffer::interfaces::hb_font_t;
 use shape_buffer::interfaces::space_types::{SPACE_EM, SPACE_FIGURE};
+use shape_pipeline::ot_shape::set_unicode_props;
 use shape_pipeline::ot_shape_normalize::{_hb_ot_shape_normalize, normalized_equal};
 use shape_pipeline::ot_shape_plan::hb_ot_shape_plan_t;
 use shape_pipeline::ot_shaper::{DEFAULT_SHAPER, hb_default_shaper_t, hb_ot_shaper_t};
@@ -22,13 +23,7 @@ fn prepared(alloc: Global, text: &[char]) -> Result<hb_buffer_t, Fail> {
         place = place.saturating_add(1);
     }
     let mut buffer = buffer.into_inner();
-    let mut scratch_flags = buffer.scratch_flags();
-    for i in 0..buffer.len() {
-        let mut info = buffer.infos()[i];
-        info.init_unicode_props::<MarkedUnicode>(&mut scratch_flags);
-        buffer.set_info(i, info);
-    }
-    buffer.set_scratch_flags(scratch_flags);
+    set_unicode_props::<MarkedUnicode>(&mut buffer);
     Ok(buffer)
 }
 
@@ -61,6 +56,14 @@ fn assert_items(rt: &impl Abort, buffer: &hb_buffer_t, items: &[(char, u32, u32)
     assert_eq!(rt; buffer.len(), items.len());
     for (info, item) in buffer.infos().iter().zip(items) {
         assert_eq!(rt; (info.codepoint, info.glyph_index, info.cluster), *item);
+    }
+}
+
+/// Compares of each item whether it is a marked selector, and whether it is ignorable.
+fn assert_selectors(rt: &impl Abort, buffer: &hb_buffer_t, items: &[(bool, bool)]) {
+    for (info, (marked, ignorable)) in buffer.infos().iter().zip(items) {
+        assert_eq!(rt; info._hb_glyph_info_get_selector_mark(), *marked);
+        assert_eq!(rt; info._hb_glyph_info_get_ignorable(), *ignorable);
     }
 }
 
@@ -111,11 +114,17 @@ fn a_selector_takes_part_in_the_choice_of_a_glyph(rt: HostRuntime) -> Result<(),
             ('b', 0x62, 5),
         ],
     );
-    let marks = [false, false, false, true, false];
-    for (info, mark) in buffer.infos().iter().zip(marks) {
-        assert_eq!(rt; info._hb_glyph_info_get_selector_mark(), mark);
-    }
-    assert!(rt; buffer.infos()[3]._hb_glyph_info_get_ignorable());
+    assert_selectors(
+        &rt,
+        &buffer,
+        &[
+            (false, false),
+            (false, true),
+            (false, false),
+            (true, true),
+            (false, false),
+        ],
+    );
     assert_eq!(rt; buffer.scratch_flags().0 & 16, 16);
     Ok(())
 }
@@ -131,9 +140,7 @@ fn a_selector_without_a_variant_is_marked(rt: HostRuntime) -> Result<(), Fail> {
         &buffer,
         &[('a', 0x61, 0), ('\u{FE00}', 0, 1), ('\u{FE01}', 0, 2)],
     );
-    let infos = buffer.infos();
-    assert!(rt; infos[1]._hb_glyph_info_get_selector_mark() && !infos[1]._hb_glyph_info_get_ignorable());
-    assert!(rt; !infos[2]._hb_glyph_info_get_selector_mark() && infos[2]._hb_glyph_info_get_ignorable());
+    assert_selectors(&rt, &buffer, &[(false, false), (true, false), (false, true)]);
     Ok(())
 }
 
@@ -147,7 +154,9 @@ fn space_of(
     let mut buffer = prepared(alloc, &[c])?;
     buffer.set_invisible_glyph(invisible);
     normalize(alloc, face, &DEFAULT_SHAPER, &mut buffer)?;
-    let info = buffer.infos().first().ok_or(Fail::from("no item"))?;
+    let Some(info) = buffer.infos().first() else {
+        return Err(Fail::from("no item"));
+    };
     let seen = buffer.scratch_flags().0 & 4 == 4;
     Ok((info.glyph_index, info._hb_glyph_info_get_space_type(), seen))
 }

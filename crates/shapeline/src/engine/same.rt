@@ -14,6 +14,7 @@ use crate::preferring::{
 };
 use crate::unicode_tables::UnicodeTables;
 use shape_buffer::buffer::{Direction, Script, ShapeError, hb_buffer_t};
+use shape_pipeline::ot_shape::set_unicode_props;
 use shape_pipeline::ot_shape_normalize::normalized_equal;
 use shape_pipeline::ot_shape_plan::hb_ot_shape_plan_t;
 use shape_pipeline::ot_shaper::{DEFAULT_SHAPER, hb_ot_shaper_t};
@@ -84,13 +85,7 @@ fn prepared(alloc: Global, words: Words) -> Result<hb_buffer_t, ShapeError>
     buffer.set_direction(Direction::LeftToRight);
     buffer.set_script(Some(Script::COMMON));
     buffer.enter();
-    let mut scratch_flags = buffer.scratch_flags();
-    for i in 0..buffer.len() {
-        let mut info = buffer.infos()[i];
-        info.init_unicode_props::<UnicodeTables>(&mut scratch_flags);
-        buffer.set_info(i, info);
-    }
-    buffer.set_scratch_flags(scratch_flags);
+    set_unicode_props::<UnicodeTables>(&mut buffer);
     Ok(buffer)
 }
 
