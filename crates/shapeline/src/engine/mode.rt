@@ -1,5 +1,5 @@
 //! How texts are normalised, as a line chooses it.
-ghost use Rattle.std.specs.Prelude.{◌≡◌, ◌≤◌, Some, is_some};
+ghost use Rattle.std.specs.Prelude.{◌≤◌, ◌↔◌, IsSome};
 
 /// The modes of normalising. Each stands for a shaper that prefers it; the last is that of the default
 /// shaper.
@@ -15,7 +15,7 @@ pub enum Mode {
 impl Mode {
     /// The mode of a number from 0 to 4.
     pub fn from_number(number: u32) -> Option<Mode>
-        ensures { number ≤ 4 → is_some result ≡ true }
+        ensures { IsSome result ↔ (number ≤ 4) }
     {
         match number {
             0 => Some(Mode::Shortest),
