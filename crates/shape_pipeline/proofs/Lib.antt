@@ -1,3 +1,4 @@
+pub mod RunsLemmas
 pub mod CompareLemmas
 pub mod StepLemmas
 pub mod RulesLemmas
