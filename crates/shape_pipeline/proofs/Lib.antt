@@ -1,3 +1,4 @@
+pub mod LawfulLemmas
 pub mod RunsLemmas
 pub mod CompareLemmas
 pub mod StepLemmas

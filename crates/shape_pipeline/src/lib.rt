@@ -6,6 +6,7 @@
 #![tactic(auto)]
 #![allow(non_camel_case_types)]
 
+pub mod laws;
 pub mod ot_shape;
 pub mod ot_shape_normalize;
 pub mod ot_shape_plan;

@@ -1,5 +1,6 @@
 //! The steps of a run over the whole list, in the order in which a run makes them.
 ghost use Rattle.std.specs.Prelude.{◌≡◌};
+ghost use Rattle.shape_pipeline.specs.Prepared.{IsPrepared};
 ghost use Rattle.shape_pipeline.specs.Steps.{properties_set, glyphs_mapped};
 
 use shape_buffer::buffer::hb_buffer_t;
@@ -8,7 +9,8 @@ use shape_buffer::interfaces::hb_unicode_funcs_t;
 /// Sets the properties of each item that go by its character, and the scratch flags that they show of the
 /// text, as a run does before it normalises: the items are prepared then. Takes no memory.
 pub fn set_unicode_props<U: hb_unicode_funcs_t>(buffer: &mut hb_buffer_t)
-    ensures { buffer.new ≡ properties_set U.unicode buffer.old }
+    ensures set { buffer.new ≡ properties_set U.unicode buffer.old }
+    ensures prepared { IsPrepared U.unicode buffer.new.items }
 {
     let mut scratch_flags = buffer.scratch_flags();
     for i in 0..buffer.len() {

@@ -1,10 +1,12 @@
-use Rattle.std.proofs.Common.{◌≡◌, ◌<◌, ◌++◌, map, take, drop, length, sym, ◌∙◌, ap, arith, get_or}
+use Rattle.std.proofs.Common.{◌≡◌, ◌<◌, ◌++◌, map, take, drop, length, sym, ◌∙◌, ap, arith, get_or, subst}
 use Rattle.std.proofs.lemmas.Grind.{common_steps}
 use Rattle.std.proofs.lemmas.List.Edits.{map_over_more}
 use Rattle.std.proofs.lemmas.List.Sums.{fold_more}
 use Rattle.shape_buffer.specs.Buffer.{Buffer}
 use Rattle.shape_buffer.specs.UnicodeProps.{with_unicode_props}
+use Rattle.shape_pipeline.specs.Prepared.{IsPrepared}
 use Rattle.shape_pipeline.specs.Steps.{seen_item}
+use Rattle.shape_pipeline.proofs.LawfulLemmas.{IsPrepared-with_props}
 use Rattle.shape_pipeline.proofs.StepLemmas.{at_unvisited}
 use Rattle.shape_pipeline.proofs.ot_shape.set_unicode_props.Goals as goal
 
@@ -24,3 +26,10 @@ loop-i-preserved g c =
           ∙ ap (seen_item unicode _) here ∙ sym (fold_more (seen_item unicode) c.args.buffer.now.scratch_flags text i item within);
       same_length = grind (arith, common_steps);
     }
+
+pub returns-clause-prepared : goal.returns-clause-prepared
+returns-clause-prepared g c =
+    let unicode = g.U.hb_unicode_funcs_t.unicode in
+    let walked = ap (λ (b : Buffer). b.items) c.set_scratch_flags.ensures ∙ ap (λ (b : Buffer). b.items) c.loop-i.invariant.items in
+    let made : c.set_scratch_flags.new.self.items ≡ map (with_unicode_props unicode) c.args.buffer.now.items = walked ∙ grind (arith, common_steps) in
+    subst (IsPrepared unicode) (sym made) (IsPrepared-with_props unicode g.met.U.hb_unicode_funcs_t.lawful c.args.buffer.now.items)
