@@ -18,7 +18,7 @@ returns-in-Ok-clause-brought_in g c =
     let unicode = g.U.hb_unicode_funcs_t.unicode in
     let shaper = g.S.hb_ot_shaper_t in
     let planned = rules_of unicode shaper.constants shaper.hooks shaper.reordered g.F.hb_font_t.face c.args.plan.now c.args.face.now in
-    let begun : c.set_unicode_props.new.buffer ≡ prepared unicode c.args.buffer = c.set_unicode_props.ensures ∙ ap (properties_set unicode) (c.enter.ensures ∙ ap entered (c.into_inner-inner.ensures ∙ c.guess_segment_properties.ensures)) in
+    let begun : c.set_unicode_props.new.buffer ≡ prepared unicode c.args.buffer = c.set_unicode_props.ensures.set ∙ ap (properties_set unicode) (c.enter.ensures ∙ ap entered (c.into_inner-inner.ensures ∙ c.guess_segment_properties.ensures)) in
     let made : c.into_glyphs-in-Ok.result ≡ glyphs_mapped (normalized planned (prepared unicode c.args.buffer)) = c.into_glyphs-in-Ok.ensures ∙ c.map_glyphs_fast.ensures ∙ ap glyphs_mapped (c.in-Ok.ensures.ok ∙ ap (normalized planned) begun) in
     let lawful = used_reorder-lawful shaper.reordered g.met.S.hb_ot_shaper_t.reorders shaper.constants.has_reorder_marks c.args.plan.now in
     run_brings_in planned lawful c.args.buffer c.into_glyphs-in-Ok.result made
@@ -28,7 +28,7 @@ returns-in-Ok-clause-glyphs g c =
     let unicode = g.U.hb_unicode_funcs_t.unicode in
     let shaper = g.S.hb_ot_shaper_t in
     let planned = rules_of unicode shaper.constants shaper.hooks shaper.reordered g.F.hb_font_t.face c.args.plan.now c.args.face.now in
-    let begun : c.set_unicode_props.new.buffer ≡ prepared unicode c.args.buffer = c.set_unicode_props.ensures ∙ ap (properties_set unicode) (c.enter.ensures ∙ ap entered (c.into_inner-inner.ensures ∙ c.guess_segment_properties.ensures)) in
+    let begun : c.set_unicode_props.new.buffer ≡ prepared unicode c.args.buffer = c.set_unicode_props.ensures.set ∙ ap (properties_set unicode) (c.enter.ensures ∙ ap entered (c.into_inner-inner.ensures ∙ c.guess_segment_properties.ensures)) in
     let made : c.into_glyphs-in-Ok.result ≡ glyphs_mapped (normalized planned (prepared unicode c.args.buffer)) = c.into_glyphs-in-Ok.ensures ∙ c.map_glyphs_fast.ensures ∙ ap glyphs_mapped (c.in-Ok.ensures.ok ∙ ap (normalized planned) begun) in
     let any : 0 < length c.args.buffer.items = grind arith in
     made ∙ shaped_of_any planned c.args.buffer any
@@ -38,7 +38,7 @@ returns-in-Ok-clause-canonical_form g c =
     let unicode = g.U.hb_unicode_funcs_t.unicode in
     let shaper = g.S.hb_ot_shaper_t in
     let planned = rules_of unicode shaper.constants shaper.hooks shaper.reordered g.F.hb_font_t.face c.args.plan.now c.args.face.now in
-    let begun : c.set_unicode_props.new.buffer ≡ prepared unicode c.args.buffer = c.set_unicode_props.ensures ∙ ap (properties_set unicode) (c.enter.ensures ∙ ap entered (c.into_inner-inner.ensures ∙ c.guess_segment_properties.ensures)) in
+    let begun : c.set_unicode_props.new.buffer ≡ prepared unicode c.args.buffer = c.set_unicode_props.ensures.set ∙ ap (properties_set unicode) (c.enter.ensures ∙ ap entered (c.into_inner-inner.ensures ∙ c.guess_segment_properties.ensures)) in
     let made : c.into_glyphs-in-Ok.result ≡ glyphs_mapped (normalized planned (prepared unicode c.args.buffer)) = c.into_glyphs-in-Ok.ensures ∙ c.map_glyphs_fast.ensures ∙ ap glyphs_mapped (c.in-Ok.ensures.ok ∙ ap (normalized planned) begun) in
     ShapesCanonically-run planned g.met.U.hb_unicode_funcs_t.lawful c.args.buffer c.into_glyphs-in-Ok.result made
 
@@ -56,7 +56,7 @@ returns-in-Ok-clause-clusters g c =
     let unicode = g.U.hb_unicode_funcs_t.unicode in
     let shaper = g.S.hb_ot_shaper_t in
     let planned = rules_of unicode shaper.constants shaper.hooks shaper.reordered g.F.hb_font_t.face c.args.plan.now c.args.face.now in
-    let begun : c.set_unicode_props.new.buffer ≡ prepared unicode c.args.buffer = c.set_unicode_props.ensures ∙ ap (properties_set unicode) (c.enter.ensures ∙ ap entered (c.into_inner-inner.ensures ∙ c.guess_segment_properties.ensures)) in
+    let begun : c.set_unicode_props.new.buffer ≡ prepared unicode c.args.buffer = c.set_unicode_props.ensures.set ∙ ap (properties_set unicode) (c.enter.ensures ∙ ap entered (c.into_inner-inner.ensures ∙ c.guess_segment_properties.ensures)) in
     let made : c.into_glyphs-in-Ok.result ≡ glyphs_mapped (normalized planned (prepared unicode c.args.buffer)) = c.into_glyphs-in-Ok.ensures ∙ c.map_glyphs_fast.ensures ∙ ap glyphs_mapped (c.in-Ok.ensures.ok ∙ ap (normalized planned) begun) in
     let lawful = used_reorder-lawful shaper.reordered g.met.S.hb_ot_shaper_t.reorders shaper.constants.has_reorder_marks c.args.plan.now in
     run_keeps planned lawful c.args.buffer c.into_glyphs-in-Ok.result made
@@ -66,7 +66,7 @@ returns-in-Ok-clause-item_glyphs g c =
     let unicode = g.U.hb_unicode_funcs_t.unicode in
     let shaper = g.S.hb_ot_shaper_t in
     let planned = rules_of unicode shaper.constants shaper.hooks shaper.reordered g.F.hb_font_t.face c.args.plan.now c.args.face.now in
-    let begun : c.set_unicode_props.new.buffer ≡ prepared unicode c.args.buffer = c.set_unicode_props.ensures ∙ ap (properties_set unicode) (c.enter.ensures ∙ ap entered (c.into_inner-inner.ensures ∙ c.guess_segment_properties.ensures)) in
+    let begun : c.set_unicode_props.new.buffer ≡ prepared unicode c.args.buffer = c.set_unicode_props.ensures.set ∙ ap (properties_set unicode) (c.enter.ensures ∙ ap entered (c.into_inner-inner.ensures ∙ c.guess_segment_properties.ensures)) in
     let made : c.into_glyphs-in-Ok.result ≡ glyphs_mapped (normalized planned (prepared unicode c.args.buffer)) = c.into_glyphs-in-Ok.ensures ∙ c.map_glyphs_fast.ensures ∙ ap glyphs_mapped (c.in-Ok.ensures.ok ∙ ap (normalized planned) begun) in
     let lawful = used_reorder-lawful shaper.reordered g.met.S.hb_ot_shaper_t.reorders shaper.constants.has_reorder_marks c.args.plan.now in
     run_has_glyphs planned lawful c.args.buffer c.into_glyphs-in-Ok.result made
