@@ -1,19 +1,18 @@
 #!/bin/sh
-# Runs the test of the buffer's calls and then the built program on its stored input, with the first growth of
-# memory refused, then the second, and so on until a run is whole.
+# Runs the test of the buffer's calls and then the built program on its stored input and on those of `growths`,
+# each of which has one answer, with the first growth of memory refused, then the second, and so on until a run
+# is whole.
 #
 # A run of the test must pass, or say that a call was `refused` (behind its own comparisons of what that call
 # left), or that a list of the test's own could not grow (`AllocError`). A run of the program must end in one of
 # three ways:
 #
-#   the stored output, status 0;
-#   `refused 1` in place of the text's answer, status 0;
+#   the whole answer, status 0;
+#   `refused 1` in its place, status 0;
 #   `error: input`, status 1.
 cd "$(dirname "$0")/.." || exit 1
 calls=crates/shape_buffer/out/shape_buffer_tests
 program=crates/shapeline/out/shapeline
-input=crates/shapeline/stdin
-whole=crates/shapeline/stdout
 
 [ -x "$calls" ] || (cd crates/shape_buffer && rt test > /dev/null) || exit 1
 [ -x "$program" ] || (cd crates/shapeline && rt run < stdin > /dev/null) || exit 1
@@ -41,24 +40,32 @@ done
 echo "refused growths: $refused of the buffer's calls refused, run $n was whole"
 [ "$refused" -gt 0 ] || exit 1
 
-n=1 texts=0 inputs=0
-while [ "$n" -le 1000 ]; do
-    REFUSED_GROWTH=$n LD_PRELOAD="$work/refuse.so" "$program" < "$input" > "$work/answer"
-    status=$?
-    if [ "$status" -eq 0 ] && cmp -s "$work/answer" "$whole"; then
-        echo "refused growths: $inputs gave 'error: input', $texts gave 'refused 1', run $n was whole"
-        [ "$inputs" -gt 0 ] && [ "$texts" -gt 0 ]
-        exit
-    elif [ "$status" -eq 0 ] && [ "$(cat "$work/answer")" = "refused 1" ]; then
-        texts=$((texts + 1))
-    elif [ "$status" -eq 1 ] && [ "$(cat "$work/answer")" = "error: input" ]; then
-        inputs=$((inputs + 1))
-    else
-        echo "growth $n refused: status $status and this answer:"
-        cat "$work/answer"
-        exit 1
-    fi
-    n=$((n + 1))
+# Runs the program on an input with each growth refused in turn, until a run gives the whole answer.
+refuse_all() {
+    n=1 answers=0 inputs=0
+    while [ "$n" -le 1000 ]; do
+        REFUSED_GROWTH=$n LD_PRELOAD="$work/refuse.so" "$program" < "$1" > "$work/answer"
+        status=$?
+        if [ "$status" -eq 0 ] && cmp -s "$work/answer" "$2"; then
+            echo "refused growths: $inputs gave 'error: input', $answers gave 'refused 1', run $n was whole"
+            [ "$inputs" -gt 0 ] && [ "$answers" -gt 0 ]
+            return
+        elif [ "$status" -eq 0 ] && [ "$(cat "$work/answer")" = "refused 1" ]; then
+            answers=$((answers + 1))
+        elif [ "$status" -eq 1 ] && [ "$(cat "$work/answer")" = "error: input" ]; then
+            inputs=$((inputs + 1))
+        else
+            echo "growth $n refused: status $status and this answer:"
+            cat "$work/answer"
+            return 1
+        fi
+        n=$((n + 1))
+    done
+    echo "no run was whole"
+    return 1
+}
+
+refuse_all crates/shapeline/stdin crates/shapeline/stdout || exit 1
+for input in tests/growths/*.in; do
+    refuse_all "$input" "${input%.in}.out" || exit 1
 done
-echo "no run was whole"
-exit 1

@@ -219,9 +219,11 @@ fn settle_all(
 ) -> Result<Vec<hb_glyph_info_t>, AllocError>
     ensures { IfOk result (λ settled. settled.items ≡ map (settled_info infos.now) out.now) }
 {
-    out.iter()
-        .map(|placed| placed.settled(infos))
-        .collect(alloc)
+    let mut settled = Vec::new(alloc);
+    for placed in out {
+        settled.push(placed.settled(infos))?;
+    }
+    Ok(settled)
 }
 
 /// Composes marks with their starters. Refuses with `Memory` where a growth was refused; the settings that
