@@ -14,7 +14,7 @@ use Rattle.shape_pipeline.specs.Rules.{Rules, has_glyph}
 use Rattle.shape_pipeline.specs.RoundOne.{round_one, part_item}
 use Rattle.shape_pipeline.specs.RoundTwo.{has_mark_past_first, marks_ordered, joiners_settled, unplaced, OrdersMarks}
 use Rattle.shape_pipeline.specs.RoundThree.{round_three}
-use Rattle.shape_pipeline.specs.Normalized.{ordered, normalized, BroughtInHaveGlyphs, OrdersExpanded}
+use Rattle.shape_pipeline.specs.Normalized.{ordered, normalized, content, BroughtInHaveGlyphs, OrdersExpanded}
 use Rattle.shape_pipeline.specs.Steps.{with_mapped_glyph, glyphs_mapped}
 use Rattle.shape_pipeline.specs.Shaped.{prepared, shaped}
 use Rattle.shape_pipeline.proofs.JoinerLemmas.{keys-joiners_settled, chars-joiners_settled}
@@ -78,15 +78,11 @@ module _ (rules : Rules) (lawful : LawfulReorder rules.reorder) where
 
 -- ---- what holds of each item
 
--- an item but for its cluster, its mask and its hidden bit, which the later rounds change
-abbrev pub content : Item → Item
-content item = record item { cluster = 0; mask = 0; properties = record item.properties { hidden = false } }
-
 IsKey-content : IsKey content
 IsKey-content = record { by_cluster = λ item cluster. refl; by_break = λ item. refl }
 
 module _ (rules : Rules) (lawful : LawfulReorder rules.reorder) (P : Item → Type 0) (composes : (item : Item) (c : ℕ) → has_glyph rules.glyph c ≡ true → P (content (part_item rules.unicode rules.glyph item c))) where
-  -- what goes by neither cluster, mask nor hidden bit, and holds of each composed item, holds of each item of the normalised list where it does of the expanded one
+  -- what goes by an item's content, and holds of each composed item, holds of each item of the normalised list where it does of the expanded one
   pub normalized_all : (b : Buffer) → AllByRecursion (λ item. P (content item)) (round_one rules b).items → AllByRecursion (λ item. P (content item)) (normalized rules b).items
   normalized_all b each =
       let one : Buffer = round_one rules b in
