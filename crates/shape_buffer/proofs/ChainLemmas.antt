@@ -43,10 +43,6 @@ module _ (split : ℕ → Option (ℕ × ℕ)) (height : ℕ → ℕ) (falling :
       step-same (full_within split n) (full_within split m) c (split c)
       (λ a b e. let falls = falling.falls c a b e in full_within-any n m a (omega arith) (omega arith))
 
-  pub full-enough : (n c : ℕ) → height c ≤ n → full_within split n c ≡ full split height c
-  unfolding full
-  full-enough n c low = full_within-any n (height c) c low (omega arith)
-
   -- Full of what doesn't split
   pub full-stays : (c : ℕ) → split c ≡ None → full split height c ≡ c ∷ []
   unfolding full

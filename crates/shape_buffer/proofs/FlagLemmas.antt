@@ -24,10 +24,6 @@ or_right : (a b : Bool) → b ≡ true → (a || b) ≡ true
 or_right true b e = refl
 or_right false b e = e
 
-rule_out : (a b : Bool) → (a || b) ≡ true → a ≡ false → b ≡ true
-rule_out true b e f = grind (arith, nat_tests)
-rule_out false b e f = e
-
 -- the has-flags bit is set
 pub glyph_flags_set : (b : Buffer) → has_glyph_flags (with_glyph_flags b) ≡ true
 glyph_flags_set b = rw (and_or_self 32 b.scratch_flags.0) refl
@@ -140,13 +136,6 @@ unsafe_to_break_keeps start end b =
     elim (bool_cases (nat_lt (start + 1) end)) [
       | inl long ↦ rw long (KeepsFlags-set b _)
       | inr short ↦ rw short (KeepsFlags-same b)
-    ]
-
-pub unsafe_to_concat_keeps : (start end : ℕ) (b : Buffer) → KeepsFlags b (unsafe_to_concat start end b)
-unsafe_to_concat_keeps start end b =
-    elim (bool_cases (eqb (bit_and b.flags.0 64) 64)) [
-      | inl asked ↦ rw asked (KeepsFlags-set b _)
-      | inr unasked ↦ rw unasked (KeepsFlags-same b)
     ]
 
 at_level_keeps : (start end : ℕ) (b : Buffer) (level : BufferClusterLevel) → KeepsFlags b (elim level [

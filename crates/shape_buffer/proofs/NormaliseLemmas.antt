@@ -64,11 +64,6 @@ module _ (split : ℕ → Option (ℕ × ℕ)) (height class : ℕ → ℕ) (law
   equivalent_recomposed_by_last is_mark join sound xs up =
       subst (IsEquivalent split height class xs) (recomposed_by_last class is_mark join xs up) (equivalent_recomposed is_mark join sound xs)
 
-  -- by the greatest class too, whatever the list
-  pub equivalent_recomposed_by_greatest : (is_mark : ℕ → Bool) (join : ℕ → ℕ → Option ℕ) → ComposesSoundly split height class join → (xs : List ℕ) → IsEquivalent split height class xs (recomposed class (is_blocked_by_greatest class) is_mark join xs)
-  equivalent_recomposed_by_greatest is_mark join sound xs =
-      subst (IsEquivalent split height class xs) (recomposed_by_greatest class is_mark join xs) (equivalent_recomposed is_mark join sound xs)
-
   -- a starter and a mark past others that don't block it, and what the two compose to
   pub equivalent_joined : (join : ℕ → ℕ → Option ℕ) → ComposesSoundly split height class join → (s c d : ℕ) (ms rest : List ℕ) → is_blocked class ms c ≡ false → join s c ≡ Some d → IsEquivalent split height class (s ∷ ms ++ c ∷ rest) (d ∷ ms ++ rest)
   unfolding full_text

@@ -34,11 +34,6 @@ module _ (split : ℕ → Option (ℕ × ℕ)) (has_glyph : ℕ → Bool) where
   walked-step found seconds a b None = walked-none (has_glyph a) found seconds a b
   walked-step found seconds a b (Some ys) = ap Some (append_assoc ys (kept b) (reverse seconds) ∙ ap (λ xs. ys ++ xs) (sym (reverse-more seconds b)))
 
-  -- nothing walked yet
-  pub walked-start : (r : Option (List ℕ)) → r ≡ walked None [] r
-  walked-start None = refl
-  walked-start (Some ys) = ap Some (sym (append-nil ys))
-
   -- where the chain ends, what was found is the expansion
   pub walk_ended : (start found : Option (List ℕ)) (seconds : List ℕ) (n c : ℕ) → start ≡ walked found seconds (greatest_supported split has_glyph n c) → None ≡ split c → found ≡ start
   walk_ended start found seconds n c inv e = sym (inv ∙ ap (walked found seconds) (greatest-end split has_glyph n c (sym e)))

@@ -206,18 +206,3 @@ module _ (rules : Rules) where
           recomposed = λ composes premises canonical. absurd (unmarked canonical);
           decides = λ other of_old canonical_old of_other canonical_other. absurd (unmarked canonical_old);
         }
-
-    shaped_of_none : (b : Buffer) → length b.items ≡ 0 → (shaped rules b).items ≡ b.items
-    shaped_of_none b none =
-        elim b.items as (λ items. length items ≡ 0 → (shaped rules (record b { items = items })).items ≡ items) [
-          | [] ↦ λ none. refl
-          | item ∷ items ↦ λ none. absurd (omega arith)
-        ] none
-
-    -- so shaping does, for every text
-    pub ShapesCanonically-shaped : (old new : Buffer) → new ≡ shaped rules old → ShapesCanonically rules old new
-    ShapesCanonically-shaped old new is =
-        elim (cases_eq (length old.items) 0) [
-          | inl none ↦ ShapesCanonically-none old new none (ap (λ (b : Buffer). b.items) is ∙ shaped_of_none old none)
-          | inr some ↦ ShapesCanonically-run old new (is ∙ sym (shaped_of_any rules old (omega arith)))
-        ]

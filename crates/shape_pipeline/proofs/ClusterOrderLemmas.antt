@@ -12,6 +12,7 @@ use Rattle.shape_buffer.specs.Unicode.{UnicodeMeaning}
 use Rattle.shape_buffer.specs.UnicodeProps.{with_unicode_props}
 use Rattle.shape_buffer.specs.declared.buffer.settings.GlyphId.{GlyphId}
 use Rattle.shape_buffer.proofs.DeleteKeeps.{merged_keeps}
+use Rattle.shape_buffer.proofs.DividedLemmas.{values-divided}
 use Rattle.shape_buffer.proofs.DrawsInOrder.{DrawsInOrder-behind, DrawsInOrder-again, KeepsClusters-from_draws}
 use Rattle.shape_pipeline.specs.Rules.{Rules, face_of}
 use Rattle.shape_pipeline.proofs.SelectorLemmas.{pairs_within}
@@ -22,7 +23,6 @@ use Rattle.shape_pipeline.specs.Normalized.{normalized, HookKeepsClusters}
 use Rattle.shape_pipeline.specs.Steps.{with_mapped_glyph, glyphs_mapped}
 use Rattle.shape_pipeline.specs.Shaped.{prepared}
 use Rattle.shape_pipeline.proofs.DrawnLemmas.{DrawsBefore, DrawsBefore-same, draws_whole, draws_pieces, KeepsClusters-same, KeepsClusters-then}
-use Rattle.shape_pipeline.proofs.PartLemmas.{values-divided}
 use Rattle.shape_pipeline.proofs.JoinerLemmas.{keys-joiners_settled}
 use Rattle.shape_pipeline.proofs.NormalizedLemmas.{kept_by_rounds}
 use Rattle.shape_pipeline.proofs.OrderedClusterLemmas.{marks_ordered_keeps}

@@ -18,7 +18,6 @@ use Rattle.shape_pipeline.specs.Normalized.{normalized, content, selector_items,
 use Rattle.shape_pipeline.specs.Steps.{with_mapped_glyph, glyphs_mapped}
 use Rattle.shape_pipeline.specs.Shaped.{prepared, IsHandedOut}
 use Rattle.shape_pipeline.proofs.NormalizedLemmas.{normalized_all}
-use Rattle.shape_pipeline.proofs.PartLemmas.{divided-map}
 use Rattle.shape_pipeline.proofs.ReorderLemmas.{LawfulReorder}
 use Rattle.shape_pipeline.proofs.RoundOneLemmas.{keys-pairs_merged}
 use Rattle.shape_pipeline.proofs.SequenceLemmas.{each_of_values, each_weaker, flat_map_all, flat_map_parts_all}

@@ -7,9 +7,8 @@ use Rattle.std.proofs.lemmas.List.Elements.{All-from_recursion, recursion_from_A
 use Rattle.std.proofs.lemmas.List.Folds.{list_any_none}
 use Rattle.shape_buffer.proofs.ChoiceLemmas.{choice_glyphs}
 use Rattle.shape_buffer.proofs.ExpandedLemmas.{expanded-map}
-use Rattle.shape_buffer.proofs.KeyLemmas.{IsKey, keys-merge_clusters}
+use Rattle.shape_buffer.proofs.KeyLemmas.{IsKey}
 use Rattle.shape_buffer.specs.Buffer.{Buffer}
-use Rattle.shape_buffer.specs.BufferClusters.{merge_clusters}
 use Rattle.shape_buffer.specs.Choice.{HasGlyphOrIs}
 use Rattle.shape_buffer.specs.Expanded.{expanded_in_clusters, expanded_text}
 use Rattle.shape_buffer.specs.Expansion.{choice}
@@ -20,18 +19,16 @@ use Rattle.shape_pipeline.specs.Normalized.{BroughtInHaveGlyphs}
 use Rattle.shape_pipeline.specs.Prepared.{IsPreparedItem}
 use Rattle.shape_pipeline.specs.RoundOne.{item_glyph, passed_item, part_item, whole_item, remembers_space, expanded_item, expanded, expansion_of, is_selector_item, has_selector, is_with_marks, marked_selector, variant_items, variants, sequences, sequence_items, pairs_from, merged_at, pairs_merged, round_one}
 use Rattle.shape_pipeline.specs.Rules.{Rules, face_of, has_glyph}
+use Rattle.shape_pipeline.proofs.SelectorLemmas.{keys-merged_at}
 use Rattle.shape_pipeline.proofs.SequenceLemmas.{each_part, each_of_values, each_value, each_weaker, flat_map_all, flat_map_same, flat_map_parts_all, sequence_becomes, sequences-expanded}
 
 -- ---- merging the pairs
 
 module _ (rules : Rules) where
-  keys-merge_pairs : {B : Type 0} (key : Item → B) → IsKey key → (places : List ℕ) (b : Buffer) → map key (merged_at b places).items ≡ map key b.items
-  keys-merge_pairs key is_key [] b = refl
-  keys-merge_pairs key is_key (place ∷ places) b = keys-merge_pairs key is_key places (merge_clusters place (place + 2) b) ∙ keys-merge_clusters key is_key place (place + 2) b
 
   -- what goes by neither clusters nor the defined flags stays
   pub keys-pairs_merged : {B : Type 0} (key : Item → B) → IsKey key → (b : Buffer) → map key (pairs_merged rules b).items ≡ map key b.items
-  keys-pairs_merged key is_key b = keys-merge_pairs key is_key (pairs_from rules.unicode (face_of rules) 0 (sequences b.items)) b
+  keys-pairs_merged key is_key b = keys-merged_at key is_key b (pairs_from rules.unicode (face_of rules) 0 (sequences b.items))
 
 -- ---- what an item becomes
 
