@@ -1,5 +1,6 @@
 -- Merging, marking and deletion keep the flags of glyphs.
 use Rattle.std.proofs.Common.{◌≡◌, ℕ, ◌+◌, ◌-◌, Bool, true, false, nat_lt, eqb, ◌||◌, List, [], ◌∷◌, ◌++◌, take, drop, map, refl, ap, sym, ◌∙◌, arith, slice_range, inl, inr, ◌⊎◌, bit_and}
+use Rattle.std.proofs.lemmas.Bool.{or_cases}
 use Rattle.std.proofs.lemmas.Bool.Decides.{nat_tests}
 use Rattle.std.proofs.lemmas.Nat.{and_assoc, and_or_self}
 use Rattle.std.specs.Int.Bits.{and_zero_r}
@@ -15,10 +16,6 @@ use Rattle.shape_buffer.specs.BufferClusters.{with_glyph_flags, merge_at, unsafe
 use Rattle.shape_buffer.specs.KeepsFlags.{IsDefinedFlag, has_flag, some_has, has_glyph_flags, KeepsFlags}
 use Rattle.shape_buffer.proofs.ClusterLemmas.{merge_short, merge_long}
 use Rattle.shape_buffer.proofs.MergeOrder.{bool_cases}
-
-or_cases : (a b : Bool) → (a || b) ≡ true → (a ≡ true) ⊎ (b ≡ true)
-or_cases true b e = inl refl
-or_cases false b e = inr e
 
 or_right : (a b : Bool) → b ≡ true → (a || b) ≡ true
 or_right true b e = refl

@@ -12,7 +12,7 @@ use Rattle.shape_buffer.specs.UnicodeProps.{with_unicode_props}
 use Rattle.shape_buffer.proofs.KeyLemmas.{IsKey, IsKey-unflagged}
 use Rattle.shape_pipeline.specs.Rules.{Rules, has_glyph}
 use Rattle.shape_pipeline.specs.RoundOne.{round_one, part_item}
-use Rattle.shape_pipeline.specs.RoundTwo.{has_mark_past_first, marks_ordered, joiners_settled, unplaced, OrdersMarks}
+use Rattle.shape_pipeline.specs.RoundTwo.{has_mark_past_first, marks_ordered, shown, joiners_settled, unplaced, OrdersMarks}
 use Rattle.shape_pipeline.specs.RoundThree.{round_three}
 use Rattle.shape_pipeline.specs.Normalized.{ordered, normalized, content, BroughtInHaveGlyphs, OrdersExpanded}
 use Rattle.shape_pipeline.specs.Steps.{with_mapped_glyph, glyphs_mapped}
@@ -104,14 +104,10 @@ normalized_brings_in rules lawful b new is =
 
 -- ---- the order of the marks
 
-without_hidden : Item → Item
-without_hidden item = record item { properties = record item.properties { hidden = false } }
-
 pub IsKey-unplaced : IsKey unplaced
-unfolding without_hidden
 IsKey-unplaced = record {
-  by_cluster = λ item cluster. ap without_hidden (IsKey-unflagged.by_cluster item cluster);
-  by_break = λ item. ap without_hidden (IsKey-unflagged.by_break item);
+  by_cluster = λ item cluster. ap shown (IsKey-unflagged.by_cluster item cluster);
+  by_break = λ item. ap shown (IsKey-unflagged.by_break item);
 }
 
 -- with a mark past the first item, and with no hook, the ordered list is the expanded one with its runs settled
