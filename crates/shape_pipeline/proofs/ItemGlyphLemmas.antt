@@ -13,7 +13,7 @@ use Rattle.shape_buffer.specs.declared.buffer.settings.GlyphId.{GlyphId}
 use Rattle.shape_buffer.proofs.ChoiceLemmas.{chosen_glyphs}
 use Rattle.shape_buffer.proofs.EveryLemmas.{append_all}
 use Rattle.shape_pipeline.specs.Rules.{Rules, face_of, has_glyph}
-use Rattle.shape_pipeline.specs.RoundOne.{item_glyph, remembers_space, part_item, whole_item, expanded_item, expansion_of, is_selector_item, passed_item, marked_selector, variant_items, variants, sequences, has_selector, is_with_marks, pairs_merged, sequence_items, expanded, round_one}
+use Rattle.shape_pipeline.specs.RoundOne.{item_glyph, remembers_space, part_item, whole_item, expanded_item, expansion_of, is_selector_item, passed_item, marked_selector, variant_items, variants, sequences, is_selector_sequence, is_with_marks, pairs_merged, sequence_items, expanded, round_one}
 use Rattle.shape_pipeline.specs.Normalized.{normalized, content, selector_items, HasItemGlyph}
 use Rattle.shape_pipeline.specs.Steps.{with_mapped_glyph, glyphs_mapped}
 use Rattle.shape_pipeline.specs.Shaped.{prepared, IsHandedOut}
@@ -64,7 +64,7 @@ module _ (rules : Rules) (invisible not_found : Option GlyphId) where
   plain_have_glyphs short (item ∷ sequence) = append_all HasOwnGlyph (expanded_item rules invisible short item) _ (item_has_glyphs short item) (plain_have_glyphs short sequence)
 
   -- each item of a sequence without a selector has its glyph
-  sequence_has_glyphs : (sequence : List Item) → has_selector rules.unicode sequence ≡ false → AllByRecursion HasOwnGlyph (sequence_items rules invisible not_found sequence)
+  sequence_has_glyphs : (sequence : List Item) → is_selector_sequence rules.unicode sequence ≡ false → AllByRecursion HasOwnGlyph (sequence_items rules invisible not_found sequence)
   sequence_has_glyphs sequence none = rw none (plain_have_glyphs (rules.short (is_with_marks sequence)) sequence)
 
 -- what holds of all that the chosen of some values become, and of all that each other value becomes, holds of all that they become
@@ -93,7 +93,7 @@ module _ (rules : Rules) where
       let those : List Item = map content (selector_items rules b) in
       let themselves : AllByRecursion (λ item. Contains those (content item)) (selector_items rules b) =
       each_of_values content (Contains those) (selector_items rules b) (recursion_from_All (Contains those) those (All-contains_itself those)) in
-      chosen_and_others (has_selector rules.unicode) become (HasItemGlyph rules b)
+      chosen_and_others (is_selector_sequence rules.unicode) become (HasItemGlyph rules b)
       (λ sequence none. each_weaker (λ item. item.glyph_index ≡ item_glyph rules b.invisible_glyph item) (HasItemGlyph rules b) (λ item own. inl own) (become sequence)
       (sequence_has_glyphs rules b.invisible_glyph b.not_found_variation_selector_glyph sequence none))
       (sequences merged)

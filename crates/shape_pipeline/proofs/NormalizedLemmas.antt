@@ -12,7 +12,7 @@ use Rattle.shape_buffer.specs.UnicodeProps.{with_unicode_props}
 use Rattle.shape_buffer.proofs.KeyLemmas.{IsKey, IsKey-unflagged}
 use Rattle.shape_pipeline.specs.Rules.{Rules, has_glyph}
 use Rattle.shape_pipeline.specs.RoundOne.{round_one, part_item}
-use Rattle.shape_pipeline.specs.RoundTwo.{has_mark_past_first, marks_ordered, shown, joiners_settled, unplaced, OrdersMarks}
+use Rattle.shape_pipeline.specs.RoundTwo.{has_mark_past_first, marks_ordered, shown, joiners_settled, without_place, OrdersMarks}
 use Rattle.shape_pipeline.specs.RoundThree.{round_three}
 use Rattle.shape_pipeline.specs.Normalized.{ordered, normalized, content, BroughtInHaveGlyphs, OrdersExpanded}
 use Rattle.shape_pipeline.specs.Steps.{with_mapped_glyph, glyphs_mapped}
@@ -104,8 +104,8 @@ normalized_brings_in rules lawful b new is =
 
 -- ---- the order of the marks
 
-pub IsKey-unplaced : IsKey unplaced
-IsKey-unplaced = record {
+pub IsKey-without_place : IsKey without_place
+IsKey-without_place = record {
   by_cluster = λ item cluster. ap shown (IsKey-unflagged.by_cluster item cluster);
   by_break = λ item. ap shown (IsKey-unflagged.by_break item);
 }
@@ -115,7 +115,7 @@ pub normalized_orders : (rules : Rules) (b : Buffer) → OrdersExpanded rules b
 normalized_orders rules b = λ marked none.
     let one : Buffer = round_one rules b in
     let by_none : OrdersMarks one.items (joiners_settled (marks_ordered None one)).items =
-    rw (keys-joiners_settled unplaced (λ item. refl) (marks_ordered None one)) (marks_ordered_settles unplaced IsKey-unplaced class_of_item (λ item. refl) one) in
+    rw (keys-joiners_settled without_place (λ item. refl) (marks_ordered None one)) (marks_ordered_settles without_place IsKey-without_place class_of_item (λ item. refl) one) in
     let by_hook : OrdersMarks one.items (joiners_settled (marks_ordered rules.reorder one)).items = subst (λ (hook : Option (Buffer → ℕ → ℕ → Buffer)). OrdersMarks one.items (joiners_settled (marks_ordered hook one)).items) (sym none) by_none in
     subst (λ (c : Buffer). OrdersMarks one.items (joiners_settled c).items) (sym (cond-true _ (marks_ordered rules.reorder one) one marked)) by_hook
 

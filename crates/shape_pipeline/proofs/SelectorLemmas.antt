@@ -17,7 +17,7 @@ use Rattle.shape_buffer.specs.declared.buffer.settings.BufferClusterLevel.TheVar
 use Rattle.shape_buffer.proofs.DividedLemmas.{lengths-divided}
 use Rattle.shape_buffer.proofs.KeyLemmas.{IsKey, keys-merge_clusters, without_items, without_items-merge_clusters}
 use Rattle.shape_pipeline.specs.Rules.{Rules, face_of}
-use Rattle.shape_pipeline.specs.RoundOne.{is_with_marks, is_selector_item, has_selector, variants, sequences, pair_glyph, pair_places, pairs_from, merged_at, pairs_merged, expanded, seen_sequence, round_one}
+use Rattle.shape_pipeline.specs.RoundOne.{is_with_marks, is_selector_item, is_selector_sequence, variants, sequences, pair_glyph, pair_places, pairs_from, merged_at, pairs_merged, expanded, seen_sequence, round_one}
 
 -- a sequence has marks where it has more than one item
 pub is_with_marks-length : (sequence : List Item) → is_with_marks sequence ≡ nat_lt 1 (length sequence)
@@ -60,7 +60,7 @@ pairs_from-within unicode face place (sequence ∷ rest) =
     let end = place + sum_by length (sequence ∷ rest) in
     let as_long : sum_by length (variants unicode sequence) ≡ length sequence = lengths-divided (is_selector_item unicode) sequence in
     let later : All (IsPairBelow end) more = pairs_below_further _ end (omega (arith, all)) more (pairs_from-within unicode face (place + length sequence) rest) in
-    elim (has_selector unicode sequence) as (λ t. All (IsPairBelow end) (if t then here ++ more else more)) [
+    elim (is_selector_sequence unicode sequence) as (λ t. All (IsPairBelow end) (if t then here ++ more else more)) [
       | true ↦ All-append (IsPairBelow end) here more (pairs_below_further _ end (omega (arith, all, as_long)) here (pair_places-within face place (variants unicode sequence))) later
       | false ↦ later
     ]

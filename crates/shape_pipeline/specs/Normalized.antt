@@ -6,7 +6,7 @@ use Rattle.shape_buffer.specs.ClusterOrder.{KeepsClusters, IsMonotoneLevel}
 use Rattle.shape_buffer.specs.Items.{Item}
 use Rattle.shape_buffer.specs.declared.buffer.settings.GlyphId.{GlyphId}
 use Rattle.shape_pipeline.specs.Rules.{Rules, has_glyph}
-use Rattle.shape_pipeline.specs.RoundOne.{round_one, item_glyph, sequences, sequence_items, has_selector, pairs_merged}
+use Rattle.shape_pipeline.specs.RoundOne.{round_one, item_glyph, sequences, sequence_items, is_selector_sequence, pairs_merged}
 use Rattle.shape_pipeline.specs.RoundThree.{round_three}
 use Rattle.shape_pipeline.specs.RoundTwo.{has_mark_past_first, marks_ordered, joiners_settled, OrdersMarks}
 
@@ -33,7 +33,7 @@ HookKeepsClusters rules =
 -- what the sequences that hold a variation selector become in round one
 abbrev pub selector_items : Rules → Buffer → List Item
 selector_items rules b =
-    flat_map (sequence_items rules b.invisible_glyph b.not_found_variation_selector_glyph) (filter (has_selector rules.unicode) (sequences (pairs_merged rules b).items))
+    flat_map (sequence_items rules b.invisible_glyph b.not_found_variation_selector_glyph) (filter (is_selector_sequence rules.unicode) (sequences (pairs_merged rules b).items))
 
 -- an item but for its cluster, its mask, its hidden bit and the glyph that its index becomes, which later steps change
 abbrev pub content : Item → Item

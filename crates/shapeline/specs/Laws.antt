@@ -8,7 +8,7 @@ use Rattle.std.proofs.lemmas.Bool.Decides.{nat_tests}
 use Rattle.std.proofs.lemmas.List.{append_assoc}
 use Rattle.unicode.specs.GeneralCategory.{general_category}
 use Rattle.shape_buffer.specs.Category.{is_mark_category}
-use Rattle.shape_buffer.specs.Chain.{kept, full, full_text}
+use Rattle.shape_buffer.specs.Chain.{kept_part, full, full_text}
 use Rattle.shape_buffer.specs.Order.{Swaps, done}
 use Rattle.shape_buffer.specs.Equivalent.{ComposesSoundly}
 use Rattle.shape_buffer.specs.Unicode.{LawfulUnicode, SplitsFall}
@@ -190,8 +190,8 @@ joined_second all a b c joined =
     ] in
     cases refl joined
 
-kept_nonzero : (b : ℕ) → b ≢ 0 → kept b ≡ b ∷ []
-kept_nonzero b nonzero = let e : (b == 0) ≡ false = grind (arith, nat_tests) in ap (λ t. cond t [] (b ∷ [])) e
+kept_part_nonzero : (b : ℕ) → b ≢ 0 → kept_part b ≡ b ∷ []
+kept_part_nonzero b nonzero = let e : (b == 0) ≡ false = grind (arith, nat_tests) in ap (λ t. cond t [] (b ∷ [])) e
 
 -- Full of the composite is Full of the first part, and then the second part, which is its own Full
 full_of_join : SplitsFall split_of height_of class_of → list_all has_two_parts COMPOSITES ≡ true → (a b c : ℕ) → join_of a b ≡ Some c
@@ -201,7 +201,7 @@ full_of_join falling all a b c joined =
     let splits : split_of c ≡ Some (a, b) = split_into a b (split_of c) cases.1 in
     let nonzero : b ≢ 0 = joined_second all a b c cases.0 in
     let last : split_of b ≡ None = elim (falling.second_is_last c a b splits) [ inl z ↦ absurd (nonzero z) | inr h ↦ h ] in
-    let second : kept b ≡ full split_of height_of b = kept_nonzero b nonzero ∙ sym (full-stays split_of height_of falling.height_falls b last) in
+    let second : kept_part b ≡ full split_of height_of b = kept_part_nonzero b nonzero ∙ sym (full-stays split_of height_of falling.height_falls b last) in
     full-splits split_of height_of falling.height_falls c a b splits ∙ ap (λ xs. full split_of height_of a ++ xs) second
 
 composes_soundly : SplitsFall split_of height_of class_of → list_all has_two_parts COMPOSITES ≡ true → ComposesSoundly split_of height_of class_of join_of
