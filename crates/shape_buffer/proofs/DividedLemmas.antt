@@ -1,5 +1,5 @@
 -- A list divided into parts: part by part, and its parts together.
-use Rattle.std.proofs.Common.{◌≡◌, ℕ, suc, ◌+◌, Bool, true, false, if◌then◌else◌, cond, List, [], ◌∷◌, ◌++◌, map, length, inl, inr, take, drop, sum_by, refl, sym, ap, ap₂, ◌∙◌, arith, one-add}
+use Rattle.std.proofs.Common.{◌≡◌, ℕ, ◌+◌, Bool, true, false, if◌then◌else◌, cond, List, [], ◌∷◌, ◌++◌, map, length, inl, inr, take, drop, sum_by, refl, sym, ap, ap₂, ◌∙◌, arith, one-add}
 use Rattle.std.specs.List.{flat_map, prefix_len}
 use Rattle.std.proofs.lemmas.Bool.{cases_Bool}
 use Rattle.std.proofs.lemmas.List.{length-take, length-drop, map-append}

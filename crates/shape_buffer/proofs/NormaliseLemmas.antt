@@ -8,10 +8,10 @@ use Rattle.shape_buffer.specs.Chain.{full, full_text}
 use Rattle.shape_buffer.specs.Equivalent.{IsEquivalent, IsCanonical, ComposesSoundly}
 use Rattle.shape_buffer.specs.Expanded.{expanded_text}
 use Rattle.shape_buffer.specs.Order.{Swaps, IsOrdered}
-use Rattle.shape_buffer.specs.Recompose.{is_blocked, is_blocked_by_last, is_blocked_by_greatest, join_with_glyph, recomposed}
+use Rattle.shape_buffer.specs.Recompose.{is_blocked, is_blocked_by_last, join_with_glyph, recomposed}
 use Rattle.shape_buffer.specs.Runs.{AreRunsSettled, HasNoLongerRun}
 use Rattle.shape_buffer.specs.Unicode.{SplitsFall}
-use Rattle.shape_buffer.proofs.BlockLemmas.{recomposed_by_last, recomposed_by_greatest}
+use Rattle.shape_buffer.proofs.BlockLemmas.{recomposed_by_last}
 use Rattle.shape_buffer.proofs.ChainLemmas.{full-class, full-whole}
 use Rattle.shape_buffer.proofs.ChoiceLemmas.{full_text-expanded, expanded-full}
 use Rattle.shape_buffer.proofs.EveryLemmas.{append_all}

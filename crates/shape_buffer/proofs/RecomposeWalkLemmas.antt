@@ -1,9 +1,8 @@
 -- A walk that recomposes: the last mark behind the starter, and the starter in what was put out.
-use Rattle.std.proofs.Common.{◌≡◌, ℕ, suc, ◌+◌, ◌-◌, ◌<◌, Bool, true, false, ◌==◌, nat_le, List, [], ◌∷◌, ◌++◌, length, get_or, set, drop, Option, Some, None, refl, sym, ap, ap₂, subst, ◌∙◌, arith, append_assoc, add-one, length-append, drop-cons, eq-eqb, ne_eqb}
-use Rattle.shape_buffer.specs.Recompose.{composed, recomposed_from, recomposed, last_class, is_blocked_by_last}
+use Rattle.std.proofs.Common.{◌≡◌, ℕ, suc, ◌-◌, ◌<◌, nat_le, List, [], ◌∷◌, ◌++◌, length, get_or, set, drop, Some, refl, sym, ap, ◌∙◌, arith}
+use Rattle.shape_buffer.specs.Recompose.{last_class, is_blocked_by_last}
 use Rattle.std.proofs.lemmas.Option.{get_or_from_slice_get}
 use Rattle.std.specs.List.{slice_get}
-use Rattle.shape_buffer.proofs.RecomposeLemmas.{recomposed_from-some, recomposed_from-starter, recomposed_from-mark}
 
 pub last_class_is : {A : Type 0} (class : A → ℕ) (ms : List A) (d : A) → 0 < length ms → last_class class ms ≡ class (get_or ms (length ms - 1) d)
 last_class_is class [] d h = absurd (omega arith)

@@ -1,5 +1,5 @@
 -- A walk along the chain of a character finds its supported expansion of greatest length.
-use Rattle.std.proofs.Common.{◌≡◌, ℕ, ◌≤◌, Bool, true, false, if◌then◌else◌, ◌&&◌, ◌==◌, List, [], ◌∷◌, ◌++◌, reverse, take, length, Option, None, Some, IfSome, refl, sym, ◌∙◌, ap, arith, append_assoc, append-nil}
+use Rattle.std.proofs.Common.{◌≡◌, ℕ, ◌≤◌, Bool, true, false, if◌then◌else◌, ◌&&◌, ◌==◌, List, [], ◌∷◌, ◌++◌, reverse, take, length, Option, None, Some, IfSome, refl, sym, ◌∙◌, ap, arith, append_assoc}
 use Rattle.std.proofs.lemmas.List.{take_all, take-append-le, reverse-append}
 use Rattle.std.specs.List.{list_all}
 use Rattle.std.specs.Option.{option_map, option_or}

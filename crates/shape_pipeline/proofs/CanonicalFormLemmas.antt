@@ -1,6 +1,6 @@
 -- The normalised list is equivalent to its text, canonical or recomposed of a canonical one where glyphs and runs allow it, and equal exactly for equivalent texts.
 use Rattle.std.proofs.Common.{◌≡◌, ◌↔◌, ℕ, ◌<◌, Bool, true, false, List, [], ◌∷◌, length, map, drop, refl, sym, ◌∙◌, ap, subst, inl, inr, arith}
-use Rattle.std.proofs.lemmas.Bool.{cases_Bool, cases_eq}
+use Rattle.std.proofs.lemmas.Bool.{cases_Bool}
 use Rattle.std.proofs.lemmas.List.Elements.{All-from_recursion}
 use Rattle.std.specs.List.{AllByRecursion, list_any}
 use Rattle.shape_buffer.proofs.ChoiceLemmas.{full_text-expanded}

@@ -1,26 +1,23 @@
 -- Each item of a normalised list has the glyph of its character, or what stands in for it, or comes of a sequence with a variation selector.
-use Rattle.std.proofs.Common.{◌≡◌, ℕ, ◌<◌, ◌⊎◌, ◌||◌, Bool, true, false, List, [], ◌∷◌, ◌++◌, length, get_or, map, Option, None, Some, is_some, unwrap_or, refl, sym, ap, subst, ◌∙◌, arith, inl, inr}
+use Rattle.std.proofs.Common.{◌≡◌, ℕ, Bool, true, false, List, [], ◌∷◌, ◌++◌, length, map, Option, None, Some, is_some, unwrap_or, refl, arith, inl, inr}
 use Rattle.std.specs.List.{All, AllByRecursion, Contains, flat_map, filter}
 use Rattle.std.specs.Option.{option_map, option_map_or}
-use Rattle.std.proofs.Math.ListN.{get_or-map}
 use Rattle.std.proofs.lemmas.Bool.{cases_Bool}
-use Rattle.std.proofs.lemmas.List.{length-map, get_or_default}
-use Rattle.std.proofs.lemmas.List.Elements.{All-map, All-from_recursion, recursion_from_All, All-contains_itself, Contains-get_or}
+use Rattle.std.proofs.lemmas.List.Elements.{All-map, All-from_recursion, recursion_from_All, All-contains_itself}
 use Rattle.std.proofs.lemmas.List.Sums.{AllPass-from_list_all}
-use Rattle.shape_buffer.specs.Items.{Item, char_of, is_mark_item}
+use Rattle.shape_buffer.specs.Items.{Item}
 use Rattle.shape_buffer.specs.Buffer.{Buffer}
 use Rattle.shape_buffer.specs.declared.buffer.settings.GlyphId.{GlyphId}
 use Rattle.shape_buffer.proofs.ChoiceLemmas.{chosen_glyphs}
 use Rattle.shape_buffer.proofs.EveryLemmas.{append_all}
-use Rattle.shape_pipeline.specs.Rules.{Rules, face_of, has_glyph}
-use Rattle.shape_pipeline.specs.RoundOne.{item_glyph, remembers_space, part_item, whole_item, expanded_item, expansion_of, is_selector_item, passed_item, marked_selector, variant_items, variants, sequences, is_selector_sequence, is_with_marks, pairs_merged, sequence_items, expanded, round_one}
+use Rattle.shape_pipeline.specs.Rules.{Rules, has_glyph}
+use Rattle.shape_pipeline.specs.RoundOne.{item_glyph, remembers_space, part_item, whole_item, expanded_item, expansion_of, sequences, is_selector_sequence, is_with_marks, pairs_merged, sequence_items, round_one}
 use Rattle.shape_pipeline.specs.Normalized.{normalized, content, selector_items, HasItemGlyph}
 use Rattle.shape_pipeline.specs.Steps.{with_mapped_glyph, glyphs_mapped}
 use Rattle.shape_pipeline.specs.Shaped.{prepared, IsHandedOut}
 use Rattle.shape_pipeline.proofs.NormalizedLemmas.{normalized_all}
 use Rattle.shape_pipeline.proofs.ReorderLemmas.{LawfulReorder}
-use Rattle.shape_pipeline.proofs.RoundOneLemmas.{keys-pairs_merged}
-use Rattle.shape_pipeline.proofs.SequenceLemmas.{each_of_values, each_weaker, flat_map_all, flat_map_parts_all}
+use Rattle.shape_pipeline.proofs.SequenceLemmas.{each_of_values, each_weaker}
 
 -- a list of no items has whatever is asked of each
 pub all_of_none : {X : Type 0} (P : X → Type 0) (xs : List X) → length xs ≡ 0 → All P xs

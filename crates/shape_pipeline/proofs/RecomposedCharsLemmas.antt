@@ -1,5 +1,5 @@
 -- The characters of the recomposed list of prepared items are those of the list, recomposed.
-use Rattle.std.proofs.Common.{◌≡◌, ℕ, suc, List, [], ◌∷◌, ◌++◌, map, Option, Some, None, option_map, refl, sym, ap, subst, ◌∙◌}
+use Rattle.std.proofs.Common.{◌≡◌, ℕ, suc, List, [], ◌∷◌, map, Option, Some, None, option_map, refl, sym, ap, subst, ◌∙◌}
 use Rattle.std.specs.List.{AllByRecursion}
 use Rattle.shape_buffer.proofs.MapLemmas.{is_blocked_by_last-map, recomposed-map}
 use Rattle.shape_buffer.specs.Buffer.{Buffer}
@@ -7,7 +7,6 @@ use Rattle.shape_buffer.specs.Items.{Item, char_of}
 use Rattle.shape_buffer.specs.Recompose.{is_blocked_by_last, join_with_glyph, recomposed}
 use Rattle.shape_buffer.specs.Unicode.{LawfulUnicode, is_mark}
 use Rattle.shape_pipeline.specs.Prepared.{IsPreparedItem}
-use Rattle.shape_pipeline.specs.RoundOne.{part_item}
 use Rattle.shape_pipeline.specs.RoundThree.{Placed, placed, class_of_placed, is_mark_placed, join_placed, recomposed_items, joined_spans, spans_merged_out, with_cluster_at, round_three}
 use Rattle.shape_pipeline.specs.Rules.{Rules, has_glyph}
 use Rattle.shape_pipeline.proofs.PreparedLemmas.{ArePrepared, prepared-part}

@@ -1,23 +1,14 @@
 -- Putting a range in another order, step by step: what it keeps.
-use Rattle.std.proofs.Common.{◌≡◌, ℕ, ◌+◌, ◌-◌, ◌<◌, ◌≤◌, List, [], ◌∷◌, map, take, drop, length, get_or, set, slice_range, bit_and, nat_lt, inl, inr, Option, Some, refl, sym, ap, ap₂, ◌∙◌, arith}
+use Rattle.std.proofs.Common.{◌≡◌, ℕ, ◌+◌, ◌-◌, ◌<◌, ◌≤◌, List, [], ◌∷◌, map, take, drop, length, get_or, set, slice_range, Option, Some, refl, sym, ap, ap₂, ◌∙◌, arith}
 use Rattle.std.proofs.Math.Seq.{take-set-lt}
-use Rattle.std.proofs.lemmas.Bool.{cases_Bool}
 use Rattle.std.proofs.lemmas.List.{take-map, drop-map, take-set-le, drop-set-lt, drop-set-add, get_or-take, get_or-drop, length-take-le, length-drop}
 use Rattle.std.proofs.lemmas.List.Edits.{swap_is, length-swap, split_between}
-use Rattle.std.proofs.lemmas.List.Sorted.{IsPermutation-refl, IsPermutation-sym, IsPermutation-trans, IsPermutation-swap, IsPermutation-map, IsPermutation-append_left, IsPermutation-append_right, Contains-permutation, list_any-IsPermutation}
-use Rattle.std.proofs.lemmas.Nat.{and_or_apart}
-use Rattle.std.specs.Prelude.{Contains}
+use Rattle.std.proofs.lemmas.List.Sorted.{IsPermutation-refl, IsPermutation-trans, IsPermutation-swap, IsPermutation-map, IsPermutation-append_left, IsPermutation-append_right}
 use Rattle.std.specs.List.{swap}
 use Rattle.std.specs.List.Sorted.{IsPermutation}
-use Rattle.shape_buffer.specs.Buffer.{Buffer, cleared}
-use Rattle.shape_buffer.specs.BufferClusters.{merge_clusters, merge_at, unsafe_to_break}
-use Rattle.shape_buffer.specs.Clusters.{clusters}
+use Rattle.shape_buffer.specs.Buffer.{Buffer}
+use Rattle.shape_buffer.specs.BufferClusters.{merge_clusters}
 use Rattle.shape_buffer.specs.Items.{Item, class_of_item}
-use Rattle.shape_buffer.specs.KeepsFlags.{has_flag, KeepsFlags}
-use Rattle.shape_buffer.specs.declared.buffer.settings.BufferClusterLevel.{BufferClusterLevel}
-use Rattle.shape_buffer.specs.declared.buffer.settings.BufferClusterLevel.TheVariants.{MonotoneGraphemes, MonotoneCharacters, Characters}
-use Rattle.shape_buffer.proofs.DeleteKeeps.{merge_clusters_draws, draws_keeps}
-use Rattle.shape_buffer.proofs.FlagLemmas.{KeepsFlags-items, KeepsFlags-same, KeepsFlags-then, merge_clusters_keeps}
 use Rattle.shape_buffer.proofs.KeyLemmas.{IsKey, IsKey-class, keys-merge_clusters, without_items, without_items-merge_clusters}
 use Rattle.shape_pipeline.specs.Reorder.{exchanged, Reorders, done, exchange, merge, ReordersRanges}
 use Rattle.shape_pipeline.proofs.SpanLemmas.{length-map-same, map-slice_range}

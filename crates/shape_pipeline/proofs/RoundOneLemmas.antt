@@ -25,7 +25,6 @@ use Rattle.shape_pipeline.proofs.SequenceLemmas.{each_part, each_of_values, each
 -- ---- merging the pairs
 
 module _ (rules : Rules) where
-
   -- what goes by neither clusters nor the defined flags stays
   pub keys-pairs_merged : {B : Type 0} (key : Item → B) → IsKey key → (b : Buffer) → map key (pairs_merged rules b).items ≡ map key b.items
   keys-pairs_merged key is_key b = keys-merged_at key is_key b (pairs_from rules.unicode (face_of rules) 0 (sequences b.items))

@@ -1,19 +1,16 @@
 -- Sequences that hold a variation selector, and the items that become one with it.
-use Rattle.std.proofs.Common.{◌≡◌, ℕ, ◌+◌, ◌≤◌, nat_lt, true, false, if◌then◌else◌, is_some, List, [], ◌∷◌, ◌++◌, map, length, sum_by, fold, replicate, refl, sym, ap, ap₂, ◌∙◌, arith, rules, inl, inr}
+use Rattle.std.proofs.Common.{◌≡◌, ℕ, ◌+◌, ◌≤◌, nat_lt, true, false, if◌then◌else◌, is_some, List, [], ◌∷◌, ◌++◌, map, length, sum_by, fold, replicate, refl, sym, ap, ap₂, ◌∙◌, arith, rules}
 use Rattle.std.specs.List.{All}
-use Rattle.std.proofs.lemmas.Bool.{cases_Bool}
 use Rattle.std.proofs.lemmas.List.{length-map}
 use Rattle.std.proofs.lemmas.List.Elements.{All-nil, All-cons, All-append, All-weaker}
 use Rattle.std.proofs.lemmas.List.Sums.{sum_by-cons}
 use Rattle.shape_buffer.specs.Buffer.{Buffer, cleared, limit_of}
-use Rattle.shape_buffer.specs.BufferClusters.{merge_clusters, merge_at, unsafe_to_break}
+use Rattle.shape_buffer.specs.BufferClusters.{merge_clusters}
 use Rattle.shape_buffer.specs.Face.{FaceMeaning}
 use Rattle.shape_buffer.specs.Items.{Item, is_mark_item}
 use Rattle.shape_buffer.specs.Positions.{zero_position}
 use Rattle.shape_buffer.specs.Unicode.{UnicodeMeaning}
 use Rattle.shape_buffer.specs.declared.buffer.flags.ScratchFlags.{ScratchFlags}
-use Rattle.shape_buffer.specs.declared.buffer.settings.BufferClusterLevel.{BufferClusterLevel}
-use Rattle.shape_buffer.specs.declared.buffer.settings.BufferClusterLevel.TheVariants.{MonotoneGraphemes, MonotoneCharacters, Characters}
 use Rattle.shape_buffer.proofs.DividedLemmas.{lengths-divided}
 use Rattle.shape_buffer.proofs.KeyLemmas.{IsKey, keys-merge_clusters, without_items, without_items-merge_clusters}
 use Rattle.shape_pipeline.specs.Rules.{Rules, face_of}

@@ -1,5 +1,5 @@
 -- What a run makes of a text, as far as its steps are built.
-use Rattle.std.specs.Prelude.{◌≡◌, ℕ, [], ◌∷◌, Some, length}
+use Rattle.std.specs.Prelude.{◌≡◌, [], ◌∷◌, Some, length}
 use Rattle.shape_buffer.specs.Buffer.{Buffer, run_limit}
 use Rattle.shape_buffer.specs.Guess.{guessed}
 use Rattle.shape_buffer.specs.Items.{Item}
