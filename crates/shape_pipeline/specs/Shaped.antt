@@ -23,6 +23,6 @@ shaped rules b = elim b.items [
   | _ ∷ _ ↦ glyphs_mapped (normalized rules (prepared rules.unicode b))
 ]
 
--- an item that is handed out: its glyph is its index, which is that of its character or what stands in for it
+-- an item that is handed out: its glyph is its index, which is that of its character or what stands in for it, but for those that come of sequences with a variation selector
 abbrev pub IsHandedOut : Rules → Buffer → Item → Type 0
 IsHandedOut rules text item = (item.glyph_id ≡ item.glyph_index) × HasItemGlyph rules (prepared rules.unicode text) item
