@@ -5,22 +5,22 @@ use Rattle.std.proofs.lemmas.Bool.Decides.{nat_tests}
 use Rattle.std.specs.List.{AllByRecursion}
 use Rattle.std.specs.Option.{option_map_or}
 use Rattle.shape_buffer.proofs.EveryLemmas.{append_all}
-use Rattle.shape_buffer.specs.Chain.{FallsAlong, kept, full_within, full, full_text, IsFull, stays, splits_into}
+use Rattle.shape_buffer.specs.Chain.{FallsAlong, kept_part, full_within, full, full_text, IsFull, stays, splits_into}
 use Rattle.shape_buffer.specs.Unicode.{SplitsFall}
 
-pub kept_zero : (b : ℕ) → b ≡ 0 → kept b ≡ []
-kept_zero b e = grind (arith, nat_tests)
+pub kept_part_zero : (b : ℕ) → b ≡ 0 → kept_part b ≡ []
+kept_part_zero b e = grind (arith, nat_tests)
 
 -- one step of Full, where `rest` gives that of a first part
 abbrev step : (ℕ → List ℕ) → ℕ → Option (ℕ × ℕ) → List ℕ
-step rest c o = option_map_or (λ parts. rest parts.0 ++ kept parts.1) o (c ∷ [])
+step rest c o = option_map_or (λ parts. rest parts.0 ++ kept_part parts.1) o (c ∷ [])
 
 step-same : (f g : ℕ → List ℕ) (c : ℕ) (o : Option (ℕ × ℕ)) → ((a b : ℕ) → o ≡ Some (a, b) → f a ≡ g a) → step f c o ≡ step g c o
 step-same f g c None h = refl
-step-same f g c (Some p) h = ap (λ l. l ++ kept p.1) (h p.0 p.1 refl)
+step-same f g c (Some p) h = ap (λ l. l ++ kept_part p.1) (h p.0 p.1 refl)
 
-pub kept_all : (P : ℕ → Type 0) (b : ℕ) → (b ≡ 0) ⊎ P b → AllByRecursion P (kept b)
-kept_all P b h =
+pub kept_part_all : (P : ℕ → Type 0) (b : ℕ) → (b ≡ 0) ⊎ P b → AllByRecursion P (kept_part b)
+kept_part_all P b h =
     elim (cases_Bool (b == 0)) [
       | inl none ↦ rw none tt
       | inr some ↦ rw some (elim h [ inl null ↦ absurd (grind (arith, nat_tests)) | inr holds ↦ (holds, tt) ])
@@ -43,10 +43,6 @@ module _ (split : ℕ → Option (ℕ × ℕ)) (height : ℕ → ℕ) (falling :
       step-same (full_within split n) (full_within split m) c (split c)
       (λ a b e. let falls = falling.falls c a b e in full_within-any n m a (omega arith) (omega arith))
 
-  pub full-enough : (n c : ℕ) → height c ≤ n → full_within split n c ≡ full split height c
-  unfolding full
-  full-enough n c low = full_within-any n (height c) c low (omega arith)
-
   -- Full of what doesn't split
   pub full-stays : (c : ℕ) → split c ≡ None → full split height c ≡ c ∷ []
   unfolding full
@@ -57,27 +53,27 @@ module _ (split : ℕ → Option (ℕ × ℕ)) (height : ℕ → ℕ) (falling :
       go (suc n) = ap (step (full_within split n) c) e
 
   -- Full of what splits into a and b
-  pub full-splits : (c a b : ℕ) → split c ≡ Some (a, b) → full split height c ≡ full split height a ++ kept b
+  pub full-splits : (c a b : ℕ) → split c ≡ Some (a, b) → full split height c ≡ full split height a ++ kept_part b
   unfolding full
   full-splits c a b e =
       let falls = falling.falls c a b e in
       full_within-any (height c) (suc (height c)) c (omega arith) (omega arith)
       ∙ ap (step (full_within split (height c)) c) e
-      ∙ ap (λ l. l ++ kept b) (full_within-any (height c) (height a) a (omega arith) (omega arith))
+      ∙ ap (λ l. l ++ kept_part b) (full_within-any (height c) (height a) a (omega arith) (omega arith))
 
 -- the two rules give Full and nothing else
 pub IsFull-full : (split : ℕ → Option (ℕ × ℕ)) (height : ℕ → ℕ) → FallsAlong split height → {c : ℕ} {xs : List ℕ} → IsFull split c xs → xs ≡ full split height c
 IsFull-full split height falling (stays e) = sym (full-stays split height falling _ e)
 IsFull-full split height falling (splits_into {b = b} e inner) =
-    ap (λ xs. xs ++ kept b) (IsFull-full split height falling inner) ∙ sym (full-splits split height falling _ _ _ e)
+    ap (λ xs. xs ++ kept_part b) (IsFull-full split height falling inner) ∙ sym (full-splits split height falling _ _ _ e)
 
 module _ (split : ℕ → Option (ℕ × ℕ)) (height class : ℕ → ℕ) (lawful : SplitsFall split height class) where
   -- a second part is its own Full
-  pub full_text-kept : (c a b : ℕ) → split c ≡ Some (a, b) → full_text split height (kept b) ≡ kept b
+  pub full_text-kept_part : (c a b : ℕ) → split c ≡ Some (a, b) → full_text split height (kept_part b) ≡ kept_part b
   unfolding full_text
-  full_text-kept c a b e =
+  full_text-kept_part c a b e =
       elim (lawful.second_is_last c a b e) [
-        | inl none ↦ ap (λ l. flat_map (full split height) l) (kept_zero b none) ∙ sym (kept_zero b none)
+        | inl none ↦ ap (λ l. flat_map (full split height) l) (kept_part_zero b none) ∙ sym (kept_part_zero b none)
         | inr last ↦
             elim (cases_Bool (b == 0)) [
               | inl none ↦ rw none
@@ -98,7 +94,7 @@ module _ (split : ℕ → Option (ℕ × ℕ)) (height class : ℕ → ℕ) (law
           let other : (p.1 ≡ 0) ⊎ (class p.1 ≡ k) =
           elim (lawful.second_class c p.0 p.1 (λ e. omega arith) splits) [ inl none ↦ inl none | inr b ↦ inr (b ∙ same) ] in
           subst (AllByRecursion (λ d. class d ≡ k)) (sym (full-splits split height lawful.height_falls c p.0 p.1 splits))
-          (append_all (λ d. class d ≡ k) _ _ (later p.0 (omega arith) (omega arith) (first ∙ same)) (kept_all (λ d. class d ≡ k) p.1 other))
+          (append_all (λ d. class d ≡ k) _ _ (later p.0 (omega arith) (omega arith) (first ∙ same)) (kept_part_all (λ d. class d ≡ k) p.1 other))
 
   pub full-class : (c : ℕ) → 0 < class c → AllByRecursion (λ d. class d ≡ class c) (full split height c)
   full-class c mark = class_within (height c) c (class c) (omega arith) mark refl
@@ -114,7 +110,7 @@ module _ (split : ℕ → Option (ℕ × ℕ)) (height class : ℕ → ℕ) (law
       go (Some p) splits later =
           let falls = lawful.height_falls.falls c p.0 p.1 splits in
           subst (AllByRecursion (λ d. split d ≡ None)) (sym (full-splits split height lawful.height_falls c p.0 p.1 splits))
-          (append_all (λ d. split d ≡ None) _ _ (later p.0 (omega arith)) (kept_all (λ d. split d ≡ None) p.1 (lawful.second_is_last c p.0 p.1 splits)))
+          (append_all (λ d. split d ≡ None) _ _ (later p.0 (omega arith)) (kept_part_all (λ d. split d ≡ None) p.1 (lawful.second_is_last c p.0 p.1 splits)))
 
   pub full-whole : (c : ℕ) → AllByRecursion (λ d. split d ≡ None) (full split height c)
   full-whole c = whole_within (height c) c (omega arith)

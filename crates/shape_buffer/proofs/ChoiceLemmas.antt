@@ -8,11 +8,11 @@ use Rattle.std.proofs.lemmas.List.Sums.{AllPass-from_list_all}
 use Rattle.std.proofs.lemmas.Option.{none-some}
 use Rattle.std.specs.List.{All, list_all}
 use Rattle.std.specs.Option.{option_map, option_or}
-use Rattle.shape_buffer.proofs.ChainLemmas.{full-stays, full-splits, full_text-kept}
+use Rattle.shape_buffer.proofs.ChainLemmas.{full-stays, full-splits, full_text-kept_part}
 use Rattle.shape_buffer.proofs.ExpansionLemmas.{expansion-suc, expansion-end, expansion-none}
 use Rattle.shape_buffer.proofs.ExpandedLemmas.{expanded-parts, expanded-plain}
 use Rattle.shape_buffer.proofs.OptionLemmas.{cases_Option}
-use Rattle.shape_buffer.specs.Chain.{FallsAlong, kept, full, full_text}
+use Rattle.shape_buffer.specs.Chain.{FallsAlong, kept_part, full, full_text}
 use Rattle.shape_buffer.specs.Choice.{IsGreatestSupported, IsLeastSupported, HasNoneSupported, HasGlyphOrIs}
 use Rattle.shape_buffer.specs.Expanded.{expanded_text}
 use Rattle.shape_buffer.specs.Expansion.{expansion, is_supported, supported, least_supported, greatest_supported, chosen_expansion, choice}
@@ -206,12 +206,12 @@ module _ (split : ℕ → Option (ℕ × ℕ)) (height class : ℕ → ℕ) (law
       ap (flat_map (full split height)) (sym same) ∙ append-nil (full split height c)
   full_text-expansion (suc k) c l e = outer (split c) refl (λ a parts found. full_text-expansion k a parts found)
     where
-      inner : (a b : ℕ) → split c ≡ Some (a, b) → (o : Option (List ℕ)) → expansion split k a ≡ o → option_map (λ xs. xs ++ kept b) o ≡ Some l → ((parts : List ℕ) → expansion split k a ≡ Some parts → flat_map (full split height) parts ≡ full split height a) → flat_map (full split height) l ≡ full split height c
+      inner : (a b : ℕ) → split c ≡ Some (a, b) → (o : Option (List ℕ)) → expansion split k a ≡ o → option_map (λ xs. xs ++ kept_part b) o ≡ Some l → ((parts : List ℕ) → expansion split k a ≡ Some parts → flat_map (full split height) parts ≡ full split height a) → flat_map (full split height) l ≡ full split height c
       inner a b splits None found none later = absurd (none-some l none)
       inner a b splits (Some parts) found some later =
-          let same : parts ++ kept b ≡ l = cc in
-          ap (flat_map (full split height)) (sym same) ∙ flat_map-append (full split height) parts (kept b)
-          ∙ ap₂ ◌++◌ (later parts found) (full_text-kept split height class lawful c a b splits) ∙ sym (full-splits split height lawful.height_falls c a b splits)
+          let same : parts ++ kept_part b ≡ l = cc in
+          ap (flat_map (full split height)) (sym same) ∙ flat_map-append (full split height) parts (kept_part b)
+          ∙ ap₂ ◌++◌ (later parts found) (full_text-kept_part split height class lawful c a b splits) ∙ sym (full-splits split height lawful.height_falls c a b splits)
 
       outer : (o : Option (ℕ × ℕ)) → split c ≡ o → ((a : ℕ) (parts : List ℕ) → expansion split k a ≡ Some parts → flat_map (full split height) parts ≡ full split height a) → flat_map (full split height) l ≡ full split height c
       outer None whole later = absurd (none-some l (sym (expansion-end split k c whole) ∙ e))
@@ -254,14 +254,14 @@ module _ (split : ℕ → Option (ℕ × ℕ)) (height : ℕ → ℕ) (falling :
       record {
         within = omega (arith, end.within);
         whole =
-            expansion-suc split n c a b splits ∙ ap (option_map (λ parts. parts ++ kept b)) end.whole
+            expansion-suc split n c a b splits ∙ ap (option_map (λ parts. parts ++ kept_part b)) end.whole
             ∙ ap Some (sym (full-splits split height falling c a b splits));
         none_longer = λ j above. longer j above;
       }
     where
       longer : (j : ℕ) → suc n < j → expansion split j c ≡ None
       longer zero above = absurd (omega arith)
-      longer (suc j) above = expansion-suc split j c a b splits ∙ ap (option_map (λ parts. parts ++ kept b)) (end.none_longer j (omega arith))
+      longer (suc j) above = expansion-suc split j c a b splits ∙ ap (option_map (λ parts. parts ++ kept_part b)) (end.none_longer j (omega arith))
 
   pub chain_end : (m c : ℕ) → height c ≤ m → (n : ℕ) × EndsAt c n
   chain_end zero c low = go (split c) refl

@@ -1,5 +1,6 @@
 -- Deletion keeps the order of clusters and the flags of glyphs, and brings no new cluster.
 use Rattle.std.proofs.Common.{◌≡◌, ℕ, ◌+◌, ◌-◌, ◌<◌, ◌≤◌, Bool, true, cond, nat_lt, List, [], ◌∷◌, ◌++◌, length, get_or, take, drop, map, refl, ap, sym, ◌∙◌, arith, suc, zero, replicate, slice_range, slice_index, inl, inr, ◌⊎◌, remove, add-zero, bit_and}
+use Rattle.std.proofs.lemmas.Bool.{cases_Bool}
 use Rattle.std.proofs.lemmas.Bool.Decides.{nat_tests}
 use Rattle.std.proofs.lemmas.List.{map-append, take-map, drop-map, length-map, length-drop, get_or-drop, drop-drop, take-append-drop, take_all, drop_all, append-nil}
 use Rattle.std.proofs.lemmas.List.Edits.{length-remove, get_or-remove_below, get_or-remove_above}
@@ -16,7 +17,7 @@ use Rattle.std.proofs.lemmas.Nat.{and_assoc, and_or_apart, or_comm}
 use Rattle.shape_buffer.specs.ClusterOrder.{DrawsInOrder, KeepsClusters}
 use Rattle.shape_buffer.specs.Delete.{give_to_kept, hand_on, hand_over, begins_in, lose, visit, delete_from, deleted}
 use Rattle.shape_buffer.proofs.DrawsInOrder.{DrawsInOrder-same, DrawsInOrder-then, KeepsClusters-from_draws}
-use Rattle.shape_buffer.proofs.MergeOrder.{clusters-put_range, put_range_draws, merge_draws, bool_cases}
+use Rattle.shape_buffer.proofs.MergeOrder.{clusters-put_range, put_range_draws, merge_draws}
 use Rattle.shape_buffer.proofs.DeleteLemmas.{delete_from-suc, delete_from-zero, visit_kept, visit_lost}
 
 clusters-hand_over : (picked : Item) (xs : List Item) → clusters (map (hand_over picked) xs) ≡ replicate (length xs) picked.cluster
@@ -44,7 +45,7 @@ at_least_two k xs rest x e some =
 give_draws : (k : ℕ) (x : Item) (rest xs : List Item) → drop k xs ≡ x ∷ rest → DrawsInOrder (clusters xs) (clusters (give_to_kept k x xs))
 give_draws k x rest xs e =
     let place = at_place k xs rest x e in
-    elim (bool_cases (nat_lt x.cluster (slice_index (clusters xs) (k - 1)))) [
+    elim (cases_Bool (nat_lt x.cluster (slice_index (clusters xs) (k - 1)))) [
       | inl holds ↦ rw (holds, clusters-hand_over_range x (k - suffix_len (has_cluster (slice_index (clusters xs) (k - 1))) (take k xs)) k xs)
           (put_range_draws (k - suffix_len (has_cluster (slice_index (clusters xs) (k - 1))) (take k xs)) k x.cluster xs k
           (omega arith) (omega arith) place.0 (omega (arith, place.0)) place.1)
@@ -85,7 +86,7 @@ draws_equal xs ys e = rw e (DrawsInOrder-same (clusters xs))
 pub unsafe_to_break_draws : (start end : ℕ) (b : Buffer) → start ≤ end → Draws b (unsafe_to_break start end b)
 unfolding Draws
 unsafe_to_break_draws start end b le =
-    elim (bool_cases (nat_lt (start + 1) end)) [
+    elim (cases_Bool (nat_lt (start + 1) end)) [
       | inl long ↦ rw long (draws_equal b.items _ (clusters-map_range (mark_break (least_cluster (slice_range b.items start end))) (mark_break-cluster _) start end b.items le))
       | inr short ↦ rw short (DrawsInOrder-same (clusters b.items))
     ]
@@ -124,11 +125,11 @@ draws_keeps b c h = KeepsClusters-from_draws _ _ h
 hand_on_draws : (k : ℕ) (x : Item) (rest : List Item) (b : Buffer) → drop k b.items ≡ x ∷ rest → Draws b (hand_on k x rest b)
 unfolding Draws
 hand_on_draws k x rest b e =
-    elim (bool_cases (begins_in x.cluster rest)) [
+    elim (cases_Bool (begins_in x.cluster rest)) [
       | inl holds ↦ rw holds (DrawsInOrder-same (clusters b.items))
-      | inr fails ↦ elim (bool_cases (nat_lt 0 k)) [
+      | inr fails ↦ elim (cases_Bool (nat_lt 0 k)) [
         | inl some ↦ rw (fails, some) (give_draws k x rest b.items e)
-        | inr none ↦ elim (bool_cases (nat_lt 0 (length rest))) [
+        | inr none ↦ elim (cases_Bool (nat_lt 0 (length rest))) [
           | inl more ↦ let two : 2 ≤ length b.items = at_least_two k b.items rest x e (grind (arith, nat_tests)) in rw (fails, none, more) (merge_clusters_draws 0 2 b (omega arith) two)
           | inr last ↦ rw (fails, none, last) (DrawsInOrder-same (clusters b.items))
         ]
@@ -217,7 +218,7 @@ give_keeps : (k : ℕ) (x : Item) (rest : List Item) (b : Buffer) → drop k b.i
 give_keeps k x rest b e =
     let there : (flag : ℕ) → has_flag flag x ≡ true → some_has flag b.items ≡ true =
     λ flag h. drop_in (has_flag flag) k b.items (ap (some_has flag) e ∙ (rw h refl)) in
-    elim (bool_cases (nat_lt x.cluster (slice_index (clusters b.items) (k - 1)))) [
+    elim (cases_Bool (nat_lt x.cluster (slice_index (clusters b.items) (k - 1)))) [
       | inl holds ↦ rw holds (KeepsFlags-items b _ (λ flag d some.
           elim (range_brings (hand_over x) (has_flag flag) (has_flag flag x) (λ y h. inr (ap (nat_lt 0) (sym (hand_over-flag x y flag d)) ∙ h))
           (k - suffix_len (has_cluster (slice_index (clusters b.items) (k - 1))) (take k b.items)) k b.items some) [
@@ -229,11 +230,11 @@ give_keeps k x rest b e =
 
 hand_on_keeps : (k : ℕ) (x : Item) (rest : List Item) (b : Buffer) → drop k b.items ≡ x ∷ rest → KeepsFlags b (hand_on k x rest b)
 hand_on_keeps k x rest b e =
-    elim (bool_cases (begins_in x.cluster rest)) [
+    elim (cases_Bool (begins_in x.cluster rest)) [
       | inl holds ↦ rw holds (KeepsFlags-same b)
-      | inr fails ↦ elim (bool_cases (nat_lt 0 k)) [
+      | inr fails ↦ elim (cases_Bool (nat_lt 0 k)) [
         | inl some ↦ rw (fails, some) (give_keeps k x rest b e)
-        | inr none ↦ elim (bool_cases (nat_lt 0 (length rest))) [
+        | inr none ↦ elim (cases_Bool (nat_lt 0 (length rest))) [
           | inl more ↦ rw (fails, none, more) (merge_clusters_keeps 0 2 b)
           | inr last ↦ rw (fails, none, last) (KeepsFlags-same b)
         ]
@@ -255,7 +256,7 @@ visit_keeps : (p : Item → Bool) (k : ℕ) (next : ℕ → Buffer → Buffer) (
     → Draws b (visit p k next b ys) × KeepsFlags b (visit p k next b ys)
 visit_keeps p k next b [] e later = (Draws-same b, KeepsFlags-same b)
 visit_keeps p k next b (x ∷ rest) e later =
-    elim (bool_cases (p x)) [
+    elim (cases_Bool (p x)) [
       | inl picked ↦
           let c = hand_on k x rest b in
           let rest_of = later k (lose k c) in

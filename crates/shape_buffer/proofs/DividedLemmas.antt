@@ -1,9 +1,19 @@
--- A list divided into parts, part by part.
-use Rattle.std.proofs.Common.{◌≡◌, ℕ, suc, ◌+◌, Bool, true, false, if◌then◌else◌, cond, List, [], ◌∷◌, length, take, drop, sum_by, refl, sym, ap, ap₂, ◌∙◌, arith, one-add}
-use Rattle.std.specs.List.{prefix_len}
-use Rattle.std.proofs.lemmas.List.{length-take, length-drop}
-use Rattle.std.proofs.lemmas.List.Sums.{prefix_len-le-length, sum_by-cons}
+-- A list divided into parts: part by part, and its parts together.
+use Rattle.std.proofs.Common.{◌≡◌, ℕ, ◌+◌, Bool, true, false, if◌then◌else◌, cond, List, [], ◌∷◌, ◌++◌, map, length, inl, inr, take, drop, sum_by, refl, sym, ap, ap₂, ◌∙◌, arith, one-add}
+use Rattle.std.specs.List.{flat_map, prefix_len}
+use Rattle.std.proofs.lemmas.Bool.{cases_Bool}
+use Rattle.std.proofs.lemmas.List.{length-take, length-drop, map-append}
+use Rattle.std.proofs.lemmas.List.Concat.{length-flat_map}
+use Rattle.std.proofs.lemmas.List.Sums.{prefix_len-le-length}
 use Rattle.shape_buffer.specs.Divided.{divided, put_first, IsFirstPart}
+
+-- the parts one after the other
+abbrev pub whole : {A : Type 0} → List (List A) → List A
+whole parts = flat_map (λ part. part) parts
+
+values-whole : {A B : Type 0} (h : A → B) (parts : List (List A)) → flat_map (map h) parts ≡ map h (whole parts)
+values-whole h [] = refl
+values-whole h (part ∷ parts) = ap (λ l. map h part ++ l) (values-whole h parts) ∙ sym (map-append h part (whole parts))
 
 module _ {A : Type 0} (belongs : A → Bool) where
   -- the first part is the first item with what directly after it belongs
@@ -31,16 +41,25 @@ module _ {A : Type 0} (belongs : A → Bool) where
         whole = omega (arith, front_length, back_length, full, length-take (prefix_len belongs rest) rest, length-drop (prefix_len belongs rest) rest);
       }
 
-  -- the parts are as long as the list
-  pub lengths-divided : (xs : List A) → sum_by length (divided belongs xs) ≡ length xs
-  lengths-divided [] = refl
-  lengths-divided (x ∷ []) = refl
-  lengths-divided (x ∷ y ∷ rest) =
-      elim (belongs y) as (λ t. sum_by length (if t then put_first x (divided belongs (y ∷ rest)) else (x ∷ []) ∷ divided belongs (y ∷ rest)) ≡ suc (length (y ∷ rest))) [
-        | true ↦ lengths-put_first x (divided belongs (y ∷ rest)) ∙ ap suc (lengths-divided (y ∷ rest))
-        | false ↦ sum_by-cons length (x ∷ []) (divided belongs (y ∷ rest)) ∙ rw (lengths-divided (y ∷ rest)) (omega arith)
+  whole-put_first : (x : A) (parts : List (List A)) → whole (put_first x parts) ≡ x ∷ whole parts
+  whole-put_first x [] = refl
+  whole-put_first x (part ∷ parts) = refl
+
+  -- the parts together are the list
+  pub whole-divided : (xs : List A) → whole (divided belongs xs) ≡ xs
+  whole-divided [] = refl
+  whole-divided (x ∷ []) = refl
+  whole-divided (x ∷ y ∷ rest) =
+      let later = whole-divided (y ∷ rest) in
+      elim (cases_Bool (belongs y)) [
+        | inl joins ↦ rw joins (whole-put_first x (divided belongs (y ∷ rest)) ∙ ap (λ l. x ∷ l) later)
+        | inr begins ↦ rw begins (ap (λ l. x ∷ l) later)
       ]
-    where
-      lengths-put_first : (x : A) (parts : List (List A)) → sum_by length (put_first x parts) ≡ suc (sum_by length parts)
-      lengths-put_first x [] = refl
-      lengths-put_first x (part ∷ parts) = rw (sum_by-cons length (x ∷ part) parts, sum_by-cons length part parts) (omega arith)
+
+  -- so the values of the items of the parts are those of the list
+  pub values-divided : {B : Type 0} (h : A → B) (xs : List A) → flat_map (map h) (divided belongs xs) ≡ map h xs
+  values-divided h xs = values-whole h (divided belongs xs) ∙ ap (map h) (whole-divided xs)
+
+  -- and the parts are as long as the list
+  pub lengths-divided : (xs : List A) → sum_by length (divided belongs xs) ≡ length xs
+  lengths-divided xs = sym (length-flat_map (λ part. part) (divided belongs xs)) ∙ ap length (whole-divided xs)

@@ -3,7 +3,6 @@ use Rattle.std.proofs.Common.{◌≡◌, Bool, true, false, ◌&&◌, ◌||◌, 
 use Rattle.std.proofs.lemmas.Grind.{flat_map-append}
 use Rattle.std.proofs.lemmas.List.{map-append}
 use Rattle.std.specs.List.{AllByRecursion}
-use Rattle.shape_buffer.proofs.EveryLemmas.{append_all}
 use Rattle.shape_buffer.specs.Expanded.{begins_with_mark, expanded_from, expanded_in_clusters}
 
 module _ {A B : Type 0} (is_mark : A → Bool) (become : Bool → A → List B) where
@@ -24,16 +23,6 @@ module _ {A B : Type 0} (is_mark : A → Bool) (become : Bool → A → List B) 
 
   pub expanded-parts : {C : Type 0} (parts : B → List C) (whole : A → List C) → ((in_cluster : Bool) (x : A) → flat_map parts (become in_cluster x) ≡ whole x) → (xs : List A) → flat_map parts (expanded_in_clusters is_mark become xs) ≡ flat_map whole xs
   expanded-parts parts whole keeps xs = expanded_from-parts parts whole keeps true xs
-
-  -- what holds of all that an item becomes holds of all that the list becomes
-  expanded_from-all : (P : B → Type 0) (Q : A → Type 0) → ((in_cluster : Bool) (x : A) → Q x → AllByRecursion P (become in_cluster x)) → (first : Bool) (xs : List A) → AllByRecursion Q xs → AllByRecursion P (expanded_from is_mark become first xs)
-  expanded_from-all P Q each first [] h = tt
-  expanded_from-all P Q each first (x ∷ xs) h =
-      append_all P (become ((is_mark x && not first) || begins_with_mark is_mark xs) x) (expanded_from is_mark become false xs)
-      (each ((is_mark x && not first) || begins_with_mark is_mark xs) x h.0) (expanded_from-all P Q each false xs h.1)
-
-  pub expanded-all : (P : B → Type 0) (Q : A → Type 0) → ((in_cluster : Bool) (x : A) → Q x → AllByRecursion P (become in_cluster x)) → (xs : List A) → AllByRecursion Q xs → AllByRecursion P (expanded_in_clusters is_mark become xs)
-  expanded-all P Q each xs h = expanded_from-all P Q each true xs h
 
   -- the first item of a list counts as first or not alike where it is no mark
   first_alike : (xs : List A) → begins_with_mark is_mark xs ≡ false → (first : Bool) → expanded_from is_mark become first xs ≡ expanded_from is_mark become true xs

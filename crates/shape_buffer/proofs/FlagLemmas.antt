@@ -1,5 +1,6 @@
 -- Merging, marking and deletion keep the flags of glyphs.
-use Rattle.std.proofs.Common.{◌≡◌, ℕ, ◌+◌, ◌-◌, Bool, true, false, nat_lt, eqb, ◌||◌, List, [], ◌∷◌, ◌++◌, take, drop, map, refl, ap, sym, ◌∙◌, arith, slice_range, inl, inr, ◌⊎◌, bit_and}
+use Rattle.std.proofs.Common.{◌≡◌, ℕ, ◌+◌, ◌-◌, Bool, true, false, nat_lt, List, [], ◌∷◌, ◌++◌, take, drop, map, refl, ap, sym, ◌∙◌, arith, slice_range, inl, inr, ◌⊎◌, bit_and}
+use Rattle.std.proofs.lemmas.Bool.{cases_Bool, or_cases, or_right}
 use Rattle.std.proofs.lemmas.Bool.Decides.{nat_tests}
 use Rattle.std.proofs.lemmas.Nat.{and_assoc, and_or_self}
 use Rattle.std.specs.Int.Bits.{and_zero_r}
@@ -11,22 +12,9 @@ use Rattle.shape_buffer.specs.Clusters.{map_range, merge, least_cluster, growth_
 use Rattle.shape_buffer.specs.Buffer.{Buffer}
 use Rattle.shape_buffer.specs.declared.buffer.settings.BufferClusterLevel.{BufferClusterLevel}
 use Rattle.shape_buffer.specs.declared.buffer.settings.BufferClusterLevel.TheVariants.{MonotoneGraphemes, MonotoneCharacters, Characters}
-use Rattle.shape_buffer.specs.BufferClusters.{with_glyph_flags, merge_at, unsafe_to_break, unsafe_to_concat, merge_clusters, merge_out_clusters}
+use Rattle.shape_buffer.specs.BufferClusters.{with_glyph_flags, merge_at, unsafe_to_break, merge_clusters, merge_out_clusters}
 use Rattle.shape_buffer.specs.KeepsFlags.{IsDefinedFlag, has_flag, some_has, has_glyph_flags, KeepsFlags}
 use Rattle.shape_buffer.proofs.ClusterLemmas.{merge_short, merge_long}
-use Rattle.shape_buffer.proofs.MergeOrder.{bool_cases}
-
-or_cases : (a b : Bool) → (a || b) ≡ true → (a ≡ true) ⊎ (b ≡ true)
-or_cases true b e = inl refl
-or_cases false b e = inr e
-
-or_right : (a b : Bool) → b ≡ true → (a || b) ≡ true
-or_right true b e = refl
-or_right false b e = e
-
-rule_out : (a b : Bool) → (a || b) ≡ true → a ≡ false → b ≡ true
-rule_out true b e f = grind (arith, nat_tests)
-rule_out false b e f = e
 
 -- the has-flags bit is set
 pub glyph_flags_set : (b : Buffer) → has_glyph_flags (with_glyph_flags b) ≡ true
@@ -97,7 +85,7 @@ range_brings f p q h a b xs some =
 
 merge_brings_none : (start end flag : ℕ) → IsDefinedFlag flag → (xs : List Item) → some_has flag (merge start end xs) ≡ true → some_has flag xs ≡ true
 merge_brings_none start end flag d xs some =
-    elim (bool_cases (nat_lt (start + 1) end)) [
+    elim (cases_Bool (nat_lt (start + 1) end)) [
       | inl long ↦ elim (range_brings (put_in (least_cluster (slice_range xs start end))) (has_flag flag) false (λ x h. inl (put_in-flag _ flag d x h))
           (start - growth_left xs start (least_cluster (slice_range xs start end))) (end + growth_right xs (end - 1) (least_cluster (slice_range xs start end))) xs
           (ap (some_has flag) (sym (merge_long start end xs long)) ∙ some)) [
@@ -137,16 +125,9 @@ merge_at_keeps start end b = KeepsFlags-items b _ (λ flag d some. merge_brings_
 
 pub unsafe_to_break_keeps : (start end : ℕ) (b : Buffer) → KeepsFlags b (unsafe_to_break start end b)
 unsafe_to_break_keeps start end b =
-    elim (bool_cases (nat_lt (start + 1) end)) [
+    elim (cases_Bool (nat_lt (start + 1) end)) [
       | inl long ↦ rw long (KeepsFlags-set b _)
       | inr short ↦ rw short (KeepsFlags-same b)
-    ]
-
-pub unsafe_to_concat_keeps : (start end : ℕ) (b : Buffer) → KeepsFlags b (unsafe_to_concat start end b)
-unsafe_to_concat_keeps start end b =
-    elim (bool_cases (eqb (bit_and b.flags.0 64) 64)) [
-      | inl asked ↦ rw asked (KeepsFlags-set b _)
-      | inr unasked ↦ rw unasked (KeepsFlags-same b)
     ]
 
 at_level_keeps : (start end : ℕ) (b : Buffer) (level : BufferClusterLevel) → KeepsFlags b (elim level [

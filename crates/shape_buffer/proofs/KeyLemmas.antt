@@ -6,10 +6,10 @@ use Rattle.std.proofs.lemmas.Nat.{and_assoc, and_or_apart}
 use Rattle.std.proofs.lemmas.List.{map-append, take-append-drop}
 use Rattle.std.proofs.lemmas.List.Folds.{drop_split}
 use Rattle.shape_buffer.proofs.ClusterLemmas.{merge_short, merge_long}
-use Rattle.shape_buffer.specs.Buffer.{Buffer, cleared}
+use Rattle.shape_buffer.specs.Buffer.{Buffer}
 use Rattle.shape_buffer.specs.BufferClusters.{merge_clusters, merge_at, unsafe_to_break}
 use Rattle.shape_buffer.specs.Clusters.{map_range, merge, mark_break, least_cluster, growth_left, growth_right}
-use Rattle.shape_buffer.specs.Items.{Item, char_of, class_of_item, put_in, feature_bits}
+use Rattle.shape_buffer.specs.Items.{Item, class_of_item, put_in, feature_bits}
 use Rattle.shape_buffer.specs.Order.{falls, sink, in_order}
 use Rattle.shape_buffer.specs.declared.buffer.settings.BufferClusterLevel.{BufferClusterLevel}
 use Rattle.shape_buffer.specs.declared.buffer.settings.BufferClusterLevel.TheVariants.{MonotoneGraphemes, MonotoneCharacters, Characters}
@@ -90,13 +90,6 @@ module _ {B : Type 0} (key : Item → B) (is_key : IsKey key) where
       at_level MonotoneCharacters = keys-merge start end b.items
       at_level Characters = keys-unsafe_to_break start end b
 
--- the character and the class of an item
-abbrev pub char_and_class : Item → ℕ × ℕ
-char_and_class item = (char_of item, class_of_item item)
-
-pub IsKey-char_and_class : IsKey char_and_class
-IsKey-char_and_class = record { by_cluster = λ item cluster. refl; by_break = λ item. refl }
-
 pub IsKey-class : IsKey class_of_item
 IsKey-class = record { by_cluster = λ item cluster. refl; by_break = λ item. refl }
 
@@ -112,15 +105,19 @@ IsKey-unflagged = record {
 
 -- ---- the settings
 
-cleared-unsafe_to_break : (start end : ℕ) (b : Buffer) → cleared (unsafe_to_break start end b) ≡ cleared b
-cleared-unsafe_to_break start end b =
+-- a buffer but for its items and its scratch flags
+abbrev pub without_items : Buffer → Buffer
+without_items b = record b { items = []; scratch_flags = record { 0 = 0 } }
+
+without_items-unsafe_to_break : (start end : ℕ) (b : Buffer) → without_items (unsafe_to_break start end b) ≡ without_items b
+without_items-unsafe_to_break start end b =
     elim (cases_Bool (nat_lt (start + 1) end)) [ inl long ↦ rw long refl | inr short ↦ rw short refl ]
 
--- merging keeps the settings that clearing keeps
-pub cleared-merge_clusters : (start end : ℕ) (b : Buffer) → cleared (merge_clusters start end b) ≡ cleared b
-cleared-merge_clusters start end b = at_level b.cluster_level
+-- merging changes items and scratch flags alone
+pub without_items-merge_clusters : (start end : ℕ) (b : Buffer) → without_items (merge_clusters start end b) ≡ without_items b
+without_items-merge_clusters start end b = at_level b.cluster_level
   where
-    at_level : (level : BufferClusterLevel) → cleared (elim level as (λ v. Buffer) [ MonotoneGraphemes ↦ merge_at start end b | MonotoneCharacters ↦ merge_at start end b | Characters ↦ unsafe_to_break start end b ]) ≡ cleared b
+    at_level : (level : BufferClusterLevel) → without_items (elim level as (λ v. Buffer) [ MonotoneGraphemes ↦ merge_at start end b | MonotoneCharacters ↦ merge_at start end b | Characters ↦ unsafe_to_break start end b ]) ≡ without_items b
     at_level MonotoneGraphemes = refl
     at_level MonotoneCharacters = refl
-    at_level Characters = cleared-unsafe_to_break start end b
+    at_level Characters = without_items-unsafe_to_break start end b

@@ -15,7 +15,6 @@ pub mod ChainLemmas
 pub mod EquivalentLemmas
 pub mod SortLemmas
 pub mod RunLemmas
-pub mod RoundLemmas
 pub mod RecomposeLemmas
 pub mod RecomposeWalkLemmas
 pub mod BlockLemmas

@@ -8,10 +8,10 @@ use Rattle.shape_buffer.specs.Chain.{full, full_text}
 use Rattle.shape_buffer.specs.Equivalent.{IsEquivalent, IsCanonical, ComposesSoundly}
 use Rattle.shape_buffer.specs.Expanded.{expanded_text}
 use Rattle.shape_buffer.specs.Order.{Swaps, IsOrdered}
-use Rattle.shape_buffer.specs.Recompose.{is_blocked, is_blocked_by_last, is_blocked_by_greatest, join_with_glyph, recomposed}
+use Rattle.shape_buffer.specs.Recompose.{is_blocked, is_blocked_by_last, join_with_glyph, recomposed}
 use Rattle.shape_buffer.specs.Runs.{AreRunsSettled, HasNoLongerRun}
 use Rattle.shape_buffer.specs.Unicode.{SplitsFall}
-use Rattle.shape_buffer.proofs.BlockLemmas.{recomposed_by_last, recomposed_by_greatest}
+use Rattle.shape_buffer.proofs.BlockLemmas.{recomposed_by_last}
 use Rattle.shape_buffer.proofs.ChainLemmas.{full-class, full-whole}
 use Rattle.shape_buffer.proofs.ChoiceLemmas.{full_text-expanded, expanded-full}
 use Rattle.shape_buffer.proofs.EveryLemmas.{append_all}
@@ -63,11 +63,6 @@ module _ (split : ℕ → Option (ℕ × ℕ)) (height class : ℕ → ℕ) (law
   pub equivalent_recomposed_by_last : (is_mark : ℕ → Bool) (join : ℕ → ℕ → Option ℕ) → ComposesSoundly split height class join → (xs : List ℕ) → IsOrdered class xs → IsEquivalent split height class xs (recomposed class (is_blocked_by_last class) is_mark join xs)
   equivalent_recomposed_by_last is_mark join sound xs up =
       subst (IsEquivalent split height class xs) (recomposed_by_last class is_mark join xs up) (equivalent_recomposed is_mark join sound xs)
-
-  -- by the greatest class too, whatever the list
-  pub equivalent_recomposed_by_greatest : (is_mark : ℕ → Bool) (join : ℕ → ℕ → Option ℕ) → ComposesSoundly split height class join → (xs : List ℕ) → IsEquivalent split height class xs (recomposed class (is_blocked_by_greatest class) is_mark join xs)
-  equivalent_recomposed_by_greatest is_mark join sound xs =
-      subst (IsEquivalent split height class xs) (recomposed_by_greatest class is_mark join xs) (equivalent_recomposed is_mark join sound xs)
 
   -- a starter and a mark past others that don't block it, and what the two compose to
   pub equivalent_joined : (join : ℕ → ℕ → Option ℕ) → ComposesSoundly split height class join → (s c d : ℕ) (ms rest : List ℕ) → is_blocked class ms c ≡ false → join s c ≡ Some d → IsEquivalent split height class (s ∷ ms ++ c ∷ rest) (d ∷ ms ++ rest)

@@ -4,7 +4,7 @@ use Rattle.std.proofs.lemmas.Bool.{both_ways}
 use Rattle.std.proofs.lemmas.List.{take_all}
 use Rattle.std.specs.List.{list_all}
 use Rattle.std.specs.Option.{option_or}
-use Rattle.shape_buffer.specs.Chain.{FallsAlong, kept}
+use Rattle.shape_buffer.specs.Chain.{FallsAlong, kept_part}
 use Rattle.shape_buffer.specs.Expansion.{supported, least_supported, greatest_supported}
 use Rattle.shape_buffer.proofs.ExpansionLemmas.{put_behind, least-split, least-end}
 use Rattle.shape_buffer.proofs.WalkLemmas.{found_parts, walked, reverse-more, found_parts-more, walk_found, walk_passed, walk_ended, walk_broken}
@@ -15,9 +15,9 @@ module _ (split : ℕ → Option (ℕ × ℕ)) (has_glyph : ℕ → Bool) where
   sought true n c = least_supported split has_glyph n c
   sought false n c = greatest_supported split has_glyph n c
 
-  walked-pass : (found : Option (List ℕ)) (seconds : List ℕ) (b : ℕ) (r : Option (List ℕ)) → walked found seconds (put_behind true b r) ≡ walked found (seconds ++ kept b) r
+  walked-pass : (found : Option (List ℕ)) (seconds : List ℕ) (b : ℕ) (r : Option (List ℕ)) → walked found seconds (put_behind true b r) ≡ walked found (seconds ++ kept_part b) r
   walked-pass found seconds b None = refl
-  walked-pass found seconds b (Some ys) = ap Some (append_assoc ys (kept b) (reverse seconds) ∙ ap (λ xs. ys ++ xs) (sym (reverse-more seconds b)))
+  walked-pass found seconds b (Some ys) = ap Some (append_assoc ys (kept_part b) (reverse seconds) ∙ ap (λ xs. ys ++ xs) (sym (reverse-more seconds b)))
 
   -- where the chain ends, what was found is the expansion
   pub sought_ended : (short : Bool) (start found : Option (List ℕ)) (seconds : List ℕ) (n c : ℕ) → start ≡ walked found seconds (sought short n c) → None ≡ split c → found ≡ start
@@ -25,7 +25,7 @@ module _ (split : ℕ → Option (ℕ × ℕ)) (has_glyph : ℕ → Bool) where
   sought_ended true start found seconds n c inv e = sym (inv ∙ ap (walked found seconds) (least-end split has_glyph n c (sym e)))
 
   module _ (height : ℕ → ℕ) (falling : FallsAlong split height) where
-    least-at : (c a b : ℕ) (t u : Bool) → split c ≡ Some (a, b) → list_all has_glyph (kept b) ≡ t → has_glyph a ≡ u → least_supported split has_glyph (height c) c ≡ put_behind t b (option_or (if u && true then Some (a ∷ []) else None) (least_supported split has_glyph (height a) a))
+    least-at : (c a b : ℕ) (t u : Bool) → split c ≡ Some (a, b) → list_all has_glyph (kept_part b) ≡ t → has_glyph a ≡ u → least_supported split has_glyph (height c) c ≡ put_behind t b (option_or (if u && true then Some (a ∷ []) else None) (least_supported split has_glyph (height a) a))
     least-at c a b t u e kept_b glyph =
         least-split split has_glyph height falling c a b e
         ∙ ap (λ t. put_behind t b (option_or (supported split has_glyph 0 a) (least_supported split has_glyph (height a) a))) kept_b
@@ -33,7 +33,7 @@ module _ (split : ℕ → Option (ℕ × ℕ)) (has_glyph : ℕ → Bool) where
 
     -- the shortest is found at the first point that has a glyph
     pub sought_first : (short : Bool) (start found : Option (List ℕ)) (seconds after : List ℕ) (n c a b : ℕ) → short ≡ true →
-        start ≡ walked found seconds (sought short (height c) c) → Some (a, b) ≡ split c → true ≡ list_all has_glyph (kept b) → after ≡ seconds ++ kept b → true ≡ has_glyph a → n ≡ length after →
+        start ≡ walked found seconds (sought short (height c) c) → Some (a, b) ≡ split c → true ≡ list_all has_glyph (kept_part b) → after ≡ seconds ++ kept_part b → true ≡ has_glyph a → n ≡ length after →
         found_parts (Some (a, n)) after ≡ start
     sought_first false start found seconds after n c a b clash inv e kept_b grown glyph len = absurd (both_ways _ refl clash)
     sought_first true start found seconds after n c a b asked inv e kept_b grown glyph len =
@@ -43,7 +43,7 @@ module _ (split : ℕ → Option (ℕ × ℕ)) (has_glyph : ℕ → Bool) where
 
     -- the greatest is looked for on past it
     pub sought_found : (short : Bool) (start found : Option (List ℕ)) (seconds after : List ℕ) (n c a b : ℕ) → short ≡ false →
-        start ≡ walked found seconds (sought short (height c) c) → Some (a, b) ≡ split c → true ≡ list_all has_glyph (kept b) → after ≡ seconds ++ kept b → true ≡ has_glyph a → n ≡ length after →
+        start ≡ walked found seconds (sought short (height c) c) → Some (a, b) ≡ split c → true ≡ list_all has_glyph (kept_part b) → after ≡ seconds ++ kept_part b → true ≡ has_glyph a → n ≡ length after →
         start ≡ walked (found_parts (Some (a, n)) after) after (sought short (height a) a)
     sought_found true start found seconds after n c a b clash inv e kept_b grown glyph len = absurd (both_ways _ clash refl)
     sought_found false start found seconds after n c a b asked inv e kept_b grown glyph len =
@@ -51,18 +51,18 @@ module _ (split : ℕ → Option (ℕ × ℕ)) (has_glyph : ℕ → Bool) where
 
     -- both go on past a point that has none
     pub sought_passed : (short : Bool) (start : Option (List ℕ)) (seconds after : List ℕ) (found : Option (ℕ × ℕ)) (c a b : ℕ) →
-        start ≡ walked (found_parts found seconds) seconds (sought short (height c) c) → IfSome found (λ f. f.1 ≤ length seconds) → Some (a, b) ≡ split c → true ≡ list_all has_glyph (kept b) → after ≡ seconds ++ kept b → false ≡ has_glyph a →
+        start ≡ walked (found_parts found seconds) seconds (sought short (height c) c) → IfSome found (λ f. f.1 ≤ length seconds) → Some (a, b) ≡ split c → true ≡ list_all has_glyph (kept_part b) → after ≡ seconds ++ kept_part b → false ≡ has_glyph a →
         start ≡ walked (found_parts found after) after (sought short (height a) a)
     sought_passed false start seconds after found c a b inv within e kept_b grown glyph =
         walk_passed split has_glyph height falling start seconds after found c a b inv within e kept_b grown glyph
     sought_passed true start seconds after found c a b inv within e kept_b grown glyph =
-        rw (grown, found_parts-more split has_glyph height falling found seconds (kept b) within)
+        rw (grown, found_parts-more split has_glyph height falling found seconds (kept_part b) within)
         (inv ∙ ap (walked (found_parts found seconds) seconds) (least-at c a b true false (sym e) (sym kept_b) (sym glyph))
         ∙ walked-pass (found_parts found seconds) seconds b (least_supported split has_glyph (height a) a))
 
     -- before a split whose second part has no glyph, what was found is the expansion
     pub sought_broken : (short : Bool) (start found : Option (List ℕ)) (seconds : List ℕ) (c a b : ℕ) →
-        start ≡ walked found seconds (sought short (height c) c) → Some (a, b) ≡ split c → false ≡ list_all has_glyph (kept b) → found ≡ start
+        start ≡ walked found seconds (sought short (height c) c) → Some (a, b) ≡ split c → false ≡ list_all has_glyph (kept_part b) → found ≡ start
     sought_broken false start found seconds c a b inv e kept_b = walk_broken split has_glyph height falling start found seconds c a b inv e kept_b
     sought_broken true start found seconds c a b inv e kept_b =
         sym (inv ∙ ap (walked found seconds) (least-at c a b false (has_glyph a) (sym e) (sym kept_b) refl))

@@ -1,5 +1,6 @@
 -- Runs whose writing deletion puts off.
 use Rattle.std.proofs.Common.{◌≡◌, ◌≢◌, ℕ, ◌+◌, ◌-◌, ◌<◌, ◌≤◌, true, false, nat_lt, List, [], ◌∷◌, ◌++◌, length, get_or, take, drop, set, map, refl, ap, sym, ◌∙◌, arith, suc, zero, slice_index, inl, inr, ◌⊎◌, bit_and, bit_or, append_assoc, length-append}
+use Rattle.std.proofs.lemmas.Bool.{cases_Bool}
 use Rattle.std.proofs.lemmas.Bool.Decides.{nat_tests}
 use Rattle.std.proofs.lemmas.Nat.{and_assoc, and_or_apart, or_comm}
 use Rattle.std.specs.Int.Bits.{and_zero_r}
@@ -14,7 +15,6 @@ use Rattle.shape_buffer.specs.Items.{Item, has_cluster, feature_bits}
 use Rattle.shape_buffer.specs.Clusters.{clusters, map_range}
 use Rattle.shape_buffer.specs.Delete.{hand_over, give_to_kept}
 use Rattle.shape_buffer.specs.Unwritten.{AreAbove, Run, follow, written, items_of, stored_runs, written_runs, starts, IsApart, AreRuns, StandsFor}
-use Rattle.shape_buffer.proofs.MergeOrder.{bool_cases}
 
 -- what was handed over replaces what was handed over before
 twice_defined : (m n : ℕ) → bit_and (bit_or (feature_bits m) (bit_and n 7)) 7 ≡ bit_and n 7
@@ -40,7 +40,7 @@ follow_takes : (x y : Item) (ys : List Item) → y.cluster < x.cluster → follo
 follow_takes x y ys lt = grind (arith, nat_tests)
 
 follow_cases : (x y : Item) (ys : List Item) → (follow x (y ∷ ys) ≡ x) ⊎ (follow x (y ∷ ys) ≡ hand_over y x)
-follow_cases x y ys = elim (bool_cases (nat_lt y.cluster x.cluster)) [
+follow_cases x y ys = elim (cases_Bool (nat_lt y.cluster x.cluster)) [
   | inl lt ↦ inr (rw lt refl)
   | inr ge ↦ inl (rw ge refl)
 ]

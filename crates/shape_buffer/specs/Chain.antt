@@ -8,8 +8,8 @@ pub record FallsAlong (split : ℕ → Option (ℕ × ℕ)) (height : ℕ → �
   pub falls : (c a b : ℕ) → split c ≡ Some (a, b) → height a < height c
 
 -- a second part as a list: U+0000 is dropped
-abbrev pub kept : ℕ → List ℕ
-kept b = if b == 0 then [] else b ∷ []
+abbrev pub kept_part : ℕ → List ℕ
+kept_part b = if b == 0 then [] else b ∷ []
 
 -- point k of the chain of c: c itself, then the first part of the split of each point
 abbrev pub chain_point : (ℕ → Option (ℕ × ℕ)) → ℕ → ℕ → Option ℕ
@@ -24,7 +24,7 @@ second_part split (suc k) c = option_and_then (λ point. option_map (λ parts. p
 -- Full, with so many steps to spare: c where it doesn't split, else Full of its first part and then its second part
 abbrev pub full_within : (ℕ → Option (ℕ × ℕ)) → ℕ → ℕ → List ℕ
 full_within split zero c = c ∷ []
-full_within split (suc steps) c = option_map_or (λ parts. full_within split steps parts.0 ++ kept parts.1) (split c) (c ∷ [])
+full_within split (suc steps) c = option_map_or (λ parts. full_within split steps parts.0 ++ kept_part parts.1) (split c) (c ∷ [])
 
 -- Full: the full canonical decomposition before ordering; a chain is no longer than the height of its character
 unfoldable pub full : (ℕ → Option (ℕ × ℕ)) → (ℕ → ℕ) → ℕ → List ℕ
@@ -37,4 +37,4 @@ full_text split height text = flat_map (full split height) text
 -- Full by its two rules, without a number of steps
 pub data IsFull (split : ℕ → Option (ℕ × ℕ)) : ℕ → List ℕ → Type 0 where
   stays : {c : ℕ} → split c ≡ None → IsFull split c (c ∷ [])
-  splits_into : {c a b : ℕ} {xs : List ℕ} → split c ≡ Some (a, b) → IsFull split a xs → IsFull split c (xs ++ kept b)
+  splits_into : {c a b : ℕ} {xs : List ℕ} → split c ≡ Some (a, b) → IsFull split a xs → IsFull split c (xs ++ kept_part b)

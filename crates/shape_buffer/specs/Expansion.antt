@@ -2,12 +2,12 @@
 use Rattle.std.specs.Prelude.{ℕ, zero, suc, Bool, true, false, if◌then◌else◌, List, [], ◌∷◌, ◌++◌, Option, None, Some, unwrap_or}
 use Rattle.std.specs.Option.{option_map, option_map_or, option_or}
 use Rattle.std.specs.List.{list_all}
-use Rattle.shape_buffer.specs.Chain.{kept, chain_point, second_part}
+use Rattle.shape_buffer.specs.Chain.{kept_part, chain_point, second_part}
 
 -- the second parts k down to 1 of the chain of c; U+0000 is dropped
 abbrev pub seconds : (ℕ → Option (ℕ × ℕ)) → ℕ → ℕ → List ℕ
 seconds split zero c = []
-seconds split (suc k) c = option_map_or kept (second_part split (suc k) c) [] ++ seconds split k c
+seconds split (suc k) c = option_map_or kept_part (second_part split (suc k) c) [] ++ seconds split k c
 
 -- the expansion of length k: chain point k, then the second parts k down to 1; none where the chain ends before point k
 abbrev pub expansion : (ℕ → Option (ℕ × ℕ)) → ℕ → ℕ → Option (List ℕ)

@@ -1,6 +1,6 @@
 -- The normalised list is equivalent to its text, canonical or recomposed of a canonical one where glyphs and runs allow it, and equal exactly for equivalent texts.
 use Rattle.std.proofs.Common.{◌≡◌, ◌↔◌, ℕ, ◌<◌, Bool, true, false, List, [], ◌∷◌, length, map, drop, refl, sym, ◌∙◌, ap, subst, inl, inr, arith}
-use Rattle.std.proofs.lemmas.Bool.{cases_Bool, cases_eq}
+use Rattle.std.proofs.lemmas.Bool.{cases_Bool}
 use Rattle.std.proofs.lemmas.List.Elements.{All-from_recursion}
 use Rattle.std.specs.List.{AllByRecursion, list_any}
 use Rattle.shape_buffer.proofs.ChoiceLemmas.{full_text-expanded}
@@ -19,7 +19,7 @@ use Rattle.shape_buffer.specs.Recompose.{join_with_glyph}
 use Rattle.shape_buffer.specs.Runs.{AreRunsSettled, HasNoLongerRun}
 use Rattle.shape_buffer.specs.Unicode.{LawfulUnicode, is_mark}
 use Rattle.shape_buffer.specs.UnicodeProps.{with_unicode_props}
-use Rattle.shape_pipeline.specs.CanonicalForm.{text_of, AreEquivalent, HasCanonicalForm, IsRecomposedForm, TextPremises, EquivalencePremises, CanonicalTextPremises, CanonicalFormPremises, NormalizesCanonically, RunPremises, ShapesCanonically}
+use Rattle.shape_pipeline.specs.CanonicalForm.{text_of, AreEquivalent, HasCanonicalForm, IsRecomposedForm, TextPremises, EquivalencePremises, ComposesShortRuns, CanonicalTextPremises, CanonicalFormPremises, NormalizesCanonically, ShapesCanonically}
 use Rattle.shape_pipeline.specs.Normalized.{ordered, normalized}
 use Rattle.shape_pipeline.specs.RoundOne.{round_one}
 use Rattle.shape_pipeline.specs.RoundTwo.{max_run, has_mark_past_first}
@@ -57,8 +57,8 @@ module _ (rules : Rules) where
         ordered_is_equivalent rules.split rules.height rules.unicode.class premises.text.lawful_hooks.splits (has_glyph rules.glyph) (is_mark rules.unicode) rules.short max_run
         (text_of b) (text_of (ordered rules b)) (ordered_settles rules lawful b (plain_of b premises) marked)
 
-    recomposed_is_equivalent_to_text : (b : Buffer) → EquivalencePremises rules b → has_mark_past_first b.items ≡ true → rules.recomposes ≡ true → AreEquivalent rules (text_of b) (text_of (normalized rules b))
-    recomposed_is_equivalent_to_text b premises marked composes =
+    recomposed_is_equivalent_to_text : (b : Buffer) → EquivalencePremises rules b → ComposesShortRuns rules (round_one rules b) → has_mark_past_first b.items ≡ true → rules.recomposes ≡ true → AreEquivalent rules (text_of b) (text_of (normalized rules b))
+    recomposed_is_equivalent_to_text b premises short marked composes =
         let plain = plain_of b premises in
         let hooks = premises.text.lawful_hooks in
         subst (AreEquivalent rules (text_of b)) (sym (normalized_is_recomposed rules lawful b plain marked composes))
@@ -66,16 +66,16 @@ module _ (rules : Rules) where
         (sound_with_glyph rules.split rules.height rules.unicode.class rules.join (has_glyph rules.glyph) (hooks.joins composes)) max_run
         (text_of b) (choices rules (text_of b)) (text_of (ordered rules b))
         (full_text-expanded rules.split rules.height rules.unicode.class hooks.splits (has_glyph rules.glyph) (is_mark rules.unicode) rules.short (text_of b))
-        (subst (HasNoLongerRun rules.unicode.class max_run) (chars-round_one rules b plain.prepared plain.no_selector) (premises.text.short_runs composes))
+        (subst (HasNoLongerRun rules.unicode.class max_run) (chars-round_one rules b plain.prepared plain.no_selector) (short composes))
         (ordered_settles rules lawful b plain marked))
 
-    pub normalized_is_equivalent : (b : Buffer) → EquivalencePremises rules b → AreEquivalent rules (text_of b) (text_of (normalized rules b))
-    normalized_is_equivalent b premises =
+    pub normalized_is_equivalent : (b : Buffer) → EquivalencePremises rules b → ComposesShortRuns rules (round_one rules b) → AreEquivalent rules (text_of b) (text_of (normalized rules b))
+    normalized_is_equivalent b premises short =
         elim (cases_Bool (has_mark_past_first b.items)) [
           | inr unmarked ↦ unmarked_is_equivalent b premises unmarked
           | inl marked ↦
               elim (cases_Bool rules.recomposes) [
-                | inl composes ↦ recomposed_is_equivalent_to_text b premises marked composes
+                | inl composes ↦ recomposed_is_equivalent_to_text b premises short marked composes
                 | inr leaves ↦
                     subst (AreEquivalent rules (text_of b)) (sym (normalized_is_ordered rules b leaves)) (ordered_is_equivalent_to_text b premises marked)
               ]
@@ -156,13 +156,13 @@ module _ (rules : Rules) where
     text_of-prepared b = chars-with_props rules.unicode b.items
 
     -- the run prepares its text
-    run_premises : (b : Buffer) → RunPremises rules b → EquivalencePremises rules (prepared rules.unicode b)
+    run_premises : (b : Buffer) → TextPremises rules (text_of b) → EquivalencePremises rules (prepared rules.unicode b)
     run_premises b premises = record {
-      text = subst (λ text. TextPremises rules text (text_of (round_one rules (prepared rules.unicode b)))) (sym (text_of-prepared b)) premises;
+      text = subst (TextPremises rules) (sym (text_of-prepared b)) premises;
       prepared = All-from_recursion (IsPreparedItem rules.unicode) (prepared rules.unicode b).items (prepared_by_run b.items);
     }
 
-    run_canonical_premises : (b : Buffer) → RunPremises rules b → CanonicalTextPremises rules (text_of b) → CanonicalFormPremises rules (prepared rules.unicode b)
+    run_canonical_premises : (b : Buffer) → TextPremises rules (text_of b) → CanonicalTextPremises rules (text_of b) → CanonicalFormPremises rules (prepared rules.unicode b)
     run_canonical_premises b premises canonical = record {
       equivalence = run_premises b premises;
       canonical = subst (CanonicalTextPremises rules) (sym (text_of-prepared b)) canonical;
@@ -187,7 +187,7 @@ module _ (rules : Rules) where
     ShapesCanonically-run old new is =
         let text : text_of new ≡ run_text old = text_of-run old new is in
         record {
-          equivalent = λ premises. rw text (subst (λ l. AreEquivalent rules l (run_text old)) (text_of-prepared old) (normalized_is_equivalent (prepared rules.unicode old) (run_premises old premises)));
+          equivalent = λ premises short. rw text (subst (λ l. AreEquivalent rules l (run_text old)) (text_of-prepared old) (normalized_is_equivalent (prepared rules.unicode old) (run_premises old premises) short));
           canonical = λ leaves premises canonical. rw text (normalized_is_canonical (prepared rules.unicode old) leaves (run_canonical_premises old premises canonical));
           recomposed = λ composes premises canonical.
               rw text (subst (λ l. IsRecomposedForm rules l (run_text old)) (text_of-prepared old) (normalized_is_recomposed_form (prepared rules.unicode old) composes (run_canonical_premises old premises canonical)));
@@ -201,23 +201,8 @@ module _ (rules : Rules) where
     ShapesCanonically-none old new none same =
         let unmarked : (premises : CanonicalTextPremises rules (text_of old)) → ⊥ = λ premises. let some : 0 < length old.items = some_item old.items premises.marked in absurd (omega arith) in
         record {
-          equivalent = λ premises. no_swap (ap (λ items. full_text rules.split rules.height (map char_of items)) (sym same));
+          equivalent = λ premises short. no_swap (ap (λ items. full_text rules.split rules.height (map char_of items)) (sym same));
           canonical = λ leaves premises canonical. absurd (unmarked canonical);
           recomposed = λ composes premises canonical. absurd (unmarked canonical);
           decides = λ other of_old canonical_old of_other canonical_other. absurd (unmarked canonical_old);
         }
-
-    shaped_of_none : (b : Buffer) → length b.items ≡ 0 → (shaped rules b).items ≡ b.items
-    shaped_of_none b none =
-        elim b.items as (λ items. length items ≡ 0 → (shaped rules (record b { items = items })).items ≡ items) [
-          | [] ↦ λ none. refl
-          | item ∷ items ↦ λ none. absurd (omega arith)
-        ] none
-
-    -- so shaping does, for every text
-    pub ShapesCanonically-shaped : (old new : Buffer) → new ≡ shaped rules old → ShapesCanonically rules old new
-    ShapesCanonically-shaped old new is =
-        elim (cases_eq (length old.items) 0) [
-          | inl none ↦ ShapesCanonically-none old new none (ap (λ (b : Buffer). b.items) is ∙ shaped_of_none old none)
-          | inr some ↦ ShapesCanonically-run old new (is ∙ sym (shaped_of_any rules old (omega arith)))
-        ]

@@ -12,17 +12,17 @@ use Rattle.shape_buffer.specs.Unicode.{UnicodeMeaning}
 use Rattle.shape_buffer.specs.UnicodeProps.{with_unicode_props}
 use Rattle.shape_buffer.specs.declared.buffer.settings.GlyphId.{GlyphId}
 use Rattle.shape_buffer.proofs.DeleteKeeps.{merged_keeps}
+use Rattle.shape_buffer.proofs.DividedLemmas.{values-divided}
 use Rattle.shape_buffer.proofs.DrawsInOrder.{DrawsInOrder-behind, DrawsInOrder-again, KeepsClusters-from_draws}
 use Rattle.shape_pipeline.specs.Rules.{Rules, face_of}
 use Rattle.shape_pipeline.proofs.SelectorLemmas.{pairs_within}
 use Rattle.std.proofs.lemmas.List.Elements.{recursion_from_All}
-use Rattle.shape_pipeline.specs.RoundOne.{part_item, whole_item, expansion_of, expanded_item, passed_item, marked_selector, variant_items, variants, is_selector_item, has_selector, is_with_marks, pairs_from, merged_at, pairs_merged, sequences, sequence_items, expanded, round_one}
+use Rattle.shape_pipeline.specs.RoundOne.{part_item, whole_item, expansion_of, expanded_item, passed_item, marked_selector, variant_items, variants, is_selector_item, is_selector_sequence, is_with_marks, pairs_from, merged_at, pairs_merged, sequences, sequence_items, expanded, round_one}
 use Rattle.shape_pipeline.specs.RoundTwo.{joiners_settled}
 use Rattle.shape_pipeline.specs.Normalized.{normalized, HookKeepsClusters}
 use Rattle.shape_pipeline.specs.Steps.{with_mapped_glyph, glyphs_mapped}
 use Rattle.shape_pipeline.specs.Shaped.{prepared}
 use Rattle.shape_pipeline.proofs.DrawnLemmas.{DrawsBefore, DrawsBefore-same, draws_whole, draws_pieces, KeepsClusters-same, KeepsClusters-then}
-use Rattle.shape_pipeline.proofs.PartLemmas.{values-divided}
 use Rattle.shape_pipeline.proofs.JoinerLemmas.{keys-joiners_settled}
 use Rattle.shape_pipeline.proofs.NormalizedLemmas.{kept_by_rounds}
 use Rattle.shape_pipeline.proofs.OrderedClusterLemmas.{marks_ordered_keeps}
@@ -73,7 +73,7 @@ module _ (rules : Rules) where
 
   draws_sequence : (invisible not_found : Option GlyphId) (sequence : List Item) → DrawsBefore (clusters sequence) (clusters (sequence_items rules invisible not_found sequence))
   draws_sequence invisible not_found sequence =
-      elim (has_selector rules.unicode sequence) as (λ t. DrawsBefore (clusters sequence) (clusters (if t then flat_map (variant_items (face_of rules) not_found) (variants rules.unicode sequence) else flat_map (expanded_item rules invisible (rules.short (is_with_marks sequence))) sequence))) [
+      elim (is_selector_sequence rules.unicode sequence) as (λ t. DrawsBefore (clusters sequence) (clusters (if t then flat_map (variant_items (face_of rules) not_found) (variants rules.unicode sequence) else flat_map (expanded_item rules invisible (rules.short (is_with_marks sequence))) sequence))) [
         | true ↦ draws_variants not_found sequence
         | false ↦ draws_expanded_items invisible (rules.short (is_with_marks sequence)) sequence
       ]

@@ -5,7 +5,6 @@ pub mod StepLemmas
 pub mod RulesLemmas
 pub mod ReorderLemmas
 pub mod PieceLemmas
-pub mod PartLemmas
 pub mod SequenceLemmas
 pub mod DrawnLemmas
 pub mod RoundOneLemmas

@@ -12,9 +12,9 @@ use Rattle.shape_buffer.specs.UnicodeProps.{with_unicode_props}
 use Rattle.shape_buffer.proofs.KeyLemmas.{IsKey, IsKey-unflagged}
 use Rattle.shape_pipeline.specs.Rules.{Rules, has_glyph}
 use Rattle.shape_pipeline.specs.RoundOne.{round_one, part_item}
-use Rattle.shape_pipeline.specs.RoundTwo.{has_mark_past_first, marks_ordered, joiners_settled, unplaced, OrdersMarks}
+use Rattle.shape_pipeline.specs.RoundTwo.{has_mark_past_first, marks_ordered, shown, joiners_settled, without_place, OrdersMarks}
 use Rattle.shape_pipeline.specs.RoundThree.{round_three}
-use Rattle.shape_pipeline.specs.Normalized.{ordered, normalized, BroughtInHaveGlyphs, OrdersExpanded}
+use Rattle.shape_pipeline.specs.Normalized.{ordered, normalized, content, BroughtInHaveGlyphs, OrdersExpanded}
 use Rattle.shape_pipeline.specs.Steps.{with_mapped_glyph, glyphs_mapped}
 use Rattle.shape_pipeline.specs.Shaped.{prepared, shaped}
 use Rattle.shape_pipeline.proofs.JoinerLemmas.{keys-joiners_settled, chars-joiners_settled}
@@ -78,15 +78,11 @@ module _ (rules : Rules) (lawful : LawfulReorder rules.reorder) where
 
 -- ---- what holds of each item
 
--- an item but for its cluster, its mask and its hidden bit, which the later rounds change
-abbrev pub content : Item → Item
-content item = record item { cluster = 0; mask = 0; properties = record item.properties { hidden = false } }
-
 IsKey-content : IsKey content
 IsKey-content = record { by_cluster = λ item cluster. refl; by_break = λ item. refl }
 
 module _ (rules : Rules) (lawful : LawfulReorder rules.reorder) (P : Item → Type 0) (composes : (item : Item) (c : ℕ) → has_glyph rules.glyph c ≡ true → P (content (part_item rules.unicode rules.glyph item c))) where
-  -- what goes by neither cluster, mask nor hidden bit, and holds of each composed item, holds of each item of the normalised list where it does of the expanded one
+  -- what goes by an item's content, and holds of each composed item, holds of each item of the normalised list where it does of the expanded one
   pub normalized_all : (b : Buffer) → AllByRecursion (λ item. P (content item)) (round_one rules b).items → AllByRecursion (λ item. P (content item)) (normalized rules b).items
   normalized_all b each =
       let one : Buffer = round_one rules b in
@@ -108,14 +104,10 @@ normalized_brings_in rules lawful b new is =
 
 -- ---- the order of the marks
 
-without_hidden : Item → Item
-without_hidden item = record item { properties = record item.properties { hidden = false } }
-
-pub IsKey-unplaced : IsKey unplaced
-unfolding without_hidden
-IsKey-unplaced = record {
-  by_cluster = λ item cluster. ap without_hidden (IsKey-unflagged.by_cluster item cluster);
-  by_break = λ item. ap without_hidden (IsKey-unflagged.by_break item);
+pub IsKey-without_place : IsKey without_place
+IsKey-without_place = record {
+  by_cluster = λ item cluster. ap shown (IsKey-unflagged.by_cluster item cluster);
+  by_break = λ item. ap shown (IsKey-unflagged.by_break item);
 }
 
 -- with a mark past the first item, and with no hook, the ordered list is the expanded one with its runs settled
@@ -123,7 +115,7 @@ pub normalized_orders : (rules : Rules) (b : Buffer) → OrdersExpanded rules b
 normalized_orders rules b = λ marked none.
     let one : Buffer = round_one rules b in
     let by_none : OrdersMarks one.items (joiners_settled (marks_ordered None one)).items =
-    rw (keys-joiners_settled unplaced (λ item. refl) (marks_ordered None one)) (marks_ordered_settles unplaced IsKey-unplaced class_of_item (λ item. refl) one) in
+    rw (keys-joiners_settled without_place (λ item. refl) (marks_ordered None one)) (marks_ordered_settles without_place IsKey-without_place class_of_item (λ item. refl) one) in
     let by_hook : OrdersMarks one.items (joiners_settled (marks_ordered rules.reorder one)).items = subst (λ (hook : Option (Buffer → ℕ → ℕ → Buffer)). OrdersMarks one.items (joiners_settled (marks_ordered hook one)).items) (sym none) by_none in
     subst (λ (c : Buffer). OrdersMarks one.items (joiners_settled c).items) (sym (cond-true _ (marks_ordered rules.reorder one) one marked)) by_hook
 

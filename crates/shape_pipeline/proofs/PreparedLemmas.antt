@@ -1,6 +1,6 @@
 -- Prepared lists stay prepared: what preparing goes by, and what round one, joiners and changes of clusters keep of it.
-use Rattle.std.proofs.Common.{◌≡◌, ℕ, ◌<◌, Bool, true, false, if◌then◌else◌, ◌&&◌, List, [], ◌∷◌, map, Option, None, Some, refl, sym, ◌∙◌, ap, subst, arith, inl, inr}
-use Rattle.std.proofs.lemmas.Bool.{cases_Bool, cases_eq, cond-true, both_ways, and_from}
+use Rattle.std.proofs.Common.{◌≡◌, ℕ, ◌<◌, true, false, if◌then◌else◌, ◌&&◌, List, [], ◌∷◌, map, Option, None, Some, refl, sym, ◌∙◌, ap, subst, arith, inl, inr}
+use Rattle.std.proofs.lemmas.Bool.{cases_Bool, cases_eq, cond-true, both_ways, and_from, and_right}
 use Rattle.std.proofs.lemmas.Bool.Decides.{nat_tests}
 use Rattle.std.specs.List.{AllByRecursion}
 use Rattle.std.specs.Option.{option_map_or}
@@ -42,12 +42,8 @@ module _ (unicode : UnicodeMeaning) (lawful : LawfulUnicode unicode) where
   class_with_props c =
       elim (cases_Bool (is_mark unicode c)) [
         | inl mark ↦ cond-true _ (unicode.class c) 0 (and_from _ _ (beyond c mark) mark)
-        | inr no_mark ↦ ap (λ t. if t then unicode.class c else 0) (ap (λ t. beyond_ascii c && t) no_mark ∙ and_false (beyond_ascii c)) ∙ sym (unmarked_class c no_mark)
+        | inr no_mark ↦ ap (λ t. if t then unicode.class c else 0) (ap (λ t. beyond_ascii c && t) no_mark ∙ and_right (beyond_ascii c) false refl) ∙ sym (unmarked_class c no_mark)
       ]
-    where
-      and_false : (b : Bool) → (b && false) ≡ false
-      and_false true = refl
-      and_false false = refl
 
   -- an item that takes the properties of its character is prepared
   pub prepared-with_props : (item : Item) → IsPreparedItem unicode (with_unicode_props unicode item)

@@ -1,5 +1,5 @@
 -- The characters of the recomposed list of prepared items are those of the list, recomposed.
-use Rattle.std.proofs.Common.{◌≡◌, ℕ, suc, List, [], ◌∷◌, ◌++◌, map, Option, Some, None, option_map, refl, sym, ap, subst, ◌∙◌}
+use Rattle.std.proofs.Common.{◌≡◌, ℕ, suc, List, [], ◌∷◌, map, Option, Some, None, option_map, refl, sym, ap, subst, ◌∙◌}
 use Rattle.std.specs.List.{AllByRecursion}
 use Rattle.shape_buffer.proofs.MapLemmas.{is_blocked_by_last-map, recomposed-map}
 use Rattle.shape_buffer.specs.Buffer.{Buffer}
@@ -7,10 +7,10 @@ use Rattle.shape_buffer.specs.Items.{Item, char_of}
 use Rattle.shape_buffer.specs.Recompose.{is_blocked_by_last, join_with_glyph, recomposed}
 use Rattle.shape_buffer.specs.Unicode.{LawfulUnicode, is_mark}
 use Rattle.shape_pipeline.specs.Prepared.{IsPreparedItem}
-use Rattle.shape_pipeline.specs.RoundOne.{part_item}
 use Rattle.shape_pipeline.specs.RoundThree.{Placed, placed, class_of_placed, is_mark_placed, join_placed, recomposed_items, joined_spans, spans_merged_out, with_cluster_at, round_three}
 use Rattle.shape_pipeline.specs.Rules.{Rules, has_glyph}
 use Rattle.shape_pipeline.proofs.PreparedLemmas.{ArePrepared, prepared-part}
+use Rattle.shape_pipeline.proofs.RoundThreeLemmas.{joined_to, joined_is}
 
 abbrev char_of_placed : Placed → ℕ
 char_of_placed p = p.item.codepoint
@@ -35,21 +35,12 @@ module _ (rules : Rules) (lawful : LawfulUnicode rules.unicode) where
   join_chars = join_with_glyph rules.join (has_glyph rules.glyph)
 
   -- a starter that takes another character takes its properties too
-  abbrev joined_placed : Placed → Placed → ℕ → Placed
-  joined_placed starter mark c = record {
-    item = part_item rules.unicode rules.glyph starter.item c;
-    place = starter.place;
-    joined = starter.joined ++ record { place = mark.place; char = c } ∷ [];
-  }
-
-  prepared-some : (starter mark d : Placed) (found : Option ℕ) → option_map (joined_placed starter mark) found ≡ Some d → IsPreparedPlaced d
-  prepared-some starter mark d None made = cc
-  prepared-some starter mark d (Some c) made = let is : joined_placed starter mark c ≡ d = cc in subst IsPreparedPlaced is (prepared-part rules lawful starter.item c)
-
   prepared-joined : (starter mark d : Placed) → join_placed rules starter mark ≡ Some d → IsPreparedPlaced d
-  prepared-joined starter mark d made = prepared-some starter mark d (join_chars starter.item.codepoint mark.item.codepoint) made
+  prepared-joined starter mark d made =
+      let at = joined_is rules starter mark d made in
+      subst IsPreparedPlaced (sym at.2) (prepared-part rules lawful starter.item at.0)
 
-  same_char : (starter mark : Placed) (found : Option ℕ) → found ≡ option_map char_of_placed (option_map (joined_placed starter mark) found)
+  same_char : (starter mark : Placed) (found : Option ℕ) → found ≡ option_map char_of_placed (option_map (joined_to rules starter mark) found)
   same_char starter mark None = refl
   same_char starter mark (Some c) = refl
 

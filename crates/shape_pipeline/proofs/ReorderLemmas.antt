@@ -1,24 +1,15 @@
 -- Putting a range in another order, step by step: what it keeps.
-use Rattle.std.proofs.Common.{◌≡◌, ℕ, ◌+◌, ◌-◌, ◌<◌, ◌≤◌, List, [], ◌∷◌, map, take, drop, length, get_or, set, slice_range, bit_and, nat_lt, inl, inr, Option, Some, refl, sym, ap, ap₂, ◌∙◌, arith}
+use Rattle.std.proofs.Common.{◌≡◌, ℕ, ◌+◌, ◌-◌, ◌<◌, ◌≤◌, List, [], ◌∷◌, map, take, drop, length, get_or, set, slice_range, Option, Some, refl, sym, ap, ap₂, ◌∙◌, arith}
 use Rattle.std.proofs.Math.Seq.{take-set-lt}
-use Rattle.std.proofs.lemmas.Bool.{cases_Bool}
 use Rattle.std.proofs.lemmas.List.{take-map, drop-map, take-set-le, drop-set-lt, drop-set-add, get_or-take, get_or-drop, length-take-le, length-drop}
 use Rattle.std.proofs.lemmas.List.Edits.{swap_is, length-swap, split_between}
-use Rattle.std.proofs.lemmas.List.Sorted.{IsPermutation-refl, IsPermutation-sym, IsPermutation-trans, IsPermutation-swap, IsPermutation-map, IsPermutation-append_left, IsPermutation-append_right, Contains-permutation, list_any-IsPermutation}
-use Rattle.std.proofs.lemmas.Nat.{and_or_apart}
-use Rattle.std.specs.Prelude.{Contains}
+use Rattle.std.proofs.lemmas.List.Sorted.{IsPermutation-refl, IsPermutation-trans, IsPermutation-swap, IsPermutation-map, IsPermutation-append_left, IsPermutation-append_right}
 use Rattle.std.specs.List.{swap}
 use Rattle.std.specs.List.Sorted.{IsPermutation}
-use Rattle.shape_buffer.specs.Buffer.{Buffer, cleared}
-use Rattle.shape_buffer.specs.BufferClusters.{merge_clusters, merge_at, unsafe_to_break}
-use Rattle.shape_buffer.specs.Clusters.{clusters}
+use Rattle.shape_buffer.specs.Buffer.{Buffer}
+use Rattle.shape_buffer.specs.BufferClusters.{merge_clusters}
 use Rattle.shape_buffer.specs.Items.{Item, class_of_item}
-use Rattle.shape_buffer.specs.KeepsFlags.{has_flag, KeepsFlags}
-use Rattle.shape_buffer.specs.declared.buffer.settings.BufferClusterLevel.{BufferClusterLevel}
-use Rattle.shape_buffer.specs.declared.buffer.settings.BufferClusterLevel.TheVariants.{MonotoneGraphemes, MonotoneCharacters, Characters}
-use Rattle.shape_buffer.proofs.DeleteKeeps.{merge_clusters_draws, draws_keeps}
-use Rattle.shape_buffer.proofs.FlagLemmas.{KeepsFlags-items, KeepsFlags-same, KeepsFlags-then, merge_clusters_keeps}
-use Rattle.shape_buffer.proofs.KeyLemmas.{IsKey, IsKey-class, keys-merge_clusters}
+use Rattle.shape_buffer.proofs.KeyLemmas.{IsKey, IsKey-class, keys-merge_clusters, without_items, without_items-merge_clusters}
 use Rattle.shape_pipeline.specs.Reorder.{exchanged, Reorders, done, exchange, merge, ReordersRanges}
 use Rattle.shape_pipeline.proofs.SpanLemmas.{length-map-same, map-slice_range}
 
@@ -112,37 +103,8 @@ module _ {X : Type 0} where
 
 -- ---- what merging keeps
 
--- the buffer but for its items and its scratch flags
-abbrev pub without_items : Buffer → Buffer
-without_items b = record b { items = []; scratch_flags = record { 0 = 0 } }
-
 pub length-merge_clusters : (from to : ℕ) (b : Buffer) → length (merge_clusters from to b).items ≡ length b.items
 length-merge_clusters from to b = length-map-same class_of_item _ _ (keys-merge_clusters class_of_item IsKey-class from to b)
-
-without_items-unsafe_to_break : (from to : ℕ) (b : Buffer) → without_items (unsafe_to_break from to b) ≡ without_items b
-without_items-unsafe_to_break from to b =
-    elim (cases_Bool (nat_lt (from + 1) to)) [ inl long ↦ rw long refl | inr short ↦ rw short refl ]
-
-without_items-merge_clusters : (from to : ℕ) (b : Buffer) → without_items (merge_clusters from to b) ≡ without_items b
-without_items-merge_clusters from to b = at_level b.cluster_level
-  where
-    at_level : (level : BufferClusterLevel) → without_items (elim level as (λ v. Buffer) [ MonotoneGraphemes ↦ merge_at from to b | MonotoneCharacters ↦ merge_at from to b | Characters ↦ unsafe_to_break from to b ]) ≡ without_items b
-    at_level MonotoneGraphemes = refl
-    at_level MonotoneCharacters = refl
-    at_level Characters = without_items-unsafe_to_break from to b
-
--- a scratch flag other than "has glyph flags" stays
-flag-unsafe_to_break : (flag from to : ℕ) (b : Buffer) → bit_and 32 flag ≡ 0 → bit_and (unsafe_to_break from to b).scratch_flags.0 flag ≡ bit_and b.scratch_flags.0 flag
-flag-unsafe_to_break flag from to b other =
-    elim (cases_Bool (nat_lt (from + 1) to)) [ inl long ↦ rw long (and_or_apart flag b.scratch_flags.0 32 other) | inr short ↦ rw short refl ]
-
-flag-merge_clusters : (flag from to : ℕ) (b : Buffer) → bit_and 32 flag ≡ 0 → bit_and (merge_clusters from to b).scratch_flags.0 flag ≡ bit_and b.scratch_flags.0 flag
-flag-merge_clusters flag from to b other = at_level b.cluster_level
-  where
-    at_level : (level : BufferClusterLevel) → bit_and (elim level as (λ v. Buffer) [ MonotoneGraphemes ↦ merge_at from to b | MonotoneCharacters ↦ merge_at from to b | Characters ↦ unsafe_to_break from to b ]).scratch_flags.0 flag ≡ bit_and b.scratch_flags.0 flag
-    at_level MonotoneGraphemes = refl
-    at_level MonotoneCharacters = refl
-    at_level Characters = flag-unsafe_to_break flag from to b other
 
 -- ---- what each step keeps holds in the end
 
@@ -170,21 +132,6 @@ module _ (start end : ℕ) (b : Buffer) (within : end ≤ length b.items) where
       (λ x i j low_i high_i low_j high_j inside so_far. so_far)
       (λ x from to ordered inside so_far. without_items-merge_clusters from to x ∙ so_far) steps within refl
 
-  pub flag-Reorders : {c : Buffer} (flag : ℕ) → bit_and 32 flag ≡ 0 → Reorders start end b c → bit_and c.scratch_flags.0 flag ≡ bit_and b.scratch_flags.0 flag
-  flag-Reorders flag other steps =
-      kept_by_steps start end (λ x. bit_and x.scratch_flags.0 flag ≡ bit_and b.scratch_flags.0 flag)
-      (λ x i j low_i high_i low_j high_j inside so_far. so_far)
-      (λ x from to ordered inside so_far. flag-merge_clusters flag from to x other ∙ so_far) steps within refl
-
-  pub cleared-Reorders : {c : Buffer} → Reorders start end b c → cleared c ≡ cleared b
-  cleared-Reorders steps = ap cleared (without_items-Reorders steps)
-
-  pub positions-Reorders : {c : Buffer} → Reorders start end b c → c.positions ≡ b.positions
-  positions-Reorders steps = ap (λ (x : Buffer). x.positions) (without_items-Reorders steps)
-
-  pub level-Reorders : {c : Buffer} → Reorders start end b c → c.cluster_level ≡ b.cluster_level
-  level-Reorders steps = ap (λ (x : Buffer). x.cluster_level) (without_items-Reorders steps)
-
   -- what goes by neither clusters nor the defined flags: before and behind the range it stays, in the range it is permuted
   pub Reorders-permutes : {B : Type 0} (key : Item → B) → IsKey key → {c : Buffer} → Reorders start end b c → PermutesRange start end (map key b.items) (map key c.items)
   Reorders-permutes key is_key steps =
@@ -196,21 +143,3 @@ module _ (start end : ℕ) (b : Buffer) (within : end ≤ length b.items) where
 
   pub keys-Reorders : {B : Type 0} (key : Item → B) → IsKey key → start ≤ end → {c : Buffer} → Reorders start end b c → IsPermutation (map key b.items) (map key c.items)
   keys-Reorders key is_key ordered {c} steps = IsPermutation-range start end (map key b.items) (map key c.items) ordered (Reorders-permutes key is_key steps)
-
-  -- no cluster is new
-  pub clusters-Reorders : {c : Buffer} → Reorders start end b c → (cluster : ℕ) → Contains (clusters c.items) cluster → Contains (clusters b.items) cluster
-  clusters-Reorders steps =
-      kept_by_steps start end (λ x. (cluster : ℕ) → Contains (clusters x.items) cluster → Contains (clusters b.items) cluster)
-      (λ x i j low_i high_i low_j high_j inside so_far cluster there.
-      let moved = IsPermutation-map (λ (item : Item). item.cluster) x.items (swap x.items i j) (IsPermutation-swap x.items (swap x.items i j) i j (omega arith) (omega arith) refl) in
-      so_far cluster (Contains-permutation (clusters (swap x.items i j)) (clusters x.items) cluster (IsPermutation-sym (clusters x.items) (clusters (swap x.items i j)) moved) there))
-      (λ x from to ordered inside so_far cluster there.
-      so_far cluster ((draws_keeps x (merge_clusters from to x) (merge_clusters_draws from to x ordered (omega arith))).none_new cluster there)) steps within (λ cluster there. there)
-
-  pub Reorders-keeps_flags : {c : Buffer} → Reorders start end b c → KeepsFlags b c
-  Reorders-keeps_flags steps =
-      kept_by_steps start end (λ x. KeepsFlags b x)
-      (λ x i j low_i high_i low_j high_j inside so_far.
-      let moved = IsPermutation-swap x.items (swap x.items i j) i j (omega arith) (omega arith) refl in
-      KeepsFlags-then b x (exchanged i j x) so_far (KeepsFlags-items x (swap x.items i j) (λ flag defined some. list_any-IsPermutation (has_flag flag) x.items (swap x.items i j) moved ∙ some)))
-      (λ x from to ordered inside so_far. KeepsFlags-then b x (merge_clusters from to x) so_far (merge_clusters_keeps from to x)) steps within (KeepsFlags-same b)

@@ -7,9 +7,8 @@ use Rattle.std.proofs.lemmas.List.Elements.{All-from_recursion, recursion_from_A
 use Rattle.std.proofs.lemmas.List.Folds.{list_any_none}
 use Rattle.shape_buffer.proofs.ChoiceLemmas.{choice_glyphs}
 use Rattle.shape_buffer.proofs.ExpandedLemmas.{expanded-map}
-use Rattle.shape_buffer.proofs.KeyLemmas.{IsKey, keys-merge_clusters}
+use Rattle.shape_buffer.proofs.KeyLemmas.{IsKey}
 use Rattle.shape_buffer.specs.Buffer.{Buffer}
-use Rattle.shape_buffer.specs.BufferClusters.{merge_clusters}
 use Rattle.shape_buffer.specs.Choice.{HasGlyphOrIs}
 use Rattle.shape_buffer.specs.Expanded.{expanded_in_clusters, expanded_text}
 use Rattle.shape_buffer.specs.Expansion.{choice}
@@ -18,20 +17,17 @@ use Rattle.shape_buffer.specs.Unicode.{is_mark}
 use Rattle.shape_buffer.specs.declared.buffer.settings.GlyphId.{GlyphId}
 use Rattle.shape_pipeline.specs.Normalized.{BroughtInHaveGlyphs}
 use Rattle.shape_pipeline.specs.Prepared.{IsPreparedItem}
-use Rattle.shape_pipeline.specs.RoundOne.{item_glyph, passed_item, part_item, whole_item, remembers_space, expanded_item, expanded, expansion_of, is_selector_item, has_selector, is_with_marks, marked_selector, variant_items, variants, sequences, sequence_items, pairs_from, merged_at, pairs_merged, round_one}
+use Rattle.shape_pipeline.specs.RoundOne.{item_glyph, passed_item, part_item, whole_item, remembers_space, expanded_item, expanded, expansion_of, is_selector_item, is_selector_sequence, is_with_marks, marked_selector, variant_items, variants, sequences, sequence_items, pairs_from, merged_at, pairs_merged, round_one}
 use Rattle.shape_pipeline.specs.Rules.{Rules, face_of, has_glyph}
+use Rattle.shape_pipeline.proofs.SelectorLemmas.{keys-merged_at}
 use Rattle.shape_pipeline.proofs.SequenceLemmas.{each_part, each_of_values, each_value, each_weaker, flat_map_all, flat_map_same, flat_map_parts_all, sequence_becomes, sequences-expanded}
 
 -- ---- merging the pairs
 
 module _ (rules : Rules) where
-  keys-merge_pairs : {B : Type 0} (key : Item → B) → IsKey key → (places : List ℕ) (b : Buffer) → map key (merged_at b places).items ≡ map key b.items
-  keys-merge_pairs key is_key [] b = refl
-  keys-merge_pairs key is_key (place ∷ places) b = keys-merge_pairs key is_key places (merge_clusters place (place + 2) b) ∙ keys-merge_clusters key is_key place (place + 2) b
-
   -- what goes by neither clusters nor the defined flags stays
   pub keys-pairs_merged : {B : Type 0} (key : Item → B) → IsKey key → (b : Buffer) → map key (pairs_merged rules b).items ≡ map key b.items
-  keys-pairs_merged key is_key b = keys-merge_pairs key is_key (pairs_from rules.unicode (face_of rules) 0 (sequences b.items)) b
+  keys-pairs_merged key is_key b = keys-merged_at key is_key b (pairs_from rules.unicode (face_of rules) 0 (sequences b.items))
 
 -- ---- what an item becomes
 
@@ -75,7 +71,7 @@ module _ (rules : Rules) (invisible not_found : Option GlyphId) (P Q : Item → 
 
   sequence_all : (sequence : List Item) → AllByRecursion P sequence → AllByRecursion Q (sequence_items rules invisible not_found sequence)
   sequence_all sequence each =
-      elim (has_selector rules.unicode sequence) as (λ t. AllByRecursion Q (if t then flat_map (variant_items (face_of rules) not_found) (variants rules.unicode sequence) else flat_map (expanded_item rules invisible (rules.short (is_with_marks sequence))) sequence)) [
+      elim (is_selector_sequence rules.unicode sequence) as (λ t. AllByRecursion Q (if t then flat_map (variant_items (face_of rules) not_found) (variants rules.unicode sequence) else flat_map (expanded_item rules invisible (rules.short (is_with_marks sequence))) sequence)) [
         | true ↦ flat_map_parts_all (is_selector_item rules.unicode) P Q (variant_items (face_of rules) not_found) variant_all sequence each
         | false ↦ flat_map_all P Q (expanded_item rules invisible (rules.short (is_with_marks sequence))) (expands (rules.short (is_with_marks sequence))) sequence each
       ]
@@ -123,14 +119,14 @@ module _ (rules : Rules) where
   abbrev pub HasNoSelectorItem : List Item → Type 0
   HasNoSelectorItem items = AllByRecursion (λ item. is_selector_item rules.unicode item ≡ false) items
 
-  has_selector-none : (sequence : List Item) → HasNoSelectorItem sequence → has_selector rules.unicode sequence ≡ false
-  has_selector-none sequence none =
+  is_selector_sequence-none : (sequence : List Item) → HasNoSelectorItem sequence → is_selector_sequence rules.unicode sequence ≡ false
+  is_selector_sequence-none sequence none =
       and_right (is_with_marks sequence) (list_any (is_selector_item rules.unicode) sequence)
       (list_any_none (is_selector_item rules.unicode) sequence (All-from_recursion (λ item. is_selector_item rules.unicode item ≡ false) sequence none))
 
   pairs_from-none : (place : ℕ) (parts : List (List Item)) → AllByRecursion HasNoSelectorItem parts → pairs_from rules.unicode (face_of rules) place parts ≡ []
   pairs_from-none place [] none = refl
-  pairs_from-none place (sequence ∷ parts) none = cond-false _ _ _ (has_selector-none sequence none.0) ∙ pairs_from-none (place + length sequence) parts none.1
+  pairs_from-none place (sequence ∷ parts) none = cond-false _ _ _ (is_selector_sequence-none sequence none.0) ∙ pairs_from-none (place + length sequence) parts none.1
 
   none_by_sequences : (items : List Item) → HasNoSelectorItem items → AllByRecursion HasNoSelectorItem (sequences items)
   none_by_sequences items none = each_part is_mark_item (λ item. is_selector_item rules.unicode item ≡ false) items none
@@ -148,7 +144,7 @@ module _ (rules : Rules) where
   expanded-no_selector invisible not_found items none =
       flat_map_same (sequence_items rules invisible not_found) (sequence_becomes (item_becomes invisible)) (sequences items)
       (each_weaker HasNoSelectorItem (λ sequence. sequence_items rules invisible not_found sequence ≡ sequence_becomes (item_becomes invisible) sequence)
-      (λ sequence free. cond-false _ _ _ (has_selector-none sequence free)) (sequences items) (none_by_sequences items none))
+      (λ sequence free. cond-false _ _ _ (is_selector_sequence-none sequence free)) (sequences items) (none_by_sequences items none))
       ∙ sequences-expanded (item_becomes invisible) items
 
   -- the characters of the expanded list are the choices of those of the list

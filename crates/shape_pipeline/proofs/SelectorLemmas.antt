@@ -1,23 +1,20 @@
 -- Sequences that hold a variation selector, and the items that become one with it.
-use Rattle.std.proofs.Common.{◌≡◌, ℕ, ◌+◌, ◌≤◌, nat_lt, true, false, if◌then◌else◌, is_some, List, [], ◌∷◌, ◌++◌, map, length, sum_by, fold, replicate, refl, sym, ap, ap₂, ◌∙◌, arith, rules, inl, inr}
+use Rattle.std.proofs.Common.{◌≡◌, ℕ, ◌+◌, ◌≤◌, nat_lt, true, false, if◌then◌else◌, is_some, List, [], ◌∷◌, ◌++◌, map, length, sum_by, fold, replicate, refl, sym, ap, ap₂, ◌∙◌, arith, rules}
 use Rattle.std.specs.List.{All}
-use Rattle.std.proofs.lemmas.Bool.{cases_Bool}
 use Rattle.std.proofs.lemmas.List.{length-map}
 use Rattle.std.proofs.lemmas.List.Elements.{All-nil, All-cons, All-append, All-weaker}
 use Rattle.std.proofs.lemmas.List.Sums.{sum_by-cons}
 use Rattle.shape_buffer.specs.Buffer.{Buffer, cleared, limit_of}
-use Rattle.shape_buffer.specs.BufferClusters.{merge_clusters, merge_at, unsafe_to_break}
+use Rattle.shape_buffer.specs.BufferClusters.{merge_clusters}
 use Rattle.shape_buffer.specs.Face.{FaceMeaning}
 use Rattle.shape_buffer.specs.Items.{Item, is_mark_item}
 use Rattle.shape_buffer.specs.Positions.{zero_position}
 use Rattle.shape_buffer.specs.Unicode.{UnicodeMeaning}
 use Rattle.shape_buffer.specs.declared.buffer.flags.ScratchFlags.{ScratchFlags}
-use Rattle.shape_buffer.specs.declared.buffer.settings.BufferClusterLevel.{BufferClusterLevel}
-use Rattle.shape_buffer.specs.declared.buffer.settings.BufferClusterLevel.TheVariants.{MonotoneGraphemes, MonotoneCharacters, Characters}
 use Rattle.shape_buffer.proofs.DividedLemmas.{lengths-divided}
-use Rattle.shape_buffer.proofs.KeyLemmas.{IsKey, keys-merge_clusters}
+use Rattle.shape_buffer.proofs.KeyLemmas.{IsKey, keys-merge_clusters, without_items, without_items-merge_clusters}
 use Rattle.shape_pipeline.specs.Rules.{Rules, face_of}
-use Rattle.shape_pipeline.specs.RoundOne.{is_with_marks, is_selector_item, has_selector, variants, sequences, pair_glyph, pair_places, pairs_from, merged_at, pairs_merged, expanded, seen_sequence, round_one}
+use Rattle.shape_pipeline.specs.RoundOne.{is_with_marks, is_selector_item, is_selector_sequence, variants, sequences, pair_glyph, pair_places, pairs_from, merged_at, pairs_merged, expanded, seen_sequence, round_one}
 
 -- a sequence has marks where it has more than one item
 pub is_with_marks-length : (sequence : List Item) → is_with_marks sequence ≡ nat_lt 1 (length sequence)
@@ -60,7 +57,7 @@ pairs_from-within unicode face place (sequence ∷ rest) =
     let end = place + sum_by length (sequence ∷ rest) in
     let as_long : sum_by length (variants unicode sequence) ≡ length sequence = lengths-divided (is_selector_item unicode) sequence in
     let later : All (IsPairBelow end) more = pairs_below_further _ end (omega (arith, all)) more (pairs_from-within unicode face (place + length sequence) rest) in
-    elim (has_selector unicode sequence) as (λ t. All (IsPairBelow end) (if t then here ++ more else more)) [
+    elim (is_selector_sequence unicode sequence) as (λ t. All (IsPairBelow end) (if t then here ++ more else more)) [
       | true ↦ All-append (IsPairBelow end) here more (pairs_below_further _ end (omega (arith, all, as_long)) here (pair_places-within face place (variants unicode sequence))) later
       | false ↦ later
     ]
@@ -71,26 +68,9 @@ pairs_within unicode face items = pairs_below_further _ (length items) (omega (a
 
 -- ---- merging them
 
--- a buffer without its items and its scratch flags
-abbrev unlisted : Buffer → Buffer
-unlisted b = record b { items = []; scratch_flags = record { 0 = 0 } }
-
-unlisted-unsafe_to_break : (start end : ℕ) (b : Buffer) → unlisted (unsafe_to_break start end b) ≡ unlisted b
-unlisted-unsafe_to_break start end b =
-    elim (cases_Bool (nat_lt (start + 1) end)) [ inl long ↦ rw long refl | inr short ↦ rw short refl ]
-
-unlisted-merge_clusters : (start end : ℕ) (b : Buffer) → unlisted (merge_clusters start end b) ≡ unlisted b
-unlisted-merge_clusters start end b = at_level b.cluster_level
-  where
-    at_level : (level : BufferClusterLevel) → unlisted (elim level as (λ v. Buffer) [ MonotoneGraphemes ↦ merge_at start end b | MonotoneCharacters ↦ merge_at start end b | Characters ↦ unsafe_to_break start end b ]) ≡ unlisted b
-    at_level MonotoneGraphemes = refl
-    at_level MonotoneCharacters = refl
-    at_level Characters = unlisted-unsafe_to_break start end b
-
--- merging changes items and scratch flags alone
-pub unlisted-merged_at : (b : Buffer) (places : List ℕ) → unlisted (merged_at b places) ≡ unlisted b
-unlisted-merged_at b [] = refl
-unlisted-merged_at b (place ∷ places) = unlisted-merged_at (merge_clusters place (place + 2) b) places ∙ unlisted-merge_clusters place (place + 2) b
+pub without_items-merged_at : (b : Buffer) (places : List ℕ) → without_items (merged_at b places) ≡ without_items b
+without_items-merged_at b [] = refl
+without_items-merged_at b (place ∷ places) = without_items-merged_at (merge_clusters place (place + 2) b) places ∙ without_items-merge_clusters place (place + 2) b
 
 pub keys-merged_at : {B : Type 0} (key : Item → B) → IsKey key → (b : Buffer) (places : List ℕ) → map key (merged_at b places).items ≡ map key b.items
 keys-merged_at key is_key b [] = refl
@@ -105,8 +85,8 @@ length-merged_at b places =
 -- ---- round one
 
 module _ (rules : Rules) (b merged : Buffer) (is_merged : merged ≡ pairs_merged rules b) where
-  settings : unlisted merged ≡ unlisted b
-  settings = ap unlisted is_merged ∙ unlisted-merged_at b (pairs_from rules.unicode (face_of rules) 0 (sequences b.items))
+  settings : without_items merged ≡ without_items b
+  settings = ap without_items is_merged ∙ without_items-merged_at b (pairs_from rules.unicode (face_of rules) 0 (sequences b.items))
 
   -- merging keeps the limit, and what clearing keeps
   pub limit-merged : limit_of merged ≡ limit_of b

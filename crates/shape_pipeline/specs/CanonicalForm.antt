@@ -41,19 +41,22 @@ HasNoSelector rules text = All (λ c. rules.unicode.selector c ≡ false) text
 abbrev pub IsSupported : Rules → List ℕ → Type 0
 IsSupported rules text = IsWhollySupported rules.split rules.height rules.unicode.class (has_glyph rules.glyph) max_run text
 
--- what equivalence asks of a shaper and a text: lawful hooks, no variation selector, no hook that reorders, and in the modes that compose no run of more than 32 marks in the expanded list
-pub record TextPremises (rules : Rules) (text expanded : List ℕ) : Type 0 where
+-- what equivalence asks of a shaper and a text: lawful hooks, no variation selector, and no hook that reorders
+pub record TextPremises (rules : Rules) (text : List ℕ) : Type 0 where
   pub lawful_hooks : HasLawfulHooks rules
   pub no_selector : HasNoSelector rules text
   pub no_reordering : rules.reorder ≡ None
-  pub short_runs : rules.recomposes ≡ true → HasNoLongerRun rules.unicode.class max_run expanded
 
 -- what it asks of a buffer: that, and that each item's mark and class are those of its character
 pub record EquivalencePremises (rules : Rules) (b : Buffer) : Type 0 where
-  pub text : TextPremises rules (text_of b) (text_of (round_one rules b))
+  pub text : TextPremises rules (text_of b)
   pub prepared : IsPrepared rules.unicode b.items
 
--- what canonical form asks besides: a mode that decomposes fully, glyphs for all of Full, runs that are short enough, and a mark past the first character
+-- what it asks of the expanded list: no run of more than 32 marks, in the modes that compose
+abbrev pub ComposesShortRuns : Rules → Buffer → Type 0
+ComposesShortRuns rules expanded = rules.recomposes ≡ true → HasNoLongerRun rules.unicode.class max_run (text_of expanded)
+
+-- what canonical form asks of a text in place of the last: a mode that decomposes fully, glyphs for all of Full, runs that are short enough, and a mark past the first character
 pub record CanonicalTextPremises (rules : Rules) (text : List ℕ) : Type 0 where
   pub decomposes_fully : (with_marks : Bool) → rules.short with_marks ≡ false
   pub supported : IsSupported rules text
@@ -87,20 +90,16 @@ pub record CutPremises (rules : Rules) (old front back : Buffer) : Type 0 where
 
 -- normalising leads from the one text to an equivalent one, which is canonical or recomposed of a canonical one, and the same for equivalent texts alone; and it may be done part by part
 pub record NormalizesCanonically (rules : Rules) (old new : Buffer) : Type 0 where
-  pub equivalent : EquivalencePremises rules old → AreEquivalent rules (text_of old) (text_of new)
+  pub equivalent : EquivalencePremises rules old → ComposesShortRuns rules (round_one rules old) → AreEquivalent rules (text_of old) (text_of new)
   pub canonical : rules.recomposes ≡ false → CanonicalFormPremises rules old → HasCanonicalForm rules (text_of new)
   pub recomposed : rules.recomposes ≡ true → CanonicalFormPremises rules old → IsRecomposedForm rules (text_of old) (text_of new)
   pub decides : (other : Buffer) → CanonicalFormPremises rules old → CanonicalFormPremises rules other → (text_of new ≡ text_of (normalized rules other)) ↔ AreEquivalent rules (text_of old) (text_of other)
   pub cuts : (front back : Buffer) → CutPremises rules old front back → text_of new ≡ text_of (normalized rules front) ++ text_of (normalized rules back)
 
--- what shaping asks of a text, whose items it prepares itself
-abbrev pub RunPremises : Rules → Buffer → Type 0
-RunPremises rules b = TextPremises rules (text_of b) (text_of (round_one rules (prepared rules.unicode b)))
-
--- shaping does so too
+-- shaping does so too, and prepares its items itself
 pub record ShapesCanonically (rules : Rules) (old new : Buffer) : Type 0 where
-  pub equivalent : RunPremises rules old → AreEquivalent rules (text_of old) (text_of new)
-  pub canonical : rules.recomposes ≡ false → RunPremises rules old → CanonicalTextPremises rules (text_of old) → HasCanonicalForm rules (text_of new)
-  pub recomposed : rules.recomposes ≡ true → RunPremises rules old → CanonicalTextPremises rules (text_of old) → IsRecomposedForm rules (text_of old) (text_of new)
-  pub decides : (other : Buffer) → RunPremises rules old → CanonicalTextPremises rules (text_of old) → RunPremises rules other → CanonicalTextPremises rules (text_of other)
+  pub equivalent : TextPremises rules (text_of old) → ComposesShortRuns rules (round_one rules (prepared rules.unicode old)) → AreEquivalent rules (text_of old) (text_of new)
+  pub canonical : rules.recomposes ≡ false → TextPremises rules (text_of old) → CanonicalTextPremises rules (text_of old) → HasCanonicalForm rules (text_of new)
+  pub recomposed : rules.recomposes ≡ true → TextPremises rules (text_of old) → CanonicalTextPremises rules (text_of old) → IsRecomposedForm rules (text_of old) (text_of new)
+  pub decides : (other : Buffer) → TextPremises rules (text_of old) → CanonicalTextPremises rules (text_of old) → TextPremises rules (text_of other) → CanonicalTextPremises rules (text_of other)
       → (text_of new ≡ text_of (shaped rules other)) ↔ AreEquivalent rules (text_of old) (text_of other)

@@ -1,12 +1,12 @@
 -- The normalised list.
-use Rattle.std.specs.Prelude.{◌≡◌, ◌⊎◌, ◌&&◌, ℕ, ◌≤◌, true, if◌then◌else◌, List, map, length, All, Contains, Option, None, Some}
+use Rattle.std.specs.Prelude.{◌≡◌, ◌⊎◌, ◌&&◌, ℕ, ◌≤◌, true, false, if◌then◌else◌, List, map, filter, flat_map, length, All, Contains, Option, None, Some}
 use Rattle.shape_buffer.specs.Buffer.{Buffer}
 use Rattle.shape_buffer.specs.Clusters.{clusters}
 use Rattle.shape_buffer.specs.ClusterOrder.{KeepsClusters, IsMonotoneLevel}
-use Rattle.shape_buffer.specs.Items.{Item, char_of}
+use Rattle.shape_buffer.specs.Items.{Item}
 use Rattle.shape_buffer.specs.declared.buffer.settings.GlyphId.{GlyphId}
 use Rattle.shape_pipeline.specs.Rules.{Rules, has_glyph}
-use Rattle.shape_pipeline.specs.RoundOne.{round_one, item_glyph, sequences, has_selector}
+use Rattle.shape_pipeline.specs.RoundOne.{round_one, item_glyph, sequences, sequence_items, is_selector_sequence, pairs_merged}
 use Rattle.shape_pipeline.specs.RoundThree.{round_three}
 use Rattle.shape_pipeline.specs.RoundTwo.{has_mark_past_first, marks_ordered, joiners_settled, OrdersMarks}
 
@@ -30,14 +30,19 @@ HookKeepsClusters rules =
     (reorder : Buffer → ℕ → ℕ → Buffer) → rules.reorder ≡ Some reorder
     → (b : Buffer) (start end : ℕ) → IsMonotoneLevel b.cluster_level → start ≤ end → end ≤ length b.items → KeepsClusters (clusters b.items) (clusters (reorder b start end).items)
 
--- a character of one of these sequences that holds a variation selector
-abbrev pub SomeHoldsSelectorAnd : Rules → ℕ → List (List Item) → Type 0
-SomeHoldsSelectorAnd rules c parts = (sequence : List Item) × Contains parts sequence × (has_selector rules.unicode sequence ≡ true) × Contains (map char_of sequence) c
+-- what the sequences that hold a variation selector become in round one
+abbrev pub selector_items : Rules → Buffer → List Item
+selector_items rules b =
+    flat_map (sequence_items rules b.invisible_glyph b.not_found_variation_selector_glyph) (filter (is_selector_sequence rules.unicode) (sequences (pairs_merged rules b).items))
 
--- each item has the glyph of its character, or what stands in for it; where an item's character stands in a sequence of the text that holds a variation selector, nothing is said
+-- an item but for its cluster, its mask, its hidden bit and the glyph that its index becomes, which later steps change
+abbrev pub content : Item → Item
+content item = record item { cluster = 0; mask = 0; glyph_id = 0; properties = record item.properties { hidden = false } }
+
+-- each item has the glyph of its character, or what stands in for it, but for those that come of sequences with a variation selector
 abbrev pub HasItemGlyph : Rules → Buffer → Item → Type 0
 HasItemGlyph rules old item =
-    (item.glyph_index ≡ item_glyph rules old.invisible_glyph item) ⊎ SomeHoldsSelectorAnd rules item.codepoint (sequences old.items)
+    (item.glyph_index ≡ item_glyph rules old.invisible_glyph item) ⊎ Contains (map content (selector_items rules old)) (content item)
 
 -- the marks of the expanded list were put in order: swaps reach the ordered list, in which each run of at most 32 is in canonical order
 abbrev pub OrdersExpanded : Rules → Buffer → Type 0

@@ -151,15 +151,15 @@ is_with_marks (x ∷ []) = false
 is_with_marks (x ∷ y ∷ rest) = true
 
 -- a sequence that is not expanded: one with marks that holds a variation selector
-abbrev pub has_selector : UnicodeMeaning → List Item → Bool
-has_selector unicode sequence = is_with_marks sequence && list_any (is_selector_item unicode) sequence
+abbrev pub is_selector_sequence : UnicodeMeaning → List Item → Bool
+is_selector_sequence unicode sequence = is_with_marks sequence && list_any (is_selector_item unicode) sequence
 
 -- the places of the items that become one with the selector behind them, in sequences that begin at this place
 abbrev pub pairs_from : UnicodeMeaning → FaceMeaning → ℕ → List (List Item) → List ℕ
 pairs_from unicode face place [] = []
 pairs_from unicode face place (sequence ∷ rest) =
     let later = pairs_from unicode face (place + length sequence) rest in
-    if has_selector unicode sequence then pair_places face place (variants unicode sequence) ++ later else later
+    if is_selector_sequence unicode sequence then pair_places face place (variants unicode sequence) ++ later else later
 
 -- the buffer with the clusters of such items merged, each with its selector, from left to right
 abbrev pub merged_at : Buffer → List ℕ → Buffer
@@ -170,12 +170,12 @@ merged_at b places = fold (λ b place. merge_clusters place (place + 2) b) b pla
 -- what a sequence becomes
 abbrev pub sequence_items : Rules → Option GlyphId → Option GlyphId → List Item → List Item
 sequence_items rules invisible not_found sequence =
-    if has_selector rules.unicode sequence then flat_map (variant_items (face_of rules) not_found) (variants rules.unicode sequence)
+    if is_selector_sequence rules.unicode sequence then flat_map (variant_items (face_of rules) not_found) (variants rules.unicode sequence)
     else flat_map (expanded_item rules invisible (rules.short (is_with_marks sequence))) sequence
 
 abbrev pub seen_sequence : Rules → Option GlyphId → ScratchFlags → List Item → ScratchFlags
 seen_sequence rules invisible flags sequence =
-    if has_selector rules.unicode sequence then fold (seen_variant (face_of rules)) flags (variants rules.unicode sequence)
+    if is_selector_sequence rules.unicode sequence then fold (seen_variant (face_of rules)) flags (variants rules.unicode sequence)
     else fold (seen_expanded rules invisible (rules.short (is_with_marks sequence))) flags sequence
 
 -- two items that become one are merged first, from left to right; that this is done before the walk changes nothing, since the selector that goes is next to its item and in one cluster with it, so that a merge grows over both or neither

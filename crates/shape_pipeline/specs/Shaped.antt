@@ -1,5 +1,5 @@
 -- What a run makes of a text, as far as its steps are built.
-use Rattle.std.specs.Prelude.{◌≡◌, ℕ, [], ◌∷◌, Some, length}
+use Rattle.std.specs.Prelude.{◌≡◌, [], ◌∷◌, Some, length}
 use Rattle.shape_buffer.specs.Buffer.{Buffer, run_limit}
 use Rattle.shape_buffer.specs.Guess.{guessed}
 use Rattle.shape_buffer.specs.Items.{Item}
@@ -23,6 +23,6 @@ shaped rules b = elim b.items [
   | _ ∷ _ ↦ glyphs_mapped (normalized rules (prepared rules.unicode b))
 ]
 
--- an item that is handed out: its glyph is its index, which is that of its character or what stands in for it
+-- an item that is handed out: its glyph is its index, which is that of its character or what stands in for it, but for those that come of sequences with a variation selector
 abbrev pub IsHandedOut : Rules → Buffer → Item → Type 0
 IsHandedOut rules text item = (item.glyph_id ≡ item.glyph_index) × HasItemGlyph rules (prepared rules.unicode text) item

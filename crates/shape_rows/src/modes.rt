@@ -102,7 +102,12 @@ fn a_selector_takes_part_in_the_choice_of_a_glyph(rt: HostRuntime) -> Result<(),
     let alloc = rt.alloc();
     let text = ['a', '\u{FE00}', '\u{FE01}', 'a', '\u{FE01}', 'b'];
     let mut buffer = prepared(alloc, &text)?;
-    normalize(alloc, &VariantFace(&['a', 'b']), &DEFAULT_SHAPER, &mut buffer)?;
+    normalize(
+        alloc,
+        &VariantFace(&['a', 'b']),
+        &DEFAULT_SHAPER,
+        &mut buffer,
+    )?;
     assert_items(
         &rt,
         &buffer,
@@ -140,7 +145,11 @@ fn a_selector_without_a_variant_is_marked(rt: HostRuntime) -> Result<(), Fail> {
         &buffer,
         &[('a', 0x61, 0), ('\u{FE00}', 0, 1), ('\u{FE01}', 0, 2)],
     );
-    assert_selectors(&rt, &buffer, &[(false, false), (true, false), (false, true)]);
+    assert_selectors(
+        &rt,
+        &buffer,
+        &[(false, false), (true, false), (false, true)],
+    );
     Ok(())
 }
 
@@ -166,11 +175,23 @@ fn spaces_without_a_glyph(rt: HostRuntime) -> Result<(), Fail> {
     let alloc = rt.alloc();
     let (none, space) = (FaceOf(&[]), FaceOf(&[' ']));
     let invisible = Some(GlyphId(5));
-    assert_eq!(rt; space_of(alloc, &space, None, '\u{2003}')?, (0x20, SPACE_EM, true));
-    assert_eq!(rt; space_of(alloc, &space, invisible, '\u{2007}')?, (0x20, SPACE_FIGURE, true));
-    assert_eq!(rt; space_of(alloc, &none, invisible, '\u{2003}')?, (5, SPACE_EM, true));
+    assert_eq!(rt;
+        space_of(alloc, &space, None, '\u{2003}')?,
+        (0x20, SPACE_EM, true)
+    );
+    assert_eq!(rt;
+        space_of(alloc, &space, invisible, '\u{2007}')?,
+        (0x20, SPACE_FIGURE, true)
+    );
+    assert_eq!(rt;
+        space_of(alloc, &none, invisible, '\u{2003}')?,
+        (5, SPACE_EM, true)
+    );
     assert_eq!(rt; space_of(alloc, &none, None, '\u{2003}')?, (0, 0, false));
-    assert_eq!(rt; space_of(alloc, &FaceOf(&['\u{2003}']), None, '\u{2003}')?, (0x2003, 0, false));
+    assert_eq!(rt;
+        space_of(alloc, &FaceOf(&['\u{2003}']), None, '\u{2003}')?,
+        (0x2003, 0, false)
+    );
     Ok(())
 }
 

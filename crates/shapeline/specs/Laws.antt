@@ -3,11 +3,12 @@ use Rattle.std.specs.Prelude.{◌≡◌, ◌≢◌, ℕ, ◌<◌, ◌⊎◌, ◌
 use Rattle.std.specs.List.{find, list_all}
 use Rattle.std.specs.Option.{option_map}
 use Rattle.std.proofs.Common.{cond, inl, inr, ap, sym, ◌∙◌, arith, subst}
+use Rattle.std.proofs.lemmas.Bool.{and_parts, or_cases}
 use Rattle.std.proofs.lemmas.Bool.Decides.{nat_tests}
 use Rattle.std.proofs.lemmas.List.{append_assoc}
 use Rattle.unicode.specs.GeneralCategory.{general_category}
 use Rattle.shape_buffer.specs.Category.{is_mark_category}
-use Rattle.shape_buffer.specs.Chain.{kept, full, full_text}
+use Rattle.shape_buffer.specs.Chain.{kept_part, full, full_text}
 use Rattle.shape_buffer.specs.Order.{Swaps, done}
 use Rattle.shape_buffer.specs.Equivalent.{ComposesSoundly}
 use Rattle.shape_buffer.specs.Unicode.{LawfulUnicode, SplitsFall}
@@ -22,19 +23,11 @@ use Rattle.shapeline.specs.declared.unicode_tables.split.TheConstants.{SPLITS}
 use Rattle.shapeline.specs.declared.unicode_tables.join.TheConstants.{COMPOSITES}
 use Rattle.shape_buffer.proofs.ChainLemmas.{full-stays, full-splits}
 
-true_and : (a b : Bool) → (a && b) ≡ true → (a ≡ true) × (b ≡ true)
-true_and true b h = (refl, h)
-true_and false b h = cc
-
-or_cases : (a b : Bool) → (a || b) ≡ true → (a ≡ true) ⊎ (b ≡ true)
-or_cases true b h = inl refl
-or_cases false b h = inr h
-
 -- what is found passes each test that the whole list passes
 found_passes : {X : Type 0} (p test : X → Bool) (xs : List X) (x : X) → list_all test xs ≡ true → find p xs ≡ Some x → (p x ≡ true) × (test x ≡ true)
 found_passes p test [] x all found = cc
 found_passes p test (y ∷ ys) x all found =
-    let both = true_and (test y) (list_all test ys) all in
+    let both = and_parts (test y) (list_all test ys) all in
     let P : Bool → Type 0 = λ b. p y ≡ b → cond b (Some y) (find p ys) ≡ Some x → (p x ≡ true) × (test x ≡ true) in
     let cases : P (p y) = elim (p y) as P [
       | true ↦ λ e h. let same_item : y ≡ x = cc in (subst (λ z. p z ≡ true) same_item e, subst (λ z. test z ≡ true) same_item both.0)
@@ -122,11 +115,11 @@ class_of_parts all c a b nonzero splits =
     let cases = split_of_cases c a b splits in
     let kept_marks : (is_marked a && (b == 0 || is_marked b)) ≡ true =
     elim (or_cases (is_marked a && (b == 0 || is_marked b)) (not (is_marked c)) cases.1) [ inl h ↦ h | inr h ↦ let e : is_marked c ≡ true = was.0 in absurd (grind (arith, nat_tests, h, e)) ] in
-    let marks = true_and (is_marked a) (b == 0 || is_marked b) kept_marks in
+    let marks = and_parts (is_marked a) (b == 0 || is_marked b) kept_marks in
     let test = split_passes keeps_class all c a b cases.0 in
     let same_classes : (class_in_table a == class_in_table c && (b == 0 || class_in_table b == class_in_table c)) ≡ true =
     elim (or_cases (class_in_table c == 0) (class_in_table a == class_in_table c && (b == 0 || class_in_table b == class_in_table c)) test) [ inl h ↦ absurd (nonzero (was.1 ∙ grind (arith, nat_tests, h))) | inr h ↦ h ] in
-    let classes = true_and (class_in_table a == class_in_table c) (b == 0 || class_in_table b == class_in_table c) same_classes in
+    let classes = and_parts (class_in_table a == class_in_table c) (b == 0 || class_in_table b == class_in_table c) same_classes in
     let first : class_in_table a ≡ class_in_table c = grind (arith, nat_tests, classes.0) in (
       class_of_mark a marks.0 ∙ first ∙ sym was.1,
       elim (or_cases (b == 0) (class_in_table b == class_in_table c) classes.1) [
@@ -172,7 +165,7 @@ join_of_cases a b c joined =
 split_into : (a b : ℕ) (o : Option (ℕ × ℕ)) → is_split_into a b o ≡ true → o ≡ Some (a, b)
 split_into a b None h = cc
 split_into a b (Some parts) h =
-    let both = true_and (parts.0 == a) (parts.1 == b) h in
+    let both = and_parts (parts.0 == a) (parts.1 == b) h in
     let first : parts.0 ≡ a = grind (arith, nat_tests, both.0) in
     let second : parts.1 ≡ b = grind (arith, nat_tests, both.1) in
     ap Some (ap (λ x. (x, parts.1)) first ∙ ap (λ y. (a, y)) second)
@@ -190,15 +183,15 @@ joined_second all a b c joined =
       | None ↦ λ e h. cc
       | Some entry ↦ λ e h zero_second.
           let passes = found_passes is_key has_two_parts COMPOSITES entry all e in
-          let key = true_and (entry.0 == a) (entry.1 == b) passes.0 in
+          let key = and_parts (entry.0 == a) (entry.1 == b) passes.0 in
           let second : entry.1 ≡ b = grind (arith, nat_tests, key.1) in
           let nonzero = passes.1 in
           grind (arith, nat_tests)
     ] in
     cases refl joined
 
-kept_nonzero : (b : ℕ) → b ≢ 0 → kept b ≡ b ∷ []
-kept_nonzero b nonzero = let e : (b == 0) ≡ false = grind (arith, nat_tests) in ap (λ t. cond t [] (b ∷ [])) e
+kept_part_nonzero : (b : ℕ) → b ≢ 0 → kept_part b ≡ b ∷ []
+kept_part_nonzero b nonzero = let e : (b == 0) ≡ false = grind (arith, nat_tests) in ap (λ t. cond t [] (b ∷ [])) e
 
 -- Full of the composite is Full of the first part, and then the second part, which is its own Full
 full_of_join : SplitsFall split_of height_of class_of → list_all has_two_parts COMPOSITES ≡ true → (a b c : ℕ) → join_of a b ≡ Some c
@@ -208,7 +201,7 @@ full_of_join falling all a b c joined =
     let splits : split_of c ≡ Some (a, b) = split_into a b (split_of c) cases.1 in
     let nonzero : b ≢ 0 = joined_second all a b c cases.0 in
     let last : split_of b ≡ None = elim (falling.second_is_last c a b splits) [ inl z ↦ absurd (nonzero z) | inr h ↦ h ] in
-    let second : kept b ≡ full split_of height_of b = kept_nonzero b nonzero ∙ sym (full-stays split_of height_of falling.height_falls b last) in
+    let second : kept_part b ≡ full split_of height_of b = kept_part_nonzero b nonzero ∙ sym (full-stays split_of height_of falling.height_falls b last) in
     full-splits split_of height_of falling.height_falls c a b splits ∙ ap (λ xs. full split_of height_of a ++ xs) second
 
 composes_soundly : SplitsFall split_of height_of class_of → list_all has_two_parts COMPOSITES ≡ true → ComposesSoundly split_of height_of class_of join_of

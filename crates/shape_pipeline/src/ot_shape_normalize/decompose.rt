@@ -5,7 +5,7 @@
 ghost use Rattle.std.specs.Prelude.{◌≡◌, [], ◌∷◌, ◌++◌, reverse, take, IfOk, Ok, true, false};
 ghost use Rattle.std.specs.List.{list_all};
 ghost use Rattle.std.specs.Option.{option_map};
-ghost use Rattle.shape_buffer.specs.Chain.{kept};
+ghost use Rattle.shape_buffer.specs.Chain.{kept_part};
 ghost use Rattle.shape_buffer.specs.Expansion.{chosen_expansion};
 ghost use Rattle.shape_pipeline.specs.Plan.{hooks_of};
 ghost use Rattle.shape_pipeline.specs.Rules.{used_split, used_height, has_glyph};
@@ -43,8 +43,8 @@ where
 
 /// Keeps a second part, unless it is U+0000, and says whether the face has a glyph for it.
 fn keep_second<F: hb_font_t>(face: &F, b: char, seconds: &mut Vec<char>) -> Result<bool, AllocError>
-    ensures test { IfOk result (λ t. t ≡ list_all (has_glyph (F.face face.now).nominal_glyph) (kept b)) }
-    ensures kept { result ≡ Ok true → seconds.new.items ≡ seconds.old.items ++ kept b }
+    ensures test { IfOk result (λ t. t ≡ list_all (has_glyph (F.face face.now).nominal_glyph) (kept_part b)) }
+    ensures kept { result ≡ Ok true → seconds.new.items ≡ seconds.old.items ++ kept_part b }
     ensures same { result ≡ Ok false → seconds.new.items ≡ seconds.old.items }
 {
     if b == '\0' {

@@ -20,8 +20,8 @@ pub const HB_OT_SHAPE_NORMALIZATION_MODE_DECOMPOSED: hb_ot_shape_normalization_m
 pub const HB_OT_SHAPE_NORMALIZATION_MODE_COMPOSED_DIACRITICS: hb_ot_shape_normalization_mode_t = 2;
 
 /// Every character is expanded as far as the face allows, and marks are composed with their starters again.
-pub const HB_OT_SHAPE_NORMALIZATION_MODE_COMPOSED_DIACRITICS_NO_SHORT_CIRCUIT:
-    hb_ot_shape_normalization_mode_t = 3;
+pub const HB_OT_SHAPE_NORMALIZATION_MODE_COMPOSED_DIACRITICS_NO_SHORT_CIRCUIT: hb_ot_shape_normalization_mode_t =
+    3;
 
 /// As [`HB_OT_SHAPE_NORMALIZATION_MODE_COMPOSED_DIACRITICS`].
 pub const HB_OT_SHAPE_NORMALIZATION_MODE_AUTO: hb_ot_shape_normalization_mode_t = 4;

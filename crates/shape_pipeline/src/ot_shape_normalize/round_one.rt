@@ -18,7 +18,7 @@ use crate::ot_shape_normalize::mode::goes_short;
 use crate::ot_shape_normalize::round_one::expanded::Expanded;
 use crate::ot_shape_normalize::round_one::pairs::merge_pairs;
 use crate::ot_shape_normalize::round_one::sequences::{
-    first_sequence, has_selector, is_with_marks,
+    first_sequence, is_selector_sequence, is_with_marks,
 };
 use crate::ot_shape_plan::hb_ot_shape_plan_t;
 use crate::ot_shaper::hb_ot_shaper_t;
@@ -87,7 +87,7 @@ impl Expanded {
             (rules_of U.unicode S.constants S.hooks S.reordered F.face plan.now face.now)
             buffer.now.invisible_glyph buffer.now.not_found_variation_selector_glyph sequence.now) }
     {
-        if has_selector::<U>(sequence) {
+        if is_selector_sequence::<U>(sequence) {
             return self.put_variants::<U, F>(face, buffer, sequence);
         }
         let shortest = goes_short::<U, F, M, S>(plan, is_with_marks(sequence));

@@ -1,4 +1,4 @@
-use Rattle.std.proofs.Common.{◌∙◌, arith}
+use Rattle.std.proofs.Common.{arith}
 use Rattle.std.proofs.lemmas.Result.{on_ok_weaker}
 use Rattle.shape_pipeline.specs.Normalized.{HasItemGlyph}
 use Rattle.shape_pipeline.specs.Rules.{rules_of}

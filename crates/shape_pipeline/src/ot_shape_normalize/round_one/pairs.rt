@@ -3,7 +3,7 @@ ghost use Rattle.std.specs.Prelude.{◌≡◌, ◌+◌, ◌<◌, ◌^◌, ◌++�
 ghost use Rattle.shape_pipeline.specs.RoundOne.{merged_at, pair_glyph as pair_glyph_of, pair_places, pairs_from, sequences, variants};
 
 use crate::ot_shape_normalize::round_one::sequences::{
-    first_sequence, first_variant, has_selector,
+    first_sequence, first_variant, is_selector_sequence,
 };
 use shape_buffer::buffer::{GlyphId, hb_buffer_t, hb_glyph_info_t};
 use shape_buffer::interfaces::{hb_font_t, hb_unicode_funcs_t};
@@ -54,7 +54,7 @@ fn pairs<U: hb_unicode_funcs_t, F: hb_font_t>(
     let mut place = 0;
     let mut rest = infos;
     'sequences: while let Some((sequence, behind)) = first_sequence(rest) {
-        if has_selector::<U>(sequence) {
+        if is_selector_sequence::<U>(sequence) {
             push_pairs::<U, F>(face, place, sequence, &mut places)?;
         }
         place += sequence.len();

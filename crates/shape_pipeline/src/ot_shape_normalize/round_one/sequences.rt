@@ -3,7 +3,7 @@ ghost use Rattle.std.specs.Prelude.{◌≡◌, ◌≤◌, [], length, MatchOptio
 ghost use Rattle.std.specs.List.{list_any, prefix_len};
 ghost use Rattle.shape_buffer.specs.Divided.{IsFirstPart};
 ghost use Rattle.shape_buffer.specs.Items.{is_mark_item};
-ghost use Rattle.shape_pipeline.specs.RoundOne.{has_selector as has_selector_of, is_selector_item, is_with_marks as is_with_marks_of};
+ghost use Rattle.shape_pipeline.specs.RoundOne.{is_selector_sequence as is_selector_sequence_of, is_selector_item, is_with_marks as is_with_marks_of};
 
 use shape_buffer::buffer::hb_glyph_info_t;
 use shape_buffer::interfaces::hb_unicode_funcs_t;
@@ -69,8 +69,8 @@ fn holds_selector<U: hb_unicode_funcs_t>(infos: &[hb_glyph_info_t]) -> bool
 }
 
 /// Whether a sequence isn't expanded: it has marks and holds a variation selector.
-pub(super) fn has_selector<U: hb_unicode_funcs_t>(sequence: &[hb_glyph_info_t]) -> bool
-    ensures { result ≡ has_selector_of U.unicode sequence.now }
+pub(super) fn is_selector_sequence<U: hb_unicode_funcs_t>(sequence: &[hb_glyph_info_t]) -> bool
+    ensures { result ≡ is_selector_sequence_of U.unicode sequence.now }
 {
     is_with_marks(sequence) && holds_selector::<U>(sequence)
 }

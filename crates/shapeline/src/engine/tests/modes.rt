@@ -59,18 +59,14 @@ fn no_mark_past_first_compared(rt: HostRuntime) {
         b"mode 1\nglyph 5E9 1 500\nglyph 5BC 2 0\nglyph 5C1 3 0\nglyph 323 4 0\n",
         &[
             (b"same FB2C / 05E9 05BC 05C1\n", b"same no\n"),
-            (
-                b"same FB2C 0323 / 05E9 05BC 05C1 0323\n",
-                b"same yes\n",
-            ),
+            (b"same FB2C 0323 / 05E9 05BC 05C1 0323\n", b"same yes\n"),
             (b"same /\nsame 5E9 /\n", b"same yes\nsame no\n"),
         ],
     );
 }
 
 /// A level that keeps graphemes apart, and a face for U+00E9 with a dot below in each spelling.
-const SPELLINGS: &[u8] =
-    b"level 1\nglyph 65 1 600\nglyph 301 2 0\nglyph 323 3 0\nglyph E9 4 600\n";
+const SPELLINGS: &[u8] = b"level 1\nglyph 65 1 600\nglyph 301 2 0\nglyph 323 3 0\nglyph E9 4 600\n";
 
 #[test]
 fn three_spellings(rt: HostRuntime) {
@@ -87,9 +83,18 @@ fn three_spellings(rt: HostRuntime) {
                 b"glyph 1EB9 5 600\nmode 3\nsame E9 323 / 65 301 323\nsame 1EB9 301 / E9 323\nsame E9 / E9 323\n",
                 b"same yes\nsame yes\nsame no\n",
             ),
-            (b"glyph 1EB9 5 600\nmode 0\ntext E9 323\n", b"normal 00E9@0 0323@2\n"),
-            (b"glyph 1EB9 5 600\nmode 2\ntext E9 323\n", b"normal 1EB9@0 0301@0\n"),
-            (b"glyph 1EB9 5 600\ntext E9 323\n", b"normal 1EB9@0 0301@0\n"),
+            (
+                b"glyph 1EB9 5 600\nmode 0\ntext E9 323\n",
+                b"normal 00E9@0 0323@2\n",
+            ),
+            (
+                b"glyph 1EB9 5 600\nmode 2\ntext E9 323\n",
+                b"normal 1EB9@0 0301@0\n",
+            ),
+            (
+                b"glyph 1EB9 5 600\ntext E9 323\n",
+                b"normal 1EB9@0 0301@0\n",
+            ),
             // At this level nothing is merged.
             (
                 b"glyph 1EB9 5 600\nlevel 2\ntext 65 301 323\n",
@@ -159,10 +164,7 @@ fn spaces_and_hyphens_keep_their_characters(rt: HostRuntime) {
                 b"text 61 2003\ntext 2007\ntext 2011\n",
                 b"normal 0061@0 2003@1\nnormal 2007@0\nnormal 2011@0\n",
             ),
-            (
-                b"text 61 FE00 FE01\n",
-                b"normal 0061@0 FE00@1 FE01@4\n",
-            ),
+            (b"text 61 FE00 FE01\n", b"normal 0061@0 FE00@1 FE01@4\n"),
         ],
     );
 }

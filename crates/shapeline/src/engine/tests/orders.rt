@@ -88,12 +88,7 @@ fn glyphs_of(alloc: Global, text: &[char]) -> Result<GlyphBuffer, Fail> {
         buffer.add(*c, place)?;
         place = place.saturating_add(1);
     }
-    Ok(shaped(
-        alloc,
-        &Face::new(alloc, 1000),
-        Mode::Decomposed,
-        buffer,
-    )?)
+    Ok(shaped(alloc, &Face::new(alloc, 1000), Mode::Decomposed, buffer)?)
 }
 
 /// Compares characters and clusters.

@@ -1,7 +1,7 @@
 use Rattle.std.proofs.Common.{◌≡◌, ℕ, ◌≤◌, true, false, Option, None, Some, Ok, sym, ◌∙◌, ap, length, ◌++◌, arith, IfSome}
 use Rattle.std.proofs.lemmas.List.{length-append}
 use Rattle.std.specs.List.{list_all}
-use Rattle.shape_buffer.specs.Chain.{kept}
+use Rattle.shape_buffer.specs.Chain.{kept_part}
 use Rattle.shape_buffer.proofs.ShortestWalkLemmas.{sought_ended, sought_first, sought_found, sought_passed, sought_broken}
 use Rattle.shape_pipeline.specs.Rules.{rules_of, has_glyph}
 use Rattle.shape_pipeline.proofs.RulesLemmas.{FallsAlong-planned}
@@ -15,8 +15,8 @@ chain-preserved-else-shortest-2 g c =
     let shaper = g.S.hb_ot_shaper_t in
     let rules = rules_of g.U.hb_unicode_funcs_t.unicode shaper.constants shaper.hooks shaper.reordered g.F.hb_font_t.face c.args.plan.now c.args.face.now in
     let falls = FallsAlong-planned g.met.U.hb_unicode_funcs_t.lawful shaper.constants.has_decompose shaper.hooks g.met.S.hb_ot_shaper_t.lawful_hooks c.args.plan.now c.args.face.now in
-    let grown : c.keep_second.new.seconds.items ≡ c.chain.seconds.items ++ kept c.in-Some.b = c.in_ok-keep_second.ensures.kept (ap Ok c.if-not-branch.false) in
-    let kept_b : true ≡ list_all (has_glyph rules.glyph) (kept c.in-Some.b) = sym c.if-not-branch.false ∙ c.in_ok-keep_second.ensures.test in
+    let grown : c.keep_second.new.seconds.items ≡ c.chain.seconds.items ++ kept_part c.in-Some.b = c.in_ok-keep_second.ensures.kept (ap Ok c.if-not-branch.false) in
+    let kept_b : true ≡ list_all (has_glyph rules.glyph) (kept_part c.in-Some.b) = sym c.if-not-branch.false ∙ c.in_ok-keep_second.ensures.test in
     record {
       walk = sought_found rules.split (has_glyph rules.glyph) rules.height falls c.args.shortest _ _ _ _ _ c.chain.point _ _ c.if-shortest-2.false c.chain.invariant.walk c.in-Some.ensures kept_b grown c.if-has_glyph-2.ensures (omega (arith, c.keep_second.new.seconds.ok.0));
       within = omega (arith, c.keep_second.new.seconds.ok.0);
@@ -27,8 +27,8 @@ returns-then-shortest-2 g c =
     let shaper = g.S.hb_ot_shaper_t in
     let rules = rules_of g.U.hb_unicode_funcs_t.unicode shaper.constants shaper.hooks shaper.reordered g.F.hb_font_t.face c.args.plan.now c.args.face.now in
     let falls = FallsAlong-planned g.met.U.hb_unicode_funcs_t.lawful shaper.constants.has_decompose shaper.hooks g.met.S.hb_ot_shaper_t.lawful_hooks c.args.plan.now c.args.face.now in
-    let grown : c.keep_second.new.seconds.items ≡ c.chain.seconds.items ++ kept c.in-Some.b = c.in_ok-keep_second.ensures.kept (ap Ok c.if-not-branch.false) in
-    let kept_b : true ≡ list_all (has_glyph rules.glyph) (kept c.in-Some.b) = sym c.if-not-branch.false ∙ c.in_ok-keep_second.ensures.test in
+    let grown : c.keep_second.new.seconds.items ≡ c.chain.seconds.items ++ kept_part c.in-Some.b = c.in_ok-keep_second.ensures.kept (ap Ok c.if-not-branch.false) in
+    let kept_b : true ≡ list_all (has_glyph rules.glyph) (kept_part c.in-Some.b) = sym c.if-not-branch.false ∙ c.in_ok-keep_second.ensures.test in
     sought_first rules.split (has_glyph rules.glyph) rules.height falls c.args.shortest _ _ _ _ _ c.chain.point _ _ c.if-shortest-2.true c.chain.invariant.walk c.in-Some.ensures kept_b grown c.if-has_glyph-2.ensures (omega (arith, c.keep_second.new.seconds.ok.0))
 
 pub chain-preserved : goal.chain-preserved
@@ -36,11 +36,11 @@ chain-preserved g c =
     let shaper = g.S.hb_ot_shaper_t in
     let rules = rules_of g.U.hb_unicode_funcs_t.unicode shaper.constants shaper.hooks shaper.reordered g.F.hb_font_t.face c.args.plan.now c.args.face.now in
     let falls = FallsAlong-planned g.met.U.hb_unicode_funcs_t.lawful shaper.constants.has_decompose shaper.hooks g.met.S.hb_ot_shaper_t.lawful_hooks c.args.plan.now c.args.face.now in
-    let grown : c.keep_second.new.seconds.items ≡ c.chain.seconds.items ++ kept c.in-Some.b = c.in_ok-keep_second.ensures.kept (ap Ok c.if-not-branch.false) in
-    let kept_b : true ≡ list_all (has_glyph rules.glyph) (kept c.in-Some.b) = sym c.if-not-branch.false ∙ c.in_ok-keep_second.ensures.test in
+    let grown : c.keep_second.new.seconds.items ≡ c.chain.seconds.items ++ kept_part c.in-Some.b = c.in_ok-keep_second.ensures.kept (ap Ok c.if-not-branch.false) in
+    let kept_b : true ≡ list_all (has_glyph rules.glyph) (kept_part c.in-Some.b) = sym c.if-not-branch.false ∙ c.in_ok-keep_second.ensures.test in
     record {
       walk = sought_passed rules.split (has_glyph rules.glyph) rules.height falls c.args.shortest _ _ _ c.chain.found c.chain.point _ _ c.chain.invariant.walk c.chain.invariant.within c.in-Some.ensures kept_b grown c.if-has_glyph-2.ensures;
-      within = IfSome-weaker c.chain.found _ _ (omega (arith, ap length grown, length-append c.chain.seconds.items (kept c.in-Some.b))) c.chain.invariant.within;
+      within = IfSome-weaker c.chain.found _ _ (omega (arith, ap length grown, length-append c.chain.seconds.items (kept_part c.in-Some.b))) c.chain.invariant.within;
     }
 
 pub returns-then-not-branch : goal.returns-then-not-branch
@@ -49,7 +49,7 @@ returns-then-not-branch g c =
     let rules = rules_of g.U.hb_unicode_funcs_t.unicode shaper.constants shaper.hooks shaper.reordered g.F.hb_font_t.face c.args.plan.now c.args.face.now in
     let falls = FallsAlong-planned g.met.U.hb_unicode_funcs_t.lawful shaper.constants.has_decompose shaper.hooks g.met.S.hb_ot_shaper_t.lawful_hooks c.args.plan.now c.args.face.now in
     let same : c.keep_second.new.seconds.items ≡ c.chain.seconds.items = c.in_ok-keep_second.ensures.same (ap Ok c.if-not-branch.true) in
-    let kept_b : false ≡ list_all (has_glyph rules.glyph) (kept c.in-Some.b) = sym c.if-not-branch.true ∙ c.in_ok-keep_second.ensures.test in
+    let kept_b : false ≡ list_all (has_glyph rules.glyph) (kept_part c.in-Some.b) = sym c.if-not-branch.true ∙ c.in_ok-keep_second.ensures.test in
     rw same (sought_broken rules.split (has_glyph rules.glyph) rules.height falls c.args.shortest _ _ c.chain.seconds.items c.chain.point _ _ c.chain.invariant.walk c.in-Some.ensures kept_b)
 
 pub returns : goal.returns
