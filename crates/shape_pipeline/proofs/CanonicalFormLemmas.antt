@@ -1,5 +1,6 @@
 -- The normalised list is equivalent to its text, canonical or recomposed of a canonical one where glyphs and runs allow it, and equal exactly for equivalent texts.
-use Rattle.std.proofs.Common.{◌≡◌, ◌↔◌, ℕ, ◌<◌, Bool, true, false, List, [], ◌∷◌, length, map, drop, refl, sym, ◌∙◌, ap, subst, inl, inr, arith}
+use Rattle.std.proofs.Common.{◌≡◌, ◌↔◌, ℕ, ◌<◌, Bool, true, false, List, [], ◌∷◌, ◌++◌, length, map, drop, refl, sym, ◌∙◌, ap, ap₂, subst, inl, inr, arith, length-append}
+use Rattle.std.proofs.lemmas.List.{length-map}
 use Rattle.std.proofs.lemmas.Bool.{cases_Bool}
 use Rattle.std.proofs.lemmas.List.Elements.{All-from_recursion}
 use Rattle.std.specs.List.{AllByRecursion, list_any}
@@ -182,6 +183,14 @@ module _ (rules : Rules) where
     text_of-shaped : (b : Buffer) → CanonicalTextPremises rules (text_of b) → text_of (shaped rules b) ≡ run_text b
     text_of-shaped b premises = text_of-run b (shaped rules b) (sym (shaped_of_any rules b (some_item b.items premises.marked)))
 
+    -- a part with a mark past its first item isn't empty
+    some_marked : (items : List Item) → has_mark_past_first (map (with_unicode_props rules.unicode) items) ≡ true → 0 < length items
+    some_marked [] marked = cc
+    some_marked (item ∷ items) marked = omega arith
+
+    text_of-part : (b : Buffer) → has_mark_past_first (prepared rules.unicode b).items ≡ true → text_of (shaped rules b) ≡ run_text b
+    text_of-part b marked = text_of-run b (shaped rules b) (sym (shaped_of_any rules b (some_marked b.items marked)))
+
     -- what a run hands out for a text that isn't empty
     pub ShapesCanonically-run : (old new : Buffer) → new ≡ glyphs_mapped (normalized rules (prepared rules.unicode old)) → ShapesCanonically rules old new
     ShapesCanonically-run old new is =
@@ -194,6 +203,9 @@ module _ (rules : Rules) where
           decides = λ other of_old canonical_old of_other canonical_other.
               rw (text, text_of-shaped other canonical_other, ← text_of-prepared old, ← text_of-prepared other)
               (normalized_decides (prepared rules.unicode old) (prepared rules.unicode other) (run_canonical_premises old of_old canonical_old) (run_canonical_premises other of_other canonical_other));
+          cuts = λ front back premises.
+              text ∙ normalized_cuts rules lawful (prepared rules.unicode old) (prepared rules.unicode front) (prepared rules.unicode back) premises
+              ∙ sym (ap₂ ◌++◌ (text_of-part front premises.front_marked) (text_of-part back premises.back_marked));
         }
 
     -- and for an empty one
@@ -205,4 +217,8 @@ module _ (rules : Rules) where
           canonical = λ leaves premises canonical. absurd (unmarked canonical);
           recomposed = λ composes premises canonical. absurd (unmarked canonical);
           decides = λ other of_old canonical_old of_other canonical_other. absurd (unmarked canonical_old);
+          cuts = λ front back premises.
+              let some = some_marked front.items premises.front_marked in
+              let sum = ap length premises.parts ∙ length-append (prepared rules.unicode front).items (prepared rules.unicode back).items in
+              absurd (omega (arith, none, some, sum, length-map old.items (with_unicode_props rules.unicode), length-map front.items (with_unicode_props rules.unicode)));
         }

@@ -103,3 +103,5 @@ pub record ShapesCanonically (rules : Rules) (old new : Buffer) : Type 0 where
   pub recomposed : rules.recomposes ≡ true → TextPremises rules (text_of old) → CanonicalTextPremises rules (text_of old) → IsRecomposedForm rules (text_of old) (text_of new)
   pub decides : (other : Buffer) → TextPremises rules (text_of old) → CanonicalTextPremises rules (text_of old) → TextPremises rules (text_of other) → CanonicalTextPremises rules (text_of other)
       → (text_of new ≡ text_of (shaped rules other)) ↔ AreEquivalent rules (text_of old) (text_of other)
+  -- as the run prepares the text and its parts
+  pub cuts : (front back : Buffer) → CutPremises rules (prepared rules.unicode old) (prepared rules.unicode front) (prepared rules.unicode back) → text_of new ≡ text_of (shaped rules front) ++ text_of (shaped rules back)

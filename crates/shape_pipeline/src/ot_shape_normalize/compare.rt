@@ -1,5 +1,5 @@
 //! Comparing two texts by their normalised lists.
-ghost use Rattle.std.specs.Prelude.{◌≡◌, ◌<◌, ◌↔◌, ◌⊎◌, ◌==◌, IsTrue, IfOk, OnOk, OnErr, Err, length, map};
+ghost use Rattle.std.specs.Prelude.{◌≡◌, ◌<◌, ◌≤◌, ◌↔◌, ◌⊎◌, ◌==◌, IsTrue, IfOk, OnOk, OnErr, Err, length, map};
 ghost use Rattle.std.specs.List.{list_all, zip};
 ghost use Rattle.shape_buffer.specs.Buffer.{cleared, limit_of};
 ghost use Rattle.shape_buffer.specs.Items.{char_of};
@@ -15,9 +15,12 @@ use shape_buffer::buffer::{ShapeError, hb_buffer_t, hb_glyph_info_t};
 use shape_buffer::interfaces::{hb_font_t, hb_ot_layout_t, hb_unicode_funcs_t};
 use std::alloc::Global;
 
-/// Normalises two buffers and says whether they have the same characters then. In the two modes that
-/// decompose fully, prepared texts of which the face has all characters of their full decompositions are
-/// told so to be canonically equivalent or not (UAX 15), where each has a mark past its first character.
+/// Normalises two buffers and says whether they have the same characters then.
+///
+/// In the two modes that decompose fully, this tells whether two prepared texts are canonically equivalent
+/// (UAX 15): where the shaper's hooks are lawful and don't reorder, there is no variation selector, the face
+/// has a glyph for each character of the full decompositions, no run of marks in these is longer than 32,
+/// and each text has a mark past its first character.
 ///
 /// Refuses as [`_hb_ot_shape_normalize`] does for one of the buffers; both are cleared then.
 pub fn normalized_equal<U, F, M, S>(
@@ -41,6 +44,10 @@ where
     ensures length { result ≡ Err ShapeError.Length → (limit_of a.old < length (round_one
         (rules_of U.unicode S.constants S.hooks S.reordered F.face plan.now face.now) a.old).items) ⊎ (limit_of b.old < length (round_one
         (rules_of U.unicode S.constants S.hooks S.reordered F.face plan.now face.now) b.old).items) }
+    ensures within_first { OnOk result (length a.new.items ≤ limit_of a.old) }
+    ensures within_second { OnOk result (length b.new.items ≤ limit_of b.old) }
+    ensures settings_first { cleared a.new ≡ cleared a.old }
+    ensures settings_second { cleared b.new ≡ cleared b.old }
     ensures cleared_first { OnErr result (a.new ≡ cleared a.old) }
     ensures cleared_second { OnErr result (b.new ≡ cleared b.old) }
 {
@@ -71,6 +78,8 @@ where
     ensures length { result ≡ Err ShapeError.Length → (limit_of a.old < length (round_one
         (rules_of U.unicode S.constants S.hooks S.reordered F.face plan.now face.now) a.old).items) ⊎ (limit_of b.old < length (round_one
         (rules_of U.unicode S.constants S.hooks S.reordered F.face plan.now face.now) b.old).items) }
+    ensures within_first { OnOk result (length a.new.items ≤ limit_of a.old) }
+    ensures within_second { OnOk result (length b.new.items ≤ limit_of b.old) }
     ensures settings_first { cleared a.new ≡ cleared a.old }
     ensures settings_second { cleared b.new ≡ cleared b.old }
 {
