@@ -138,8 +138,8 @@ pub trait hb_ot_shaper_t<U: hb_unicode_funcs_t, F: hb_font_t, M: hb_ot_layout_t<
     ghost lawful_hooks: { (shaper : Self) (plan : Plan Self M.Map Self.Data) (face : F)
         → OwedHooks (hooks shaper plan face) };
 
-    /// `reorder_marks` puts the items of its range in another order: it exchanges them, and merges
-    /// clusters of theirs.
+    /// `reorder_marks` puts the items of its range in another order: it exchanges them, and merges the
+    /// clusters of spans of the list.
     ghost reorders: { (shaper : Self) (plan : Plan Self M.Map Self.Data)
         → ReordersRanges (reordered shaper plan) };
 }
