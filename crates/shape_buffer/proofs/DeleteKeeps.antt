@@ -14,9 +14,9 @@ use Rattle.shape_buffer.specs.declared.buffer.settings.BufferClusterLevel.{Buffe
 use Rattle.shape_buffer.specs.declared.buffer.settings.BufferClusterLevel.TheVariants.{MonotoneGraphemes, MonotoneCharacters, Characters}
 use Rattle.shape_buffer.proofs.FlagLemmas.{no_flag, defined_flag, take_in, drop_in, append-cases, range_brings, merge_clusters_keeps, merge_out_clusters_keeps, KeepsFlags-same, KeepsFlags-then, KeepsFlags-items}
 use Rattle.std.proofs.lemmas.Nat.{and_assoc, and_or_apart, or_comm}
-use Rattle.shape_buffer.specs.ClusterOrder.{DrawsInOrder, KeepsClusters}
+use Rattle.shape_buffer.specs.ClusterOrder.{KeepsClusters}
 use Rattle.shape_buffer.specs.Delete.{give_to_kept, hand_on, hand_over, begins_in, lose, visit, delete_from, deleted}
-use Rattle.shape_buffer.proofs.DrawsInOrder.{DrawsInOrder-same, DrawsInOrder-then, KeepsClusters-from_draws}
+use Rattle.shape_buffer.proofs.DrawsInOrder.{DrawsInOrder, DrawsInOrder-same, DrawsInOrder-then, KeepsClusters-from_draws}
 use Rattle.shape_buffer.proofs.MergeOrder.{clusters-put_range, put_range_draws, merge_draws}
 use Rattle.shape_buffer.proofs.DeleteLemmas.{delete_from-suc, delete_from-zero, visit_kept, visit_lost}
 

@@ -10,7 +10,11 @@ use Rattle.shape_buffer.specs.Items.{Item, has_cluster}
 use Rattle.shape_buffer.specs.Clusters.{clusters, map_range}
 use Rattle.shape_buffer.specs.BufferClusters.{merge_clusters}
 use Rattle.std.proofs.lemmas.Bool.Decides.{nat_tests}
-use Rattle.shape_buffer.specs.Delete.{begins_in, standing, give_to_kept, hand_on, hand_over, lose, visit, delete_from}
+use Rattle.shape_buffer.specs.Delete.{begins_in, give_to_kept, hand_on, hand_over, lose, visit, delete_from}
+
+-- the list that a vector stands for while its first k items are kept, those from i on are left to visit, and what lies between is gone
+abbrev pub standing : {X : Type 0} → ℕ → ℕ → List X → List X
+standing k i xs = take k xs ++ drop i xs
 
 take-standing : {X : Type 0} (k i : ℕ) (xs : List X) → k ≤ length xs → take k (standing k i xs) ≡ take k xs
 take-standing k i xs le = take_at (take k xs) (drop i xs) k (length-take-le k xs le)

@@ -1,5 +1,5 @@
 -- Deletion of the glyphs that a test picks.
-use Rattle.std.specs.Prelude.{ℕ, zero, suc, ◌+◌, ◌-◌, Bool, false, List, [], ◌∷◌, ◌++◌, length, take, drop, remove, nat_lt, slice_index, if◌then◌else◌}
+use Rattle.std.specs.Prelude.{ℕ, zero, suc, ◌+◌, ◌-◌, Bool, false, List, [], ◌∷◌, length, take, drop, remove, nat_lt, slice_index, if◌then◌else◌}
 use Rattle.std.specs.Int.RustNames.{bit_and, bit_or}
 use Rattle.std.specs.List.{suffix_len}
 use Rattle.shape_buffer.specs.Items.{Item, has_cluster, feature_bits}
@@ -18,10 +18,6 @@ give_to_kept kept picked xs =
     if nat_lt picked.cluster last then
     map_range (hand_over picked) (kept - suffix_len (has_cluster last) (take kept xs)) kept xs
     else xs
-
--- the list that a vector stands for while its first k items are kept, those from i on are left to visit, and what lies between is gone
-abbrev pub standing : {X : Type 0} → ℕ → ℕ → List X → List X
-standing k i xs = take k xs ++ drop i xs
 
 -- the list begins with an item of the cluster
 abbrev pub begins_in : ℕ → List Item → Bool

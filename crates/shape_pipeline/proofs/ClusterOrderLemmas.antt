@@ -6,14 +6,14 @@ use Rattle.std.specs.Option.{option_map_or}
 use Rattle.shape_buffer.specs.Buffer.{Buffer}
 use Rattle.shape_buffer.specs.BufferClusters.{merge_clusters}
 use Rattle.shape_buffer.specs.Clusters.{clusters}
-use Rattle.shape_buffer.specs.ClusterOrder.{DrawsInOrder, KeepsClusters, IsMonotoneLevel}
+use Rattle.shape_buffer.specs.ClusterOrder.{KeepsClusters, IsMonotoneLevel}
 use Rattle.shape_buffer.specs.Items.{Item, is_mark_item}
 use Rattle.shape_buffer.specs.Unicode.{UnicodeMeaning}
 use Rattle.shape_buffer.specs.UnicodeProps.{with_unicode_props}
 use Rattle.shape_buffer.specs.declared.buffer.settings.GlyphId.{GlyphId}
 use Rattle.shape_buffer.proofs.DeleteKeeps.{merged_keeps}
 use Rattle.shape_buffer.proofs.DividedLemmas.{values-divided}
-use Rattle.shape_buffer.proofs.DrawsInOrder.{DrawsInOrder-behind, DrawsInOrder-again, KeepsClusters-from_draws}
+use Rattle.shape_buffer.proofs.DrawsInOrder.{DrawsInOrder, DrawsInOrder-behind, DrawsInOrder-again, KeepsClusters-from_draws}
 use Rattle.shape_pipeline.specs.Rules.{Rules, face_of}
 use Rattle.shape_pipeline.proofs.SelectorLemmas.{pairs_within}
 use Rattle.std.proofs.lemmas.List.Elements.{recursion_from_All}

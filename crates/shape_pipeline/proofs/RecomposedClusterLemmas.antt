@@ -8,11 +8,11 @@ use Rattle.std.proofs.lemmas.List.Elements.{recursion_from_All}
 use Rattle.shape_buffer.specs.Buffer.{Buffer}
 use Rattle.shape_buffer.specs.BufferClusters.{merge_out_clusters}
 use Rattle.shape_buffer.specs.Clusters.{clusters}
-use Rattle.shape_buffer.specs.ClusterOrder.{DrawsInOrder, KeepsClusters}
+use Rattle.shape_buffer.specs.ClusterOrder.{KeepsClusters}
 use Rattle.shape_buffer.specs.Items.{Item}
 use Rattle.shape_buffer.specs.Recompose.{composed, recomposed_from, recomposed, is_blocked_by_last}
 use Rattle.shape_buffer.proofs.DeleteKeeps.{merged_out_keeps}
-use Rattle.shape_buffer.proofs.DrawsInOrder.{DrawsInOrder-same, DrawsInOrder-then, KeepsClusters-from_draws}
+use Rattle.shape_buffer.proofs.DrawsInOrder.{DrawsInOrder, DrawsInOrder-same, DrawsInOrder-then, KeepsClusters-from_draws}
 use Rattle.shape_buffer.proofs.OptionLemmas.{cases_Option}
 use Rattle.shape_buffer.proofs.RecomposeLemmas.{composed-some, recomposed_from-some, recomposed_from-starter, recomposed_from-mark}
 use Rattle.shape_pipeline.specs.Rules.{Rules}

@@ -2,9 +2,9 @@ use Rattle.std.proofs.Common.{◌≡◌, ◌-◌, ◌≤◌, ◌++◌, Bool, Lis
 use Rattle.std.specs.Fn.{FnReturnsAt}
 use Rattle.shape_buffer.specs.Items.{Item}
 use Rattle.shape_buffer.specs.Buffer.{Buffer}
-use Rattle.shape_buffer.specs.Delete.{delete_from, deleted, standing}
+use Rattle.shape_buffer.specs.Delete.{delete_from, deleted}
 use Rattle.shape_buffer.specs.Unwritten.{StandsFor}
-use Rattle.shape_buffer.proofs.DeleteLemmas.{with_glyphs}
+use Rattle.shape_buffer.proofs.DeleteLemmas.{standing, with_glyphs}
 use Rattle.shape_buffer.proofs.buffer.delete.delete_items.Given as goal
 
 abbrev pub invariant-loop-i : goal.invariant-loop-i
