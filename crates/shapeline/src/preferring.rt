@@ -7,6 +7,11 @@ ghost use Rattle.shape_pipeline.specs.Shapers.{plain_constants, no_hooks, plain_
 
 use shape_buffer::buffer::{hb_buffer_t, hb_tag_t};
 use shape_buffer::interfaces::{hb_font_t, hb_ot_layout_t, hb_unicode_funcs_t};
+use shape_pipeline::ot_shape_normalize::{
+    HB_OT_SHAPE_NORMALIZATION_MODE_COMPOSED_DIACRITICS,
+    HB_OT_SHAPE_NORMALIZATION_MODE_COMPOSED_DIACRITICS_NO_SHORT_CIRCUIT,
+    HB_OT_SHAPE_NORMALIZATION_MODE_DECOMPOSED, HB_OT_SHAPE_NORMALIZATION_MODE_NONE,
+};
 use shape_pipeline::ot_shape_plan::hb_ot_shape_plan_t;
 use shape_pipeline::ot_shaper::{HB_OT_SHAPE_ZERO_WIDTH_MARKS_BY_GDEF_LATE, hb_ot_shaper_t};
 use std::marker::PhantomData;
@@ -31,7 +36,7 @@ impl Preference for Shortest {
 
     ghost PREFERENCE = { pos 0 };
 
-    const PREFERENCE: i32 = 0;
+    const PREFERENCE: i32 = HB_OT_SHAPE_NORMALIZATION_MODE_NONE;
 
     ghost low = { at_least_none 0 };
 
@@ -46,7 +51,7 @@ impl Preference for Decomposed {
 
     ghost PREFERENCE = { pos 1 };
 
-    const PREFERENCE: i32 = 1;
+    const PREFERENCE: i32 = HB_OT_SHAPE_NORMALIZATION_MODE_DECOMPOSED;
 
     ghost low = { at_least_none 1 };
 
@@ -62,7 +67,7 @@ impl Preference for ComposedDiacritics {
 
     ghost PREFERENCE = { pos 2 };
 
-    const PREFERENCE: i32 = 2;
+    const PREFERENCE: i32 = HB_OT_SHAPE_NORMALIZATION_MODE_COMPOSED_DIACRITICS;
 
     ghost low = { at_least_none 2 };
 
@@ -77,7 +82,7 @@ impl Preference for ComposedDiacriticsNoShortCircuit {
 
     ghost PREFERENCE = { pos 3 };
 
-    const PREFERENCE: i32 = 3;
+    const PREFERENCE: i32 = HB_OT_SHAPE_NORMALIZATION_MODE_COMPOSED_DIACRITICS_NO_SHORT_CIRCUIT;
 
     ghost low = { at_least_none 3 };
 

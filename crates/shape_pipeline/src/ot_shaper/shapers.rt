@@ -3,6 +3,7 @@ ghost use Rattle.std.specs.Prelude.{true, false, None, pos, refl};
 ghost use Rattle.std.proofs.Common.{rules};
 ghost use Rattle.shape_pipeline.specs.Shapers.{plain_constants, no_hooks, plain_constants-lawful, no_hooks-owed, no_reordering, no_reordering-reorders};
 
+use crate::ot_shape_normalize::HB_OT_SHAPE_NORMALIZATION_MODE_DEFAULT;
 use crate::ot_shape_plan::hb_ot_shape_plan_t;
 use crate::ot_shaper::{
     HB_OT_SHAPE_ZERO_WIDTH_MARKS_BY_GDEF_LATE, HB_OT_SHAPE_ZERO_WIDTH_MARKS_NONE, hb_ot_shaper_t,
@@ -45,7 +46,7 @@ impl<U: hb_unicode_funcs_t, F: hb_font_t, M: hb_ot_layout_t<F>> hb_ot_shaper_t<U
 
     const IS_DEFAULT: bool = true;
 
-    const NORMALIZATION_PREFERENCE: i32 = 4;
+    const NORMALIZATION_PREFERENCE: i32 = HB_OT_SHAPE_NORMALIZATION_MODE_DEFAULT;
 
     const GPOS_TAG: Option<hb_tag_t> = None;
 
@@ -130,7 +131,7 @@ impl<U: hb_unicode_funcs_t, F: hb_font_t, M: hb_ot_layout_t<F>> hb_ot_shaper_t<U
 
     const IS_DEFAULT: bool = false;
 
-    const NORMALIZATION_PREFERENCE: i32 = 4;
+    const NORMALIZATION_PREFERENCE: i32 = HB_OT_SHAPE_NORMALIZATION_MODE_DEFAULT;
 
     const GPOS_TAG: Option<hb_tag_t> = None;
 
