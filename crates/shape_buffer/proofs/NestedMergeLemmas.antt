@@ -1,5 +1,5 @@
 -- A span that begins among items of one cluster: merging it makes the same of the list wherever among them it begins.
-use Rattle.std.proofs.Common.{◌≡◌, ℕ, zero, suc, ◌+◌, ◌-◌, ◌<◌, ◌≤◌, Bool, true, false, ◌==◌, nat_lt, min, List, [], ◌∷◌, ◌++◌, map, length, get_or, take, drop, refl, sym, ap, ap₂, ◌∙◌, arith, slice_range, inl, inr, append_assoc, drop-cons, add-one, eq-eqb, eqb-true}
+use Rattle.std.proofs.Common.{◌≡◌, ℕ, zero, suc, ◌+◌, ◌-◌, ◌<◌, ◌≤◌, true, false, ◌==◌, nat_lt, min, List, [], ◌∷◌, ◌++◌, map, length, get_or, take, drop, refl, sym, ap, ap₂, ◌∙◌, arith, slice_range, inl, inr, append_assoc, drop-cons, add-one, eq-eqb, eqb-true}
 use Rattle.std.proofs.Math.Seq.{take-suc}
 use Rattle.std.proofs.lemmas.Bool.{cases_Bool}
 use Rattle.std.proofs.lemmas.Bool.Decides.{nat_tests}
@@ -7,7 +7,7 @@ use Rattle.std.proofs.lemmas.List.{get_or-map}
 use Rattle.std.proofs.lemmas.List.Sums.{suffix_len-take_yes}
 use Rattle.std.specs.List.{suffix_len, fold}
 use Rattle.shape_buffer.specs.Items.{Item, new_item, has_cluster, put_in}
-use Rattle.shape_buffer.specs.Clusters.{clusters, put_range, merge, least_cluster, growth_left, growth_right}
+use Rattle.shape_buffer.specs.Clusters.{put_range, merge, least_cluster, growth_left, growth_right}
 use Rattle.shape_buffer.proofs.ClusterLemmas.{merge_long}
 use Rattle.shape_buffer.proofs.JoinLemmas.{cluster_at, Joined}
 use Rattle.shape_buffer.proofs.MergeOrder.{growth_right-within}

@@ -1,6 +1,6 @@
 -- The spans that the walk of the code keeps: merged in order they do what the spans from each starter do.
-use Rattle.std.proofs.Common.{◌≡◌, ℕ, zero, suc, ◌+◌, ◌-◌, ◌<◌, ◌≤◌, true, false, List, [], ◌∷◌, ◌++◌, length, map, Option, None, Some, refl, sym, ap, ap₂, subst, ◌∙◌, arith, inl, inr, ◌==◌}
-use Rattle.std.specs.List.{All, AllByRecursion, flat_map, fold}
+use Rattle.std.proofs.Common.{◌≡◌, ℕ, suc, ◌+◌, ◌-◌, ◌<◌, ◌≤◌, List, [], ◌∷◌, ◌++◌, length, map, refl, sym, ap, subst, ◌∙◌, arith, inl, inr, ◌==◌}
+use Rattle.std.specs.List.{All, AllByRecursion, fold}
 use Rattle.std.proofs.lemmas.Bool.{cases_Bool}
 use Rattle.std.proofs.lemmas.List.Elements.{All-from_recursion}
 use Rattle.std.proofs.lemmas.List.Sums.{fold-append}
@@ -117,11 +117,12 @@ one_chained place from (mark ∷ joined) xs le h shares =
 all_chained : (n : ℕ) (out : List Placed) (xs : List Item) → length xs ≡ n → AllByRecursion (InOrder n) out → spans_merged (joined_spans out) xs ≡ spans_merged (chained_spans out) xs
 all_chained n [] xs is h = refl
 all_chained n (p ∷ out) xs is h =
+    let first = one_chained p.place p.place p.joined xs (omega arith) (rw is h.0) (λ k ge lt. absurd (omega arith)) in
     let step = λ (xs : List Item) (span : ℕ × ℕ). merge span.0 span.1 xs in
     let from_starter = map (λ (mark : Joined). (p.place, mark.place + 1)) p.joined in
     let chain = spans_between p.place p.joined in
     fold-append step xs from_starter (joined_spans out)
-    ∙ ap (spans_merged (joined_spans out)) (one_chained p.place p.place p.joined xs (omega arith) (rw is h.0) (λ k ge lt. absurd (omega arith)))
+    ∙ ap (spans_merged (joined_spans out)) first
     ∙ all_chained n out (spans_merged chain xs) (length-spans_merged chain xs ∙ is) h.1
     ∙ sym (fold-append step xs chain (chained_spans out))
 
