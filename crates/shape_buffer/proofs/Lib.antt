@@ -30,3 +30,4 @@ pub mod ExpandedLemmas
 pub mod KeyLemmas
 pub mod UnwrittenLemmas
 pub mod DividedLemmas
+pub mod NestedMergeLemmas

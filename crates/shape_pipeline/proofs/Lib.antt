@@ -9,6 +9,7 @@ pub mod SequenceLemmas
 pub mod DrawnLemmas
 pub mod RoundOneLemmas
 pub mod RoundThreeLemmas
+pub mod ChainedSpanLemmas
 pub mod SpanLemmas
 pub mod SettleLemmas
 pub mod RunWalkLemmas

@@ -26,7 +26,7 @@ use Rattle.shape_buffer.proofs.OptionLemmas.{cases_Option}
 use Rattle.shape_buffer.proofs.RecomposeLemmas.{composed-some, recomposed_from-some, recomposed_from-starter, recomposed_from-mark}
 use Rattle.shape_buffer.proofs.RecomposeWalkLemmas.{at_split, drop_split, set_split}
 use Rattle.shape_pipeline.specs.RoundOne.{part_item, seen_chars}
-use Rattle.shape_pipeline.specs.RoundThree.{Joined, Placed, placed, class_of_placed, is_mark_placed, join_placed, recomposed_items, joined_spans, composed_chars, spans_merged_out, placed_info, class_of_placed_info, composed_char, with_cluster_at, settled_info, round_three}
+use Rattle.shape_pipeline.specs.RoundThree.{Joined, Placed, placed, class_of_placed, is_mark_placed, join_placed, recomposed_items, joined_spans, spans_between, chained_spans, composed_chars, spans_merged_out, placed_info, class_of_placed_info, composed_char, with_cluster_at, settled_info, round_three}
 use Rattle.shape_pipeline.specs.Rules.{Rules, has_glyph}
 use Rattle.shape_pipeline.specs.declared.ot_shape_normalize.round_three.PlacedInfo.{PlacedInfo}
 
@@ -66,10 +66,23 @@ module _ {B : Type 0} (f : Placed → List B) where
 
 -- the spans and the characters of one item
 abbrev spans_of : Placed → List (ℕ × ℕ)
-spans_of p = map (λ mark. (p.place, mark.place + 1)) p.joined
+spans_of p = spans_between p.place p.joined
 
 abbrev chars_of : Placed → List ℕ
 chars_of p = map (λ mark. mark.char) p.joined
+
+-- the place of the last of these marks, or this one where there are none
+abbrev last_joined : ℕ → List Joined → ℕ
+last_joined from [] = from
+last_joined from (mark ∷ joined) = last_joined mark.place joined
+
+last_joined-push : (from : ℕ) (joined : List Joined) (mark : Joined) → last_joined from (joined ++ mark ∷ []) ≡ mark.place
+last_joined-push from [] mark = refl
+last_joined-push from (m ∷ joined) mark = last_joined-push m.place joined mark
+
+spans_between-push : (from : ℕ) (joined : List Joined) (mark : Joined) → spans_between from (joined ++ mark ∷ []) ≡ spans_between from joined ++ (last_joined from joined, mark.place + 1) ∷ []
+spans_between-push from [] mark = refl
+spans_between-push from (m ∷ joined) mark = ap (λ l. (from, m.place + 1) ∷ l) (spans_between-push m.place joined mark)
 
 -- ---- the walk
 
@@ -99,20 +112,21 @@ module _ (rules : Rules) where
   placed-next : (i : ℕ) (items : List Item) (x : Item) → i < length items → x ≡ get_or items i x → placed i (drop i items) ≡ item_at i x ∷ placed (i + 1) (drop (i + 1) items)
   placed-next i items x lt is = rw (add-one, drop-cons items i x) (ap (λ y. item_at i y ∷ placed (suc i) (drop (suc i) items)) (sym is))
 
-  -- the items before place i were walked over: out is put out, with the starter at its place, and these are the spans and the flags
-  pub record IsRecomposedTo (items : List Item) (flags : ScratchFlags) (i : ℕ) (out : List PlacedInfo) (spans : List (ℕ × ℕ)) (seen : ScratchFlags) (starter : ℕ) : Type 0 where
+  -- the items before place i were walked over: out is put out, with the starter at its place, these are the spans and the flags, and the next span begins at `from`
+  pub record IsRecomposedTo (items : List Item) (flags : ScratchFlags) (i : ℕ) (out : List PlacedInfo) (spans : List (ℕ × ℕ)) (seen : ScratchFlags) (starter from : ℕ) : Type 0 where
     pub before : List Placed
     pub at : Placed
     pub marks : List Placed
     pub out_is : out ≡ map placed_info before ++ placed_info at ∷ map placed_info marks
     pub starter_is : starter ≡ length (map placed_info before)
+    pub from_is : from ≡ last_joined at.place at.joined
     pub whole : recomposed_items rules items ≡ before ++ after at marks (placed i (drop i items))
-    pub spans_are : spans ≡ joined_spans (before ++ at ∷ [])
+    pub spans_are : spans ≡ chained_spans (before ++ at ∷ [])
     pub seen_is : seen ≡ seen_chars rules.unicode flags (composed_chars (before ++ at ∷ []))
-    pub none_spanned : joined_spans marks ≡ []
+    pub none_spanned : chained_spans marks ≡ []
     pub none_seen : composed_chars marks ≡ []
 
-  pub IsRecomposedTo-first : (items : List Item) (flags : ScratchFlags) (x : Item) → Some x ≡ slice_get items 0 → IsRecomposedTo items flags 1 (record { info = x; place = 0 } ∷ []) [] flags 0
+  pub IsRecomposedTo-first : (items : List Item) (flags : ScratchFlags) (x : Item) → Some x ≡ slice_get items 0 → IsRecomposedTo items flags 1 (record { info = x; place = 0 } ∷ []) [] flags 0 0
   IsRecomposedTo-first [] flags x first = cc
   IsRecomposedTo-first (y ∷ items) flags x first =
       let same : x ≡ y = cc in
@@ -122,6 +136,7 @@ module _ (rules : Rules) where
         marks = [];
         out_is = ap (λ i. record { info = i; place = 0 } ∷ []) same;
         starter_is = refl;
+        from_is = refl;
         whole = refl;
         spans_are = refl;
         seen_is = refl;
@@ -130,17 +145,17 @@ module _ (rules : Rules) where
       }
 
   -- the whole list was walked over
-  pub walked_all : (items : List Item) (flags : ScratchFlags) (i : ℕ) (out : List PlacedInfo) (spans : List (ℕ × ℕ)) (seen : ScratchFlags) (starter : ℕ) → length items ≤ i → IsRecomposedTo items flags i out spans seen starter
-      → (out ≡ map placed_info (recomposed_items rules items)) × (spans ≡ joined_spans (recomposed_items rules items)) × (seen ≡ seen_chars rules.unicode flags (composed_chars (recomposed_items rules items)))
-  walked_all items flags i out spans seen starter le h =
+  pub walked_all : (items : List Item) (flags : ScratchFlags) (i : ℕ) (out : List PlacedInfo) (spans : List (ℕ × ℕ)) (seen : ScratchFlags) (starter from : ℕ) → length items ≤ i → IsRecomposedTo items flags i out spans seen starter from
+      → (out ≡ map placed_info (recomposed_items rules items)) × (spans ≡ chained_spans (recomposed_items rules items)) × (seen ≡ seen_chars rules.unicode flags (composed_chars (recomposed_items rules items)))
+  walked_all items flags i out spans seen starter from le h =
       let none : placed i (drop i items) ≡ [] = ap (placed i) (drop_all i items le) in
       let all : recomposed_items rules items ≡ h.before ++ h.at ∷ h.marks = h.whole ∙ ap (λ rest. h.before ++ after h.at h.marks rest) none in (
         h.out_is ∙ sym (map-append placed_info h.before (h.at ∷ h.marks)) ∙ ap (map placed_info) (sym all),
-        h.spans_are ∙ sym (adds_to_starter spans_of h.before h.at h.marks h.none_spanned) ∙ ap joined_spans (sym all),
+        h.spans_are ∙ sym (adds_to_starter spans_of h.before h.at h.marks h.none_spanned) ∙ ap chained_spans (sym all),
         h.seen_is ∙ ap (seen_chars rules.unicode flags) (sym (adds_to_starter chars_of h.before h.at h.marks h.none_seen) ∙ ap composed_chars (sym all)),
       )
 
-  module _ (items : List Item) (flags : ScratchFlags) (i : ℕ) (out : List PlacedInfo) (spans : List (ℕ × ℕ)) (seen : ScratchFlags) (starter : ℕ) (x : Item) (s : PlacedInfo) (marks : List PlacedInfo) (lt : i < length items) (is_x : x ≡ get_or items i x) (is_s : s ≡ get_or out starter s) (are_marks : marks ≡ drop (starter + 1) out) (h : IsRecomposedTo items flags i out spans seen starter) where
+  module _ (items : List Item) (flags : ScratchFlags) (i : ℕ) (out : List PlacedInfo) (spans : List (ℕ × ℕ)) (seen : ScratchFlags) (starter from : ℕ) (x : Item) (s : PlacedInfo) (marks : List PlacedInfo) (lt : i < length items) (is_x : x ≡ get_or items i x) (is_s : s ≡ get_or out starter s) (are_marks : marks ≡ drop (starter + 1) out) (h : IsRecomposedTo items flags i out spans seen starter from) where
     abbrev next : Placed
     next = item_at i x
 
@@ -163,7 +178,7 @@ module _ (rules : Rules) where
 
     -- the next item goes into the starter
     pub IsRecomposedTo-joined : (c : ℕ) → Some c ≡ composed_char rules s marks (placed_info next)
-        → IsRecomposedTo items flags (i + 1) (set out starter (record s { info = part_item rules.unicode rules.glyph s.info c })) (spans ++ (s.place, i + 1) ∷ []) (with_scratch_of rules.unicode c seen) starter
+        → IsRecomposedTo items flags (i + 1) (set out starter (record s { info = part_item rules.unicode rules.glyph s.info c })) (spans ++ (from, i + 1) ∷ []) (with_scratch_of rules.unicode c seen) starter i
     IsRecomposedTo-joined c was =
         let d : Placed = joined_to h.at next c in
         let set_is : set out starter (record s { info = part_item rules.unicode rules.glyph s.info c }) ≡ map placed_info h.before ++ placed_info d ∷ map placed_info h.marks =
@@ -176,10 +191,11 @@ module _ (rules : Rules) where
           marks = h.marks;
           out_is = set_is;
           starter_is = h.starter_is;
+          from_is = sym (last_joined-push h.at.place h.at.joined (record { place = i; char = c }));
           whole = whole_next ∙ ap (λ l. h.before ++ l) (recomposed_from-some class_of_placed (is_blocked_by_last class_of_placed) is_mark_placed (join_placed rules) h.at h.marks next rest d (composed_at (Some c) was));
           spans_are =
-              ap₂ (λ l (p : PlacedInfo). l ++ (p.place, i + 1) ∷ []) h.spans_are starter_at
-              ∙ sym (adds_one spans_of h.before h.at d (h.at.place, i + 1) (map-append (λ (mark : Joined). (h.at.place, mark.place + 1)) h.at.joined _));
+              ap₂ (λ l n. l ++ (n, i + 1) ∷ []) h.spans_are h.from_is
+              ∙ sym (adds_one spans_of h.before h.at d (last_joined h.at.place h.at.joined, i + 1) (spans_between-push h.at.place h.at.joined (record { place = i; char = c })));
           seen_is =
               ap (with_scratch_of rules.unicode c) h.seen_is
               ∙ sym (fold-append (λ flags c. with_scratch_of rules.unicode c flags) flags (composed_chars (h.before ++ h.at ∷ [])) (c ∷ []))
@@ -199,7 +215,7 @@ module _ (rules : Rules) where
 
     -- the next item is put out, and is the starter from then on
     pub IsRecomposedTo-starter : None ≡ composed_char rules s marks (placed_info next) → class_of_item x ≡ 0
-        → IsRecomposedTo items flags (i + 1) (out ++ placed_info next ∷ []) spans seen (length out)
+        → IsRecomposedTo items flags (i + 1) (out ++ placed_info next ∷ []) spans seen (length out) i
     IsRecomposedTo-starter was zero_class =
         let done = h.before ++ h.at ∷ h.marks in
         record {
@@ -208,6 +224,7 @@ module _ (rules : Rules) where
           marks = [];
           out_is = ap (λ l. l ++ placed_info next ∷ []) whole_out;
           starter_is = ap length whole_out;
+          from_is = refl;
           whole =
               whole_next
               ∙ ap (λ l. h.before ++ l) (recomposed_from-starter class_of_placed (is_blocked_by_last class_of_placed) is_mark_placed (join_placed rules) h.at h.marks next rest (composed_at None was) (eq-eqb _ 0 zero_class))
@@ -220,7 +237,7 @@ module _ (rules : Rules) where
 
     -- the next item is put out behind the starter
     pub IsRecomposedTo-mark : None ≡ composed_char rules s marks (placed_info next) → (class_of_item x ≡ 0 → ⊥)
-        → IsRecomposedTo items flags (i + 1) (out ++ placed_info next ∷ []) spans seen starter
+        → IsRecomposedTo items flags (i + 1) (out ++ placed_info next ∷ []) spans seen starter from
     IsRecomposedTo-mark was some_class =
         record {
           before = h.before;
@@ -228,6 +245,7 @@ module _ (rules : Rules) where
           marks = h.marks ++ next ∷ [];
           out_is = put_behind;
           starter_is = h.starter_is;
+          from_is = h.from_is;
           whole =
               whole_next
               ∙ ap (λ l. h.before ++ l) (recomposed_from-mark class_of_placed (is_blocked_by_last class_of_placed) is_mark_placed (join_placed rules) h.at h.marks next rest (composed_at None was) (ne_eqb _ 0 some_class));
@@ -334,15 +352,10 @@ spans_of_within n place (mark ∷ joined) h = ((omega (arith, h.0), omega (arith
 
 spans_within : (n : ℕ) (out : List Placed) → AllByRecursion (JoinedWithin n) out → AllByRecursion (IsSpan n) (joined_spans out)
 spans_within n [] h = tt
-spans_within n (p ∷ out) h = append_all (IsSpan n) (spans_of p) (joined_spans out) (spans_of_within n p.place p.joined h.0) (spans_within n out h.1)
+spans_within n (p ∷ out) h = append_all (IsSpan n) (map (λ (mark : Joined). (p.place, mark.place + 1)) p.joined) (joined_spans out) (spans_of_within n p.place p.joined h.0) (spans_within n out h.1)
 
 pub recomposed_spans_within : (rules : Rules) (items : List Item) → All (IsSpan (length items)) (joined_spans (recomposed_items rules items))
 recomposed_spans_within rules items = All-from_recursion (IsSpan (length items)) (joined_spans (recomposed_items rules items)) (spans_within (length items) (recomposed_items rules items) (recomposed_placed rules items).within)
-
--- the spans of a walk over these items are within them
-pub walked_spans_within : (rules : Rules) (items infos : List Item) (spans : List (ℕ × ℕ)) → infos ≡ items → spans ≡ joined_spans (recomposed_items rules infos) → All (IsSpan (length items)) spans
-walked_spans_within rules items infos spans infos_are spans_are =
-    subst (All (IsSpan (length items))) (sym (spans_are ∙ ap (λ xs. joined_spans (recomposed_items rules xs)) infos_are)) (recomposed_spans_within rules items)
 
 -- ---- the spans are merged
 
@@ -353,7 +366,7 @@ merge_out_at_level start end b MonotoneCharacters = refl
 merge_out_at_level start end b Characters = refl
 
 -- merging changes the items alone
-merge_out_is : (start end : ℕ) (b : Buffer) → merge_out_clusters start end b ≡ record b { items = (merge_out_clusters start end b).items }
+pub merge_out_is : (start end : ℕ) (b : Buffer) → merge_out_clusters start end b ≡ record b { items = (merge_out_clusters start end b).items }
 merge_out_is start end b = merge_out_at_level start end b b.cluster_level
 
 pub spans_merged_out_is : (spans : List (ℕ × ℕ)) (b : Buffer) → spans_merged_out spans b ≡ record b { items = (spans_merged_out spans b).items }
@@ -394,7 +407,7 @@ settled_all items [] = refl
 settled_all items (p ∷ out) = ap (λ l. with_cluster_at items p ∷ l) (settled_all items out)
 
 -- the items of a buffer were walked over, their clusters merged, and what was put out took these
-module _ (rules : Rules) (old merged : Buffer) (infos merged_infos settled : List Item) (spans : List (ℕ × ℕ)) (out : List PlacedInfo) (infos_are : infos ≡ old.items) (spans_are : spans ≡ joined_spans (recomposed_items rules infos)) (merged_is : merged ≡ spans_merged_out spans old) (out_is : out ≡ map placed_info (recomposed_items rules infos)) (merged_infos_are : merged_infos ≡ merged.items) (settled_is : settled ≡ map (settled_info merged_infos) out) where
+module _ (rules : Rules) (old merged : Buffer) (infos merged_infos settled : List Item) (out : List PlacedInfo) (infos_are : infos ≡ old.items) (merged_is : merged ≡ spans_merged_out (joined_spans (recomposed_items rules old.items)) old) (out_is : out ≡ map placed_info (recomposed_items rules infos)) (merged_infos_are : merged_infos ≡ merged.items) (settled_is : settled ≡ map (settled_info merged_infos) out) where
   put_out : List Placed
   put_out = recomposed_items rules old.items
 
@@ -403,7 +416,7 @@ module _ (rules : Rules) (old merged : Buffer) (infos merged_infos settled : Lis
 
   merged_spanned : merged ≡ spanned
   unfolding put_out spanned
-  merged_spanned = merged_is ∙ ap (λ s. spans_merged_out s old) (spans_are ∙ ap (λ xs. joined_spans (recomposed_items rules xs)) infos_are)
+  merged_spanned = merged_is
 
   settled_items : settled ≡ map (with_cluster_at spanned.items) put_out
   unfolding put_out

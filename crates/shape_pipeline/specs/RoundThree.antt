@@ -75,6 +75,15 @@ round_three rules b =
 
 -- ---- the walk of the code, which keeps the spans and the flags beside what it puts out
 
+-- a span from this place to the first of these marks, and from each of them to the next
+abbrev pub spans_between : ℕ → List Joined → List (ℕ × ℕ)
+spans_between from [] = []
+spans_between from (mark ∷ joined) = (from, mark.place + 1) ∷ spans_between mark.place joined
+
+-- the spans that the code keeps: once its first is merged a starter and its mark are in one cluster, so that the next span may begin at the mark
+abbrev pub chained_spans : List Placed → List (ℕ × ℕ)
+chained_spans out = flat_map (λ p. spans_between p.place p.joined) out
+
 -- an item that was put out, with its place alone
 abbrev pub placed_info : Placed → PlacedInfo
 placed_info p = record { info = p.item; place = p.place }

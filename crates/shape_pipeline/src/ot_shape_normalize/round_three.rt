@@ -10,7 +10,7 @@ ghost use Rattle.shape_buffer.specs.Recompose.{is_blocked_by_last, join_with_gly
 ghost use Rattle.shape_buffer.specs.UnicodeProps.{with_scratch_of};
 ghost use Rattle.shape_pipeline.specs.Plan.{hooks_of};
 ghost use Rattle.shape_pipeline.specs.RoundOne.{part_item, seen_chars};
-ghost use Rattle.shape_pipeline.specs.RoundThree.{recomposed_items, joined_spans, composed_chars, spans_merged_out, placed_info, class_of_placed_info, composed_char, settled_info, round_three};
+ghost use Rattle.shape_pipeline.specs.RoundThree.{recomposed_items, chained_spans, composed_chars, spans_merged_out, placed_info, class_of_placed_info, composed_char, settled_info, round_three};
 ghost use Rattle.shape_pipeline.specs.Rules.{used_join, has_glyph, rules_of};
 
 use crate::ot_shape_plan::hb_ot_shape_plan_t;
@@ -26,8 +26,12 @@ struct PlacedInfo {
     place: usize,
 }
 
-/// What the walk leaves: the items that were put out, the span from each starter to each mark that was
-/// composed with it, and the scratch flags that the composed characters show.
+/// What the walk leaves: the items that were put out, the spans of what was composed, and the scratch flags
+/// that the composed characters show.
+///
+/// A span goes from a starter to the first mark that was composed with it, or from each such mark to the
+/// next: merged in order they do what spans that all begin at the starter do, and their lengths stay linear
+/// where a starter takes many marks.
 #[derive(Drop)]
 struct Recomposed {
     out: Vec<PlacedInfo>,
@@ -163,7 +167,7 @@ where
     S: hb_ot_shaper_t<U, F, M>,
     ensures out { IfOk result (λ r. r.out.items ≡ map placed_info (recomposed_items
         (rules_of U.unicode S.constants S.hooks S.reordered F.face plan.now face.now) infos.now)) }
-    ensures spans { IfOk result (λ r. r.spans.items ≡ joined_spans (recomposed_items
+    ensures spans { IfOk result (λ r. r.spans.items ≡ chained_spans (recomposed_items
         (rules_of U.unicode S.constants S.hooks S.reordered F.face plan.now face.now) infos.now)) }
     ensures flags { IfOk result (λ r. r.scratch_flags ≡ seen_chars U.unicode scratch_flags (composed_chars (recomposed_items
         (rules_of U.unicode S.constants S.hooks S.reordered F.face plan.now face.now) infos.now))) }
@@ -181,6 +185,7 @@ where
         place: 0,
     })?;
     let mut starter = 0;
+    let mut from = 0;
     for place in 1..infos.len() {
         let next = PlacedInfo {
             info: infos[place],
@@ -189,12 +194,14 @@ where
         let at = walk.out[starter];
         let marks = &walk.out[starter + 1..];
         if let Some(c) = composed_of::<U, F, M, S>(plan, face, &at, marks, &next) {
-            walk.spans.push((at.place, place + 1))?;
+            walk.spans.push((from, place + 1))?;
             walk.out[starter] = at.with_char::<U, F>(face, c, &mut walk.scratch_flags);
+            from = place;
             continue;
         }
         if next.info._hb_glyph_info_get_modified_class() == 0 {
             starter = walk.out.len();
+            from = place;
         }
         walk.out.push(next)?;
     }

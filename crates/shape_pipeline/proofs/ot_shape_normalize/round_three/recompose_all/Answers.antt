@@ -24,7 +24,7 @@ loop-place-preserved-in-Some-composed_of g c =
     record {
       within = c.loop-place.invariant.within;
       walked = rw (c.with_char.ensures.item, c.with_char.ensures.flags, c.in_ok-push-2.ensures.items)
-          (IsRecomposedTo-joined rules _ _ _ _ _ _ _ _ _ _ (omega arith) c.index-infos-place.is c.index.ensures marks c.loop-place.invariant.walked c.in-Some-composed_of.c c.in-Some-composed_of.ensures);
+          (IsRecomposedTo-joined rules _ _ _ _ _ _ _ _ _ _ _ (omega arith) c.index-infos-place.is c.index.ensures marks c.loop-place.invariant.walked c.in-Some-composed_of.c c.in-Some-composed_of.ensures);
     }
 
 pub loop-place-preserved : goal.loop-place-preserved
@@ -42,12 +42,12 @@ loop-place-preserved g c =
           let class = sym c._hb_glyph_info_get_modified_class.ensures ∙ w.if-hb_glyph_info_get_modified_class-eq0.true in
           record {
             within = omega (arith, w.starter-is, w.len-starter.ensures);
-            walked = rw (starter, items) (IsRecomposedTo-starter rules _ _ _ _ _ _ _ _ _ _ (omega arith) c.index-infos-place.is c.index.ensures marks c.loop-place.invariant.walked none class);
+            walked = rw (starter, w.from-is, items) (IsRecomposedTo-starter rules _ _ _ _ _ _ _ _ _ _ _ (omega arith) c.index-infos-place.is c.index.ensures marks c.loop-place.invariant.walked none class);
           }
       | else-hb_glyph_info_get_modified_class-eq0 w ↦
           record {
             within = omega (arith, w.starter-is);
-            walked = rw (w.starter-is, items) (IsRecomposedTo-mark rules _ _ _ _ _ _ _ _ _ _ (omega arith) c.index-infos-place.is c.index.ensures marks c.loop-place.invariant.walked none (λ e. w.if-hb_glyph_info_get_modified_class-eq0.false (c._hb_glyph_info_get_modified_class.ensures ∙ e)));
+            walked = rw (w.starter-is, w.from-is, items) (IsRecomposedTo-mark rules _ _ _ _ _ _ _ _ _ _ _ (omega arith) c.index-infos-place.is c.index.ensures marks c.loop-place.invariant.walked none (λ e. w.if-hb_glyph_info_get_modified_class-eq0.false (c._hb_glyph_info_get_modified_class.ensures ∙ e)));
           }
     ]
 
@@ -55,5 +55,5 @@ pub returns : goal.returns
 returns g c =
     let shaper = g.S.hb_ot_shaper_t in
     let rules = rules_of g.U.hb_unicode_funcs_t.unicode shaper.constants shaper.hooks shaper.reordered g.F.hb_font_t.face c.args.plan.now c.args.face.now in
-    let all = walked_all rules c.args.infos.now c.args.scratch_flags c.loop-place.place c.loop-place.walk.out.items c.loop-place.walk.spans.items c.loop-place.walk.scratch_flags c.loop-place.starter c.loop-place-test.false c.loop-place.invariant.walked in
+    let all = walked_all rules c.args.infos.now c.args.scratch_flags c.loop-place.place c.loop-place.walk.out.items c.loop-place.walk.spans.items c.loop-place.walk.scratch_flags c.loop-place.starter c.loop-place.from c.loop-place-test.false c.loop-place.invariant.walked in
     record { out = all.0; spans = all.1; flags = all.2 }
