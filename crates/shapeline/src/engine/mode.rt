@@ -1,5 +1,7 @@
 //! How texts are normalised, as a line chooses it.
-ghost use Rattle.std.specs.Prelude.{◌≤◌, ◌↔◌, IsSome};
+ghost use Rattle.std.specs.Prelude.{◌≤◌};
+ghost use Rattle.std.specs.Option.{SomeIff};
+ghost use Rattle.shapeline.specs.Modes.{mode_of};
 
 /// The modes of normalising. Each stands for a shaper that prefers it; the last is that of the default
 /// shaper.
@@ -15,7 +17,7 @@ pub enum Mode {
 impl Mode {
     /// The mode of a number from 0 to 4.
     pub fn from_number(number: u32) -> Option<Mode>
-        ensures { IsSome result ↔ (number ≤ 4) }
+        ensures { SomeIff result (number ≤ 4) (mode_of number) }
     {
         match number {
             0 => Some(Mode::Shortest),
