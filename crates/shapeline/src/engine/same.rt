@@ -1,6 +1,6 @@
 //! The line `same C .. / C ..`: says whether two texts have the same normalised characters.
 ghost use Rattle.std.specs.Prelude.{◌≡◌, ◌≢◌};
-ghost use Rattle.shapeline.specs.Text.{IsText};
+ghost use Rattle.shapeline.specs.Text.{IsText, IsPair};
 ghost use Rattle.shapeline.specs.Words.{words as words_of};
 
 use crate::engine::Outcome;
@@ -29,7 +29,10 @@ pub fn answer<W: Write>(
     mode: Mode,
     words: Words,
     writer: &mut W,
-) -> Outcome {
+) -> Outcome
+    ensures text { IsPair (words_of words.entry.rest.now) → result ≢ Outcome.Malformed }
+    ensures malformed { ¬ IsPair (words_of words.entry.rest.now) → result ≡ Outcome.Malformed }
+{
     let Some((first, second)) = words.parted() else {
         return Outcome::Malformed;
     };
