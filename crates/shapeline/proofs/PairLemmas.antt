@@ -33,9 +33,9 @@ parts-lack (b ∷ bs) none =
     let unlike : b ≢ 47 = All-head (λ x. x ≢ 47) b bs none in
     let later = parts-lack bs (All-tail (λ x. x ≢ 47) b bs none) in
     ⊎_elim
-      (λ space. subst (All NoSlash) (sym (slice_split-cons_yes (λ x. x == 32) b bs space)) (All-cons NoSlash [] (slice_split (λ x. x == 32) bs) (All-nil (λ x. x ≢ 47)) later))
-      (λ letter. subst (All NoSlash) (sym (slice_split-cons_no (λ x. x == 32) b bs letter)) (onto_first-lack b (slice_split (λ x. x == 32) bs) unlike later))
-      (cases_Bool (b == 32))
+    (λ space. subst (All NoSlash) (sym (slice_split-cons_yes (λ x. x == 32) b bs space)) (All-cons NoSlash [] (slice_split (λ x. x == 32) bs) (All-nil (λ x. x ≢ 47)) later))
+    (λ letter. subst (All NoSlash) (sym (slice_split-cons_no (λ x. x == 32) b bs letter)) (onto_first-lack b (slice_split (λ x. x == 32) bs) unlike later))
+    (cases_Bool (b == 32))
 
 words-lack : (line : List ℕ) → NoSlash line → All NoSlash (words line)
 words-lack line none = All-filter is_some_text NoSlash (slice_split (λ b. b == 32) line) (parts-lack line none)

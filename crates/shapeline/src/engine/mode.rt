@@ -3,6 +3,22 @@ ghost use Rattle.std.specs.Prelude.{◌≤◌};
 ghost use Rattle.std.specs.Option.{SomeIff};
 ghost use Rattle.shapeline.specs.Modes.{mode_of};
 
+use crate::face::Face;
+use crate::no_lookups::NoLookups;
+use crate::preferring::{
+    ComposedDiacritics, ComposedDiacriticsNoShortCircuit, Decomposed, Preferring, Shortest,
+};
+use crate::unicode_tables::UnicodeTables;
+use shape_pipeline::ot_shaper::{DEFAULT_SHAPER, hb_ot_shaper_t};
+
+/// What can be done with any shaper.
+pub trait ShaperTask {
+    type Answer;
+
+    /// Does it with this one.
+    fn run<S: hb_ot_shaper_t<UnicodeTables, Face, NoLookups>>(self, shaper: &S) -> Self::Answer;
+}
+
 /// The modes of normalising. Each stands for a shaper that prefers it; the last is that of the default
 /// shaper.
 #[derive(Clone, Copy)]
@@ -26,6 +42,19 @@ impl Mode {
             3 => Some(Mode::ComposedDiacriticsNoShortCircuit),
             4 => Some(Mode::Auto),
             _ => None,
+        }
+    }
+
+    /// Does a task with the shaper of the mode.
+    pub fn with_shaper<T: ShaperTask>(self, task: T) -> T::Answer {
+        match self {
+            Mode::Shortest => task.run(&Preferring::<Shortest>::new()),
+            Mode::Decomposed => task.run(&Preferring::<Decomposed>::new()),
+            Mode::ComposedDiacritics => task.run(&Preferring::<ComposedDiacritics>::new()),
+            Mode::ComposedDiacriticsNoShortCircuit => {
+                task.run(&Preferring::<ComposedDiacriticsNoShortCircuit>::new())
+            }
+            Mode::Auto => task.run(&DEFAULT_SHAPER),
         }
     }
 }
