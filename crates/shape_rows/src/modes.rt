@@ -1,9 +1,12 @@
 //! Normalised lists of texts with marks, selectors and spaces, over hooks and faces of the tests' own.
 
 use crate::support::{
-    AbsorbingShaper, FaceOf, MarkedUnicode, NoLookups, ReversingShaper, VariantFace,
+    AbsorbingShaper, DeepShaper, EveryGlyph, FaceOf, MarkedUnicode, NoLookups, ReversingShaper,
+    VariantFace,
 };
-use shape_buffer::buffer::{Direction, GlyphId, ScratchFlags, UnicodeBuffer, hb_buffer_t};
+use shape_buffer::buffer::{
+    Direction, GlyphId, ScratchFlags, ShapeError, UnicodeBuffer, hb_buffer_t, hb_glyph_info_t,
+};
 use shape_buffer::interfaces::hb_font_t;
 use shape_buffer::interfaces::space_types::{SPACE_EM, SPACE_FIGURE};
 use shape_pipeline::ot_shape::set_unicode_props;
@@ -24,6 +27,14 @@ fn prepared(alloc: Global, text: &[char]) -> Result<hb_buffer_t, Fail> {
     }
     let mut buffer = buffer.into_inner();
     set_unicode_props::<MarkedUnicode>(&mut buffer);
+    Ok(buffer)
+}
+
+/// A prepared buffer of one character, in a direction, whose run has begun.
+fn entered(alloc: Global, c: char) -> Result<hb_buffer_t, Fail> {
+    let mut buffer = prepared(alloc, &[c])?;
+    buffer.set_direction(Direction::LeftToRight);
+    buffer.enter();
     Ok(buffer)
 }
 
@@ -94,6 +105,26 @@ fn a_compose_hook_is_asked(rt: HostRuntime) -> Result<(), Fail> {
     let mut buffer = prepared(alloc, &['a', '\u{301}', '\u{301}', 'b'])?;
     normalize(alloc, &FaceOf(&['a']), &AbsorbingShaper, &mut buffer)?;
     assert_items(&rt, &buffer, &[('a', 0x61, 0), ('b', 0, 3)]);
+    Ok(())
+}
+
+#[test]
+fn a_mask_survives_a_composition(rt: HostRuntime) -> Result<(), Fail> {
+    let alloc = rt.alloc();
+    let mut items = Vec::new(alloc);
+    for (c, cluster, mask) in [('a', 0, 0x100), ('\u{301}', 1, 0x200), ('b', 2, 0x400)] {
+        let mut item = hb_glyph_info_t::new(c, cluster);
+        item.mask = mask;
+        items.push(item)?;
+    }
+    let mut buffer = hb_buffer_t::new(alloc);
+    buffer.replace_infos(items)?;
+    set_unicode_props::<MarkedUnicode>(&mut buffer);
+    normalize(alloc, &FaceOf(&['a']), &AbsorbingShaper, &mut buffer)?;
+    assert_items(&rt, &buffer, &[('a', 0x61, 0), ('b', 0, 2)]);
+    for (info, mask) in buffer.infos().iter().zip([0x100, 0x400]) {
+        assert_eq!(rt; info.mask, mask);
+    }
     Ok(())
 }
 
@@ -230,6 +261,40 @@ fn two_texts_are_compared(rt: HostRuntime) -> Result<(), Fail> {
             alloc, &plan, &face, &mut a, &mut b,
         )?;
         assert_eq!(rt; answer, equal);
+    }
+    Ok(())
+}
+
+#[test]
+fn a_text_past_its_limit_clears_both(rt: HostRuntime) -> Result<(), Fail> {
+    let alloc = rt.alloc();
+    let shaper = DeepShaper { depth: 16384 };
+    let plan = hb_ot_shape_plan_t::new::<MarkedUnicode, EveryGlyph, NoLookups>(
+        alloc,
+        &EveryGlyph,
+        &shaper,
+        Direction::LeftToRight,
+        None,
+        None,
+        &[],
+    )?;
+    // U+F0000 becomes 16385 items, one more than the limit of a short run, and U+F0001 becomes 16384.
+    for (first, second) in [('\u{F0000}', '\u{F0001}'), ('\u{F0001}', '\u{F0000}')] {
+        let mut a = entered(alloc, first)?;
+        let mut b = entered(alloc, second)?;
+        let answer = normalized_equal::<MarkedUnicode, EveryGlyph, NoLookups, DeepShaper>(
+            alloc,
+            &plan,
+            &EveryGlyph,
+            &mut a,
+            &mut b,
+        );
+        assert_eq!(rt; answer, Err(ShapeError::Length));
+        assert!(rt; a.is_empty() && b.is_empty());
+        assert_eq!(rt;
+            (a.direction(), b.direction()),
+            (Direction::Invalid, Direction::Invalid)
+        );
     }
     Ok(())
 }

@@ -62,7 +62,7 @@ words-split line (Some parts) whole result begins some is_line is_empty =
 
 -- ---- the first `/` (47) of a line, where it is a word by itself
 
-abbrev NoSlash : List ℕ → Type 0
+abbrev pub NoSlash : List ℕ → Type 0
 NoSlash text = All (λ b. b ≢ 47) text
 
 -- no word of the text reaches its end
@@ -213,7 +213,7 @@ finds_slash (b ∷ bs) before behind none is = ⊎_elim
     (cases_Bool (b == 32))
 
 -- no word `/` stands behind words without one
-abbrev LacksSlash : List ℕ → Type 0
+abbrev pub LacksSlash : List ℕ → Type 0
 LacksSlash line = (before behind : List (List ℕ)) → All NoSlash before → words line ≢ before ++ (47 ∷ []) ∷ behind
 
 -- `split_once` finds no `/` at all

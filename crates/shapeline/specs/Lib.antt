@@ -11,4 +11,5 @@ pub mod Laws
 pub mod Face
 pub mod Words
 pub mod Preferences
+pub mod Modes
 pub mod Text

@@ -1,5 +1,5 @@
 -- A text as a line writes it: a word for each character.
-use Rattle.std.specs.Prelude.{ℕ, ◌≤◌, ◌<◌, ◌^◌, List, map, length}
+use Rattle.std.specs.Prelude.{◌≡◌, ℕ, ◌≤◌, ◌<◌, ◌^◌, List, [], ◌∷◌, ◌++◌, map, length}
 use Rattle.std.specs.Char.{IsScalar, len_utf8}
 use Rattle.std.specs.List.{AllByRecursion, sum_by}
 use Rattle.std.specs.Str.Parse.{IsNumeral, digits_value}
@@ -19,3 +19,7 @@ utf8_len words = sum_by len_utf8 (characters words)
 -- each word writes a character, and 32 bits can count the bytes
 abbrev pub IsText : List (List ℕ) → Type 0
 IsText words = AllByRecursion IsCharacterWord words × (utf8_len words < 2 ^ 32)
+
+-- two texts with a word `/` (47) between them, which writes no character
+abbrev pub IsPair : List (List ℕ) → Type 0
+IsPair words = (first : List (List ℕ)) × (second : List (List ℕ)) × (words ≡ first ++ (47 ∷ []) ∷ second) × IsText first × IsText second

@@ -1,5 +1,23 @@
 //! How texts are normalised, as a line chooses it.
-ghost use Rattle.std.specs.Prelude.{◌≤◌, ◌↔◌, IsSome};
+ghost use Rattle.std.specs.Prelude.{◌≤◌};
+ghost use Rattle.std.specs.Option.{SomeIff};
+ghost use Rattle.shapeline.specs.Modes.{mode_of};
+
+use crate::face::Face;
+use crate::no_lookups::NoLookups;
+use crate::preferring::{
+    ComposedDiacritics, ComposedDiacriticsNoShortCircuit, Decomposed, Preferring, Shortest,
+};
+use crate::unicode_tables::UnicodeTables;
+use shape_pipeline::ot_shaper::{DEFAULT_SHAPER, hb_ot_shaper_t};
+
+/// What can be done with any shaper.
+pub trait ShaperTask {
+    type Answer;
+
+    /// Does it with this one.
+    fn run<S: hb_ot_shaper_t<UnicodeTables, Face, NoLookups>>(self, shaper: &S) -> Self::Answer;
+}
 
 /// The modes of normalising. Each stands for a shaper that prefers it; the last is that of the default
 /// shaper.
@@ -15,7 +33,7 @@ pub enum Mode {
 impl Mode {
     /// The mode of a number from 0 to 4.
     pub fn from_number(number: u32) -> Option<Mode>
-        ensures { IsSome result ↔ (number ≤ 4) }
+        ensures { SomeIff result (number ≤ 4) (mode_of number) }
     {
         match number {
             0 => Some(Mode::Shortest),
@@ -24,6 +42,19 @@ impl Mode {
             3 => Some(Mode::ComposedDiacriticsNoShortCircuit),
             4 => Some(Mode::Auto),
             _ => None,
+        }
+    }
+
+    /// Does a task with the shaper of the mode.
+    pub fn with_shaper<T: ShaperTask>(self, task: T) -> T::Answer {
+        match self {
+            Mode::Shortest => task.run(&Preferring::<Shortest>::new()),
+            Mode::Decomposed => task.run(&Preferring::<Decomposed>::new()),
+            Mode::ComposedDiacritics => task.run(&Preferring::<ComposedDiacritics>::new()),
+            Mode::ComposedDiacriticsNoShortCircuit => {
+                task.run(&Preferring::<ComposedDiacriticsNoShortCircuit>::new())
+            }
+            Mode::Auto => task.run(&DEFAULT_SHAPER),
         }
     }
 }

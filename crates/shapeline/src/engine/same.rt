@@ -1,23 +1,20 @@
 //! The line `same C .. / C ..`: says whether two texts have the same normalised characters.
 ghost use Rattle.std.specs.Prelude.{◌≡◌, ◌≢◌};
-ghost use Rattle.shapeline.specs.Text.{IsText};
+ghost use Rattle.shapeline.specs.Text.{IsText, IsPair};
 ghost use Rattle.shapeline.specs.Words.{words as words_of};
 
 use crate::engine::Outcome;
-use crate::engine::mode::Mode;
+use crate::engine::mode::{Mode, ShaperTask};
 use crate::engine::text::{filled, text_len};
 use crate::face::Face;
 use crate::no_lookups::NoLookups;
 use crate::parse::Words;
-use crate::preferring::{
-    ComposedDiacritics, ComposedDiacriticsNoShortCircuit, Decomposed, Preferring, Shortest,
-};
 use crate::unicode_tables::UnicodeTables;
 use shape_buffer::buffer::{Direction, Script, ShapeError, hb_buffer_t};
 use shape_pipeline::ot_shape::set_unicode_props;
 use shape_pipeline::ot_shape_normalize::normalized_equal;
 use shape_pipeline::ot_shape_plan::hb_ot_shape_plan_t;
-use shape_pipeline::ot_shaper::{DEFAULT_SHAPER, hb_ot_shaper_t};
+use shape_pipeline::ot_shaper::hb_ot_shaper_t;
 use std::alloc::Global;
 use std::io::Write;
 
@@ -29,7 +26,10 @@ pub fn answer<W: Write>(
     mode: Mode,
     words: Words,
     writer: &mut W,
-) -> Outcome {
+) -> Outcome
+    ensures text { IsPair (words_of words.entry.rest.now) → result ≢ Outcome.Malformed }
+    ensures malformed { ¬ IsPair (words_of words.entry.rest.now) → result ≡ Outcome.Malformed }
+{
     let Some((first, second)) = words.parted() else {
         return Outcome::Malformed;
     };
@@ -62,18 +62,7 @@ fn are_same(
     let mut a = prepared(alloc, first)?;
     let mut b = prepared(alloc, second)?;
     let (a, b) = (&mut a, &mut b);
-    match mode {
-        Mode::Shortest => same_by(alloc, face, &Preferring::<Shortest>::new(), a, b),
-        Mode::Decomposed => same_by(alloc, face, &Preferring::<Decomposed>::new(), a, b),
-        Mode::ComposedDiacritics => {
-            same_by(alloc, face, &Preferring::<ComposedDiacritics>::new(), a, b)
-        }
-        Mode::ComposedDiacriticsNoShortCircuit => {
-            let shaper = Preferring::<ComposedDiacriticsNoShortCircuit>::new();
-            same_by(alloc, face, &shaper, a, b)
-        }
-        Mode::Auto => same_by(alloc, face, &DEFAULT_SHAPER, a, b),
-    }
+    mode.with_shaper(Comparing { alloc, face, a, b })
 }
 
 /// A buffer with a text, each item with the properties of its character, as a run prepares it: from left to
@@ -89,22 +78,31 @@ fn prepared(alloc: Global, words: Words) -> Result<hb_buffer_t, ShapeError>
     Ok(buffer)
 }
 
-/// Compares two prepared buffers under a plan of their own.
-fn same_by<S: hb_ot_shaper_t<UnicodeTables, Face, NoLookups>>(
+/// Two prepared buffers to be compared under a plan of their own.
+struct Comparing<'a> {
     alloc: Global,
-    face: &Face,
-    shaper: &S,
-    a: &mut hb_buffer_t,
-    b: &mut hb_buffer_t,
-) -> Result<bool, ShapeError> {
-    let plan = hb_ot_shape_plan_t::new::<UnicodeTables, Face, NoLookups>(
-        alloc,
-        face,
-        shaper,
-        Direction::LeftToRight,
-        Some(Script::COMMON),
-        None,
-        &[],
-    )?;
-    normalized_equal::<UnicodeTables, Face, NoLookups, S>(alloc, &plan, face, a, b)
+    face: &'a Face,
+    a: &'a mut hb_buffer_t,
+    b: &'a mut hb_buffer_t,
+}
+
+impl ShaperTask for Comparing<'_> {
+    type Answer = Result<bool, ShapeError>;
+
+    fn run<S: hb_ot_shaper_t<UnicodeTables, Face, NoLookups>>(
+        self,
+        shaper: &S,
+    ) -> Result<bool, ShapeError> {
+        let Comparing { alloc, face, a, b } = self;
+        let plan = hb_ot_shape_plan_t::new::<UnicodeTables, Face, NoLookups>(
+            alloc,
+            face,
+            shaper,
+            Direction::LeftToRight,
+            Some(Script::COMMON),
+            None,
+            &[],
+        )?;
+        normalized_equal::<UnicodeTables, Face, NoLookups, S>(alloc, &plan, face, a, b)
+    }
 }

@@ -4,6 +4,10 @@ mod modes;
 mod orders;
 
 use super::run;
+use crate::engine::mode::Mode;
+use crate::engine::text::shaped;
+use crate::face::Face;
+use shape_buffer::buffer::{BufferClusterLevel, GlyphBuffer, UnicodeBuffer};
 use std::alloc::Global;
 use std::io;
 use std::io::{BufReader, ErrorKind, Read, Write};
@@ -29,6 +33,23 @@ pub(super) fn expect_run(
     let answer = run(alloc, first.chain(rest), &mut written);
     assert_eq!(rt; written.as_slice(), output, "for {rest:?}");
     assert_eq!(rt; answer, status, "for {rest:?}");
+}
+
+/// Shapes these characters, each in the cluster of its place, at the level that keeps graphemes apart.
+pub(super) fn shaped_in_places(
+    alloc: Global,
+    face: &Face,
+    mode: Mode,
+    text: &[char],
+) -> Result<GlyphBuffer, Fail> {
+    let mut buffer = UnicodeBuffer::new(alloc);
+    buffer.set_cluster_level(BufferClusterLevel::MonotoneCharacters);
+    let mut place: u32 = 0;
+    for c in text {
+        buffer.add(*c, place)?;
+        place = place.saturating_add(1);
+    }
+    Ok(shaped(alloc, face, mode, buffer)?)
 }
 
 #[test]

@@ -6,17 +6,14 @@ ghost use Rattle.shapeline.specs.Text.{IsText, characters, utf8_len};
 ghost use Rattle.shapeline.specs.Words.{words as words_of};
 
 use crate::engine::Outcome;
-use crate::engine::mode::Mode;
+use crate::engine::mode::{Mode, ShaperTask};
 use crate::face::Face;
 use crate::no_lookups::NoLookups;
 use crate::parse::{Words, character};
-use crate::preferring::{
-    ComposedDiacritics, ComposedDiacriticsNoShortCircuit, Decomposed, Preferring, Shortest,
-};
 use crate::unicode_tables::UnicodeTables;
 use shape_buffer::buffer::{BufferClusterLevel, GlyphBuffer, ShapeError, UnicodeBuffer};
 use shape_pipeline::ot_shape_plan::hb_ot_shape_plan_t;
-use shape_pipeline::ot_shaper::{DEFAULT_SHAPER, hb_ot_shaper_t};
+use shape_pipeline::ot_shaper::hb_ot_shaper_t;
 use shape_pipeline::shape::shape_with_plan;
 use std::alloc::{AllocError, Global};
 use std::io::Write;
@@ -85,41 +82,39 @@ pub(super) fn shaped(
     mode: Mode,
     text: UnicodeBuffer,
 ) -> Result<GlyphBuffer, ShapeError> {
-    match mode {
-        Mode::Shortest => shaped_by(alloc, face, &Preferring::<Shortest>::new(), text),
-        Mode::Decomposed => shaped_by(alloc, face, &Preferring::<Decomposed>::new(), text),
-        Mode::ComposedDiacritics => {
-            shaped_by(alloc, face, &Preferring::<ComposedDiacritics>::new(), text)
-        }
-        Mode::ComposedDiacriticsNoShortCircuit => {
-            let shaper = Preferring::<ComposedDiacriticsNoShortCircuit>::new();
-            shaped_by(alloc, face, &shaper, text)
-        }
-        Mode::Auto => shaped_by(alloc, face, &DEFAULT_SHAPER, text),
-    }
+    mode.with_shaper(Shaping { alloc, face, text })
 }
 
-/// Shapes a text under a plan of its own.
-fn shaped_by<S: hb_ot_shaper_t<UnicodeTables, Face, NoLookups>>(
+/// A text to be shaped under a plan of its own.
+struct Shaping<'a> {
     alloc: Global,
-    face: &Face,
-    shaper: &S,
+    face: &'a Face,
     text: UnicodeBuffer,
-) -> Result<GlyphBuffer, ShapeError> {
-    let direction = text.as_inner().guessed_direction::<UnicodeTables>();
-    let script = text.as_inner().guessed_script::<UnicodeTables>();
-    let plan = hb_ot_shape_plan_t::new::<UnicodeTables, Face, NoLookups>(
-        alloc,
-        face,
-        shaper,
-        direction,
-        script,
-        None,
-        &[],
-    )?;
-    match shape_with_plan::<UnicodeTables, Face, NoLookups, S>(alloc, face, &plan, text) {
-        Ok(glyphs) => Ok(glyphs),
-        Err(fault) => Err(fault.cause),
+}
+
+impl ShaperTask for Shaping<'_> {
+    type Answer = Result<GlyphBuffer, ShapeError>;
+
+    fn run<S: hb_ot_shaper_t<UnicodeTables, Face, NoLookups>>(
+        self,
+        shaper: &S,
+    ) -> Result<GlyphBuffer, ShapeError> {
+        let Shaping { alloc, face, text } = self;
+        let direction = text.as_inner().guessed_direction::<UnicodeTables>();
+        let script = text.as_inner().guessed_script::<UnicodeTables>();
+        let plan = hb_ot_shape_plan_t::new::<UnicodeTables, Face, NoLookups>(
+            alloc,
+            face,
+            shaper,
+            direction,
+            script,
+            None,
+            &[],
+        )?;
+        match shape_with_plan::<UnicodeTables, Face, NoLookups, S>(alloc, face, &plan, text) {
+            Ok(glyphs) => Ok(glyphs),
+            Err(fault) => Err(fault.cause),
+        }
     }
 }
 

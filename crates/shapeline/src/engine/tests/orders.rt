@@ -1,10 +1,9 @@
 //! Orders of marks.
 
-use super::expect_run;
+use super::{expect_run, shaped_in_places};
 use crate::engine::mode::Mode;
-use crate::engine::text::shaped;
 use crate::face::Face;
-use shape_buffer::buffer::{BufferClusterLevel, GlyphBuffer, UnicodeBuffer};
+use shape_buffer::buffer::GlyphBuffer;
 use std::alloc::Global;
 use std::process::Abort;
 use std::test::Fail;
@@ -78,17 +77,9 @@ fn thirty_two(rt: HostRuntime) {
     );
 }
 
-/// Shapes these characters in the mode that decomposes, each in the cluster of its place, over a face without
-/// glyphs and at the level that keeps graphemes apart.
+/// Shapes these characters in the mode that decomposes, over a face without glyphs.
 fn glyphs_of(alloc: Global, text: &[char]) -> Result<GlyphBuffer, Fail> {
-    let mut buffer = UnicodeBuffer::new(alloc);
-    buffer.set_cluster_level(BufferClusterLevel::MonotoneCharacters);
-    let mut place: u32 = 0;
-    for c in text {
-        buffer.add(*c, place)?;
-        place = place.saturating_add(1);
-    }
-    Ok(shaped(alloc, &Face::new(alloc, 1000), Mode::Decomposed, buffer)?)
+    shaped_in_places(alloc, &Face::new(alloc, 1000), Mode::Decomposed, text)
 }
 
 /// Compares characters and clusters.
