@@ -26,5 +26,6 @@ pub mod OrderedClusterLemmas
 pub mod ClusterOrderLemmas
 pub mod RecomposedItemLemmas
 pub mod RecomposedClusterLemmas
+pub mod FeatureLemmas
 pub mod ItemGlyphLemmas
 pub mod SelectorLemmas

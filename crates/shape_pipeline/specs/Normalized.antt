@@ -3,7 +3,7 @@ use Rattle.std.specs.Prelude.{◌≡◌, ◌⊎◌, ◌&&◌, ℕ, ◌≤◌, tr
 use Rattle.shape_buffer.specs.Buffer.{Buffer}
 use Rattle.shape_buffer.specs.Clusters.{clusters}
 use Rattle.shape_buffer.specs.ClusterOrder.{KeepsClusters, IsMonotoneLevel}
-use Rattle.shape_buffer.specs.Items.{Item}
+use Rattle.shape_buffer.specs.Items.{Item, feature_bits}
 use Rattle.shape_buffer.specs.declared.buffer.settings.GlyphId.{GlyphId}
 use Rattle.shape_pipeline.specs.Rules.{Rules, has_glyph}
 use Rattle.shape_pipeline.specs.RoundOne.{round_one, item_glyph, sequences, sequence_items, is_selector_sequence, pairs_merged}
@@ -48,3 +48,11 @@ HasItemGlyph rules old item =
 abbrev pub OrdersExpanded : Rules → Buffer → Type 0
 OrdersExpanded rules old =
     has_mark_past_first old.items ≡ true → rules.reorder ≡ None → OrdersMarks (round_one rules old).items (ordered rules old).items
+
+-- the feature bits of an item: its mask without the three defined flags
+abbrev pub features_of : Item → ℕ
+features_of item = feature_bits item.mask
+
+-- each item has the feature bits of an item of the text
+abbrev pub KeepsFeatures : Buffer → Buffer → Type 0
+KeepsFeatures old new = All (λ item. Contains (map features_of old.items) (features_of item)) new.items
