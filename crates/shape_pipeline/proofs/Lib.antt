@@ -27,5 +27,7 @@ pub mod OrderedClusterLemmas
 pub mod ClusterOrderLemmas
 pub mod RecomposedItemLemmas
 pub mod RecomposedClusterLemmas
+pub mod FeatureLemmas
+pub mod HiddenLemmas
 pub mod ItemGlyphLemmas
 pub mod SelectorLemmas

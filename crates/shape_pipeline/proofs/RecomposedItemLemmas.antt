@@ -21,10 +21,8 @@ glyph_of_joined has (Some d) c is =
       | inr has_none ↦ let none : None ≡ Some c = sym (cond-false _ (Some d) None has_none) ∙ is in absurd (cc)
     ]
 
--- what holds of an item whatever its cluster and its mask, and of what a starter becomes that has it, holds of each item that is put out
-module _ (rules : Rules) (P : Item → Type 0)
-    (anywhere : (item : Item) (cluster mask : ℕ) → P item → P (record item { cluster = cluster; mask = mask }))
-    (composes : (item : Item) (c : ℕ) → has_glyph rules.glyph c ≡ true → P item → P (part_item rules.unicode rules.glyph item c)) where
+-- what holds of each item, and of what a starter becomes that has it, holds of each item that is put out, before it takes the cluster and the mask at its place
+module _ (rules : Rules) (P : Item → Type 0) (composes : (item : Item) (c : ℕ) → has_glyph rules.glyph c ≡ true → P item → P (part_item rules.unicode rules.glyph item c)) where
   each_placed : (place : ℕ) (items : List Item) → AllByRecursion P items → AllByRecursion (λ (p : Placed). P p.item) (placed place items)
   each_placed place [] each = tt
   each_placed place (item ∷ items) each = (each.0, each_placed (suc place) items each.1)
@@ -35,6 +33,14 @@ module _ (rules : Rules) (P : Item → Type 0)
       subst (λ (p : Placed). P p.item) (sym at.2)
       (composes starter.item at.0 (glyph_of_joined (has_glyph rules.glyph) (rules.join starter.item.codepoint mark.item.codepoint) at.0 at.1) of_starter)
 
+  pub each_recomposed : (items : List Item) → AllByRecursion P items → AllByRecursion (λ (p : Placed). P p.item) (recomposed_items rules items)
+  each_recomposed items each =
+      recomposed-all class_of_placed (is_blocked_by_last class_of_placed) is_mark_placed (join_placed rules) (λ (p : Placed). P p.item) each_joined (placed 0 items) (each_placed 0 items each)
+
+-- what holds of an item whatever its cluster and its mask, and of what a starter becomes that has it, holds of each item that is put out
+module _ (rules : Rules) (P : Item → Type 0)
+    (anywhere : (item : Item) (cluster mask : ℕ) → P item → P (record item { cluster = cluster; mask = mask }))
+    (composes : (item : Item) (c : ℕ) → has_glyph rules.glyph c ≡ true → P item → P (part_item rules.unicode rules.glyph item c)) where
   each_put_out : (items : List Item) (out : List Placed) → AllByRecursion (λ (p : Placed). P p.item) out → AllByRecursion P (map (with_cluster_at items) out)
   each_put_out items [] each = tt
   each_put_out items (p ∷ out) each = (anywhere p.item _ _ each.0, each_put_out items out each.1)
@@ -42,8 +48,7 @@ module _ (rules : Rules) (P : Item → Type 0)
   pub round_three_all : (b : Buffer) → AllByRecursion P b.items → AllByRecursion P (round_three rules b).items
   round_three_all b each =
       let out = recomposed_items rules b.items in
-      each_put_out (spans_merged_out (joined_spans out) b).items out
-      (recomposed-all class_of_placed (is_blocked_by_last class_of_placed) is_mark_placed (join_placed rules) (λ (p : Placed). P p.item) each_joined (placed 0 b.items) (each_placed 0 b.items each))
+      each_put_out (spans_merged_out (joined_spans out) b).items out (each_recomposed rules P composes b.items each)
 
 -- there are no more of them than there were
 pub length-round_three : (rules : Rules) (b : Buffer) → length (round_three rules b).items ≤ length b.items

@@ -1,9 +1,11 @@
 -- The normalised list.
-use Rattle.std.specs.Prelude.{◌≡◌, ◌⊎◌, ◌&&◌, ℕ, ◌≤◌, true, false, if◌then◌else◌, List, map, filter, flat_map, length, All, Contains, Option, None, Some}
+use Rattle.std.specs.Prelude.{◌≡◌, ◌⊎◌, ◌&&◌, ◌==◌, ℕ, ◌≤◌, Bool, true, false, if◌then◌else◌, List, map, filter, flat_map, length, All, Contains, Option, None, Some}
+use Rattle.std.specs.Int.RustNames.{bit_and}
 use Rattle.shape_buffer.specs.Buffer.{Buffer}
 use Rattle.shape_buffer.specs.Clusters.{clusters}
 use Rattle.shape_buffer.specs.ClusterOrder.{KeepsClusters, IsMonotoneLevel}
-use Rattle.shape_buffer.specs.Items.{Item}
+use Rattle.shape_buffer.specs.Items.{Item, feature_bits}
+use Rattle.shape_buffer.specs.UnicodeProps.{is_hidden_char}
 use Rattle.shape_buffer.specs.declared.buffer.settings.GlyphId.{GlyphId}
 use Rattle.shape_pipeline.specs.Rules.{Rules, has_glyph}
 use Rattle.shape_pipeline.specs.RoundOne.{round_one, item_glyph, sequences, sequence_items, is_selector_sequence, pairs_merged}
@@ -48,3 +50,25 @@ HasItemGlyph rules old item =
 abbrev pub OrdersExpanded : Rules → Buffer → Type 0
 OrdersExpanded rules old =
     has_mark_past_first old.items ≡ true → rules.reorder ≡ None → OrdersMarks (round_one rules old).items (ordered rules old).items
+
+-- the feature bits of an item: its mask without the three defined flags
+abbrev pub features_of : Item → ℕ
+features_of item = feature_bits item.mask
+
+-- each item has the feature bits of an item of the text
+abbrev pub KeepsFeatures : Buffer → Buffer → Type 0
+KeepsFeatures old new = All (λ item. Contains (map features_of old.items) (features_of item)) new.items
+
+-- whether the run has seen a joiner (scratch flag 8)
+abbrev pub has_seen_joiner : Buffer → Bool
+has_seen_joiner b = bit_and b.scratch_flags.0 8 == 8
+
+-- an item's character and whether it is hidden
+abbrev pub hidden_char : Item → ℕ × Bool
+hidden_char item = (item.codepoint, item.properties.hidden)
+
+-- where no joiner was seen by the end of round one, each item's hidden bit is that of its character, or the item has the character and the hidden bit of one of the text
+abbrev pub KeepsHidden : Rules → Buffer → Buffer → Type 0
+KeepsHidden rules old new =
+    has_seen_joiner (round_one rules old) ≡ false
+    → All (λ item. (item.properties.hidden ≡ is_hidden_char item.codepoint) ⊎ Contains (map hidden_char old.items) (hidden_char item)) new.items

@@ -14,7 +14,7 @@ ghost use Rattle.shape_pipeline.specs.Rules.{rules_of};
 ghost use Rattle.shape_pipeline.specs.RoundOne.{round_one};
 ghost use Rattle.shape_pipeline.specs.RoundTwo.{has_mark_past_first as has_mark_past_first_of};
 ghost use Rattle.shape_pipeline.specs.CanonicalForm.{NormalizesCanonically};
-ghost use Rattle.shape_pipeline.specs.Normalized.{normalized, BroughtInHaveGlyphs, HasItemGlyph, HookKeepsClusters, OrdersExpanded};
+ghost use Rattle.shape_pipeline.specs.Normalized.{normalized, BroughtInHaveGlyphs, HasItemGlyph, HookKeepsClusters, KeepsFeatures, KeepsHidden, OrdersExpanded};
 
 mod compare;
 mod context;
@@ -74,6 +74,9 @@ where
         (map char_of buffer.old.items) (map char_of buffer.new.items)) }
     ensures item_glyphs { OnOk result (All (HasItemGlyph
         (rules_of U.unicode S.constants S.hooks S.reordered F.face plan.now face.now) buffer.old) buffer.new.items) }
+    ensures features { OnOk result (KeepsFeatures buffer.old buffer.new) }
+    ensures joiners { OnOk result (KeepsHidden
+        (rules_of U.unicode S.constants S.hooks S.reordered F.face plan.now face.now) buffer.old buffer.new) }
     ensures canonical_form { OnOk result (NormalizesCanonically
         (rules_of U.unicode S.constants S.hooks S.reordered F.face plan.now face.now) buffer.old buffer.new) }
     ensures ordered { OnOk result (OrdersExpanded

@@ -8,7 +8,7 @@ ghost use Rattle.shape_pipeline.specs.Plan.{Fits};
 ghost use Rattle.shape_pipeline.specs.Rules.{rules_of};
 ghost use Rattle.shape_pipeline.specs.RoundOne.{round_one};
 ghost use Rattle.shape_pipeline.specs.CanonicalForm.{ShapesCanonically};
-ghost use Rattle.shape_pipeline.specs.Normalized.{BroughtInHaveGlyphs, HookKeepsClusters};
+ghost use Rattle.shape_pipeline.specs.Normalized.{BroughtInHaveGlyphs, HookKeepsClusters, KeepsFeatures};
 ghost use Rattle.shape_pipeline.specs.Shaped.{prepared, shaped, IsHandedOut};
 
 use crate::ot_shape::{map_glyphs_fast, set_unicode_props};
@@ -43,6 +43,7 @@ where
         (map char_of buffer.items) (map char_of glyphs.items)) }
     ensures item_glyphs { IfOk result (λ glyphs. All (IsHandedOut
         (rules_of U.unicode S.constants S.hooks S.reordered F.face plan.now face.now) buffer) glyphs.items) }
+    ensures features { IfOk result (λ glyphs. KeepsFeatures buffer glyphs) }
     ensures canonical_form { IfOk result (λ glyphs. ShapesCanonically
         (rules_of U.unicode S.constants S.hooks S.reordered F.face plan.now face.now) buffer glyphs) }
     ensures clusters { IfOk result (λ glyphs. IsMonotoneLevel buffer.cluster_level

@@ -1,9 +1,14 @@
-use Rattle.std.proofs.Common.{arith}
+use Rattle.std.proofs.Common.{arith, map, ◌≡◌, ◌⊎◌}
+use Rattle.std.specs.List.{Contains}
 use Rattle.std.proofs.lemmas.Result.{on_ok_weaker}
-use Rattle.shape_pipeline.specs.Normalized.{HasItemGlyph}
+use Rattle.shape_buffer.specs.Items.{Item}
+use Rattle.shape_buffer.specs.UnicodeProps.{is_hidden_char}
+use Rattle.shape_pipeline.specs.Normalized.{HasItemGlyph, features_of, hidden_char}
 use Rattle.shape_pipeline.specs.Rules.{rules_of}
 use Rattle.shape_pipeline.proofs.CanonicalFormLemmas.{NormalizesCanonically-normalized}
 use Rattle.shape_pipeline.proofs.ClusterOrderLemmas.{normalized_keeps}
+use Rattle.shape_pipeline.proofs.FeatureLemmas.{normalized_keeps_features}
+use Rattle.shape_pipeline.proofs.HiddenLemmas.{normalized_keeps_hidden}
 use Rattle.shape_pipeline.proofs.ItemGlyphLemmas.{normalized_has_glyphs, all_of_none}
 use Rattle.shape_pipeline.proofs.NormalizedLemmas.{empty_is_normalized, normalized_brings_in, normalized_orders, within_normalized}
 use Rattle.shape_pipeline.proofs.RulesLemmas.{used_reorder-lawful}
@@ -76,3 +81,25 @@ returns-else-is_err-clause-within g c =
     let rules = rules_of g.U.hb_unicode_funcs_t.unicode shaper.constants shaper.hooks shaper.reordered g.F.hb_font_t.face c.args.plan.now c.args.face.now in
     let lawful = used_reorder-lawful shaper.reordered g.met.S.hb_ot_shaper_t.reorders shaper.constants.has_reorder_marks c.args.plan.now in
     within_normalized rules lawful c.args.buffer.now c.normalize-outcome.new.buffer c.normalize-outcome.result _ c.normalize-outcome.ensures.ok c.normalize-outcome.ensures.counted
+
+pub returns-else-is_err-clause-features : goal.returns-else-is_err-clause-features
+returns-else-is_err-clause-features g c =
+    let shaper = g.S.hb_ot_shaper_t in
+    let rules = rules_of g.U.hb_unicode_funcs_t.unicode shaper.constants shaper.hooks shaper.reordered g.F.hb_font_t.face c.args.plan.now c.args.face.now in
+    let lawful = used_reorder-lawful shaper.reordered g.met.S.hb_ot_shaper_t.reorders shaper.constants.has_reorder_marks c.args.plan.now in
+    on_ok_weaker c.normalize-outcome.result (normalized_keeps_features rules lawful c.args.buffer.now c.normalize-outcome.new.buffer) c.normalize-outcome.ensures.ok
+
+pub returns-then-len-eq0-clause-features : goal.returns-then-len-eq0-clause-features
+returns-then-len-eq0-clause-features g c =
+    all_of_none (λ (item : Item). Contains (map features_of c.args.buffer.now.items) (features_of item)) c.args.buffer.now.items (omega arith)
+
+pub returns-else-is_err-clause-joiners : goal.returns-else-is_err-clause-joiners
+returns-else-is_err-clause-joiners g c =
+    let shaper = g.S.hb_ot_shaper_t in
+    let rules = rules_of g.U.hb_unicode_funcs_t.unicode shaper.constants shaper.hooks shaper.reordered g.F.hb_font_t.face c.args.plan.now c.args.face.now in
+    let lawful = used_reorder-lawful shaper.reordered g.met.S.hb_ot_shaper_t.reorders shaper.constants.has_reorder_marks c.args.plan.now in
+    on_ok_weaker c.normalize-outcome.result (normalized_keeps_hidden rules lawful c.args.buffer.now c.normalize-outcome.new.buffer) c.normalize-outcome.ensures.ok
+
+pub returns-then-len-eq0-clause-joiners : goal.returns-then-len-eq0-clause-joiners
+returns-then-len-eq0-clause-joiners g c = λ unseen.
+    all_of_none (λ (item : Item). (item.properties.hidden ≡ is_hidden_char item.codepoint) ⊎ Contains (map hidden_char c.args.buffer.now.items) (hidden_char item)) c.args.buffer.now.items (omega arith)
