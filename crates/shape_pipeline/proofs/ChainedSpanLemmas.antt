@@ -45,6 +45,7 @@ module _ (rules : Rules) where
   abbrev item_at : ℕ → Item → Placed
   item_at place item = record { item = item; place = place; joined = [] }
 
+  -- what is put out of the items from place k on, after the starter and these marks
   after_in_order : (n k : ℕ) (s : Placed) (ms : List Placed) (items : List Item) → s.place < k → InOrder k s → AllByRecursion (InOrder n) ms → k + length items ≡ n → AllByRecursion (InOrder n) (after s ms (placed k items))
   after_in_order n k s ms [] lt h each is = (in_order-higher s.place k n s.joined (omega arith) h, each)
   after_in_order n k s ms (x ∷ items) lt h each is =
@@ -99,7 +100,7 @@ length-spans_merged : (spans : List (ℕ × ℕ)) (xs : List Item) → length (s
 length-spans_merged [] xs = refl
 length-spans_merged (span ∷ spans) xs = length-spans_merged spans (merge span.0 span.1 xs) ∙ length-merge span.0 span.1 xs
 
--- from `from` on, where the items from `place` up to it share their cluster
+-- the spans of one starter from `from` on, where the items from `place` up to it share their cluster
 one_chained : (place from : ℕ) (joined : List Joined) (xs : List Item) → place ≤ from → AreJoinedInOrder from (length xs) joined → ((k : ℕ) → place ≤ k → k < from → SharesCluster xs k)
     → spans_merged (map (λ (mark : Joined). (place, mark.place + 1)) joined) xs ≡ spans_merged (spans_between from joined) xs
 one_chained place from [] xs le h shares = refl
@@ -114,6 +115,7 @@ one_chained place from (mark ∷ joined) xs le h shares =
     one_chained place mark.place joined merged (omega arith) (rw (length-merge place end xs) h.2) (λ k ge lt. merge_joins place end xs k ge (omega arith) within)
     ∙ ap (spans_merged (spans_between mark.place joined)) same
 
+-- one starter after the other
 all_chained : (n : ℕ) (out : List Placed) (xs : List Item) → length xs ≡ n → AllByRecursion (InOrder n) out → spans_merged (joined_spans out) xs ≡ spans_merged (chained_spans out) xs
 all_chained n [] xs is h = refl
 all_chained n (p ∷ out) xs is h =
@@ -154,7 +156,8 @@ merged_at (span ∷ spans) b =
     ∙ ap (λ (m : Buffer). put_at m.cluster_level m (spans_merged spans m.items)) (merge_out_is span.0 span.1 b)
     ∙ put_at-then b.cluster_level span spans b
 
-pub chained_merged : (rules : Rules) (b : Buffer) → spans_merged_out (chained_spans (recomposed_items rules b.items)) b ≡ spans_merged_out (joined_spans (recomposed_items rules b.items)) b
+-- the spans of the code do what those of the round do
+chained_merged : (rules : Rules) (b : Buffer) → spans_merged_out (chained_spans (recomposed_items rules b.items)) b ≡ spans_merged_out (joined_spans (recomposed_items rules b.items)) b
 chained_merged rules b =
     let out = recomposed_items rules b.items in
     merged_at (chained_spans out) b
