@@ -1,7 +1,7 @@
 -- What a normalised list has of the list that it was made of.
 use Rattle.std.proofs.Common.{◌≡◌, ℕ, ◌<◌, ◌≤◌, ◌⊎◌, ◌==◌, ◌&&◌, Result, Ok, Err, OnOk, Bool, true, false, if◌then◌else◌, List, [], ◌∷◌, length, map, bit_and, Option, None, refl, sym, subst, ◌∙◌, ap, arith, inl, inr}
 use Rattle.std.specs.List.{AllByRecursion, Contains}
-use Rattle.std.proofs.lemmas.Bool.{cases_Bool, cond-true}
+use Rattle.std.proofs.lemmas.Bool.{cases_Bool, cond-true, cond-false, and_right}
 use Rattle.std.proofs.lemmas.List.{length-map}
 use Rattle.std.proofs.lemmas.List.Elements.{All-from_recursion, recursion_from_All}
 use Rattle.shape_buffer.specs.Items.{Item, char_of, class_of_item}
@@ -111,13 +111,21 @@ IsKey-without_place = record {
 }
 
 -- with a mark past the first item, and with no hook, the ordered list is the expanded one with its runs settled
-pub normalized_orders : (rules : Rules) (b : Buffer) → OrdersExpanded rules b
-normalized_orders rules b = λ marked none.
+orders_ordered : (rules : Rules) (b : Buffer) → has_mark_past_first b.items ≡ true → rules.reorder ≡ None → OrdersMarks (round_one rules b).items (ordered rules b).items
+orders_ordered rules b marked none =
     let one : Buffer = round_one rules b in
     let by_none : OrdersMarks one.items (joiners_settled (marks_ordered None one)).items =
     rw (keys-joiners_settled without_place (λ item. refl) (marks_ordered None one)) (marks_ordered_settles without_place IsKey-without_place class_of_item (λ item. refl) one) in
     let by_hook : OrdersMarks one.items (joiners_settled (marks_ordered rules.reorder one)).items = subst (λ (hook : Option (Buffer → ℕ → ℕ → Buffer)). OrdersMarks one.items (joiners_settled (marks_ordered hook one)).items) (sym none) by_none in
     subst (λ (c : Buffer). OrdersMarks one.items (joiners_settled c).items) (sym (cond-true _ (marks_ordered rules.reorder one) one marked)) by_hook
+
+pub normalized_orders : (rules : Rules) (b new : Buffer) → new ≡ normalized rules b → OrdersExpanded rules b new
+normalized_orders rules b new is = record {
+  ordered_list = orders_ordered rules b;
+  new_list = λ marked none leaves.
+      let same : normalized rules b ≡ ordered rules b = cond-false _ (round_three rules (ordered rules b)) (ordered rules b) (and_right (has_mark_past_first b.items) rules.recomposes leaves) in
+      subst (λ (c : Buffer). OrdersMarks (round_one rules b).items c.items) (sym (is ∙ same)) (orders_ordered rules b marked none);
+}
 
 -- ---- the empty text
 

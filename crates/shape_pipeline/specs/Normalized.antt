@@ -46,10 +46,10 @@ abbrev pub HasItemGlyph : Rules → Buffer → Item → Type 0
 HasItemGlyph rules old item =
     (item.glyph_index ≡ item_glyph rules old.invisible_glyph item) ⊎ Contains (map content (selector_items rules old)) (content item)
 
--- the marks of the expanded list were put in order: swaps reach the ordered list, in which each run of at most 32 is in canonical order
-abbrev pub OrdersExpanded : Rules → Buffer → Type 0
-OrdersExpanded rules old =
-    has_mark_past_first old.items ≡ true → rules.reorder ≡ None → OrdersMarks (round_one rules old).items (ordered rules old).items
+-- the marks of the expanded list were put in order: swaps reach the ordered list, in which each run of at most 32 is in canonical order; in the modes that don't compose it is the new list
+pub record OrdersExpanded (rules : Rules) (old new : Buffer) : Type 0 where
+  pub ordered_list : has_mark_past_first old.items ≡ true → rules.reorder ≡ None → OrdersMarks (round_one rules old).items (ordered rules old).items
+  pub new_list : has_mark_past_first old.items ≡ true → rules.reorder ≡ None → rules.recomposes ≡ false → OrdersMarks (round_one rules old).items new.items
 
 -- the feature bits of an item: its mask without the three defined flags
 abbrev pub features_of : Item → ℕ

@@ -80,7 +80,7 @@ where
     ensures canonical_form { OnOk result (NormalizesCanonically
         (rules_of U.unicode S.constants S.hooks S.reordered F.face plan.now face.now) buffer.old buffer.new) }
     ensures ordered { OnOk result (OrdersExpanded
-        (rules_of U.unicode S.constants S.hooks S.reordered F.face plan.now face.now) buffer.old) }
+        (rules_of U.unicode S.constants S.hooks S.reordered F.face plan.now face.now) buffer.old buffer.new) }
     ensures clusters { OnOk result (IsMonotoneLevel buffer.old.cluster_level
         → HookKeepsClusters (rules_of U.unicode S.constants S.hooks S.reordered F.face plan.now face.now)
         → KeepsClusters (clusters buffer.old.items) (clusters buffer.new.items)) }

@@ -22,6 +22,7 @@ use crate::ot_shape_normalize::round_one::sequences::{
 };
 use crate::ot_shape_plan::hb_ot_shape_plan_t;
 use crate::ot_shaper::hb_ot_shaper_t;
+pub(crate) use expanded::part_of;
 use shape_buffer::buffer::{ShapeError, hb_buffer_t, hb_glyph_info_t};
 use shape_buffer::interfaces::{hb_font_t, hb_ot_layout_t, hb_unicode_funcs_t};
 use std::alloc::Global;

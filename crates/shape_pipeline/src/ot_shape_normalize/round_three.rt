@@ -13,9 +13,10 @@ ghost use Rattle.shape_pipeline.specs.RoundOne.{part_item, seen_chars};
 ghost use Rattle.shape_pipeline.specs.RoundThree.{recomposed_items, chained_spans, composed_chars, spans_merged_out, placed_info, class_of_placed_info, composed_char, settled_info, round_three};
 ghost use Rattle.shape_pipeline.specs.Rules.{used_join, has_glyph, rules_of};
 
+use crate::ot_shape_normalize::round_one::part_of;
 use crate::ot_shape_plan::hb_ot_shape_plan_t;
 use crate::ot_shaper::hb_ot_shaper_t;
-use shape_buffer::buffer::{GlyphId, ScratchFlags, ShapeError, hb_buffer_t, hb_glyph_info_t};
+use shape_buffer::buffer::{ScratchFlags, ShapeError, hb_buffer_t, hb_glyph_info_t};
 use shape_buffer::interfaces::{hb_font_t, hb_ot_layout_t, hb_unicode_funcs_t};
 use std::alloc::{AllocError, Global};
 
@@ -126,15 +127,8 @@ impl PlacedInfo {
         ensures item { result ≡ record self.now { info = part_item U.unicode (F.face face.now).nominal_glyph self.now.info c } }
         ensures flags { scratch_flags.new ≡ with_scratch_of U.unicode c scratch_flags.old }
     {
-        let mut info = self.info;
-        info.codepoint = c;
-        info.glyph_index = match face.get_nominal_glyph(c) {
-            Some(GlyphId(glyph)) => glyph,
-            None => 0,
-        };
-        info.init_unicode_props::<U>(scratch_flags);
         PlacedInfo {
-            info,
+            info: part_of::<U, F>(face, &self.info, c, scratch_flags),
             place: self.place,
         }
     }

@@ -28,6 +28,16 @@ fn settings(rt: HostRuntime) -> Result<(), Fail> {
     assert_eq!(rt; text.not_found_variation_selector_glyph(), Some(GlyphId(4)));
     assert_eq!(rt; text.pre_context(), ['3', '4', '5', '6', '7'].as_slice());
     assert_eq!(rt; text.post_context(), ['ß', '2', '3', '4', '5'].as_slice());
+    Ok(())
+}
+
+#[test]
+fn settings_of_a_buffer(rt: HostRuntime) -> Result<(), Fail> {
+    let mut text = UnicodeBuffer::new(rt.alloc());
+    text.set_cluster_level(BufferClusterLevel::Characters);
+    text.set_language(Some(Language(String::from_str(rt.alloc(), "de")?)));
+    text.set_pre_context("ä1234567");
+    text.set_post_context("ß234567");
     let mut buffer = text.into_inner();
     buffer.set_pre_context("äb");
     buffer.set_post_context("");
@@ -88,7 +98,14 @@ fn lists(rt: HostRuntime) -> Result<(), Fail> {
     assert_eq!(rt; advances.as_slice(), [0, 7, 0, 0].as_slice());
     buffer.leave();
     assert_eq!(rt; buffer.length_limit(), usize::MAX);
-    let glyphs = buffer.into_glyphs();
+    Ok(())
+}
+
+#[test]
+fn glyphs(rt: HostRuntime) -> Result<(), Fail> {
+    let mut text = UnicodeBuffer::new(rt.alloc());
+    text.push_str("a\u{301}bc")?;
+    let glyphs = text.into_inner().into_glyphs();
     assert_eq!(rt; glyphs.len(), 4);
     assert_eq!(rt; glyphs.glyph_infos().len(), glyphs.glyph_positions().len());
     assert_eq!(rt; glyphs.clear().len(), 0);
@@ -118,8 +135,8 @@ fn limits(rt: HostRuntime) -> Result<(), Fail> {
     Ok(())
 }
 
-#[test]
-fn properties(rt: HostRuntime) -> Result<(), Fail> {
+/// An item with every property set.
+fn with_every_property() -> hb_glyph_info_t {
     let mut item = hb_glyph_info_t::new('a', 3);
     item._hb_glyph_info_set_general_category(hb_unicode_general_category_t::NonspacingMark);
     item._hb_glyph_info_set_modified_class(230);
@@ -139,6 +156,12 @@ fn properties(rt: HostRuntime) -> Result<(), Fail> {
     item._hb_glyph_info_set_syllable(200);
     item._hb_glyph_info_set_shaper_category(11);
     item._hb_glyph_info_set_shaper_auxiliary(12);
+    item
+}
+
+#[test]
+fn properties(rt: HostRuntime) -> Result<(), Fail> {
+    let item = with_every_property();
     assert_eq!(rt;
         item._hb_glyph_info_get_general_category(),
         hb_unicode_general_category_t::NonspacingMark

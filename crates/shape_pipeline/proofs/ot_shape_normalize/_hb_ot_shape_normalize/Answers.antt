@@ -30,7 +30,7 @@ pub returns-then-len-eq0-clause-ordered : goal.returns-then-len-eq0-clause-order
 returns-then-len-eq0-clause-ordered g c =
     let shaper = g.S.hb_ot_shaper_t in
     let rules = rules_of g.U.hb_unicode_funcs_t.unicode shaper.constants shaper.hooks shaper.reordered g.F.hb_font_t.face c.args.plan.now c.args.face.now in
-    normalized_orders rules c.args.buffer.now
+    normalized_orders rules c.args.buffer.now c.args.buffer.now (empty_is_normalized rules c.args.buffer.now (omega arith) (omega arith))
 
 pub returns-then-len-eq0-clause-clusters : goal.returns-then-len-eq0-clause-clusters
 returns-then-len-eq0-clause-clusters g c = λ monotone keeps.
@@ -66,7 +66,7 @@ pub returns-else-is_err-clause-ordered : goal.returns-else-is_err-clause-ordered
 returns-else-is_err-clause-ordered g c =
     let shaper = g.S.hb_ot_shaper_t in
     let rules = rules_of g.U.hb_unicode_funcs_t.unicode shaper.constants shaper.hooks shaper.reordered g.F.hb_font_t.face c.args.plan.now c.args.face.now in
-    on_ok_weaker c.normalize-outcome.result (λ is. normalized_orders rules c.args.buffer.now) c.normalize-outcome.ensures.ok
+    on_ok_weaker c.normalize-outcome.result (normalized_orders rules c.args.buffer.now c.normalize-outcome.new.buffer) c.normalize-outcome.ensures.ok
 
 pub returns-else-is_err-clause-clusters : goal.returns-else-is_err-clause-clusters
 returns-else-is_err-clause-clusters g c =

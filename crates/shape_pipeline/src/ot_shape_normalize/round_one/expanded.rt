@@ -36,6 +36,23 @@ fn glyph_index<F: hb_font_t>(face: &F, c: char) -> u32
     }
 }
 
+/// A copy of an item with another character, its glyph, and the properties of that character.
+pub(crate) fn part_of<U: hb_unicode_funcs_t, F: hb_font_t>(
+    face: &F,
+    info: &hb_glyph_info_t,
+    c: char,
+    scratch_flags: &mut ScratchFlags,
+) -> hb_glyph_info_t
+    ensures item { result ≡ part_item U.unicode (F.face face.now).nominal_glyph info.now c }
+    ensures flags { scratch_flags.new ≡ with_scratch_of U.unicode c scratch_flags.old }
+{
+    let mut part = *info;
+    part.codepoint = c;
+    part.glyph_index = glyph_index(face, c);
+    part.init_unicode_props::<U>(scratch_flags);
+    part
+}
+
 /// The glyph that stands in for a space: that of U+0020, else the invisible one.
 fn space_glyph<U: hb_unicode_funcs_t, F: hb_font_t>(
     face: &F,
@@ -125,10 +142,7 @@ impl Expanded {
             ≡ self.old.infos.items ++ part_item U.unicode (F.face face.now).nominal_glyph info.now c ∷ []) }
         ensures flags { OnOk result (self.new.scratch_flags ≡ with_scratch_of U.unicode c self.old.scratch_flags) }
     {
-        let mut part = *info;
-        part.codepoint = c;
-        part.glyph_index = glyph_index(face, c);
-        part.init_unicode_props::<U>(&mut self.scratch_flags);
+        let part = part_of::<U, F>(face, info, c, &mut self.scratch_flags);
         self.infos.push(part)?;
         Ok(())
     }
