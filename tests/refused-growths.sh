@@ -1,6 +1,6 @@
 #!/bin/sh
 # Runs the test of the buffer's calls and then the built program on its stored input and on those of `growths`,
-# each of which has one answer, with the first growth of memory refused, then the second, and so on until a run
+# with the first growth of memory refused, then the second, and so on until a run
 # is whole.
 #
 # A run of the test must pass, or say that a call was `refused` (behind its own comparisons of what that call
@@ -8,8 +8,8 @@
 # three ways:
 #
 #   the whole answer, status 0;
-#   `refused 1` in its place, status 0;
-#   `error: input`, status 1.
+#   the same with `refused 1` in place of what answers one line, status 0;
+#   the answers of the first lines, then `error: input`, status 1.
 cd "$(dirname "$0")/.." || exit 1
 calls=crates/shape_buffer/out/shape_buffer_tests
 program=crates/shapeline/out/shapeline
@@ -40,6 +40,25 @@ done
 echo "refused growths: $refused of the buffer's calls refused, run $n was whole"
 [ "$refused" -gt 0 ] || exit 1
 
+# Whether an answer is the expected one with `refused 1` in place of what answers one line.
+is_refused() {
+    answered=$(grep -cE '^(prepared|same)' "$2")
+    line=1
+    while [ "$line" -le "$answered" ]; do
+        awk -v line="$line" '/^(prepared|same)/ { n++; if (n == line) print "refused 1" } n != line' "$2" > "$work/refused"
+        cmp -s "$1" "$work/refused" && return 0
+        line=$((line + 1))
+    done
+    return 1
+}
+
+# Whether an answer is the beginning of the expected one, and then `error: input`.
+is_input_error() {
+    lines=$(($(wc -l < "$1") - 1))
+    { head -n "$lines" "$2"; echo "error: input"; } > "$work/input"
+    cmp -s "$1" "$work/input"
+}
+
 # Runs the program on an input with each growth refused in turn, until a run gives the whole answer.
 refuse_all() {
     n=1 answers=0 inputs=0
@@ -50,9 +69,9 @@ refuse_all() {
             echo "refused growths: $inputs gave 'error: input', $answers gave 'refused 1', run $n was whole"
             [ "$inputs" -gt 0 ] && [ "$answers" -gt 0 ]
             return
-        elif [ "$status" -eq 0 ] && [ "$(cat "$work/answer")" = "refused 1" ]; then
+        elif [ "$status" -eq 0 ] && is_refused "$work/answer" "$2"; then
             answers=$((answers + 1))
-        elif [ "$status" -eq 1 ] && [ "$(cat "$work/answer")" = "error: input" ]; then
+        elif [ "$status" -eq 1 ] && is_input_error "$work/answer" "$2"; then
             inputs=$((inputs + 1))
         else
             echo "growth $n refused: status $status and this answer:"

@@ -10,7 +10,7 @@ use Rattle.shape_buffer.specs.Buffer.{Buffer}
 use Rattle.shape_buffer.specs.BufferClusters.{merge_clusters, merge_at, unsafe_to_break}
 use Rattle.shape_buffer.specs.Clusters.{map_range, merge, mark_break, least_cluster, growth_left, growth_right}
 use Rattle.shape_buffer.specs.Items.{Item, class_of_item, put_in, feature_bits}
-use Rattle.shape_buffer.specs.Order.{falls, sink, in_order}
+use Rattle.canonical_form.specs.Order.{falls, sink, in_order}
 use Rattle.shape_buffer.specs.declared.buffer.settings.BufferClusterLevel.{BufferClusterLevel}
 use Rattle.shape_buffer.specs.declared.buffer.settings.BufferClusterLevel.TheVariants.{MonotoneGraphemes, MonotoneCharacters, Characters}
 
@@ -72,7 +72,7 @@ module _ {B : Type 0} (key : Item → B) (is_key : IsKey key) where
         | inr short ↦ ap (map key) (merge_short start end xs short)
       ]
 
-  keys-unsafe_to_break : (start end : ℕ) (b : Buffer) → map key (unsafe_to_break start end b).items ≡ map key b.items
+  pub keys-unsafe_to_break : (start end : ℕ) (b : Buffer) → map key (unsafe_to_break start end b).items ≡ map key b.items
   keys-unsafe_to_break start end b =
       elim (cases_Bool (nat_lt (start + 1) end)) [
         | inl long ↦
@@ -109,7 +109,7 @@ IsKey-unflagged = record {
 abbrev pub without_items : Buffer → Buffer
 without_items b = record b { items = []; scratch_flags = record { 0 = 0 } }
 
-without_items-unsafe_to_break : (start end : ℕ) (b : Buffer) → without_items (unsafe_to_break start end b) ≡ without_items b
+pub without_items-unsafe_to_break : (start end : ℕ) (b : Buffer) → without_items (unsafe_to_break start end b) ≡ without_items b
 without_items-unsafe_to_break start end b =
     elim (cases_Bool (nat_lt (start + 1) end)) [ inl long ↦ rw long refl | inr short ↦ rw short refl ]
 

@@ -1,7 +1,9 @@
 -- The requests of a plan.
-use Rattle.std.specs.Prelude.{Bool, true, List, [], Option}
+use Rattle.std.specs.Prelude.{ℕ, Bool, true, List, [], ◌∷◌, ◌++◌, Option}
+use Rattle.std.specs.Int.RustNames.{bit_or}
 use Rattle.shape_buffer.specs.declared.buffer.settings.hb_tag_t.{hb_tag_t}
 use Rattle.shape_buffer.specs.declared.interfaces.map_request.MapRequest.{MapRequest}
+use Rattle.shape_buffer.specs.declared.interfaces.map_request.MapRequest.TheVariants.{Feature, Pause}
 use Rattle.shape_buffer.specs.declared.interfaces.map_request.TableIndex.{TableIndex}
 use Rattle.shape_buffer.specs.declared.interfaces.map_request.TableIndex.TheVariants.{GSUB, GPOS}
 
@@ -20,3 +22,27 @@ new_builder chosen = record { requests = []; is_simple = true; gsub_script = cho
 abbrev pub chosen_script : Builder → TableIndex → Option hb_tag_t
 chosen_script builder GSUB = builder.gsub_script
 chosen_script builder GPOS = builder.gpos_script
+
+-- more requests at the end
+abbrev pub with_requests : Builder → List MapRequest → Builder
+with_requests builder more = record builder { requests = builder.requests ++ more }
+
+-- one more request at the end
+abbrev pub with_request : Builder → MapRequest → Builder
+with_request builder request = with_requests builder (request ∷ [])
+
+-- a feature, with its flags and value
+abbrev pub feature : hb_tag_t → ℕ → ℕ → MapRequest
+feature tag flags value = Feature tag flags value
+
+-- a feature over the whole text: with the flag F_GLOBAL (1)
+abbrev pub feature_on : hb_tag_t → ℕ → ℕ → MapRequest
+feature_on tag flags value = feature tag (bit_or 1 flags) value
+
+-- a feature turned off over the whole text
+abbrev pub feature_off : hb_tag_t → MapRequest
+feature_off tag = feature tag 1 0
+
+-- a pause of substitution, which may have a number
+abbrev pub pause : Option ℕ → MapRequest
+pause number = Pause number

@@ -9,4 +9,8 @@
 
 pub mod buffer;
 pub mod interfaces;
-pub mod laws;
+pub mod position_walks;
+pub mod walks;
+pub mod wrapping;
+
+pub use canonical_form::laws;

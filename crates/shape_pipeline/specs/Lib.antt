@@ -1,13 +1,5 @@
-pub mod Plan
-pub mod Shaper
-pub mod Reorder
-pub mod Shapers
-pub mod Steps
-pub mod Rules
-pub mod RoundOne
-pub mod RoundTwo
-pub mod RoundThree
-pub mod Normalized
+pub mod Kept
 pub mod Shaped
-pub mod Prepared
-pub mod CanonicalForm
+pub mod Order
+pub mod Headline
+pub mod Planned

@@ -1,28 +1,99 @@
--- What a run makes of a text, as far as its steps are built.
-use Rattle.std.specs.Prelude.{◌≡◌, [], ◌∷◌, Some, length}
+-- A run: the list of its steps, and what it makes of a text.
+use Rattle.std.specs.Prelude.{◌≡◌, ◌≢◌, ◌≤◌, List, [], ◌∷◌, ◌++◌, Some, None, length}
 use Rattle.shape_buffer.specs.Buffer.{Buffer, run_limit}
-use Rattle.shape_buffer.specs.Guess.{guessed}
-use Rattle.shape_buffer.specs.Items.{Item}
-use Rattle.shape_buffer.specs.Unicode.{UnicodeMeaning}
-use Rattle.shape_pipeline.specs.Rules.{Rules}
-use Rattle.shape_pipeline.specs.Normalized.{normalized, HasItemGlyph}
-use Rattle.shape_pipeline.specs.Steps.{properties_set, glyphs_mapped}
+use Rattle.shape_buffer.specs.Guess.{guessed, guessed_direction}
+use Rattle.shape_buffer.specs.Outcome.{Step, step, run_steps, EachWithin, SomePast}
+use Rattle.shape_buffer.specs.declared.buffer.settings.Direction.{Direction}
+use Rattle.shape_fallback.specs.Steps.{recategorize_step, spaces_step, marks_step}
+use Rattle.shape_normalize.specs.Normalized.{normalized}
+use Rattle.shape_normalize.specs.RoundOne.{round_one}
+use Rattle.shape_plan.specs.Rules.{Rules}
+use Rattle.shape_plan.specs.Run.{Run}
+use Rattle.shape_position.specs.Steps.{advance_steps, table_steps, finish_steps}
+use Rattle.shape_prepare.specs.PrepareSteps.{prepare_steps}
+use Rattle.shape_substitute.specs.Substitution.{mask_steps, glyph_steps, substitute_steps}
+
+-- normalising: its longest list is the expanded one
+abbrev pub normalising : Rules → Step
+normalising rules = record { makes = normalized rules; counts = λ b. length (round_one rules b).items }
+
+-- what substitution finds: masks, classes that marks are placed by, glyphs with their classes
+abbrev pub glyph_start : Run → List Step
+glyph_start run = mask_steps run ++ (step (recategorize_step run.decisions) ∷ glyph_steps run)
+
+-- from characters to glyphs
+abbrev pub glyph_part : Run → List Step
+glyph_part run = glyph_start run ++ substitute_steps run
+
+-- what the face alone says of positions: advances, origins and spaces
+abbrev pub place_start : Run → List Step
+place_start run = advance_steps run ++ (step (spaces_step run.face) ∷ [])
+
+-- from glyphs to positions: the face, tables, and marks that no table places
+abbrev pub place_part : Run → List Step
+place_part run =
+    place_start run ++ (table_steps run ++ (step (marks_step run.unicode run.face run.direction run.script run.decisions) ∷ []))
+
+-- what is made of a normalised list
+abbrev pub shaped_steps : Run → List Step
+shaped_steps run = glyph_part run ++ (place_part run ++ finish_steps run)
+
+-- a whole run, in its order
+abbrev pub all_steps : Run → Direction → List Step
+all_steps run target = prepare_steps run target ++ (normalising run.rules ∷ shaped_steps run)
 
 -- the text as a run begins: no scratch flag, and a limit by its length
 abbrev pub entered : Buffer → Buffer
 entered b = record b { scratch_flags = record { 0 = 0 }; length_limit = Some (run_limit (length b.items)) }
 
--- the text as normalising begins: guessed, entered, each item with the properties of its character
-abbrev pub prepared : UnicodeMeaning → Buffer → Buffer
-prepared unicode b = properties_set unicode (entered (guessed unicode b))
+-- the glyphs as they are handed out: in the direction of the text, and without a limit
+abbrev pub finished : Direction → Buffer → Buffer
+finished target b = record b { direction = target; length_limit = None }
 
--- no step is done for an empty text but guessing
-abbrev pub shaped : Rules → Buffer → Buffer
-shaped rules b = elim b.items [
-  | [] ↦ guessed rules.unicode b
-  | _ ∷ _ ↦ glyphs_mapped (normalized rules (prepared rules.unicode b))
+-- the text as normalising begins
+abbrev pub prepared : Run → Direction → Buffer → Buffer
+prepared run target b = run_steps (prepare_steps run target) b
+
+-- the text as it is normalised
+abbrev pub normalised : Run → Direction → Buffer → Buffer
+normalised run target b = normalized run.rules (prepared run target b)
+
+-- the text of a buffer prepared: no step is done for an empty one
+abbrev pub text_made : Run → Direction → Buffer → Buffer
+text_made run target b = elim b.items [
+  | [] ↦ b
+  | _ ∷ _ ↦ prepared run target (entered b)
 ]
 
--- an item that is handed out: its glyph is its index, which is that of its character or what stands in for it, but for those that come of sequences with a variation selector
-abbrev pub IsHandedOut : Rules → Buffer → Item → Type 0
-IsHandedOut rules text item = (item.glyph_id ≡ item.glyph_index) × HasItemGlyph rules (prepared rules.unicode text) item
+-- the glyphs of a text: no step is done for an empty one
+abbrev pub run_made : Run → Direction → Buffer → Buffer
+run_made run target b = elim b.items [
+  | [] ↦ b
+  | _ ∷ _ ↦ finished target (run_steps (all_steps run target) (entered b))
+]
+
+-- and with script and direction guessed first
+abbrev pub shaped : Run → Buffer → Buffer
+shaped run b = run_made run (guessed_direction run.unicode b) (guessed run.unicode b)
+
+-- a list has items
+abbrev pub HasItems : Buffer → Type 0
+HasItems b = b.items ≢ []
+
+-- a text was prepared: exactly this was made of it, and no step made a list past the run's limit
+pub record Prepares (run : Run) (target : Direction) (old new : Buffer) : Type 0 where
+  pub made : new ≡ text_made run target old
+  pub counted : HasItems old → EachWithin (prepare_steps run target) (entered old)
+
+-- a text was shaped: exactly this was made of it, within the run's limit, and no step made a list past it
+pub record Shapes (run : Run) (target : Direction) (old new : Buffer) : Type 0 where
+  pub made : new ≡ run_made run target old
+  pub within : length new.items ≤ run_limit (length old.items)
+  pub counted : HasItems old → EachWithin (all_steps run target) (entered old)
+
+-- some step would make a list past the run's limit
+pub record PreparingPasses (run : Run) (target : Direction) (b : Buffer) : Type 0 where
+  pub past : SomePast (prepare_steps run target) (entered b)
+
+pub record ShapingPasses (run : Run) (target : Direction) (b : Buffer) : Type 0 where
+  pub past : SomePast (all_steps run target) (entered b)

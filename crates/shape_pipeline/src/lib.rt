@@ -1,14 +1,14 @@
 //! Shapes a text: makes the glyphs of a face, with positions and clusters, of a list of characters.
 //!
-//! A plan says how texts of one direction and script are shaped with one face: [`ot_shape_plan`]. Script
-//! shapers hook in by the trait of [`ot_shaper`]. [`shape`] runs a plan over a buffer, step by step:
-//! the steps stand in [`ot_shape`], normalising in [`ot_shape_normalize`].
+//! A plan says how texts of one direction and script are shaped with one face: [`ot_shape_plan`]; it is made by
+//! the planner of [`ot_shape`]. Script shapers hook in by the trait of [`ot_shaper`]. [`shape`] runs a plan
+//! over a buffer: the list of steps stands in [`ot_shape`], each step in a crate below.
 #![tactic(auto)]
 #![allow(non_camel_case_types)]
 
-pub mod laws;
 pub mod ot_shape;
-pub mod ot_shape_normalize;
-pub mod ot_shape_plan;
-pub mod ot_shaper;
 pub mod shape;
+
+pub use shape_fallback::ot_shape_fallback;
+pub use shape_normalize::{laws, ot_shape_normalize};
+pub use shape_plan::{ot_shape_plan, ot_shaper};

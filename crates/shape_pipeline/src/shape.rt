@@ -1,30 +1,25 @@
-//! The entry: text goes in, glyphs come out.
-ghost use Rattle.std.specs.Prelude.{◌≡◌, ◌<◌, ◌≤◌, [], length, map, All, IsOk, IfOk, IfErr};
+//! The entries: text goes in, glyphs come out.
+ghost use Rattle.std.specs.Prelude.{◌≡◌, ◌≤◌, [], length, IsOk, IfOk, IfErr};
 ghost use Rattle.shape_buffer.specs.Buffer.{cleared, run_limit};
-ghost use Rattle.shape_buffer.specs.Clusters.{clusters};
-ghost use Rattle.shape_buffer.specs.ClusterOrder.{KeepsClusters, IsMonotoneLevel};
-ghost use Rattle.shape_buffer.specs.Items.{char_of};
-ghost use Rattle.shape_pipeline.specs.Plan.{Fits};
-ghost use Rattle.shape_pipeline.specs.Rules.{rules_of};
-ghost use Rattle.shape_pipeline.specs.RoundOne.{round_one};
-ghost use Rattle.shape_pipeline.specs.CanonicalForm.{ShapesCanonically};
-ghost use Rattle.shape_pipeline.specs.Normalized.{BroughtInHaveGlyphs, HookKeepsClusters, KeepsFeatures};
-ghost use Rattle.shape_pipeline.specs.Shaped.{prepared, shaped, IsHandedOut};
+ghost use Rattle.shape_buffer.specs.Guess.{guessed, guessed_direction};
+ghost use Rattle.shape_pipeline.specs.Headline.{target_of, prepared_text, normalised_list, NormalForm};
+ghost use Rattle.shape_pipeline.specs.Shaped.{shaped, Shapes, ShapingPasses};
+ghost use Rattle.shape_pipeline.specs.Planned.{planned_for};
+ghost use Rattle.shape_plan.specs.Plan.{Fits};
 
-use crate::ot_shape::{map_glyphs_fast, set_unicode_props};
-use crate::ot_shape_normalize::_hb_ot_shape_normalize;
-use crate::ot_shape_plan::hb_ot_shape_plan_t;
-use crate::ot_shaper::hb_ot_shaper_t;
-use shape_buffer::buffer::{GlyphBuffer, ShapeError, ShapeFault, UnicodeBuffer, hb_buffer_t};
+use crate::ot_shape::{hb_ot_shape_context_t, shape_internal};
+use shape_buffer::buffer::{Feature, GlyphBuffer, ShapeError, ShapeFault, UnicodeBuffer};
 use shape_buffer::interfaces::{hb_font_t, hb_ot_layout_t, hb_unicode_funcs_t};
+use shape_plan::ot_shape_plan::hb_ot_shape_plan_t;
+use shape_plan::ot_shaper::{Runs, hb_ot_shaper_t};
+use shape_plan::planner::Plans;
 use std::alloc::Global;
 
-/// The glyphs of a text by a plan that fits it, with clusters that lead back to the text; positions are
-/// zeros. The text is normalised in the mode that the plan's shaper prefers, and each item has the glyph
-/// that the face answers for its character, or what stands in for it. Script and direction are guessed
-/// where they aren't set. Refuses with `Length` where the expanded list is longer than the run's
-/// limit, and with `Memory` where a growth was refused; the fault holds the cleared buffer. An empty
-/// text gives an empty result and takes no memory.
+/// The glyphs of a text by a plan that fits it, with positions in units of the face and clusters that lead
+/// back to the text. Script and direction are guessed where they aren't set. Refuses with `Length` where a
+/// step would leave a list past the run's limit (in normalising the expanded list counts), and with
+/// `Memory` where a growth was refused; the fault holds the cleared buffer. An empty text gives an empty
+/// result and takes no memory.
 pub fn shape_with_plan<U, F, M, S>(
     alloc: Global,
     face: &F,
@@ -37,42 +32,78 @@ where
     M: hb_ot_layout_t<F>,
     S: hb_ot_shaper_t<U, F, M>,
     requires { Fits U.unicode plan.now buffer }
-    ensures glyphs { IfOk result (λ glyphs. glyphs ≡ shaped
-        (rules_of U.unicode S.constants S.hooks S.reordered F.face plan.now face.now) buffer) }
-    ensures brought_in { IfOk result (λ glyphs. BroughtInHaveGlyphs (F.face face.now).nominal_glyph
-        (map char_of buffer.items) (map char_of glyphs.items)) }
-    ensures item_glyphs { IfOk result (λ glyphs. All (IsHandedOut
-        (rules_of U.unicode S.constants S.hooks S.reordered F.face plan.now face.now) buffer) glyphs.items) }
-    ensures features { IfOk result (λ glyphs. KeepsFeatures buffer glyphs) }
-    ensures canonical_form { IfOk result (λ glyphs. ShapesCanonically
-        (rules_of U.unicode S.constants S.hooks S.reordered F.face plan.now face.now) buffer glyphs) }
-    ensures clusters { IfOk result (λ glyphs. IsMonotoneLevel buffer.cluster_level
-        → HookKeepsClusters (rules_of U.unicode S.constants S.hooks S.reordered F.face plan.now face.now)
-        → KeepsClusters (clusters buffer.items) (clusters glyphs.items)) }
+    ensures glyphs { IfOk result (λ glyphs. glyphs ≡ shaped (⟦<S as Runs<U, F, M>>⟧.run plan.now face.now) buffer) }
+    ensures direction { IfOk result (λ glyphs. glyphs.direction ≡ guessed_direction U.unicode buffer) }
+    ensures form { let run = ⟦<S as Runs<U, F, M>>⟧.run plan.now face.now in
+        IfOk result (λ _. NormalForm run.rules (prepared_text run buffer) (normalised_list run buffer)) }
     ensures within { IfOk result (λ glyphs. length glyphs.items ≤ run_limit (length buffer.items)) }
-    ensures counted { IfOk result (λ _. length (round_one
-        (rules_of U.unicode S.constants S.hooks S.reordered F.face plan.now face.now) (prepared U.unicode buffer)).items ≤ run_limit (length buffer.items)) }
-
-    ensures length { IfErr result (λ fault. fault.cause ≡ ShapeError.Length → run_limit (length buffer.items) < length (round_one
-        (rules_of U.unicode S.constants S.hooks S.reordered F.face plan.now face.now) (prepared U.unicode buffer)).items) }
+    ensures counted { let run = ⟦<S as Runs<U, F, M>>⟧.run plan.now face.now in
+        IfOk result (λ glyphs. Shapes run (target_of run buffer) (guessed U.unicode buffer) glyphs) }
+    ensures length { let run = ⟦<S as Runs<U, F, M>>⟧.run plan.now face.now in
+        IfErr result (λ fault. fault.cause ≡ ShapeError.Length → ShapingPasses run (target_of run buffer) (guessed U.unicode buffer)) }
     ensures cleared { IfErr result (λ fault. fault.buffer ≡ cleared buffer) }
     ensures empty { buffer.items ≡ [] → IsOk result }
 {
     buffer.guess_segment_properties::<U>();
     let mut inner = buffer.into_inner();
-    if inner.len() == 0 {
-        return Ok(inner.into_glyphs());
-    }
-    inner.enter();
-    set_unicode_props::<U>(&mut inner);
-    match _hb_ot_shape_normalize::<U, F, M, S>(alloc, plan, &mut inner, face) {
-        Ok(()) => {
-            map_glyphs_fast(&mut inner);
-            Ok(inner.into_glyphs())
-        }
+    let target_direction = inner.direction();
+    let mut ctx = hb_ot_shape_context_t {
+        plan,
+        face,
+        buffer: &mut inner,
+        target_direction,
+    };
+    match shape_internal::<U, F, M, S>(alloc, &mut ctx) {
+        Ok(()) => Ok(inner.into_glyphs()),
         Err(cause) => Err(ShapeFault {
             cause,
             buffer: inner.clear(),
+        }),
+    }
+}
+
+/// The glyphs of a text: script and direction are guessed where they aren't set, a plan is made for them with
+/// the features that the user asks for, and the text is shaped by it; see [`shape_with_plan`]. A plan is made
+/// for an empty text too. Refuses with `Length` where a step would leave a list past the run's limit, and
+/// with `Memory` where a growth was refused, planning included; the fault holds the cleared buffer.
+pub fn shape<U, F, M, S>(
+    alloc: Global,
+    face: &F,
+    shaper: &S,
+    features: &[Feature],
+    buffer: UnicodeBuffer,
+) -> Result<GlyphBuffer, ShapeFault>
+where
+    U: hb_unicode_funcs_t,
+    F: hb_font_t,
+    M: hb_ot_layout_t<F>,
+    S: hb_ot_shaper_t<U, F, M>,
+    ensures glyphs { IfOk result (λ glyphs. glyphs ≡ shaped (⟦<S as Runs<U, F, M>>⟧.run
+        (planned_for U.unicode ⟦<S as Plans<U, F, M>>⟧.planning face.now shaper.now features.now buffer) face.now) buffer) }
+    ensures direction { IfOk result (λ glyphs. glyphs.direction ≡ guessed_direction U.unicode buffer) }
+    ensures form { let run = ⟦<S as Runs<U, F, M>>⟧.run
+        (planned_for U.unicode ⟦<S as Plans<U, F, M>>⟧.planning face.now shaper.now features.now buffer) face.now in
+        IfOk result (λ _. NormalForm run.rules (prepared_text run buffer) (normalised_list run buffer)) }
+    ensures within { IfOk result (λ glyphs. length glyphs.items ≤ run_limit (length buffer.items)) }
+    ensures cleared { IfErr result (λ fault. fault.buffer ≡ cleared buffer) }
+{
+    let text = buffer.as_inner();
+    let direction = text.guessed_direction::<U>();
+    let script = text.guessed_script::<U>();
+    let planned = hb_ot_shape_plan_t::new::<U, F, M>(
+        alloc,
+        face,
+        shaper,
+        direction,
+        script,
+        text.language(),
+        features,
+    );
+    match planned {
+        Ok(plan) => shape_with_plan::<U, F, M, S>(alloc, face, &plan, buffer),
+        Err(cause) => Err(ShapeFault {
+            cause,
+            buffer: buffer.into_inner().clear(),
         }),
     }
 }

@@ -1,16 +1,34 @@
 -- Faces that know characters alone, and one that knows a variant.
-use Rattle.std.specs.Prelude.{ℕ, List, Some, None, ◌==◌, ◌&&◌, find, if◌then◌else◌}
+use Rattle.std.specs.Prelude.{ℕ, List, pos, Bool, false, ◌==◌, ◌&&◌, Option, Some, None, find, if◌then◌else◌}
 use Rattle.std.specs.Option.{option_map}
 use Rattle.shape_buffer.specs.Face.{FaceMeaning}
+use Rattle.shape_buffer.specs.declared.buffer.settings.GlyphId.{GlyphId}
+use Rattle.shape_rows.specs.declared.support.faces.RowFace.{RowFace}
 
--- every character has the glyph of its own number
-abbrev pub every_glyph : FaceMeaning
-every_glyph = record { nominal_glyph = λ c. Some (record { 0 = c }); variation_glyph = λ _ _. None }
+-- the glyph of its own number, for those of the list
+abbrev pub glyph_among : List ℕ → ℕ → Option GlyphId
+glyph_among characters c = option_map (λ known. record { 0 = known }) (find (λ known. known == c) characters)
 
--- these characters have it
-abbrev pub glyphs_of : List ℕ → FaceMeaning
-glyphs_of chars = record { nominal_glyph = λ c. option_map (λ known. record { 0 = known }) (find (λ known. known == c) chars); variation_glyph = λ _ _. None }
+-- the glyph of its own number, for every character or for those of the list
+abbrev pub glyph_in : RowFace → ℕ → Option GlyphId
+glyph_in face c =
+    if face.every then Some (record { 0 = c })
+    else glyph_among face.characters.now c
 
--- and U+0061 with U+FE00 behind it has glyph 7
-abbrev pub glyphs_with_variant : List ℕ → FaceMeaning
-glyphs_with_variant chars = record (glyphs_of chars) { variation_glyph = λ c selector. if c == 0x61 && selector == 0xFE00 then Some (record { 0 = 7 }) else None }
+-- U+0061 with U+FE00 behind it has glyph 7 in the face with a variant
+abbrev pub variant_in : RowFace → ℕ → ℕ → Option GlyphId
+variant_in face c selector = if face.variant && (c == 0x61 && selector == 0xFE00) then Some (record { 0 = 7 }) else None
+
+-- no glyph has a width or extents, the em square has 1000 units, and there are no tables
+abbrev pub row_face : RowFace → FaceMeaning
+row_face face = record {
+  nominal_glyph = glyph_in face;
+  variation_glyph = variant_in face;
+  h_advance = λ _. pos 0;
+  v_advance = λ _. pos 0;
+  h_origin = λ _. pos 0;
+  v_origin = λ _. pos 0;
+  extents = λ _. None;
+  units_per_em = 1000;
+  tables = record { gsub = false; gpos = false; morx = false; kerx = false; trak = false };
+}

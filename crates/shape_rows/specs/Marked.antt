@@ -30,8 +30,11 @@ marked_unicode = record {
   split = λ _. None;
   height = λ _. 0;
   join = λ _ _. None;
+  mirrored = λ _. None;
+  vertical = λ _. None;
   space_fallback = marked_space;
   ignorable = is_marked_selector;
+  pictographic = λ _. false;
   selector = is_marked_selector;
   script = λ _. record { 0 = record { 0 = 1517976186 } };
   script_direction = λ _. None;
@@ -47,6 +50,8 @@ pub marked_unicode-lawful : LawfulUnicode marked_unicode
 marked_unicode-lawful = record {
   marks_have_classes = marks_have_classes;
   ascii_is_no_mark = ascii_is_no_mark;
+  mirrors_are_plain = λ c d mirrors. cc;
+  verticals_are_plain = λ c d stands. cc;
   splits_fall = record {
     height_falls = record { falls = λ c a b splits. cc };
     second_is_last = λ c a b splits. cc;

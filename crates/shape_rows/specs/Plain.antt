@@ -10,8 +10,11 @@ plain_unicode = record {
   split = λ _. None;
   height = λ _. 0;
   join = λ _ _. None;
+  mirrored = λ _. None;
+  vertical = λ _. None;
   space_fallback = λ _. 0;
   ignorable = λ _. false;
+  pictographic = λ _. false;
   selector = λ _. false;
   script = λ _. record { 0 = record { 0 = 1517976186 } };
   script_direction = λ _. None;
@@ -21,6 +24,8 @@ pub plain_unicode-lawful : LawfulUnicode plain_unicode
 plain_unicode-lawful = record {
   marks_have_classes = λ c marked. absurd (marked refl);
   ascii_is_no_mark = λ c _. refl;
+  mirrors_are_plain = λ c d mirrors. cc;
+  verticals_are_plain = λ c d stands. cc;
   splits_fall = record {
     height_falls = record { falls = λ c a b splits. cc };
     second_is_last = λ c a b splits. cc;

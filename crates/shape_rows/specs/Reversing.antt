@@ -2,7 +2,7 @@
 use Rattle.std.specs.Prelude.{ℕ, zero, suc, ◌+◌, ◌-◌, ◌/◌, ◌≤◌}
 use Rattle.std.proofs.Common.{arith}
 use Rattle.shape_buffer.specs.Buffer.{Buffer}
-use Rattle.shape_pipeline.specs.Reorder.{exchanged, Reorders, done, exchange, ReordersRanges}
+use Rattle.shape_plan.specs.Reorder.{exchanged, Reorders, done, exchange, IsRunInOrder, ReordersRanges}
 
 -- so many pairs of a range exchanged, from the outermost one on
 abbrev pub pairs_exchanged : ℕ → ℕ → ℕ → Buffer → Buffer
@@ -19,5 +19,9 @@ reached_by_pairs start end zero b c ordered few steps = steps
 reached_by_pairs start end (suc k) b c ordered few steps =
     reached_by_pairs start end k b c ordered (omega arith) (exchange (start + k) (end - 1 - k) (omega arith) (omega arith) (omega arith) (omega arith) steps)
 
+-- a run's places are in order
+is_ordered : (b : Buffer) (start end : ℕ) → IsRunInOrder b.items start end → start ≤ end
+is_ordered b start end run = omega (arith, run.some)
+
 pub reversed-reorders : ReordersRanges reversed
-reversed-reorders = record { reorders = λ b start end ordered within. reached_by_pairs start end ((end - start) / 2) b (reversed b start end) ordered (omega arith) done }
+reversed-reorders = record { reorders = λ b start end run. reached_by_pairs start end ((end - start) / 2) b (reversed b start end) (is_ordered b start end run) (omega arith) done }

@@ -1,10 +1,10 @@
 -- The definitions, computed on small cases whose answers are worked out by hand.
 use Rattle.std.specs.Prelude.{◌≡◌, ℕ, ◌==◌, ◌||◌, Bool, true, false, if◌then◌else◌, [], ◌∷◌, Some, None, refl}
 use Rattle.shape_buffer.specs.Buffer.{run_limit}
-use Rattle.shape_buffer.specs.Chain.{chain_point, second_part, full}
-use Rattle.shape_buffer.specs.Expansion.{expansion, choice}
-use Rattle.shape_buffer.specs.Order.{in_order}
-use Rattle.shape_pipeline.specs.RoundTwo.{runs, spans}
+use Rattle.canonical_form.specs.Chain.{chain_point, second_part, full}
+use Rattle.canonical_form.specs.Expansion.{expansion, choice}
+use Rattle.canonical_form.specs.Order.{in_order}
+use Rattle.shape_normalize.specs.RoundTwo.{runs, spans}
 use Rattle.shape_rows.specs.Splitting.{stacked_split}
 
 -- how often a character splits, and then its first parts

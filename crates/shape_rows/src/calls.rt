@@ -1,17 +1,17 @@
 //! Calls on their happy path whose answers no clause of another test shows.
 
-use crate::support::{FaceOf, NoLookups, PlainUnicode, ReversingShaper};
+use crate::support::{PlainUnicode, RowFace};
 use shape_buffer::buffer::{Direction, Feature, Language, Script, UnicodeBuffer, hb_tag_t};
-use shape_buffer::interfaces::{TableIndex, hb_ot_map_builder_t};
+use shape_buffer::interfaces::{NoLookups, TableIndex, hb_ot_map_builder_t};
 use shape_pipeline::ot_shape_normalize::_hb_ot_shape_normalize;
 use shape_pipeline::ot_shape_plan::hb_ot_shape_plan_t;
-use shape_pipeline::ot_shaper::{DEFAULT_SHAPER, hb_default_shaper_t, hb_ot_shaper_t};
+use shape_pipeline::ot_shaper::{DEFAULT_SHAPER, hb_default_shaper_t};
 use std::test::Fail;
 
 #[test]
 fn a_plan_fits_by_direction_and_script(rt: HostRuntime) -> Result<(), Fail> {
     let alloc = rt.alloc();
-    let face = FaceOf(&['a']);
+    let face = RowFace::of(&['a']);
     let latin = Some(Script(hb_tag_t::from_bytes(b"Latn")));
     let language = Language(String::from_str(alloc, "en")?);
     let feature = Feature {
@@ -20,7 +20,7 @@ fn a_plan_fits_by_direction_and_script(rt: HostRuntime) -> Result<(), Fail> {
         start: 0,
         end: u32::MAX,
     };
-    let plan = hb_ot_shape_plan_t::new::<PlainUnicode, FaceOf<'_>, NoLookups>(
+    let plan = hb_ot_shape_plan_t::new::<PlainUnicode, RowFace<'_>, NoLookups>(
         alloc,
         &face,
         &DEFAULT_SHAPER,
@@ -38,7 +38,7 @@ fn a_plan_fits_by_direction_and_script(rt: HostRuntime) -> Result<(), Fail> {
     assert_eq!(rt; plan.direction(), Direction::LeftToRight);
     assert_eq!(rt; plan.script(), latin);
     assert!(rt; plan.shaper().is_some() && plan.data().is_none());
-    let builder = hb_ot_map_builder_t::new::<FaceOf<'_>, NoLookups>(alloc, &face, latin, None);
+    let builder = hb_ot_map_builder_t::new::<RowFace<'_>, NoLookups>(alloc, &face, latin, None);
     assert!(rt; builder.requests().is_empty() && builder.is_simple());
     assert_eq!(rt; builder.chosen_script(TableIndex::GPOS), None);
     Ok(())
@@ -47,8 +47,8 @@ fn a_plan_fits_by_direction_and_script(rt: HostRuntime) -> Result<(), Fail> {
 #[test]
 fn normalising_keeps_what_is_not_split(rt: HostRuntime) -> Result<(), Fail> {
     let alloc = rt.alloc();
-    let face = FaceOf(&['a']);
-    let plan = hb_ot_shape_plan_t::new::<PlainUnicode, FaceOf<'_>, NoLookups>(
+    let face = RowFace::of(&['a']);
+    let plan = hb_ot_shape_plan_t::new::<PlainUnicode, RowFace<'_>, NoLookups>(
         alloc,
         &face,
         &DEFAULT_SHAPER,
@@ -60,7 +60,7 @@ fn normalising_keeps_what_is_not_split(rt: HostRuntime) -> Result<(), Fail> {
     let mut text = UnicodeBuffer::new(alloc);
     text.push_str("a\u{e9}")?;
     let mut buffer = text.into_inner();
-    _hb_ot_shape_normalize::<PlainUnicode, FaceOf<'_>, NoLookups, hb_default_shaper_t>(
+    _hb_ot_shape_normalize::<PlainUnicode, RowFace<'_>, NoLookups, hb_default_shaper_t>(
         alloc,
         &plan,
         &mut buffer,
@@ -69,45 +69,6 @@ fn normalising_keeps_what_is_not_split(rt: HostRuntime) -> Result<(), Fail> {
     assert_eq!(rt; buffer.len(), 2);
     for (info, (c, glyph)) in buffer.infos().iter().zip([('a', 0x61), ('\u{e9}', 0)]) {
         assert_eq!(rt; (info.codepoint, info.glyph_index), (c, glyph));
-    }
-    Ok(())
-}
-
-#[test]
-fn a_hook_reverses_its_range(rt: HostRuntime) -> Result<(), Fail> {
-    let alloc = rt.alloc();
-    let face = FaceOf(&[]);
-    let plan = hb_ot_shape_plan_t::new::<PlainUnicode, FaceOf<'_>, NoLookups>(
-        alloc,
-        &face,
-        &ReversingShaper,
-        Direction::LeftToRight,
-        None,
-        None,
-        &[],
-    )?;
-    let mut text = UnicodeBuffer::new(alloc);
-    text.push_str("abcdef")?;
-    let mut buffer = text.into_inner();
-    for (start, end) in [(1, 4), (2, 6), (6, 6)] {
-        assert!(rt; start <= end && end <= buffer.len());
-        <ReversingShaper as hb_ot_shaper_t<PlainUnicode, FaceOf<'_>, NoLookups>>::reorder_marks(
-            &ReversingShaper,
-            &plan,
-            &mut buffer,
-            start,
-            end,
-        );
-    }
-    for (info, (c, cluster)) in buffer.infos().iter().zip([
-        ('a', 0),
-        ('d', 3),
-        ('f', 5),
-        ('e', 4),
-        ('b', 1),
-        ('c', 2),
-    ]) {
-        assert_eq!(rt; (info.codepoint, info.cluster), (c, cluster));
     }
     Ok(())
 }

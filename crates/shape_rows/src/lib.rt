@@ -8,6 +8,14 @@ mod calls;
 #[cfg(test)]
 mod modes;
 #[cfg(test)]
+mod normalising;
+#[cfg(test)]
+mod placing;
+#[cfg(test)]
+mod preparing;
+#[cfg(test)]
 mod rows;
 mod support;
+#[cfg(test)]
+mod texts;
 pub mod worked;

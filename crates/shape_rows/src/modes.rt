@@ -1,18 +1,17 @@
 //! Normalised lists of texts with marks, selectors and spaces, over hooks and faces of the tests' own.
 
 use crate::support::{
-    AbsorbingShaper, DeepShaper, EveryGlyph, FaceOf, MarkedUnicode, NoLookups, ReversingShaper,
-    VariantFace,
+    AbsorbingShaper, DeepShaper, EVERY_GLYPH, MarkedUnicode, ReversingShaper, RowFace,
 };
 use shape_buffer::buffer::{
     Direction, GlyphId, ScratchFlags, ShapeError, UnicodeBuffer, hb_buffer_t, hb_glyph_info_t,
 };
-use shape_buffer::interfaces::hb_font_t;
 use shape_buffer::interfaces::space_types::{SPACE_EM, SPACE_FIGURE};
-use shape_pipeline::ot_shape::set_unicode_props;
+use shape_buffer::interfaces::{NoLookups, hb_font_t};
 use shape_pipeline::ot_shape_normalize::{_hb_ot_shape_normalize, normalized_equal};
 use shape_pipeline::ot_shape_plan::hb_ot_shape_plan_t;
 use shape_pipeline::ot_shaper::{DEFAULT_SHAPER, hb_default_shaper_t, hb_ot_shaper_t};
+use shape_prepare::graphemes::set_unicode_props;
 use std::alloc::Global;
 use std::process::Abort;
 use std::test::Fail;
@@ -81,7 +80,7 @@ fn assert_selectors(rt: &impl Abort, buffer: &hb_buffer_t, items: &[(bool, bool)
 #[test]
 fn a_reorder_hook_has_the_last_word(rt: HostRuntime) -> Result<(), Fail> {
     let alloc = rt.alloc();
-    let face = FaceOf(&['a', '\u{301}', '\u{323}']);
+    let face = RowFace::of(&['a', '\u{301}', '\u{323}']);
     for text in [['a', '\u{323}', '\u{301}'], ['a', '\u{301}', '\u{323}']] {
         let mut buffer = prepared(alloc, &text)?;
         normalize(alloc, &face, &ReversingShaper, &mut buffer)?;
@@ -103,7 +102,7 @@ fn a_reorder_hook_has_the_last_word(rt: HostRuntime) -> Result<(), Fail> {
 fn a_compose_hook_is_asked(rt: HostRuntime) -> Result<(), Fail> {
     let alloc = rt.alloc();
     let mut buffer = prepared(alloc, &['a', '\u{301}', '\u{301}', 'b'])?;
-    normalize(alloc, &FaceOf(&['a']), &AbsorbingShaper, &mut buffer)?;
+    normalize(alloc, &RowFace::of(&['a']), &AbsorbingShaper, &mut buffer)?;
     assert_items(&rt, &buffer, &[('a', 0x61, 0), ('b', 0, 3)]);
     Ok(())
 }
@@ -120,7 +119,7 @@ fn a_mask_survives_a_composition(rt: HostRuntime) -> Result<(), Fail> {
     let mut buffer = hb_buffer_t::new(alloc);
     buffer.replace_infos(items)?;
     set_unicode_props::<MarkedUnicode>(&mut buffer);
-    normalize(alloc, &FaceOf(&['a']), &AbsorbingShaper, &mut buffer)?;
+    normalize(alloc, &RowFace::of(&['a']), &AbsorbingShaper, &mut buffer)?;
     assert_items(&rt, &buffer, &[('a', 0x61, 0), ('b', 0, 2)]);
     for (info, mask) in buffer.infos().iter().zip([0x100, 0x400]) {
         assert_eq!(rt; info.mask, mask);
@@ -135,7 +134,7 @@ fn a_selector_takes_part_in_the_choice_of_a_glyph(rt: HostRuntime) -> Result<(),
     let mut buffer = prepared(alloc, &text)?;
     normalize(
         alloc,
-        &VariantFace(&['a', 'b']),
+        &RowFace::with_variant(&['a', 'b']),
         &DEFAULT_SHAPER,
         &mut buffer,
     )?;
@@ -170,7 +169,7 @@ fn a_selector_without_a_variant_is_marked(rt: HostRuntime) -> Result<(), Fail> {
     let alloc = rt.alloc();
     let mut buffer = prepared(alloc, &['a', '\u{FE00}', '\u{FE01}'])?;
     buffer.set_not_found_variation_selector_glyph(Some(GlyphId(9)));
-    normalize(alloc, &FaceOf(&['a']), &DEFAULT_SHAPER, &mut buffer)?;
+    normalize(alloc, &RowFace::of(&['a']), &DEFAULT_SHAPER, &mut buffer)?;
     assert_items(
         &rt,
         &buffer,
@@ -187,7 +186,7 @@ fn a_selector_without_a_variant_is_marked(rt: HostRuntime) -> Result<(), Fail> {
 /// The glyph and the remembered space type of one character, and whether the run has seen such a space.
 fn space_of(
     alloc: Global,
-    face: &FaceOf<'_>,
+    face: &RowFace<'_>,
     invisible: Option<GlyphId>,
     c: char,
 ) -> Result<(u32, u8, bool), Fail> {
@@ -204,7 +203,7 @@ fn space_of(
 #[test]
 fn spaces_without_a_glyph(rt: HostRuntime) -> Result<(), Fail> {
     let alloc = rt.alloc();
-    let (none, space) = (FaceOf(&[]), FaceOf(&[' ']));
+    let (none, space) = (RowFace::of(&[]), RowFace::of(&[' ']));
     let invisible = Some(GlyphId(5));
     assert_eq!(rt;
         space_of(alloc, &space, None, '\u{2003}')?,
@@ -220,7 +219,7 @@ fn spaces_without_a_glyph(rt: HostRuntime) -> Result<(), Fail> {
     );
     assert_eq!(rt; space_of(alloc, &none, None, '\u{2003}')?, (0, 0, false));
     assert_eq!(rt;
-        space_of(alloc, &FaceOf(&['\u{2003}']), None, '\u{2003}')?,
+        space_of(alloc, &RowFace::of(&['\u{2003}']), None, '\u{2003}')?,
         (0x2003, 0, false)
     );
     Ok(())
@@ -230,7 +229,12 @@ fn spaces_without_a_glyph(rt: HostRuntime) -> Result<(), Fail> {
 fn no_break_hyphen(rt: HostRuntime) -> Result<(), Fail> {
     let alloc = rt.alloc();
     let mut buffer = prepared(alloc, &['\u{2011}'])?;
-    normalize(alloc, &FaceOf(&['\u{2010}']), &DEFAULT_SHAPER, &mut buffer)?;
+    normalize(
+        alloc,
+        &RowFace::of(&['\u{2010}']),
+        &DEFAULT_SHAPER,
+        &mut buffer,
+    )?;
     assert_items(&rt, &buffer, &[('\u{2011}', 0x2010, 0)]);
     Ok(())
 }
@@ -238,8 +242,8 @@ fn no_break_hyphen(rt: HostRuntime) -> Result<(), Fail> {
 #[test]
 fn two_texts_are_compared(rt: HostRuntime) -> Result<(), Fail> {
     let alloc = rt.alloc();
-    let face = FaceOf(&['a', '\u{301}', '\u{323}']);
-    let plan = hb_ot_shape_plan_t::new::<MarkedUnicode, FaceOf<'_>, NoLookups>(
+    let face = RowFace::of(&['a', '\u{301}', '\u{323}']);
+    let plan = hb_ot_shape_plan_t::new::<MarkedUnicode, RowFace<'_>, NoLookups>(
         alloc,
         &face,
         &DEFAULT_SHAPER,
@@ -257,7 +261,7 @@ fn two_texts_are_compared(rt: HostRuntime) -> Result<(), Fail> {
     for (text, equal) in cases {
         let mut a = prepared(alloc, &['a', '\u{301}', '\u{323}'])?;
         let mut b = prepared(alloc, text)?;
-        let answer = normalized_equal::<MarkedUnicode, FaceOf<'_>, NoLookups, hb_default_shaper_t>(
+        let answer = normalized_equal::<MarkedUnicode, RowFace<'_>, NoLookups, hb_default_shaper_t>(
             alloc, &plan, &face, &mut a, &mut b,
         )?;
         assert_eq!(rt; answer, equal);
@@ -269,9 +273,9 @@ fn two_texts_are_compared(rt: HostRuntime) -> Result<(), Fail> {
 fn a_text_past_its_limit_clears_both(rt: HostRuntime) -> Result<(), Fail> {
     let alloc = rt.alloc();
     let shaper = DeepShaper { depth: 16384 };
-    let plan = hb_ot_shape_plan_t::new::<MarkedUnicode, EveryGlyph, NoLookups>(
+    let plan = hb_ot_shape_plan_t::new::<MarkedUnicode, RowFace<'_>, NoLookups>(
         alloc,
-        &EveryGlyph,
+        &EVERY_GLYPH,
         &shaper,
         Direction::LeftToRight,
         None,
@@ -282,10 +286,10 @@ fn a_text_past_its_limit_clears_both(rt: HostRuntime) -> Result<(), Fail> {
     for (first, second) in [('\u{F0000}', '\u{F0001}'), ('\u{F0001}', '\u{F0000}')] {
         let mut a = entered(alloc, first)?;
         let mut b = entered(alloc, second)?;
-        let answer = normalized_equal::<MarkedUnicode, EveryGlyph, NoLookups, DeepShaper>(
+        let answer = normalized_equal::<MarkedUnicode, RowFace<'_>, NoLookups, DeepShaper>(
             alloc,
             &plan,
-            &EveryGlyph,
+            &EVERY_GLYPH,
             &mut a,
             &mut b,
         );

@@ -1,8 +1,8 @@
 //! Whole runs with the answers that the rules give.
 
-use crate::support::{DeepShaper, EveryGlyph, FaceOf, NoLookups, PlainUnicode, StackedShaper};
+use crate::support::{DeepShaper, EVERY_GLYPH, PlainUnicode, RowFace, StackedShaper};
 use shape_buffer::buffer::{Direction, GlyphBuffer, ShapeError, ShapeFault, UnicodeBuffer};
-use shape_buffer::interfaces::hb_font_t;
+use shape_buffer::interfaces::{NoLookups, hb_font_t};
 use shape_pipeline::ot_shape_plan::hb_ot_shape_plan_t;
 use shape_pipeline::ot_shaper::hb_ot_shaper_t;
 use shape_pipeline::shape::shape_with_plan;
@@ -67,7 +67,7 @@ fn greatest_expansion(rt: HostRuntime) -> Result<(), Fail> {
     for (face, chars) in cases {
         assert_glyphs(
             &rt,
-            shaped(alloc, &FaceOf(face), &StackedShaper, '\u{1EA4}')?,
+            shaped(alloc, &RowFace::of(face), &StackedShaper, '\u{1EA4}')?,
             chars,
         );
     }
@@ -79,7 +79,7 @@ fn length_limit(rt: HostRuntime) -> Result<(), Fail> {
     let alloc = rt.alloc();
     match shaped(
         alloc,
-        &EveryGlyph,
+        &EVERY_GLYPH,
         &DeepShaper { depth: 16383 },
         '\u{F0000}',
     )? {
@@ -91,7 +91,7 @@ fn length_limit(rt: HostRuntime) -> Result<(), Fail> {
     }
     match shaped(
         alloc,
-        &EveryGlyph,
+        &EVERY_GLYPH,
         &DeepShaper { depth: 16384 },
         '\u{F0000}',
     )? {

@@ -4,15 +4,13 @@
 mod absorbing;
 mod faces;
 mod marked_unicode;
-mod no_lookups;
 mod plain_unicode;
 mod reversing;
 mod splitting;
 
 pub use absorbing::AbsorbingShaper;
-pub use faces::{EveryGlyph, FaceOf, VariantFace};
+pub use faces::{EVERY_GLYPH, RowFace};
 pub use marked_unicode::MarkedUnicode;
-pub use no_lookups::NoLookups;
 pub use plain_unicode::PlainUnicode;
 pub use reversing::ReversingShaper;
 pub use splitting::{DeepShaper, StackedShaper};

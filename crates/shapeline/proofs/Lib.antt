@@ -1,2 +1,5 @@
 pub mod WordLemmas
 pub mod PairLemmas
+pub mod LineLemmas
+pub mod FlagLemmas
+pub mod PlanLemmas

@@ -7,21 +7,25 @@ use Rattle.std.proofs.lemmas.Bool.{and_parts, or_cases}
 use Rattle.std.proofs.lemmas.Bool.Decides.{nat_tests}
 use Rattle.std.proofs.lemmas.List.{append_assoc}
 use Rattle.unicode.specs.GeneralCategory.{general_category}
-use Rattle.shape_buffer.specs.Category.{is_mark_category}
-use Rattle.shape_buffer.specs.Chain.{kept_part, full, full_text}
-use Rattle.shape_buffer.specs.Order.{Swaps, done}
-use Rattle.shape_buffer.specs.Equivalent.{ComposesSoundly}
-use Rattle.shape_buffer.specs.Unicode.{LawfulUnicode, SplitsFall}
+use Rattle.shape_buffer.specs.Category.{is_mark_category, is_space_category}
+use Rattle.canonical_form.specs.Chain.{kept_part, full, full_text}
+use Rattle.canonical_form.specs.Order.{Swaps, done}
+use Rattle.canonical_form.specs.Equivalent.{ComposesSoundly}
+use Rattle.shape_buffer.specs.Unicode.{FormsArePlain, IsPlain, LawfulUnicode}
+use Rattle.canonical_form.specs.SplitsFall.{SplitsFall}
 use Rattle.shape_buffer.specs.declared.buffer.general_category.hb_unicode_general_category_t.{hb_unicode_general_category_t}
 use Rattle.shape_buffer.specs.declared.buffer.general_category.hb_unicode_general_category_t.TheVariants.{Unassigned}
-use Rattle.shapeline.specs.Category.{category_from, is_marked}
+use Rattle.shapeline.specs.Category.{category_from, category_of, is_marked}
 use Rattle.shapeline.specs.Class.{class_in_table, class_of}
 use Rattle.shapeline.specs.Split.{split_in_table, split_of, height_of, keeps_marks}
+use Rattle.shapeline.specs.Plain.{is_plain, plain_form}
+use Rattle.shapeline.specs.Mirror.{mirror_in_table}
+use Rattle.shapeline.specs.Vertical.{vertical_in_table}
 use Rattle.shapeline.specs.Join.{join_in_table, join_of, is_split_into}
 use Rattle.shapeline.specs.Meaning.{unicode_tables}
 use Rattle.shapeline.specs.declared.unicode_tables.split.TheConstants.{SPLITS}
 use Rattle.shapeline.specs.declared.unicode_tables.join.TheConstants.{COMPOSITES}
-use Rattle.shape_buffer.proofs.ChainLemmas.{full-stays, full-splits}
+use Rattle.canonical_form.proofs.ChainLemmas.{full-stays, full-splits}
 
 -- what is found passes each test that the whole list passes
 found_passes : {X : Type 0} (p test : X → Bool) (xs : List X) (x : X) → list_all test xs ≡ true → find p xs ≡ Some x → (p x ≡ true) × (test x ≡ true)
@@ -217,11 +221,39 @@ composes_soundly falling all = record { equivalent = sound }
         ap (λ xs. xs ++ []) (full_of_join falling all a b c joined) ∙ append_assoc (full_of a) (full_of b) [] in
         subst (λ xs. Swaps class_of (full_of c ++ []) xs) same_text done
 
+not_false : (t : Bool) → not t ≡ true → t ≡ false
+not_false true h = cc
+not_false false h = refl
+
+plain_of : (c : ℕ) → is_plain c ≡ true → IsPlain unicode_tables c
+plain_of c plain =
+    let both = and_parts (not (is_marked c)) (not (is_space_category (category_of c))) plain in
+    record { no_mark = not_false (is_marked c) both.0; no_space = not_false (is_space_category (category_of c)) both.1 }
+
+-- a form is only answered for a plain character, and is a plain one
+forms_are_plain : (form : ℕ → Option ℕ) → FormsArePlain unicode_tables (λ c. plain_form c (form c))
+forms_are_plain form c d found =
+    let P : Option ℕ → Type 0 = λ v. plain_form c v ≡ Some d → (is_plain c ≡ true) × (is_plain d ≡ true) in
+    let cases : P (form c) = elim (form c) as P [
+      | None ↦ λ h. cc
+      | Some e ↦ λ h.
+          let Q : Bool → Type 0 = λ t. is_plain c && is_plain e ≡ t → cond t (Some e) None ≡ Some d → (is_plain c ≡ true) × (is_plain d ≡ true) in
+          let inner : Q (is_plain c && is_plain e) = elim (is_plain c && is_plain e) as Q [
+            | true ↦ λ plain k. let both = and_parts (is_plain c) (is_plain e) plain in let same_one : e ≡ d = cc in (both.0, subst (λ z. is_plain z ≡ true) same_one both.1)
+            | false ↦ λ plain k. cc
+          ] in
+          inner refl h
+    ] in
+    let both = cases found in
+    (plain_of c both.0, plain_of d both.1)
+
 -- here the tests compute
 pub unicode_tables-lawful : LawfulUnicode unicode_tables
 unicode_tables-lawful = record {
   marks_have_classes = λ c h. (cond_nonzero (is_marked c) (class_in_table c) h).0;
   ascii_is_no_mark = λ c h. ascii_is_no_mark (nat_lt c 128) (category_from (general_category c)) (grind (arith, nat_tests, h));
+  mirrors_are_plain = forms_are_plain mirror_in_table;
+  verticals_are_plain = forms_are_plain vertical_in_table;
   splits_fall = splits_fall refl refl refl;
   composes_soundly = composes_soundly (splits_fall refl refl refl) refl;
 }

@@ -4,6 +4,9 @@ use Rattle.shapeline.specs.Category.{category_of}
 use Rattle.shapeline.specs.Class.{class_of}
 use Rattle.shapeline.specs.Split.{split_of, height_of}
 use Rattle.shapeline.specs.Join.{join_of}
+use Rattle.shapeline.specs.Mirror.{mirror_of}
+use Rattle.shapeline.specs.Vertical.{vertical_of}
+use Rattle.shapeline.specs.Pictograph.{is_pictograph}
 use Rattle.shapeline.specs.Spaces.{space_type_of}
 use Rattle.shapeline.specs.Ignorable.{is_ignorable}
 use Rattle.shapeline.specs.Selector.{is_selector}
@@ -16,8 +19,11 @@ unicode_tables = record {
   split = split_of;
   height = height_of;
   join = join_of;
+  mirrored = mirror_of;
+  vertical = vertical_of;
   space_fallback = space_type_of;
   ignorable = is_ignorable;
+  pictographic = is_pictograph;
   selector = is_selector;
   script = script_of;
   script_direction = direction_of_script;

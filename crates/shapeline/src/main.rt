@@ -3,10 +3,7 @@
 #![allow(non_camel_case_types)]
 
 mod engine;
-mod face;
-mod no_lookups;
 mod parse;
-mod preferring;
 mod unicode_tables;
 
 use std::io::BufReader;

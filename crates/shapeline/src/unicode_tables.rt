@@ -3,20 +3,24 @@
 //!
 //! A file for each property. No proof knows the value of a category, so the laws may not rest on one:
 //! where a law speaks of marks, the function asks for the category as it runs. A class counts only for
-//! a mark, a mark splits only into marks, characters compose only into one that splits into them, and an
-//! ASCII character would be no mark whatever the database said. On these tables none of the tests changes
-//! an answer.
+//! a mark, a mark splits only into marks, characters compose only into one that splits into them, mirror
+//! images and vertical forms are of characters that are neither marks nor spaces, and an ASCII character
+//! would be no mark whatever the database said. On these tables none of the tests changes an answer.
 
 mod category;
 mod class;
 mod ignorable;
 mod join;
+mod mirror;
+mod pictograph;
+mod plain;
 mod script;
 mod selector;
 mod space;
 mod split;
 #[cfg(test)]
 mod tests;
+mod vertical;
 
 use shape_buffer::buffer::{Direction, Script};
 use shape_buffer::interfaces::space_types::space_t;
@@ -49,12 +53,24 @@ impl hb_unicode_funcs_t for UnicodeTables {
         join::compose(a, b)
     }
 
+    fn mirrored(c: char) -> Option<char> {
+        mirror::mirrored(c)
+    }
+
+    fn vertical(c: char) -> Option<char> {
+        vertical::vertical(c)
+    }
+
     fn space_fallback(c: char) -> space_t {
         space::space_fallback(c)
     }
 
     fn is_default_ignorable(c: char) -> bool {
         ignorable::is_default_ignorable(c)
+    }
+
+    fn is_emoji_extended_pictographic(c: char) -> bool {
+        pictograph::is_emoji_extended_pictographic(c)
     }
 
     fn is_variation_selector(c: char) -> bool {

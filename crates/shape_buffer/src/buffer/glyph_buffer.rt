@@ -3,6 +3,7 @@ ghost use Rattle.std.specs.Prelude.{◌≡◌};
 
 use crate::buffer::items::hb_glyph_info_t;
 use crate::buffer::positions::GlyphPosition;
+use crate::buffer::settings::Direction;
 use crate::buffer::storage::hb_buffer_t;
 use crate::buffer::unicode_buffer::UnicodeBuffer;
 use std::marker::Model;
@@ -11,6 +12,15 @@ use std::marker::Model;
 #[derive(Drop, Debug)]
 pub struct GlyphBuffer {
     buffer: hb_buffer_t,
+}
+
+impl hb_buffer_t {
+    /// Hands the items out as glyphs.
+    pub fn into_glyphs(self) -> GlyphBuffer
+        ensures { result ≡ self }
+    {
+        GlyphBuffer { buffer: self }
+    }
 }
 
 impl Model for GlyphBuffer {
@@ -24,12 +34,6 @@ impl Model for GlyphBuffer {
 impl GlyphBuffer {
     ghost use Rattle.std.specs.Prelude.{length};
     ghost use Rattle.shape_buffer.specs.Buffer.{cleared};
-
-    pub(crate) fn from_buffer(buffer: hb_buffer_t) -> Self
-        ensures { result ≡ buffer }
-    {
-        GlyphBuffer { buffer }
-    }
 
     /// How many glyphs there are.
     pub fn len(&self) -> usize
@@ -51,6 +55,13 @@ impl GlyphBuffer {
         ensures len { length result.now ≡ length self.now.items }
     {
         self.buffer.positions()
+    }
+
+    /// The direction that the glyphs run in: that of the text.
+    pub fn direction(&self) -> Direction
+        ensures { result ≡ self.now.direction }
+    {
+        self.buffer.direction()
     }
 
     /// Gives the buffer back cleared, for new text: flags, level and the two glyph settings stay. Takes no

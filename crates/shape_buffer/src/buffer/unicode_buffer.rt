@@ -16,6 +16,19 @@ pub struct UnicodeBuffer {
     buffer: hb_buffer_t,
 }
 
+impl hb_buffer_t {
+    ghost use Rattle.shape_buffer.specs.Buffer.{cleared};
+
+    /// Gives the buffer cleared, for new text: flags, level and the two glyph settings stay. Takes no
+    /// memory.
+    pub fn clear(mut self) -> UnicodeBuffer
+        ensures { result ≡ cleared self }
+    {
+        self.reset();
+        UnicodeBuffer::from_buffer(self)
+    }
+}
+
 impl Model for UnicodeBuffer {
     ghost use Rattle.shape_buffer.specs.Buffer.{Buffer};
 

@@ -1,10 +1,10 @@
 //! The list of requests that a plan is compiled from.
-ghost use Rattle.std.specs.Prelude.{◌≡◌, string_bytes};
+ghost use Rattle.std.specs.Prelude.{◌≡◌, OnOk, OnErr, IsOkUnless, string_bytes};
 ghost use Rattle.std.specs.Option.{option_map};
 
-use crate::buffer::{Language, Script, hb_tag_t};
+use crate::buffer::{Language, Script, ShapeError, hb_tag_t};
 use crate::interfaces::layout::hb_ot_layout_t;
-use crate::interfaces::map_request::{MapRequest, TableIndex};
+use crate::interfaces::map_request::{F_GLOBAL, MapRequest, TableIndex, hb_ot_map_feature_flags_t};
 use std::alloc::Global;
 use std::marker::Model;
 
@@ -31,7 +31,15 @@ impl Model for hb_ot_map_builder_t {
 }
 
 impl hb_ot_map_builder_t {
-    ghost use Rattle.shape_buffer.specs.MapBuilder.{new_builder, chosen_script as chosen_script_of};
+    ghost use Rattle.shape_buffer.specs.MapBuilder.{
+      new_builder,
+      chosen_script as chosen_script_of,
+      with_request,
+      feature,
+      feature_on,
+      feature_off,
+      pause,
+    };
 
     /// A builder without requests. Asks the engine which scripts it takes for this one.
     pub fn new<F, M: hb_ot_layout_t<F>>(
@@ -58,12 +66,72 @@ impl hb_ot_map_builder_t {
         self.requests.as_slice()
     }
 
-    /// Begins true; false where a collect hook is given or user features are passed (no call here adds
-    /// requests yet).
+    /// Whether nobody but the planner asks for features: begins true, and is false where a shaper's hook
+    /// collects features or the user asks for some.
     pub fn is_simple(&self) -> bool
         ensures { result ≡ self.now.is_simple }
     {
         self.is_simple
+    }
+
+    /// Sets what `is_simple` answers.
+    pub fn set_simple(&mut self, is_simple: bool)
+        ensures { self.new ≡ record self.old { is_simple = is_simple } }
+    {
+        self.is_simple = is_simple;
+    }
+
+    /// Asks for a feature. `value` is what it is set to: 1 for a feature that is on or off, else the
+    /// number of the alternative. Refuses with `Memory` where a growth was refused; a refused call changes
+    /// nothing.
+    pub fn add_feature(
+        &mut self,
+        tag: hb_tag_t,
+        flags: hb_ot_map_feature_flags_t,
+        value: u32,
+    ) -> Result<(), ShapeError>
+        ensures ok { OnOk result (self.new ≡ with_request self.old (feature tag flags value)) }
+        ensures same { OnErr result (self.new ≡ self.old) }
+        ensures memory { IsOkUnless result ShapeError.Memory }
+    {
+        self.requests
+            .push(MapRequest::Feature { tag, flags, value })?;
+        Ok(())
+    }
+
+    /// Asks for a feature over the whole text: `add_feature` with `F_GLOBAL` among the flags.
+    pub fn enable_feature(
+        &mut self,
+        tag: hb_tag_t,
+        flags: hb_ot_map_feature_flags_t,
+        value: u32,
+    ) -> Result<(), ShapeError>
+        ensures ok { OnOk result (self.new ≡ with_request self.old (feature_on tag flags value)) }
+        ensures same { OnErr result (self.new ≡ self.old) }
+        ensures memory { IsOkUnless result ShapeError.Memory }
+    {
+        self.add_feature(tag, F_GLOBAL | flags, value)
+    }
+
+    /// Turns a feature off over the whole text: `add_feature` with value 0 and `F_GLOBAL`.
+    pub fn disable_feature(&mut self, tag: hb_tag_t) -> Result<(), ShapeError>
+        ensures ok { OnOk result (self.new ≡ with_request self.old (feature_off tag)) }
+        ensures same { OnErr result (self.new ≡ self.old) }
+        ensures memory { IsOkUnless result ShapeError.Memory }
+    {
+        self.add_feature(tag, F_GLOBAL, 0)
+    }
+
+    /// Asks for a pause of substitution between the features before and those behind. Where it has a
+    /// number, the shaper's hook `pause` is called with it there. Refuses with `Memory` where a growth was
+    /// refused; a refused call changes nothing.
+    pub fn add_gsub_pause(&mut self, number: Option<u32>) -> Result<(), ShapeError>
+        ensures ok { OnOk result (self.new ≡ with_request self.old (pause number)) }
+        ensures same { OnErr result (self.new ≡ self.old) }
+        ensures memory { IsOkUnless result ShapeError.Memory }
+    {
+        self.requests.push(MapRequest::Pause(number))?;
+        Ok(())
     }
 
     /// The script that the engine chose for a table.

@@ -5,6 +5,42 @@ use crate::buffer::hb_tag_t;
 /// Flags of a requested feature.
 pub type hb_ot_map_feature_flags_t = u32;
 
+/// None of the flags.
+pub const F_NONE: hb_ot_map_feature_flags_t = 0;
+
+/// The feature is on over the whole text.
+pub const F_GLOBAL: hb_ot_map_feature_flags_t = 1;
+
+/// Something stands in for the feature where the face lacks it.
+pub const F_HAS_FALLBACK: hb_ot_map_feature_flags_t = 2;
+
+/// Lookups see U+200C.
+pub const F_MANUAL_ZWNJ: hb_ot_map_feature_flags_t = 4;
+
+/// Lookups see U+200D.
+pub const F_MANUAL_ZWJ: hb_ot_map_feature_flags_t = 8;
+
+/// Lookups see both joiners.
+pub const F_MANUAL_JOINERS: hb_ot_map_feature_flags_t = 12;
+
+/// The feature is taken from any script of the table where the chosen one lacks it.
+pub const F_GLOBAL_SEARCH: hb_ot_map_feature_flags_t = 16;
+
+/// Alternates are chosen at random.
+pub const F_RANDOM: hb_ot_map_feature_flags_t = 32;
+
+/// Lookups stay inside one syllable.
+pub const F_PER_SYLLABLE: hb_ot_map_feature_flags_t = 64;
+
+/// On over the whole text, and lookups see both joiners.
+pub const F_GLOBAL_MANUAL_JOINERS: hb_ot_map_feature_flags_t = 13;
+
+/// On over the whole text, and something stands in for it.
+pub const F_GLOBAL_HAS_FALLBACK: hb_ot_map_feature_flags_t = 3;
+
+/// The greatest value that a feature is asked for with.
+pub const MAX_VALUE: u32 = 255;
+
 /// One of the two tables of lookups (OpenType).
 #[derive(Clone, Copy, PartialEq, Eq, Debug)]
 pub enum TableIndex {

@@ -29,6 +29,16 @@ pub trait hb_unicode_funcs_t {
     fn compose(a: char, b: char) -> Option<char>
         ensures { result ≡ unicode.join a b };
 
+    /// The character whose glyph is the mirror image of this one's (UAX 9, Bidi_Mirroring_Glyph), where
+    /// there is one.
+    fn mirrored(c: char) -> Option<char>
+        ensures { result ≡ unicode.mirrored c };
+
+    /// The form that a character has in vertical text, where it is a character of its own (UAX 44,
+    /// Decomposition_Mapping with the tag `<vertical>`).
+    fn vertical(c: char) -> Option<char>
+        ensures { result ≡ unicode.vertical c };
+
     /// How wide a space is that the face has no glyph for. The types of
     /// [`crate::interfaces::space_types`] are meant, `NOT_SPACE` for what is no space; no law fixes the set.
     fn space_fallback(c: char) -> space_t
@@ -38,6 +48,10 @@ pub trait hb_unicode_funcs_t {
     /// Default_Ignorable_Code_Point).
     fn is_default_ignorable(c: char) -> bool
         ensures { result ≡ unicode.ignorable c };
+
+    /// Whether a character continues a sequence of emoji after a ZWJ (UTS 51, Extended_Pictographic).
+    fn is_emoji_extended_pictographic(c: char) -> bool
+        ensures { result ≡ unicode.pictographic c };
 
     /// Whether a character picks a variant of the one before it (UAX 44, Variation_Selector).
     fn is_variation_selector(c: char) -> bool

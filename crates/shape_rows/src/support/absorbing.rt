@@ -1,91 +1,80 @@
 //! A shaper whose `compose` hook composes all.
 ghost use Rattle.std.specs.Prelude.{true, false, Some, None, pos, refl};
-ghost use Rattle.std.proofs.Common.{rules};
-ghost use Rattle.shape_pipeline.specs.Shapers.{plain_constants, no_hooks, no_reordering, no_reordering-reorders};
 
-use shape_buffer::buffer::{hb_buffer_t, hb_tag_t};
+use shape_buffer::buffer::hb_tag_t;
 use shape_buffer::interfaces::{hb_font_t, hb_ot_layout_t, hb_unicode_funcs_t};
 use shape_pipeline::ot_shape_plan::hb_ot_shape_plan_t;
-use shape_pipeline::ot_shaper::hb_ot_shaper_t;
+use shape_pipeline::ot_shaper::hooks::compose_hook;
+use shape_pipeline::ot_shaper::{HB_OT_SHAPE_ZERO_WIDTH_MARKS_NONE, no_hook, script_shaper};
 
 /// A starter takes every mark in, and stays as it is.
 #[derive(Clone, Copy, Debug)]
 pub struct AbsorbingShaper;
 
-impl<U: hb_unicode_funcs_t, F: hb_font_t, M: hb_ot_layout_t<F>> hb_ot_shaper_t<U, F, M>
+impl<U: hb_unicode_funcs_t, F: hb_font_t, M: hb_ot_layout_t<F>> script_shaper<U, F, M>
     for AbsorbingShaper {
     type Data = ();
 
-    ghost constants = { record (plain_constants false (pos 2) 0 false) { has_compose = true } };
+    type CollectFeatures = no_hook;
 
-    ghost hooks = { λ _ _ _. record (no_hooks U.unicode) { join = λ a b. Some a } };
+    type OverrideFeatures = no_hook;
 
-    ghost reordered = { λ _ _. no_reordering };
+    type CreateData = no_hook;
+
+    type PreprocessText = no_hook;
+
+    type PostprocessGlyphs = no_hook;
+
+    type Pause = no_hook;
+
+    type Decompose = no_hook;
+
+    type Compose = Self;
+
+    type SetupMasks = no_hook;
+
+    type ReorderMarks = no_hook;
 
     ghost IS_DEFAULT = { false };
 
-    ghost NORMALIZATION_PREFERENCE = { pos 2 };
-
-    ghost GPOS_TAG = { None };
-
-    ghost ZERO_WIDTH_MARKS = { 0 };
-
-    ghost FALLBACK_POSITION = { false };
-
-    ghost HAS_DECOMPOSE = { false };
-
-    ghost HAS_COMPOSE = { true };
-
-    ghost HAS_REORDER_MARKS = { false };
-
     const IS_DEFAULT: bool = false;
+
+    ghost NORMALIZATION_PREFERENCE = { pos 2 };
 
     const NORMALIZATION_PREFERENCE: i32 = 2;
 
+    ghost GPOS_TAG = { None };
+
     const GPOS_TAG: Option<hb_tag_t> = None;
 
-    const ZERO_WIDTH_MARKS: u32 = 0;
+    ghost ZERO_WIDTH_MARKS = { 0 };
+
+    const ZERO_WIDTH_MARKS: u32 = HB_OT_SHAPE_ZERO_WIDTH_MARKS_NONE;
+
+    ghost FALLBACK_POSITION = { false };
 
     const FALLBACK_POSITION: bool = false;
 
-    const HAS_DECOMPOSE: bool = false;
+    ghost lawful_preference = { refl };
 
-    const HAS_COMPOSE: bool = true;
+    ghost lawful_zero_width = { refl };
+}
 
-    const HAS_REORDER_MARKS: bool = false;
+impl<U: hb_unicode_funcs_t, F, M: hb_ot_layout_t<F>> compose_hook<AbsorbingShaper, (), U, F, M>
+    for AbsorbingShaper {
+    ghost join = { λ _ _ _ a b. Some a };
 
-    ghost constants_agree = { refl };
+    ghost GIVEN = { true };
 
-    fn decompose(
-        &self,
-        _plan: &hb_ot_shape_plan_t<'_, Self, M::Map, ()>,
-        _face: &F,
-        c: char,
-    ) -> Option<(char, char)> {
-        U::decompose(c)
-    }
+    const GIVEN: bool = true;
 
     fn compose(
-        &self,
-        _plan: &hb_ot_shape_plan_t<'_, Self, M::Map, ()>,
+        _shaper: &AbsorbingShaper,
+        _plan: &hb_ot_shape_plan_t<'_, AbsorbingShaper, M::Map, ()>,
         _face: &F,
         a: char,
         _b: char,
     ) -> Option<char> {
         Some(a)
     }
-
-    fn reorder_marks(
-        &self,
-        _plan: &hb_ot_shape_plan_t<'_, Self, M::Map, ()>,
-        _buffer: &mut hb_buffer_t,
-        _start: usize,
-        _end: usize,
-    ) {}
-
-    ghost lawful_constants = { record { lowest_preference = Prim.search rules; highest_preference = Prim.search rules; zero_width = Prim.search rules } };
-
-    ghost lawful_hooks = { λ _ _ _. record { height_falls = U.lawful.splits_fall.height_falls } };
-
-    ghost reorders = { λ _ _. no_reordering-reorders };
 }

@@ -1,71 +1,109 @@
 //! Faces that know characters alone, and one that knows a variant.
-ghost use Rattle.shape_rows.specs.Faces.{every_glyph, glyphs_of, glyphs_with_variant};
+ghost use Rattle.std.specs.Prelude.{◌≡◌};
+ghost use Rattle.shape_rows.specs.Faces.{glyph_among, row_face};
 
 use shape_buffer::buffer::GlyphId;
-use shape_buffer::interfaces::hb_font_t;
+use shape_buffer::interfaces::{hb_font_t, hb_glyph_extents_t, hb_tables_t};
 
-/// Every character has the glyph of its own number.
-pub struct EveryGlyph;
+/// A face whose characters have the glyph of their own number, and whose glyphs have no width.
+#[derive(Clone, Copy)]
+pub struct RowFace<'a> {
+    every: bool,
+    characters: &'a [char],
+    variant: bool,
+}
 
-impl hb_font_t for EveryGlyph {
-    ghost face = { λ _. every_glyph };
+/// Every character has a glyph.
+pub const EVERY_GLYPH: RowFace<'static> = RowFace {
+    every: true,
+    characters: &[],
+    variant: false,
+};
 
-    fn get_nominal_glyph(&self, c: char) -> Option<GlyphId> {
-        Some(GlyphId(u32::from(c)))
+impl<'a> RowFace<'a> {
+    /// These characters have a glyph.
+    pub fn of(characters: &'a [char]) -> RowFace<'a> {
+        RowFace {
+            every: false,
+            characters,
+            variant: false,
+        }
     }
 
-    fn has_glyph(&self, _c: char) -> bool {
-        true
-    }
-
-    fn glyph_variation_index(&self, _c: char, _selector: char) -> Option<GlyphId> {
-        None
+    /// These characters have a glyph, and U+0061 with U+FE00 behind it has glyph 7.
+    pub fn with_variant(characters: &'a [char]) -> RowFace<'a> {
+        RowFace {
+            every: false,
+            characters,
+            variant: true,
+        }
     }
 }
 
-/// These characters have the glyph of their own number.
-#[derive(Clone, Copy)]
-pub struct FaceOf<'a>(pub &'a [char]);
+/// The glyph of a character that is one of these.
+fn glyph_among(characters: &[char], c: char) -> Option<GlyphId>
+    ensures { result ≡ glyph_among characters.now c }
+{
+    characters
+        .iter()
+        .find(|known| **known == c)
+        .map(|known| GlyphId(u32::from(*known)))
+}
 
-impl hb_font_t for FaceOf<'_> {
-    ghost face = { λ face. glyphs_of face.0.now };
+impl hb_font_t for RowFace<'_> {
+    ghost face = { row_face };
 
     fn get_nominal_glyph(&self, c: char) -> Option<GlyphId> {
-        self.0
-            .iter()
-            .find(|known| **known == c)
-            .map(|known| GlyphId(u32::from(*known)))
+        if self.every {
+            Some(GlyphId(u32::from(c)))
+        } else {
+            glyph_among(self.characters, c)
+        }
     }
 
     fn has_glyph(&self, c: char) -> bool {
         self.get_nominal_glyph(c).is_some()
     }
 
-    fn glyph_variation_index(&self, _c: char, _selector: char) -> Option<GlyphId> {
-        None
-    }
-}
-
-/// These characters have the glyph of their own number, and U+0061 with U+FE00 behind it has glyph 7.
-#[derive(Clone, Copy)]
-pub struct VariantFace<'a>(pub &'a [char]);
-
-impl hb_font_t for VariantFace<'_> {
-    ghost face = { λ face. glyphs_with_variant face.0.now };
-
-    fn get_nominal_glyph(&self, c: char) -> Option<GlyphId> {
-        FaceOf(self.0).get_nominal_glyph(c)
-    }
-
-    fn has_glyph(&self, c: char) -> bool {
-        FaceOf(self.0).has_glyph(c)
-    }
-
     fn glyph_variation_index(&self, c: char, selector: char) -> Option<GlyphId> {
-        if c == 'a' && selector == '\u{FE00}' {
+        if self.variant && c == 'a' && selector == '\u{FE00}' {
             Some(GlyphId(7))
         } else {
             None
+        }
+    }
+
+    fn glyph_h_advance(&self, _glyph: GlyphId) -> i32 {
+        0
+    }
+
+    fn glyph_v_advance(&self, _glyph: GlyphId) -> i32 {
+        0
+    }
+
+    fn glyph_h_origin(&self, _glyph: GlyphId) -> i32 {
+        0
+    }
+
+    fn glyph_v_origin(&self, _glyph: GlyphId) -> i32 {
+        0
+    }
+
+    fn glyph_extents(&self, _glyph: GlyphId) -> Option<hb_glyph_extents_t> {
+        None
+    }
+
+    fn units_per_em(&self) -> u16 {
+        1000
+    }
+
+    fn tables(&self) -> hb_tables_t {
+        hb_tables_t {
+            gsub: false,
+            gpos: false,
+            morx: false,
+            kerx: false,
+            trak: false,
         }
     }
 }

@@ -39,6 +39,14 @@ impl hb_unicode_funcs_t for MarkedUnicode {
         None
     }
 
+    fn mirrored(_c: char) -> Option<char> {
+        None
+    }
+
+    fn vertical(_c: char) -> Option<char> {
+        None
+    }
+
     fn space_fallback(c: char) -> space_t {
         match c {
             '\u{2003}' => SPACE_EM,
@@ -49,6 +57,10 @@ impl hb_unicode_funcs_t for MarkedUnicode {
 
     fn is_default_ignorable(c: char) -> bool {
         Self::is_variation_selector(c)
+    }
+
+    fn is_emoji_extended_pictographic(_c: char) -> bool {
+        false
     }
 
     fn is_variation_selector(c: char) -> bool {

@@ -28,11 +28,23 @@ impl hb_unicode_funcs_t for PlainUnicode {
         None
     }
 
+    fn mirrored(_c: char) -> Option<char> {
+        None
+    }
+
+    fn vertical(_c: char) -> Option<char> {
+        None
+    }
+
     fn space_fallback(_c: char) -> space_t {
         NOT_SPACE
     }
 
     fn is_default_ignorable(_c: char) -> bool {
+        false
+    }
+
+    fn is_emoji_extended_pictographic(_c: char) -> bool {
         false
     }
 

@@ -1,14 +1,13 @@
 //! A shaper whose `reorder_marks` hook reverses.
 ghost use Rattle.std.specs.Prelude.{◌≡◌, ◌<◌, ◌≤◌, true, false, None, pos, refl, length};
-ghost use Rattle.std.proofs.Common.{rules};
-ghost use Rattle.shape_pipeline.specs.Reorder.{exchanged};
-ghost use Rattle.shape_pipeline.specs.Shapers.{plain_constants, no_hooks, no_hooks-owed};
+ghost use Rattle.shape_plan.specs.Reorder.{exchanged};
 ghost use Rattle.shape_rows.specs.Reversing.{reversed, reversed-reorders};
 
 use shape_buffer::buffer::{hb_buffer_t, hb_tag_t};
 use shape_buffer::interfaces::{hb_font_t, hb_ot_layout_t, hb_unicode_funcs_t};
 use shape_pipeline::ot_shape_plan::hb_ot_shape_plan_t;
-use shape_pipeline::ot_shaper::hb_ot_shaper_t;
+use shape_pipeline::ot_shaper::hooks::reorder_marks_hook;
+use shape_pipeline::ot_shaper::{HB_OT_SHAPE_ZERO_WIDTH_MARKS_NONE, no_hook, script_shaper};
 
 /// Reverses each run of marks after it was put in canonical order.
 #[derive(Clone, Copy, Debug)]
@@ -35,82 +34,77 @@ fn reverse(buffer: &mut hb_buffer_t, start: usize, end: usize)
     }
 }
 
-impl<U: hb_unicode_funcs_t, F: hb_font_t, M: hb_ot_layout_t<F>> hb_ot_shaper_t<U, F, M>
+impl<U: hb_unicode_funcs_t, F: hb_font_t, M: hb_ot_layout_t<F>> script_shaper<U, F, M>
     for ReversingShaper {
     type Data = ();
 
-    ghost constants = { record (plain_constants false (pos 1) 0 false) { has_reorder_marks = true } };
+    type CollectFeatures = no_hook;
 
-    ghost hooks = { λ _ _ _. no_hooks U.unicode };
+    type OverrideFeatures = no_hook;
 
-    ghost reordered = { λ _ _. reversed };
+    type CreateData = no_hook;
+
+    type PreprocessText = no_hook;
+
+    type PostprocessGlyphs = no_hook;
+
+    type Pause = no_hook;
+
+    type Decompose = no_hook;
+
+    type Compose = no_hook;
+
+    type SetupMasks = no_hook;
+
+    type ReorderMarks = Self;
 
     ghost IS_DEFAULT = { false };
 
-    ghost NORMALIZATION_PREFERENCE = { pos 1 };
-
-    ghost GPOS_TAG = { None };
-
-    ghost ZERO_WIDTH_MARKS = { 0 };
-
-    ghost FALLBACK_POSITION = { false };
-
-    ghost HAS_DECOMPOSE = { false };
-
-    ghost HAS_COMPOSE = { false };
-
-    ghost HAS_REORDER_MARKS = { true };
-
     const IS_DEFAULT: bool = false;
+
+    ghost NORMALIZATION_PREFERENCE = { pos 1 };
 
     const NORMALIZATION_PREFERENCE: i32 = 1;
 
+    ghost GPOS_TAG = { None };
+
     const GPOS_TAG: Option<hb_tag_t> = None;
 
-    const ZERO_WIDTH_MARKS: u32 = 0;
+    ghost ZERO_WIDTH_MARKS = { 0 };
+
+    const ZERO_WIDTH_MARKS: u32 = HB_OT_SHAPE_ZERO_WIDTH_MARKS_NONE;
+
+    ghost FALLBACK_POSITION = { false };
 
     const FALLBACK_POSITION: bool = false;
 
-    const HAS_DECOMPOSE: bool = false;
+    ghost lawful_preference = { refl };
 
-    const HAS_COMPOSE: bool = false;
+    ghost lawful_zero_width = { refl };
+}
 
-    const HAS_REORDER_MARKS: bool = true;
+impl<U: hb_unicode_funcs_t, F, M: hb_ot_layout_t<F>> reorder_marks_hook<
+    ReversingShaper,
+    (),
+    U,
+    F,
+    M,
+> for ReversingShaper {
+    ghost reordered = { λ _ _. reversed };
 
-    ghost constants_agree = { refl };
+    ghost GIVEN = { true };
 
-    fn decompose(
-        &self,
-        _plan: &hb_ot_shape_plan_t<'_, Self, M::Map, ()>,
-        _face: &F,
-        c: char,
-    ) -> Option<(char, char)> {
-        U::decompose(c)
-    }
-
-    fn compose(
-        &self,
-        _plan: &hb_ot_shape_plan_t<'_, Self, M::Map, ()>,
-        _face: &F,
-        a: char,
-        b: char,
-    ) -> Option<char> {
-        U::compose(a, b)
-    }
+    const GIVEN: bool = true;
 
     fn reorder_marks(
-        &self,
-        _plan: &hb_ot_shape_plan_t<'_, Self, M::Map, ()>,
+        _shaper: &ReversingShaper,
+        _plan: &hb_ot_shape_plan_t<'_, ReversingShaper, M::Map, ()>,
         buffer: &mut hb_buffer_t,
         start: usize,
         end: usize,
     ) {
         reverse(buffer, start, end);
     }
-
-    ghost lawful_constants = { record { lowest_preference = Prim.search rules; highest_preference = Prim.search rules; zero_width = Prim.search rules } };
-
-    ghost lawful_hooks = { λ _ _ _. no_hooks-owed U.lawful };
 
     ghost reorders = { λ _ _. reversed-reorders };
 }

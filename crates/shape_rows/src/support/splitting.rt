@@ -1,13 +1,12 @@
 //! Shapers whose `decompose` hook splits.
 ghost use Rattle.std.specs.Prelude.{◌≡◌, true, false, None, pos, refl};
-ghost use Rattle.std.proofs.Common.{rules};
-ghost use Rattle.shape_pipeline.specs.Shapers.{plain_constants, no_reordering, no_reordering-reorders};
-ghost use Rattle.shape_rows.specs.Splitting.{deep_split, deep_hooks, deep_hooks-owed, stacked_split, stacked_hooks, stacked_hooks-owed};
+ghost use Rattle.shape_rows.specs.Splitting.{deep_split, deep_height, deep_split-falls, stacked_split, stacked_split-falls};
 
-use shape_buffer::buffer::{hb_buffer_t, hb_tag_t};
+use shape_buffer::buffer::hb_tag_t;
 use shape_buffer::interfaces::{hb_font_t, hb_ot_layout_t, hb_unicode_funcs_t};
 use shape_pipeline::ot_shape_plan::hb_ot_shape_plan_t;
-use shape_pipeline::ot_shaper::hb_ot_shaper_t;
+use shape_pipeline::ot_shaper::hooks::decompose_hook;
+use shape_pipeline::ot_shaper::{HB_OT_SHAPE_ZERO_WIDTH_MARKS_NONE, no_hook, script_shaper};
 
 /// Splits U+F0000+k into U+F0000+k+1 and U+0061 for k below `depth`.
 #[derive(Clone, Copy, Debug)]
@@ -42,158 +41,144 @@ fn split_stacked(c: char) -> Option<(char, char)>
     }
 }
 
-impl<U: hb_unicode_funcs_t, F: hb_font_t, M: hb_ot_layout_t<F>> hb_ot_shaper_t<U, F, M>
+impl<U: hb_unicode_funcs_t, F: hb_font_t, M: hb_ot_layout_t<F>> script_shaper<U, F, M>
     for DeepShaper {
     type Data = ();
 
-    ghost constants = { record (plain_constants false (pos 1) 0 false) { has_decompose = true } };
+    type CollectFeatures = no_hook;
 
-    ghost hooks = { λ shaper _ _. deep_hooks U.unicode shaper.depth };
+    type OverrideFeatures = no_hook;
 
-    ghost reordered = { λ _ _. no_reordering };
+    type CreateData = no_hook;
+
+    type PreprocessText = no_hook;
+
+    type PostprocessGlyphs = no_hook;
+
+    type Pause = no_hook;
+
+    type Decompose = Self;
+
+    type Compose = no_hook;
+
+    type SetupMasks = no_hook;
+
+    type ReorderMarks = no_hook;
 
     ghost IS_DEFAULT = { false };
 
-    ghost NORMALIZATION_PREFERENCE = { pos 1 };
-
-    ghost GPOS_TAG = { None };
-
-    ghost ZERO_WIDTH_MARKS = { 0 };
-
-    ghost FALLBACK_POSITION = { false };
-
-    ghost HAS_DECOMPOSE = { true };
-
-    ghost HAS_COMPOSE = { false };
-
-    ghost HAS_REORDER_MARKS = { false };
-
     const IS_DEFAULT: bool = false;
+
+    ghost NORMALIZATION_PREFERENCE = { pos 1 };
 
     const NORMALIZATION_PREFERENCE: i32 = 1;
 
+    ghost GPOS_TAG = { None };
+
     const GPOS_TAG: Option<hb_tag_t> = None;
 
-    const ZERO_WIDTH_MARKS: u32 = 0;
+    ghost ZERO_WIDTH_MARKS = { 0 };
+
+    const ZERO_WIDTH_MARKS: u32 = HB_OT_SHAPE_ZERO_WIDTH_MARKS_NONE;
+
+    ghost FALLBACK_POSITION = { false };
 
     const FALLBACK_POSITION: bool = false;
 
-    const HAS_DECOMPOSE: bool = true;
+    ghost lawful_preference = { refl };
 
-    const HAS_COMPOSE: bool = false;
+    ghost lawful_zero_width = { refl };
+}
 
-    const HAS_REORDER_MARKS: bool = false;
+impl<U: hb_unicode_funcs_t, F, M: hb_ot_layout_t<F>> decompose_hook<DeepShaper, (), U, F, M>
+    for DeepShaper {
+    ghost split = { λ shaper _ _. deep_split shaper.depth };
 
-    ghost constants_agree = { refl };
+    ghost height = { λ shaper _ _. deep_height shaper.depth };
+
+    ghost GIVEN = { true };
+
+    const GIVEN: bool = true;
 
     fn decompose(
-        &self,
-        _plan: &hb_ot_shape_plan_t<'_, Self, M::Map, ()>,
+        shaper: &DeepShaper,
+        _plan: &hb_ot_shape_plan_t<'_, DeepShaper, M::Map, ()>,
         _face: &F,
         c: char,
     ) -> Option<(char, char)> {
-        split_deep(self.depth, c)
+        split_deep(shaper.depth, c)
     }
 
-    fn compose(
-        &self,
-        _plan: &hb_ot_shape_plan_t<'_, Self, M::Map, ()>,
-        _face: &F,
-        a: char,
-        b: char,
-    ) -> Option<char> {
-        U::compose(a, b)
-    }
-
-    fn reorder_marks(
-        &self,
-        _plan: &hb_ot_shape_plan_t<'_, Self, M::Map, ()>,
-        _buffer: &mut hb_buffer_t,
-        _start: usize,
-        _end: usize,
-    ) {}
-
-    ghost lawful_constants = { record { lowest_preference = Prim.search rules; highest_preference = Prim.search rules; zero_width = Prim.search rules } };
-
-    ghost lawful_hooks = { λ shaper _ _. deep_hooks-owed U.unicode shaper.depth };
-
-    ghost reorders = { λ _ _. no_reordering-reorders };
+    ghost falls = { λ shaper _ _. deep_split-falls shaper.depth };
 }
 
-impl<U: hb_unicode_funcs_t, F: hb_font_t, M: hb_ot_layout_t<F>> hb_ot_shaper_t<U, F, M>
+impl<U: hb_unicode_funcs_t, F: hb_font_t, M: hb_ot_layout_t<F>> script_shaper<U, F, M>
     for StackedShaper {
     type Data = ();
 
-    ghost constants = { record (plain_constants false (pos 1) 0 false) { has_decompose = true } };
+    type CollectFeatures = no_hook;
 
-    ghost hooks = { λ _ _ _. stacked_hooks U.unicode };
+    type OverrideFeatures = no_hook;
 
-    ghost reordered = { λ _ _. no_reordering };
+    type CreateData = no_hook;
+
+    type PreprocessText = no_hook;
+
+    type PostprocessGlyphs = no_hook;
+
+    type Pause = no_hook;
+
+    type Decompose = Self;
+
+    type Compose = no_hook;
+
+    type SetupMasks = no_hook;
+
+    type ReorderMarks = no_hook;
 
     ghost IS_DEFAULT = { false };
 
-    ghost NORMALIZATION_PREFERENCE = { pos 1 };
-
-    ghost GPOS_TAG = { None };
-
-    ghost ZERO_WIDTH_MARKS = { 0 };
-
-    ghost FALLBACK_POSITION = { false };
-
-    ghost HAS_DECOMPOSE = { true };
-
-    ghost HAS_COMPOSE = { false };
-
-    ghost HAS_REORDER_MARKS = { false };
-
     const IS_DEFAULT: bool = false;
+
+    ghost NORMALIZATION_PREFERENCE = { pos 1 };
 
     const NORMALIZATION_PREFERENCE: i32 = 1;
 
+    ghost GPOS_TAG = { None };
+
     const GPOS_TAG: Option<hb_tag_t> = None;
 
-    const ZERO_WIDTH_MARKS: u32 = 0;
+    ghost ZERO_WIDTH_MARKS = { 0 };
+
+    const ZERO_WIDTH_MARKS: u32 = HB_OT_SHAPE_ZERO_WIDTH_MARKS_NONE;
+
+    ghost FALLBACK_POSITION = { false };
 
     const FALLBACK_POSITION: bool = false;
 
-    const HAS_DECOMPOSE: bool = true;
+    ghost lawful_preference = { refl };
 
-    const HAS_COMPOSE: bool = false;
+    ghost lawful_zero_width = { refl };
+}
 
-    const HAS_REORDER_MARKS: bool = false;
+impl<U: hb_unicode_funcs_t, F, M: hb_ot_layout_t<F>> decompose_hook<StackedShaper, (), U, F, M>
+    for StackedShaper {
+    ghost split = { λ _ _ _. stacked_split };
 
-    ghost constants_agree = { refl };
+    ghost height = { λ _ _ _ c. c };
+
+    ghost GIVEN = { true };
+
+    const GIVEN: bool = true;
 
     fn decompose(
-        &self,
-        _plan: &hb_ot_shape_plan_t<'_, Self, M::Map, ()>,
+        _shaper: &StackedShaper,
+        _plan: &hb_ot_shape_plan_t<'_, StackedShaper, M::Map, ()>,
         _face: &F,
         c: char,
     ) -> Option<(char, char)> {
         split_stacked(c)
     }
 
-    fn compose(
-        &self,
-        _plan: &hb_ot_shape_plan_t<'_, Self, M::Map, ()>,
-        _face: &F,
-        a: char,
-        b: char,
-    ) -> Option<char> {
-        U::compose(a, b)
-    }
-
-    fn reorder_marks(
-        &self,
-        _plan: &hb_ot_shape_plan_t<'_, Self, M::Map, ()>,
-        _buffer: &mut hb_buffer_t,
-        _start: usize,
-        _end: usize,
-    ) {}
-
-    ghost lawful_constants = { record { lowest_preference = Prim.search rules; highest_preference = Prim.search rules; zero_width = Prim.search rules } };
-
-    ghost lawful_hooks = { λ _ _ _. stacked_hooks-owed U.unicode };
-
-    ghost reorders = { λ _ _. no_reordering-reorders };
+    ghost falls = { λ _ _ _. stacked_split-falls };
 }

@@ -3,20 +3,19 @@ ghost use Rattle.std.specs.Prelude.{◌≤◌};
 ghost use Rattle.std.specs.Option.{SomeIff};
 ghost use Rattle.shapeline.specs.Modes.{mode_of};
 
-use crate::face::Face;
-use crate::no_lookups::NoLookups;
-use crate::preferring::{
-    ComposedDiacritics, ComposedDiacriticsNoShortCircuit, Decomposed, Preferring, Shortest,
-};
 use crate::unicode_tables::UnicodeTables;
-use shape_pipeline::ot_shaper::{DEFAULT_SHAPER, hb_ot_shaper_t};
+use shape_buffer::interfaces::{MapFace, NoLookups};
+use shape_pipeline::ot_shaper::{
+    ComposedDiacritics, ComposedDiacriticsNoShortCircuit, DEFAULT_SHAPER, Decomposed, Preferring,
+    Shortest, hb_ot_shaper_t,
+};
 
 /// What can be done with any shaper.
 pub trait ShaperTask {
     type Answer;
 
     /// Does it with this one.
-    fn run<S: hb_ot_shaper_t<UnicodeTables, Face, NoLookups>>(self, shaper: &S) -> Self::Answer;
+    fn run<S: hb_ot_shaper_t<UnicodeTables, MapFace, NoLookups>>(self, shaper: &S) -> Self::Answer;
 }
 
 /// The modes of normalising. Each stands for a shaper that prefers it; the last is that of the default

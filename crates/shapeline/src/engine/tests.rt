@@ -1,16 +1,21 @@
 //! Lines with what they answer, and runs whose reader or writer fails at one of its calls.
 
+mod lines;
 mod modes;
 mod orders;
+mod printed;
+mod whole;
 
 use super::run;
-use crate::engine::mode::Mode;
-use crate::engine::text::shaped;
-use crate::face::Face;
-use shape_buffer::buffer::{BufferClusterLevel, GlyphBuffer, UnicodeBuffer};
+use crate::engine::answers;
+use crate::engine::mode::{Mode, ShaperTask};
+use crate::unicode_tables::UnicodeTables;
+use shape_buffer::buffer::{BufferClusterLevel, GlyphBuffer, ShapeError, UnicodeBuffer};
+use shape_buffer::interfaces::{MapFace, NoLookups};
+use shape_pipeline::ot_shaper::hb_ot_shaper_t;
 use std::alloc::Global;
 use std::io;
-use std::io::{BufReader, ErrorKind, Read, Write};
+use std::io::{BufRead, BufReader, ErrorKind, Read, Write};
 use std::process::Abort;
 use std::test::Fail;
 
@@ -35,10 +40,47 @@ pub(super) fn expect_run(
     assert_eq!(rt; answer, status, "for {rest:?}");
 }
 
+/// Runs the program on two inputs in a row, and compares its output but for the lines that begin with these.
+pub(super) fn expect_besides(
+    rt: &impl Abort,
+    alloc: Global,
+    left_out: &[&[u8]],
+    first: &[u8],
+    rest: &[u8],
+    output: &[u8],
+) -> Result<(), Fail> {
+    let mut written: Vec<u8> = Vec::new(alloc);
+    let status = run(alloc, first.chain(rest), &mut written);
+    assert_eq!(rt; status, 0, "for {rest:?}");
+    let mut lines = written.as_slice();
+    let mut line: Vec<u8> = Vec::new(alloc);
+    let mut kept: Vec<u8> = Vec::new(alloc);
+    for _ in 0..written.len() {
+        lines.read_until(b'\n', &mut line)?;
+        if !left_out.iter().any(|name| line.starts_with(name)) {
+            kept.extend_from_slice(line.as_slice())?;
+        }
+        line.clear();
+    }
+    assert_eq!(rt; kept.as_slice(), output, "for {rest:?}");
+    Ok(())
+}
+
+/// Runs the program on two inputs in a row, and compares its output but for prepared texts and glyphs.
+pub(super) fn expect_normal(
+    rt: &impl Abort,
+    alloc: Global,
+    first: &[u8],
+    rest: &[u8],
+    output: &[u8],
+) -> Result<(), Fail> {
+    expect_besides(rt, alloc, &[b"prepared", b"glyphs"], first, rest, output)
+}
+
 /// Shapes these characters, each in the cluster of its place, at the level that keeps graphemes apart.
 pub(super) fn shaped_in_places(
     alloc: Global,
-    face: &Face,
+    face: &MapFace,
     mode: Mode,
     text: &[char],
 ) -> Result<GlyphBuffer, Fail> {
@@ -49,11 +91,39 @@ pub(super) fn shaped_in_places(
         buffer.add(*c, place)?;
         place = place.saturating_add(1);
     }
-    Ok(shaped(alloc, face, mode, buffer)?)
+    Ok(mode.with_shaper(Shaping {
+        alloc,
+        face,
+        text: buffer,
+    })?)
+}
+
+/// A text to be shaped under a plan of its own.
+struct Shaping<'a> {
+    alloc: Global,
+    face: &'a MapFace,
+    text: UnicodeBuffer,
+}
+
+impl ShaperTask for Shaping<'_> {
+    type Answer = Result<GlyphBuffer, ShapeError>;
+
+    fn run<S: hb_ot_shaper_t<UnicodeTables, MapFace, NoLookups>>(
+        self,
+        shaper: &S,
+    ) -> Result<GlyphBuffer, ShapeError> {
+        let Shaping {
+            alloc,
+            face,
+            mut text,
+        } = self;
+        let plan = answers::planned(alloc, face, shaper, &mut text)?;
+        answers::shape(alloc, &plan, face, text)
+    }
 }
 
 #[test]
-fn texts(rt: HostRuntime) {
+fn texts(rt: HostRuntime) -> Result<(), Fail> {
     let cases: [(&[u8], &[u8], &[u8]); 8] = [
         (
             FACE,
@@ -85,62 +155,9 @@ fn texts(rt: HostRuntime) {
         ),
     ];
     for (face, lines, output) in cases {
-        expect_run(&rt, rt.alloc(), face, lines, 0, output);
+        expect_normal(&rt, rt.alloc(), face, lines, output)?;
     }
-}
-
-/// Lines that can't be obeyed.
-const MALFORMED: [&[u8]; 36] = [
-    b"text 110000",
-    b"text D800",
-    b"text +41",
-    b"text 0000041",
-    b"text 41 g",
-    b"text 41\r\r\n",
-    b"text\t41",
-    b"level",
-    b"level 3",
-    b"level 1 1",
-    b"mode",
-    b"mode 5",
-    b"mode -1",
-    b"mode 1 1",
-    b"same",
-    b"same 41",
-    b"same 41/41",
-    b"same 41 /41",
-    b"same 41/ 41",
-    b"same 41 / 41 / 41",
-    b"same 41 / g",
-    b"glyph 61 65536 1",
-    b"glyph 61 +1 1",
-    b"glyph 61 1 +1",
-    b"glyph 61 1 --1",
-    b"glyph 61 1 -",
-    b"glyph 61 1 2147483648",
-    b"glyph 61 1 -2147483649",
-    b"glyph 61 1",
-    b"glyph 61 1 1 1",
-    b"face 0",
-    b"face 65536",
-    b"face",
-    b"word",
-    b"# \xFF",
-    b"Text 41",
-];
-
-#[test]
-fn malformed_lines(rt: HostRuntime) {
-    for line in MALFORMED {
-        expect_run(
-            &rt,
-            rt.alloc(),
-            b"\n# two\n text\n",
-            line,
-            2,
-            b"normal\nerror: line 4\n",
-        );
-    }
+    Ok(())
 }
 
 /// A reader that fails at one of its calls.

@@ -1,33 +1,38 @@
 //! Modes of normalising, and texts that are compared.
 
-use super::{expect_run, shaped_in_places};
+use super::{expect_normal, shaped_in_places};
 use crate::engine::mode::Mode;
-use crate::face::Face;
 use shape_buffer::buffer::GlyphId;
-use shape_buffer::interfaces::hb_unicode_general_category_t;
+use shape_buffer::interfaces::{MapFace, Metrics, hb_unicode_general_category_t};
 use std::alloc::Global;
 use std::process::Abort;
 use std::test::Fail;
 
 /// Runs the program on a face with these lines, and compares what each of the commands answers.
-fn expect_answers(rt: &impl Abort, alloc: Global, face: &[u8], cases: &[(&[u8], &[u8])]) {
+fn expect_answers(
+    rt: &impl Abort,
+    alloc: Global,
+    face: &[u8],
+    cases: &[(&[u8], &[u8])],
+) -> Result<(), Fail> {
     for (lines, output) in cases {
-        expect_run(rt, alloc, face, lines, 0, output);
+        expect_normal(rt, alloc, face, lines, output)?;
     }
+    Ok(())
 }
 
 #[test]
-fn e_acute(rt: HostRuntime) {
+fn e_acute(rt: HostRuntime) -> Result<(), Fail> {
     expect_answers(
         &rt,
         rt.alloc(),
         b"glyph 65 1 600\nglyph 301 2 0\n",
         &[(b"text E9\n", b"normal 0065@0 0301@0\n")],
-    );
+    )
 }
 
 #[test]
-fn shortest_expansion(rt: HostRuntime) {
+fn shortest_expansion(rt: HostRuntime) -> Result<(), Fail> {
     expect_answers(
         &rt,
         rt.alloc(),
@@ -43,21 +48,21 @@ fn shortest_expansion(rt: HostRuntime) {
             (b"text C2\n", b"normal 00C2@0\n"),
             (b"mode 1\ntext C2\n", b"normal 0041@0 0302@0\n"),
         ],
-    );
+    )
 }
 
 #[test]
-fn half_supported_chain(rt: HostRuntime) {
+fn half_supported_chain(rt: HostRuntime) -> Result<(), Fail> {
     expect_answers(
         &rt,
         rt.alloc(),
         b"glyph 41 1 600\nglyph 302 2 0\nglyph C2 4 600\n",
         &[(b"text 1EA4\n", b"normal 1EA4@0\n")],
-    );
+    )
 }
 
 #[test]
-fn no_mark_past_first_compared(rt: HostRuntime) {
+fn no_mark_past_first_compared(rt: HostRuntime) -> Result<(), Fail> {
     expect_answers(
         &rt,
         rt.alloc(),
@@ -67,14 +72,14 @@ fn no_mark_past_first_compared(rt: HostRuntime) {
             (b"same FB2C 0323 / 05E9 05BC 05C1 0323\n", b"same yes\n"),
             (b"same /\nsame 5E9 /\n", b"same yes\nsame no\n"),
         ],
-    );
+    )
 }
 
 /// A level that keeps graphemes apart, and a face for U+00E9 with a dot below in each spelling.
 const SPELLINGS: &[u8] = b"level 1\nglyph 65 1 600\nglyph 301 2 0\nglyph 323 3 0\nglyph E9 4 600\n";
 
 #[test]
-fn three_spellings(rt: HostRuntime) {
+fn three_spellings(rt: HostRuntime) -> Result<(), Fail> {
     expect_answers(
         &rt,
         rt.alloc(),
@@ -106,11 +111,11 @@ fn three_spellings(rt: HostRuntime) {
                 b"normal 1EB9@0 0301@1\n",
             ),
         ],
-    );
+    )
 }
 
 #[test]
-fn without_composite(rt: HostRuntime) {
+fn without_composite(rt: HostRuntime) -> Result<(), Fail> {
     expect_answers(
         &rt,
         rt.alloc(),
@@ -119,21 +124,21 @@ fn without_composite(rt: HostRuntime) {
             b"mode 3\ntext E9 323\ntext 65 301 323\n",
             b"normal 00E9@0 0323@0\nnormal 00E9@0 0323@0\n",
         )],
-    );
+    )
 }
 
 #[test]
-fn merge_grows_right(rt: HostRuntime) {
+fn merge_grows_right(rt: HostRuntime) -> Result<(), Fail> {
     expect_answers(
         &rt,
         rt.alloc(),
         b"mode 3\nlevel 1\nglyph 65 1 600\nglyph 301 2 0\nglyph 323 3 0\nglyph 1EB9 4 600\n",
         &[(b"text 65 301 323\n", b"normal 1EB9@0 0301@0\n")],
-    );
+    )
 }
 
 #[test]
-fn new_starter_forgets(rt: HostRuntime) {
+fn new_starter_forgets(rt: HostRuntime) -> Result<(), Fail> {
     expect_answers(
         &rt,
         rt.alloc(),
@@ -142,11 +147,11 @@ fn new_starter_forgets(rt: HostRuntime) {
             b"text 61 308 65 301 323\n",
             b"normal 0061@0 0308@1 00E9@3 0323@3\n",
         )],
-    );
+    )
 }
 
 #[test]
-fn a_mark_of_the_same_class_keeps_apart(rt: HostRuntime) {
+fn a_mark_of_the_same_class_keeps_apart(rt: HostRuntime) -> Result<(), Fail> {
     expect_answers(
         &rt,
         rt.alloc(),
@@ -155,11 +160,11 @@ fn a_mark_of_the_same_class_keeps_apart(rt: HostRuntime) {
             (b"text 61 308 301\n", b"normal 0061@0 0308@1 0301@3\n"),
             (b"text 61 301 308\n", b"normal 00E1@0 0308@3\n"),
         ],
-    );
+    )
 }
 
 #[test]
-fn spaces_and_hyphens_keep_their_characters(rt: HostRuntime) {
+fn spaces_and_hyphens_keep_their_characters(rt: HostRuntime) -> Result<(), Fail> {
     expect_answers(
         &rt,
         rt.alloc(),
@@ -169,16 +174,25 @@ fn spaces_and_hyphens_keep_their_characters(rt: HostRuntime) {
                 b"text 61 2003\ntext 2007\ntext 2011\n",
                 b"normal 0061@0 2003@1\nnormal 2007@0\nnormal 2011@0\n",
             ),
-            (b"text 61 FE00 FE01\n", b"normal 0061@0 FE00@1 FE01@4\n"),
+            // A selector is a mark, so that its grapheme is merged.
+            (b"text 61 FE00 FE01\n", b"normal 0061@0 FE00@0 FE01@0\n"),
+            (
+                b"level 1\ntext 61 FE00 FE01\n",
+                b"normal 0061@0 FE00@1 FE01@4\n",
+            ),
         ],
-    );
+    )
 }
 
 /// A face in which each of these characters has the glyph of its own number.
-fn face_of(alloc: Global, known: &[char]) -> Result<Face, Fail> {
-    let mut face = Face::new(alloc, 1000);
+pub(super) fn face_of(alloc: Global, known: &[char]) -> Result<MapFace, Fail> {
+    let mut face = MapFace::new(alloc, 1000);
     for c in known {
-        face.set_glyph(*c, GlyphId(u32::from(*c)), 0)?;
+        let metrics = Metrics {
+            advance: 0,
+            extents: None,
+        };
+        face.set_glyph(*c, GlyphId(u32::from(*c)), metrics)?;
     }
     Ok(face)
 }

@@ -1,9 +1,10 @@
 //! Orders of marks.
 
-use super::{expect_run, shaped_in_places};
+use super::modes::face_of;
+use super::{expect_normal, shaped_in_places};
 use crate::engine::mode::Mode;
-use crate::face::Face;
 use shape_buffer::buffer::GlyphBuffer;
+use shape_buffer::interfaces::MapFace;
 use std::alloc::Global;
 use std::process::Abort;
 use std::test::Fail;
@@ -14,14 +15,15 @@ const MARKS: &[u8] =
     b"mode 1\nlevel 1\nglyph 61 1 600\nglyph 5BC 2 0\nglyph 5C1 3 0\nglyph 301 4 0\nglyph 323 5 0\nglyph 34F 6 0\nglyph 5E9 7 500\n";
 
 /// Runs the program on the face of these marks and each of the lines.
-fn expect_orders(rt: &impl Abort, alloc: Global, cases: &[(&[u8], &[u8])]) {
+fn expect_orders(rt: &impl Abort, alloc: Global, cases: &[(&[u8], &[u8])]) -> Result<(), Fail> {
     for (lines, output) in cases {
-        expect_run(rt, alloc, MARKS, lines, 0, output);
+        expect_normal(rt, alloc, MARKS, lines, output)?;
     }
+    Ok(())
 }
 
 #[test]
-fn ordering_merges(rt: HostRuntime) {
+fn ordering_merges(rt: HostRuntime) -> Result<(), Fail> {
     expect_orders(
         &rt,
         rt.alloc(),
@@ -37,17 +39,22 @@ fn ordering_merges(rt: HostRuntime) {
                 b"text 61 301 301 323 301\n",
                 b"normal 0061@0 0323@1 0301@1 0301@1 0301@7\n",
             ),
+            // A merge grows to the left.
+            (
+                b"dir rtl\ntext 323 61 301\n",
+                b"normal 0061@0 0323@0 0301@0\n",
+            ),
             // At this level nothing is merged.
             (
                 b"level 2\ntext 61 301 323\n",
                 b"normal 0061@0 0323@3 0301@1\n",
             ),
         ],
-    );
+    )
 }
 
 #[test]
-fn no_mark_past_first(rt: HostRuntime) {
+fn no_mark_past_first(rt: HostRuntime) -> Result<(), Fail> {
     expect_orders(
         &rt,
         rt.alloc(),
@@ -55,11 +62,11 @@ fn no_mark_past_first(rt: HostRuntime) {
             b"text FB2C\ntext 5E9 5BC 5C1\n",
             b"normal 05E9@0 05BC@0 05C1@0\nnormal 05E9@0 05C1@2 05BC@2\n",
         )],
-    );
+    )
 }
 
 #[test]
-fn thirty_two(rt: HostRuntime) {
+fn thirty_two(rt: HostRuntime) -> Result<(), Fail> {
     expect_orders(
         &rt,
         rt.alloc(),
@@ -74,12 +81,12 @@ fn thirty_two(rt: HostRuntime) {
                 b"normal 0061@0 0323@1 0301@1 0301@1 0301@1 0301@1 0301@1 0301@1 0301@1 0301@1 0301@1 0301@1 0301@1 0301@1 0301@1 0301@1 0301@1 0301@1 0301@1 0301@1 0301@1 0301@1 0301@1 0301@1 0301@1 0301@1 0301@1 0301@1 0301@1 0301@1 0301@1 0301@1 0301@1\n",
             ),
         ],
-    );
+    )
 }
 
 /// Shapes these characters in the mode that decomposes, over a face without glyphs.
 fn glyphs_of(alloc: Global, text: &[char]) -> Result<GlyphBuffer, Fail> {
-    shaped_in_places(alloc, &Face::new(alloc, 1000), Mode::Decomposed, text)
+    shaped_in_places(alloc, &MapFace::new(alloc, 1000), Mode::Decomposed, text)
 }
 
 /// Compares characters and clusters.
@@ -95,10 +102,11 @@ fn orders_through_the_library(rt: HostRuntime) -> Result<(), Fail> {
     let glyphs = glyphs_of(rt.alloc(), &['a', '\u{301}', '\u{323}'])?;
     assert_rows(&rt, &glyphs, &[('a', 0), ('\u{323}', 1), ('\u{301}', 1)]);
     let glyphs = glyphs_of(rt.alloc(), &['\u{5e9}', '\u{5bc}', '\u{5c1}'])?;
+    // The glyphs of Hebrew come from left to right.
     assert_rows(
         &rt,
         &glyphs,
-        &[('\u{5e9}', 0), ('\u{5c1}', 1), ('\u{5bc}', 1)],
+        &[('\u{5bc}', 1), ('\u{5c1}', 1), ('\u{5e9}', 0)],
     );
     Ok(())
 }
@@ -120,9 +128,11 @@ fn thirty_two_through_the_library(rt: HostRuntime) -> Result<(), Fail> {
     Ok(())
 }
 
-/// Whether the third of the characters is hidden once they are shaped.
+/// Whether the third of the characters is hidden once they are shaped, over a face with the space that stands
+/// in for what isn't shown.
 fn third_is_hidden(alloc: Global, text: &[char]) -> Result<bool, Fail> {
-    let glyphs = glyphs_of(alloc, text)?;
+    let face = face_of(alloc, &[' '])?;
+    let glyphs = shaped_in_places(alloc, &face, Mode::Decomposed, text)?;
     let third = glyphs.glyph_infos().get(2);
     Ok(third.is_some_and(|info| info._hb_glyph_info_get_hidden()))
 }
@@ -136,7 +146,7 @@ fn grapheme_joiner(rt: HostRuntime) -> Result<(), Fail> {
             b"text 61 301 34F 323\ntext 61 323 34F 301\n",
             b"normal 0061@0 0301@1 034F@3 0323@5\nnormal 0061@0 0323@1 034F@3 0301@5\n",
         )],
-    );
+    )?;
     assert!(rt; third_is_hidden(rt.alloc(), &['a', '\u{301}', '\u{34f}', '\u{323}'])?);
     assert!(rt; !third_is_hidden(rt.alloc(), &['a', '\u{323}', '\u{34f}', '\u{301}'])?);
     Ok(())

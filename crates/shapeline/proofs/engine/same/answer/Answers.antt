@@ -9,11 +9,11 @@ none-fails : {Holds : Type 0} (len : Option ℕ) (bytes : ℕ) → SomeIff len H
 none-fails None bytes answer none holds = answer holds
 none-fails (Some n) bytes answer none holds = absurd cc
 
-pub returns-in_default-clause-text : goal.returns-in_default-clause-text
-returns-in_default-clause-text g c = λ pair malformed. no_slash-no_pair c.args.words.rest.now c.in_default.ensures pair
+pub returns-in_default : goal.returns-in_default
+returns-in_default g c = λ pair. no_slash-no_pair c.args.words.rest.now c.in_default.ensures pair
 
-pub returns-then-is_none-clause-text : goal.returns-then-is_none-clause-text
-returns-then-is_none-clause-text g c = λ pair malformed.
+pub returns-then-is_none : goal.returns-then-is_none
+returns-then-is_none g c = λ pair.
     let sides = pair-sides c.args.words.rest.now c.in-Some.first.rest.now c.in-Some.second.rest.now c.in-Some.ensures.0 c.in-Some.ensures.1 pair in
     elim c.then-is_none.branch [
       | then-is_none-via-then-is_none w ↦ none-fails c.text_len.result _ c.text_len.ensures w.if-is_none.ensures sides.0

@@ -1,5 +1,6 @@
-use Rattle.std.proofs.Common.{◌≡◌, ◌<◌, ◌+◌, ◌^◌, ◌++◌}
+use Rattle.std.proofs.Common.{◌≡◌, ◌<◌, ◌+◌, ◌^◌, ◌++◌, []}
 use Rattle.std.specs.List.{AllByRecursion}
+use Rattle.shape_buffer.specs.Buffer.{new_buffer}
 use Rattle.shape_buffer.specs.Text.{items_from}
 use Rattle.shapeline.specs.Text.{IsCharacterWord, characters, utf8_len}
 use Rattle.shapeline.specs.Words.{words}
@@ -9,5 +10,6 @@ abbrev pub invariant-loop-word : goal.invariant-loop-word
 invariant-loop-word l = record {
   all_left : AllByRecursion IsCharacterWord (words l.word-iterator.rest.now);
   counted : l.offset + utf8_len (words l.word-iterator.rest.now) < 2 ^ 32;
+  rest_is_new : record l.buffer { items = []; positions = [] } ≡ new_buffer;
   put : l.buffer.items ++ items_from l.offset (characters (words l.word-iterator.rest.now)) ≡ items_from 0 (characters (words l.fn.words.rest.now));
 }

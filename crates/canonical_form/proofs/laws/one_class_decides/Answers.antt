@@ -1,0 +1,8 @@
+use Rattle.canonical_form.proofs.BlockLemmas.{recomposed_by_last, recomposed_by_greatest}
+use Rattle.canonical_form.proofs.laws.one_class_decides.Goals as goal
+
+pub returns-clause-last : goal.returns-clause-last
+returns-clause-last g c = recomposed_by_last
+
+pub returns-clause-greatest : goal.returns-clause-greatest
+returns-clause-greatest g c = recomposed_by_greatest

@@ -1,0 +1,11 @@
+pub mod Chain
+pub mod SplitsFall
+pub mod Expansion
+pub mod Choice
+pub mod Expanded
+pub mod Divided
+pub mod Order
+pub mod Equivalent
+pub mod Runs
+pub mod Recompose
+pub mod Laws

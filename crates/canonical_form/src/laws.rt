@@ -1,0 +1,113 @@
+//! Laws of canonical form: each function has laws as its contract, and nothing to do.
+//!
+//! They hold for every split whose heights fall and whose marks keep their class, so for the
+//! functions of Unicode as for a shaper's own. Equivalence is that of UAX 15 with the classes at
+//! hand; a canonical text has the form of its NFD.
+ghost use Rattle.canonical_form.specs.Laws.{FullIsByTwoRules, EquivalenceIsReflexive, EquivalenceIsSymmetric, EquivalenceIsTransitive, ExpansionIsEquivalent, ChoicesAreEquivalent, ChoiceIsGreatest, ChoiceIsLeast, ChoiceStays, ChoiceBringsGlyphs, ChoiceIsFull, StableOrderIsReached, OrderIsReached, OrderIsUnique, SettledIsReached, SettledIsOrdered, SettledIsUnique, CanonicalIsUnique, DecomposedIsCanonical, DecomposedDecides, RecomposedIsEquivalent, JoinedPastMarksIsEquivalent, LastDecides, GreatestDecides, RecomposedDecides, OrderedIsEquivalent, NormalisedIsEquivalent, ExpandedCutsApart, SettledCutsApart};
+
+/// Full of a character is what two rules give: the character itself where it does not split, else
+/// Full of its first part and then its second part.
+pub fn full_is_by_two_rules()
+    ensures { FullIsByTwoRules }
+{}
+
+/// Equivalence is reflexive, symmetric and transitive.
+pub fn equivalence_is_an_equivalence()
+    ensures reflexive { EquivalenceIsReflexive }
+    ensures symmetric { EquivalenceIsSymmetric }
+    ensures transitive { EquivalenceIsTransitive }
+{}
+
+/// An expansion is equivalent to its character, and the choices of a text to the text.
+pub fn expansion_is_equivalent()
+    ensures expansion { ExpansionIsEquivalent }
+    ensures choices { ChoicesAreEquivalent }
+{}
+
+/// A choice is the supported expansion of greatest length, or of least length where the shortest is
+/// asked for and the character has no glyph; it is the character itself where none is supported.
+pub fn choice_is_extremal()
+    ensures greatest { ChoiceIsGreatest }
+    ensures least { ChoiceIsLeast }
+    ensures stays { ChoiceStays }
+{}
+
+/// Each character of a choice is the chosen-for character or has a glyph.
+pub fn choice_brings_glyphs()
+    ensures { ChoiceBringsGlyphs }
+{}
+
+/// With a glyph for each character of Full, the choice of greatest length is Full.
+pub fn choice_is_full()
+    ensures { ChoiceIsFull }
+{}
+
+/// The stable order by class of a run of marks is reached by swaps, and is ordered (The Unicode
+/// Standard, D109).
+pub fn stable_order_is_reached<T>()
+    ensures { StableOrderIsReached T }
+{}
+
+/// The canonical order of a list is reached by swaps and is ordered, and two ordered lists that swaps
+/// lead from one to the other are equal.
+pub fn order_is_unique<T>()
+    ensures reached { OrderIsReached T }
+    ensures unique { OrderIsUnique T }
+{}
+
+/// A list whose runs are settled is reached by swaps, is ordered where no run is too long, and is
+/// the only such list.
+pub fn settled_is_reached<T>()
+    ensures reached { SettledIsReached T }
+    ensures ordered { SettledIsOrdered T }
+    ensures unique { SettledIsUnique T }
+{}
+
+/// No two different canonical texts are equivalent.
+pub fn canonical_is_unique()
+    ensures { CanonicalIsUnique }
+{}
+
+/// The greatest choices of a text, settled run by run, are canonical; two texts are equivalent
+/// exactly where these lists are equal. Each character of Full has a glyph, and no run is too long.
+pub fn decomposed_is_canonical()
+    ensures canonical { DecomposedIsCanonical }
+    ensures decides { DecomposedDecides }
+{}
+
+/// Where a composed character is always equivalent to its two parts, recomposing leaves a text that is
+/// equivalent, and so does each of its steps: a starter composes with a mark past others that do not
+/// block it (The Unicode Standard, D115 to D117).
+pub fn recomposed_is_equivalent()
+    ensures whole { RecomposedIsEquivalent }
+    ensures step { JoinedPastMarksIsEquivalent }
+{}
+
+/// Where a composed character is always equivalent to its two parts, each character of Full of both
+/// texts has a glyph, and no run is too long: two equivalent texts, decomposed and settled, have equal
+/// recomposed forms, and two others have different ones.
+pub fn recomposed_decides()
+    ensures { RecomposedDecides }
+{}
+
+/// Which class between a starter and a mark keeps the two apart: in an ordered list that of the
+/// item put out last, in every list the greatest.
+pub fn one_class_decides<T>()
+    ensures last { LastDecides T }
+    ensures greatest { GreatestDecides T }
+{}
+
+/// Normalising keeps a text equivalent in every mode: expanded, with the shortest choices asked for
+/// all characters, for simple ones or for none, then settled run by run; and then, where a composed
+/// character is always equivalent to its two parts, recomposed to composed characters that have glyphs.
+pub fn normalised_is_equivalent()
+    ensures ordered { OrderedIsEquivalent }
+    ensures recomposed { NormalisedIsEquivalent }
+{}
+
+/// Before an item that is no mark, and whose choice begins with none, a list may be cut: the parts,
+/// normalised each by itself, joined, are the whole one normalised.
+pub fn cuts_apart<T>()
+    ensures expanded { ExpandedCutsApart T }
+    ensures settled { SettledCutsApart T }
+{}

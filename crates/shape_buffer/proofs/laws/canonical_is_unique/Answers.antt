@@ -1,5 +1,0 @@
-use Rattle.shape_buffer.proofs.EquivalentLemmas.{canonical_equal}
-use Rattle.shape_buffer.proofs.laws.canonical_is_unique.Goals as goal
-
-pub returns : goal.returns
-returns g = λ split height class falling. canonical_equal split height falling class

@@ -1,5 +1,0 @@
-use Rattle.shape_buffer.proofs.ChoiceLemmas.{choice_glyphs}
-use Rattle.shape_buffer.proofs.laws.choice_brings_glyphs.Goals as goal
-
-pub returns : goal.returns
-returns g = λ split height has_glyph short c. choice_glyphs split has_glyph height short c

@@ -1,9 +1,0 @@
-use Rattle.shape_buffer.proofs.CutLemmas.{cut}
-use Rattle.shape_buffer.proofs.ExpandedLemmas.{expanded-cut}
-use Rattle.shape_buffer.proofs.laws.cuts_apart.Goals as goal
-
-pub returns-clause-expanded : goal.returns-clause-expanded
-returns-clause-expanded g c = expanded-cut
-
-pub returns-clause-settled : goal.returns-clause-settled
-returns-clause-settled g c = cut

@@ -1,8 +1,0 @@
-use Rattle.shape_buffer.proofs.BlockLemmas.{recomposed_by_last, recomposed_by_greatest}
-use Rattle.shape_buffer.proofs.laws.one_class_decides.Goals as goal
-
-pub returns-clause-last : goal.returns-clause-last
-returns-clause-last g c = recomposed_by_last
-
-pub returns-clause-greatest : goal.returns-clause-greatest
-returns-clause-greatest g c = recomposed_by_greatest

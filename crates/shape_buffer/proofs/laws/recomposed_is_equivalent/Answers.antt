@@ -1,9 +1,0 @@
-use Rattle.shape_buffer.proofs.LawLemmas.{recomposed_is_equivalent}
-use Rattle.shape_buffer.proofs.NormaliseLemmas.{equivalent_joined}
-use Rattle.shape_buffer.proofs.laws.recomposed_is_equivalent.Goals as goal
-
-pub returns-clause-whole : goal.returns-clause-whole
-returns-clause-whole g = recomposed_is_equivalent
-
-pub returns-clause-step : goal.returns-clause-step
-returns-clause-step g = equivalent_joined

@@ -1,0 +1,71 @@
+-- The flags of glyphs at the end of a run: one set for each cluster.
+use Rattle.std.specs.Prelude.{◌≡◌, ◌==◌, ℕ, List, [], ◌∷◌, map, fold, take, Option, Some, None, if◌then◌else◌}
+use Rattle.std.specs.Int.RustNames.{bit_and, bit_or}
+use Rattle.std.specs.List.{flat_map, prefix_len}
+use Rattle.shape_buffer.specs.Buffer.{Buffer}
+use Rattle.shape_buffer.specs.Delete.{begins_in}
+use Rattle.canonical_form.specs.Divided.{put_first}
+use Rattle.shape_buffer.specs.Items.{Item, has_cluster}
+use Rattle.shape_buffer.specs.KeepsFlags.{has_glyph_flags}
+use Rattle.shape_buffer.specs.declared.buffer.flags.BufferFlags.{BufferFlags}
+
+-- the defined flags of an item
+abbrev pub flags_of : Item → ℕ
+flags_of item = bit_and item.mask 7
+
+-- the defined flags of some items, joined
+abbrev pub joined_flags : List Item → ℕ
+joined_flags items = fold (λ joined item. bit_or joined (flags_of item)) 0 items
+
+-- where tatweel is asked for (128): unsafe to break clears safe to insert tatweel, and one that is left brings both unsafe flags
+abbrev pub with_tatweel : BufferFlags → ℕ → ℕ
+with_tatweel flags joined =
+    if bit_and flags.0 128 == 128 then
+    (if bit_and joined 1 == 1 then bit_and joined 3 else if bit_and joined 4 == 4 then bit_or joined 3 else joined)
+    else joined
+
+-- unsafe to concat stands only where it is asked for (64)
+abbrev pub settled_flags : BufferFlags → ℕ → ℕ
+settled_flags flags joined =
+    let tatweel = with_tatweel flags joined in
+    if bit_and flags.0 64 == 64 then tatweel else bit_and tatweel 5
+
+-- the maximal runs of items in one cluster
+abbrev pub cluster_runs : List Item → List (List Item)
+cluster_runs [] = []
+cluster_runs (item ∷ items) = if begins_in item.cluster items then put_first item (cluster_runs items) else (item ∷ []) ∷ cluster_runs items
+
+abbrev pub with_mask : ℕ → Item → Item
+with_mask mask item = record item { mask = mask }
+
+-- a run, each item with the flags of all
+abbrev pub run_flagged : BufferFlags → List Item → List Item
+run_flagged flags run = map (with_mask (settled_flags flags (joined_flags run))) run
+
+-- where the run has seen flags (scratch flag 32), each cluster gets one set of them
+unfoldable pub flags_propagated : Buffer → Buffer
+flags_propagated b =
+    if has_glyph_flags b then record b { items = flat_map (run_flagged b.flags) (cluster_runs b.items) } else b
+
+-- neighbours in one cluster have the same defined flags
+abbrev pub HasOneSetOfFlags : List Item → Type 0
+HasOneSetOfFlags [] = Unit {0}
+HasOneSetOfFlags (item ∷ []) = Unit {0}
+HasOneSetOfFlags (item ∷ next ∷ items) = (item.cluster ≡ next.cluster → flags_of item ≡ flags_of next) × HasOneSetOfFlags (next ∷ items)
+
+-- ---- the walk of the code, which keeps the cluster of the item before and the mask that it got
+
+-- the joined flags of the items at the start of a list that are in one cluster
+abbrev pub first_joined : ℕ → List Item → ℕ
+first_joined cluster items = joined_flags (take (prefix_len (has_cluster cluster) items) items)
+
+-- the mask of the first of some items, after one in this cluster with this mask
+abbrev pub mask_after : BufferFlags → Option (ℕ × ℕ) → Item → List Item → ℕ
+mask_after flags None item items = settled_flags flags (first_joined item.cluster items)
+mask_after flags (Some before) item items = if has_cluster before.0 item then before.1 else settled_flags flags (first_joined item.cluster items)
+
+unfoldable pub flagged_from : BufferFlags → Option (ℕ × ℕ) → List Item → List Item
+flagged_from flags before [] = []
+flagged_from flags before (item ∷ items) =
+    let mask = mask_after flags before item (item ∷ items) in
+    with_mask mask item ∷ flagged_from flags (Some (item.cluster, mask)) items

@@ -1,0 +1,8 @@
+-- Flags are seen: where the run has not seen flags, no item has one.
+use Rattle.std.specs.Prelude.{◌≡◌, ℕ, false}
+use Rattle.shape_buffer.specs.Buffer.{Buffer}
+use Rattle.shape_buffer.specs.KeepsFlags.{IsDefinedFlag, some_has, has_glyph_flags}
+
+-- where the scratch flag "has glyph flags" is off, no item has a defined flag
+pub record IsHonest (b : Buffer) : Type 0 where
+  pub honest : has_glyph_flags b ≡ false → (flag : ℕ) → IsDefinedFlag flag → some_has flag b.items ≡ false

@@ -1,0 +1,155 @@
+//! Calls that change which items there are, or their order: positions go with their items.
+ghost use Rattle.std.specs.Prelude.{◌≡◌, ◌<◌, ◌≤◌, ◌^◌, ◌↔◌, [], ◌∷◌, ◌++◌, length, insert, remove, reverse, replicate, vec_len, IsErrOf, IsOkUnless, OnOk, OnErr};
+ghost use Rattle.shape_buffer.specs.Buffer.{limit_of};
+ghost use Rattle.shape_buffer.specs.Items.{new_item};
+ghost use Rattle.shape_buffer.specs.Positions.{zero_position};
+ghost use Rattle.shape_buffer.specs.Text.{text_items};
+ghost use Rattle.shape_buffer.specs.declared.buffer.error.ShapeError.TheVariants.{Length};
+
+use crate::buffer::error::ShapeError;
+use crate::buffer::items::hb_glyph_info_t;
+use crate::buffer::positions::GlyphPosition;
+use crate::buffer::storage::hb_buffer_t;
+use crate::buffer::text::append_text;
+use std::alloc::AllocError;
+
+impl hb_buffer_t {
+    /// Turns the order of the items, and that of their positions with it.
+    pub fn reverse(&mut self)
+        ensures { self.new ≡ record self.old {
+          items = reverse self.old.items;
+          positions = reverse self.old.positions;
+        } }
+    {
+        self.infos.reverse();
+        self.positions.reverse();
+    }
+
+    /// Takes an item and its position out.
+    pub fn remove(&mut self, i: usize)
+        requires { i < length self.old.items }
+        ensures { self.new ≡ record self.old {
+          items = remove self.old.items i;
+          positions = remove self.old.positions i;
+        } }
+    {
+        self.infos.remove(i);
+        self.positions.remove(i);
+    }
+
+    /// Puts an item in before the one at `i`, at a position of zeros. Refuses with `Length` where the
+    /// list has reached its limit, and with `Memory` where a growth was refused; a refused call changes
+    /// nothing.
+    pub fn insert(&mut self, i: usize, item: hb_glyph_info_t) -> Result<(), ShapeError>
+        requires { i ≤ length self.old.items }
+        ensures ok { OnOk result (self.new ≡ record self.old {
+          items = insert self.old.items i item;
+          positions = insert self.old.positions i zero_position;
+        }) }
+        ensures at_limit { IsErrOf result Length ↔ (limit_of self.old ≤ length self.old.items) }
+        ensures err { OnErr result (self.new ≡ self.old) }
+    {
+        if self.length_limit() <= self.infos.len() {
+            return Err(ShapeError::Length);
+        }
+        make_room(&mut self.run_starts, self.infos.len() + 1)?;
+        self.positions.reserve(1)?;
+        self.infos.insert(i, item)?;
+        self.positions.insert(i, GlyphPosition::zero())?;
+        Ok(())
+    }
+
+    /// Makes these the items, at positions of zeros. Refuses with `Length` where there are more than the
+    /// limit, and with `Memory` where a growth was refused; a refused call drops what it was given and
+    /// changes nothing.
+    pub fn replace_infos(&mut self, infos: Vec<hb_glyph_info_t>) -> Result<(), ShapeError>
+        ensures ok { OnOk result (self.new ≡ record self.old {
+          items = infos.items;
+          positions = replicate (vec_len infos) zero_position;
+        }) }
+        ensures past_limit { IsErrOf result Length ↔ (limit_of self.old < vec_len infos) }
+        ensures err { OnErr result (self.new ≡ self.old) }
+    {
+        if self.length_limit() < infos.len() {
+            return Err(ShapeError::Length);
+        }
+        make_room(&mut self.run_starts, infos.len())?;
+        self.positions.resize(infos.len(), GlyphPosition::zero())?;
+        zero_positions(self.positions.as_mut_slice());
+        self.infos = infos;
+        Ok(())
+    }
+
+    /// Appends a character.
+    pub(crate) fn push(&mut self, c: char, cluster: u32) -> Result<(), ShapeError>
+        ensures ok { OnOk result (self.new ≡ record self.old {
+          items = self.old.items ++ new_item c cluster ∷ [];
+          positions = self.old.positions ++ zero_position ∷ [];
+        }) }
+        ensures memory { IsOkUnless result ShapeError.Memory }
+        ensures err { OnErr result (self.new ≡ self.old) }
+    {
+        make_room(&mut self.run_starts, self.infos.len() + 1)?;
+        self.positions.reserve(1)?;
+        self.infos.push(hb_glyph_info_t::new(c, cluster))?;
+        self.positions.push(GlyphPosition::zero())?;
+        Ok(())
+    }
+
+    /// Appends the characters of a text, whose clusters are byte offsets in it.
+    pub(crate) fn push_str(&mut self, text: &str) -> Result<(), ShapeError>
+        requires { length text.now < 2 ^ 32 }
+        ensures ok { OnOk result (self.new ≡ record self.old {
+          items = self.old.items ++ text_items text.now;
+          positions = self.old.positions ++ replicate (length (text_items text.now)) zero_position;
+        }) }
+        ensures memory { IsOkUnless result ShapeError.Memory }
+        ensures err { OnErr result (self.new ≡ self.old) }
+    {
+        let before = self.infos.len();
+        let mut outcome = append_text(&mut self.infos, text);
+        if outcome.is_ok() {
+            outcome = make_room(&mut self.run_starts, self.infos.len());
+        }
+        if outcome.is_ok() {
+            outcome = append_zeros(&mut self.positions, self.infos.len() - before);
+        }
+        if outcome.is_err() {
+            self.infos.truncate(before);
+        }
+        outcome?;
+        Ok(())
+    }
+}
+
+/// Sets every position to zeros.
+pub(super) fn zero_positions(positions: &mut [GlyphPosition])
+    ensures { positions.new ≡ replicate (length positions.old) zero_position }
+{
+    for position in positions.iter_mut() {
+        *position = GlyphPosition::zero();
+    }
+}
+
+/// Appends so many positions of zeros; where memory runs out nothing changes.
+fn append_zeros(positions: &mut Vec<GlyphPosition>, count: usize) -> Result<(), AllocError>
+    ensures ok { OnOk result (positions.new.items ≡ positions.old.items ++ replicate count zero_position) }
+    ensures err { OnErr result (positions.new.items ≡ positions.old.items) }
+{
+    positions.reserve(count)?;
+    for _ in 0..count {
+        positions.push(GlyphPosition::zero())?;
+    }
+    Ok(())
+}
+
+/// Makes a list at least so long. It gets no shorter, also where memory is refused.
+fn make_room(numbers: &mut Vec<usize>, count: usize) -> Result<(), AllocError>
+    ensures room { OnOk result (count ≤ length numbers.new.items) }
+    ensures longer { length numbers.old.items ≤ length numbers.new.items }
+{
+    if numbers.len() < count {
+        numbers.resize(count, 0)?;
+    }
+    Ok(())
+}

@@ -1,0 +1,65 @@
+//! Guessing what a caller left open: the script of a text and its direction.
+ghost use Rattle.std.specs.Prelude.{◌≡◌};
+ghost use Rattle.shape_buffer.specs.Guess.{guessed, guessed_script, guessed_direction, first_script as first_script_of, script_or_ltr};
+
+use crate::buffer::items::hb_glyph_info_t;
+use crate::buffer::settings::{Direction, Script};
+use crate::buffer::storage::hb_buffer_t;
+use crate::interfaces::hb_unicode_funcs_t;
+
+impl hb_buffer_t {
+    /// The script of the text as guessing would set it: the one that is set, else the first of its
+    /// characters' scripts that is neither Common nor Inherited nor Unknown.
+    pub fn guessed_script<U: hb_unicode_funcs_t>(&self) -> Option<Script>
+        ensures { result ≡ guessed_script U.unicode self.now }
+    {
+        match self.script {
+            Some(script) => Some(script),
+            None => first_script::<U>(self.infos.as_slice()),
+        }
+    }
+
+    /// The direction of the text as guessing would set it: the one that is set, else that of the guessed
+    /// script, else left to right.
+    pub fn guessed_direction<U: hb_unicode_funcs_t>(&self) -> Direction
+        ensures { result ≡ guessed_direction U.unicode self.now }
+    {
+        if self.direction != Direction::Invalid {
+            return self.direction;
+        }
+        native_direction::<U>(self.guessed_script::<U>())
+    }
+
+    /// Sets script and direction by guessing, where they aren't set.
+    pub fn guess_segment_properties<U: hb_unicode_funcs_t>(&mut self)
+        ensures { self.new ≡ guessed U.unicode self.old }
+    {
+        let script = self.guessed_script::<U>();
+        let direction = self.guessed_direction::<U>();
+        self.script = script;
+        self.direction = direction;
+    }
+}
+
+/// The first script of the characters that says something.
+fn first_script<U: hb_unicode_funcs_t>(infos: &[hb_glyph_info_t]) -> Option<Script>
+    ensures { result ≡ first_script_of U.unicode infos.now }
+{
+    infos
+        .iter()
+        .map(|info| U::script(info.codepoint))
+        .find(|script| script.is_specific())
+}
+
+/// The direction of a script, left to right where none is known.
+fn native_direction<U: hb_unicode_funcs_t>(script: Option<Script>) -> Direction
+    ensures { result ≡ script_or_ltr U.unicode script }
+{
+    let Some(script) = script else {
+        return Direction::LeftToRight;
+    };
+    match U::script_direction(script) {
+        None | Some(Direction::Invalid) => Direction::LeftToRight,
+        Some(direction) => direction,
+    }
+}

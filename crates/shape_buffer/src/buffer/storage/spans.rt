@@ -1,0 +1,110 @@
+//! Merging, marking and deleting: what changes clusters and flags of spans of items.
+ghost use Rattle.std.specs.Prelude.{◌≡◌, ◌≤◌, [], Bool, length};
+ghost use Rattle.std.specs.Fn.{FnReturnsAt};
+ghost use Rattle.shape_buffer.specs.BufferClusters.{merge_clusters as merge_clusters_of, merge_out_clusters as merge_out_clusters_of, unsafe_to_break as unsafe_to_break_of, unsafe_to_concat as unsafe_to_concat_of};
+ghost use Rattle.shape_buffer.specs.ClusterOrder.{KeepsClusters};
+ghost use Rattle.shape_buffer.specs.Clusters.{clusters};
+ghost use Rattle.shape_buffer.specs.Delete.{deleted};
+ghost use Rattle.shape_buffer.specs.Items.{Item};
+ghost use Rattle.shape_buffer.specs.KeepsFlags.{KeepsFlags};
+
+use crate::buffer::clusters::{mark_break, mark_concat, merge_items};
+use crate::buffer::delete::delete_items;
+use crate::buffer::flags::{BufferFlags, ScratchFlags};
+use crate::buffer::items::hb_glyph_info_t;
+use crate::buffer::settings::BufferClusterLevel;
+use crate::buffer::storage::hb_buffer_t;
+use bitflags::Flags;
+
+impl hb_buffer_t {
+    /// Merges the clusters of the items from `start` up to `end`: they, and the items beside them that
+    /// share a cluster which changes, get the least cluster of the span, and an item whose cluster
+    /// changes loses its defined flags. At level CHARACTERS the span is marked unsafe to break instead.
+    /// A span of fewer than two items changes nothing. The time is in step with the items it touches
+    /// (measured, not proved).
+    pub fn merge_clusters(&mut self, start: usize, end: usize)
+        requires ordered { start ≤ end }
+        requires within { end ≤ length self.old.items }
+        ensures merged { self.new ≡ merge_clusters_of start end self.old }
+        ensures keeps { KeepsClusters (clusters self.old.items) (clusters self.new.items) × KeepsFlags self.old self.new }
+    {
+        if self.cluster_level == BufferClusterLevel::Characters {
+            self.unsafe_to_break(start, end);
+        } else {
+            merge_items(self.infos.as_mut_slice(), start, end);
+        }
+    }
+
+    /// Merges as `merge_clusters` does, but changes nothing at level CHARACTERS.
+    pub fn merge_out_clusters(&mut self, start: usize, end: usize)
+        requires ordered { start ≤ end }
+        requires within { end ≤ length self.old.items }
+        ensures merged { self.new ≡ merge_out_clusters_of start end self.old }
+        ensures keeps { KeepsClusters (clusters self.old.items) (clusters self.new.items) × KeepsFlags self.old self.new }
+    {
+        if self.cluster_level != BufferClusterLevel::Characters {
+            merge_items(self.infos.as_mut_slice(), start, end);
+        }
+    }
+
+    /// Marks the items from `start` up to `end` unsafe to break and to concat, but for those of their
+    /// least cluster, and sets the scratch flag HAS_GLYPH_FLAGS. A span of fewer than two items changes
+    /// nothing. The time is in step with the span (measured, not proved).
+    pub fn unsafe_to_break(&mut self, start: usize, end: usize)
+        requires ordered { start ≤ end }
+        requires within { end ≤ length self.old.items }
+        ensures marked { self.new ≡ unsafe_to_break_of start end self.old }
+        ensures keeps { KeepsFlags self.old self.new }
+    {
+        if end - start < 2 {
+            return;
+        }
+        self.scratch_flags.insert(ScratchFlags::HAS_GLYPH_FLAGS);
+        mark_break(self.infos.as_mut_slice(), start, end);
+    }
+
+    /// Marks the items from `start` up to `end` unsafe to concat and sets the scratch flag
+    /// HAS_GLYPH_FLAGS, where the flag PRODUCE_UNSAFE_TO_CONCAT asks for it.
+    pub fn unsafe_to_concat(&mut self, start: usize, end: usize)
+        requires ordered { start ≤ end }
+        requires within { end ≤ length self.old.items }
+        ensures marked { self.new ≡ unsafe_to_concat_of start end self.old }
+        ensures keeps { KeepsFlags self.old self.new }
+    {
+        if !self.flags.contains(BufferFlags::PRODUCE_UNSAFE_TO_CONCAT) {
+            return;
+        }
+        self.scratch_flags.insert(ScratchFlags::HAS_GLYPH_FLAGS);
+        mark_concat(self.infos.as_mut_slice(), start, end);
+    }
+
+    /// Deletes the glyphs that the test picks, from left to right, each with its position. The test is
+    /// asked of an item as it stands when it is reached. Before a glyph of cluster `c` goes, the first
+    /// case that holds decides: the next item, picked or not, has cluster `c`, and nothing is done; items
+    /// were kept, and where `c` is below the last kept one's cluster, the last kept items with that
+    /// cluster get the picked item's cluster and its defined bits in place of theirs; there is a next
+    /// item, and the two are merged as `merge_clusters` does. Takes no memory; the time is in step with
+    /// the list, whatever the clusters are (measured, not proved).
+    pub fn delete_glyphs_inplace<F: Fn(&hb_glyph_info_t) -> bool>(&mut self, test: F)
+    where
+        F: Drop,
+        requires { F.IsAlwaysCallable test }
+        ensures deleted { (picks : Item → Bool) → ((x : Item) (b : Bool) → FnReturnsAt F.Fn test x b → b ≡ picks x)
+            → self.new ≡ deleted picks self.old }
+        ensures keeps { (picks : Item → Bool) → ((x : Item) (b : Bool) → FnReturnsAt F.Fn test x b → b ≡ picks x)
+            → KeepsClusters (clusters self.old.items) (clusters self.new.items) × KeepsFlags self.old self.new }
+        ensures fewer { length self.new.items ≤ length self.old.items }
+        ensures as_many { length self.new.positions ≡ length self.new.items }
+        ensures rest { record self.new { items = []; positions = []; scratch_flags = record { 0 = 0 } }
+            ≡ record self.old { items = []; positions = []; scratch_flags = record { 0 = 0 } } }
+    {
+        delete_items(
+            &mut self.infos,
+            &mut self.positions,
+            self.run_starts.as_mut_slice(),
+            &mut self.scratch_flags,
+            self.cluster_level,
+            test,
+        );
+    }
+}

@@ -1,0 +1,190 @@
+-- Where all numbers fit, the exact ones are taken.
+use Rattle.std.proofs.Common.{◌≡◌, ℕ, ℤ, pos, ◌+ℤ◌, ◌-ℤ◌, ◌*ℤ◌, neg_ℤ, int_div, Bool, true, false, not, ◌&&◌, ◌||◌, ◌<◌, ◌≤◌, ◌+◌, ◌/◌, refl, ap, ◌∙◌, inl, inr, arith}
+use Rattle.std.specs.Prelude.{if◌then◌else◌, ◌==◌}
+use Rattle.std.specs.Int.{w32, int_wrap}
+use Rattle.std.proofs.lemmas.Bool.{cases_Bool}
+use Rattle.std.proofs.lemmas.Int.{ints, int_wrap_fits, int_wrap-add_left, int_wrap-sub_right, int_wrap-add_same}
+use Rattle.std.proofs.Math.Nat.{div-le_self}
+use Rattle.shape_buffer.specs.Wrapping.{◌+ʷ◌, ◌-ʷ◌, neg_w, +ʷ-exact, -ʷ-exact, *ʷ-exact, neg_w-exact}
+use Rattle.shape_buffer.specs.declared.buffer.positions.GlyphPosition.{GlyphPosition}
+use Rattle.shape_fallback.specs.Exact.{Fits32, exact_x_offset, XOffsetFits, hung_at, exact_hung, piled_at, pushed_up, exact_piled, StackedFits, ExactMarks, ExactSpaces}
+use Rattle.shape_fallback.specs.Extents.{Extents}
+use Rattle.shape_fallback.specs.MarkState.{place_of, component_extents, moved}
+use Rattle.shape_fallback.specs.Marks.{without_advances}
+use Rattle.shape_fallback.specs.OneMark.{mark_x_offset, is_double, is_left, is_right, is_attached, agree, hung, piled, lowered, raised}
+use Rattle.shape_fallback.specs.Spaces.{em_part, em_advance}
+use Rattle.shape_fallback.specs.declared.ot_shape_fallback.mark_state.Base.{Base}
+use Rattle.shape_fallback.specs.declared.ot_shape_fallback.mark_state.MarkState.{MarkState}
+use Rattle.shape_fallback.specs.declared.ot_shape_fallback.one_mark.Stacked.{Stacked}
+
+-- ---- sums of three and four: it is enough that the last one fits
+
+-- a + b - c
+sum_difference : (a b c : ℤ) → Fits32 (a +ℤ b -ℤ c) → a +ʷ b -ʷ c ≡ a +ℤ b -ℤ c
+unfolding ◌+ʷ◌ ◌-ʷ◌
+sum_difference a b c fits = int_wrap-add_left w32 (a +ℤ b) (neg_ℤ c) ∙ int_wrap_fits w32 _ fits
+
+-- a - b + c
+difference_sum : (a b c : ℤ) → Fits32 (a -ℤ b +ℤ c) → a -ʷ b +ʷ c ≡ a -ℤ b +ℤ c
+unfolding ◌+ʷ◌ ◌-ʷ◌
+difference_sum a b c fits = int_wrap-add_left w32 (a -ℤ b) c ∙ int_wrap_fits w32 _ fits
+
+-- a + b - c - d
+sum_differences : (a b c d : ℤ) → Fits32 (a +ℤ b -ℤ c -ℤ d) → a +ʷ b -ʷ c -ʷ d ≡ a +ℤ b -ℤ c -ℤ d
+unfolding ◌+ʷ◌ ◌-ʷ◌
+sum_differences a b c d fits =
+    int_wrap-add_left w32 (int_wrap w32 (a +ℤ b) -ℤ c) (neg_ℤ d)
+    ∙ int_wrap-add_same w32 (int_wrap w32 (a +ℤ b) -ℤ c) (a +ℤ b -ℤ c) (neg_ℤ d) (int_wrap-add_left w32 (a +ℤ b) (neg_ℤ c))
+    ∙ int_wrap_fits w32 _ fits
+
+-- a - (b + c)
+difference_of_sum : (a b c : ℤ) → Fits32 (a -ℤ (b +ℤ c)) → a -ʷ (b +ʷ c) ≡ a -ℤ (b +ℤ c)
+unfolding ◌+ʷ◌ ◌-ʷ◌
+difference_of_sum a b c fits = int_wrap-sub_right w32 a (b +ℤ c) ∙ int_wrap_fits w32 _ fits
+
+-- ---- one mark
+
+pub x_offset-exact : (horizontal forward : Bool) (class : ℕ) (B E : Extents) → XOffsetFits horizontal forward class B E
+    → mark_x_offset horizontal forward class B E ≡ exact_x_offset horizontal forward class B E
+x_offset-exact horizontal forward class B E fits =
+    by_side (horizontal && is_double class) (is_left class) (is_right class) fits.margin fits.offset
+  where
+    by_side : (double left right : Bool) → (not (double || left || right) ≡ true → Fits32 (B.width -ℤ E.width))
+        → Fits32 (if double then B.x_bearing +ℤ (if forward then B.width else pos 0) -ℤ int_div E.width (pos 2) -ℤ E.x_bearing
+        else if left then B.x_bearing -ℤ E.x_bearing
+        else if right then B.x_bearing +ℤ B.width -ℤ E.width -ℤ E.x_bearing
+        else B.x_bearing +ℤ int_div (B.width -ℤ E.width) (pos 2) -ℤ E.x_bearing)
+        → (if double then B.x_bearing +ʷ (if forward then B.width else pos 0) -ʷ int_div E.width (pos 2) -ʷ E.x_bearing
+        else if left then B.x_bearing -ʷ E.x_bearing
+        else if right then B.x_bearing +ʷ B.width -ʷ E.width -ʷ E.x_bearing
+        else B.x_bearing +ʷ int_div (B.width -ʷ E.width) (pos 2) -ʷ E.x_bearing)
+        ≡ (if double then B.x_bearing +ℤ (if forward then B.width else pos 0) -ℤ int_div E.width (pos 2) -ℤ E.x_bearing
+        else if left then B.x_bearing -ℤ E.x_bearing
+        else if right then B.x_bearing +ℤ B.width -ℤ E.width -ℤ E.x_bearing
+        else B.x_bearing +ℤ int_div (B.width -ℤ E.width) (pos 2) -ℤ E.x_bearing)
+    by_side true left right margin offset = sum_differences B.x_bearing _ (int_div E.width (pos 2)) E.x_bearing offset
+    by_side false true right margin offset = -ʷ-exact B.x_bearing E.x_bearing offset
+    by_side false false true margin offset = sum_differences B.x_bearing B.width E.width E.x_bearing offset
+    by_side false false false margin offset =
+        ap (λ z. B.x_bearing +ʷ int_div z (pos 2) -ʷ E.x_bearing) (-ʷ-exact B.width E.width (margin refl))
+        ∙ sum_difference B.x_bearing (int_div (B.width -ℤ E.width) (pos 2)) E.x_bearing offset
+
+abbrev stack_at : ℤ → Extents → Stacked
+stack_at y base = record { y_offset = y; base = base }
+
+-- by the place below the base, and whether it is kept from moving up
+abbrev hung_of : Extents → Extents → Bool → ℤ → Stacked
+hung_of E B kept y =
+    if kept then stack_at (pos 0) (record B { height = B.height -ʷ y +ʷ E.height })
+    else stack_at y (record B { height = B.height +ʷ E.height })
+
+abbrev exact_hung_of : Extents → Extents → Bool → ℤ → Stacked
+exact_hung_of E B kept y =
+    if kept then stack_at (pos 0) (record B { height = B.height -ℤ y +ℤ E.height })
+    else stack_at y (record B { height = B.height +ℤ E.height })
+
+hung_of-exact : (E B : Extents) (kept : Bool) (y : ℤ) → Fits32 (exact_hung_of E B kept y).base.height → hung_of E B kept y ≡ exact_hung_of E B kept y
+hung_of-exact E B true y fits = ap (λ (h : ℤ). stack_at (pos 0) (record B { height = h })) (difference_sum B.height y E.height fits)
+hung_of-exact E B false y fits = ap (λ (h : ℤ). stack_at y (record B { height = h })) (+ʷ-exact B.height E.height fits)
+
+pub hung-exact : (gap : ℤ) (E B : Extents) → Fits32 (hung_at E B) → StackedFits (exact_hung gap E B) → hung gap E B ≡ exact_hung gap E B
+hung-exact gap E B unmoved fits =
+    ap (λ (y : ℤ). hung_of E B (agree gap y) y) (sum_difference B.y_bearing B.height E.y_bearing unmoved)
+    ∙ hung_of-exact E B (agree gap (hung_at E B)) (hung_at E B) fits.height
+
+-- by the place above the base, half of the way back, and whether it is kept
+abbrev piled_of : Extents → Extents → Bool → ℤ → ℤ → Stacked
+piled_of E B kept y k =
+    if kept then stack_at y (record B { y_bearing = B.y_bearing -ʷ E.height; height = B.height +ʷ E.height })
+    else stack_at (y +ʷ k) (record B { y_bearing = B.y_bearing +ʷ k -ʷ E.height; height = B.height -ʷ k +ʷ E.height })
+
+abbrev exact_piled_of : Extents → Extents → Bool → ℤ → ℤ → Stacked
+exact_piled_of E B kept y k =
+    if kept then stack_at y (record B { y_bearing = B.y_bearing -ℤ E.height; height = B.height +ℤ E.height })
+    else stack_at (y +ℤ k) (record B { y_bearing = B.y_bearing +ℤ k -ℤ E.height; height = B.height -ℤ k +ℤ E.height })
+
+piled_of-exact : (E B : Extents) (kept : Bool) (y k : ℤ) → StackedFits (exact_piled_of E B kept y k) → piled_of E B kept y k ≡ exact_piled_of E B kept y k
+piled_of-exact E B true y k fits =
+    ap (λ (z : ℤ). stack_at y (record B { y_bearing = z; height = B.height +ʷ E.height })) (-ʷ-exact B.y_bearing E.height fits.y_bearing)
+    ∙ ap (λ (h : ℤ). stack_at y (record B { y_bearing = B.y_bearing -ℤ E.height; height = h })) (+ʷ-exact B.height E.height fits.height)
+piled_of-exact E B false y k fits =
+    ap (λ (o : ℤ). stack_at o (record B { y_bearing = B.y_bearing +ʷ k -ʷ E.height; height = B.height -ʷ k +ʷ E.height })) (+ʷ-exact y k fits.y_offset)
+    ∙ ap (λ (z : ℤ). stack_at (y +ℤ k) (record B { y_bearing = z; height = B.height -ʷ k +ʷ E.height })) (sum_difference B.y_bearing k E.height fits.y_bearing)
+    ∙ ap (λ (h : ℤ). stack_at (y +ℤ k) (record B { y_bearing = B.y_bearing +ℤ k -ℤ E.height; height = h })) (difference_sum B.height k E.height fits.height)
+
+pub piled-exact : (gap : ℤ) (E B : Extents) → Fits32 (piled_at E B) → Fits32 (neg_ℤ (piled_at E B)) → StackedFits (exact_piled gap E B) → piled gap E B ≡ exact_piled gap E B
+piled-exact gap E B unmoved turned fits =
+    ap (λ (y : ℤ). piled_of E B (agree gap y) y (int_div (neg_w y) (pos 2))) (difference_of_sum B.y_bearing E.y_bearing E.height unmoved)
+    ∙ ap (λ (z : ℤ). piled_of E B (agree gap (piled_at E B)) (piled_at E B) (int_div z (pos 2))) (neg_w-exact (piled_at E B) turned)
+    ∙ piled_of-exact E B (agree gap (piled_at E B)) (piled_at E B) (pushed_up E B) fits
+
+gap_below-exact : (gap : ℤ) (class : ℕ) (B : Extents) → is_attached class ≡ false → Fits32 (B.height -ℤ gap) → lowered gap class B ≡ record B { height = B.height -ℤ gap }
+unfolding lowered
+gap_below-exact gap class B apart fits = rw apart (ap (λ (h : ℤ). record B { height = h }) (-ʷ-exact B.height gap fits))
+
+gap_above-exact : (gap : ℤ) (class : ℕ) (B : Extents) → is_attached class ≡ false → Fits32 (B.y_bearing +ℤ gap) → Fits32 (B.height -ℤ gap)
+    → raised gap class B ≡ record B { y_bearing = B.y_bearing +ℤ gap; height = B.height -ℤ gap }
+unfolding raised
+gap_above-exact gap class B apart up down =
+    rw apart (ap (λ (z : ℤ). record B { y_bearing = z; height = B.height -ʷ gap }) (+ʷ-exact B.y_bearing gap up)
+    ∙ ap (λ (h : ℤ). record B { y_bearing = B.y_bearing +ℤ gap; height = h }) (-ʷ-exact B.height gap down))
+
+moved_right-exact : (p : GlyphPosition) (s : MarkState) → Fits32 (p.x_offset +ℤ s.x_offset) → (moved p s).x_offset ≡ p.x_offset +ℤ s.x_offset
+unfolding moved
+moved_right-exact p s fits = +ʷ-exact p.x_offset s.x_offset fits
+
+moved_up-exact : (p : GlyphPosition) (s : MarkState) → Fits32 (p.y_offset +ℤ s.y_offset) → (moved p s).y_offset ≡ p.y_offset +ℤ s.y_offset
+unfolding moved
+moved_up-exact p s fits = +ʷ-exact p.y_offset s.y_offset fits
+
+zeroed_right-exact : (p : GlyphPosition) → Fits32 (p.x_offset -ℤ p.x_advance) → (without_advances true p).x_offset ≡ p.x_offset -ℤ p.x_advance
+unfolding without_advances
+zeroed_right-exact p fits = -ʷ-exact p.x_offset p.x_advance fits
+
+zeroed_up-exact : (p : GlyphPosition) → Fits32 (p.y_offset -ℤ p.y_advance) → (without_advances true p).y_offset ≡ p.y_offset -ℤ p.y_advance
+unfolding without_advances
+zeroed_up-exact p fits = -ʷ-exact p.y_offset p.y_advance fits
+
+component-exact : (base : Base) (c : ℤ) → Fits32 (place_of base c *ℤ base.extents.width)
+    → Fits32 (base.extents.x_bearing +ℤ int_div (place_of base c *ℤ base.extents.width) (pos base.number_of_components))
+    → (component_extents base c).x_bearing ≡ base.extents.x_bearing +ℤ int_div (place_of base c *ℤ base.extents.width) (pos base.number_of_components)
+unfolding component_extents
+component-exact base c product sum =
+    ap (λ (z : ℤ). base.extents.x_bearing +ʷ int_div z (pos base.number_of_components)) (*ʷ-exact (place_of base c) base.extents.width product)
+    ∙ +ʷ-exact base.extents.x_bearing (int_div (place_of base c *ℤ base.extents.width) (pos base.number_of_components)) sum
+
+pub marks-exact : ExactMarks
+marks-exact = record {
+  across = x_offset-exact;
+  below = hung-exact;
+  above = piled-exact;
+  gap_below = gap_below-exact;
+  gap_above = gap_above-exact;
+  moved_right = moved_right-exact;
+  moved_up = moved_up-exact;
+  zeroed_right = zeroed_right-exact;
+  zeroed_up = zeroed_up-exact;
+  component = component-exact;
+}
+
+-- ---- spaces
+
+-- a part of the em square is no longer than it and half of its own number
+em_part-small : (u t : ℕ) → u < 65536 → t < 256 → em_part u t < 65792
+unfolding em_part
+em_part-small u t units type =
+    let rounded : (u + t / 2) / t ≤ u + t / 2 = div-le_self (u + t / 2) t in
+    let half : t / 2 ≤ t = div-le_self t 2 in
+    elim (cases_Bool (t == 17)) [
+      | inl em_18 ↦ rw em_18 (omega arith)
+      | inr other ↦ rw other (omega arith)
+    ]
+
+pub down-exact : (u t : ℕ) → u < 65536 → t < 256 → em_advance false (em_part u t) ≡ neg_ℤ (pos (em_part u t))
+unfolding em_advance
+down-exact u t units type =
+    let small = em_part-small u t units type in
+    neg_w-exact (pos (em_part u t)) (omega (arith, ints))
+
+pub spaces-exact : ExactSpaces
+spaces-exact = record { down = down-exact }

@@ -1,0 +1,12 @@
+use Rattle.std.proofs.Common.{◌≡◌, length, drop}
+use Rattle.std.specs.Prelude.{fold}
+use Rattle.shape_fallback.specs.Bases.{bases_positioned, position_span, bases, marks_of}
+use Rattle.shape_fallback.proofs.ot_shape_fallback.bases.position_bases.Given as goal
+
+abbrev pub invariant-loop-i : goal.invariant-loop-i
+invariant-loop-i g l = record {
+  as_many : length l.buffer.items ≡ length l.fn.buffer.items;
+  same_limit : l.buffer.length_limit ≡ l.fn.buffer.length_limit;
+  rest : fold (position_span (g.F.hb_font_t.face l.face) l.setting) l.buffer (bases l.i (drop l.i (marks_of l.buffer)))
+      ≡ bases_positioned (g.F.hb_font_t.face l.face) l.setting l.fn.buffer;
+}

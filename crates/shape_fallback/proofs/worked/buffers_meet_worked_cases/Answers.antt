@@ -1,0 +1,5 @@
+use Rattle.shape_fallback.specs.WorkedBuffers.{worked_buffers}
+use Rattle.shape_fallback.proofs.worked.buffers_meet_worked_cases.Goals as goal
+
+pub returns : goal.returns
+returns c = worked_buffers

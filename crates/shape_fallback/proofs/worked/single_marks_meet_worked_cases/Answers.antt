@@ -1,0 +1,5 @@
+use Rattle.shape_fallback.specs.WorkedOneMark.{worked_one_mark}
+use Rattle.shape_fallback.proofs.worked.single_marks_meet_worked_cases.Goals as goal
+
+pub returns : goal.returns
+returns c = worked_one_mark

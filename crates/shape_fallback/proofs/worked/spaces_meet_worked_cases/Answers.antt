@@ -1,0 +1,5 @@
+use Rattle.shape_fallback.specs.WorkedSpaces.{worked_spaces_meet}
+use Rattle.shape_fallback.proofs.worked.spaces_meet_worked_cases.Goals as goal
+
+pub returns : goal.returns
+returns c = worked_spaces_meet

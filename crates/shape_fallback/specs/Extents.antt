@@ -1,0 +1,5 @@
+-- The box round a glyph's ink.
+use Rattle.shape_buffer.specs.declared.interfaces.face.hb_glyph_extents_t.{hb_glyph_extents_t}
+
+abbrev pub Extents : Type 0
+Extents = hb_glyph_extents_t

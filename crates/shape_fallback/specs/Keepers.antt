@@ -1,0 +1,15 @@
+-- What the fallback steps do to clusters and flags.
+use Rattle.std.specs.Prelude.{Option}
+use Rattle.shape_buffer.specs.Face.{FaceMeaning}
+use Rattle.shape_buffer.specs.Buffer.{Buffer}
+use Rattle.shape_buffer.specs.Unicode.{UnicodeMeaning}
+use Rattle.shape_buffer.specs.declared.buffer.settings.Direction.{Direction}
+use Rattle.shape_buffer.specs.declared.buffer.settings.Script.{Script}
+use Rattle.shape_plan.specs.declared.decisions.Decisions.{Decisions}
+use Rattle.shape_fallback.specs.Steps.{recategorize_step, spaces_step, marks_step}
+
+-- a property of each fallback step, under a plan of this direction and script, with these decisions
+pub record EachFallback (Keeps : (Buffer → Buffer) → Type 0) (unicode : UnicodeMeaning) (face : FaceMeaning) (direction : Direction) (script : Option Script) (decisions : Decisions) : Type 0 where
+  pub recategorize : Keeps (recategorize_step decisions)
+  pub spaces : Keeps (spaces_step face)
+  pub marks : Keeps (marks_step unicode face direction script decisions)

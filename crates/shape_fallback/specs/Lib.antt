@@ -1,0 +1,17 @@
+pub mod Extents
+pub mod Classes
+pub mod Recategorized
+pub mod Positions
+pub mod Spaces
+pub mod OneMark
+pub mod MarkState
+pub mod Marks
+pub mod Bases
+pub mod Steps
+pub mod Keepers
+pub mod Exact
+pub mod WorkedClasses
+pub mod WorkedSpaces
+pub mod WorkedOneMark
+pub mod WorkedMarks
+pub mod WorkedBuffers

@@ -1,0 +1,31 @@
+//! Laws of the fallback steps: each function has laws as its contract, and nothing to do.
+ghost use Rattle.std.specs.Prelude.{Option};
+ghost use Rattle.shape_buffer.specs.Face.{FaceMeaning};
+ghost use Rattle.shape_buffer.specs.Keepers.{IsClusterKeeper, IsFlagKeeper};
+ghost use Rattle.shape_buffer.specs.Unicode.{UnicodeMeaning};
+ghost use Rattle.shape_buffer.specs.declared.buffer.settings.Direction.{Direction};
+ghost use Rattle.shape_buffer.specs.declared.buffer.settings.Script.{Script};
+ghost use Rattle.shape_plan.specs.declared.decisions.Decisions.{Decisions};
+ghost use Rattle.shape_fallback.specs.Exact.{ExactMarks, ExactSpaces};
+ghost use Rattle.shape_fallback.specs.Keepers.{EachFallback};
+
+/// Each fallback step keeps the order of clusters, brings no new one, and sets a defined flag only
+/// together with the scratch flag that says so.
+pub fn fallback_steps_keep_clusters_and_flags()
+    ensures clusters { (unicode : UnicodeMeaning) (face : FaceMeaning) (direction : Direction)
+        (script : Option Script) (decisions : Decisions)
+        → EachFallback IsClusterKeeper unicode face direction script decisions }
+    ensures flags { (unicode : UnicodeMeaning) (face : FaceMeaning) (direction : Direction)
+        (script : Option Script) (decisions : Decisions)
+        → EachFallback IsFlagKeeper unicode face direction script decisions }
+{}
+
+/// The numbers of one mark are the exact ones where they fit an i32, whatever wraps on the way to them.
+pub fn marks_are_exact_where_they_fit()
+    ensures { ExactMarks }
+{}
+
+/// A space's part of the em square is the exact one along lines of either kind.
+pub fn spaces_are_exact()
+    ensures { ExactSpaces }
+{}

@@ -1,0 +1,213 @@
+//! Placing the marks of a base, one after the other.
+//!
+//! A mark stands beyond the marks of its class before it, so each hands on the box that it leaves. A mark
+//! of another class begins at the base's own box again, and one of another component of a ligature at that
+//! component's. The pen has passed the base when it comes to the marks, so in forward text each is moved
+//! back by the advances since.
+ghost use Rattle.std.specs.Prelude.{◌≡◌, pos, ◌<◌};
+ghost use Rattle.shape_fallback.specs.MarkState.{component_of, place_of, component_extents as component_extents_of, is_same as is_same_of, at_component as at_component_of, with_component as with_component_of, with_class as with_class_of, passed as passed_of, moved as moved_of, place_in as place_in_of, place_mark as place_mark_of};
+
+use crate::ot_shape_fallback::one_mark::{Placed, Surroundings, position_mark};
+use shape_buffer::buffer::{GlyphId, GlyphPosition, hb_glyph_info_t};
+use shape_buffer::interfaces::{hb_font_t, hb_glyph_extents_t};
+use shape_buffer::wrapping::{difference, product, quotient, sum};
+
+/// What the marks of a base are placed by.
+#[derive(Clone, Copy, Debug)]
+pub struct Base {
+    pub surroundings: Surroundings,
+    /// Whether the components of a ligature run to the right.
+    pub left_to_right: bool,
+    pub ligature_id: u8,
+    pub number_of_components: u8,
+    pub extents: hb_glyph_extents_t,
+}
+
+/// How far the marks of a base are placed.
+#[derive(Clone, Copy, Debug)]
+pub struct MarkState {
+    /// The last component, at first -1.
+    pub component: i32,
+    pub component_extents: hb_glyph_extents_t,
+    /// The last class, at first 255.
+    pub class: u8,
+    pub extents: hb_glyph_extents_t,
+    /// The running offset.
+    pub x_offset: i32,
+    pub y_offset: i32,
+}
+
+/// A mark's position, and the state after it.
+#[derive(Clone, Copy, Debug)]
+pub struct MarkStep {
+    pub position: GlyphPosition,
+    pub state: MarkState,
+}
+
+/// The component of the base that a mark belongs to.
+#[tactic(auto, using(shape_buffer::proofs::WrappingLemmas::kept_bits), unfolding(crate::specs::MarkState::component_of))]
+fn mark_component(base: Base, info: &hb_glyph_info_t) -> i32
+    ensures { result ≡ component_of base info.now }
+{
+    let component = difference(i32::from(info._hb_glyph_info_get_ligature_component()), 1);
+    if base.ligature_id == 0
+        || base.ligature_id != info._hb_glyph_info_get_ligature_id()
+        || component >= i32::from(base.number_of_components)
+    {
+        return difference(i32::from(base.number_of_components), 1);
+    }
+    component
+}
+
+/// Which part of the base from its left a component is.
+#[tactic(auto, using(shape_buffer::proofs::WrappingLemmas::kept_bits), unfolding(crate::specs::MarkState::place_of))]
+fn place_of_component(base: Base, component: i32) -> i32
+    ensures { result ≡ place_of base component }
+{
+    if base.left_to_right {
+        return component;
+    }
+    difference(
+        difference(i32::from(base.number_of_components), 1),
+        component,
+    )
+}
+
+/// The extents of a component.
+#[tactic(auto, using(shape_buffer::proofs::WrappingLemmas::kept_bits), unfolding(crate::specs::MarkState::component_extents))]
+fn component_extents(base: Base, component: i32) -> hb_glyph_extents_t
+    requires { 0 < base.number_of_components }
+    ensures { result ≡ component_extents_of base component }
+{
+    let n = i32::from(base.number_of_components);
+    let mut extents = base.extents;
+    let before = quotient(
+        product(place_of_component(base, component), extents.width),
+        n,
+    );
+    extents.x_bearing = sum(extents.x_bearing, before);
+    extents.width = quotient(extents.width, n);
+    extents
+}
+
+/// Whether the numbers are equal.
+#[tactic(auto, using(shape_buffer::proofs::WrappingLemmas::kept_bits), unfolding(crate::specs::MarkState::is_same))]
+fn is_same(a: i32, b: i32) -> bool
+    ensures { result ≡ is_same_of a b }
+{
+    a == b
+}
+
+/// Goes to the component of a mark.
+#[tactic(auto, using(shape_buffer::proofs::WrappingLemmas::kept_bits), unfolding(crate::specs::MarkState::at_component))]
+fn at_component(base: Base, info: &hb_glyph_info_t, mut state: MarkState) -> MarkState
+    requires { 0 < base.number_of_components }
+    ensures { result ≡ at_component_of base info.now state }
+{
+    let component = mark_component(base, info);
+    if is_same(component, state.component) {
+        return state;
+    }
+    state.component_extents = component_extents(base, component);
+    state.component = component;
+    state.class = 255;
+    state
+}
+
+/// The same, where the base has several components.
+#[tactic(auto, using(shape_buffer::proofs::WrappingLemmas::kept_bits), unfolding(crate::specs::MarkState::with_component))]
+fn with_component(base: Base, info: &hb_glyph_info_t, state: MarkState) -> MarkState
+    ensures { result ≡ with_component_of base info.now state }
+{
+    if base.number_of_components > 1 {
+        at_component(base, info, state)
+    } else {
+        state
+    }
+}
+
+/// Goes to a class.
+#[tactic(auto, using(shape_buffer::proofs::WrappingLemmas::kept_bits), unfolding(crate::specs::MarkState::with_class))]
+fn with_class(class: u8, mut state: MarkState) -> MarkState
+    ensures { result ≡ with_class_of class state }
+{
+    if class == state.class {
+        return state;
+    }
+    state.class = class;
+    state.extents = state.component_extents;
+    state
+}
+
+/// Passes by a mark without a class.
+#[tactic(auto, using(shape_buffer::proofs::WrappingLemmas::kept_bits), unfolding(crate::specs::MarkState::passed))]
+fn passed(forward: bool, position: GlyphPosition, mut state: MarkState) -> MarkState
+    ensures { result ≡ passed_of forward position state }
+{
+    if forward {
+        state.x_offset = difference(state.x_offset, position.x_advance);
+        state.y_offset = difference(state.y_offset, position.y_advance);
+        return state;
+    }
+    state.x_offset = sum(state.x_offset, position.x_advance);
+    state.y_offset = sum(state.y_offset, position.y_advance);
+    state
+}
+
+/// A position without advances, moved by the running offset.
+#[tactic(auto, using(shape_buffer::proofs::WrappingLemmas::kept_bits), unfolding(crate::specs::MarkState::moved))]
+fn moved(mut position: GlyphPosition, state: &MarkState) -> GlyphPosition
+    ensures { result ≡ moved_of position state.now }
+{
+    position.x_advance = 0;
+    position.y_advance = 0;
+    position.x_offset = sum(position.x_offset, state.x_offset);
+    position.y_offset = sum(position.y_offset, state.y_offset);
+    position
+}
+
+/// Places a mark of a class in the state that it is placed in.
+#[tactic(auto, using(shape_buffer::proofs::WrappingLemmas::kept_bits), unfolding(crate::specs::MarkState::place_in))]
+fn place_in<F: hb_font_t>(
+    face: &F,
+    base: Base,
+    mut state: MarkState,
+    info: &hb_glyph_info_t,
+    position: GlyphPosition,
+) -> MarkStep
+    ensures { result ≡ place_in_of (F.face face.now) base state info.now position }
+{
+    let placed = position_mark(
+        face,
+        base.surroundings,
+        GlyphId(info.glyph_id),
+        info._hb_glyph_info_get_modified_class(),
+        Placed {
+            position,
+            base: state.extents,
+        },
+    );
+    let position = moved(placed.position, &state);
+    state.extents = placed.base;
+    MarkStep { position, state }
+}
+
+/// Places a mark of a base, or passes it by.
+#[tactic(auto, using(shape_buffer::proofs::WrappingLemmas::kept_bits), unfolding(crate::specs::MarkState::place_mark))]
+pub fn place_mark<F: hb_font_t>(
+    face: &F,
+    base: Base,
+    state: MarkState,
+    info: &hb_glyph_info_t,
+    position: GlyphPosition,
+) -> MarkStep
+    ensures { result ≡ place_mark_of (F.face face.now) base state info.now position }
+{
+    let class = info._hb_glyph_info_get_modified_class();
+    if class == 0 {
+        let state = passed(base.surroundings.forward, position, state);
+        return MarkStep { position, state };
+    }
+    let state = with_class(class, with_component(base, info, state));
+    place_in(face, base, state, info, position)
+}

@@ -1,0 +1,131 @@
+//! The marks of one base, one after the other.
+//!
+//! A base with a box of its own hands each mark the state that the marks before it have left; one
+//! without a box only takes the advances of its nonspacing marks.
+ghost use Rattle.std.specs.Prelude.{◌≡◌, ◌≤◌, length};
+ghost use Rattle.shape_fallback.specs.Marks.{base_of, first_state as first_state_of, marks_placed, without_advances as without_advances_of, zeroed as zeroed_of};
+ghost use Rattle.shape_fallback.specs.Positions.{each_placed, with_positions};
+
+use crate::ot_shape_fallback::mark_state::{Base, MarkState, place_mark};
+use crate::ot_shape_fallback::one_mark::Surroundings;
+use crate::ot_shape_fallback::recategorize::is_nonspacing;
+use shape_buffer::buffer::{GlyphId, GlyphPosition, hb_buffer_t, hb_glyph_info_t};
+use shape_buffer::interfaces::{hb_font_t, hb_glyph_extents_t};
+use shape_buffer::wrapping::{difference, negative, sum};
+
+/// What fallback positions are placed by, beside the face.
+#[derive(Clone, Copy, Debug)]
+pub struct Setting {
+    pub surroundings: Surroundings,
+    pub left_to_right: bool,
+    pub adjust: bool,
+}
+
+/// A position without its advances.
+#[tactic(auto, using(shape_buffer::proofs::WrappingLemmas::kept_bits), unfolding(crate::specs::Marks::without_advances))]
+pub(crate) fn without_advances(adjust: bool, mut position: GlyphPosition) -> GlyphPosition
+    ensures { result ≡ without_advances_of adjust position }
+{
+    if adjust {
+        position.x_offset = difference(position.x_offset, position.x_advance);
+        position.y_offset = difference(position.y_offset, position.y_advance);
+        position.x_advance = 0;
+        position.y_advance = 0;
+        return position;
+    }
+    position.x_advance = 0;
+    position.y_advance = 0;
+    position
+}
+
+/// Places the marks of a base from a place up to another.
+pub(crate) fn place_marks<F: hb_font_t>(
+    face: &F,
+    base: Base,
+    first: MarkState,
+    buffer: &mut hb_buffer_t,
+    from: usize,
+    to: usize,
+)
+    requires ordered { from ≤ to }
+    requires within { to ≤ length buffer.old.items }
+    ensures { buffer.new ≡ with_positions (marks_placed (F.face face.now) base first) from to buffer.old }
+{
+    let mut state = first;
+    for i in from..to {
+        let info = buffer.infos()[i];
+        let position = buffer.positions()[i];
+        let step = place_mark(face, base, state, &info, position);
+        buffer.set_position(i, step.position);
+        state = step.state;
+    }
+}
+
+/// A nonspacing mark loses its advances.
+#[tactic(auto, unfolding(crate::specs::Marks::zeroed))]
+fn zeroed(adjust: bool, info: &hb_glyph_info_t, position: GlyphPosition) -> GlyphPosition
+    ensures { result ≡ zeroed_of adjust info.now position }
+{
+    if is_nonspacing(info) {
+        return without_advances(adjust, position);
+    }
+    position
+}
+
+/// Takes the advances of nonspacing marks from a place up to another.
+pub(crate) fn zero_marks(adjust: bool, buffer: &mut hb_buffer_t, from: usize, to: usize)
+    requires ordered { from ≤ to }
+    requires within { to ≤ length buffer.old.items }
+    ensures { buffer.new ≡ with_positions (each_placed (zeroed_of adjust)) from to buffer.old }
+{
+    for i in from..to {
+        let info = buffer.infos()[i];
+        let position = buffer.positions()[i];
+        let zeroed = zeroed(adjust, &info, position);
+        buffer.set_position(i, zeroed);
+    }
+}
+
+/// A base with these extents of its glyph.
+#[tactic(auto, using(shape_buffer::proofs::WrappingLemmas::kept_bits), unfolding(crate::specs::Marks::base_of))]
+pub(crate) fn make_base<F: hb_font_t>(
+    face: &F,
+    setting: Setting,
+    info: &hb_glyph_info_t,
+    position: GlyphPosition,
+    mut extents: hb_glyph_extents_t,
+) -> Base
+    ensures { result ≡ base_of (F.face face.now) setting info.now position extents }
+{
+    extents.x_bearing = 0;
+    extents.y_bearing = sum(extents.y_bearing, position.y_offset);
+    extents.width = face.glyph_h_advance(GlyphId(info.glyph_id));
+    Base {
+        surroundings: setting.surroundings,
+        left_to_right: setting.left_to_right,
+        ligature_id: info._hb_glyph_info_get_ligature_id(),
+        number_of_components: info._hb_glyph_info_get_number_of_components(),
+        extents,
+    }
+}
+
+/// The state at the first mark.
+#[tactic(auto, using(shape_buffer::proofs::WrappingLemmas::kept_bits), unfolding(crate::specs::Marks::first_state))]
+pub(crate) fn first_state(base: Base, position: GlyphPosition) -> MarkState
+    ensures { result ≡ first_state_of base position }
+{
+    let mut state = MarkState {
+        component: -1,
+        component_extents: base.extents,
+        class: 255,
+        extents: base.extents,
+        x_offset: 0,
+        y_offset: 0,
+    };
+    if base.surroundings.forward {
+        state.x_offset = negative(position.x_advance);
+        state.y_offset = negative(position.y_advance);
+        return state;
+    }
+    state
+}

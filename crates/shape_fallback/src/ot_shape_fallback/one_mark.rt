@@ -1,0 +1,234 @@
+//! Placing one mark.
+//!
+//! The class says at which side of the base the mark stands. Across, its box is put against the left or
+//! the right of the base's, or to the middle. Up and down, it comes a gap below or above the base, or
+//! touches it; a mark drawn for a lower base is never moved up to this one, and a mark drawn for a higher
+//! base only half of the way down. The base's box then grows by the mark, so that the next one of the class
+//! stands beyond.
+ghost use Rattle.std.specs.Prelude.{◌≡◌, if◌then◌else◌, neg_ℤ, pos};
+ghost use Rattle.shape_fallback.specs.Exact.{Fits32, StackedFits, XOffsetFits, exact_hung, exact_piled, exact_x_offset, hung_at, piled_at};
+ghost use Rattle.shape_fallback.specs.OneMark.{is_double as is_double_of, is_left as is_left_of, is_right as is_right_of, mark_x_offset as mark_x_offset_of, agree as agree_of, is_below as is_below_of, is_above as is_above_of, is_attached as is_attached_of, hung as hung_of, lowered as lowered_of, piled as piled_of, raised as raised_of, stacked as stacked_of, placed as placed_of};
+
+use shape_buffer::buffer::{GlyphId, GlyphPosition};
+use shape_buffer::interfaces::{hb_font_t, hb_glyph_extents_t};
+use shape_buffer::wrapping::{difference, half, negative, sum};
+
+/// Whether the class is of marks over two letters: 233 below them, 234 above.
+#[tactic(auto, unfolding(crate::specs::OneMark::is_double))]
+fn is_double(class: u8) -> bool
+    ensures { result ≡ is_double_of class }
+{
+    matches!(class, 233 | 234)
+}
+
+/// Whether the class is of marks at the left: 200 and 218 below, 228 above.
+#[tactic(auto, unfolding(crate::specs::OneMark::is_left))]
+fn is_left(class: u8) -> bool
+    ensures { result ≡ is_left_of class }
+{
+    matches!(class, 200 | 218 | 228)
+}
+
+/// Whether the class is of marks at the right: 222 below, 216 and 232 above.
+#[tactic(auto, unfolding(crate::specs::OneMark::is_right))]
+fn is_right(class: u8) -> bool
+    ensures { result ≡ is_right_of class }
+{
+    matches!(class, 216 | 222 | 232)
+}
+
+/// The base's width in forward text, else none.
+fn forward_width(forward: bool, base: hb_glyph_extents_t) -> i32
+    ensures { result ≡ (if forward then base.width else pos 0) }
+{
+    if forward { base.width } else { 0 }
+}
+
+/// How far a mark with this box is moved to the right from the place of a base with that box.
+#[tactic(auto, using(shape_buffer::proofs::WrappingLemmas::kept_bits))]
+pub(crate) fn mark_x_offset(
+    horizontal: bool,
+    forward: bool,
+    class: u8,
+    base: hb_glyph_extents_t,
+    mark: hb_glyph_extents_t,
+) -> i32
+    ensures value { result ≡ mark_x_offset_of horizontal forward class base mark }
+    ensures exact { XOffsetFits horizontal forward class base mark
+        → result ≡ exact_x_offset horizontal forward class base mark }
+{
+    if horizontal && is_double(class) {
+        let end = sum(base.x_bearing, forward_width(forward, base));
+        return difference(difference(end, half(mark.width)), mark.x_bearing);
+    }
+    if is_left(class) {
+        return difference(base.x_bearing, mark.x_bearing);
+    }
+    if is_right(class) {
+        let end = sum(base.x_bearing, base.width);
+        return difference(difference(end, mark.width), mark.x_bearing);
+    }
+    let margin = half(difference(base.width, mark.width));
+    difference(sum(base.x_bearing, margin), mark.x_bearing)
+}
+
+/// Whether both numbers are positive, or neither.
+#[tactic(auto, unfolding(crate::specs::OneMark::agree))]
+fn agree(a: i32, b: i32) -> bool
+    ensures { result ≡ agree_of a b }
+{
+    (a > 0) == (b > 0)
+}
+
+/// Whether the class is of marks below the base.
+#[tactic(auto, unfolding(crate::specs::OneMark::is_below))]
+fn is_below(class: u8) -> bool
+    ensures { result ≡ is_below_of class }
+{
+    matches!(class, 233 | 218 | 220 | 222 | 200 | 202)
+}
+
+/// Whether the class is of marks above the base.
+#[tactic(auto, unfolding(crate::specs::OneMark::is_above))]
+fn is_above(class: u8) -> bool
+    ensures { result ≡ is_above_of class }
+{
+    matches!(class, 234 | 228 | 230 | 232 | 214 | 216)
+}
+
+/// Whether the class is of marks that touch the base, so that there is no gap.
+#[tactic(auto, unfolding(crate::specs::OneMark::is_attached))]
+fn is_attached(class: u8) -> bool
+    ensures { result ≡ is_attached_of class }
+{
+    matches!(class, 200 | 202 | 214 | 216)
+}
+
+/// A mark's y offset, and the base's extents with the mark.
+#[derive(Clone, Copy, Debug)]
+pub struct Stacked {
+    pub y_offset: i32,
+    pub base: hb_glyph_extents_t,
+}
+
+/// The mark under a base whose gap is taken into account: never moved up.
+#[tactic(auto, using(shape_buffer::proofs::WrappingLemmas::kept_bits))]
+fn hung(gap: i32, mark: hb_glyph_extents_t, mut base: hb_glyph_extents_t) -> Stacked
+    ensures value { result ≡ hung_of gap mark base }
+    ensures exact { Fits32 (hung_at mark base) → StackedFits (exact_hung gap mark base)
+        → result ≡ exact_hung gap mark base }
+{
+    let y_offset = difference(sum(base.y_bearing, base.height), mark.y_bearing);
+    if agree(gap, y_offset) {
+        base.height = sum(difference(base.height, y_offset), mark.height);
+        return Stacked { y_offset: 0, base };
+    }
+    base.height = sum(base.height, mark.height);
+    Stacked { y_offset, base }
+}
+
+/// The mark on a base whose gap is taken into account: not moved down too much.
+#[tactic(auto, using(shape_buffer::proofs::WrappingLemmas::kept_bits))]
+fn piled(gap: i32, mark: hb_glyph_extents_t, mut base: hb_glyph_extents_t) -> Stacked
+    ensures value { result ≡ piled_of gap mark base }
+    ensures exact { Fits32 (piled_at mark base) → Fits32 (neg_ℤ (piled_at mark base))
+        → StackedFits (exact_piled gap mark base) → result ≡ exact_piled gap mark base }
+{
+    let y_offset = difference(base.y_bearing, sum(mark.y_bearing, mark.height));
+    if agree(gap, y_offset) {
+        base.y_bearing = difference(base.y_bearing, mark.height);
+        base.height = sum(base.height, mark.height);
+        return Stacked { y_offset, base };
+    }
+    let correction = half(negative(y_offset));
+    base.y_bearing = difference(sum(base.y_bearing, correction), mark.height);
+    base.height = sum(difference(base.height, correction), mark.height);
+    Stacked {
+        y_offset: sum(y_offset, correction),
+        base,
+    }
+}
+
+/// A base with a gap below it, but for marks that touch it.
+#[tactic(auto, using(shape_buffer::proofs::WrappingLemmas::kept_bits), unfolding(crate::specs::OneMark::lowered))]
+fn lowered(gap: i32, class: u8, mut base: hb_glyph_extents_t) -> hb_glyph_extents_t
+    ensures { result ≡ lowered_of gap class base }
+{
+    if is_attached(class) {
+        return base;
+    }
+    base.height = difference(base.height, gap);
+    base
+}
+
+/// A base with a gap above it, but for marks that touch it.
+#[tactic(auto, using(shape_buffer::proofs::WrappingLemmas::kept_bits), unfolding(crate::specs::OneMark::raised))]
+fn raised(gap: i32, class: u8, mut base: hb_glyph_extents_t) -> hb_glyph_extents_t
+    ensures { result ≡ raised_of gap class base }
+{
+    if is_attached(class) {
+        return base;
+    }
+    base.y_bearing = sum(base.y_bearing, gap);
+    base.height = difference(base.height, gap);
+    base
+}
+
+/// The mark below or above the base, by its class.
+pub(crate) fn stack_mark(
+    gap: i32,
+    class: u8,
+    base: hb_glyph_extents_t,
+    mark: hb_glyph_extents_t,
+) -> Stacked
+    ensures { result ≡ stacked_of gap class base mark }
+{
+    if is_below(class) {
+        return hung(gap, mark, lowered(gap, class, base));
+    }
+    if is_above(class) {
+        return piled(gap, mark, raised(gap, class, base));
+    }
+    Stacked { y_offset: 0, base }
+}
+
+/// A mark's position, and the base's extents that go on to the next mark.
+#[derive(Clone, Copy, Debug)]
+pub struct Placed {
+    pub position: GlyphPosition,
+    pub base: hb_glyph_extents_t,
+}
+
+/// What a mark is placed by.
+#[derive(Clone, Copy, Debug)]
+pub struct Surroundings {
+    pub horizontal: bool,
+    pub forward: bool,
+    pub gap: i32,
+}
+
+/// Places a mark by its class.
+#[tactic(auto, unfolding(crate::specs::OneMark::placed))]
+pub fn position_mark<F: hb_font_t>(
+    face: &F,
+    surroundings: Surroundings,
+    glyph: GlyphId,
+    class: u8,
+    mut placed: Placed,
+) -> Placed
+    ensures { result ≡ placed_of surroundings ((F.face face.now).extents glyph) class placed }
+{
+    let Some(mark) = face.glyph_extents(glyph) else {
+        return placed;
+    };
+    let Surroundings {
+        horizontal,
+        forward,
+        gap,
+    } = surroundings;
+    placed.position.x_offset = mark_x_offset(horizontal, forward, class, placed.base, mark);
+    let stacked = stack_mark(gap, class, placed.base, mark);
+    placed.position.y_offset = stacked.y_offset;
+    placed.base = stacked.base;
+    placed
+}

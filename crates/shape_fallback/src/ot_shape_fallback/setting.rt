@@ -1,0 +1,61 @@
+//! What the marks of a buffer are placed by, beside the face: how the line runs, how the components of
+//! ligatures run, and the gap between marks.
+ghost use Rattle.std.specs.Prelude.{◌≡◌};
+ghost use Rattle.shape_fallback.specs.Bases.{is_left_to_right as is_left_to_right_of, runs_to_right as runs_to_right_of, setting_of};
+
+use crate::ot_shape_fallback::marks::Setting;
+use crate::ot_shape_fallback::one_mark::Surroundings;
+use shape_buffer::buffer::{Direction, Script, hb_buffer_t};
+use shape_buffer::interfaces::{hb_font_t, hb_unicode_funcs_t};
+use shape_plan::ot_shape_plan::hb_ot_shape_plan_t;
+
+/// The gap between marks is the em square divided by this.
+const GAPS_IN_EM: u16 = 16;
+
+/// Whether this is left to right.
+fn is_left_to_right(direction: Direction) -> bool
+    ensures { result ≡ is_left_to_right_of direction }
+{
+    matches!(direction, Direction::LeftToRight)
+}
+
+/// Whether the components of a ligature run to the right: in the direction where that is horizontal,
+/// else in the script's, and to the right where none is known.
+#[tactic(auto, unfolding(crate::specs::Bases::runs_to_right))]
+fn runs_to_right<U: hb_unicode_funcs_t>(direction: Direction, script: Option<Script>) -> bool
+    ensures { result ≡ runs_to_right_of U.unicode direction script }
+{
+    if direction.is_horizontal() {
+        return is_left_to_right(direction);
+    }
+    let Some(script) = script else {
+        return true;
+    };
+    match U::script_direction(script) {
+        None | Some(Direction::Invalid) => true,
+        Some(direction) => is_left_to_right(direction),
+    }
+}
+
+/// What the marks of a buffer are placed by under a plan.
+#[tactic(auto, unfolding(crate::specs::Bases::setting_of))]
+pub(crate) fn make_setting<U: hb_unicode_funcs_t, F: hb_font_t, S, P, D>(
+    plan: &hb_ot_shape_plan_t<'_, S, P, D>,
+    face: &F,
+    buffer: &hb_buffer_t,
+    adjust: bool,
+) -> Setting
+    ensures { result ≡ setting_of U.unicode (F.face face.now) plan.now.direction plan.now.script
+        adjust buffer.now }
+{
+    let direction = buffer.direction();
+    Setting {
+        surroundings: Surroundings {
+            horizontal: direction.is_horizontal(),
+            forward: direction.is_forward(),
+            gap: i32::from(face.units_per_em() / GAPS_IN_EM),
+        },
+        left_to_right: runs_to_right::<U>(plan.direction(), plan.script()),
+        adjust,
+    }
+}

@@ -1,0 +1,35 @@
+//! The definitions, computed on cases whose answers are worked out by hand.
+ghost use Rattle.shape_fallback.specs.WorkedBuffers.{WorkedBuffers};
+ghost use Rattle.shape_fallback.specs.WorkedClasses.{WorkedClasses};
+ghost use Rattle.shape_fallback.specs.WorkedMarks.{WorkedMarks};
+ghost use Rattle.shape_fallback.specs.WorkedOneMark.{WorkedOneMark};
+ghost use Rattle.shape_fallback.specs.WorkedSpaces.{WorkedSpaces};
+
+/// The classes that marks are placed by: each row of the rules for Thai and Lao and for other scripts, the
+/// characters and classes beside them, and the categories that don't change.
+pub fn classes_meet_worked_cases()
+    ensures { WorkedClasses }
+{}
+
+/// Advances of spaces: each type, the first glyph of each list, horizontal and vertical text, and the
+/// items that stay.
+pub fn spaces_meet_worked_cases()
+    ensures { WorkedSpaces }
+{}
+
+/// Single marks: each class, a gap and none, halves of odd and negative numbers, and numbers that wrap.
+pub fn single_marks_meet_worked_cases()
+    ensures { WorkedOneMark }
+{}
+
+/// Components of ligatures, the state from mark to mark, running offsets, which items are bases, and which
+/// way the components run.
+pub fn marks_meet_worked_cases()
+    ensures { WorkedMarks }
+{}
+
+/// Whole buffers: marks above and below, on ligatures, of class 0, on bases without a box, at the limits
+/// of numbers; whether the steps are due; and the spans that are marked unsafe to break.
+pub fn buffers_meet_worked_cases()
+    ensures { WorkedBuffers }
+{}

@@ -1,0 +1,128 @@
+-- Normalising keeps feature bits: each item of the normalised list has those of an item of the text.
+use Rattle.std.proofs.Common.{◌≡◌, ℕ, zero, suc, List, [], ◌∷◌, map, get_or, Option, None, Some, refl, sym, ap, subst, ◌∙◌}
+use Rattle.std.specs.List.{All, AllByRecursion, Contains}
+use Rattle.std.specs.Option.{option_map_or}
+use Rattle.std.proofs.lemmas.List.Elements.{All-map, All-from_recursion, recursion_from_All, All-contains_itself}
+use Rattle.std.proofs.lemmas.Nat.{and_assoc, and_or_apart}
+use Rattle.shape_buffer.specs.Buffer.{Buffer}
+use Rattle.shape_buffer.specs.BufferClusters.{merge_at, merge_out_clusters}
+use Rattle.shape_buffer.specs.Items.{Item}
+use Rattle.shape_buffer.specs.Unicode.{UnicodeMeaning}
+use Rattle.shape_buffer.specs.UnicodeProps.{with_unicode_props}
+use Rattle.shape_buffer.specs.declared.buffer.settings.BufferClusterLevel.{BufferClusterLevel}
+use Rattle.shape_buffer.specs.declared.buffer.settings.BufferClusterLevel.TheVariants.{MonotoneGraphemes, MonotoneCharacters, Characters}
+use Rattle.shape_buffer.specs.declared.buffer.settings.GlyphId.{GlyphId}
+use Rattle.shape_buffer.proofs.KeyLemmas.{IsKey, keys-merge}
+use Rattle.shape_normalize.specs.Normalized.{normalized, features_of, KeepsFeatures}
+use Rattle.shape_normalize.specs.RoundOne.{part_item, whole_item, expansion_of, pairs_merged, round_one}
+use Rattle.shape_normalize.specs.RoundThree.{Placed, recomposed_items, joined_spans, spans_merged_out, with_cluster_at, round_three}
+use Rattle.shape_normalize.specs.RoundTwo.{marks_ordered, joiners_settled}
+use Rattle.shape_plan.specs.Rules.{Rules}
+use Rattle.shape_normalize.specs.Shaped.{prepared}
+use Rattle.shape_normalize.specs.Steps.{with_mapped_glyph, glyphs_mapped}
+use Rattle.shape_normalize.proofs.JoinerLemmas.{keys-joiners_settled}
+use Rattle.shape_normalize.proofs.NormalizedLemmas.{kept_by_rounds}
+use Rattle.shape_normalize.proofs.RecomposedItemLemmas.{each_recomposed}
+use Rattle.shape_normalize.proofs.ReorderLemmas.{LawfulReorder}
+use Rattle.shape_normalize.proofs.RoundOneLemmas.{keys-pairs_merged, whole_item_is, expanded_all}
+use Rattle.shape_normalize.proofs.SequenceLemmas.{each_of_values, each_value}
+use Rattle.shape_normalize.proofs.SettleLemmas.{keys-marks_ordered}
+
+-- ---- merging
+
+-- merging changes the defined flags alone
+IsKey-features : IsKey features_of
+IsKey-features = record { by_cluster = λ item cluster. and_assoc 4294967288 item.mask 4294967288; by_break = λ item. and_or_apart 4294967288 item.mask 3 refl }
+
+features-merge_out : (start end : ℕ) (b : Buffer) → map features_of (merge_out_clusters start end b).items ≡ map features_of b.items
+features-merge_out start end b = at_level b.cluster_level
+  where
+    at_level : (level : BufferClusterLevel) → map features_of (elim level as (λ v. Buffer) [ MonotoneGraphemes ↦ merge_at start end b | MonotoneCharacters ↦ merge_at start end b | Characters ↦ b ]).items ≡ map features_of b.items
+    at_level MonotoneGraphemes = keys-merge features_of IsKey-features start end b.items
+    at_level MonotoneCharacters = keys-merge features_of IsKey-features start end b.items
+    at_level Characters = refl
+
+features-spans_merged_out : (spans : List (ℕ × ℕ)) (b : Buffer) → map features_of (spans_merged_out spans b).items ≡ map features_of b.items
+features-spans_merged_out [] b = refl
+features-spans_merged_out (span ∷ spans) b = features-spans_merged_out spans (merge_out_clusters span.0 span.1 b) ∙ features-merge_out span.0 span.1 b
+
+-- ---- what holds of feature bits
+
+module _ (rules : Rules) (P : ℕ → Type 0) where
+  -- the feature bits of each item are among these
+  abbrev Has : List Item → Type 0
+  Has items = AllByRecursion (λ item. P (features_of item)) items
+
+  -- lists of the same feature bits
+  has_same : (old new : List Item) → map features_of new ≡ map features_of old → Has old → Has new
+  has_same old new same each = each_of_values features_of P new (subst (AllByRecursion P) (sym same) (each_value features_of P old each))
+
+  -- ---- round one
+
+  parts_have : (item : Item) → P (features_of item) → (cs : List ℕ) → Has (map (part_item rules.unicode rules.face.nominal_glyph item) cs)
+  parts_have item h [] = tt
+  parts_have item h (c ∷ cs) = (h, parts_have item h cs)
+
+  found_have : (invisible : Option GlyphId) (item : Item) → P (features_of item) → (found : Option (List ℕ)) → Has (option_map_or (map (part_item rules.unicode rules.face.nominal_glyph item)) found (whole_item rules invisible item ∷ []))
+  found_have invisible item h None = (whole_item_is rules invisible (λ whole. P (features_of whole)) item (λ glyph. h) (λ glyph space. h), tt)
+  found_have invisible item h (Some cs) = parts_have item h cs
+
+  round_one_has : (b : Buffer) → Has b.items → Has (round_one rules b).items
+  round_one_has b each =
+      let merged = (pairs_merged rules b).items in
+      expanded_all rules b.invisible_glyph b.not_found_variation_selector_glyph (λ item. P (features_of item)) (λ item. P (features_of item))
+      (λ item glyph h. h) (λ item glyph h. h) (λ short item h. found_have b.invisible_glyph item h (expansion_of rules short item))
+      merged (has_same b.items merged (keys-pairs_merged rules features_of IsKey-features b) each)
+
+  -- ---- round three
+
+  -- what stands at a place, or in its stead
+  has_at : (items : List Item) (place : ℕ) (other : Item) → Has items → P (features_of other) → P (features_of (get_or items place other))
+  has_at [] place other each h = h
+  has_at (item ∷ items) zero other each h = each.0
+  has_at (item ∷ items) (suc place) other each h = has_at items place other each.1 h
+
+  put_out_have : (items : List Item) → Has items → (out : List Placed) → AllByRecursion (λ (p : Placed). P (features_of p.item)) out → Has (map (with_cluster_at items) out)
+  put_out_have items has [] each = tt
+  put_out_have items has (p ∷ out) each = (has_at items p.place p.item has each.0, put_out_have items has out each.1)
+
+  round_three_has : (b : Buffer) → Has b.items → Has (round_three rules b).items
+  round_three_has b each =
+      let out = recomposed_items rules b.items in
+      let merged = (spans_merged_out (joined_spans out) b).items in
+      put_out_have merged (has_same b.items merged (features-spans_merged_out (joined_spans out) b) each) out
+      (each_recomposed rules (λ item. P (features_of item)) (λ item c has h. h) b.items each)
+
+  -- ---- the rounds
+
+  normalized_has : LawfulReorder rules.reorder → (b : Buffer) → Has b.items → Has (normalized rules b).items
+  normalized_has lawful b each =
+      let one : Buffer = round_one rules b in
+      kept_by_rounds rules (λ c. Has c.items) b
+      (λ of. each_of_values features_of P (marks_ordered rules.reorder one).items (keys-marks_ordered rules.reorder lawful features_of IsKey-features (λ f is item class. refl) P one (each_value features_of P one.items of)))
+      (λ c of. has_same c.items (joiners_settled c).items (keys-joiners_settled features_of (λ item. refl) c) of)
+      round_three_has (round_one_has b each)
+
+-- each item of the normalised list has the feature bits of an item of the text
+pub normalized_keeps_features : (rules : Rules) → LawfulReorder rules.reorder → (b new : Buffer) → new ≡ normalized rules b → KeepsFeatures b new
+normalized_keeps_features rules lawful b new is =
+    let those : List ℕ = map features_of b.items in
+    let all : List Item = (normalized rules b).items in
+    rw is (All-from_recursion (λ item. Contains those (features_of item)) all
+    (normalized_has rules (Contains those) lawful b
+    (each_of_values features_of (Contains those) b.items (recursion_from_All (Contains those) those (All-contains_itself those)))))
+
+-- ---- the run
+
+features-with_props : (unicode : UnicodeMeaning) (items : List Item) → map features_of (map (with_unicode_props unicode) items) ≡ map features_of items
+features-with_props unicode [] = refl
+features-with_props unicode (item ∷ items) = ap (λ rest. features_of item ∷ rest) (features-with_props unicode items)
+
+-- and so has each item that a run hands out
+pub run_keeps_features : (rules : Rules) → LawfulReorder rules.reorder → (b glyphs : Buffer) → glyphs ≡ glyphs_mapped (normalized rules (prepared rules.unicode b)) → KeepsFeatures b glyphs
+run_keeps_features rules lawful b glyphs is =
+    let text = prepared rules.unicode b in
+    let all : List Item = (normalized rules text).items in
+    let has = normalized_keeps_features rules lawful text (normalized rules text) refl in
+    rw is (subst (λ (those : List ℕ). All (λ (item : Item). Contains those (features_of item)) (map with_mapped_glyph all)) (features-with_props rules.unicode b.items)
+    (All-map (λ item. Contains (map features_of text.items) (features_of item)) with_mapped_glyph all (λ k d within. has k d within)))

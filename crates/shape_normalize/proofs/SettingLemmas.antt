@@ -1,0 +1,40 @@
+-- Normalising keeps the cluster level, and the limit, which the lists of its rounds stay within.
+use Rattle.std.proofs.Common.{◌≡◌, ◌≤◌, ◌==◌, Bool, true, false, if◌then◌else◌, length, bit_and, refl, ap, ◌∙◌, arith}
+use Rattle.shape_buffer.specs.Buffer.{Buffer, limit_of}
+use Rattle.shape_plan.specs.Rules.{Rules}
+use Rattle.shape_normalize.specs.RoundOne.{sequences, pairs_from, round_one}
+use Rattle.shape_normalize.specs.RoundTwo.{marks_ordered, joiners_settled, joiners_shown, has_mark_past_first}
+use Rattle.shape_normalize.specs.Normalized.{ordered}
+use Rattle.shape_normalize.proofs.NormalizedLemmas.{length-ordered}
+use Rattle.shape_normalize.proofs.ReorderLemmas.{LawfulReorder}
+use Rattle.shape_normalize.proofs.SelectorLemmas.{without_items-merged_at}
+use Rattle.shape_normalize.proofs.SettleLemmas.{without_items-marks_ordered}
+
+-- ---- round one
+
+module _ (rules : Rules) (b : Buffer) where
+  pub level-round_one : (round_one rules b).cluster_level ≡ b.cluster_level
+  level-round_one = ap (λ (c : Buffer). c.cluster_level) (without_items-merged_at b (pairs_from rules.unicode rules.face 0 (sequences b.items)))
+
+  limit-round_one : (round_one rules b).length_limit ≡ b.length_limit
+  limit-round_one = ap (λ (c : Buffer). c.length_limit) (without_items-merged_at b (pairs_from rules.unicode rules.face 0 (sequences b.items)))
+
+-- ---- the ordered list
+
+limit-joiners_settled : (b : Buffer) → (joiners_settled b).length_limit ≡ b.length_limit
+limit-joiners_settled b = elim (bit_and b.scratch_flags.0 8 == 8) as (λ t. (if t then record b { items = joiners_shown b.items } else b).length_limit ≡ b.length_limit) [ true ↦ refl | false ↦ refl ]
+
+module _ (rules : Rules) (lawful : LawfulReorder rules.reorder) where
+  limit-ordered : (b : Buffer) → (ordered rules b).length_limit ≡ b.length_limit
+  limit-ordered b = limit-joiners_settled _ ∙ by_test (has_mark_past_first b.items) ∙ limit-round_one rules b
+    where
+      by_test : (test : Bool) → (if test then marks_ordered rules.reorder (round_one rules b) else round_one rules b).length_limit ≡ (round_one rules b).length_limit
+      by_test true = ap (λ (c : Buffer). c.length_limit) (without_items-marks_ordered rules.reorder lawful (round_one rules b))
+      by_test false = refl
+
+  -- where the expanded list is within the limit, so is the ordered one, within its own
+  pub within_ordered : (b : Buffer) → length (round_one rules b).items ≤ limit_of b → length (ordered rules b).items ≤ limit_of (ordered rules b)
+  within_ordered b within = rw (limit-ordered b) (omega (arith, length-ordered rules lawful b))
+
+  pub limit_of-ordered : (b : Buffer) → limit_of (ordered rules b) ≡ limit_of b
+  limit_of-ordered b = rw (limit-ordered b) refl

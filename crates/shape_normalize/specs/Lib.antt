@@ -1,0 +1,13 @@
+pub mod RoundOne
+pub mod RoundTwo
+pub mod Reordered
+pub mod RoundThree
+pub mod Normalized
+pub mod Prepared
+pub mod CanonicalForm
+pub mod Steps
+pub mod Shaped
+pub mod WorkedWorld
+pub mod WorkedOne
+pub mod WorkedTwo
+pub mod WorkedThree

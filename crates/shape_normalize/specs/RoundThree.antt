@@ -1,0 +1,106 @@
+-- Round three of normalising: marks are composed with their starters again (The Unicode Standard, D115 to D117).
+use Rattle.std.specs.Prelude.{ℕ, suc, ◌+◌, ◌&&◌, not, if◌then◌else◌, Bool, List, [], ◌∷◌, ◌++◌, map, fold, replicate, length, get_or, Option, None}
+use Rattle.std.specs.Option.{option_map}
+use Rattle.std.specs.List.{flat_map}
+use Rattle.shape_buffer.specs.Items.{Item, class_of_item, is_mark_item}
+use Rattle.shape_buffer.specs.Positions.{zero_position}
+use Rattle.shape_buffer.specs.Buffer.{Buffer}
+use Rattle.shape_buffer.specs.BufferClusters.{merge_out_clusters}
+use Rattle.canonical_form.specs.Recompose.{is_blocked, is_blocked_by_last, join_with_glyph, recomposed}
+use Rattle.shape_plan.specs.Rules.{Rules, has_glyph}
+use Rattle.shape_normalize.specs.declared.ot_shape_normalize.round_three.PlacedInfo.{PlacedInfo}
+use Rattle.shape_normalize.specs.RoundOne.{part_item, seen_chars}
+
+-- a mark that was composed with a starter: the place where it stood, and the character that the two made
+pub record Joined : Type 0 where
+  pub place : ℕ
+  pub char : ℕ
+
+-- an item with the place where it stood, and the marks that were composed with it, in order
+pub record Placed : Type 0 where
+  pub item : Item
+  pub place : ℕ
+  pub joined : List Joined
+
+-- the items from this place on, with nothing composed yet
+abbrev pub placed : ℕ → List Item → List Placed
+placed place [] = []
+placed place (item ∷ items) = record { item = item; place = place; joined = [] } ∷ placed (suc place) items
+
+abbrev pub class_of_placed : Placed → ℕ
+class_of_placed p = class_of_item p.item
+
+abbrev pub is_mark_placed : Placed → Bool
+is_mark_placed p = is_mark_item p.item
+
+-- the starter with the character that it makes with a mark, where that has a glyph
+abbrev pub join_placed : Rules → Placed → Placed → Option Placed
+join_placed rules starter mark =
+    option_map (λ c. record {
+      item = part_item rules.unicode rules.face.nominal_glyph starter.item c;
+      place = starter.place;
+      joined = starter.joined ++ record { place = mark.place; char = c } ∷ [];
+    }) (join_with_glyph rules.join (has_glyph rules.face.nominal_glyph) starter.item.codepoint mark.item.codepoint)
+
+-- the items that are put out
+abbrev pub recomposed_items : Rules → List Item → List Placed
+recomposed_items rules items = recomposed class_of_placed (is_blocked_by_last class_of_placed) is_mark_placed (join_placed rules) (placed 0 items)
+
+-- the items that are put out by the rule of the standard (D115): a mark is blocked by any mark between it and its starter that has class 0 or a class not less than its own
+abbrev pub recomposed_by_all : Rules → List Item → List Placed
+recomposed_by_all rules items = recomposed class_of_placed (is_blocked class_of_placed) is_mark_placed (join_placed rules) (placed 0 items)
+
+-- the spans from each starter to each mark that was composed with it, in order
+abbrev pub joined_spans : List Placed → List (ℕ × ℕ)
+joined_spans out = flat_map (λ p. map (λ mark. (p.place, mark.place + 1)) p.joined) out
+
+abbrev pub spans_merged_out : List (ℕ × ℕ) → Buffer → Buffer
+spans_merged_out spans b = fold (λ b span. merge_out_clusters span.0 span.1 b) b spans
+
+-- the characters that were composed, in order
+abbrev pub composed_chars : List Placed → List ℕ
+composed_chars out = flat_map (λ p. map (λ mark. mark.char) p.joined) out
+
+-- an item with the cluster and the mask that stand at its place
+abbrev pub with_cluster_at : List Item → Placed → Item
+with_cluster_at items p = let at = get_or items p.place p.item in record p.item { cluster = at.cluster; mask = at.mask }
+
+-- round three of normalising: the buffer with its recomposed list, each span of a composition merged, at positions of zeros
+-- the spans are merged while the marks that go still stand: each is in one cluster with the item before it from then on, so that a later merge grows over both or neither
+abbrev pub round_three : Rules → Buffer → Buffer
+round_three rules b =
+    let out = recomposed_items rules b.items in
+    let merged = spans_merged_out (joined_spans out) b in
+    record merged {
+      items = map (with_cluster_at merged.items) out;
+      positions = replicate (length out) zero_position;
+      scratch_flags = seen_chars rules.unicode b.scratch_flags (composed_chars out);
+    }
+
+-- ---- the walk of the code, which keeps the spans and the flags beside what it puts out
+
+-- a span from this place to the first of these marks, and from each of them to the next
+abbrev pub spans_between : ℕ → List Joined → List (ℕ × ℕ)
+spans_between from [] = []
+spans_between from (mark ∷ joined) = (from, mark.place + 1) ∷ spans_between mark.place joined
+
+-- the spans that the code keeps: once its first is merged a starter and its mark are in one cluster, so that the next span may begin at the mark
+abbrev pub chained_spans : List Placed → List (ℕ × ℕ)
+chained_spans out = flat_map (λ p. spans_between p.place p.joined) out
+
+-- an item that was put out, with its place alone
+abbrev pub placed_info : Placed → PlacedInfo
+placed_info p = record { info = p.item; place = p.place }
+
+abbrev pub class_of_placed_info : PlacedInfo → ℕ
+class_of_placed_info p = class_of_item p.info
+
+-- the character that a starter makes with an item behind it and these marks, where the two compose
+abbrev pub composed_char : Rules → PlacedInfo → List PlacedInfo → PlacedInfo → Option ℕ
+composed_char rules starter marks next =
+    if is_mark_item next.info && not (is_blocked_by_last class_of_placed_info marks next)
+    then join_with_glyph rules.join (has_glyph rules.face.nominal_glyph) starter.info.codepoint next.info.codepoint
+    else None
+
+abbrev pub settled_info : List Item → PlacedInfo → Item
+settled_info items p = with_cluster_at items (record { item = p.info; place = p.place; joined = [] })

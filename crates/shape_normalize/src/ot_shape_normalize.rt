@@ -1,0 +1,175 @@
+//! Normalising: the characters of a text become those that the face has glyphs for.
+//!
+//! A character may be spelled in several ways, and a face rarely has glyphs for all of them. So each
+//! character is expanded along the chain of its splits, where its first part may split again, and so on;
+//! the characters of some point of the chain are put in its place, if the face has glyphs for all of
+//! them. A shaper may bring splits of its own. The marks behind a character are then put in one order,
+//! so that spellings of one text become one list (UAX 15; The Unicode Standard, D68 and D107 to D109).
+ghost use Rattle.std.specs.Prelude.{◌≡◌, ◌<◌, ◌≤◌, [], length, map, All, IsOk, OnOk, OnErr, Err};
+ghost use Rattle.shape_buffer.specs.Buffer.{cleared, limit_of};
+ghost use Rattle.shape_buffer.specs.Clusters.{clusters};
+ghost use Rattle.shape_buffer.specs.ClusterOrder.{KeepsClusters, IsMonotoneLevel};
+ghost use Rattle.shape_buffer.specs.Items.{char_of};
+ghost use Rattle.shape_plan.specs.Rules.{rules_of};
+ghost use Rattle.shape_normalize.specs.RoundOne.{round_one};
+ghost use Rattle.shape_normalize.specs.RoundTwo.{has_mark_past_first as has_mark_past_first_of};
+ghost use Rattle.shape_normalize.specs.CanonicalForm.{NormalizesCanonically};
+ghost use Rattle.shape_normalize.specs.Normalized.{normalized, BroughtInHaveGlyphs, HasItemGlyph, HookKeepsClusters, KeepsFeatures, KeepsHidden, OrdersExpanded, RecomposesByAll};
+
+mod compare;
+mod context;
+mod decompose;
+mod joiners;
+mod mode;
+mod round_one;
+mod round_three;
+mod round_two;
+
+use crate::ot_shape_normalize::joiners::show_joiners;
+use crate::ot_shape_normalize::mode::recomposes;
+use crate::ot_shape_normalize::round_one::expand;
+use crate::ot_shape_normalize::round_three::recompose;
+use crate::ot_shape_normalize::round_two::order_runs;
+pub use compare::normalized_equal;
+pub use context::hb_ot_shape_normalize_context_t;
+use shape_buffer::buffer::{ShapeError, hb_buffer_t, hb_glyph_info_t};
+use shape_buffer::interfaces::{hb_font_t, hb_ot_layout_t, hb_unicode_funcs_t};
+pub use shape_plan::normalization_mode::{
+    HB_OT_SHAPE_NORMALIZATION_MODE_AUTO, HB_OT_SHAPE_NORMALIZATION_MODE_COMPOSED_DIACRITICS,
+    HB_OT_SHAPE_NORMALIZATION_MODE_COMPOSED_DIACRITICS_NO_SHORT_CIRCUIT,
+    HB_OT_SHAPE_NORMALIZATION_MODE_DECOMPOSED, HB_OT_SHAPE_NORMALIZATION_MODE_DEFAULT,
+    HB_OT_SHAPE_NORMALIZATION_MODE_NONE, hb_ot_shape_normalization_mode_t,
+};
+use shape_plan::ot_shape_plan::hb_ot_shape_plan_t;
+use shape_plan::ot_shaper::{Runs, hb_ot_shaper_t};
+use std::alloc::Global;
+
+/// Makes the list of a buffer the normalised one, at positions of zeros, by the mode that the plan's shaper
+/// prefers: see [`HB_OT_SHAPE_NORMALIZATION_MODE_NONE`] and the others.
+///
+/// Each item becomes the items of an expansion of its character that the face has glyphs for, the
+/// shortest or the longest one, and takes the glyph that the face answers; a space or a non-breaking
+/// hyphen without a glyph takes that of another. A sequence of an item and its marks that holds a
+/// variation selector isn't expanded. Where a mark stood past the first item as normalising began, each
+/// run of at most 32 marks is put in the order of their classes, the clusters of the spans that this
+/// moves are merged, the shaper may reorder the run, and in the modes that compose, marks are composed
+/// with their starters again, whose clusters are merged. Joiners that keep nothing apart are shown.
+///
+/// Refuses with `Length` where the expanded list is longer than the buffer's limit, and with `Memory`
+/// where a growth was refused; after a refusal the buffer is cleared. An empty buffer is left as it is,
+/// and no memory is taken.
+pub fn _hb_ot_shape_normalize<U, F, M, S>(
+    alloc: Global,
+    plan: &hb_ot_shape_plan_t<'_, S, M::Map, S::Data>,
+    buffer: &mut hb_buffer_t,
+    face: &F,
+) -> Result<(), ShapeError>
+where
+    U: hb_unicode_funcs_t,
+    F: hb_font_t,
+    M: hb_ot_layout_t<F>,
+    S: hb_ot_shaper_t<U, F, M>,
+    ensures ok { OnOk result (buffer.new ≡ normalized (⟦<S as Runs<U, F, M>>⟧.rules plan.now face.now) buffer.old) }
+    ensures brought_in { OnOk result (BroughtInHaveGlyphs (F.face face.now).nominal_glyph
+        (map char_of buffer.old.items) (map char_of buffer.new.items)) }
+    ensures item_glyphs { OnOk result (All (HasItemGlyph
+        (⟦<S as Runs<U, F, M>>⟧.rules plan.now face.now) buffer.old) buffer.new.items) }
+    ensures features { OnOk result (KeepsFeatures buffer.old buffer.new) }
+    ensures joiners { OnOk result (KeepsHidden
+        (⟦<S as Runs<U, F, M>>⟧.rules plan.now face.now) buffer.old buffer.new) }
+    ensures canonical_form { OnOk result (NormalizesCanonically
+        (⟦<S as Runs<U, F, M>>⟧.rules plan.now face.now) buffer.old buffer.new) }
+    ensures ordered { OnOk result (OrdersExpanded
+        (⟦<S as Runs<U, F, M>>⟧.rules plan.now face.now) buffer.old buffer.new) }
+    ensures recomposed_by_all { OnOk result (RecomposesByAll
+        (⟦<S as Runs<U, F, M>>⟧.rules plan.now face.now) buffer.old buffer.new) }
+    ensures clusters { OnOk result (IsMonotoneLevel buffer.old.cluster_level
+        → HookKeepsClusters (⟦<S as Runs<U, F, M>>⟧.rules plan.now face.now)
+        → KeepsClusters (clusters buffer.old.items) (clusters buffer.new.items)) }
+    ensures within { OnOk result (length buffer.new.items ≤ limit_of buffer.old) }
+    ensures counted { OnOk result (length (round_one
+        (⟦<S as Runs<U, F, M>>⟧.rules plan.now face.now) buffer.old).items ≤ limit_of buffer.old) }
+
+    ensures length { result ≡ Err ShapeError.Length → limit_of buffer.old < length (round_one
+        (⟦<S as Runs<U, F, M>>⟧.rules plan.now face.now) buffer.old).items }
+    ensures settings { cleared buffer.new ≡ cleared buffer.old }
+    ensures cleared { OnErr result (buffer.new ≡ cleared buffer.old) }
+    ensures empty { buffer.old.items ≡ [] → IsOk result }
+{
+    if buffer.len() == 0 {
+        return Ok(());
+    }
+    let outcome = normalize::<U, F, M, S>(alloc, plan, buffer, face);
+    if outcome.is_err() {
+        buffer.reset();
+    }
+    outcome
+}
+
+/// Runs the rounds over a context of their own.
+fn normalize<U, F, M, S>(
+    alloc: Global,
+    plan: &hb_ot_shape_plan_t<'_, S, M::Map, S::Data>,
+    buffer: &mut hb_buffer_t,
+    face: &F,
+) -> Result<(), ShapeError>
+where
+    U: hb_unicode_funcs_t,
+    F: hb_font_t,
+    M: hb_ot_layout_t<F>,
+    S: hb_ot_shaper_t<U, F, M>,
+    ensures ok { OnOk result (buffer.new ≡ normalized (⟦<S as Runs<U, F, M>>⟧.rules plan.now face.now) buffer.old) }
+    ensures counted { OnOk result (length (round_one
+        (⟦<S as Runs<U, F, M>>⟧.rules plan.now face.now) buffer.old).items ≤ limit_of buffer.old) }
+    ensures length { result ≡ Err ShapeError.Length → limit_of buffer.old < length (round_one
+        (⟦<S as Runs<U, F, M>>⟧.rules plan.now face.now) buffer.old).items }
+    ensures settings { cleared buffer.new ≡ cleared buffer.old }
+{
+    let mut ctx = hb_ot_shape_normalize_context_t {
+        plan,
+        buffer: &mut *buffer,
+        face,
+    };
+    run_rounds::<U, F, M, S>(alloc, &mut ctx)
+}
+
+/// Expands the items and shows joiners; where there are marks past the first item, puts them in order, and
+/// composes them in the modes that do.
+fn run_rounds<U, F, M, S>(
+    alloc: Global,
+    ctx: &mut hb_ot_shape_normalize_context_t<'_, F, S, M::Map, S::Data>,
+) -> Result<(), ShapeError>
+where
+    U: hb_unicode_funcs_t,
+    F: hb_font_t,
+    M: hb_ot_layout_t<F>,
+    S: hb_ot_shaper_t<U, F, M>,
+    ensures same_reference { ctx.new.buffer.ghost_name ≡ ctx.old.buffer.ghost_name }
+    ensures ok { OnOk result (ctx.new.buffer.now ≡ normalized (⟦<S as Runs<U, F, M>>⟧.rules ctx.old.plan.now ctx.old.face.now) ctx.old.buffer.now) }
+    ensures counted { OnOk result (length (round_one
+        (⟦<S as Runs<U, F, M>>⟧.rules ctx.old.plan.now ctx.old.face.now) ctx.old.buffer.now).items ≤ limit_of ctx.old.buffer.now) }
+    ensures length { result ≡ Err ShapeError.Length → limit_of ctx.old.buffer.now < length (round_one
+        (⟦<S as Runs<U, F, M>>⟧.rules ctx.old.plan.now ctx.old.face.now) ctx.old.buffer.now).items }
+    ensures settings { cleared ctx.new.buffer.now ≡ cleared ctx.old.buffer.now }
+{
+    let has_marks = has_mark_past_first(ctx.buffer.infos());
+    expand::<U, F, M, S>(alloc, ctx.plan, ctx.buffer, ctx.face)?;
+    if has_marks {
+        order_runs::<U, F, M, S>(alloc, ctx.plan, ctx.face, ctx.buffer)?;
+    }
+    show_joiners(ctx.buffer);
+    if has_marks && recomposes::<U, F, M, S>(ctx.plan) {
+        recompose::<U, F, M, S>(alloc, ctx.plan, ctx.buffer, ctx.face)?;
+    }
+    Ok(())
+}
+
+/// Whether a mark stands past the first item.
+fn has_mark_past_first(infos: &[hb_glyph_info_t]) -> bool
+    ensures { result ≡ has_mark_past_first_of infos.now }
+{
+    infos
+        .iter()
+        .skip(1)
+        .any(|info| info._hb_glyph_info_is_unicode_mark())
+}

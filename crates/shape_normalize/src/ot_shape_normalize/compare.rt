@@ -1,0 +1,112 @@
+//! Comparing two texts by their normalised lists.
+ghost use Rattle.std.specs.Prelude.{◌≡◌, ◌<◌, ◌≤◌, ◌↔◌, ◌⊎◌, ◌==◌, IsTrue, IfOk, OnOk, OnErr, Err, length, map};
+ghost use Rattle.std.specs.List.{list_all, zip};
+ghost use Rattle.shape_buffer.specs.Buffer.{cleared, limit_of};
+ghost use Rattle.shape_buffer.specs.Items.{char_of};
+ghost use Rattle.shape_normalize.specs.CanonicalForm.{text_of, AreEquivalent, CanonicalFormPremises};
+ghost use Rattle.shape_normalize.specs.Normalized.{normalized};
+ghost use Rattle.shape_normalize.specs.RoundOne.{round_one};
+ghost use Rattle.shape_plan.specs.Rules.{rules_of};
+
+use crate::ot_shape_normalize::_hb_ot_shape_normalize;
+use shape_buffer::buffer::{ShapeError, hb_buffer_t, hb_glyph_info_t};
+use shape_buffer::interfaces::{hb_font_t, hb_ot_layout_t, hb_unicode_funcs_t};
+use shape_plan::ot_shape_plan::hb_ot_shape_plan_t;
+use shape_plan::ot_shaper::{Runs, hb_ot_shaper_t};
+use std::alloc::Global;
+
+/// Normalises two buffers and says whether they have the same characters then.
+///
+/// In the two modes that decompose fully, this tells whether two prepared texts are canonically equivalent
+/// (UAX 15): where the shaper's hooks are lawful and don't reorder, there is no variation selector, the face
+/// has a glyph for each character of the full decompositions, no run of marks in these is longer than 32,
+/// and each text has a mark past its first character.
+///
+/// Refuses as [`_hb_ot_shape_normalize`] does for one of the buffers; both are cleared then.
+pub fn normalized_equal<U, F, M, S>(
+    alloc: Global,
+    plan: &hb_ot_shape_plan_t<'_, S, M::Map, S::Data>,
+    face: &F,
+    a: &mut hb_buffer_t,
+    b: &mut hb_buffer_t,
+) -> Result<bool, ShapeError>
+where
+    U: hb_unicode_funcs_t,
+    F: hb_font_t,
+    M: hb_ot_layout_t<F>,
+    S: hb_ot_shaper_t<U, F, M>,
+    ensures first { OnOk result (a.new ≡ normalized (⟦<S as Runs<U, F, M>>⟧.rules plan.now face.now) a.old) }
+    ensures second { OnOk result (b.new ≡ normalized (⟦<S as Runs<U, F, M>>⟧.rules plan.now face.now) b.old) }
+    ensures equal { IfOk result (λ equal. IsTrue equal ↔ (text_of a.new ≡ text_of b.new)) }
+    ensures equivalent { IfOk result (λ equal. CanonicalFormPremises (⟦<S as Runs<U, F, M>>⟧.rules plan.now face.now) a.old
+        → CanonicalFormPremises (⟦<S as Runs<U, F, M>>⟧.rules plan.now face.now) b.old
+        → IsTrue equal ↔ AreEquivalent (⟦<S as Runs<U, F, M>>⟧.rules plan.now face.now) (text_of a.old) (text_of b.old)) }
+    ensures length { result ≡ Err ShapeError.Length → (limit_of a.old < length (round_one
+        (⟦<S as Runs<U, F, M>>⟧.rules plan.now face.now) a.old).items) ⊎ (limit_of b.old < length (round_one
+        (⟦<S as Runs<U, F, M>>⟧.rules plan.now face.now) b.old).items) }
+    ensures within_first { OnOk result (length a.new.items ≤ limit_of a.old) }
+    ensures within_second { OnOk result (length b.new.items ≤ limit_of b.old) }
+    ensures counted_first { OnOk result (length (round_one
+        (⟦<S as Runs<U, F, M>>⟧.rules plan.now face.now) a.old).items ≤ limit_of a.old) }
+    ensures counted_second { OnOk result (length (round_one
+        (⟦<S as Runs<U, F, M>>⟧.rules plan.now face.now) b.old).items ≤ limit_of b.old) }
+    ensures settings_first { cleared a.new ≡ cleared a.old }
+    ensures settings_second { cleared b.new ≡ cleared b.old }
+    ensures cleared_first { OnErr result (a.new ≡ cleared a.old) }
+    ensures cleared_second { OnErr result (b.new ≡ cleared b.old) }
+{
+    let outcome = normalize_both::<U, F, M, S>(alloc, plan, face, a, b);
+    if outcome.is_err() {
+        a.reset();
+        b.reset();
+    }
+    outcome?;
+    Ok(have_same_characters(a.infos(), b.infos()))
+}
+
+/// Normalises the first buffer, then the second.
+fn normalize_both<U, F, M, S>(
+    alloc: Global,
+    plan: &hb_ot_shape_plan_t<'_, S, M::Map, S::Data>,
+    face: &F,
+    a: &mut hb_buffer_t,
+    b: &mut hb_buffer_t,
+) -> Result<(), ShapeError>
+where
+    U: hb_unicode_funcs_t,
+    F: hb_font_t,
+    M: hb_ot_layout_t<F>,
+    S: hb_ot_shaper_t<U, F, M>,
+    ensures first { OnOk result (a.new ≡ normalized (⟦<S as Runs<U, F, M>>⟧.rules plan.now face.now) a.old) }
+    ensures second { OnOk result (b.new ≡ normalized (⟦<S as Runs<U, F, M>>⟧.rules plan.now face.now) b.old) }
+    ensures length { result ≡ Err ShapeError.Length → (limit_of a.old < length (round_one
+        (⟦<S as Runs<U, F, M>>⟧.rules plan.now face.now) a.old).items) ⊎ (limit_of b.old < length (round_one
+        (⟦<S as Runs<U, F, M>>⟧.rules plan.now face.now) b.old).items) }
+    ensures within_first { OnOk result (length a.new.items ≤ limit_of a.old) }
+    ensures within_second { OnOk result (length b.new.items ≤ limit_of b.old) }
+    ensures counted_first { OnOk result (length (round_one
+        (⟦<S as Runs<U, F, M>>⟧.rules plan.now face.now) a.old).items ≤ limit_of a.old) }
+    ensures counted_second { OnOk result (length (round_one
+        (⟦<S as Runs<U, F, M>>⟧.rules plan.now face.now) b.old).items ≤ limit_of b.old) }
+    ensures settings_first { cleared a.new ≡ cleared a.old }
+    ensures settings_second { cleared b.new ≡ cleared b.old }
+{
+    _hb_ot_shape_normalize::<U, F, M, S>(alloc, plan, a, face)?;
+    _hb_ot_shape_normalize::<U, F, M, S>(alloc, plan, b, face)
+}
+
+/// Whether two lists have the same characters.
+fn have_same_characters(a: &[hb_glyph_info_t], b: &[hb_glyph_info_t]) -> bool
+    ensures { IsTrue result ↔ (map char_of a.now ≡ map char_of b.now) }
+{
+    a.len() == b.len() && begin_alike(a, b)
+}
+
+/// Whether two lists have the same characters as far as both go.
+fn begin_alike(a: &[hb_glyph_info_t], b: &[hb_glyph_info_t]) -> bool
+    ensures { result ≡ list_all (λ pair. pair.0.codepoint == pair.1.codepoint) (zip a.now b.now) }
+{
+    a.iter()
+        .zip(b.iter())
+        .all(|(x, y)| x.codepoint == y.codepoint)
+}

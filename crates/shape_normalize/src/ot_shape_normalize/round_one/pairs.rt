@@ -1,0 +1,80 @@
+//! Items that become one with the variation selector behind them: their clusters are merged first.
+ghost use Rattle.std.specs.Prelude.{◌≡◌, ◌+◌, ◌<◌, ◌^◌, ◌++◌, length, IfOk, OnOk, OnErr};
+ghost use Rattle.shape_normalize.specs.RoundOne.{merged_at, pair_glyph as pair_glyph_of, pair_places, pairs_from, sequences, variants};
+
+use crate::ot_shape_normalize::round_one::sequences::{
+    first_sequence, first_variant, is_selector_sequence,
+};
+use shape_buffer::buffer::{GlyphId, hb_buffer_t, hb_glyph_info_t};
+use shape_buffer::interfaces::{hb_font_t, hb_unicode_funcs_t};
+use std::alloc::{AllocError, Global};
+
+/// The glyph of the first two of these items, where the face has one for the two.
+fn pair_glyph<F: hb_font_t>(face: &F, part: &[hb_glyph_info_t]) -> Option<GlyphId>
+    ensures { result ≡ pair_glyph_of (F.face face.now) part.now }
+{
+    let (info, behind) = part.split_first()?;
+    let (selector, _) = behind.split_first()?;
+    face.glyph_variation_index(info.codepoint, selector.codepoint)
+}
+
+/// Adds the places of the items of a sequence that become one with the selector behind them.
+fn push_pairs<U: hb_unicode_funcs_t, F: hb_font_t>(
+    face: &F,
+    start: usize,
+    sequence: &[hb_glyph_info_t],
+    places: &mut Vec<usize>,
+) -> Result<(), AllocError>
+    requires { start + length sequence.now < 2 ^ 64 }
+    ensures { OnOk result (places.new.items ≡ places.old.items
+        ++ pair_places (F.face face.now) start (variants U.unicode sequence.now)) }
+{
+    let mut place = start;
+    let mut rest = sequence;
+    'parts: while let Some((part, behind)) = first_variant::<U>(rest) {
+        if pair_glyph(face, part).is_some() {
+            places.push(place)?;
+        }
+        place += part.len();
+        rest = behind;
+    }
+    Ok(())
+}
+
+/// The places of all items that become one with the selector behind them. Takes no memory where there are
+/// none.
+fn pairs<U: hb_unicode_funcs_t, F: hb_font_t>(
+    alloc: Global,
+    face: &F,
+    infos: &[hb_glyph_info_t],
+) -> Result<Vec<usize>, AllocError>
+    ensures { IfOk result (λ places. places.items ≡ pairs_from U.unicode (F.face face.now) 0 (sequences infos.now)) }
+{
+    let mut places = Vec::new(alloc);
+    let mut place = 0;
+    let mut rest = infos;
+    'sequences: while let Some((sequence, behind)) = first_sequence(rest) {
+        if is_selector_sequence::<U>(sequence) {
+            push_pairs::<U, F>(face, place, sequence, &mut places)?;
+        }
+        place += sequence.len();
+        rest = behind;
+    }
+    Ok(places)
+}
+
+/// Merges the clusters of each item that becomes one with the selector behind it, and of that selector.
+pub(super) fn merge_pairs<U: hb_unicode_funcs_t, F: hb_font_t>(
+    alloc: Global,
+    face: &F,
+    buffer: &mut hb_buffer_t,
+) -> Result<(), AllocError>
+    ensures merged { OnOk result (buffer.new ≡ merged_at buffer.old (pairs_from U.unicode (F.face face.now) 0 (sequences buffer.old.items))) }
+    ensures unchanged { OnErr result (buffer.new ≡ buffer.old) }
+{
+    let places = pairs::<U, F>(alloc, face, buffer.infos())?;
+    'merges: for place in &places {
+        buffer.merge_clusters(*place, *place + 2);
+    }
+    Ok(())
+}

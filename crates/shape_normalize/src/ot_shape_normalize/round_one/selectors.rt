@@ -1,0 +1,155 @@
+//! Sequences that hold a variation selector: an item and its selector become one item where the face has a
+//! glyph for the two; all other items pass.
+ghost use Rattle.std.specs.Prelude.{◌≡◌, ◌<◌, ◌≤◌, ◌∷◌, ◌++◌, length, map, fold, vec_len, OnOk, Err};
+ghost use Rattle.std.specs.List.{flat_map};
+ghost use Rattle.shape_buffer.specs.Buffer.{limit_of};
+ghost use Rattle.shape_normalize.specs.RoundOne.{marked_selector, passed_item, seen_variant, variant_items, variants, with_selector_fallback};
+
+use crate::ot_shape_normalize::round_one::expanded::Expanded;
+use crate::ot_shape_normalize::round_one::sequences::first_variant;
+use bitflags::Flags;
+use shape_buffer::buffer::{GlyphId, ScratchFlags, ShapeError, hb_buffer_t, hb_glyph_info_t};
+use shape_buffer::interfaces::{hb_font_t, hb_unicode_funcs_t};
+use std::alloc::AllocError;
+
+/// The item with the glyph of its character, or as it is where it has none.
+fn passed<F: hb_font_t>(face: &F, info: &hb_glyph_info_t) -> hb_glyph_info_t
+    ensures { result ≡ passed_item (F.face face.now).nominal_glyph info.now }
+{
+    let mut passed = *info;
+    if let Some(GlyphId(glyph)) = face.get_nominal_glyph(info.codepoint) {
+        passed.glyph_index = glyph;
+    }
+    passed
+}
+
+/// Adds items that pass.
+fn push_passed<F: hb_font_t>(
+    out: &mut Vec<hb_glyph_info_t>,
+    face: &F,
+    infos: &[hb_glyph_info_t],
+) -> Result<(), AllocError>
+    ensures { OnOk result (out.new.items ≡ out.old.items ++ map (passed_item (F.face face.now).nominal_glyph) infos.now) }
+{
+    for info in infos {
+        out.push(passed(face, info))?;
+    }
+    Ok(())
+}
+
+/// Marks a selector that no glyph came of; where there is a glyph for such it is to be seen.
+fn mark_selector(info: &mut hb_glyph_info_t, not_found: Option<GlyphId>)
+    ensures { info.new ≡ marked_selector not_found info.old }
+{
+    info._hb_glyph_info_set_selector_mark(true);
+    if not_found.is_some() {
+        info._hb_glyph_info_set_ignorable(false);
+    }
+}
+
+impl Expanded {
+    /// Puts out an item that became one with its selector, and those behind them.
+    fn put_pair<F: hb_font_t>(
+        &mut self,
+        face: &F,
+        info: &hb_glyph_info_t,
+        glyph: GlyphId,
+        rest: &[hb_glyph_info_t],
+    ) -> Result<(), AllocError>
+        ensures infos { OnOk result (self.new.infos.items ≡ self.old.infos.items
+            ++ record info.now { glyph_index = glyph.0 } ∷ map (passed_item (F.face face.now).nominal_glyph) rest.now) }
+        ensures flags { self.new.scratch_flags ≡ self.old.scratch_flags }
+    {
+        let mut pair = *info;
+        pair.glyph_index = glyph.0;
+        self.infos.push(pair)?;
+        push_passed(&mut self.infos, face, rest)?;
+        Ok(())
+    }
+
+    /// Puts out an item, its selector that no glyph came of, and those behind them.
+    fn put_apart<F: hb_font_t>(
+        &mut self,
+        face: &F,
+        info: &hb_glyph_info_t,
+        selector: &hb_glyph_info_t,
+        rest: &[hb_glyph_info_t],
+        not_found: Option<GlyphId>,
+    ) -> Result<(), AllocError>
+        ensures infos { OnOk result (self.new.infos.items ≡ self.old.infos.items
+            ++ passed_item (F.face face.now).nominal_glyph info.now
+            ∷ marked_selector not_found (passed_item (F.face face.now).nominal_glyph selector.now)
+            ∷ map (passed_item (F.face face.now).nominal_glyph) rest.now) }
+        ensures flags { self.new.scratch_flags ≡ with_selector_fallback self.old.scratch_flags }
+    {
+        self.scratch_flags
+            .insert(ScratchFlags::HAS_VARIATION_SELECTOR_FALLBACK);
+        let mut marked = passed(face, selector);
+        mark_selector(&mut marked, not_found);
+        self.infos.push(passed(face, info))?;
+        self.infos.push(marked)?;
+        push_passed(&mut self.infos, face, rest)?;
+        Ok(())
+    }
+
+    /// Puts out what an item and the selectors directly after it become. Refuses with `Length` where that
+    /// passes the limit.
+    fn put_variant<F: hb_font_t>(
+        &mut self,
+        face: &F,
+        part: &[hb_glyph_info_t],
+        not_found: Option<GlyphId>,
+        limit: usize,
+    ) -> Result<(), ShapeError>
+        requires { vec_len self.old.infos ≤ limit }
+        ensures infos { OnOk result (self.new.infos.items ≡ self.old.infos.items ++ variant_items (F.face face.now) not_found part.now) }
+        ensures flags { OnOk result (self.new.scratch_flags ≡ seen_variant (F.face face.now) self.old.scratch_flags part.now) }
+        ensures within { OnOk result (vec_len self.new.infos ≤ limit) }
+        ensures length { result ≡ Err ShapeError.Length → limit < length (self.old.infos.items ++ variant_items (F.face face.now) not_found part.now) }
+    {
+        let room = limit - self.infos.len();
+        let [info, selector, rest @ ..] = part else {
+            if room < part.len() {
+                return Err(ShapeError::Length);
+            }
+            push_passed(&mut self.infos, face, part)?;
+            return Ok(());
+        };
+        let pair = face.glyph_variation_index(info.codepoint, selector.codepoint);
+        if room < part.len() - usize::from(pair.is_some()) {
+            return Err(ShapeError::Length);
+        }
+        match pair {
+            Some(glyph) => self.put_pair(face, info, glyph, rest)?,
+            None => self.put_apart(face, info, selector, rest, not_found)?,
+        }
+        Ok(())
+    }
+
+    /// Puts out what a sequence that holds a variation selector becomes. Refuses with `Length` where that
+    /// passes the buffer's limit.
+    pub(super) fn put_variants<U: hb_unicode_funcs_t, F: hb_font_t>(
+        &mut self,
+        face: &F,
+        buffer: &hb_buffer_t,
+        sequence: &[hb_glyph_info_t],
+    ) -> Result<(), ShapeError>
+        requires { vec_len self.old.infos ≤ limit_of buffer.now }
+        ensures infos { OnOk result (self.new.infos.items ≡ self.old.infos.items
+            ++ flat_map (variant_items (F.face face.now) buffer.now.not_found_variation_selector_glyph) (variants U.unicode sequence.now)) }
+        ensures flags { OnOk result (self.new.scratch_flags
+            ≡ fold (seen_variant (F.face face.now)) self.old.scratch_flags (variants U.unicode sequence.now)) }
+        ensures within { OnOk result (vec_len self.new.infos ≤ limit_of buffer.now) }
+        ensures length { result ≡ Err ShapeError.Length → limit_of buffer.now < length (self.old.infos.items
+            ++ flat_map (variant_items (F.face face.now) buffer.now.not_found_variation_selector_glyph) (variants U.unicode sequence.now)) }
+    {
+        let not_found = buffer.not_found_variation_selector_glyph();
+        let limit = buffer.length_limit();
+        let mut rest = sequence;
+        'parts: while let Some((part, behind)) = first_variant::<U>(rest) {
+            self.put_variant(face, part, not_found, limit)?;
+            rest = behind;
+        }
+        Ok(())
+    }
+}

@@ -1,0 +1,76 @@
+//! Combining sequences: an item with the marks directly after it (The Unicode Standard, D56).
+ghost use Rattle.std.specs.Prelude.{◌≡◌, ◌≤◌, [], length, MatchOption};
+ghost use Rattle.std.specs.List.{list_any, prefix_len};
+ghost use Rattle.canonical_form.specs.Divided.{IsFirstPart};
+ghost use Rattle.shape_buffer.specs.Items.{is_mark_item};
+ghost use Rattle.shape_normalize.specs.RoundOne.{is_selector_sequence as is_selector_sequence_of, is_selector_item, is_with_marks as is_with_marks_of};
+
+use shape_buffer::buffer::hb_glyph_info_t;
+use shape_buffer::interfaces::hb_unicode_funcs_t;
+
+/// How many marks stand at the beginning.
+fn count_marks(infos: &[hb_glyph_info_t]) -> usize
+    ensures value { result ≡ prefix_len is_mark_item infos.now }
+    ensures within { result ≤ length infos.now }
+{
+    infos
+        .iter()
+        .take_while(|info| info._hb_glyph_info_is_unicode_mark())
+        .count()
+}
+
+/// How many variation selectors stand at the beginning.
+fn count_selectors<U: hb_unicode_funcs_t>(infos: &[hb_glyph_info_t]) -> usize
+    ensures value { result ≡ prefix_len (is_selector_item U.unicode) infos.now }
+    ensures within { result ≤ length infos.now }
+{
+    infos
+        .iter()
+        .take_while(|info| U::is_variation_selector(info.codepoint))
+        .count()
+}
+
+/// The first sequence, and the items behind it; nothing where there is no item. The first item may be a mark
+/// itself.
+pub(super) fn first_sequence(
+    infos: &[hb_glyph_info_t],
+) -> Option<(&[hb_glyph_info_t], &[hb_glyph_info_t])>
+    ensures { MatchOption result (infos.now ≡ []) (λ p. IsFirstPart is_mark_item infos.now p.0.now p.1.now) }
+{
+    let (_, behind) = infos.split_first()?;
+    Some(infos.split_at(1 + count_marks(behind)))
+}
+
+/// The first item with the variation selectors directly after it, and the items behind them; nothing where
+/// there is no item. The first item may be a selector itself.
+pub(super) fn first_variant<U: hb_unicode_funcs_t>(
+    infos: &[hb_glyph_info_t],
+) -> Option<(&[hb_glyph_info_t], &[hb_glyph_info_t])>
+    ensures { MatchOption result (infos.now ≡ []) (λ p. IsFirstPart (is_selector_item U.unicode) infos.now p.0.now p.1.now) }
+{
+    let (_, behind) = infos.split_first()?;
+    Some(infos.split_at(1 + count_selectors::<U>(behind)))
+}
+
+/// Whether an item of a sequence stands with marks.
+pub(super) fn is_with_marks(sequence: &[hb_glyph_info_t]) -> bool
+    ensures { result ≡ is_with_marks_of sequence.now }
+{
+    sequence.len() > 1
+}
+
+/// Whether one of these items is a variation selector.
+fn holds_selector<U: hb_unicode_funcs_t>(infos: &[hb_glyph_info_t]) -> bool
+    ensures { result ≡ list_any (is_selector_item U.unicode) infos.now }
+{
+    infos
+        .iter()
+        .any(|info| U::is_variation_selector(info.codepoint))
+}
+
+/// Whether a sequence isn't expanded: it has marks and holds a variation selector.
+pub(super) fn is_selector_sequence<U: hb_unicode_funcs_t>(sequence: &[hb_glyph_info_t]) -> bool
+    ensures { result ≡ is_selector_sequence_of U.unicode sequence.now }
+{
+    is_with_marks(sequence) && holds_selector::<U>(sequence)
+}

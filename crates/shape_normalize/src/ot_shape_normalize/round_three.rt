@@ -1,0 +1,260 @@
+//! Round three: marks are composed with their starters again.
+//!
+//! A face may have one glyph for what was split into a starter and its marks, so each mark that nothing
+//! keeps from its starter makes one character with it, where there is one with a glyph (The Unicode
+//! Standard, D115 to D117). The walk puts out items and remembers what was composed; the clusters of each
+//! starter and the marks that went into it are merged afterwards, as they stand in the list.
+ghost use Rattle.std.specs.Prelude.{◌≡◌, ◌≤◌, map, length, All, IfOk, IsOkUnless, OnOk};
+ghost use Rattle.shape_buffer.specs.Buffer.{cleared, limit_of};
+ghost use Rattle.canonical_form.specs.Recompose.{is_blocked_by_last, join_with_glyph};
+ghost use Rattle.shape_buffer.specs.UnicodeProps.{with_scratch_of};
+ghost use Rattle.shape_plan.specs.Plan.{hooks_of};
+ghost use Rattle.shape_normalize.specs.RoundOne.{part_item, seen_chars};
+ghost use Rattle.shape_normalize.specs.RoundThree.{recomposed_items, chained_spans, composed_chars, spans_merged_out, placed_info, class_of_placed_info, composed_char, settled_info, round_three};
+ghost use Rattle.shape_plan.specs.Rules.{used_join, has_glyph, rules_of};
+
+use crate::ot_shape_normalize::round_one::part_of;
+use shape_buffer::buffer::{ScratchFlags, ShapeError, hb_buffer_t, hb_glyph_info_t};
+use shape_buffer::interfaces::{hb_font_t, hb_ot_layout_t, hb_unicode_funcs_t};
+use shape_plan::ot_shape_plan::hb_ot_shape_plan_t;
+use shape_plan::ot_shaper::{Runs, hb_ot_shaper_t};
+use std::alloc::{AllocError, Global};
+
+/// An item that was put out, and the place where it stood.
+#[derive(Clone, Copy)]
+struct PlacedInfo {
+    info: hb_glyph_info_t,
+    place: usize,
+}
+
+/// What the walk leaves: the items that were put out, the spans of what was composed, and the scratch flags
+/// that the composed characters show.
+///
+/// A span goes from a starter to the first mark that was composed with it, or from each such mark to the
+/// next: merged in order they do what spans that all begin at the starter do, and their lengths stay linear
+/// where a starter takes many marks.
+#[derive(Drop)]
+struct Recomposed {
+    out: Vec<PlacedInfo>,
+    spans: Vec<(usize, usize)>,
+    scratch_flags: ScratchFlags,
+}
+
+/// The join of two characters: the hook's where it is given and the plan keeps the shaper, else Unicode's.
+fn join_of<U, F, M, S>(
+    plan: &hb_ot_shape_plan_t<'_, S, M::Map, S::Data>,
+    face: &F,
+    a: char,
+    b: char,
+) -> Option<char>
+where
+    U: hb_unicode_funcs_t,
+    F: hb_font_t,
+    M: hb_ot_layout_t<F>,
+    S: hb_ot_shaper_t<U, F, M>,
+    ensures { result ≡ (⟦<S as Runs<U, F, M>>⟧.rules plan.now face.now).join a b }
+{
+    match plan.shaper() {
+        Some(shaper) if S::HAS_COMPOSE => shaper.compose(plan, face, a, b),
+        _ => U::compose(a, b),
+    }
+}
+
+/// The join of two characters, where the face has a glyph for it.
+fn join_with_glyph_of<U, F, M, S>(
+    plan: &hb_ot_shape_plan_t<'_, S, M::Map, S::Data>,
+    face: &F,
+    a: char,
+    b: char,
+) -> Option<char>
+where
+    U: hb_unicode_funcs_t,
+    F: hb_font_t,
+    M: hb_ot_layout_t<F>,
+    S: hb_ot_shaper_t<U, F, M>,
+    ensures { result ≡ join_with_glyph
+        (⟦<S as Runs<U, F, M>>⟧.rules plan.now face.now).join
+        (has_glyph (F.face face.now).nominal_glyph) a b }
+{
+    let c = join_of::<U, F, M, S>(plan, face, a, b)?;
+    if face.has_glyph(c) { Some(c) } else { None }
+}
+
+/// Whether the last of these marks keeps an item behind them from their starter.
+fn is_blocked(marks: &[PlacedInfo], next: &PlacedInfo) -> bool
+    ensures { result ≡ is_blocked_by_last class_of_placed_info marks.now next.now }
+{
+    match marks.last() {
+        Some(last) => {
+            next.info._hb_glyph_info_get_modified_class()
+                <= last.info._hb_glyph_info_get_modified_class()
+        }
+        None => false,
+    }
+}
+
+/// The character that a starter makes with an item behind it and these marks, where the two compose.
+fn composed_of<U, F, M, S>(
+    plan: &hb_ot_shape_plan_t<'_, S, M::Map, S::Data>,
+    face: &F,
+    starter: &PlacedInfo,
+    marks: &[PlacedInfo],
+    next: &PlacedInfo,
+) -> Option<char>
+where
+    U: hb_unicode_funcs_t,
+    F: hb_font_t,
+    M: hb_ot_layout_t<F>,
+    S: hb_ot_shaper_t<U, F, M>,
+    ensures { result ≡ composed_char (⟦<S as Runs<U, F, M>>⟧.rules plan.now face.now)
+        starter.now marks.now next.now }
+{
+    if next.info._hb_glyph_info_is_unicode_mark() && !is_blocked(marks, next) {
+        join_with_glyph_of::<U, F, M, S>(plan, face, starter.info.codepoint, next.info.codepoint)
+    } else {
+        None
+    }
+}
+
+impl PlacedInfo {
+    /// The item with another character in its place.
+    fn with_char<U: hb_unicode_funcs_t, F: hb_font_t>(
+        &self,
+        face: &F,
+        c: char,
+        scratch_flags: &mut ScratchFlags,
+    ) -> Self
+        ensures item { result ≡ record self.now { info = part_item U.unicode (F.face face.now).nominal_glyph self.now.info c } }
+        ensures flags { scratch_flags.new ≡ with_scratch_of U.unicode c scratch_flags.old }
+    {
+        PlacedInfo {
+            info: part_of::<U, F>(face, &self.info, c, scratch_flags),
+            place: self.place,
+        }
+    }
+
+    /// The item with the cluster and the mask that stand at its place.
+    fn settled(&self, infos: &[hb_glyph_info_t]) -> hb_glyph_info_t
+        ensures { result ≡ settled_info infos.now self.now }
+    {
+        let mut info = self.info;
+        if let Some(at) = infos.get(self.place) {
+            info.cluster = at.cluster;
+            info.mask = at.mask;
+        }
+        info
+    }
+}
+
+/// Walks over the items: each mark that composes goes into its starter, and all else is put out.
+fn recompose_all<U, F, M, S>(
+    alloc: Global,
+    plan: &hb_ot_shape_plan_t<'_, S, M::Map, S::Data>,
+    face: &F,
+    infos: &[hb_glyph_info_t],
+    scratch_flags: ScratchFlags,
+) -> Result<Recomposed, AllocError>
+where
+    U: hb_unicode_funcs_t,
+    F: hb_font_t,
+    M: hb_ot_layout_t<F>,
+    S: hb_ot_shaper_t<U, F, M>,
+    ensures out { IfOk result (λ r. r.out.items ≡ map placed_info (recomposed_items
+        (⟦<S as Runs<U, F, M>>⟧.rules plan.now face.now) infos.now)) }
+    ensures spans { IfOk result (λ r. r.spans.items ≡ chained_spans (recomposed_items
+        (⟦<S as Runs<U, F, M>>⟧.rules plan.now face.now) infos.now)) }
+    ensures flags { IfOk result (λ r. r.scratch_flags ≡ seen_chars U.unicode scratch_flags (composed_chars (recomposed_items
+        (⟦<S as Runs<U, F, M>>⟧.rules plan.now face.now) infos.now))) }
+{
+    let mut walk = Recomposed {
+        out: Vec::new(alloc),
+        spans: Vec::new(alloc),
+        scratch_flags,
+    };
+    let Some(first) = infos.first() else {
+        return Ok(walk);
+    };
+    walk.out.push(PlacedInfo {
+        info: *first,
+        place: 0,
+    })?;
+    let mut starter = 0;
+    let mut from = 0;
+    for place in 1..infos.len() {
+        let next = PlacedInfo {
+            info: infos[place],
+            place,
+        };
+        let at = walk.out[starter];
+        let marks = &walk.out[starter + 1..];
+        if let Some(c) = composed_of::<U, F, M, S>(plan, face, &at, marks, &next) {
+            walk.spans.push((from, place + 1))?;
+            walk.out[starter] = at.with_char::<U, F>(face, c, &mut walk.scratch_flags);
+            from = place;
+            continue;
+        }
+        if next.info._hb_glyph_info_get_modified_class() == 0 {
+            starter = walk.out.len();
+            from = place;
+        }
+        walk.out.push(next)?;
+    }
+    Ok(walk)
+}
+
+/// Merges the clusters of each span, in order.
+fn merge_spans_out(buffer: &mut hb_buffer_t, spans: &[(usize, usize)])
+    requires { All (λ span. (span.0 ≤ span.1) × (span.1 ≤ length buffer.old.items)) spans.now }
+    ensures { buffer.new ≡ spans_merged_out spans.now buffer.old }
+{
+    for (start, end) in spans {
+        buffer.merge_out_clusters(*start, *end);
+    }
+}
+
+/// The items that were put out, each with the cluster and the mask that stand at its place.
+fn settle_all(
+    alloc: Global,
+    out: &[PlacedInfo],
+    infos: &[hb_glyph_info_t],
+) -> Result<Vec<hb_glyph_info_t>, AllocError>
+    ensures { IfOk result (λ settled. settled.items ≡ map (settled_info infos.now) out.now) }
+{
+    let mut settled = Vec::new(alloc);
+    for placed in out {
+        settled.push(placed.settled(infos))?;
+    }
+    Ok(settled)
+}
+
+/// Composes marks with their starters. Refuses with `Memory` where a growth was refused; the settings that
+/// clearing keeps are then as they were.
+pub(crate) fn recompose<U, F, M, S>(
+    alloc: Global,
+    plan: &hb_ot_shape_plan_t<'_, S, M::Map, S::Data>,
+    buffer: &mut hb_buffer_t,
+    face: &F,
+) -> Result<(), ShapeError>
+where
+    U: hb_unicode_funcs_t,
+    F: hb_font_t,
+    M: hb_ot_layout_t<F>,
+    S: hb_ot_shaper_t<U, F, M>,
+    requires { length buffer.old.items ≤ limit_of buffer.old }
+    ensures ok { OnOk result (buffer.new ≡ round_three (⟦<S as Runs<U, F, M>>⟧.rules plan.now face.now) buffer.old) }
+    ensures memory { IsOkUnless result ShapeError.Memory }
+    ensures settings { cleared buffer.new ≡ cleared buffer.old }
+{
+    let recomposed = recompose_all::<U, F, M, S>(
+        alloc,
+        plan,
+        face,
+        buffer.infos(),
+        buffer.scratch_flags(),
+    )?;
+    merge_spans_out(buffer, &recomposed.spans);
+    let infos = settle_all(alloc, &recomposed.out, buffer.infos())?;
+    buffer.replace_infos(infos)?;
+    buffer.set_scratch_flags(recomposed.scratch_flags);
+    Ok(())
+}

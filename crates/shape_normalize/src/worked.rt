@@ -1,0 +1,19 @@
+//! The definitions of normalising, computed on small cases whose answers are worked out by hand.
+ghost use Rattle.shape_normalize.specs.WorkedOne.{RoundOneWorked};
+ghost use Rattle.shape_normalize.specs.WorkedThree.{RoundThreeWorked};
+ghost use Rattle.shape_normalize.specs.WorkedTwo.{RoundTwoWorked};
+
+/// Modes, glyphs that stand in for others, expansions, sequences and variation selectors.
+pub fn round_one_meets_worked_cases()
+    ensures { RoundOneWorked }
+{}
+
+/// Runs of marks and their spans, the shaper's hook, and joiners.
+pub fn round_two_meets_worked_cases()
+    ensures { RoundTwoWorked }
+{}
+
+/// What composes, what the composed item has, and what is merged.
+pub fn round_three_meets_worked_cases()
+    ensures { RoundThreeWorked }
+{}

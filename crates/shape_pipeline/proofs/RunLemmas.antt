@@ -1,0 +1,136 @@
+-- What is known of a run from its outcome, and normalising as a step.
+use Rattle.std.proofs.Common.{◌≡◌, ◌≢◌, ◌<◌, ◌≤◌, ◌&&◌, ℕ, Bool, true, false, List, [], ◌∷◌, length, inl, refl, ap, sym, subst, ◌∙◌, arith, if◌then◌else◌, Result, Ok, Err}
+use Rattle.std.specs.Prelude.{OnOk, IfOk}
+use Rattle.shape_buffer.specs.Buffer.{Buffer, limit_of, run_limit}
+use Rattle.shape_buffer.specs.Items.{Item}
+use Rattle.shape_buffer.specs.declared.buffer.settings.Direction.{Direction}
+use Rattle.shape_buffer.specs.Outcome.{Step, Ran, Refused, for_length, for_memory, RunOutcome, SomePast, EachWithin, run_steps}
+use Rattle.shape_buffer.specs.declared.buffer.error.ShapeError.{ShapeError}
+use Rattle.shape_buffer.specs.declared.buffer.error.ShapeError.TheVariants.{Memory, Length}
+use Rattle.shape_normalize.specs.Normalized.{normalized, ordered}
+use Rattle.shape_normalize.specs.RoundOne.{round_one}
+use Rattle.shape_normalize.specs.RoundThree.{round_three, joined_spans, recomposed_items}
+use Rattle.shape_normalize.specs.RoundTwo.{has_mark_past_first}
+use Rattle.shape_normalize.proofs.ReorderLemmas.{LawfulReorder}
+use Rattle.shape_normalize.proofs.RoundThreeLemmas.{limit-spans_merged_out}
+use Rattle.shape_normalize.proofs.SettingLemmas.{limit_of-ordered}
+use Rattle.shape_plan.specs.Rules.{Rules}
+use Rattle.shape_buffer.specs.Unicode.{LawfulUnicode}
+use Rattle.shape_normalize.proofs.CanonicalFormLemmas.{NormalizesCanonically-normalized}
+use Rattle.shape_normalize.proofs.ClusterOrderLemmas.{normalized_keeps}
+use Rattle.shape_normalize.proofs.FeatureLemmas.{normalized_keeps_features}
+use Rattle.shape_normalize.proofs.ItemGlyphLemmas.{normalized_has_glyphs}
+use Rattle.shape_normalize.proofs.NormalizedLemmas.{normalized_brings_in}
+use Rattle.shape_pipeline.specs.Headline.{NormalForm}
+use Rattle.shape_plan.specs.Run.{Run}
+use Rattle.shape_prepare.specs.PrepareSteps.{prepare_steps}
+use Rattle.shape_pipeline.specs.Shaped.{normalising, entered, finished, prepared, all_steps, text_made, run_made, Prepares, Shapes}
+
+-- a run that is refused for its length has a step that would pass the limit
+pub refused-length : {steps : List Step} {b : Buffer} {error : ShapeError} → Refused steps b error → error ≡ Length → SomePast steps b
+refused-length (for_length past) is = past
+refused-length for_memory is = absurd (let e : Memory ≡ Length = is in cc)
+
+pub outcome-length : {T : Type 0} (steps : List Step) (old new : Buffer) (result : Result T ShapeError) → RunOutcome steps old new result → result ≡ Err Length → SomePast steps old
+outcome-length steps old new (Ok value) ran is = absurd (let e : Ok value ≡ Err Length = is in cc)
+outcome-length steps old new (Err error) refused is = refused-length refused (let e : error ≡ Length = cc in e)
+
+-- one that isn't refused has made its steps
+pub outcome-ran : {T : Type 0} (steps : List Step) (old new : Buffer) (result : Result T ShapeError) → RunOutcome steps old new result → OnOk result (Ran steps old new)
+outcome-ran steps old new (Ok value) ran = ran
+outcome-ran steps old new (Err error) refused = tt
+
+limit-normalized : (rules : Rules) (lawful : LawfulReorder rules.reorder) (b : Buffer) → limit_of (normalized rules b) ≡ limit_of b
+limit-normalized rules lawful b = by_test (has_mark_past_first b.items && rules.recomposes)
+  where
+    by_test : (test : Bool) → limit_of (if test then round_three rules (ordered rules b) else ordered rules b) ≡ limit_of b
+    by_test true = limit-spans_merged_out (joined_spans (recomposed_items rules (ordered rules b).items)) (ordered rules b) ∙ limit_of-ordered rules lawful b
+    by_test false = limit_of-ordered rules lawful b
+
+-- what normalising promises makes it a step of a run
+pub outcome-normalised : {T : Type 0} (rules : Rules) → LawfulReorder rules.reorder → (old new : Buffer) (result : Result T ShapeError)
+    → OnOk result (new ≡ normalized rules old) → OnOk result (length (round_one rules old).items ≤ limit_of old) → OnOk result (length new.items ≤ limit_of old)
+    → (result ≡ Err Length → limit_of old < length (round_one rules old).items)
+    → RunOutcome (normalising rules ∷ []) old new result
+outcome-normalised rules lawful old new (Ok value) made counted within past =
+    let same : limit_of new ≡ limit_of old = ap limit_of made ∙ limit-normalized rules lawful old in
+    record { made = made; each_within = (counted, tt); within = subst (λ n. length new.items ≤ n) (sym same) within; same_limit = same }
+outcome-normalised rules lawful old new (Err Memory) made counted within past = for_memory
+outcome-normalised rules lawful old new (Err Length) made counted within past = for_length (inl (past refl))
+
+-- ---- what is made of a text, by whether it has items
+
+text_from : (run : Run) (target : Direction) (b : Buffer) (items : List Item) → items ≢ [] → prepared run target (entered b) ≡ (elim items [ [] ↦ b | _ ∷ _ ↦ prepared run target (entered b) ])
+text_from run target b [] some = absurd (some refl)
+text_from run target b (x ∷ xs) some = refl
+
+run_from : (run : Run) (target : Direction) (b : Buffer) (items : List Item) → items ≢ [] → finished target (run_steps (all_steps run target) (entered b)) ≡ (elim items [ [] ↦ b | _ ∷ _ ↦ finished target (run_steps (all_steps run target) (entered b)) ])
+run_from run target b [] some = absurd (some refl)
+run_from run target b (x ∷ xs) some = refl
+
+text_from-none : (run : Run) (target : Direction) (b : Buffer) (items : List Item) → items ≡ [] → b ≡ (elim items [ [] ↦ b | _ ∷ _ ↦ prepared run target (entered b) ])
+text_from-none run target b [] none = refl
+text_from-none run target b (x ∷ xs) none = absurd (let e : x ∷ xs ≡ [] = none in cc)
+
+run_from-none : (run : Run) (target : Direction) (b : Buffer) (items : List Item) → items ≡ [] → b ≡ (elim items [ [] ↦ b | _ ∷ _ ↦ finished target (run_steps (all_steps run target) (entered b)) ])
+run_from-none run target b [] none = refl
+run_from-none run target b (x ∷ xs) none = absurd (let e : x ∷ xs ≡ [] = none in cc)
+
+is_empty : {A : Type 0} (xs : List A) → length xs ≡ 0 → xs ≡ []
+is_empty [] none = refl
+is_empty (x ∷ xs) none = absurd (omega (arith, none))
+
+has_some : {A : Type 0} (xs : List A) → ¬ (length xs ≡ 0) → xs ≢ []
+has_some xs some none = some (ap length none)
+
+-- nothing is done for an empty text
+pub Prepares-none : (run : Run) (target : Direction) (b : Buffer) → length b.items ≡ 0 → Prepares run target b b
+Prepares-none run target b none = record { made = text_from-none run target b b.items (is_empty b.items none); counted = λ some. absurd (some (is_empty b.items none)) }
+
+pub Shapes-none : (run : Run) (target : Direction) (b : Buffer) → length b.items ≡ 0 → Shapes run target b b
+Shapes-none run target b none = record {
+  made = run_from-none run target b b.items (is_empty b.items none);
+  within = omega (arith, none);
+  counted = λ some. absurd (some (is_empty b.items none));
+}
+
+-- all steps are made for every other
+pub Prepares-ran : (run : Run) (target : Direction) (b new : Buffer) → ¬ (length b.items ≡ 0) → Ran (prepare_steps run target) (entered b) new → Prepares run target b new
+Prepares-ran run target b new some ran = record {
+  made = ran.made ∙ text_from run target b b.items (has_some b.items some);
+  counted = λ _. ran.each_within;
+}
+
+pub Shapes-some : (run : Run) (target : Direction) (b mid new : Buffer) → ¬ (length b.items ≡ 0)
+    → Ran (all_steps run target) (entered b) mid → new ≡ finished target mid → Shapes run target b new
+Shapes-some run target b mid new some ran finishes = record {
+  made = finishes ∙ ap (finished target) ran.made ∙ run_from run target b b.items (has_some b.items some);
+  within = subst (λ (c : Buffer). length c.items ≤ run_limit (length b.items)) (sym finishes) (subst (λ n. length mid.items ≤ n) ran.same_limit ran.within);
+  counted = λ _. ran.each_within;
+}
+
+-- ---- what is handed out
+
+direction_from : (run : Run) (target : Direction) (b : Buffer) → b.direction ≡ target → (items : List Item)
+    → let made : Buffer = elim items [ [] ↦ b | _ ∷ _ ↦ finished target (run_steps (all_steps run target) (entered b)) ] in made.direction ≡ target
+direction_from run target b is [] = is
+direction_from run target b is (x ∷ xs) = refl
+
+-- glyphs run in the direction of the text
+pub direction-made : (run : Run) (target : Direction) (b : Buffer) → b.direction ≡ target → (run_made run target b).direction ≡ target
+direction-made run target b is = direction_from run target b is b.items
+
+-- the normalised list of any text has its form
+pub normal_form : (rules : Rules) → LawfulReorder rules.reorder → LawfulUnicode rules.unicode → (b : Buffer) → NormalForm rules b (normalized rules b)
+normal_form rules lawful unicode b = record {
+  brought_in = normalized_brings_in rules lawful b (normalized rules b) refl;
+  item_glyphs = normalized_has_glyphs rules lawful b (normalized rules b) refl;
+  features = normalized_keeps_features rules lawful b (normalized rules b) refl;
+  clusters = normalized_keeps rules lawful b (normalized rules b) refl;
+  canonical_form = NormalizesCanonically-normalized rules unicode b (normalized rules b) refl;
+}
+
+-- what holds always holds of an answer
+pub if_ok_always : {T E : Type 0} {P : Type 0} (result : Result T E) → P → IfOk result (λ _. P)
+if_ok_always (Ok value) holds = holds
+if_ok_always (Err error) holds = tt

@@ -1,0 +1,11 @@
+use Rattle.std.proofs.Common.{subst, sym}
+use Rattle.shape_buffer.specs.Buffer.{Buffer}
+use Rattle.shape_buffer.specs.Outcome.{RunOutcome, IsWithinLimit}
+use Rattle.shape_plan.specs.Run.{run_of}
+use Rattle.shape_pipeline.specs.Shaped.{all_steps}
+use Rattle.shape_pipeline.proofs.ot_shape.enter_and_shape.Goals as goal
+
+pub returns : goal.returns
+returns g c =
+    let run = run_of g.U.hb_unicode_funcs_t.unicode g.M.hb_ot_layout_t.masks g.M.hb_ot_layout_t.lookups g.S.hb_ot_shaper_t.constants g.S.hb_ot_shaper_t.hooks g.F.hb_font_t.face c.args.plan.now c.args.face.now in
+    subst (λ (b : Buffer). RunOutcome (all_steps run c.args.target) b c.shape_entered.new.buffer c.shape_entered.result) c.enter.ensures c.shape_entered.ensures

@@ -1,0 +1,11 @@
+use Rattle.std.proofs.lemmas.Result.{err_from_is_err_and}
+use Rattle.shape_buffer.proofs.Runs.{RunOutcome-then, Refused-before}
+use Rattle.shape_pipeline.proofs.ot_shape.run.place_and_finish.Goals as goal
+
+pub returns-in_err-position : goal.returns-in_err-position
+returns-in_err-position g c =
+    let p = err_from_is_err_and c.from_residual.result c.from_residual.ensures.1 in
+    rw (p.1, p.2) (Refused-before _ c.in_err-position.ensures)
+
+pub returns : goal.returns
+returns g c = RunOutcome-then _ _ c.finish_glyphs.result c.in_ok-position.ensures c.finish_glyphs.ensures

@@ -1,6 +1,0 @@
-use Rattle.std.proofs.Common.{◌≡◌, take}
-use Rattle.shape_pipeline.specs.RoundOne.{merged_at}
-use Rattle.shape_pipeline.proofs.ot_shape_normalize.round_one.pairs.merge_pairs.Given as goal
-
-abbrev pub invariant-merges : goal.invariant-merges
-invariant-merges g l = l.buffer ≡ merged_at l.fn.buffer (take l.place-index l.place-items)

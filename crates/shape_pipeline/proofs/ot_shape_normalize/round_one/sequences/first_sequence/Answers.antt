@@ -1,8 +1,0 @@
-use Rattle.std.proofs.Common.{rules}
-use Rattle.shape_buffer.specs.Items.{is_mark_item}
-use Rattle.shape_buffer.proofs.DividedLemmas.{IsFirstPart-at}
-use Rattle.shape_pipeline.proofs.ot_shape_normalize.round_one.sequences.first_sequence.Goals as goal
-
-pub returns : goal.returns
-returns c =
-    IsFirstPart-at is_mark_item c.args.infos.now c.in_ok-behind.field-0-0.now c.in_ok-behind.behind.now _ _ c.count_marks.result (search rules) c.count_marks.ensures.value c.split_at.ensures.front c.split_at.ensures.back

@@ -1,9 +1,0 @@
-use Rattle.std.proofs.Common.{rules}
-use Rattle.shape_buffer.proofs.DividedLemmas.{IsFirstPart-at}
-use Rattle.shape_pipeline.specs.RoundOne.{is_selector_item}
-use Rattle.shape_pipeline.proofs.ot_shape_normalize.round_one.sequences.first_variant.Goals as goal
-
-pub returns : goal.returns
-returns g c =
-    let belongs = is_selector_item g.U.hb_unicode_funcs_t.unicode in
-    IsFirstPart-at belongs c.args.infos.now c.in_ok-behind.field-0-0.now c.in_ok-behind.behind.now _ _ c.count_selectors.result (search rules) c.count_selectors.ensures.value c.split_at.ensures.front c.split_at.ensures.back

@@ -1,0 +1,23 @@
+use Rattle.std.proofs.Common.{◌≡◌, ◌∙◌, ap, sym, rules}
+use Rattle.shape_buffer.specs.Guess.{guessed_direction, guessed_script}
+use Rattle.shape_normalize.proofs.RulesLemmas.{used_reorder-lawful}
+use Rattle.shape_plan.specs.Plan.{Plan, known_script}
+use Rattle.shape_plan.proofs.PlannedLemmas.{direction-planned, script-planned}
+use Rattle.shape_pipeline.proofs.RunLemmas.{normal_form, if_ok_always}
+use Rattle.shape_pipeline.proofs.shape.shape.Goals as goal
+
+pub shape_with_plan-requires : goal.shape_with_plan-requires
+shape_with_plan-requires g c =
+    let unicode = g.U.hb_unicode_funcs_t.unicode in
+    let direction : c.guessed_direction-direction.result ≡ guessed_direction unicode c.args.buffer = search rules in
+    let script : c.guessed_script-script.result ≡ guessed_script unicode c.args.buffer = search rules in
+    record {
+      direction = sym (ap (λ plan. plan.direction) c.in-Ok.ensures.plan ∙ direction-planned _ _ _ _ _ _ _ ∙ direction);
+      script = ap known_script (sym (ap (λ plan. plan.script) c.in-Ok.ensures.plan ∙ script-planned _ _ _ _ _ _ _ ∙ script));
+    }
+
+pub returns-in-Ok-clause-form : goal.returns-in-Ok-clause-form
+returns-in-Ok-clause-form g c =
+    let shaper = g.S.hb_ot_shaper_t in
+    let lawful = used_reorder-lawful shaper.hooks g.met.S.hb_ot_shaper_t.lawful_hooks shaper.constants.has_reorder_marks _ c.args.face.now in
+    if_ok_always c.shape_with_plan.result (normal_form _ lawful g.met.U.hb_unicode_funcs_t.lawful _)

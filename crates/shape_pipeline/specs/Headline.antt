@@ -1,0 +1,46 @@
+-- What is promised of a whole run, end to end.
+use Rattle.std.specs.Prelude.{◌≡◌, ◌==◌, ℕ, false, List, map, All, Contains}
+use Rattle.std.specs.Int.RustNames.{bit_and}
+use Rattle.shape_buffer.specs.Buffer.{Buffer}
+use Rattle.shape_buffer.specs.ClusterOrder.{IsMonotoneLevel, KeepsClusters}
+use Rattle.shape_buffer.specs.Clusters.{clusters}
+use Rattle.shape_buffer.specs.Direction.{is_backward}
+use Rattle.shape_buffer.specs.Flags.{HasOneSetOfFlags}
+use Rattle.shape_buffer.specs.Guess.{guessed, guessed_direction}
+use Rattle.shape_buffer.specs.KeepsFlags.{some_has}
+use Rattle.shape_buffer.specs.declared.buffer.settings.Direction.{Direction}
+use Rattle.shape_normalize.specs.CanonicalForm.{text_of, NormalizesCanonically}
+use Rattle.shape_normalize.specs.Normalized.{normalized, BroughtInHaveGlyphs, HasItemGlyph, HookKeepsClusters, KeepsFeatures}
+use Rattle.shape_plan.specs.Rules.{Rules}
+use Rattle.shape_plan.specs.Run.{Run}
+use Rattle.shape_pipeline.specs.Order.{IsOrderedFor}
+use Rattle.shape_pipeline.specs.Shaped.{entered, prepared}
+
+-- the direction that a text is shaped for
+abbrev pub target_of : Run → Buffer → Direction
+target_of run text = guessed_direction run.unicode text
+
+-- the text as normalising begins
+abbrev pub prepared_text : Run → Buffer → Buffer
+prepared_text run text = prepared run (target_of run text) (entered (guessed run.unicode text))
+
+-- and normalised
+abbrev pub normalised_list : Run → Buffer → Buffer
+normalised_list run text = normalized run.rules (prepared_text run text)
+
+-- what is promised of the normalised list of a prepared text: what is brought in has a glyph, each item has the glyph of its character or what stands in for it, features are those of the text's items, clusters keep their order, and canonical form
+pub record NormalForm (rules : Rules) (text list : Buffer) : Type 0 where
+  pub brought_in : BroughtInHaveGlyphs rules.face.nominal_glyph (text_of text) (text_of list)
+  pub item_glyphs : All (HasItemGlyph rules text) list.items
+  pub features : KeepsFeatures text list
+  pub clusters : IsMonotoneLevel text.cluster_level → HookKeepsClusters rules → KeepsClusters (clusters text.items) (clusters list.items)
+  pub canonical_form : NormalizesCanonically rules text list
+
+-- the clusters of glyphs come from the text, and stand in the order of its direction
+pub record ComesInOrder (run : Run) (text glyphs : Buffer) : Type 0 where
+  pub from_text : (k : ℕ) → Contains (clusters glyphs.items) k → Contains (clusters text.items) k
+  pub ordered : IsOrderedFor (is_backward (target_of run text)) (clusters glyphs.items)
+
+-- no glyph has UNSAFE_TO_CONCAT (2) unless the caller asks for it (64)
+abbrev pub ConcatIsAsked : Buffer → Buffer → Type 0
+ConcatIsAsked text glyphs = (bit_and text.flags.0 64 == 64) ≡ false → some_has 2 glyphs.items ≡ false

@@ -1,0 +1,15 @@
+pub mod Shaper
+pub mod Plan
+pub mod Reorder
+pub mod Shapers
+pub mod Rules
+pub mod Run
+pub mod Keepers
+pub mod Tags
+pub mod Requests
+pub mod Decisions
+pub mod Planner
+pub mod WorkedRequests
+pub mod WorkedDecisions
+pub mod WorkedPlans
+pub mod PlainTexts

@@ -1,0 +1,106 @@
+-- What the tests of planning bring: functions of Unicode by which every character is a letter of an unknown script, and faces and an engine that are a number.
+use Rattle.std.specs.Prelude.{◌≡◌, ◌==◌, ℕ, pos, Bool, true, false, Option, Some, None, refl, nat_lt, if◌then◌else◌}
+use Rattle.std.specs.Int.RustNames.{bit_and}
+use Rattle.std.proofs.Common.{rules}
+use Rattle.shape_buffer.specs.Face.{FaceMeaning}
+use Rattle.shape_buffer.specs.Layout.{LayoutMeaning, MapMeaning, LawfulMasks, LawfulLookups, HasNoDefinedFlag}
+use Rattle.shape_buffer.specs.NoLookups.{no_lookups}
+use Rattle.shape_buffer.specs.Unicode.{UnicodeMeaning, LawfulUnicode}
+use Rattle.shape_buffer.specs.declared.buffer.general_category.hb_unicode_general_category_t.TheVariants.{OtherLetter}
+use Rattle.shape_buffer.specs.declared.buffer.settings.hb_tag_t.{hb_tag_t}
+use Rattle.shape_buffer.specs.declared.interfaces.map_request.TableIndex.TheVariants.{GSUB, GPOS}
+
+abbrev pub plain_unicode : UnicodeMeaning
+plain_unicode = record {
+  category = λ _. OtherLetter;
+  class = λ _. 0;
+  split = λ _. None;
+  height = λ _. 0;
+  join = λ _ _. None;
+  mirrored = λ _. None;
+  vertical = λ _. None;
+  space_fallback = λ _. 0;
+  ignorable = λ _. false;
+  pictographic = λ _. false;
+  selector = λ _. false;
+  script = λ _. record { 0 = record { 0 = 1517976186 } };
+  script_direction = λ _. None;
+}
+
+pub plain_unicode-lawful : LawfulUnicode plain_unicode
+plain_unicode-lawful = record {
+  marks_have_classes = λ c marked. absurd (marked refl);
+  ascii_is_no_mark = λ c _. refl;
+  mirrors_are_plain = λ c d e. cc;
+  verticals_are_plain = λ c d e. cc;
+  splits_fall = record {
+    height_falls = record { falls = λ c a b splits. cc };
+    second_is_last = λ c a b splits. cc;
+    first_class = λ c a b marked. absurd (marked refl);
+    second_class = λ c a b marked. absurd (marked refl);
+  };
+  composes_soundly = record { equivalent = λ a b c joins. cc };
+}
+
+-- a bit of the number
+abbrev pub has : ℕ → ℕ → Bool
+has number bit = bit_and number bit == bit
+
+-- which tables the face has: 1, 2, 4, 8, 16 in the order gsub, gpos, morx, kerx, trak
+abbrev pub answers_of : ℕ → FaceMeaning
+answers_of number = record {
+  nominal_glyph = λ _. None;
+  variation_glyph = λ _ _. None;
+  h_advance = λ _. pos 0;
+  v_advance = λ _. pos 0;
+  h_origin = λ _. pos 0;
+  v_origin = λ _. pos 0;
+  extents = λ _. None;
+  units_per_em = 1000;
+  tables = record { gsub = has number 1; gpos = has number 2; morx = has number 4; kerx = has number 8; trak = has number 16 };
+}
+
+-- what the engine answers: 32 kerning, 64 machine kerning, 128 cross kerning, 256 the script 2 chosen for GPOS in place of 1; requests are compiled to the number
+abbrev pub layouts_of : ℕ → LayoutMeaning ℕ
+layouts_of number = record {
+  chosen_script = λ _ _ table. elim table [ GSUB ↦ Some (record { 0 = 1 }) | GPOS ↦ Some (record { 0 = (if has number 256 then 2 else 1) }) ];
+  compiled = λ _. number;
+  has_glyph_classes = has number 1024;
+  has_kerning = has number 32;
+  has_machine_kerning = has number 64;
+  has_cross_kerning = has number 128;
+}
+
+-- 512: GPOS has a feature for kerning; 2048: every mask is 8
+abbrev pub masks_of : ℕ → MapMeaning
+masks_of number = record {
+  global_mask = 0;
+  one_mask = λ _. if has number 2048 then 8 else 0;
+  mask = λ _. (if has number 2048 then 8 else 0, 3);
+  feature_index = λ table _. elim table [ GSUB ↦ None | GPOS ↦ (if has number 512 then Some 0 else None) ];
+  stages = 0;
+  pause_after = λ _. None;
+}
+
+pub no_flag : (b : Bool) → HasNoDefinedFlag (if b then 8 else 0)
+no_flag true = refl
+no_flag false = refl
+
+pub masks_of-lawful : (number : ℕ) → LawfulMasks (masks_of number)
+masks_of-lawful number = record {
+  global_mask = refl;
+  one_mask = λ _. no_flag (has number 2048);
+  mask = λ _. no_flag (has number 2048);
+  shift = λ _. Prim.search rules;
+}
+
+pub no_lookups-lawful : LawfulLookups no_lookups
+no_lookups-lawful = record {
+  aat_zero_width_deleted = λ _. refl;
+  position_start = λ _. refl;
+  position = λ _. refl;
+  position_finish_advances = λ _. refl;
+  position_finish_offsets = λ _. refl;
+  aat_position = λ _ _. refl;
+  kern = λ _ _. refl;
+}

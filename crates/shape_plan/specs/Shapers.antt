@@ -1,0 +1,26 @@
+-- Shapers that give no hook.
+use Rattle.std.specs.Prelude.{refl}
+use Rattle.std.proofs.Common.{inl}
+use Rattle.shape_buffer.specs.Buffer.{Buffer}
+use Rattle.shape_buffer.specs.Unicode.{UnicodeMeaning}
+use Rattle.shape_plan.specs.Reorder.{ReordersRanges, done}
+use Rattle.shape_plan.specs.Shaper.{HookMeaning, ChangesMasksAlone}
+
+-- what hooks do that do nothing of their own: splits and joins are those of Unicode
+abbrev pub no_hooks : UnicodeMeaning → HookMeaning
+no_hooks unicode = record {
+  split = unicode.split;
+  height = unicode.height;
+  join = unicode.join;
+  reorder = λ b start end. b;
+  preprocess = λ b. b;
+  setup_masks = λ b. b;
+  postprocess = λ b. b;
+  pause = λ n b. b;
+}
+
+pub no_reordering-reorders : ReordersRanges (λ b start end. b)
+no_reordering-reorders = record { reorders = λ b start end _. done }
+
+pub no_masks-alone : (b : Buffer) → ChangesMasksAlone b b
+no_masks-alone b = record { items = refl; scratch = inl refl; rest = refl }

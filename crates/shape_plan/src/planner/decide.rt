@@ -1,0 +1,229 @@
+//! What a plan decides of what its planner knows and of the answers of face and engine.
+//!
+//! First all that the decisions go by is asked, once; then each decision is a formula over it. They build
+//! on one another in this order: who positions (`GPOS` or `kerx`), who kerns where that leaves kerning out,
+//! and, since whoever positions or kerns may place marks, what is left to do for marks.
+ghost use Rattle.std.specs.Prelude.{◌≡◌};
+ghost use Rattle.shape_plan.specs.Decisions.{
+  is_on as is_on_of,
+  has_frac as has_frac_of,
+  apply_trak as apply_trak_of,
+  has_gsub as has_gsub_of,
+  has_gpos as has_gpos_of,
+  prefers_kerx as prefers_kerx_of,
+  apply_gpos as apply_gpos_of,
+  lacks_kerning as lacks_kerning_of,
+  apply_kerx as apply_kerx_of,
+  apply_kern as apply_kern_of,
+  apply_fallback_kern as apply_fallback_kern_of,
+  zero_marks as zero_marks_of,
+  adjusts as adjusts_of,
+  fallback_mark_positioning as fallback_mark_positioning_of,
+  adjust_when_zeroing as adjust_when_zeroing_of,
+  decided,
+};
+ghost use Rattle.shape_plan.specs.Planner.{facts_of, kern_tag as kern_tag_of, is_gpos_disabled};
+ghost use Rattle.shape_plan.specs.Plan.{given_shaper};
+
+use crate::decisions::{Decisions, PlanFacts};
+use crate::ot_shape_plan::ChosenShaper;
+use crate::ot_shaper::hb_ot_shaper_t;
+use crate::planner::{Plans, hb_ot_shape_planner_t, tags};
+use shape_buffer::buffer::{Direction, hb_mask_t, hb_tag_t};
+use shape_buffer::interfaces::{TableIndex, hb_font_t, hb_ot_layout_t, hb_unicode_funcs_t};
+
+/// The feature that kerns texts of a direction.
+fn kern_tag(direction: Direction) -> hb_tag_t
+    ensures { result ≡ kern_tag_of direction }
+{
+    if direction.is_horizontal() {
+        tags::KERN
+    } else {
+        tags::VKRN
+    }
+}
+
+/// Whether the kept shaper is made for another script than the one chosen for `GPOS`.
+fn disables_gpos<S>(
+    gpos_tag: Option<hb_tag_t>,
+    shaper: ChosenShaper<'_, S>,
+    chosen: Option<hb_tag_t>,
+) -> bool
+    ensures { result ≡ is_gpos_disabled gpos_tag (given_shaper shaper.entry) chosen }
+{
+    match (shaper, gpos_tag) {
+        (ChosenShaper::Given(_), Some(tag)) => !matches!(chosen, Some(script) if script.0 == tag.0),
+        _ => false,
+    }
+}
+
+impl<'a, F, S> hb_ot_shape_planner_t<'a, F, S> {
+    #[tactic(auto, unfolding(crate::specs::Planner::facts_of))]
+    /// All that the decisions go by, with the compiled requests.
+    pub(crate) fn facts<U, M>(&self, map: &M::Map) -> PlanFacts
+    where
+        U: hb_unicode_funcs_t,
+        F: hb_font_t,
+        M: hb_ot_layout_t<F>,
+        S: hb_ot_shaper_t<U, F, M>,
+        ensures { result ≡ facts_of ⟦<S as Plans<U, F, M>>⟧.planning self.now (M.masks map.now) }
+    {
+        let kern_tag = kern_tag(self.direction);
+        PlanFacts {
+            frac_mask: M::get_1_mask(map, tags::FRAC),
+            numr_mask: M::get_1_mask(map, tags::NUMR),
+            dnom_mask: M::get_1_mask(map, tags::DNOM),
+            rtlm_mask: M::get_1_mask(map, tags::RTLM),
+            vert_mask: M::get_1_mask(map, tags::VERT),
+            mark_mask: M::get_1_mask(map, tags::MARK),
+            kern_mask: M::get_mask(map, kern_tag).0,
+            trak_mask: M::get_mask(map, tags::TRAK).0,
+            has_gpos_kern: M::get_feature_index(map, TableIndex::GPOS, kern_tag).is_some(),
+            disable_gpos: disables_gpos(
+                S::GPOS_TAG,
+                self.shaper,
+                self.ot_map.chosen_script(TableIndex::GPOS),
+            ),
+            apply_morx: self.apply_morx,
+            script_zero_marks: self.script_zero_marks,
+            script_fallback_mark_positioning: self.script_fallback_mark_positioning,
+            tables: self.face.tables(),
+            has_glyph_classes: M::has_glyph_classes(self.face),
+            has_kerning: M::has_kerning(self.face),
+            has_machine_kerning: M::has_machine_kerning(self.face),
+            has_cross_kerning: M::has_cross_kerning(self.face),
+        }
+    }
+}
+
+/// Whether a feature has lookups: its mask isn't 0.
+fn is_on(mask: hb_mask_t) -> bool
+    ensures { result ≡ is_on_of mask }
+{
+    mask != 0
+}
+
+impl PlanFacts {
+    /// Fractions have their own feature, or one for each side.
+    fn has_frac(&self) -> bool
+        ensures { result ≡ has_frac_of self.now }
+    {
+        is_on(self.frac_mask) || (is_on(self.numr_mask) && is_on(self.dnom_mask))
+    }
+
+    /// Tracking is asked for, and the face has its table.
+    fn apply_trak(&self) -> bool
+        ensures { result ≡ apply_trak_of self.now }
+    {
+        is_on(self.trak_mask) && self.tables.trak
+    }
+
+    /// `GSUB` substitutes where `morx` doesn't.
+    fn has_gsub(&self) -> bool
+        ensures { result ≡ has_gsub_of self.now }
+    {
+        !self.apply_morx && self.tables.gsub
+    }
+
+    fn has_gpos(&self) -> bool
+        ensures { result ≡ has_gpos_of self.now }
+    {
+        !self.disable_gpos && self.tables.gpos
+    }
+
+    /// `kerx` goes before `GPOS`, unless `GSUB` and `GPOS` go together.
+    fn prefers_kerx(&self) -> bool
+        ensures { result ≡ prefers_kerx_of self.now }
+    {
+        self.tables.kerx && !(self.has_gsub() && self.has_gpos())
+    }
+
+    fn apply_gpos(&self) -> bool
+        ensures { result ≡ apply_gpos_of self.now }
+    {
+        !self.prefers_kerx() && self.has_gpos()
+    }
+
+    /// Neither `kerx` nor a feature of `GPOS` kerns yet.
+    fn lacks_kerning(&self) -> bool
+        ensures { result ≡ lacks_kerning_of self.now }
+    {
+        !self.prefers_kerx() && (!self.has_gpos_kern || !self.apply_gpos())
+    }
+
+    fn apply_kerx(&self) -> bool
+        ensures { result ≡ apply_kerx_of self.now }
+    {
+        self.prefers_kerx() || (self.lacks_kerning() && self.tables.kerx)
+    }
+
+    fn apply_kern(&self) -> bool
+        ensures { result ≡ apply_kern_of self.now }
+    {
+        self.lacks_kerning() && (!self.tables.kerx && self.has_kerning)
+    }
+
+    fn apply_fallback_kern(&self) -> bool
+        ensures { result ≡ apply_fallback_kern_of self.now }
+    {
+        !(self.apply_gpos() || (self.apply_kerx() || self.apply_kern()))
+    }
+
+    /// As the given shaper wishes; but `kerx`, and `kern` with a state machine, see to marks themselves.
+    fn zero_marks(&self) -> bool
+        ensures { result ≡ zero_marks_of self.now }
+    {
+        self.script_zero_marks
+            && (!self.apply_kerx() && (!self.apply_kern() || !self.has_machine_kerning))
+    }
+
+    /// Nothing places marks: neither `GPOS` nor `kerx` nor a `kern` that moves glyphs across the line.
+    fn adjusts(&self) -> bool
+        ensures { result ≡ adjusts_of self.now }
+    {
+        !self.apply_gpos()
+            && (!self.apply_kerx() && (!self.apply_kern() || !self.has_cross_kerning))
+    }
+
+    fn fallback_mark_positioning(&self) -> bool
+        ensures { result ≡ fallback_mark_positioning_of self.now }
+    {
+        self.adjusts() && self.script_fallback_mark_positioning
+    }
+
+    /// Faces with `morx` count on marks that are not moved back.
+    fn adjust_when_zeroing(&self) -> bool
+        ensures { result ≡ adjust_when_zeroing_of self.now }
+    {
+        self.adjusts() && !self.apply_morx
+    }
+
+    #[tactic(auto, unfolding(crate::specs::Decisions::decided))]
+    /// All decisions.
+    pub(crate) fn decide(&self) -> Decisions
+        ensures { result ≡ decided self.now }
+    {
+        Decisions {
+            apply_morx: self.apply_morx,
+            frac_mask: self.frac_mask,
+            numr_mask: self.numr_mask,
+            dnom_mask: self.dnom_mask,
+            rtlm_mask: self.rtlm_mask,
+            kern_mask: self.kern_mask,
+            trak_mask: self.trak_mask,
+            has_frac: self.has_frac(),
+            has_vert: is_on(self.vert_mask),
+            has_gpos_mark: is_on(self.mark_mask),
+            requested_kerning: is_on(self.kern_mask),
+            apply_trak: self.apply_trak(),
+            fallback_glyph_classes: !self.has_glyph_classes,
+            apply_gpos: self.apply_gpos(),
+            apply_kern: self.apply_kern(),
+            apply_fallback_kern: self.apply_fallback_kern(),
+            apply_kerx: self.apply_kerx(),
+            zero_marks: self.zero_marks(),
+            fallback_mark_positioning: self.fallback_mark_positioning(),
+            adjust_mark_positioning_when_zeroing: self.adjust_when_zeroing(),
+        }
+    }
+}

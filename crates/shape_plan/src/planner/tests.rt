@@ -1,0 +1,5 @@
+//! Planning through its public calls, over every answer of face and engine.
+mod decisions;
+mod requests;
+mod shapers;
+mod support;

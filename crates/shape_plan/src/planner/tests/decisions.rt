@@ -1,0 +1,339 @@
+//! Every combination of the questions that a plan asks, against a table of who positions.
+use super::shapers::{ScriptShaper, WishingShaper};
+use super::support::{
+    BitLayout, Bits, CROSS_KERNING, GLYPH_CLASSES, GPOS, GPOS_KERNS, GSUB, KERNING, KERX,
+    MACHINE_KERNING, MASKS, MORX, PlainUnicode, SCRIPT_TWO, TRAK,
+};
+use crate::ot_shape_plan::hb_ot_shape_plan_t;
+use crate::ot_shaper::DEFAULT_SHAPER;
+use shape_buffer::buffer::{Direction, Feature, Script, UnicodeBuffer, hb_tag_t};
+use std::test::Fail;
+
+/// Who positions and kerns.
+#[derive(Clone, Copy, PartialEq, Eq, Debug)]
+enum Positioner {
+    Gpos,
+    GposThenKerx,
+    Kerx,
+    GposAndKern,
+    Kern,
+    Nobody,
+}
+
+/// The table: a row for each set of what the face has to offer, the first that fits.
+fn by_table(kerx: bool, gsub: bool, gpos: bool, gpos_kerns: bool, kern: bool) -> Positioner {
+    match (kerx, gsub, gpos, gpos_kerns, kern) {
+        (true, true, true, true, _) => Positioner::Gpos,
+        (true, true, true, false, _) => Positioner::GposThenKerx,
+        (true, _, _, _, _) => Positioner::Kerx,
+        (false, _, true, false, true) => Positioner::GposAndKern,
+        (false, _, true, _, _) => Positioner::Gpos,
+        (false, _, false, _, true) => Positioner::Kern,
+        (false, _, false, _, false) => Positioner::Nobody,
+    }
+}
+
+/// What a shaper brings to the decisions.
+#[derive(Clone, Copy)]
+struct Brings {
+    is_default: bool,
+    needs_script_two: bool,
+    zeroes: bool,
+    places: bool,
+}
+
+/// What a plan decided, in one row: who positions; whether marks are zeroed, placed by extents, moved back.
+fn decided<S, D>(
+    plan: &hb_ot_shape_plan_t<'_, S, u32, D>,
+) -> (bool, bool, bool, bool, bool, bool, bool, bool) {
+    (
+        plan.apply_gpos(),
+        plan.apply_kerx(),
+        plan.apply_kern(),
+        plan.apply_fallback_kern(),
+        plan.zero_marks(),
+        plan.fallback_mark_positioning(),
+        plan.adjust_mark_positioning_when_zeroing(),
+        plan.apply_morx(),
+    )
+}
+
+/// The same by the table, for a number whose bits are the answers of face and engine.
+fn expected(
+    bits: u32,
+    horizontal: bool,
+    brings: Brings,
+) -> (bool, bool, bool, bool, bool, bool, bool, bool) {
+    let has = |bit: u32| bits & bit != 0;
+    let morx = has(MORX) && (horizontal || !has(GSUB));
+    let kept = brings.is_default || !morx;
+    let gpos = has(GPOS) && !(kept && brings.needs_script_two && !has(SCRIPT_TWO));
+    let positioner = by_table(
+        has(KERX),
+        has(GSUB) && !morx,
+        gpos,
+        has(GPOS_KERNS),
+        has(KERNING),
+    );
+    let (gpos, kerx, kern, nobody) = match positioner {
+        Positioner::Gpos => (true, false, false, false),
+        Positioner::GposThenKerx => (true, true, false, false),
+        Positioner::Kerx => (false, true, false, false),
+        Positioner::GposAndKern => (true, false, true, false),
+        Positioner::Kern => (false, false, true, false),
+        Positioner::Nobody => (false, false, false, true),
+    };
+    let zeroes = match positioner {
+        Positioner::Kerx | Positioner::GposThenKerx => false,
+        Positioner::Kern | Positioner::GposAndKern => !has(MACHINE_KERNING),
+        Positioner::Gpos | Positioner::Nobody => true,
+    };
+    let unplaced = match positioner {
+        Positioner::Nobody => true,
+        Positioner::Kern => !has(CROSS_KERNING),
+        _ => false,
+    };
+    (
+        gpos,
+        kerx,
+        kern,
+        nobody,
+        zeroes && brings.zeroes,
+        unplaced && brings.places,
+        unplaced && !morx,
+        morx,
+    )
+}
+
+const DEFAULT_BRINGS: Brings = Brings {
+    is_default: true,
+    needs_script_two: false,
+    zeroes: true,
+    places: true,
+};
+
+const WISHING_BRINGS: Brings = Brings {
+    is_default: false,
+    needs_script_two: false,
+    zeroes: true,
+    places: true,
+};
+
+const SCRIPT_BRINGS: Brings = Brings {
+    is_default: false,
+    needs_script_two: true,
+    zeroes: false,
+    places: false,
+};
+
+/// The ten questions: tables (without `trak`), kerning, machine, cross, script, feature of kerning.
+fn spread(i: u32) -> u32 {
+    (i & 15) | ((i & 1008) << 1)
+}
+
+#[test]
+fn by_the_default_shaper(rt: HostRuntime) -> Result<(), Fail> {
+    for i in 0..1024 {
+        let face = Bits(spread(i));
+        for direction in [Direction::LeftToRight, Direction::BottomToTop] {
+            let plan = hb_ot_shape_plan_t::new::<PlainUnicode, Bits, BitLayout>(
+                rt.alloc(),
+                &face,
+                &DEFAULT_SHAPER,
+                direction,
+                None,
+                None,
+                &[],
+            )?;
+            let horizontal = direction == Direction::LeftToRight;
+            assert_eq!(rt;
+                decided(&plan),
+                expected(face.0, horizontal, DEFAULT_BRINGS)
+            );
+            assert_eq!(rt; plan.fallback_glyph_classes(), face.0 & GLYPH_CLASSES == 0);
+            assert!(rt; plan.shaper().is_some());
+        }
+    }
+    Ok(())
+}
+
+#[test]
+fn by_a_shaper_with_wishes(rt: HostRuntime) -> Result<(), Fail> {
+    for i in 0..1024 {
+        let face = Bits(spread(i));
+        for direction in [Direction::RightToLeft, Direction::TopToBottom] {
+            let plan = hb_ot_shape_plan_t::new::<PlainUnicode, Bits, BitLayout>(
+                rt.alloc(),
+                &face,
+                &WishingShaper,
+                direction,
+                None,
+                None,
+                &[],
+            )?;
+            let horizontal = direction == Direction::RightToLeft;
+            assert_eq!(rt;
+                decided(&plan),
+                expected(face.0, horizontal, WISHING_BRINGS)
+            );
+            assert_eq!(rt; plan.shaper().is_some(), !plan.apply_morx());
+        }
+    }
+    Ok(())
+}
+
+#[test]
+fn by_a_shaper_of_a_script(rt: HostRuntime) -> Result<(), Fail> {
+    for i in 0..1024 {
+        let face = Bits(spread(i));
+        for direction in [Direction::LeftToRight, Direction::TopToBottom] {
+            let plan = hb_ot_shape_plan_t::new::<PlainUnicode, Bits, BitLayout>(
+                rt.alloc(),
+                &face,
+                &ScriptShaper,
+                direction,
+                None,
+                None,
+                &[],
+            )?;
+            let horizontal = direction == Direction::LeftToRight;
+            assert_eq!(rt; decided(&plan), expected(face.0, horizontal, SCRIPT_BRINGS));
+            assert_eq!(rt; plan.data().is_some(), !plan.apply_morx());
+        }
+    }
+    Ok(())
+}
+
+#[test]
+fn gpos_then_kerx(rt: HostRuntime) -> Result<(), Fail> {
+    let face = Bits(KERX | GSUB | GPOS);
+    let plan = hb_ot_shape_plan_t::new::<PlainUnicode, Bits, BitLayout>(
+        rt.alloc(),
+        &face,
+        &DEFAULT_SHAPER,
+        Direction::LeftToRight,
+        None,
+        None,
+        &[],
+    )?;
+    assert!(rt; plan.apply_gpos() && plan.apply_kerx());
+    assert!(rt; !plan.apply_kern() && !plan.apply_fallback_kern());
+    assert!(rt; !plan.zero_marks() && !plan.fallback_mark_positioning());
+    Ok(())
+}
+
+/// The wishes are those of the given shaper, though it gives way; in vertical text of a face with `GSUB`
+/// it stays.
+#[test]
+fn wishes_of_a_replaced_shaper(rt: HostRuntime) -> Result<(), Fail> {
+    let (morx, both) = (Bits(MORX), Bits(MORX | GSUB));
+    let plan = hb_ot_shape_plan_t::new::<PlainUnicode, Bits, BitLayout>(
+        rt.alloc(),
+        &morx,
+        &WishingShaper,
+        Direction::LeftToRight,
+        None,
+        None,
+        &[],
+    )?;
+    assert!(rt; plan.shaper().is_none() && plan.data().is_none());
+    assert!(rt; plan.apply_morx() && plan.apply_fallback_kern());
+    assert!(rt; plan.zero_marks() && plan.fallback_mark_positioning());
+    assert!(rt; !plan.adjust_mark_positioning_when_zeroing());
+    let vertical = hb_ot_shape_plan_t::new::<PlainUnicode, Bits, BitLayout>(
+        rt.alloc(),
+        &both,
+        &WishingShaper,
+        Direction::TopToBottom,
+        None,
+        None,
+        &[],
+    )?;
+    assert!(rt; vertical.shaper().is_some() && !vertical.apply_morx());
+    Ok(())
+}
+
+#[test]
+fn masks(rt: HostRuntime) -> Result<(), Fail> {
+    for (bits, mask, tracked) in [
+        (0, 0, false),
+        (MASKS, 8, false),
+        (MASKS | TRAK, 8, true),
+        (TRAK, 0, false),
+    ] {
+        let face = Bits(bits);
+        let plan = hb_ot_shape_plan_t::new::<PlainUnicode, Bits, BitLayout>(
+            rt.alloc(),
+            &face,
+            &DEFAULT_SHAPER,
+            Direction::LeftToRight,
+            None,
+            None,
+            &[],
+        )?;
+        let side = (plan.numr_mask(), plan.dnom_mask(), plan.rtlm_mask());
+        assert_eq!(rt;
+            (plan.frac_mask(), plan.kern_mask(), plan.trak_mask()),
+            (mask, mask, mask)
+        );
+        assert_eq!(rt; side, (mask, mask, mask));
+        assert_eq!(rt;
+            (plan.has_frac(), plan.has_vert(), plan.has_gpos_mark()),
+            (mask != 0, mask != 0, mask != 0)
+        );
+        assert_eq!(rt;
+            (plan.requested_kerning(), plan.apply_trak()),
+            (mask != 0, tracked)
+        );
+        plan.masks_are_features();
+        plan.positions_by_one_table();
+    }
+    Ok(())
+}
+
+/// A plan has what it was asked for, a copy of the user's features, and the data of its shaper.
+#[test]
+fn parts(rt: HostRuntime) -> Result<(), Fail> {
+    let latin = Some(Script(hb_tag_t::from_bytes(b"Latn")));
+    let liga = Feature {
+        tag: hb_tag_t::from_bytes(b"liga"),
+        value: 2,
+        start: 1,
+        end: 3,
+    };
+    let (plain, morx) = (Bits(0), Bits(MORX));
+    let plan = hb_ot_shape_plan_t::new::<PlainUnicode, Bits, BitLayout>(
+        rt.alloc(),
+        &plain,
+        &ScriptShaper,
+        Direction::LeftToRight,
+        latin,
+        None,
+        &[liga, liga],
+    )?;
+    assert_eq!(rt;
+        (plan.direction(), plan.script()),
+        (Direction::LeftToRight, latin)
+    );
+    assert_eq!(rt; plan.user_features(), [liga, liga].as_slice());
+    assert_eq!(rt; plan.data().copied(), Some(2));
+    let replaced = hb_ot_shape_plan_t::new::<PlainUnicode, Bits, BitLayout>(
+        rt.alloc(),
+        &morx,
+        &ScriptShaper,
+        Direction::LeftToRight,
+        latin,
+        None,
+        &[liga],
+    )?;
+    assert!(rt; replaced.data().is_none());
+    let mut text = UnicodeBuffer::new(rt.alloc());
+    text.add('a', 0)?;
+    assert!(rt; !plan.fits::<PlainUnicode>(&text));
+    text.set_script(latin);
+    text.set_direction(Direction::LeftToRight);
+    assert!(rt; plan.fits::<PlainUnicode>(&text));
+    text.set_direction(Direction::RightToLeft);
+    assert!(rt; !plan.fits::<PlainUnicode>(&text));
+    Ok(())
+}

@@ -1,0 +1,26 @@
+//! The definitions of planning, computed on small cases whose answers are worked out by hand.
+ghost use Rattle.shape_plan.specs.WorkedRequests.{RequestsOfDirections, RequestsOfUsers, RequestsOfHooks};
+ghost use Rattle.shape_plan.specs.WorkedDecisions.{ChoicesOfFaces, ChoicesForMarks, DecisionsOfMasks};
+ghost use Rattle.shape_plan.specs.WorkedPlans.{KeptShapers, PlansOfFaces, MasksOfPlans, ScriptsOfShapers};
+
+/// What is asked for in each direction, for the user and by hooks.
+pub fn requests_meet_worked_cases()
+    ensures directions { RequestsOfDirections }
+    ensures users { RequestsOfUsers }
+    ensures hooks { RequestsOfHooks }
+{}
+
+/// Who positions and what is done for marks, by tables and answers of faces.
+pub fn decisions_meet_worked_cases()
+    ensures faces { ChoicesOfFaces }
+    ensures marks { ChoicesForMarks }
+    ensures masks { DecisionsOfMasks }
+{}
+
+/// Which shapers are kept, whose masks and scripts count, and what plans are made of.
+pub fn plans_meet_worked_cases()
+    ensures shapers { KeptShapers }
+    ensures faces { PlansOfFaces }
+    ensures masks { MasksOfPlans }
+    ensures scripts { ScriptsOfShapers }
+{}

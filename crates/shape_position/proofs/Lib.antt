@@ -1,0 +1,5 @@
+pub mod StepLemmas
+pub mod KeeperLemmas
+pub mod DeletionLemmas
+pub mod TurnLemmas
+pub mod StepKeepers

@@ -1,0 +1,44 @@
+-- What positions and the end of a run keep of a buffer, step by step.
+use Rattle.std.specs.Prelude.{Bool}
+use Rattle.shape_buffer.specs.Buffer.{Buffer}
+use Rattle.shape_buffer.specs.Face.{FaceMeaning}
+use Rattle.shape_buffer.specs.Flags.{flags_propagated}
+use Rattle.shape_buffer.specs.Keepers.{IsClusterKeeper, IsFlagKeeper}
+use Rattle.shape_plan.specs.Keepers.{CallsKeepClusters, RunKeepsFlags}
+use Rattle.shape_plan.specs.Run.{Run}
+use Rattle.shape_position.specs.Advances.{positions_cleared, advanced}
+use Rattle.shape_position.specs.Ignorables.{ignorables_zeroed}
+use Rattle.shape_position.specs.Kept.{EachStep, KeepsAsMany, TurnsOrder}
+use Rattle.shape_position.specs.Selectors.{selectors_replaced}
+use Rattle.shape_position.specs.Steps.{advance_steps, table_steps, show_steps, finish_steps}
+use Rattle.shape_position.specs.Turning.{turned}
+use Rattle.shape_position.specs.Zeroing.{marks_zeroed}
+
+-- every step keeps the order of clusters, but the reversal, which turns it where the text runs backward
+pub record StepsKeepClusters : Type 0 where
+  pub advances : (run : Run) → EachStep IsClusterKeeper (advance_steps run)
+  pub tables : (run : Run) → CallsKeepClusters run → EachStep IsClusterKeeper (table_steps run)
+  pub turning : (b : Buffer) → TurnsOrder b (turned b)
+  pub showing : (run : Run) → CallsKeepClusters run → EachStep IsClusterKeeper (show_steps run)
+  pub flags : IsClusterKeeper flags_propagated
+
+-- every step keeps flags
+pub record StepsKeepFlags : Type 0 where
+  pub advances : (run : Run) → EachStep IsFlagKeeper (advance_steps run)
+  pub tables : (run : Run) → RunKeepsFlags run → EachStep IsFlagKeeper (table_steps run)
+  pub finish : (run : Run) → RunKeepsFlags run → EachStep IsFlagKeeper (finish_steps run)
+
+-- the steps that write positions or turn them leave as many positions as items
+pub record StepsKeepCount : Type 0 where
+  pub cleared : KeepsAsMany positions_cleared
+  pub advances : (face : FaceMeaning) → KeepsAsMany (advanced face)
+  pub marks : (adjust : Bool) → KeepsAsMany (marks_zeroed adjust)
+  pub ignorables : KeepsAsMany ignorables_zeroed
+  pub turning : KeepsAsMany turned
+  pub selectors : KeepsAsMany selectors_replaced
+
+-- the three together
+pub record StepsKeep : Type 0 where
+  pub clusters : StepsKeepClusters
+  pub flags : StepsKeepFlags
+  pub count : StepsKeepCount

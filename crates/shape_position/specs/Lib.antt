@@ -1,0 +1,11 @@
+pub mod Advances
+pub mod Zeroing
+pub mod Tables
+pub mod Ignorables
+pub mod Selectors
+pub mod Turning
+pub mod Steps
+pub mod Kept
+pub mod Keepers
+pub mod WorkedPositions
+pub mod WorkedGlyphs

@@ -1,0 +1,51 @@
+-- Marks lose their advances, before or after tables place them.
+use Rattle.std.specs.Prelude.{ℕ, pos, ◌==◌, ◌&&◌, Bool, Option, if◌then◌else◌}
+use Rattle.std.specs.Int.RustNames.{bit_and}
+use Rattle.std.specs.Option.{option_map_or}
+use Rattle.shape_buffer.specs.Buffer.{Buffer}
+use Rattle.shape_buffer.specs.Direction.{is_forward}
+use Rattle.shape_buffer.specs.Items.{Item}
+use Rattle.shape_buffer.specs.PositionWalks.{positions_mapped}
+use Rattle.shape_buffer.specs.Wrapping.{◌-ʷ◌}
+use Rattle.shape_buffer.specs.declared.buffer.positions.GlyphPosition.{GlyphPosition}
+use Rattle.shape_plan.specs.Run.{Run, step_if}
+use Rattle.shape_plan.specs.Shaper.{ShaperConstants, HookMeaning}
+use Rattle.shape_plan.specs.declared.decisions.Decisions.{Decisions}
+
+-- the glyph's class has the bit of marks (8)
+abbrev pub is_mark_glyph : Item → Bool
+is_mark_glyph item = bit_and item.properties.glyph_class.0 8 == 8
+
+abbrev pub without_advances : GlyphPosition → GlyphPosition
+without_advances position = record position { x_advance = pos 0; y_advance = pos 0 }
+
+-- the position moved back by its advances
+abbrev pub moved_back : GlyphPosition → GlyphPosition
+moved_back position = record position {
+  x_offset = position.x_offset -ʷ position.x_advance;
+  y_offset = position.y_offset -ʷ position.y_advance;
+}
+
+-- a mark has no advances; where it is adjusted, its offsets lose them first
+abbrev pub zeroed_mark : Bool → Item → GlyphPosition → GlyphPosition
+zeroed_mark adjust item position =
+    if is_mark_glyph item then without_advances (if adjust then moved_back position else position) else position
+
+-- marks are adjusted in a forward buffer alone
+unfoldable pub marks_zeroed : Bool → Buffer → Buffer
+marks_zeroed adjust b = positions_mapped (zeroed_mark (adjust && is_forward b.direction)) b
+
+-- when marks lose their advances: by the constant of the shaper that the plan keeps, never (0) where it keeps none
+abbrev pub zero_width_time : ShaperConstants → Option HookMeaning → ℕ
+zero_width_time constants hooks = option_map_or (λ _. constants.zero_width_marks) hooks 0
+
+-- zeroing at a time, early (1) or late (2): where the plan zeroes marks and the shaper's time is this one
+abbrev pub zeroed_at : ℕ → Decisions → ShaperConstants → Option HookMeaning → Buffer → Buffer
+zeroed_at time decisions constants hooks =
+    step_if (decisions.zero_marks && (zero_width_time constants hooks == time)) (marks_zeroed decisions.adjust_mark_positioning_when_zeroing)
+
+abbrev pub zeroed_early : Run → Buffer → Buffer
+zeroed_early run = zeroed_at 1 run.decisions run.constants run.hooks
+
+abbrev pub zeroed_late : Run → Buffer → Buffer
+zeroed_late run = zeroed_at 2 run.decisions run.constants run.hooks

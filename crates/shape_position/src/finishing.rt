@@ -1,0 +1,99 @@
+//! The end of a run: the order of the glyphs, which of them are seen, and their flags.
+//!
+//! Shaping works in the order of the text, so where lines run to the left or to the top the glyphs are
+//! turned once they are placed. Flags come last, since every step before may still move them between glyphs.
+ghost use Rattle.std.specs.Prelude.{◌≡◌};
+ghost use Rattle.shape_buffer.specs.Outcome.{IsWithinLimit, Made, Outcome, RunOutcome, step};
+ghost use Rattle.shape_plan.specs.Run.{hook_if};
+ghost use Rattle.shape_position.specs.Steps.{show_steps, finish_steps};
+ghost use Rattle.shape_position.specs.Turning.{turned};
+
+use crate::flags::propagate_flags;
+use crate::ignorables::hide_default_ignorables;
+use crate::selectors::deal_with_variation_selectors;
+use crate::tables::remove_deleted;
+use shape_buffer::buffer::{ShapeError, hb_buffer_t};
+use shape_buffer::interfaces::{hb_font_t, hb_ot_layout_t, hb_unicode_funcs_t};
+use shape_plan::ot_shape_plan::hb_ot_shape_plan_t;
+use shape_plan::ot_shaper::{Runs, hb_ot_shaper_t};
+use std::alloc::Global;
+
+/// Turns glyphs and positions, where the buffer's direction is backward. Takes no memory.
+#[tactic(auto, unfolding(crate::specs::Turning::turned))]
+pub fn reverse_backward(buffer: &mut hb_buffer_t)
+    ensures { Made turned buffer.old buffer.new }
+{
+    if buffer.direction().is_backward() {
+        buffer.reverse();
+    }
+}
+
+/// Runs the hook on the glyphs that are handed out, where the plan keeps a shaper that gives it. Refuses as
+/// the hook does.
+pub fn postprocess_glyphs<U, F, M, S>(
+    alloc: Global,
+    plan: &hb_ot_shape_plan_t<'_, S, M::Map, S::Data>,
+    face: &F,
+    buffer: &mut hb_buffer_t,
+) -> Result<(), ShapeError>
+where
+    U: hb_unicode_funcs_t,
+    F: hb_font_t,
+    M: hb_ot_layout_t<F>,
+    S: hb_ot_shaper_t<U, F, M>,
+    requires { IsWithinLimit buffer.old }
+    ensures { let run = ⟦<S as Runs<U, F, M>>⟧.run plan.now face.now in
+        Outcome (step (hook_if run.constants.has_postprocess_glyphs run.hooks (λ hooks. hooks.postprocess))) buffer.old buffer.new result }
+{
+    match plan.shaper() {
+        Some(shaper) if S::HAS_POSTPROCESS_GLYPHS => {
+            shaper.postprocess_glyphs(alloc, plan, face, buffer)
+        }
+        _ => Ok(()),
+    }
+}
+
+/// Takes out what is not to be seen, and runs the hook on the rest. Refuses as the hook does.
+fn substitute_post<U, F, M, S>(
+    alloc: Global,
+    plan: &hb_ot_shape_plan_t<'_, S, M::Map, S::Data>,
+    face: &F,
+    buffer: &mut hb_buffer_t,
+) -> Result<(), ShapeError>
+where
+    U: hb_unicode_funcs_t,
+    F: hb_font_t,
+    M: hb_ot_layout_t<F>,
+    S: hb_ot_shaper_t<U, F, M>,
+    requires { IsWithinLimit buffer.old }
+    ensures { RunOutcome (show_steps (⟦<S as Runs<U, F, M>>⟧.run plan.now face.now)) buffer.old buffer.new result }
+{
+    remove_deleted::<F, M, S, S::Data>(plan, face, buffer);
+    deal_with_variation_selectors(buffer);
+    hide_default_ignorables(face, buffer);
+    postprocess_glyphs::<U, F, M, S>(alloc, plan, face, buffer)
+}
+
+/// Makes of placed glyphs those that are handed out: in the order of their direction, without what is to
+/// stay unseen, each cluster with one set of flags. Refuses with `Length` where the shaper's hook would
+/// leave a list past the buffer's limit, and with `Memory` where a growth was refused; nothing is said of
+/// the buffer then.
+pub fn finish_glyphs<U, F, M, S>(
+    alloc: Global,
+    plan: &hb_ot_shape_plan_t<'_, S, M::Map, S::Data>,
+    face: &F,
+    buffer: &mut hb_buffer_t,
+) -> Result<(), ShapeError>
+where
+    U: hb_unicode_funcs_t,
+    F: hb_font_t,
+    M: hb_ot_layout_t<F>,
+    S: hb_ot_shaper_t<U, F, M>,
+    requires { IsWithinLimit buffer.old }
+    ensures { RunOutcome (finish_steps (⟦<S as Runs<U, F, M>>⟧.run plan.now face.now)) buffer.old buffer.new result }
+{
+    reverse_backward(buffer);
+    substitute_post::<U, F, M, S>(alloc, plan, face, buffer)?;
+    propagate_flags(buffer);
+    Ok(())
+}

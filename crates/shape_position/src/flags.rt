@@ -1,0 +1,104 @@
+//! The last step over the list: each cluster gets one set of flags.
+//!
+//! Shaping marks single glyphs as unsafe to break or to concat before, but a line can only be cut between
+//! clusters. So the flags of a cluster's glyphs are joined and each of them gets all: a caller may then ask
+//! any one of them. The masks hold flags alone from here on.
+ghost use Rattle.std.specs.Prelude.{◌≡◌, ◌==◌, false};
+ghost use Rattle.std.specs.Int.RustNames.{bit_and};
+ghost use Rattle.shape_buffer.specs.Flags.{first_joined, settled_flags as settled_flags_of, with_tatweel as with_tatweel_of, mask_after as mask_after_of, flags_propagated, HasOneSetOfFlags};
+ghost use Rattle.shape_buffer.specs.KeepsFlags.{some_has};
+ghost use Rattle.shape_buffer.specs.Outcome.{Made};
+ghost use Rattle.shape_buffer.specs.Honest.{IsHonest};
+
+use bitflags::Flags;
+use shape_buffer::buffer::{
+    BufferFlags, DEFINED, SAFE_TO_INSERT_TATWEEL, ScratchFlags, UNSAFE_TO_BREAK, UNSAFE_TO_CONCAT,
+    hb_buffer_t, hb_glyph_info_t, hb_mask_t,
+};
+
+/// The defined flags of the first items, as long as they are in the cluster, joined.
+fn joined_flags(infos: &[hb_glyph_info_t], cluster: u32) -> hb_mask_t
+    ensures { result ≡ first_joined cluster infos.now }
+{
+    infos
+        .iter()
+        .take_while(|info| info.cluster == cluster)
+        .fold(0, |joined, info| joined | info.mask & DEFINED)
+}
+
+/// The joined flags of a cluster, where tatweel is asked for: a tatweel may not be put in where it is unsafe
+/// to break, and where it may be put in it is unsafe to break and to concat.
+fn with_tatweel(flags: BufferFlags, joined: hb_mask_t) -> hb_mask_t
+    ensures { result ≡ with_tatweel_of flags joined }
+{
+    if !flags.contains(BufferFlags::PRODUCE_SAFE_TO_INSERT_TATWEEL) {
+        joined
+    } else if joined & UNSAFE_TO_BREAK == UNSAFE_TO_BREAK {
+        joined & (UNSAFE_TO_BREAK | UNSAFE_TO_CONCAT)
+    } else if joined & SAFE_TO_INSERT_TATWEEL == SAFE_TO_INSERT_TATWEEL {
+        joined | (UNSAFE_TO_BREAK | UNSAFE_TO_CONCAT)
+    } else {
+        joined
+    }
+}
+
+/// What of the joined flags of a cluster is handed out: unsafe to concat only where it is asked for.
+fn settled_flags(flags: BufferFlags, joined: hb_mask_t) -> hb_mask_t
+    ensures { result ≡ settled_flags_of flags joined }
+{
+    let tatweel = with_tatweel(flags, joined);
+    if flags.contains(BufferFlags::PRODUCE_UNSAFE_TO_CONCAT) {
+        tatweel
+    } else {
+        tatweel & (UNSAFE_TO_BREAK | SAFE_TO_INSERT_TATWEEL)
+    }
+}
+
+/// The mask of an item, the first of these, after one of this cluster and mask.
+fn mask_after(
+    flags: BufferFlags,
+    before: Option<(u32, hb_mask_t)>,
+    info: &hb_glyph_info_t,
+    infos: &[hb_glyph_info_t],
+) -> hb_mask_t
+    ensures { result ≡ mask_after_of flags before info.now infos.now }
+{
+    if let Some((cluster, mask)) = before {
+        if info.cluster == cluster {
+            return mask;
+        }
+    }
+    settled_flags(flags, joined_flags(infos, info.cluster))
+}
+
+/// Gives the items of each cluster the flags of all, where the run has seen flags.
+fn share_flags(buffer: &mut hb_buffer_t)
+    ensures { Made flags_propagated buffer.old buffer.new }
+{
+    if !buffer
+        .scratch_flags()
+        .contains(ScratchFlags::HAS_GLYPH_FLAGS)
+    {
+        return;
+    }
+    let flags = buffer.flags();
+    let mut before = None;
+    for i in 0..buffer.len() {
+        let mut info = buffer.infos()[i];
+        let mask = mask_after(flags, before, &info, &buffer.infos()[i..]);
+        before = Some((info.cluster, mask));
+        info.mask = mask;
+        buffer.set_info(i, info);
+    }
+}
+
+/// Gives each cluster one set of flags, where the run has seen flags: the defined bits of its items joined,
+/// settled by what the caller asks for, in place of each mask. Where it hasn't seen any and no item has
+/// one, nothing is to be done. Takes no memory.
+pub fn propagate_flags(buffer: &mut hb_buffer_t)
+    ensures made { Made flags_propagated buffer.old buffer.new }
+    ensures one_set { IsHonest buffer.old → HasOneSetOfFlags buffer.new.items }
+    ensures concat { IsHonest buffer.old → (bit_and buffer.old.flags.0 64 == 64) ≡ false → some_has 2 buffer.new.items ≡ false }
+{
+    share_flags(buffer);
+}

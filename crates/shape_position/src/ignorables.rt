@@ -1,0 +1,130 @@
+//! Default ignorables: characters that have no look of their own, such as joiners and selectors.
+//!
+//! They guide shaping and are unseen in the end, unless the buffer's flags preserve them. So they lose their
+//! positions once tables have placed the glyphs, and then take the look of a space; where there is no such
+//! glyph, or their removal is asked for, they are deleted. One that a lookup has put a glyph in for is
+//! meant to be seen and stays (The Unicode Standard, section 5.21).
+ghost use Rattle.std.specs.Prelude.{◌≡◌};
+ghost use Rattle.shape_buffer.specs.Outcome.{Made};
+ghost use Rattle.shape_position.specs.Ignorables.{is_ignorable as is_ignorable_of, hides_ignorables as hides_ignorables_of, removes_ignorables as removes_ignorables_of, without_values as without_values_of, zeroed_ignorable, ignorables_zeroed, unseen_glyph as unseen_glyph_of, shown_as as shown_as_of, replaced_or_deleted, ignorables_hidden};
+
+use bitflags::Flags;
+use shape_buffer::buffer::{
+    BufferFlags, GlyphId, GlyphPosition, ScratchFlags, hb_buffer_t, hb_glyph_info_t,
+};
+use shape_buffer::interfaces::hb_font_t;
+use shape_buffer::position_walks::update_positions;
+use shape_buffer::walks::update_items;
+
+/// Whether a glyph stands for a default ignorable: its bit is set, and no lookup has put the glyph in.
+fn is_ignorable(info: &hb_glyph_info_t) -> bool
+    ensures { result ≡ is_ignorable_of info.now }
+{
+    info._hb_glyph_info_get_ignorable() && !info._hb_glyph_info_get_substituted()
+}
+
+/// Whether default ignorables are hidden: the run has seen some, and the flags don't preserve them.
+fn hides_ignorables(buffer: &hb_buffer_t) -> bool
+    ensures { result ≡ hides_ignorables_of buffer.now }
+{
+    buffer
+        .scratch_flags()
+        .contains(ScratchFlags::HAS_DEFAULT_IGNORABLES)
+        && !buffer
+            .flags()
+            .contains(BufferFlags::PRESERVE_DEFAULT_IGNORABLES)
+}
+
+/// Whether the flags remove default ignorables.
+fn removes_ignorables(buffer: &hb_buffer_t) -> bool
+    ensures { result ≡ removes_ignorables_of buffer.now }
+{
+    buffer
+        .flags()
+        .contains(BufferFlags::REMOVE_DEFAULT_IGNORABLES)
+}
+
+/// The position with its four values 0; what the glyph is attached to stays.
+pub(crate) fn without_values(position: GlyphPosition) -> GlyphPosition
+    ensures { result ≡ without_values_of position }
+{
+    GlyphPosition {
+        x_advance: 0,
+        y_advance: 0,
+        x_offset: 0,
+        y_offset: 0,
+        ..position
+    }
+}
+
+/// The position of a glyph, with values 0 where it stands for a default ignorable.
+fn zero_ignorable(info: &hb_glyph_info_t, position: GlyphPosition) -> GlyphPosition
+    ensures { result ≡ zeroed_ignorable info.now position }
+{
+    if is_ignorable(info) {
+        without_values(position)
+    } else {
+        position
+    }
+}
+
+/// Sets the four values of default ignorables to 0, where the run has seen any, unless the flags preserve
+/// or remove them. Takes no memory.
+#[tactic(auto, unfolding(crate::specs::Ignorables::ignorables_zeroed))]
+pub fn zero_width_default_ignorables(buffer: &mut hb_buffer_t)
+    ensures { Made ignorables_zeroed buffer.old buffer.new }
+{
+    if !hides_ignorables(buffer) || removes_ignorables(buffer) {
+        return;
+    }
+    update_positions(buffer, |info, position| zero_ignorable(info, position));
+}
+
+/// What is seen of default ignorables: the buffer's invisible glyph, else the glyph of U+0020.
+fn unseen_glyph<F: hb_font_t>(face: &F, buffer: &hb_buffer_t) -> Option<GlyphId>
+    ensures { result ≡ unseen_glyph_of (F.face face.now) buffer.now }
+{
+    match buffer.invisible_glyph() {
+        Some(glyph) => Some(glyph),
+        None => face.get_nominal_glyph(' '),
+    }
+}
+
+/// The item, with the glyph where it stands for a default ignorable.
+fn show_as(glyph: GlyphId, info: &hb_glyph_info_t) -> hb_glyph_info_t
+    ensures { result ≡ shown_as_of glyph info.now }
+{
+    let mut info = *info;
+    if is_ignorable(&info) {
+        info.glyph_id = glyph.0;
+    }
+    info
+}
+
+/// Gives the default ignorables a glyph, or deletes them where there is none.
+fn replace_or_delete(buffer: &mut hb_buffer_t, glyph: Option<GlyphId>)
+    ensures { Made (replaced_or_deleted glyph) buffer.old buffer.new }
+{
+    match glyph {
+        Some(glyph) => update_items(buffer, |info| show_as(glyph, info)),
+        None => buffer.delete_glyphs_inplace(is_ignorable),
+    }
+}
+
+/// Hides the default ignorables, where the run has seen any, unless the flags preserve them: each takes the
+/// buffer's invisible glyph, else the glyph of U+0020. They are deleted where the flags remove them or there
+/// is neither glyph. Takes no memory.
+#[tactic(auto, unfolding(crate::specs::Ignorables::ignorables_hidden))]
+pub fn hide_default_ignorables<F: hb_font_t>(face: &F, buffer: &mut hb_buffer_t)
+    ensures { Made (ignorables_hidden (F.face face.now)) buffer.old buffer.new }
+{
+    if !hides_ignorables(buffer) {
+        return;
+    }
+    let glyph = if removes_ignorables(buffer) {
+        None
+    } else {
+        unseen_glyph(face, buffer)
+    };
+    replace_or_delete(buffer, glyph);
+}

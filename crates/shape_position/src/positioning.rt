@@ -1,0 +1,84 @@
+//! Positions by tables, in the order in which a run makes them.
+//!
+//! The order is fixed: marks lose their advances before the tables or after them, as the shaper says, and
+//! advances are finished before offsets, since an offset may rest on the advances between two glyphs.
+ghost use Rattle.std.specs.Prelude.{◌≡◌};
+ghost use Rattle.shape_buffer.specs.Outcome.{IsWithinLimit, RunOutcome, Ran};
+ghost use Rattle.shape_position.specs.Steps.{place_steps, close_steps, table_steps};
+
+use crate::ignorables::zero_width_default_ignorables;
+use crate::tables::{
+    kern_by_plan, position_by_plan, position_finish_advances, position_finish_offsets,
+    position_start, zero_width_deleted,
+};
+use crate::zeroing::{zero_marks_early, zero_marks_late};
+use shape_buffer::buffer::{ShapeError, hb_buffer_t};
+use shape_buffer::interfaces::{hb_font_t, hb_ot_layout_t, hb_unicode_funcs_t};
+use shape_plan::ot_shape_plan::hb_ot_shape_plan_t;
+use shape_plan::ot_shaper::{Runs, hb_ot_shaper_t};
+use std::alloc::Global;
+
+/// Places the glyphs by tables, and zeroes marks before or after that. Refuses as the engine does.
+fn place_by_tables<U, F, M, S>(
+    alloc: Global,
+    plan: &hb_ot_shape_plan_t<'_, S, M::Map, S::Data>,
+    face: &F,
+    buffer: &mut hb_buffer_t,
+) -> Result<(), ShapeError>
+where
+    U: hb_unicode_funcs_t,
+    F: hb_font_t,
+    M: hb_ot_layout_t<F>,
+    S: hb_ot_shaper_t<U, F, M>,
+    requires { IsWithinLimit buffer.old }
+    ensures { RunOutcome (place_steps (⟦<S as Runs<U, F, M>>⟧.run plan.now face.now)) buffer.old buffer.new result }
+{
+    position_start::<F, M, S, S::Data>(plan, face, buffer);
+    zero_marks_early::<U, F, M, S>(plan, face, buffer);
+    position_by_plan::<F, M, S, S::Data>(alloc, plan, face, buffer)?;
+    kern_by_plan::<F, M, S, S::Data>(alloc, plan, face, buffer)?;
+    zero_marks_late::<U, F, M, S>(plan, face, buffer);
+    Ok(())
+}
+
+/// Finishes what tables have begun. Takes no memory.
+fn close_positions<U, F, M, S>(
+    plan: &hb_ot_shape_plan_t<'_, S, M::Map, S::Data>,
+    face: &F,
+    buffer: &mut hb_buffer_t,
+)
+where
+    U: hb_unicode_funcs_t,
+    F: hb_font_t,
+    M: hb_ot_layout_t<F>,
+    S: hb_ot_shaper_t<U, F, M>,
+    requires { IsWithinLimit buffer.old }
+    ensures { Ran (close_steps (⟦<S as Runs<U, F, M>>⟧.run plan.now face.now)) buffer.old buffer.new }
+{
+    position_finish_advances::<F, M, S, S::Data>(plan, face, buffer);
+    zero_width_default_ignorables(buffer);
+    zero_width_deleted::<F, M, S, S::Data>(plan, face, buffer);
+    position_finish_offsets::<F, M, S, S::Data>(plan, face, buffer);
+}
+
+/// Positions the glyphs by the tables of the plan, in units of the face; fallback marks come behind.
+/// Refuses with `Length` where a table would leave a list past the buffer's limit, and with `Memory` where a
+/// growth was refused; nothing is said of the buffer then.
+pub fn position_complex<U, F, M, S>(
+    alloc: Global,
+    plan: &hb_ot_shape_plan_t<'_, S, M::Map, S::Data>,
+    face: &F,
+    buffer: &mut hb_buffer_t,
+) -> Result<(), ShapeError>
+where
+    U: hb_unicode_funcs_t,
+    F: hb_font_t,
+    M: hb_ot_layout_t<F>,
+    S: hb_ot_shaper_t<U, F, M>,
+    requires { IsWithinLimit buffer.old }
+    ensures { RunOutcome (table_steps (⟦<S as Runs<U, F, M>>⟧.run plan.now face.now)) buffer.old buffer.new result }
+{
+    place_by_tables::<U, F, M, S>(alloc, plan, face, buffer)?;
+    close_positions::<U, F, M, S>(plan, face, buffer);
+    Ok(())
+}

@@ -1,0 +1,138 @@
+//! Marks that lose their advances.
+//!
+//! A mark stands over the glyph before it and must not move the pen. Shapers say when its advance goes:
+//! before the tables place it, after, or never. Where no table moves marks, a mark of a forward line is
+//! moved back by the advance that it loses, so that it hangs over the glyph before it; in a backward line
+//! it then hangs over the glyph that comes to stand before it when the line is turned.
+ghost use Rattle.std.specs.Prelude.{◌≡◌, ◌==◌, ◌&&◌, true};
+ghost use Rattle.shape_buffer.specs.Outcome.{Made};
+ghost use Rattle.shape_plan.specs.Run.{step_if};
+ghost use Rattle.shape_position.specs.Advances.{IsExactDifference};
+ghost use Rattle.shape_position.specs.Zeroing.{is_mark_glyph as is_mark_glyph_of, without_advances as without_advances_of, moved_back as moved_back_of, zeroed_mark, marks_zeroed, zero_width_time as zero_width_time_of, zeroed_at, zeroed_early, zeroed_late};
+
+use bitflags::Flags;
+use shape_buffer::buffer::{GlyphPosition, GlyphPropsFlags, hb_buffer_t, hb_glyph_info_t};
+use shape_buffer::interfaces::{hb_font_t, hb_ot_layout_t, hb_unicode_funcs_t};
+use shape_buffer::position_walks::update_positions;
+use shape_buffer::wrapping::difference;
+use shape_plan::ot_shape_plan::hb_ot_shape_plan_t;
+use shape_plan::ot_shaper::{
+    HB_OT_SHAPE_ZERO_WIDTH_MARKS_BY_GDEF_EARLY, HB_OT_SHAPE_ZERO_WIDTH_MARKS_BY_GDEF_LATE,
+    HB_OT_SHAPE_ZERO_WIDTH_MARKS_NONE, Runs, hb_ot_shape_zero_width_marks_type_t, hb_ot_shaper_t,
+};
+
+/// Whether the class of a glyph has the bit of marks.
+fn is_mark_glyph(info: &hb_glyph_info_t) -> bool
+    ensures { result ≡ is_mark_glyph_of info.now }
+{
+    info._hb_glyph_info_get_glyph_class()
+        .contains(GlyphPropsFlags::MARK)
+}
+
+/// The position moved back by its advances. A difference that doesn't fit wraps.
+fn move_back(position: GlyphPosition) -> GlyphPosition
+    ensures value { result ≡ moved_back_of position }
+    ensures exact_x { IsExactDifference position.x_offset position.x_advance result.x_offset }
+    ensures exact_y { IsExactDifference position.y_offset position.y_advance result.y_offset }
+{
+    GlyphPosition {
+        x_offset: difference(position.x_offset, position.x_advance),
+        y_offset: difference(position.y_offset, position.y_advance),
+        ..position
+    }
+}
+
+/// The position without advances.
+fn without_advances(position: GlyphPosition) -> GlyphPosition
+    ensures { result ≡ without_advances_of position }
+{
+    GlyphPosition {
+        x_advance: 0,
+        y_advance: 0,
+        ..position
+    }
+}
+
+/// The position of a glyph, without advances where it is a mark, which is first moved back where it is to
+/// be adjusted.
+fn zero_mark(adjust: bool, info: &hb_glyph_info_t, position: GlyphPosition) -> GlyphPosition
+    ensures { result ≡ zeroed_mark adjust info.now position }
+{
+    if !is_mark_glyph(info) {
+        return position;
+    }
+    if adjust {
+        without_advances(move_back(position))
+    } else {
+        without_advances(position)
+    }
+}
+
+/// Takes the advances from the marks; where `adjust_offsets` holds and the buffer is forward, they are
+/// first moved back by them. Takes no memory.
+#[tactic(auto, unfolding(crate::specs::Zeroing::marks_zeroed))]
+pub fn zero_mark_widths_by_gdef(buffer: &mut hb_buffer_t, adjust_offsets: bool)
+    ensures { Made (marks_zeroed adjust_offsets) buffer.old buffer.new }
+{
+    let adjust = adjust_offsets && buffer.direction().is_forward();
+    update_positions(buffer, |info, position| zero_mark(adjust, info, position));
+}
+
+/// When marks lose their advances: by the shaper that the plan keeps, never where it keeps none.
+fn zero_width_time<U, F, M, S>(
+    plan: &hb_ot_shape_plan_t<'_, S, M::Map, S::Data>,
+    face: &F,
+) -> hb_ot_shape_zero_width_marks_type_t
+where
+    U: hb_unicode_funcs_t,
+    F: hb_font_t,
+    M: hb_ot_layout_t<F>,
+    S: hb_ot_shaper_t<U, F, M>,
+    ensures { let run = ⟦<S as Runs<U, F, M>>⟧.run plan.now face.now in
+        result ≡ zero_width_time_of run.constants run.hooks }
+{
+    match plan.shaper() {
+        Some(_) => S::ZERO_WIDTH_MARKS,
+        None => HB_OT_SHAPE_ZERO_WIDTH_MARKS_NONE,
+    }
+}
+
+/// Takes the advances from marks before tables place them, where the plan's shaper says so and the plan
+/// zeroes marks. Takes no memory.
+pub fn zero_marks_early<U, F, M, S>(
+    plan: &hb_ot_shape_plan_t<'_, S, M::Map, S::Data>,
+    face: &F,
+    buffer: &mut hb_buffer_t,
+)
+where
+    U: hb_unicode_funcs_t,
+    F: hb_font_t,
+    M: hb_ot_layout_t<F>,
+    S: hb_ot_shaper_t<U, F, M>,
+    ensures { Made (zeroed_early (⟦<S as Runs<U, F, M>>⟧.run plan.now face.now)) buffer.old buffer.new }
+{
+    let time = zero_width_time::<U, F, M, S>(plan, face);
+    if plan.zero_marks() && time == HB_OT_SHAPE_ZERO_WIDTH_MARKS_BY_GDEF_EARLY {
+        zero_mark_widths_by_gdef(buffer, plan.adjust_mark_positioning_when_zeroing());
+    }
+}
+
+/// Takes the advances from marks after tables have placed them, where the plan's shaper says so and the
+/// plan zeroes marks. Takes no memory.
+pub fn zero_marks_late<U, F, M, S>(
+    plan: &hb_ot_shape_plan_t<'_, S, M::Map, S::Data>,
+    face: &F,
+    buffer: &mut hb_buffer_t,
+)
+where
+    U: hb_unicode_funcs_t,
+    F: hb_font_t,
+    M: hb_ot_layout_t<F>,
+    S: hb_ot_shaper_t<U, F, M>,
+    ensures { Made (zeroed_late (⟦<S as Runs<U, F, M>>⟧.run plan.now face.now)) buffer.old buffer.new }
+{
+    let time = zero_width_time::<U, F, M, S>(plan, face);
+    if plan.zero_marks() && time == HB_OT_SHAPE_ZERO_WIDTH_MARKS_BY_GDEF_LATE {
+        zero_mark_widths_by_gdef(buffer, plan.adjust_mark_positioning_when_zeroing());
+    }
+}

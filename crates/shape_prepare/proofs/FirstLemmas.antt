@@ -1,0 +1,160 @@
+-- The clusters of first characters of graphemes.
+use Rattle.std.proofs.Common.{◌≡◌, ℕ, zero, suc, ◌+◌, ◌<◌, ◌&&◌, Bool, true, false, List, [], ◌∷◌, ◌++◌, length, get_or, take, map, refl, sym, ap, ap₂, ◌∙◌, arith, inl, inr, subst, append_assoc}
+use Rattle.std.proofs.lemmas.Bool.{cases_Bool}
+use Rattle.std.proofs.lemmas.List.{length-map, length-append, map-append, get_or_at}
+use Rattle.std.specs.Prelude.{Contains}
+use Rattle.std.specs.List.{flat_map}
+use Rattle.std.specs.List.Sorted.{IsNonDecreasing}
+use Rattle.canonical_form.specs.Divided.{divided, put_first}
+use Rattle.canonical_form.proofs.DividedLemmas.{whole, whole-divided}
+use Rattle.shape_buffer.specs.Buffer.{Buffer}
+use Rattle.shape_buffer.specs.Clusters.{clusters}
+use Rattle.shape_buffer.specs.ClusterOrder.{IsMonotoneLevel}
+use Rattle.shape_buffer.specs.Face.{FaceMeaning}
+use Rattle.shape_buffer.specs.Items.{Item}
+use Rattle.shape_buffer.specs.Unicode.{UnicodeMeaning}
+use Rattle.shape_buffer.proofs.JoinLemmas.{cluster_at}
+use Rattle.shape_prepare.specs.ClusterPoint.{first_clusters, PreparingKeepsFirsts}
+use Rattle.shape_prepare.specs.Begun.{begun}
+use Rattle.shape_prepare.specs.ClustersFormed.{clusters_formed, grapheme_spans}
+use Rattle.shape_prepare.specs.NativeOrder.{natively_ordered}
+use Rattle.shape_plan.specs.Run.{hook_if}
+use Rattle.shape_buffer.specs.Keepers.{IsClusterKeeper}
+use Rattle.shape_buffer.specs.declared.buffer.settings.BufferClusterLevel.TheVariants.{MonotoneGraphemes}
+use Rattle.shape_prepare.proofs.FlagKeeperLemmas.{keeper-hook}
+use Rattle.shape_prepare.proofs.OrderKeeperLemmas.{KeepsOrder-same, KeepsOrder-then, begun-keeps_order, graphemes_marked-keeps_order, dotted_circled-keeps_order, rotated-keeps_order, natively-in_order, formed-ready, circled-unseen, marked-unseen, seen_past}
+use Rattle.shape_prepare.proofs.StepLemmas.{clusters_formed-unseen, clusters_formed-merged}
+use Rattle.shape_prepare.specs.DottedCircle.{dotted_circled, with_circle, circle_before, takes_circle, begins_with_mark}
+use Rattle.shape_prepare.specs.Graphemes.{graphemes, graphemes_marked, is_continuation}
+use Rattle.shape_prepare.proofs.RisingMergeLemmas.{Firsts, all-firsts, SomeEach}
+use Rattle.shape_prepare.proofs.GraphemeClusterLemmas.{sizes-bits, some-sizes, total-graphemes, merged-parts, graphemes_merged, spans-merged, NoneContinues}
+
+abbrev firsts_of : List (List Item) → List ℕ
+firsts_of parts = flat_map (λ part. take 1 (clusters part)) parts
+
+contains-behind : (x : ℕ) (xs : List ℕ) (k : ℕ) → Contains xs k → Contains (x ∷ xs) k
+contains-behind x xs k (i, lt, e) = (suc i, omega arith, e)
+
+-- the first items of parts have the first clusters
+parts-firsts : (Q : ℕ → Type 0) (pre : List Item) (parts : List (List Item)) → SomeEach (map length parts) → ((k : ℕ) → Contains (firsts_of parts) k → Q k) → Firsts Q (length pre) (map length parts) (pre ++ whole parts)
+parts-firsts Q pre [] some holds = tt
+parts-firsts Q pre ([] ∷ parts) some holds = absurd (omega (arith, some.0))
+parts-firsts Q pre ((x ∷ part) ∷ parts) some holds =
+    let behind = (x ∷ part) ++ whole parts in
+    let here : cluster_at (pre ++ behind) (length pre) ≡ x.cluster =
+    ap (λ (cs : List ℕ). get_or cs (length pre) 0) (map-append (λ (item : Item). item.cluster) pre behind)
+    ∙ get_or_at (clusters pre) x.cluster (clusters (part ++ whole parts)) 0 (length pre) (length-map pre (λ item. item.cluster)) in
+    let size : length (pre ++ (x ∷ part)) ≡ length pre + length (x ∷ part) = length-append pre (x ∷ part) in
+    let rest = parts-firsts Q (pre ++ (x ∷ part)) parts some.1 (λ k c. holds k (contains-behind x.cluster (firsts_of parts) k c)) in (
+      subst Q (sym here) (holds x.cluster (0, omega arith, refl)),
+      subst (λ (l : List Item). Firsts Q (length pre + length (x ∷ part)) (map length parts) l) (append_assoc pre (x ∷ part) (whole parts))
+          (subst (λ n. Firsts Q n (map length parts) ((pre ++ (x ∷ part)) ++ whole parts)) size rest),
+    )
+
+pub own-firsts : (Q : ℕ → Type 0) (xs : List Item) → ((k : ℕ) → Contains (first_clusters xs) k → Q k) → Firsts Q 0 (map length (graphemes xs)) xs
+own-firsts Q xs holds =
+    let some : SomeEach (map length (graphemes xs)) = subst SomeEach (sym (sizes-bits is_continuation xs)) (some-sizes (map is_continuation xs)) in
+    subst (λ (l : List Item). Firsts Q 0 (map length (graphemes xs)) l) (whole-divided is_continuation xs) (parts-firsts Q [] (graphemes xs) some holds)
+
+-- merged graphemes have no other clusters than the first ones
+pub merged-firsts : (Q : ℕ → Type 0) (xs : List Item) → IsNonDecreasing (clusters xs) → ((k : ℕ) → Contains (first_clusters xs) k → Q k) → (k : ℕ) → Contains (clusters (graphemes_merged xs)) k → Q k
+merged-firsts Q xs rising holds k (i, lt, e) =
+    let merged = merged-parts xs rising in
+    let many : length (clusters (graphemes_merged xs)) ≡ length (graphemes_merged xs) = length-map (graphemes_merged xs) (λ item. item.cluster) in
+    let inside : i < length xs = omega (arith, lt, many, merged.as_many) in
+    let all = all-firsts Q 0 (map length (graphemes xs)) (graphemes_merged xs) merged.one (merged.firsts Q (own-firsts Q xs holds)) i (omega arith) (omega (arith, total-graphemes xs)) in
+    subst Q (sym (at_default (clusters (graphemes_merged xs)) i k lt) ∙ e) all
+  where
+    at_default : (cs : List ℕ) (i d : ℕ) → i < length cs → get_or cs i d ≡ get_or cs i 0
+    at_default [] i d lt = absurd (omega arith)
+    at_default (c ∷ cs) zero d lt = refl
+    at_default (c ∷ cs) (suc i) d lt = at_default cs i d (omega arith)
+
+-- ---- a circle before the first item
+
+divided-on : {A : Type 0} (belongs : A → Bool) (x y : A) (rest : List A) → belongs y ≡ true → divided belongs (x ∷ y ∷ rest) ≡ put_first x (divided belongs (y ∷ rest))
+divided-on belongs x y rest on = rw on refl
+
+divided-off : {A : Type 0} (belongs : A → Bool) (x y : A) (rest : List A) → belongs y ≡ false → divided belongs (x ∷ y ∷ rest) ≡ (x ∷ []) ∷ divided belongs (y ∷ rest)
+divided-off belongs x y rest off = rw off refl
+
+-- the first grapheme begins with the first item
+first-head : (x : Item) (xs : List Item) → (p : List Item) × (ps : List (List Item)) × (graphemes (x ∷ xs) ≡ (x ∷ p) ∷ ps)
+first-head x [] = ([], [], refl)
+first-head x (y ∷ ys) = elim (cases_Bool (is_continuation y)) [
+  | inl on ↦ (let h = first-head y ys in (y ∷ h.0, h.1, divided-on is_continuation x y ys on ∙ ap (put_first x) h.2))
+  | inr off ↦ ([], graphemes (y ∷ ys), divided-off is_continuation x y ys off)
+]
+
+contains-once : (x : ℕ) (xs : List ℕ) (k : ℕ) → Contains (x ∷ x ∷ xs) k → Contains (x ∷ xs) k
+contains-once x xs k (zero, lt, e) = (zero, omega arith, e)
+contains-once x xs k (suc i, lt, e) = (i, omega arith, e)
+
+ahead-firsts : (circle first : Item) (rest : List Item) → circle.cluster ≡ first.cluster → (k : ℕ) → Contains (first_clusters (circle ∷ first ∷ rest)) k → Contains (first_clusters (first ∷ rest)) k
+ahead-firsts circle first rest same k =
+    let h = first-head first rest in
+    let own : first_clusters (first ∷ rest) ≡ first.cluster ∷ firsts_of h.1 = ap firsts_of h.2 in
+    elim (cases_Bool (is_continuation first)) [
+      | inl on ↦ λ c.
+          let all : first_clusters (circle ∷ first ∷ rest) ≡ circle.cluster ∷ firsts_of h.1 = ap firsts_of (divided-on is_continuation circle first rest on ∙ ap (put_first circle) h.2) in
+          subst (λ (l : List ℕ). Contains l k) (all ∙ ap (λ n. n ∷ firsts_of h.1) same ∙ sym own) c
+      | inr off ↦ λ c.
+          let all : first_clusters (circle ∷ first ∷ rest) ≡ circle.cluster ∷ first_clusters (first ∷ rest) = ap firsts_of (divided-off is_continuation circle first rest off) in
+          let twice = all ∙ ap₂ (λ (n : ℕ) (l : List ℕ). n ∷ l) same own in
+          subst (λ (l : List ℕ). Contains l k) (sym own) (contains-once first.cluster (firsts_of h.1) k (subst (λ (l : List ℕ). Contains l k) twice c))
+    ]
+
+with_circle-firsts : (unicode : UnicodeMeaning) (b : Buffer) (items : List Item) → b.items ≡ items → (k : ℕ) → Contains (first_clusters (with_circle unicode items b).items) k → Contains (first_clusters b.items) k
+with_circle-firsts unicode b [] is k c = c
+with_circle-firsts unicode b (first ∷ rest) is k c =
+    subst (λ (l : List Item). Contains (first_clusters l) k) (sym is)
+    (ahead-firsts (circle_before unicode first) first rest refl k (subst (λ (l : List Item). Contains (first_clusters (circle_before unicode first ∷ l)) k) is c))
+
+circled-firsts : (unicode : UnicodeMeaning) (face : FaceMeaning) (b : Buffer) (k : ℕ) → Contains (first_clusters (dotted_circled unicode face b).items) k → Contains (first_clusters b.items) k
+unfolding dotted_circled
+circled-firsts unicode face b k = elim (cases_Bool (takes_circle face b && begins_with_mark b.items)) [
+  | inl on ↦ rw on (λ c. with_circle-firsts unicode b b.items refl k c)
+  | inr off ↦ rw off (λ c. c)
+]
+
+-- ---- the whole
+
+single-firsts : (xs : List Item) → NoneContinues xs → clusters xs ≡ first_clusters xs
+single-firsts [] none = refl
+single-firsts (x ∷ []) none = refl
+single-firsts (x ∷ y ∷ rest) none = ap (λ (cs : List ℕ). x.cluster ∷ cs) (single-firsts (y ∷ rest) none.1) ∙ sym (ap firsts_of (divided-off is_continuation x y rest none.1.0))
+
+formed-firsts : (unicode : UnicodeMeaning) (face : FaceMeaning) (b : Buffer) → b.cluster_level ≡ MonotoneGraphemes → IsNonDecreasing (clusters b.items)
+    → (k : ℕ) → Contains (clusters (clusters_formed (dotted_circled unicode face (graphemes_marked unicode b))).items) k → Contains (first_clusters (graphemes_marked unicode b).items) k
+formed-firsts unicode face b graphemes_level rising k contains =
+    let marked = graphemes_marked unicode b in
+    let circled = dotted_circled unicode face marked in
+    let first = KeepsOrder-then b marked circled (graphemes_marked-keeps_order unicode b) (dotted_circled-keeps_order unicode face marked) in
+    let level : circled.cluster_level ≡ MonotoneGraphemes = first.level ∙ graphemes_level in
+    elim (cases_Bool (seen_past circled.scratch_flags)) [
+      | inl seen ↦
+          let whole_is = clusters_formed-merged circled seen level ∙ spans-merged (grapheme_spans circled.items) circled (subst IsMonotoneLevel (sym level) tt) in
+          merged-firsts (λ k. Contains (first_clusters marked.items) k) circled.items (first.clusters.rising rising) (circled-firsts unicode face marked) k
+          (subst (λ (c : Buffer). Contains (clusters c.items) k) whole_is contains)
+      | inr unseen ↦
+          let same = circled-unseen unicode face marked unseen in
+          let bare : NoneContinues marked.items = marked-unseen unicode b (ap (λ (c : Buffer). seen_past c.scratch_flags) (sym same) ∙ unseen) in
+          let own = subst (λ (c : Buffer). Contains (clusters c.items) k) (clusters_formed-unseen circled unseen ∙ same) contains in
+          subst (λ (l : List ℕ). Contains l k) (single-firsts marked.items bare) own
+    ]
+
+pub preparing_keeps_firsts : PreparingKeepsFirsts
+preparing_keeps_firsts run target b keeps graphemes_level rising k contains =
+    let start = begun run.map.global_mask b in
+    let first = begun-keeps_order run.map.global_mask b in
+    let formed = clusters_formed (dotted_circled run.unicode run.face (graphemes_marked run.unicode start)) in
+    let ordered = natively_ordered run.unicode formed in
+    let level : start.cluster_level ≡ MonotoneGraphemes = first.level ∙ graphemes_level in
+    let ready = formed-ready run.unicode run.face start (subst IsMonotoneLevel (sym level) tt) (first.clusters.rising rising) in
+    let turns = natively-in_order run.unicode formed ready in
+    let hook = keeper-hook IsClusterKeeper (λ c _. KeepsOrder-same c) run.constants.has_preprocess_text run.hooks (λ h. h.preprocess) (λ h is. (keeps.hooks h is).preprocess) in
+    let processed = hook_if run.constants.has_preprocess_text run.hooks (λ h. h.preprocess) ordered in
+    let ordered_level : IsMonotoneLevel ordered.cluster_level = subst IsMonotoneLevel (sym turns.level) ready.monotone in
+    let by_hook = hook ordered ordered_level in
+    let by_forms = rotated-keeps_order run.unicode run.face run.decisions target processed in
+    formed-firsts run.unicode run.face start level (first.clusters.rising rising) k (turns.none_new k (by_hook.clusters.none_new k (by_forms.clusters.none_new k contains)))

@@ -1,0 +1,118 @@
+-- Graphemes that were merged stand in one cluster each.
+use Rattle.std.proofs.Common.{◌≡◌, ℕ, suc, Bool, true, false, if◌then◌else◌, List, [], ◌∷◌, length, map, fold, refl, sym, ap, ap₂, ◌∙◌, arith, inl, inr, subst}
+use Rattle.std.proofs.lemmas.Bool.{cases_Bool}
+use Rattle.std.proofs.lemmas.List.{take_at, drop_at}
+use Rattle.std.specs.List.Sorted.{IsNonDecreasing}
+use Rattle.canonical_form.specs.Divided.{divided, put_first}
+use Rattle.canonical_form.proofs.DividedLemmas.{whole, whole-divided}
+use Rattle.shape_buffer.specs.Buffer.{Buffer}
+use Rattle.shape_buffer.specs.BufferClusters.{merge_clusters, merge_at, unsafe_to_break}
+use Rattle.shape_buffer.specs.Clusters.{clusters, merge}
+use Rattle.shape_buffer.specs.ClusterOrder.{IsMonotoneLevel}
+use Rattle.shape_buffer.specs.Items.{Item}
+use Rattle.shape_buffer.specs.declared.buffer.settings.BufferClusterLevel.{BufferClusterLevel}
+use Rattle.shape_buffer.specs.declared.buffer.settings.BufferClusterLevel.TheVariants.{MonotoneGraphemes, MonotoneCharacters, Characters}
+use Rattle.shape_buffer.proofs.GraphemeOrderLemmas.{AreOneCluster}
+use Rattle.shape_buffer.proofs.KeyLemmas.{keys-merge}
+use Rattle.shape_prepare.specs.ClustersFormed.{grapheme_spans}
+use Rattle.shape_prepare.specs.Graphemes.{graphemes, is_continuation}
+use Rattle.shape_prepare.specs.NativeOrder.{parted}
+use Rattle.shape_prepare.proofs.GraphemeWalkLemmas.{IsKey-continuation}
+use Rattle.shape_prepare.proofs.RisingMergeLemmas.{all_merged, parts-merged, parts-one_cluster, SomeEach, Merged}
+use Rattle.shape_prepare.proofs.TurnLemmas.{total, total-lengths}
+
+-- at a monotone level a walk that merges changes items alone
+merge_at-level : (start end : ℕ) (b : Buffer) (level : BufferClusterLevel) → IsMonotoneLevel level
+    → (elim level as (λ v. Buffer) [ MonotoneGraphemes ↦ merge_at start end b | MonotoneCharacters ↦ merge_at start end b | Characters ↦ unsafe_to_break start end b ]) ≡ merge_at start end b
+merge_at-level start end b MonotoneGraphemes monotone = refl
+merge_at-level start end b MonotoneCharacters monotone = refl
+merge_at-level start end b Characters monotone = absurd monotone
+
+pub spans-merged : (spans : List (ℕ × ℕ)) (b : Buffer) → IsMonotoneLevel b.cluster_level
+    → fold (λ b span. merge_clusters span.0 span.1 b) b spans ≡ record b { items = all_merged spans b.items }
+spans-merged [] b monotone = refl
+spans-merged (span ∷ spans) b monotone =
+    ap (λ (b : Buffer). fold (λ (b : Buffer) (span : ℕ × ℕ). merge_clusters span.0 span.1 b) b spans) (merge_at-level span.0 span.1 b b.cluster_level monotone)
+    ∙ spans-merged spans (merge_at span.0 span.1 b) monotone
+
+-- merging changes no bit
+bits-merged : (spans : List (ℕ × ℕ)) (xs : List Item) → map is_continuation (all_merged spans xs) ≡ map is_continuation xs
+bits-merged [] xs = refl
+bits-merged (span ∷ spans) xs = bits-merged spans (merge span.0 span.1 xs) ∙ keys-merge is_continuation IsKey-continuation span.0 span.1 xs
+
+-- sizes of parts go by the bits alone
+abbrev longer_first : List ℕ → List ℕ
+longer_first [] = 1 ∷ []
+longer_first (n ∷ ns) = suc n ∷ ns
+
+abbrev pub sizes_of_bits : List Bool → List ℕ
+sizes_of_bits [] = []
+sizes_of_bits (x ∷ []) = 1 ∷ []
+sizes_of_bits (x ∷ continuation ∷ bits) = if continuation then longer_first (sizes_of_bits (continuation ∷ bits)) else 1 ∷ sizes_of_bits (continuation ∷ bits)
+
+module _ {A : Type 0} (belongs : A → Bool) where
+  lengths-put_first : (x : A) (parts : List (List A)) → map length (put_first x parts) ≡ longer_first (map length parts)
+  lengths-put_first x [] = refl
+  lengths-put_first x (part ∷ parts) = refl
+
+  pub sizes-bits : (xs : List A) → map length (divided belongs xs) ≡ sizes_of_bits (map belongs xs)
+  sizes-bits [] = refl
+  sizes-bits (x ∷ []) = refl
+  sizes-bits (x ∷ y ∷ rest) = elim (cases_Bool (belongs y)) [
+    | inl on ↦ rw on (lengths-put_first x (divided belongs (y ∷ rest)) ∙ ap longer_first (sizes-bits (y ∷ rest)) ∙ ap (λ t. longer_first (sizes_of_bits (t ∷ map belongs rest))) on)
+    | inr off ↦ rw off (ap (λ (ns : List ℕ). 1 ∷ ns) (sizes-bits (y ∷ rest)) ∙ ap (λ t. 1 ∷ sizes_of_bits (t ∷ map belongs rest)) off)
+  ]
+
+some-longer : (ns : List ℕ) → SomeEach ns → SomeEach (longer_first ns)
+some-longer [] some = (omega arith, tt)
+some-longer (n ∷ ns) some = (omega arith, some.1)
+
+pub some-sizes : (bits : List Bool) → SomeEach (sizes_of_bits bits)
+some-sizes [] = tt
+some-sizes (x ∷ []) = (omega arith, tt)
+some-sizes (x ∷ true ∷ bits) = some-longer (sizes_of_bits (true ∷ bits)) (some-sizes (true ∷ bits))
+some-sizes (x ∷ false ∷ bits) = (omega arith, some-sizes (false ∷ bits))
+
+-- a list in parts of their sizes
+parted-whole : {A : Type 0} (parts : List (List A)) → parted (map length parts) (whole parts) ≡ parts
+parted-whole [] = refl
+parted-whole {A} (part ∷ parts) =
+    ap₂ (λ (a : List A) (l : List A). a ∷ parted (map length parts) l) (take_at part (whole parts) (length part) refl) (drop_at part (whole parts) (length part) refl)
+    ∙ ap (λ (l : List (List A)). part ∷ l) (parted-whole parts)
+
+pub parted-graphemes : (xs : List Item) (sizes : List ℕ) → map length (graphemes xs) ≡ sizes → parted sizes xs ≡ graphemes xs
+parted-graphemes xs sizes same =
+    ap₂ (λ (ns : List ℕ) (l : List Item). parted ns l) (sym same) (sym (whole-divided is_continuation xs)) ∙ parted-whole (graphemes xs)
+
+pub total-graphemes : (xs : List Item) → total (map length (graphemes xs)) ≡ length xs
+total-graphemes xs = total-lengths (graphemes xs) ∙ ap length (whole-divided is_continuation xs)
+
+-- the merged list of a list whose clusters rise
+abbrev pub graphemes_merged : List Item → List Item
+graphemes_merged xs = all_merged (grapheme_spans xs) xs
+
+pub sizes-merged : (xs : List Item) → map length (graphemes (graphemes_merged xs)) ≡ map length (graphemes xs)
+sizes-merged xs = sizes-bits is_continuation (graphemes_merged xs) ∙ ap sizes_of_bits (bits-merged (grapheme_spans xs) xs) ∙ sym (sizes-bits is_continuation xs)
+
+pub merged-parts : (xs : List Item) → IsNonDecreasing (clusters xs) → Merged 0 (map length (graphemes xs)) xs (graphemes_merged xs)
+merged-parts xs rising =
+    let sizes = map length (graphemes xs) in
+    let some : SomeEach sizes = subst SomeEach (sym (sizes-bits is_continuation xs)) (some-sizes (map is_continuation xs)) in
+    parts-merged 0 sizes xs rising some (omega (arith, total-graphemes xs))
+
+pub merged-one_cluster : (xs : List Item) → IsNonDecreasing (clusters xs) → AreOneCluster (graphemes (graphemes_merged xs))
+merged-one_cluster xs rising =
+    subst AreOneCluster (parted-graphemes (graphemes_merged xs) (map length (graphemes xs)) (sizes-merged xs))
+    (parts-one_cluster 0 (map length (graphemes xs)) (graphemes_merged xs) (merged-parts xs rising).one)
+
+-- ---- graphemes of one item
+
+-- no item after the first continues
+abbrev pub NoneContinues : List Item → Type 0
+NoneContinues [] = Unit {0}
+NoneContinues (x ∷ xs) = (is_continuation x ≡ false) × NoneContinues xs
+
+pub single-one_cluster : (xs : List Item) → NoneContinues xs → AreOneCluster (graphemes xs)
+single-one_cluster [] none = tt
+single-one_cluster (x ∷ []) none = ((x.cluster, refl), tt)
+single-one_cluster (x ∷ y ∷ rest) none = rw none.1.0 ((x.cluster, refl), single-one_cluster (y ∷ rest) none.1)

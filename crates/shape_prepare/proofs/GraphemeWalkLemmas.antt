@@ -1,0 +1,108 @@
+-- A walk that finds the end of each grapheme goes over the spans of the graphemes.
+use Rattle.std.proofs.Common.{◌≡◌, ℕ, suc, ◌+◌, ◌<◌, Bool, true, false, not, if◌then◌else◌, List, [], ◌∷◌, length, get_or, drop, map, fold, refl, sym, ap, ◌∙◌, arith, inl, inr}
+use Rattle.std.proofs.lemmas.Bool.{cases_Bool}
+use Rattle.std.proofs.lemmas.List.{drop_more, drop-map}
+use Rattle.canonical_form.specs.Divided.{divided, put_first}
+use Rattle.shape_buffer.specs.Buffer.{Buffer}
+use Rattle.shape_buffer.specs.Items.{Item}
+use Rattle.shape_buffer.proofs.KeyLemmas.{IsKey}
+use Rattle.shape_prepare.specs.Graphemes.{is_continuation}
+use Rattle.shape_prepare.specs.ClustersFormed.{spans_from}
+use Rattle.shape_prepare.specs.GraphemeWalk.{ends}
+
+-- what is left to do from place `place` on, where items from there on continue or don't, and the open grapheme began at `start`
+abbrev pub left_to_do : (ℕ → ℕ → Buffer → Buffer) → ℕ → ℕ → List Bool → Buffer → Buffer
+left_to_do f start place [] b = b
+left_to_do f start place (x ∷ []) b = f start (place + 1) b
+left_to_do f start place (x ∷ continuation ∷ behind) b =
+    if continuation then left_to_do f start (place + 1) (continuation ∷ behind) b
+    else left_to_do f (place + 1) (place + 1) (continuation ∷ behind) (f start (place + 1) b)
+
+not_true : (t : Bool) → not t ≡ true → t ≡ false
+not_true true e = sym e
+not_true false e = refl
+
+not_false : (t : Bool) → not t ≡ false → t ≡ true
+not_false true e = refl
+not_false false e = sym e
+
+-- a grapheme that ends here is done
+ends_here : (f : ℕ → ℕ → Buffer → Buffer) (start place : ℕ) (x : Bool) (behind : List Bool) (b : Buffer) → ends behind ≡ true
+    → left_to_do f start place (x ∷ behind) b ≡ left_to_do f (place + 1) (place + 1) behind (f start (place + 1) b)
+ends_here f start place x [] b e = refl
+ends_here f start place x (c ∷ behind) b e = let off : c ≡ false = not_true c e in rw off refl
+
+-- one that goes on is left open
+goes_on : (f : ℕ → ℕ → Buffer → Buffer) (start place : ℕ) (x : Bool) (behind : List Bool) (b : Buffer) → ends behind ≡ false
+    → left_to_do f start place (x ∷ behind) b ≡ left_to_do f start (place + 1) behind b
+goes_on f start place x [] b e = absurd (let none : true ≡ false = e in cc)
+goes_on f start place x (c ∷ behind) b e = let on : c ≡ true = not_false c e in rw on refl
+
+-- the same, of a list of bits and a place in it
+pub walk_ends : (f : ℕ → ℕ → Buffer → Buffer) (start place : ℕ) (bits : List Bool) (b : Buffer) → place < length bits → ends (drop (place + 1) bits) ≡ true
+    → left_to_do f (place + 1) (place + 1) (drop (place + 1) bits) (f start (place + 1) b) ≡ left_to_do f start place (drop place bits) b
+walk_ends f start place bits b within e =
+    sym (ap (λ l. left_to_do f start place l b) (drop_more bits place false within) ∙ ends_here f start place (get_or bits place false) (drop (place + 1) bits) b e)
+
+pub walk_goes_on : (f : ℕ → ℕ → Buffer → Buffer) (start place : ℕ) (bits : List Bool) (b : Buffer) → place < length bits → ends (drop (place + 1) bits) ≡ false
+    → left_to_do f start (place + 1) (drop (place + 1) bits) b ≡ left_to_do f start place (drop place bits) b
+walk_goes_on f start place bits b within e =
+    sym (ap (λ l. left_to_do f start place l b) (drop_more bits place false within) ∙ goes_on f start place (get_or bits place false) (drop (place + 1) bits) b e)
+
+-- the spans of parts of these sizes from `place` on, the first of which began at `start`
+abbrev opened_spans : ℕ → ℕ → List ℕ → List (ℕ × ℕ)
+opened_spans start place [] = (start, place) ∷ []
+opened_spans start place (size ∷ sizes) = (start, place + size) ∷ spans_from (place + size) sizes
+
+opened_spans-anew : (place : ℕ) (sizes : List ℕ) → 0 < length sizes → opened_spans place place sizes ≡ spans_from place sizes
+opened_spans-anew place [] some = absurd (omega arith)
+opened_spans-anew place (size ∷ sizes) some = refl
+
+module _ {A : Type 0} (belongs : A → Bool) where
+  opened_spans-longer : (x : A) (start place : ℕ) (parts : List (List A)) → opened_spans start place (map length (put_first x parts)) ≡ opened_spans start (place + 1) (map length parts)
+  opened_spans-longer x start place [] = refl
+  opened_spans-longer x start place (part ∷ parts) =
+      let e : place + suc (length part) ≡ place + 1 + length part = omega arith in
+      ap (λ end. (start, end) ∷ spans_from end (map length parts)) e
+
+  some-put_first : (x : A) (parts : List (List A)) → 0 < length (map length (put_first x parts))
+  some-put_first x [] = omega arith
+  some-put_first x (part ∷ parts) = omega arith
+
+  some-divided : (x : A) (xs : List A) → 0 < length (map length (divided belongs (x ∷ xs)))
+  some-divided x [] = omega arith
+  some-divided x (y ∷ ys) = elim (cases_Bool (belongs y)) [
+    | inl on ↦ rw on (some-put_first x (divided belongs (y ∷ ys)))
+    | inr off ↦ rw off (omega arith)
+  ]
+
+  opened-walk : (f : ℕ → ℕ → Buffer → Buffer) (start place : ℕ) (x : A) (xs : List A) (b : Buffer)
+      → left_to_do f start place (map belongs (x ∷ xs)) b
+      ≡ fold (λ b span. f span.0 span.1 b) b (opened_spans start place (map length (divided belongs (x ∷ xs))))
+  opened-walk f start place x [] b = refl
+  opened-walk f start place x (y ∷ ys) b =
+      let over = λ (b : Buffer) (span : ℕ × ℕ). f span.0 span.1 b in
+      elim (cases_Bool (belongs y)) [
+        | inl on ↦
+            rw (on, opened_spans-longer x start place (divided belongs (y ∷ ys)))
+            (opened-walk f start (place + 1) y ys b)
+        | inr off ↦
+            rw (off, ← opened_spans-anew (place + 1) (map length (divided belongs (y ∷ ys))) (some-divided y ys))
+            (opened-walk f (place + 1) (place + 1) y ys (f start (place + 1) b))
+      ]
+
+  -- the whole walk goes over the spans of the parts
+  pub walk-spans : (f : ℕ → ℕ → Buffer → Buffer) (xs : List A) (b : Buffer)
+      → left_to_do f 0 0 (map belongs xs) b ≡ fold (λ b span. f span.0 span.1 b) b (spans_from 0 (map length (divided belongs xs)))
+  walk-spans f [] b = refl
+  walk-spans f (x ∷ xs) b =
+      opened-walk f 0 0 x xs b
+      ∙ ap (λ spans. fold (λ (b : Buffer) (span : ℕ × ℕ). f span.0 span.1 b) b spans) (opened_spans-anew 0 (map length (divided belongs (x ∷ xs))) (some-divided x xs))
+
+-- no merging, marking or turning elsewhere changes what continues
+pub IsKey-continuation : IsKey is_continuation
+IsKey-continuation = record { by_cluster = λ item cluster. refl; by_break = λ item. refl }
+
+-- a test on items is one on their bits
+pub told_by_bits : (end : ℕ) (items of_buffer : List Item) (bits : List Bool) → items ≡ of_buffer → map is_continuation of_buffer ≡ bits → ends (map is_continuation (drop end items)) ≡ ends (drop end bits)
+told_by_bits end items of_buffer bits read same = ap (λ xs. ends (map is_continuation (drop end xs))) read ∙ ap ends (sym (drop-map is_continuation end of_buffer)) ∙ ap (λ l. ends (drop end l)) same

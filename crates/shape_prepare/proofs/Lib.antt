@@ -1,0 +1,9 @@
+pub mod GraphemeWalkLemmas
+pub mod TurnLemmas
+pub mod StepLemmas
+pub mod FlagKeeperLemmas
+pub mod RisingMergeLemmas
+pub mod GraphemeClusterLemmas
+pub mod OrderKeeperLemmas
+pub mod FirstLemmas
+pub mod PreparedLemmas

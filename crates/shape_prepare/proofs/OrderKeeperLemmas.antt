@@ -1,0 +1,385 @@
+-- Each step of preparing keeps the order of clusters, but for the native order, which may turn it.
+use Rattle.std.proofs.Common.{◌≡◌, ℕ, ◌+◌, ◌-◌, ◌<◌, ◌≤◌, ◌==◌, ◌&&◌, ◌||◌, Bool, true, false, not, nat_lt, if◌then◌else◌, List, [], ◌∷◌, ◌++◌, Option, Some, None, length, take, drop, map, fold, reverse, slice_range, refl, sym, ap, ap₂, ◌∙◌, arith, inl, inr, subst, bit_and, bit_or}
+use Rattle.std.proofs.lemmas.Bool.{cases_Bool}
+use Rattle.std.proofs.lemmas.Bool.Decides.{nat_tests}
+use Rattle.std.proofs.lemmas.List.{map-append, take-append-drop, get_or-reverse, length-reverse}
+use Rattle.std.proofs.lemmas.List.Folds.{drop_split}
+use Rattle.std.proofs.lemmas.Nat.{and_or_apart, and_or_self}
+use Rattle.std.specs.Prelude.{Contains}
+use Rattle.std.specs.List.Sorted.{IsNonDecreasing}
+use Rattle.canonical_form.proofs.DividedLemmas.{whole, whole-divided}
+use Rattle.shape_buffer.specs.Buffer.{Buffer}
+use Rattle.shape_buffer.specs.BufferClusters.{merge_clusters, unsafe_to_break}
+use Rattle.shape_buffer.specs.Clusters.{clusters, merge, map_range, mark_break, least_cluster}
+use Rattle.shape_buffer.specs.ClusterOrder.{IsMonotoneLevel, KeepsClusters}
+use Rattle.shape_buffer.specs.Direction.{is_backward}
+use Rattle.shape_buffer.specs.Face.{FaceMeaning}
+use Rattle.shape_buffer.specs.Flags.{with_mask}
+use Rattle.shape_buffer.specs.Items.{Item}
+use Rattle.shape_buffer.specs.Keepers.{KeepsOrder, IsClusterKeeper}
+use Rattle.shape_buffer.specs.Unicode.{UnicodeMeaning, is_mark}
+use Rattle.shape_buffer.specs.UnicodeProps.{with_unicode_props, with_scratch_of, flag_if, beyond_ascii}
+use Rattle.shape_buffer.specs.Walks.{items_mapped}
+use Rattle.shape_buffer.specs.declared.buffer.flags.ScratchFlags.{ScratchFlags}
+use Rattle.shape_buffer.specs.declared.buffer.settings.BufferClusterLevel.{BufferClusterLevel}
+use Rattle.shape_buffer.specs.declared.buffer.settings.BufferClusterLevel.TheVariants.{MonotoneGraphemes, MonotoneCharacters, Characters}
+use Rattle.shape_buffer.specs.declared.buffer.settings.Direction.{Direction}
+use Rattle.shape_buffer.proofs.DrawsInOrder.{KeepsClusters-from_draws, DrawsInOrder-same, DrawsInOrder-again}
+use Rattle.shape_buffer.proofs.GraphemeOrderLemmas.{AreOneCluster, clusters-turned, falls-turned}
+use Rattle.shape_buffer.proofs.MergeOrder.{merge_keeps}
+use Rattle.shape_buffer.proofs.JoinLemmas.{length-merge}
+use Rattle.shape_plan.specs.declared.decisions.Decisions.{Decisions}
+use Rattle.shape_prepare.specs.Begun.{begun}
+use Rattle.shape_prepare.specs.ClusterPoint.{IsOrderedFor, direction_for, InOrderFor, PreparingKeepsOrder}
+use Rattle.shape_plan.specs.Run.{hook_if}
+use Rattle.shape_prepare.proofs.FlagKeeperLemmas.{keeper-hook}
+use Rattle.shape_prepare.specs.ClustersFormed.{clusters_formed, over_graphemes, grapheme_spans, spans_from}
+use Rattle.shape_prepare.specs.DottedCircle.{dotted_circled, with_circle, takes_circle, begins_with_mark}
+use Rattle.shape_prepare.specs.Graphemes.{graphemes, graphemes_marked, continuations_marked, continues, seen_item, is_continuation, is_to_next, is_skin_tone, is_regional_indicator, is_extender, is_passed, is_modifier_symbol}
+use Rattle.shape_prepare.specs.NativeOrder.{natively_ordered, native_direction, is_against, turned, merged_to_turn, from_last}
+use Rattle.shape_prepare.specs.Rotated.{rotated, rotated_item, in_forms, mirrored_or_masked, form_in}
+use Rattle.shape_prepare.specs.declared.graphemes.Before.{Before}
+use Rattle.shape_prepare.specs.declared.graphemes.Before.TheVariants.{Plain}
+use Rattle.shape_prepare.proofs.GraphemeClusterLemmas.{spans-merged, merged-one_cluster, total-graphemes, NoneContinues, single-one_cluster}
+use Rattle.shape_prepare.proofs.RisingMergeLemmas.{all_merged}
+use Rattle.shape_prepare.proofs.StepLemmas.{clusters_formed-unseen, clusters_formed-merged, merged_to_turn-merged}
+use Rattle.shape_prepare.proofs.TurnLemmas.{total}
+
+-- ---- orders in general
+
+same-kept : (xs ys : List ℕ) → ys ≡ xs → KeepsClusters xs ys
+same-kept xs ys same = subst (λ (zs : List ℕ). KeepsClusters xs zs) (sym same) (KeepsClusters-from_draws xs xs (DrawsInOrder-same xs))
+
+kept-then : (xs ys zs : List ℕ) → KeepsClusters xs ys → KeepsClusters ys zs → KeepsClusters xs zs
+kept-then xs ys zs f g = record { rising = λ r. g.rising (f.rising r); falling = λ r. g.falling (f.falling r); none_new = λ k c. f.none_new k (g.none_new k c) }
+
+pub KeepsOrder-same : (b : Buffer) → KeepsOrder b b
+KeepsOrder-same b = record { clusters = same-kept (clusters b.items) (clusters b.items) refl; direction = refl; flags = refl; level = refl }
+
+pub KeepsOrder-then : (a b c : Buffer) → KeepsOrder a b → KeepsOrder b c → KeepsOrder a c
+KeepsOrder-then a b c f g = record {
+  clusters = kept-then (clusters a.items) (clusters b.items) (clusters c.items) f.clusters g.clusters;
+  direction = g.direction ∙ f.direction;
+  flags = g.flags ∙ f.flags;
+  level = g.level ∙ f.level;
+}
+
+mapped-clusters : (f : Item → Item) → ((item : Item) → (f item).cluster ≡ item.cluster) → (items : List Item) → clusters (map f items) ≡ clusters items
+mapped-clusters f same [] = refl
+mapped-clusters f same (item ∷ items) = ap₂ (λ (c : ℕ) (cs : List ℕ). c ∷ cs) (same item) (mapped-clusters f same items)
+
+-- ---- masks, properties, the circle
+
+pub begun-keeps_order : (mask : ℕ) (b : Buffer) → KeepsOrder b (begun mask b)
+unfolding begun
+begun-keeps_order mask b = record {
+  clusters = same-kept (clusters b.items) _ (mapped-clusters (with_mask mask) (λ item. refl) b.items);
+  direction = refl;
+  flags = refl;
+  level = refl;
+}
+
+marked-clusters : (unicode : UnicodeMeaning) (items : List Item) (before : Before) → clusters (continuations_marked unicode before (map (with_unicode_props unicode) items)) ≡ clusters items
+marked-clusters unicode [] before = refl
+marked-clusters unicode (item ∷ items) before = ap (λ (cs : List ℕ). item.cluster ∷ cs) (marked-clusters unicode items (is_to_next unicode before (with_unicode_props unicode item)))
+
+pub graphemes_marked-keeps_order : (unicode : UnicodeMeaning) (b : Buffer) → KeepsOrder b (graphemes_marked unicode b)
+unfolding graphemes_marked
+graphemes_marked-keeps_order unicode b = record {
+  clusters = same-kept (clusters b.items) _ (marked-clusters unicode b.items Plain);
+  direction = refl;
+  flags = refl;
+  level = refl;
+}
+
+with_circle-keeps_order : (unicode : UnicodeMeaning) (b : Buffer) (items : List Item) → b.items ≡ items → KeepsOrder b (with_circle unicode items b)
+with_circle-keeps_order unicode b [] is = KeepsOrder-same b
+with_circle-keeps_order unicode b (first ∷ rest) is =
+    let cs = clusters (first ∷ rest) in
+    let again : KeepsClusters cs (first.cluster ∷ cs) = KeepsClusters-from_draws cs (first.cluster ∷ cs) (DrawsInOrder-again first.cluster (clusters rest) cs (DrawsInOrder-same cs)) in
+    record {
+      clusters = subst (λ (l : List Item). KeepsClusters (clusters l) (first.cluster ∷ clusters l)) (sym is) again;
+      direction = refl;
+      flags = refl;
+      level = refl;
+    }
+
+pub dotted_circled-keeps_order : (unicode : UnicodeMeaning) (face : FaceMeaning) (b : Buffer) → KeepsOrder b (dotted_circled unicode face b)
+unfolding dotted_circled
+dotted_circled-keeps_order unicode face b = elim (cases_Bool (takes_circle face b && begins_with_mark b.items)) [
+  | inl on ↦ rw on (with_circle-keeps_order unicode b b.items refl)
+  | inr off ↦ rw off (KeepsOrder-same b)
+]
+
+-- ---- clusters of graphemes
+
+sizes-keep : (start : ℕ) (sizes : List ℕ) (xs : List Item) → start + total sizes ≤ length xs → KeepsClusters (clusters xs) (clusters (all_merged (spans_from start sizes) xs))
+sizes-keep start [] xs within = same-kept (clusters xs) (clusters xs) refl
+sizes-keep start (size ∷ sizes) xs within =
+    let next = merge start (start + size) xs in
+    let many : length next ≡ length xs = length-merge start (start + size) xs in
+    kept-then (clusters xs) (clusters next) _ (merge_keeps start (start + size) xs next (omega arith) refl) (sizes-keep (start + size) sizes next (omega arith))
+
+pub merged-keeps_order : (b : Buffer) → IsMonotoneLevel b.cluster_level → KeepsOrder b (over_graphemes merge_clusters b)
+merged-keeps_order b monotone = rw (spans-merged (grapheme_spans b.items) b monotone) (record {
+  clusters = sizes-keep 0 (map length (graphemes b.items)) b.items (omega (arith, total-graphemes b.items));
+  direction = refl;
+  flags = refl;
+  level = refl;
+})
+
+clusters-map_range : (f : Item → Item) → ((item : Item) → (f item).cluster ≡ item.cluster) → (from to : ℕ) (xs : List Item) → from ≤ to → clusters (map_range f from to xs) ≡ clusters xs
+clusters-map_range f same from to xs le =
+    let key = λ (item : Item). item.cluster in
+    map-append key (take from xs) (map f (slice_range xs from to) ++ drop to xs)
+    ∙ ap (λ (l : List ℕ). map key (take from xs) ++ l) (map-append key (map f (slice_range xs from to)) (drop to xs) ∙ ap (λ (l : List ℕ). l ++ map key (drop to xs)) (mapped-clusters f same (slice_range xs from to)) ∙ sym (map-append key (slice_range xs from to) (drop to xs)) ∙ ap (map key) (sym (drop_split xs from to le)))
+    ∙ sym (map-append key (take from xs) (drop from xs)) ∙ ap (map key) (take-append-drop from xs)
+
+mark_break-cluster : (least : ℕ) (item : Item) → (mark_break least item).cluster ≡ item.cluster
+mark_break-cluster least item = elim (item.cluster == least) as (λ t. (if t then item else record item { mask = bit_or item.mask 3 }).cluster ≡ item.cluster) [ true ↦ refl | false ↦ refl ]
+
+unsafe_to_break-keeps_order : (start end : ℕ) (b : Buffer) → KeepsOrder b (unsafe_to_break start end b)
+unsafe_to_break-keeps_order start end b =
+    elim (cases_Bool (nat_lt (start + 1) end)) [
+      | inl long ↦
+          let lt : start + 1 < end = grind (arith, nat_tests) in
+          rw long (record {
+            clusters = same-kept (clusters b.items) _ (clusters-map_range (mark_break (least_cluster (slice_range b.items start end))) (mark_break-cluster (least_cluster (slice_range b.items start end))) start end b.items (omega arith));
+            direction = refl;
+            flags = refl;
+            level = refl;
+          })
+      | inr short ↦ rw short (KeepsOrder-same b)
+    ]
+
+fold-keeps_order : (f : ℕ → ℕ → Buffer → Buffer) → ((start end : ℕ) (b : Buffer) → KeepsOrder b (f start end b)) → (spans : List (ℕ × ℕ)) (b : Buffer) → KeepsOrder b (fold (λ b span. f span.0 span.1 b) b spans)
+fold-keeps_order f keeps [] b = KeepsOrder-same b
+fold-keeps_order f keeps (span ∷ spans) b =
+    let next = f span.0 span.1 b in
+    KeepsOrder-then b next (fold (λ b span. f span.0 span.1 b) next spans) (keeps span.0 span.1 b) (fold-keeps_order f keeps spans next)
+
+formed_at-keeps_order : (b : Buffer) (level : BufferClusterLevel) → b.cluster_level ≡ level → IsMonotoneLevel level
+    → KeepsOrder b (elim level as (λ v. Buffer) [ MonotoneGraphemes ↦ over_graphemes merge_clusters b | MonotoneCharacters ↦ over_graphemes unsafe_to_break b | Characters ↦ over_graphemes unsafe_to_break b ])
+formed_at-keeps_order b MonotoneGraphemes is monotone = merged-keeps_order b (subst IsMonotoneLevel (sym is) monotone)
+formed_at-keeps_order b MonotoneCharacters is monotone = fold-keeps_order unsafe_to_break unsafe_to_break-keeps_order (grapheme_spans b.items) b
+formed_at-keeps_order b Characters is monotone = absurd monotone
+
+pub clusters_formed-keeps_order : IsClusterKeeper clusters_formed
+unfolding clusters_formed
+clusters_formed-keeps_order b monotone = elim (cases_Bool (bit_and b.scratch_flags.0 1 == 1)) [
+  | inl on ↦ rw on (formed_at-keeps_order b b.cluster_level refl monotone)
+  | inr off ↦ rw off (KeepsOrder-same b)
+]
+
+-- ---- rotation
+
+masked-cluster : (mask : ℕ) (item : Item) (form : Option ℕ) → (mirrored_or_masked mask item form).cluster ≡ item.cluster
+masked-cluster mask item None = refl
+masked-cluster mask item (Some c) = refl
+
+forms-cluster : (unicode : UnicodeMeaning) (face : FaceMeaning) (mask : ℕ) (item : Item) (mirrors is_upright : Bool) → (in_forms unicode face mirrors mask is_upright item).cluster ≡ item.cluster
+forms-cluster unicode face mask item true true = masked-cluster mask item (form_in face (unicode.mirrored item.codepoint))
+forms-cluster unicode face mask item true false = masked-cluster mask item (form_in face (unicode.mirrored item.codepoint))
+forms-cluster unicode face mask item false true = refl
+forms-cluster unicode face mask item false false = refl
+
+pub rotated-keeps_order : (unicode : UnicodeMeaning) (face : FaceMeaning) (decisions : Decisions) (target : Direction) (b : Buffer) → KeepsOrder b (rotated unicode face decisions target b)
+unfolding rotated items_mapped
+rotated-keeps_order unicode face decisions target b = record {
+  clusters = same-kept (clusters b.items) _ (mapped-clusters (rotated_item unicode face decisions target) (λ item. forms-cluster unicode face decisions.rtlm_mask item (is_backward target) _) b.items);
+  direction = refl;
+  flags = refl;
+  level = refl;
+}
+
+-- ---- graphemes of one item, where no character past ASCII was seen
+
+abbrev pub seen_past : ScratchFlags → Bool
+seen_past flags = bit_and flags.0 1 == 1
+
+flag_if-1 : (t : Bool) (flag flags : ℕ) → bit_and flag 1 ≡ 0 → bit_and (flag_if t flag flags) 1 ≡ bit_and flags 1
+flag_if-1 true flag flags apart = and_or_apart 1 flags flag apart
+flag_if-1 false flag flags apart = refl
+
+scratch-1 : (unicode : UnicodeMeaning) (c : ℕ) (flags : ScratchFlags) → bit_and (with_scratch_of unicode c flags).0 1 ≡ bit_and (flag_if (beyond_ascii c) 1 flags.0) 1
+scratch-1 unicode c flags =
+    let first = flag_if (beyond_ascii c) 1 flags.0 in
+    let second = flag_if (beyond_ascii c && unicode.ignorable c) 2 first in
+    flag_if-1 (c == 0x34F) 8 second refl ∙ flag_if-1 (beyond_ascii c && unicode.ignorable c) 2 first refl
+
+shows-past : (unicode : UnicodeMeaning) (c : ℕ) (flags : ScratchFlags) → beyond_ascii c ≡ true → seen_past (with_scratch_of unicode c flags) ≡ true
+shows-past unicode c flags past = ap (λ n. n == 1) (scratch-1 unicode c flags ∙ ap (λ t. bit_and (flag_if t 1 flags.0) 1) past ∙ and_or_self 1 flags.0)
+
+stays-seen : (unicode : UnicodeMeaning) (c : ℕ) (flags : ScratchFlags) → seen_past flags ≡ true → seen_past (with_scratch_of unicode c flags) ≡ true
+stays-seen unicode c flags seen = elim (cases_Bool (beyond_ascii c)) [
+  | inl past ↦ shows-past unicode c flags past
+  | inr within ↦ ap (λ n. n == 1) (scratch-1 unicode c flags ∙ ap (λ t. bit_and (flag_if t 1 flags.0) 1) within) ∙ seen
+]
+
+all-stay-seen : (unicode : UnicodeMeaning) (items : List Item) (flags : ScratchFlags) → seen_past flags ≡ true → seen_past (fold (seen_item unicode) flags items) ≡ true
+all-stay-seen unicode [] flags seen = seen
+all-stay-seen unicode (item ∷ items) flags seen = all-stay-seen unicode items (seen_item unicode flags item) (stays-seen unicode item.codepoint flags seen)
+
+no_rule : (passed symbol mark skin regional joiner extender : Bool) (t : Bool) → mark ≡ false → skin ≡ false → regional ≡ false → joiner ≡ false → extender ≡ false
+    → (mark && t || false || (not passed && ((symbol && skin) || (regional && false) || joiner || extender))) ≡ false
+no_rule true symbol mark skin regional joiner extender t m s r j e = rw m refl
+no_rule false true mark skin regional joiner extender t m s r j e = rw (m, s, r, j, e) refl
+no_rule false false mark skin regional joiner extender t m s r j e = rw (m, r, j, e) refl
+
+ascii-continues : (unicode : UnicodeMeaning) (item : Item) → beyond_ascii item.codepoint ≡ false → continues unicode Plain (with_unicode_props unicode item) ≡ false
+ascii-continues unicode item within =
+    let c = item.codepoint in
+    let small : c < 128 = grind (arith, nat_tests) in
+    no_rule (is_passed (unicode.category c)) (is_modifier_symbol (unicode.category c)) (beyond_ascii c) (is_skin_tone c) (is_regional_indicator c) (c == 0x200D) (is_extender c) (is_mark unicode c) within
+    (grind (arith, nat_tests)) (grind (arith, nat_tests)) (grind (arith, nat_tests)) (grind (arith, nat_tests))
+
+-- where no character past ASCII was seen no item continues a grapheme
+none-marked : (unicode : UnicodeMeaning) (items : List Item) (flags : ScratchFlags) → seen_past (fold (seen_item unicode) flags items) ≡ false
+    → NoneContinues (continuations_marked unicode Plain (map (with_unicode_props unicode) items))
+none-marked unicode [] flags unseen = tt
+none-marked unicode (item ∷ items) flags unseen = elim (cases_Bool (beyond_ascii item.codepoint)) [
+  | inl past ↦ absurd (let seen = all-stay-seen unicode items (seen_item unicode flags item) (shows-past unicode item.codepoint flags past) in let e : true ≡ false = sym seen ∙ unseen in cc)
+  | inr within ↦
+      let stays = ascii-continues unicode item within in
+      let small : item.codepoint < 128 = grind (arith, nat_tests) in
+      let no_indicator : is_regional_indicator item.codepoint ≡ false = grind (arith, nat_tests) in
+      let no_joiner : (item.codepoint == 0x200D) ≡ false = grind (arith, nat_tests) in
+      let plain : is_to_next unicode Plain (with_unicode_props unicode item) ≡ Plain = rw (no_indicator, no_joiner) refl in
+      (stays, rw plain (none-marked unicode items (seen_item unicode flags item) unseen))
+]
+
+-- a circle shows a character past ASCII
+circle-seen : (unicode : UnicodeMeaning) (b : Buffer) (items : List Item) → seen_past (with_circle unicode items b).scratch_flags ≡ false → with_circle unicode items b ≡ b
+circle-seen unicode b [] unseen = refl
+circle-seen unicode b (first ∷ rest) unseen = absurd (let e : true ≡ false = sym (shows-past unicode 0x25CC b.scratch_flags refl) ∙ unseen in cc)
+
+pub circled-unseen : (unicode : UnicodeMeaning) (face : FaceMeaning) (b : Buffer) → seen_past (dotted_circled unicode face b).scratch_flags ≡ false → dotted_circled unicode face b ≡ b
+unfolding dotted_circled
+circled-unseen unicode face b = elim (cases_Bool (takes_circle face b && begins_with_mark b.items)) [
+  | inl on ↦ rw on (λ unseen. circle-seen unicode b b.items unseen)
+  | inr off ↦ rw off (λ unseen. refl)
+]
+
+pub marked-unseen : (unicode : UnicodeMeaning) (b : Buffer) → seen_past (graphemes_marked unicode b).scratch_flags ≡ false → NoneContinues (graphemes_marked unicode b).items
+unfolding graphemes_marked
+marked-unseen unicode b unseen = none-marked unicode b.items b.scratch_flags unseen
+
+-- ---- the native order
+
+contains-reverse : (xs : List ℕ) (x : ℕ) → Contains (reverse xs) x → Contains xs x
+contains-reverse xs x (k, lt, e) =
+    let short : k < length xs = rw (← length-reverse xs) lt in
+    (length xs - 1 - k, omega arith, sym (get_or-reverse xs k x short) ∙ e)
+
+-- graphemes of one cluster each, turned
+turned-in_order : (b : Buffer) → AreOneCluster (graphemes b.items) → IsNonDecreasing (clusters b.items) → InOrderFor true b (turned b)
+turned-in_order b one rising =
+    let parts = graphemes b.items in
+    let together : whole parts ≡ b.items = whole-divided is_continuation b.items in
+    let reversed : clusters (from_last parts) ≡ reverse (clusters b.items) = clusters-turned parts one ∙ ap (λ (l : List Item). reverse (clusters l)) together in
+    record {
+      order = falls-turned parts one (subst (λ (l : List Item). IsNonDecreasing (clusters l)) (sym together) rising);
+      none_new = λ k c. contains-reverse (clusters b.items) k (subst (λ (l : List ℕ). Contains l k) reversed c);
+      direction = refl;
+      flags = refl;
+      level = refl;
+    }
+
+-- a buffer whose graphemes stand in one cluster each once they are to be turned
+pub record IsReadyToTurn (b : Buffer) : Type 0 where
+  pub rising : IsNonDecreasing (clusters b.items)
+  pub monotone : IsMonotoneLevel b.cluster_level
+  pub one : b.cluster_level ≡ MonotoneGraphemes → AreOneCluster (graphemes b.items)
+
+to_turn-one : (b : Buffer) (level : BufferClusterLevel) → b.cluster_level ≡ level → IsReadyToTurn b → AreOneCluster (graphemes (merged_to_turn b).items)
+to_turn-one b MonotoneGraphemes is ready = subst (λ (c : Buffer). AreOneCluster (graphemes c.items)) (sym (ap (λ l. elim l as (λ v. Buffer) [ MonotoneGraphemes ↦ b | MonotoneCharacters ↦ over_graphemes merge_clusters b | Characters ↦ b ]) is)) (ready.one is)
+to_turn-one b MonotoneCharacters is ready =
+    subst (λ (c : Buffer). AreOneCluster (graphemes c.items)) (sym (merged_to_turn-merged b is ∙ spans-merged (grapheme_spans b.items) b ready.monotone)) (merged-one_cluster b.items ready.rising)
+to_turn-one b Characters is ready = absurd (subst IsMonotoneLevel is ready.monotone)
+
+to_turn-keeps_order : (b : Buffer) (level : BufferClusterLevel) → IsMonotoneLevel b.cluster_level
+    → KeepsOrder b (elim level as (λ v. Buffer) [ MonotoneGraphemes ↦ b | MonotoneCharacters ↦ over_graphemes merge_clusters b | Characters ↦ b ])
+to_turn-keeps_order b MonotoneGraphemes monotone = KeepsOrder-same b
+to_turn-keeps_order b MonotoneCharacters monotone = merged-keeps_order b monotone
+to_turn-keeps_order b Characters monotone = KeepsOrder-same b
+
+in_order-behind : (turned : Bool) (a b c : Buffer) → KeepsOrder a b → InOrderFor turned b c → InOrderFor turned a c
+in_order-behind turned a b c first last = record {
+  order = last.order;
+  none_new = λ k x. first.clusters.none_new k (last.none_new k x);
+  direction = last.direction ∙ ap (direction_for turned) first.direction;
+  flags = last.flags ∙ first.flags;
+  level = last.level ∙ first.level;
+}
+
+ordered-kept : (turned : Bool) (xs ys : List ℕ) → KeepsClusters xs ys → IsOrderedFor turned xs → IsOrderedFor turned ys
+ordered-kept true xs ys keeps falls = keeps.falling falls
+ordered-kept false xs ys keeps rises = keeps.rising rises
+
+pub in_order-kept : (turned : Bool) (a b c : Buffer) → InOrderFor turned a b → KeepsOrder b c → InOrderFor turned a c
+in_order-kept turned a b c first last = record {
+  order = ordered-kept turned (clusters b.items) (clusters c.items) last.clusters first.order;
+  none_new = λ k x. first.none_new k (last.clusters.none_new k x);
+  direction = last.direction ∙ first.direction;
+  flags = last.flags ∙ first.flags;
+  level = last.level ∙ first.level;
+}
+
+pub natively-in_order : (unicode : UnicodeMeaning) (b : Buffer) → IsReadyToTurn b → InOrderFor (is_against (native_direction unicode b) b.direction) b (natively_ordered unicode b)
+unfolding natively_ordered
+natively-in_order unicode b ready = elim (cases_Bool (is_against (native_direction unicode b) b.direction)) [
+  | inl on ↦ rw on (
+      let merged = merged_to_turn b in
+      let keeps : KeepsOrder b merged = to_turn-keeps_order b b.cluster_level ready.monotone in
+      in_order-behind true b merged (turned merged) keeps (turned-in_order merged (to_turn-one b b.cluster_level refl ready) (keeps.clusters.rising ready.rising))
+      )
+  | inr off ↦ rw off (record { order = ready.rising; none_new = λ k c. c; direction = refl; flags = refl; level = refl })
+]
+
+-- ---- the graphemes as the clusters were formed
+
+pub formed-ready : (unicode : UnicodeMeaning) (face : FaceMeaning) (b : Buffer) → IsMonotoneLevel b.cluster_level → IsNonDecreasing (clusters b.items)
+    → IsReadyToTurn (clusters_formed (dotted_circled unicode face (graphemes_marked unicode b)))
+formed-ready unicode face b monotone rising =
+    let marked = graphemes_marked unicode b in
+    let circled = dotted_circled unicode face marked in
+    let first = KeepsOrder-then b marked circled (graphemes_marked-keeps_order unicode b) (dotted_circled-keeps_order unicode face marked) in
+    let level : IsMonotoneLevel circled.cluster_level = subst IsMonotoneLevel (sym first.level) monotone in
+    let keeps = clusters_formed-keeps_order circled level in
+    let rises = first.clusters.rising rising in
+    record {
+      rising = keeps.clusters.rising rises;
+      monotone = subst IsMonotoneLevel (sym keeps.level) level;
+      one = λ at_graphemes. elim (cases_Bool (seen_past circled.scratch_flags)) [
+        | inl seen ↦
+            let whole_is = clusters_formed-merged circled seen (sym keeps.level ∙ at_graphemes) ∙ spans-merged (grapheme_spans circled.items) circled level in
+            subst (λ (c : Buffer). AreOneCluster (graphemes c.items)) (sym whole_is) (merged-one_cluster circled.items rises)
+        | inr unseen ↦
+            let same = circled-unseen unicode face marked unseen in
+            let bare : NoneContinues marked.items = marked-unseen unicode b (ap (λ (c : Buffer). seen_past c.scratch_flags) (sym same) ∙ unseen) in
+            subst (λ (c : Buffer). AreOneCluster (graphemes c.items)) (sym (clusters_formed-unseen circled unseen ∙ same)) (single-one_cluster marked.items bare)
+      ];
+    }
+
+-- ---- all of them
+
+pub preparing_keeps_order : PreparingKeepsOrder
+preparing_keeps_order run target b keeps monotone rising =
+    let start = begun run.map.global_mask b in
+    let first = begun-keeps_order run.map.global_mask b in
+    let marked = graphemes_marked run.unicode start in
+    let circled = dotted_circled run.unicode run.face marked in
+    let formed = clusters_formed circled in
+    let ordered = natively_ordered run.unicode formed in
+    let level : IsMonotoneLevel start.cluster_level = subst IsMonotoneLevel (sym first.level) monotone in
+    let to_circle = KeepsOrder-then start marked circled (graphemes_marked-keeps_order run.unicode start) (dotted_circled-keeps_order run.unicode run.face marked) in
+    let formed_level : IsMonotoneLevel circled.cluster_level = subst IsMonotoneLevel (sym to_circle.level) level in
+    let to_formed = KeepsOrder-then b start formed first (KeepsOrder-then start circled formed to_circle (clusters_formed-keeps_order circled formed_level)) in
+    let ready = formed-ready run.unicode run.face start level (first.clusters.rising rising) in
+    let against = is_against (native_direction run.unicode formed) formed.direction in
+    let turns = in_order-behind against b formed ordered to_formed (natively-in_order run.unicode formed ready) in
+    let hook = keeper-hook IsClusterKeeper (λ c _. KeepsOrder-same c) run.constants.has_preprocess_text run.hooks (λ h. h.preprocess) (λ h is. (keeps.hooks h is).preprocess) in
+    let processed = hook_if run.constants.has_preprocess_text run.hooks (λ h. h.preprocess) ordered in
+    let ordered_level : IsMonotoneLevel ordered.cluster_level = subst IsMonotoneLevel (sym turns.level) monotone in
+    let to_processed = in_order-kept against b ordered processed turns (hook ordered ordered_level) in
+    in_order-kept against b processed (rotated run.unicode run.face run.decisions target processed) to_processed (rotated-keeps_order run.unicode run.face run.decisions target processed)

@@ -1,0 +1,5 @@
+use Rattle.shape_prepare.proofs.FirstLemmas.{preparing_keeps_firsts}
+use Rattle.shape_prepare.proofs.laws.preparing_keeps_firsts.Goals as goal
+
+pub returns : goal.returns
+returns c = preparing_keeps_firsts

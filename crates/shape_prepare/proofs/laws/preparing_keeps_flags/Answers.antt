@@ -1,0 +1,5 @@
+use Rattle.shape_prepare.proofs.FlagKeeperLemmas.{preparing_keeps_flags}
+use Rattle.shape_prepare.proofs.laws.preparing_keeps_flags.Goals as goal
+
+pub returns : goal.returns
+returns c = preparing_keeps_flags

@@ -1,0 +1,5 @@
+use Rattle.shape_prepare.proofs.OrderKeeperLemmas.{preparing_keeps_order}
+use Rattle.shape_prepare.proofs.laws.preparing_keeps_order.Goals as goal
+
+pub returns : goal.returns
+returns c = preparing_keeps_order

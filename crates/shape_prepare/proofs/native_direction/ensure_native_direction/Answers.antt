@@ -1,0 +1,42 @@
+use Rattle.std.proofs.Common.{◌≡◌, ◌≢◌, ◌≤◌, true, false, length, sym, ap, ap₂, ◌∙◌, rules, arith}
+use Rattle.shape_buffer.specs.Buffer.{Buffer, limit_of}
+use Rattle.shape_buffer.specs.declared.buffer.settings.BufferClusterLevel.TheVariants.{MonotoneCharacters}
+use Rattle.shape_prepare.specs.NativeOrder.{natively_ordered, is_against, turned}
+use Rattle.shape_prepare.proofs.StepLemmas.{Made-same, natively_ordered-kept, natively_ordered-turned, merged_to_turn-merged, merged_to_turn-kept}
+use Rattle.shape_prepare.proofs.native_direction.ensure_native_direction.Goals as goal
+use Rattle.shape_prepare.proofs.native_direction.ensure_native_direction.Goals.{then-eq, else-eq}
+
+pub returns-then-not-is_against : goal.returns-then-not-is_against
+returns-then-not-is_against g c =
+    let unicode = g.U.hb_unicode_funcs_t.unicode in
+    let b = c.args.buffer.now in
+    let told = sym (ap₂ is_against c.native_direction-native.ensures c.direction.ensures) ∙ sym c.is_against.ensures in
+    let off : c.is_against.result ≡ false = search rules in
+    Made-same (natively_ordered unicode) b (natively_ordered-kept unicode b (told ∙ off))
+
+pub returns : goal.returns
+returns g c =
+    let unicode = g.U.hb_unicode_funcs_t.unicode in
+    let b = c.args.buffer.now in
+    let told = sym (ap₂ is_against c.native_direction-native.ensures c.direction.ensures) ∙ sym c.is_against.ensures in
+    let on : c.is_against.result ≡ true = search rules in
+    let turns = sym (natively_ordered-turned unicode b (told ∙ on)) in
+    elim c.if-eq.branch [
+      | then-eq w ↦
+          let level : b.cluster_level ≡ MonotoneCharacters = search rules in
+          let merged = w.buffer-is ∙ w.merge_graphemes.ensures.made ∙ sym (merged_to_turn-merged b level) in
+          let size : length c.if-eq.buffer.items ≤ length b.items = rw w.buffer-is w.merge_graphemes.ensures.no_longer in
+          record {
+            made = c.turn_graphemes.ensures.made ∙ ap turned merged ∙ turns;
+            no_longer = omega (arith, c.turn_graphemes.ensures.no_longer);
+            same_limit = c.turn_graphemes.ensures.same_limit ∙ ap limit_of w.buffer-is ∙ w.merge_graphemes.ensures.same_limit;
+          }
+      | else-eq w ↦
+          let level : b.cluster_level ≢ MonotoneCharacters = search rules in
+          let size : length c.if-eq.buffer.items ≡ length b.items = ap (λ (b : Buffer). length b.items) w.buffer-is in
+          record {
+            made = c.turn_graphemes.ensures.made ∙ ap turned (w.buffer-is ∙ sym (merged_to_turn-kept b level)) ∙ turns;
+            no_longer = omega (arith, c.turn_graphemes.ensures.no_longer);
+            same_limit = c.turn_graphemes.ensures.same_limit ∙ ap limit_of w.buffer-is;
+          }
+    ]

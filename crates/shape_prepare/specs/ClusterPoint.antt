@@ -1,0 +1,59 @@
+-- What preparing makes of clusters that never fall.
+use Rattle.std.specs.Prelude.{◌≡◌, ℕ, Bool, true, false, if◌then◌else◌, List, take, Contains}
+use Rattle.std.specs.List.{flat_map}
+use Rattle.shape_buffer.specs.Items.{Item}
+use Rattle.shape_buffer.specs.declared.buffer.settings.BufferClusterLevel.TheVariants.{MonotoneGraphemes}
+use Rattle.shape_prepare.specs.Begun.{begun}
+use Rattle.shape_prepare.specs.Graphemes.{graphemes, graphemes_marked}
+use Rattle.std.specs.List.Sorted.{IsNonDecreasing}
+use Rattle.shape_buffer.specs.Buffer.{Buffer}
+use Rattle.shape_buffer.specs.Clusters.{clusters}
+use Rattle.shape_buffer.specs.ClusterOrder.{IsMonotoneLevel, IsNonIncreasing}
+use Rattle.shape_buffer.specs.Direction.{reverse_of}
+use Rattle.shape_buffer.specs.Outcome.{run_steps}
+use Rattle.shape_buffer.specs.declared.buffer.settings.Direction.{Direction}
+use Rattle.shape_plan.specs.Keepers.{CallsKeepClusters}
+use Rattle.shape_plan.specs.Run.{Run}
+use Rattle.shape_prepare.specs.NativeOrder.{is_against, native_direction}
+use Rattle.shape_prepare.specs.PrepareSteps.{grapheme_steps, prepare_steps}
+
+-- clusters that never fall, or never rise where the list was turned
+abbrev pub IsOrderedFor : Bool → List ℕ → Type 0
+IsOrderedFor false cs = IsNonDecreasing cs
+IsOrderedFor true cs = IsNonIncreasing cs
+
+-- and the direction then
+abbrev pub direction_for : Bool → Direction → Direction
+direction_for turned direction = if turned then reverse_of direction else direction
+
+-- whether the native order turns the list
+abbrev pub is_turned : Run → Buffer → Bool
+is_turned run b =
+    let text = run_steps (grapheme_steps run) b in
+    is_against (native_direction run.unicode text) text.direction
+
+-- clusters are in order, and none is new; the direction tells whether the list was turned; flags and level stay
+pub record InOrderFor (turned : Bool) (old new : Buffer) : Type 0 where
+  pub order : IsOrderedFor turned (clusters new.items)
+  pub none_new : (k : ℕ) → Contains (clusters new.items) k → Contains (clusters old.items) k
+  pub direction : new.direction ≡ direction_for turned old.direction
+  pub flags : new.flags ≡ old.flags
+  pub level : new.cluster_level ≡ old.cluster_level
+
+-- at the monotone levels, where the hooks keep clusters, a text whose clusters never fall is prepared in order
+abbrev pub PreparingKeepsOrder : Type 0
+PreparingKeepsOrder = (run : Run) (target : Direction) (b : Buffer) → CallsKeepClusters run → IsMonotoneLevel b.cluster_level → IsNonDecreasing (clusters b.items)
+    → InOrderFor (is_turned run b) b (run_steps (prepare_steps run target) b)
+
+-- the clusters of the first characters of a list's graphemes
+abbrev pub first_clusters : List Item → List ℕ
+first_clusters items = flat_map (λ grapheme. take 1 (clusters grapheme)) (graphemes items)
+
+-- the text with its graphemes marked, before a dotted circle
+abbrev pub marked_text : Run → Buffer → Buffer
+marked_text run b = graphemes_marked run.unicode (begun run.map.global_mask b)
+
+-- at level MONOTONE_GRAPHEMES each cluster of the prepared text is that of the first character of a grapheme
+abbrev pub PreparingKeepsFirsts : Type 0
+PreparingKeepsFirsts = (run : Run) (target : Direction) (b : Buffer) → CallsKeepClusters run → b.cluster_level ≡ MonotoneGraphemes → IsNonDecreasing (clusters b.items)
+    → (k : ℕ) → Contains (clusters (run_steps (prepare_steps run target) b).items) k → Contains (first_clusters (marked_text run b).items) k

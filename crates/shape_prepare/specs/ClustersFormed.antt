@@ -1,0 +1,31 @@
+-- The clusters of graphemes.
+use Rattle.std.specs.Prelude.{ℕ, ◌+◌, ◌==◌, if◌then◌else◌, List, [], ◌∷◌, map, fold, length}
+use Rattle.std.specs.Int.RustNames.{bit_and}
+use Rattle.shape_buffer.specs.Buffer.{Buffer}
+use Rattle.shape_buffer.specs.BufferClusters.{merge_clusters, unsafe_to_break}
+use Rattle.shape_buffer.specs.Items.{Item}
+use Rattle.shape_buffer.specs.declared.buffer.settings.BufferClusterLevel.TheVariants.{MonotoneGraphemes, MonotoneCharacters, Characters}
+use Rattle.shape_prepare.specs.Graphemes.{graphemes}
+
+-- where parts of these sizes begin and end, the first of them at `start`
+abbrev pub spans_from : ℕ → List ℕ → List (ℕ × ℕ)
+spans_from start [] = []
+spans_from start (size ∷ sizes) = (start, start + size) ∷ spans_from (start + size) sizes
+
+-- the spans of a list's graphemes
+abbrev pub grapheme_spans : List Item → List (ℕ × ℕ)
+grapheme_spans items = spans_from 0 (map length (graphemes items))
+
+-- f over the span of each grapheme, from left to right
+abbrev pub over_graphemes : (ℕ → ℕ → Buffer → Buffer) → Buffer → Buffer
+over_graphemes f b = fold (λ b span. f span.0 span.1 b) b (grapheme_spans b.items)
+
+-- where a character past ASCII was seen (1), each grapheme is merged at level MONOTONE_GRAPHEMES, at the others marked unsafe to break
+unfoldable pub clusters_formed : Buffer → Buffer
+clusters_formed b =
+    if bit_and b.scratch_flags.0 1 == 1 then (elim b.cluster_level [
+      | MonotoneGraphemes ↦ over_graphemes merge_clusters b
+      | MonotoneCharacters ↦ over_graphemes unsafe_to_break b
+      | Characters ↦ over_graphemes unsafe_to_break b
+    ])
+    else b

@@ -1,0 +1,39 @@
+-- The base of a mark that begins a text.
+use Rattle.std.specs.Prelude.{ℕ, Bool, true, false, ◌==◌, ◌&&◌, not, if◌then◌else◌, List, [], ◌∷◌, is_some}
+use Rattle.std.specs.Int.RustNames.{bit_and}
+use Rattle.shape_buffer.specs.Buffer.{Buffer}
+use Rattle.shape_buffer.specs.Face.{FaceMeaning}
+use Rattle.shape_buffer.specs.Items.{Item, new_item, is_mark_item}
+use Rattle.shape_buffer.specs.Positions.{zero_position}
+use Rattle.shape_buffer.specs.Unicode.{UnicodeMeaning}
+use Rattle.shape_buffer.specs.UnicodeProps.{with_unicode_props, with_scratch_of}
+
+abbrev pub is_none : List ℕ → Bool
+is_none [] = true
+is_none (c ∷ cs) = false
+
+-- a circle is put in where it isn't forbidden (32), nothing stands before the text, which begins here (2), and the face has U+25CC
+abbrev pub takes_circle : FaceMeaning → Buffer → Bool
+takes_circle face b =
+    not (bit_and b.flags.0 32 == 32) && bit_and b.flags.0 2 == 2 && is_none b.pre_context && is_some (face.nominal_glyph 0x25CC)
+
+-- U+25CC with its own properties, and mask and cluster of the item that it goes before
+abbrev pub circle_before : UnicodeMeaning → Item → Item
+circle_before unicode item = record (with_unicode_props unicode (new_item 0x25CC item.cluster)) { mask = item.mask }
+
+-- a circle before the first of these items
+abbrev pub with_circle : UnicodeMeaning → List Item → Buffer → Buffer
+with_circle unicode [] b = b
+with_circle unicode (first ∷ rest) b = record b {
+  items = circle_before unicode first ∷ b.items;
+  positions = zero_position ∷ b.positions;
+  scratch_flags = with_scratch_of unicode 0x25CC b.scratch_flags;
+}
+
+abbrev pub begins_with_mark : List Item → Bool
+begins_with_mark [] = false
+begins_with_mark (first ∷ rest) = is_mark_item first
+
+-- where the first item is a mark it gets a dotted circle before it
+unfoldable pub dotted_circled : UnicodeMeaning → FaceMeaning → Buffer → Buffer
+dotted_circled unicode face b = if takes_circle face b && begins_with_mark b.items then with_circle unicode b.items b else b

@@ -1,0 +1,13 @@
+-- Where graphemes end.
+use Rattle.std.specs.Prelude.{ℕ, Bool, true, not, List, [], ◌∷◌}
+use Rattle.shape_buffer.specs.Buffer.{Buffer}
+use Rattle.shape_buffer.specs.Ranges.{reversed_range}
+
+-- whether a grapheme ends before items that continue one, or don't
+abbrev pub ends : List Bool → Bool
+ends [] = true
+ends (continuation ∷ behind) = not continuation
+
+-- the items of a span, with their positions, from the last to the first
+abbrev pub reverse_span : ℕ → ℕ → Buffer → Buffer
+reverse_span start end b = record b { items = reversed_range start end b.items; positions = reversed_range start end b.positions }

@@ -1,0 +1,14 @@
+pub mod Begun
+pub mod Graphemes
+pub mod DottedCircle
+pub mod GraphemeWalk
+pub mod ClustersFormed
+pub mod NativeOrder
+pub mod Rotated
+pub mod PrepareSteps
+pub mod WorkedUnicode
+pub mod WorkedGraphemes
+pub mod WorkedOrder
+pub mod Keeping
+pub mod ClusterPoint
+pub mod PreparedPoint

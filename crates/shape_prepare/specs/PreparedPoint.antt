@@ -1,0 +1,20 @@
+-- Preparing prepares: each item's mark, by its category, and class become those of its character.
+use Rattle.std.specs.Prelude.{◌≡◌, Some}
+use Rattle.shape_buffer.specs.Buffer.{Buffer}
+use Rattle.shape_buffer.specs.Outcome.{run_steps}
+use Rattle.shape_buffer.specs.Prepared.{IsPrepared}
+use Rattle.shape_buffer.specs.Unicode.{UnicodeMeaning, LawfulUnicode}
+use Rattle.shape_buffer.specs.declared.buffer.settings.Direction.{Direction}
+use Rattle.shape_plan.specs.Run.{Run}
+use Rattle.shape_plan.specs.Shaper.{HookMeaning}
+use Rattle.shape_prepare.specs.PrepareSteps.{prepare_steps}
+
+-- a step that leaves a prepared text prepared
+abbrev pub KeepsPrepared : UnicodeMeaning → (Buffer → Buffer) → Type 0
+KeepsPrepared unicode f = (b : Buffer) → IsPrepared unicode b.items → IsPrepared unicode (f b).items
+
+-- any text is prepared, where the shaper's hook leaves it so
+abbrev pub PreparingPrepares : Type 0
+PreparingPrepares = (run : Run) (target : Direction) (b : Buffer) → LawfulUnicode run.unicode
+    → ((hooks : HookMeaning) → run.hooks ≡ Some hooks → KeepsPrepared run.unicode hooks.preprocess)
+    → IsPrepared run.unicode (run_steps (prepare_steps run target) b).items

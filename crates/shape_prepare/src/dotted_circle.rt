@@ -1,0 +1,81 @@
+//! The third step: a base for a mark that begins a text.
+//!
+//! A mark that nothing stands before would hang on what is printed beside it. So it gets a dotted circle to
+//! stand on, as code charts have it, unless the caller forbids it or the text goes on from another one.
+ghost use Rattle.std.specs.Prelude.{◌≡◌, ◌<◌, length, IsTrue};
+ghost use Rattle.shape_buffer.specs.Outcome.{Outcome, IsWithinLimit, step};
+ghost use Rattle.shape_prepare.specs.DottedCircle.{dotted_circled, with_circle, begins_with_mark as begins_with_mark_of, takes_circle as takes_circle_of, circle_before as circle_before_of};
+ghost use Rattle.shape_buffer.specs.UnicodeProps.{with_scratch_of};
+
+use bitflags::Flags;
+use shape_buffer::buffer::{BufferFlags, ScratchFlags, ShapeError, hb_buffer_t, hb_glyph_info_t};
+use shape_buffer::interfaces::{hb_font_t, hb_unicode_funcs_t};
+
+/// U+25CC, on which charts show a mark.
+const DOTTED_CIRCLE: char = '\u{25CC}';
+
+/// Puts a dotted circle before a mark that begins the text, with its own properties and the mark's mask and
+/// cluster: where the flags say that the text begins here and don't forbid it, there is no pre-context, and
+/// the face has the character. Refuses with `Length` where the list has reached its limit, and with `Memory`
+/// where a growth was refused.
+pub fn insert_dotted_circle<U: hb_unicode_funcs_t, F: hb_font_t>(
+    face: &F,
+    buffer: &mut hb_buffer_t,
+) -> Result<(), ShapeError>
+    requires { IsWithinLimit buffer.old }
+    ensures { Outcome (step (dotted_circled U.unicode (F.face face.now))) buffer.old buffer.new result }
+{
+    if takes_circle(face, buffer) && begins_with_mark(buffer.infos()) {
+        return insert_circle::<U>(buffer);
+    }
+    Ok(())
+}
+
+/// Puts a dotted circle before the first item.
+fn insert_circle<U: hb_unicode_funcs_t>(buffer: &mut hb_buffer_t) -> Result<(), ShapeError>
+    requires within { IsWithinLimit buffer.old }
+    requires some { 0 < length buffer.old.items }
+    ensures { Outcome (step (λ b. with_circle U.unicode b.items b)) buffer.old buffer.new result }
+{
+    let mut scratch_flags = buffer.scratch_flags();
+    let circle = circle_before::<U>(&buffer.infos()[0], &mut scratch_flags);
+    buffer.insert(0, circle)?;
+    buffer.set_scratch_flags(scratch_flags);
+    Ok(())
+}
+
+/// Whether the first item is a mark; not so where there is none.
+fn begins_with_mark(infos: &[hb_glyph_info_t]) -> bool
+    ensures mark { result ≡ begins_with_mark_of infos.now }
+    ensures some { IsTrue result → 0 < length infos.now }
+{
+    match infos.first() {
+        Some(info) => info._hb_glyph_info_is_unicode_mark(),
+        None => false,
+    }
+}
+
+/// Whether a mark that begins the text is to get a dotted circle.
+fn takes_circle<F: hb_font_t>(face: &F, buffer: &hb_buffer_t) -> bool
+    ensures { result ≡ takes_circle_of (F.face face.now) buffer.now }
+{
+    let flags = buffer.flags();
+    !flags.contains(BufferFlags::DO_NOT_INSERT_DOTTED_CIRCLE)
+        && flags.contains(BufferFlags::BEGINNING_OF_TEXT)
+        && buffer.pre_context().is_empty()
+        && face.has_glyph(DOTTED_CIRCLE)
+}
+
+/// The dotted circle that goes before an item; also sets the scratch flags that it shows.
+fn circle_before<U: hb_unicode_funcs_t>(
+    info: &hb_glyph_info_t,
+    scratch_flags: &mut ScratchFlags,
+) -> hb_glyph_info_t
+    ensures circle { result ≡ circle_before_of U.unicode info.now }
+    ensures flags { scratch_flags.new ≡ with_scratch_of U.unicode 0x25CC scratch_flags.old }
+{
+    let mut circle = hb_glyph_info_t::new(DOTTED_CIRCLE, info.cluster);
+    circle.init_unicode_props::<U>(scratch_flags);
+    circle.mask = info.mask;
+    circle
+}

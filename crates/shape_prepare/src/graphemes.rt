@@ -1,0 +1,141 @@
+//! The second step: properties of the characters, and which items continue a grapheme.
+//!
+//! A grapheme is what a reader takes for one character: a letter with its marks, a flag of two regional
+//! indicators, an emoji with its skin tone, or several emoji joined by ZERO WIDTH JOINER. Turning a text must
+//! not part one, so each item that belongs to what stands before it is marked as a continuation. The rules
+//! are those of UAX 29 that shaping needs: marks and extenders (GB9), emoji behind a joiner (GB11), pairs
+//! of regional indicators (GB12, GB13).
+//!
+//! What the rules ask of the item before fits three cases, so one walk sets properties and continuations.
+ghost use Rattle.std.specs.Prelude.{◌≡◌};
+ghost use Rattle.shape_buffer.specs.Outcome.{Made};
+ghost use Rattle.shape_prepare.specs.Graphemes.{graphemes_marked, with_continuation, continues, continues_by_rule as continues_by_rule_of, is_to_next, is_joined as is_joined_of, is_passed as is_passed_of, is_modifier_symbol as is_modifier_symbol_of, is_skin_tone as is_skin_tone_of, is_regional_indicator as is_regional_indicator_of, is_extender as is_extender_of, is_open};
+
+use shape_buffer::buffer::{hb_buffer_t, hb_glyph_info_t, hb_unicode_general_category_t};
+use shape_buffer::interfaces::hb_unicode_funcs_t;
+
+/// What an item is to the next one.
+#[derive(Clone, Copy, PartialEq, Eq, Debug)]
+pub(crate) enum Before {
+    Plain,
+    /// A regional indicator that continues nothing, so that the next one belongs to it.
+    OpenIndicator,
+    /// A joiner, so that a pictograph belongs to it.
+    Joiner,
+}
+
+/// Sets the properties of each item that go by its character, marks the items that continue a grapheme, and
+/// sets the scratch flags that the characters show. Takes no memory.
+pub fn set_unicode_props<U: hb_unicode_funcs_t>(buffer: &mut hb_buffer_t)
+    ensures { Made (graphemes_marked U.unicode) buffer.old buffer.new }
+{
+    let mut scratch_flags = buffer.scratch_flags();
+    let mut before = Before::Plain;
+    for i in 0..buffer.len() {
+        let mut info = buffer.infos()[i];
+        info.init_unicode_props::<U>(&mut scratch_flags);
+        before = mark_continuation::<U>(before, &mut info);
+        buffer.set_info(i, info);
+    }
+    buffer.set_scratch_flags(scratch_flags);
+}
+
+/// Marks an item as a continuation if it is one, and says what it is to the next one.
+fn mark_continuation<U: hb_unicode_funcs_t>(before: Before, info: &mut hb_glyph_info_t) -> Before
+    ensures item { info.new ≡ with_continuation (continues U.unicode before info.old) info.old }
+    ensures next { result ≡ is_to_next U.unicode before info.old }
+{
+    let joined = is_joined::<U>(before, info.codepoint);
+    let joins = info._hb_glyph_info_get_zwj()
+        && !joined
+        && !is_passed(info._hb_glyph_info_get_general_category());
+    let continuation = info._hb_glyph_info_get_continuation()
+        || joined
+        || continues_by_rule(before, info);
+    info._hb_glyph_info_set_continuation(continuation);
+    if is_regional_indicator(info.codepoint) && !continuation {
+        Before::OpenIndicator
+    } else if joins {
+        Before::Joiner
+    } else {
+        Before::Plain
+    }
+}
+
+/// Whether a character is a pictograph right behind a joiner. Only behind a joiner is Unicode asked.
+fn is_joined<U: hb_unicode_funcs_t>(before: Before, c: char) -> bool
+    ensures { result ≡ is_joined_of U.unicode before c }
+{
+    match before {
+        Before::Joiner => U::is_emoji_extended_pictographic(c),
+        Before::Plain | Before::OpenIndicator => false,
+    }
+}
+
+/// Whether an item that is no mark continues the grapheme before it: a skin tone, the second of two regional
+/// indicators, a joiner, a voice mark of halfwidth katakana, or a tag.
+fn continues_by_rule(before: Before, info: &hb_glyph_info_t) -> bool
+    ensures { result ≡ continues_by_rule_of before info.now }
+{
+    let c = info.codepoint;
+    let category = info._hb_glyph_info_get_general_category();
+    if is_passed(category) {
+        return false;
+    }
+    is_modifier_symbol(category) && is_skin_tone(c)
+        || is_regional_indicator(c) && before.is_open()
+        || info._hb_glyph_info_get_zwj()
+        || is_extender(c)
+}
+
+impl Before {
+    /// Whether the next regional indicator makes a pair with this item.
+    fn is_open(self) -> bool
+        ensures { result ≡ is_open self }
+    {
+        matches!(self, Before::OpenIndicator)
+    }
+}
+
+/// Whether no rule asks about this category: most letters, and spaces, which are the most common.
+fn is_passed(category: hb_unicode_general_category_t) -> bool
+    ensures { result ≡ is_passed_of category }
+{
+    matches!(
+        category,
+        hb_unicode_general_category_t::LowercaseLetter
+            | hb_unicode_general_category_t::UppercaseLetter
+            | hb_unicode_general_category_t::TitlecaseLetter
+            | hb_unicode_general_category_t::OtherLetter
+            | hb_unicode_general_category_t::SpaceSeparator
+    )
+}
+
+/// Whether this is the category of modifier symbols, which skin tones have.
+fn is_modifier_symbol(category: hb_unicode_general_category_t) -> bool
+    ensures { result ≡ is_modifier_symbol_of category }
+{
+    matches!(category, hb_unicode_general_category_t::ModifierSymbol)
+}
+
+/// Whether a character gives an emoji the colour of a skin (UTS 51, Emoji_Modifier).
+fn is_skin_tone(c: char) -> bool
+    ensures { result ≡ is_skin_tone_of c }
+{
+    matches!(c, '\u{1F3FB}'..='\u{1F3FF}')
+}
+
+/// Whether two of these characters stand for a flag (UTS 51, Regional_Indicator).
+pub(crate) fn is_regional_indicator(c: char) -> bool
+    ensures { result ≡ is_regional_indicator_of c }
+{
+    matches!(c, '\u{1F1E6}'..='\u{1F1FF}')
+}
+
+/// Whether a character that is no mark extends what stands before it: a voice mark of halfwidth katakana, or
+/// a tag (UAX 29, Grapheme_Extend).
+fn is_extender(c: char) -> bool
+    ensures { result ≡ is_extender_of c }
+{
+    matches!(c, '\u{FF9E}'..='\u{FF9F}' | '\u{E0020}'..='\u{E007F}')
+}

@@ -1,0 +1,21 @@
+//! What a text goes through before it is normalised: its graphemes, its native order, and the forms of its
+//! characters for the direction that it runs in.
+//!
+//! Fonts make their lookups for text in the order in which its script is written, and marks that stand
+//! behind their base. So a run first finds the graphemes, the pieces that no turning may part; then it
+//! turns a text that was handed over against its script's direction, grapheme by grapheme. Each step is a
+//! function of its own, and its contract says which function on buffers it is; [`prepare`] makes them one
+//! after another.
+#![tactic(auto)]
+#![allow(non_camel_case_types)]
+
+pub mod clusters;
+pub mod dotted_circle;
+pub mod graphemes;
+pub mod laws;
+pub mod masks;
+pub mod native_direction;
+pub mod prepare;
+pub mod preprocess;
+pub mod rotation;
+pub mod worked;

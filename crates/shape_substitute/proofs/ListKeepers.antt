@@ -1,0 +1,76 @@
+-- What the lists of steps of masks and substitution keep.
+use Rattle.std.proofs.Common.{◌≡◌, ◌&&◌, ℕ, zero, suc, Bool, true, false, [], ◌∷◌, Option, Some, None}
+use Rattle.std.specs.Prelude.{if◌then◌else◌}
+use Rattle.std.specs.Option.{option_map_or}
+use Rattle.shape_buffer.specs.Keepers.{IsClusterKeeper, IsFlagKeeper}
+use Rattle.shape_buffer.specs.Outcome.{step}
+use Rattle.shape_buffer.proofs.FlagLemmas.{KeepsFlags-same}
+use Rattle.shape_plan.specs.Keepers.{EachHook, CallsKeepClusters, RunKeepsFlags}
+use Rattle.shape_plan.specs.Run.{Run, hook_if}
+use Rattle.shape_plan.specs.Shaper.{HookMeaning}
+use Rattle.shape_substitute.specs.Kept.{EachStep, SubstitutionKeepsClusters, SubstitutionKeepsFlags}
+use Rattle.shape_substitute.specs.Substitution.{stage_steps, lookup_steps}
+use Rattle.shape_substitute.proofs.KeeperLemmas.{KeepsOrder-same, EachStep-append, order-step_if, order-hook_if, flags-step_if, flags-hook_if}
+use Rattle.shape_substitute.proofs.StepKeepers.{order-fractions_masked, order-ranges_masked, order-glyphs_mapped, order-classes_synthesised, flags-fractions_masked, flags-ranges_masked, flags-glyphs_mapped, flags-classes_synthesised}
+
+-- ---- clusters
+
+order-pause : (given : Bool) (hooks : Option HookMeaning) → ((h : HookMeaning) → hooks ≡ Some h → EachHook IsClusterKeeper h) → (number : Option ℕ)
+    → IsClusterKeeper (option_map_or (λ n. hook_if given hooks (λ h. h.pause n)) number (λ b. b))
+order-pause given hooks keep None = λ b monotone. KeepsOrder-same b
+order-pause given hooks keep (Some n) = order-hook_if given hooks (λ h. h.pause n) (λ h is. (keep h is).pause n)
+
+order-stages : (run : Run) → CallsKeepClusters run → (n : ℕ) → EachStep IsClusterKeeper (stage_steps run n)
+order-stages run keep zero = tt
+order-stages run keep (suc n) = EachStep-append IsClusterKeeper (stage_steps run n) _ (order-stages run keep n)
+    (keep.lookups.stage n, (order-pause run.constants.has_pause run.hooks keep.hooks (run.map.pause_after n), tt))
+
+order-lookups : (run : Run) → CallsKeepClusters run → (morx : Bool)
+    → EachStep IsClusterKeeper (if morx then step (run.lookups.aat_substitute run.user_features) ∷ [] else stage_steps run run.map.stages)
+order-lookups run keep true = (keep.lookups.aat_substitute run.user_features, tt)
+order-lookups run keep false = order-stages run keep run.map.stages
+
+pub substitution-keeps_clusters : SubstitutionKeepsClusters
+substitution-keeps_clusters run keep = record {
+  masks = (
+    order-fractions_masked run.decisions,
+    (
+      order-hook_if run.constants.has_setup_masks run.hooks (λ h. h.setup_masks) (λ h is. (keep.hooks h is).setup_masks),
+      (order-ranges_masked run.map run.user_features, tt),
+    ),
+  );
+  glyphs = (order-glyphs_mapped, (keep.lookups.substitute_start, (order-step_if run.decisions.fallback_glyph_classes order-classes_synthesised, tt)));
+  lookups = EachStep-append IsClusterKeeper (lookup_steps run) _ (order-lookups run keep run.decisions.apply_morx)
+      (order-step_if (run.decisions.apply_morx && run.decisions.apply_gpos) keep.lookups.aat_remove_deleted, tt);
+}
+
+-- ---- flags
+
+flags-pause : (given : Bool) (hooks : Option HookMeaning) → ((h : HookMeaning) → hooks ≡ Some h → EachHook IsFlagKeeper h) → (number : Option ℕ)
+    → IsFlagKeeper (option_map_or (λ n. hook_if given hooks (λ h. h.pause n)) number (λ b. b))
+flags-pause given hooks keep None = λ b. KeepsFlags-same b
+flags-pause given hooks keep (Some n) = flags-hook_if given hooks (λ h. h.pause n) (λ h is. (keep h is).pause n)
+
+flags-stages : (run : Run) → RunKeepsFlags run → (n : ℕ) → EachStep IsFlagKeeper (stage_steps run n)
+flags-stages run keep zero = tt
+flags-stages run keep (suc n) = EachStep-append IsFlagKeeper (stage_steps run n) _ (flags-stages run keep n)
+    (keep.lookups.stage n, (flags-pause run.constants.has_pause run.hooks keep.hooks (run.map.pause_after n), tt))
+
+flags-lookups : (run : Run) → RunKeepsFlags run → (morx : Bool)
+    → EachStep IsFlagKeeper (if morx then step (run.lookups.aat_substitute run.user_features) ∷ [] else stage_steps run run.map.stages)
+flags-lookups run keep true = (keep.lookups.aat_substitute run.user_features, tt)
+flags-lookups run keep false = flags-stages run keep run.map.stages
+
+pub substitution-keeps_flags : SubstitutionKeepsFlags
+substitution-keeps_flags run masks features keep = record {
+  masks = (
+    flags-fractions_masked run.decisions features,
+    (
+      flags-hook_if run.constants.has_setup_masks run.hooks (λ h. h.setup_masks) (λ h is. (keep.hooks h is).setup_masks),
+      (flags-ranges_masked run.map masks run.user_features, tt),
+    ),
+  );
+  glyphs = (flags-glyphs_mapped, (keep.lookups.substitute_start, (flags-step_if run.decisions.fallback_glyph_classes flags-classes_synthesised, tt)));
+  lookups = EachStep-append IsFlagKeeper (lookup_steps run) _ (flags-lookups run keep run.decisions.apply_morx)
+      (flags-step_if (run.decisions.apply_morx && run.decisions.apply_gpos) keep.lookups.aat_remove_deleted, tt);
+}

@@ -1,0 +1,20 @@
+-- The walk over the slashes of a list.
+use Rattle.std.proofs.Common.{◌≡◌, ℕ, ◌+◌, true, false, nat_lt, List, ◌∷◌, refl}
+use Rattle.shape_buffer.specs.Buffer.{Buffer}
+use Rattle.shape_buffer.specs.Items.{Item}
+use Rattle.shape_substitute.specs.Fractions.{is_slash, slash_places, slash_masked, next_place, slashes_masked}
+use Rattle.shape_substitute.specs.declared.fractions.FractionMasks.{FractionMasks}
+
+module _ (masks : FractionMasks) (next i : ℕ) (item : Item) (rest : List Item) (b : Buffer) where
+  -- a slash that is reached
+  pub slashes-reached : is_slash item ≡ true → nat_lt i next ≡ false
+      → slashes_masked masks (next_place b.items i) (slash_places (i + 1) rest) (slash_masked masks i b) ≡ slashes_masked masks next (slash_places i (item ∷ rest)) b
+  slashes-reached slash reached = rw (slash, reached) refl
+
+  -- one in the whole of an earlier one
+  pub slashes-passed : is_slash item ≡ true → nat_lt i next ≡ true → slashes_masked masks next (slash_places (i + 1) rest) b ≡ slashes_masked masks next (slash_places i (item ∷ rest)) b
+  slashes-passed slash passed = rw (slash, passed) refl
+
+  -- another item
+  pub slashes-other : is_slash item ≡ false → slashes_masked masks next (slash_places (i + 1) rest) b ≡ slashes_masked masks next (slash_places i (item ∷ rest)) b
+  slashes-other other = rw other refl

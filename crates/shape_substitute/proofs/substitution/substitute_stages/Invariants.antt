@@ -1,0 +1,9 @@
+use Rattle.shape_buffer.specs.Outcome.{Ran}
+use Rattle.shape_plan.specs.Run.{run_of}
+use Rattle.shape_substitute.specs.Substitution.{stage_steps}
+use Rattle.shape_substitute.proofs.substitution.substitute_stages.Given as goal
+
+-- the stages so far have run
+abbrev pub invariant-stages : goal.invariant-stages
+invariant-stages g l =
+    Ran (stage_steps (run_of g.U.hb_unicode_funcs_t.unicode g.M.hb_ot_layout_t.masks g.M.hb_ot_layout_t.lookups g.S.hb_ot_shaper_t.constants g.S.hb_ot_shaper_t.hooks g.F.hb_font_t.face l.plan l.face) l.i) l.fn.buffer l.buffer

@@ -1,0 +1,8 @@
+use Rattle.shape_substitute.specs.WorkedFractions.{worked_fractions}
+use Rattle.shape_substitute.specs.WorkedLookups.{worked_lookups}
+use Rattle.shape_substitute.specs.WorkedRanges.{worked_ranges}
+use Rattle.shape_substitute.specs.WorkedSteps.{worked_steps}
+use Rattle.shape_substitute.proofs.worked.definitions_meet_worked_cases.Goals as goal
+
+pub returns : goal.returns
+returns c = record { fractions = worked_fractions; ranges = worked_ranges; steps = worked_steps; lookups = worked_lookups }

@@ -1,0 +1,9 @@
+pub mod Fractions
+pub mod Ranges
+pub mod Classes
+pub mod Substitution
+pub mod Kept
+pub mod WorkedFractions
+pub mod WorkedRanges
+pub mod WorkedSteps
+pub mod WorkedLookups

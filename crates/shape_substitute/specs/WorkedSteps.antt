@@ -1,0 +1,145 @@
+-- Lists of steps, run on small cases whose answers are worked out by hand.
+use Rattle.std.specs.Prelude.{◌≡◌, ℕ, ◌+◌, ◌*◌, ◌==◌, Bool, true, false, List, [], ◌∷◌, length, map, None, Some, pos, refl, if◌then◌else◌}
+use Rattle.shape_buffer.specs.Buffer.{Buffer, new_buffer}
+use Rattle.shape_buffer.specs.Walks.{items_mapped}
+use Rattle.shape_buffer.specs.Items.{Item, new_item}
+use Rattle.shape_buffer.specs.Layout.{MapMeaning, LookupMeaning}
+use Rattle.shape_buffer.specs.NoLookups.{no_lookups}
+use Rattle.shape_buffer.specs.Outcome.{run_steps}
+use Rattle.shape_buffer.specs.Unicode.{UnicodeMeaning}
+use Rattle.shape_buffer.specs.declared.buffer.settings.Feature.{Feature}
+use Rattle.shape_plan.specs.Run.{Run}
+use Rattle.shape_plan.specs.Shaper.{ShaperConstants, HookMeaning}
+use Rattle.shape_plan.specs.declared.decisions.Decisions.{Decisions}
+use Rattle.shape_plan.specs.Shapers.{no_hooks}
+use Rattle.shape_substitute.specs.Classes.{glyphs_mapped, classes_synthesised}
+use Rattle.shape_substitute.specs.Fractions.{fractions_masked}
+use Rattle.shape_substitute.specs.Ranges.{ranges_masked}
+use Rattle.shape_substitute.specs.Substitution.{mask_steps, glyph_steps, substitute_steps}
+use Rattle.shape_substitute.specs.WorkedFractions.{with_fractions}
+
+-- what is done to each glyph
+abbrev each_glyph : (ℕ → ℕ) → Buffer → Buffer
+each_glyph f b =
+    let change : Item → Item = λ item. record item { glyph_id = f item.glyph_id } in
+    record b { items = map change b.items }
+
+abbrev each_mask : (ℕ → ℕ) → Buffer → Buffer
+each_mask f b =
+    let change : Item → Item = λ item. record item { mask = f item.mask } in
+    record b { items = map change b.items }
+
+-- stage 0 adds 1, stage 1 adds 3, each later one 1000; `morx` adds the number of features and 100, and deletion 10000
+abbrev adding : LookupMeaning
+adding = record no_lookups {
+  substitute_start = each_glyph (λ g. g * 2);
+  stage = λ i. each_glyph (λ g. g + (if i == 0 then 1 else if i == 1 then 3 else 1000));
+  aat_substitute = λ features. each_glyph (λ g. g + length features + 100);
+  aat_remove_deleted = each_glyph (λ g. g + 10000);
+}
+
+-- so many stages, with pause 7 behind the first one and no other; feature 1 has the bits 0x300
+abbrev pub with_stages : ℕ → MapMeaning
+with_stages n = record {
+  global_mask = 0;
+  one_mask = λ tag. 0;
+  mask = λ tag. (0x300, 8);
+  feature_index = λ table tag. None;
+  stages = n;
+  pause_after = λ i. if i == 0 then Some 7 else None;
+}
+
+abbrev pub constants : Bool → Bool → ShaperConstants
+constants has_pause has_setup_masks = record {
+  is_default = true;
+  preference = pos 4;
+  gpos_tag = None;
+  zero_width_marks = 0;
+  fallback_position = false;
+  has_collect_features = false;
+  has_override_features = false;
+  has_create_data = false;
+  has_preprocess_text = false;
+  has_postprocess_glyphs = false;
+  has_pause = has_pause;
+  has_decompose = false;
+  has_compose = false;
+  has_setup_masks = has_setup_masks;
+  has_reorder_marks = false;
+}
+
+-- pause 7 doubles each glyph, every other one makes it 0; `setup_masks` adds 0x10 to each mask
+abbrev doubling : UnicodeMeaning → HookMeaning
+doubling unicode = record (no_hooks unicode) {
+  setup_masks = each_mask (λ m. m + 0x10);
+  pause = λ n. each_glyph (λ g. if n == 7 then g * 2 else 0);
+}
+
+abbrev pub by_tables : Bool → Bool → Decisions
+by_tables morx gpos = record (with_fractions true) { apply_morx = morx; apply_gpos = gpos }
+
+-- one item of glyph 5
+abbrev glyph_5 : Buffer
+glyph_5 = record new_buffer { items = record (new_item 0x61 0) { glyph_index = 6; glyph_id = 5 } ∷ [] }
+
+abbrev glyphs : Buffer → List ℕ
+glyphs b = map (λ item. item.glyph_id) b.items
+
+abbrev whole_feature : Feature
+whole_feature = record { tag = record { 0 = 1 }; value = 1; start = 0; end = 4294967295 }
+
+abbrev first_feature : Feature
+first_feature = record { tag = record { 0 = 1 }; value = 2; start = 0; end = 1 }
+
+pub record RunsOfLookups (run : Run) : Type 0 where
+  -- 5 and 1, twice, and 3
+  pub pause_between : glyphs (run_steps (substitute_steps (record run { hooks = Some (doubling run.unicode); constants = constants true false; map = with_stages 2; decisions = by_tables false true })) glyph_5) ≡ 15 ∷ []
+  pub without_shaper : glyphs (run_steps (substitute_steps (record run { hooks = None; constants = constants true false; map = with_stages 2; decisions = by_tables false true })) glyph_5) ≡ 9 ∷ []
+  pub pause_not_given : glyphs (run_steps (substitute_steps (record run { hooks = Some (doubling run.unicode); constants = constants false false; map = with_stages 2; decisions = by_tables false false })) glyph_5) ≡ 9 ∷ []
+  pub no_stage : glyphs (run_steps (substitute_steps (record run { hooks = Some (doubling run.unicode); constants = constants true false; map = with_stages 0; decisions = by_tables false false })) glyph_5) ≡ 5 ∷ []
+  pub one_stage : glyphs (run_steps (substitute_steps (record run { hooks = Some (doubling run.unicode); constants = constants true false; map = with_stages 1; decisions = by_tables false false })) glyph_5) ≡ 12 ∷ []
+  pub three_stages : glyphs (run_steps (substitute_steps (record run { hooks = Some (doubling run.unicode); constants = constants true false; map = with_stages 3; decisions = by_tables false false })) glyph_5) ≡ 1015 ∷ []
+  -- 5, two features and 100
+  pub by_morx : glyphs (run_steps (substitute_steps (record run { hooks = Some (doubling run.unicode); constants = constants true false; map = with_stages 2; decisions = by_tables true false; user_features = whole_feature ∷ whole_feature ∷ [] })) glyph_5) ≡ 107 ∷ []
+  pub morx_and_gpos : glyphs (run_steps (substitute_steps (record run { hooks = None; constants = constants true false; map = with_stages 2; decisions = by_tables true true; user_features = [] })) glyph_5) ≡ 10105 ∷ []
+
+-- before the lookups: the glyph of the index, doubled by `substitute_start`; a class where the plan says so
+pub record RunsOfGlyphs (run : Run) : Type 0 where
+  pub mapped_first : glyphs (run_steps (glyph_steps (record run { decisions = with_fractions true })) glyph_5) ≡ 12 ∷ []
+  pub classes_of_face : map (λ item. item.properties.glyph_class.0) (run_steps (glyph_steps (record run { decisions = with_fractions true })) glyph_5).items ≡ 0 ∷ []
+  pub classes_made_up : map (λ item. item.properties.glyph_class.0) (run_steps (glyph_steps (record run { decisions = record (with_fractions true) { fallback_glyph_classes = true } })) glyph_5).items ≡ 2 ∷ []
+
+-- the hook adds 0x10, and then the user sets 2 in 0x300
+pub record RunsOfMasks (run : Run) : Type 0 where
+  pub hook_then_user : map (λ item. item.mask) (run_steps (mask_steps (record run { hooks = Some (doubling run.unicode); constants = constants false true; map = with_stages 0; decisions = with_fractions true; user_features = first_feature ∷ [] })) glyph_5).items ≡ 0x210 ∷ []
+  pub hook_not_given : map (λ item. item.mask) (run_steps (mask_steps (record run { hooks = Some (doubling run.unicode); constants = constants true false; map = with_stages 0; decisions = with_fractions true; user_features = first_feature ∷ [] })) glyph_5).items ≡ 0x200 ∷ []
+  pub without_shaper : map (λ item. item.mask) (run_steps (mask_steps (record run { hooks = None; constants = constants true true; map = with_stages 0; decisions = with_fractions true; user_features = [] })) glyph_5).items ≡ 0 ∷ []
+
+-- whatever else a run goes by
+pub record WorkedSteps : Type 0 where
+  pub lookups : (run : Run) → RunsOfLookups (record run { lookups = adding })
+  pub glyphs : (run : Run) → RunsOfGlyphs (record run { lookups = adding })
+  pub masks : (run : Run) → RunsOfMasks run
+
+runs_of_lookups : (run : Run) → RunsOfLookups (record run { lookups = adding })
+runs_of_lookups run = record {
+  pause_between = refl;
+  without_shaper = refl;
+  pause_not_given = refl;
+  no_stage = refl;
+  one_stage = refl;
+  three_stages = refl;
+  by_morx = refl;
+  morx_and_gpos = refl;
+}
+
+runs_of_glyphs : (run : Run) → RunsOfGlyphs (record run { lookups = adding })
+unfolding glyphs_mapped classes_synthesised items_mapped
+runs_of_glyphs run = record { mapped_first = refl; classes_of_face = refl; classes_made_up = refl }
+
+runs_of_masks : (run : Run) → RunsOfMasks run
+unfolding fractions_masked ranges_masked items_mapped
+runs_of_masks run = record { hook_then_user = refl; hook_not_given = refl; without_shaper = refl }
+
+pub worked_steps : WorkedSteps
+worked_steps = record { lookups = runs_of_lookups; glyphs = runs_of_glyphs; masks = runs_of_masks }

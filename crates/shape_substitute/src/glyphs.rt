@@ -1,0 +1,115 @@
+//! Glyphs, as substitution finds them: the ones that the face answered, with a class each.
+//!
+//! Lookups may pass by glyphs of a class. Where a face doesn't say which glyphs are marks, the characters
+//! do: a nonspacing mark is one, but for default ignorables, which lookups shall see.
+ghost use Rattle.std.specs.Prelude.{◌≡◌};
+ghost use Rattle.shape_buffer.specs.Outcome.{IsWithinLimit, Made, Ran};
+ghost use Rattle.shape_plan.specs.Run.{step_if};
+ghost use Rattle.shape_substitute.specs.Classes.{is_ignorable as is_ignorable_of, class_of_glyph as class_of_glyph_of, with_nominal_glyph as with_nominal_glyph_of, with_class as with_class_of, glyphs_mapped, classes_synthesised};
+ghost use Rattle.shape_substitute.specs.Substitution.{glyph_steps};
+
+use shape_buffer::buffer::{
+    GlyphPropsFlags, hb_buffer_t, hb_glyph_info_t, hb_unicode_general_category_t,
+};
+use shape_buffer::interfaces::{hb_font_t, hb_ot_layout_t, hb_unicode_funcs_t};
+use shape_buffer::walks::update_items;
+use shape_plan::ot_shape_plan::hb_ot_shape_plan_t;
+use shape_plan::ot_shaper::{Runs, hb_ot_shaper_t};
+
+/// An item with the glyph that the face answered for its character.
+fn with_nominal_glyph(info: &hb_glyph_info_t) -> hb_glyph_info_t
+    ensures { result ≡ with_nominal_glyph_of info.now }
+{
+    let mut info = *info;
+    info.glyph_id = info.glyph_index;
+    info
+}
+
+/// Makes the glyph of each item the one that the face answered for its character. Takes no memory.
+pub fn map_glyphs_fast(buffer: &mut hb_buffer_t)
+    ensures { Made glyphs_mapped buffer.old buffer.new }
+{
+    update_items(buffer, |info| with_nominal_glyph(info));
+}
+
+/// Whether an item is a default ignorable that no lookup has replaced.
+fn is_ignorable(info: &hb_glyph_info_t) -> bool
+    ensures { result ≡ is_ignorable_of info.now }
+{
+    info._hb_glyph_info_get_ignorable() && !info._hb_glyph_info_get_substituted()
+}
+
+/// The class of a glyph by its character.
+fn class_of_glyph(info: &hb_glyph_info_t) -> GlyphPropsFlags
+    ensures { result ≡ class_of_glyph_of info.now }
+{
+    let nonspacing = matches!(
+        info._hb_glyph_info_get_general_category(),
+        hb_unicode_general_category_t::NonspacingMark
+    );
+    if nonspacing && !is_ignorable(info) {
+        GlyphPropsFlags::MARK
+    } else {
+        GlyphPropsFlags::BASE_GLYPH
+    }
+}
+
+/// An item with that class, as a glyph that no lookup has made.
+fn with_class(info: &hb_glyph_info_t) -> hb_glyph_info_t
+    ensures { result ≡ with_class_of info.now }
+{
+    let mut info = *info;
+    info._hb_glyph_info_set_glyph_class(class_of_glyph(&info));
+    info._hb_glyph_info_set_substituted(false);
+    info._hb_glyph_info_set_ligated(false);
+    info
+}
+
+/// Makes up the class of each glyph, and takes back that lookups have made it. Takes no memory.
+pub fn hb_synthesize_glyph_classes(buffer: &mut hb_buffer_t)
+    ensures { Made classes_synthesised buffer.old buffer.new }
+{
+    update_items(buffer, |info| with_class(info));
+}
+
+/// Makes up the classes, where the plan says so, since the face has none.
+pub fn synthesize_classes<S, P, D>(plan: &hb_ot_shape_plan_t<'_, S, P, D>, buffer: &mut hb_buffer_t)
+    ensures { Made (step_if plan.now.decisions.fallback_glyph_classes classes_synthesised) buffer.old buffer.new }
+{
+    if plan.fallback_glyph_classes() {
+        hb_synthesize_glyph_classes(buffer);
+    }
+}
+
+/// Has the engine prepare the buffer for substitution.
+pub fn substitute_start<F, M, S, D>(
+    plan: &hb_ot_shape_plan_t<'_, S, M::Map, D>,
+    face: &F,
+    buffer: &mut hb_buffer_t,
+)
+where
+    M: hb_ot_layout_t<F>,
+    ensures { Made (M.lookups plan.now.ot_map face.now).substitute_start buffer.old buffer.new }
+{
+    M::substitute_start(face, buffer);
+}
+
+/// Makes glyphs of the items, prepares the buffer for substitution, and makes up the classes where the
+/// face has none. Takes no memory.
+pub fn setup_glyphs<U, F, M, S>(
+    plan: &hb_ot_shape_plan_t<'_, S, M::Map, S::Data>,
+    face: &F,
+    buffer: &mut hb_buffer_t,
+)
+where
+    U: hb_unicode_funcs_t,
+    F: hb_font_t,
+    M: hb_ot_layout_t<F>,
+    S: hb_ot_shaper_t<U, F, M>,
+    requires { IsWithinLimit buffer.old }
+    ensures { Ran (glyph_steps (⟦<S as Runs<U, F, M>>⟧.run plan.now face.now)) buffer.old buffer.new }
+{
+    map_glyphs_fast(buffer);
+    substitute_start::<F, M, S, S::Data>(plan, face, buffer);
+    synthesize_classes(plan, buffer);
+}

@@ -1,0 +1,15 @@
+//! Masks, classes of glyphs and substitution: what a run does between normalising and positions.
+//!
+//! The mask of an item says which features are on for it. [`masks`] sets what goes by the text, its shaper
+//! and its user, [`glyphs`] makes glyphs of characters, and [`substitution`] runs the lookups on them.
+#![tactic(auto)]
+#![allow(non_camel_case_types)]
+
+pub mod fractions;
+pub mod glyphs;
+pub mod laws;
+pub mod masks;
+pub mod ranges;
+pub mod substitution;
+pub mod syllables;
+pub mod worked;

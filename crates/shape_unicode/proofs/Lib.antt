@@ -1,0 +1,2 @@
+mod CanonicalLemmas
+mod TableLemmas

@@ -1,0 +1,20 @@
+-- Characters that are unseen, and those that pick a variant of the one before them.
+use Rattle.std.specs.Prelude.{ℕ, ◌==◌, ◌&&◌, ◌||◌, not, nat_le, Bool}
+use Rattle.ucd_derived.specs.Binary.{is_default_ignorable_code_point}
+use Rattle.ucd_props.specs.Binary.{is_variation_selector}
+
+-- the fillers of Hangul, U+180F and the shorthand format controls, which are shown
+abbrev pub is_seen_though_ignorable : ℕ → Bool
+is_seen_though_ignorable c = c == 0x115F || c == 0x1160 || c == 0x180F || c == 0x3164 || c == 0xFFA0 || (nat_le 0x1BCA0 c && nat_le c 0x1BCA3)
+
+-- Default_Ignorable_Code_Point, without those that are shown
+abbrev pub is_ignorable : ℕ → Bool
+is_ignorable c = is_default_ignorable_code_point c && not (is_seen_though_ignorable c)
+
+-- the block Mongolian
+abbrev pub is_mongolian : ℕ → Bool
+is_mongolian c = nat_le 0x1800 c && nat_le c 0x18AF
+
+-- Variation_Selector, without those of Mongolian
+abbrev pub is_selector : ℕ → Bool
+is_selector c = is_variation_selector c && not (is_mongolian c)

@@ -1,0 +1,21 @@
+-- Mirror images (UAX 9, Bidi_Mirroring_Glyph).
+use Rattle.std.specs.Prelude.{ℕ, ◌==◌, ◌||◌, Bool, Option, None, option_map, if◌then◌else◌}
+use Rattle.std.specs.List.{find}
+use Rattle.ucd_bidi.specs.Binary.{is_bidi_mirrored}
+use Rattle.shape_unicode.specs.declared.mirror_pairs.TheConstants.{MIRROR_PAIRS}
+
+-- the other one of a pair
+abbrev pub other_one : ℕ → ℕ × ℕ → ℕ
+other_one c pair = if pair.0 == c then pair.1 else pair.0
+
+-- c is one of the pair
+abbrev pub is_one_of : ℕ → ℕ × ℕ → Bool
+is_one_of c pair = pair.0 == c || pair.1 == c
+
+-- the other one of the pair that c belongs to
+abbrev pub other_of_pair : ℕ → Option ℕ
+other_of_pair c = option_map (other_one c) (find (is_one_of c) MIRROR_PAIRS)
+
+-- Bidi_Mirroring_Glyph
+abbrev pub mirrored_of : ℕ → Option ℕ
+mirrored_of c = if is_bidi_mirrored c then other_of_pair c else None

@@ -1,0 +1,24 @@
+-- The directions that scripts are written in.
+use Rattle.std.specs.Prelude.{◌==◌, Bool, Option, Some, None, if◌then◌else◌}
+use Rattle.std.specs.List.{list_any}
+use Rattle.shape_buffer.specs.declared.buffer.settings.hb_tag_t.{hb_tag_t}
+use Rattle.shape_buffer.specs.declared.buffer.settings.Script.{Script}
+use Rattle.shape_buffer.specs.declared.buffer.settings.Direction.{Direction}
+use Rattle.shape_buffer.specs.declared.buffer.settings.Direction.TheVariants.{LeftToRight, RightToLeft}
+use Rattle.shape_unicode.specs.Script.{tag_of}
+use Rattle.shape_unicode.specs.declared.script_direction.TheConstants.{RIGHT_TO_LEFT, EITHER_WAY}
+
+-- a script that is written from right to left
+abbrev pub is_right_to_left : hb_tag_t → Bool
+is_right_to_left tag = list_any (λ letters. tag_of letters == tag.0) RIGHT_TO_LEFT
+
+-- a script that has been written both ways
+abbrev pub is_either_way : hb_tag_t → Bool
+is_either_way tag = list_any (λ letters. tag_of letters == tag.0) EITHER_WAY
+
+-- left to right for all others, known or not
+abbrev pub direction_of : Script → Option Direction
+direction_of script =
+    if is_right_to_left script.0 then Some RightToLeft
+    else if is_either_way script.0 then None
+    else Some LeftToRight

@@ -1,0 +1,31 @@
+//! What is known of the answers beyond the laws that each implementation proves: each function has laws
+//! as its contract, and nothing to do.
+//!
+//! They tie the small tables to the character database, for every character, so that a wrong entry is
+//! refused and not only tested for.
+ghost use Rattle.shape_unicode.specs.Canonical.{EquivalenceIsCanonical};
+ghost use Rattle.shape_unicode.specs.OfDatabase.{MirrorsAreMutual, VerticalsAreMapped, VerticalsAreAll, SpacesAreSeparators};
+
+/// Equivalence by shaping's classes is canonical equivalence (The Unicode Standard, D70; UAX 15) for texts
+/// that have none of three marks once they are decomposed: U+0F39, U+0FC6 and U+1A60, which have a class
+/// of their own.
+pub fn equivalence_is_canonical()
+    ensures { EquivalenceIsCanonical }
+{}
+
+/// A mirror image has the property Bidi_Mirrored, and is mirrored back (UAX 9).
+pub fn mirrors_are_mutual()
+    ensures { MirrorsAreMutual }
+{}
+
+/// Vertical forms are those of the database: the mapping of a form has the tag `<vertical>`, and names the
+/// character or what this is a wide form of; each such mapping to one character has its entry (UAX 44).
+pub fn verticals_are_of_the_database()
+    ensures mapped { VerticalsAreMapped }
+    ensures all { VerticalsAreAll }
+{}
+
+/// The space separators have a width, but for U+1680, which is drawn, and nothing else has.
+pub fn spaces_are_separators()
+    ensures { SpacesAreSeparators }
+{}

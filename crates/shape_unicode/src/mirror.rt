@@ -1,0 +1,34 @@
+//! Mirror images, for text that runs from right to left (UAX 9, Bidi_Mirroring_Glyph).
+ghost use Rattle.std.specs.Prelude.{◌≡◌};
+ghost use Rattle.shape_unicode.specs.Mirror.{other_one, other_of_pair, mirrored_of};
+
+use crate::mirror_pairs::MIRROR_PAIRS;
+
+/// The other one of a pair that has `c`.
+fn other_one(c: char, pair: (char, char)) -> char
+    ensures { result ≡ other_one c pair }
+{
+    if pair.0 == c { pair.1 } else { pair.0 }
+}
+
+/// The other one of the pair that `c` belongs to.
+fn other_of_pair(c: char) -> Option<char>
+    ensures { result ≡ other_of_pair c }
+{
+    MIRROR_PAIRS
+        .iter()
+        .find(|pair| pair.0 == c || pair.1 == c)
+        .map(|pair| other_one(c, *pair))
+}
+
+/// The mirror image of `c`, where one is encoded. Few characters have the property Bidi_Mirrored, and the
+/// pairs are walked through for these alone.
+pub(crate) fn mirrored_of(c: char) -> Option<char>
+    ensures { result ≡ mirrored_of c }
+{
+    if ucd_bidi::is_bidi_mirrored(c) {
+        other_of_pair(c)
+    } else {
+        None
+    }
+}

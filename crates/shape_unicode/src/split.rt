@@ -1,0 +1,88 @@
+//! One step of canonical decomposition (UAX 44, Decomposition_Mapping without a tag).
+//!
+//! The kit's compiled tables have full decompositions and primary composites, and no single steps. The
+//! last step of a character is found from these: its full decomposition, all but the last character of it
+//! composed again, and that last one. Where the two compose to another character, this one is a singleton
+//! of it. Few characters begin with a pair that is excluded from composition; a table has their heads.
+//! That the mapping of the database comes out, of every character, is computed over its rows
+//! (`specs/LastStepFacts.antt`).
+ghost use Rattle.std.specs.Prelude.{◌≡◌};
+ghost use Rattle.ucd_normal.specs.Composition.{composite};
+ghost use Rattle.shape_unicode.specs.Split.{split_of};
+ghost use Rattle.shape_unicode.specs.LastStep.{last_step, excluded_head, head_of, split_by};
+
+use crate::hangul::{is_syllable, split_syllable};
+use ucd_normal::{canonical_decomposition, composite};
+
+/// Two characters that don't compose, and the one that splits into them, where this one is a first part
+/// itself (the pairs of DerivedNormalizationProps.txt, Full_Composition_Exclusion, that UnicodeData.txt
+/// names in a mapping).
+pub const EXCLUDED_HEADS: [(char, char, char); 4] = [
+    ('\u{5E9}', '\u{5BC}', '\u{FB49}'),
+    ('\u{1D158}', '\u{1D165}', '\u{1D15F}'),
+    ('\u{1D1B9}', '\u{1D165}', '\u{1D1BB}'),
+    ('\u{1D1BA}', '\u{1D165}', '\u{1D1BC}'),
+];
+
+/// The last step of the decomposition of `c`, whose parts before it are `first` and `second`.
+fn last_step(c: char, first: char, second: char) -> (char, char)
+    ensures { result ≡ last_step composite c first second }
+{
+    match composite(first, second) {
+        Some(d) => if d == c {
+            (first, second)
+        } else {
+            (d, '\u{0}')
+        },
+        None => (first, second),
+    }
+}
+
+/// The character that splits into two that don't compose.
+fn excluded_head(a: char, b: char) -> Option<char>
+    ensures { result ≡ excluded_head a b }
+{
+    EXCLUDED_HEADS
+        .iter()
+        .find(|entry| entry.0 == a && entry.1 == b)
+        .map(|entry| entry.2)
+}
+
+/// The character that two characters at the head of a full decomposition come from.
+fn head_of(a: char, b: char) -> Option<char>
+    ensures { result ≡ head_of composite a b }
+{
+    match composite(a, b) {
+        Some(c) => Some(c),
+        None => excluded_head(a, b),
+    }
+}
+
+/// The last step of the decomposition of `c`, whose full decomposition is `full`, empty where it is `c`.
+fn split_by(c: char, full: &[char]) -> Option<(char, char)>
+    ensures { result ≡ split_by composite c full.now }
+{
+    match full {
+        [] => None,
+        [a] => Some((*a, '\u{0}')),
+        [a, b] => Some(last_step(c, *a, *b)),
+        [a, b, d] => head_of(*a, *b).map(|p| last_step(c, p, *d)),
+        [a, b, d, e] => {
+            let p = head_of(*a, *b)?;
+            let q = head_of(p, *d)?;
+            Some(last_step(c, q, *e))
+        }
+        _ => None,
+    }
+}
+
+/// The parts that `c` splits into in one step; the second one is U+0000 where there is one part alone.
+pub(crate) fn split(c: char) -> Option<(char, char)>
+    ensures { result ≡ split_of c }
+{
+    if is_syllable(c) {
+        Some(split_syllable(c))
+    } else {
+        split_by(c, canonical_decomposition(c))
+    }
+}

@@ -1,0 +1,203 @@
+//! What the lines so far have set.
+//!
+//! The state after a line is a function of the state before it and of the line's words: each command sets
+//! one thing, a malformed line nothing, and lines that ask for an answer leave the state.
+ghost use Rattle.std.specs.Prelude.{◌≡◌, MatchOption};
+ghost use Rattle.std.specs.Str.{IsUtf8};
+ghost use Rattle.shapeline.specs.Lines.{IsLine, IsObeyed, line_words, obeyed};
+ghost use Rattle.shapeline.specs.State.{IsMeant, set_by, start};
+ghost use Rattle.shapeline.specs.Words.{words as words_of};
+
+use crate::engine::command::Command;
+use crate::engine::mode::Mode;
+use crate::engine::outcome::Outcome;
+use crate::engine::{same, settings, text};
+use crate::parse::Words;
+use shape_buffer::buffer::{BufferClusterLevel, BufferFlags, Direction};
+use shape_buffer::interfaces::MapFace;
+use std::alloc::Global;
+use std::io::Write;
+use std::marker::Model;
+use std::str;
+
+/// The units per em of the face at the start.
+const UNITS_PER_EM: u16 = 1000;
+
+/// How texts are shaped, as lines have set it. The direction is Invalid where it is to be guessed.
+#[derive(Clone, Copy)]
+pub struct Manner {
+    pub mode: Mode,
+    pub level: BufferClusterLevel,
+    pub direction: Direction,
+    pub flags: BufferFlags,
+}
+
+/// The face that lines have made, and how texts are shaped with it.
+#[derive(Drop)]
+pub struct Session {
+    face: MapFace,
+    manner: Manner,
+}
+
+impl Model for Session {
+    ghost use Rattle.shapeline.specs.State.{State};
+
+    ghost Value = { State };
+
+    ghost view = { λ s. record {
+      units_per_em = s.face.units_per_em;
+      glyphs = s.face.glyphs.entries;
+      metrics = s.face.metrics.entries;
+      mode = s.manner.mode;
+      level = s.manner.level;
+      direction = s.manner.direction;
+      flags = s.manner.flags;
+    } };
+}
+
+/// The words of a line in UTF-8. It may end with a line feed, before which a carriage return may stand.
+fn words_of_line(line: &[u8]) -> Option<Words<'_>>
+    ensures { MatchOption result
+        (¬ IsUtf8 line.now)
+        (λ words. IsUtf8 line.now × (words_of words.rest.now ≡ line_words line.now)) }
+{
+    let Ok(line) = str::from_utf8(line) else {
+        return None;
+    };
+    let line = line.strip_suffix('\n').unwrap_or(line);
+    let line = line.strip_suffix('\r').unwrap_or(line);
+    Some(Words::new(line))
+}
+
+impl Session {
+    /// What is set before the first line.
+    pub fn new(alloc: Global) -> Session
+        ensures { result ≡ start }
+    {
+        Session {
+            face: MapFace::new(alloc, UNITS_PER_EM),
+            manner: Manner {
+                mode: Mode::Auto,
+                level: BufferClusterLevel::MonotoneGraphemes,
+                direction: Direction::Invalid,
+                flags: BufferFlags(0),
+            },
+        }
+    }
+
+    /// Does what one line says, and writes what it asks for. A malformed line changes nothing.
+    pub fn obey<W: Write>(&mut self, alloc: Global, line: &[u8], writer: &mut W) -> Outcome
+        ensures { IsObeyed (IsLine line.now) self.old (obeyed (line_words line.now) self.old) result self.new }
+    {
+        let Some(mut words) = words_of_line(line) else {
+            return Outcome::Malformed;
+        };
+        let Some(first) = words.next() else {
+            return Outcome::Done;
+        };
+        if first.starts_with('#') {
+            return Outcome::Done;
+        }
+        match Command::from_word(first) {
+            Some(command) => self.execute(alloc, command, words, writer),
+            None => Outcome::Malformed,
+        }
+    }
+
+    /// Does what a command with these words says.
+    fn execute<W: Write>(
+        &mut self,
+        alloc: Global,
+        command: Command,
+        words: Words,
+        writer: &mut W,
+    ) -> Outcome
+        ensures { IsObeyed (IsMeant command (words_of words.entry.rest.now)) self.old
+            (set_by command (words_of words.entry.rest.now) self.old) result self.new }
+    {
+        match command {
+            Command::Face => self.set_face(alloc, words),
+            Command::Glyph => self.set_glyph(words),
+            Command::Mode => self.set_mode(words),
+            Command::Level => self.set_level(words),
+            Command::Dir => self.set_direction(words),
+            Command::Flags => self.set_flags(words),
+            Command::Text => text::answer(alloc, &self.face, self.manner, words, writer),
+            Command::Same => same::answer(alloc, &self.face, self.manner, words, writer),
+        }
+    }
+
+    /// `face U`: an empty face of U units per em.
+    fn set_face(&mut self, alloc: Global, words: Words) -> Outcome
+        ensures { IsObeyed (IsMeant Command.Face (words_of words.entry.rest.now)) self.old
+            (set_by Command.Face (words_of words.entry.rest.now) self.old) result self.new }
+    {
+        let Some(units_per_em) = settings::units_per_em(words) else {
+            return Outcome::Malformed;
+        };
+        self.face = MapFace::new(alloc, units_per_em);
+        Outcome::Done
+    }
+
+    /// `glyph C I A ..`: the character C has glyph I, whose advance is A, and perhaps its extents.
+    fn set_glyph(&mut self, words: Words) -> Outcome
+        ensures { IsObeyed (IsMeant Command.Glyph (words_of words.entry.rest.now)) self.old
+            (set_by Command.Glyph (words_of words.entry.rest.now) self.old) result self.new }
+    {
+        let Some(said) = settings::glyph(words) else {
+            return Outcome::Malformed;
+        };
+        match self.face.set_glyph(said.c, said.glyph, said.metrics) {
+            Ok(()) => Outcome::Done,
+            Err(_) => Outcome::OutOfMemory,
+        }
+    }
+
+    /// `mode M`: how texts are normalised.
+    fn set_mode(&mut self, words: Words) -> Outcome
+        ensures { IsObeyed (IsMeant Command.Mode (words_of words.entry.rest.now)) self.old
+            (set_by Command.Mode (words_of words.entry.rest.now) self.old) result self.new }
+    {
+        let Some(mode) = settings::mode(words) else {
+            return Outcome::Malformed;
+        };
+        self.manner.mode = mode;
+        Outcome::Done
+    }
+
+    /// `level N`: how far clusters are merged.
+    fn set_level(&mut self, words: Words) -> Outcome
+        ensures { IsObeyed (IsMeant Command.Level (words_of words.entry.rest.now)) self.old
+            (set_by Command.Level (words_of words.entry.rest.now) self.old) result self.new }
+    {
+        let Some(level) = settings::level(words) else {
+            return Outcome::Malformed;
+        };
+        self.manner.level = level;
+        Outcome::Done
+    }
+
+    /// `dir D`: the direction that texts run in.
+    fn set_direction(&mut self, words: Words) -> Outcome
+        ensures { IsObeyed (IsMeant Command.Dir (words_of words.entry.rest.now)) self.old
+            (set_by Command.Dir (words_of words.entry.rest.now) self.old) result self.new }
+    {
+        let Some(direction) = settings::direction(words) else {
+            return Outcome::Malformed;
+        };
+        self.manner.direction = direction;
+        Outcome::Done
+    }
+
+    /// `flags N`: what is asked of a run.
+    fn set_flags(&mut self, words: Words) -> Outcome
+        ensures { IsObeyed (IsMeant Command.Flags (words_of words.entry.rest.now)) self.old
+            (set_by Command.Flags (words_of words.entry.rest.now) self.old) result self.new }
+    {
+        let Some(flags) = settings::flags(words) else {
+            return Outcome::Malformed;
+        };
+        self.manner.flags = flags;
+        Outcome::Done
+    }
+}

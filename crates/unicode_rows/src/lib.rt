@@ -1,0 +1,14 @@
+//! Rows of whole texts for the functions of Unicode: lines of Unicode's own test of normalisation, and real
+//! texts of seven scripts.
+//!
+//! The tests here split and order a text by the functions alone, as UAX 15 says it, and compare with the
+//! rows: what is wrong in a row or in a function shows before any shaping.
+#![tactic(auto)]
+
+pub mod callers;
+pub mod normalization_rows;
+#[cfg(test)]
+mod ordering;
+#[cfg(test)]
+mod tests;
+pub mod texts;
