@@ -1,2 +1,4 @@
+pub mod FlagRunLemmas
 pub mod OrderLemmas
+pub mod PartLemmas
 pub mod RunLemmas
