@@ -97,6 +97,12 @@ where
         (planned_for U.unicode ⟦<S as Plans<U, F, M>>⟧.planning face.now shaper.now features.now buffer) face.now in
         IfOk result (λ glyphs. FlagsAreByCluster run buffer glyphs) }
     ensures within { IfOk result (λ glyphs. length glyphs.items ≤ run_limit (length buffer.items)) }
+    ensures counted { let run = ⟦<S as Runs<U, F, M>>⟧.run
+        (planned_for U.unicode ⟦<S as Plans<U, F, M>>⟧.planning face.now shaper.now features.now buffer) face.now in
+        IfOk result (λ glyphs. Shapes run (target_of run buffer) (guessed U.unicode buffer) glyphs) }
+    ensures length { let run = ⟦<S as Runs<U, F, M>>⟧.run
+        (planned_for U.unicode ⟦<S as Plans<U, F, M>>⟧.planning face.now shaper.now features.now buffer) face.now in
+        IfErr result (λ fault. fault.cause ≡ ShapeError.Length → ShapingPasses run (target_of run buffer) (guessed U.unicode buffer)) }
     ensures cleared { IfErr result (λ fault. fault.buffer ≡ cleared buffer) }
 {
     let text = buffer.as_inner();
