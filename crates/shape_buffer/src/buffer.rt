@@ -12,6 +12,7 @@ mod error;
 mod flags;
 mod general_category;
 mod glyph_buffer;
+mod item_flags;
 mod items;
 mod positions;
 mod properties;

@@ -1,5 +1,5 @@
 //! Calls that change which items there are, or their order: positions go with their items.
-ghost use Rattle.std.specs.Prelude.{◌≡◌, ◌<◌, ◌≤◌, ◌^◌, ◌↔◌, [], ◌∷◌, ◌++◌, length, insert, remove, reverse, replicate, vec_len, IsErrOf, IsOkUnless, OnOk, OnErr};
+ghost use Rattle.std.specs.Prelude.{◌≡◌, ◌<◌, ◌≤◌, ◌^◌, ◌↔◌, [], ◌∷◌, ◌++◌, length, insert, remove, reverse, swap, replicate, vec_len, IsErrOf, IsOkUnless, OnOk, OnErr};
 ghost use Rattle.shape_buffer.specs.Buffer.{limit_of};
 ghost use Rattle.shape_buffer.specs.Items.{new_item};
 ghost use Rattle.shape_buffer.specs.Positions.{zero_position};
@@ -23,6 +23,18 @@ impl hb_buffer_t {
     {
         self.infos.reverse();
         self.positions.reverse();
+    }
+
+    /// Exchanges two items, and their positions.
+    pub fn swap(&mut self, i: usize, j: usize)
+        requires { (i < length self.old.items) × (j < length self.old.items) }
+        ensures { self.new ≡ record self.old {
+          items = swap self.old.items i j;
+          positions = swap self.old.positions i j;
+        } }
+    {
+        self.infos.swap(i, j);
+        self.positions.swap(i, j);
     }
 
     /// Takes an item and its position out.

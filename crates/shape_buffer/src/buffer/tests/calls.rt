@@ -1,4 +1,4 @@
-use super::rows;
+use super::{filled, rows};
 use crate::buffer::{
     BufferClusterLevel, BufferFlags, Direction, GlyphId, GlyphPosition, GlyphPropsFlags, Language,
     ScratchFlags, Script, ShapeError, UnicodeBuffer, hb_buffer_t, hb_glyph_info_t, hb_tag_t,
@@ -181,5 +181,42 @@ fn properties(rt: HostRuntime) -> Result<(), Fail> {
     assert_eq!(rt; item._hb_glyph_info_get_shaper_category(), 11);
     assert_eq!(rt; item._hb_glyph_info_get_shaper_auxiliary(), 12);
     assert_eq!(rt; item.cluster, 3);
+    Ok(())
+}
+
+#[test]
+fn items_are_exchanged_with_their_positions(rt: HostRuntime) -> Result<(), Fail> {
+    let mut buffer = filled(
+        rt.alloc(),
+        BufferClusterLevel::Characters,
+        [(0, 1), (1, 2), (2, 4)].as_slice(),
+    )?;
+    let mut position = GlyphPosition::zero();
+    position.x_advance = 7;
+    buffer.set_position(0, position);
+    buffer.swap(0, 2);
+    let found = rows(rt.alloc(), &buffer)?;
+    assert_eq!(rt; found.as_slice(), [(2, 4), (1, 2), (0, 1)].as_slice());
+    let advances: Vec<i32> = buffer
+        .positions()
+        .iter()
+        .map(|position| position.x_advance)
+        .collect(rt.alloc())?;
+    assert_eq!(rt; advances.as_slice(), [0, 0, 7].as_slice());
+    let flags: Vec<(bool, bool, bool)> = buffer
+        .infos()
+        .iter()
+        .map(|info| {
+            (
+                info.unsafe_to_break(),
+                info.unsafe_to_concat(),
+                info.safe_to_insert_tatweel(),
+            )
+        })
+        .collect(rt.alloc())?;
+    assert_eq!(rt;
+        flags.as_slice(),
+        [(false, false, true), (false, true, false), (true, false, false)].as_slice()
+    );
     Ok(())
 }
