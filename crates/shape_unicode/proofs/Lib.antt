@@ -1,2 +1,3 @@
 mod CanonicalLemmas
+mod LastStepLemmas
 mod TableLemmas

@@ -6,7 +6,7 @@ use Rattle.ucd_normal.specs.Decomposition.{canonical_mapping}
 use Rattle.unicode_normalization.specs.Hangul.{is_syllable}
 use Rattle.shape_unicode.specs.Class.{class_of}
 use Rattle.shape_unicode.specs.Split.{parts_of, split_of}
-use Rattle.shape_unicode.specs.TableFacts.{parts_keep, classes_ok}
+use Rattle.shape_unicode.specs.TableFacts.{parts_keep, ClassesPass}
 use Rattle.shape_buffer.specs.Unicode.{is_mark}
 use Rattle.shape_unicode.specs.Meaning.{unicode_database}
 use Rattle.shape_unicode.specs.SplitLaws.{not_true}
@@ -15,14 +15,14 @@ has_class : (c : ℕ) → class_of c ≢ 0 → (ccc c == 0) ≡ false
 has_class c nonzero =
     elim (cases_Bool (ccc c == 0)) [ inl h ↦ absurd (nonzero (cond-true (ccc c == 0) 0 _ h)) | inr h ↦ h ]
 
-pub marks_have_classes : (c : ℕ) → class_of c ≢ 0 → is_mark unicode_database c ≡ true
-marks_have_classes c nonzero =
-    let parts = and_parts _ _ (classes_ok c (has_class c nonzero)) in (and_parts _ _ parts.0).0
+pub marks_have_classes : ClassesPass → (c : ℕ) → class_of c ≢ 0 → is_mark unicode_database c ≡ true
+marks_have_classes pass c nonzero =
+    let parts = and_parts _ _ (pass c (has_class c nonzero)) in (and_parts _ _ parts.0).0
 
 -- the parts of a character with a class
-pub class_of_parts : (c a b : ℕ) → class_of c ≢ 0 → split_of c ≡ Some (a, b) → (class_of a ≡ class_of c) × ((b ≡ 0) ⊎ (class_of b ≡ class_of c))
-class_of_parts c a b nonzero splits =
-    let ok = and_parts _ _ (classes_ok c (has_class c nonzero)) in
+pub class_of_parts : ClassesPass → (c a b : ℕ) → class_of c ≢ 0 → split_of c ≡ Some (a, b) → (class_of a ≡ class_of c) × ((b ≡ 0) ⊎ (class_of b ≡ class_of c))
+class_of_parts pass c a b nonzero splits =
+    let ok = and_parts _ _ (pass c (has_class c nonzero)) in
     let apart : is_syllable c ≡ false = not_true _ (and_parts _ _ ok.0).1 in
     let into : parts_of (canonical_mapping c) ≡ Some (a, b) = sym (cond-false (is_syllable c) _ _ apart) ∙ splits in
     let keeps : parts_keep class_of (class_of c) (Some (a, b)) ≡ true = ap (parts_keep class_of (class_of c)) (sym into) ∙ ok.1 in

@@ -9,7 +9,7 @@ use Rattle.shape_unicode.specs.Meaning.{unicode_database}
 use Rattle.shape_unicode.specs.Mirror.{other_one, is_one_of, other_of_pair, mirrored_of}
 use Rattle.shape_unicode.specs.Vertical.{vertical_of}
 use Rattle.shape_unicode.specs.Tables.{by_rows}
-use Rattle.shape_unicode.specs.TableFacts.{plain_pair, mirrors_ok, verticals_ok}
+use Rattle.shape_unicode.specs.TableFacts.{plain_pair, MirrorsPass, VerticalsPass}
 use Rattle.shape_unicode.specs.SplitLaws.{not_true}
 use Rattle.shape_unicode.specs.declared.mirror_pairs.TheConstants.{MIRROR_PAIRS}
 use Rattle.shape_unicode.specs.declared.vertical.TheConstants.{VERTICAL_FORMS}
@@ -52,9 +52,9 @@ plain c d passes =
       record { no_mark = not_true _ of_d.0; no_space = not_true _ of_d.1 },
     )
 
-pub verticals_are_plain : FormsArePlain unicode_database vertical_of
-verticals_are_plain c d found =
-    let at = look_up (λ entry. entry.0 == c) (plain_pair by_rows) VERTICAL_FORMS (λ entry. entry.1) d verticals_ok found in
+pub verticals_are_plain : VerticalsPass → FormsArePlain unicode_database vertical_of
+verticals_are_plain pass c d found =
+    let at = look_up (λ entry. entry.0 == c) (plain_pair by_rows) VERTICAL_FORMS (λ entry. entry.1) d pass found in
     let both = plain at.entry.0 at.entry.1 at.passes in (
       subst (IsPlain unicode_database) (eqb-true _ _ at.is_key) both.0,
       subst (IsPlain unicode_database) at.into both.1,
@@ -80,9 +80,9 @@ found_pair test all c d found =
       ];
     }
 
-other_is_plain : (c d : ℕ) → other_of_pair c ≡ Some d → IsPlain unicode_database c × IsPlain unicode_database d
-other_is_plain c d found =
-    let at = found_pair (plain_pair by_rows) mirrors_ok c d found in
+other_is_plain : MirrorsPass → (c d : ℕ) → other_of_pair c ≡ Some d → IsPlain unicode_database c × IsPlain unicode_database d
+other_is_plain pass c d found =
+    let at = found_pair (plain_pair by_rows) pass c d found in
     let both = plain at.pair.0 at.pair.1 at.passes in
     elim at.sides [
       | inl e ↦ (subst (IsPlain unicode_database) e.0 both.0, subst (IsPlain unicode_database) e.1 both.1)
@@ -97,5 +97,5 @@ mirrored_cases c d found =
       | inr lacks ↦ let none : ◌≡◌ {A = Option ℕ} None (Some d) = sym (cond-false (is_bidi_mirrored c) (other_of_pair c) None lacks) ∙ found in cc
     ]
 
-pub mirrors_are_plain : FormsArePlain unicode_database mirrored_of
-mirrors_are_plain c d found = other_is_plain c d (mirrored_cases c d found).1
+pub mirrors_are_plain : MirrorsPass → FormsArePlain unicode_database mirrored_of
+mirrors_are_plain pass c d found = other_is_plain pass c d (mirrored_cases c d found).1

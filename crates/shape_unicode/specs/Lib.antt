@@ -11,7 +11,6 @@ pub mod ScriptDirection
 pub mod Meaning
 pub mod Tables
 pub mod TableFacts
-pub mod LastStepFacts
 pub mod SplitLaws
 pub mod ClassLaws
 pub mod JoinLaws

@@ -1,5 +1,5 @@
 -- Splits fall: a split is that of a syllable, or one of the database; each lowers the height, and a second part splits no more.
-use Rattle.std.proofs.Common.{◌≡◌, ◌≢◌, ℕ, suc, ◌+◌, ◌-◌, ◌/◌, ◌%◌, ◌<◌, ◌≤◌, ◌⊎◌, Bool, true, false, not, ◌==◌, [], Option, Some, None, refl, sym, ap, ◌∙◌, arith, inl, inr, eqb-true, eq-eqb, ltb-true}
+use Rattle.std.proofs.Common.{◌≡◌, ◌≢◌, ℕ, suc, ◌+◌, ◌-◌, ◌/◌, ◌%◌, ◌<◌, ◌≤◌, ◌⊎◌, Bool, true, false, not, ◌==◌, List, [], ◌∷◌, Option, Some, None, refl, sym, ap, ◌∙◌, arith, inl, inr, eqb-true, eq-eqb, ltb-true}
 use Rattle.std.proofs.lemmas.Bool.{cases_Bool, and_parts, or_cases, cond-true, cond-false}
 use Rattle.std.specs.Option.{option_map_or}
 use Rattle.ucd_normal.specs.Decomposition.{canonical_mapping}
@@ -9,7 +9,6 @@ use Rattle.unicode_normalization.proofs.HangulLemmas.{is_among_from, not_among_b
 use Rattle.shape_unicode.specs.Split.{parts_of, split_of, split_syllable, depth_within, height_of}
 use Rattle.shape_unicode.specs.Tables.{by_rows}
 use Rattle.shape_unicode.specs.TableFacts.{parts_fall, mappings_ok}
-use Rattle.shape_unicode.specs.LastStepFacts.{nil_of_empty}
 
 pub not_true : (b : Bool) → not b ≡ true → b ≡ false
 not_true true h = cc
@@ -17,6 +16,10 @@ not_true false h = refl
 
 pub true_is_false : {X : Type 0} → true ≡ false → X
 true_is_false clash = cc
+
+pub nil_of_empty : (xs : List ℕ) → is_empty xs ≡ true → xs ≡ []
+nil_of_empty [] h = refl
+nil_of_empty (x ∷ xs) h = cc
 
 -- a split is that of a syllable, or one of the database
 pub split_cases : (c a b : ℕ) → split_of c ≡ Some (a, b) → ((is_syllable c ≡ true) × (split_syllable c ≡ (a, b))) ⊎ ((is_syllable c ≡ false) × (parts_of (canonical_mapping c) ≡ Some (a, b)))

@@ -1,4 +1,7 @@
 -- What the laws rest on: tests computed over the rows of the database.
+--
+-- The laws take those of the short tables as premises, and the type that has the laws names the proofs. So a wrong row of
+-- such a table leaves one thing false, and the check names it.
 use Rattle.std.proofs.Common.{◌≡◌, ℕ, ◌<◌, Bool, true, false, not, ◌&&◌, ◌||◌, ◌==◌, nat_lt, List, [], ◌∷◌, Option, Some, None, refl, ap, ◌∙◌}
 use Rattle.std.specs.List.{list_all}
 use Rattle.ucd_table.proofs.Facts.{Stepped-below}
@@ -35,7 +38,11 @@ class_ok t c n =
     (is_mark_by t c && not (is_syllable c))
     && parts_keep (λ x. class_from (t.class x) x) (class_from n c) (parts_of (mapping t c))
 
-pub classes_ok : (c : ℕ) → (ccc c == 0) ≡ false → class_ok by_rows c (ccc c) ≡ true
+-- so it is with each character that has a combining class
+abbrev pub ClassesPass : Type 0
+ClassesPass = (c : ℕ) → (ccc c == 0) ≡ false → class_ok by_rows c (ccc c) ≡ true
+
+pub classes_ok : ClassesPass
 unfolding by_trees
 classes_ok c nonzero =
     ap (λ t. class_ok t c (ccc c)) same_tables
@@ -82,10 +89,18 @@ is_plain_by t c = not (is_mark_by t c) && not (is_space_category (category_from 
 abbrev pub plain_pair : Tables → ℕ × ℕ → Bool
 plain_pair t entry = is_plain_by t entry.0 && is_plain_by t entry.1
 
-pub mirrors_ok : list_all (plain_pair by_rows) MIRROR_PAIRS ≡ true
+-- so it is with each mirror pair
+abbrev pub MirrorsPass : Type 0
+MirrorsPass = list_all (plain_pair by_rows) MIRROR_PAIRS ≡ true
+
+pub mirrors_ok : MirrorsPass
 unfolding by_trees
 mirrors_ok = ap (λ t. list_all (plain_pair t) MIRROR_PAIRS) same_tables
 
-pub verticals_ok : list_all (plain_pair by_rows) VERTICAL_FORMS ≡ true
+-- so it is with each vertical form and what it is a form of
+abbrev pub VerticalsPass : Type 0
+VerticalsPass = list_all (plain_pair by_rows) VERTICAL_FORMS ≡ true
+
+pub verticals_ok : VerticalsPass
 unfolding by_trees
 verticals_ok = ap (λ t. list_all (plain_pair t) VERTICAL_FORMS) same_tables

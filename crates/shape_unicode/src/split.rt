@@ -5,7 +5,7 @@
 //! composed again, and that last one. Where the two compose to another character, this one is a singleton
 //! of it. Few characters begin with a pair that is excluded from composition; a table has their heads.
 //! That the mapping of the database comes out, of every character, is computed over its rows
-//! (`specs/LastStepFacts.antt`).
+//! (`proofs/LastStepLemmas.antt`).
 ghost use Rattle.std.specs.Prelude.{◌≡◌};
 ghost use Rattle.ucd_normal.specs.Composition.{composite};
 ghost use Rattle.shape_unicode.specs.Split.{split_of};

@@ -22,10 +22,11 @@ pub struct UnicodeDatabase;
 
 impl hb_unicode_funcs_t for UnicodeDatabase {
     ghost use Rattle.shape_unicode.specs.Laws.{unicode_database-lawful};
+    ghost use Rattle.shape_unicode.specs.TableFacts.{classes_ok, mirrors_ok, verticals_ok};
 
     ghost unicode = { unicode_database };
 
-    ghost lawful = { unicode_database-lawful };
+    ghost lawful = { unicode_database-lawful classes_ok mirrors_ok verticals_ok };
 
     /// General_Category.
     fn general_category(c: char) -> hb_unicode_general_category_t {

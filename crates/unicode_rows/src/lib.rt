@@ -2,10 +2,14 @@
 //! texts of seven scripts.
 //!
 //! The tests here split and order a text by the functions alone, as UAX 15 says it, and compare with the
-//! rows: what is wrong in a row or in a function shows before any shaping.
+//! rows: what is wrong in a row or in a function shows before any shaping. Then they compare with what
+//! normalising and whole runs make of the texts.
 #![tactic(auto)]
 
 pub mod callers;
+pub mod every_glyph;
+pub mod moved_rows;
+pub mod normalising;
 pub mod normalization_rows;
 #[cfg(test)]
 mod ordering;

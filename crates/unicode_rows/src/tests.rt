@@ -1,4 +1,7 @@
-//! The rows against the functions of Unicode.
+//! The rows against the functions of Unicode, and what normalising and runs make of the texts.
+
+mod normalised;
+mod shaped;
 
 use crate::normalization_rows::NORMALIZATION_ROWS;
 use crate::ordering::{chars_of, decomposed, recomposed};

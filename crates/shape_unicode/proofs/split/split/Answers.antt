@@ -3,7 +3,7 @@ use Rattle.std.proofs.lemmas.Bool.{cond-false}
 use Rattle.ucd_normal.specs.Composition.{composite}
 use Rattle.unicode_normalization.specs.Hangul.{is_syllable}
 use Rattle.shape_unicode.specs.LastStep.{split_by}
-use Rattle.shape_unicode.specs.LastStepFacts.{split_by-split}
+use Rattle.shape_unicode.proofs.LastStepLemmas.{split_by-split}
 use Rattle.shape_unicode.proofs.split.split.Goals as goal
 
 -- the step that is found by the full decomposition is the mapping of the database

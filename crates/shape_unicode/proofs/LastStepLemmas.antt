@@ -1,5 +1,5 @@
 -- One step is found for every character: computed over the rows of the database.
-use Rattle.std.proofs.Common.{◌≡◌, ℕ, Bool, true, false, ◌&&◌, ◌==◌, List, [], ◌∷◌, Option, Some, None, refl, sym, ap, ap₂, ◌∙◌, inl, inr, eqb-true, flat_map}
+use Rattle.std.proofs.Common.{◌≡◌, ℕ, Bool, true, false, ◌&&◌, ◌==◌, [], Option, Some, None, refl, sym, ap, ap₂, ◌∙◌, inl, inr, eqb-true, flat_map}
 use Rattle.std.proofs.lemmas.Bool.{cases_Bool, and_parts}
 use Rattle.ucd_table.proofs.RangedFacts.{Stepped-at_points}
 use Rattle.ucd_normal.specs.Composition.{composite, paired_with}
@@ -8,18 +8,19 @@ use Rattle.ucd_normal.proofs.CompositionLemmas.{is_empty, composite-paired_with}
 use Rattle.ucd_normal.proofs.DecompositionLemmas.{decomposition_stepped}
 use Rattle.shape_unicode.specs.Split.{parts_of}
 use Rattle.shape_unicode.specs.LastStep.{split_by}
+use Rattle.shape_unicode.specs.SplitLaws.{nil_of_empty}
 use Rattle.shape_unicode.specs.Tables.{Entry, Tables, by_rows, by_trees, same_tables, mapping}
 
-abbrev pub same_parts : Option (ℕ × ℕ) → Option (ℕ × ℕ) → Bool
+abbrev same_parts : Option (ℕ × ℕ) → Option (ℕ × ℕ) → Bool
 same_parts None None = true
 same_parts (Some p) (Some q) = p.0 == q.0 && p.1 == q.1
 same_parts _ _ = false
 
-abbrev pub join_by : Tables → ℕ → ℕ → Option ℕ
+abbrev join_by : Tables → ℕ → ℕ → Option ℕ
 join_by t a b = paired_with b (t.pairs a)
 
 -- the step that is found for c is its mapping
-abbrev pub found_ok : Tables → ℕ → Entry → Bool
+abbrev found_ok : Tables → ℕ → Entry → Bool
 found_ok t c entry = same_parts (split_by (join_by t) c (expand (mapping t) 3 c)) (parts_of (if_canonical entry))
 
 found_by_rows : (c : ℕ) → is_empty (if_canonical (decomposition c)) ≡ false → found_ok by_rows c (decomposition c) ≡ true
@@ -35,10 +36,6 @@ same_parts-true (Some p) None h = cc
 same_parts-true (Some p) (Some q) h =
     let both = and_parts (p.0 == q.0) (p.1 == q.1) h in
     ap Some (ap₂ (λ x y. (x, y)) (eqb-true p.0 q.0 both.0) (eqb-true p.1 q.1 both.1))
-
-pub nil_of_empty : (xs : List ℕ) → is_empty xs ≡ true → xs ≡ []
-nil_of_empty [] h = refl
-nil_of_empty (x ∷ xs) h = cc
 
 canonical_decomposition-nil : (c : ℕ) → canonical_mapping c ≡ [] → canonical_decomposition c ≡ []
 unfolding canonical_decomposition expand
