@@ -3,3 +3,4 @@ pub mod KeeperLemmas
 pub mod DeletionLemmas
 pub mod TurnLemmas
 pub mod StepKeepers
+pub mod OneTableLemmas

@@ -7,5 +7,6 @@ pub mod Turning
 pub mod Steps
 pub mod Kept
 pub mod Keepers
+pub mod OneTable
 pub mod WorkedPositions
 pub mod WorkedGlyphs

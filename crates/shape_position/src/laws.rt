@@ -1,5 +1,6 @@
 //! What the steps keep of a buffer, as laws that spare callers proofs.
 ghost use Rattle.shape_position.specs.Keepers.{StepsKeep};
+ghost use Rattle.shape_position.specs.OneTable.{EachRunsOneTable};
 
 /// Each step of positions and of the end of a run keeps the order of clusters and the flags of glyphs,
 /// where the lookups and hooks of the run do. The reversal turns the order of clusters where the buffer's
@@ -7,4 +8,10 @@ ghost use Rattle.shape_position.specs.Keepers.{StepsKeep};
 /// nothing: a caller's proof cites it.
 pub fn steps_keep_clusters_and_flags()
     ensures { StepsKeep }
+{}
+
+/// Of `GPOS` and `kerx` the steps of positioning call the one that the plan's decisions say, and no other:
+/// they are the same whatever the other table does. So the two never both run. Does nothing.
+pub fn one_table_runs()
+    ensures { EachRunsOneTable }
 {}

@@ -6,6 +6,7 @@ use shape_buffer::interfaces::{NoLookups, TableIndex, hb_ot_map_builder_t};
 use shape_pipeline::ot_shape_normalize::_hb_ot_shape_normalize;
 use shape_pipeline::ot_shape_plan::hb_ot_shape_plan_t;
 use shape_pipeline::ot_shaper::{DEFAULT_SHAPER, hb_default_shaper_t};
+use shape_unicode::UnicodeDatabase;
 use std::test::Fail;
 
 #[test]
@@ -41,6 +42,28 @@ fn a_plan_fits_by_direction_and_script(rt: HostRuntime) -> Result<(), Fail> {
     let builder = hb_ot_map_builder_t::new::<RowFace<'_>, NoLookups>(alloc, &face, latin, None);
     assert!(rt; builder.requests().is_empty() && builder.is_simple());
     assert_eq!(rt; builder.chosen_script(TableIndex::GPOS), None);
+    Ok(())
+}
+
+/// A Latin letter with nothing set, as guessing has it.
+#[test]
+fn a_plan_fits_what_is_guessed(rt: HostRuntime) -> Result<(), Fail> {
+    let alloc = rt.alloc();
+    let face = RowFace::of(&['a']);
+    let plan = hb_ot_shape_plan_t::new::<UnicodeDatabase, RowFace<'_>, NoLookups>(
+        alloc,
+        &face,
+        &DEFAULT_SHAPER,
+        Direction::LeftToRight,
+        Some(Script(hb_tag_t::from_bytes(b"Latn"))),
+        None,
+        &[],
+    )?;
+    let mut text = UnicodeBuffer::new(alloc);
+    text.push_str("a")?;
+    assert!(rt; plan.fits::<UnicodeDatabase>(&text));
+    text.set_direction(Direction::RightToLeft);
+    assert!(rt; !plan.fits::<UnicodeDatabase>(&text));
     Ok(())
 }
 

@@ -6,6 +6,8 @@
 #[cfg(test)]
 mod calls;
 #[cfg(test)]
+mod emoji;
+#[cfg(test)]
 mod modes;
 #[cfg(test)]
 mod normalising;

@@ -4,7 +4,7 @@ use crate::support::RowFace;
 use crate::texts::{
     BY_CHARACTER, Manner, PLAINLY, assert_items, normalised, prepared, shaped, text_of,
 };
-use shape_buffer::buffer::{BufferFlags, Direction};
+use shape_buffer::buffer::{BufferFlags, Direction, Script, hb_tag_t};
 use shape_pipeline::ot_shaper::DEFAULT_SHAPER;
 use std::test::Fail;
 
@@ -102,5 +102,17 @@ fn a_text_against_its_script_is_turned(rt: HostRuntime) -> Result<(), Fail> {
     let text = text_of(alloc, manner, &['\u{5D0}', '1'])?;
     let list = prepared(alloc, &RowFace::of(&[]), &DEFAULT_SHAPER, text)?;
     assert_items(&rt, &list, &[('1', 2), ('\u{5D0}', 0)]);
+    Ok(())
+}
+
+/// Digits without a letter run from left to right in a script that is written right to left.
+#[test]
+fn digits_of_a_text_are_not_turned(rt: HostRuntime) -> Result<(), Fail> {
+    let alloc = rt.alloc();
+    let mut text = text_of(alloc, PLAINLY, &['1', '2'])?;
+    text.set_script(Some(Script(hb_tag_t::from_bytes(b"Hebr"))));
+    let list = prepared(alloc, &RowFace::of(&[]), &DEFAULT_SHAPER, text)?;
+    assert_items(&rt, &list, &[('1', 0), ('2', 1)]);
+    assert_eq!(rt; list.direction(), Direction::LeftToRight);
     Ok(())
 }
