@@ -5,6 +5,7 @@ use Rattle.std.proofs.lemmas.Bool.Decides.{nat_tests}
 use Rattle.std.proofs.lemmas.Nat.{and_assoc, and_le_r}
 use Rattle.shape_buffer.specs.Buffer.{Buffer}
 use Rattle.shape_buffer.specs.Items.{Item}
+use Rattle.shape_buffer.specs.Keepers.{IsFlagKeeper, EachStep}
 use Rattle.shape_buffer.specs.KeepsFlags.{IsDefinedFlag, has_flag, some_has, has_glyph_flags, KeepsFlags}
 pub use Rattle.shape_buffer.specs.Honest.{IsHonest}
 use Rattle.shape_buffer.specs.Flags.{flags_of, flags_propagated, HasOneSetOfFlags}
@@ -25,12 +26,7 @@ honest-kept {old} {new} keeps before = record {
   ];
 }
 
--- the steps of a list all keep flags
-abbrev pub AllKeepFlags : List Step → Type 0
-AllKeepFlags [] = Unit {0}
-AllKeepFlags (step ∷ steps) = ((b : Buffer) → KeepsFlags b (step.makes b)) × AllKeepFlags steps
-
-pub honest-run : (steps : List Step) (b : Buffer) → AllKeepFlags steps → IsHonest b → IsHonest (run_steps steps b)
+pub honest-run : (steps : List Step) (b : Buffer) → EachStep IsFlagKeeper steps → IsHonest b → IsHonest (run_steps steps b)
 honest-run [] b keep honest = honest
 honest-run (step ∷ steps) b keep honest = honest-run steps (step.makes b) keep.1 (honest-kept (keep.0 b) honest)
 

@@ -13,6 +13,7 @@ pub mod NestedMergeLemmas
 pub mod Runs
 pub mod WalkOverLemmas
 pub mod ClusterRunLemmas
+pub mod KeeperLemmas
 pub mod HonestLemmas
 pub mod GraphemeOrderLemmas
 pub mod WrappingLemmas

@@ -1,10 +1,11 @@
 -- What keeps the clusters and the flags of a buffer: steps of a run, and what is asked of lookups.
-use Rattle.std.specs.Prelude.{◌≡◌, ℕ, List}
+use Rattle.std.specs.Prelude.{◌≡◌, ℕ, List, [], ◌∷◌}
 use Rattle.shape_buffer.specs.Buffer.{Buffer}
 use Rattle.shape_buffer.specs.ClusterOrder.{IsMonotoneLevel, KeepsClusters}
 use Rattle.shape_buffer.specs.Clusters.{clusters}
 use Rattle.shape_buffer.specs.KeepsFlags.{KeepsFlags}
 use Rattle.shape_buffer.specs.Layout.{LookupMeaning}
+use Rattle.shape_buffer.specs.Outcome.{Step}
 use Rattle.shape_buffer.specs.declared.buffer.settings.Feature.{Feature}
 
 -- the clusters keep their order and none is new, and direction, flags and level stay
@@ -21,6 +22,11 @@ IsClusterKeeper f = (b : Buffer) → IsMonotoneLevel b.cluster_level → KeepsOr
 -- a step that keeps flags, at every level
 abbrev pub IsFlagKeeper : (Buffer → Buffer) → Type 0
 IsFlagKeeper f = (b : Buffer) → KeepsFlags b (f b)
+
+-- a property of each step of a list
+abbrev pub EachStep : ((Buffer → Buffer) → Type 0) → List Step → Type 0
+EachStep Keeps [] = Unit {0}
+EachStep Keeps (step ∷ steps) = Keeps step.makes × EachStep Keeps steps
 
 -- a property of each call of the lookups
 pub record EachLookup (Keeps : (Buffer → Buffer) → Type 0) (lookups : LookupMeaning) : Type 0 where

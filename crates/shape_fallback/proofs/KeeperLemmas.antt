@@ -16,6 +16,7 @@ use Rattle.shape_buffer.specs.declared.buffer.settings.Direction.{Direction}
 use Rattle.shape_buffer.specs.declared.buffer.settings.Script.{Script}
 use Rattle.shape_buffer.proofs.DrawsInOrder.{DrawsInOrder-same, KeepsClusters-from_draws}
 use Rattle.shape_buffer.proofs.FlagLemmas.{KeepsFlags-same, KeepsFlags-then, KeepsFlags-items, unsafe_to_break_keeps}
+use Rattle.shape_buffer.proofs.KeeperLemmas.{KeepsClusters-equal}
 use Rattle.shape_plan.specs.Run.{step_if}
 use Rattle.shape_plan.specs.declared.decisions.Decisions.{Decisions}
 use Rattle.shape_fallback.specs.Bases.{Span, position_span, bases, marks_of, bases_positioned, bases_marked, without_positions, marks_positioned}
@@ -27,9 +28,6 @@ use Rattle.shape_fallback.specs.declared.ot_shape_fallback.marks.Setting.{Settin
 use Rattle.shape_fallback.proofs.BasesLemmas.{keys-unsafe_to_break}
 
 -- ---- what leaves clusters and settings alone
-
-KeepsClusters-equal : (before after : List ℕ) → after ≡ before → KeepsClusters before after
-KeepsClusters-equal before after same = rw same (KeepsClusters-from_draws before before (DrawsInOrder-same before))
 
 -- clusters, direction, flags and level are the same
 record LeavesOrder (before after : Buffer) : Type 0 where

@@ -7,6 +7,7 @@ use Rattle.shape_buffer.specs.Buffer.{Buffer}
 use Rattle.shape_buffer.specs.BufferClusters.{merge_clusters}
 use Rattle.shape_buffer.specs.Clusters.{clusters}
 use Rattle.shape_buffer.specs.ClusterOrder.{KeepsClusters, IsMonotoneLevel}
+use Rattle.shape_buffer.specs.Keepers.{IsClusterKeeper}
 use Rattle.shape_buffer.specs.Items.{Item, is_mark_item}
 use Rattle.shape_buffer.specs.Unicode.{UnicodeMeaning}
 use Rattle.shape_buffer.specs.UnicodeProps.{with_unicode_props}
@@ -14,6 +15,7 @@ use Rattle.shape_buffer.specs.declared.buffer.settings.GlyphId.{GlyphId}
 use Rattle.shape_buffer.proofs.DeleteKeeps.{merged_keeps}
 use Rattle.canonical_form.proofs.DividedLemmas.{values-divided}
 use Rattle.shape_buffer.proofs.DrawsInOrder.{DrawsInOrder, DrawsInOrder-behind, DrawsInOrder-again, KeepsClusters-from_draws}
+use Rattle.shape_buffer.proofs.KeeperLemmas.{KeepsClusters-same, KeepsClusters-then}
 use Rattle.shape_plan.specs.Rules.{Rules}
 use Rattle.shape_normalize.proofs.SelectorLemmas.{pairs_within}
 use Rattle.std.proofs.lemmas.List.Elements.{recursion_from_All}
@@ -22,14 +24,14 @@ use Rattle.shape_normalize.specs.RoundTwo.{joiners_settled}
 use Rattle.shape_normalize.specs.Normalized.{normalized, HookKeepsClusters}
 use Rattle.shape_normalize.specs.Steps.{with_mapped_glyph, glyphs_mapped}
 use Rattle.shape_normalize.specs.Shaped.{prepared}
-use Rattle.shape_normalize.proofs.DrawnLemmas.{DrawsBefore, DrawsBefore-same, draws_whole, draws_pieces, KeepsClusters-same, KeepsClusters-then}
+use Rattle.shape_normalize.proofs.DrawnLemmas.{DrawsBefore, DrawsBefore-same, draws_whole, draws_pieces}
 use Rattle.shape_normalize.proofs.JoinerLemmas.{keys-joiners_settled}
 use Rattle.shape_normalize.proofs.NormalizedLemmas.{kept_by_rounds}
 use Rattle.shape_normalize.proofs.OrderedClusterLemmas.{marks_ordered_keeps}
 use Rattle.shape_normalize.proofs.RecomposedClusterLemmas.{round_three_keeps}
 use Rattle.shape_normalize.proofs.ReorderLemmas.{LawfulReorder, length-merge_clusters}
 use Rattle.shape_normalize.proofs.RoundOneLemmas.{whole_item_is}
-use Rattle.shape_normalize.proofs.SettingLemmas.{level-round_one}
+use Rattle.shape_normalize.proofs.SettingLemmas.{level-round_one, settings-normalized}
 
 -- ---- round one: what the items become
 
@@ -117,6 +119,17 @@ module _ (rules : Rules) (lawful : LawfulReorder rules.reorder) where
       (λ c so_far. rw (joiners_settled_clusters c) so_far)
       (λ c so_far. KeepsClusters-then _ _ _ so_far (round_three_keeps rules c))
       (round_one_keeps rules b))
+
+  -- so normalising keeps clusters as a step of a run
+  pub KeepsOrder-normalized : HookKeepsClusters rules → IsClusterKeeper (normalized rules)
+  KeepsOrder-normalized hook b monotone =
+      let same = settings-normalized rules lawful b in
+      record {
+        clusters = normalized_keeps b (normalized rules b) refl monotone hook;
+        direction = ap (λ (c : Buffer). c.direction) same;
+        flags = ap (λ (c : Buffer). c.flags) same;
+        level = ap (λ (c : Buffer). c.cluster_level) same;
+      }
 
   -- and so does a run
   pub run_keeps : (old new : Buffer) → new ≡ glyphs_mapped (normalized rules (prepared rules.unicode old)) → IsMonotoneLevel old.cluster_level → HookKeepsClusters rules → KeepsClusters (clusters old.items) (clusters new.items)

@@ -7,16 +7,6 @@ use Rattle.shape_buffer.specs.ClusterOrder.{KeepsClusters}
 use Rattle.shape_buffer.specs.Items.{Item}
 use Rattle.shape_buffer.proofs.DrawsInOrder.{DrawsInOrder, DrawsInOrder-same, DrawsInOrder-behind, DrawsInOrder-again}
 
-pub KeepsClusters-same : (xs : List ℕ) → KeepsClusters xs xs
-KeepsClusters-same xs = record { rising = λ h. h; falling = λ h. h; none_new = λ k h. h }
-
-pub KeepsClusters-then : (xs ys zs : List ℕ) → KeepsClusters xs ys → KeepsClusters ys zs → KeepsClusters xs zs
-KeepsClusters-then xs ys zs first later = record {
-  rising = λ h. later.rising (first.rising h);
-  falling = λ h. later.falling (first.falling h);
-  none_new = λ k h. first.none_new k (later.none_new k h);
-}
-
 -- what is drawn in order from a list stays so where the first list goes before that one, and the second before it
 abbrev pub DrawsBefore : List ℕ → List ℕ → Type 0
 DrawsBefore xs ys = (from drawn : List ℕ) → DrawsInOrder from drawn → DrawsInOrder (xs ++ from) (ys ++ drawn)

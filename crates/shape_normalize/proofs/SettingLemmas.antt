@@ -1,12 +1,14 @@
 -- Normalising keeps the cluster level, and the limit, which the lists of its rounds stay within.
-use Rattle.std.proofs.Common.{◌≡◌, ◌≤◌, ◌==◌, Bool, true, false, if◌then◌else◌, length, bit_and, refl, ap, ◌∙◌, arith}
+use Rattle.std.proofs.Common.{◌≡◌, ◌≤◌, ◌==◌, Bool, true, false, [], if◌then◌else◌, length, bit_and, refl, ap, ◌∙◌, arith}
 use Rattle.shape_buffer.specs.Buffer.{Buffer, limit_of}
 use Rattle.shape_plan.specs.Rules.{Rules}
 use Rattle.shape_normalize.specs.RoundOne.{sequences, pairs_from, round_one}
+use Rattle.shape_normalize.specs.RoundThree.{round_three, joined_spans, recomposed_items}
 use Rattle.shape_normalize.specs.RoundTwo.{marks_ordered, joiners_settled, joiners_shown, has_mark_past_first}
-use Rattle.shape_normalize.specs.Normalized.{ordered}
-use Rattle.shape_normalize.proofs.NormalizedLemmas.{length-ordered}
+use Rattle.shape_normalize.specs.Normalized.{normalized, ordered}
+use Rattle.shape_normalize.proofs.NormalizedLemmas.{length-ordered, kept_by_rounds}
 use Rattle.shape_normalize.proofs.ReorderLemmas.{LawfulReorder}
+use Rattle.shape_normalize.proofs.RoundThreeLemmas.{spans_merged_out_is}
 use Rattle.shape_normalize.proofs.SelectorLemmas.{without_items-merged_at}
 use Rattle.shape_normalize.proofs.SettleLemmas.{without_items-marks_ordered}
 
@@ -38,3 +40,22 @@ module _ (rules : Rules) (lawful : LawfulReorder rules.reorder) where
 
   pub limit_of-ordered : (b : Buffer) → limit_of (ordered rules b) ≡ limit_of b
   limit_of-ordered b = rw (limit-ordered b) refl
+
+-- ---- what no round writes
+
+-- all of a buffer but its items, their positions and the scratch flags
+abbrev pub settings_of : Buffer → Buffer
+settings_of b = record b { items = []; positions = []; scratch_flags = record { 0 = 0 } }
+
+settings-joiners : (b : Buffer) → settings_of (joiners_settled b) ≡ settings_of b
+settings-joiners b = elim (bit_and b.scratch_flags.0 8 == 8)
+    as (λ t. settings_of (if t then record b { items = joiners_shown b.items } else b) ≡ settings_of b) [ true ↦ refl | false ↦ refl ]
+
+pub settings-normalized : (rules : Rules) → LawfulReorder rules.reorder → (b : Buffer) → settings_of (normalized rules b) ≡ settings_of b
+settings-normalized rules lawful b =
+    let one : Buffer = round_one rules b in
+    kept_by_rounds rules (λ c. settings_of c ≡ settings_of b) b
+    (λ so_far. ap settings_of (without_items-marks_ordered rules.reorder lawful one) ∙ so_far)
+    (λ c so_far. settings-joiners c ∙ so_far)
+    (λ c so_far. ap settings_of (spans_merged_out_is (joined_spans (recomposed_items rules c.items)) c) ∙ so_far)
+    (ap settings_of (without_items-merged_at b (pairs_from rules.unicode rules.face 0 (sequences b.items))))

@@ -1,30 +1,66 @@
--- What steps do to the order of clusters, and how that goes along a list of steps.
-use Rattle.std.proofs.Common.{◌≡◌, ◌≢◌, ℕ, ◌+◌, ◌-◌, ◌<◌, ◌≤◌, Bool, true, false, List, [], ◌∷◌, ◌++◌, length, map, reverse, get_or, refl, ap, sym, ◌∙◌, arith, subst}
-use Rattle.std.proofs.lemmas.List.{get_or-reverse, length-reverse, reverse-append, map-append}
-use Rattle.std.specs.Prelude.{Contains, not, if◌then◌else◌}
+-- The order of clusters along a whole run: rising in the text, facing its native direction while it is shaped, and shown in the direction of the text.
+use Rattle.std.proofs.Common.{◌≡◌, ◌≢◌, ℕ, Bool, true, false, List, [], ◌∷◌, ◌++◌, length, Option, Some, None, refl, ap, sym, ◌∙◌, arith, subst}
+use Rattle.std.specs.Prelude.{Contains, not}
 use Rattle.std.specs.List.Sorted.{IsNonDecreasing}
 use Rattle.shape_buffer.specs.Buffer.{Buffer}
-use Rattle.shape_buffer.specs.ClusterOrder.{IsMonotoneLevel, IsNonIncreasing}
+use Rattle.shape_buffer.specs.ClusterOrder.{IsMonotoneLevel, IsOrderedFor}
 use Rattle.shape_buffer.specs.Clusters.{clusters}
 use Rattle.shape_buffer.specs.Direction.{is_backward, reverse_of}
+use Rattle.shape_buffer.specs.Flags.{flags_propagated}
+use Rattle.shape_buffer.specs.Guess.{guessed, guessed_script, known_or_ltr, script_or_ltr, direction_or}
 use Rattle.shape_buffer.specs.Items.{Item}
-use Rattle.shape_buffer.specs.Keepers.{KeepsOrder, IsClusterKeeper}
-use Rattle.shape_buffer.specs.Outcome.{Step, run_steps}
-use Rattle.shape_buffer.proofs.Runs.{run_steps-append}
-use Rattle.shape_buffer.specs.declared.buffer.settings.BufferClusterLevel.{BufferClusterLevel}
+use Rattle.shape_buffer.specs.Keepers.{KeepsOrder, IsClusterKeeper, EachStep}
+use Rattle.shape_buffer.specs.Outcome.{Step, step, run_steps}
+use Rattle.shape_buffer.specs.Unicode.{UnicodeMeaning}
+use Rattle.shape_buffer.specs.declared.buffer.settings.Script.{Script}
+use Rattle.shape_buffer.specs.declared.buffer.settings.BufferClusterLevel.TheVariants.{MonotoneGraphemes}
 use Rattle.shape_buffer.specs.declared.buffer.settings.Direction.{Direction}
 use Rattle.shape_buffer.specs.declared.buffer.settings.Direction.TheVariants.{Invalid, LeftToRight, RightToLeft, TopToBottom, BottomToTop}
-use Rattle.shape_pipeline.specs.Order.{IsOrderedFor, ComesFrom, IsText, IsFacing, IsShown, Leads, turned_direction}
-use Rattle.shape_position.specs.Kept.{EachStep}
+use Rattle.shape_buffer.proofs.KeeperLemmas.{EachStep-append}
+use Rattle.shape_fallback.proofs.KeeperLemmas.{fallback-keeps_clusters}
+use Rattle.shape_normalize.proofs.ClusterOrderLemmas.{KeepsOrder-normalized}
+use Rattle.shape_normalize.proofs.ReorderLemmas.{LawfulReorder}
+use Rattle.shape_plan.specs.Run.{Run}
+use Rattle.shape_position.specs.Steps.{show_steps, finish_steps}
+use Rattle.shape_position.specs.Turning.{turned}
+use Rattle.shape_position.proofs.StepKeepers.{steps_keep_clusters}
+use Rattle.shape_prepare.specs.ClusterPoint.{InOrderFor, direction_for, is_turned}
+use Rattle.shape_prepare.specs.PrepareSteps.{prepare_steps}
+use Rattle.shape_prepare.proofs.FirstLemmas.{preparing_keeps_firsts}
+use Rattle.shape_prepare.proofs.OrderKeeperLemmas.{preparing_keeps_order}
+use Rattle.shape_substitute.proofs.ListKeepers.{substitution-keeps_clusters}
+use Rattle.shape_pipeline.specs.Headline.{target_of}
+use Rattle.shape_pipeline.specs.Order.{RunKeepsClusters, ComesInOrder, grapheme_clusters}
+use Rattle.shape_pipeline.specs.Shaped.{normalising, glyph_part, place_part, shaped_steps, all_steps, entered, finished, shaped}
+use Rattle.shape_pipeline.proofs.PartLemmas.{Leads, Leads-then, EachStep-glyph_part, EachStep-place_part}
 
--- states that steps keep which keep clusters
-pub record IsKept (State : Buffer → Type 0) : Type 0 where
-  pub monotone : (b : Buffer) → State b → IsMonotoneLevel b.cluster_level
-  pub kept : (old new : Buffer) → State old → KeepsOrder old new → State new
+-- ---- states of a run, where each cluster is one of `From`
 
-comes-kept : {text : List ℕ} {old new : Buffer} → ComesFrom text old → KeepsOrder old new → ComesFrom text new
+-- each cluster comes from there, and the level is monotone
+record Comes (From : ℕ → Type 0) (b : Buffer) : Type 0 where
+  from : (k : ℕ) → Contains (clusters b.items) k → From k
+  monotone : IsMonotoneLevel b.cluster_level
+
+-- turned against the target direction exactly where the clusters fall
+record IsFacing (From : ℕ → Type 0) (target : Direction) (b : Buffer) : Type 0 where
+  comes : Comes From b
+  turned : Bool
+  direction : b.direction ≡ direction_for turned target
+  ordered : IsOrderedFor turned (clusters b.items)
+
+-- in the order that the target direction asks
+record IsShown (From : ℕ → Type 0) (target : Direction) (b : Buffer) : Type 0 where
+  comes : Comes From b
+  ordered : IsOrderedFor (is_backward target) (clusters b.items)
+
+-- a state that steps keep which keep clusters
+record IsKept (State : Buffer → Type 0) : Type 0 where
+  monotone : (b : Buffer) → State b → IsMonotoneLevel b.cluster_level
+  kept : (old new : Buffer) → State old → KeepsOrder old new → State new
+
+comes-kept : {From : ℕ → Type 0} {old new : Buffer} → Comes From old → KeepsOrder old new → Comes From new
 comes-kept comes keeps = record {
-  none_new = λ k is. comes.none_new k (keeps.clusters.none_new k is);
+  from = λ k is. comes.from k (keeps.clusters.none_new k is);
   monotone = subst IsMonotoneLevel (sym keeps.level) comes.monotone;
 }
 
@@ -32,35 +68,178 @@ ordered-kept : {old new : Buffer} (backward : Bool) → IsOrderedFor backward (c
 ordered-kept true ordered keeps = keeps.clusters.falling ordered
 ordered-kept false ordered keeps = keeps.clusters.rising ordered
 
-pub IsKept-facing : (text : List ℕ) (target : Direction) → IsKept (IsFacing text target)
-IsKept-facing text target = record {
+IsKept-facing : (From : ℕ → Type 0) (target : Direction) → IsKept (IsFacing From target)
+IsKept-facing From target = record {
   monotone = λ b state. state.comes.monotone;
-  kept = λ old new state keeps. record { comes = comes-kept state.comes keeps; turned = state.turned; direction = keeps.direction ∙ state.direction; ordered = ordered-kept state.turned state.ordered keeps };
+  kept = λ old new state keeps. record {
+    comes = comes-kept state.comes keeps;
+    turned = state.turned;
+    direction = keeps.direction ∙ state.direction;
+    ordered = ordered-kept state.turned state.ordered keeps;
+  };
 }
 
-pub IsKept-shown : (text : List ℕ) (target : Direction) → IsKept (IsShown text target)
-IsKept-shown text target = record {
+IsKept-shown : (From : ℕ → Type 0) (target : Direction) → IsKept (IsShown From target)
+IsKept-shown From target = record {
   monotone = λ b state. state.comes.monotone;
   kept = λ old new state keeps. record { comes = comes-kept state.comes keeps; ordered = ordered-kept (is_backward target) state.ordered keeps };
 }
 
 run_keeps : {State : Buffer → Type 0} → IsKept State → (steps : List Step) → EachStep IsClusterKeeper steps → (b : Buffer) → State b → State (run_steps steps b)
 run_keeps kept [] keep b state = state
-run_keeps kept (step ∷ steps) keep b state = run_keeps kept steps keep.1 (step.makes b) (kept.kept b (step.makes b) state (keep.0 b (kept.monotone b state)))
+run_keeps kept (step ∷ steps) keep b state =
+    run_keeps kept steps keep.1 (step.makes b) (kept.kept b (step.makes b) state (keep.0 b (kept.monotone b state)))
 
-pub Leads-keepers : {State : Buffer → Type 0} → IsKept State → (steps : List Step) → EachStep IsClusterKeeper steps → Leads State steps State
+Leads-keepers : {State : Buffer → Type 0} → IsKept State → (steps : List Step) → EachStep IsClusterKeeper steps → Leads State steps State
 Leads-keepers kept steps keep = record { leads = run_keeps kept steps keep }
 
-pub Leads-then : {Before Between After : Buffer → Type 0} {steps more : List Step} → Leads Before steps Between → Leads Between more After → Leads Before (steps ++ more) After
-Leads-then {After = After} {steps = steps} {more = more} first second = record {
-  leads = λ b state. subst After (sym (run_steps-append steps more b)) (second.leads (run_steps steps b) (first.leads b state));
-}
+-- ---- the two turns: where the text was turned against the target once, it is turned back, and nowhere else
 
--- the parity of turns: where the text was turned against the target once, it is turned back, and nowhere else
-pub parity : (turned_once : Bool) (target : Direction) → target ≢ Invalid → (if turned_once then not (is_backward (turned_direction turned_once target)) else is_backward (turned_direction turned_once target)) ≡ is_backward target
-parity true Invalid valid = absurd (valid refl)
-parity true LeftToRight valid = refl
-parity true RightToLeft valid = refl
-parity true TopToBottom valid = refl
-parity true BottomToTop valid = refl
-parity false target valid = refl
+back_again : (target : Direction) → target ≢ Invalid → not (is_backward (reverse_of target)) ≡ is_backward target
+back_again Invalid valid = absurd (valid refl)
+back_again LeftToRight valid = refl
+back_again RightToLeft valid = refl
+back_again TopToBottom valid = refl
+back_again BottomToTop valid = refl
+
+shown-turned : {From : ℕ → Type 0} (target : Direction) → target ≢ Invalid → (b : Buffer) → IsFacing From target b → IsShown From target (turned b)
+shown-turned {From} target valid b state =
+    let turns = steps_keep_clusters.turning b in
+    record {
+      comes = record {
+        from = λ k is. state.comes.from k (turns.none_new k is);
+        monotone = subst IsMonotoneLevel (sym turns.level) state.comes.monotone;
+      };
+      ordered = by_turn state.turned state.direction state.ordered;
+    }
+  where
+    by_turn : (once : Bool) → b.direction ≡ direction_for once target → IsOrderedFor once (clusters b.items) → IsOrderedFor (is_backward target) (clusters (turned b).items)
+    by_turn true is falls =
+        subst (λ (t : Bool). IsOrderedFor t (clusters (turned b).items)) (ap (λ d. not (is_backward d)) is ∙ back_again target valid)
+        ((steps_keep_clusters.turning b).falling falls)
+    by_turn false is rises =
+        subst (λ (t : Bool). IsOrderedFor t (clusters (turned b).items)) (ap is_backward is) ((steps_keep_clusters.turning b).rising rises)
+
+-- ---- the parts
+
+module _ (run : Run) (target : Direction) (valid : target ≢ Invalid) (From : ℕ → Type 0)
+    (lawful : LawfulReorder run.rules.reorder) (keeps : RunKeepsClusters run) where
+  -- a text as preparing leaves it
+  facing-prepared : (turned : Bool) (old new : Buffer) → InOrderFor turned old new → old.direction ≡ target → IsMonotoneLevel old.cluster_level
+      → ((k : ℕ) → Contains (clusters new.items) k → From k) → IsFacing From target new
+  facing-prepared turned old new order is monotone from = record {
+    comes = record { from = from; monotone = subst IsMonotoneLevel (sym order.level) monotone };
+    turned = turned;
+    direction = order.direction ∙ ap (direction_for turned) is;
+    ordered = order.order;
+  }
+
+  facing-normalised : Leads (IsFacing From target) (normalising run.rules ∷ []) (IsFacing From target)
+  facing-normalised = Leads-keepers (IsKept-facing From target) (normalising run.rules ∷ [])
+      (KeepsOrder-normalized run.rules lawful keeps.reordering, tt)
+
+  facing-glyphs : Leads (IsFacing From target) (glyph_part run) (IsFacing From target)
+  facing-glyphs = Leads-keepers (IsKept-facing From target) (glyph_part run)
+      (EachStep-glyph_part IsClusterKeeper run (fallback-keeps_clusters run.unicode run.face run.direction run.script run.decisions)
+      (substitution-keeps_clusters run keeps.calls))
+
+  facing-placed : Leads (IsFacing From target) (place_part run) (IsFacing From target)
+  facing-placed = Leads-keepers (IsKept-facing From target) (place_part run)
+      (EachStep-place_part IsClusterKeeper run (fallback-keeps_clusters run.unicode run.face run.direction run.script run.decisions)
+      (steps_keep_clusters.advances run) (steps_keep_clusters.tables run keeps.calls))
+
+  shown-finished : Leads (IsFacing From target) (finish_steps run) (IsShown From target)
+  shown-finished =
+      let turn : Leads (IsFacing From target) (step turned ∷ []) (IsShown From target) = record { leads = λ b state. shown-turned target valid b state } in
+      let flags : EachStep IsClusterKeeper (step flags_propagated ∷ []) = (steps_keep_clusters.flags, tt) in
+      Leads-then {steps = step turned ∷ []} {more = show_steps run ++ step flags_propagated ∷ []} turn
+      (Leads-keepers (IsKept-shown From target) (show_steps run ++ step flags_propagated ∷ [])
+      (EachStep-append IsClusterKeeper (show_steps run) (step flags_propagated ∷ []) (steps_keep_clusters.showing run keeps.calls) flags))
+
+  shown-normalised : Leads (IsFacing From target) (normalising run.rules ∷ shaped_steps run) (IsShown From target)
+  shown-normalised = Leads-then {steps = normalising run.rules ∷ []} {more = shaped_steps run} facing-normalised
+      (Leads-then {steps = glyph_part run} {more = place_part run ++ finish_steps run} facing-glyphs
+      (Leads-then {steps = place_part run} {more = finish_steps run} facing-placed shown-finished))
+
+  -- a whole run, from what is known of the text as it is prepared
+  shown-all : (b : Buffer) → b.direction ≡ target → IsMonotoneLevel b.cluster_level → IsNonDecreasing (clusters b.items)
+      → ((k : ℕ) → Contains (clusters (run_steps (prepare_steps run target) b).items) k → From k)
+      → IsShown From target (run_steps (all_steps run target) b)
+  shown-all b is monotone rising from =
+      let prepares : Leads (λ c. c ≡ b) (prepare_steps run target) (IsFacing From target) = record {
+        leads = λ c same. rw same (facing-prepared (is_turned run b) b (run_steps (prepare_steps run target) b)
+            (preparing_keeps_order run target b keeps.calls monotone rising) is monotone from);
+      } in
+      (Leads-then {steps = prepare_steps run target} {more = normalising run.rules ∷ shaped_steps run} prepares shown-normalised).leads b refl
+
+-- ---- no text is shaped in an unknown direction
+
+known_or_ltr-known : (answer : Option Direction) → known_or_ltr answer ≢ Invalid
+known_or_ltr-known None is = let e : LeftToRight ≡ Invalid = is in cc
+known_or_ltr-known (Some Invalid) is = let e : LeftToRight ≡ Invalid = is in cc
+known_or_ltr-known (Some LeftToRight) is = let e : LeftToRight ≡ Invalid = is in cc
+known_or_ltr-known (Some RightToLeft) is = let e : RightToLeft ≡ Invalid = is in cc
+known_or_ltr-known (Some TopToBottom) is = let e : TopToBottom ≡ Invalid = is in cc
+known_or_ltr-known (Some BottomToTop) is = let e : BottomToTop ≡ Invalid = is in cc
+
+script_or_ltr-known : (unicode : UnicodeMeaning) (script : Option Script) → script_or_ltr unicode script ≢ Invalid
+script_or_ltr-known unicode None is = let e : LeftToRight ≡ Invalid = is in cc
+script_or_ltr-known unicode (Some script) is = known_or_ltr-known (unicode.script_direction script) is
+
+direction_or-known : (direction other : Direction) → other ≢ Invalid → direction_or direction other ≢ Invalid
+direction_or-known Invalid other known is = known is
+direction_or-known LeftToRight other known is = let e : LeftToRight ≡ Invalid = is in cc
+direction_or-known RightToLeft other known is = let e : RightToLeft ≡ Invalid = is in cc
+direction_or-known TopToBottom other known is = let e : TopToBottom ≡ Invalid = is in cc
+direction_or-known BottomToTop other known is = let e : BottomToTop ≡ Invalid = is in cc
+
+pub target_of-known : (run : Run) (text : Buffer) → target_of run text ≢ Invalid
+target_of-known run text = direction_or-known text.direction _ (script_or_ltr-known run.unicode (guessed_script run.unicode text))
+
+-- ---- what is handed out
+
+-- no list is out of order that has no items
+ordered-none : (backward : Bool) (xs : List ℕ) → xs ≡ [] → IsOrderedFor backward xs
+ordered-none true xs none = λ i j d first second. absurd (omega (arith, second, ap length none))
+ordered-none false xs none = λ i j d first second. absurd (omega (arith, second, ap length none))
+
+-- nor has one a cluster
+none_in : (xs : List ℕ) (k : ℕ) → xs ≡ [] → Contains xs k → ⊥
+none_in xs k none is = omega (arith, is.1, ap length none)
+
+-- the glyphs of a text come in order
+pub clusters-shaped : (run : Run) (text : Buffer) → LawfulReorder run.rules.reorder → RunKeepsClusters run
+    → IsMonotoneLevel text.cluster_level → IsNonDecreasing (clusters text.items) → ComesInOrder run text (shaped run text)
+clusters-shaped run text lawful keeps monotone rising = from text.items refl
+  where
+    target : Direction
+    target = target_of run text
+
+    start : Buffer
+    start = entered (guessed run.unicode text)
+
+    -- a whole run, with each cluster from where preparing takes it
+    shown : (From : ℕ → Type 0) → ((k : ℕ) → Contains (clusters (run_steps (prepare_steps run target) start).items) k → From k)
+        → IsShown From target (run_steps (all_steps run target) start)
+    shown From taken = shown-all run target (target_of-known run text) From lawful keeps start refl monotone rising taken
+
+    of_text : IsShown (λ k. Contains (clusters text.items) k) target (run_steps (all_steps run target) start)
+    of_text = shown (λ k. Contains (clusters text.items) k) (preparing_keeps_order run target start keeps.calls monotone rising).none_new
+
+    of_firsts : text.cluster_level ≡ MonotoneGraphemes → IsShown (λ k. Contains (grapheme_clusters run text) k) target (run_steps (all_steps run target) start)
+    of_firsts level = shown (λ k. Contains (grapheme_clusters run text) k) (preparing_keeps_firsts run target start keeps.calls level rising)
+
+    from : (items : List Item) → text.items ≡ items
+        → ComesInOrder run text (elim items [ [] ↦ guessed run.unicode text | _ ∷ _ ↦ finished target (run_steps (all_steps run target) start) ])
+    from [] is =
+        let none : clusters text.items ≡ [] = rw is refl in
+        record {
+          from_text = λ k has. has;
+          from_firsts = λ level k has. absurd (none_in (clusters text.items) k none has);
+          ordered = ordered-none (is_backward target) (clusters text.items) none;
+        }
+    from (x ∷ xs) is = record {
+      from_text = of_text.comes.from;
+      from_firsts = λ level. (of_firsts level).comes.from;
+      ordered = of_text.ordered;
+    }

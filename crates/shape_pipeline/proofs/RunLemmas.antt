@@ -1,10 +1,10 @@
 -- What is known of a run from its outcome, and normalising as a step.
-use Rattle.std.proofs.Common.{◌≡◌, ◌≢◌, ◌<◌, ◌≤◌, ◌&&◌, ℕ, Bool, true, false, List, [], ◌∷◌, length, inl, refl, ap, sym, subst, ◌∙◌, arith, if◌then◌else◌, Result, Ok, Err}
+use Rattle.std.proofs.Common.{◌≡◌, ◌≢◌, ◌<◌, ◌≤◌, ◌&&◌, Bool, true, false, List, [], ◌∷◌, length, inl, refl, ap, sym, subst, ◌∙◌, arith, if◌then◌else◌, Result, Ok, Err}
 use Rattle.std.specs.Prelude.{OnOk, IfOk}
 use Rattle.shape_buffer.specs.Buffer.{Buffer, limit_of, run_limit}
 use Rattle.shape_buffer.specs.Items.{Item}
 use Rattle.shape_buffer.specs.declared.buffer.settings.Direction.{Direction}
-use Rattle.shape_buffer.specs.Outcome.{Step, Ran, Refused, for_length, for_memory, RunOutcome, SomePast, EachWithin, run_steps}
+use Rattle.shape_buffer.specs.Outcome.{Step, Ran, Refused, for_length, for_memory, RunOutcome, SomePast, run_steps}
 use Rattle.shape_buffer.specs.declared.buffer.error.ShapeError.{ShapeError}
 use Rattle.shape_buffer.specs.declared.buffer.error.ShapeError.TheVariants.{Memory, Length}
 use Rattle.shape_normalize.specs.Normalized.{normalized, ordered}
@@ -24,7 +24,7 @@ use Rattle.shape_normalize.proofs.NormalizedLemmas.{normalized_brings_in}
 use Rattle.shape_pipeline.specs.Headline.{NormalForm}
 use Rattle.shape_plan.specs.Run.{Run}
 use Rattle.shape_prepare.specs.PrepareSteps.{prepare_steps}
-use Rattle.shape_pipeline.specs.Shaped.{normalising, entered, finished, prepared, all_steps, text_made, run_made, Prepares, Shapes}
+use Rattle.shape_pipeline.specs.Shaped.{normalising, entered, finished, prepared, all_steps, run_made, Prepares, Shapes}
 
 -- a run that is refused for its length has a step that would pass the limit
 pub refused-length : {steps : List Step} {b : Buffer} {error : ShapeError} → Refused steps b error → error ≡ Length → SomePast steps b

@@ -1,19 +1,18 @@
 -- What is promised of a whole run, end to end.
-use Rattle.std.specs.Prelude.{◌≡◌, ◌==◌, ℕ, false, List, map, All, Contains}
+use Rattle.std.specs.Prelude.{◌≡◌, ◌==◌, false, All}
 use Rattle.std.specs.Int.RustNames.{bit_and}
 use Rattle.shape_buffer.specs.Buffer.{Buffer}
 use Rattle.shape_buffer.specs.ClusterOrder.{IsMonotoneLevel, KeepsClusters}
 use Rattle.shape_buffer.specs.Clusters.{clusters}
-use Rattle.shape_buffer.specs.Direction.{is_backward}
 use Rattle.shape_buffer.specs.Flags.{HasOneSetOfFlags}
 use Rattle.shape_buffer.specs.Guess.{guessed, guessed_direction}
 use Rattle.shape_buffer.specs.KeepsFlags.{some_has}
 use Rattle.shape_buffer.specs.declared.buffer.settings.Direction.{Direction}
 use Rattle.shape_normalize.specs.CanonicalForm.{text_of, NormalizesCanonically}
 use Rattle.shape_normalize.specs.Normalized.{normalized, BroughtInHaveGlyphs, HasItemGlyph, HookKeepsClusters, KeepsFeatures}
+use Rattle.shape_plan.specs.Keepers.{RunKeepsFlags}
 use Rattle.shape_plan.specs.Rules.{Rules}
 use Rattle.shape_plan.specs.Run.{Run}
-use Rattle.shape_pipeline.specs.Order.{IsOrderedFor}
 use Rattle.shape_pipeline.specs.Shaped.{entered, prepared}
 
 -- the direction that a text is shaped for
@@ -36,11 +35,13 @@ pub record NormalForm (rules : Rules) (text list : Buffer) : Type 0 where
   pub clusters : IsMonotoneLevel text.cluster_level → HookKeepsClusters rules → KeepsClusters (clusters text.items) (clusters list.items)
   pub canonical_form : NormalizesCanonically rules text list
 
--- the clusters of glyphs come from the text, and stand in the order of its direction
-pub record ComesInOrder (run : Run) (text glyphs : Buffer) : Type 0 where
-  pub from_text : (k : ℕ) → Contains (clusters glyphs.items) k → Contains (clusters text.items) k
-  pub ordered : IsOrderedFor (is_backward (target_of run text)) (clusters glyphs.items)
+-- ---- flags
 
--- no glyph has UNSAFE_TO_CONCAT (2) unless the caller asks for it (64)
-abbrev pub ConcatIsAsked : Buffer → Buffer → Type 0
-ConcatIsAsked text glyphs = (bit_and text.flags.0 64 == 64) ≡ false → some_has 2 glyphs.items ≡ false
+-- each cluster has one set of flags, and no glyph UNSAFE_TO_CONCAT (2) unless the caller asks for it (64)
+pub record HasFlagsByCluster (text glyphs : Buffer) : Type 0 where
+  pub one_set : HasOneSetOfFlags glyphs.items
+  pub concat : (bit_and text.flags.0 64 == 64) ≡ false → some_has 2 glyphs.items ≡ false
+
+-- so it is where lookups and hooks keep flags
+abbrev pub FlagsAreByCluster : Run → Buffer → Buffer → Type 0
+FlagsAreByCluster run text glyphs = RunKeepsFlags run → HasFlagsByCluster text glyphs

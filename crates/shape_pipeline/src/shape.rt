@@ -2,7 +2,8 @@
 ghost use Rattle.std.specs.Prelude.{◌≡◌, ◌≤◌, [], length, IsOk, IfOk, IfErr};
 ghost use Rattle.shape_buffer.specs.Buffer.{cleared, run_limit};
 ghost use Rattle.shape_buffer.specs.Guess.{guessed, guessed_direction};
-ghost use Rattle.shape_pipeline.specs.Headline.{target_of, prepared_text, normalised_list, NormalForm};
+ghost use Rattle.shape_pipeline.specs.Headline.{target_of, prepared_text, normalised_list, NormalForm, FlagsAreByCluster};
+ghost use Rattle.shape_pipeline.specs.Order.{ClustersComeInOrder};
 ghost use Rattle.shape_pipeline.specs.Shaped.{shaped, Shapes, ShapingPasses};
 ghost use Rattle.shape_pipeline.specs.Planned.{planned_for};
 ghost use Rattle.shape_plan.specs.Plan.{Fits};
@@ -36,6 +37,10 @@ where
     ensures direction { IfOk result (λ glyphs. glyphs.direction ≡ guessed_direction U.unicode buffer) }
     ensures form { let run = ⟦<S as Runs<U, F, M>>⟧.run plan.now face.now in
         IfOk result (λ _. NormalForm run.rules (prepared_text run buffer) (normalised_list run buffer)) }
+    ensures clusters { let run = ⟦<S as Runs<U, F, M>>⟧.run plan.now face.now in
+        IfOk result (λ glyphs. ClustersComeInOrder run buffer glyphs) }
+    ensures flags { let run = ⟦<S as Runs<U, F, M>>⟧.run plan.now face.now in
+        IfOk result (λ glyphs. FlagsAreByCluster run buffer glyphs) }
     ensures within { IfOk result (λ glyphs. length glyphs.items ≤ run_limit (length buffer.items)) }
     ensures counted { let run = ⟦<S as Runs<U, F, M>>⟧.run plan.now face.now in
         IfOk result (λ glyphs. Shapes run (target_of run buffer) (guessed U.unicode buffer) glyphs) }
@@ -44,6 +49,7 @@ where
     ensures cleared { IfErr result (λ fault. fault.buffer ≡ cleared buffer) }
     ensures empty { buffer.items ≡ [] → IsOk result }
 {
+    plan.masks_are_features();
     buffer.guess_segment_properties::<U>();
     let mut inner = buffer.into_inner();
     let target_direction = inner.direction();
@@ -84,7 +90,19 @@ where
     ensures form { let run = ⟦<S as Runs<U, F, M>>⟧.run
         (planned_for U.unicode ⟦<S as Plans<U, F, M>>⟧.planning face.now shaper.now features.now buffer) face.now in
         IfOk result (λ _. NormalForm run.rules (prepared_text run buffer) (normalised_list run buffer)) }
+    ensures clusters { let run = ⟦<S as Runs<U, F, M>>⟧.run
+        (planned_for U.unicode ⟦<S as Plans<U, F, M>>⟧.planning face.now shaper.now features.now buffer) face.now in
+        IfOk result (λ glyphs. ClustersComeInOrder run buffer glyphs) }
+    ensures flags { let run = ⟦<S as Runs<U, F, M>>⟧.run
+        (planned_for U.unicode ⟦<S as Plans<U, F, M>>⟧.planning face.now shaper.now features.now buffer) face.now in
+        IfOk result (λ glyphs. FlagsAreByCluster run buffer glyphs) }
     ensures within { IfOk result (λ glyphs. length glyphs.items ≤ run_limit (length buffer.items)) }
+    ensures counted { let run = ⟦<S as Runs<U, F, M>>⟧.run
+        (planned_for U.unicode ⟦<S as Plans<U, F, M>>⟧.planning face.now shaper.now features.now buffer) face.now in
+        IfOk result (λ glyphs. Shapes run (target_of run buffer) (guessed U.unicode buffer) glyphs) }
+    ensures length { let run = ⟦<S as Runs<U, F, M>>⟧.run
+        (planned_for U.unicode ⟦<S as Plans<U, F, M>>⟧.planning face.now shaper.now features.now buffer) face.now in
+        IfErr result (λ fault. fault.cause ≡ ShapeError.Length → ShapingPasses run (target_of run buffer) (guessed U.unicode buffer)) }
     ensures cleared { IfErr result (λ fault. fault.buffer ≡ cleared buffer) }
 {
     let text = buffer.as_inner();

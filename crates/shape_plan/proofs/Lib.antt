@@ -1,2 +1,3 @@
 pub mod DecisionLemmas
+pub mod KeeperLemmas
 pub mod PlannedLemmas

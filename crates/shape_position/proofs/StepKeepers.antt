@@ -8,7 +8,7 @@ use Rattle.shape_buffer.specs.Direction.{is_horizontal, is_forward}
 use Rattle.shape_buffer.specs.Face.{FaceMeaning}
 use Rattle.shape_buffer.specs.Flags.{flags_propagated, flagged_from, mask_after}
 use Rattle.shape_buffer.specs.Items.{Item}
-use Rattle.shape_buffer.specs.Keepers.{IsClusterKeeper, IsFlagKeeper, LookupsKeepClusters, LookupsKeepFlags}
+use Rattle.shape_buffer.specs.Keepers.{IsClusterKeeper, IsFlagKeeper, LookupsKeepClusters, LookupsKeepFlags, EachStep}
 use Rattle.shape_buffer.specs.KeepsFlags.{has_glyph_flags}
 use Rattle.shape_buffer.specs.Layout.{LookupMeaning}
 use Rattle.shape_buffer.specs.declared.buffer.flags.BufferFlags.{BufferFlags}
@@ -18,20 +18,22 @@ use Rattle.shape_buffer.proofs.ClusterRunLemmas.{flagged-runs}
 use Rattle.shape_buffer.proofs.DeleteKeeps.{deleted_keeps_clusters, deleted_keeps_flags}
 use Rattle.shape_buffer.proofs.FlagLemmas.{KeepsFlags-same}
 use Rattle.shape_buffer.proofs.PositionWalkLemmas.{length-positions_over}
+use Rattle.shape_buffer.proofs.KeeperLemmas.{EachStep-append, KeepsClusters-equal, KeepsOrder-same, clusters-map, order-items_mapped}
 use Rattle.shape_plan.specs.Keepers.{CallsKeepClusters, RunKeepsFlags}
 use Rattle.shape_plan.specs.Run.{Run, step_if}
 use Rattle.shape_plan.specs.declared.decisions.Decisions.{Decisions}
 use Rattle.shape_position.specs.Advances.{advanced, advanced_position}
 use Rattle.shape_position.specs.Ignorables.{ignorables_zeroed, ignorables_hidden, is_ignorable, shown_as, replaced_or_deleted, zeroed_ignorable, hides_ignorables, removes_ignorables, unseen_glyph}
 use Rattle.shape_position.specs.Keepers.{StepsKeepClusters, StepsKeepFlags, StepsKeepCount, StepsKeep}
-use Rattle.shape_position.specs.Kept.{EachStep, KeepsAsMany}
+use Rattle.shape_position.specs.Kept.{KeepsAsMany}
 use Rattle.shape_position.specs.Selectors.{selectors_replaced, selectors_replaced_by, not_found_item, not_found_position, has_selector_fallback}
 use Rattle.shape_position.specs.Steps.{place_steps, close_steps, show_steps}
 use Rattle.shape_position.specs.Tables.{table_positioned}
 use Rattle.shape_position.specs.Zeroing.{marks_zeroed, zeroed_mark, zeroed_at, zero_width_time}
 use Rattle.shape_position.proofs.DeletionLemmas.{settings-deleted}
-use Rattle.shape_position.proofs.KeeperLemmas.{KeepsClusters-equal, KeepsOrder-same, clusters-map, some_has-map, EachStep-append, order-items_mapped, order-positions_mapped, order-step_if, order-hook_if, flags-items_mapped, flags-positions_mapped, flags-step_if, flags-hook_if, as_many-positions_mapped}
+use Rattle.shape_position.proofs.KeeperLemmas.{some_has-map, order-positions_mapped, flags-items_mapped, flags-positions_mapped, as_many-positions_mapped}
 use Rattle.shape_position.proofs.TurnLemmas.{turns-turned, flags-turned, as_many-turned}
+use Rattle.shape_plan.proofs.KeeperLemmas.{flags-hook_if, flags-step_if, order-hook_if, order-step_if}
 
 -- ---- steps over positions
 

@@ -4,14 +4,14 @@ use Rattle.std.specs.Prelude.{Contains, if◌then◌else◌, not}
 use Rattle.std.specs.List.Sorted.{IsNonDecreasing}
 use Rattle.std.proofs.lemmas.List.{get_or-reverse, length-reverse, reverse-append, map-append}
 use Rattle.shape_buffer.specs.Buffer.{Buffer}
-use Rattle.shape_buffer.specs.ClusterOrder.{IsNonIncreasing}
+use Rattle.shape_buffer.specs.ClusterOrder.{IsNonIncreasing, IsOrderedFor}
 use Rattle.shape_buffer.specs.Clusters.{clusters}
 use Rattle.shape_buffer.specs.Direction.{is_backward}
 use Rattle.shape_buffer.specs.Items.{Item}
 use Rattle.shape_buffer.specs.Keepers.{IsFlagKeeper}
 use Rattle.shape_buffer.specs.KeepsFlags.{KeepsFlags, has_flag, some_has}
 use Rattle.shape_buffer.proofs.FlagLemmas.{append-cases, KeepsFlags-same}
-use Rattle.shape_position.specs.Kept.{IsOrdered, TurnsOrder, KeepsAsMany}
+use Rattle.shape_position.specs.Kept.{TurnsOrder, KeepsAsMany}
 use Rattle.shape_position.specs.Turning.{turned}
 
 clusters-reverse : (xs : List Item) → clusters (reverse xs) ≡ reverse (clusters xs)
@@ -76,11 +76,11 @@ turns-turned b = record {
     turned_clusters true = clusters-reverse b.items
     turned_clusters false = refl
 
-    turned_rising : (backward : Bool) → IsNonDecreasing (clusters b.items) → IsOrdered backward (clusters (turned_if backward b).items)
+    turned_rising : (backward : Bool) → IsNonDecreasing (clusters b.items) → IsOrderedFor backward (clusters (turned_if backward b).items)
     turned_rising true rising = let P : List ℕ → Type 0 = λ xs. IsNonIncreasing xs in subst P (sym (clusters-reverse b.items)) (falls-reverse (clusters b.items) rising)
     turned_rising false rising = rising
 
-    turned_falling : (backward : Bool) → IsNonIncreasing (clusters b.items) → IsOrdered (not backward) (clusters (turned_if backward b).items)
+    turned_falling : (backward : Bool) → IsNonIncreasing (clusters b.items) → IsOrderedFor (not backward) (clusters (turned_if backward b).items)
     turned_falling true falling = let P : List ℕ → Type 0 = λ xs. IsNonDecreasing xs in subst P (sym (clusters-reverse b.items)) (rises-reverse (clusters b.items) falling)
     turned_falling false falling = falling
 

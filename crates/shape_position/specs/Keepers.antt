@@ -3,12 +3,12 @@ use Rattle.std.specs.Prelude.{Bool}
 use Rattle.shape_buffer.specs.Buffer.{Buffer}
 use Rattle.shape_buffer.specs.Face.{FaceMeaning}
 use Rattle.shape_buffer.specs.Flags.{flags_propagated}
-use Rattle.shape_buffer.specs.Keepers.{IsClusterKeeper, IsFlagKeeper}
+use Rattle.shape_buffer.specs.Keepers.{IsClusterKeeper, IsFlagKeeper, EachStep}
 use Rattle.shape_plan.specs.Keepers.{CallsKeepClusters, RunKeepsFlags}
 use Rattle.shape_plan.specs.Run.{Run}
 use Rattle.shape_position.specs.Advances.{positions_cleared, advanced}
 use Rattle.shape_position.specs.Ignorables.{ignorables_zeroed}
-use Rattle.shape_position.specs.Kept.{EachStep, KeepsAsMany, TurnsOrder}
+use Rattle.shape_position.specs.Kept.{KeepsAsMany, TurnsOrder}
 use Rattle.shape_position.specs.Selectors.{selectors_replaced}
 use Rattle.shape_position.specs.Steps.{advance_steps, table_steps, show_steps, finish_steps}
 use Rattle.shape_position.specs.Turning.{turned}

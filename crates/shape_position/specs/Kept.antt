@@ -1,31 +1,20 @@
 -- What the steps of a run do to clusters, flags and the number of positions.
-use Rattle.std.specs.Prelude.{◌≡◌, ℕ, Bool, true, false, not, List, [], ◌∷◌, length, reverse, Contains, if◌then◌else◌}
+use Rattle.std.specs.Prelude.{◌≡◌, ℕ, not, length, reverse, Contains, if◌then◌else◌}
 use Rattle.std.specs.List.Sorted.{IsNonDecreasing}
 use Rattle.shape_buffer.specs.Buffer.{Buffer}
-use Rattle.shape_buffer.specs.ClusterOrder.{IsNonIncreasing}
+use Rattle.shape_buffer.specs.ClusterOrder.{IsNonIncreasing, IsOrderedFor}
 use Rattle.shape_buffer.specs.Clusters.{clusters}
 use Rattle.shape_buffer.specs.Direction.{is_backward}
-use Rattle.shape_buffer.specs.Outcome.{Step}
-
--- a property of each step of a list
-abbrev pub EachStep : ((Buffer → Buffer) → Type 0) → List Step → Type 0
-EachStep Keeps [] = Unit {0}
-EachStep Keeps (step ∷ steps) = Keeps step.makes × EachStep Keeps steps
 
 -- as many positions as items, where there were
 abbrev pub KeepsAsMany : (Buffer → Buffer) → Type 0
 KeepsAsMany f = (b : Buffer) → length b.positions ≡ length b.items → length (f b).positions ≡ length (f b).items
 
--- clusters that fall, or that rise
-abbrev pub IsOrdered : Bool → List ℕ → Type 0
-IsOrdered true clusters = IsNonIncreasing clusters
-IsOrdered false clusters = IsNonDecreasing clusters
-
 -- what the reversal does: clusters turn their order where the text runs backward, none is new, and direction, flags and level stay
 pub record TurnsOrder (before after : Buffer) : Type 0 where
   pub turned : clusters after.items ≡ (if is_backward before.direction then reverse (clusters before.items) else clusters before.items)
-  pub rising : IsNonDecreasing (clusters before.items) → IsOrdered (is_backward before.direction) (clusters after.items)
-  pub falling : IsNonIncreasing (clusters before.items) → IsOrdered (not (is_backward before.direction)) (clusters after.items)
+  pub rising : IsNonDecreasing (clusters before.items) → IsOrderedFor (is_backward before.direction) (clusters after.items)
+  pub falling : IsNonIncreasing (clusters before.items) → IsOrderedFor (not (is_backward before.direction)) (clusters after.items)
   pub none_new : (k : ℕ) → Contains (clusters after.items) k → Contains (clusters before.items) k
   pub direction : after.direction ≡ before.direction
   pub flags : after.flags ≡ before.flags

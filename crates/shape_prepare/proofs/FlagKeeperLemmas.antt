@@ -12,7 +12,7 @@ use Rattle.shape_buffer.specs.BufferClusters.{merge_clusters, unsafe_to_break}
 use Rattle.shape_buffer.specs.Face.{FaceMeaning}
 use Rattle.shape_buffer.specs.Flags.{with_mask}
 use Rattle.shape_buffer.specs.Items.{Item}
-use Rattle.shape_buffer.specs.Keepers.{IsFlagKeeper}
+use Rattle.shape_buffer.specs.Keepers.{IsFlagKeeper, EachStep}
 use Rattle.shape_buffer.specs.KeepsFlags.{KeepsFlags, IsDefinedFlag, has_flag, some_has}
 use Rattle.shape_buffer.specs.Layout.{HasNoDefinedFlag}
 use Rattle.shape_buffer.specs.Unicode.{UnicodeMeaning}
@@ -32,12 +32,13 @@ use Rattle.shape_prepare.specs.Begun.{begun}
 use Rattle.shape_prepare.specs.ClustersFormed.{clusters_formed, over_graphemes, grapheme_spans}
 use Rattle.shape_prepare.specs.DottedCircle.{dotted_circled, with_circle, takes_circle, begins_with_mark}
 use Rattle.shape_prepare.specs.Graphemes.{graphemes, graphemes_marked, continuations_marked, seen_item, is_continuation, is_to_next}
-use Rattle.shape_prepare.specs.Keeping.{EachStep, PreparingKeepsFlags}
+use Rattle.shape_prepare.specs.Keeping.{PreparingKeepsFlags}
 use Rattle.shape_prepare.specs.NativeOrder.{natively_ordered, native_direction, is_against, turned, merged_to_turn, from_last}
 use Rattle.shape_prepare.specs.PrepareSteps.{order_steps}
 use Rattle.shape_prepare.specs.Rotated.{rotated, rotated_item, in_forms, mirrored_or_masked, form_in}
 use Rattle.shape_prepare.specs.declared.graphemes.Before.{Before}
 use Rattle.shape_prepare.specs.declared.graphemes.Before.TheVariants.{Plain}
+use Rattle.shape_plan.proofs.KeeperLemmas.{keeper-hook}
 
 -- a mask without a defined flag
 no_flag_in : (mask flag : ℕ) → IsDefinedFlag flag → HasNoDefinedFlag mask → bit_and mask flag ≡ 0
@@ -178,14 +179,6 @@ natively_ordered-keeps_flags unicode b = elim (cases_Bool (is_against (native_di
   | inl on ↦ rw on (KeepsFlags-then b (merged_to_turn b) (turned (merged_to_turn b)) (merged_to_turn-keeps_flags b) (turned-keeps_flags (merged_to_turn b)))
   | inr off ↦ rw off (KeepsFlags-same b)
 ]
-
--- ---- hooks
-
-pub keeper-hook : (Keeps : (Buffer → Buffer) → Type 0) → Keeps (λ b. b) → (given : Bool) (hooks : Option HookMeaning) (pick : HookMeaning → Buffer → Buffer)
-    → ((h : HookMeaning) → hooks ≡ Some h → Keeps (pick h)) → Keeps (hook_if given hooks pick)
-keeper-hook Keeps none given None pick each = none
-keeper-hook Keeps none true (Some h) pick each = each h refl
-keeper-hook Keeps none false (Some h) pick each = none
 
 -- ---- rotation
 

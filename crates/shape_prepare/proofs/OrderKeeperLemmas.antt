@@ -11,7 +11,7 @@ use Rattle.canonical_form.proofs.DividedLemmas.{whole, whole-divided}
 use Rattle.shape_buffer.specs.Buffer.{Buffer}
 use Rattle.shape_buffer.specs.BufferClusters.{merge_clusters, unsafe_to_break}
 use Rattle.shape_buffer.specs.Clusters.{clusters, merge, map_range, mark_break, least_cluster}
-use Rattle.shape_buffer.specs.ClusterOrder.{IsMonotoneLevel, KeepsClusters}
+use Rattle.shape_buffer.specs.ClusterOrder.{IsMonotoneLevel, IsOrderedFor, KeepsClusters}
 use Rattle.shape_buffer.specs.Direction.{is_backward}
 use Rattle.shape_buffer.specs.Face.{FaceMeaning}
 use Rattle.shape_buffer.specs.Flags.{with_mask}
@@ -26,13 +26,14 @@ use Rattle.shape_buffer.specs.declared.buffer.settings.BufferClusterLevel.TheVar
 use Rattle.shape_buffer.specs.declared.buffer.settings.Direction.{Direction}
 use Rattle.shape_buffer.proofs.DrawsInOrder.{KeepsClusters-from_draws, DrawsInOrder-same, DrawsInOrder-again}
 use Rattle.shape_buffer.proofs.GraphemeOrderLemmas.{AreOneCluster, clusters-turned, falls-turned}
+use Rattle.shape_buffer.proofs.KeeperLemmas.{KeepsClusters-equal, KeepsClusters-then, KeepsOrder-same, KeepsOrder-then, clusters-map}
 use Rattle.shape_buffer.proofs.MergeOrder.{merge_keeps}
 use Rattle.shape_buffer.proofs.JoinLemmas.{length-merge}
 use Rattle.shape_plan.specs.declared.decisions.Decisions.{Decisions}
 use Rattle.shape_prepare.specs.Begun.{begun}
-use Rattle.shape_prepare.specs.ClusterPoint.{IsOrderedFor, direction_for, InOrderFor, PreparingKeepsOrder}
+use Rattle.shape_prepare.specs.ClusterPoint.{direction_for, InOrderFor, PreparingKeepsOrder}
 use Rattle.shape_plan.specs.Run.{hook_if}
-use Rattle.shape_prepare.proofs.FlagKeeperLemmas.{keeper-hook}
+use Rattle.shape_plan.proofs.KeeperLemmas.{keeper-hook}
 use Rattle.shape_prepare.specs.ClustersFormed.{clusters_formed, over_graphemes, grapheme_spans, spans_from}
 use Rattle.shape_prepare.specs.DottedCircle.{dotted_circled, with_circle, takes_circle, begins_with_mark}
 use Rattle.shape_prepare.specs.Graphemes.{graphemes, graphemes_marked, continuations_marked, continues, seen_item, is_continuation, is_to_next, is_skin_tone, is_regional_indicator, is_extender, is_passed, is_modifier_symbol}
@@ -45,35 +46,12 @@ use Rattle.shape_prepare.proofs.RisingMergeLemmas.{all_merged}
 use Rattle.shape_prepare.proofs.StepLemmas.{clusters_formed-unseen, clusters_formed-merged, merged_to_turn-merged}
 use Rattle.shape_prepare.proofs.TurnLemmas.{total}
 
--- ---- orders in general
-
-same-kept : (xs ys : List ℕ) → ys ≡ xs → KeepsClusters xs ys
-same-kept xs ys same = subst (λ (zs : List ℕ). KeepsClusters xs zs) (sym same) (KeepsClusters-from_draws xs xs (DrawsInOrder-same xs))
-
-kept-then : (xs ys zs : List ℕ) → KeepsClusters xs ys → KeepsClusters ys zs → KeepsClusters xs zs
-kept-then xs ys zs f g = record { rising = λ r. g.rising (f.rising r); falling = λ r. g.falling (f.falling r); none_new = λ k c. f.none_new k (g.none_new k c) }
-
-pub KeepsOrder-same : (b : Buffer) → KeepsOrder b b
-KeepsOrder-same b = record { clusters = same-kept (clusters b.items) (clusters b.items) refl; direction = refl; flags = refl; level = refl }
-
-pub KeepsOrder-then : (a b c : Buffer) → KeepsOrder a b → KeepsOrder b c → KeepsOrder a c
-KeepsOrder-then a b c f g = record {
-  clusters = kept-then (clusters a.items) (clusters b.items) (clusters c.items) f.clusters g.clusters;
-  direction = g.direction ∙ f.direction;
-  flags = g.flags ∙ f.flags;
-  level = g.level ∙ f.level;
-}
-
-mapped-clusters : (f : Item → Item) → ((item : Item) → (f item).cluster ≡ item.cluster) → (items : List Item) → clusters (map f items) ≡ clusters items
-mapped-clusters f same [] = refl
-mapped-clusters f same (item ∷ items) = ap₂ (λ (c : ℕ) (cs : List ℕ). c ∷ cs) (same item) (mapped-clusters f same items)
-
 -- ---- masks, properties, the circle
 
 pub begun-keeps_order : (mask : ℕ) (b : Buffer) → KeepsOrder b (begun mask b)
 unfolding begun
 begun-keeps_order mask b = record {
-  clusters = same-kept (clusters b.items) _ (mapped-clusters (with_mask mask) (λ item. refl) b.items);
+  clusters = KeepsClusters-equal (clusters b.items) _ (clusters-map (with_mask mask) (λ item. refl) b.items);
   direction = refl;
   flags = refl;
   level = refl;
@@ -86,7 +64,7 @@ marked-clusters unicode (item ∷ items) before = ap (λ (cs : List ℕ). item.c
 pub graphemes_marked-keeps_order : (unicode : UnicodeMeaning) (b : Buffer) → KeepsOrder b (graphemes_marked unicode b)
 unfolding graphemes_marked
 graphemes_marked-keeps_order unicode b = record {
-  clusters = same-kept (clusters b.items) _ (marked-clusters unicode b.items Plain);
+  clusters = KeepsClusters-equal (clusters b.items) _ (marked-clusters unicode b.items Plain);
   direction = refl;
   flags = refl;
   level = refl;
@@ -114,11 +92,11 @@ dotted_circled-keeps_order unicode face b = elim (cases_Bool (takes_circle face 
 -- ---- clusters of graphemes
 
 sizes-keep : (start : ℕ) (sizes : List ℕ) (xs : List Item) → start + total sizes ≤ length xs → KeepsClusters (clusters xs) (clusters (all_merged (spans_from start sizes) xs))
-sizes-keep start [] xs within = same-kept (clusters xs) (clusters xs) refl
+sizes-keep start [] xs within = KeepsClusters-equal (clusters xs) (clusters xs) refl
 sizes-keep start (size ∷ sizes) xs within =
     let next = merge start (start + size) xs in
     let many : length next ≡ length xs = length-merge start (start + size) xs in
-    kept-then (clusters xs) (clusters next) _ (merge_keeps start (start + size) xs next (omega arith) refl) (sizes-keep (start + size) sizes next (omega arith))
+    KeepsClusters-then (clusters xs) (clusters next) _ (merge_keeps start (start + size) xs next (omega arith) refl) (sizes-keep (start + size) sizes next (omega arith))
 
 pub merged-keeps_order : (b : Buffer) → IsMonotoneLevel b.cluster_level → KeepsOrder b (over_graphemes merge_clusters b)
 merged-keeps_order b monotone = rw (spans-merged (grapheme_spans b.items) b monotone) (record {
@@ -132,7 +110,7 @@ clusters-map_range : (f : Item → Item) → ((item : Item) → (f item).cluster
 clusters-map_range f same from to xs le =
     let key = λ (item : Item). item.cluster in
     map-append key (take from xs) (map f (slice_range xs from to) ++ drop to xs)
-    ∙ ap (λ (l : List ℕ). map key (take from xs) ++ l) (map-append key (map f (slice_range xs from to)) (drop to xs) ∙ ap (λ (l : List ℕ). l ++ map key (drop to xs)) (mapped-clusters f same (slice_range xs from to)) ∙ sym (map-append key (slice_range xs from to) (drop to xs)) ∙ ap (map key) (sym (drop_split xs from to le)))
+    ∙ ap (λ (l : List ℕ). map key (take from xs) ++ l) (map-append key (map f (slice_range xs from to)) (drop to xs) ∙ ap (λ (l : List ℕ). l ++ map key (drop to xs)) (clusters-map f same (slice_range xs from to)) ∙ sym (map-append key (slice_range xs from to) (drop to xs)) ∙ ap (map key) (sym (drop_split xs from to le)))
     ∙ sym (map-append key (take from xs) (drop from xs)) ∙ ap (map key) (take-append-drop from xs)
 
 mark_break-cluster : (least : ℕ) (item : Item) → (mark_break least item).cluster ≡ item.cluster
@@ -144,7 +122,7 @@ unsafe_to_break-keeps_order start end b =
       | inl long ↦
           let lt : start + 1 < end = grind (arith, nat_tests) in
           rw long (record {
-            clusters = same-kept (clusters b.items) _ (clusters-map_range (mark_break (least_cluster (slice_range b.items start end))) (mark_break-cluster (least_cluster (slice_range b.items start end))) start end b.items (omega arith));
+            clusters = KeepsClusters-equal (clusters b.items) _ (clusters-map_range (mark_break (least_cluster (slice_range b.items start end))) (mark_break-cluster (least_cluster (slice_range b.items start end))) start end b.items (omega arith));
             direction = refl;
             flags = refl;
             level = refl;
@@ -186,7 +164,7 @@ forms-cluster unicode face mask item false false = refl
 pub rotated-keeps_order : (unicode : UnicodeMeaning) (face : FaceMeaning) (decisions : Decisions) (target : Direction) (b : Buffer) → KeepsOrder b (rotated unicode face decisions target b)
 unfolding rotated items_mapped
 rotated-keeps_order unicode face decisions target b = record {
-  clusters = same-kept (clusters b.items) _ (mapped-clusters (rotated_item unicode face decisions target) (λ item. forms-cluster unicode face decisions.rtlm_mask item (is_backward target) _) b.items);
+  clusters = KeepsClusters-equal (clusters b.items) _ (clusters-map (rotated_item unicode face decisions target) (λ item. forms-cluster unicode face decisions.rtlm_mask item (is_backward target) _) b.items);
   direction = refl;
   flags = refl;
   level = refl;

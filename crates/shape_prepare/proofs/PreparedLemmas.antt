@@ -31,7 +31,8 @@ use Rattle.shape_prepare.specs.PreparedPoint.{KeepsPrepared, PreparingPrepares}
 use Rattle.shape_prepare.specs.Rotated.{rotated, rotated_item, in_forms, mirrored_or_masked, mirrored_item, form_in}
 use Rattle.shape_prepare.specs.declared.graphemes.Before.{Before}
 use Rattle.shape_prepare.specs.declared.graphemes.Before.TheVariants.{Plain}
-use Rattle.shape_prepare.proofs.FlagKeeperLemmas.{keeper-hook, from_last-first}
+use Rattle.shape_prepare.proofs.FlagKeeperLemmas.{from_last-first}
+use Rattle.shape_plan.proofs.KeeperLemmas.{keeper-hook}
 
 -- the same by recursion on the list
 abbrev ArePrepared : UnicodeMeaning → List Item → Type 0

@@ -8,7 +8,7 @@ use Rattle.shape_prepare.specs.Graphemes.{graphemes, graphemes_marked}
 use Rattle.std.specs.List.Sorted.{IsNonDecreasing}
 use Rattle.shape_buffer.specs.Buffer.{Buffer}
 use Rattle.shape_buffer.specs.Clusters.{clusters}
-use Rattle.shape_buffer.specs.ClusterOrder.{IsMonotoneLevel, IsNonIncreasing}
+use Rattle.shape_buffer.specs.ClusterOrder.{IsMonotoneLevel, IsOrderedFor}
 use Rattle.shape_buffer.specs.Direction.{reverse_of}
 use Rattle.shape_buffer.specs.Outcome.{run_steps}
 use Rattle.shape_buffer.specs.declared.buffer.settings.Direction.{Direction}
@@ -17,12 +17,7 @@ use Rattle.shape_plan.specs.Run.{Run}
 use Rattle.shape_prepare.specs.NativeOrder.{is_against, native_direction}
 use Rattle.shape_prepare.specs.PrepareSteps.{grapheme_steps, prepare_steps}
 
--- clusters that never fall, or never rise where the list was turned
-abbrev pub IsOrderedFor : Bool → List ℕ → Type 0
-IsOrderedFor false cs = IsNonDecreasing cs
-IsOrderedFor true cs = IsNonIncreasing cs
-
--- and the direction then
+-- the direction where the list was turned, or not
 abbrev pub direction_for : Bool → Direction → Direction
 direction_for turned direction = if turned then reverse_of direction else direction
 

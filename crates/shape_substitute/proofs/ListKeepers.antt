@@ -2,16 +2,17 @@
 use Rattle.std.proofs.Common.{◌≡◌, ◌&&◌, ℕ, zero, suc, Bool, true, false, [], ◌∷◌, Option, Some, None}
 use Rattle.std.specs.Prelude.{if◌then◌else◌}
 use Rattle.std.specs.Option.{option_map_or}
-use Rattle.shape_buffer.specs.Keepers.{IsClusterKeeper, IsFlagKeeper}
+use Rattle.shape_buffer.specs.Keepers.{IsClusterKeeper, IsFlagKeeper, EachStep}
 use Rattle.shape_buffer.specs.Outcome.{step}
 use Rattle.shape_buffer.proofs.FlagLemmas.{KeepsFlags-same}
+use Rattle.shape_buffer.proofs.KeeperLemmas.{EachStep-append, KeepsOrder-same}
 use Rattle.shape_plan.specs.Keepers.{EachHook, CallsKeepClusters, RunKeepsFlags}
 use Rattle.shape_plan.specs.Run.{Run, hook_if}
 use Rattle.shape_plan.specs.Shaper.{HookMeaning}
-use Rattle.shape_substitute.specs.Kept.{EachStep, SubstitutionKeepsClusters, SubstitutionKeepsFlags}
+use Rattle.shape_substitute.specs.Kept.{SubstitutionKeepsClusters, SubstitutionKeepsFlags}
 use Rattle.shape_substitute.specs.Substitution.{stage_steps, lookup_steps}
-use Rattle.shape_substitute.proofs.KeeperLemmas.{KeepsOrder-same, EachStep-append, order-step_if, order-hook_if, flags-step_if, flags-hook_if}
 use Rattle.shape_substitute.proofs.StepKeepers.{order-fractions_masked, order-ranges_masked, order-glyphs_mapped, order-classes_synthesised, flags-fractions_masked, flags-ranges_masked, flags-glyphs_mapped, flags-classes_synthesised}
+use Rattle.shape_plan.proofs.KeeperLemmas.{flags-hook_if, flags-step_if, order-hook_if, order-step_if}
 
 -- ---- clusters
 

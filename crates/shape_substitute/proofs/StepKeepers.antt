@@ -13,6 +13,7 @@ use Rattle.shape_buffer.specs.Walks.{items_mapped}
 use Rattle.shape_buffer.specs.declared.buffer.settings.Direction.{Direction}
 use Rattle.shape_buffer.specs.declared.buffer.settings.Feature.{Feature}
 use Rattle.shape_buffer.proofs.FlagLemmas.{glyph_flags_set, range_brings, unsafe_to_break_keeps, KeepsFlags-items, KeepsFlags-same, KeepsFlags-then}
+use Rattle.shape_buffer.proofs.KeeperLemmas.{order-items_mapped}
 use Rattle.shape_plan.specs.Shaper.{without_mask}
 use Rattle.shape_plan.specs.declared.decisions.Decisions.{Decisions}
 use Rattle.shape_substitute.specs.Classes.{glyphs_mapped, classes_synthesised, syllables_cleared, with_nominal_glyph, with_class, without_syllable}
@@ -21,7 +22,7 @@ use Rattle.shape_substitute.specs.Kept.{FractionsAreFeatures}
 use Rattle.shape_substitute.specs.Ranges.{shifted, is_global, with_feature, range_masked, ranges_masked}
 use Rattle.shape_substitute.specs.declared.fractions.FractionMasks.{FractionMasks}
 use Rattle.shape_substitute.proofs.FeatureBitLemmas.{feature-or, added_brings_none, value_brings_none}
-use Rattle.shape_substitute.proofs.KeeperLemmas.{order-items_mapped, order-masks, flags-items_mapped}
+use Rattle.shape_substitute.proofs.KeeperLemmas.{order-masks, flags-items_mapped}
 use Rattle.shape_substitute.proofs.MaskLemmas.{MasksAlone, MasksAlone-same, MasksAlone-then, alone-fractions_masked, slash_masked-alone, slash_masked-whole}
 
 -- ---- fractions

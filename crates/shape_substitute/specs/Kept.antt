@@ -1,18 +1,11 @@
 -- What masks and substitution keep: clusters and the flags of glyphs.
-use Rattle.std.specs.Prelude.{List, [], ◌∷◌}
 use Rattle.shape_buffer.specs.Buffer.{Buffer}
-use Rattle.shape_buffer.specs.Keepers.{IsClusterKeeper, IsFlagKeeper}
+use Rattle.shape_buffer.specs.Keepers.{IsClusterKeeper, IsFlagKeeper, EachStep}
 use Rattle.shape_buffer.specs.Layout.{LawfulMasks, HasNoDefinedFlag}
-use Rattle.shape_buffer.specs.Outcome.{Step}
 use Rattle.shape_plan.specs.Keepers.{CallsKeepClusters, RunKeepsFlags}
 use Rattle.shape_plan.specs.Run.{Run}
 use Rattle.shape_plan.specs.declared.decisions.Decisions.{Decisions}
 use Rattle.shape_substitute.specs.Substitution.{mask_steps, glyph_steps, substitute_steps}
-
--- a property of each step of a list
-abbrev pub EachStep : ((Buffer → Buffer) → Type 0) → List Step → Type 0
-EachStep Keeps [] = Unit {0}
-EachStep Keeps (step ∷ steps) = Keeps step.makes × EachStep Keeps steps
 
 -- the masks of fractions are features: they have no bit of the glyphs' flags
 pub record FractionsAreFeatures (decisions : Decisions) : Type 0 where

@@ -2,15 +2,13 @@
 //!
 //! A whole run hands out its glyphs alone. So the program runs the steps up to normalising on a buffer of
 //! its own, and reads the lists that they leave.
-ghost use Rattle.std.specs.Prelude.{◌≡◌, ◌≢◌, Some, IfOk};
+ghost use Rattle.std.specs.Prelude.{◌≡◌, ◌≢◌, IfOk};
 ghost use Rattle.shape_buffer.specs.Guess.{guessed};
-ghost use Rattle.shape_plan.specs.Plan.{Fits, known_script};
+ghost use Rattle.shape_plan.specs.Plan.{Fits};
 ghost use Rattle.shapeline.specs.Meaning.{unicode_tables};
 
 use crate::unicode_tables::UnicodeTables;
-use shape_buffer::buffer::{
-    Direction, GlyphBuffer, Script, ShapeError, UnicodeBuffer, hb_buffer_t,
-};
+use shape_buffer::buffer::{Direction, GlyphBuffer, ShapeError, UnicodeBuffer, hb_buffer_t};
 use shape_buffer::interfaces::{MapFace, NoLookups};
 use shape_pipeline::ot_shape::{hb_ot_shape_context_t, prepare_text};
 use shape_pipeline::ot_shape_normalize::{_hb_ot_shape_normalize, normalized_equal};
@@ -52,20 +50,6 @@ where
         None,
         &[],
     )
-}
-
-/// Gives a text the direction and the script of a plan, which fits it then. A plan without script is one
-/// for the script Unknown.
-pub fn suit<S, D>(plan: &hb_ot_shape_plan_t<'_, S, (), D>, text: &mut UnicodeBuffer)
-    requires { plan.now.direction ≢ Direction.Invalid }
-    ensures suited { text.new ≡ record text.old {
-      direction = plan.now.direction;
-      script = Some (known_script plan.now.script);
-    } }
-    ensures fits { Fits unicode_tables plan.now text.new }
-{
-    text.set_direction(plan.direction());
-    text.set_script(Some(plan.script().unwrap_or(Script::UNKNOWN)));
 }
 
 /// Makes of a text, for which there is a plan, what a run begins to normalise with.

@@ -138,7 +138,7 @@ impl ShaperTask for Answering<'_> {
         append_items(&mut lines, "prepared", buffer.infos())?;
         answers::normalize(alloc, &plan, face, &mut buffer)?;
         append_items(&mut lines, "normal", buffer.infos())?;
-        answers::suit(&plan, &mut again);
+        let plan = answers::planned(alloc, face, shaper, &mut again)?;
         let glyphs = answers::shape(alloc, &plan, face, again)?;
         append_glyphs(&mut lines, glyphs.glyph_infos(), glyphs.glyph_positions())?;
         Ok(lines)

@@ -1,6 +1,6 @@
-use Rattle.std.proofs.Common.{subst, sym}
+use Rattle.std.proofs.Common.{subst}
 use Rattle.shape_buffer.specs.Buffer.{Buffer}
-use Rattle.shape_buffer.specs.Outcome.{RunOutcome, IsWithinLimit}
+use Rattle.shape_buffer.specs.Outcome.{RunOutcome}
 use Rattle.shape_plan.specs.Run.{run_of}
 use Rattle.shape_pipeline.specs.Shaped.{all_steps}
 use Rattle.shape_pipeline.proofs.ot_shape.enter_and_shape.Goals as goal

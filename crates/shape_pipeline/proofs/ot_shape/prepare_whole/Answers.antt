@@ -1,9 +1,5 @@
 use Rattle.std.proofs.Common.{◌≡◌, arith}
-use Rattle.shape_buffer.specs.declared.buffer.error.ShapeError.{ShapeError}
 use Rattle.shape_buffer.specs.declared.buffer.error.ShapeError.TheVariants.{Length}
-use Rattle.shape_plan.specs.Run.{run_of}
-use Rattle.shape_prepare.specs.PrepareSteps.{prepare_steps}
-use Rattle.shape_pipeline.specs.Shaped.{entered}
 use Rattle.shape_pipeline.proofs.RunLemmas.{refused-length, Prepares-none, Prepares-ran}
 use Rattle.shape_pipeline.proofs.ot_shape.prepare_whole.Goals as goal
 

@@ -1,9 +1,6 @@
 use Rattle.std.proofs.Common.{◌≡◌, ◌∙◌, ap, arith, None}
 use Rattle.shape_buffer.specs.Buffer.{Buffer}
-use Rattle.shape_buffer.specs.declared.buffer.error.ShapeError.{ShapeError}
 use Rattle.shape_buffer.specs.declared.buffer.error.ShapeError.TheVariants.{Length}
-use Rattle.shape_plan.specs.Run.{run_of}
-use Rattle.shape_pipeline.specs.Shaped.{entered}
 use Rattle.shape_pipeline.proofs.RunLemmas.{refused-length, Shapes-none, Shapes-some}
 use Rattle.shape_pipeline.proofs.ot_shape.shape_whole.Goals as goal
 

@@ -1,8 +1,9 @@
 use Rattle.std.proofs.Common.{◌≡◌, ◌∙◌, ap, sym, rules}
 use Rattle.shape_buffer.specs.Guess.{guessed_direction, guessed_script}
 use Rattle.shape_normalize.proofs.RulesLemmas.{used_reorder-lawful}
-use Rattle.shape_plan.specs.Plan.{Plan, known_script}
+use Rattle.shape_plan.specs.Plan.{known_script}
 use Rattle.shape_plan.proofs.PlannedLemmas.{direction-planned, script-planned}
+use Rattle.shape_pipeline.specs.Planned.{planned_for}
 use Rattle.shape_pipeline.proofs.RunLemmas.{normal_form, if_ok_always}
 use Rattle.shape_pipeline.proofs.shape.shape.Goals as goal
 
@@ -21,3 +22,17 @@ returns-in-Ok-clause-form g c =
     let shaper = g.S.hb_ot_shaper_t in
     let lawful = used_reorder-lawful shaper.hooks g.met.S.hb_ot_shaper_t.lawful_hooks shaper.constants.has_reorder_marks _ c.args.face.now in
     if_ok_always c.shape_with_plan.result (normal_form _ lawful g.met.U.hb_unicode_funcs_t.lawful _)
+
+pub returns-in-Ok-clause-length : goal.returns-in-Ok-clause-length
+returns-in-Ok-clause-length g c =
+    let unicode = g.U.hb_unicode_funcs_t.unicode in
+    let made : c.in-Ok.plan ≡ planned_for unicode (record {
+      faces = g.F.hb_font_t.face;
+      layouts = g.M.hb_ot_layout_t.layout;
+      masks = g.M.hb_ot_layout_t.masks;
+      constants = g.S.hb_ot_shaper_t.constants;
+      collected = g.S.hb_ot_shaper_t.collected;
+      overriding = g.S.hb_ot_shaper_t.overriding;
+      made_data = g.S.hb_ot_shaper_t.made_data;
+    }) c.args.face.now c.args.shaper.now c.args.features.now c.args.buffer = search rules in
+    rw (← made) c.shape_with_plan.ensures.length

@@ -1,11 +1,13 @@
-use Rattle.std.proofs.Common.{◌≡◌, ◌∙◌, ap, subst, refl, rules, Err}
+use Rattle.std.proofs.Common.{◌≡◌, ◌∙◌, ap, sym, subst, refl, rules, Err}
 use Rattle.shape_buffer.specs.Buffer.{Buffer}
 use Rattle.shape_buffer.specs.Guess.{guessed, guessed_direction}
 use Rattle.shape_buffer.specs.declared.buffer.settings.Direction.{Direction}
 use Rattle.shape_normalize.proofs.RulesLemmas.{used_reorder-lawful}
-use Rattle.shape_plan.specs.Rules.{rules_of}
 use Rattle.shape_plan.specs.Run.{run_of}
-use Rattle.shape_pipeline.specs.Headline.{prepared_text}
+use Rattle.shape_pipeline.specs.Headline.{prepared_text, HasFlagsByCluster}
+use Rattle.shape_pipeline.specs.Order.{ComesInOrder}
+use Rattle.shape_pipeline.proofs.FlagRunLemmas.{flags-run_made}
+use Rattle.shape_pipeline.proofs.OrderLemmas.{clusters-shaped}
 use Rattle.shape_pipeline.proofs.RunLemmas.{normal_form, direction-made}
 use Rattle.shape_pipeline.specs.Shaped.{shaped, ShapingPasses}
 use Rattle.shape_pipeline.proofs.shape.shape_with_plan.Goals as goal
@@ -23,6 +25,25 @@ returns-in-Ok-clause-direction g c =
     let run = run_of g.U.hb_unicode_funcs_t.unicode g.M.hb_ot_layout_t.masks g.M.hb_ot_layout_t.lookups g.S.hb_ot_shaper_t.constants g.S.hb_ot_shaper_t.hooks g.F.hb_font_t.face c.args.plan.now c.args.face.now in
     let made : c.into_glyphs.result ≡ shaped run c.args.buffer = search rules in
     ap (λ (b : Buffer). b.direction) made ∙ direction-made run (guessed_direction unicode c.args.buffer) (guessed unicode c.args.buffer) refl
+
+pub returns-in-Ok-clause-clusters : goal.returns-in-Ok-clause-clusters
+returns-in-Ok-clause-clusters g c = λ keeps monotone rising.
+    let shaper = g.S.hb_ot_shaper_t in
+    let run = run_of g.U.hb_unicode_funcs_t.unicode g.M.hb_ot_layout_t.masks g.M.hb_ot_layout_t.lookups g.S.hb_ot_shaper_t.constants g.S.hb_ot_shaper_t.hooks g.F.hb_font_t.face c.args.plan.now c.args.face.now in
+    let lawful = used_reorder-lawful shaper.hooks g.met.S.hb_ot_shaper_t.lawful_hooks shaper.constants.has_reorder_marks c.args.plan.now c.args.face.now in
+    let made : c.into_glyphs.result ≡ shaped run c.args.buffer = search rules in
+    subst (λ (glyphs : Buffer). ComesInOrder run c.args.buffer glyphs) (sym made) (clusters-shaped run c.args.buffer lawful keeps monotone rising)
+
+pub returns-in-Ok-clause-flags : goal.returns-in-Ok-clause-flags
+returns-in-Ok-clause-flags g c = λ keeps.
+    let shaper = g.S.hb_ot_shaper_t in
+    let unicode = g.U.hb_unicode_funcs_t.unicode in
+    let run = run_of unicode g.M.hb_ot_layout_t.masks g.M.hb_ot_layout_t.lookups g.S.hb_ot_shaper_t.constants g.S.hb_ot_shaper_t.hooks g.F.hb_font_t.face c.args.plan.now c.args.face.now in
+    let lawful = used_reorder-lawful shaper.hooks g.met.S.hb_ot_shaper_t.lawful_hooks shaper.constants.has_reorder_marks c.args.plan.now c.args.face.now in
+    let masks = g.met.M.hb_ot_layout_t.lawful_masks c.args.plan.now.ot_map in
+    let made : c.into_glyphs.result ≡ shaped run c.args.buffer = search rules in
+    subst (λ (glyphs : Buffer). HasFlagsByCluster c.args.buffer glyphs) (sym made)
+    (flags-run_made run (guessed_direction unicode c.args.buffer) lawful masks c.masks_are_features.ensures keeps c.args.buffer (guessed unicode c.args.buffer) refl)
 
 pub returns-in-Err-clause-length : goal.returns-in-Err-clause-length
 returns-in-Err-clause-length g c = λ is.

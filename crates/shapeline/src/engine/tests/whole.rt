@@ -36,7 +36,7 @@ fn runs_over_a_grapheme(rt: HostRuntime) {
 /// Texts that don't run in the direction of their script.
 #[test]
 fn runs_in_directions(rt: HostRuntime) {
-    let cases: [(&[u8], &[u8], &[u8]); 5] = [
+    let cases: [(&[u8], &[u8], &[u8]); 6] = [
         (
             b"glyph 5D0 1 500\nglyph 5D1 2 450\n",
             b"text 5D0 5D1\n",
@@ -61,6 +61,12 @@ fn runs_in_directions(rt: HostRuntime) {
             b"glyph 61 1 600\ndir ttb\n",
             b"text 61\n",
             b"prepared 0061@0\nnormal 0061@0\nglyphs 1@0(0,-1000,-300,-1000)/0\n",
+        ),
+        // No character says a script, so no direction is native: the text stays as it is until its end.
+        (
+            b"glyph 31 1 500\nglyph 301 2 100\ndir rtl\n",
+            b"text 31 301\n",
+            b"prepared 0031@0 0301@0\nnormal 0031@0 0301@0\nglyphs 2@0(0,0,0,0)/0 1@0(500,0,0,0)/0\n",
         ),
     ];
     for (face, lines, output) in cases {
