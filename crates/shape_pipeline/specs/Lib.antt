@@ -3,3 +3,4 @@ pub mod Shaped
 pub mod Order
 pub mod Headline
 pub mod Planned
+pub mod Premises

@@ -6,9 +6,10 @@
 #![tactic(auto)]
 #![allow(non_camel_case_types)]
 
+pub mod laws;
 pub mod ot_shape;
 pub mod shape;
 
 pub use shape_fallback::ot_shape_fallback;
-pub use shape_normalize::{laws, ot_shape_normalize};
+pub use shape_normalize::ot_shape_normalize;
 pub use shape_plan::{ot_shape_plan, ot_shaper};

@@ -1,0 +1,14 @@
+use Rattle.std.proofs.Common.{refl}
+use Rattle.shape_pipeline.specs.Premises.{LeavesBuffers}
+use Rattle.shape_users.specs.Points.{points_reordered}
+use Rattle.shape_users.proofs.PointLemmas.{shaper-keeps}
+use Rattle.shape_users.proofs.hebrew.hebrew_runs_keep.Goals as goal
+
+pub returns-clause-clusters : goal.returns-clause-clusters
+returns-clause-clusters g c = λ keep.
+    c.hooks_not_given_keep.ensures.clusters (λ shaper. record { preprocess = refl; setup_masks = refl; postprocess = refl; pause = refl }) keep
+    (shaper-keeps _ (λ shaper. refl) c.args.plan.now.shaper)
+
+pub returns-clause-flags : goal.returns-clause-flags
+returns-clause-flags g c =
+    c.hooks_not_given_keep.ensures.flags (λ shaper. record { preprocess = refl; setup_masks = refl; postprocess = refl; pause = refl })

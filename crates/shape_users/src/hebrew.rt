@@ -1,0 +1,135 @@
+//! A script shaper for Hebrew: points join their letters where the face has a glyph for both, and a mark
+//! below steps before the point that it stands beside.
+//!
+//! The shaper gives two of the ten hooks; `no_hook` stands for the others. What a run by it owes is what
+//! its engine's lookups owe, and no more: [`hebrew_runs_keep`].
+ghost use Rattle.std.specs.Prelude.{true, false, None, pos, refl};
+ghost use Rattle.std.specs.Option.{option_or};
+ghost use Rattle.shape_buffer.specs.Keepers.{LookupsKeepClusters, LookupsKeepFlags};
+ghost use Rattle.shape_plan.specs.Keepers.{RunKeepsFlags};
+ghost use Rattle.shape_pipeline.specs.Order.{RunKeepsClusters};
+ghost use Rattle.shape_users.specs.Forms.{form_of};
+ghost use Rattle.shape_users.specs.Points.{points_reordered, points_reordered-reorders};
+
+mod forms;
+mod points;
+#[cfg(test)]
+mod tests;
+
+use forms::form;
+use points::reorder_points;
+use shape_buffer::buffer::{hb_buffer_t, hb_tag_t};
+use shape_buffer::interfaces::{hb_font_t, hb_ot_layout_t, hb_unicode_funcs_t};
+use shape_pipeline::laws::hooks_not_given_keep;
+use shape_pipeline::ot_shape_plan::hb_ot_shape_plan_t;
+use shape_pipeline::ot_shaper::hooks::{compose_hook, reorder_marks_hook};
+use shape_pipeline::ot_shaper::{
+    HB_OT_SHAPE_ZERO_WIDTH_MARKS_BY_GDEF_LATE, Runs, no_hook, script_shaper,
+};
+
+/// The shaper of texts in Hebrew script.
+#[derive(Clone, Copy, Debug)]
+pub struct HebrewShaper;
+
+impl<U: hb_unicode_funcs_t, F: hb_font_t, M: hb_ot_layout_t<F>> script_shaper<U, F, M>
+    for HebrewShaper {
+    type Data = ();
+
+    type CollectFeatures = no_hook;
+
+    type OverrideFeatures = no_hook;
+
+    type CreateData = no_hook;
+
+    type PreprocessText = no_hook;
+
+    type PostprocessGlyphs = no_hook;
+
+    type Pause = no_hook;
+
+    type Decompose = no_hook;
+
+    type Compose = Self;
+
+    type SetupMasks = no_hook;
+
+    type ReorderMarks = Self;
+
+    ghost IS_DEFAULT = { false };
+
+    const IS_DEFAULT: bool = false;
+
+    ghost NORMALIZATION_PREFERENCE = { pos 4 };
+
+    const NORMALIZATION_PREFERENCE: i32 = 4;
+
+    ghost GPOS_TAG = { None };
+
+    const GPOS_TAG: Option<hb_tag_t> = None;
+
+    ghost ZERO_WIDTH_MARKS = { 2 };
+
+    const ZERO_WIDTH_MARKS: u32 = HB_OT_SHAPE_ZERO_WIDTH_MARKS_BY_GDEF_LATE;
+
+    ghost FALLBACK_POSITION = { true };
+
+    const FALLBACK_POSITION: bool = true;
+
+    ghost lawful_preference = { refl };
+
+    ghost lawful_zero_width = { refl };
+}
+
+impl<U: hb_unicode_funcs_t, F, M: hb_ot_layout_t<F>> compose_hook<HebrewShaper, (), U, F, M>
+    for HebrewShaper {
+    ghost join = { λ _ _ _ a b. option_or (U.unicode.join a b) (form_of a b) };
+
+    ghost GIVEN = { true };
+
+    const GIVEN: bool = true;
+
+    fn compose(
+        _shaper: &HebrewShaper,
+        _plan: &hb_ot_shape_plan_t<'_, HebrewShaper, M::Map, ()>,
+        _face: &F,
+        a: char,
+        b: char,
+    ) -> Option<char> {
+        U::compose(a, b).or(form(a, b))
+    }
+}
+
+impl<U: hb_unicode_funcs_t, F, M: hb_ot_layout_t<F>> reorder_marks_hook<HebrewShaper, (), U, F, M>
+    for HebrewShaper {
+    ghost reordered = { λ _ _. points_reordered };
+
+    ghost GIVEN = { true };
+
+    const GIVEN: bool = true;
+
+    fn reorder_marks(
+        _shaper: &HebrewShaper,
+        _plan: &hb_ot_shape_plan_t<'_, HebrewShaper, M::Map, ()>,
+        buffer: &mut hb_buffer_t,
+        start: usize,
+        end: usize,
+    ) {
+        reorder_points(buffer, start, end);
+    }
+
+    ghost reorders = { λ _ _. points_reordered-reorders };
+}
+
+/// A run by this shaper keeps clusters where its engine's lookups do, and flags where they do, whatever the
+/// functions of Unicode, the plan and the face.
+pub fn hebrew_runs_keep<U: hb_unicode_funcs_t, F: hb_font_t, M: hb_ot_layout_t<F>>(
+    plan: &hb_ot_shape_plan_t<'_, HebrewShaper, M::Map, ()>,
+    face: &F,
+)
+    ensures clusters { let run = ⟦<HebrewShaper as Runs<U, F, M>>⟧.run plan.now face.now in
+        LookupsKeepClusters run.lookups → RunKeepsClusters run }
+    ensures flags { let run = ⟦<HebrewShaper as Runs<U, F, M>>⟧.run plan.now face.now in
+        LookupsKeepFlags run.lookups → RunKeepsFlags run }
+{
+    hooks_not_given_keep::<U, F, M, HebrewShaper>(plan, face);
+}

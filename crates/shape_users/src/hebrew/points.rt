@@ -1,0 +1,56 @@
+//! The order of points below a letter.
+ghost use Rattle.std.specs.Prelude.{◌≡◌, ◌<◌, ◌≤◌, length};
+ghost use Rattle.shape_plan.specs.Reorder.{exchanged};
+ghost use Rattle.shape_users.specs.Points.{is_triple, third_place, points_reordered};
+
+use shape_buffer::buffer::{hb_buffer_t, hb_glyph_info_t};
+
+/// Patah or qamats, then sheva or hiriq, then meteg or a mark below: their modified classes.
+fn is_triple(first: u8, second: u8, third: u8) -> bool
+    ensures { result ≡ is_triple first second third }
+{
+    (first == 20 || first == 21) && (second == 22 || second == 23) && (third == 25 || third == 220)
+}
+
+/// The place of the last mark of the first such three.
+fn third_place(run: &[hb_glyph_info_t]) -> Option<usize>
+    ensures { result ≡ third_place 0 0 0 run.now }
+{
+    let mut first = 0;
+    let mut second = 0;
+    for place in 0..run.len() {
+        let third = run[place]._hb_glyph_info_get_modified_class();
+        if is_triple(first, second, third) {
+            return Some(place);
+        }
+        first = second;
+        second = third;
+    }
+    None
+}
+
+/// Exchanges two items.
+fn exchange(buffer: &mut hb_buffer_t, i: usize, j: usize)
+    requires first { i < length buffer.old.items }
+    requires second { j < length buffer.old.items }
+    ensures { buffer.new ≡ exchanged i j buffer.old }
+{
+    let first = buffer.infos()[i];
+    let second = buffer.infos()[j];
+    buffer.set_info(i, second);
+    buffer.set_info(j, first);
+}
+
+/// The third mark of the first three steps before the second one, and the two are one cluster.
+#[tactic(auto, using(crate::specs::Points::place_in_range))]
+pub fn reorder_points(buffer: &mut hb_buffer_t, start: usize, end: usize)
+    requires ordered { start ≤ end }
+    requires within { end ≤ length buffer.old.items }
+    ensures { buffer.new ≡ points_reordered buffer.old start end }
+{
+    if let Some(place) = third_place(&buffer.infos()[start..end]) {
+        let third = start + place;
+        buffer.merge_clusters(third - 1, third + 1);
+        exchange(buffer, third - 1, third);
+    }
+}

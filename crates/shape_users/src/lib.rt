@@ -1,0 +1,11 @@
+//! Users of the layer at work, each on public contracts alone.
+//!
+//! [`hebrew`] is a script shaper with hooks, which owes no more than its engine does. [`lines`] answers a
+//! line breaker: may the text be cut here? [`paragraph`] leads from glyphs to the text that they show, and
+//! back.
+#![tactic(auto)]
+#![allow(non_camel_case_types)]
+
+pub mod hebrew;
+pub mod lines;
+pub mod paragraph;

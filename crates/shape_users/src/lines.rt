@@ -1,0 +1,42 @@
+//! Where a line may end: the question that a line breaker asks of a shaped text.
+//!
+//! A line breaker shapes a paragraph once and cuts it where lines end. Where a glyph lacks
+//! `UNSAFE_TO_BREAK`, the part before it and the part from it on look alone as they do together; elsewhere
+//! they are to be shaped again. The caller speaks of the text by clusters, which lead back to it.
+ghost use Rattle.std.specs.Prelude.{◌≡◌, All};
+ghost use Rattle.std.specs.List.{find};
+ghost use Rattle.std.specs.Option.{option_map};
+ghost use Rattle.shape_buffer.specs.Items.{has_cluster};
+ghost use Rattle.shape_buffer.specs.Clusters.{clusters};
+ghost use Rattle.shape_buffer.specs.Direction.{is_backward};
+ghost use Rattle.shape_buffer.specs.Flags.{HasOneSetOfFlags};
+ghost use Rattle.shape_pipeline.specs.Order.{IsOrderedFor};
+ghost use Rattle.shape_users.specs.Lines.{cut_at, lacks_break};
+
+#[cfg(test)]
+mod tests;
+
+use shape_buffer::buffer::{GlyphBuffer, UNSAFE_TO_BREAK, hb_glyph_info_t};
+
+/// Whether a line may end before the character of a cluster: glyphs of that cluster are there, and the
+/// first of them in the list lacks `UNSAFE_TO_BREAK`. Where the clusters stand in the order of the text's
+/// direction, and each has one set of flags, as `shape` promises, each glyph of the cluster answers the
+/// same. A character in whose middle a cluster lies has none of its own: there no line may end.
+pub fn may_cut(glyphs: &GlyphBuffer, cluster: u32) -> bool
+    ensures answer { result ≡ cut_at cluster glyphs.now.items }
+    ensures each { IsOrderedFor (is_backward glyphs.now.direction) (clusters glyphs.now.items)
+        → HasOneSetOfFlags glyphs.now.items
+        → All (λ glyph. glyph.cluster ≡ cluster → lacks_break glyph ≡ result) glyphs.now.items }
+{
+    first_lacks_break(glyphs.glyph_infos(), cluster).unwrap_or(false)
+}
+
+/// Whether the first glyph of a cluster lacks `UNSAFE_TO_BREAK`, where there is one.
+fn first_lacks_break(glyphs: &[hb_glyph_info_t], cluster: u32) -> Option<bool>
+    ensures { result ≡ option_map lacks_break (find (has_cluster cluster) glyphs.now) }
+{
+    glyphs
+        .iter()
+        .find(|glyph| glyph.cluster == cluster)
+        .map(|glyph| glyph.mask & UNSAFE_TO_BREAK == 0)
+}
