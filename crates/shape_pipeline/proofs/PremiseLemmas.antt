@@ -22,13 +22,14 @@ use Rattle.shape_plan.specs.Rules.{Rules, rules_of, used_split, used_height, use
 use Rattle.shape_plan.specs.Run.{run_of}
 use Rattle.shape_plan.specs.Shaper.{HookMeaning, ShaperConstants}
 use Rattle.shape_plan.specs.Shapers.{no_hooks}
-use Rattle.shape_pipeline.specs.Headline.{prepared_text, target_of}
+use Rattle.shape_pipeline.specs.Headline.{prepared_text}
+use Rattle.shape_pipeline.specs.Headline.{target_of}
 use Rattle.shape_pipeline.specs.Order.{RunKeepsClusters}
 use Rattle.shape_pipeline.specs.Premises.{LeavesBuffers, OwesNothing}
 use Rattle.shape_pipeline.specs.Shaped.{entered}
 use Rattle.shape_normalize.proofs.LawfulLemmas.{reorder-unasked}
 use Rattle.shape_prepare.specs.PreparedPoint.{KeepsPrepared}
-use Rattle.shape_prepare.proofs.OrderKeeperLemmas.{KeepsOrder-same}
+use Rattle.shape_buffer.proofs.KeeperLemmas.{KeepsOrder-same}
 use Rattle.shape_prepare.proofs.PreparedLemmas.{preparing_prepares}
 
 -- what leaves a buffer as it is keeps clusters and flags

@@ -10,7 +10,7 @@ use Rattle.std.specs.Prelude.{All, unwrap_or}
 use Rattle.shape_buffer.specs.Clusters.{clusters}
 use Rattle.shape_buffer.specs.Flags.{flags_of, HasOneSetOfFlags}
 use Rattle.shape_buffer.specs.Items.{Item, has_cluster}
-use Rattle.shape_pipeline.specs.Order.{IsOrderedFor}
+use Rattle.shape_buffer.specs.ClusterOrder.{IsOrderedFor}
 use Rattle.shape_users.specs.Lines.{lacks_break, cut_at}
 
 -- the cluster of the item at a place

@@ -5,7 +5,7 @@ use Rattle.std.proofs.lemmas.List.{length-map}
 use Rattle.std.specs.Prelude.{◌↔◌, min, max}
 use Rattle.shape_buffer.specs.Clusters.{clusters}
 use Rattle.shape_buffer.specs.Items.{Item, new_item}
-use Rattle.shape_pipeline.specs.Order.{IsOrderedFor}
+use Rattle.shape_buffer.specs.ClusterOrder.{IsOrderedFor}
 use Rattle.shape_users.specs.Paragraph.{cluster_at, FirstToLast, ShowsExactly}
 use Rattle.shape_users.proofs.LineLemmas.{cluster-at}
 

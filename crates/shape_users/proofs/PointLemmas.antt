@@ -14,7 +14,7 @@ use Rattle.shape_buffer.specs.declared.buffer.settings.BufferClusterLevel.{Buffe
 use Rattle.shape_buffer.specs.declared.buffer.settings.BufferClusterLevel.TheVariants.{MonotoneGraphemes, MonotoneCharacters, Characters}
 use Rattle.shape_buffer.proofs.DeleteKeeps.{merged_keeps}
 use Rattle.shape_buffer.proofs.JoinLemmas.{cluster_at, merge_joins, length-merge}
-use Rattle.shape_normalize.proofs.DrawnLemmas.{KeepsClusters-same}
+use Rattle.shape_buffer.proofs.KeeperLemmas.{KeepsClusters-same}
 use Rattle.shape_plan.specs.Reorder.{IsRunInOrder}
 use Rattle.shape_plan.specs.Shaper.{HookMeaning}
 use Rattle.shape_users.specs.Points.{third_place, step_before, points_reordered, place_in_range}

@@ -10,7 +10,7 @@ ghost use Rattle.shape_buffer.specs.Items.{has_cluster};
 ghost use Rattle.shape_buffer.specs.Clusters.{clusters};
 ghost use Rattle.shape_buffer.specs.Direction.{is_backward};
 ghost use Rattle.shape_buffer.specs.Flags.{HasOneSetOfFlags};
-ghost use Rattle.shape_pipeline.specs.Order.{IsOrderedFor};
+ghost use Rattle.shape_buffer.specs.ClusterOrder.{IsOrderedFor};
 ghost use Rattle.shape_users.specs.Lines.{cut_at, lacks_break};
 
 #[cfg(test)]
