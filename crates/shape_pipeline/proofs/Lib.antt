@@ -1,5 +1,5 @@
 pub mod FlagRunLemmas
 pub mod OrderLemmas
 pub mod PartLemmas
-pub mod RunLemmas
 pub mod PremiseLemmas
+pub mod RunLemmas
