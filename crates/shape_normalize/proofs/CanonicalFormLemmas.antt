@@ -1,37 +1,25 @@
 -- The normalised list is equivalent to its text, canonical or recomposed of a canonical one where glyphs and runs allow it, and equal exactly for equivalent texts.
-use Rattle.std.proofs.Common.{◌≡◌, ◌↔◌, ℕ, ◌<◌, Bool, true, false, None, List, [], ◌∷◌, ◌++◌, length, map, drop, refl, sym, ◌∙◌, ap, ap₂, subst, inl, inr, arith, length-append}
-use Rattle.std.proofs.lemmas.List.{length-map}
+use Rattle.std.proofs.Common.{◌≡◌, ◌↔◌, ℕ, Bool, true, false, List, [], refl, sym, ◌∙◌, ap, subst, inl, inr}
 use Rattle.std.proofs.lemmas.Bool.{cases_Bool}
-use Rattle.std.proofs.lemmas.List.Elements.{All-from_recursion}
-use Rattle.std.specs.List.{AllByRecursion, list_any}
 use Rattle.canonical_form.proofs.ChoiceLemmas.{full_text-expanded}
 use Rattle.canonical_form.proofs.ExpandedLemmas.{expanded-plain}
 use Rattle.canonical_form.proofs.LawLemmas.{choices_are_equivalent, ordered_is_equivalent, decomposed_is_canonical, decomposed_decides}
 use Rattle.canonical_form.proofs.BlockLemmas.{recomposed_by_last}
 use Rattle.canonical_form.proofs.NormaliseLemmas.{sound_with_glyph, equivalent_normalised_by_last, recomposed_by_last_equal_iff}
-use Rattle.canonical_form.proofs.SwapLemmas.{no_swap}
 use Rattle.shape_buffer.specs.Buffer.{Buffer}
-use Rattle.canonical_form.specs.Chain.{full_text}
 use Rattle.canonical_form.specs.Expanded.{expanded_text}
 use Rattle.canonical_form.specs.Expansion.{choice}
-use Rattle.shape_buffer.specs.Items.{Item, char_of}
 use Rattle.canonical_form.specs.Laws.{IsDecomposed}
 use Rattle.canonical_form.specs.Recompose.{join_with_glyph}
 use Rattle.canonical_form.specs.Runs.{AreRunsSettled, HasNoLongerRun}
 use Rattle.shape_buffer.specs.Unicode.{LawfulUnicode, is_mark}
-use Rattle.shape_buffer.specs.UnicodeProps.{with_unicode_props}
-use Rattle.shape_normalize.specs.CanonicalForm.{text_of, HasNoSelector, AreEquivalent, HasCanonicalForm, IsRecomposedForm, TextPremises, EquivalencePremises, ComposesShortRuns, CanonicalTextPremises, CanonicalFormPremises, NormalizesCanonically, ShapesCanonically}
+use Rattle.shape_normalize.specs.CanonicalForm.{text_of, AreEquivalent, HasCanonicalForm, IsRecomposedForm, EquivalencePremises, ComposesShortRuns, CanonicalFormPremises, NormalizesCanonically}
 use Rattle.shape_normalize.specs.Normalized.{ordered, normalized}
 use Rattle.shape_normalize.specs.RoundOne.{round_one}
 use Rattle.shape_normalize.specs.RoundTwo.{max_run, has_mark_past_first}
 use Rattle.shape_plan.specs.Rules.{Rules, has_glyph}
-use Rattle.shape_normalize.specs.Prepared.{IsPreparedItem}
-use Rattle.shape_normalize.specs.Shaped.{prepared, shaped}
-use Rattle.shape_normalize.specs.Steps.{glyphs_mapped}
 use Rattle.shape_normalize.proofs.CutFormLemmas.{normalized_cuts}
 use Rattle.shape_normalize.proofs.NormalFormLemmas.{IsPlain, IsPlain-from, choices, recomposed_by_last_text, mark_past_first_char, normalized_is_ordered, normalized_is_choices, normalized_by_characters, IsPlain-premises, ordered_settles, normalized_is_recomposed}
-use Rattle.shape_normalize.proofs.NormalizedLemmas.{shaped_of_any, chars-mapped, chars-with_props}
-use Rattle.shape_normalize.proofs.PreparedLemmas.{prepared-with_props}
 use Rattle.shape_normalize.proofs.RoundOneLemmas.{chars-round_one}
 
 module _ (rules : Rules) where
@@ -147,106 +135,3 @@ module _ (rules : Rules) where
           by_characters = λ other of_old of_other same. normalized_by_characters rules lawful old other (IsPlain-premises rules old of_old) (IsPlain-premises rules other of_other) same;
           cuts = λ front back. normalized_cuts rules lawful old front back;
         })
-
-    -- ---- the run
-
-    prepared_by_run : (items : List Item) → AllByRecursion (IsPreparedItem rules.unicode) (map (with_unicode_props rules.unicode) items)
-    prepared_by_run [] = tt
-    prepared_by_run (item ∷ items) = (prepared-with_props rules.unicode lawful item, prepared_by_run items)
-
-    text_of-prepared : (b : Buffer) → text_of (prepared rules.unicode b) ≡ text_of b
-    text_of-prepared b = chars-with_props rules.unicode b.items
-
-    -- the run prepares its text
-    run_premises : (b : Buffer) → TextPremises rules (text_of b) → EquivalencePremises rules (prepared rules.unicode b)
-    run_premises b premises = record {
-      text = subst (TextPremises rules) (sym (text_of-prepared b)) premises;
-      prepared = All-from_recursion (IsPreparedItem rules.unicode) (prepared rules.unicode b).items (prepared_by_run b.items);
-    }
-
-    run_canonical_premises : (b : Buffer) → TextPremises rules (text_of b) → CanonicalTextPremises rules (text_of b) → CanonicalFormPremises rules (prepared rules.unicode b)
-    run_canonical_premises b premises canonical = record {
-      equivalence = run_premises b premises;
-      canonical = subst (CanonicalTextPremises rules) (sym (text_of-prepared b)) canonical;
-    }
-
-    -- what is handed out for a text that isn't empty, by its characters
-    abbrev run_text : Buffer → List ℕ
-    run_text b = text_of (normalized rules (prepared rules.unicode b))
-
-    some_item : (items : List Item) → list_any (is_mark rules.unicode) (drop 1 (map char_of items)) ≡ true → 0 < length items
-    some_item [] marked = cc
-    some_item (item ∷ items) marked = omega arith
-
-    text_of-run : (b new : Buffer) → new ≡ glyphs_mapped (normalized rules (prepared rules.unicode b)) → text_of new ≡ run_text b
-    text_of-run b new is = ap text_of is ∙ chars-mapped (normalized rules (prepared rules.unicode b)).items
-
-    text_of-shaped : (b : Buffer) → CanonicalTextPremises rules (text_of b) → text_of (shaped rules b) ≡ run_text b
-    text_of-shaped b premises = text_of-run b (shaped rules b) (sym (shaped_of_any rules b (some_item b.items premises.marked)))
-
-    -- a part with a mark past its first item isn't empty
-    some_marked : (items : List Item) → has_mark_past_first (map (with_unicode_props rules.unicode) items) ≡ true → 0 < length items
-    some_marked [] marked = cc
-    some_marked (item ∷ items) marked = omega arith
-
-    text_of-part : (b : Buffer) → has_mark_past_first (prepared rules.unicode b).items ≡ true → text_of (shaped rules b) ≡ run_text b
-    text_of-part b marked = text_of-run b (shaped rules b) (sym (shaped_of_any rules b (some_marked b.items marked)))
-
-    -- of an empty text nothing is made
-    text_of-empty : (b : Buffer) (items : List Item) → length items ≡ 0 → text_of (shaped rules (record b { items = items })) ≡ map char_of items
-    text_of-empty b [] none = refl
-    text_of-empty b (item ∷ items) none = absurd (omega arith)
-
-    -- a run goes by characters alone
-    run_plain : (b : Buffer) → HasNoSelector rules (text_of b) → rules.reorder ≡ None → IsPlain rules (prepared rules.unicode b)
-    run_plain b no_selector no_reordering =
-        IsPlain-from rules (prepared rules.unicode b) (All-from_recursion (IsPreparedItem rules.unicode) (prepared rules.unicode b).items (prepared_by_run b.items))
-        (subst (HasNoSelector rules) (sym (text_of-prepared b)) no_selector) no_reordering
-
-    run_by_characters : (old other : Buffer) → HasNoSelector rules (text_of old) → rules.reorder ≡ None → text_of old ≡ text_of other → run_text old ≡ text_of (shaped rules other)
-    run_by_characters old other no_selector no_reordering same =
-        let alike = normalized_by_characters rules lawful (prepared rules.unicode old) (prepared rules.unicode other) (run_plain old no_selector no_reordering)
-        (run_plain other (subst (HasNoSelector rules) same no_selector) no_reordering) (text_of-prepared old ∙ same ∙ sym (text_of-prepared other)) in
-        alike ∙ of_items other.items
-      where
-        of_items : (items : List Item) → text_of (normalized rules (prepared rules.unicode (record other { items = items }))) ≡ text_of (shaped rules (record other { items = items }))
-        of_items [] = refl
-        of_items (item ∷ items) = sym (chars-mapped (normalized rules (prepared rules.unicode (record other { items = item ∷ items }))).items)
-
-    -- what a run hands out for a text that isn't empty
-    pub ShapesCanonically-run : (old new : Buffer) → new ≡ glyphs_mapped (normalized rules (prepared rules.unicode old)) → ShapesCanonically rules old new
-    ShapesCanonically-run old new is =
-        let text : text_of new ≡ run_text old = text_of-run old new is in
-        record {
-          equivalent = λ premises short. rw text (subst (λ l. AreEquivalent rules l (run_text old)) (text_of-prepared old) (normalized_is_equivalent (prepared rules.unicode old) (run_premises old premises) short));
-          canonical = λ leaves premises canonical. rw text (normalized_is_canonical (prepared rules.unicode old) leaves (run_canonical_premises old premises canonical));
-          recomposed = λ composes premises canonical.
-              rw text (subst (λ l. IsRecomposedForm rules l (run_text old)) (text_of-prepared old) (normalized_is_recomposed_form (prepared rules.unicode old) composes (run_canonical_premises old premises canonical)));
-          decides = λ other of_old canonical_old of_other canonical_other.
-              rw (text, text_of-shaped other canonical_other, ← text_of-prepared old, ← text_of-prepared other)
-              (normalized_decides (prepared rules.unicode old) (prepared rules.unicode other) (run_canonical_premises old of_old canonical_old) (run_canonical_premises other of_other canonical_other));
-          by_characters = λ other no_selector no_reordering same. text ∙ run_by_characters old other no_selector no_reordering same;
-          cuts = λ front back premises.
-              text ∙ normalized_cuts rules lawful (prepared rules.unicode old) (prepared rules.unicode front) (prepared rules.unicode back) premises
-              ∙ sym (ap₂ ◌++◌ (text_of-part front premises.front_marked) (text_of-part back premises.back_marked));
-        }
-
-    -- and for an empty one
-    pub ShapesCanonically-none : (old new : Buffer) → length old.items ≡ 0 → new.items ≡ old.items → ShapesCanonically rules old new
-    ShapesCanonically-none old new none same =
-        let unmarked : (premises : CanonicalTextPremises rules (text_of old)) → ⊥ = λ premises. let some : 0 < length old.items = some_item old.items premises.marked in absurd (omega arith) in
-        record {
-          equivalent = λ premises short. no_swap (ap (λ items. full_text rules.split rules.height (map char_of items)) (sym same));
-          canonical = λ leaves premises canonical. absurd (unmarked canonical);
-          recomposed = λ composes premises canonical. absurd (unmarked canonical);
-          decides = λ other of_old canonical_old of_other canonical_other. absurd (unmarked canonical_old);
-          by_characters = λ other no_selector no_reordering text.
-              let gone : length other.items ≡ 0 = sym (length-map other.items char_of) ∙ ap length (sym text) ∙ length-map old.items char_of ∙ none in
-              ap (map char_of) same ∙ text ∙ sym (text_of-empty other other.items gone);
-          cuts = λ front back premises.
-              let some = some_marked front.items premises.front_marked in
-              let sum = ap length premises.parts ∙ length-append (text_of (prepared rules.unicode front)) (text_of (prepared rules.unicode back)) in
-              let whole = length-map (prepared rules.unicode old).items char_of ∙ length-map old.items (with_unicode_props rules.unicode) in
-              let part = length-map (prepared rules.unicode front).items char_of ∙ length-map front.items (with_unicode_props rules.unicode) in
-              absurd (omega (arith, none, some, sum, whole, part));
-        }

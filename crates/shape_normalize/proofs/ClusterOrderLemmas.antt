@@ -9,8 +9,6 @@ use Rattle.shape_buffer.specs.Clusters.{clusters}
 use Rattle.shape_buffer.specs.ClusterOrder.{KeepsClusters, IsMonotoneLevel}
 use Rattle.shape_buffer.specs.Keepers.{IsClusterKeeper}
 use Rattle.shape_buffer.specs.Items.{Item, is_mark_item}
-use Rattle.shape_buffer.specs.Unicode.{UnicodeMeaning}
-use Rattle.shape_buffer.specs.UnicodeProps.{with_unicode_props}
 use Rattle.shape_buffer.specs.declared.buffer.settings.GlyphId.{GlyphId}
 use Rattle.shape_buffer.proofs.DeleteKeeps.{merged_keeps}
 use Rattle.canonical_form.proofs.DividedLemmas.{values-divided}
@@ -22,8 +20,6 @@ use Rattle.std.proofs.lemmas.List.Elements.{recursion_from_All}
 use Rattle.shape_normalize.specs.RoundOne.{part_item, whole_item, expansion_of, expanded_item, passed_item, marked_selector, variant_items, variants, is_selector_item, is_selector_sequence, is_with_marks, pairs_from, merged_at, pairs_merged, sequences, sequence_items, expanded, round_one}
 use Rattle.shape_normalize.specs.RoundTwo.{joiners_settled}
 use Rattle.shape_normalize.specs.Normalized.{normalized, HookKeepsClusters}
-use Rattle.shape_normalize.specs.Steps.{with_mapped_glyph, glyphs_mapped}
-use Rattle.shape_normalize.specs.Shaped.{prepared}
 use Rattle.shape_normalize.proofs.DrawnLemmas.{DrawsBefore, DrawsBefore-same, draws_whole, draws_pieces}
 use Rattle.shape_normalize.proofs.JoinerLemmas.{keys-joiners_settled}
 use Rattle.shape_normalize.proofs.NormalizedLemmas.{kept_by_rounds}
@@ -130,19 +126,3 @@ module _ (rules : Rules) (lawful : LawfulReorder rules.reorder) where
         flags = ap (λ (c : Buffer). c.flags) same;
         level = ap (λ (c : Buffer). c.cluster_level) same;
       }
-
-  -- and so does a run
-  pub run_keeps : (old new : Buffer) → new ≡ glyphs_mapped (normalized rules (prepared rules.unicode old)) → IsMonotoneLevel old.cluster_level → HookKeepsClusters rules → KeepsClusters (clusters old.items) (clusters new.items)
-  run_keeps old new is monotone hook =
-      let text = prepared rules.unicode old in
-      let before : clusters text.items ≡ clusters old.items = clusters-with_props rules.unicode old.items in
-      let after : clusters new.items ≡ clusters (normalized rules text).items = ap (λ (b : Buffer). clusters b.items) is ∙ clusters-mapped (normalized rules text).items in
-      rw (after, ← before) (normalized_keeps text (normalized rules text) refl monotone hook)
-    where
-      clusters-mapped : (items : List Item) → clusters (map with_mapped_glyph items) ≡ clusters items
-      clusters-mapped [] = refl
-      clusters-mapped (item ∷ items) = ap (λ l. item.cluster ∷ l) (clusters-mapped items)
-
-      clusters-with_props : (unicode : UnicodeMeaning) (items : List Item) → clusters (map (with_unicode_props unicode) items) ≡ clusters items
-      clusters-with_props unicode [] = refl
-      clusters-with_props unicode (item ∷ items) = ap (λ l. item.cluster ∷ l) (clusters-with_props unicode items)

@@ -1,14 +1,12 @@
 -- Normalising keeps feature bits: each item of the normalised list has those of an item of the text.
-use Rattle.std.proofs.Common.{◌≡◌, ℕ, zero, suc, List, [], ◌∷◌, map, get_or, Option, None, Some, refl, sym, ap, subst, ◌∙◌}
-use Rattle.std.specs.List.{All, AllByRecursion, Contains}
+use Rattle.std.proofs.Common.{◌≡◌, ℕ, zero, suc, List, [], ◌∷◌, map, get_or, Option, None, Some, refl, sym, subst, ◌∙◌}
+use Rattle.std.specs.List.{AllByRecursion, Contains}
 use Rattle.std.specs.Option.{option_map_or}
-use Rattle.std.proofs.lemmas.List.Elements.{All-map, All-from_recursion, recursion_from_All, All-contains_itself}
+use Rattle.std.proofs.lemmas.List.Elements.{All-from_recursion, recursion_from_All, All-contains_itself}
 use Rattle.std.proofs.lemmas.Nat.{and_assoc, and_or_apart}
 use Rattle.shape_buffer.specs.Buffer.{Buffer}
 use Rattle.shape_buffer.specs.BufferClusters.{merge_at, merge_out_clusters}
 use Rattle.shape_buffer.specs.Items.{Item}
-use Rattle.shape_buffer.specs.Unicode.{UnicodeMeaning}
-use Rattle.shape_buffer.specs.UnicodeProps.{with_unicode_props}
 use Rattle.shape_buffer.specs.declared.buffer.settings.BufferClusterLevel.{BufferClusterLevel}
 use Rattle.shape_buffer.specs.declared.buffer.settings.BufferClusterLevel.TheVariants.{MonotoneGraphemes, MonotoneCharacters, Characters}
 use Rattle.shape_buffer.specs.declared.buffer.settings.GlyphId.{GlyphId}
@@ -18,8 +16,6 @@ use Rattle.shape_normalize.specs.RoundOne.{part_item, whole_item, expansion_of, 
 use Rattle.shape_normalize.specs.RoundThree.{Placed, recomposed_items, joined_spans, spans_merged_out, with_cluster_at, round_three}
 use Rattle.shape_normalize.specs.RoundTwo.{marks_ordered, joiners_settled}
 use Rattle.shape_plan.specs.Rules.{Rules}
-use Rattle.shape_normalize.specs.Shaped.{prepared}
-use Rattle.shape_normalize.specs.Steps.{with_mapped_glyph, glyphs_mapped}
 use Rattle.shape_normalize.proofs.JoinerLemmas.{keys-joiners_settled}
 use Rattle.shape_normalize.proofs.NormalizedLemmas.{kept_by_rounds}
 use Rattle.shape_normalize.proofs.RecomposedItemLemmas.{each_recomposed}
@@ -111,18 +107,3 @@ normalized_keeps_features rules lawful b new is =
     rw is (All-from_recursion (λ item. Contains those (features_of item)) all
     (normalized_has rules (Contains those) lawful b
     (each_of_values features_of (Contains those) b.items (recursion_from_All (Contains those) those (All-contains_itself those)))))
-
--- ---- the run
-
-features-with_props : (unicode : UnicodeMeaning) (items : List Item) → map features_of (map (with_unicode_props unicode) items) ≡ map features_of items
-features-with_props unicode [] = refl
-features-with_props unicode (item ∷ items) = ap (λ rest. features_of item ∷ rest) (features-with_props unicode items)
-
--- and so has each item that a run hands out
-pub run_keeps_features : (rules : Rules) → LawfulReorder rules.reorder → (b glyphs : Buffer) → glyphs ≡ glyphs_mapped (normalized rules (prepared rules.unicode b)) → KeepsFeatures b glyphs
-run_keeps_features rules lawful b glyphs is =
-    let text = prepared rules.unicode b in
-    let all : List Item = (normalized rules text).items in
-    let has = normalized_keeps_features rules lawful text (normalized rules text) refl in
-    rw is (subst (λ (those : List ℕ). All (λ (item : Item). Contains those (features_of item)) (map with_mapped_glyph all)) (features-with_props rules.unicode b.items)
-    (All-map (λ item. Contains (map features_of text.items) (features_of item)) with_mapped_glyph all (λ k d within. has k d within)))

@@ -3,7 +3,7 @@ use Rattle.std.proofs.Common.{◌≡◌, ◌⊎◌, ℕ, Bool, true, false, List
 use Rattle.std.specs.List.{All, AllByRecursion, Contains, flat_map, filter}
 use Rattle.std.specs.Option.{option_map, option_map_or}
 use Rattle.std.proofs.lemmas.Bool.{cases_Bool}
-use Rattle.std.proofs.lemmas.List.Elements.{All-map, All-from_recursion, recursion_from_All, All-contains_itself}
+use Rattle.std.proofs.lemmas.List.Elements.{All-from_recursion, recursion_from_All, All-contains_itself}
 use Rattle.std.proofs.lemmas.List.Sums.{AllPass-from_list_all}
 use Rattle.shape_buffer.specs.Items.{Item}
 use Rattle.shape_buffer.specs.Buffer.{Buffer}
@@ -13,8 +13,6 @@ use Rattle.canonical_form.proofs.EveryLemmas.{append_all}
 use Rattle.shape_plan.specs.Rules.{Rules, has_glyph}
 use Rattle.shape_normalize.specs.RoundOne.{item_glyph, remembers_space, part_item, whole_item, expanded_item, expansion_of, sequences, is_selector_sequence, is_with_marks, pairs_merged, sequence_items, round_one}
 use Rattle.shape_normalize.specs.Normalized.{normalized, content, selector_items, HasItemGlyph}
-use Rattle.shape_normalize.specs.Steps.{with_mapped_glyph, glyphs_mapped}
-use Rattle.shape_normalize.specs.Shaped.{prepared, IsHandedOut}
 use Rattle.shape_normalize.proofs.NormalizedLemmas.{normalized_all}
 use Rattle.shape_normalize.proofs.ReorderLemmas.{LawfulReorder}
 use Rattle.shape_normalize.proofs.SequenceLemmas.{each_of_values, each_weaker}
@@ -102,10 +100,3 @@ module _ (rules : Rules) where
     normalized_has_glyphs b new is =
         rw is (All-from_recursion (HasItemGlyph rules b) (normalized rules b).items
         (normalized_all rules lawful (λ kept. (kept.glyph_index ≡ item_glyph rules b.invisible_glyph kept) ⊎ Contains (map (content rules) (selector_items rules b)) kept) (λ item c has. inl (part_has_glyph rules b.invisible_glyph b.not_found_variation_selector_glyph item c has)) b (round_one_has_glyphs b)))
-
-    -- and what a run hands out has it as its glyph
-    pub run_has_glyphs : (b glyphs : Buffer) → glyphs ≡ glyphs_mapped (normalized rules (prepared rules.unicode b)) → All (IsHandedOut rules b) glyphs.items
-    run_has_glyphs b glyphs is =
-        let text = prepared rules.unicode b in
-        let has = normalized_has_glyphs text (normalized rules text) refl in
-        rw is (All-map (IsHandedOut rules b) with_mapped_glyph (normalized rules text).items (λ k d within. (refl, has k d within)))

@@ -1,5 +1,5 @@
 -- What a normalised list has of the list that it was made of.
-use Rattle.std.proofs.Common.{◌≡◌, ℕ, ◌<◌, ◌≤◌, ◌⊎◌, ◌==◌, ◌&&◌, Result, Ok, Err, OnOk, Bool, true, false, if◌then◌else◌, List, [], ◌∷◌, length, map, bit_and, Option, None, refl, sym, subst, ◌∙◌, ap, arith, inl, inr}
+use Rattle.std.proofs.Common.{◌≡◌, ℕ, ◌≤◌, ◌⊎◌, ◌==◌, ◌&&◌, Result, Ok, Err, OnOk, Bool, true, false, if◌then◌else◌, List, [], ◌∷◌, length, map, bit_and, Option, None, refl, sym, subst, ◌∙◌, ap, arith, inl, inr}
 use Rattle.std.specs.List.{AllByRecursion, Contains}
 use Rattle.std.proofs.lemmas.Bool.{cases_Bool, cond-true, cond-false, and_right}
 use Rattle.std.proofs.lemmas.List.{length-map}
@@ -7,16 +7,12 @@ use Rattle.std.proofs.lemmas.List.Elements.{All-from_recursion, recursion_from_A
 use Rattle.shape_buffer.specs.Items.{Item, char_of, class_of_item}
 use Rattle.shape_buffer.specs.Buffer.{Buffer}
 use Rattle.shape_buffer.specs.declared.buffer.positions.GlyphPosition.{GlyphPosition}
-use Rattle.shape_buffer.specs.Unicode.{UnicodeMeaning}
-use Rattle.shape_buffer.specs.UnicodeProps.{with_unicode_props}
 use Rattle.shape_buffer.proofs.KeyLemmas.{IsKey, IsKey-unflagged}
 use Rattle.shape_plan.specs.Rules.{Rules, has_glyph}
 use Rattle.shape_normalize.specs.RoundOne.{round_one, part_item}
 use Rattle.shape_normalize.specs.RoundTwo.{has_mark_past_first, marks_ordered, shown, joiners_settled, without_place, OrdersMarks}
 use Rattle.shape_normalize.specs.RoundThree.{round_three}
 use Rattle.shape_normalize.specs.Normalized.{ordered, normalized, content, BroughtInHaveGlyphs, OrdersExpanded}
-use Rattle.shape_normalize.specs.Steps.{with_mapped_glyph, glyphs_mapped}
-use Rattle.shape_normalize.specs.Shaped.{prepared, shaped}
 use Rattle.shape_normalize.proofs.JoinerLemmas.{keys-joiners_settled, chars-joiners_settled}
 use Rattle.shape_normalize.proofs.OrderedLemmas.{marks_ordered_settles}
 use Rattle.shape_normalize.proofs.RecomposedItemLemmas.{round_three_all, length-round_three}
@@ -143,29 +139,3 @@ module _ (rules : Rules) where
   -- an empty buffer is normalised
   pub empty_is_normalized : (b : Buffer) → length b.items ≡ 0 → length b.positions ≡ 0 → b ≡ normalized rules b
   empty_is_normalized b none as_many = same_when_empty b b.items b.positions none as_many
-
--- ---- the run
-
-shaped_from : (rules : Rules) (b : Buffer) (items : List Item) → 0 < length items → glyphs_mapped (normalized rules (prepared rules.unicode (record b { items = items }))) ≡ shaped rules (record b { items = items })
-shaped_from rules b [] any = absurd (omega arith)
-shaped_from rules b (x ∷ xs) any = refl
-
--- of a text that isn't empty a run makes what its steps make
-pub shaped_of_any : (rules : Rules) (b : Buffer) → 0 < length b.items → glyphs_mapped (normalized rules (prepared rules.unicode b)) ≡ shaped rules b
-shaped_of_any rules b any = shaped_from rules b b.items any
-
-pub chars-mapped : (items : List Item) → map char_of (map with_mapped_glyph items) ≡ map char_of items
-chars-mapped [] = refl
-chars-mapped (item ∷ items) = ap (λ rest. item.codepoint ∷ rest) (chars-mapped items)
-
-pub chars-with_props : (unicode : UnicodeMeaning) (items : List Item) → map char_of (map (with_unicode_props unicode) items) ≡ map char_of items
-chars-with_props unicode [] = refl
-chars-with_props unicode (item ∷ items) = ap (λ rest. item.codepoint ∷ rest) (chars-with_props unicode items)
-
--- every character that a run brings in has a glyph
-pub run_brings_in : (rules : Rules) → LawfulReorder rules.reorder → (b glyphs : Buffer) → glyphs ≡ glyphs_mapped (normalized rules (prepared rules.unicode b)) → BroughtInHaveGlyphs rules.face.nominal_glyph (map char_of b.items) (map char_of glyphs.items)
-run_brings_in rules lawful b glyphs is =
-    let text = prepared rules.unicode b in
-    let before : map char_of text.items ≡ map char_of b.items = chars-with_props rules.unicode b.items in
-    let after : map char_of glyphs.items ≡ map char_of (normalized rules text).items = ap (λ (g : Buffer). map char_of g.items) is ∙ chars-mapped (normalized rules text).items in
-    rw (after, ← before) (normalized_brings_in rules lawful text (normalized rules text) refl)

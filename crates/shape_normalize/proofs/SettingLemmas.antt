@@ -3,7 +3,7 @@ use Rattle.std.proofs.Common.{◌≡◌, ◌≤◌, ◌==◌, Bool, true, false,
 use Rattle.shape_buffer.specs.Buffer.{Buffer, limit_of}
 use Rattle.shape_plan.specs.Rules.{Rules}
 use Rattle.shape_normalize.specs.RoundOne.{sequences, pairs_from, round_one}
-use Rattle.shape_normalize.specs.RoundThree.{round_three, joined_spans, recomposed_items}
+use Rattle.shape_normalize.specs.RoundThree.{joined_spans, recomposed_items}
 use Rattle.shape_normalize.specs.RoundTwo.{marks_ordered, joiners_settled, joiners_shown, has_mark_past_first}
 use Rattle.shape_normalize.specs.Normalized.{normalized, ordered}
 use Rattle.shape_normalize.proofs.NormalizedLemmas.{length-ordered, kept_by_rounds}

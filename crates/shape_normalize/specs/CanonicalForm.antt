@@ -15,7 +15,6 @@ use Rattle.shape_normalize.specs.Prepared.{IsPrepared}
 use Rattle.shape_normalize.specs.RoundOne.{round_one}
 use Rattle.shape_normalize.specs.RoundTwo.{max_run, has_mark_past_first}
 use Rattle.shape_plan.specs.Rules.{Rules, has_glyph}
-use Rattle.shape_normalize.specs.Shaped.{prepared, shaped}
 
 -- the characters of a buffer
 abbrev pub text_of : Buffer → List ℕ
@@ -103,14 +102,3 @@ pub record NormalizesCanonically (rules : Rules) (old new : Buffer) : Type 0 whe
   pub decides : (other : Buffer) → CanonicalFormPremises rules old → CanonicalFormPremises rules other → (text_of new ≡ text_of (normalized rules other)) ↔ AreEquivalent rules (text_of old) (text_of other)
   pub by_characters : (other : Buffer) → PlainPremises rules old → PlainPremises rules other → text_of old ≡ text_of other → text_of new ≡ text_of (normalized rules other)
   pub cuts : (front back : Buffer) → CutPremises rules old front back → text_of new ≡ text_of (normalized rules front) ++ text_of (normalized rules back)
-
--- shaping does so too, and prepares its items itself
-pub record ShapesCanonically (rules : Rules) (old new : Buffer) : Type 0 where
-  pub equivalent : TextPremises rules (text_of old) → ComposesShortRuns rules (round_one rules (prepared rules.unicode old)) → AreEquivalent rules (text_of old) (text_of new)
-  pub canonical : rules.recomposes ≡ false → TextPremises rules (text_of old) → CanonicalTextPremises rules (text_of old) → HasCanonicalForm rules (text_of new)
-  pub recomposed : rules.recomposes ≡ true → TextPremises rules (text_of old) → CanonicalTextPremises rules (text_of old) → IsRecomposedForm rules (text_of old) (text_of new)
-  pub decides : (other : Buffer) → TextPremises rules (text_of old) → CanonicalTextPremises rules (text_of old) → TextPremises rules (text_of other) → CanonicalTextPremises rules (text_of other)
-      → (text_of new ≡ text_of (shaped rules other)) ↔ AreEquivalent rules (text_of old) (text_of other)
-  pub by_characters : (other : Buffer) → HasNoSelector rules (text_of old) → rules.reorder ≡ None → text_of old ≡ text_of other → text_of new ≡ text_of (shaped rules other)
-  -- as the run prepares the text and its parts
-  pub cuts : (front back : Buffer) → CutPremises rules (prepared rules.unicode old) (prepared rules.unicode front) (prepared rules.unicode back) → text_of new ≡ text_of (shaped rules front) ++ text_of (shaped rules back)

@@ -5,8 +5,6 @@ pub mod RoundThree
 pub mod Normalized
 pub mod Prepared
 pub mod CanonicalForm
-pub mod Steps
-pub mod Shaped
 pub mod WorkedWorld
 pub mod WorkedOne
 pub mod WorkedTwo
