@@ -1,3 +1,4 @@
 mod CanonicalLemmas
 mod LastStepLemmas
+mod OrderLemmas
 mod TableLemmas

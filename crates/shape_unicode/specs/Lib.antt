@@ -18,3 +18,4 @@ pub mod FormLaws
 pub mod Laws
 pub mod Canonical
 pub mod OfDatabase
+pub mod MarkOrder

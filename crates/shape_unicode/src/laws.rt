@@ -4,6 +4,7 @@
 //! They tie the small tables to the character database, for every character, so that a wrong entry is
 //! refused and not only tested for.
 ghost use Rattle.shape_unicode.specs.Canonical.{EquivalenceIsCanonical};
+ghost use Rattle.shape_unicode.specs.MarkOrder.{MarksAreInOrder};
 ghost use Rattle.shape_unicode.specs.OfDatabase.{MirrorsAreMutual, VerticalsAreMapped, VerticalsAreAll, SpacesAreSeparators};
 
 /// Equivalence by shaping's classes is canonical equivalence (The Unicode Standard, D70; UAX 15) for texts
@@ -11,6 +12,12 @@ ghost use Rattle.shape_unicode.specs.OfDatabase.{MirrorsAreMutual, VerticalsAreM
 /// of their own.
 pub fn equivalence_is_canonical()
     ensures { EquivalenceIsCanonical }
+{}
+
+/// Marks of Hebrew, Arabic, Telugu, Thai and Tibetan have classes in the order that fonts of these scripts
+/// expect (HarfBuzz, `hb-unicode.hh`), said by the marks; U+0FC6 and U+1A60 come behind every other mark.
+pub fn marks_are_in_order()
+    ensures { MarksAreInOrder }
 {}
 
 /// A mirror image has the property Bidi_Mirrored, and is mirrored back (UAX 9).
