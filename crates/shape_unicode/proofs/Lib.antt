@@ -1,3 +1,4 @@
+mod BracketLemmas
 mod CanonicalLemmas
 mod LastStepLemmas
 mod OrderLemmas

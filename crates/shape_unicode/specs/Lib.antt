@@ -19,3 +19,4 @@ pub mod Laws
 pub mod Canonical
 pub mod OfDatabase
 pub mod MarkOrder
+pub mod Brackets
