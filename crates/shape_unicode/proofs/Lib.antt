@@ -1,3 +1,5 @@
+mod BracketLemmas
 mod CanonicalLemmas
 mod LastStepLemmas
+mod OrderLemmas
 mod TableLemmas

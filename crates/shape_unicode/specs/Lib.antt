@@ -18,3 +18,5 @@ pub mod FormLaws
 pub mod Laws
 pub mod Canonical
 pub mod OfDatabase
+pub mod MarkOrder
+pub mod Brackets

@@ -3,7 +3,9 @@
 //!
 //! They tie the small tables to the character database, for every character, so that a wrong entry is
 //! refused and not only tested for.
+ghost use Rattle.shape_unicode.specs.Brackets.{BracketsTurn};
 ghost use Rattle.shape_unicode.specs.Canonical.{EquivalenceIsCanonical};
+ghost use Rattle.shape_unicode.specs.MarkOrder.{MarksAreInOrder};
 ghost use Rattle.shape_unicode.specs.OfDatabase.{MirrorsAreMutual, VerticalsAreMapped, VerticalsAreAll, SpacesAreSeparators};
 
 /// Equivalence by shaping's classes is canonical equivalence (The Unicode Standard, D70; UAX 15) for texts
@@ -13,9 +15,22 @@ pub fn equivalence_is_canonical()
     ensures { EquivalenceIsCanonical }
 {}
 
+/// Marks of Hebrew, Arabic, Telugu, Thai and Tibetan have classes in the order that fonts of these scripts
+/// expect (HarfBuzz, `hb-unicode.hh`), said by the marks; U+0FC6 and U+1A60 come behind every other mark.
+pub fn marks_are_in_order()
+    ensures { MarksAreInOrder }
+{}
+
 /// A mirror image has the property Bidi_Mirrored, and is mirrored back (UAX 9).
 pub fn mirrors_are_mutual()
     ensures { MirrorsAreMutual }
+{}
+
+/// Each bracket and quotation mark with the property Bidi_Mirrored has a mirror image: an opening one has a
+/// closing one, and the other way round (UAX 9; General_Category Ps, Pe, Pi and Pf). U+2E62 and U+2E63 are
+/// newer than the pairs, and have none.
+pub fn brackets_turn()
+    ensures { BracketsTurn }
 {}
 
 /// Vertical forms are those of the database: the mapping of a form has the tag `<vertical>`, and names the
