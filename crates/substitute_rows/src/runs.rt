@@ -99,23 +99,25 @@ where
     Ok(plan)
 }
 
-/// A text prepared and normalised by a plan.
-fn normalised<'a, S>(
+/// A text prepared, then normalised.
+fn normalised<S>(
     alloc: Global,
-    face: &'a RuleFace,
-    plan: &'a hb_ot_shape_plan_t<'a, S, RuleMap, ()>,
+    face: &RuleFace,
+    shaper: &S,
+    features: &[Feature],
     text: UnicodeBuffer,
 ) -> Result<hb_buffer_t, Fail>
 where
     S: hb_ot_shaper_t<DigitUnicode, RuleFace, RuleLayout, Data = ()>,
 {
+    let plan = planned(alloc, face, shaper, features, &text)?;
     let mut buffer = text.into_inner();
     let target_direction = buffer.direction();
     if target_direction == Direction::Invalid {
         return Err(Fail::from("no direction"));
     }
     let mut ctx = hb_ot_shape_context_t {
-        plan,
+        plan: &plan,
         face,
         buffer: &mut buffer,
         target_direction,
@@ -123,7 +125,7 @@ where
     prepare_text::<DigitUnicode, RuleFace, RuleLayout, S>(alloc, &mut ctx)?;
     _hb_ot_shape_normalize::<DigitUnicode, RuleFace, RuleLayout, S>(
         alloc,
-        plan,
+        &plan,
         &mut buffer,
         face,
     )?;
@@ -142,7 +144,7 @@ where
     S: hb_ot_shaper_t<DigitUnicode, RuleFace, RuleLayout, Data = ()>,
 {
     let plan = planned(alloc, face, shaper, features, &text)?;
-    let mut buffer = normalised(alloc, face, &plan, text)?;
+    let mut buffer = normalised(alloc, face, shaper, features, text)?;
     if buffer.length_limit() < buffer.len() {
         return Err(Fail::from("past the limit"));
     }
