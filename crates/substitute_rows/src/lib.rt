@@ -3,4 +3,20 @@
 #![tactic(auto)]
 #![allow(non_camel_case_types)]
 
+#[cfg(test)]
+mod classes;
+#[cfg(test)]
+mod fractions;
+#[cfg(test)]
+mod lengths;
+#[cfg(test)]
+mod morx;
+#[cfg(test)]
+mod ranges;
+#[cfg(test)]
+mod refusals;
+#[cfg(test)]
+mod runs;
+#[cfg(test)]
+mod stages;
 mod support;

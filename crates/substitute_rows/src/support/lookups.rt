@@ -60,11 +60,7 @@ fn append(
 }
 
 /// Puts two glyphs in place of each that the rule takes.
-fn multiply(
-    alloc: Global,
-    rule: &Multiple,
-    buffer: &mut hb_buffer_t,
-) -> Result<(), ShapeError>
+fn multiply(alloc: Global, rule: &Multiple, buffer: &mut hb_buffer_t) -> Result<(), ShapeError>
     requires { IsWithinLimit buffer.old }
     ensures { Outcome (step (multiplied rule.now)) buffer.old buffer.new result }
 {

@@ -51,7 +51,11 @@ fn with_class(info: &hb_glyph_info_t) -> hb_glyph_info_t
     ensures { result ≡ with_class_of_face info.now }
 {
     let mut info = *info;
-    let class = if info.glyph_id == 9 { GlyphPropsFlags::MARK } else { GlyphPropsFlags::BASE_GLYPH };
+    let class = if info.glyph_id == 9 {
+        GlyphPropsFlags::MARK
+    } else {
+        GlyphPropsFlags::BASE_GLYPH
+    };
     info._hb_glyph_info_set_glyph_class(class);
     info
 }

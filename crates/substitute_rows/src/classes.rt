@@ -1,0 +1,82 @@
+//! Classes of glyphs: 8 is a mark, 2 a base. The face's are that glyph 9 is a mark and all others are bases.
+
+use crate::runs::{FORWARD, planned, shaped, text_of};
+use crate::support::{DigitUnicode, RuleFace, RuleLayout};
+use shape_buffer::buffer::{hb_buffer_t, hb_glyph_info_t, hb_unicode_general_category_t};
+use shape_pipeline::ot_shaper::{DEFAULT_SHAPER, hb_default_shaper_t};
+use shape_substitute::glyphs::setup_glyphs;
+use std::alloc::Global;
+use std::process::Abort;
+use std::test::Fail;
+
+fn assert_classes(rt: &impl Abort, infos: &[hb_glyph_info_t], classes: &[u32]) {
+    assert_eq!(rt; infos.len(), classes.len());
+    for (info, class) in infos.iter().zip(classes) {
+        assert_eq!(rt; u32::from(info._hb_glyph_info_get_glyph_class().0), *class);
+    }
+}
+
+#[test]
+fn classes_are_made_up_for_a_face_without(rt: HostRuntime) -> Result<(), Fail> {
+    let alloc = rt.alloc();
+    // a tab, a letter, a mark, and a mark that is ignorable
+    for (classes, want) in [(false, [2, 2, 8, 2]), (true, [8, 2, 2, 2])] {
+        let face = RuleFace {
+            classes,
+            ..RuleFace::of(&[])
+        };
+        let text = text_of(alloc, FORWARD, "\u{9}a\u{301}\u{34F}")?;
+        let glyphs = shaped(alloc, &face, &DEFAULT_SHAPER, &[], text)?;
+        assert_classes(&rt, glyphs.glyph_infos(), &want);
+    }
+    Ok(())
+}
+
+/// Two marks that are ignorable, of which a lookup has replaced the second one, with the glyph of index 9.
+fn replaced(alloc: Global) -> Result<hb_buffer_t, Fail> {
+    let mut infos: Vec<hb_glyph_info_t> = Vec::new(alloc);
+    for substituted in [false, true] {
+        let mut info = hb_glyph_info_t::new('\u{34F}', 0);
+        info.glyph_index = 9;
+        info._hb_glyph_info_set_general_category(hb_unicode_general_category_t::NonspacingMark);
+        info._hb_glyph_info_set_ignorable(true);
+        info._hb_glyph_info_set_substituted(substituted);
+        info._hb_glyph_info_set_ligated(substituted);
+        infos.push(info)?;
+    }
+    let mut buffer = text_of(alloc, FORWARD, "")?.into_inner();
+    buffer.replace_infos(infos)?;
+    Ok(buffer)
+}
+
+#[test]
+fn made_up_glyphs_are_as_no_lookup_made_them(rt: HostRuntime) -> Result<(), Fail> {
+    let alloc = rt.alloc();
+    for (classes, want) in [(false, [2, 8]), (true, [8, 8])] {
+        let face = RuleFace {
+            classes,
+            ..RuleFace::of(&[])
+        };
+        let text = text_of(alloc, FORWARD, "a")?;
+        let plan = planned(alloc, &face, &DEFAULT_SHAPER, &[], &text)?;
+        let mut buffer = replaced(alloc)?;
+        if buffer.length_limit() < buffer.len() {
+            return Err(Fail::from("past the limit"));
+        }
+        setup_glyphs::<DigitUnicode, RuleFace, RuleLayout, hb_default_shaper_t>(
+            &plan,
+            &face,
+            &mut buffer,
+        );
+        assert_classes(&rt, buffer.infos(), &want);
+        for (info, substituted) in buffer.infos().iter().zip([false, true]) {
+            assert_eq!(rt; info.glyph_id, 9);
+            assert_eq!(rt;
+                info._hb_glyph_info_get_substituted(),
+                classes && substituted
+            );
+            assert_eq!(rt; info._hb_glyph_info_get_ligated(), classes && substituted);
+        }
+    }
+    Ok(())
+}
