@@ -56,13 +56,19 @@ without_second false false run other f g isnt = refl
 without_second false true run other f g isnt = absurd (Prim.search rules)
 
 no_gpos-runs : (run : Run) → runs_gpos run.decisions ≡ false → RunsWithoutGpos run
-no_gpos-runs run isnt gpos =
-    without_first run.decisions.apply_gpos run.decisions.apply_kerx run gpos run.lookups.position (kerx_of run) isnt
+no_gpos-runs run isnt gpos = record {
+  advances = refl;
+  tables = without_first run.decisions.apply_gpos run.decisions.apply_kerx run gpos run.lookups.position (kerx_of run) isnt;
+  finish = refl;
+}
 
 no_kerx-runs : (run : Run) → runs_kerx run.decisions ≡ false → RunsWithoutKerx run
 no_kerx-runs run isnt kerx =
-    let other = kerx run.decisions.kern_mask in
-    without_second run.decisions.apply_gpos run.decisions.apply_kerx run other run.lookups.position (kerx_of run) isnt
+    let other = kerx run.decisions.kern_mask in record {
+      advances = refl;
+      tables = without_second run.decisions.apply_gpos run.decisions.apply_kerx run other run.lookups.position (kerx_of run) isnt;
+      finish = refl;
+    }
 
 -- where GPOS runs kerx does not
 second_waits : (first second : Bool) → first ≡ true → (not first && second) ≡ false
