@@ -1,5 +1,6 @@
 -- Which of GPOS and kerx is among the steps that position by tables.
-use Rattle.std.proofs.Common.{rules, ◌≡◌, ◌⊎◌, Bool, true, false, not, ◌&&◌, if◌then◌else◌, List, [], ◌∷◌, ◌++◌, refl, inl, inr}
+use Rattle.std.proofs.Common.{rules, ◌≡◌, ◌⊎◌, Bool, true, false, not, ◌&&◌, if◌then◌else◌, refl, inl, inr}
+use Rattle.std.proofs.Common.{List, [], ◌∷◌, ◌++◌}
 use Rattle.std.proofs.lemmas.Bool.{cases_Bool}
 use Rattle.std.specs.Prelude.{Contains}
 use Rattle.shape_buffer.specs.Buffer.{Buffer}
@@ -21,38 +22,53 @@ placed_by run table =
     ∷ step (zeroed_late run)
     ∷ []) ++ close_steps run
 
--- which table positions, where GPOS and kerx are applied or not
+-- which of two tables positions, where the first and the second are applied or not
 abbrev chosen : Bool → Bool → (Buffer → Buffer) → (Buffer → Buffer) → Buffer → Buffer
-chosen gpos kerx by_gpos by_kerx = if gpos then by_gpos else step_if kerx by_kerx
+chosen first second by_first by_second = if first then by_first else step_if second by_second
+
+-- what kerx does in a run
+abbrev kerx_of : Run → Buffer → Buffer
+kerx_of run = run.lookups.aat_position run.decisions.kern_mask
 
 in_place : (run : Run) (table : Buffer → Buffer) → Contains (placed_by run table) (step table)
 in_place run table = (2, Prim.search rules, refl)
 
-chosen_gpos : (gpos kerx : Bool) (run : Run) → gpos ≡ true → Contains (placed_by run (chosen gpos kerx run.lookups.position (run.lookups.aat_position run.decisions.kern_mask))) (step run.lookups.position)
-chosen_gpos true kerx run is = in_place run run.lookups.position
-chosen_gpos false kerx run is = absurd (Prim.search rules)
+contains_first : (first second : Bool) (run : Run) (f g : Buffer → Buffer) → first ≡ true
+    → Contains (placed_by run (chosen first second f g)) (step f)
+contains_first true second run f g is = in_place run f
+contains_first false second run f g is = absurd (Prim.search rules)
 
-chosen_kerx : (gpos kerx : Bool) (run : Run) → (not gpos && kerx) ≡ true → Contains (placed_by run (chosen gpos kerx run.lookups.position (run.lookups.aat_position run.decisions.kern_mask))) (step (run.lookups.aat_position run.decisions.kern_mask))
-chosen_kerx false true run is = in_place run (run.lookups.aat_position run.decisions.kern_mask)
-chosen_kerx false false run is = absurd (Prim.search rules)
-chosen_kerx true kerx run is = absurd (Prim.search rules)
+contains_second : (first second : Bool) (run : Run) (f g : Buffer → Buffer) → (not first && second) ≡ true
+    → Contains (placed_by run (chosen first second f g)) (step g)
+contains_second false true run f g is = in_place run g
+contains_second false false run f g is = absurd (Prim.search rules)
+contains_second true second run f g is = absurd (Prim.search rules)
 
-without_gpos : (gpos kerx : Bool) (run : Run) (other by_kerx : Buffer → Buffer) → gpos ≡ false → placed_by run (chosen gpos kerx other by_kerx) ≡ placed_by run (chosen gpos kerx run.lookups.position by_kerx)
-without_gpos false kerx run other by_kerx isnt = refl
-without_gpos true kerx run other by_kerx isnt = absurd (Prim.search rules)
+without_first : (first second : Bool) (run : Run) (other f g : Buffer → Buffer) → first ≡ false
+    → placed_by run (chosen first second other g) ≡ placed_by run (chosen first second f g)
+without_first false second run other f g isnt = refl
+without_first true second run other f g isnt = absurd (Prim.search rules)
 
-without_kerx : (gpos kerx : Bool) (run : Run) (other by_kerx : Buffer → Buffer) → (not gpos && kerx) ≡ false → placed_by run (chosen gpos kerx run.lookups.position other) ≡ placed_by run (chosen gpos kerx run.lookups.position by_kerx)
-without_kerx true kerx run other by_kerx isnt = refl
-without_kerx false false run other by_kerx isnt = refl
-without_kerx false true run other by_kerx isnt = absurd (Prim.search rules)
+without_second : (first second : Bool) (run : Run) (other f g : Buffer → Buffer) → (not first && second) ≡ false
+    → placed_by run (chosen first second f other) ≡ placed_by run (chosen first second f g)
+without_second true second run other f g isnt = refl
+without_second false false run other f g isnt = refl
+without_second false true run other f g isnt = absurd (Prim.search rules)
 
 no_gpos-runs : (run : Run) → runs_gpos run.decisions ≡ false → RunsWithoutGpos run
-no_gpos-runs run isnt gpos =
-    without_gpos run.decisions.apply_gpos run.decisions.apply_kerx run gpos (run.lookups.aat_position run.decisions.kern_mask) isnt
+no_gpos-runs run isnt gpos = record {
+  advances = refl;
+  tables = without_first run.decisions.apply_gpos run.decisions.apply_kerx run gpos run.lookups.position (kerx_of run) isnt;
+  finish = refl;
+}
 
 no_kerx-runs : (run : Run) → runs_kerx run.decisions ≡ false → RunsWithoutKerx run
 no_kerx-runs run isnt kerx =
-    without_kerx run.decisions.apply_gpos run.decisions.apply_kerx run (kerx run.decisions.kern_mask) (run.lookups.aat_position run.decisions.kern_mask) isnt
+    let other = kerx run.decisions.kern_mask in record {
+      advances = refl;
+      tables = without_second run.decisions.apply_gpos run.decisions.apply_kerx run other run.lookups.position (kerx_of run) isnt;
+      finish = refl;
+    }
 
 -- where GPOS runs kerx does not
 second_waits : (first second : Bool) → first ≡ true → (not first && second) ≡ false
@@ -67,9 +83,9 @@ never_both-runs run = elim (cases_Bool (runs_gpos run.decisions)) [
 
 pub each_runs_one_table : EachRunsOneTable
 each_runs_one_table run = record {
-  gpos = λ is. chosen_gpos run.decisions.apply_gpos run.decisions.apply_kerx run is;
-  kerx = λ is. chosen_kerx run.decisions.apply_gpos run.decisions.apply_kerx run is;
-  no_gpos = λ isnt. no_gpos-runs run isnt;
-  no_kerx = λ isnt. no_kerx-runs run isnt;
+  gpos = λ is. contains_first run.decisions.apply_gpos run.decisions.apply_kerx run run.lookups.position (kerx_of run) is;
+  kerx = λ is. contains_second run.decisions.apply_gpos run.decisions.apply_kerx run run.lookups.position (kerx_of run) is;
+  no_gpos = no_gpos-runs run;
+  no_kerx = no_kerx-runs run;
   never_both = never_both-runs run;
 }

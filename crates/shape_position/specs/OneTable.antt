@@ -4,7 +4,7 @@ use Rattle.shape_buffer.specs.Buffer.{Buffer}
 use Rattle.shape_buffer.specs.Outcome.{step}
 use Rattle.shape_plan.specs.Decisions.{runs_gpos, runs_kerx}
 use Rattle.shape_plan.specs.Run.{Run}
-use Rattle.shape_position.specs.Steps.{table_steps}
+use Rattle.shape_position.specs.Steps.{advance_steps, table_steps, finish_steps}
 
 -- the run over another GPOS
 abbrev pub with_gpos : (Buffer → Buffer) → Run → Run
@@ -14,13 +14,19 @@ with_gpos gpos run = record run { lookups = record run.lookups { position = gpos
 abbrev pub with_kerx : (ℕ → Buffer → Buffer) → Run → Run
 with_kerx kerx run = record run { lookups = record run.lookups { aat_position = kerx } }
 
+-- two runs have the same steps, from positions to flags
+pub record HasSameSteps (other run : Run) : Type 0 where
+  pub advances : advance_steps other ≡ advance_steps run
+  pub tables : table_steps other ≡ table_steps run
+  pub finish : finish_steps other ≡ finish_steps run
+
 -- GPOS does not run: the steps are the same whatever it does
 abbrev pub RunsWithoutGpos : Run → Type 0
-RunsWithoutGpos run = (gpos : Buffer → Buffer) → table_steps (with_gpos gpos run) ≡ table_steps run
+RunsWithoutGpos run = (gpos : Buffer → Buffer) → HasSameSteps (with_gpos gpos run) run
 
 -- kerx does not run
 abbrev pub RunsWithoutKerx : Run → Type 0
-RunsWithoutKerx run = (kerx : ℕ → Buffer → Buffer) → table_steps (with_kerx kerx run) ≡ table_steps run
+RunsWithoutKerx run = (kerx : ℕ → Buffer → Buffer) → HasSameSteps (with_kerx kerx run) run
 
 -- the table that the decisions say is among the steps, and no other one is; so the two never both run
 pub record RunsOneTable (run : Run) : Type 0 where
