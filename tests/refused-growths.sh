@@ -1,44 +1,54 @@
 #!/bin/sh
-# Runs the test of the buffer's calls and then the built program on its stored input and on those of `growths`,
-# with the first growth of memory refused, then the second, and so on until a run
-# is whole.
+# Runs the test of the buffer's calls, those of stages of substitution which take memory, and then the built
+# program on its stored input and on those of `growths`, with the first growth of memory refused, then the
+# second, and so on until a run is whole.
 #
-# A run of the test must pass, or say that a call was `refused` (behind its own comparisons of what that call
-# left), or that a list of the test's own could not grow (`AllocError`). A run of the program must end in one of
-# three ways:
+# A run of a test must pass, or say that a call was `refused` (behind its own comparisons of what that call
+# left), or that a list or a text of the test's own could not grow (`AllocError`, `Memory`). A run of the program
+# must end in one of three ways:
 #
 #   the whole answer, status 0;
 #   the same with `refused 1` in place of what answers one line, status 0;
 #   the answers of the first lines, then `error: input`, status 1.
 cd "$(dirname "$0")/.." || exit 1
-calls=crates/shape_buffer/out/shape_buffer_tests
 program=crates/shapeline/out/shapeline
 
-[ -x "$calls" ] || (cd crates/shape_buffer && rt test > /dev/null) || exit 1
 [ -x "$program" ] || (cd crates/shapeline && rt run < stdin > /dev/null) || exit 1
 work=$(mktemp -d) || exit 1
 trap 'rm -rf "$work"' EXIT
 gcc -O1 -Wall -Werror -shared -fPIC -o "$work/refuse.so" tests/refuse.c -ldl || exit 1
 
-n=1 refused=0
-while :; do
-    answer=$(REFUSED_GROWTH=$n LD_PRELOAD="$work/refuse.so" "$calls" buffer::tests::refusals::growths 2>&1)
-    status=$?
-    case "$status $answer" in
-        "0 "*) break ;;
-        *'error: "refused"'*) refused=$((refused + 1)) ;;
-        *'error: AllocError'*) ;;
-        *) n=1000 ;;
-    esac
-    if [ "$n" -ge 1000 ]; then
-        echo "the buffer's calls: status $status and this answer:"
-        echo "$answer"
-        exit 1
-    fi
-    n=$((n + 1))
-done
-echo "refused growths: $refused of the buffer's calls refused, run $n was whole"
-[ "$refused" -gt 0 ] || exit 1
+# Runs one test of a crate with each growth refused in turn, until a run passes.
+refuse_test() {
+    tests=crates/$1/out/$1_tests
+    [ -x "$tests" ] || (cd "crates/$1" && rt test > /dev/null) || return 1
+    n=1 refused=0
+    while [ "$n" -le 1000 ]; do
+        answer=$(REFUSED_GROWTH=$n LD_PRELOAD="$work/refuse.so" "$tests" "$2" 2>&1)
+        status=$?
+        case "$status $answer" in
+            "0 "*)
+                echo "refused growths: $refused of $3 refused, run $n was whole"
+                [ "$refused" -gt 0 ]
+                return
+                ;;
+            *'error: "refused"'*) refused=$((refused + 1)) ;;
+            *'error: AllocError'* | *'error: Memory'*) ;;
+            *)
+                echo "$3: status $status and this answer:"
+                echo "$answer"
+                return 1
+                ;;
+        esac
+        n=$((n + 1))
+    done
+    echo "$3: no run was whole"
+    return 1
+}
+
+refuse_test shape_buffer buffer::tests::refusals::growths "the buffer's calls" || exit 1
+refuse_test substitute_rows refusals::growths_in_a_stage "the stages that grow" || exit 1
+refuse_test substitute_rows refusals::growths_in_a_run "the runs with such stages" || exit 1
 
 # Whether an answer is the expected one with `refused 1` in place of what answers one line.
 is_refused() {
