@@ -1,3 +1,4 @@
 pub mod LineLemmas
 pub mod ParagraphLemmas
 pub mod PointLemmas
+pub mod WordLemmas

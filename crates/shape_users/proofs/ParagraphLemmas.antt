@@ -46,7 +46,7 @@ glyphs_exact backward xs from to start end found ordered k within = (there, here
     here h = found.inside k within h.0 h.1
 
 -- a test of numbers, with what it means
-split : (i j : ℕ) → (i < j) ⊎ (j ≤ i)
+pub split : (i j : ℕ) → (i < j) ⊎ (j ≤ i)
 split i j =
     let P : Bool → Type 0 = λ t. nat_lt i j ≡ t → (i < j) ⊎ (j ≤ i) in
     let cases : P (nat_lt i j) = elim (nat_lt i j) as P [ true ↦ λ e. inl (grind (arith, nat_tests, e)) | false ↦ λ e. inr (grind (arith, nat_tests, e)) ] in

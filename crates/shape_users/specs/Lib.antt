@@ -2,3 +2,4 @@ pub mod Forms
 pub mod Lines
 pub mod Paragraph
 pub mod Points
+pub mod Words

@@ -2,10 +2,11 @@
 //!
 //! [`hebrew`] is a script shaper with hooks, which owes no more than its engine does. [`lines`] answers a
 //! line breaker: may the text be cut here? [`paragraph`] leads from glyphs to the text that they show, and
-//! back.
+//! back. [`words`] keeps shaped words, and finds each under its equivalent spellings.
 #![tactic(auto)]
 #![allow(non_camel_case_types)]
 
 pub mod hebrew;
 pub mod lines;
 pub mod paragraph;
+pub mod words;

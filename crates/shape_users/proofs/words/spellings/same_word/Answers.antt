@@ -1,0 +1,15 @@
+use Rattle.std.proofs.Common.{◌∙◌, ap, sym}
+use Rattle.shape_buffer.specs.Buffer.{Buffer}
+use Rattle.shape_normalize.specs.CanonicalForm.{text_of}
+use Rattle.shape_normalize.specs.Normalized.{normalized}
+use Rattle.shape_plan.specs.Rules.{rules_of}
+use Rattle.shape_users.proofs.words.spellings.same_word.Goals as goal
+
+pub returns-clause-alike : goal.returns-clause-alike
+returns-clause-alike g c =
+    let shaper = g.S.hb_ot_shaper_t in
+    let rules = rules_of g.U.hb_unicode_funcs_t.unicode shaper.constants shaper.hooks g.F.hb_font_t.face c.args.plan.now c.args.face.now in
+    let compared = c.in_ok-same.ensures in
+    let first = ap (λ (b : Buffer). text_of b) (compared.first ∙ ap (λ (b : Buffer). normalized rules b) c.in_ok-a.ensures) in
+    let second = ap (λ (b : Buffer). text_of b) (compared.second ∙ ap (λ (b : Buffer). normalized rules b) c.in_ok-b.ensures) in
+    (λ same. sym first ∙ compared.equal.0 same ∙ second, λ alike. compared.equal.1 (first ∙ alike ∙ sym second))

@@ -1,0 +1,42 @@
+-- Words that are found under each equivalent spelling.
+use Rattle.std.specs.Prelude.{◌≡◌, ℕ, ◌<◌, List, length, replicate, slice_index_or, string_bytes}
+use Rattle.shape_buffer.specs.Buffer.{Buffer, new_buffer}
+use Rattle.shape_buffer.specs.Guess.{guessed}
+use Rattle.shape_buffer.specs.Positions.{zero_position}
+use Rattle.shape_buffer.specs.Text.{text_items}
+use Rattle.shape_normalize.specs.CanonicalForm.{text_of}
+use Rattle.shape_normalize.specs.Normalized.{normalized}
+use Rattle.shape_buffer.specs.Unicode.{UnicodeMeaning}
+use Rattle.shape_plan.specs.Plan.{Plan, Fits}
+use Rattle.shape_plan.specs.Run.{Run}
+use Rattle.shape_pipeline.specs.Headline.{target_of}
+use Rattle.shape_pipeline.specs.Shaped.{text_made}
+use Rattle.shape_users.specs.declared.words.Word.{Word}
+
+-- the text of a spelling, nothing else set
+abbrev pub spelled : List ℕ → Buffer
+spelled spelling = record new_buffer { items = text_items spelling; positions = replicate (length (text_items spelling)) zero_position }
+
+-- a text as normalising begins, with script and direction guessed; an empty one stays as it is
+abbrev pub ready_text : Run → Buffer → Buffer
+ready_text run text = text_made run (target_of run text) (guessed run.unicode text)
+
+-- two spellings have the same normalised characters
+abbrev pub AreSpelledAlike : Run → List ℕ → List ℕ → Type 0
+AreSpelledAlike run first second = text_of (normalized run.rules (ready_text run (spelled first))) ≡ text_of (normalized run.rules (ready_text run (spelled second)))
+
+-- the word at a place is spelled like this
+abbrev pub IsPlaceOf : Run → List Word → ℕ → List ℕ → Type 0
+IsPlaceOf run words place spelling = (place < length words) × ((d : Word) → AreSpelledAlike run (string_bytes (slice_index_or words place d).spelling) spelling)
+
+-- none of the first words is
+abbrev pub IsNowhere : Run → List Word → ℕ → List ℕ → Type 0
+IsNowhere run words count spelling = (k : ℕ) (d : Word) → k < count → AreSpelledAlike run (string_bytes (slice_index_or words k d).spelling) spelling → ⊥
+
+-- the plan at a place serves a text
+abbrev pub FitsAt : {S P D : Type 0} → UnicodeMeaning → List (Plan S P D) → ℕ → Buffer → Type 0
+FitsAt {S} {P} {D} unicode plans place text = (place < length plans) × ((d : Plan S P D) → Fits unicode (slice_index_or plans place d) text)
+
+-- none of the first plans does
+abbrev pub NoneFits : {S P D : Type 0} → UnicodeMeaning → List (Plan S P D) → ℕ → Buffer → Type 0
+NoneFits {S} {P} {D} unicode plans count text = (k : ℕ) (d : Plan S P D) → k < count → Fits unicode (slice_index_or plans k d) text → ⊥

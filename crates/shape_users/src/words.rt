@@ -1,0 +1,103 @@
+//! A cache of shaped words, which finds a word under each equivalent spelling of it.
+//!
+//! A plan serves every text that it fits, so plans are kept and found by `fits`. A word is found by its
+//! normalised characters: in the modes that decompose fully these are the same exactly for equivalent
+//! spellings, so that `é` as one character or as two is kept once. A cache that must never show one word for
+//! another needs no more than that; it may use any mode.
+ghost use Rattle.std.specs.Prelude.{◌≡◌, ◌↔◌, length, IsTrue, IfOk, IfSome, IfNone};
+ghost use Rattle.shape_plan.specs.Plan.{Fits};
+ghost use Rattle.shape_users.specs.Words.{spelled as text_spelled, FitsAt, IsPlaceOf, IsNowhere, NoneFits};
+
+mod spellings;
+#[cfg(test)]
+mod tests;
+
+use shape_buffer::buffer::{GlyphBuffer, ShapeError, UnicodeBuffer};
+use shape_buffer::interfaces::{hb_font_t, hb_ot_layout_t, hb_unicode_funcs_t};
+use shape_pipeline::ot_shape_plan::hb_ot_shape_plan_t;
+use shape_pipeline::ot_shaper::{Runs, hb_ot_shaper_t};
+use shape_pipeline::shape::shape_with_plan;
+pub use spellings::{same_word, spelled};
+use std::alloc::Global;
+
+/// A word that was shaped: how it was spelled, and its glyphs.
+#[derive(Drop, Debug)]
+pub struct Word {
+    pub spelling: String,
+    pub glyphs: GlyphBuffer,
+}
+
+/// The place of a plan that serves a text.
+pub fn find_plan<U: hb_unicode_funcs_t, S, P, D>(
+    plans: &[hb_ot_shape_plan_t<'_, S, P, D>],
+    text: &UnicodeBuffer,
+) -> Option<usize>
+    ensures found { IfSome result (λ place. FitsAt U.unicode plans.now place text.now) }
+    ensures nowhere { IfNone result (NoneFits U.unicode plans.now (length plans.now) text.now) }
+{
+    for place in 0..plans.len() {
+        if plans[place].fits::<U>(text) {
+            return Some(place);
+        }
+    }
+    None
+}
+
+/// The place of a word that was shaped under this spelling or an equivalent one.
+pub fn find_word<U, F, M, S>(
+    alloc: Global,
+    face: &F,
+    plan: &hb_ot_shape_plan_t<'_, S, M::Map, S::Data>,
+    words: &[Word],
+    spelling: &str,
+) -> Result<Option<usize>, ShapeError>
+where
+    U: hb_unicode_funcs_t,
+    F: hb_font_t,
+    M: hb_ot_layout_t<F>,
+    S: hb_ot_shaper_t<U, F, M>,
+    ensures found { let run = ⟦<S as Runs<U, F, M>>⟧.run plan.now face.now in
+        IfOk result (λ place. IfSome place (λ k. IsPlaceOf run words.now k spelling.now)) }
+    ensures nowhere { let run = ⟦<S as Runs<U, F, M>>⟧.run plan.now face.now in
+        IfOk result (λ place. IfNone place (IsNowhere run words.now (length words.now) spelling.now)) }
+{
+    for place in 0..words.len() {
+        let known = words[place].spelling.as_str();
+        if same_word::<U, F, M, S>(alloc, face, plan, known, spelling)? {
+            return Ok(Some(place));
+        }
+    }
+    Ok(None)
+}
+
+/// The place of a word under this spelling or an equivalent one; it is shaped, and kept behind the others,
+/// where there is none yet. Refuses as `find_word` and `shape_with_plan` do.
+pub fn keep_word<U, F, M, S>(
+    alloc: Global,
+    face: &F,
+    plan: &hb_ot_shape_plan_t<'_, S, M::Map, S::Data>,
+    words: &mut Vec<Word>,
+    spelling: &str,
+) -> Result<usize, ShapeError>
+where
+    U: hb_unicode_funcs_t,
+    F: hb_font_t,
+    M: hb_ot_layout_t<F>,
+    S: hb_ot_shaper_t<U, F, M>,
+    requires { Fits U.unicode plan.now (text_spelled spelling.now) }
+    ensures { let run = ⟦<S as Runs<U, F, M>>⟧.run plan.now face.now in
+        IfOk result (λ place. IsPlaceOf run words.new.items place spelling.now) }
+{
+    if let Some(place) = find_word::<U, F, M, S>(alloc, face, plan, words.as_slice(), spelling)? {
+        return Ok(place);
+    }
+    let text = spelled(alloc, spelling)?;
+    let glyphs = match shape_with_plan::<U, F, M, S>(alloc, face, plan, text) {
+        Ok(glyphs) => glyphs,
+        Err(fault) => return Err(fault.cause),
+    };
+    let place = words.len();
+    let spelling = String::from_str(alloc, spelling)?;
+    words.push(Word { spelling, glyphs })?;
+    Ok(place)
+}

@@ -1,0 +1,82 @@
+//! Spellings of words, and whether two of them are one word.
+ghost use Rattle.std.specs.Prelude.{◌≡◌, ◌↔◌, IsTrue, IfOk};
+ghost use Rattle.shape_normalize.specs.CanonicalForm.{text_of, AreEquivalent, CanonicalFormPremises};
+ghost use Rattle.shape_users.specs.Words.{spelled as text_spelled, ready_text, AreSpelledAlike};
+
+use shape_buffer::buffer::{ShapeError, UnicodeBuffer, hb_buffer_t};
+use shape_buffer::interfaces::{hb_font_t, hb_ot_layout_t, hb_unicode_funcs_t};
+use shape_pipeline::ot_shape::{hb_ot_shape_context_t, prepare_text};
+use shape_pipeline::ot_shape_normalize::normalized_equal;
+use shape_pipeline::ot_shape_plan::hb_ot_shape_plan_t;
+use shape_pipeline::ot_shaper::{Runs, hb_ot_shaper_t};
+use std::alloc::Global;
+
+/// The text of a spelling, with nothing else set. Refuses with `Memory` where a growth was refused, and with
+/// `Length` where the spelling has 4 GiB.
+pub fn spelled(alloc: Global, spelling: &str) -> Result<UnicodeBuffer, ShapeError>
+    ensures { IfOk result (λ text. text ≡ text_spelled spelling.now) }
+{
+    if spelling.len() > u32::MAX as usize {
+        return Err(ShapeError::Length);
+    }
+    let mut text = UnicodeBuffer::new(alloc);
+    text.push_str(spelling)?;
+    Ok(text)
+}
+
+/// A text as a run prepares it for normalising. Refuses as `spelled` and `prepare_text` do.
+fn prepared<U, F, M, S>(
+    alloc: Global,
+    face: &F,
+    plan: &hb_ot_shape_plan_t<'_, S, M::Map, S::Data>,
+    spelling: &str,
+) -> Result<hb_buffer_t, ShapeError>
+where
+    U: hb_unicode_funcs_t,
+    F: hb_font_t,
+    M: hb_ot_layout_t<F>,
+    S: hb_ot_shaper_t<U, F, M>,
+    ensures { IfOk result (λ buffer. buffer ≡ ready_text (⟦<S as Runs<U, F, M>>⟧.run plan.now face.now) (text_spelled spelling.now)) }
+{
+    let mut text = spelled(alloc, spelling)?;
+    text.guess_segment_properties::<U>();
+    let mut buffer = text.into_inner();
+    let target_direction = buffer.direction();
+    let mut ctx = hb_ot_shape_context_t {
+        plan,
+        face,
+        buffer: &mut buffer,
+        target_direction,
+    };
+    prepare_text::<U, F, M, S>(alloc, &mut ctx)?;
+    Ok(buffer)
+}
+
+/// Whether two spellings have the same normalised characters. Under the premises of canonical form, in the
+/// modes that decompose fully, this says whether they are canonically equivalent. Refuses as
+/// `normalized_equal` does, and with `Length` where a text has 4 GiB.
+pub fn same_word<U, F, M, S>(
+    alloc: Global,
+    face: &F,
+    plan: &hb_ot_shape_plan_t<'_, S, M::Map, S::Data>,
+    first: &str,
+    second: &str,
+) -> Result<bool, ShapeError>
+where
+    U: hb_unicode_funcs_t,
+    F: hb_font_t,
+    M: hb_ot_layout_t<F>,
+    S: hb_ot_shaper_t<U, F, M>,
+    ensures alike { let run = ⟦<S as Runs<U, F, M>>⟧.run plan.now face.now in
+        IfOk result (λ same. IsTrue same ↔ AreSpelledAlike run first.now second.now) }
+    ensures equivalent { let run = ⟦<S as Runs<U, F, M>>⟧.run plan.now face.now in
+        let a = ready_text run (text_spelled first.now) in
+        let b = ready_text run (text_spelled second.now) in
+        IfOk result (λ same. CanonicalFormPremises run.rules a → CanonicalFormPremises run.rules b
+        → IsTrue same ↔ AreEquivalent run.rules (text_of a) (text_of b)) }
+{
+    let mut a = prepared::<U, F, M, S>(alloc, face, plan, first)?;
+    let mut b = prepared::<U, F, M, S>(alloc, face, plan, second)?;
+    let same = normalized_equal::<U, F, M, S>(alloc, plan, face, &mut a, &mut b)?;
+    Ok(same)
+}

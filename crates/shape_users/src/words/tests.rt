@@ -1,0 +1,60 @@
+//! Words under one spelling and another.
+use crate::words::{Word, find_plan, keep_word, spelled};
+use shape_buffer::buffer::{Direction, GlyphId, Script, hb_tag_t};
+use shape_buffer::interfaces::{MapFace, Metrics, NoLookups};
+use shape_pipeline::ot_shape_plan::hb_ot_shape_plan_t;
+use shape_pipeline::ot_shaper::{Decomposed, Preferring};
+use shape_unicode::UnicodeDatabase;
+use std::test::Fail;
+
+#[test]
+fn equivalent_spellings_are_one_word(rt: HostRuntime) -> Result<(), Fail> {
+    let alloc = rt.alloc();
+    let mut face = MapFace::new(alloc, 1000);
+    for (c, glyph) in [('q', 1), ('e', 2), ('\u{301}', 3), ('\u{E9}', 4)] {
+        let metrics = Metrics {
+            advance: 500,
+            extents: None,
+        };
+        face.set_glyph(c, GlyphId(glyph), metrics)?;
+    }
+    let shaper = Preferring::<Decomposed>::new();
+    let mut plans = Vec::new(alloc);
+    for (direction, script) in [
+        (
+            Direction::RightToLeft,
+            Script(hb_tag_t::from_bytes(b"Hebr")),
+        ),
+        (
+            Direction::LeftToRight,
+            Script(hb_tag_t::from_bytes(b"Latn")),
+        ),
+    ] {
+        let plan = hb_ot_shape_plan_t::new::<UnicodeDatabase, MapFace, NoLookups>(
+            alloc,
+            &face,
+            &shaper,
+            direction,
+            Some(script),
+            None,
+            &[],
+        )?;
+        plans.push(plan)?;
+    }
+    // one letter more with an accent, spelled as one character and as two, and without the accent
+    let spellings = ["q\u{301}\u{E9}", "q\u{301}e\u{301}", "q\u{301}e"];
+    let mut words: Vec<Word> = Vec::new(alloc);
+    for (spelling, want) in spellings.iter().zip([0, 0, 1]) {
+        let text = spelled(alloc, spelling)?;
+        let place = find_plan::<UnicodeDatabase, _, _, _>(plans.as_slice(), &text);
+        assert!(rt; place == Some(1));
+        let plan = &plans[1];
+        assert!(rt; plan.fits::<UnicodeDatabase>(&text));
+        let kept = keep_word::<UnicodeDatabase, MapFace, NoLookups, _>(
+            alloc, &face, plan, &mut words, spelling,
+        )?;
+        assert_eq!(rt; kept, want);
+    }
+    assert_eq!(rt; words.len(), 2);
+    Ok(())
+}
