@@ -72,7 +72,11 @@ unfolding multiplied
 Outcome-replaced rule old new items n (Ok x) is many ok past =
     let made = ok ∙ ap₂ (λ (xs : List Item) (k : ℕ). record old { items = xs; positions = replicate k zero_position }) is (many ∙ ap length is) in
     let long : n ≡ length (flat_map (two_for_one rule) old.items) = many ∙ ap length is in
-    let within : n ≤ limit_of old = elim (cases_order (limit_of old) n) [ inl same ↦ omega (arith, same) | inr (inl over) ↦ absurd (let e = past.1 over in cc) | inr (inr under) ↦ omega (arith, under) ] in
+    let within : n ≤ limit_of old = elim (cases_order (limit_of old) n) [
+      | inl same ↦ omega (arith, same)
+      | inr (inl over) ↦ absurd (let e = past.1 over in cc)
+      | inr (inr under) ↦ omega (arith, under)
+    ] in
     record {
       made = made;
       each_within = (omega arith, tt);

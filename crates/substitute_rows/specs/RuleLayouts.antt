@@ -70,7 +70,11 @@ lookups_of face = record no_lookups {
   aat_remove_deleted = deleted is_struck;
 }
 
-no_flag : (fractions frac numr dnom ss01 : Bool) → HasNoDefinedFlag (if frac then (if fractions then 0x10 else 0) else (if numr then (if fractions then 0x20 else 0) else (if dnom then (if fractions then 0x40 else 0) else (if ss01 then 0x100 else 0))))
+no_flag : (fractions frac numr dnom ss01 : Bool) → HasNoDefinedFlag
+    (if frac then (if fractions then 0x10 else 0)
+    else (if numr then (if fractions then 0x20 else 0)
+    else (if dnom then (if fractions then 0x40 else 0)
+    else (if ss01 then 0x100 else 0))))
 no_flag true true _ _ _ = refl
 no_flag false true _ _ _ = refl
 no_flag true false true _ _ = refl

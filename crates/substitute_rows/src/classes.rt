@@ -1,8 +1,10 @@
-//! Classes of glyphs: 8 is a mark, 2 a base. The face's are that glyph 9 is a mark and all others are bases.
+//! Classes of glyphs: 8 is a mark, 2 a base. The face's are that glyph 9 is a mark and all others are bases. And
+//! syllables.
 
 use crate::runs::{FORWARD, planned, shaped, text_of};
 use crate::support::{DigitUnicode, RuleFace, RuleLayout};
 use shape_buffer::buffer::{hb_buffer_t, hb_glyph_info_t, hb_unicode_general_category_t};
+use shape_pipeline::ot_shape::syllabic_clear_var;
 use shape_pipeline::ot_shaper::{DEFAULT_SHAPER, hb_default_shaper_t};
 use shape_substitute::glyphs::setup_glyphs;
 use std::alloc::Global;
@@ -77,6 +79,26 @@ fn made_up_glyphs_are_as_no_lookup_made_them(rt: HostRuntime) -> Result<(), Fail
             );
             assert_eq!(rt; info._hb_glyph_info_get_ligated(), classes && substituted);
         }
+    }
+    Ok(())
+}
+
+#[test]
+fn every_item_comes_into_syllable_0(rt: HostRuntime) -> Result<(), Fail> {
+    let alloc = rt.alloc();
+    let mut infos: Vec<hb_glyph_info_t> = Vec::new(alloc);
+    for syllable in [3, 0, 255] {
+        let mut info = hb_glyph_info_t::new('a', 2);
+        info._hb_glyph_info_set_syllable(syllable);
+        infos.push(info)?;
+    }
+    let mut buffer = text_of(alloc, FORWARD, "")?.into_inner();
+    buffer.replace_infos(infos)?;
+    syllabic_clear_var(&mut buffer);
+    assert_eq!(rt; buffer.len(), 3);
+    for info in buffer.infos() {
+        assert_eq!(rt; info._hb_glyph_info_get_syllable(), 0);
+        assert_eq!(rt; (info.codepoint, info.cluster), ('a', 2));
     }
     Ok(())
 }
