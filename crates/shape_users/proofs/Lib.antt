@@ -1,3 +1,4 @@
+pub mod LigatureLemmas
 pub mod LineLemmas
 pub mod ParagraphLemmas
 pub mod PointLemmas

@@ -32,7 +32,7 @@ clusters_swapped xs i j first second apart joined =
     let outer : map key (set (set xs i b) j a) ≡ map key (set xs i b) = map-set_same key (set xs i b) j a d (same ∙ ap key (sym other)) in
     ap (map key) (sym (swap_is xs i j d first second)) ∙ outer ∙ inner
 
-merged_at_level : (start end : ℕ) (b : Buffer) (level : BufferClusterLevel) → IsMonotoneLevel level
+pub merged_at_level : (start end : ℕ) (b : Buffer) (level : BufferClusterLevel) → IsMonotoneLevel level
     → elim level as (λ v. Buffer) [ MonotoneGraphemes ↦ merge_at start end b | MonotoneCharacters ↦ merge_at start end b | Characters ↦ unsafe_to_break start end b ] ≡ merge_at start end b
 merged_at_level start end b MonotoneGraphemes monotone = refl
 merged_at_level start end b MonotoneCharacters monotone = refl

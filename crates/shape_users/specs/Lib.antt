@@ -1,4 +1,5 @@
 pub mod Forms
+pub mod Ligatures
 pub mod Lines
 pub mod Paragraph
 pub mod Points

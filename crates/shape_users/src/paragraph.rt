@@ -34,7 +34,8 @@ pub struct GlyphSpan {
 pub fn text_of_glyphs(glyphs: &GlyphBuffer, start: usize, end: usize, text_len: u32) -> TextSpan
     requires some { start < end }
     requires within { end ≤ length glyphs.now.items }
-    ensures begins { (result.start ≡ cluster_at glyphs.now.items start) ⊎ (result.start ≡ cluster_at glyphs.now.items (end - 1)) }
+    ensures begins { (result.start ≡ cluster_at glyphs.now.items start)
+        ⊎ (result.start ≡ cluster_at glyphs.now.items (end - 1)) }
     ensures ends { EndsIn glyphs.now.items text_len result.end }
     ensures exact { IsOrderedFor (is_backward glyphs.now.direction) (clusters glyphs.now.items)
         → ((k : ℕ) → k < length glyphs.now.items → cluster_at glyphs.now.items k < text_len)
@@ -53,7 +54,8 @@ pub fn text_of_glyphs(glyphs: &GlyphBuffer, start: usize, end: usize, text_len: 
 fn next_cluster(glyphs: &[hb_glyph_info_t], cluster: u32, text_len: u32) -> u32
     ensures ends { EndsIn glyphs.now text_len result }
     ensures above { cluster < text_len → cluster < result }
-    ensures least { (k : ℕ) → k < length glyphs.now → (cluster_at glyphs.now k ≤ cluster) ⊎ (result ≤ cluster_at glyphs.now k) }
+    ensures least { (k : ℕ) → k < length glyphs.now
+        → (cluster_at glyphs.now k ≤ cluster) ⊎ (result ≤ cluster_at glyphs.now k) }
 {
     let mut next = text_len;
     for glyph in glyphs {
@@ -71,7 +73,8 @@ pub fn glyphs_of_text(glyphs: &GlyphBuffer, text: TextSpan) -> GlyphSpan
     ensures within { result.end ≤ length glyphs.now.items }
     ensures exact { IsOrderedFor (is_backward glyphs.now.direction) (clusters glyphs.now.items)
         → (k : ℕ) → k < length glyphs.now.items
-        → ((result.start ≤ k) × (k < result.end)) ↔ ((text.start ≤ cluster_at glyphs.now.items k) × (cluster_at glyphs.now.items k < text.end)) }
+        → ((result.start ≤ k) × (k < result.end))
+        ↔ ((text.start ≤ cluster_at glyphs.now.items k) × (cluster_at glyphs.now.items k < text.end)) }
 {
     first_to_last(glyphs.glyph_infos(), text)
 }

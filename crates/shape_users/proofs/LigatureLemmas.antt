@@ -1,0 +1,164 @@
+-- Substituting keeps clusters and flags: what is taken out was in the cluster of its neighbour.
+use Rattle.std.proofs.Common.{◌≡◌, ℕ, zero, suc, ◌+◌, ◌<◌, ◌≤◌, ◌==◌, ◌&&◌, ◌⊎◌, ◌||◌, Bool, true, false, List, [], ◌∷◌, length, map, get_or, set, nat_lt, refl, ap, sym, ◌∙◌, inl, subst, arith, if◌then◌else◌}
+use Rattle.std.proofs.lemmas.Bool.Decides.{nat_tests}
+use Rattle.std.proofs.Math.ListN.{get_or-eq_default}
+use Rattle.std.proofs.Math.Seq.{map-set_same}
+use Rattle.std.specs.Int.RustNames.{bit_and}
+use Rattle.std.specs.List.{list_any, remove}
+use Rattle.shape_buffer.specs.Buffer.{Buffer}
+use Rattle.shape_buffer.specs.BufferClusters.{merge_clusters, merge_at}
+use Rattle.shape_buffer.specs.Clusters.{clusters}
+use Rattle.shape_buffer.specs.ClusterOrder.{IsMonotoneLevel, KeepsClusters}
+use Rattle.shape_buffer.specs.Items.{Item, new_item}
+use Rattle.shape_buffer.specs.Keepers.{EachLookup, KeepsOrder, IsClusterKeeper, IsFlagKeeper, LookupsKeepClusters, LookupsKeepFlags}
+use Rattle.shape_buffer.specs.KeepsFlags.{IsDefinedFlag, KeepsFlags, has_flag, some_has}
+use Rattle.shape_buffer.proofs.DeleteKeeps.{merged_keeps}
+use Rattle.shape_buffer.proofs.DrawsInOrder.{DrawsInOrder, DrawsInOrder-same, DrawsInOrder-behind, DrawsInOrder-again, KeepsClusters-from_draws}
+use Rattle.shape_buffer.proofs.FlagLemmas.{KeepsFlags-same, KeepsFlags-then}
+use Rattle.shape_buffer.proofs.KeeperLemmas.{KeepsClusters-same, KeepsClusters-equal, KeepsClusters-then, KeepsOrder-same, KeepsOrder-then, clusters-map}
+use Rattle.shape_users.specs.Ligatures.{with_glyph, single, singled, item_at, is_pair, glyph_put, taken_out, ligated_at, ligated, substituted, ligature_lookups}
+use Rattle.shape_users.proofs.PointLemmas.{merged_at_level}
+
+-- ---- an item taken out
+
+taken_out-draws : (xs : List Item) (i : ℕ) → DrawsInOrder (clusters xs) (clusters (remove xs i))
+taken_out-draws [] zero = DrawsInOrder-same []
+taken_out-draws [] (suc i) = DrawsInOrder-same []
+taken_out-draws (x ∷ xs) zero = DrawsInOrder-behind x.cluster (clusters xs) (clusters xs) (DrawsInOrder-same (clusters xs))
+taken_out-draws (x ∷ xs) (suc i) = DrawsInOrder-again x.cluster (clusters xs) (clusters (remove xs i)) (DrawsInOrder-behind x.cluster (clusters xs) (clusters (remove xs i)) (taken_out-draws xs i))
+
+or_left : (a b c : Bool) → (b ≡ true → c ≡ true) → (a || b) ≡ true → (a || c) ≡ true
+or_left true b c more some = refl
+or_left false b c more some = more some
+
+or_right : (a b : Bool) → b ≡ true → (a || b) ≡ true
+or_right true b some = refl
+or_right false b some = some
+
+taken_out-some : (flag : ℕ) (xs : List Item) (i : ℕ) → some_has flag (remove xs i) ≡ true → some_has flag xs ≡ true
+taken_out-some flag [] zero some = some
+taken_out-some flag [] (suc i) some = some
+taken_out-some flag (x ∷ xs) zero some = or_right (has_flag flag x) (some_has flag xs) some
+taken_out-some flag (x ∷ xs) (suc i) some = or_left (has_flag flag x) (some_has flag (remove xs i)) (some_has flag xs) (taken_out-some flag xs i) some
+
+-- ---- masks that stay
+
+some_has-masks : (flag : ℕ) (xs ys : List Item) → map (λ (x : Item). x.mask) ys ≡ map (λ (x : Item). x.mask) xs → some_has flag ys ≡ true → some_has flag xs ≡ true
+some_has-masks flag xs ys same some = sym (by_masks xs) ∙ ap (λ (ms : List ℕ). list_any (λ m. nat_lt 0 (bit_and m flag)) ms) (sym same) ∙ by_masks ys ∙ some
+  where
+    by_masks : (zs : List Item) → list_any (λ m. nat_lt 0 (bit_and m flag)) (map (λ (x : Item). x.mask) zs) ≡ some_has flag zs
+    by_masks [] = refl
+    by_masks (z ∷ zs) = ap (λ (b : Bool). nat_lt 0 (bit_and z.mask flag) || b) (by_masks zs)
+
+masks-kept : (b : Buffer) (ys : List Item) → map (λ (x : Item). x.mask) ys ≡ map (λ (x : Item). x.mask) b.items → KeepsFlags b (record b { items = ys })
+masks-kept b ys same = record { flags = refl; stays_set = λ e. e; none_new = λ flag is some. inl (some_has-masks flag b.items ys same some) }
+
+-- ---- single glyphs
+
+single-mask : (x : Item) → (single x).mask ≡ x.mask
+single-mask x = elim (x.glyph_id == 1) as (λ t. (if t then with_glyph 11 x else x).mask ≡ x.mask) [ true ↦ refl | false ↦ refl ]
+
+single-cluster : (x : Item) → (single x).cluster ≡ x.cluster
+single-cluster x = elim (x.glyph_id == 1) as (λ t. (if t then with_glyph 11 x else x).cluster ≡ x.cluster) [ true ↦ refl | false ↦ refl ]
+
+masks-singled : (xs : List Item) → map (λ (x : Item). x.mask) (map single xs) ≡ map (λ (x : Item). x.mask) xs
+masks-singled [] = refl
+masks-singled (x ∷ xs) = ap (λ m. m ∷ map (λ (x : Item). x.mask) (map single xs)) (single-mask x) ∙ ap (λ ms. x.mask ∷ ms) (masks-singled xs)
+
+singled-order : IsClusterKeeper singled
+singled-order b monotone = record { clusters = KeepsClusters-equal _ _ (clusters-map single single-cluster b.items); direction = refl; flags = refl; level = refl }
+
+singled-flags : IsFlagKeeper singled
+singled-flags b = masks-kept b (map single b.items) (masks-singled b.items)
+
+-- ---- ligatures
+
+-- the two places are in the list
+pair-within : (xs : List Item) (i : ℕ) → is_pair xs i ≡ true → i + 2 ≤ length xs
+pair-within xs i pair =
+    let third : (item_at xs (i + 1)).glyph_id ≡ 3 = grind (arith, nat_tests, pair) in
+    let P : Bool → Type 0 = λ t. nat_lt (i + 1) (length xs) ≡ t → i + 2 ≤ length xs in
+    let cases : P (nat_lt (i + 1) (length xs)) = elim (nat_lt (i + 1) (length xs)) as P [
+      | true ↦ λ e. grind (arith, nat_tests, e)
+      | false ↦ λ e.
+          let past : length xs ≤ i + 1 = grind (arith, nat_tests, e) in
+          let none : (item_at xs (i + 1)).glyph_id ≡ 0 = ap (λ (x : Item). x.glyph_id) (get_or-eq_default xs (new_item 0 0) past) in
+          absurd (omega (arith, third, none))
+    ] in
+    cases refl
+
+ligated_at-order : (i : ℕ) → IsClusterKeeper (ligated_at i)
+ligated_at-order i b monotone =
+    let merged = merge_clusters i (i + 2) b in
+    let P : Bool → Type 0 = λ t. is_pair b.items i ≡ t → KeepsOrder b (if t then taken_out (i + 1) (glyph_put i 23 merged) else b) in
+    let cases : P (is_pair b.items i) = elim (is_pair b.items i) as P [
+      | true ↦ λ e.
+          let put = glyph_put i 23 merged in
+          let first = (merged_keeps i (i + 2) b merged (omega arith) (pair-within b.items i e) refl).0 in
+          let second : clusters put.items ≡ clusters merged.items = map-set_same (λ (x : Item). x.cluster) merged.items i (with_glyph 23 (item_at merged.items i)) (new_item 0 0) refl in
+          let third = KeepsClusters-from_draws (clusters put.items) (clusters (remove put.items (i + 1))) (taken_out-draws put.items (i + 1)) in
+          let at : merged ≡ merge_at i (i + 2) b = merged_at_level i (i + 2) b b.cluster_level monotone in
+          record {
+            clusters = KeepsClusters-then _ _ _ first (KeepsClusters-then _ _ _ (KeepsClusters-equal (clusters merged.items) (clusters put.items) second) third);
+            direction = ap (λ (m : Buffer). m.direction) at;
+            flags = ap (λ (m : Buffer). m.flags) at;
+            level = ap (λ (m : Buffer). m.cluster_level) at;
+          }
+      | false ↦ λ e. KeepsOrder-same b
+    ] in
+    cases refl
+
+ligated_at-flags : (i : ℕ) → IsFlagKeeper (ligated_at i)
+ligated_at-flags i b =
+    let merged = merge_clusters i (i + 2) b in
+    let P : Bool → Type 0 = λ t. is_pair b.items i ≡ t → KeepsFlags b (if t then taken_out (i + 1) (glyph_put i 23 merged) else b) in
+    let cases : P (is_pair b.items i) = elim (is_pair b.items i) as P [
+      | true ↦ λ e.
+          let put = glyph_put i 23 merged in
+          let first = (merged_keeps i (i + 2) b merged (omega arith) (pair-within b.items i e) refl).1 in
+          let same = map-set_same (λ (x : Item). x.mask) merged.items i (with_glyph 23 (item_at merged.items i)) (new_item 0 0) refl in
+          let second : KeepsFlags merged put = masks-kept merged put.items same in
+          let third : KeepsFlags put (taken_out (i + 1) put) = record { flags = refl; stays_set = λ e. e; none_new = λ flag is some. inl (taken_out-some flag put.items (i + 1) some) } in
+          KeepsFlags-then b merged (taken_out (i + 1) put) first (KeepsFlags-then merged put (taken_out (i + 1) put) second third)
+      | false ↦ λ e. KeepsFlags-same b
+    ] in
+    cases refl
+
+ligated-order : (n : ℕ) → IsClusterKeeper (ligated n)
+ligated-order zero b monotone = KeepsOrder-same b
+ligated-order (suc n) b monotone =
+    let before = ligated-order n b monotone in
+    KeepsOrder-then b (ligated n b) (ligated_at n (ligated n b)) before (ligated_at-order n (ligated n b) (subst IsMonotoneLevel (sym before.level) monotone))
+
+ligated-flags : (n : ℕ) → IsFlagKeeper (ligated n)
+ligated-flags zero b = KeepsFlags-same b
+ligated-flags (suc n) b = KeepsFlags-then b (ligated n b) (ligated_at n (ligated n b)) (ligated-flags n b) (ligated_at-flags n (ligated n b))
+
+substituted-order : IsClusterKeeper substituted
+substituted-order b monotone = KeepsOrder-then b (singled b) (substituted b) (singled-order b monotone) (ligated-order (length b.items) (singled b) monotone)
+
+substituted-flags : IsFlagKeeper substituted
+substituted-flags b = KeepsFlags-then b (singled b) (substituted b) (singled-flags b) (ligated-flags (length b.items) (singled b))
+
+-- ---- the engine
+
+EachLookup-substituted : (Keeps : (Buffer → Buffer) → Type 0) → Keeps (λ b. b) → Keeps substituted → EachLookup Keeps ligature_lookups
+EachLookup-substituted Keeps left stage = record {
+  substitute_start = left;
+  stage = λ i. stage;
+  aat_substitute = λ features. left;
+  aat_remove_deleted = left;
+  aat_zero_width_deleted = left;
+  position_start = left;
+  position = left;
+  position_finish_advances = left;
+  position_finish_offsets = left;
+  aat_position = λ mask. left;
+  kern = λ mask. left;
+}
+
+pub clusters-ligatures : LookupsKeepClusters ligature_lookups
+clusters-ligatures = EachLookup-substituted IsClusterKeeper (λ b monotone. KeepsOrder-same b) substituted-order
+
+pub flags-ligatures : LookupsKeepFlags ligature_lookups
+flags-ligatures = EachLookup-substituted IsFlagKeeper (λ b. KeepsFlags-same b) substituted-flags

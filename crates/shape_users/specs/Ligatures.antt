@@ -1,0 +1,68 @@
+-- A small engine: one stage of substitution, by a single glyph and a ligature of two.
+use Rattle.std.specs.Prelude.{ℕ, zero, suc, ◌+◌, ◌==◌, ◌&&◌, Bool, true, if◌then◌else◌, List, length, map, set, remove, slice_index_or}
+use Rattle.shape_buffer.specs.Buffer.{Buffer}
+use Rattle.shape_buffer.specs.BufferClusters.{merge_clusters}
+use Rattle.shape_buffer.specs.Items.{Item, new_item}
+use Rattle.shape_buffer.specs.Layout.{MapMeaning, LookupMeaning, LawfulMasks, LawfulLookups}
+use Rattle.shape_buffer.specs.NoLookups.{no_masks, no_lookups, no_masks-lawful, no_lookups-lawful}
+
+abbrev pub with_glyph : ℕ → Item → Item
+with_glyph glyph item = record item { glyph_id = glyph }
+
+-- glyph 11 in place of glyph 1
+abbrev pub single : Item → Item
+single item = if item.glyph_id == 1 then with_glyph 11 item else item
+
+abbrev pub singled : Buffer → Buffer
+singled b = record b { items = map single b.items }
+
+-- the item at a place
+abbrev pub item_at : List Item → ℕ → Item
+item_at items i = slice_index_or items i (new_item 0 0)
+
+-- glyphs 2 and 3 stand side by side from a place on
+abbrev pub is_pair : List Item → ℕ → Bool
+is_pair items i = ((item_at items i).glyph_id == 2) && ((item_at items (i + 1)).glyph_id == 3)
+
+-- another glyph at a place
+abbrev pub glyph_put : ℕ → ℕ → Buffer → Buffer
+glyph_put i glyph b = record b { items = set b.items i (with_glyph glyph (item_at b.items i)) }
+
+-- an item taken out, with its position
+abbrev pub taken_out : ℕ → Buffer → Buffer
+taken_out i b = record b { items = remove b.items i; positions = remove b.positions i }
+
+-- glyph 23 in place of the two from a place on, which are one cluster first
+abbrev pub ligated_at : ℕ → Buffer → Buffer
+ligated_at i b = if is_pair b.items i then taken_out (i + 1) (glyph_put i 23 (merge_clusters i (i + 2) b)) else b
+
+-- the same at the first places, one after the other
+abbrev pub ligated : ℕ → Buffer → Buffer
+ligated zero b = b
+ligated (suc i) b = ligated_at i (ligated i b)
+
+-- single glyphs first, then ligatures
+abbrev pub substituted : Buffer → Buffer
+substituted b = ligated (length b.items) (singled b)
+
+-- one stage, and no mask
+abbrev pub ligature_masks : MapMeaning
+ligature_masks = record no_masks { stages = 1 }
+
+-- that stage substitutes, and no other call changes anything
+abbrev pub ligature_lookups : LookupMeaning
+ligature_lookups = record no_lookups { stage = λ _. substituted }
+
+pub ligature_masks-lawful : LawfulMasks ligature_masks
+ligature_masks-lawful = record { global_mask = no_masks-lawful.global_mask; one_mask = no_masks-lawful.one_mask; mask = no_masks-lawful.mask; shift = no_masks-lawful.shift }
+
+pub ligature_lookups-lawful : LawfulLookups ligature_lookups
+ligature_lookups-lawful = record {
+  aat_zero_width_deleted = no_lookups-lawful.aat_zero_width_deleted;
+  position_start = no_lookups-lawful.position_start;
+  position = no_lookups-lawful.position;
+  position_finish_advances = no_lookups-lawful.position_finish_advances;
+  position_finish_offsets = no_lookups-lawful.position_finish_offsets;
+  aat_position = no_lookups-lawful.aat_position;
+  kern = no_lookups-lawful.kern;
+}

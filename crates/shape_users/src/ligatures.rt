@@ -1,0 +1,177 @@
+//! A small layout engine: one stage of substitution, which puts a glyph in place of another one and a
+//! ligature in place of two, whatever the face.
+//!
+//! What it owes a run is that its one stage keeps clusters and flags, which [`ligatures_keep`] says of all its
+//! calls; what a run by it owes then is nothing, where the shaper gives no hook: [`ligature_runs_owe_nothing`].
+ghost use Rattle.shape_buffer.specs.Keepers.{LookupsKeepClusters, LookupsKeepFlags};
+ghost use Rattle.shape_buffer.specs.NoLookups.{no_layout};
+ghost use Rattle.shape_pipeline.specs.Premises.{OwesNothing};
+ghost use Rattle.shape_users.specs.Ligatures.{ligature_masks, ligature_lookups, ligature_masks-lawful, ligature_lookups-lawful};
+
+mod substitution;
+#[cfg(test)]
+mod tests;
+
+use shape_buffer::buffer::{
+    Feature, Language, Script, ShapeError, hb_buffer_t, hb_mask_t, hb_tag_t,
+};
+use shape_buffer::interfaces::{
+    TableIndex, hb_font_t, hb_ot_layout_t, hb_ot_map_builder_t, hb_unicode_funcs_t,
+};
+use shape_pipeline::laws::runs_without_hooks_owe_nothing;
+use shape_pipeline::ot_shape_plan::hb_ot_shape_plan_t;
+use shape_pipeline::ot_shaper::{Runs, hb_default_shaper_t};
+use std::alloc::Global;
+pub use substitution::{LIGATURE, SINGLE, substitute};
+
+/// The engine.
+pub struct Ligatures;
+
+impl<F> hb_ot_layout_t<F> for Ligatures {
+    type Map = ();
+
+    ghost layout = { λ _. no_layout };
+
+    ghost masks = { λ _. ligature_masks };
+
+    ghost lookups = { λ _ _. ligature_lookups };
+
+    fn chosen_script(
+        _face: &F,
+        _script: Option<Script>,
+        _language: Option<&Language>,
+        _table: TableIndex,
+    ) -> Option<hb_tag_t> {
+        None
+    }
+
+    fn compile(
+        _alloc: Global,
+        _face: &F,
+        _builder: &hb_ot_map_builder_t,
+    ) -> Result<(), ShapeError> {
+        Ok(())
+    }
+
+    fn has_glyph_classes(_face: &F) -> bool {
+        false
+    }
+
+    fn has_kerning(_face: &F) -> bool {
+        false
+    }
+
+    fn has_machine_kerning(_face: &F) -> bool {
+        false
+    }
+
+    fn has_cross_kerning(_face: &F) -> bool {
+        false
+    }
+
+    fn global_mask(_map: &()) -> hb_mask_t {
+        0
+    }
+
+    fn get_1_mask(_map: &(), _tag: hb_tag_t) -> hb_mask_t {
+        0
+    }
+
+    fn get_mask(_map: &(), _tag: hb_tag_t) -> (hb_mask_t, u32) {
+        (0, 0)
+    }
+
+    fn get_feature_index(_map: &(), _table: TableIndex, _tag: hb_tag_t) -> Option<u16> {
+        None
+    }
+
+    fn substitute_start(_face: &F, _buffer: &mut hb_buffer_t) {}
+
+    fn stages(_map: &()) -> usize {
+        1
+    }
+
+    fn substitute_stage(
+        _alloc: Global,
+        _map: &(),
+        _i: usize,
+        _face: &F,
+        buffer: &mut hb_buffer_t,
+    ) -> Result<(), ShapeError> {
+        substitute(buffer);
+        Ok(())
+    }
+
+    fn pause_after(_map: &(), _i: usize) -> Option<u32> {
+        None
+    }
+
+    fn aat_substitute(
+        _alloc: Global,
+        _map: &(),
+        _user_features: &[Feature],
+        _face: &F,
+        _buffer: &mut hb_buffer_t,
+    ) -> Result<(), ShapeError> {
+        Ok(())
+    }
+
+    fn aat_remove_deleted(_buffer: &mut hb_buffer_t) {}
+
+    fn aat_zero_width_deleted(_buffer: &mut hb_buffer_t) {}
+
+    fn position_start(_face: &F, _buffer: &mut hb_buffer_t) {}
+
+    fn position(
+        _alloc: Global,
+        _map: &(),
+        _face: &F,
+        _buffer: &mut hb_buffer_t,
+    ) -> Result<(), ShapeError> {
+        Ok(())
+    }
+
+    fn position_finish_advances(_face: &F, _buffer: &mut hb_buffer_t) {}
+
+    fn position_finish_offsets(_face: &F, _buffer: &mut hb_buffer_t) {}
+
+    fn aat_position(
+        _alloc: Global,
+        _map: &(),
+        _kern_mask: hb_mask_t,
+        _face: &F,
+        _buffer: &mut hb_buffer_t,
+    ) -> Result<(), ShapeError> {
+        Ok(())
+    }
+
+    fn kern(
+        _alloc: Global,
+        _kern_mask: hb_mask_t,
+        _face: &F,
+        _buffer: &mut hb_buffer_t,
+    ) -> Result<(), ShapeError> {
+        Ok(())
+    }
+
+    ghost lawful_masks = { λ _. ligature_masks-lawful };
+
+    ghost lawful_lookups = { λ _ _. ligature_lookups-lawful };
+}
+
+/// Each call of the engine keeps clusters, and each keeps flags.
+pub fn ligatures_keep<F: hb_font_t>(map: &(), face: &F)
+    ensures clusters { LookupsKeepClusters (⟦<Ligatures as hb_ot_layout_t<F>>⟧.lookups map.now face.now) }
+    ensures flags { LookupsKeepFlags (⟦<Ligatures as hb_ot_layout_t<F>>⟧.lookups map.now face.now) }
+{}
+
+/// A run of the default shaper with this engine owes nothing.
+pub fn ligature_runs_owe_nothing<U: hb_unicode_funcs_t, F: hb_font_t>(
+    plan: &hb_ot_shape_plan_t<'_, hb_default_shaper_t, (), ()>,
+    face: &F,
+)
+    ensures { OwesNothing (⟦<hb_default_shaper_t as Runs<U, F, Ligatures>>⟧.run plan.now face.now) }
+{
+    ligatures_keep::<F>(plan.ot_map(), face);
+    runs_without_hooks_owe_nothing::<U, F, Ligatures, hb_default_shaper_t>(plan, face);
+}
