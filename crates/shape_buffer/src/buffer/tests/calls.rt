@@ -191,6 +191,7 @@ fn items_are_exchanged_with_their_positions(rt: HostRuntime) -> Result<(), Fail>
         BufferClusterLevel::Characters,
         [(0, 1), (1, 2), (2, 4)].as_slice(),
     )?;
+    assert!(rt; buffer.len() == 3);
     let mut position = GlyphPosition::zero();
     position.x_advance = 7;
     buffer.set_position(0, position);
