@@ -48,7 +48,7 @@ abbrev letter : ℕ → Item
 letter cluster = with_category OtherLetter (new_item 0x61 cluster)
 
 -- a text with flags of the caller and scratch flags
-abbrev text : Direction → ℕ → ℕ → List Item → Buffer
+abbrev pub text : Direction → ℕ → ℕ → List Item → Buffer
 text direction flags scratch items = record new_buffer { items = items; direction = direction; flags = record { 0 = flags }; scratch_flags = record { 0 = scratch } }
 
 abbrev masks_of : Buffer → List ℕ
@@ -63,7 +63,7 @@ abbrev masked_for_concat : List Item → List ℕ
 masked_for_concat items = masks_of (fractions_masked (with_fractions true) (text LeftToRight 64 1 items))
 
 -- one digit, the slash, one digit, of clusters 0, 1, 4
-abbrev half : List Item
+abbrev pub half : List Item
 half = digit 0 ∷ slash 1 ∷ digit 4 ∷ []
 
 pub record MasksOfFractions : Type 0 where

@@ -7,16 +7,17 @@ use Rattle.shape_buffer.specs.Layout.{MapMeaning, LookupMeaning}
 use Rattle.shape_buffer.specs.NoLookups.{no_lookups}
 use Rattle.shape_buffer.specs.Outcome.{run_steps}
 use Rattle.shape_buffer.specs.Unicode.{UnicodeMeaning}
+use Rattle.shape_buffer.specs.declared.buffer.settings.Direction.TheVariants.{LeftToRight}
 use Rattle.shape_buffer.specs.declared.buffer.settings.Feature.{Feature}
 use Rattle.shape_plan.specs.Run.{Run}
 use Rattle.shape_plan.specs.Shaper.{ShaperConstants, HookMeaning}
 use Rattle.shape_plan.specs.declared.decisions.Decisions.{Decisions}
 use Rattle.shape_plan.specs.Shapers.{no_hooks}
 use Rattle.shape_substitute.specs.Classes.{glyphs_mapped, classes_synthesised}
-use Rattle.shape_substitute.specs.Fractions.{fractions_masked}
+use Rattle.shape_substitute.specs.Fractions.{fractions_masked, slash_masked, features_added}
 use Rattle.shape_substitute.specs.Ranges.{ranges_masked}
 use Rattle.shape_substitute.specs.Substitution.{mask_steps, glyph_steps, substitute_steps}
-use Rattle.shape_substitute.specs.WorkedFractions.{with_fractions}
+use Rattle.shape_substitute.specs.WorkedFractions.{with_fractions, text, half}
 
 -- what is done to each glyph
 abbrev each_glyph : (ℕ → ℕ) → Buffer → Buffer
@@ -29,13 +30,17 @@ each_mask f b =
     let change : Item → Item = λ item. record item { mask = f item.mask } in
     record b { items = map change b.items }
 
--- stage 0 adds 1, stage 1 adds 3, each later one 1000; `morx` adds the number of features and 100, and deletion 10000
+-- glyph and class as the engine prepares them
+abbrev prepared_glyph : Item → Item
+prepared_glyph item = record item { glyph_id = item.glyph_id * 2; properties = record item.properties { glyph_class = record { 0 = 4 } } }
+
+-- stage 0 adds 1, stage 1 adds 3, each later one 1000; `morx` adds the number of features and 100, and deletion triples
 abbrev adding : LookupMeaning
 adding = record no_lookups {
-  substitute_start = each_glyph (λ g. g * 2);
+  substitute_start = λ b. record b { items = map prepared_glyph b.items };
   stage = λ i. each_glyph (λ g. g + (if i == 0 then 1 else if i == 1 then 3 else 1000));
   aat_substitute = λ features. each_glyph (λ g. g + length features + 100);
-  aat_remove_deleted = each_glyph (λ g. g + 10000);
+  aat_remove_deleted = each_glyph (λ g. g * 3);
 }
 
 -- so many stages, with pause 7 behind the first one and no other; feature 1 has the bits 0x300
@@ -68,10 +73,10 @@ constants has_pause has_setup_masks = record {
   has_reorder_marks = false;
 }
 
--- pause 7 doubles each glyph, every other one makes it 0; `setup_masks` adds 0x10 to each mask
+-- pause 7 doubles each glyph, every other one makes it 0; `setup_masks` adds 0x110 to each mask
 abbrev doubling : UnicodeMeaning → HookMeaning
 doubling unicode = record (no_hooks unicode) {
-  setup_masks = each_mask (λ m. m + 0x10);
+  setup_masks = each_mask (λ m. m + 0x110);
   pause = λ n. each_glyph (λ g. if n == 7 then g * 2 else 0);
 }
 
@@ -101,17 +106,19 @@ pub record RunsOfLookups (run : Run) : Type 0 where
   pub three_stages : glyphs (run_steps (substitute_steps (record run { hooks = Some (doubling run.unicode); constants = constants true false; map = with_stages 3; decisions = by_tables false false })) glyph_5) ≡ 1015 ∷ []
   -- 5, two features and 100
   pub by_morx : glyphs (run_steps (substitute_steps (record run { hooks = Some (doubling run.unicode); constants = constants true false; map = with_stages 2; decisions = by_tables true false; user_features = whole_feature ∷ whole_feature ∷ [] })) glyph_5) ≡ 107 ∷ []
-  pub morx_and_gpos : glyphs (run_steps (substitute_steps (record run { hooks = None; constants = constants true false; map = with_stages 2; decisions = by_tables true true; user_features = [] })) glyph_5) ≡ 10105 ∷ []
+  -- 5 and 100, three times
+  pub morx_and_gpos : glyphs (run_steps (substitute_steps (record run { hooks = None; constants = constants true false; map = with_stages 2; decisions = by_tables true true; user_features = [] })) glyph_5) ≡ 315 ∷ []
 
--- before the lookups: the glyph of the index, doubled by `substitute_start`; a class where the plan says so
+-- before the lookups: the glyph of the index, doubled by `substitute_start`, in class 4; another class in its place where the plan says so
 pub record RunsOfGlyphs (run : Run) : Type 0 where
   pub mapped_first : glyphs (run_steps (glyph_steps (record run { decisions = with_fractions true })) glyph_5) ≡ 12 ∷ []
-  pub classes_of_face : map (λ item. item.properties.glyph_class.0) (run_steps (glyph_steps (record run { decisions = with_fractions true })) glyph_5).items ≡ 0 ∷ []
+  pub classes_of_face : map (λ item. item.properties.glyph_class.0) (run_steps (glyph_steps (record run { decisions = with_fractions true })) glyph_5).items ≡ 4 ∷ []
   pub classes_made_up : map (λ item. item.properties.glyph_class.0) (run_steps (glyph_steps (record run { decisions = record (with_fractions true) { fallback_glyph_classes = true } })) glyph_5).items ≡ 2 ∷ []
 
--- the hook adds 0x10, and then the user sets 2 in 0x300
+-- a fraction adds 0x300, 0x103 and 0x503, the hook adds 0x110, and then the user sets 2 in 0x300 of the first cluster
 pub record RunsOfMasks (run : Run) : Type 0 where
   pub hook_then_user : map (λ item. item.mask) (run_steps (mask_steps (record run { hooks = Some (doubling run.unicode); constants = constants false true; map = with_stages 0; decisions = with_fractions true; user_features = first_feature ∷ [] })) glyph_5).items ≡ 0x210 ∷ []
+  pub fraction_then_hook : map (λ item. item.mask) (run_steps (mask_steps (record run { hooks = Some (doubling run.unicode); constants = constants false true; map = with_stages 0; decisions = with_fractions true; user_features = [] })) (text LeftToRight 0 1 half)).items ≡ 0x410 ∷ 0x213 ∷ 0x613 ∷ []
   pub hook_not_given : map (λ item. item.mask) (run_steps (mask_steps (record run { hooks = Some (doubling run.unicode); constants = constants true false; map = with_stages 0; decisions = with_fractions true; user_features = first_feature ∷ [] })) glyph_5).items ≡ 0x200 ∷ []
   pub without_shaper : map (λ item. item.mask) (run_steps (mask_steps (record run { hooks = None; constants = constants true true; map = with_stages 0; decisions = with_fractions true; user_features = [] })) glyph_5).items ≡ 0 ∷ []
 
@@ -138,8 +145,8 @@ unfolding glyphs_mapped classes_synthesised items_mapped
 runs_of_glyphs run = record { mapped_first = refl; classes_of_face = refl; classes_made_up = refl }
 
 runs_of_masks : (run : Run) → RunsOfMasks run
-unfolding fractions_masked ranges_masked items_mapped
-runs_of_masks run = record { hook_then_user = refl; hook_not_given = refl; without_shaper = refl }
+unfolding fractions_masked slash_masked features_added ranges_masked items_mapped
+runs_of_masks run = record { hook_then_user = refl; fraction_then_hook = refl; hook_not_given = refl; without_shaper = refl }
 
 pub worked_steps : WorkedSteps
 worked_steps = record { lookups = runs_of_lookups; glyphs = runs_of_glyphs; masks = runs_of_masks }
