@@ -9,7 +9,9 @@ ghost use Rattle.shape_buffer.specs.Keepers.{LookupsKeepClusters, LookupsKeepFla
 ghost use Rattle.shape_buffer.specs.NoLookups.{no_lookups};
 ghost use Rattle.shape_normalize.specs.Normalized.{HookKeepsClusters};
 ghost use Rattle.shape_plan.specs.Keepers.{RunKeepsFlags};
+ghost use Rattle.shape_plan.specs.Plan.{Plan};
 ghost use Rattle.shape_plan.specs.Shapers.{no_hooks};
+ghost use Rattle.shape_plan.specs.declared.ot_shaper.shapers.hb_default_shaper_t.{hb_default_shaper_t as DefaultShaper};
 ghost use Rattle.shape_pipeline.specs.Order.{RunKeepsClusters};
 ghost use Rattle.shape_pipeline.specs.Premises.{LeavesBuffers, OwesNothing};
 
@@ -60,10 +62,8 @@ where
 {}
 
 /// A run of the default shaper with the engine that changes nothing owes nothing, whatever the functions of
-/// Unicode, the plan and the face.
-pub fn plain_runs_owe_nothing<U: hb_unicode_funcs_t, F: hb_font_t>(
-    plan: &hb_ot_shape_plan_t<'_, hb_default_shaper_t, (), ()>,
-    face: &F,
-)
-    ensures { OwesNothing (⟦<hb_default_shaper_t as Runs<U, F, NoLookups>>⟧.run plan.now face.now) }
+/// Unicode, the plan and the face: also under the plan that `shape` makes.
+pub fn plain_runs_owe_nothing<U: hb_unicode_funcs_t, F: hb_font_t>()
+    ensures { (plan : Plan DefaultShaper Unit Unit) (face : F)
+        → OwesNothing (⟦<hb_default_shaper_t as Runs<U, F, NoLookups>>⟧.run plan face) }
 {}
