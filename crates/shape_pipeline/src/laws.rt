@@ -9,13 +9,14 @@ ghost use Rattle.shape_buffer.specs.Keepers.{LookupsKeepClusters, LookupsKeepFla
 ghost use Rattle.shape_buffer.specs.NoLookups.{no_lookups};
 ghost use Rattle.shape_normalize.specs.Normalized.{HookKeepsClusters};
 ghost use Rattle.shape_plan.specs.Keepers.{RunKeepsFlags};
+ghost use Rattle.shape_plan.specs.Plan.{Plan};
 ghost use Rattle.shape_plan.specs.Shapers.{no_hooks};
+ghost use Rattle.shape_plan.specs.declared.ot_shaper.shapers.hb_default_shaper_t.{hb_default_shaper_t as DefaultShaper};
 ghost use Rattle.shape_pipeline.specs.Order.{RunKeepsClusters};
 ghost use Rattle.shape_pipeline.specs.Premises.{LeavesBuffers, OwesNothing};
 
 use shape_buffer::interfaces::{NoLookups, hb_font_t, hb_ot_layout_t, hb_unicode_funcs_t};
 pub use shape_normalize::laws::{hooks_not_given_are_lawful, reordering_permutes_the_run};
-use shape_plan::ot_shape_plan::hb_ot_shape_plan_t;
 use shape_plan::ot_shaper::{Runs, hb_default_shaper_t, hb_ot_shaper_t};
 
 /// The engine that changes nothing keeps clusters and flags, whatever was compiled and whatever the face.
@@ -27,43 +28,38 @@ pub fn no_lookups_keep()
 /// What a run owes of a shaper whose hooks leave buffers as they are, those that split and compose and the
 /// one that reorders marks aside: no more than that its engine's lookups keep clusters, or flags, and that
 /// the hook which reorders marks keeps clusters. A hook that is `no_hook` leaves buffers so, by `refl`.
-pub fn hooks_not_given_keep<U, F, M, S>(plan: &hb_ot_shape_plan_t<'_, S, M::Map, S::Data>, face: &F)
+pub fn hooks_not_given_keep<U, F, M, S>()
 where
     U: hb_unicode_funcs_t,
     F: hb_font_t,
     M: hb_ot_layout_t<F>,
     S: hb_ot_shaper_t<U, F, M>,
-    ensures clusters { let run = ⟦<S as Runs<U, F, M>>⟧.run plan.now face.now in
-        ((shaper : S) → LeavesBuffers (S.hooks shaper plan.now face.now))
+    ensures clusters { (plan : Plan S M.Map S.Data) (face : F) → let run = ⟦<S as Runs<U, F, M>>⟧.run plan face in
+        ((shaper : S) → LeavesBuffers (S.hooks shaper plan face))
         → LookupsKeepClusters run.lookups → HookKeepsClusters run.rules → RunKeepsClusters run }
-    ensures flags { let run = ⟦<S as Runs<U, F, M>>⟧.run plan.now face.now in
-        ((shaper : S) → LeavesBuffers (S.hooks shaper plan.now face.now))
+    ensures flags { (plan : Plan S M.Map S.Data) (face : F) → let run = ⟦<S as Runs<U, F, M>>⟧.run plan face in
+        ((shaper : S) → LeavesBuffers (S.hooks shaper plan face))
         → LookupsKeepFlags run.lookups → RunKeepsFlags run }
 {}
 
 /// A run owes nothing where its shaper's hooks do what is done without them, whichever of them are given
 /// but for the one that reorders marks, and its lookups keep clusters and flags: then it does so too, and
 /// what canonical form asks of a shaper holds of every text.
-pub fn runs_without_hooks_owe_nothing<U, F, M, S>(
-    plan: &hb_ot_shape_plan_t<'_, S, M::Map, S::Data>,
-    face: &F,
-)
+pub fn runs_without_hooks_owe_nothing<U, F, M, S>()
 where
     U: hb_unicode_funcs_t,
     F: hb_font_t,
     M: hb_ot_layout_t<F>,
     S: hb_ot_shaper_t<U, F, M>,
-    ensures { let run = ⟦<S as Runs<U, F, M>>⟧.run plan.now face.now in
+    ensures { (plan : Plan S M.Map S.Data) (face : F) → let run = ⟦<S as Runs<U, F, M>>⟧.run plan face in
         S.constants.has_reorder_marks ≡ false
-        → ((shaper : S) → S.hooks shaper plan.now face.now ≡ no_hooks U.unicode)
+        → ((shaper : S) → S.hooks shaper plan face ≡ no_hooks U.unicode)
         → LookupsKeepClusters run.lookups → LookupsKeepFlags run.lookups → OwesNothing run }
 {}
 
 /// A run of the default shaper with the engine that changes nothing owes nothing, whatever the functions of
-/// Unicode, the plan and the face.
-pub fn plain_runs_owe_nothing<U: hb_unicode_funcs_t, F: hb_font_t>(
-    plan: &hb_ot_shape_plan_t<'_, hb_default_shaper_t, (), ()>,
-    face: &F,
-)
-    ensures { OwesNothing (⟦<hb_default_shaper_t as Runs<U, F, NoLookups>>⟧.run plan.now face.now) }
+/// Unicode, the plan and the face: also under the plan that `shape` makes.
+pub fn plain_runs_owe_nothing<U: hb_unicode_funcs_t, F: hb_font_t>()
+    ensures { (plan : Plan DefaultShaper Unit Unit) (face : F)
+        → OwesNothing (⟦<hb_default_shaper_t as Runs<U, F, NoLookups>>⟧.run plan face) }
 {}

@@ -7,6 +7,8 @@ ghost use Rattle.std.specs.Prelude.{true, false, None, pos, refl};
 ghost use Rattle.std.specs.Option.{option_or};
 ghost use Rattle.shape_buffer.specs.Keepers.{LookupsKeepClusters, LookupsKeepFlags};
 ghost use Rattle.shape_plan.specs.Keepers.{RunKeepsFlags};
+ghost use Rattle.shape_plan.specs.Plan.{Plan};
+ghost use Rattle.shape_users.specs.declared.hebrew.HebrewShaper.{HebrewShaper as AnyShaper};
 ghost use Rattle.shape_pipeline.specs.Order.{RunKeepsClusters};
 ghost use Rattle.shape_users.specs.Forms.{form_of};
 ghost use Rattle.shape_users.specs.Points.{points_reordered, points_reordered-reorders};
@@ -122,14 +124,11 @@ impl<U: hb_unicode_funcs_t, F, M: hb_ot_layout_t<F>> reorder_marks_hook<HebrewSh
 
 /// A run by this shaper keeps clusters where its engine's lookups do, and flags where they do, whatever the
 /// functions of Unicode, the plan and the face.
-pub fn hebrew_runs_keep<U: hb_unicode_funcs_t, F: hb_font_t, M: hb_ot_layout_t<F>>(
-    plan: &hb_ot_shape_plan_t<'_, HebrewShaper, M::Map, ()>,
-    face: &F,
-)
-    ensures clusters { let run = ⟦<HebrewShaper as Runs<U, F, M>>⟧.run plan.now face.now in
+pub fn hebrew_runs_keep<U: hb_unicode_funcs_t, F: hb_font_t, M: hb_ot_layout_t<F>>()
+    ensures clusters { (plan : Plan AnyShaper M.Map Unit) (face : F) → let run = ⟦<HebrewShaper as Runs<U, F, M>>⟧.run plan face in
         LookupsKeepClusters run.lookups → RunKeepsClusters run }
-    ensures flags { let run = ⟦<HebrewShaper as Runs<U, F, M>>⟧.run plan.now face.now in
+    ensures flags { (plan : Plan AnyShaper M.Map Unit) (face : F) → let run = ⟦<HebrewShaper as Runs<U, F, M>>⟧.run plan face in
         LookupsKeepFlags run.lookups → RunKeepsFlags run }
 {
-    hooks_not_given_keep::<U, F, M, HebrewShaper>(plan, face);
+    hooks_not_given_keep::<U, F, M, HebrewShaper>();
 }

@@ -5,6 +5,8 @@
 //! calls; what a run by it owes then is nothing, where the shaper gives no hook: [`ligature_runs_owe_nothing`].
 ghost use Rattle.shape_buffer.specs.Keepers.{LookupsKeepClusters, LookupsKeepFlags};
 ghost use Rattle.shape_buffer.specs.NoLookups.{no_layout};
+ghost use Rattle.shape_plan.specs.Plan.{Plan};
+ghost use Rattle.shape_plan.specs.declared.ot_shaper.shapers.hb_default_shaper_t.{hb_default_shaper_t as DefaultShaper};
 ghost use Rattle.shape_pipeline.specs.Premises.{OwesNothing};
 ghost use Rattle.shape_users.specs.Ligatures.{ligature_masks, ligature_lookups, ligature_masks-lawful, ligature_lookups-lawful};
 
@@ -19,7 +21,6 @@ use shape_buffer::interfaces::{
     TableIndex, hb_font_t, hb_ot_layout_t, hb_ot_map_builder_t, hb_unicode_funcs_t,
 };
 use shape_pipeline::laws::runs_without_hooks_owe_nothing;
-use shape_pipeline::ot_shape_plan::hb_ot_shape_plan_t;
 use shape_pipeline::ot_shaper::{Runs, hb_default_shaper_t};
 use std::alloc::Global;
 pub use substitution::{LIGATURE, SINGLE, substitute};
@@ -160,18 +161,16 @@ impl<F> hb_ot_layout_t<F> for Ligatures {
 }
 
 /// Each call of the engine keeps clusters, and each keeps flags.
-pub fn ligatures_keep<F: hb_font_t>(map: &(), face: &F)
-    ensures clusters { LookupsKeepClusters (⟦<Ligatures as hb_ot_layout_t<F>>⟧.lookups map.now face.now) }
-    ensures flags { LookupsKeepFlags (⟦<Ligatures as hb_ot_layout_t<F>>⟧.lookups map.now face.now) }
+pub fn ligatures_keep<F: hb_font_t>()
+    ensures clusters { (map : Unit) (face : F) → LookupsKeepClusters (⟦<Ligatures as hb_ot_layout_t<F>>⟧.lookups map face) }
+    ensures flags { (map : Unit) (face : F) → LookupsKeepFlags (⟦<Ligatures as hb_ot_layout_t<F>>⟧.lookups map face) }
 {}
 
 /// A run of the default shaper with this engine owes nothing.
-pub fn ligature_runs_owe_nothing<U: hb_unicode_funcs_t, F: hb_font_t>(
-    plan: &hb_ot_shape_plan_t<'_, hb_default_shaper_t, (), ()>,
-    face: &F,
-)
-    ensures { OwesNothing (⟦<hb_default_shaper_t as Runs<U, F, Ligatures>>⟧.run plan.now face.now) }
+pub fn ligature_runs_owe_nothing<U: hb_unicode_funcs_t, F: hb_font_t>()
+    ensures { (plan : Plan DefaultShaper Unit Unit) (face : F)
+        → OwesNothing (⟦<hb_default_shaper_t as Runs<U, F, Ligatures>>⟧.run plan face) }
 {
-    ligatures_keep::<F>(plan.ot_map(), face);
-    runs_without_hooks_owe_nothing::<U, F, Ligatures, hb_default_shaper_t>(plan, face);
+    ligatures_keep::<F>();
+    runs_without_hooks_owe_nothing::<U, F, Ligatures, hb_default_shaper_t>();
 }

@@ -5,7 +5,7 @@ use Rattle.shape_pipeline.proofs.PremiseLemmas.{owes_nothing, clusters-no_lookup
 use Rattle.shape_pipeline.proofs.laws.plain_runs_owe_nothing.Goals as goal
 
 pub returns : goal.returns
-returns g c =
+returns g c = λ plan face.
     let unicode = g.U.hb_unicode_funcs_t.unicode in
-    owes_nothing unicode (λ _. no_masks) (λ _ _. no_lookups) _ (λ _ _ _. no_hooks unicode) g.F.hb_font_t.face c.args.plan.now c.args.face.now
+    owes_nothing unicode (λ _. no_masks) (λ _ _. no_lookups) _ (λ _ _ _. no_hooks unicode) g.F.hb_font_t.face plan face
     g.met.U.hb_unicode_funcs_t.lawful refl (λ s. refl) clusters-no_lookups flags-no_lookups

@@ -5,10 +5,10 @@ use Rattle.shape_users.proofs.PointLemmas.{shaper-keeps}
 use Rattle.shape_users.proofs.hebrew.hebrew_runs_keep.Goals as goal
 
 pub returns-clause-clusters : goal.returns-clause-clusters
-returns-clause-clusters g c = λ keep.
-    c.hooks_not_given_keep.ensures.clusters (λ shaper. record { preprocess = refl; setup_masks = refl; postprocess = refl; pause = refl }) keep
-    (shaper-keeps _ (λ shaper. refl) c.args.plan.now.shaper)
+returns-clause-clusters g c = λ plan face keep.
+    c.hooks_not_given_keep.ensures.clusters plan face (λ shaper. record { preprocess = refl; setup_masks = refl; postprocess = refl; pause = refl }) keep
+    (shaper-keeps _ (λ shaper. refl) plan.shaper)
 
 pub returns-clause-flags : goal.returns-clause-flags
-returns-clause-flags g c =
-    c.hooks_not_given_keep.ensures.flags (λ shaper. record { preprocess = refl; setup_masks = refl; postprocess = refl; pause = refl })
+returns-clause-flags g c = λ plan face.
+    c.hooks_not_given_keep.ensures.flags plan face (λ shaper. record { preprocess = refl; setup_masks = refl; postprocess = refl; pause = refl })
