@@ -1,5 +1,6 @@
 pub mod StepLemmas
 pub mod KeeperLemmas
 pub mod DeletionLemmas
+pub mod CountLemmas
 pub mod TurnLemmas
 pub mod StepKeepers
