@@ -6,6 +6,10 @@
 #[cfg(test)]
 mod calls;
 #[cfg(test)]
+mod ligatures;
+#[cfg(test)]
+mod limits;
+#[cfg(test)]
 mod modes;
 #[cfg(test)]
 mod normalising;
@@ -18,4 +22,6 @@ mod rows;
 mod support;
 #[cfg(test)]
 mod texts;
+#[cfg(test)]
+mod wishes;
 pub mod worked;
