@@ -1,5 +1,5 @@
 -- The order of the steps, computed on glyphs of which each step leaves a trace: a digit of an advance, a glyph or a flag.
-use Rattle.std.specs.Prelude.{◌≡◌, ◌*◌, ℕ, ℤ, pos, ◌+ℤ◌, ◌*ℤ◌, neg_ℤ, Bool, true, false, Some, List, [], ◌∷◌, map, drop, refl}
+use Rattle.std.specs.Prelude.{◌≡◌, ◌*◌, ℕ, ℤ, pos, ◌+ℤ◌, ◌*ℤ◌, neg_ℤ, true, false, Some, List, [], ◌∷◌, map, drop, refl}
 use Rattle.std.specs.Int.{int_wrap}
 use Rattle.shape_buffer.specs.Buffer.{Buffer, new_buffer}
 use Rattle.shape_buffer.specs.Flags.{flags_propagated}
@@ -12,7 +12,6 @@ use Rattle.shape_buffer.specs.Positions.{zero_position}
 use Rattle.shape_buffer.specs.Walks.{items_mapped}
 use Rattle.shape_buffer.specs.Wrapping.{◌-ʷ◌}
 use Rattle.shape_buffer.specs.declared.buffer.positions.GlyphPosition.{GlyphPosition}
-use Rattle.shape_buffer.specs.declared.buffer.settings.Direction.{Direction}
 use Rattle.shape_buffer.specs.declared.buffer.settings.Direction.TheVariants.{LeftToRight, RightToLeft}
 use Rattle.shape_plan.specs.Run.{Run}
 use Rattle.shape_plan.specs.declared.decisions.Decisions.{Decisions}
