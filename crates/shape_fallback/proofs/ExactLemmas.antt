@@ -1,20 +1,23 @@
 -- Where all numbers fit, the exact ones are taken.
 use Rattle.std.proofs.Common.{◌≡◌, ℕ, ℤ, pos, ◌+ℤ◌, ◌-ℤ◌, ◌*ℤ◌, neg_ℤ, int_div, Bool, true, false, not, ◌&&◌, ◌||◌, ◌<◌, ◌≤◌, ◌+◌, ◌/◌, refl, ap, ◌∙◌, inl, inr, arith}
-use Rattle.std.specs.Prelude.{if◌then◌else◌, ◌==◌}
+use Rattle.std.specs.Prelude.{if◌then◌else◌, ◌==◌, int_le}
 use Rattle.std.specs.Int.{w32, int_wrap}
 use Rattle.std.proofs.lemmas.Bool.{cases_Bool}
 use Rattle.std.proofs.lemmas.Int.{ints, int_wrap_fits, int_wrap-add_left, int_wrap-sub_right, int_wrap-add_same}
 use Rattle.std.proofs.Math.Nat.{div-le_self}
 use Rattle.shape_buffer.specs.Wrapping.{◌+ʷ◌, ◌-ʷ◌, neg_w, +ʷ-exact, -ʷ-exact, *ʷ-exact, neg_w-exact}
+use Rattle.shape_buffer.specs.Face.{FaceMeaning}
+use Rattle.shape_buffer.specs.Items.{Item}
 use Rattle.shape_buffer.specs.declared.buffer.positions.GlyphPosition.{GlyphPosition}
-use Rattle.shape_fallback.specs.Exact.{Fits32, exact_x_offset, XOffsetFits, hung_at, exact_hung, piled_at, pushed_up, exact_piled, StackedFits, ExactMarks, ExactSpaces}
+use Rattle.shape_fallback.specs.Exact.{Fits32, exact_x_offset, XOffsetFits, hung_at, exact_hung, piled_at, pushed_up, exact_piled, StackedFits, exact_component, ExactRound, ExactMarks, ExactSpaces}
 use Rattle.shape_fallback.specs.Extents.{Extents}
-use Rattle.shape_fallback.specs.MarkState.{place_of, component_extents, moved}
-use Rattle.shape_fallback.specs.Marks.{without_advances}
+use Rattle.shape_fallback.specs.MarkState.{component_of, place_of, component_extents, passed, moved}
+use Rattle.shape_fallback.specs.Marks.{base_of, first_state, without_advances}
 use Rattle.shape_fallback.specs.OneMark.{mark_x_offset, is_double, is_left, is_right, is_attached, agree, hung, piled, lowered, raised}
 use Rattle.shape_fallback.specs.Spaces.{em_part, em_advance}
 use Rattle.shape_fallback.specs.declared.ot_shape_fallback.mark_state.Base.{Base}
 use Rattle.shape_fallback.specs.declared.ot_shape_fallback.mark_state.MarkState.{MarkState}
+use Rattle.shape_fallback.specs.declared.ot_shape_fallback.marks.Setting.{Setting}
 use Rattle.shape_fallback.specs.declared.ot_shape_fallback.one_mark.Stacked.{Stacked}
 
 -- ---- sums of three and four: it is enough that the last one fits
@@ -36,6 +39,11 @@ sum_differences a b c d fits =
     int_wrap-add_left w32 (int_wrap w32 (a +ℤ b) -ℤ c) (neg_ℤ d)
     ∙ int_wrap-add_same w32 (int_wrap w32 (a +ℤ b) -ℤ c) (a +ℤ b -ℤ c) (neg_ℤ d) (int_wrap-add_left w32 (a +ℤ b) (neg_ℤ c))
     ∙ int_wrap_fits w32 _ fits
+
+-- a - b - c
+difference_difference : (a b c : ℤ) → Fits32 (a -ℤ b -ℤ c) → a -ʷ b -ʷ c ≡ a -ℤ b -ℤ c
+unfolding ◌-ʷ◌
+difference_difference a b c fits = int_wrap-add_left w32 (a -ℤ b) (neg_ℤ c) ∙ int_wrap_fits w32 _ fits
 
 -- a - (b + c)
 difference_of_sum : (a b c : ℤ) → Fits32 (a -ℤ (b +ℤ c)) → a -ʷ (b +ʷ c) ≡ a -ℤ (b +ℤ c)
@@ -165,6 +173,73 @@ marks-exact = record {
   zeroed_right = zeroed_right-exact;
   zeroed_up = zeroed_up-exact;
   component = component-exact;
+}
+
+-- ---- round a base
+
+base_above-exact : (face : FaceMeaning) (s : Setting) (x : Item) (p : GlyphPosition) (E : Extents) → Fits32 (E.y_bearing +ℤ p.y_offset)
+    → (base_of face s x p E).extents.y_bearing ≡ E.y_bearing +ℤ p.y_offset
+unfolding base_of
+base_above-exact face s x p E fits = +ʷ-exact E.y_bearing p.y_offset fits
+
+first_across-exact : (base : Base) (p : GlyphPosition) → base.surroundings.forward ≡ true → Fits32 (neg_ℤ p.x_advance)
+    → (first_state base p).x_offset ≡ neg_ℤ p.x_advance
+unfolding first_state
+first_across-exact base p forward fits = rw forward (neg_w-exact p.x_advance fits)
+
+first_up-exact : (base : Base) (p : GlyphPosition) → base.surroundings.forward ≡ true → Fits32 (neg_ℤ p.y_advance)
+    → (first_state base p).y_offset ≡ neg_ℤ p.y_advance
+unfolding first_state
+first_up-exact base p forward fits = rw forward (neg_w-exact p.y_advance fits)
+
+forward_across-exact : (p : GlyphPosition) (s : MarkState) → Fits32 (s.x_offset -ℤ p.x_advance) → (passed true p s).x_offset ≡ s.x_offset -ℤ p.x_advance
+unfolding passed
+forward_across-exact p s fits = -ʷ-exact s.x_offset p.x_advance fits
+
+forward_up-exact : (p : GlyphPosition) (s : MarkState) → Fits32 (s.y_offset -ℤ p.y_advance) → (passed true p s).y_offset ≡ s.y_offset -ℤ p.y_advance
+unfolding passed
+forward_up-exact p s fits = -ʷ-exact s.y_offset p.y_advance fits
+
+backward_across-exact : (p : GlyphPosition) (s : MarkState) → Fits32 (s.x_offset +ℤ p.x_advance) → (passed false p s).x_offset ≡ s.x_offset +ℤ p.x_advance
+unfolding passed
+backward_across-exact p s fits = +ʷ-exact s.x_offset p.x_advance fits
+
+backward_up-exact : (p : GlyphPosition) (s : MarkState) → Fits32 (s.y_offset +ℤ p.y_advance) → (passed false p s).y_offset ≡ s.y_offset +ℤ p.y_advance
+unfolding passed
+backward_up-exact p s fits = +ʷ-exact s.y_offset p.y_advance fits
+
+-- a number of u8 less 1 always fits
+less_one-exact : (k : ℕ) → k < 256 → pos k -ʷ pos 1 ≡ pos k -ℤ pos 1
+less_one-exact k byte = -ʷ-exact (pos k) (pos 1) (omega (arith, ints))
+
+abbrev component_by : Base → Item → ℤ → ℤ → ℤ
+component_by base item last component =
+    if base.ligature_id == 0 || not (base.ligature_id == item.properties.ligature_id) || int_le (pos base.number_of_components) component then last
+    else component
+
+number-exact : (base : Base) (x : Item) → base.number_of_components < 256 → x.properties.ligature_component < 256
+    → component_of base x ≡ exact_component base x
+unfolding component_of
+number-exact base x components component =
+    ap (λ (last : ℤ). component_by base x last (pos x.properties.ligature_component -ʷ pos 1)) (less_one-exact base.number_of_components components)
+    ∙ ap (λ (own : ℤ). component_by base x (pos base.number_of_components -ℤ pos 1) own) (less_one-exact x.properties.ligature_component component)
+
+from_left-exact : (base : Base) (c : ℤ) → base.left_to_right ≡ false → Fits32 (pos base.number_of_components -ℤ pos 1 -ℤ c)
+    → place_of base c ≡ pos base.number_of_components -ℤ pos 1 -ℤ c
+unfolding place_of
+from_left-exact base c leftward fits = rw leftward (difference_difference (pos base.number_of_components) (pos 1) c fits)
+
+pub round-exact : ExactRound
+round-exact = record {
+  base_above = base_above-exact;
+  first_across = first_across-exact;
+  first_up = first_up-exact;
+  forward_across = forward_across-exact;
+  forward_up = forward_up-exact;
+  backward_across = backward_across-exact;
+  backward_up = backward_up-exact;
+  component = number-exact;
+  from_left = from_left-exact;
 }
 
 -- ---- spaces

@@ -1,14 +1,17 @@
 -- The exact numbers of fallback positions, for where all of them fit an i32.
-use Rattle.std.specs.Prelude.{◌≡◌, ℕ, ℤ, pos, ◌<◌, ◌+ℤ◌, ◌-ℤ◌, ◌*ℤ◌, neg_ℤ, int_div, Bool, true, false, ◌&&◌, ◌||◌, not, if◌then◌else◌, FitsSigned}
+use Rattle.std.specs.Prelude.{◌≡◌, ◌==◌, ℕ, ℤ, pos, ◌<◌, ◌+ℤ◌, ◌-ℤ◌, ◌*ℤ◌, neg_ℤ, int_div, int_le, Bool, true, false, ◌&&◌, ◌||◌, not, if◌then◌else◌, FitsSigned}
 use Rattle.std.specs.Int.{w32}
+use Rattle.shape_buffer.specs.Face.{FaceMeaning}
+use Rattle.shape_buffer.specs.Items.{Item}
 use Rattle.shape_buffer.specs.declared.buffer.positions.GlyphPosition.{GlyphPosition}
 use Rattle.shape_fallback.specs.Extents.{Extents}
-use Rattle.shape_fallback.specs.MarkState.{place_of, component_extents, moved}
-use Rattle.shape_fallback.specs.Marks.{without_advances}
+use Rattle.shape_fallback.specs.MarkState.{component_of, place_of, component_extents, passed, moved}
+use Rattle.shape_fallback.specs.Marks.{base_of, first_state, without_advances}
 use Rattle.shape_fallback.specs.OneMark.{mark_x_offset, is_double, is_left, is_right, is_attached, agree, hung, piled, lowered, raised}
 use Rattle.shape_fallback.specs.Spaces.{em_part, em_advance}
 use Rattle.shape_fallback.specs.declared.ot_shape_fallback.mark_state.Base.{Base}
 use Rattle.shape_fallback.specs.declared.ot_shape_fallback.mark_state.MarkState.{MarkState}
+use Rattle.shape_fallback.specs.declared.ot_shape_fallback.marks.Setting.{Setting}
 use Rattle.shape_fallback.specs.declared.ot_shape_fallback.one_mark.Stacked.{Stacked}
 
 -- the number is one of i32
@@ -65,6 +68,32 @@ pub record StackedFits (s : Stacked) : Type 0 where
   pub y_offset : Fits32 s.y_offset
   pub y_bearing : Fits32 s.base.y_bearing
   pub height : Fits32 s.base.height
+
+-- the component that a mark belongs to
+abbrev pub exact_component : Base → Item → ℤ
+exact_component base item =
+    let component = pos item.properties.ligature_component -ℤ pos 1 in
+    if base.ligature_id == 0 || not (base.ligature_id == item.properties.ligature_id) || int_le (pos base.number_of_components) component then
+    pos base.number_of_components -ℤ pos 1
+    else component
+
+-- where all numbers round a base fit, they are the exact ones: the base's box, the running offset at the first mark and past each mark of class 0,
+-- and which component a mark belongs to, where the numbers of components are of u8
+pub record ExactRound : Type 0 where
+  pub base_above : (face : FaceMeaning) (s : Setting) (x : Item) (p : GlyphPosition) (E : Extents) → Fits32 (E.y_bearing +ℤ p.y_offset)
+      → (base_of face s x p E).extents.y_bearing ≡ E.y_bearing +ℤ p.y_offset
+  pub first_across : (base : Base) (p : GlyphPosition) → base.surroundings.forward ≡ true → Fits32 (neg_ℤ p.x_advance)
+      → (first_state base p).x_offset ≡ neg_ℤ p.x_advance
+  pub first_up : (base : Base) (p : GlyphPosition) → base.surroundings.forward ≡ true → Fits32 (neg_ℤ p.y_advance)
+      → (first_state base p).y_offset ≡ neg_ℤ p.y_advance
+  pub forward_across : (p : GlyphPosition) (s : MarkState) → Fits32 (s.x_offset -ℤ p.x_advance) → (passed true p s).x_offset ≡ s.x_offset -ℤ p.x_advance
+  pub forward_up : (p : GlyphPosition) (s : MarkState) → Fits32 (s.y_offset -ℤ p.y_advance) → (passed true p s).y_offset ≡ s.y_offset -ℤ p.y_advance
+  pub backward_across : (p : GlyphPosition) (s : MarkState) → Fits32 (s.x_offset +ℤ p.x_advance) → (passed false p s).x_offset ≡ s.x_offset +ℤ p.x_advance
+  pub backward_up : (p : GlyphPosition) (s : MarkState) → Fits32 (s.y_offset +ℤ p.y_advance) → (passed false p s).y_offset ≡ s.y_offset +ℤ p.y_advance
+  pub component : (base : Base) (x : Item) → base.number_of_components < 256 → x.properties.ligature_component < 256
+      → component_of base x ≡ exact_component base x
+  pub from_left : (base : Base) (c : ℤ) → base.left_to_right ≡ false → Fits32 (pos base.number_of_components -ℤ pos 1 -ℤ c)
+      → place_of base c ≡ pos base.number_of_components -ℤ pos 1 -ℤ c
 
 -- where all numbers of one mark fit, they are the exact ones
 pub record ExactMarks : Type 0 where

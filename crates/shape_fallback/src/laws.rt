@@ -6,7 +6,7 @@ ghost use Rattle.shape_buffer.specs.Unicode.{UnicodeMeaning};
 ghost use Rattle.shape_buffer.specs.declared.buffer.settings.Direction.{Direction};
 ghost use Rattle.shape_buffer.specs.declared.buffer.settings.Script.{Script};
 ghost use Rattle.shape_plan.specs.declared.decisions.Decisions.{Decisions};
-ghost use Rattle.shape_fallback.specs.Exact.{ExactMarks, ExactSpaces};
+ghost use Rattle.shape_fallback.specs.Exact.{ExactMarks, ExactRound, ExactSpaces};
 ghost use Rattle.shape_fallback.specs.Keepers.{EachFallback};
 
 /// Each fallback step keeps the order of clusters, brings no new one, and sets a defined flag only
@@ -20,9 +20,11 @@ pub fn fallback_steps_keep_clusters_and_flags()
         → EachFallback IsFlagKeeper unicode face direction script decisions }
 {}
 
-/// The numbers of one mark are the exact ones where they fit an i32, whatever wraps on the way to them.
+/// The numbers of one mark, and those that the marks of a base hand on, are the exact ones where they fit
+/// an i32, whatever wraps on the way to them.
 pub fn marks_are_exact_where_they_fit()
-    ensures { ExactMarks }
+    ensures one { ExactMarks }
+    ensures round { ExactRound }
 {}
 
 /// A space's part of the em square is the exact one along lines of either kind.

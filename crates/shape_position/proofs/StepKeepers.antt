@@ -30,6 +30,7 @@ use Rattle.shape_position.specs.Selectors.{selectors_replaced, selectors_replace
 use Rattle.shape_position.specs.Steps.{place_steps, close_steps, show_steps}
 use Rattle.shape_position.specs.Tables.{table_positioned}
 use Rattle.shape_position.specs.Zeroing.{marks_zeroed, zeroed_mark, zeroed_at, zero_width_time}
+use Rattle.shape_position.proofs.CountLemmas.{as_many-hidden, as_many-flags}
 use Rattle.shape_position.proofs.DeletionLemmas.{settings-deleted}
 use Rattle.shape_position.proofs.KeeperLemmas.{some_has-map, order-positions_mapped, flags-items_mapped, flags-positions_mapped, as_many-positions_mapped}
 use Rattle.shape_position.proofs.TurnLemmas.{turns-turned, flags-turned, as_many-turned}
@@ -317,6 +318,8 @@ steps_keep_count = record {
   ignorables = as_many-ignorables_zeroed;
   turning = as_many-turned;
   selectors = as_many-selectors;
+  hiding = as_many-hidden;
+  flags = as_many-flags;
 }
 
 pub steps_keep : StepsKeep

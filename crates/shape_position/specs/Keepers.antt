@@ -7,7 +7,7 @@ use Rattle.shape_buffer.specs.Keepers.{IsClusterKeeper, IsFlagKeeper, EachStep}
 use Rattle.shape_plan.specs.Keepers.{CallsKeepClusters, RunKeepsFlags}
 use Rattle.shape_plan.specs.Run.{Run}
 use Rattle.shape_position.specs.Advances.{positions_cleared, advanced}
-use Rattle.shape_position.specs.Ignorables.{ignorables_zeroed}
+use Rattle.shape_position.specs.Ignorables.{ignorables_zeroed, ignorables_hidden}
 use Rattle.shape_position.specs.Kept.{KeepsAsMany, TurnsOrder}
 use Rattle.shape_position.specs.Selectors.{selectors_replaced}
 use Rattle.shape_position.specs.Steps.{advance_steps, table_steps, show_steps, finish_steps}
@@ -28,7 +28,7 @@ pub record StepsKeepFlags : Type 0 where
   pub tables : (run : Run) → RunKeepsFlags run → EachStep IsFlagKeeper (table_steps run)
   pub finish : (run : Run) → RunKeepsFlags run → EachStep IsFlagKeeper (finish_steps run)
 
--- the steps that write positions or turn them leave as many positions as items
+-- the steps that write positions or items, turn them or delete some leave as many positions as items
 pub record StepsKeepCount : Type 0 where
   pub cleared : KeepsAsMany positions_cleared
   pub advances : (face : FaceMeaning) → KeepsAsMany (advanced face)
@@ -36,6 +36,8 @@ pub record StepsKeepCount : Type 0 where
   pub ignorables : KeepsAsMany ignorables_zeroed
   pub turning : KeepsAsMany turned
   pub selectors : KeepsAsMany selectors_replaced
+  pub hiding : (face : FaceMeaning) → KeepsAsMany (ignorables_hidden face)
+  pub flags : KeepsAsMany flags_propagated
 
 -- the three together
 pub record StepsKeep : Type 0 where

@@ -10,3 +10,4 @@ pub mod Keepers
 pub mod OneTable
 pub mod WorkedPositions
 pub mod WorkedGlyphs
+pub mod WorkedSteps

@@ -87,7 +87,7 @@ abbrev one_mark : Direction → Buffer
 one_mark direction = record new_buffer { items = with_class 8 (glyph_at 2 0) ∷ []; positions = at (pos 100) (pos 50) (pos 7) (pos 8) ∷ []; direction = direction }
 
 -- decisions of a plan: whether marks are zeroed and adjusted, by GPOS, by kerx, by kern, with morx
-abbrev decided : Bool → Bool → Bool → Bool → Bool → Bool → Decisions
+abbrev pub decided : Bool → Bool → Bool → Bool → Bool → Bool → Decisions
 decided zero_marks adjust gpos kerx kern morx = record {
   apply_morx = morx;
   frac_mask = 0;
@@ -112,7 +112,7 @@ decided zero_marks adjust gpos kerx kern morx = record {
 }
 
 -- a shaper without hooks that zeroes marks at this time
-abbrev shaper_with : ℕ → ShaperConstants
+abbrev pub shaper_with : ℕ → ShaperConstants
 shaper_with time = record {
   is_default = true;
   preference = pos 4;
@@ -131,7 +131,7 @@ shaper_with time = record {
   has_reorder_marks = false;
 }
 
-abbrev no_hooks : HookMeaning
+abbrev pub no_hooks : HookMeaning
 no_hooks = record {
   split = λ _. None;
   height = λ _. 0;

@@ -4,8 +4,8 @@ ghost use Rattle.shape_position.specs.OneTable.{EachRunsOneTable};
 
 /// Each step of positions and of the end of a run keeps the order of clusters and the flags of glyphs,
 /// where the lookups and hooks of the run do. The reversal turns the order of clusters where the buffer's
-/// direction is backward. Steps that write positions leave as many of them as there are items. Does
-/// nothing: a caller's proof cites it.
+/// direction is backward. Each of them that asks neither lookups nor hooks leaves as many positions as items,
+/// where there were. Does nothing: a caller's proof cites it.
 pub fn steps_keep_clusters_and_flags()
     ensures { StepsKeep }
 {}

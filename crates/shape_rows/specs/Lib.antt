@@ -4,3 +4,4 @@ pub mod Faces
 pub mod Splitting
 pub mod Reversing
 pub mod Worked
+pub mod Tabled

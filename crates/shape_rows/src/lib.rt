@@ -8,6 +8,10 @@ mod calls;
 #[cfg(test)]
 mod emoji;
 #[cfg(test)]
+mod ligatures;
+#[cfg(test)]
+mod limits;
+#[cfg(test)]
 mod modes;
 #[cfg(test)]
 mod normalising;
@@ -20,4 +24,6 @@ mod rows;
 mod support;
 #[cfg(test)]
 mod texts;
+#[cfg(test)]
+mod wishes;
 pub mod worked;

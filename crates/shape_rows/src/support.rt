@@ -1,5 +1,5 @@
-//! What the tests bring to shaping: small functions of Unicode, faces of a few characters, no lookups, and
-//! shapers that split, compose or reorder.
+//! What the tests bring to shaping: small functions of Unicode, faces of a few characters, no lookups or
+//! ones that add to advances, and shapers that split, compose or reorder, or have wishes for marks.
 
 mod absorbing;
 mod faces;
@@ -7,6 +7,8 @@ mod marked_unicode;
 mod plain_unicode;
 mod reversing;
 mod splitting;
+mod tabled;
+mod wishing;
 
 pub use absorbing::AbsorbingShaper;
 pub use faces::{EVERY_GLYPH, RowFace};
@@ -14,3 +16,5 @@ pub use marked_unicode::MarkedUnicode;
 pub use plain_unicode::PlainUnicode;
 pub use reversing::ReversingShaper;
 pub use splitting::{DeepShaper, StackedShaper};
+pub use tabled::{AddingLayout, DeepFace, TabledFace};
+pub use wishing::{EarlyShaper, HangingShaper, LateShaper};
