@@ -1,13 +1,13 @@
 -- What goes by neither clusters nor the defined flags: merging keeps it, and ordering goes by it. Merging keeps the settings too.
-use Rattle.std.proofs.Common.{◌≡◌, ℕ, ◌+◌, ◌-◌, ◌<◌, ◌≤◌, Bool, true, false, if◌then◌else◌, ◌==◌, ◌&&◌, bit_or, nat_lt, List, [], ◌∷◌, ◌++◌, map, take, drop, slice_range, refl, sym, ap, ap₂, ◌∙◌, arith, inl, inr}
+use Rattle.std.proofs.Common.{◌≡◌, ℕ, ◌+◌, ◌-◌, ◌<◌, ◌≤◌, Bool, true, false, if◌then◌else◌, ◌==◌, ◌&&◌, bit_or, nat_lt, List, [], ◌∷◌, ◌++◌, map, length, take, drop, slice_range, refl, sym, ap, ap₂, ◌∙◌, arith, inl, inr}
 use Rattle.std.proofs.lemmas.Bool.{cases_Bool}
 use Rattle.std.proofs.lemmas.Bool.Decides.{nat_tests}
 use Rattle.std.proofs.lemmas.Nat.{and_assoc, and_or_apart}
-use Rattle.std.proofs.lemmas.List.{map-append, take-append-drop}
+use Rattle.std.proofs.lemmas.List.{length-map, map-append, take-append-drop}
 use Rattle.std.proofs.lemmas.List.Folds.{drop_split}
 use Rattle.shape_buffer.proofs.ClusterLemmas.{merge_short, merge_long}
 use Rattle.shape_buffer.specs.Buffer.{Buffer}
-use Rattle.shape_buffer.specs.BufferClusters.{merge_clusters, merge_at, unsafe_to_break}
+use Rattle.shape_buffer.specs.BufferClusters.{merge_clusters, merge_out_clusters, merge_at, unsafe_to_break}
 use Rattle.shape_buffer.specs.Clusters.{map_range, merge, mark_break, least_cluster, growth_left, growth_right}
 use Rattle.shape_buffer.specs.Items.{Item, class_of_item, put_in, feature_bits}
 use Rattle.canonical_form.specs.Order.{falls, sink, in_order}
@@ -92,6 +92,24 @@ module _ {B : Type 0} (key : Item → B) (is_key : IsKey key) where
 
 pub IsKey-class : IsKey class_of_item
 IsKey-class = record { by_cluster = λ item cluster. refl; by_break = λ item. refl }
+
+-- as many items as before
+same_length : (xs ys : List Item) → map class_of_item xs ≡ map class_of_item ys → length xs ≡ length ys
+same_length xs ys same = sym (length-map xs class_of_item) ∙ ap length same ∙ length-map ys class_of_item
+
+pub length-merge_clusters : (start end : ℕ) (b : Buffer) → length (merge_clusters start end b).items ≡ length b.items
+length-merge_clusters start end b = same_length _ b.items (keys-merge_clusters class_of_item IsKey-class start end b)
+
+pub length-merge_out : (start end : ℕ) (b : Buffer) → length (merge_out_clusters start end b).items ≡ length b.items
+length-merge_out start end b = at_level b.cluster_level
+  where
+    merged : length (merge start end b.items) ≡ length b.items
+    merged = same_length _ b.items (keys-merge class_of_item IsKey-class start end b.items)
+
+    at_level : (level : BufferClusterLevel) → length (elim level as (λ v. Buffer) [ MonotoneGraphemes ↦ merge_at start end b | MonotoneCharacters ↦ merge_at start end b | Characters ↦ b ]).items ≡ length b.items
+    at_level MonotoneGraphemes = merged
+    at_level MonotoneCharacters = merged
+    at_level Characters = refl
 
 -- an item without its cluster and its defined flags
 abbrev pub unflagged : Item → Item

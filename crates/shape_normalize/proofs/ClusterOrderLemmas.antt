@@ -14,6 +14,7 @@ use Rattle.shape_buffer.proofs.DeleteKeeps.{merged_keeps}
 use Rattle.canonical_form.proofs.DividedLemmas.{values-divided}
 use Rattle.shape_buffer.proofs.DrawsInOrder.{DrawsInOrder, DrawsInOrder-behind, DrawsInOrder-again, KeepsClusters-from_draws}
 use Rattle.shape_buffer.proofs.KeeperLemmas.{KeepsClusters-same, KeepsClusters-then}
+use Rattle.shape_buffer.proofs.KeyLemmas.{length-merge_clusters}
 use Rattle.shape_plan.specs.Rules.{Rules}
 use Rattle.shape_normalize.proofs.SelectorLemmas.{pairs_within}
 use Rattle.std.proofs.lemmas.List.Elements.{recursion_from_All}
@@ -25,7 +26,7 @@ use Rattle.shape_normalize.proofs.JoinerLemmas.{keys-joiners_settled}
 use Rattle.shape_normalize.proofs.NormalizedLemmas.{kept_by_rounds}
 use Rattle.shape_normalize.proofs.OrderedClusterLemmas.{marks_ordered_keeps}
 use Rattle.shape_normalize.proofs.RecomposedClusterLemmas.{round_three_keeps}
-use Rattle.shape_normalize.proofs.ReorderLemmas.{LawfulReorder, length-merge_clusters}
+use Rattle.shape_normalize.proofs.ReorderLemmas.{LawfulReorder}
 use Rattle.shape_normalize.proofs.RoundOneLemmas.{whole_item_is}
 use Rattle.shape_normalize.proofs.SettingLemmas.{level-round_one, settings-normalized}
 

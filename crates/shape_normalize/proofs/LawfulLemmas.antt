@@ -9,7 +9,7 @@ use Rattle.canonical_form.specs.SplitsFall.{SplitsFall}
 use Rattle.shape_buffer.specs.UnicodeProps.{with_unicode_props}
 use Rattle.shape_normalize.specs.CanonicalForm.{HasLawfulHooks}
 use Rattle.shape_plan.specs.Plan.{Plan, hooks_of}
-use Rattle.shape_normalize.specs.Prepared.{IsPrepared, IsPreparedItem}
+use Rattle.shape_buffer.specs.Prepared.{IsPrepared, IsPreparedItem}
 use Rattle.shape_plan.specs.Rules.{used_split, used_height, used_join, used_reorder, rules_of}
 use Rattle.shape_plan.specs.Shaper.{ShaperConstants, HookMeaning}
 use Rattle.shape_normalize.proofs.PreparedLemmas.{prepared-with_props}

@@ -14,7 +14,7 @@ use Rattle.canonical_form.specs.Runs.{AreRunsSettled}
 use Rattle.shape_buffer.specs.Unicode.{UnicodeMeaning, LawfulUnicode, is_mark}
 use Rattle.shape_normalize.specs.CanonicalForm.{text_of, HasNoSelector, PlainPremises}
 use Rattle.shape_normalize.specs.Normalized.{ordered, normalized}
-use Rattle.shape_normalize.specs.Prepared.{IsPrepared, IsPreparedItem}
+use Rattle.shape_buffer.specs.Prepared.{IsPrepared, IsPreparedItem}
 use Rattle.shape_normalize.specs.RoundOne.{round_one}
 use Rattle.shape_normalize.specs.RoundThree.{round_three}
 use Rattle.shape_normalize.specs.RoundTwo.{max_run, has_mark_past_first, marks_ordered, joiners_settled}

@@ -12,7 +12,7 @@ use Rattle.shape_buffer.specs.UnicodeProps.{with_unicode_props, beyond_ascii}
 use Rattle.shape_buffer.specs.declared.buffer.general_category.hb_unicode_general_category_t.{hb_unicode_general_category_t}
 use Rattle.shape_buffer.specs.declared.buffer.settings.GlyphId.{GlyphId}
 use Rattle.shape_buffer.proofs.KeyLemmas.{IsKey}
-use Rattle.shape_normalize.specs.Prepared.{IsPreparedItem}
+use Rattle.shape_buffer.specs.Prepared.{IsPreparedItem}
 use Rattle.shape_plan.specs.Rules.{Rules}
 use Rattle.shape_normalize.specs.RoundOne.{part_item, whole_item, expansion_of, pairs_merged, round_one}
 use Rattle.shape_normalize.specs.RoundTwo.{joiners_settled}

@@ -6,7 +6,7 @@ use Rattle.shape_buffer.specs.Buffer.{Buffer}
 use Rattle.shape_buffer.specs.Items.{Item, char_of}
 use Rattle.canonical_form.specs.Recompose.{is_blocked_by_last, join_with_glyph, recomposed}
 use Rattle.shape_buffer.specs.Unicode.{LawfulUnicode, is_mark}
-use Rattle.shape_normalize.specs.Prepared.{IsPreparedItem}
+use Rattle.shape_buffer.specs.Prepared.{IsPreparedItem}
 use Rattle.shape_normalize.specs.RoundThree.{Placed, placed, class_of_placed, is_mark_placed, join_placed, recomposed_items, joined_spans, spans_merged_out, with_cluster_at, round_three}
 use Rattle.shape_plan.specs.Rules.{Rules, has_glyph}
 use Rattle.shape_normalize.proofs.PreparedLemmas.{ArePrepared, prepared-part}

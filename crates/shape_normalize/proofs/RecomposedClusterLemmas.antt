@@ -14,12 +14,13 @@ use Rattle.canonical_form.specs.Recompose.{composed, recomposed_from, recomposed
 use Rattle.shape_buffer.proofs.DeleteKeeps.{merged_out_keeps}
 use Rattle.shape_buffer.proofs.DrawsInOrder.{DrawsInOrder, DrawsInOrder-same, DrawsInOrder-then, KeepsClusters-from_draws}
 use Rattle.shape_buffer.proofs.KeeperLemmas.{KeepsClusters-same, KeepsClusters-then}
+use Rattle.shape_buffer.proofs.KeyLemmas.{length-merge_out}
 use Rattle.canonical_form.proofs.OptionLemmas.{cases_Option}
 use Rattle.canonical_form.proofs.RecomposeLemmas.{composed-some, recomposed_from-some, recomposed_from-starter, recomposed_from-mark}
 use Rattle.shape_plan.specs.Rules.{Rules}
 use Rattle.shape_normalize.specs.RoundThree.{Placed, placed, class_of_placed, is_mark_placed, join_placed, recomposed_items, joined_spans, spans_merged_out, with_cluster_at, round_three}
 use Rattle.shape_normalize.proofs.RoundThreePlaceLemmas.{joined_is, IsSpan, recomposed_spans_within}
-use Rattle.shape_normalize.proofs.RoundThreeLemmas.{length-merge_out, length-spans_merged_out}
+use Rattle.shape_normalize.proofs.RoundThreeLemmas.{length-spans_merged_out}
 use Rattle.shape_normalize.proofs.DrawnLemmas.{DrawsBefore-same, draws_without}
 
 -- ---- recomposing, of anything

@@ -9,7 +9,7 @@ use Rattle.std.specs.List.Sorted.{IsPermutation}
 use Rattle.shape_buffer.specs.Buffer.{Buffer}
 use Rattle.shape_buffer.specs.BufferClusters.{merge_clusters}
 use Rattle.shape_buffer.specs.Items.{Item, class_of_item}
-use Rattle.shape_buffer.proofs.KeyLemmas.{IsKey, IsKey-class, keys-merge_clusters, without_items, without_items-merge_clusters}
+use Rattle.shape_buffer.proofs.KeyLemmas.{IsKey, IsKey-class, keys-merge_clusters, without_items, without_items-merge_clusters, length-merge_clusters}
 use Rattle.shape_plan.specs.Reorder.{exchanged, with_class, reclassed, Reorders, done, exchange, merge, reclass, ReordersRanges}
 use Rattle.shape_normalize.proofs.SpanLemmas.{length-map-same, map-slice_range}
 
@@ -102,9 +102,6 @@ module _ {X : Type 0} where
       }
 
 -- ---- what merging keeps
-
-pub length-merge_clusters : (from to : ℕ) (b : Buffer) → length (merge_clusters from to b).items ≡ length b.items
-length-merge_clusters from to b = length-map-same class_of_item _ _ (keys-merge_clusters class_of_item IsKey-class from to b)
 
 -- ---- what each step keeps holds in the end
 

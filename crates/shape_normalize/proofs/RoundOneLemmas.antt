@@ -16,7 +16,7 @@ use Rattle.shape_buffer.specs.Items.{Item, char_of, is_mark_item}
 use Rattle.shape_buffer.specs.Unicode.{is_mark}
 use Rattle.shape_buffer.specs.declared.buffer.settings.GlyphId.{GlyphId}
 use Rattle.shape_normalize.specs.Normalized.{BroughtInHaveGlyphs}
-use Rattle.shape_normalize.specs.Prepared.{IsPreparedItem}
+use Rattle.shape_buffer.specs.Prepared.{IsPreparedItem}
 use Rattle.shape_normalize.specs.RoundOne.{item_glyph, passed_item, part_item, whole_item, remembers_space, expanded_item, expanded, expansion_of, is_selector_item, is_selector_sequence, is_with_marks, marked_selector, variant_items, variants, sequences, sequence_items, pairs_from, merged_at, pairs_merged, round_one}
 use Rattle.shape_plan.specs.Rules.{Rules, has_glyph}
 use Rattle.shape_normalize.proofs.SelectorLemmas.{keys-merged_at}

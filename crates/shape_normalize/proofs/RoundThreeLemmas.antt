@@ -11,7 +11,7 @@ use Rattle.shape_buffer.specs.declared.buffer.settings.BufferClusterLevel.{Buffe
 use Rattle.shape_buffer.specs.declared.buffer.settings.BufferClusterLevel.TheVariants.{MonotoneGraphemes, MonotoneCharacters, Characters}
 use Rattle.shape_buffer.specs.declared.buffer.error.ShapeError.{ShapeError}
 use Rattle.shape_buffer.specs.declared.buffer.error.ShapeError.TheVariants.{Memory, Length}
-use Rattle.shape_buffer.proofs.KeyLemmas.{keys-merge, IsKey-class}
+use Rattle.shape_buffer.proofs.KeyLemmas.{keys-merge, IsKey-class, length-merge_out}
 use Rattle.shape_normalize.specs.RoundOne.{seen_chars}
 use Rattle.shape_normalize.specs.RoundThree.{Placed, recomposed_items, joined_spans, composed_chars, spans_merged_out, placed_info, with_cluster_at, settled_info, round_three}
 use Rattle.shape_plan.specs.Rules.{Rules}
@@ -35,17 +35,6 @@ spans_merged_out_is [] b = refl
 spans_merged_out_is (span ∷ spans) b =
     let merged : Buffer = merge_out_clusters span.0 span.1 b in
     spans_merged_out_is spans merged ∙ ap (λ (m : Buffer). record m { items = (spans_merged_out spans merged).items }) (merge_out_is span.0 span.1 b)
-
-pub length-merge_out : (start end : ℕ) (b : Buffer) → length (merge_out_clusters start end b).items ≡ length b.items
-length-merge_out start end b = at_level b.cluster_level
-  where
-    merged : length (merge start end b.items) ≡ length b.items
-    merged = sym (length-map (merge start end b.items) class_of_item) ∙ ap length (keys-merge class_of_item IsKey-class start end b.items) ∙ length-map b.items class_of_item
-
-    at_level : (level : BufferClusterLevel) → length (elim level as (λ v. Buffer) [ MonotoneGraphemes ↦ merge_at start end b | MonotoneCharacters ↦ merge_at start end b | Characters ↦ b ]).items ≡ length b.items
-    at_level MonotoneGraphemes = merged
-    at_level MonotoneCharacters = merged
-    at_level Characters = refl
 
 pub length-spans_merged_out : (spans : List (ℕ × ℕ)) (b : Buffer) → length (spans_merged_out spans b).items ≡ length b.items
 length-spans_merged_out [] b = refl

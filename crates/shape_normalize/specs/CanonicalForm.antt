@@ -11,7 +11,7 @@ use Rattle.canonical_form.specs.Runs.{HasNoLongerRun}
 use Rattle.shape_buffer.specs.Unicode.{is_mark}
 use Rattle.canonical_form.specs.SplitsFall.{SplitsFall}
 use Rattle.shape_normalize.specs.Normalized.{normalized}
-use Rattle.shape_normalize.specs.Prepared.{IsPrepared}
+use Rattle.shape_buffer.specs.Prepared.{IsPrepared}
 use Rattle.shape_normalize.specs.RoundOne.{round_one}
 use Rattle.shape_normalize.specs.RoundTwo.{max_run, has_mark_past_first}
 use Rattle.shape_plan.specs.Rules.{Rules, has_glyph}

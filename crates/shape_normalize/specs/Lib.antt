@@ -3,7 +3,6 @@ pub mod RoundTwo
 pub mod Reordered
 pub mod RoundThree
 pub mod Normalized
-pub mod Prepared
 pub mod CanonicalForm
 pub mod WorkedWorld
 pub mod WorkedOne

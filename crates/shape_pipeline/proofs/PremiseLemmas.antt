@@ -10,12 +10,11 @@ use Rattle.shape_buffer.specs.Keepers.{EachLookup, IsClusterKeeper, IsFlagKeeper
 use Rattle.shape_buffer.specs.Layout.{LookupMeaning, MapMeaning}
 use Rattle.shape_buffer.specs.NoLookups.{no_lookups}
 use Rattle.shape_buffer.specs.Items.{Item}
-use Rattle.shape_buffer.specs.Prepared.{IsPrepared as AreItemsPrepared}
 use Rattle.shape_buffer.specs.Unicode.{UnicodeMeaning, LawfulUnicode}
 use Rattle.shape_buffer.proofs.FlagLemmas.{KeepsFlags-same}
 use Rattle.shape_normalize.specs.CanonicalForm.{HasLawfulHooks, TextPremises, HasNoSelector}
 use Rattle.shape_normalize.specs.Normalized.{HookKeepsClusters}
-use Rattle.shape_normalize.specs.Prepared.{IsPrepared}
+use Rattle.shape_buffer.specs.Prepared.{IsPrepared}
 use Rattle.shape_plan.specs.Keepers.{EachHook, EachCall, RunKeepsFlags}
 use Rattle.shape_plan.specs.Plan.{Plan}
 use Rattle.shape_plan.specs.Rules.{Rules, rules_of, used_split, used_height, used_join}
@@ -106,10 +105,6 @@ module _ {S : Type 0} (unicode : UnicodeMeaning) (lawful : LawfulUnicode unicode
       let P : HookMeaning → Type 0 = λ h. ComposesSoundly (used_split unicode splits (Some h)) (used_height unicode splits (Some h)) unicode.class (used_join unicode joins (Some h)) in
       subst P (sym (none s)) (joins-none unicode lawful splits joins)
 
--- the two definitions of a prepared list say the same
-from_buffer : (unicode : UnicodeMeaning) (items : List Item) → AreItemsPrepared unicode items → IsPrepared unicode items
-from_buffer unicode items all = λ k d within. let item = all k d within in record { mark = item.mark; class = item.class }
-
 -- a hook that reorders marks is none where it isn't given
 no_reorder-keeps : (rules : Rules) → rules.reorder ≡ None → HookKeepsClusters rules
 no_reorder-keeps rules no_reorder reorder is = absurd (let e : None ≡ Some reorder = sym no_reorder ∙ is in cc)
@@ -140,9 +135,8 @@ module _ {S P D F : Type 0} (unicode : UnicodeMeaning) (masks : P → MapMeaning
     prepared-none : (text : Buffer) → IsPrepared unicode (prepared_text (run_of unicode masks lookups constants hooks faces plan face) text).items
     prepared-none text =
         let run = run_of unicode masks lookups constants hooks faces plan face in
-        from_buffer unicode (prepared_text run text).items
-        (preparing_prepares run (target_of run text) (entered (guessed unicode text)) lawful
-        (of_kept (λ s. hooks s plan face) (λ h. KeepsPrepared unicode h.preprocess) (λ s. subst (λ (h : HookMeaning). KeepsPrepared unicode h.preprocess) (sym (none s)) (λ b all. all)) plan.shaper))
+        preparing_prepares run (target_of run text) (entered (guessed unicode text)) lawful
+        (of_kept (λ s. hooks s plan face) (λ h. KeepsPrepared unicode h.preprocess) (λ s. subst (λ (h : HookMeaning). KeepsPrepared unicode h.preprocess) (sym (none s)) (λ b all. all)) plan.shaper)
 
     pub owes_nothing : LookupsKeepClusters (lookups plan.ot_map face) → LookupsKeepFlags (lookups plan.ot_map face) → OwesNothing (run_of unicode masks lookups constants hooks faces plan face)
     owes_nothing clusters flags =

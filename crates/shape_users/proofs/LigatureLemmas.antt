@@ -15,7 +15,7 @@ use Rattle.shape_buffer.specs.KeepsFlags.{IsDefinedFlag, KeepsFlags, has_flag, s
 use Rattle.shape_buffer.proofs.DeleteKeeps.{merged_keeps}
 use Rattle.shape_buffer.proofs.DrawsInOrder.{DrawsInOrder, DrawsInOrder-same, DrawsInOrder-behind, DrawsInOrder-again, KeepsClusters-from_draws}
 use Rattle.shape_buffer.proofs.FlagLemmas.{KeepsFlags-same, KeepsFlags-then}
-use Rattle.shape_buffer.proofs.KeeperLemmas.{KeepsClusters-same, KeepsClusters-equal, KeepsClusters-then, KeepsOrder-same, KeepsOrder-then, clusters-map}
+use Rattle.shape_buffer.proofs.KeeperLemmas.{KeepsClusters-equal, KeepsClusters-then, KeepsOrder-same, KeepsOrder-then, clusters-map}
 use Rattle.shape_users.specs.Ligatures.{with_glyph, single, singled, item_at, is_pair, glyph_put, taken_out, ligated_at, ligated, substituted, ligature_lookups}
 use Rattle.shape_users.proofs.PointLemmas.{merged_at_level}
 

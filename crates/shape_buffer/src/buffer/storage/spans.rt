@@ -26,6 +26,7 @@ impl hb_buffer_t {
         requires ordered { start ≤ end }
         requires within { end ≤ length self.old.items }
         ensures merged { self.new ≡ merge_clusters_of start end self.old }
+        ensures len { length self.new.items ≡ length self.old.items }
         ensures keeps { KeepsClusters (clusters self.old.items) (clusters self.new.items) × KeepsFlags self.old self.new }
     {
         if self.cluster_level == BufferClusterLevel::Characters {
@@ -40,6 +41,7 @@ impl hb_buffer_t {
         requires ordered { start ≤ end }
         requires within { end ≤ length self.old.items }
         ensures merged { self.new ≡ merge_out_clusters_of start end self.old }
+        ensures len { length self.new.items ≡ length self.old.items }
         ensures keeps { KeepsClusters (clusters self.old.items) (clusters self.new.items) × KeepsFlags self.old self.new }
     {
         if self.cluster_level != BufferClusterLevel::Characters {
