@@ -4,6 +4,7 @@ ghost use Rattle.shape_fallback.specs.WorkedClasses.{WorkedClasses};
 ghost use Rattle.shape_fallback.specs.WorkedMarks.{WorkedMarks};
 ghost use Rattle.shape_fallback.specs.WorkedOneMark.{WorkedOneMark};
 ghost use Rattle.shape_fallback.specs.WorkedSpaces.{WorkedSpaces};
+ghost use Rattle.shape_fallback.specs.WorkedTurns.{WorkedTurns};
 
 /// The classes that marks are placed by: each row of the rules for Thai and Lao and for other scripts, the
 /// characters and classes beside them, and the categories that don't change.
@@ -32,4 +33,10 @@ pub fn marks_meet_worked_cases()
 /// of numbers; whether the steps are due; and the spans that are marked unsafe to break.
 pub fn buffers_meet_worked_cases()
     ensures { WorkedBuffers }
+{}
+
+/// What goes by the buffer alone: marks of class 0 in text of either way, which stay where they are, the
+/// line that marks stand along, and the flag that says that spaces are due.
+pub fn turns_meet_worked_cases()
+    ensures { WorkedTurns }
 {}
