@@ -217,7 +217,12 @@ fn items_are_exchanged_with_their_positions(rt: HostRuntime) -> Result<(), Fail>
         .collect(rt.alloc())?;
     assert_eq!(rt;
         flags.as_slice(),
-        [(false, false, true), (false, true, false), (true, false, false)].as_slice()
+        [
+            (false, false, true),
+            (false, true, false),
+            (true, false, false)
+        ]
+        .as_slice()
     );
     Ok(())
 }
