@@ -1,11 +1,13 @@
 /*
  * Loaded before a program, refuses one growth of its memory: the one whose number, counted from 1, stands
  * in REFUSED_GROWTH. All others go to the C library. A growth is a call that asks for memory, before the
- * loader has called `begin` none counts.
+ * loader has called `begin` none counts. Where COUNTED_GROWTHS names a file, their number is written to it
+ * as the program ends.
  */
 #define _GNU_SOURCE
 #include <dlfcn.h>
 #include <errno.h>
+#include <stdio.h>
 #include <stdlib.h>
 
 static void *(*c_malloc)(size_t);
@@ -26,6 +28,17 @@ __attribute__((constructor)) static void begin(void)
     c_posix_memalign = dlsym(RTLD_NEXT, "posix_memalign");
     refused = number ? strtoul(number, NULL, 10) : 0;
     growths = 0;
+}
+
+__attribute__((destructor)) static void end(void)
+{
+    unsigned long counted = growths;
+    const char *name = getenv("COUNTED_GROWTHS");
+    FILE *file = name ? fopen(name, "w") : NULL;
+    if (file) {
+        fprintf(file, "%lu\n", counted);
+        fclose(file);
+    }
 }
 
 static int is_refused(void)

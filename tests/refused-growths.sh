@@ -1,7 +1,7 @@
 #!/bin/sh
 # Runs the test of the buffer's calls, those of stages of substitution which take memory, and then the built
 # program on its stored input and on those of `growths`, with the first growth of memory refused, then the
-# second, and so on until a run is whole.
+# second, and so on until a run is whole. Between them it counts the growths of the buffer's other calls.
 #
 # A run of a test must pass, or say that a call was `refused` (behind its own comparisons of what that call
 # left), or that a list or a text of the test's own could not grow (`AllocError`, `Memory`). A run of the program
@@ -49,6 +49,21 @@ refuse_test() {
 refuse_test shape_buffer buffer::tests::refusals::growths "the buffer's calls" || exit 1
 refuse_test substitute_rows refusals::growths_in_a_stage "the stages that grow" || exit 1
 refuse_test substitute_rows refusals::growths_in_a_run "the runs with such stages" || exit 1
+
+# How many growths a test of shape_buffer asks for.
+growths_of() {
+    COUNTED_GROWTHS="$work/count" LD_PRELOAD="$work/refuse.so" crates/shape_buffer/out/shape_buffer_tests "$1" > /dev/null || exit 1
+    cat "$work/count"
+}
+
+# Calls that can't be refused take no memory.
+filled=$(growths_of buffer::tests::no_memory::filled_is_begun) || exit 1
+used=$(growths_of buffer::tests::no_memory::filled_and_used) || exit 1
+if [ "$filled" -eq 0 ] || [ "$filled" -ne "$used" ]; then
+    echo "a buffer that is filled takes $filled growths, and with calls that take none $used"
+    exit 1
+fi
+echo "growths: $filled for a filled buffer, and none for the calls that can't be refused"
 
 # Whether an answer is the expected one with `refused 1` in place of what answers one line.
 is_refused() {

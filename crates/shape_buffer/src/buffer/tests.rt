@@ -6,6 +6,7 @@ use std::test::Fail;
 mod calls;
 mod clusters;
 mod deletion;
+mod no_memory;
 mod refusals;
 
 /// A buffer of these clusters and masks.
