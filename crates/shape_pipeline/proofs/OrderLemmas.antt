@@ -30,8 +30,8 @@ use Rattle.shape_prepare.proofs.FirstLemmas.{preparing_keeps_firsts}
 use Rattle.shape_prepare.proofs.OrderKeeperLemmas.{preparing_keeps_order}
 use Rattle.shape_substitute.proofs.ListKeepers.{substitution-keeps_clusters}
 use Rattle.shape_pipeline.specs.Headline.{target_of}
-use Rattle.shape_pipeline.specs.Order.{RunKeepsClusters, ComesInOrder, grapheme_clusters}
-use Rattle.shape_pipeline.specs.Shaped.{normalising, glyph_part, place_part, shaped_steps, all_steps, entered, finished, shaped}
+use Rattle.shape_pipeline.specs.Order.{RunKeepsClusters, ComesInOrder, ClustersComeInOrder, grapheme_clusters}
+use Rattle.shape_pipeline.specs.Shaped.{normalising, glyph_part, place_part, shaped_steps, all_steps, entered, finished, shaped, run_made}
 use Rattle.shape_pipeline.proofs.PartLemmas.{Leads, Leads-then, EachStep-glyph_part, EachStep-place_part}
 
 -- ---- states of a run, where each cluster is one of `From`
@@ -208,29 +208,24 @@ none_in : (xs : List ℕ) (k : ℕ) → xs ≡ [] → Contains xs k → ⊥
 none_in xs k none is = omega (arith, is.1, ap length none)
 
 -- the glyphs of a text come in order
-pub clusters-shaped : (run : Run) (text : Buffer) → LawfulReorder run.rules.reorder → RunKeepsClusters run
-    → IsMonotoneLevel text.cluster_level → IsNonDecreasing (clusters text.items) → ComesInOrder run text (shaped run text)
-clusters-shaped run text lawful keeps monotone rising = from text.items refl
+pub clusters-run_made : (run : Run) (target : Direction) → target ≢ Invalid → LawfulReorder run.rules.reorder → (text : Buffer) → text.direction ≡ target
+    → ClustersComeInOrder run target text (run_made run target text)
+clusters-run_made run target valid lawful text towards keeps monotone rising = from text.items refl
   where
-    target : Direction
-    target = target_of run text
-
-    start : Buffer
-    start = entered (guessed run.unicode text)
-
     -- a whole run, with each cluster from where preparing takes it
-    shown : (From : ℕ → Type 0) → ((k : ℕ) → Contains (clusters (run_steps (prepare_steps run target) start).items) k → From k)
-        → IsShown From target (run_steps (all_steps run target) start)
-    shown From taken = shown-all run target (target_of-known run text) From lawful keeps start refl monotone rising taken
+    shown : (From : ℕ → Type 0) → ((k : ℕ) → Contains (clusters (run_steps (prepare_steps run target) (entered text)).items) k → From k)
+        → IsShown From target (run_steps (all_steps run target) (entered text))
+    shown From taken = shown-all run target valid From lawful keeps (entered text) towards monotone rising taken
 
-    of_text : IsShown (λ k. Contains (clusters text.items) k) target (run_steps (all_steps run target) start)
-    of_text = shown (λ k. Contains (clusters text.items) k) (preparing_keeps_order run target start keeps.calls monotone rising).none_new
+    of_text : IsShown (λ k. Contains (clusters text.items) k) target (run_steps (all_steps run target) (entered text))
+    of_text = shown (λ k. Contains (clusters text.items) k) (preparing_keeps_order run target (entered text) keeps.calls monotone rising).none_new
 
-    of_firsts : text.cluster_level ≡ MonotoneGraphemes → IsShown (λ k. Contains (grapheme_clusters run text) k) target (run_steps (all_steps run target) start)
-    of_firsts level = shown (λ k. Contains (grapheme_clusters run text) k) (preparing_keeps_firsts run target start keeps.calls level rising)
+    of_firsts : text.cluster_level ≡ MonotoneGraphemes
+        → IsShown (λ k. Contains (grapheme_clusters run text) k) target (run_steps (all_steps run target) (entered text))
+    of_firsts level = shown (λ k. Contains (grapheme_clusters run text) k) (preparing_keeps_firsts run target (entered text) keeps.calls level rising)
 
     from : (items : List Item) → text.items ≡ items
-        → ComesInOrder run text (elim items [ [] ↦ guessed run.unicode text | _ ∷ _ ↦ finished target (run_steps (all_steps run target) start) ])
+        → ComesInOrder run target text (elim items [ [] ↦ text | _ ∷ _ ↦ finished target (run_steps (all_steps run target) (entered text)) ])
     from [] is =
         let none : clusters text.items ≡ [] = rw is refl in
         record {

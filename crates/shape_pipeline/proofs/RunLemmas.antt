@@ -85,7 +85,12 @@ has_some xs some none = some (ap length none)
 
 -- nothing is done for an empty text
 pub Prepares-none : (run : Run) (target : Direction) (b : Buffer) → length b.items ≡ 0 → Prepares run target b b
-Prepares-none run target b none = record { made = text_from-none run target b b.items (is_empty b.items none); counted = λ some. absurd (some (is_empty b.items none)) }
+Prepares-none run target b none = record {
+  made = text_from-none run target b b.items (is_empty b.items none);
+  within = omega (arith, none);
+  limit = λ some. absurd (some (is_empty b.items none));
+  counted = λ some. absurd (some (is_empty b.items none));
+}
 
 pub Shapes-none : (run : Run) (target : Direction) (b : Buffer) → length b.items ≡ 0 → Shapes run target b b
 Shapes-none run target b none = record {
@@ -98,6 +103,8 @@ Shapes-none run target b none = record {
 pub Prepares-ran : (run : Run) (target : Direction) (b new : Buffer) → ¬ (length b.items ≡ 0) → Ran (prepare_steps run target) (entered b) new → Prepares run target b new
 Prepares-ran run target b new some ran = record {
   made = ran.made ∙ text_from run target b b.items (has_some b.items some);
+  within = subst (λ n. length new.items ≤ n) ran.same_limit ran.within;
+  limit = λ _. ran.same_limit;
   counted = λ _. ran.each_within;
 }
 

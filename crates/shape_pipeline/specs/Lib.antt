@@ -4,3 +4,4 @@ pub mod Order
 pub mod Headline
 pub mod Planned
 pub mod Premises
+pub mod WorkedRun

@@ -5,13 +5,12 @@ use Rattle.shape_buffer.specs.Buffer.{Buffer}
 use Rattle.shape_buffer.specs.ClusterOrder.{IsMonotoneLevel, IsOrderedFor}
 use Rattle.shape_buffer.specs.Clusters.{clusters}
 use Rattle.shape_buffer.specs.Direction.{is_backward}
-use Rattle.shape_buffer.specs.Guess.{guessed}
 use Rattle.shape_buffer.specs.declared.buffer.settings.BufferClusterLevel.TheVariants.{MonotoneGraphemes}
+use Rattle.shape_buffer.specs.declared.buffer.settings.Direction.{Direction}
 use Rattle.shape_normalize.specs.Normalized.{HookKeepsClusters}
 use Rattle.shape_plan.specs.Keepers.{CallsKeepClusters}
 use Rattle.shape_plan.specs.Run.{Run}
 use Rattle.shape_prepare.specs.ClusterPoint.{first_clusters, marked_text}
-use Rattle.shape_pipeline.specs.Headline.{target_of}
 use Rattle.shape_pipeline.specs.Shaped.{entered}
 
 -- the cluster premises on lookups and hooks: they keep clusters
@@ -19,18 +18,19 @@ pub record RunKeepsClusters (run : Run) : Type 0 where
   pub calls : CallsKeepClusters run
   pub reordering : HookKeepsClusters run.rules
 
--- the clusters of the first characters of the text's graphemes
+-- the clusters of the first characters of a text's graphemes
 abbrev pub grapheme_clusters : Run → Buffer → List ℕ
-grapheme_clusters run text = first_clusters (marked_text run (entered (guessed run.unicode text))).items
+grapheme_clusters run text = first_clusters (marked_text run (entered text)).items
 
--- the clusters of glyphs come from the text, at MONOTONE_GRAPHEMES from the first characters of its graphemes, and stand in the order of its direction
-pub record ComesInOrder (run : Run) (text glyphs : Buffer) : Type 0 where
+-- the clusters of glyphs come from the text, at MONOTONE_GRAPHEMES from the first characters of its graphemes, and stand in the order of the target direction
+pub record ComesInOrder (run : Run) (target : Direction) (text glyphs : Buffer) : Type 0 where
   pub from_text : (k : ℕ) → Contains (clusters glyphs.items) k → Contains (clusters text.items) k
   pub from_firsts : text.cluster_level ≡ MonotoneGraphemes
       → (k : ℕ) → Contains (clusters glyphs.items) k → Contains (grapheme_clusters run text) k
-  pub ordered : IsOrderedFor (is_backward (target_of run text)) (clusters glyphs.items)
+  pub ordered : IsOrderedFor (is_backward target) (clusters glyphs.items)
 
 -- so it is at the monotone levels, where lookups and hooks keep clusters and those of the text never fall
-abbrev pub ClustersComeInOrder : Run → Buffer → Buffer → Type 0
-ClustersComeInOrder run text glyphs =
-    RunKeepsClusters run → IsMonotoneLevel text.cluster_level → IsNonDecreasing (clusters text.items) → ComesInOrder run text glyphs
+abbrev pub ClustersComeInOrder : Run → Direction → Buffer → Buffer → Type 0
+ClustersComeInOrder run target text glyphs =
+    RunKeepsClusters run → IsMonotoneLevel text.cluster_level → IsNonDecreasing (clusters text.items)
+    → ComesInOrder run target text glyphs

@@ -1,6 +1,6 @@
 -- A run: the list of its steps, and what it makes of a text.
 use Rattle.std.specs.Prelude.{◌≡◌, ◌≢◌, ◌≤◌, List, [], ◌∷◌, ◌++◌, Some, None, length}
-use Rattle.shape_buffer.specs.Buffer.{Buffer, run_limit}
+use Rattle.shape_buffer.specs.Buffer.{Buffer, limit_of, run_limit}
 use Rattle.shape_buffer.specs.Guess.{guessed, guessed_direction}
 use Rattle.shape_buffer.specs.Outcome.{Step, step, run_steps, EachWithin, SomePast}
 use Rattle.shape_buffer.specs.declared.buffer.settings.Direction.{Direction}
@@ -80,9 +80,11 @@ shaped run b = run_made run (guessed_direction run.unicode b) (guessed run.unico
 abbrev pub HasItems : Buffer → Type 0
 HasItems b = b.items ≢ []
 
--- a text was prepared: exactly this was made of it, and no step made a list past the run's limit
+-- a text was prepared: exactly this was made of it, within the run's limit, which is the buffer's now, and no step made a list past it
 pub record Prepares (run : Run) (target : Direction) (old new : Buffer) : Type 0 where
   pub made : new ≡ text_made run target old
+  pub within : length new.items ≤ run_limit (length old.items)
+  pub limit : HasItems old → limit_of new ≡ run_limit (length old.items)
   pub counted : HasItems old → EachWithin (prepare_steps run target) (entered old)
 
 -- a text was shaped: exactly this was made of it, within the run's limit, and no step made a list past it

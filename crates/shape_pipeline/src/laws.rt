@@ -4,20 +4,28 @@
 //! flags, and for canonical form that they split and compose lawfully. A plain caller, whose shaper gives
 //! no hook and whose engine has no lookups, has all of it by [`plain_runs_owe_nothing`]; one with hooks or
 //! lookups of its own proves those alone, and takes the rest from here.
-ghost use Rattle.std.specs.Prelude.{◌≡◌, false};
+ghost use Rattle.std.specs.Prelude.{◌≡◌, ◌≢◌, false};
+ghost use Rattle.shape_buffer.specs.Buffer.{Buffer};
 ghost use Rattle.shape_buffer.specs.Keepers.{LookupsKeepClusters, LookupsKeepFlags};
 ghost use Rattle.shape_buffer.specs.NoLookups.{no_lookups};
-ghost use Rattle.shape_normalize.specs.Normalized.{HookKeepsClusters};
+ghost use Rattle.shape_buffer.specs.declared.buffer.settings.Direction.{Direction};
+ghost use Rattle.shape_normalize.specs.Normalized.{normalized, HookKeepsClusters};
 ghost use Rattle.shape_plan.specs.Keepers.{RunKeepsFlags};
 ghost use Rattle.shape_plan.specs.Plan.{Plan};
 ghost use Rattle.shape_plan.specs.Shapers.{no_hooks};
 ghost use Rattle.shape_plan.specs.declared.ot_shaper.shapers.hb_default_shaper_t.{hb_default_shaper_t as DefaultShaper};
-ghost use Rattle.shape_pipeline.specs.Order.{RunKeepsClusters};
+ghost use Rattle.shape_pipeline.specs.Headline.{NormalForm, FlagsAreByCluster};
+ghost use Rattle.shape_pipeline.specs.Order.{RunKeepsClusters, ClustersComeInOrder};
+ghost use Rattle.shape_pipeline.specs.Shaped.{run_made};
 ghost use Rattle.shape_pipeline.specs.Premises.{LeavesBuffers, OwesNothing};
 
 use shape_buffer::interfaces::{NoLookups, hb_font_t, hb_ot_layout_t, hb_unicode_funcs_t};
 pub use shape_normalize::laws::{hooks_not_given_are_lawful, reordering_permutes_the_run};
+use shape_plan::ot_shape_plan::hb_ot_shape_plan_t;
 use shape_plan::ot_shaper::{Runs, hb_default_shaper_t, hb_ot_shaper_t};
+pub use shape_prepare::laws::{
+    preparing_keeps_firsts, preparing_keeps_flags, preparing_keeps_order, preparing_prepares,
+};
 
 /// The engine that changes nothing keeps clusters and flags, whatever was compiled and whatever the face.
 pub fn no_lookups_keep()
@@ -63,3 +71,26 @@ pub fn plain_runs_owe_nothing<U: hb_unicode_funcs_t, F: hb_font_t>()
     ensures { (plan : Plan DefaultShaper Unit Unit) (face : F)
         → OwesNothing (⟦<hb_default_shaper_t as Runs<U, F, NoLookups>>⟧.run plan face) }
 {}
+
+/// What is promised of whole runs, for callers of `shape_internal`, whose `ok` says what a run makes: over any
+/// text in a known direction its clusters come in order and its flags by cluster, under their premises; and
+/// the normalised list of any buffer has its form. Does nothing.
+pub fn whole_runs_keep_promises<U, F, M, S>(
+    plan: &hb_ot_shape_plan_t<'_, S, M::Map, S::Data>,
+    face: &F,
+)
+where
+    U: hb_unicode_funcs_t,
+    F: hb_font_t,
+    M: hb_ot_layout_t<F>,
+    S: hb_ot_shaper_t<U, F, M>,
+    ensures clusters { let run = ⟦<S as Runs<U, F, M>>⟧.run plan.now face.now in
+        (text : Buffer) → text.direction ≢ Direction.Invalid
+        → ClustersComeInOrder run text.direction text (run_made run text.direction text) }
+    ensures flags { let run = ⟦<S as Runs<U, F, M>>⟧.run plan.now face.now in
+        (target : Direction) (text : Buffer) → FlagsAreByCluster run text (run_made run target text) }
+    ensures form { let run = ⟦<S as Runs<U, F, M>>⟧.run plan.now face.now in
+        (text : Buffer) → NormalForm run.rules text (normalized run.rules text) }
+{
+    plan.masks_are_features();
+}

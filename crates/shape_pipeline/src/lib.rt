@@ -9,6 +9,7 @@
 pub mod laws;
 pub mod ot_shape;
 pub mod shape;
+pub mod worked;
 
 pub use shape_fallback::ot_shape_fallback;
 pub use shape_normalize::ot_shape_normalize;

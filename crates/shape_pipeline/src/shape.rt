@@ -38,7 +38,7 @@ where
     ensures form { let run = ⟦<S as Runs<U, F, M>>⟧.run plan.now face.now in
         IfOk result (λ _. NormalForm run.rules (prepared_text run buffer) (normalised_list run buffer)) }
     ensures clusters { let run = ⟦<S as Runs<U, F, M>>⟧.run plan.now face.now in
-        IfOk result (λ glyphs. ClustersComeInOrder run buffer glyphs) }
+        IfOk result (λ glyphs. ClustersComeInOrder run (target_of run buffer) (guessed U.unicode buffer) glyphs) }
     ensures flags { let run = ⟦<S as Runs<U, F, M>>⟧.run plan.now face.now in
         IfOk result (λ glyphs. FlagsAreByCluster run buffer glyphs) }
     ensures within { IfOk result (λ glyphs. length glyphs.items ≤ run_limit (length buffer.items)) }
@@ -92,7 +92,7 @@ where
         IfOk result (λ _. NormalForm run.rules (prepared_text run buffer) (normalised_list run buffer)) }
     ensures clusters { let run = ⟦<S as Runs<U, F, M>>⟧.run
         (planned_for U.unicode ⟦<S as Plans<U, F, M>>⟧.planning face.now shaper.now features.now buffer) face.now in
-        IfOk result (λ glyphs. ClustersComeInOrder run buffer glyphs) }
+        IfOk result (λ glyphs. ClustersComeInOrder run (target_of run buffer) (guessed U.unicode buffer) glyphs) }
     ensures flags { let run = ⟦<S as Runs<U, F, M>>⟧.run
         (planned_for U.unicode ⟦<S as Plans<U, F, M>>⟧.planning face.now shaper.now features.now buffer) face.now in
         IfOk result (λ glyphs. FlagsAreByCluster run buffer glyphs) }

@@ -5,9 +5,9 @@ use Rattle.shape_buffer.specs.declared.buffer.settings.Direction.{Direction}
 use Rattle.shape_normalize.proofs.RulesLemmas.{used_reorder-lawful}
 use Rattle.shape_plan.specs.Run.{run_of}
 use Rattle.shape_pipeline.specs.Headline.{prepared_text, HasFlagsByCluster}
-use Rattle.shape_pipeline.specs.Order.{ComesInOrder}
+use Rattle.shape_pipeline.specs.Order.{ClustersComeInOrder}
 use Rattle.shape_pipeline.proofs.FlagRunLemmas.{flags-run_made}
-use Rattle.shape_pipeline.proofs.OrderLemmas.{clusters-shaped}
+use Rattle.shape_pipeline.proofs.OrderLemmas.{clusters-run_made, target_of-known}
 use Rattle.shape_pipeline.proofs.RunLemmas.{normal_form, direction-made}
 use Rattle.shape_pipeline.specs.Shaped.{shaped, ShapingPasses}
 use Rattle.shape_pipeline.proofs.shape.shape_with_plan.Goals as goal
@@ -27,12 +27,16 @@ returns-in-Ok-clause-direction g c =
     ap (λ (b : Buffer). b.direction) made ∙ direction-made run (guessed_direction unicode c.args.buffer) (guessed unicode c.args.buffer) refl
 
 pub returns-in-Ok-clause-clusters : goal.returns-in-Ok-clause-clusters
-returns-in-Ok-clause-clusters g c = λ keeps monotone rising.
+returns-in-Ok-clause-clusters g c =
     let shaper = g.S.hb_ot_shaper_t in
-    let run = run_of g.U.hb_unicode_funcs_t.unicode g.M.hb_ot_layout_t.masks g.M.hb_ot_layout_t.lookups g.S.hb_ot_shaper_t.constants g.S.hb_ot_shaper_t.hooks g.F.hb_font_t.face c.args.plan.now c.args.face.now in
+    let unicode = g.U.hb_unicode_funcs_t.unicode in
+    let run = run_of unicode g.M.hb_ot_layout_t.masks g.M.hb_ot_layout_t.lookups g.S.hb_ot_shaper_t.constants g.S.hb_ot_shaper_t.hooks g.F.hb_font_t.face c.args.plan.now c.args.face.now in
     let lawful = used_reorder-lawful shaper.hooks g.met.S.hb_ot_shaper_t.lawful_hooks shaper.constants.has_reorder_marks c.args.plan.now c.args.face.now in
     let made : c.into_glyphs.result ≡ shaped run c.args.buffer = search rules in
-    subst (λ (glyphs : Buffer). ComesInOrder run c.args.buffer glyphs) (sym made) (clusters-shaped run c.args.buffer lawful keeps monotone rising)
+    let target = guessed_direction unicode c.args.buffer in
+    let text = guessed unicode c.args.buffer in
+    subst (λ (glyphs : Buffer). ClustersComeInOrder run target text glyphs) (sym made)
+    (clusters-run_made run target (target_of-known run c.args.buffer) lawful text refl)
 
 pub returns-in-Ok-clause-flags : goal.returns-in-Ok-clause-flags
 returns-in-Ok-clause-flags g c = λ keeps.
