@@ -1,7 +1,7 @@
 //! The plan of a run: what is known of its direction, script, shaper and lookups before its text is.
 //!
 //! A plan is made once, by its planner, and serves every text that it fits. What holds of every plan's
-//! decisions is kept with the type: no mask has a flag bit, and one table alone positions and kerns.
+//! decisions is kept with the type: no mask has a flag bit, and of `kern` and `kerx` one alone kerns.
 ghost use Rattle.std.specs.Prelude.{◌≡◌, ◌≢◌, ◌↔◌, IsTrue, None, IfOk, IfErr, IsOkUnless, OnOk, MatchResult, Option, option_copied, string_bytes};
 ghost use Rattle.std.specs.Option.{option_map};
 ghost use Rattle.shape_plan.specs.Decisions.{AreLawful, MasksAreFeatures, PositionsByOneTable};

@@ -3,7 +3,7 @@
 //! A face and the tables of a plan place the glyphs of a list one after another; then the list is put in
 //! the order of its direction, what is to stay unseen is hidden, and each cluster gets one set of flags.
 //! Each step is one function over a plan, a face and a buffer, whose contract names the definition that it
-//! makes of the buffer; [`position`] and [`finish`] run them in their order.
+//! makes of the buffer; [`advances`], [`positioning`] and [`finishing`] run them in their order.
 #![tactic(auto)]
 #![allow(non_camel_case_types)]
 

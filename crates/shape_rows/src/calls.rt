@@ -3,6 +3,7 @@
 use crate::support::{PlainUnicode, RowFace};
 use shape_buffer::buffer::{Direction, Feature, Language, Script, UnicodeBuffer, hb_tag_t};
 use shape_buffer::interfaces::{NoLookups, TableIndex, hb_ot_map_builder_t};
+use shape_pipeline::ot_shape::{hb_ot_shape_context_t, shape_internal};
 use shape_pipeline::ot_shape_normalize::_hb_ot_shape_normalize;
 use shape_pipeline::ot_shape_plan::hb_ot_shape_plan_t;
 use shape_pipeline::ot_shaper::{DEFAULT_SHAPER, hb_default_shaper_t};
@@ -92,6 +93,42 @@ fn normalising_keeps_what_is_not_split(rt: HostRuntime) -> Result<(), Fail> {
     assert_eq!(rt; buffer.len(), 2);
     for (info, (c, glyph)) in buffer.infos().iter().zip([('a', 0x61), ('\u{e9}', 0)]) {
         assert_eq!(rt; (info.codepoint, info.glyph_index), (c, glyph));
+    }
+    Ok(())
+}
+
+/// Two letters without a script, from right to left: the run turns them, and leaves the limit behind.
+#[test]
+fn a_buffer_is_shaped_in_place(rt: HostRuntime) -> Result<(), Fail> {
+    let alloc = rt.alloc();
+    let face = RowFace::of(&['a', 'b']);
+    let plan = hb_ot_shape_plan_t::new::<PlainUnicode, RowFace<'_>, NoLookups>(
+        alloc,
+        &face,
+        &DEFAULT_SHAPER,
+        Direction::RightToLeft,
+        None,
+        None,
+        &[],
+    )?;
+    let mut text = UnicodeBuffer::new(alloc);
+    text.push_str("ab")?;
+    text.set_direction(Direction::RightToLeft);
+    let mut buffer = text.into_inner();
+    let target_direction = buffer.direction();
+    assert!(rt; target_direction == Direction::RightToLeft);
+    let mut ctx = hb_ot_shape_context_t {
+        plan: &plan,
+        face: &face,
+        buffer: &mut buffer,
+        target_direction,
+    };
+    shape_internal::<PlainUnicode, RowFace<'_>, NoLookups, _>(alloc, &mut ctx)?;
+    assert_eq!(rt; buffer.direction(), Direction::RightToLeft);
+    assert_eq!(rt; buffer.length_limit(), usize::MAX);
+    assert_eq!(rt; buffer.len(), 2);
+    for (info, (glyph, cluster)) in buffer.infos().iter().zip([(0x62, 1), (0x61, 0)]) {
+        assert_eq!(rt; (info.glyph_id, info.cluster), (glyph, cluster));
     }
     Ok(())
 }

@@ -3,7 +3,7 @@
 //!
 //! Combining classes are fixed for ever, and some of them order the marks of a script otherwise than its
 //! fonts do. So shaping takes others in their place, as HarfBuzz does (`hb-unicode.hh`, "modified
-//! combining class"). Classes are only exchanged, and none becomes 0, so that marks of two classes still
+//! combining class"). No two classes become one, and none becomes 0, so that marks of two classes still
 //! have two: the order of marks changes, and what is equivalent doesn't
 //! ([`crate::laws::equivalence_is_canonical`]). Three marks have a class of their own.
 ghost use Rattle.std.specs.Prelude.{◌≡◌};

@@ -1,6 +1,6 @@
 //! Classes of marks for fallback positions.
 //!
-//! The classes of 200 and more name a side of the base (The Unicode Standard, table 4-4). Those below
+//! The classes of 200 and more name a side of the base (UAX 44, section 5.7.4). Those below
 //! only keep marks of one script apart when they are put in order, so they say nothing of a place; each
 //! gets the side that marks of the class stand at. Marks of Thai and Lao often have class 0, and go by
 //! their character.

@@ -109,6 +109,35 @@ fn directions(rt: HostRuntime) -> Result<(), Fail> {
     Ok(())
 }
 
+/// A planner that has collected what it asks is compiled: a plan for its direction, with the user's features.
+#[test]
+fn a_planner_is_compiled(rt: HostRuntime) -> Result<(), Fail> {
+    let face = Bits(0);
+    let kern = Feature {
+        tag: hb_tag_t::from_bytes(b"kern"),
+        value: 0,
+        start: 0,
+        end: u32::MAX,
+    };
+    let mut planner = hb_ot_shape_planner_t::<Bits, hb_default_shaper_t>::new::<
+        PlainUnicode,
+        BitLayout,
+    >(
+        rt.alloc(),
+        &face,
+        &DEFAULT_SHAPER,
+        Direction::TopToBottom,
+        None,
+        None,
+    );
+    planner.collect_features::<PlainUnicode, BitLayout>(rt.alloc(), &[kern])?;
+    let plan = planner.compile::<PlainUnicode, BitLayout>(rt.alloc(), &[kern])?;
+    assert_eq!(rt; plan.direction(), Direction::TopToBottom);
+    assert_eq!(rt; plan.user_features().len(), 1);
+    assert!(rt; plan.shaper().is_some() && !plan.apply_gpos());
+    Ok(())
+}
+
 #[test]
 fn of_the_user(rt: HostRuntime) -> Result<(), Fail> {
     let kern = Feature {
