@@ -1,4 +1,4 @@
--- Full: any steps from the height on give it, it goes along a split, and it keeps nonzero classes.
+-- Full: any steps from the height on give it, it goes along a split, and it keeps nonzero ccc.
 use Rattle.std.proofs.Common.{◌≡◌, ℕ, zero, suc, ◌<◌, ◌≤◌, ◌⊎◌, ◌==◌, List, [], ◌∷◌, ◌++◌, Option, Some, None, flat_map, refl, sym, ap, subst, ◌∙◌, arith, inl, inr}
 use Rattle.std.proofs.lemmas.Bool.{cases_Bool}
 use Rattle.std.proofs.lemmas.Bool.Decides.{nat_tests}
@@ -62,12 +62,13 @@ module _ (split : ℕ → Option (ℕ × ℕ)) (height : ℕ → ℕ) (falling :
       ∙ ap (λ l. l ++ kept_part b) (full_within-any (height c) (height a) a (omega arith) (omega arith))
 
 -- the two rules give Full and nothing else
-pub IsFull-full : (split : ℕ → Option (ℕ × ℕ)) (height : ℕ → ℕ) → FallsAlong split height → {c : ℕ} {xs : List ℕ} → IsFull split c xs → xs ≡ full split height c
+pub IsFull-full : (split : ℕ → Option (ℕ × ℕ)) (height : ℕ → ℕ) → FallsAlong split height → {c : ℕ} {xs : List ℕ} → IsFull split c xs
+    → xs ≡ full split height c
 IsFull-full split height falling (stays e) = sym (full-stays split height falling _ e)
 IsFull-full split height falling (splits_into {b = b} e inner) =
     ap (λ xs. xs ++ kept_part b) (IsFull-full split height falling inner) ∙ sym (full-splits split height falling _ _ _ e)
 
-module _ (split : ℕ → Option (ℕ × ℕ)) (height class : ℕ → ℕ) (lawful : SplitsFall split height class) where
+module _ (split : ℕ → Option (ℕ × ℕ)) (height ccc : ℕ → ℕ) (lawful : SplitsFall split height ccc) where
   -- a second part is its own Full
   pub full_text-kept_part : (c a b : ℕ) → split c ≡ Some (a, b) → full_text split height (kept_part b) ≡ kept_part b
   unfolding full_text
@@ -81,36 +82,45 @@ module _ (split : ℕ → Option (ℕ × ℕ)) (height class : ℕ → ℕ) (law
             ]
       ]
 
-  -- Full of a mark has its class throughout
-  class_within : (n c k : ℕ) → height c ≤ n → 0 < class c → class c ≡ k → AllByRecursion (λ d. class d ≡ k) (full split height c)
-  class_within zero c k low mark same = subst (AllByRecursion (λ d. class d ≡ k)) (sym (full-stays split height lawful.height_falls c (at_height_zero split height lawful.height_falls c low))) (same, tt)
-  class_within (suc n) c k low mark same = go (split c) refl (λ a. class_within n a k)
+  -- Full of a mark has its ccc throughout
+  ccc_within : (n c k : ℕ) → height c ≤ n → 0 < ccc c → ccc c ≡ k → AllByRecursion (λ d. ccc d ≡ k) (full split height c)
+  ccc_within zero c k low mark same =
+      subst (AllByRecursion (λ d. ccc d ≡ k)) (sym
+      (full-stays split height lawful.height_falls c (at_height_zero split height lawful.height_falls c low))) (same, tt)
+  ccc_within (suc n) c k low mark same = go (split c) refl (λ a. ccc_within n a k)
     where
-      go : (o : Option (ℕ × ℕ)) → split c ≡ o → ((a : ℕ) → height a ≤ n → 0 < class a → class a ≡ k → AllByRecursion (λ d. class d ≡ k) (full split height a)) → AllByRecursion (λ d. class d ≡ k) (full split height c)
-      go None last later = subst (AllByRecursion (λ d. class d ≡ k)) (sym (full-stays split height lawful.height_falls c last)) (same, tt)
+      go : (o : Option (ℕ × ℕ)) → split c ≡ o
+          → ((a : ℕ) → height a ≤ n → 0 < ccc a → ccc a ≡ k → AllByRecursion (λ d. ccc d ≡ k) (full split height a))
+          → AllByRecursion (λ d. ccc d ≡ k) (full split height c)
+      go None last later = subst (AllByRecursion (λ d. ccc d ≡ k)) (sym (full-stays split height lawful.height_falls c last)) (same, tt)
       go (Some p) splits later =
           let falls = lawful.height_falls.falls c p.0 p.1 splits in
-          let first = lawful.first_class c p.0 p.1 (λ e. omega arith) splits in
-          let other : (p.1 ≡ 0) ⊎ (class p.1 ≡ k) =
-          elim (lawful.second_class c p.0 p.1 (λ e. omega arith) splits) [ inl none ↦ inl none | inr b ↦ inr (b ∙ same) ] in
-          subst (AllByRecursion (λ d. class d ≡ k)) (sym (full-splits split height lawful.height_falls c p.0 p.1 splits))
-          (append_all (λ d. class d ≡ k) _ _ (later p.0 (omega arith) (omega arith) (first ∙ same)) (kept_part_all (λ d. class d ≡ k) p.1 other))
+          let first = lawful.first_ccc c p.0 p.1 (λ e. omega arith) splits in
+          let other : (p.1 ≡ 0) ⊎ (ccc p.1 ≡ k) =
+          elim (lawful.second_ccc c p.0 p.1 (λ e. omega arith) splits) [ inl none ↦ inl none | inr b ↦ inr (b ∙ same) ] in
+          subst (AllByRecursion (λ d. ccc d ≡ k)) (sym (full-splits split height lawful.height_falls c p.0 p.1 splits))
+          (append_all (λ d. ccc d ≡ k) _ _ (later p.0 (omega arith) (omega arith) (first ∙ same))
+          (kept_part_all (λ d. ccc d ≡ k) p.1 other))
 
-  pub full-class : (c : ℕ) → 0 < class c → AllByRecursion (λ d. class d ≡ class c) (full split height c)
-  full-class c mark = class_within (height c) c (class c) (omega arith) mark refl
+  pub full-ccc : (c : ℕ) → 0 < ccc c → AllByRecursion (λ d. ccc d ≡ ccc c) (full split height c)
+  full-ccc c mark = ccc_within (height c) c (ccc c) (omega arith) mark refl
 
   -- nothing in Full splits
   whole_within : (n c : ℕ) → height c ≤ n → AllByRecursion (λ d. split d ≡ None) (full split height c)
   whole_within zero c low =
-      let last = at_height_zero split height lawful.height_falls c low in subst (AllByRecursion (λ d. split d ≡ None)) (sym (full-stays split height lawful.height_falls c last)) (last, tt)
+      let last = at_height_zero split height lawful.height_falls c low in subst (AllByRecursion (λ d. split d ≡ None))
+      (sym (full-stays split height lawful.height_falls c last)) (last, tt)
   whole_within (suc n) c low = go (split c) refl (λ a. whole_within n a)
     where
-      go : (o : Option (ℕ × ℕ)) → split c ≡ o → ((a : ℕ) → height a ≤ n → AllByRecursion (λ d. split d ≡ None) (full split height a)) → AllByRecursion (λ d. split d ≡ None) (full split height c)
-      go None last later = subst (AllByRecursion (λ d. split d ≡ None)) (sym (full-stays split height lawful.height_falls c last)) (last, tt)
+      go : (o : Option (ℕ × ℕ)) → split c ≡ o → ((a : ℕ) → height a ≤ n → AllByRecursion (λ d. split d ≡ None) (full split height a))
+          → AllByRecursion (λ d. split d ≡ None) (full split height c)
+      go None last later =
+          subst (AllByRecursion (λ d. split d ≡ None)) (sym (full-stays split height lawful.height_falls c last)) (last, tt)
       go (Some p) splits later =
           let falls = lawful.height_falls.falls c p.0 p.1 splits in
           subst (AllByRecursion (λ d. split d ≡ None)) (sym (full-splits split height lawful.height_falls c p.0 p.1 splits))
-          (append_all (λ d. split d ≡ None) _ _ (later p.0 (omega arith)) (kept_part_all (λ d. split d ≡ None) p.1 (lawful.second_is_last c p.0 p.1 splits)))
+          (append_all (λ d. split d ≡ None) _ _ (later p.0 (omega arith))
+          (kept_part_all (λ d. split d ≡ None) p.1 (lawful.second_is_last c p.0 p.1 splits)))
 
   pub full-whole : (c : ℕ) → AllByRecursion (λ d. split d ≡ None) (full split height c)
   full-whole c = whole_within (height c) c (omega arith)

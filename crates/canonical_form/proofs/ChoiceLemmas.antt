@@ -27,7 +27,8 @@ or_some None p x e = inr (refl, e)
 or_some (Some y) p x e = inl e
 
 -- an expansion that is supported, or else none
-if_supported : (has_glyph : ℕ → Bool) (o : Option (List ℕ)) (l : List ℕ) → (if is_supported has_glyph o then o else None) ≡ Some l → (o ≡ Some l) × (list_all has_glyph l ≡ true)
+if_supported : (has_glyph : ℕ → Bool) (o : Option (List ℕ)) (l : List ℕ) → (if is_supported has_glyph o then o else None) ≡ Some l
+    → (o ≡ Some l) × (list_all has_glyph l ≡ true)
 if_supported has_glyph None l e = absurd (none-some l e)
 if_supported has_glyph (Some xs) l e =
     elim (cases_Bool (list_all has_glyph xs)) [
@@ -38,7 +39,8 @@ if_supported has_glyph (Some xs) l e =
       | inr fail ↦ absurd (none-some l (sym (cond-false _ (Some xs) None fail) ∙ e))
     ]
 
-if_unsupported : (has_glyph : ℕ → Bool) (o : Option (List ℕ)) → (if is_supported has_glyph o then o else None) ≡ None → is_supported has_glyph o ≡ false
+if_unsupported : (has_glyph : ℕ → Bool) (o : Option (List ℕ)) → (if is_supported has_glyph o then o else None) ≡ None
+    → is_supported has_glyph o ≡ false
 if_unsupported has_glyph None e = refl
 if_unsupported has_glyph (Some xs) e =
     elim (cases_Bool (list_all has_glyph xs)) [
@@ -66,7 +68,8 @@ module _ (split : ℕ → Option (ℕ × ℕ)) (has_glyph : ℕ → Bool) where
       let parts = or_none (least_supported split has_glyph n c) (at_length (suc n) c) e in
       next_none c n k parts.1 (λ lower. least-none n c k parts.0 above lower) below
 
-  greatest-some : (n c : ℕ) (l : List ℕ) → greatest_supported split has_glyph n c ≡ Some l → (k : ℕ) × (0 < k) × (k ≤ n) × (at_length k c ≡ Some l) × ((j : ℕ) → k < j → j ≤ n → at_length j c ≡ None)
+  greatest-some : (n c : ℕ) (l : List ℕ) → greatest_supported split has_glyph n c ≡ Some l
+      → (k : ℕ) × (0 < k) × (k ≤ n) × (at_length k c ≡ Some l) × ((j : ℕ) → k < j → j ≤ n → at_length j c ≡ None)
   greatest-some zero c l e = absurd (none-some l e)
   greatest-some (suc n) c l e =
       elim (or_some (at_length (suc n) c) (greatest_supported split has_glyph n c) l e) [
@@ -76,7 +79,8 @@ module _ (split : ℕ → Option (ℕ × ℕ)) (has_glyph : ℕ → Bool) where
             (rest.0, rest.1, omega (arith, rest.2), rest.3, λ j above below. next_none c n j none (λ lower. rest.4 j above lower) below)
       ]
 
-  least-some : (n c : ℕ) (l : List ℕ) → least_supported split has_glyph n c ≡ Some l → (k : ℕ) × (0 < k) × (k ≤ n) × (at_length k c ≡ Some l) × ((j : ℕ) → 0 < j → j < k → at_length j c ≡ None)
+  least-some : (n c : ℕ) (l : List ℕ) → least_supported split has_glyph n c ≡ Some l
+      → (k : ℕ) × (0 < k) × (k ≤ n) × (at_length k c ≡ Some l) × ((j : ℕ) → 0 < j → j < k → at_length j c ≡ None)
   least-some zero c l e = absurd (none-some l e)
   least-some (suc n) c l e =
       elim (or_some (least_supported split has_glyph n c) (at_length (suc n) c) l e) [
@@ -87,7 +91,8 @@ module _ (split : ℕ → Option (ℕ × ℕ)) (has_glyph : ℕ → Bool) where
       ]
 
   -- what was found at length k, and is there nowhere where `rest` is none
-  found_at_length : (c k : ℕ) (l : List ℕ) → at_length k c ≡ Some l → (expansion split k c ≡ Some l) × (is_supported has_glyph (expansion split k c) ≡ true)
+  found_at_length : (c k : ℕ) (l : List ℕ) → at_length k c ≡ Some l
+      → (expansion split k c ≡ Some l) × (is_supported has_glyph (expansion split k c) ≡ true)
   found_at_length c k l e =
       let parts = if_supported has_glyph (expansion split k c) l e in
       (parts.0, ap (is_supported has_glyph) parts.0 ∙ parts.1)
@@ -113,7 +118,8 @@ module _ (split : ℕ → Option (ℕ × ℕ)) (has_glyph : ℕ → Bool) where
     pub least_none : (c : ℕ) → least_supported split has_glyph (height c) c ≡ None → HasNoneSupported split has_glyph c
     least_none c e = none_anywhere c (λ k above below. least-none (height c) c k e above below)
 
-    pub greatest_found : (c : ℕ) (l : List ℕ) → greatest_supported split has_glyph (height c) c ≡ Some l → IsGreatestSupported split has_glyph c l
+    pub greatest_found : (c : ℕ) (l : List ℕ) → greatest_supported split has_glyph (height c) c ≡ Some l
+        → IsGreatestSupported split has_glyph c l
     greatest_found c l e =
         let at = greatest-some (height c) c l e in
         let found = found_at_length c at.0 l at.3 in
@@ -125,7 +131,8 @@ module _ (split : ℕ → Option (ℕ × ℕ)) (has_glyph : ℕ → Bool) where
           none_longer = λ k longer. beyond at.0 at.4 k longer;
         }
       where
-        beyond : (n : ℕ) → ((j : ℕ) → n < j → j ≤ height c → at_length j c ≡ None) → (k : ℕ) → n < k → is_supported has_glyph (expansion split k c) ≡ false
+        beyond : (n : ℕ) → ((j : ℕ) → n < j → j ≤ height c → at_length j c ≡ None) → (k : ℕ) → n < k
+            → is_supported has_glyph (expansion split k c) ≡ false
         beyond n none k longer =
             elim (cases_order k (height c)) [
               | inl same ↦ none_at_length c k (none k longer (omega arith))
@@ -156,12 +163,14 @@ module _ (split : ℕ → Option (ℕ × ℕ)) (has_glyph : ℕ → Bool) where
   itself_glyphs : (c : ℕ) → All (HasGlyphOrIs has_glyph c) (c ∷ [])
   itself_glyphs c = All-push (HasGlyphOrIs has_glyph c) [] c (All-nil (HasGlyphOrIs has_glyph c)) (inr refl)
 
-  or_itself_glyphs : (c : ℕ) (o : Option (List ℕ)) → ((l : List ℕ) → o ≡ Some l → list_all has_glyph l ≡ true) → All (HasGlyphOrIs has_glyph c) (unwrap_or o (c ∷ []))
+  or_itself_glyphs : (c : ℕ) (o : Option (List ℕ)) → ((l : List ℕ) → o ≡ Some l → list_all has_glyph l ≡ true)
+      → All (HasGlyphOrIs has_glyph c) (unwrap_or o (c ∷ []))
   or_itself_glyphs c None glyphs = itself_glyphs c
   or_itself_glyphs c (Some l) glyphs = λ k d h. inl (AllPass-from_list_all has_glyph l (glyphs l refl) k d h)
 
   -- what is chosen is found by one of the two searches
-  chosen_by : (height : ℕ → ℕ) (short : Bool) (c : ℕ) (l : List ℕ) → chosen_expansion split height has_glyph short c ≡ Some l → (greatest_supported split has_glyph (height c) c ≡ Some l) ⊎ (least_supported split has_glyph (height c) c ≡ Some l)
+  chosen_by : (height : ℕ → ℕ) (short : Bool) (c : ℕ) (l : List ℕ) → chosen_expansion split height has_glyph short c ≡ Some l
+      → (greatest_supported split has_glyph (height c) c ≡ Some l) ⊎ (least_supported split has_glyph (height c) c ≡ Some l)
   chosen_by height false c l e = inl e
   chosen_by height true c l e =
       elim (cases_Bool (has_glyph c)) [
@@ -169,23 +178,31 @@ module _ (split : ℕ → Option (ℕ × ℕ)) (has_glyph : ℕ → Bool) where
         | inr lacks ↦ inr (sym (cond-false _ None (least_supported split has_glyph (height c) c) lacks) ∙ e)
       ]
 
-  pub chosen_glyphs : (height : ℕ → ℕ) (short : Bool) (c : ℕ) (l : List ℕ) → chosen_expansion split height has_glyph short c ≡ Some l → list_all has_glyph l ≡ true
+  pub chosen_glyphs : (height : ℕ → ℕ) (short : Bool) (c : ℕ) (l : List ℕ) → chosen_expansion split height has_glyph short c ≡ Some l
+      → list_all has_glyph l ≡ true
   chosen_glyphs height short c l e =
-      elim (chosen_by height short c l e) [ inl longest ↦ greatest_glyphs (height c) c l longest | inr shortest ↦ least_glyphs (height c) c l shortest ]
+      elim (chosen_by height short c l e) [
+        | inl longest ↦ greatest_glyphs (height c) c l longest
+        | inr shortest ↦ least_glyphs
+            (height c) c l shortest
+      ]
 
   -- each character of a choice is the character itself or has a glyph
   pub choice_glyphs : (height : ℕ → ℕ) (short : Bool) (c : ℕ) → All (HasGlyphOrIs has_glyph c) (choice split height has_glyph short c)
-  choice_glyphs height short c = or_itself_glyphs c (chosen_expansion split height has_glyph short c) (λ l e. chosen_glyphs height short c l e)
+  choice_glyphs height short c =
+      or_itself_glyphs c (chosen_expansion split height has_glyph short c) (λ l e. chosen_glyphs height short c l e)
 
   -- a choice is the character itself or an expansion
   abbrev pub IsSomeExpansion : ℕ → List ℕ → Type 0
   IsSomeExpansion c l = (k : ℕ) × (expansion split k c ≡ Some l)
 
-  or_itself_expansion : (c : ℕ) (o : Option (List ℕ)) → ((l : List ℕ) → o ≡ Some l → IsSomeExpansion c l) → IsSomeExpansion c (unwrap_or o (c ∷ []))
+  or_itself_expansion : (c : ℕ) (o : Option (List ℕ)) → ((l : List ℕ) → o ≡ Some l → IsSomeExpansion c l)
+      → IsSomeExpansion c (unwrap_or o (c ∷ []))
   or_itself_expansion c None found = (0, refl)
   or_itself_expansion c (Some l) found = found l refl
 
-  chosen_is_expansion : (height : ℕ → ℕ) (short : Bool) (c : ℕ) (l : List ℕ) → chosen_expansion split height has_glyph short c ≡ Some l → IsSomeExpansion c l
+  chosen_is_expansion : (height : ℕ → ℕ) (short : Bool) (c : ℕ) (l : List ℕ) → chosen_expansion split height has_glyph short c ≡ Some l
+      → IsSomeExpansion c l
   chosen_is_expansion height short c l e =
       elim (chosen_by height short c l e) [
         | inl longest ↦ let at = greatest-some (height c) c l longest in (at.0, (if_supported has_glyph (expansion split at.0 c) l at.3).0)
@@ -193,11 +210,12 @@ module _ (split : ℕ → Option (ℕ × ℕ)) (has_glyph : ℕ → Bool) where
       ]
 
   pub choice_expansion : (height : ℕ → ℕ) (short : Bool) (c : ℕ) → IsSomeExpansion c (choice split height has_glyph short c)
-  choice_expansion height short c = or_itself_expansion c (chosen_expansion split height has_glyph short c) (λ l e. chosen_is_expansion height short c l e)
+  choice_expansion height short c =
+      or_itself_expansion c (chosen_expansion split height has_glyph short c) (λ l e. chosen_is_expansion height short c l e)
 
 -- ---- Full
 
-module _ (split : ℕ → Option (ℕ × ℕ)) (height class : ℕ → ℕ) (lawful : SplitsFall split height class) where
+module _ (split : ℕ → Option (ℕ × ℕ)) (height ccc : ℕ → ℕ) (lawful : SplitsFall split height ccc) where
   -- Full of an expansion of c is Full of c
   pub full_text-expansion : (k c : ℕ) (l : List ℕ) → expansion split k c ≡ Some l → full_text split height l ≡ full split height c
   unfolding full_text
@@ -206,30 +224,39 @@ module _ (split : ℕ → Option (ℕ × ℕ)) (height class : ℕ → ℕ) (law
       ap (flat_map (full split height)) (sym same) ∙ append-nil (full split height c)
   full_text-expansion (suc k) c l e = outer (split c) refl (λ a parts found. full_text-expansion k a parts found)
     where
-      inner : (a b : ℕ) → split c ≡ Some (a, b) → (o : Option (List ℕ)) → expansion split k a ≡ o → option_map (λ xs. xs ++ kept_part b) o ≡ Some l → ((parts : List ℕ) → expansion split k a ≡ Some parts → flat_map (full split height) parts ≡ full split height a) → flat_map (full split height) l ≡ full split height c
+      inner : (a b : ℕ) → split c ≡ Some (a, b) → (o : Option (List ℕ)) → expansion split k a ≡ o
+          → option_map (λ xs. xs ++ kept_part b) o ≡ Some l
+          → ((parts : List ℕ) → expansion split k a ≡ Some parts → flat_map (full split height) parts ≡ full split height a)
+          → flat_map (full split height) l ≡ full split height c
       inner a b splits None found none later = absurd (none-some l none)
       inner a b splits (Some parts) found some later =
           let same : parts ++ kept_part b ≡ l = cc in
           ap (flat_map (full split height)) (sym same) ∙ flat_map-append (full split height) parts (kept_part b)
-          ∙ ap₂ ◌++◌ (later parts found) (full_text-kept_part split height class lawful c a b splits) ∙ sym (full-splits split height lawful.height_falls c a b splits)
+          ∙ ap₂ ◌++◌ (later parts found) (full_text-kept_part split height ccc lawful c a b splits)
+          ∙ sym (full-splits split height lawful.height_falls c a b splits)
 
-      outer : (o : Option (ℕ × ℕ)) → split c ≡ o → ((a : ℕ) (parts : List ℕ) → expansion split k a ≡ Some parts → flat_map (full split height) parts ≡ full split height a) → flat_map (full split height) l ≡ full split height c
+      outer : (o : Option (ℕ × ℕ)) → split c ≡ o
+          → ((a : ℕ) (parts : List ℕ) → expansion split k a ≡ Some parts → flat_map (full split height) parts ≡ full split height a)
+          → flat_map (full split height) l ≡ full split height c
       outer None whole later = absurd (none-some l (sym (expansion-end split k c whole) ∙ e))
       outer (Some p) splits later =
-          inner p.0 p.1 splits (expansion split k p.0) refl (sym (expansion-suc split k c p.0 p.1 splits) ∙ e) (λ parts found. later p.0 parts found)
+          inner p.0 p.1 splits (expansion split k p.0) refl (sym (expansion-suc split k c p.0 p.1 splits) ∙ e)
+          (λ parts found. later p.0 parts found)
 
   -- a choice keeps Full
-  pub full_text-choice : (has_glyph : ℕ → Bool) (short : Bool) (c : ℕ) → full_text split height (choice split height has_glyph short c) ≡ full split height c
+  pub full_text-choice : (has_glyph : ℕ → Bool) (short : Bool) (c : ℕ)
+      → full_text split height (choice split height has_glyph short c) ≡ full split height c
   full_text-choice has_glyph short c =
       let at = choice_expansion split has_glyph height short c in
       full_text-expansion at.0 c _ at.1
 
   -- so do the choices of a text, in clusters and out of them
-  pub full_text-expanded : (has_glyph is_mark : ℕ → Bool) (short : Bool → Bool) (text : List ℕ) → full_text split height (expanded_text split height has_glyph is_mark short text) ≡ full_text split height text
+  pub full_text-expanded : (has_glyph is_mark : ℕ → Bool) (short : Bool → Bool) (text : List ℕ)
+      → full_text split height (expanded_text split height has_glyph is_mark short text) ≡ full_text split height text
   unfolding full_text
   full_text-expanded has_glyph is_mark short text =
-      expanded-parts is_mark (λ in_cluster. choice split height has_glyph (short in_cluster)) (full split height) (full split height)
-      (λ in_cluster c. full_text-choice has_glyph (short in_cluster) c) text
+      expanded-parts is_mark (λ with_marks. choice split height has_glyph (short with_marks)) (full split height) (full split height)
+      (λ with_marks c. full_text-choice has_glyph (short with_marks) c) text
 
 -- ---- with a glyph for all of Full
 
@@ -261,7 +288,8 @@ module _ (split : ℕ → Option (ℕ × ℕ)) (height : ℕ → ℕ) (falling :
     where
       longer : (j : ℕ) → suc n < j → expansion split j c ≡ None
       longer zero above = absurd (omega arith)
-      longer (suc j) above = expansion-suc split j c a b splits ∙ ap (option_map (λ parts. parts ++ kept_part b)) (end.none_longer j (omega arith))
+      longer (suc j) above =
+          expansion-suc split j c a b splits ∙ ap (option_map (λ parts. parts ++ kept_part b)) (end.none_longer j (omega arith))
 
   pub chain_end : (m c : ℕ) → height c ≤ m → (n : ℕ) × EndsAt c n
   chain_end zero c low = go (split c) refl
@@ -278,11 +306,16 @@ module _ (split : ℕ → Option (ℕ × ℕ)) (height : ℕ → ℕ) (falling :
             (suc rest.0, ends_later c p.0 p.1 rest.0 splits rest.1)
       ]
 
-  at_end : (has_glyph : ℕ → Bool) (c n : ℕ) → EndsAt c n → list_all has_glyph (full split height c) ≡ true → (o : Option (List ℕ)) → greatest_supported split has_glyph (height c) c ≡ o → unwrap_or o (c ∷ []) ≡ full split height c
+  at_end : (has_glyph : ℕ → Bool) (c n : ℕ) → EndsAt c n → list_all has_glyph (full split height c) ≡ true → (o : Option (List ℕ))
+      → greatest_supported split has_glyph (height c) c ≡ o → unwrap_or o (c ∷ []) ≡ full split height c
   at_end has_glyph c n end glyphs None e =
       let pass : is_supported has_glyph (expansion split n c) ≡ true = ap (is_supported has_glyph) end.whole ∙ glyphs in
       let last : n ≡ 0 =
-      elim (cases_eq n 0) [ inl null ↦ null | inr long ↦ absurd (both_ways _ (greatest_none split has_glyph height falling c e n (omega arith)) pass) ] in
+      elim (cases_eq n 0) [
+        | inl null ↦ null
+        | inr long ↦ absurd
+            (both_ways _ (greatest_none split has_glyph height falling c e n (omega arith)) pass)
+      ] in
       let itself : Some (c ∷ []) ≡ Some (full split height c) = ap (λ k. expansion split k c) (sym last) ∙ end.whole in
       cc
   at_end has_glyph c n end glyphs (Some l) e =
@@ -298,20 +331,24 @@ module _ (split : ℕ → Option (ℕ × ℕ)) (height : ℕ → ℕ) (falling :
       cc
 
   -- with a glyph for each character of Full of c, the choice of greatest length is Full of c
-  pub choice-full : (has_glyph : ℕ → Bool) (c : ℕ) → list_all has_glyph (full split height c) ≡ true → choice split height has_glyph false c ≡ full split height c
+  pub choice-full : (has_glyph : ℕ → Bool) (c : ℕ) → list_all has_glyph (full split height c) ≡ true
+      → choice split height has_glyph false c ≡ full split height c
   choice-full has_glyph c glyphs =
       let end = chain_end (height c) c (omega arith) in
       at_end has_glyph c end.0 end.1 glyphs (greatest_supported split has_glyph (height c) c) refl
 
   -- and of a text, Full of the text
-  choices-full : (has_glyph : ℕ → Bool) (text : List ℕ) → list_all has_glyph (full_text split height text) ≡ true → flat_map (choice split height has_glyph false) text ≡ full_text split height text
+  choices-full : (has_glyph : ℕ → Bool) (text : List ℕ) → list_all has_glyph (full_text split height text) ≡ true
+      → flat_map (choice split height has_glyph false) text ≡ full_text split height text
   unfolding full_text
   choices-full has_glyph [] glyphs = refl
   choices-full has_glyph (c ∷ text) glyphs =
       let parts = and_parts _ _ (sym (list_all-append has_glyph (full split height c) (flat_map (full split height) text)) ∙ glyphs) in
       ap₂ ◌++◌ (choice-full has_glyph c parts.0) (choices-full has_glyph text parts.1)
 
-  pub expanded-full : (has_glyph is_mark : ℕ → Bool) (text : List ℕ) → list_all has_glyph (full_text split height text) ≡ true → expanded_text split height has_glyph is_mark (λ in_cluster. false) text ≡ full_text split height text
+  pub expanded-full : (has_glyph is_mark : ℕ → Bool) (text : List ℕ) → list_all has_glyph (full_text split height text) ≡ true
+      → expanded_text split height has_glyph is_mark (λ with_marks. false) text ≡ full_text split height text
   expanded-full has_glyph is_mark text glyphs =
-      expanded-plain is_mark (λ in_cluster. choice split height has_glyph false) (choice split height has_glyph false) (λ in_cluster c. refl) text
+      expanded-plain is_mark (λ with_marks. choice split height has_glyph false) (choice split height has_glyph false)
+      (λ with_marks c. refl) text
       ∙ choices-full has_glyph text glyphs

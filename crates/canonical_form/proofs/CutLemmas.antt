@@ -6,25 +6,37 @@ use Rattle.canonical_form.specs.Runs.{AreRunsSettled}
 use Rattle.canonical_form.proofs.RecomposeLemmas.{recomposed_from-append}
 use Rattle.canonical_form.proofs.RunLemmas.{cases_item, AreRunsSettled-append, Swaps-nil, IsSettled-swaps}
 
-module _ {A : Type 0} (class : A → ℕ) (limit : ℕ) (blocks : List A → A → Bool) (is_mark : A → Bool) (join : A → A → Option A) where
+module _ {A : Type 0} (ccc : A → ℕ) (limit : ℕ) (blocks : List A → A → Bool) (is_mark : A → Bool) (compose : A → A → Option A) where
   -- a starter in front stays in front
-  first_stays : (c : A) (rest new : List A) → (class c == 0) ≡ true → AreRunsSettled class limit [] (c ∷ rest) new → (later : List A) × (new ≡ c ∷ later)
+  first_stays : (c : A) (rest new : List A) → (ccc c == 0) ≡ true → AreRunsSettled ccc limit [] (c ∷ rest) new
+      → (later : List A) × (new ≡ c ∷ later)
   first_stays c rest new starts h =
-      elim (cases_item class limit [] c rest new h) [
-        | inl (start, parts) ↦
-            (parts.rest, parts.is ∙ ap (λ run. run ++ c ∷ parts.rest) (Swaps-nil class limit (IsSettled-swaps class limit [] parts.run parts.settled)))
+      elim (cases_item ccc limit [] c rest new h) [
+        | inl (start, parts) ↦ (
+          parts.rest,
+          parts.is
+              ∙ ap (λ run. run ++ c ∷ parts.rest) (Swaps-nil ccc limit (IsSettled-swaps ccc limit [] parts.run parts.settled)),
+        )
         | inr (mark, later) ↦ absurd (both_ways _ mark starts)
       ]
 
-  recomposed-append : (xs : List A) (c : A) (ys : List A) → is_mark c ≡ false → (class c == 0) ≡ true → recomposed class blocks is_mark join (xs ++ c ∷ ys) ≡ recomposed class blocks is_mark join xs ++ recomposed class blocks is_mark join (c ∷ ys)
+  recomposed-append : (xs : List A) (c : A) (ys : List A) → is_mark c ≡ false → (ccc c == 0) ≡ true
+      → recomposed ccc blocks is_mark compose (xs ++ c ∷ ys)
+      ≡ recomposed ccc blocks is_mark compose xs ++ recomposed ccc blocks is_mark compose (c ∷ ys)
   recomposed-append [] c ys unmarked start = refl
-  recomposed-append (x ∷ xs) c ys unmarked start = recomposed_from-append class blocks is_mark join x [] xs c ys unmarked start
+  recomposed-append (x ∷ xs) c ys unmarked start = recomposed_from-append ccc blocks is_mark compose x [] xs c ys unmarked start
 
-  pub cut : (front back : List A) (c : A) (rest new new' : List A) → back ≡ c ∷ rest → is_mark c ≡ false → (class c == 0) ≡ true → AreRunsSettled class limit [] front new → AreRunsSettled class limit [] back new' → AreRunsSettled class limit [] (front ++ back) (new ++ new') × (recomposed class blocks is_mark join (new ++ new') ≡ recomposed class blocks is_mark join new ++ recomposed class blocks is_mark join new')
+  pub cut : (front back : List A) (c : A) (rest new new' : List A) → back ≡ c ∷ rest → is_mark c ≡ false → (ccc c == 0) ≡ true
+      → AreRunsSettled ccc limit [] front new → AreRunsSettled ccc limit [] back new'
+      → AreRunsSettled ccc limit [] (front ++ back) (new ++ new')
+      × (recomposed ccc blocks is_mark compose (new ++ new')
+      ≡ recomposed ccc blocks is_mark compose new ++ recomposed ccc blocks is_mark compose new')
   cut front back c rest new new' begins unmarked start settled_front settled_back =
-      let at = subst (λ l. AreRunsSettled class limit [] l new') begins settled_back in
+      let at = subst (λ l. AreRunsSettled ccc limit [] l new') begins settled_back in
       let first = first_stays c rest new' start at in (
-        subst (λ l. AreRunsSettled class limit [] (front ++ l) (new ++ new')) (sym begins) (AreRunsSettled-append class limit [] front new c rest new' start settled_front at),
-        subst (λ l. recomposed class blocks is_mark join (new ++ l) ≡ recomposed class blocks is_mark join new ++ recomposed class blocks is_mark join l)
+        subst (λ l. AreRunsSettled ccc limit [] (front ++ l) (new ++ new')) (sym begins)
+            (AreRunsSettled-append ccc limit [] front new c rest new' start settled_front at),
+        subst (λ l. recomposed ccc blocks is_mark compose (new ++ l)
+            ≡ recomposed ccc blocks is_mark compose new ++ recomposed ccc blocks is_mark compose l)
             (sym first.1) (recomposed-append new c first.0 unmarked start),
       )

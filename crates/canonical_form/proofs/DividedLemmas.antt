@@ -17,17 +17,20 @@ values-whole h (part ∷ parts) = ap (λ l. map h part ++ l) (values-whole h par
 
 module _ {A : Type 0} (belongs : A → Bool) where
   -- the first part is the first item with what directly after it belongs
-  divided-first : (x : A) (rest : List A) → divided belongs (x ∷ rest) ≡ (x ∷ take (prefix_len belongs rest) rest) ∷ divided belongs (drop (prefix_len belongs rest) rest)
+  divided-first : (x : A) (rest : List A)
+      → divided belongs (x ∷ rest) ≡ (x ∷ take (prefix_len belongs rest) rest) ∷ divided belongs (drop (prefix_len belongs rest) rest)
   divided-first x [] = refl
   divided-first x (y ∷ rest) =
       elim (belongs y) as (λ t. (if t then put_first x (divided belongs (y ∷ rest)) else (x ∷ []) ∷ divided belongs (y ∷ rest))
-      ≡ (x ∷ take (cond t (1 + prefix_len belongs rest) 0) (y ∷ rest)) ∷ divided belongs (drop (cond t (1 + prefix_len belongs rest) 0) (y ∷ rest))) [
+      ≡ (x ∷ take (cond t (1 + prefix_len belongs rest) 0) (y ∷ rest))
+      ∷ divided belongs (drop (cond t (1 + prefix_len belongs rest) 0) (y ∷ rest))) [
         | true ↦ rw one-add (ap (put_first x) (divided-first y rest))
         | false ↦ refl
       ]
 
   -- a list that is cut behind its first item and what directly after that belongs
-  pub IsFirstPart-at : (xs : List A) (x : A) (rest part behind : List A) (n : ℕ) → xs ≡ x ∷ rest → n ≡ prefix_len belongs rest → part ≡ take (1 + n) xs → behind ≡ drop (1 + n) xs → IsFirstPart belongs xs part behind
+  pub IsFirstPart-at : (xs : List A) (x : A) (rest part behind : List A) (n : ℕ) → xs ≡ x ∷ rest → n ≡ prefix_len belongs rest
+      → part ≡ take (1 + n) xs → behind ≡ drop (1 + n) xs → IsFirstPart belongs xs part behind
   IsFirstPart-at xs x rest part behind n begins counted front back =
       let whole : take (1 + n) xs ≡ x ∷ take (prefix_len belongs rest) rest = rw (begins, counted, one-add) refl in
       let left : drop (1 + n) xs ≡ drop (prefix_len belongs rest) rest = rw (begins, counted, one-add) refl in
@@ -36,9 +39,18 @@ module _ {A : Type 0} (belongs : A → Bool) where
       let back_length = ap length (back ∙ left) in
       let full = ap length begins in
       record {
-        first = ap (divided belongs) begins ∙ divided-first x rest ∙ ap₂ (λ a b. a ∷ divided belongs b) (sym (front ∙ whole)) (sym (back ∙ left));
+        first = ap (divided belongs) begins ∙ divided-first x rest
+            ∙ ap₂ (λ a b. a ∷ divided belongs b) (sym (front ∙ whole)) (sym (back ∙ left));
         some = omega (arith, front_length);
-        whole = omega (arith, front_length, back_length, full, length-take (prefix_len belongs rest) rest, length-drop (prefix_len belongs rest) rest);
+        whole = omega (
+          arith,
+          front_length,
+          back_length,
+          full,
+          length-take (prefix_len belongs rest) rest,
+          length-drop
+              (prefix_len belongs rest) rest,
+        );
       }
 
   whole-put_first : (x : A) (parts : List (List A)) → whole (put_first x parts) ≡ x ∷ whole parts

@@ -1,22 +1,25 @@
 -- A walk that recomposes: the last mark behind the starter, and the starter in what was put out.
 use Rattle.std.proofs.Common.{◌≡◌, ℕ, suc, ◌-◌, ◌<◌, nat_le, List, [], ◌∷◌, ◌++◌, length, get_or, set, drop, Some, refl, sym, ap, ◌∙◌, arith}
-use Rattle.canonical_form.specs.Recompose.{last_class, is_blocked_by_last}
+use Rattle.canonical_form.specs.Recompose.{last_ccc, is_blocked_by_last}
 use Rattle.std.proofs.lemmas.Option.{get_or_from_slice_get}
 use Rattle.std.specs.List.{slice_get}
 
-pub last_class_is : {A : Type 0} (class : A → ℕ) (ms : List A) (d : A) → 0 < length ms → last_class class ms ≡ class (get_or ms (length ms - 1) d)
-last_class_is class [] d h = absurd (omega arith)
-last_class_is class (m ∷ []) d h = refl
-last_class_is class (m ∷ n ∷ ms) d h =
+pub last_ccc_is : {A : Type 0} (ccc : A → ℕ) (ms : List A) (d : A) → 0 < length ms → last_ccc ccc ms ≡ ccc (get_or ms (length ms - 1) d)
+last_ccc_is ccc [] d h = absurd (omega arith)
+last_ccc_is ccc (m ∷ []) d h = refl
+last_ccc_is ccc (m ∷ n ∷ ms) d h =
     let shorter : suc (length ms) - 1 ≡ length ms = omega arith in
     let longer : suc (suc (length ms)) - 1 ≡ suc (length ms) = omega arith in
-    last_class_is class (n ∷ ms) d (omega arith) ∙ ap (λ k. class (get_or (n ∷ ms) k d)) shorter ∙ ap (λ k. class (get_or (m ∷ n ∷ ms) k d)) (sym longer)
+    last_ccc_is ccc (n ∷ ms) d (omega arith) ∙ ap (λ k. ccc (get_or (n ∷ ms) k d)) shorter
+    ∙ ap (λ k. ccc (get_or (m ∷ n ∷ ms) k d)) (sym longer)
 
 -- what `last` found decides
-pub blocked_by_found : {A : Type 0} (class : A → ℕ) (ms : List A) (c x : A) → Some x ≡ slice_get ms (length ms - 1) → nat_le (class c) (class x) ≡ is_blocked_by_last class ms c
-blocked_by_found class [] c x found = cc
-blocked_by_found class (m ∷ ms) c x found =
-    ap (λ n. nat_le (class c) n) (ap class (sym (get_or_from_slice_get (m ∷ ms) (length (m ∷ ms) - 1) x x (sym found))) ∙ sym (last_class_is class (m ∷ ms) x (omega arith)))
+pub blocked_by_found : {A : Type 0} (ccc : A → ℕ) (ms : List A) (c x : A) → Some x ≡ slice_get ms (length ms - 1)
+    → nat_le (ccc c) (ccc x) ≡ is_blocked_by_last ccc ms c
+blocked_by_found ccc [] c x found = cc
+blocked_by_found ccc (m ∷ ms) c x found =
+    ap (λ n. nat_le (ccc c) n) (ap ccc (sym (get_or_from_slice_get (m ∷ ms) (length (m ∷ ms) - 1) x x (sym found)))
+    ∙ sym (last_ccc_is ccc (m ∷ ms) x (omega arith)))
 
 pub at_split : {A : Type 0} (done ms : List A) (s d : A) → get_or (done ++ s ∷ ms) (length done) d ≡ s
 at_split [] ms s d = refl

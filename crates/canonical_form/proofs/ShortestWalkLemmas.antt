@@ -15,25 +15,32 @@ module _ (split : ℕ → Option (ℕ × ℕ)) (has_glyph : ℕ → Bool) where
   sought true n c = least_supported split has_glyph n c
   sought false n c = greatest_supported split has_glyph n c
 
-  walked-pass : (found : Option (List ℕ)) (seconds : List ℕ) (b : ℕ) (r : Option (List ℕ)) → walked found seconds (put_behind true b r) ≡ walked found (seconds ++ kept_part b) r
+  walked-pass : (found : Option (List ℕ)) (seconds : List ℕ) (b : ℕ) (r : Option (List ℕ))
+      → walked found seconds (put_behind true b r) ≡ walked found (seconds ++ kept_part b) r
   walked-pass found seconds b None = refl
-  walked-pass found seconds b (Some ys) = ap Some (append_assoc ys (kept_part b) (reverse seconds) ∙ ap (λ xs. ys ++ xs) (sym (reverse-more seconds b)))
+  walked-pass found seconds b (Some ys) =
+      ap Some (append_assoc ys (kept_part b) (reverse seconds) ∙ ap (λ xs. ys ++ xs) (sym (reverse-more seconds b)))
 
   -- where the chain ends, what was found is the expansion
-  pub sought_ended : (short : Bool) (start found : Option (List ℕ)) (seconds : List ℕ) (n c : ℕ) → start ≡ walked found seconds (sought short n c) → None ≡ split c → found ≡ start
+  pub sought_ended : (short : Bool) (start found : Option (List ℕ)) (seconds : List ℕ) (n c : ℕ)
+      → start ≡ walked found seconds (sought short n c) → None ≡ split c → found ≡ start
   sought_ended false start found seconds n c inv e = walk_ended split has_glyph start found seconds n c inv e
   sought_ended true start found seconds n c inv e = sym (inv ∙ ap (walked found seconds) (least-end split has_glyph n c (sym e)))
 
   module _ (height : ℕ → ℕ) (falling : FallsAlong split height) where
-    least-at : (c a b : ℕ) (t u : Bool) → split c ≡ Some (a, b) → list_all has_glyph (kept_part b) ≡ t → has_glyph a ≡ u → least_supported split has_glyph (height c) c ≡ put_behind t b (option_or (if u && true then Some (a ∷ []) else None) (least_supported split has_glyph (height a) a))
+    least-at : (c a b : ℕ) (t u : Bool) → split c ≡ Some (a, b) → list_all has_glyph (kept_part b) ≡ t → has_glyph a ≡ u
+        → least_supported split has_glyph (height c) c
+        ≡ put_behind t b (option_or (if u && true then Some (a ∷ []) else None) (least_supported split has_glyph (height a) a))
     least-at c a b t u e kept_b glyph =
         least-split split has_glyph height falling c a b e
         ∙ ap (λ t. put_behind t b (option_or (supported split has_glyph 0 a) (least_supported split has_glyph (height a) a))) kept_b
-        ∙ ap (λ u. put_behind t b (option_or (if u && true then Some (a ∷ []) else None) (least_supported split has_glyph (height a) a))) glyph
+        ∙ ap (λ u. put_behind t b (option_or (if u && true then Some (a ∷ []) else None)
+        (least_supported split has_glyph (height a) a))) glyph
 
     -- the shortest is found at the first point that has a glyph
     pub sought_first : (short : Bool) (start found : Option (List ℕ)) (seconds after : List ℕ) (n c a b : ℕ) → short ≡ true →
-        start ≡ walked found seconds (sought short (height c) c) → Some (a, b) ≡ split c → true ≡ list_all has_glyph (kept_part b) → after ≡ seconds ++ kept_part b → true ≡ has_glyph a → n ≡ length after →
+        start ≡ walked found seconds (sought short (height c) c) → Some (a, b) ≡ split c → true ≡ list_all has_glyph (kept_part b)
+        → after ≡ seconds ++ kept_part b → true ≡ has_glyph a → n ≡ length after →
         found_parts (Some (a, n)) after ≡ start
     sought_first false start found seconds after n c a b clash inv e kept_b grown glyph len = absurd (both_ways _ refl clash)
     sought_first true start found seconds after n c a b asked inv e kept_b grown glyph len =
@@ -43,7 +50,8 @@ module _ (split : ℕ → Option (ℕ × ℕ)) (has_glyph : ℕ → Bool) where
 
     -- the greatest is looked for on past it
     pub sought_found : (short : Bool) (start found : Option (List ℕ)) (seconds after : List ℕ) (n c a b : ℕ) → short ≡ false →
-        start ≡ walked found seconds (sought short (height c) c) → Some (a, b) ≡ split c → true ≡ list_all has_glyph (kept_part b) → after ≡ seconds ++ kept_part b → true ≡ has_glyph a → n ≡ length after →
+        start ≡ walked found seconds (sought short (height c) c) → Some (a, b) ≡ split c → true ≡ list_all has_glyph (kept_part b)
+        → after ≡ seconds ++ kept_part b → true ≡ has_glyph a → n ≡ length after →
         start ≡ walked (found_parts (Some (a, n)) after) after (sought short (height a) a)
     sought_found true start found seconds after n c a b clash inv e kept_b grown glyph len = absurd (both_ways _ clash refl)
     sought_found false start found seconds after n c a b asked inv e kept_b grown glyph len =
@@ -51,7 +59,8 @@ module _ (split : ℕ → Option (ℕ × ℕ)) (has_glyph : ℕ → Bool) where
 
     -- both go on past a point that has none
     pub sought_passed : (short : Bool) (start : Option (List ℕ)) (seconds after : List ℕ) (found : Option (ℕ × ℕ)) (c a b : ℕ) →
-        start ≡ walked (found_parts found seconds) seconds (sought short (height c) c) → IfSome found (λ f. f.1 ≤ length seconds) → Some (a, b) ≡ split c → true ≡ list_all has_glyph (kept_part b) → after ≡ seconds ++ kept_part b → false ≡ has_glyph a →
+        start ≡ walked (found_parts found seconds) seconds (sought short (height c) c) → IfSome found (λ f. f.1 ≤ length seconds)
+        → Some (a, b) ≡ split c → true ≡ list_all has_glyph (kept_part b) → after ≡ seconds ++ kept_part b → false ≡ has_glyph a →
         start ≡ walked (found_parts found after) after (sought short (height a) a)
     sought_passed false start seconds after found c a b inv within e kept_b grown glyph =
         walk_passed split has_glyph height falling start seconds after found c a b inv within e kept_b grown glyph
@@ -62,7 +71,9 @@ module _ (split : ℕ → Option (ℕ × ℕ)) (has_glyph : ℕ → Bool) where
 
     -- before a split whose second part has no glyph, what was found is the expansion
     pub sought_broken : (short : Bool) (start found : Option (List ℕ)) (seconds : List ℕ) (c a b : ℕ) →
-        start ≡ walked found seconds (sought short (height c) c) → Some (a, b) ≡ split c → false ≡ list_all has_glyph (kept_part b) → found ≡ start
-    sought_broken false start found seconds c a b inv e kept_b = walk_broken split has_glyph height falling start found seconds c a b inv e kept_b
+        start ≡ walked found seconds (sought short (height c) c) → Some (a, b) ≡ split c → false ≡ list_all has_glyph (kept_part b)
+        → found ≡ start
+    sought_broken false start found seconds c a b inv e kept_b =
+        walk_broken split has_glyph height falling start found seconds c a b inv e kept_b
     sought_broken true start found seconds c a b inv e kept_b =
         sym (inv ∙ ap (walked found seconds) (least-at c a b false (has_glyph a) (sym e) (sym kept_b) refl))

@@ -6,15 +6,17 @@ abbrev pub begins_with_mark : {A : Type 0} → (A → Bool) → List A → Bool
 begins_with_mark is_mark [] = false
 begins_with_mark is_mark (x ∷ xs) = is_mark x
 
--- an item is in a cluster where a mark follows it directly, and where it is itself a mark, but for the first of the list; `become` says what an item in a cluster, or a simple one, becomes
+-- an item is in a cluster where a mark follows it directly, and where it is itself a mark, but for the first of the list; `become` says
+-- what an item in a cluster, or a simple one, becomes
 abbrev pub expanded_from : {A B : Type 0} → (A → Bool) → (Bool → A → List B) → Bool → List A → List B
 expanded_from is_mark become first [] = []
 expanded_from is_mark become first (x ∷ rest) =
     become ((is_mark x && not first) || begins_with_mark is_mark rest) x ++ expanded_from is_mark become false rest
 
-abbrev pub expanded_in_clusters : {A B : Type 0} → (A → Bool) → (Bool → A → List B) → List A → List B
-expanded_in_clusters is_mark become items = expanded_from is_mark become true items
+abbrev pub expanded_in_sequences : {A B : Type 0} → (A → Bool) → (Bool → A → List B) → List A → List B
+expanded_in_sequences is_mark become items = expanded_from is_mark become true items
 
 -- the choices of a text, where `short` says of a character in a cluster, and of a simple one, whether the shortest is asked
 abbrev pub expanded_text : (ℕ → Option (ℕ × ℕ)) → (ℕ → ℕ) → (ℕ → Bool) → (ℕ → Bool) → (Bool → Bool) → List ℕ → List ℕ
-expanded_text split height has_glyph is_mark short text = expanded_in_clusters is_mark (λ in_cluster. choice split height has_glyph (short in_cluster)) text
+expanded_text split height has_glyph is_mark short text =
+    expanded_in_sequences is_mark (λ with_marks. choice split height has_glyph (short with_marks)) text

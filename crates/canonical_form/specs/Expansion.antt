@@ -32,7 +32,8 @@ abbrev pub greatest_supported : (ℕ → Option (ℕ × ℕ)) → (ℕ → Bool)
 greatest_supported split has_glyph zero c = None
 greatest_supported split has_glyph (suc n) c = option_or (supported split has_glyph (suc n) c) (greatest_supported split has_glyph n c)
 
--- the expansion that is chosen for c, where `true` asks for the shortest, which is c itself where c has a glyph; no chain is longer than the height of its character
+-- the expansion that is chosen for c, where `true` asks for the shortest, which is c itself where c has a glyph; no chain is longer than
+-- the height of its character
 abbrev pub chosen_expansion : (ℕ → Option (ℕ × ℕ)) → (ℕ → ℕ) → (ℕ → Bool) → Bool → ℕ → Option (List ℕ)
 chosen_expansion split height has_glyph true c = if has_glyph c then None else least_supported split has_glyph (height c) c
 chosen_expansion split height has_glyph false c = greatest_supported split has_glyph (height c) c

@@ -1,9 +1,20 @@
 //! Laws of canonical form: each function has laws as its contract, and nothing to do.
 //!
-//! They hold for every split whose heights fall and whose marks keep their class, so for the
-//! functions of Unicode as for a shaper's own. Equivalence is that of UAX 15 with the classes at
+//! They hold for every split whose heights fall and whose marks keep their ccc, so for the
+//! functions of Unicode as for a shaper's own. Equivalence is that of UAX 15 with the ccc at
 //! hand; a canonical text has the form of its NFD.
-ghost use Rattle.canonical_form.specs.Laws.{FullIsByTwoRules, EquivalenceIsReflexive, EquivalenceIsSymmetric, EquivalenceIsTransitive, ExpansionIsEquivalent, ChoicesAreEquivalent, ChoiceIsGreatest, ChoiceIsLeast, ChoiceStays, ChoiceBringsGlyphs, ChoiceIsFull, StableOrderIsReached, OrderIsReached, OrderIsUnique, SettledIsReached, SettledIsOrdered, SettledIsUnique, CanonicalIsUnique, DecomposedIsCanonical, DecomposedDecides, RecomposedIsEquivalent, JoinedPastMarksIsEquivalent, LastDecides, GreatestDecides, RecomposedDecides, OrderedIsEquivalent, NormalisedIsEquivalent, ExpandedCutsApart, SettledCutsApart};
+ghost use Rattle.canonical_form.specs.Laws.{FullIsByTwoRules, EquivalenceIsReflexive};
+ghost use Rattle.canonical_form.specs.Laws.{EquivalenceIsSymmetric, EquivalenceIsTransitive};
+ghost use Rattle.canonical_form.specs.Laws.{ExpansionIsEquivalent, ChoicesAreEquivalent};
+ghost use Rattle.canonical_form.specs.Laws.{ChoiceIsGreatest, ChoiceIsLeast, ChoiceStays};
+ghost use Rattle.canonical_form.specs.Laws.{ChoiceBringsGlyphs, ChoiceIsFull, StableOrderIsReached};
+ghost use Rattle.canonical_form.specs.Laws.{OrderIsReached, OrderIsUnique, SettledIsReached};
+ghost use Rattle.canonical_form.specs.Laws.{SettledIsOrdered, SettledIsUnique, CanonicalIsUnique};
+ghost use Rattle.canonical_form.specs.Laws.{DecomposedIsCanonical, DecomposedDecides};
+ghost use Rattle.canonical_form.specs.Laws.{RecomposedIsEquivalent, JoinedPastMarksIsEquivalent};
+ghost use Rattle.canonical_form.specs.Laws.{LastDecides, GreatestDecides, RecomposedDecides};
+ghost use Rattle.canonical_form.specs.Laws.{OrderedIsEquivalent, NormalisedIsEquivalent};
+ghost use Rattle.canonical_form.specs.Laws.{ExpandedCutsApart, SettledCutsApart};
 
 /// Full of a character is what two rules give: the character itself where it does not split, else
 /// Full of its first part and then its second part.
@@ -42,7 +53,7 @@ pub fn choice_is_full()
     ensures { ChoiceIsFull }
 {}
 
-/// The stable order by class of a run of marks is reached by swaps, and is ordered (The Unicode
+/// The stable order by ccc of a run of marks is reached by swaps, and is ordered (The Unicode
 /// Standard, D109).
 pub fn stable_order_is_reached<T>()
     ensures { StableOrderIsReached T }
@@ -90,9 +101,9 @@ pub fn recomposed_decides()
     ensures { RecomposedDecides }
 {}
 
-/// Which class between a starter and a mark keeps the two apart: in an ordered list that of the
+/// Which ccc between a starter and a mark keeps the two apart: in an ordered list that of the
 /// item put out last, in every list the greatest.
-pub fn one_class_decides<T>()
+pub fn one_ccc_decides<T>()
     ensures last { LastDecides T }
     ensures greatest { GreatestDecides T }
 {}

@@ -13,7 +13,8 @@ use Rattle.shape_buffer.specs.declared.buffer.flags.BufferFlags.{BufferFlags}
 use Rattle.shape_buffer.specs.Flags.{cluster_runs, run_flagged, with_mask, settled_flags, with_tatweel, first_joined, joined_flags, mask_after, flagged_from, HasOneSetOfFlags}
 
 -- neighbours that the walk has written have one set of flags
-pub one_set-flagged : (flags : BufferFlags) (before : Option (ℕ × ℕ)) (items : List Item) → HasOneSetOfFlags (flagged_from flags before items)
+pub one_set-flagged : (flags : BufferFlags) (before : Option (ℕ × ℕ)) (items : List Item)
+    → HasOneSetOfFlags (flagged_from flags before items)
 unfolding flagged_from
 one_set-flagged flags before [] = tt
 one_set-flagged flags before (x ∷ []) = tt
@@ -36,13 +37,15 @@ take-one_more : (y : Item) (ys : List Item) (n : ℕ) → take (1 + n) (y ∷ ys
 take-one_more y ys n = let e : 1 + n ≡ suc n = omega arith in rw e refl
 
 -- the first run goes on as long as the cluster does
-first_run : (c : ℕ) (x : Item) (xs : List Item) → x.cluster ≡ c → first_of (cluster_runs (x ∷ xs)) ≡ x ∷ take (prefix_len (has_cluster c) xs) xs
+first_run : (c : ℕ) (x : Item) (xs : List Item) → x.cluster ≡ c
+    → first_of (cluster_runs (x ∷ xs)) ≡ x ∷ take (prefix_len (has_cluster c) xs) xs
 first_run c x [] is = refl
 first_run c x (y ∷ ys) is = elim (cases_Bool (has_cluster c y)) [
   | inl here ↦
       let same : y.cluster ≡ c = grind (arith, nat_tests) in
       let goes_on : has_cluster x.cluster y ≡ true = grind (arith, nat_tests) in
-      rw (goes_on, here) (first_of-put_first x (cluster_runs (y ∷ ys)) ∙ ap (λ zs. x ∷ zs) (first_run c y ys same ∙ sym (take-one_more y ys (prefix_len (has_cluster c) ys))))
+      rw (goes_on, here) (first_of-put_first x (cluster_runs (y ∷ ys))
+      ∙ ap (λ zs. x ∷ zs) (first_run c y ys same ∙ sym (take-one_more y ys (prefix_len (has_cluster c) ys))))
   | inr here ↦ let ends : has_cluster x.cluster y ≡ false = grind (arith, nat_tests) in rw (ends, here) refl
 ]
 
@@ -66,20 +69,23 @@ spread-more flags mask fresh x true false [] is = rw is refl
 spread-more flags mask fresh x true true (run ∷ runs) is = refl
 spread-more flags mask fresh x true false (run ∷ runs) is = rw is refl
 spread-more flags mask fresh x false true runs is = ap (λ zs. with_mask mask x ∷ zs) (spread-apart flags mask runs)
-spread-more flags mask fresh x false false runs is = ap (λ zs. with_mask fresh x ∷ zs) (spread-apart flags fresh runs) ∙ ap (λ m. with_mask m x ∷ flat_map (run_flagged flags) runs) is
+spread-more flags mask fresh x false false runs is =
+    ap (λ zs. with_mask fresh x ∷ zs) (spread-apart flags fresh runs) ∙ ap (λ m. with_mask m x ∷ flat_map (run_flagged flags) runs) is
 
 joined-first : (x : Item) (xs : List Item) → first_joined x.cluster (x ∷ xs) ≡ joined_flags (first_of (cluster_runs (x ∷ xs)))
 joined-first x xs =
     let own : has_cluster x.cluster x ≡ true = grind (arith, nat_tests) in
     rw own (ap joined_flags (take-one_more x xs (prefix_len (has_cluster x.cluster) xs) ∙ sym (first_run x.cluster x xs refl)))
 
-flagged-spread : (flags : BufferFlags) (c mask : ℕ) (xs : List Item) → flagged_from flags (Some (c, mask)) xs ≡ spread flags mask (begins_in c xs) (cluster_runs xs)
+flagged-spread : (flags : BufferFlags) (c mask : ℕ) (xs : List Item)
+    → flagged_from flags (Some (c, mask)) xs ≡ spread flags mask (begins_in c xs) (cluster_runs xs)
 unfolding flagged_from
 flagged-spread flags c mask [] = refl
 flagged-spread flags c mask (x ∷ xs) =
     let now = mask_after flags (Some (c, mask)) x (x ∷ xs) in
     ap (λ zs. with_mask now x ∷ zs) (flagged-spread flags x.cluster now xs)
-    ∙ spread-more flags mask (settled_flags flags (first_joined x.cluster (x ∷ xs))) x (begins_in x.cluster xs) (has_cluster c x) (cluster_runs xs) (ap (settled_flags flags) (joined-first x xs))
+    ∙ spread-more flags mask (settled_flags flags (first_joined x.cluster (x ∷ xs))) x (begins_in x.cluster xs) (has_cluster c x)
+    (cluster_runs xs) (ap (settled_flags flags) (joined-first x xs))
 
 pub flagged-runs : (flags : BufferFlags) (xs : List Item) → flagged_from flags None xs ≡ flat_map (run_flagged flags) (cluster_runs xs)
 unfolding flagged_from
@@ -92,10 +98,12 @@ flagged-runs flags (x ∷ xs) =
 
 -- ---- where unsafe to concat isn't asked for, no item has it
 
-settled-concat : (flags : BufferFlags) (joined : ℕ) → (bit_and flags.0 64 == 64) ≡ false → nat_lt 0 (bit_and (settled_flags flags joined) 2) ≡ false
+settled-concat : (flags : BufferFlags) (joined : ℕ) → (bit_and flags.0 64 == 64) ≡ false
+    → nat_lt 0 (bit_and (settled_flags flags joined) 2) ≡ false
 settled-concat flags joined off = rw (off, and_assoc 2 (with_tatweel flags joined) 5, and_zero_r (with_tatweel flags joined)) refl
 
-mask_after-concat : (flags : BufferFlags) → (bit_and flags.0 64 == 64) ≡ false → (before : Option (ℕ × ℕ)) → IfSome before (λ r. nat_lt 0 (bit_and r.1 2) ≡ false)
+mask_after-concat : (flags : BufferFlags) → (bit_and flags.0 64 == 64) ≡ false → (before : Option (ℕ × ℕ))
+    → IfSome before (λ r. nat_lt 0 (bit_and r.1 2) ≡ false)
     → (x : Item) (xs : List Item) → nat_lt 0 (bit_and (mask_after flags before x xs) 2) ≡ false
 mask_after-concat flags off None had x xs = settled-concat flags (first_joined x.cluster xs) off
 mask_after-concat flags off (Some before) had x xs = elim (cases_Bool (has_cluster before.0 x)) [
@@ -103,7 +111,8 @@ mask_after-concat flags off (Some before) had x xs = elim (cases_Bool (has_clust
   | inr other ↦ rw other (settled-concat flags (first_joined x.cluster xs) off)
 ]
 
-pub concat-flagged : (flags : BufferFlags) → (bit_and flags.0 64 == 64) ≡ false → (before : Option (ℕ × ℕ)) → IfSome before (λ r. nat_lt 0 (bit_and r.1 2) ≡ false)
+pub concat-flagged : (flags : BufferFlags) → (bit_and flags.0 64 == 64) ≡ false → (before : Option (ℕ × ℕ))
+    → IfSome before (λ r. nat_lt 0 (bit_and r.1 2) ≡ false)
     → (xs : List Item) → some_has 2 (flagged_from flags before xs) ≡ false
 unfolding flagged_from
 concat-flagged flags off before had [] = refl

@@ -46,7 +46,11 @@ give_draws : (k : ℕ) (x : Item) (rest xs : List Item) → drop k xs ≡ x ∷ 
 give_draws k x rest xs e =
     let place = at_place k xs rest x e in
     elim (cases_Bool (nat_lt x.cluster (slice_index (clusters xs) (k - 1)))) [
-      | inl holds ↦ rw (holds, clusters-hand_over_range x (k - suffix_len (has_cluster (slice_index (clusters xs) (k - 1))) (take k xs)) k xs)
+      | inl holds ↦ rw (
+        holds,
+        clusters-hand_over_range x
+            (k - suffix_len (has_cluster (slice_index (clusters xs) (k - 1))) (take k xs)) k xs,
+      )
           (put_range_draws (k - suffix_len (has_cluster (slice_index (clusters xs) (k - 1))) (take k xs)) k x.cluster xs k
           (omega arith) (omega arith) place.0 (omega (arith, place.0)) place.1)
       | inr fails ↦ rw fails (DrawsInOrder-same (clusters xs))
@@ -73,7 +77,8 @@ range_whole a b xs le =
 clusters-parts : (xs ys zs : List Item) → clusters (xs ++ (ys ++ zs)) ≡ clusters xs ++ (clusters ys ++ clusters zs)
 clusters-parts xs ys zs = simp (map-append)
 
-clusters-map_range : (f : Item → Item) → ((x : Item) → (f x).cluster ≡ x.cluster) → (a b : ℕ) (xs : List Item) → a ≤ b → clusters (map_range f a b xs) ≡ clusters xs
+clusters-map_range : (f : Item → Item) → ((x : Item) → (f x).cluster ≡ x.cluster) → (a b : ℕ) (xs : List Item) → a ≤ b
+    → clusters (map_range f a b xs) ≡ clusters xs
 clusters-map_range f h a b xs le =
     clusters-parts (take a xs) (map f (slice_range xs a b)) (drop b xs)
     ∙ ap (λ z. clusters (take a xs) ++ (z ++ clusters (drop b xs))) (clusters-same f h (slice_range xs a b))
@@ -87,7 +92,8 @@ pub unsafe_to_break_draws : (start end : ℕ) (b : Buffer) → start ≤ end →
 unfolding Draws
 unsafe_to_break_draws start end b le =
     elim (cases_Bool (nat_lt (start + 1) end)) [
-      | inl long ↦ rw long (draws_equal b.items _ (clusters-map_range (mark_break (least_cluster (slice_range b.items start end))) (mark_break-cluster _) start end b.items le))
+      | inl long ↦ rw long (draws_equal b.items _ (clusters-map_range (mark_break (least_cluster (slice_range b.items start end)))
+          (mark_break-cluster _) start end b.items le))
       | inr short ↦ rw short (DrawsInOrder-same (clusters b.items))
     ]
 
@@ -130,7 +136,8 @@ hand_on_draws k x rest b e =
       | inr fails ↦ elim (cases_Bool (nat_lt 0 k)) [
         | inl some ↦ rw (fails, some) (give_draws k x rest b.items e)
         | inr none ↦ elim (cases_Bool (nat_lt 0 (length rest))) [
-          | inl more ↦ let two : 2 ≤ length b.items = at_least_two k b.items rest x e (grind (arith, nat_tests)) in rw (fails, none, more) (merge_clusters_draws 0 2 b (omega arith) two)
+          | inl more ↦ let two : 2 ≤ length b.items = at_least_two k b.items rest x e (grind (arith, nat_tests)) in rw (fails, none, more)
+              (merge_clusters_draws 0 2 b (omega arith) two)
           | inr last ↦ rw (fails, none, last) (DrawsInOrder-same (clusters b.items))
         ]
       ]
@@ -214,13 +221,15 @@ hand_over-flag picked x flag d =
     ∙ and_or_apart flag (bit_and picked.mask 7) (feature_bits x.mask) (no_flag x.mask flag d)
     ∙ and_assoc flag picked.mask 7 ∙ ap (bit_and picked.mask) (defined_flag flag d)
 
-give_keeps : (k : ℕ) (x : Item) (rest : List Item) (b : Buffer) → drop k b.items ≡ x ∷ rest → KeepsFlags b (record b { items = give_to_kept k x b.items })
+give_keeps : (k : ℕ) (x : Item) (rest : List Item) (b : Buffer) → drop k b.items ≡ x ∷ rest
+    → KeepsFlags b (record b { items = give_to_kept k x b.items })
 give_keeps k x rest b e =
     let there : (flag : ℕ) → has_flag flag x ≡ true → some_has flag b.items ≡ true =
     λ flag h. drop_in (has_flag flag) k b.items (ap (some_has flag) e ∙ (rw h refl)) in
     elim (cases_Bool (nat_lt x.cluster (slice_index (clusters b.items) (k - 1)))) [
       | inl holds ↦ rw holds (KeepsFlags-items b _ (λ flag d some.
-          elim (range_brings (hand_over x) (has_flag flag) (has_flag flag x) (λ y h. inr (ap (nat_lt 0) (sym (hand_over-flag x y flag d)) ∙ h))
+          elim (range_brings (hand_over x) (has_flag flag) (has_flag flag x)
+          (λ y h. inr (ap (nat_lt 0) (sym (hand_over-flag x y flag d)) ∙ h))
           (k - suffix_len (has_cluster (slice_index (clusters b.items) (k - 1))) (take k b.items)) k b.items some) [
             | inl before ↦ before
             | inr brought ↦ there flag brought

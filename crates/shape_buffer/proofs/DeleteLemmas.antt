@@ -65,13 +65,15 @@ visited p m n k b x rest em next =
     ap (λ z. delete_from p z k b) (em ∙ add-one n) ∙ delete_from-suc p n k b ∙ ap (visit p k (delete_from p n) b) next
 
 -- the glyph at place k stays
-pub step_kept : (p : Item → Bool) (m n k : ℕ) (b : Buffer) (x : Item) (rest : List Item) → m ≡ n + 1 → drop k b.items ≡ x ∷ rest → p x ≡ false
+pub step_kept : (p : Item → Bool) (m n k : ℕ) (b : Buffer) (x : Item) (rest : List Item) → m ≡ n + 1 → drop k b.items ≡ x ∷ rest
+    → p x ≡ false
     → delete_from p m k b ≡ delete_from p n (k + 1) b
 step_kept p m n k b x rest em next picked =
     visited p m n k b x rest em next ∙ visit_kept p k (delete_from p n) b x rest picked
 
 -- the glyph at place k goes
-pub step_lost : (p : Item → Bool) (m n k : ℕ) (b c : Buffer) (x : Item) (rest : List Item) → m ≡ n + 1 → drop k b.items ≡ x ∷ rest → p x ≡ true
+pub step_lost : (p : Item → Bool) (m n k : ℕ) (b c : Buffer) (x : Item) (rest : List Item) → m ≡ n + 1 → drop k b.items ≡ x ∷ rest
+    → p x ≡ true
     → c ≡ lose k (hand_on k x rest b)
     → delete_from p m k b ≡ delete_from p n k c
 step_lost p m n k b c x rest em next picked handed =
@@ -83,13 +85,15 @@ same_glyphs xs xs' ps ps' fs b items positions =
     ap (λ ys. with_glyphs ys ps fs b) items ∙ ap (λ qs. with_glyphs xs' qs fs b) positions
 
 -- nothing is left to visit
-pub finished : (p : Item → Bool) (m k : ℕ) (xs xs' : List Item) (ps ps' : List GlyphPosition) (fs : ScratchFlags) (b : Buffer) → m ≡ 0 → xs ≡ xs' → ps ≡ ps'
+pub finished : (p : Item → Bool) (m k : ℕ) (xs xs' : List Item) (ps ps' : List GlyphPosition) (fs : ScratchFlags) (b : Buffer) → m ≡ 0
+    → xs ≡ xs' → ps ≡ ps'
     → delete_from p m k (with_glyphs xs ps fs b) ≡ with_glyphs xs' ps' fs b
 finished p m k xs xs' ps ps' fs b none items positions =
     ap (λ z. delete_from p z k (with_glyphs xs ps fs b)) none ∙ delete_from-zero p k (with_glyphs xs ps fs b)
     ∙ same_glyphs _ _ _ _ fs b items positions
 
-map_range-append : (f : Item → Item) (a k : ℕ) (xs ys : List Item) → a ≤ k → k ≡ length xs → map_range f a k (xs ++ ys) ≡ map_range f a k xs ++ ys
+map_range-append : (f : Item → Item) (a k : ℕ) (xs ys : List Item) → a ≤ k → k ≡ length xs
+    → map_range f a k (xs ++ ys) ≡ map_range f a k xs ++ ys
 map_range-append f a k xs ys le e =
     let head : take a (xs ++ ys) ≡ take a xs = take-append-le a xs ys (omega arith) in
     let whole : take k (xs ++ ys) ≡ xs = take_at xs ys k (sym e) in
@@ -101,7 +105,8 @@ map_range-append f a k xs ys le e =
     ap (λ z. z ++ (map f (slice_range (xs ++ ys) a k) ++ drop k (xs ++ ys))) head
     ∙ ap (λ z. take a xs ++ (map f z ++ drop k (xs ++ ys))) part ∙ ap (λ z. take a xs ++ (map f (drop a xs) ++ z)) tail in
     let right : map_range f a k xs ≡ take a xs ++ map f (drop a xs) =
-    ap (λ z. take a xs ++ (map f z ++ drop k xs)) part' ∙ ap (λ z. take a xs ++ (map f (drop a xs) ++ z)) none ∙ ap (λ z. take a xs ++ z) (append-nil (map f (drop a xs))) in
+    ap (λ z. take a xs ++ (map f z ++ drop k xs)) part' ∙ ap (λ z. take a xs ++ (map f (drop a xs) ++ z)) none
+    ∙ ap (λ z. take a xs ++ z) (append-nil (map f (drop a xs))) in
     left ∙ sym (append_assoc (take a xs) (map f (drop a xs)) ys) ∙ ap (λ z. z ++ ys) (sym right)
 
 cond-append : (b : Bool) (f : Item → Item) (a k : ℕ) (xs ys : List Item) → a ≤ k → k ≡ length xs
@@ -114,7 +119,8 @@ pub give-append : (k : ℕ) (x : Item) (xs ys : List Item) → 0 < k → k ≡ l
 give-append k x xs ys some e =
     let n : length (clusters xs) ≡ length xs = length-map xs (λ y. y.cluster) in
     let last : slice_index (clusters (xs ++ ys)) (k - 1) ≡ slice_index (clusters xs) (k - 1) =
-    ap (λ z. get_or z (k - 1) 0) (map-append (λ y. y.cluster) xs ys) ∙ get_or_append_left (clusters xs) (clusters ys) 0 (k - 1) (omega arith) in
+    ap (λ z. get_or z (k - 1) 0) (map-append (λ y. y.cluster) xs ys)
+    ∙ get_or_append_left (clusters xs) (clusters ys) 0 (k - 1) (omega arith) in
     let whole : take k (xs ++ ys) ≡ take k xs = take-append-le k xs ys (omega arith) in
     rw (last, whole) (cond-append (nat_lt x.cluster (slice_index (clusters xs) (k - 1))) (hand_over x)
     (k - suffix_len (has_cluster (slice_index (clusters xs) (k - 1))) (take k xs)) k xs ys (omega arith) e)
@@ -142,7 +148,8 @@ hand_on-fourth k x rest b e none last =
     rw (e, fails, fails') refl
 
 -- a vector whose first k items stand for others: the one at i is kept
-pub kept_after : (p : Item → Bool) (m n k i : ℕ) (given xs xs' : List Item) (ps : List GlyphPosition) (fs : ScratchFlags) (b : Buffer) (x : Item) (q : GlyphPosition)
+pub kept_after : (p : Item → Bool) (m n k i : ℕ) (given xs xs' : List Item) (ps : List GlyphPosition) (fs : ScratchFlags) (b : Buffer)
+    (x : Item) (q : GlyphPosition)
     → m ≡ n + 1 → k ≤ i → i < length xs → k ≡ length given → length ps ≡ length xs → x ≡ get_or xs i x → q ≡ get_or ps i q → p x ≡ false
     → xs' ≡ set xs k x
     → delete_from p m k (with_glyphs (given ++ drop i xs) (standing k i ps) fs b)
@@ -160,9 +167,12 @@ kept_after p m n k i given xs xs' ps fs b x q em le lt size same ex eq picked ex
     ∙ ap (delete_from p n (k + 1)) (same_glyphs _ _ _ _ fs b items positions)
 
 -- and the one at i goes, where `left` is what the kept ones are then
-pub lost_after : (p : Item → Bool) (m n k i : ℕ) (given left xs ys : List Item) (ps : List GlyphPosition) (fs fs' : ScratchFlags) (b : Buffer) (x : Item)
-    → m ≡ n + 1 → k ≤ i → i < length xs → k ≡ length given → k ≡ length left → length ps ≡ length xs → length ys ≡ length xs → x ≡ get_or xs i x → p x ≡ true
-    → with_glyphs (left ++ drop i ys) (standing k i ps) fs' b ≡ hand_on k x (drop (i + 1) xs) (with_glyphs (given ++ drop i xs) (standing k i ps) fs b)
+pub lost_after : (p : Item → Bool) (m n k i : ℕ) (given left xs ys : List Item) (ps : List GlyphPosition) (fs fs' : ScratchFlags)
+    (b : Buffer) (x : Item)
+    → m ≡ n + 1 → k ≤ i → i < length xs → k ≡ length given → k ≡ length left → length ps ≡ length xs → length ys ≡ length xs
+    → x ≡ get_or xs i x → p x ≡ true
+    → with_glyphs (left ++ drop i ys) (standing k i ps) fs' b
+    ≡ hand_on k x (drop (i + 1) xs) (with_glyphs (given ++ drop i xs) (standing k i ps) fs b)
     → delete_from p m k (with_glyphs (given ++ drop i xs) (standing k i ps) fs b)
     ≡ delete_from p n k (with_glyphs (left ++ drop (i + 1) ys) (standing k (i + 1) ps) fs' b)
 lost_after p m n k i given left xs ys ps fs fs' b x em le lt size size' same long ex picked handed =
@@ -172,7 +182,10 @@ lost_after p m n k i given left xs ys ps fs fs' b x em le lt size size' same lon
     drop_at given (drop i xs) k (sym size) ∙ drop_more xs i x lt ∙ ap (λ y. y ∷ drop (i + 1) xs) (sym ex) in
     let head : take k (left ++ drop i ys) ≡ left = take_at left (drop i ys) k (sym size') in
     let tail : drop (suc k) (left ++ drop i ys) ≡ drop (i + 1) ys =
-    ap (λ j. drop j (left ++ drop i ys)) (sym (add-one k)) ∙ sym (drop-drop 1 k (left ++ drop i ys)) ∙ ap (drop 1) (drop_at left (drop i ys) k (sym size')) ∙ drop-drop 1 i ys in
-    let gone : remove (left ++ drop i ys) k ≡ left ++ drop (i + 1) ys = ap (λ z. z ++ drop (suc k) (left ++ drop i ys)) head ∙ ap (λ z. left ++ z) tail in
-    step_lost p m n k (with_glyphs (given ++ drop i xs) (standing k i ps) fs b) (with_glyphs (left ++ drop (i + 1) ys) (standing k (i + 1) ps) fs' b) x (drop (i + 1) xs) em next picked
+    ap (λ j. drop j (left ++ drop i ys)) (sym (add-one k)) ∙ sym (drop-drop 1 k (left ++ drop i ys))
+    ∙ ap (drop 1) (drop_at left (drop i ys) k (sym size')) ∙ drop-drop 1 i ys in
+    let gone : remove (left ++ drop i ys) k ≡ left ++ drop (i + 1) ys = ap (λ z. z ++ drop (suc k) (left ++ drop i ys)) head
+    ∙ ap (λ z. left ++ z) tail in
+    step_lost p m n k (with_glyphs (given ++ drop i xs) (standing k i ps) fs b)
+    (with_glyphs (left ++ drop (i + 1) ys) (standing k (i + 1) ps) fs' b) x (drop (i + 1) xs) em next picked
     (sym (same_glyphs _ _ _ _ fs' b gone (standing_lost k i ps le lt_ps)) ∙ ap (lose k) handed)

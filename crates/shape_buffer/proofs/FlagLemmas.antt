@@ -69,7 +69,8 @@ map_brings f p q h (x ∷ xs) some =
       ]
     ]
 
-pub range_brings : (f : Item → Item) (p : Item → Bool) (q : Bool) → ((x : Item) → p (f x) ≡ true → (p x ≡ true) ⊎ (q ≡ true)) → (a b : ℕ) (xs : List Item)
+pub range_brings : (f : Item → Item) (p : Item → Bool) (q : Bool) → ((x : Item) → p (f x) ≡ true → (p x ≡ true) ⊎ (q ≡ true))
+    → (a b : ℕ) (xs : List Item)
     → list_any p (map_range f a b xs) ≡ true → (list_any p xs ≡ true) ⊎ (q ≡ true)
 range_brings f p q h a b xs some =
     elim (append-cases p (take a xs) _ some) [
@@ -83,11 +84,14 @@ range_brings f p q h a b xs some =
       ]
     ]
 
-merge_brings_none : (start end flag : ℕ) → IsDefinedFlag flag → (xs : List Item) → some_has flag (merge start end xs) ≡ true → some_has flag xs ≡ true
+merge_brings_none : (start end flag : ℕ) → IsDefinedFlag flag → (xs : List Item) → some_has flag (merge start end xs) ≡ true
+    → some_has flag xs ≡ true
 merge_brings_none start end flag d xs some =
     elim (cases_Bool (nat_lt (start + 1) end)) [
-      | inl long ↦ elim (range_brings (put_in (least_cluster (slice_range xs start end))) (has_flag flag) false (λ x h. inl (put_in-flag _ flag d x h))
-          (start - growth_left xs start (least_cluster (slice_range xs start end))) (end + growth_right xs (end - 1) (least_cluster (slice_range xs start end))) xs
+      | inl long ↦ elim (range_brings (put_in (least_cluster (slice_range xs start end))) (has_flag flag) false
+          (λ x h. inl (put_in-flag _ flag d x h))
+          (start - growth_left xs start (least_cluster (slice_range xs start end)))
+          (end + growth_right xs (end - 1) (least_cluster (slice_range xs start end))) xs
           (ap (some_has flag) (sym (merge_long start end xs long)) ∙ some)) [
             | inl there ↦ there
             | inr brought ↦ grind (arith, nat_tests)
@@ -96,7 +100,8 @@ merge_brings_none start end flag d xs some =
     ]
 
 -- a buffer that only has other items, and no new flag on them
-pub KeepsFlags-items : (b : Buffer) (ys : List Item) → ((flag : ℕ) → IsDefinedFlag flag → some_has flag ys ≡ true → some_has flag b.items ≡ true)
+pub KeepsFlags-items : (b : Buffer) (ys : List Item)
+    → ((flag : ℕ) → IsDefinedFlag flag → some_has flag ys ≡ true → some_has flag b.items ≡ true)
     → KeepsFlags b (record b { items = ys })
 KeepsFlags-items b ys h = record { flags = refl; stays_set = λ e. e; none_new = λ flag d some. inl (h flag d some) }
 

@@ -32,13 +32,15 @@ reverse-replicate (suc n) c =
 one_cluster-reverse : (part : List Item) → IsOneCluster part → reverse (clusters part) ≡ clusters part
 one_cluster-reverse part (c, is) = ap (λ (cs : List ℕ). reverse cs) is ∙ reverse-replicate (length part) c ∙ sym is
 
-joined-behind : (parts : List (List Item)) (part : List Item) → clusters (joined (parts ++ (part ∷ []))) ≡ clusters (joined parts) ++ clusters part
+joined-behind : (parts : List (List Item)) (part : List Item)
+    → clusters (joined (parts ++ (part ∷ []))) ≡ clusters (joined parts) ++ clusters part
 joined-behind parts part =
     ap clusters (flat_map-append (λ (p : List Item). p) parts (part ∷ []) ∙ ap (λ (xs : List Item). joined parts ++ xs) (append-nil part))
     ∙ map-append (λ (item : Item). item.cluster) (joined parts) part
 
 -- parts in one cluster each, from the last to the first, have the clusters of the whole from its end
-pub clusters-turned : (parts : List (List Item)) → AreOneCluster parts → clusters (joined (reverse parts)) ≡ reverse (clusters (joined parts))
+pub clusters-turned : (parts : List (List Item)) → AreOneCluster parts
+    → clusters (joined (reverse parts)) ≡ reverse (clusters (joined parts))
 clusters-turned [] one = refl
 clusters-turned (part ∷ parts) one =
     ap (λ (ps : List (List Item)). clusters (joined ps)) (reverse-append (part ∷ []) parts)
@@ -52,8 +54,11 @@ falls-reverse : (xs : List ℕ) → IsNonDecreasing xs → IsNonIncreasing (reve
 falls-reverse xs rising i j d le lt =
     let short : j < length xs = rw (← length-reverse xs) lt in
     let first : i < length xs = omega arith in
-    rw (get_or-reverse xs j d short, get_or-reverse xs i d first) (rising (length xs - 1 - j) (length xs - 1 - i) d (omega arith) (omega arith))
+    rw (get_or-reverse xs j d short, get_or-reverse xs i d first)
+    (rising (length xs - 1 - j) (length xs - 1 - i) d (omega arith) (omega arith))
 
 -- rising clusters fall once the parts are turned
-pub falls-turned : (parts : List (List Item)) → AreOneCluster parts → IsNonDecreasing (clusters (joined parts)) → IsNonIncreasing (clusters (joined (reverse parts)))
-falls-turned parts one rising = subst (λ (cs : List ℕ). IsNonIncreasing cs) (sym (clusters-turned parts one)) (falls-reverse (clusters (joined parts)) rising)
+pub falls-turned : (parts : List (List Item)) → AreOneCluster parts → IsNonDecreasing (clusters (joined parts))
+    → IsNonIncreasing (clusters (joined (reverse parts)))
+falls-turned parts one rising =
+    subst (λ (cs : List ℕ). IsNonIncreasing cs) (sym (clusters-turned parts one)) (falls-reverse (clusters (joined parts)) rising)

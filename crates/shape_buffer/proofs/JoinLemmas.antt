@@ -5,10 +5,10 @@ use Rattle.std.proofs.lemmas.Bool.Decides.{nat_tests}
 use Rattle.std.proofs.lemmas.List.{get_or-map, length-map}
 use Rattle.std.proofs.lemmas.List.Sums.{suffix_len-take_yes, suffix_len-take_no}
 use Rattle.std.specs.List.{suffix_len}
-use Rattle.shape_buffer.specs.Items.{Item, new_item, has_cluster, class_of_item}
+use Rattle.shape_buffer.specs.Items.{Item, new_item, has_cluster, ccc_of_item}
 use Rattle.shape_buffer.specs.Clusters.{clusters, merge, least_cluster, growth_left, growth_right}
 use Rattle.shape_buffer.proofs.ClusterLemmas.{merge_short, merge_long}
-use Rattle.shape_buffer.proofs.KeyLemmas.{IsKey-class, keys-merge}
+use Rattle.shape_buffer.proofs.KeyLemmas.{IsKey-ccc, keys-merge}
 use Rattle.shape_buffer.proofs.MergeOrder.{growth_right-within, put_range_below, put_range_inside}
 
 -- the cluster of the item at a place
@@ -21,14 +21,16 @@ Joined xs k = cluster_at xs k ≡ cluster_at xs (k + 1)
 
 pub length-merge : (start end : ℕ) (xs : List Item) → length (merge start end xs) ≡ length xs
 length-merge start end xs =
-    sym (length-map (merge start end xs) class_of_item) ∙ ap length (keys-merge class_of_item IsKey-class start end xs) ∙ length-map xs class_of_item
+    sym (length-map (merge start end xs) ccc_of_item) ∙ ap length (keys-merge ccc_of_item IsKey-ccc start end xs)
+    ∙ length-map xs ccc_of_item
 
 -- from this place on to the end each item passes, and the one before it doesn't
 record PassesFrom (p : Item → Bool) (xs : List Item) (d : Item) (from end : ℕ) : Type 0 where
   passes : (k : ℕ) → from ≤ k → k < end → p (get_or xs k d) ≡ true
   stops : (k : ℕ) → k + 1 ≡ from → p (get_or xs k d) ≡ false
 
-PassesFrom-suffix : (p : Item → Bool) (xs : List Item) (d : Item) (n : ℕ) → n ≤ length xs → PassesFrom p xs d (n - suffix_len p (take n xs)) n
+PassesFrom-suffix : (p : Item → Bool) (xs : List Item) (d : Item) (n : ℕ) → n ≤ length xs
+    → PassesFrom p xs d (n - suffix_len p (take n xs)) n
 PassesFrom-suffix p xs d zero le = record { passes = λ k ge lt. absurd (omega arith); stops = λ k e. absurd (omega arith) }
 PassesFrom-suffix p xs d (suc n) le =
     let before : suc n - 1 ≡ n = omega arith in
@@ -54,7 +56,8 @@ PassesFrom-suffix p xs d (suc n) le =
     ]
 
 -- a span that grows left ends its growth between two items that don't share a cluster
-parted_before_growth : (start : ℕ) (xs : List Item) (least k : ℕ) → start ≤ length xs → k + 1 < start → k + 1 ≡ start - growth_left xs start least → Joined xs k → ⊥
+parted_before_growth : (start : ℕ) (xs : List Item) (least k : ℕ) → start ≤ length xs → k + 1 < start
+    → k + 1 ≡ start - growth_left xs start least → Joined xs k → ⊥
 parted_before_growth start xs least k within before at joined =
     elim (cases_Bool (slice_index (clusters xs) start == least)) [
       | inl is_least ↦
@@ -83,10 +86,12 @@ merge_joins start end xs k from to within =
     let right : end - 1 + growth_right xs (end - 1) least < length xs = growth_right-within xs (end - 1) least (omega arith) in
     let total : b ≤ length xs = omega arith in
     rw (merge_long start end xs long)
-    (put_range_inside a b least xs k (omega arith) total (omega arith) ∙ sym (put_range_inside a b least xs (k + 1) (omega arith) total (omega arith)))
+    (put_range_inside a b least xs k (omega arith) total (omega arith)
+    ∙ sym (put_range_inside a b least xs (k + 1) (omega arith) total (omega arith)))
 
 -- neighbours before the span still share theirs
-pub merge_keeps_joined : (start end : ℕ) (xs : List Item) (k : ℕ) → k + 1 < start → end ≤ length xs → Joined xs k → Joined (merge start end xs) k
+pub merge_keeps_joined : (start end : ℕ) (xs : List Item) (k : ℕ) → k + 1 < start → end ≤ length xs → Joined xs k
+    → Joined (merge start end xs) k
 merge_keeps_joined start end xs k before within joined =
     elim (cases_Bool (nat_lt (start + 1) end)) [
       | inr short ↦ rw (merge_short start end xs short) joined
@@ -101,7 +106,9 @@ merge_keeps_joined start end xs k before within joined =
           rw (merge_long start end xs long)
           (elim (cases_order (k + 1) a) [
             | inl at ↦ absurd (parted_before_growth start xs least k (omega arith) before at joined)
-            | inr (inl below) ↦ put_range_below a b least xs k order total (omega arith) ∙ joined ∙ sym (put_range_below a b least xs (k + 1) order total below)
-            | inr (inr above) ↦ put_range_inside a b least xs k (omega arith) total (omega arith) ∙ sym (put_range_inside a b least xs (k + 1) (omega arith) total (omega arith))
+            | inr (inl below) ↦ put_range_below a b least xs k order total (omega arith) ∙ joined
+                ∙ sym (put_range_below a b least xs (k + 1) order total below)
+            | inr (inr above) ↦ put_range_inside a b least xs k (omega arith) total (omega arith)
+                ∙ sym (put_range_inside a b least xs (k + 1) (omega arith) total (omega arith))
           ])
     ]

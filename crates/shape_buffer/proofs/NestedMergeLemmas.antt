@@ -19,7 +19,8 @@ min_same a b e = grind (arith, nat_tests)
 least-behind : (x y : Item) (zs : List Item) → x.cluster ≡ y.cluster → least_cluster (x ∷ y ∷ zs) ≡ least_cluster (y ∷ zs)
 least-behind x y zs same = ap (λ c. fold (λ least item. min least item.cluster) c zs) (min_same x.cluster y.cluster same)
 
-slice-first : (xs : List Item) (k end : ℕ) (d : Item) → k < end → end ≤ length xs → slice_range xs k end ≡ get_or xs k d ∷ slice_range xs (k + 1) end
+slice-first : (xs : List Item) (k end : ℕ) (d : Item) → k < end → end ≤ length xs
+    → slice_range xs k end ≡ get_or xs k d ∷ slice_range xs (k + 1) end
 slice-first xs k end d lt within =
     let more : end - k ≡ suc (end - (k + 1)) = omega arith in
     let split : drop k xs ≡ get_or xs k d ∷ drop (k + 1) xs = rw add-one (drop-cons xs k d (omega arith)) in
@@ -29,7 +30,8 @@ put_in-same : (c : ℕ) (x : Item) → x.cluster ≡ c → put_in c x ≡ x
 put_in-same c x is = grind (arith, nat_tests)
 
 -- a put over items the first of which has that cluster
-put_range-behind : (k b c : ℕ) (xs : List Item) → k < b → b ≤ length xs → cluster_at xs k ≡ c → put_range k b c xs ≡ put_range (k + 1) b c xs
+put_range-behind : (k b c : ℕ) (xs : List Item) → k < b → b ≤ length xs → cluster_at xs k ≡ c
+    → put_range k b c xs ≡ put_range (k + 1) b c xs
 put_range-behind k b c xs lt within is =
     let d = new_item 0 0 in
     let x = get_or xs k d in
@@ -43,14 +45,17 @@ put_range-behind k b c xs lt within is =
     ∙ ap (λ l. l ++ later) (sym front)
 
 -- where the first of the items isn't in the least cluster the growth is one more from the next one
-growth_left-behind : (xs : List Item) (k least : ℕ) → k + 1 < length xs → Joined xs k → (cluster_at xs k == least) ≡ false → growth_left xs (k + 1) least ≡ 1 + growth_left xs k least
+growth_left-behind : (xs : List Item) (k least : ℕ) → k + 1 < length xs → Joined xs k → (cluster_at xs k == least) ≡ false
+    → growth_left xs (k + 1) least ≡ 1 + growth_left xs k least
 growth_left-behind xs k least lt joined not_least =
     let d = new_item 0 0 in
     let first = cluster_at xs k in
     let back : k + 1 - 1 ≡ k = omega arith in
     let here : (get_or xs k d).cluster ≡ first = sym (get_or-map (λ (item : Item). item.cluster) xs k d 0 (omega arith)) in
     let yes : has_cluster first (get_or xs (k + 1 - 1) d) ≡ true = rw back (eq-eqb _ _ here) in
-    let more : suffix_len (has_cluster first) (take (k + 1) xs) ≡ 1 + suffix_len (has_cluster first) (take (k + 1 - 1) xs) = suffix_len-take_yes (has_cluster first) xs (k + 1) d (omega arith) (omega arith) yes in
+    let more : suffix_len (has_cluster first) (take (k + 1) xs)
+    ≡ 1 + suffix_len (has_cluster first) (take (k + 1 - 1) xs) = suffix_len-take_yes (has_cluster first) xs (k + 1) d (omega arith)
+    (omega arith) yes in
     let at_next : growth_left xs (k + 1) least ≡ suffix_len (has_cluster first) (take (k + 1) xs) = rw (sym joined, not_least) refl in
     let at_first : growth_left xs k least ≡ suffix_len (has_cluster first) (take k xs) = rw not_least refl in
     at_next ∙ more ∙ ap (λ n. 1 + n) (ap (λ n. suffix_len (has_cluster first) (take n xs)) back ∙ sym at_first)
@@ -60,14 +65,18 @@ module _ (xs : List Item) (k end : ℕ) (room : k + 2 < end) (within : end ≤ l
   least_same =
       let d = new_item 0 0 in
       let two : k + 1 + 1 ≡ k + 2 = omega arith in
-      let next : slice_range xs (k + 1) end ≡ get_or xs (k + 1) d ∷ slice_range xs (k + 1 + 1) end = slice-first xs (k + 1) end d (omega arith) within in
+      let next : slice_range xs (k + 1) end
+      ≡ get_or xs (k + 1) d ∷ slice_range xs (k + 1 + 1) end = slice-first xs (k + 1) end d (omega arith) within in
       let same : (get_or xs k d).cluster ≡ (get_or xs (k + 1) d).cluster =
-      sym (get_or-map (λ (item : Item). item.cluster) xs k d 0 (omega arith)) ∙ joined ∙ get_or-map (λ (item : Item). item.cluster) xs (k + 1) d 0 (omega arith) in
+      sym (get_or-map (λ (item : Item). item.cluster) xs k d 0 (omega arith)) ∙ joined
+      ∙ get_or-map (λ (item : Item). item.cluster) xs (k + 1) d 0 (omega arith) in
       ap least_cluster (slice-first xs k end d (omega arith) within ∙ ap (λ l. get_or xs k d ∷ l) next)
       ∙ least-behind (get_or xs k d) (get_or xs (k + 1) d) (slice_range xs (k + 1 + 1) end) same
       ∙ ap least_cluster (sym next)
 
-  put-behind : (least : ℕ) → put_range (k - growth_left xs k least) (end + growth_right xs (end - 1) least) least xs ≡ put_range (k + 1 - growth_left xs (k + 1) least) (end + growth_right xs (end - 1) least) least xs
+  put-behind : (least : ℕ)
+      → put_range (k - growth_left xs k least) (end + growth_right xs (end - 1) least) least xs
+      ≡ put_range (k + 1 - growth_left xs (k + 1) least) (end + growth_right xs (end - 1) least) least xs
   put-behind least =
       let b = end + growth_right xs (end - 1) least in
       let right : end - 1 + growth_right xs (end - 1) least < length xs = growth_right-within xs (end - 1) least (omega arith) in
@@ -77,7 +86,8 @@ module _ (xs : List Item) (k end : ℕ) (room : k + 2 < end) (within : end ≤ l
             let none_next : k + 1 - growth_left xs (k + 1) least ≡ k + 1 = rw (sym joined, is_least) (omega arith) in
             rw (none, none_next) (put_range-behind k b least xs (omega arith) (omega arith) (eqb-true _ _ is_least))
         | inr not_least ↦
-            let more : growth_left xs (k + 1) least ≡ 1 + growth_left xs k least = growth_left-behind xs k least (omega arith) joined not_least in
+            let more : growth_left xs (k + 1) least
+            ≡ 1 + growth_left xs k least = growth_left-behind xs k least (omega arith) joined not_least in
             let e : k - growth_left xs k least ≡ k + 1 - growth_left xs (k + 1) least = omega arith in
             ap (λ a. put_range a b least xs) e
       ]
@@ -94,7 +104,8 @@ module _ (xs : List Item) (k end : ℕ) (room : k + 2 < end) (within : end ≤ l
       ∙ sym (merge_long (k + 1) end xs long_next)
 
 -- several items on
-pub merge-from_later : (start count end : ℕ) (xs : List Item) → start + count + 1 < end → end ≤ length xs → ((k : ℕ) → start ≤ k → k < start + count → Joined xs k)
+pub merge-from_later : (start count end : ℕ) (xs : List Item) → start + count + 1 < end → end ≤ length xs
+    → ((k : ℕ) → start ≤ k → k < start + count → Joined xs k)
     → merge start end xs ≡ merge (start + count) end xs
 merge-from_later start zero end xs room within joined = ap (λ s. merge s end xs) (let e : start ≡ start + 0 = omega arith in e)
 merge-from_later start (suc count) end xs room within joined =

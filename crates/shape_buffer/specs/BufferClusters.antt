@@ -4,12 +4,14 @@ use Rattle.std.specs.Int.RustNames.{bit_and, bit_or}
 use Rattle.shape_buffer.specs.Clusters.{merge, least_cluster, map_range, mark_break, mark_concat}
 use Rattle.shape_buffer.specs.Buffer.{Buffer}
 use Rattle.shape_buffer.specs.declared.buffer.settings.BufferClusterLevel.TheVariants.{MonotoneGraphemes, MonotoneCharacters, Characters}
+use Rattle.shape_buffer.specs.FlagNames.{PRODUCE_UNSAFE_TO_CONCAT, HAS_GLYPH_FLAGS}
 
 -- the buffer with the has-flags bit set
 abbrev pub with_glyph_flags : Buffer → Buffer
-with_glyph_flags b = record b { scratch_flags = record { 0 = bit_or b.scratch_flags.0 32 } }
+with_glyph_flags b = record b { scratch_flags = record { 0 = bit_or b.scratch_flags.0 HAS_GLYPH_FLAGS } }
 
--- the span from `start` up to `end` marked unsafe to break, but for the items of its least cluster; a span of fewer than two items changes nothing
+-- the span from `start` up to `end` marked unsafe to break, but for the items of its least cluster; a span of fewer than two items changes
+-- nothing
 abbrev pub unsafe_to_break : ℕ → ℕ → Buffer → Buffer
 unsafe_to_break start end b =
     if nat_lt (start + 1) end then
@@ -18,10 +20,11 @@ unsafe_to_break start end b =
     }
     else b
 
--- the span marked unsafe to concat, where the buffer's flags ask for that (64)
+-- the span marked unsafe to concat, where the buffer's flags ask for that
 abbrev pub unsafe_to_concat : ℕ → ℕ → Buffer → Buffer
 unsafe_to_concat start end b =
-    if bit_and b.flags.0 64 == 64 then record (with_glyph_flags b) { items = map_range mark_concat start end b.items }
+    if bit_and b.flags.0 PRODUCE_UNSAFE_TO_CONCAT == PRODUCE_UNSAFE_TO_CONCAT
+    then record (with_glyph_flags b) { items = map_range mark_concat start end b.items }
     else b
 
 abbrev pub merge_at : ℕ → ℕ → Buffer → Buffer

@@ -3,6 +3,7 @@ use Rattle.std.specs.Prelude.{ℕ, ◌+◌, ◌-◌, ◌==◌, List, [], ◌∷�
 use Rattle.std.specs.Int.RustNames.{bit_or}
 use Rattle.std.specs.List.{prefix_len, suffix_len}
 use Rattle.shape_buffer.specs.Items.{Item, has_cluster, put_in}
+use Rattle.shape_buffer.specs.FlagNames.{UNSAFE_TO_CONCAT, UNSAFE}
 
 -- the clusters of a list
 abbrev pub clusters : List Item → List ℕ
@@ -13,13 +14,15 @@ abbrev pub least_cluster : List Item → ℕ
 least_cluster [] = 0
 least_cluster (x ∷ xs) = fold (λ least item. min least item.cluster) x.cluster xs
 
--- how far a span of that least cluster grows left: over the items directly before `start` in the cluster of its first item, where that isn't the least
+-- how far a span of that least cluster grows left: over the items directly before `start` in the cluster of its first item, where that
+-- isn't the least
 abbrev pub growth_left : List Item → ℕ → ℕ → ℕ
 growth_left xs start least =
     let first = slice_index (clusters xs) start in
     if first == least then 0 else suffix_len (has_cluster first) (take start xs)
 
--- how far a span of that least cluster grows right: over the items directly after its last one in that one's cluster, where that isn't the least
+-- how far a span of that least cluster grows right: over the items directly after its last one in that one's cluster, where that isn't the
+-- least
 abbrev pub growth_right : List Item → ℕ → ℕ → ℕ
 growth_right xs last least =
     let cluster = slice_index (clusters xs) last in
@@ -44,8 +47,8 @@ merge start end xs =
 -- the item marked unsafe to break and to concat, but for one in that least cluster
 abbrev pub mark_break : ℕ → Item → Item
 mark_break least item =
-    if item.cluster == least then item else record item { mask = bit_or item.mask 3 }
+    if item.cluster == least then item else record item { mask = bit_or item.mask UNSAFE }
 
 -- the item marked unsafe to concat
 abbrev pub mark_concat : Item → Item
-mark_concat item = record item { mask = bit_or item.mask 2 }
+mark_concat item = record item { mask = bit_or item.mask UNSAFE_TO_CONCAT }

@@ -6,12 +6,14 @@ use Rattle.shape_buffer.specs.Items.{Item, has_cluster, feature_bits}
 use Rattle.shape_buffer.specs.Clusters.{clusters, map_range}
 use Rattle.shape_buffer.specs.Buffer.{Buffer}
 use Rattle.shape_buffer.specs.BufferClusters.{merge_clusters}
+use Rattle.shape_buffer.specs.FlagNames.{DEFINED}
 
 -- a kept item that takes the cluster and the defined flags of the picked one
 abbrev pub hand_over : Item → Item → Item
-hand_over picked item = record item { cluster = picked.cluster; mask = bit_or (feature_bits item.mask) (bit_and picked.mask 7) }
+hand_over picked item = record item { cluster = picked.cluster; mask = bit_or (feature_bits item.mask) (bit_and picked.mask DEFINED) }
 
--- the first `kept` items are kept: where the picked item's cluster is below the last one's, all of them at their end with that cluster take it
+-- the first `kept` items are kept: where the picked item's cluster is below the last one's, all of them at their end with that cluster take
+-- it
 abbrev pub give_to_kept : ℕ → Item → List Item → List Item
 give_to_kept kept picked xs =
     let last = slice_index (clusters xs) (kept - 1) in

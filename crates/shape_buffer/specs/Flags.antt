@@ -8,27 +8,30 @@ use Rattle.canonical_form.specs.Divided.{put_first}
 use Rattle.shape_buffer.specs.Items.{Item, has_cluster}
 use Rattle.shape_buffer.specs.KeepsFlags.{has_glyph_flags}
 use Rattle.shape_buffer.specs.declared.buffer.flags.BufferFlags.{BufferFlags}
+use Rattle.shape_buffer.specs.FlagNames.{UNSAFE_TO_BREAK, SAFE_TO_INSERT_TATWEEL, UNSAFE, NOT_FOR_CONCAT, DEFINED, PRODUCE_UNSAFE_TO_CONCAT, PRODUCE_SAFE_TO_INSERT_TATWEEL}
 
 -- the defined flags of an item
 abbrev pub flags_of : Item → ℕ
-flags_of item = bit_and item.mask 7
+flags_of item = bit_and item.mask DEFINED
 
 -- the defined flags of some items, joined
 abbrev pub joined_flags : List Item → ℕ
 joined_flags items = fold (λ joined item. bit_or joined (flags_of item)) 0 items
 
--- where tatweel is asked for (128): unsafe to break clears safe to insert tatweel, and one that is left brings both unsafe flags
+-- where tatweel is asked for: unsafe to break clears safe to insert tatweel, and one that is left brings both unsafe flags
 abbrev pub with_tatweel : BufferFlags → ℕ → ℕ
 with_tatweel flags joined =
-    if bit_and flags.0 128 == 128 then
-    (if bit_and joined 1 == 1 then bit_and joined 3 else if bit_and joined 4 == 4 then bit_or joined 3 else joined)
+    if bit_and flags.0 PRODUCE_SAFE_TO_INSERT_TATWEEL == PRODUCE_SAFE_TO_INSERT_TATWEEL then
+    (if bit_and joined UNSAFE_TO_BREAK == UNSAFE_TO_BREAK then bit_and joined UNSAFE
+    else if bit_and joined SAFE_TO_INSERT_TATWEEL == SAFE_TO_INSERT_TATWEEL then bit_or joined UNSAFE
+    else joined)
     else joined
 
--- unsafe to concat stands only where it is asked for (64)
+-- unsafe to concat stands only where it is asked for
 abbrev pub settled_flags : BufferFlags → ℕ → ℕ
 settled_flags flags joined =
     let tatweel = with_tatweel flags joined in
-    if bit_and flags.0 64 == 64 then tatweel else bit_and tatweel 5
+    if bit_and flags.0 PRODUCE_UNSAFE_TO_CONCAT == PRODUCE_UNSAFE_TO_CONCAT then tatweel else bit_and tatweel NOT_FOR_CONCAT
 
 -- the maximal runs of items in one cluster
 abbrev pub cluster_runs : List Item → List (List Item)
@@ -62,7 +65,8 @@ first_joined cluster items = joined_flags (take (prefix_len (has_cluster cluster
 -- the mask of the first of some items, after one in this cluster with this mask
 abbrev pub mask_after : BufferFlags → Option (ℕ × ℕ) → Item → List Item → ℕ
 mask_after flags None item items = settled_flags flags (first_joined item.cluster items)
-mask_after flags (Some before) item items = if has_cluster before.0 item then before.1 else settled_flags flags (first_joined item.cluster items)
+mask_after flags (Some before) item items =
+    if has_cluster before.0 item then before.1 else settled_flags flags (first_joined item.cluster items)
 
 unfoldable pub flagged_from : BufferFlags → Option (ℕ × ℕ) → List Item → List Item
 flagged_from flags before [] = []

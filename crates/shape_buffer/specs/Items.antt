@@ -19,7 +19,7 @@ new_item c cluster = record {
   cluster = cluster;
   properties = record {
     general_category = UppercaseLetter;
-    modified_class = 0;
+    modified_ccc = 0;
     ignorable = false;
     hidden = false;
     continuation = false;
@@ -44,8 +44,8 @@ abbrev pub is_mark_item : Item → Bool
 is_mark_item item = is_mark_category item.properties.general_category
 
 -- the modified combining class of an item
-abbrev pub class_of_item : Item → ℕ
-class_of_item item = item.properties.modified_class
+abbrev pub ccc_of_item : Item → ℕ
+ccc_of_item item = item.properties.modified_ccc
 
 -- the character of an item
 abbrev pub char_of : Item → ℕ

@@ -4,10 +4,11 @@ use Rattle.std.specs.Int.RustNames.{bit_and}
 use Rattle.std.specs.List.{list_any}
 use Rattle.shape_buffer.specs.Items.{Item}
 use Rattle.shape_buffer.specs.Buffer.{Buffer}
+use Rattle.shape_buffer.specs.FlagNames.{UNSAFE_TO_BREAK, UNSAFE_TO_CONCAT, SAFE_TO_INSERT_TATWEEL, HAS_GLYPH_FLAGS}
 
--- UNSAFE_TO_BREAK, UNSAFE_TO_CONCAT or SAFE_TO_INSERT_TATWEEL
+-- one of the three flags of a glyph
 abbrev pub IsDefinedFlag : ℕ → Type 0
-IsDefinedFlag flag = (flag ≡ 1) ⊎ (flag ≡ 2) ⊎ (flag ≡ 4)
+IsDefinedFlag flag = (flag ≡ UNSAFE_TO_BREAK) ⊎ (flag ≡ UNSAFE_TO_CONCAT) ⊎ (flag ≡ SAFE_TO_INSERT_TATWEEL)
 
 -- the flag stands in the mask
 abbrev pub has_flag : ℕ → Item → Bool
@@ -19,9 +20,10 @@ some_has flag xs = list_any (has_flag flag) xs
 
 -- the scratch flag "has glyph flags" is set
 abbrev pub has_glyph_flags : Buffer → Bool
-has_glyph_flags b = bit_and b.scratch_flags.0 32 == 32
+has_glyph_flags b = bit_and b.scratch_flags.0 HAS_GLYPH_FLAGS == HAS_GLYPH_FLAGS
 
--- a defined bit that no mask of the list had before comes only with the scratch flag "has glyph flags", which stays where it was set, and the
+-- a defined bit that no mask of the list had before comes only with the scratch flag "has glyph flags", which stays where it was set, and
+-- the
 -- buffer's flags stay; nothing is said of one item: a bit may pass from item to item without the scratch flag, as in deletion
 pub record KeepsFlags (before after : Buffer) : Type 0 where
   pub flags : after.flags ≡ before.flags

@@ -1,4 +1,5 @@
--- What a layout engine answers of a face and of compiled requests, and what its lookups make of a buffer. `Map` is what requests are compiled to.
+-- What a layout engine answers of a face and of compiled requests, and what its lookups make of a buffer. `Map` is what requests are
+-- compiled to.
 use Rattle.std.specs.Prelude.{◌≡◌, ℕ, ◌<◌, Bool, List, Option, length}
 use Rattle.std.specs.Int.RustNames.{bit_and}
 use Rattle.shape_buffer.specs.Buffer.{Buffer}
@@ -7,6 +8,7 @@ use Rattle.shape_buffer.specs.declared.buffer.settings.Feature.{Feature}
 use Rattle.shape_buffer.specs.declared.buffer.settings.hb_tag_t.{hb_tag_t}
 use Rattle.shape_buffer.specs.declared.buffer.settings.Script.{Script}
 use Rattle.shape_buffer.specs.declared.interfaces.map_request.TableIndex.{TableIndex}
+use Rattle.shape_buffer.specs.FlagNames.{DEFINED}
 
 pub record LayoutMeaning (Map : Type 0) : Type 0 where
   -- by script, bytes of the language, and table
@@ -45,7 +47,7 @@ pub record LookupMeaning : Type 0 where
 
 -- a mask without a defined flag bit
 abbrev pub HasNoDefinedFlag : ℕ → Type 0
-HasNoDefinedFlag mask = bit_and mask 7 ≡ 0
+HasNoDefinedFlag mask = bit_and mask DEFINED ≡ 0
 
 -- what every engine owes of its masks
 pub record LawfulMasks (map : MapMeaning) : Type 0 where

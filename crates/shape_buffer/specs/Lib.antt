@@ -2,6 +2,7 @@ pub mod Direction
 pub mod Category
 pub mod Properties
 pub mod Positions
+pub mod FlagNames
 pub mod Items
 pub mod Clusters
 pub mod ClusterOrder

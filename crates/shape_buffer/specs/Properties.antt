@@ -6,7 +6,7 @@ use Rattle.shape_buffer.specs.declared.buffer.flags.GlyphPropsFlags.{GlyphPropsF
 -- what an item says of itself besides its character, glyph, mask and cluster
 pub record Properties : Type 0 where
   pub general_category : hb_unicode_general_category_t
-  pub modified_class : ℕ
+  pub modified_ccc : ℕ
   pub ignorable : Bool
   pub hidden : Bool
   pub continuation : Bool

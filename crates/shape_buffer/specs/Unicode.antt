@@ -10,10 +10,10 @@ use Rattle.shape_buffer.specs.declared.buffer.settings.Script.{Script}
 -- what the functions answer for each character, and a height that falls along splits
 pub record UnicodeMeaning : Type 0 where
   pub category : ℕ → hb_unicode_general_category_t
-  pub class : ℕ → ℕ
+  pub ccc : ℕ → ℕ
   pub split : ℕ → Option (ℕ × ℕ)
   pub height : ℕ → ℕ
-  pub join : ℕ → ℕ → Option ℕ
+  pub compose : ℕ → ℕ → Option ℕ
   pub mirrored : ℕ → Option ℕ
   pub vertical : ℕ → Option ℕ
   pub space_fallback : ℕ → ℕ
@@ -38,9 +38,9 @@ FormsArePlain unicode form = (c d : ℕ) → form c ≡ Some d → IsPlain unico
 
 -- the laws, over all numbers: past the characters a meaning may be chosen freely
 pub record LawfulUnicode (unicode : UnicodeMeaning) : Type 0 where
-  pub marks_have_classes : (c : ℕ) → unicode.class c ≢ 0 → is_mark unicode c ≡ true
+  pub marks_have_ccc : (c : ℕ) → unicode.ccc c ≢ 0 → is_mark unicode c ≡ true
   pub ascii_is_no_mark : (c : ℕ) → c < 128 → is_mark unicode c ≡ false
   pub mirrors_are_plain : FormsArePlain unicode unicode.mirrored
   pub verticals_are_plain : FormsArePlain unicode unicode.vertical
-  pub splits_fall : SplitsFall unicode.split unicode.height unicode.class
-  pub composes_soundly : ComposesSoundly unicode.split unicode.height unicode.class unicode.join
+  pub splits_fall : SplitsFall unicode.split unicode.height unicode.ccc
+  pub composes_soundly : ComposesSoundly unicode.split unicode.height unicode.ccc unicode.compose

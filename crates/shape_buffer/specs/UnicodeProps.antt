@@ -4,6 +4,7 @@ use Rattle.std.specs.Int.RustNames.{bit_or}
 use Rattle.shape_buffer.specs.Items.{Item}
 use Rattle.shape_buffer.specs.Unicode.{UnicodeMeaning, is_mark}
 use Rattle.shape_buffer.specs.declared.buffer.flags.ScratchFlags.{ScratchFlags}
+use Rattle.shape_buffer.specs.FlagNames.{HAS_NON_ASCII, HAS_DEFAULT_IGNORABLES, HAS_CGJ}
 
 -- U+180B to U+180D, U+180F, U+E0020 to U+E007F and U+034F stay unseen
 abbrev pub is_hidden_char : ℕ → Bool
@@ -21,7 +22,7 @@ with_unicode_props unicode item =
     record item {
       properties = record item.properties {
         general_category = unicode.category c;
-        modified_class = if mark then unicode.class c else 0;
+        modified_ccc = if mark then unicode.ccc c else 0;
         ignorable = beyond_ascii c && unicode.ignorable c;
         hidden = is_hidden_char c;
         continuation = mark;
@@ -35,8 +36,9 @@ with_unicode_props unicode item =
 abbrev pub flag_if : Bool → ℕ → ℕ → ℕ
 flag_if test flag flags = if test then bit_or flags flag else flags
 
--- the scratch flags once a character was seen: past ASCII (1), a default ignorable there (2), U+034F (8)
+-- the scratch flags once a character was seen: past ASCII, a default ignorable there, U+034F
 abbrev pub with_scratch_of : UnicodeMeaning → ℕ → ScratchFlags → ScratchFlags
 with_scratch_of unicode c flags = record {
-  0 = flag_if (c == 0x34F) 8 (flag_if (beyond_ascii c && unicode.ignorable c) 2 (flag_if (beyond_ascii c) 1 flags.0));
+  0 = flag_if (c == 0x34F) HAS_CGJ
+      (flag_if (beyond_ascii c && unicode.ignorable c) HAS_DEFAULT_IGNORABLES (flag_if (beyond_ascii c) HAS_NON_ASCII flags.0));
 }

@@ -16,7 +16,8 @@ use Rattle.shape_fallback.specs.declared.ot_shape_fallback.marks.Setting.{Settin
 use Rattle.shape_fallback.specs.Bases.{Span, marks_of, position_span, base_at, bases, with_marks, positioned_at}
 
 -- what is read of an item but for its mask stays when it is marked unsafe to break
-broken : {B : Type 0} (key : Item → B) → ((x : Item) → key (record x { mask = bit_or x.mask 3 }) ≡ key x) → (least : ℕ) (x : Item) → key (mark_break least x) ≡ key x
+broken : {B : Type 0} (key : Item → B) → ((x : Item) → key (record x { mask = bit_or x.mask 3 }) ≡ key x) → (least : ℕ) (x : Item)
+    → key (mark_break least x) ≡ key x
 broken key same least x =
     elim (x.cluster == least) as (λ v. key (if v then x else record x { mask = bit_or x.mask 3 }) ≡ key x) [ true ↦ refl | false ↦ same x ]
 
@@ -25,14 +26,17 @@ parts_of : (xs : List Item) (a b : ℕ) → a ≤ b → take a xs ++ (take (b - 
 parts_of xs a b le =
     let sum : a + (b - a) ≡ b = omega arith in
     let rest : drop (b - a) (drop a xs) ≡ drop b xs = drop-drop (b - a) a xs ∙ ap (λ n. drop n xs) sum in
-    ap (λ (r : List Item). take a xs ++ (take (b - a) (drop a xs) ++ r)) (sym rest) ∙ ap (λ (r : List Item). take a xs ++ r) (take-append-drop (b - a) (drop a xs)) ∙ take-append-drop a xs
+    ap (λ (r : List Item). take a xs ++ (take (b - a) (drop a xs) ++ r)) (sym rest)
+    ∙ ap (λ (r : List Item). take a xs ++ r) (take-append-drop (b - a) (drop a xs)) ∙ take-append-drop a xs
 
-keys-broken : {B : Type 0} (key : Item → B) → ((x : Item) → key (record x { mask = bit_or x.mask 3 }) ≡ key x) → (least : ℕ) (xs : List Item)
+keys-broken : {B : Type 0} (key : Item → B) → ((x : Item) → key (record x { mask = bit_or x.mask 3 }) ≡ key x)
+    → (least : ℕ) (xs : List Item)
     → map key (map (mark_break least) xs) ≡ map key xs
 keys-broken key same least [] = refl
 keys-broken key same least (x ∷ xs) = λ k. broken key same least x k ∷ keys-broken key same least xs k
 
-keys-range : {B : Type 0} (key : Item → B) → ((x : Item) → key (record x { mask = bit_or x.mask 3 }) ≡ key x) → (least a b : ℕ) (xs : List Item) → a ≤ b
+keys-range : {B : Type 0} (key : Item → B) → ((x : Item) → key (record x { mask = bit_or x.mask 3 }) ≡ key x)
+    → (least a b : ℕ) (xs : List Item) → a ≤ b
     → map key (map_range (mark_break least) a b xs) ≡ map key xs
 keys-range key same least a b xs le =
     let whole : map key (take a xs) ++ (map key (take (b - a) (drop a xs)) ++ map key (drop b xs)) ≡ map key xs =
@@ -40,7 +44,8 @@ keys-range key same least a b xs le =
     simp (map-append, keys-broken key same least) whole
 
 -- and so it does of all items when a span is
-pub keys-unsafe_to_break : {B : Type 0} (key : Item → B) → ((x : Item) → key (record x { mask = bit_or x.mask 3 }) ≡ key x) → (a b : ℕ) (c : Buffer)
+pub keys-unsafe_to_break : {B : Type 0} (key : Item → B) → ((x : Item) → key (record x { mask = bit_or x.mask 3 }) ≡ key x)
+    → (a b : ℕ) (c : Buffer)
     → map key (unsafe_to_break a b c).items ≡ map key c.items
 keys-unsafe_to_break key same a b c =
     elim (cases_Bool (nat_lt (a + 1) b)) [
@@ -55,11 +60,13 @@ marks_of-span : (face : FaceMeaning) (s : Setting) (b : Buffer) (span : Span) �
 unfolding position_span
 marks_of-span face s b span = keys-unsafe_to_break is_mark_item (λ x. refl) span.start span.end b
 
-with_marks_keeps : (face : FaceMeaning) (s : Setting) (i : ℕ) (b : Buffer) (n : ℕ) → marks_of (fold (position_span face s) b (with_marks i n)) ≡ marks_of b
+with_marks_keeps : (face : FaceMeaning) (s : Setting) (i : ℕ) (b : Buffer) (n : ℕ)
+    → marks_of (fold (position_span face s) b (with_marks i n)) ≡ marks_of b
 with_marks_keeps face s i b zero = refl
 with_marks_keeps face s i b (suc n) = marks_of-span face s b (record { start = i; end = i + 1 + suc n })
 
-base_at_keeps : (face : FaceMeaning) (s : Setting) (i : ℕ) (b : Buffer) (ms : List Bool) → marks_of (fold (position_span face s) b (base_at i ms)) ≡ marks_of b
+base_at_keeps : (face : FaceMeaning) (s : Setting) (i : ℕ) (b : Buffer) (ms : List Bool)
+    → marks_of (fold (position_span face s) b (base_at i ms)) ≡ marks_of b
 unfolding base_at
 base_at_keeps face s i b [] = refl
 base_at_keeps face s i b (true ∷ ms) = refl
@@ -78,12 +85,14 @@ limit-break a b c =
       | inr short ↦ rw short refl
     ]
 
-limit-with_marks : (face : FaceMeaning) (s : Setting) (i : ℕ) (b : Buffer) (n : ℕ) → (fold (position_span face s) b (with_marks i n)).length_limit ≡ b.length_limit
+limit-with_marks : (face : FaceMeaning) (s : Setting) (i : ℕ) (b : Buffer) (n : ℕ)
+    → (fold (position_span face s) b (with_marks i n)).length_limit ≡ b.length_limit
 unfolding position_span
 limit-with_marks face s i b zero = refl
 limit-with_marks face s i b (suc n) = limit-break i (i + 1 + suc n) b
 
-limit-base_at : (face : FaceMeaning) (s : Setting) (i : ℕ) (b : Buffer) (ms : List Bool) → (fold (position_span face s) b (base_at i ms)).length_limit ≡ b.length_limit
+limit-base_at : (face : FaceMeaning) (s : Setting) (i : ℕ) (b : Buffer) (ms : List Bool)
+    → (fold (position_span face s) b (base_at i ms)).length_limit ≡ b.length_limit
 unfolding base_at
 limit-base_at face s i b [] = refl
 limit-base_at face s i b (true ∷ ms) = refl
@@ -113,11 +122,15 @@ bases_step face s i b within =
     ∙ ap (λ (ms : List Bool). fold (position_span face s) (positioned_at face s i b) (bases (i + 1) (drop (i + 1) ms))) (sym same)
 
 -- as many items as before
-pub length-positioned_at : (face : FaceMeaning) (s : Setting) (i : ℕ) (b : Buffer) → length (positioned_at face s i b).items ≡ length b.items
-length-positioned_at face s i b = sym (length-map (positioned_at face s i b).items is_mark_item) ∙ ap length (marks_of-positioned_at face s i b) ∙ length-map b.items is_mark_item
+pub length-positioned_at : (face : FaceMeaning) (s : Setting) (i : ℕ) (b : Buffer)
+    → length (positioned_at face s i b).items ≡ length b.items
+length-positioned_at face s i b =
+    sym (length-map (positioned_at face s i b).items is_mark_item) ∙ ap length (marks_of-positioned_at face s i b)
+    ∙ length-map b.items is_mark_item
 
 -- every place visited
-pub bases_end : (face : FaceMeaning) (s : Setting) (i : ℕ) (b : Buffer) → length b.items ≤ i → fold (position_span face s) b (bases i (drop i (marks_of b))) ≡ b
+pub bases_end : (face : FaceMeaning) (s : Setting) (i : ℕ) (b : Buffer) → length b.items ≤ i
+    → fold (position_span face s) b (bases i (drop i (marks_of b))) ≡ b
 unfolding bases
 bases_end face s i b over =
     let none : drop i (marks_of b) ≡ [] = drop_all i (marks_of b) (simp length-map over) in
@@ -155,7 +168,8 @@ pub at_bare : (face : FaceMeaning) (s : Setting) (i n : ℕ) (b : Buffer) (x : I
 at_bare face s i n b x within is mark count none =
     at_other face s i n b x within is mark count ∙ ap (λ (k : ℕ). fold (position_span face s) b (with_marks i k)) none
 
-with_some : (face : FaceMeaning) (s : Setting) (i n : ℕ) (b : Buffer) → 0 < n → fold (position_span face s) b (with_marks i n) ≡ position_span face s b (record { start = i; end = i + 1 + n })
+with_some : (face : FaceMeaning) (s : Setting) (i n : ℕ) (b : Buffer) → 0 < n
+    → fold (position_span face s) b (with_marks i n) ≡ position_span face s b (record { start = i; end = i + 1 + n })
 with_some face s i zero b some = absurd (omega arith)
 with_some face s i (suc n) b some = refl
 

@@ -52,10 +52,10 @@ difference_of_sum a b c fits = int_wrap-sub_right w32 a (b +ℤ c) ∙ int_wrap_
 
 -- ---- one mark
 
-pub x_offset-exact : (horizontal forward : Bool) (class : ℕ) (B E : Extents) → XOffsetFits horizontal forward class B E
-    → mark_x_offset horizontal forward class B E ≡ exact_x_offset horizontal forward class B E
-x_offset-exact horizontal forward class B E fits =
-    by_side (horizontal && is_double class) (is_left class) (is_right class) fits.margin fits.offset
+pub x_offset-exact : (horizontal forward : Bool) (ccc : ℕ) (B E : Extents) → XOffsetFits horizontal forward ccc B E
+    → mark_x_offset horizontal forward ccc B E ≡ exact_x_offset horizontal forward ccc B E
+x_offset-exact horizontal forward ccc B E fits =
+    by_side (horizontal && is_double ccc) (is_left ccc) (is_right ccc) fits.margin fits.offset
   where
     by_side : (double left right : Bool) → (not (double || left || right) ≡ true → Fits32 (B.width -ℤ E.width))
         → Fits32 (if double then B.x_bearing +ℤ (if forward then B.width else pos 0) -ℤ int_div E.width (pos 2) -ℤ E.x_bearing
@@ -91,7 +91,8 @@ exact_hung_of E B kept y =
     if kept then stack_at (pos 0) (record B { height = B.height -ℤ y +ℤ E.height })
     else stack_at y (record B { height = B.height +ℤ E.height })
 
-hung_of-exact : (E B : Extents) (kept : Bool) (y : ℤ) → Fits32 (exact_hung_of E B kept y).base.height → hung_of E B kept y ≡ exact_hung_of E B kept y
+hung_of-exact : (E B : Extents) (kept : Bool) (y : ℤ) → Fits32 (exact_hung_of E B kept y).base.height
+    → hung_of E B kept y ≡ exact_hung_of E B kept y
 hung_of-exact E B true y fits = ap (λ (h : ℤ). stack_at (pos 0) (record B { height = h })) (difference_sum B.height y E.height fits)
 hung_of-exact E B false y fits = ap (λ (h : ℤ). stack_at y (record B { height = h })) (+ʷ-exact B.height E.height fits)
 
@@ -111,33 +112,40 @@ exact_piled_of E B kept y k =
     if kept then stack_at y (record B { y_bearing = B.y_bearing -ℤ E.height; height = B.height +ℤ E.height })
     else stack_at (y +ℤ k) (record B { y_bearing = B.y_bearing +ℤ k -ℤ E.height; height = B.height -ℤ k +ℤ E.height })
 
-piled_of-exact : (E B : Extents) (kept : Bool) (y k : ℤ) → StackedFits (exact_piled_of E B kept y k) → piled_of E B kept y k ≡ exact_piled_of E B kept y k
+piled_of-exact : (E B : Extents) (kept : Bool) (y k : ℤ) → StackedFits (exact_piled_of E B kept y k)
+    → piled_of E B kept y k ≡ exact_piled_of E B kept y k
 piled_of-exact E B true y k fits =
     ap (λ (z : ℤ). stack_at y (record B { y_bearing = z; height = B.height +ʷ E.height })) (-ʷ-exact B.y_bearing E.height fits.y_bearing)
     ∙ ap (λ (h : ℤ). stack_at y (record B { y_bearing = B.y_bearing -ℤ E.height; height = h })) (+ʷ-exact B.height E.height fits.height)
 piled_of-exact E B false y k fits =
-    ap (λ (o : ℤ). stack_at o (record B { y_bearing = B.y_bearing +ʷ k -ʷ E.height; height = B.height -ʷ k +ʷ E.height })) (+ʷ-exact y k fits.y_offset)
-    ∙ ap (λ (z : ℤ). stack_at (y +ℤ k) (record B { y_bearing = z; height = B.height -ʷ k +ʷ E.height })) (sum_difference B.y_bearing k E.height fits.y_bearing)
-    ∙ ap (λ (h : ℤ). stack_at (y +ℤ k) (record B { y_bearing = B.y_bearing +ℤ k -ℤ E.height; height = h })) (difference_sum B.height k E.height fits.height)
+    ap (λ (o : ℤ). stack_at o (record B { y_bearing = B.y_bearing +ʷ k -ʷ E.height; height = B.height -ʷ k +ʷ E.height }))
+    (+ʷ-exact y k fits.y_offset)
+    ∙ ap (λ (z : ℤ). stack_at (y +ℤ k) (record B { y_bearing = z; height = B.height -ʷ k +ʷ E.height }))
+    (sum_difference B.y_bearing k E.height fits.y_bearing)
+    ∙ ap (λ (h : ℤ). stack_at (y +ℤ k) (record B { y_bearing = B.y_bearing +ℤ k -ℤ E.height; height = h }))
+    (difference_sum B.height k E.height fits.height)
 
-pub piled-exact : (gap : ℤ) (E B : Extents) → Fits32 (piled_at E B) → Fits32 (neg_ℤ (piled_at E B)) → StackedFits (exact_piled gap E B) → piled gap E B ≡ exact_piled gap E B
+pub piled-exact : (gap : ℤ) (E B : Extents) → Fits32 (piled_at E B) → Fits32 (neg_ℤ (piled_at E B)) → StackedFits (exact_piled gap E B)
+    → piled gap E B ≡ exact_piled gap E B
 piled-exact gap E B unmoved turned fits =
     ap (λ (y : ℤ). piled_of E B (agree gap y) y (int_div (neg_w y) (pos 2))) (difference_of_sum B.y_bearing E.y_bearing E.height unmoved)
     ∙ ap (λ (z : ℤ). piled_of E B (agree gap (piled_at E B)) (piled_at E B) (int_div z (pos 2))) (neg_w-exact (piled_at E B) turned)
     ∙ piled_of-exact E B (agree gap (piled_at E B)) (piled_at E B) (pushed_up E B) fits
 
-gap_below-exact : (gap : ℤ) (class : ℕ) (B : Extents) → is_attached class ≡ false → Fits32 (B.height -ℤ gap) → lowered gap class B ≡ record B { height = B.height -ℤ gap }
+gap_below-exact : (gap : ℤ) (ccc : ℕ) (B : Extents) → is_attached ccc ≡ false → Fits32 (B.height -ℤ gap)
+    → lowered gap ccc B ≡ record B { height = B.height -ℤ gap }
 unfolding lowered
-gap_below-exact gap class B apart fits = rw apart (ap (λ (h : ℤ). record B { height = h }) (-ʷ-exact B.height gap fits))
+gap_below-exact gap ccc B apart fits = rw apart (ap (λ (h : ℤ). record B { height = h }) (-ʷ-exact B.height gap fits))
 
-gap_above-exact : (gap : ℤ) (class : ℕ) (B : Extents) → is_attached class ≡ false → Fits32 (B.y_bearing +ℤ gap) → Fits32 (B.height -ℤ gap)
-    → raised gap class B ≡ record B { y_bearing = B.y_bearing +ℤ gap; height = B.height -ℤ gap }
+gap_above-exact : (gap : ℤ) (ccc : ℕ) (B : Extents) → is_attached ccc ≡ false → Fits32 (B.y_bearing +ℤ gap) → Fits32 (B.height -ℤ gap)
+    → raised gap ccc B ≡ record B { y_bearing = B.y_bearing +ℤ gap; height = B.height -ℤ gap }
 unfolding raised
-gap_above-exact gap class B apart up down =
+gap_above-exact gap ccc B apart up down =
     rw apart (ap (λ (z : ℤ). record B { y_bearing = z; height = B.height -ʷ gap }) (+ʷ-exact B.y_bearing gap up)
     ∙ ap (λ (h : ℤ). record B { y_bearing = B.y_bearing +ℤ gap; height = h }) (-ʷ-exact B.height gap down))
 
-moved_right-exact : (p : GlyphPosition) (s : MarkState) → Fits32 (p.x_offset +ℤ s.x_offset) → (moved p s).x_offset ≡ p.x_offset +ℤ s.x_offset
+moved_right-exact : (p : GlyphPosition) (s : MarkState) → Fits32 (p.x_offset +ℤ s.x_offset)
+    → (moved p s).x_offset ≡ p.x_offset +ℤ s.x_offset
 unfolding moved
 moved_right-exact p s fits = +ʷ-exact p.x_offset s.x_offset fits
 
@@ -145,7 +153,8 @@ moved_up-exact : (p : GlyphPosition) (s : MarkState) → Fits32 (p.y_offset +ℤ
 unfolding moved
 moved_up-exact p s fits = +ʷ-exact p.y_offset s.y_offset fits
 
-zeroed_right-exact : (p : GlyphPosition) → Fits32 (p.x_offset -ℤ p.x_advance) → (without_advances true p).x_offset ≡ p.x_offset -ℤ p.x_advance
+zeroed_right-exact : (p : GlyphPosition) → Fits32 (p.x_offset -ℤ p.x_advance)
+    → (without_advances true p).x_offset ≡ p.x_offset -ℤ p.x_advance
 unfolding without_advances
 zeroed_right-exact p fits = -ʷ-exact p.x_offset p.x_advance fits
 
@@ -155,10 +164,12 @@ zeroed_up-exact p fits = -ʷ-exact p.y_offset p.y_advance fits
 
 component-exact : (base : Base) (c : ℤ) → Fits32 (place_of base c *ℤ base.extents.width)
     → Fits32 (base.extents.x_bearing +ℤ int_div (place_of base c *ℤ base.extents.width) (pos base.number_of_components))
-    → (component_extents base c).x_bearing ≡ base.extents.x_bearing +ℤ int_div (place_of base c *ℤ base.extents.width) (pos base.number_of_components)
+    → (component_extents base c).x_bearing
+    ≡ base.extents.x_bearing +ℤ int_div (place_of base c *ℤ base.extents.width) (pos base.number_of_components)
 unfolding component_extents
 component-exact base c product sum =
-    ap (λ (z : ℤ). base.extents.x_bearing +ʷ int_div z (pos base.number_of_components)) (*ʷ-exact (place_of base c) base.extents.width product)
+    ap (λ (z : ℤ). base.extents.x_bearing +ʷ int_div z (pos base.number_of_components))
+    (*ʷ-exact (place_of base c) base.extents.width product)
     ∙ +ʷ-exact base.extents.x_bearing (int_div (place_of base c *ℤ base.extents.width) (pos base.number_of_components)) sum
 
 pub marks-exact : ExactMarks
@@ -192,19 +203,23 @@ first_up-exact : (base : Base) (p : GlyphPosition) → base.surroundings.forward
 unfolding first_state
 first_up-exact base p forward fits = rw forward (neg_w-exact p.y_advance fits)
 
-forward_across-exact : (p : GlyphPosition) (s : MarkState) → Fits32 (s.x_offset -ℤ p.x_advance) → (passed true p s).x_offset ≡ s.x_offset -ℤ p.x_advance
+forward_across-exact : (p : GlyphPosition) (s : MarkState) → Fits32 (s.x_offset -ℤ p.x_advance)
+    → (passed true p s).x_offset ≡ s.x_offset -ℤ p.x_advance
 unfolding passed
 forward_across-exact p s fits = -ʷ-exact s.x_offset p.x_advance fits
 
-forward_up-exact : (p : GlyphPosition) (s : MarkState) → Fits32 (s.y_offset -ℤ p.y_advance) → (passed true p s).y_offset ≡ s.y_offset -ℤ p.y_advance
+forward_up-exact : (p : GlyphPosition) (s : MarkState) → Fits32 (s.y_offset -ℤ p.y_advance)
+    → (passed true p s).y_offset ≡ s.y_offset -ℤ p.y_advance
 unfolding passed
 forward_up-exact p s fits = -ʷ-exact s.y_offset p.y_advance fits
 
-backward_across-exact : (p : GlyphPosition) (s : MarkState) → Fits32 (s.x_offset +ℤ p.x_advance) → (passed false p s).x_offset ≡ s.x_offset +ℤ p.x_advance
+backward_across-exact : (p : GlyphPosition) (s : MarkState) → Fits32 (s.x_offset +ℤ p.x_advance)
+    → (passed false p s).x_offset ≡ s.x_offset +ℤ p.x_advance
 unfolding passed
 backward_across-exact p s fits = +ʷ-exact s.x_offset p.x_advance fits
 
-backward_up-exact : (p : GlyphPosition) (s : MarkState) → Fits32 (s.y_offset +ℤ p.y_advance) → (passed false p s).y_offset ≡ s.y_offset +ℤ p.y_advance
+backward_up-exact : (p : GlyphPosition) (s : MarkState) → Fits32 (s.y_offset +ℤ p.y_advance)
+    → (passed false p s).y_offset ≡ s.y_offset +ℤ p.y_advance
 unfolding passed
 backward_up-exact p s fits = +ʷ-exact s.y_offset p.y_advance fits
 
@@ -214,15 +229,18 @@ less_one-exact k byte = -ʷ-exact (pos k) (pos 1) (omega (arith, ints))
 
 abbrev component_by : Base → Item → ℤ → ℤ → ℤ
 component_by base item last component =
-    if base.ligature_id == 0 || not (base.ligature_id == item.properties.ligature_id) || int_le (pos base.number_of_components) component then last
+    if base.ligature_id == 0 || not (base.ligature_id == item.properties.ligature_id)
+    || int_le (pos base.number_of_components) component then last
     else component
 
 number-exact : (base : Base) (x : Item) → base.number_of_components < 256 → x.properties.ligature_component < 256
     → component_of base x ≡ exact_component base x
 unfolding component_of
 number-exact base x components component =
-    ap (λ (last : ℤ). component_by base x last (pos x.properties.ligature_component -ʷ pos 1)) (less_one-exact base.number_of_components components)
-    ∙ ap (λ (own : ℤ). component_by base x (pos base.number_of_components -ℤ pos 1) own) (less_one-exact x.properties.ligature_component component)
+    ap (λ (last : ℤ). component_by base x last (pos x.properties.ligature_component -ʷ pos 1))
+    (less_one-exact base.number_of_components components)
+    ∙ ap (λ (own : ℤ). component_by base x (pos base.number_of_components -ℤ pos 1) own)
+    (less_one-exact x.properties.ligature_component component)
 
 from_left-exact : (base : Base) (c : ℤ) → base.left_to_right ≡ false → Fits32 (pos base.number_of_components -ℤ pos 1 -ℤ c)
     → place_of base c ≡ pos base.number_of_components -ℤ pos 1 -ℤ c

@@ -1,4 +1,4 @@
--- The fallback steps keep clusters and flags: marking spans unsafe to break is all that they do to items beside their classes.
+-- The fallback steps keep clusters and flags: marking spans unsafe to break is all that they do to items beside their ccc.
 use Rattle.std.proofs.Common.{◌≡◌, ℕ, ◌+◌, Bool, true, false, nat_lt, List, [], ◌∷◌, map, refl, ap, sym, ◌∙◌, inl, inr}
 use Rattle.std.specs.Prelude.{Option, fold}
 use Rattle.std.proofs.lemmas.Bool.{cases_Bool}
@@ -85,19 +85,23 @@ flags-spans face s (span ∷ spans) b =
     KeepsFlags-then b (position_span face s b span) _ (flags-span face s b span) (flags-spans face s spans (position_span face s b span))
 
 -- marking a span looks at no position
-break-without_positions : (start end : ℕ) (b : Buffer) → without_positions (unsafe_to_break start end b) ≡ unsafe_to_break start end (without_positions b)
+break-without_positions : (start end : ℕ) (b : Buffer)
+    → without_positions (unsafe_to_break start end b) ≡ unsafe_to_break start end (without_positions b)
 break-without_positions start end b = elim (cases_Bool (nat_lt (start + 1) end)) [ inl long ↦ rw long refl | inr short ↦ rw short refl ]
 
 spans-marked : (face : FaceMeaning) (s : Setting) (spans : List Span) (b c : Buffer) → without_positions b ≡ without_positions c
-    → without_positions (fold (position_span face s) b spans) ≡ without_positions (fold (λ d span. unsafe_to_break span.start span.end d) c spans)
+    → without_positions (fold (position_span face s) b spans)
+    ≡ without_positions (fold (λ d span. unsafe_to_break span.start span.end d) c spans)
 unfolding position_span
 spans-marked face s [] b c same = same
 spans-marked face s (span ∷ spans) b c same =
     spans-marked face s spans (position_span face s b span) (unsafe_to_break span.start span.end c)
-    (break-without_positions span.start span.end b ∙ ap (unsafe_to_break span.start span.end) same ∙ sym (break-without_positions span.start span.end c))
+    (break-without_positions span.start span.end b ∙ ap (unsafe_to_break span.start span.end) same
+    ∙ sym (break-without_positions span.start span.end c))
 
 -- beside positions, the marks of all bases are placed by marking their spans
-pub bases-marked : (face : FaceMeaning) (s : Setting) (b : Buffer) → without_positions (bases_positioned face s b) ≡ without_positions (bases_marked b)
+pub bases-marked : (face : FaceMeaning) (s : Setting) (b : Buffer)
+    → without_positions (bases_positioned face s b) ≡ without_positions (bases_marked b)
 unfolding bases_positioned bases_marked
 bases-marked face s b = spans-marked face s (bases 0 (marks_of b)) b b refl
 
@@ -121,7 +125,7 @@ pub spaces-keep_flags : (face : FaceMeaning) → IsFlagKeeper (spaces_placed fac
 unfolding spaces_placed
 spaces-keep_flags face b = record { flags = refl; stays_set = λ e. e; none_new = λ flag d some. inl some }
 
--- ---- classes are neither clusters nor masks
+-- ---- ccc are neither clusters nor masks
 
 recategorized-cluster : (x : Item) → (recategorized_item x).cluster ≡ x.cluster
 unfolding recategorized_item
@@ -144,11 +148,13 @@ recategorized-flags flag (x ∷ xs) = rw (recategorized-flag flag x, recategoriz
 
 pub recategorized-keeps_clusters : IsClusterKeeper recategorized
 unfolding items_mapped
-recategorized-keeps_clusters b monotone = KeepsOrder-left b _ (record { same_clusters = recategorized-clusters b.items; direction = refl; flags = refl; level = refl })
+recategorized-keeps_clusters b monotone =
+    KeepsOrder-left b _ (record { same_clusters = recategorized-clusters b.items; direction = refl; flags = refl; level = refl })
 
 pub recategorized-keeps_flags : IsFlagKeeper recategorized
 unfolding items_mapped
-recategorized-keeps_flags b = KeepsFlags-items b (map recategorized_item b.items) (λ flag d some. sym (recategorized-flags flag b.items) ∙ some)
+recategorized-keeps_flags b =
+    KeepsFlags-items b (map recategorized_item b.items) (λ flag d some. sym (recategorized-flags flag b.items) ∙ some)
 
 -- ---- steps that may not be due
 
@@ -168,17 +174,20 @@ spaces_step-keeps_flags : (face : FaceMeaning) → IsFlagKeeper (spaces_step fac
 unfolding spaces_step
 spaces_step-keeps_flags face b = IsFlagKeeper-if _ (spaces_placed face) (spaces-keep_flags face) b
 
-marks_adjusted-keeps_clusters : (unicode : UnicodeMeaning) (face : FaceMeaning) (direction : Direction) (script : Option Script) (decisions : Decisions)
+marks_adjusted-keeps_clusters : (unicode : UnicodeMeaning) (face : FaceMeaning) (direction : Direction) (script : Option Script)
+    (decisions : Decisions)
     → IsClusterKeeper (marks_adjusted unicode face direction script decisions)
 unfolding marks_adjusted
 marks_adjusted-keeps_clusters unicode face direction script decisions b = marks-keep_clusters unicode face direction script _ b
 
-marks_adjusted-keeps_flags : (unicode : UnicodeMeaning) (face : FaceMeaning) (direction : Direction) (script : Option Script) (decisions : Decisions)
+marks_adjusted-keeps_flags : (unicode : UnicodeMeaning) (face : FaceMeaning) (direction : Direction) (script : Option Script)
+    (decisions : Decisions)
     → IsFlagKeeper (marks_adjusted unicode face direction script decisions)
 unfolding marks_adjusted
 marks_adjusted-keeps_flags unicode face direction script decisions b = marks-keep_flags unicode face direction script _ b
 
-pub fallback-keeps_clusters : (unicode : UnicodeMeaning) (face : FaceMeaning) (direction : Direction) (script : Option Script) (decisions : Decisions)
+pub fallback-keeps_clusters : (unicode : UnicodeMeaning) (face : FaceMeaning) (direction : Direction) (script : Option Script)
+    (decisions : Decisions)
     → EachFallback IsClusterKeeper unicode face direction script decisions
 fallback-keeps_clusters unicode face direction script decisions = record {
   recategorize = IsClusterKeeper-if _ recategorized recategorized-keeps_clusters;
@@ -186,7 +195,8 @@ fallback-keeps_clusters unicode face direction script decisions = record {
   marks = IsClusterKeeper-if _ _ (marks_adjusted-keeps_clusters unicode face direction script decisions);
 }
 
-pub fallback-keeps_flags : (unicode : UnicodeMeaning) (face : FaceMeaning) (direction : Direction) (script : Option Script) (decisions : Decisions)
+pub fallback-keeps_flags : (unicode : UnicodeMeaning) (face : FaceMeaning) (direction : Direction) (script : Option Script)
+    (decisions : Decisions)
     → EachFallback IsFlagKeeper unicode face direction script decisions
 fallback-keeps_flags unicode face direction script decisions = record {
   recategorize = IsFlagKeeper-if _ recategorized recategorized-keeps_flags;

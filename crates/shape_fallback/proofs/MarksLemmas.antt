@@ -27,9 +27,16 @@ marks_step face base s i to b x p lt items positions is_x is_p =
     let step = place_mark face base s x p in
     let xs = slice_range-cons b.items i to x x lt items is_x in
     let ps = slice_range-cons b.positions i to p zero_position lt positions is_p in
-    let after : slice_range (set b.positions i step.position) (i + 1) to ≡ slice_range b.positions (i + 1) to = ap (take (to - (i + 1))) (drop-set-lt (i + 1) b.positions i step.position (omega arith)) in
+    let after : slice_range (set b.positions i step.position) (i + 1) to
+    ≡ slice_range b.positions (i + 1) to = ap (take (to - (i + 1))) (drop-set-lt (i + 1) b.positions i step.position (omega arith)) in
     ap (λ (list : List GlyphPosition). record b { positions = list })
-    (rw (xs, ps, after, placed_step (marks_placed face base step.state (slice_range b.items (i + 1) to) (slice_range b.positions (i + 1) to)) b.positions i to step.position lt positions) refl)
+    (rw (
+      xs,
+      ps,
+      after,
+      placed_step (marks_placed face base step.state (slice_range b.items (i + 1) to)
+          (slice_range b.positions (i + 1) to)) b.positions i to step.position lt positions,
+    ) refl)
 
 -- no mark is left to place
 pub marks_end : (face : FaceMeaning) (base : Base) (s : MarkState) (i to : ℕ) (b : Buffer) → to ≤ i → i ≤ to
@@ -49,7 +56,8 @@ unfolding around_base
 span_start face s i to b x p lt items positions is_x is_p =
     let xs = slice_range-cons b.items i to x x lt items is_x in
     let ps = slice_range-cons b.positions i to p zero_position lt positions is_p in
-    let more : take (i + 1) b.positions ≡ take i b.positions ++ (p ∷ []) = take_more b.positions i zero_position positions ∙ ap (λ (q : GlyphPosition). take i b.positions ++ (q ∷ [])) (sym is_p) in
+    let more : take (i + 1) b.positions ≡ take i b.positions ++ (p ∷ []) = take_more b.positions i zero_position positions
+    ∙ ap (λ (q : GlyphPosition). take i b.positions ++ (q ∷ [])) (sym is_p) in
     ap (λ (list : List GlyphPosition). record b { positions = list }) (rw (xs, ps, more, append_assoc) refl)
 
 -- a span whose base has extents

@@ -32,12 +32,20 @@ each_step f i to b x p lt items positions is_x is_p =
     let q = f x p in
     let xs = slice_range-cons b.items i to x x lt items is_x in
     let ps = slice_range-cons b.positions i to p zero_position lt positions is_p in
-    let after : slice_range (set b.positions i q) (i + 1) to ≡ slice_range b.positions (i + 1) to = ap (take (to - (i + 1))) (drop-set-lt (i + 1) b.positions i q (omega arith)) in
+    let after : slice_range (set b.positions i q) (i + 1) to
+    ≡ slice_range b.positions (i + 1) to = ap (take (to - (i + 1))) (drop-set-lt (i + 1) b.positions i q (omega arith)) in
     ap (λ (list : List GlyphPosition). record b { positions = list })
-    (rw (xs, ps, after, placed_step (each_placed f (slice_range b.items (i + 1) to) (slice_range b.positions (i + 1) to)) b.positions i to q lt positions) refl)
+    (rw (
+      xs,
+      ps,
+      after,
+      placed_step (each_placed f (slice_range b.items (i + 1) to)
+          (slice_range b.positions (i + 1) to)) b.positions i to q lt positions,
+    ) refl)
 
 -- none is left to make
-pub each_end : (f : Item → GlyphPosition → GlyphPosition) (i to : ℕ) (b : Buffer) → to ≤ i → i ≤ to → with_positions (each_placed f) i to b ≡ b
+pub each_end : (f : Item → GlyphPosition → GlyphPosition) (i to : ℕ) (b : Buffer) → to ≤ i → i ≤ to
+    → with_positions (each_placed f) i to b ≡ b
 unfolding each_placed
 each_end f i to b over within =
     let none : to - i ≡ 0 = omega arith in
@@ -50,6 +58,8 @@ pub all_placed : (f : Item → GlyphPosition → GlyphPosition) (b : Buffer) →
 all_placed f b many =
     let all : length b.items - 0 ≡ length b.items = omega arith in
     let items : slice_range b.items 0 (length b.items) ≡ b.items = rw all (take_all (length b.items) b.items (omega arith)) in
-    let positions : slice_range b.positions 0 (length b.items) ≡ b.positions = rw all (take_all (length b.items) b.positions (omega arith)) in
+    let positions : slice_range b.positions 0 (length b.items)
+    ≡ b.positions = rw all (take_all (length b.items) b.positions (omega arith)) in
     let none : drop (length b.items) b.positions ≡ [] = drop_all (length b.items) b.positions (omega arith) in
-    ap (λ (list : List GlyphPosition). record b { positions = list }) (rw (items, positions, none) (append-nil (each_placed f b.items b.positions)))
+    ap (λ (list : List GlyphPosition). record b { positions = list })
+    (rw (items, positions, none) (append-nil (each_placed f b.items b.positions)))

@@ -66,7 +66,8 @@ abbrev pub is_left_to_right : Direction → Bool
 is_left_to_right LeftToRight = true
 is_left_to_right _ = false
 
--- the components of a ligature run to the right: asked of the plan's direction where that is horizontal, else of its script's, left to right
+-- the components of a ligature run to the right: asked of the plan's direction where that is horizontal, else of its script's, left to
+-- right
 -- where none is known
 unfoldable pub runs_to_right : UnicodeMeaning → Direction → Option Script → Bool
 runs_to_right unicode direction script =

@@ -20,20 +20,20 @@ Fits32 z = FitsSigned w32 z
 
 -- the x offset of a mark with extents E on a base with extents B
 abbrev pub exact_x_offset : Bool → Bool → ℕ → Extents → Extents → ℤ
-exact_x_offset horizontal forward class B E =
-    if horizontal && is_double class then B.x_bearing +ℤ (if forward then B.width else pos 0) -ℤ int_div E.width (pos 2) -ℤ E.x_bearing
-    else if is_left class then B.x_bearing -ℤ E.x_bearing
-    else if is_right class then B.x_bearing +ℤ B.width -ℤ E.width -ℤ E.x_bearing
+exact_x_offset horizontal forward ccc B E =
+    if horizontal && is_double ccc then B.x_bearing +ℤ (if forward then B.width else pos 0) -ℤ int_div E.width (pos 2) -ℤ E.x_bearing
+    else if is_left ccc then B.x_bearing -ℤ E.x_bearing
+    else if is_right ccc then B.x_bearing +ℤ B.width -ℤ E.width -ℤ E.x_bearing
     else B.x_bearing +ℤ int_div (B.width -ℤ E.width) (pos 2) -ℤ E.x_bearing
 
--- the classes that stand at no side of the base
+-- the ccc that stand at no side of the base
 abbrev pub is_centred : Bool → ℕ → Bool
-is_centred horizontal class = not ((horizontal && is_double class) || is_left class || is_right class)
+is_centred horizontal ccc = not ((horizontal && is_double ccc) || is_left ccc || is_right ccc)
 
 -- the offset fits, and so does the margin of a centred mark, which is halved
-pub record XOffsetFits (horizontal forward : Bool) (class : ℕ) (B E : Extents) : Type 0 where
-  pub margin : is_centred horizontal class ≡ true → Fits32 (B.width -ℤ E.width)
-  pub offset : Fits32 (exact_x_offset horizontal forward class B E)
+pub record XOffsetFits (horizontal forward : Bool) (ccc : ℕ) (B E : Extents) : Type 0 where
+  pub margin : is_centred horizontal ccc ≡ true → Fits32 (B.width -ℤ E.width)
+  pub offset : Fits32 (exact_x_offset horizontal forward ccc B E)
 
 -- how high a mark below comes to lie before it is kept from moving up
 abbrev pub hung_at : Extents → Extents → ℤ
@@ -73,11 +73,13 @@ pub record StackedFits (s : Stacked) : Type 0 where
 abbrev pub exact_component : Base → Item → ℤ
 exact_component base item =
     let component = pos item.properties.ligature_component -ℤ pos 1 in
-    if base.ligature_id == 0 || not (base.ligature_id == item.properties.ligature_id) || int_le (pos base.number_of_components) component then
+    if base.ligature_id == 0 || not (base.ligature_id == item.properties.ligature_id)
+    || int_le (pos base.number_of_components) component then
     pos base.number_of_components -ℤ pos 1
     else component
 
--- where all numbers round a base fit, they are the exact ones: the base's box, the running offset at the first mark and past each mark of class 0,
+-- where all numbers round a base fit, they are the exact ones: the base's box, the running offset at the first mark and past each mark of
+-- ccc 0,
 -- and which component a mark belongs to, where the numbers of components are of u8
 pub record ExactRound : Type 0 where
   pub base_above : (face : FaceMeaning) (s : Setting) (x : Item) (p : GlyphPosition) (E : Extents) → Fits32 (E.y_bearing +ℤ p.y_offset)
@@ -86,10 +88,14 @@ pub record ExactRound : Type 0 where
       → (first_state base p).x_offset ≡ neg_ℤ p.x_advance
   pub first_up : (base : Base) (p : GlyphPosition) → base.surroundings.forward ≡ true → Fits32 (neg_ℤ p.y_advance)
       → (first_state base p).y_offset ≡ neg_ℤ p.y_advance
-  pub forward_across : (p : GlyphPosition) (s : MarkState) → Fits32 (s.x_offset -ℤ p.x_advance) → (passed true p s).x_offset ≡ s.x_offset -ℤ p.x_advance
-  pub forward_up : (p : GlyphPosition) (s : MarkState) → Fits32 (s.y_offset -ℤ p.y_advance) → (passed true p s).y_offset ≡ s.y_offset -ℤ p.y_advance
-  pub backward_across : (p : GlyphPosition) (s : MarkState) → Fits32 (s.x_offset +ℤ p.x_advance) → (passed false p s).x_offset ≡ s.x_offset +ℤ p.x_advance
-  pub backward_up : (p : GlyphPosition) (s : MarkState) → Fits32 (s.y_offset +ℤ p.y_advance) → (passed false p s).y_offset ≡ s.y_offset +ℤ p.y_advance
+  pub forward_across : (p : GlyphPosition) (s : MarkState) → Fits32 (s.x_offset -ℤ p.x_advance)
+      → (passed true p s).x_offset ≡ s.x_offset -ℤ p.x_advance
+  pub forward_up : (p : GlyphPosition) (s : MarkState) → Fits32 (s.y_offset -ℤ p.y_advance)
+      → (passed true p s).y_offset ≡ s.y_offset -ℤ p.y_advance
+  pub backward_across : (p : GlyphPosition) (s : MarkState) → Fits32 (s.x_offset +ℤ p.x_advance)
+      → (passed false p s).x_offset ≡ s.x_offset +ℤ p.x_advance
+  pub backward_up : (p : GlyphPosition) (s : MarkState) → Fits32 (s.y_offset +ℤ p.y_advance)
+      → (passed false p s).y_offset ≡ s.y_offset +ℤ p.y_advance
   pub component : (base : Base) (x : Item) → base.number_of_components < 256 → x.properties.ligature_component < 256
       → component_of base x ≡ exact_component base x
   pub from_left : (base : Base) (c : ℤ) → base.left_to_right ≡ false → Fits32 (pos base.number_of_components -ℤ pos 1 -ℤ c)
@@ -97,20 +103,25 @@ pub record ExactRound : Type 0 where
 
 -- where all numbers of one mark fit, they are the exact ones
 pub record ExactMarks : Type 0 where
-  pub across : (horizontal forward : Bool) (class : ℕ) (B E : Extents) → XOffsetFits horizontal forward class B E
-      → mark_x_offset horizontal forward class B E ≡ exact_x_offset horizontal forward class B E
+  pub across : (horizontal forward : Bool) (ccc : ℕ) (B E : Extents) → XOffsetFits horizontal forward ccc B E
+      → mark_x_offset horizontal forward ccc B E ≡ exact_x_offset horizontal forward ccc B E
   pub below : (gap : ℤ) (E B : Extents) → Fits32 (hung_at E B) → StackedFits (exact_hung gap E B) → hung gap E B ≡ exact_hung gap E B
-  pub above : (gap : ℤ) (E B : Extents) → Fits32 (piled_at E B) → Fits32 (neg_ℤ (piled_at E B)) → StackedFits (exact_piled gap E B) → piled gap E B ≡ exact_piled gap E B
-  pub gap_below : (gap : ℤ) (class : ℕ) (B : Extents) → is_attached class ≡ false → Fits32 (B.height -ℤ gap) → lowered gap class B ≡ record B { height = B.height -ℤ gap }
-  pub gap_above : (gap : ℤ) (class : ℕ) (B : Extents) → is_attached class ≡ false → Fits32 (B.y_bearing +ℤ gap) → Fits32 (B.height -ℤ gap)
-      → raised gap class B ≡ record B { y_bearing = B.y_bearing +ℤ gap; height = B.height -ℤ gap }
-  pub moved_right : (p : GlyphPosition) (s : MarkState) → Fits32 (p.x_offset +ℤ s.x_offset) → (moved p s).x_offset ≡ p.x_offset +ℤ s.x_offset
+  pub above : (gap : ℤ) (E B : Extents) → Fits32 (piled_at E B) → Fits32 (neg_ℤ (piled_at E B)) → StackedFits (exact_piled gap E B)
+      → piled gap E B ≡ exact_piled gap E B
+  pub gap_below : (gap : ℤ) (ccc : ℕ) (B : Extents) → is_attached ccc ≡ false → Fits32 (B.height -ℤ gap)
+      → lowered gap ccc B ≡ record B { height = B.height -ℤ gap }
+  pub gap_above : (gap : ℤ) (ccc : ℕ) (B : Extents) → is_attached ccc ≡ false → Fits32 (B.y_bearing +ℤ gap) → Fits32 (B.height -ℤ gap)
+      → raised gap ccc B ≡ record B { y_bearing = B.y_bearing +ℤ gap; height = B.height -ℤ gap }
+  pub moved_right : (p : GlyphPosition) (s : MarkState) → Fits32 (p.x_offset +ℤ s.x_offset)
+      → (moved p s).x_offset ≡ p.x_offset +ℤ s.x_offset
   pub moved_up : (p : GlyphPosition) (s : MarkState) → Fits32 (p.y_offset +ℤ s.y_offset) → (moved p s).y_offset ≡ p.y_offset +ℤ s.y_offset
-  pub zeroed_right : (p : GlyphPosition) → Fits32 (p.x_offset -ℤ p.x_advance) → (without_advances true p).x_offset ≡ p.x_offset -ℤ p.x_advance
+  pub zeroed_right : (p : GlyphPosition) → Fits32 (p.x_offset -ℤ p.x_advance)
+      → (without_advances true p).x_offset ≡ p.x_offset -ℤ p.x_advance
   pub zeroed_up : (p : GlyphPosition) → Fits32 (p.y_offset -ℤ p.y_advance) → (without_advances true p).y_offset ≡ p.y_offset -ℤ p.y_advance
   pub component : (base : Base) (c : ℤ) → Fits32 (place_of base c *ℤ base.extents.width)
       → Fits32 (base.extents.x_bearing +ℤ int_div (place_of base c *ℤ base.extents.width) (pos base.number_of_components))
-      → (component_extents base c).x_bearing ≡ base.extents.x_bearing +ℤ int_div (place_of base c *ℤ base.extents.width) (pos base.number_of_components)
+      → (component_extents base c).x_bearing
+      ≡ base.extents.x_bearing +ℤ int_div (place_of base c *ℤ base.extents.width) (pos base.number_of_components)
 
 -- a space's part of the em square always fits: down a line it is the exact negative
 pub record ExactSpaces : Type 0 where

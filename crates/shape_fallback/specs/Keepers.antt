@@ -9,7 +9,8 @@ use Rattle.shape_plan.specs.declared.decisions.Decisions.{Decisions}
 use Rattle.shape_fallback.specs.Steps.{recategorize_step, spaces_step, marks_step}
 
 -- a property of each fallback step, under a plan of this direction and script, with these decisions
-pub record EachFallback (Keeps : (Buffer → Buffer) → Type 0) (unicode : UnicodeMeaning) (face : FaceMeaning) (direction : Direction) (script : Option Script) (decisions : Decisions) : Type 0 where
+pub record EachFallback (Keeps : (Buffer → Buffer) → Type 0) (unicode : UnicodeMeaning) (face : FaceMeaning) (direction : Direction)
+    (script : Option Script) (decisions : Decisions) : Type 0 where
   pub recategorize : Keeps (recategorize_step decisions)
   pub spaces : Keeps (spaces_step face)
   pub marks : Keeps (marks_step unicode face direction script decisions)

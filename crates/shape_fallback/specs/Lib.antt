@@ -1,5 +1,5 @@
 pub mod Extents
-pub mod Classes
+pub mod Ccc
 pub mod Recategorized
 pub mod Positions
 pub mod Spaces
@@ -10,7 +10,7 @@ pub mod Bases
 pub mod Steps
 pub mod Keepers
 pub mod Exact
-pub mod WorkedClasses
+pub mod WorkedCcc
 pub mod WorkedSpaces
 pub mod WorkedOneMark
 pub mod WorkedMarks

@@ -15,7 +15,8 @@ use Rattle.shape_fallback.specs.declared.ot_shape_fallback.mark_state.MarkStep.{
 unfoldable pub component_of : Base → Item → ℤ
 component_of base item =
     let component = pos item.properties.ligature_component -ʷ pos 1 in
-    if base.ligature_id == 0 || not (base.ligature_id == item.properties.ligature_id) || int_le (pos base.number_of_components) component then
+    if base.ligature_id == 0 || not (base.ligature_id == item.properties.ligature_id)
+    || int_le (pos base.number_of_components) component then
     pos base.number_of_components -ʷ pos 1
     else component
 
@@ -35,22 +36,22 @@ component_extents base component = record base.extents {
 unfoldable pub is_same : ℤ → ℤ → Bool
 is_same a b = int_eq a b
 
--- the state at the component of a mark: a new one begins with its own extents, and the class rule starts anew
+-- the state at the component of a mark: a new one begins with its own extents, and the ccc rule starts anew
 unfoldable pub at_component : Base → Item → MarkState → MarkState
 at_component base item s =
     let component = component_of base item in
     if is_same component s.component then s
-    else record s { component = component; component_extents = component_extents base component; class = 255 }
+    else record s { component = component; component_extents = component_extents base component; ccc = 255 }
 
 -- the same, where the base has several components
 unfoldable pub with_component : Base → Item → MarkState → MarkState
 with_component base item s = if nat_lt 1 base.number_of_components then at_component base item s else s
 
--- the state at a class: a new class begins with the component's extents
-unfoldable pub with_class : ℕ → MarkState → MarkState
-with_class class s = if class == s.class then s else record s { class = class; extents = s.component_extents }
+-- the state at a ccc: a new ccc begins with the component's extents
+unfoldable pub with_ccc : ℕ → MarkState → MarkState
+with_ccc ccc s = if ccc == s.ccc then s else record s { ccc = ccc; extents = s.component_extents }
 
--- the state past a mark without a class
+-- the state past a mark without a ccc
 unfoldable pub passed : Bool → GlyphPosition → MarkState → MarkState
 passed forward p s =
     if forward then record s { x_offset = s.x_offset -ʷ p.x_advance; y_offset = s.y_offset -ʷ p.y_advance }
@@ -65,14 +66,15 @@ moved p s = record p {
   y_offset = p.y_offset +ʷ s.y_offset;
 }
 
--- a mark of a class in the state that it is placed in
+-- a mark of a ccc in the state that it is placed in
 unfoldable pub place_in : FaceMeaning → Base → MarkState → Item → GlyphPosition → MarkStep
 place_in face base s item p =
-    let there = placed base.surroundings (face.extents (record { 0 = item.glyph_id })) item.properties.modified_class (record { position = p; base = s.extents }) in
+    let there = placed base.surroundings (face.extents (record { 0 = item.glyph_id })) item.properties.modified_ccc
+    (record { position = p; base = s.extents }) in
     record { position = moved there.position s; state = record s { extents = there.base } }
 
 -- a mark of a base
 unfoldable pub place_mark : FaceMeaning → Base → MarkState → Item → GlyphPosition → MarkStep
 place_mark face base s item p =
-    if item.properties.modified_class == 0 then record { position = p; state = passed base.surroundings.forward p s }
-    else place_in face base (with_class item.properties.modified_class (with_component base item s)) item p
+    if item.properties.modified_ccc == 0 then record { position = p; state = passed base.surroundings.forward p s }
+    else place_in face base (with_ccc item.properties.modified_ccc (with_component base item s)) item p

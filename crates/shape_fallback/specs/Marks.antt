@@ -49,7 +49,7 @@ unfoldable pub first_state : Base → GlyphPosition → MarkState
 first_state base p = record {
   component = negsuc 0;
   component_extents = base.extents;
-  class = 255;
+  ccc = 255;
   extents = base.extents;
   x_offset = if base.surroundings.forward then neg_w p.x_advance else pos 0;
   y_offset = if base.surroundings.forward then neg_w p.y_advance else pos 0;

@@ -1,11 +1,11 @@
--- The classes that the marks of a buffer are placed by.
+-- The ccc that the marks of a buffer are placed by.
 use Rattle.std.specs.Prelude.{Bool, true, false, if◌then◌else◌}
 use Rattle.shape_buffer.specs.Buffer.{Buffer}
 use Rattle.shape_buffer.specs.Items.{Item}
 use Rattle.shape_buffer.specs.Walks.{items_mapped}
 use Rattle.shape_buffer.specs.declared.buffer.general_category.hb_unicode_general_category_t.{hb_unicode_general_category_t}
 use Rattle.shape_buffer.specs.declared.buffer.general_category.hb_unicode_general_category_t.TheVariants.{NonspacingMark}
-use Rattle.shape_fallback.specs.Classes.{fallback_class}
+use Rattle.shape_fallback.specs.Ccc.{fallback_ccc}
 
 abbrev pub is_nonspacing_category : hb_unicode_general_category_t → Bool
 is_nonspacing_category NonspacingMark = true
@@ -15,11 +15,11 @@ is_nonspacing_category _ = false
 unfoldable pub is_nonspacing : Item → Bool
 is_nonspacing item = is_nonspacing_category item.properties.general_category
 
--- an item with the class that it is placed by: only nonspacing marks have another one than before
+-- an item with the ccc that it is placed by: only nonspacing marks have another one than before
 unfoldable pub recategorized_item : Item → Item
 recategorized_item item =
     if is_nonspacing item then
-    record item { properties = record item.properties { modified_class = fallback_class item.codepoint item.properties.modified_class } }
+    record item { properties = record item.properties { modified_ccc = fallback_ccc item.codepoint item.properties.modified_ccc } }
     else item
 
 -- every mark of the buffer

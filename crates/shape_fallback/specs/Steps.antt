@@ -12,14 +12,15 @@ use Rattle.shape_plan.specs.declared.decisions.Decisions.{Decisions}
 use Rattle.shape_fallback.specs.Bases.{marks_positioned}
 use Rattle.shape_fallback.specs.Recategorized.{recategorized}
 use Rattle.shape_fallback.specs.Spaces.{spaces_placed}
+use Rattle.shape_buffer.specs.FlagNames.{HAS_SPACE_FALLBACK}
 
--- classes change where the plan places marks by their extents
+-- ccc change where the plan places marks by their extents
 abbrev pub recategorize_step : Decisions → Buffer → Buffer
 recategorize_step decisions = step_if decisions.fallback_mark_positioning recategorized
 
 -- the scratch flag "has space fallback" is set
 abbrev pub has_space_fallback : Buffer → Bool
-has_space_fallback b = bit_and b.scratch_flags.0 4 == 4
+has_space_fallback b = bit_and b.scratch_flags.0 HAS_SPACE_FALLBACK == HAS_SPACE_FALLBACK
 
 -- spaces are placed where one without a glyph was seen
 unfoldable pub spaces_step : FaceMeaning → Buffer → Buffer

@@ -14,13 +14,13 @@ use Rattle.shape_buffer.specs.declared.buffer.settings.Direction.TheVariants.{Le
 use Rattle.shape_plan.specs.declared.decisions.Decisions.{Decisions}
 use Rattle.shape_fallback.specs.Bases.{position_span, base_at, bases, bases_positioned, bases_marked, runs_to_right, setting_of, marks_positioned}
 use Rattle.shape_fallback.specs.Extents.{Extents}
-use Rattle.shape_fallback.specs.MarkState.{component_of, place_of, component_extents, is_same, at_component, with_component, with_class, passed, moved, place_in, place_mark}
+use Rattle.shape_fallback.specs.MarkState.{component_of, place_of, component_extents, is_same, at_component, with_component, with_ccc, passed, moved, place_in, place_mark}
 use Rattle.shape_fallback.specs.Marks.{marks_placed, without_advances, zeroed, base_of, first_state, around_base}
 use Rattle.shape_fallback.specs.OneMark.{is_double, is_left, is_right, is_below, is_above, is_attached, agree, lowered, raised, placed}
 use Rattle.shape_fallback.specs.Positions.{each_placed}
 use Rattle.shape_fallback.specs.Recategorized.{is_nonspacing, recategorized_item}
 use Rattle.shape_fallback.specs.Steps.{recategorize_step, marks_step, marks_adjusted}
-use Rattle.shape_fallback.specs.WorkedClasses.{worked_mark}
+use Rattle.shape_fallback.specs.WorkedCcc.{worked_mark}
 use Rattle.shape_fallback.specs.WorkedMarks.{at, component_mark, some_script, worked_unicode}
 use Rattle.shape_fallback.specs.WorkedOneMark.{box}
 use Rattle.shape_fallback.specs.WorkedSpaces.{worked_face}
@@ -47,10 +47,10 @@ letter n =
     let item = new_item 0x61 0 in
     record item { glyph_id = 1; properties = record item.properties { general_category = LowercaseLetter; ligature_id = 1; number_of_components = n } }
 
--- a mark of a glyph and a class, of a category, in a cluster
+-- a mark of a glyph and a ccc, of a category, in a cluster
 abbrev pub mark_of : ℕ → ℕ → hb_unicode_general_category_t → ℕ → Item
-mark_of glyph class category cluster =
-    let item = component_mark glyph class 0 0 in
+mark_of glyph ccc category cluster =
+    let item = component_mark glyph ccc 0 0 in
     record item { cluster = cluster; properties = record item.properties { general_category = category } }
 
 abbrev pub marked : Direction → List Item → List GlyphPosition → Buffer
@@ -58,42 +58,54 @@ marked direction items ps = record new_buffer { direction = direction; items = i
 
 -- positions under a plan of the buffer's direction
 abbrev pub positions_after : FaceMeaning → Bool → Direction → List Item → List GlyphPosition → List GlyphPosition
-positions_after face adjust direction items ps = (marks_positioned (worked_unicode None) face direction None adjust (marked direction items ps)).positions
+positions_after face adjust direction items ps =
+    (marks_positioned (worked_unicode None) face direction None adjust (marked direction items ps)).positions
 
 pub record AboveAndBelow : Type 0 where
-  pub above : positions_after (latin_face (pos 600)) true LeftToRight (letter 1 ∷ mark_of 2 230 NonspacingMark 0 ∷ []) (at (pos 600) (pos 0) (pos 0) (pos 0) ∷ at (pos 11) (pos 12) (pos 13) (pos 14) ∷ [])
+  pub above : positions_after (latin_face (pos 600)) true LeftToRight (letter 1 ∷ mark_of 2 230 NonspacingMark 0 ∷ [])
+      (at (pos 600) (pos 0) (pos 0) (pos 0) ∷ at (pos 11) (pos 12) (pos 13) (pos 14) ∷ [])
       ≡ at (pos 600) (pos 0) (pos 0) (pos 0) ∷ at (pos 0) (pos 0) (negsuc 449) (pos 112) ∷ []
-  pub below : positions_after (latin_face (pos 600)) true LeftToRight (letter 1 ∷ mark_of 3 220 NonspacingMark 0 ∷ []) (at (pos 600) (pos 0) (pos 0) (pos 0) ∷ at (pos 0) (pos 0) (pos 0) (pos 0) ∷ [])
+  pub below : positions_after (latin_face (pos 600)) true LeftToRight (letter 1 ∷ mark_of 3 220 NonspacingMark 0 ∷ [])
+      (at (pos 600) (pos 0) (pos 0) (pos 0) ∷ at (pos 0) (pos 0) (pos 0) (pos 0) ∷ [])
       ≡ at (pos 600) (pos 0) (pos 0) (pos 0) ∷ at (pos 0) (pos 0) (negsuc 449) (negsuc 11) ∷ []
-  pub two_acutes : positions_after (latin_face (pos 600)) true LeftToRight (letter 1 ∷ mark_of 2 230 NonspacingMark 0 ∷ mark_of 2 230 NonspacingMark 0 ∷ [])
+  pub two_acutes : positions_after (latin_face (pos 600)) true LeftToRight
+      (letter 1 ∷ mark_of 2 230 NonspacingMark 0 ∷ mark_of 2 230 NonspacingMark 0 ∷ [])
       (at (pos 600) (pos 0) (pos 0) (pos 0) ∷ at (pos 0) (pos 0) (pos 0) (pos 0) ∷ at (pos 0) (pos 0) (pos 0) (pos 0) ∷ [])
       ≡ at (pos 600) (pos 0) (pos 0) (pos 0) ∷ at (pos 0) (pos 0) (negsuc 449) (pos 112) ∷ at (pos 0) (pos 0) (negsuc 449) (pos 324) ∷ []
-  -- another class begins at the base's own box
-  pub above_then_below : positions_after (latin_face (pos 600)) true LeftToRight (letter 1 ∷ mark_of 2 230 NonspacingMark 0 ∷ mark_of 3 220 NonspacingMark 0 ∷ [])
+  -- another ccc begins at the base's own box
+  pub above_then_below : positions_after (latin_face (pos 600)) true LeftToRight
+      (letter 1 ∷ mark_of 2 230 NonspacingMark 0 ∷ mark_of 3 220 NonspacingMark 0 ∷ [])
       (at (pos 600) (pos 0) (pos 0) (pos 0) ∷ at (pos 0) (pos 0) (pos 0) (pos 0) ∷ at (pos 0) (pos 0) (pos 0) (pos 0) ∷ [])
       ≡ at (pos 600) (pos 0) (pos 0) (pos 0) ∷ at (pos 0) (pos 0) (negsuc 449) (pos 112) ∷ at (pos 0) (pos 0) (negsuc 449) (negsuc 11) ∷ []
   -- a base that is moved up takes its marks with it
-  pub moved_base : positions_after (latin_face (pos 600)) true LeftToRight (letter 1 ∷ mark_of 2 230 NonspacingMark 0 ∷ []) (at (pos 600) (pos 0) (pos 9) (pos 100) ∷ at (pos 0) (pos 0) (pos 0) (pos 0) ∷ [])
+  pub moved_base : positions_after (latin_face (pos 600)) true LeftToRight (letter 1 ∷ mark_of 2 230 NonspacingMark 0 ∷ [])
+      (at (pos 600) (pos 0) (pos 9) (pos 100) ∷ at (pos 0) (pos 0) (pos 0) (pos 0) ∷ [])
       ≡ at (pos 600) (pos 0) (pos 9) (pos 100) ∷ at (pos 0) (pos 0) (negsuc 449) (pos 212) ∷ []
   -- below 16 units there is no gap, and a mark above comes half of the way down
-  pub no_gap : positions_after (base_face 15 (pos 600) (Some (box (pos 30) (pos 700) (pos 600) (negsuc 699)))) true LeftToRight (letter 1 ∷ mark_of 2 230 NonspacingMark 0 ∷ []) (at (pos 600) (pos 0) (pos 0) (pos 0) ∷ at (pos 0) (pos 0) (pos 0) (pos 0) ∷ [])
+  pub no_gap : positions_after (base_face 15 (pos 600) (Some (box (pos 30) (pos 700) (pos 600) (negsuc 699)))) true LeftToRight
+      (letter 1 ∷ mark_of 2 230 NonspacingMark 0 ∷ []) (at (pos 600) (pos 0) (pos 0) (pos 0) ∷ at (pos 0) (pos 0) (pos 0) (pos 0) ∷ [])
       ≡ at (pos 600) (pos 0) (pos 0) (pos 0) ∷ at (pos 0) (pos 0) (negsuc 449) (pos 25) ∷ []
-  pub gap_of_one : positions_after (base_face 16 (pos 600) (Some (box (pos 30) (pos 700) (pos 600) (negsuc 699)))) true LeftToRight (letter 1 ∷ mark_of 2 230 NonspacingMark 0 ∷ []) (at (pos 600) (pos 0) (pos 0) (pos 0) ∷ at (pos 0) (pos 0) (pos 0) (pos 0) ∷ [])
+  pub gap_of_one : positions_after (base_face 16 (pos 600) (Some (box (pos 30) (pos 700) (pos 600) (negsuc 699)))) true LeftToRight
+      (letter 1 ∷ mark_of 2 230 NonspacingMark 0 ∷ []) (at (pos 600) (pos 0) (pos 0) (pos 0) ∷ at (pos 0) (pos 0) (pos 0) (pos 0) ∷ [])
       ≡ at (pos 600) (pos 0) (pos 0) (pos 0) ∷ at (pos 0) (pos 0) (negsuc 449) (pos 51) ∷ []
-  pub right_to_left : positions_after (latin_face (pos 600)) true RightToLeft (letter 1 ∷ mark_of 2 230 NonspacingMark 0 ∷ []) (at (pos 600) (pos 0) (pos 0) (pos 0) ∷ at (pos 11) (pos 0) (pos 0) (pos 0) ∷ [])
+  pub right_to_left : positions_after (latin_face (pos 600)) true RightToLeft (letter 1 ∷ mark_of 2 230 NonspacingMark 0 ∷ [])
+      (at (pos 600) (pos 0) (pos 0) (pos 0) ∷ at (pos 11) (pos 0) (pos 0) (pos 0) ∷ [])
       ≡ at (pos 600) (pos 0) (pos 0) (pos 0) ∷ at (pos 0) (pos 0) (pos 150) (pos 112) ∷ []
   -- the base is moved 1000 down, so its mark would come down by 888, and comes half of the way
-  pub downwards : positions_after (latin_face (pos 600)) true TopToBottom (letter 1 ∷ mark_of 2 230 NonspacingMark 0 ∷ []) (at (pos 0) (negsuc 999) (negsuc 299) (negsuc 999) ∷ at (pos 0) (negsuc 999) (pos 0) (pos 0) ∷ [])
+  pub downwards : positions_after (latin_face (pos 600)) true TopToBottom (letter 1 ∷ mark_of 2 230 NonspacingMark 0 ∷ [])
+      (at (pos 0) (negsuc 999) (negsuc 299) (negsuc 999) ∷ at (pos 0) (negsuc 999) (pos 0) (pos 0) ∷ [])
       ≡ at (pos 0) (negsuc 999) (negsuc 299) (negsuc 999) ∷ at (pos 0) (pos 0) (pos 150) (pos 556) ∷ []
 
 above_and_below : AboveAndBelow
-unfolding marks_positioned setting_of runs_to_right bases_positioned bases base_at position_span around_base base_of first_state marks_placed place_mark place_in with_class with_component moved placed is_double is_left is_right is_below is_above is_attached agree lowered raised ◌+ʷ◌ ◌-ʷ◌ neg_w int_wrap
-above_and_below = record { above = refl; below = refl; two_acutes = refl; above_then_below = refl; moved_base = refl; no_gap = refl; gap_of_one = refl; right_to_left = refl; downwards = refl }
+unfolding marks_positioned setting_of runs_to_right bases_positioned bases base_at position_span around_base base_of first_state marks_placed place_mark place_in with_ccc with_component moved placed is_double is_left is_right is_below is_above is_attached agree lowered raised ◌+ʷ◌ ◌-ʷ◌ neg_w int_wrap
+above_and_below =
+    record { above = refl; below = refl; two_acutes = refl; above_then_below = refl; moved_base = refl; no_gap = refl; gap_of_one = refl; right_to_left = refl; downwards = refl }
 
--- offsets of one mark of class 230 on a ligature of three components of advance 900
+-- offsets of one mark of ccc 230 on a ligature of three components of advance 900
 abbrev pub on_ligature : Direction → ℕ → List GlyphPosition
 on_ligature direction component =
-    positions_after (latin_face (pos 900)) true direction (letter 3 ∷ component_mark 2 230 1 component ∷ []) (at (pos 900) (pos 0) (pos 0) (pos 0) ∷ at (pos 0) (pos 0) (pos 0) (pos 0) ∷ [])
+    positions_after (latin_face (pos 900)) true direction (letter 3 ∷ component_mark 2 230 1 component ∷ [])
+    (at (pos 900) (pos 0) (pos 0) (pos 0) ∷ at (pos 0) (pos 0) (pos 0) (pos 0) ∷ [])
 
 pub record OnLigatures : Type 0 where
   pub second : on_ligature LeftToRight 2 ≡ at (pos 900) (pos 0) (pos 0) (pos 0) ∷ at (pos 0) (pos 0) (negsuc 599) (pos 112) ∷ []
@@ -102,35 +114,43 @@ pub record OnLigatures : Type 0 where
   pub first_from_the_right : on_ligature RightToLeft 1 ≡ at (pos 900) (pos 0) (pos 0) (pos 0) ∷ at (pos 0) (pos 0) (pos 600) (pos 112) ∷ []
   -- the components of vertical text run as its script does
   pub downwards : (marks_positioned (worked_unicode (Some RightToLeft)) (latin_face (pos 900)) TopToBottom some_script true
-      (marked TopToBottom (letter 3 ∷ component_mark 2 230 1 1 ∷ []) (at (pos 0) (pos 0) (pos 0) (pos 0) ∷ at (pos 0) (pos 0) (pos 0) (pos 0) ∷ []))).positions
+      (marked TopToBottom (letter 3 ∷ component_mark 2 230 1 1 ∷ [])
+      (at (pos 0) (pos 0) (pos 0) (pos 0) ∷ at (pos 0) (pos 0) (pos 0) (pos 0) ∷ []))).positions
       ≡ at (pos 0) (pos 0) (pos 0) (pos 0) ∷ at (pos 0) (pos 0) (pos 600) (pos 112) ∷ []
-  -- at another component the same class begins anew
-  pub two_components : positions_after (latin_face (pos 900)) true LeftToRight (letter 3 ∷ component_mark 2 230 1 1 ∷ component_mark 2 230 1 2 ∷ component_mark 2 230 1 2 ∷ [])
-      (at (pos 900) (pos 0) (pos 0) (pos 0) ∷ at (pos 0) (pos 0) (pos 0) (pos 0) ∷ at (pos 0) (pos 0) (pos 0) (pos 0) ∷ at (pos 0) (pos 0) (pos 0) (pos 0) ∷ [])
-      ≡ at (pos 900) (pos 0) (pos 0) (pos 0) ∷ at (pos 0) (pos 0) (negsuc 899) (pos 112) ∷ at (pos 0) (pos 0) (negsuc 599) (pos 112) ∷ at (pos 0) (pos 0) (negsuc 599) (pos 324) ∷ []
+  -- at another component the same ccc begins anew
+  pub two_components : positions_after (latin_face (pos 900)) true LeftToRight
+      (letter 3 ∷ component_mark 2 230 1 1 ∷ component_mark 2 230 1 2 ∷ component_mark 2 230 1 2 ∷ [])
+      (at (pos 900) (pos 0) (pos 0) (pos 0) ∷ at (pos 0) (pos 0) (pos 0) (pos 0) ∷ at (pos 0) (pos 0) (pos 0) (pos 0)
+      ∷ at (pos 0) (pos 0) (pos 0) (pos 0) ∷ [])
+      ≡ at (pos 900) (pos 0) (pos 0) (pos 0) ∷ at (pos 0) (pos 0) (negsuc 899) (pos 112) ∷ at (pos 0) (pos 0) (negsuc 599) (pos 112)
+      ∷ at (pos 0) (pos 0) (negsuc 599) (pos 324) ∷ []
 
 on_ligatures : OnLigatures
-unfolding marks_positioned setting_of runs_to_right bases_positioned bases base_at position_span around_base base_of first_state marks_placed place_mark place_in with_class with_component at_component component_of place_of component_extents is_same moved placed is_double is_left is_right is_below is_above is_attached agree lowered raised ◌+ʷ◌ ◌-ʷ◌ ◌*ʷ◌ neg_w int_wrap
+unfolding marks_positioned setting_of runs_to_right bases_positioned bases base_at position_span around_base base_of first_state marks_placed place_mark place_in with_ccc with_component at_component component_of place_of component_extents is_same moved placed is_double is_left is_right is_below is_above is_attached agree lowered raised ◌+ʷ◌ ◌-ʷ◌ ◌*ʷ◌ neg_w int_wrap
 on_ligatures = record { second = refl; first = refl; none = refl; first_from_the_right = refl; downwards = refl; two_components = refl }
 
-pub record MarksOfClass0 : Type 0 where
+pub record MarksOfCcc0 : Type 0 where
   -- its advance goes into the running offset of the marks behind it
-  pub forward : positions_after (latin_face (pos 600)) true LeftToRight (letter 1 ∷ mark_of 2 0 NonspacingMark 0 ∷ mark_of 2 230 NonspacingMark 0 ∷ [])
+  pub forward : positions_after (latin_face (pos 600)) true LeftToRight
+      (letter 1 ∷ mark_of 2 0 NonspacingMark 0 ∷ mark_of 2 230 NonspacingMark 0 ∷ [])
       (at (pos 600) (pos 0) (pos 0) (pos 0) ∷ at (pos 40) (pos 3) (pos 1) (pos 2) ∷ at (pos 0) (pos 0) (pos 0) (pos 0) ∷ [])
       ≡ at (pos 600) (pos 0) (pos 0) (pos 0) ∷ at (pos 40) (pos 3) (pos 1) (pos 2) ∷ at (pos 0) (pos 0) (negsuc 489) (pos 109) ∷ []
-  pub backward : positions_after (latin_face (pos 600)) true RightToLeft (letter 1 ∷ mark_of 2 0 NonspacingMark 0 ∷ mark_of 2 230 NonspacingMark 0 ∷ [])
+  pub backward : positions_after (latin_face (pos 600)) true RightToLeft
+      (letter 1 ∷ mark_of 2 0 NonspacingMark 0 ∷ mark_of 2 230 NonspacingMark 0 ∷ [])
       (at (pos 600) (pos 0) (pos 0) (pos 0) ∷ at (pos 40) (pos 3) (pos 1) (pos 2) ∷ at (pos 0) (pos 0) (pos 0) (pos 0) ∷ [])
       ≡ at (pos 600) (pos 0) (pos 0) (pos 0) ∷ at (pos 40) (pos 3) (pos 1) (pos 2) ∷ at (pos 0) (pos 0) (pos 190) (pos 115) ∷ []
   -- a mark without a box keeps its offsets and loses its advances
-  pub without_a_box : positions_after (latin_face (pos 600)) true LeftToRight (letter 1 ∷ mark_of 9 230 NonspacingMark 0 ∷ []) (at (pos 600) (pos 0) (pos 0) (pos 0) ∷ at (pos 40) (pos 3) (pos 1) (pos 2) ∷ [])
+  pub without_a_box : positions_after (latin_face (pos 600)) true LeftToRight (letter 1 ∷ mark_of 9 230 NonspacingMark 0 ∷ [])
+      (at (pos 600) (pos 0) (pos 0) (pos 0) ∷ at (pos 40) (pos 3) (pos 1) (pos 2) ∷ [])
       ≡ at (pos 600) (pos 0) (pos 0) (pos 0) ∷ at (pos 0) (pos 0) (negsuc 598) (pos 2) ∷ []
 
-marks_of_class_0 : MarksOfClass0
-unfolding marks_positioned setting_of runs_to_right bases_positioned bases base_at position_span around_base base_of first_state marks_placed place_mark place_in with_class with_component passed moved placed is_double is_left is_right is_below is_above is_attached agree lowered raised ◌+ʷ◌ ◌-ʷ◌ neg_w int_wrap
-marks_of_class_0 = record { forward = refl; backward = refl; without_a_box = refl }
+marks_of_ccc_0 : MarksOfCcc0
+unfolding marks_positioned setting_of runs_to_right bases_positioned bases base_at position_span around_base base_of first_state marks_placed place_mark place_in with_ccc with_component passed moved placed is_double is_left is_right is_below is_above is_attached agree lowered raised ◌+ʷ◌ ◌-ʷ◌ neg_w int_wrap
+marks_of_ccc_0 = record { forward = refl; backward = refl; without_a_box = refl }
 
 pub record BasesWithoutABox : Type 0 where
-  pub adjusted : positions_after (base_face 1000 (pos 600) None) true LeftToRight (letter 1 ∷ mark_of 2 230 NonspacingMark 0 ∷ mark_of 2 0 SpacingMark 0 ∷ [])
+  pub adjusted : positions_after (base_face 1000 (pos 600) None) true LeftToRight
+      (letter 1 ∷ mark_of 2 230 NonspacingMark 0 ∷ mark_of 2 0 SpacingMark 0 ∷ [])
       (at (pos 600) (pos 0) (pos 0) (pos 0) ∷ at (pos 100) (pos 3) (pos 0) (pos 0) ∷ at (pos 50) (pos 4) (pos 1) (pos 2) ∷ [])
       ≡ at (pos 600) (pos 0) (pos 0) (pos 0) ∷ at (pos 0) (pos 0) (negsuc 99) (negsuc 2) ∷ at (pos 50) (pos 4) (pos 1) (pos 2) ∷ []
   pub not_adjusted : positions_after (base_face 1000 (pos 600) None) false LeftToRight (letter 1 ∷ mark_of 2 230 NonspacingMark 0 ∷ [])
@@ -152,11 +172,12 @@ wide_face = record (worked_face (λ c. false)) {
 }
 
 pub record WidestMark : Type 0 where
-  pub widest : positions_after wide_face true LeftToRight (letter 1 ∷ mark_of 2 230 NonspacingMark 0 ∷ []) (at (pos 2147483647) (pos 0) (pos 0) (pos 0) ∷ at (pos 0) (pos 0) (pos 0) (pos 0) ∷ [])
+  pub widest : positions_after wide_face true LeftToRight (letter 1 ∷ mark_of 2 230 NonspacingMark 0 ∷ [])
+      (at (pos 2147483647) (pos 0) (pos 0) (pos 0) ∷ at (pos 0) (pos 0) (pos 0) (pos 0) ∷ [])
       ≡ at (pos 2147483647) (pos 0) (pos 0) (pos 0) ∷ at (pos 0) (pos 0) (negsuc 2147483646) (pos 62) ∷ []
 
 widest_mark : WidestMark
-unfolding marks_positioned setting_of runs_to_right bases_positioned bases base_at position_span around_base base_of first_state marks_placed place_mark place_in with_class with_component moved placed is_double is_left is_right is_below is_above is_attached agree lowered raised ◌+ʷ◌ ◌-ʷ◌ neg_w int_wrap
+unfolding marks_positioned setting_of runs_to_right bases_positioned bases base_at position_span around_base base_of first_state marks_placed place_mark place_in with_ccc with_component moved placed is_double is_left is_right is_below is_above is_attached agree lowered raised ◌+ʷ◌ ◌-ʷ◌ neg_w int_wrap
 widest_mark = record { widest = refl }
 
 -- the decisions of a plan, where marks are placed by their extents or not, and offsets adjusted or not
@@ -186,33 +207,43 @@ worked_decisions fallback adjust = record {
 
 -- a base without a box, and an acute of advance 100
 abbrev pub bare_base : Direction → Buffer
-bare_base direction = marked direction (letter 1 ∷ mark_of 2 230 NonspacingMark 0 ∷ []) (at (pos 600) (pos 0) (pos 0) (pos 0) ∷ at (pos 100) (pos 0) (pos 0) (pos 0) ∷ [])
+bare_base direction =
+    marked direction (letter 1 ∷ mark_of 2 230 NonspacingMark 0 ∷ [])
+    (at (pos 600) (pos 0) (pos 0) (pos 0) ∷ at (pos 100) (pos 0) (pos 0) (pos 0) ∷ [])
 
 abbrev pub after_step : Direction → Bool → Bool → List GlyphPosition
-after_step direction fallback adjust = (marks_step (worked_unicode None) (base_face 1000 (pos 600) None) LeftToRight None (worked_decisions fallback adjust) (bare_base direction)).positions
+after_step direction fallback adjust =
+    (marks_step (worked_unicode None) (base_face 1000 (pos 600) None) LeftToRight None (worked_decisions fallback adjust)
+    (bare_base direction)).positions
 
 pub record DueSteps : Type 0 where
   pub to_the_right : after_step LeftToRight true true ≡ at (pos 600) (pos 0) (pos 0) (pos 0) ∷ at (pos 0) (pos 0) (negsuc 99) (pos 0) ∷ []
   -- asked of the buffer, whatever the plan's direction is
   pub to_the_left : after_step RightToLeft true true ≡ at (pos 600) (pos 0) (pos 0) (pos 0) ∷ at (pos 0) (pos 0) (pos 0) (pos 0) ∷ []
   pub not_adjusted : after_step LeftToRight true false ≡ at (pos 600) (pos 0) (pos 0) (pos 0) ∷ at (pos 0) (pos 0) (pos 0) (pos 0) ∷ []
-  pub not_due : marks_step (worked_unicode None) (base_face 1000 (pos 600) None) LeftToRight None (worked_decisions false true) (bare_base LeftToRight) ≡ bare_base LeftToRight
-  pub classes_due : (recategorize_step (worked_decisions true true) (record new_buffer { items = worked_mark 0xE34 NonspacingMark 0 ∷ worked_mark 0xE34 SpacingMark 0 ∷ [] })).items
+  pub not_due : marks_step (worked_unicode None) (base_face 1000 (pos 600) None) LeftToRight None (worked_decisions false true)
+      (bare_base LeftToRight) ≡ bare_base LeftToRight
+  pub cccs_due : (recategorize_step (worked_decisions true true)
+      (record new_buffer { items = worked_mark 0xE34 NonspacingMark 0 ∷ worked_mark 0xE34 SpacingMark 0 ∷ [] })).items
       ≡ worked_mark 0xE34 NonspacingMark 232 ∷ worked_mark 0xE34 SpacingMark 0 ∷ []
-  pub classes_not_due : (recategorize_step (worked_decisions false true) (record new_buffer { items = worked_mark 0xE34 NonspacingMark 0 ∷ [] })).items ≡ worked_mark 0xE34 NonspacingMark 0 ∷ []
+  pub cccs_not_due : (recategorize_step (worked_decisions false true)
+      (record new_buffer { items = worked_mark 0xE34 NonspacingMark 0 ∷ [] })).items ≡ worked_mark 0xE34 NonspacingMark 0 ∷ []
 
 due_steps : DueSteps
 unfolding marks_adjusted marks_positioned setting_of runs_to_right bases_positioned bases base_at position_span around_base each_placed zeroed is_nonspacing without_advances recategorized_item items_mapped ◌-ʷ◌ int_wrap
-due_steps = record { to_the_right = refl; to_the_left = refl; not_adjusted = refl; not_due = refl; classes_due = refl; classes_not_due = refl }
+due_steps = record { to_the_right = refl; to_the_left = refl; not_adjusted = refl; not_due = refl; cccs_due = refl; cccs_not_due = refl }
 
 -- spans are marked: a mark of a later cluster than its base's, and the bit of the run; no item outside
 pub record MarkedSpans : Type 0 where
-  pub masks : map (λ item. item.mask) (bases_marked (marked LeftToRight (mark_of 2 230 NonspacingMark 0 ∷ letter 1 ∷ mark_of 2 230 NonspacingMark 1 ∷ mark_of 2 230 NonspacingMark 0 ∷ mark_of 9 0 LowercaseLetter 2 ∷ []) [])).items
+  pub masks : map (λ item. item.mask) (bases_marked (marked LeftToRight
+      (mark_of 2 230 NonspacingMark 0 ∷ letter 1 ∷ mark_of 2 230 NonspacingMark 1 ∷ mark_of 2 230 NonspacingMark 0
+      ∷ mark_of 9 0 LowercaseLetter 2 ∷ []) [])).items
       ≡ 0 ∷ 0 ∷ 3 ∷ 0 ∷ 0 ∷ []
   pub bit : (bases_marked (marked LeftToRight (letter 1 ∷ mark_of 2 230 NonspacingMark 0 ∷ []) [])).scratch_flags.0 ≡ 32
   pub no_base : bases_marked (marked LeftToRight (mark_of 2 230 NonspacingMark 0 ∷ mark_of 2 230 NonspacingMark 1 ∷ letter 1 ∷ []) [])
       ≡ marked LeftToRight (mark_of 2 230 NonspacingMark 0 ∷ mark_of 2 230 NonspacingMark 1 ∷ letter 1 ∷ []) []
-  pub placed_too : map (λ item. item.mask) (marks_positioned (worked_unicode None) (base_face 1000 (pos 600) None) LeftToRight None true (marked LeftToRight (letter 1 ∷ mark_of 2 230 NonspacingMark 1 ∷ [])
+  pub placed_too : map (λ item. item.mask) (marks_positioned (worked_unicode None) (base_face 1000 (pos 600) None) LeftToRight None true
+      (marked LeftToRight (letter 1 ∷ mark_of 2 230 NonspacingMark 1 ∷ [])
       (at (pos 600) (pos 0) (pos 0) (pos 0) ∷ at (pos 100) (pos 0) (pos 0) (pos 0) ∷ []))).items ≡ 0 ∷ 3 ∷ []
 
 marked_spans : MarkedSpans
@@ -222,11 +253,12 @@ marked_spans = record { masks = refl; bit = refl; no_base = refl; placed_too = r
 pub record WorkedBuffers : Type 0 where
   pub latin : AboveAndBelow
   pub ligatures : OnLigatures
-  pub class_0 : MarksOfClass0
+  pub ccc_0 : MarksOfCcc0
   pub bare_bases : BasesWithoutABox
   pub widest : WidestMark
   pub steps : DueSteps
   pub spans : MarkedSpans
 
 pub worked_buffers : WorkedBuffers
-worked_buffers = record { latin = above_and_below; ligatures = on_ligatures; class_0 = marks_of_class_0; bare_bases = bases_without_a_box; widest = widest_mark; steps = due_steps; spans = marked_spans }
+worked_buffers =
+    record { latin = above_and_below; ligatures = on_ligatures; ccc_0 = marks_of_ccc_0; bare_bases = bases_without_a_box; widest = widest_mark; steps = due_steps; spans = marked_spans }

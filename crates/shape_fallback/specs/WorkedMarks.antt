@@ -12,7 +12,7 @@ use Rattle.shape_buffer.specs.declared.buffer.settings.Direction.TheVariants.{In
 use Rattle.shape_buffer.specs.declared.buffer.settings.Script.{Script}
 use Rattle.shape_fallback.specs.Bases.{base_at, bases, runs_to_right}
 use Rattle.shape_fallback.specs.Extents.{Extents}
-use Rattle.shape_fallback.specs.MarkState.{component_of, place_of, component_extents, is_same, at_component, with_component, with_class, passed, moved}
+use Rattle.shape_fallback.specs.MarkState.{component_of, place_of, component_extents, is_same, at_component, with_component, with_ccc, passed, moved}
 use Rattle.shape_fallback.specs.Marks.{without_advances, first_state}
 use Rattle.shape_fallback.specs.WorkedOneMark.{box}
 use Rattle.shape_fallback.specs.declared.ot_shape_fallback.mark_state.Base.{Base}
@@ -30,51 +30,62 @@ worked_base left_to_right id n width = record {
   extents = box (pos 0) (pos 700) width (negsuc 699);
 }
 
--- a mark of a glyph and a class, of a component of the ligature with an id
+-- a mark of a glyph and a ccc, of a component of the ligature with an id
 abbrev pub component_mark : ℕ → ℕ → ℕ → ℕ → Item
-component_mark glyph class id component =
+component_mark glyph ccc id component =
     let item = new_item 0x301 0 in
-    record item { glyph_id = glyph; properties = record item.properties { general_category = NonspacingMark; modified_class = class; ligature_id = id; ligature_component = component } }
+    record item { glyph_id = glyph; properties = record item.properties { general_category = NonspacingMark; modified_ccc = ccc; ligature_id = id; ligature_component = component } }
 
 pub record Components : Type 0 where
-  pub of_three : map (λ component. component_of (worked_base true 1 3 (pos 900)) (component_mark 2 230 1 component)) (0 ∷ 1 ∷ 2 ∷ 3 ∷ 4 ∷ 255 ∷ []) ≡ negsuc 0 ∷ pos 0 ∷ pos 1 ∷ pos 2 ∷ pos 2 ∷ pos 2 ∷ []
+  pub of_three : map (λ component. component_of (worked_base true 1 3 (pos 900)) (component_mark 2 230 1 component))
+      (0 ∷ 1 ∷ 2 ∷ 3 ∷ 4 ∷ 255 ∷ []) ≡ negsuc 0 ∷ pos 0 ∷ pos 1 ∷ pos 2 ∷ pos 2 ∷ pos 2 ∷ []
   pub of_another : component_of (worked_base true 1 3 (pos 900)) (component_mark 2 230 2 1) ≡ pos 2
   pub of_no_id : component_of (worked_base true 0 3 (pos 900)) (component_mark 2 230 0 1) ≡ pos 2
   pub places : map (place_of (worked_base true 1 3 (pos 900))) (negsuc 0 ∷ pos 0 ∷ pos 2 ∷ []) ≡ negsuc 0 ∷ pos 0 ∷ pos 2 ∷ []
   pub places_from_the_right : map (place_of (worked_base false 1 3 (pos 900))) (negsuc 0 ∷ pos 0 ∷ pos 2 ∷ []) ≡ pos 3 ∷ pos 2 ∷ pos 0 ∷ []
   pub thirds : map (component_extents (worked_base true 1 3 (pos 1000))) (pos 0 ∷ pos 1 ∷ pos 2 ∷ [])
-      ≡ box (pos 0) (pos 700) (pos 333) (negsuc 699) ∷ box (pos 333) (pos 700) (pos 333) (negsuc 699) ∷ box (pos 666) (pos 700) (pos 333) (negsuc 699) ∷ []
+      ≡ box (pos 0) (pos 700) (pos 333) (negsuc 699) ∷ box (pos 333) (pos 700) (pos 333) (negsuc 699)
+      ∷ box (pos 666) (pos 700) (pos 333) (negsuc 699) ∷ []
   pub thirds_from_the_right : component_extents (worked_base false 1 3 (pos 1000)) (pos 0) ≡ box (pos 666) (pos 700) (pos 333) (negsuc 699)
   pub turned : component_extents (worked_base true 1 3 (negsuc 999)) (pos 1) ≡ box (negsuc 332) (pos 700) (negsuc 332) (negsuc 699)
   pub widest : component_extents (worked_base true 1 3 (pos 2147483647)) (pos 2) ≡ box (pos 0) (pos 700) (pos 715827882) (negsuc 699)
 
 components : Components
 unfolding component_of place_of component_extents ◌+ʷ◌ ◌-ʷ◌ ◌*ʷ◌ int_wrap
-components = record { of_three = refl; of_another = refl; of_no_id = refl; places = refl; places_from_the_right = refl; thirds = refl; thirds_from_the_right = refl; turned = refl; widest = refl }
+components =
+    record { of_three = refl; of_another = refl; of_no_id = refl; places = refl; places_from_the_right = refl; thirds = refl; thirds_from_the_right = refl; turned = refl; widest = refl }
 
 -- ---- the state from mark to mark
 
--- a state behind a mark of a component and a class
+-- a state behind a mark of a component and a ccc
 abbrev pub worked_state : ℤ → ℕ → Extents → Extents → MarkState
-worked_state component class whole left = record { component = component; component_extents = whole; class = class; extents = left; x_offset = negsuc 599; y_offset = pos 0 }
+worked_state component ccc whole left =
+    record { component = component; component_extents = whole; ccc = ccc; extents = left; x_offset = negsuc 599; y_offset = pos 0 }
 
 pub record States : Type 0 where
-  pub another_component : at_component (worked_base true 1 3 (pos 900)) (component_mark 2 230 1 2) (worked_state (pos 0) 230 (box (pos 0) (pos 700) (pos 300) (negsuc 699)) (box (pos 0) (pos 912) (pos 300) (negsuc 911)))
+  pub another_component : at_component (worked_base true 1 3 (pos 900)) (component_mark 2 230 1 2)
+      (worked_state (pos 0) 230 (box (pos 0) (pos 700) (pos 300) (negsuc 699)) (box (pos 0) (pos 912) (pos 300) (negsuc 911)))
       ≡ worked_state (pos 1) 255 (box (pos 300) (pos 700) (pos 300) (negsuc 699)) (box (pos 0) (pos 912) (pos 300) (negsuc 911))
-  pub same_component : at_component (worked_base true 1 3 (pos 900)) (component_mark 2 230 1 1) (worked_state (pos 0) 230 (box (pos 0) (pos 700) (pos 300) (negsuc 699)) (box (pos 0) (pos 912) (pos 300) (negsuc 911)))
+  pub same_component : at_component (worked_base true 1 3 (pos 900)) (component_mark 2 230 1 1)
+      (worked_state (pos 0) 230 (box (pos 0) (pos 700) (pos 300) (negsuc 699)) (box (pos 0) (pos 912) (pos 300) (negsuc 911)))
       ≡ worked_state (pos 0) 230 (box (pos 0) (pos 700) (pos 300) (negsuc 699)) (box (pos 0) (pos 912) (pos 300) (negsuc 911))
-  pub one_component : with_component (worked_base true 1 1 (pos 900)) (component_mark 2 230 1 1) (worked_state (negsuc 0) 230 (box (pos 0) (pos 700) (pos 900) (negsuc 699)) (box (pos 0) (pos 912) (pos 900) (negsuc 911)))
+  pub one_component : with_component (worked_base true 1 1 (pos 900)) (component_mark 2 230 1 1)
+      (worked_state (negsuc 0) 230 (box (pos 0) (pos 700) (pos 900) (negsuc 699)) (box (pos 0) (pos 912) (pos 900) (negsuc 911)))
       ≡ worked_state (negsuc 0) 230 (box (pos 0) (pos 700) (pos 900) (negsuc 699)) (box (pos 0) (pos 912) (pos 900) (negsuc 911))
-  pub two_components : with_component (worked_base true 1 2 (pos 900)) (component_mark 2 230 1 2) (worked_state (negsuc 0) 230 (box (pos 0) (pos 700) (pos 900) (negsuc 699)) (box (pos 0) (pos 912) (pos 900) (negsuc 911)))
+  pub two_components : with_component (worked_base true 1 2 (pos 900)) (component_mark 2 230 1 2)
+      (worked_state (negsuc 0) 230 (box (pos 0) (pos 700) (pos 900) (negsuc 699)) (box (pos 0) (pos 912) (pos 900) (negsuc 911)))
       ≡ worked_state (pos 1) 255 (box (pos 450) (pos 700) (pos 450) (negsuc 699)) (box (pos 0) (pos 912) (pos 900) (negsuc 911))
-  pub another_class : with_class 220 (worked_state (pos 0) 230 (box (pos 0) (pos 700) (pos 300) (negsuc 699)) (box (pos 0) (pos 912) (pos 300) (negsuc 911)))
+  pub another_ccc : with_ccc 220 (worked_state (pos 0) 230 (box (pos 0) (pos 700) (pos 300) (negsuc 699))
+      (box (pos 0) (pos 912) (pos 300) (negsuc 911)))
       ≡ worked_state (pos 0) 220 (box (pos 0) (pos 700) (pos 300) (negsuc 699)) (box (pos 0) (pos 700) (pos 300) (negsuc 699))
-  pub same_class : with_class 230 (worked_state (pos 0) 230 (box (pos 0) (pos 700) (pos 300) (negsuc 699)) (box (pos 0) (pos 912) (pos 300) (negsuc 911)))
+  pub same_ccc : with_ccc 230 (worked_state (pos 0) 230 (box (pos 0) (pos 700) (pos 300) (negsuc 699))
+      (box (pos 0) (pos 912) (pos 300) (negsuc 911)))
       ≡ worked_state (pos 0) 230 (box (pos 0) (pos 700) (pos 300) (negsuc 699)) (box (pos 0) (pos 912) (pos 300) (negsuc 911))
 
 states : States
-unfolding at_component with_component with_class component_of place_of component_extents is_same ◌+ʷ◌ ◌-ʷ◌ ◌*ʷ◌ int_wrap
-states = record { another_component = refl; same_component = refl; one_component = refl; two_components = refl; another_class = refl; same_class = refl }
+unfolding at_component with_component with_ccc component_of place_of component_extents is_same ◌+ʷ◌ ◌-ʷ◌ ◌*ʷ◌ int_wrap
+states =
+    record { another_component = refl; same_component = refl; one_component = refl; two_components = refl; another_ccc = refl; same_ccc = refl }
 
 -- x_advance, y_advance, x_offset, y_offset
 abbrev pub at : ℤ → ℤ → ℤ → ℤ → GlyphPosition
@@ -82,23 +93,30 @@ at x y right up = record zero_position { x_advance = x; y_advance = y; x_offset 
 
 -- a running offset
 abbrev pub running : ℤ → ℤ → MarkState
-running x y = record (worked_state (negsuc 0) 255 (box (pos 0) (pos 0) (pos 0) (pos 0)) (box (pos 0) (pos 0) (pos 0) (pos 0))) { x_offset = x; y_offset = y }
+running x y =
+    record (worked_state (negsuc 0) 255 (box (pos 0) (pos 0) (pos 0) (pos 0))
+    (box (pos 0) (pos 0) (pos 0) (pos 0))) { x_offset = x; y_offset = y }
 
 pub record RunningOffsets : Type 0 where
   pub passed_forward : passed true (at (pos 30) (pos 4) (pos 1) (pos 2)) (running (negsuc 599) (pos 0)) ≡ running (negsuc 629) (negsuc 3)
   pub passed_backward : passed false (at (pos 30) (pos 4) (pos 1) (pos 2)) (running (pos 0) (pos 0)) ≡ running (pos 30) (pos 4)
   pub added : moved (at (pos 30) (pos 4) (pos 150) (pos 112)) (running (negsuc 599) (pos 5)) ≡ at (pos 0) (pos 0) (negsuc 449) (pos 117)
   pub first_forward : first_state (worked_base true 1 3 (pos 900)) (at (pos 600) (negsuc 6) (pos 1) (pos 2))
-      ≡ record (worked_state (negsuc 0) 255 (box (pos 0) (pos 700) (pos 900) (negsuc 699)) (box (pos 0) (pos 700) (pos 900) (negsuc 699))) { x_offset = negsuc 599; y_offset = pos 7 }
-  pub first_backward : first_state (record (worked_base true 1 3 (pos 900)) { surroundings = record { horizontal = true; forward = false; gap = pos 62 } }) (at (pos 600) (negsuc 6) (pos 1) (pos 2))
-      ≡ record (worked_state (negsuc 0) 255 (box (pos 0) (pos 700) (pos 900) (negsuc 699)) (box (pos 0) (pos 700) (pos 900) (negsuc 699))) { x_offset = pos 0; y_offset = pos 0 }
+      ≡ record (worked_state (negsuc 0) 255 (box (pos 0) (pos 700) (pos 900) (negsuc 699))
+      (box (pos 0) (pos 700) (pos 900) (negsuc 699))) { x_offset = negsuc 599; y_offset = pos 7 }
+  pub first_backward : first_state (record (worked_base true 1 3
+      (pos 900)) { surroundings = record { horizontal = true; forward = false; gap = pos 62 } }) (at (pos 600) (negsuc 6) (pos 1) (pos 2))
+      ≡ record (worked_state (negsuc 0) 255 (box (pos 0) (pos 700) (pos 900) (negsuc 699))
+      (box (pos 0) (pos 700) (pos 900) (negsuc 699))) { x_offset = pos 0; y_offset = pos 0 }
   pub adjusted : without_advances true (at (pos 30) (pos 4) (pos 1) (pos 2)) ≡ at (pos 0) (pos 0) (negsuc 28) (negsuc 1)
   pub not_adjusted : without_advances false (at (pos 30) (pos 4) (pos 1) (pos 2)) ≡ at (pos 0) (pos 0) (pos 1) (pos 2)
-  pub least_advance : without_advances true (at (negsuc 2147483647) (pos 0) (pos 0) (pos 0)) ≡ at (pos 0) (pos 0) (negsuc 2147483647) (pos 0)
+  pub least_advance : without_advances true (at (negsuc 2147483647) (pos 0) (pos 0) (pos 0))
+      ≡ at (pos 0) (pos 0) (negsuc 2147483647) (pos 0)
 
 running_offsets : RunningOffsets
 unfolding passed moved first_state without_advances ◌+ʷ◌ ◌-ʷ◌ neg_w int_wrap
-running_offsets = record { passed_forward = refl; passed_backward = refl; added = refl; first_forward = refl; first_backward = refl; adjusted = refl; not_adjusted = refl; least_advance = refl }
+running_offsets =
+    record { passed_forward = refl; passed_backward = refl; added = refl; first_forward = refl; first_backward = refl; adjusted = refl; not_adjusted = refl; least_advance = refl }
 
 -- ---- which items are bases
 
@@ -106,7 +124,8 @@ pub record WorkedBases : Type 0 where
   pub one : bases 0 (false ∷ true ∷ []) ≡ record { start = 0; end = 2 } ∷ []
   pub bare : bases 0 (false ∷ false ∷ []) ≡ []
   pub marks_first : bases 0 (true ∷ true ∷ false ∷ true ∷ true ∷ []) ≡ record { start = 2; end = 5 } ∷ []
-  pub two : bases 0 (false ∷ true ∷ false ∷ false ∷ true ∷ true ∷ false ∷ []) ≡ record { start = 0; end = 2 } ∷ record { start = 3; end = 6 } ∷ []
+  pub two : bases 0 (false ∷ true ∷ false ∷ false ∷ true ∷ true ∷ false ∷ [])
+      ≡ record { start = 0; end = 2 } ∷ record { start = 3; end = 6 } ∷ []
   pub no_item : bases 0 [] ≡ []
 
 worked_bases : WorkedBases
@@ -119,10 +138,10 @@ worked_bases = record { one = refl; bare = refl; marks_first = refl; two = refl;
 abbrev pub worked_unicode : Option Direction → UnicodeMeaning
 worked_unicode direction = record {
   category = λ c. LowercaseLetter;
-  class = λ c. 0;
+  ccc = λ c. 0;
   split = λ c. None;
   height = λ c. 0;
-  join = λ a b. None;
+  compose = λ a b. None;
   mirrored = λ c. None;
   vertical = λ c. None;
   space_fallback = λ c. 0;
@@ -139,7 +158,8 @@ some_script = Some (record { 0 = record { 0 = 1098015074 } })
 pub record DirectionsOfComponents : Type 0 where
   pub left_to_right : runs_to_right (worked_unicode (Some RightToLeft)) LeftToRight some_script ≡ true
   pub right_to_left : runs_to_right (worked_unicode (Some LeftToRight)) RightToLeft some_script ≡ false
-  pub by_script : map (λ direction. runs_to_right (worked_unicode (Some direction)) TopToBottom some_script) (Invalid ∷ LeftToRight ∷ RightToLeft ∷ TopToBottom ∷ BottomToTop ∷ []) ≡ true ∷ true ∷ false ∷ false ∷ false ∷ []
+  pub by_script : map (λ direction. runs_to_right (worked_unicode (Some direction)) TopToBottom some_script)
+      (Invalid ∷ LeftToRight ∷ RightToLeft ∷ TopToBottom ∷ BottomToTop ∷ []) ≡ true ∷ true ∷ false ∷ false ∷ false ∷ []
   pub up_by_script : runs_to_right (worked_unicode (Some RightToLeft)) BottomToTop some_script ≡ false
   pub invalid_by_script : runs_to_right (worked_unicode (Some RightToLeft)) Invalid some_script ≡ false
   pub unknown_script : runs_to_right (worked_unicode None) TopToBottom some_script ≡ true
@@ -147,7 +167,8 @@ pub record DirectionsOfComponents : Type 0 where
 
 directions_of_components : DirectionsOfComponents
 unfolding runs_to_right
-directions_of_components = record { left_to_right = refl; right_to_left = refl; by_script = refl; up_by_script = refl; invalid_by_script = refl; unknown_script = refl; no_script = refl }
+directions_of_components =
+    record { left_to_right = refl; right_to_left = refl; by_script = refl; up_by_script = refl; invalid_by_script = refl; unknown_script = refl; no_script = refl }
 
 pub record WorkedMarks : Type 0 where
   pub of_ligatures : Components
@@ -157,4 +178,5 @@ pub record WorkedMarks : Type 0 where
   pub directions : DirectionsOfComponents
 
 pub worked_marks : WorkedMarks
-worked_marks = record { of_ligatures = components; from_mark_to_mark = states; offsets = running_offsets; spans = worked_bases; directions = directions_of_components }
+worked_marks =
+    record { of_ligatures = components; from_mark_to_mark = states; offsets = running_offsets; spans = worked_bases; directions = directions_of_components }

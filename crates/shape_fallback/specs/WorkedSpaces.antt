@@ -21,7 +21,8 @@ pub record EmParts : Type 0 where
   pub of_1 : map (em_part 1) (1 ∷ 2 ∷ 3 ∷ 16 ∷ 17 ∷ []) ≡ 1 ∷ 1 ∷ 0 ∷ 0 ∷ 0 ∷ []
   pub of_8 : map (em_part 8) (16 ∷ 17 ∷ []) ≡ 1 ∷ 1 ∷ []
   pub of_65535 : map (em_part 65535) (1 ∷ 2 ∷ 16 ∷ 17 ∷ []) ≡ 65535 ∷ 32768 ∷ 4096 ∷ 14563 ∷ []
-  pub named : map is_em_part (0 ∷ 1 ∷ 6 ∷ 7 ∷ 15 ∷ 16 ∷ 17 ∷ 18 ∷ 255 ∷ []) ≡ false ∷ true ∷ true ∷ false ∷ false ∷ true ∷ true ∷ false ∷ false ∷ []
+  pub named : map is_em_part (0 ∷ 1 ∷ 6 ∷ 7 ∷ 15 ∷ 16 ∷ 17 ∷ 18 ∷ 255 ∷ [])
+      ≡ false ∷ true ∷ true ∷ false ∷ false ∷ true ∷ true ∷ false ∷ false ∷ []
 
 em_parts : EmParts
 unfolding em_part is_em_part
@@ -57,12 +58,14 @@ pub record FirstGlyphs : Type 0 where
 
 first_glyphs : FirstGlyphs
 unfolding first_glyph
-first_glyphs = record { seven_alone = refl; zero_first = refl; nine_last = refl; no_figure = refl; colon_is_none = refl; stop_first = refl; comma_else = refl; neither = refl }
+first_glyphs =
+    record { seven_alone = refl; zero_first = refl; nine_last = refl; no_figure = refl; colon_is_none = refl; stop_first = refl; comma_else = refl; neither = refl }
 
 -- advances of spaces that were 251 wide, or -251 high
 pub record SpaceAdvances : Type 0 where
   pub em_spaces : map (λ t. space_advance (worked_face (λ c. false)) true t (pos 251)) (3 ∷ 16 ∷ 17 ∷ []) ≡ pos 333 ∷ pos 63 ∷ pos 222 ∷ []
-  pub em_spaces_down : map (λ t. space_advance (worked_face (λ c. false)) false t (negsuc 250)) (3 ∷ 16 ∷ 17 ∷ []) ≡ negsuc 332 ∷ negsuc 62 ∷ negsuc 221 ∷ []
+  pub em_spaces_down : map (λ t. space_advance (worked_face (λ c. false)) false t (negsuc 250)) (3 ∷ 16 ∷ 17 ∷ [])
+      ≡ negsuc 332 ∷ negsuc 62 ∷ negsuc 221 ∷ []
   pub figure : space_advance (worked_face (λ c. c == 0x37)) true 19 (pos 251) ≡ pos 0x37
   pub figure_down : space_advance (tall_face (λ c. c == 0x37)) false 19 (negsuc 250) ≡ negsuc 6
   pub no_figure : space_advance (worked_face (λ c. c == 0x2E)) true 19 (pos 251) ≡ pos 251
@@ -71,11 +74,13 @@ pub record SpaceAdvances : Type 0 where
   pub no_punctuation : space_advance (worked_face (λ c. c == 0x37)) true 20 (pos 251) ≡ pos 251
   pub narrow : space_advance (worked_face (λ c. true)) true 21 (pos 251) ≡ pos 125
   pub narrow_down : space_advance (worked_face (λ c. true)) false 21 (negsuc 250) ≡ negsuc 124
-  pub others : map (λ t. space_advance (worked_face (λ c. true)) true t (pos 251)) (0 ∷ 7 ∷ 15 ∷ 18 ∷ 22 ∷ 255 ∷ []) ≡ pos 251 ∷ pos 251 ∷ pos 251 ∷ pos 251 ∷ pos 251 ∷ pos 251 ∷ []
+  pub others : map (λ t. space_advance (worked_face (λ c. true)) true t (pos 251)) (0 ∷ 7 ∷ 15 ∷ 18 ∷ 22 ∷ 255 ∷ [])
+      ≡ pos 251 ∷ pos 251 ∷ pos 251 ∷ pos 251 ∷ pos 251 ∷ pos 251 ∷ []
 
 space_advances : SpaceAdvances
 unfolding space_advance is_em_part em_part em_advance as_wide_as first_glyph neg_w int_wrap
-space_advances = record { em_spaces = refl; em_spaces_down = refl; figure = refl; figure_down = refl; no_figure = refl; punctuation = refl; comma = refl; no_punctuation = refl; narrow = refl; narrow_down = refl; others = refl }
+space_advances =
+    record { em_spaces = refl; em_spaces_down = refl; figure = refl; figure_down = refl; no_figure = refl; punctuation = refl; comma = refl; no_punctuation = refl; narrow = refl; narrow_down = refl; others = refl }
 
 -- a position of these advances, moved by 5 and 6
 abbrev pub worked_position : ℤ → ℤ → GlyphPosition
@@ -97,22 +102,30 @@ worked_spaces direction scratch ps = record new_buffer {
 }
 
 pub record SpacesOfBuffers : Type 0 where
-  pub line_separator : item_spaced (worked_face (λ c. false)) true (worked_space LineSeparator false 3) (worked_position (pos 251) (pos 7)) ≡ worked_position (pos 251) (pos 7)
-  pub ligated : item_spaced (worked_face (λ c. false)) true (worked_space SpaceSeparator true 3) (worked_position (pos 251) (pos 7)) ≡ worked_position (pos 251) (pos 7)
-  pub to_the_left : (spaces_placed (worked_face (λ c. false)) (worked_spaces RightToLeft 4 (worked_position (pos 251) (pos 7) ∷ worked_position (pos 251) (pos 7) ∷ []))).positions
+  pub line_separator : item_spaced (worked_face (λ c. false)) true (worked_space LineSeparator false 3) (worked_position (pos 251) (pos 7))
+      ≡ worked_position (pos 251) (pos 7)
+  pub ligated : item_spaced (worked_face (λ c. false)) true (worked_space SpaceSeparator true 3) (worked_position (pos 251) (pos 7))
+      ≡ worked_position (pos 251) (pos 7)
+  pub to_the_left : (spaces_placed (worked_face (λ c. false))
+      (worked_spaces RightToLeft 4 (worked_position (pos 251) (pos 7) ∷ worked_position (pos 251) (pos 7) ∷ []))).positions
       ≡ worked_position (pos 333) (pos 7) ∷ worked_position (pos 125) (pos 7) ∷ []
-  pub down : (spaces_placed (worked_face (λ c. false)) (worked_spaces TopToBottom 4 (worked_position (pos 251) (pos 7) ∷ worked_position (pos 251) (pos 7) ∷ []))).positions
+  pub down : (spaces_placed (worked_face (λ c. false))
+      (worked_spaces TopToBottom 4 (worked_position (pos 251) (pos 7) ∷ worked_position (pos 251) (pos 7) ∷ []))).positions
       ≡ worked_position (pos 251) (negsuc 332) ∷ worked_position (pos 251) (pos 3) ∷ []
-  pub no_direction : (spaces_placed (worked_face (λ c. false)) (worked_spaces Invalid 4 (worked_position (pos 251) (pos 7) ∷ worked_position (pos 251) (pos 7) ∷ []))).positions
+  pub no_direction : (spaces_placed (worked_face (λ c. false))
+      (worked_spaces Invalid 4 (worked_position (pos 251) (pos 7) ∷ worked_position (pos 251) (pos 7) ∷ []))).positions
       ≡ worked_position (pos 251) (negsuc 332) ∷ worked_position (pos 251) (pos 3) ∷ []
-  pub due : (spaces_step (worked_face (λ c. false)) (worked_spaces LeftToRight 5 (worked_position (pos 251) (pos 7) ∷ worked_position (pos 251) (pos 7) ∷ []))).positions
+  pub due : (spaces_step (worked_face (λ c. false))
+      (worked_spaces LeftToRight 5 (worked_position (pos 251) (pos 7) ∷ worked_position (pos 251) (pos 7) ∷ []))).positions
       ≡ worked_position (pos 333) (pos 7) ∷ worked_position (pos 125) (pos 7) ∷ []
-  pub not_due : spaces_step (worked_face (λ c. false)) (worked_spaces LeftToRight 59 (worked_position (pos 251) (pos 7) ∷ worked_position (pos 251) (pos 7) ∷ []))
+  pub not_due : spaces_step (worked_face (λ c. false))
+      (worked_spaces LeftToRight 59 (worked_position (pos 251) (pos 7) ∷ worked_position (pos 251) (pos 7) ∷ []))
       ≡ worked_spaces LeftToRight 59 (worked_position (pos 251) (pos 7) ∷ worked_position (pos 251) (pos 7) ∷ [])
 
 spaces_of_buffers : SpacesOfBuffers
 unfolding spaces_step spaces_placed each_placed item_spaced is_lone_space space_positioned space_advance is_em_part em_part em_advance neg_w int_wrap
-spaces_of_buffers = record { line_separator = refl; ligated = refl; to_the_left = refl; down = refl; no_direction = refl; due = refl; not_due = refl }
+spaces_of_buffers =
+    record { line_separator = refl; ligated = refl; to_the_left = refl; down = refl; no_direction = refl; due = refl; not_due = refl }
 
 pub record WorkedSpaces : Type 0 where
   pub parts : EmParts

@@ -2,7 +2,7 @@
 //!
 //! A font without positioning lookups leaves its marks beside their bases, and may have no glyph for
 //! most of the spaces. So each mark goes by its combining class to a side of its base: below, above, at
-//! the left or at the right of the box round the base's ink, a gap apart, each next mark of the class
+//! the left or at the right of the box round the base's ink, a gap apart, each next mark of the ccc
 //! beyond the one before. Classes that only tell marks of one script apart are first made ones that name
 //! a side. A mark of a ligature goes to its own component, an equal part of the ligature's advance. A
 //! space takes its part of the em square, or the advance of a digit or a full stop.
@@ -16,7 +16,7 @@ ghost use Rattle.shape_fallback.specs.Recategorized.{recategorized};
 ghost use Rattle.shape_fallback.specs.Spaces.{spaces_placed};
 
 mod bases;
-mod classes;
+mod ccc;
 mod mark_state;
 mod marks;
 mod one_mark;
@@ -32,8 +32,8 @@ use shape_buffer::buffer::hb_buffer_t;
 use shape_buffer::interfaces::{hb_font_t, hb_unicode_funcs_t};
 use shape_plan::ot_shape_plan::hb_ot_shape_plan_t;
 
-/// Gives each nonspacing mark the class that [`position_marks`] places it by: classes of 200 and more
-/// name a side of the base and stay, marks of Thai and Lao go by their character, and the classes of
+/// Gives each nonspacing mark the ccc that [`position_marks`] places it by: ccc of 200 and more
+/// name a side of the base and stay, marks of Thai and Lao go by their character, and the ccc of
 /// other scripts become ones that name a side. Neither plan nor face is asked. Takes no memory.
 pub fn _hb_ot_shape_fallback_mark_position_recategorize_marks<F: hb_font_t, S, P, D>(
     plan: &hb_ot_shape_plan_t<'_, S, P, D>,
@@ -45,10 +45,10 @@ pub fn _hb_ot_shape_fallback_mark_position_recategorize_marks<F: hb_font_t, S, P
     recategorize_items(buffer);
 }
 
-/// Places each mark by its class, its own box and the box round its base, in units of the face.
+/// Places each mark by its ccc, its own box and the box round its base, in units of the face.
 ///
 /// A base is an item that isn't a mark and has marks directly after it. The base and its marks are
-/// marked unsafe to break, since they must be placed together. Marks of class 0 keep their positions;
+/// marked unsafe to break, since they must be placed together. Marks of ccc 0 keep their positions;
 /// each other mark loses its advances and is moved from the place behind the base to the base. Where the
 /// face has no box for the base, nonspacing marks lose their advances and nothing else is placed; their
 /// offsets lose the advances first where `adjust_offsets_when_zeroing` says so. Lines run as the buffer

@@ -1,7 +1,8 @@
 //! The steps of a run that stand in for lookups: each asks the plan or the buffer whether it is due.
 ghost use Rattle.std.specs.Prelude.{◌≡◌};
 ghost use Rattle.shape_buffer.specs.Outcome.{Made};
-ghost use Rattle.shape_fallback.specs.Steps.{recategorize_step, spaces_step, marks_step, marks_adjusted};
+ghost use Rattle.shape_fallback.specs.Steps.{recategorize_step, spaces_step, marks_step};
+ghost use Rattle.shape_fallback.specs.Steps.{marks_adjusted};
 
 use crate::ot_shape_fallback::{
     _hb_ot_shape_fallback_mark_position_recategorize_marks, _hb_ot_shape_fallback_spaces,
@@ -12,7 +13,7 @@ use shape_buffer::buffer::{ScratchFlags, hb_buffer_t};
 use shape_buffer::interfaces::{hb_font_t, hb_unicode_funcs_t};
 use shape_plan::ot_shape_plan::hb_ot_shape_plan_t;
 
-/// Gives marks the classes that they are placed by, where the plan places marks by their extents.
+/// Gives marks the ccc that they are placed by, where the plan places marks by their extents.
 pub fn recategorize_marks<F: hb_font_t, S, P, D>(
     plan: &hb_ot_shape_plan_t<'_, S, P, D>,
     face: &F,

@@ -1,15 +1,15 @@
 //! The definitions, computed on cases whose answers are worked out by hand.
 ghost use Rattle.shape_fallback.specs.WorkedBuffers.{WorkedBuffers};
-ghost use Rattle.shape_fallback.specs.WorkedClasses.{WorkedClasses};
+ghost use Rattle.shape_fallback.specs.WorkedCcc.{WorkedCcc};
 ghost use Rattle.shape_fallback.specs.WorkedMarks.{WorkedMarks};
 ghost use Rattle.shape_fallback.specs.WorkedOneMark.{WorkedOneMark};
 ghost use Rattle.shape_fallback.specs.WorkedSpaces.{WorkedSpaces};
 ghost use Rattle.shape_fallback.specs.WorkedTurns.{WorkedTurns};
 
-/// The classes that marks are placed by: each row of the rules for Thai and Lao and for other scripts, the
-/// characters and classes beside them, and the categories that don't change.
-pub fn classes_meet_worked_cases()
-    ensures { WorkedClasses }
+/// The ccc that marks are placed by: each row of the rules for Thai and Lao and for other scripts, the
+/// characters and ccc beside them, and the categories that don't change.
+pub fn fallback_ccc_meet_worked_cases()
+    ensures { WorkedCcc }
 {}
 
 /// Advances of spaces: each type, the first glyph of each list, horizontal and vertical text, and the
@@ -18,7 +18,7 @@ pub fn spaces_meet_worked_cases()
     ensures { WorkedSpaces }
 {}
 
-/// Single marks: each class, a gap and none, halves of odd and negative numbers, and numbers that wrap.
+/// Single marks: each ccc, a gap and none, halves of odd and negative numbers, and numbers that wrap.
 pub fn single_marks_meet_worked_cases()
     ensures { WorkedOneMark }
 {}
@@ -29,13 +29,13 @@ pub fn marks_meet_worked_cases()
     ensures { WorkedMarks }
 {}
 
-/// Whole buffers: marks above and below, on ligatures, of class 0, on bases without a box, at the limits
+/// Whole buffers: marks above and below, on ligatures, of ccc 0, on bases without a box, at the limits
 /// of numbers; whether the steps are due; and the spans that are marked unsafe to break.
 pub fn buffers_meet_worked_cases()
     ensures { WorkedBuffers }
 {}
 
-/// What goes by the buffer alone: marks of class 0 in text of either way, which stay where they are, the
+/// What goes by the buffer alone: marks of ccc 0 in text of either way, which stay where they are, the
 /// line that marks stand along, and the flag that says that spaces are due.
 pub fn turns_meet_worked_cases()
     ensures { WorkedTurns }

@@ -1,4 +1,5 @@
--- The normalised list is equivalent to its text, canonical or recomposed of a canonical one where glyphs and runs allow it, and equal exactly for equivalent texts.
+-- The normalised list is equivalent to its text, canonical or recomposed of a canonical one where glyphs and runs allow it, and equal
+-- exactly for equivalent texts.
 use Rattle.std.proofs.Common.{◌≡◌, ◌↔◌, ℕ, Bool, true, false, List, [], refl, sym, ◌∙◌, ap, subst, inl, inr}
 use Rattle.std.proofs.lemmas.Bool.{cases_Bool}
 use Rattle.canonical_form.proofs.ChoiceLemmas.{full_text-expanded}
@@ -10,7 +11,7 @@ use Rattle.shape_buffer.specs.Buffer.{Buffer}
 use Rattle.canonical_form.specs.Expanded.{expanded_text}
 use Rattle.canonical_form.specs.Expansion.{choice}
 use Rattle.canonical_form.specs.Laws.{IsDecomposed}
-use Rattle.canonical_form.specs.Recompose.{join_with_glyph}
+use Rattle.canonical_form.specs.Recompose.{compose_with_glyph}
 use Rattle.canonical_form.specs.Runs.{AreRunsSettled, HasNoLongerRun}
 use Rattle.shape_buffer.specs.Unicode.{LawfulUnicode, is_mark}
 use Rattle.shape_normalize.specs.CanonicalForm.{text_of, AreEquivalent, HasCanonicalForm, IsRecomposedForm, EquivalencePremises, ComposesShortRuns, CanonicalFormPremises, NormalizesCanonically}
@@ -24,11 +25,14 @@ use Rattle.shape_normalize.proofs.RoundOneLemmas.{chars-round_one}
 
 module _ (rules : Rules) where
   -- where no mode goes short each character is asked for its longest expansion
-  choices_are_longest : ((with_marks : Bool) → rules.short with_marks ≡ false) → (text : List ℕ) → choices rules text ≡ expanded_text rules.split rules.height (has_glyph rules.face.nominal_glyph) (is_mark rules.unicode) (λ in_cluster. false) text
+  choices_are_longest : ((with_marks : Bool) → rules.short with_marks ≡ false) → (text : List ℕ)
+      → choices rules text
+      ≡ expanded_text rules.split rules.height (has_glyph rules.face.nominal_glyph) (is_mark rules.unicode) (λ with_marks. false) text
   choices_are_longest never text =
       let of : Bool → ℕ → List ℕ = λ short c. choice rules.split rules.height (has_glyph rules.face.nominal_glyph) short c in
-      expanded-plain (is_mark rules.unicode) (λ in_cluster. of (rules.short in_cluster)) (of false) (λ in_cluster c. ap (λ short. of short c) (never in_cluster)) text
-      ∙ sym (expanded-plain (is_mark rules.unicode) (λ in_cluster. of false) (of false) (λ in_cluster c. refl) text)
+      expanded-plain (is_mark rules.unicode) (λ with_marks. of (rules.short with_marks)) (of false)
+      (λ with_marks c. ap (λ short. of short c) (never with_marks)) text
+      ∙ sym (expanded-plain (is_mark rules.unicode) (λ with_marks. of false) (of false) (λ with_marks c. refl) text)
 
   plain_of : (b : Buffer) → EquivalencePremises rules b → IsPlain rules b
   plain_of b premises = IsPlain-from rules b premises.prepared premises.text.no_selector premises.text.no_reordering
@@ -36,29 +40,38 @@ module _ (rules : Rules) where
   module _ (lawful : LawfulUnicode rules.unicode) where
     -- ---- equivalence
 
-    unmarked_is_equivalent : (b : Buffer) → EquivalencePremises rules b → has_mark_past_first b.items ≡ false → AreEquivalent rules (text_of b) (text_of (normalized rules b))
+    unmarked_is_equivalent : (b : Buffer) → EquivalencePremises rules b → has_mark_past_first b.items ≡ false
+        → AreEquivalent rules (text_of b) (text_of (normalized rules b))
     unmarked_is_equivalent b premises unmarked =
         subst (AreEquivalent rules (text_of b)) (sym (normalized_is_choices rules b (plain_of b premises) unmarked))
-        (choices_are_equivalent rules.split rules.height rules.unicode.class premises.text.lawful_hooks.splits (has_glyph rules.face.nominal_glyph) (is_mark rules.unicode) rules.short (text_of b))
+        (choices_are_equivalent rules.split rules.height rules.unicode.ccc premises.text.lawful_hooks.splits
+        (has_glyph rules.face.nominal_glyph) (is_mark rules.unicode) rules.short (text_of b))
 
-    ordered_is_equivalent_to_text : (b : Buffer) → EquivalencePremises rules b → has_mark_past_first b.items ≡ true → AreEquivalent rules (text_of b) (text_of (ordered rules b))
+    ordered_is_equivalent_to_text : (b : Buffer) → EquivalencePremises rules b → has_mark_past_first b.items ≡ true
+        → AreEquivalent rules (text_of b) (text_of (ordered rules b))
     ordered_is_equivalent_to_text b premises marked =
-        ordered_is_equivalent rules.split rules.height rules.unicode.class premises.text.lawful_hooks.splits (has_glyph rules.face.nominal_glyph) (is_mark rules.unicode) rules.short max_run
+        ordered_is_equivalent rules.split rules.height rules.unicode.ccc premises.text.lawful_hooks.splits
+        (has_glyph rules.face.nominal_glyph) (is_mark rules.unicode) rules.short max_run
         (text_of b) (text_of (ordered rules b)) (ordered_settles rules lawful b (plain_of b premises) marked)
 
-    recomposed_is_equivalent_to_text : (b : Buffer) → EquivalencePremises rules b → ComposesShortRuns rules (round_one rules b) → has_mark_past_first b.items ≡ true → rules.recomposes ≡ true → AreEquivalent rules (text_of b) (text_of (normalized rules b))
+    recomposed_is_equivalent_to_text : (b : Buffer) → EquivalencePremises rules b → ComposesShortRuns rules (round_one rules b)
+        → has_mark_past_first b.items ≡ true → rules.recomposes ≡ true → AreEquivalent rules (text_of b) (text_of (normalized rules b))
     recomposed_is_equivalent_to_text b premises short marked composes =
         let plain = plain_of b premises in
         let hooks = premises.text.lawful_hooks in
         subst (AreEquivalent rules (text_of b)) (sym (normalized_is_recomposed rules lawful b plain marked composes))
-        (equivalent_normalised_by_last rules.split rules.height rules.unicode.class hooks.splits (is_mark rules.unicode) (join_with_glyph rules.join (has_glyph rules.face.nominal_glyph))
-        (sound_with_glyph rules.split rules.height rules.unicode.class rules.join (has_glyph rules.face.nominal_glyph) (hooks.joins composes)) max_run
+        (equivalent_normalised_by_last rules.split rules.height rules.unicode.ccc hooks.splits (is_mark rules.unicode)
+        (compose_with_glyph rules.compose (has_glyph rules.face.nominal_glyph))
+        (sound_with_glyph rules.split rules.height rules.unicode.ccc rules.compose (has_glyph rules.face.nominal_glyph)
+        (hooks.joins composes)) max_run
         (text_of b) (choices rules (text_of b)) (text_of (ordered rules b))
-        (full_text-expanded rules.split rules.height rules.unicode.class hooks.splits (has_glyph rules.face.nominal_glyph) (is_mark rules.unicode) rules.short (text_of b))
-        (subst (HasNoLongerRun rules.unicode.class max_run) (chars-round_one rules b plain.prepared plain.no_selector) (short composes))
+        (full_text-expanded rules.split rules.height rules.unicode.ccc hooks.splits (has_glyph rules.face.nominal_glyph)
+        (is_mark rules.unicode) rules.short (text_of b))
+        (subst (HasNoLongerRun rules.unicode.ccc max_run) (chars-round_one rules b plain.prepared plain.no_selector) (short composes))
         (ordered_settles rules lawful b plain marked))
 
-    pub normalized_is_equivalent : (b : Buffer) → EquivalencePremises rules b → ComposesShortRuns rules (round_one rules b) → AreEquivalent rules (text_of b) (text_of (normalized rules b))
+    pub normalized_is_equivalent : (b : Buffer) → EquivalencePremises rules b → ComposesShortRuns rules (round_one rules b)
+        → AreEquivalent rules (text_of b) (text_of (normalized rules b))
     normalized_is_equivalent b premises short =
         elim (cases_Bool (has_mark_past_first b.items)) [
           | inr unmarked ↦ unmarked_is_equivalent b premises unmarked
@@ -66,35 +79,46 @@ module _ (rules : Rules) where
               elim (cases_Bool rules.recomposes) [
                 | inl composes ↦ recomposed_is_equivalent_to_text b premises short marked composes
                 | inr leaves ↦
-                    subst (AreEquivalent rules (text_of b)) (sym (normalized_is_ordered rules b leaves)) (ordered_is_equivalent_to_text b premises marked)
+                    subst (AreEquivalent rules (text_of b)) (sym (normalized_is_ordered rules b leaves))
+                    (ordered_is_equivalent_to_text b premises marked)
               ]
         ]
 
     -- ---- canonical form
 
     marked_items : (b : Buffer) → CanonicalFormPremises rules b → has_mark_past_first b.items ≡ true
-    marked_items b premises = mark_past_first_char rules.unicode b.items (plain_of b premises.equivalence).prepared ∙ premises.canonical.marked
+    marked_items b premises =
+        mark_past_first_char rules.unicode b.items (plain_of b premises.equivalence).prepared ∙ premises.canonical.marked
 
     abbrev IsDecomposedTo : List ℕ → List ℕ → Type 0
-    IsDecomposedTo text new = IsDecomposed rules.split rules.height rules.unicode.class (has_glyph rules.face.nominal_glyph) (is_mark rules.unicode) max_run text new
+    IsDecomposedTo text new =
+        IsDecomposed rules.split rules.height rules.unicode.ccc (has_glyph rules.face.nominal_glyph)
+        (is_mark rules.unicode) max_run text new
 
     ordered_is_decomposed : (b : Buffer) → CanonicalFormPremises rules b → IsDecomposedTo (text_of b) (text_of (ordered rules b))
     ordered_is_decomposed b premises =
-        subst (λ l. AreRunsSettled rules.unicode.class max_run [] l (text_of (ordered rules b))) (choices_are_longest premises.canonical.decomposes_fully (text_of b))
+        subst (λ l. AreRunsSettled rules.unicode.ccc max_run [] l (text_of (ordered rules b)))
+        (choices_are_longest premises.canonical.decomposes_fully (text_of b))
         (ordered_settles rules lawful b (plain_of b premises.equivalence) (marked_items b premises))
 
     ordered_is_canonical : (b : Buffer) → CanonicalFormPremises rules b → HasCanonicalForm rules (text_of (ordered rules b))
     ordered_is_canonical b premises =
-        decomposed_is_canonical rules.split rules.height rules.unicode.class premises.equivalence.text.lawful_hooks.splits (has_glyph rules.face.nominal_glyph) (is_mark rules.unicode) max_run
+        decomposed_is_canonical rules.split rules.height rules.unicode.ccc premises.equivalence.text.lawful_hooks.splits
+        (has_glyph rules.face.nominal_glyph) (is_mark rules.unicode) max_run
         (text_of b) (text_of (ordered rules b)) premises.canonical.supported (ordered_is_decomposed b premises)
 
-    text_of-composed : (b : Buffer) → CanonicalFormPremises rules b → rules.recomposes ≡ true → text_of (normalized rules b) ≡ recomposed_by_last_text rules (text_of (ordered rules b))
-    text_of-composed b premises composes = normalized_is_recomposed rules lawful b (plain_of b premises.equivalence) (marked_items b premises) composes
+    text_of-composed : (b : Buffer) → CanonicalFormPremises rules b → rules.recomposes ≡ true
+        → text_of (normalized rules b) ≡ recomposed_by_last_text rules (text_of (ordered rules b))
+    text_of-composed b premises composes =
+        normalized_is_recomposed rules lawful b (plain_of b premises.equivalence) (marked_items b premises) composes
 
-    pub normalized_is_canonical : (b : Buffer) → rules.recomposes ≡ false → CanonicalFormPremises rules b → HasCanonicalForm rules (text_of (normalized rules b))
-    normalized_is_canonical b leaves premises = subst (HasCanonicalForm rules) (sym (normalized_is_ordered rules b leaves)) (ordered_is_canonical b premises)
+    pub normalized_is_canonical : (b : Buffer) → rules.recomposes ≡ false → CanonicalFormPremises rules b
+        → HasCanonicalForm rules (text_of (normalized rules b))
+    normalized_is_canonical b leaves premises =
+        subst (HasCanonicalForm rules) (sym (normalized_is_ordered rules b leaves)) (ordered_is_canonical b premises)
 
-    pub normalized_is_recomposed_form : (b : Buffer) → rules.recomposes ≡ true → CanonicalFormPremises rules b → IsRecomposedForm rules (text_of b) (text_of (normalized rules b))
+    pub normalized_is_recomposed_form : (b : Buffer) → rules.recomposes ≡ true → CanonicalFormPremises rules b
+        → IsRecomposedForm rules (text_of b) (text_of (normalized rules b))
     normalized_is_recomposed_form b composes premises =
         let canonical = ordered_is_canonical b premises in
         record {
@@ -102,26 +126,33 @@ module _ (rules : Rules) where
           is_canonical = canonical;
           equivalent = ordered_is_equivalent_to_text b premises.equivalence (marked_items b premises);
           is = text_of-composed b premises composes
-              ∙ sym (recomposed_by_last rules.unicode.class (is_mark rules.unicode) (join_with_glyph rules.join (has_glyph rules.face.nominal_glyph)) (text_of (ordered rules b)) canonical.ordered);
+              ∙ sym (recomposed_by_last rules.unicode.ccc (is_mark rules.unicode)
+              (compose_with_glyph rules.compose (has_glyph rules.face.nominal_glyph)) (text_of (ordered rules b)) canonical.ordered);
         }
 
     -- ---- comparing texts
 
-    pub normalized_decides : (b c : Buffer) → CanonicalFormPremises rules b → CanonicalFormPremises rules c → (text_of (normalized rules b) ≡ text_of (normalized rules c)) ↔ AreEquivalent rules (text_of b) (text_of c)
+    pub normalized_decides : (b c : Buffer) → CanonicalFormPremises rules b → CanonicalFormPremises rules c
+        → (text_of (normalized rules b) ≡ text_of (normalized rules c)) ↔ AreEquivalent rules (text_of b) (text_of c)
     normalized_decides b c of_b of_c =
         let hooks = of_b.equivalence.text.lawful_hooks in
         elim (cases_Bool rules.recomposes) [
           | inr leaves ↦
               rw (normalized_is_ordered rules b leaves, normalized_is_ordered rules c leaves)
-              (decomposed_decides rules.split rules.height rules.unicode.class hooks.splits (has_glyph rules.face.nominal_glyph) (is_mark rules.unicode) max_run
+              (decomposed_decides rules.split rules.height rules.unicode.ccc hooks.splits (has_glyph rules.face.nominal_glyph)
+              (is_mark rules.unicode) max_run
               (text_of b) (text_of (ordered rules b)) (text_of c) (text_of (ordered rules c))
               of_b.canonical.supported of_c.canonical.supported (ordered_is_decomposed b of_b) (ordered_is_decomposed c of_c))
           | inl composes ↦
               rw (text_of-composed b of_b composes, text_of-composed c of_c composes)
-              (recomposed_by_last_equal_iff rules.split rules.height rules.unicode.class hooks.splits (has_glyph rules.face.nominal_glyph) (is_mark rules.unicode) max_run
-              (join_with_glyph rules.join (has_glyph rules.face.nominal_glyph)) (sound_with_glyph rules.split rules.height rules.unicode.class rules.join (has_glyph rules.face.nominal_glyph) (hooks.joins composes))
+              (recomposed_by_last_equal_iff rules.split rules.height rules.unicode.ccc hooks.splits (has_glyph rules.face.nominal_glyph)
+              (is_mark rules.unicode) max_run
+              (compose_with_glyph rules.compose (has_glyph rules.face.nominal_glyph))
+              (sound_with_glyph rules.split rules.height rules.unicode.ccc rules.compose (has_glyph rules.face.nominal_glyph)
+              (hooks.joins composes))
               (text_of b) (text_of (ordered rules b)) (text_of c) (text_of (ordered rules c))
-              of_b.canonical.supported.glyphs of_c.canonical.supported.glyphs of_b.canonical.supported.fits of_c.canonical.supported.fits (ordered_is_decomposed b of_b) (ordered_is_decomposed c of_c))
+              of_b.canonical.supported.glyphs of_c.canonical.supported.glyphs of_b.canonical.supported.fits of_c.canonical.supported.fits
+              (ordered_is_decomposed b of_b) (ordered_is_decomposed c of_c))
         ]
 
     -- what a normalised buffer has of the one that it was made of
@@ -132,6 +163,7 @@ module _ (rules : Rules) where
           canonical = normalized_is_canonical old;
           recomposed = normalized_is_recomposed_form old;
           decides = λ other. normalized_decides old other;
-          by_characters = λ other of_old of_other same. normalized_by_characters rules lawful old other (IsPlain-premises rules old of_old) (IsPlain-premises rules other of_other) same;
+          by_characters = λ other of_old of_other same. normalized_by_characters rules lawful old other (IsPlain-premises rules old of_old)
+              (IsPlain-premises rules other of_other) same;
           cuts = λ front back. normalized_cuts rules lawful old front back;
         })

@@ -7,7 +7,7 @@ use Rattle.std.proofs.lemmas.List.Sums.{fold-append}
 use Rattle.shape_buffer.specs.Buffer.{Buffer}
 use Rattle.shape_buffer.specs.BufferClusters.{merge_at, merge_out_clusters}
 use Rattle.shape_buffer.specs.Clusters.{merge}
-use Rattle.shape_buffer.specs.Items.{Item, class_of_item}
+use Rattle.shape_buffer.specs.Items.{Item, ccc_of_item}
 use Rattle.canonical_form.specs.Recompose.{composed, recomposed_from, is_blocked_by_last}
 use Rattle.shape_buffer.specs.declared.buffer.settings.BufferClusterLevel.{BufferClusterLevel}
 use Rattle.shape_buffer.specs.declared.buffer.settings.BufferClusterLevel.TheVariants.{MonotoneGraphemes, MonotoneCharacters, Characters}
@@ -16,7 +16,7 @@ use Rattle.shape_buffer.proofs.JoinLemmas.{Joined as SharesCluster, length-merge
 use Rattle.shape_buffer.proofs.NestedMergeLemmas.{merge-from_later}
 use Rattle.canonical_form.proofs.OptionLemmas.{cases_Option}
 use Rattle.canonical_form.proofs.RecomposeLemmas.{composed-some, recomposed_from-some, recomposed_from-starter, recomposed_from-mark}
-use Rattle.shape_normalize.specs.RoundThree.{Joined, Placed, placed, class_of_placed, is_mark_placed, join_placed, recomposed_items, joined_spans, spans_between, chained_spans, spans_merged_out}
+use Rattle.shape_normalize.specs.RoundThree.{Joined, Placed, placed, ccc_of_placed, is_mark_placed, compose_placed, recomposed_items, joined_spans, spans_between, chained_spans, spans_merged_out}
 use Rattle.shape_plan.specs.Rules.{Rules}
 use Rattle.shape_normalize.proofs.RoundThreeWalkLemmas.{joined_to}
 use Rattle.shape_normalize.proofs.RoundThreePlaceLemmas.{IsSpan, joined_is}
@@ -32,43 +32,53 @@ AreJoinedInOrder low high (mark ∷ joined) = (low < mark.place) × (mark.place 
 abbrev InOrder : ℕ → Placed → Type 0
 InOrder high p = AreJoinedInOrder p.place high p.joined
 
-in_order-higher : (low high higher : ℕ) (joined : List Joined) → high ≤ higher → AreJoinedInOrder low high joined → AreJoinedInOrder low higher joined
+in_order-higher : (low high higher : ℕ) (joined : List Joined) → high ≤ higher → AreJoinedInOrder low high joined
+    → AreJoinedInOrder low higher joined
 in_order-higher low high higher [] le h = tt
 in_order-higher low high higher (mark ∷ joined) le h = (h.0, omega (arith, h.1), in_order-higher mark.place high higher joined le h.2)
 
-in_order-push : (low k : ℕ) (joined : List Joined) (mark : Joined) → low < k → mark.place ≡ k → AreJoinedInOrder low k joined → AreJoinedInOrder low (suc k) (joined ++ mark ∷ [])
+in_order-push : (low k : ℕ) (joined : List Joined) (mark : Joined) → low < k → mark.place ≡ k → AreJoinedInOrder low k joined
+    → AreJoinedInOrder low (suc k) (joined ++ mark ∷ [])
 in_order-push low k [] mark lt is h = (omega arith, omega arith, tt)
 in_order-push low k (m ∷ joined) mark lt is h = (h.0, omega (arith, h.1), in_order-push m.place k joined mark h.1 is h.2)
 
 module _ (rules : Rules) where
   abbrev after : Placed → List Placed → List Placed → List Placed
-  after = recomposed_from class_of_placed (is_blocked_by_last class_of_placed) is_mark_placed (join_placed rules)
+  after = recomposed_from ccc_of_placed (is_blocked_by_last ccc_of_placed) is_mark_placed (compose_placed rules)
 
   abbrev item_at : ℕ → Item → Placed
   item_at place item = record { item = item; place = place; joined = [] }
 
   -- what is put out of the items from place k on, after the starter and these marks
-  after_in_order : (n k : ℕ) (s : Placed) (ms : List Placed) (items : List Item) → s.place < k → InOrder k s → AllByRecursion (InOrder n) ms → k + length items ≡ n → AllByRecursion (InOrder n) (after s ms (placed k items))
+  after_in_order : (n k : ℕ) (s : Placed) (ms : List Placed) (items : List Item) → s.place < k → InOrder k s → AllByRecursion (InOrder n) ms
+      → k + length items ≡ n → AllByRecursion (InOrder n) (after s ms (placed k items))
   after_in_order n k s ms [] lt h each is = (in_order-higher s.place k n s.joined (omega arith) h, each)
   after_in_order n k s ms (x ∷ items) lt h each is =
       let next : Placed = item_at k x in
       let rest = placed (suc k) items in
       let later : suc k + length items ≡ n = omega arith in
       let put_out : AllByRecursion (InOrder n) (s ∷ ms) = (in_order-higher s.place k n s.joined (omega arith) h, each) in
-      elim (cases_Option (composed class_of_placed (is_blocked_by_last class_of_placed) is_mark_placed (join_placed rules) s ms next)) [
+      elim (cases_Option (composed ccc_of_placed (is_blocked_by_last ccc_of_placed) is_mark_placed (compose_placed rules) s ms next)) [
         | inr (d, found) ↦
-            let made = joined_is rules s next d (composed-some class_of_placed (is_blocked_by_last class_of_placed) is_mark_placed (join_placed rules) s ms next d found).1 in
-            let made_in_order : InOrder (suc k) (joined_to rules s next made.0) = in_order-push s.place k s.joined (record { place = k; char = made.0 }) lt refl h in
-            subst (AllByRecursion (InOrder n)) (sym (recomposed_from-some class_of_placed (is_blocked_by_last class_of_placed) is_mark_placed (join_placed rules) s ms next rest d found))
+            let made = joined_is rules s next d (composed-some ccc_of_placed (is_blocked_by_last ccc_of_placed) is_mark_placed
+            (compose_placed rules) s ms next d found).1 in
+            let made_in_order : InOrder (suc k) (joined_to rules s next made.0) = in_order-push s.place k s.joined
+            (record { place = k; char = made.0 }) lt refl h in
+            subst (AllByRecursion (InOrder n)) (sym (recomposed_from-some ccc_of_placed (is_blocked_by_last ccc_of_placed) is_mark_placed
+            (compose_placed rules) s ms next rest d found))
             (after_in_order n (suc k) d ms items (rw made.2 (omega arith)) (rw made.2 made_in_order) each later)
         | inl none ↦
-            elim (cases_Bool (class_of_item x == 0)) [
+            elim (cases_Bool (ccc_of_item x == 0)) [
               | inl start ↦
-                  subst (AllByRecursion (InOrder n)) (sym (recomposed_from-starter class_of_placed (is_blocked_by_last class_of_placed) is_mark_placed (join_placed rules) s ms next rest none start))
-                  (append_all (InOrder n) (s ∷ ms) (after next [] rest) put_out (after_in_order n (suc k) next [] items (omega arith) tt tt later))
+                  subst (AllByRecursion (InOrder n)) (sym (recomposed_from-starter ccc_of_placed
+                  (is_blocked_by_last ccc_of_placed) is_mark_placed (compose_placed rules) s ms next rest none start))
+                  (append_all (InOrder n) (s ∷ ms) (after next [] rest) put_out
+                  (after_in_order n (suc k) next [] items (omega arith) tt tt later))
               | inr mark ↦
-                  subst (AllByRecursion (InOrder n)) (sym (recomposed_from-mark class_of_placed (is_blocked_by_last class_of_placed) is_mark_placed (join_placed rules) s ms next rest none mark))
-                  (after_in_order n (suc k) s (ms ++ next ∷ []) items (omega arith) (in_order-higher s.place k (suc k) s.joined (omega arith) h) (push_all (InOrder n) ms next each tt) later)
+                  subst (AllByRecursion (InOrder n)) (sym (recomposed_from-mark ccc_of_placed
+                  (is_blocked_by_last ccc_of_placed) is_mark_placed (compose_placed rules) s ms next rest none mark))
+                  (after_in_order n (suc k) s (ms ++ next ∷ []) items (omega arith)
+                  (in_order-higher s.place k (suc k) s.joined (omega arith) h) (push_all (InOrder n) ms next each tt) later)
             ]
       ]
 
@@ -78,19 +88,24 @@ module _ (rules : Rules) where
 
 -- ---- the spans are within the list
 
-spans_between_within : (n from : ℕ) (joined : List Joined) → AreJoinedInOrder from n joined → AllByRecursion (IsSpan n) (spans_between from joined)
+spans_between_within : (n from : ℕ) (joined : List Joined) → AreJoinedInOrder from n joined
+    → AllByRecursion (IsSpan n) (spans_between from joined)
 spans_between_within n from [] h = tt
 spans_between_within n from (mark ∷ joined) h = ((omega (arith, h.0), omega (arith, h.1)), spans_between_within n mark.place joined h.2)
 
 chained_spans_within : (n : ℕ) (out : List Placed) → AllByRecursion (InOrder n) out → AllByRecursion (IsSpan n) (chained_spans out)
 chained_spans_within n [] h = tt
-chained_spans_within n (p ∷ out) h = append_all (IsSpan n) (spans_between p.place p.joined) (chained_spans out) (spans_between_within n p.place p.joined h.0) (chained_spans_within n out h.1)
+chained_spans_within n (p ∷ out) h =
+    append_all (IsSpan n) (spans_between p.place p.joined) (chained_spans out) (spans_between_within n p.place p.joined h.0)
+    (chained_spans_within n out h.1)
 
 -- the spans of a walk over these items are within them
-pub walked_spans_within : (rules : Rules) (items infos : List Item) (spans : List (ℕ × ℕ)) → infos ≡ items → spans ≡ chained_spans (recomposed_items rules infos) → All (IsSpan (length items)) spans
+pub walked_spans_within : (rules : Rules) (items infos : List Item) (spans : List (ℕ × ℕ)) → infos ≡ items
+    → spans ≡ chained_spans (recomposed_items rules infos) → All (IsSpan (length items)) spans
 walked_spans_within rules items infos spans infos_are spans_are =
     subst (All (IsSpan (length items))) (sym (spans_are ∙ ap (λ xs. chained_spans (recomposed_items rules xs)) infos_are))
-    (All-from_recursion (IsSpan (length items)) (chained_spans (recomposed_items rules items)) (chained_spans_within (length items) (recomposed_items rules items) (recomposed_in_order rules items)))
+    (All-from_recursion (IsSpan (length items)) (chained_spans (recomposed_items rules items))
+    (chained_spans_within (length items) (recomposed_items rules items) (recomposed_in_order rules items)))
 
 -- ---- merging them
 
@@ -103,7 +118,8 @@ length-spans_merged [] xs = refl
 length-spans_merged (span ∷ spans) xs = length-spans_merged spans (merge span.0 span.1 xs) ∙ length-merge span.0 span.1 xs
 
 -- the spans of one starter from `from` on, where the items from `place` up to it share their cluster
-one_chained : (place from : ℕ) (joined : List Joined) (xs : List Item) → place ≤ from → AreJoinedInOrder from (length xs) joined → ((k : ℕ) → place ≤ k → k < from → SharesCluster xs k)
+one_chained : (place from : ℕ) (joined : List Joined) (xs : List Item) → place ≤ from → AreJoinedInOrder from (length xs) joined
+    → ((k : ℕ) → place ≤ k → k < from → SharesCluster xs k)
     → spans_merged (map (λ (mark : Joined). (place, mark.place + 1)) joined) xs ≡ spans_merged (spans_between from joined) xs
 one_chained place from [] xs le h shares = refl
 one_chained place from (mark ∷ joined) xs le h shares =
@@ -113,12 +129,15 @@ one_chained place from (mark ∷ joined) xs le h shares =
     let within : end ≤ length xs = omega (arith, h.1) in
     let merged = merge place end xs in
     let same : merged ≡ merge from end xs =
-    merge-from_later place (from - place) end xs (omega arith) within (λ k ge lt. shares k ge (omega arith)) ∙ ap (λ s. merge s end xs) sum in
-    one_chained place mark.place joined merged (omega arith) (rw (length-merge place end xs) h.2) (λ k ge lt. merge_joins place end xs k ge (omega arith) within)
+    merge-from_later place (from - place) end xs (omega arith) within (λ k ge lt. shares k ge (omega arith))
+    ∙ ap (λ s. merge s end xs) sum in
+    one_chained place mark.place joined merged (omega arith) (rw (length-merge place end xs) h.2)
+    (λ k ge lt. merge_joins place end xs k ge (omega arith) within)
     ∙ ap (spans_merged (spans_between mark.place joined)) same
 
 -- one starter after the other
-all_chained : (n : ℕ) (out : List Placed) (xs : List Item) → length xs ≡ n → AllByRecursion (InOrder n) out → spans_merged (joined_spans out) xs ≡ spans_merged (chained_spans out) xs
+all_chained : (n : ℕ) (out : List Placed) (xs : List Item) → length xs ≡ n → AllByRecursion (InOrder n) out
+    → spans_merged (joined_spans out) xs ≡ spans_merged (chained_spans out) xs
 all_chained n [] xs is h = refl
 all_chained n (p ∷ out) xs is h =
     let first = one_chained p.place p.place p.joined xs (omega arith) (rw is h.0) (λ k ge lt. absurd (omega arith)) in
@@ -146,7 +165,8 @@ put_at-same Characters b = refl
 -- one span at this level, then the others
 put_at-then : (level : BufferClusterLevel) (span : ℕ × ℕ) (spans : List (ℕ × ℕ)) (b : Buffer)
     → (let merged = (elim level as (λ v. Buffer) [ MonotoneGraphemes ↦ merge_at span.0 span.1 b | MonotoneCharacters ↦ merge_at span.0 span.1 b | Characters ↦ b ]).items in
-    put_at level (record b { items = merged }) (spans_merged spans merged) ≡ put_at level b (spans_merged spans (merge span.0 span.1 b.items)))
+    put_at level (record b { items = merged }) (spans_merged spans merged)
+    ≡ put_at level b (spans_merged spans (merge span.0 span.1 b.items)))
 put_at-then MonotoneGraphemes span spans b = refl
 put_at-then MonotoneCharacters span spans b = refl
 put_at-then Characters span spans b = refl
@@ -159,7 +179,9 @@ merged_at (span ∷ spans) b =
     ∙ put_at-then b.cluster_level span spans b
 
 -- the spans of the code do what those of the round do
-chained_merged : (rules : Rules) (b : Buffer) → spans_merged_out (chained_spans (recomposed_items rules b.items)) b ≡ spans_merged_out (joined_spans (recomposed_items rules b.items)) b
+chained_merged : (rules : Rules) (b : Buffer)
+    → spans_merged_out (chained_spans (recomposed_items rules b.items)) b
+    ≡ spans_merged_out (joined_spans (recomposed_items rules b.items)) b
 chained_merged rules b =
     let out = recomposed_items rules b.items in
     merged_at (chained_spans out) b
@@ -167,7 +189,9 @@ chained_merged rules b =
     ∙ sym (merged_at (joined_spans out) b)
 
 -- the spans of a walk over the items of a buffer make of it what those of the round do
-pub walked_spans_merged : (rules : Rules) (old merged : Buffer) (infos : List Item) (spans : List (ℕ × ℕ)) → infos ≡ old.items → spans ≡ chained_spans (recomposed_items rules infos) → merged ≡ spans_merged_out spans old
+pub walked_spans_merged : (rules : Rules) (old merged : Buffer) (infos : List Item) (spans : List (ℕ × ℕ)) → infos ≡ old.items
+    → spans ≡ chained_spans (recomposed_items rules infos) → merged ≡ spans_merged_out spans old
     → merged ≡ spans_merged_out (joined_spans (recomposed_items rules old.items)) old
 walked_spans_merged rules old merged infos spans infos_are spans_are merged_is =
-    merged_is ∙ ap (λ s. spans_merged_out s old) (spans_are ∙ ap (λ xs. chained_spans (recomposed_items rules xs)) infos_are) ∙ chained_merged rules old
+    merged_is ∙ ap (λ s. spans_merged_out s old) (spans_are ∙ ap (λ xs. chained_spans (recomposed_items rules xs)) infos_are)
+    ∙ chained_merged rules old

@@ -27,8 +27,10 @@ pub draws_without : (xs : List ℕ) (x : ℕ) (ys : List ℕ) → DrawsInOrder (
 draws_without xs x ys = DrawsBefore-same xs (x ∷ ys) ys (DrawsInOrder-behind x ys ys (DrawsInOrder-same ys))
 
 -- where each becomes a list whose clusters are drawn from its own, so does the whole
-pub draws_pieces : {A : Type 0} (become : A → List Item) (own : A → List ℕ) → ((x : A) → DrawsBefore (own x) (clusters (become x))) → (xs : List A) → DrawsBefore (flat_map own xs) (clusters (flat_map become xs))
+pub draws_pieces : {A : Type 0} (become : A → List Item) (own : A → List ℕ) → ((x : A) → DrawsBefore (own x) (clusters (become x)))
+    → (xs : List A) → DrawsBefore (flat_map own xs) (clusters (flat_map become xs))
 draws_pieces become own each [] = DrawsBefore-same []
 draws_pieces become own each (x ∷ xs) =
     rw (map-append (λ (item : Item). item.cluster) (become x) (flat_map become xs))
-    (DrawsBefore-append (own x) (flat_map own xs) (clusters (become x)) (clusters (flat_map become xs)) (each x) (draws_pieces become own each xs))
+    (DrawsBefore-append (own x) (flat_map own xs) (clusters (become x)) (clusters (flat_map become xs)) (each x)
+    (draws_pieces become own each xs))

@@ -14,9 +14,9 @@ use Rattle.shape_buffer.proofs.KeyLemmas.{IsKey, keys-merge}
 use Rattle.shape_normalize.specs.Normalized.{normalized, features_of, KeepsFeatures}
 use Rattle.shape_normalize.specs.RoundOne.{part_item, whole_item, expansion_of, pairs_merged, round_one}
 use Rattle.shape_normalize.specs.RoundThree.{Placed, recomposed_items, joined_spans, spans_merged_out, with_cluster_at, round_three}
-use Rattle.shape_normalize.specs.RoundTwo.{marks_ordered, joiners_settled}
+use Rattle.shape_normalize.specs.RoundTwo.{marks_ordered, cgj_settled}
 use Rattle.shape_plan.specs.Rules.{Rules}
-use Rattle.shape_normalize.proofs.JoinerLemmas.{keys-joiners_settled}
+use Rattle.shape_normalize.proofs.CgjLemmas.{keys-cgj_settled}
 use Rattle.shape_normalize.proofs.NormalizedLemmas.{kept_by_rounds}
 use Rattle.shape_normalize.proofs.RecomposedItemLemmas.{each_recomposed}
 use Rattle.shape_normalize.proofs.ReorderLemmas.{LawfulReorder}
@@ -28,19 +28,22 @@ use Rattle.shape_normalize.proofs.SettleLemmas.{keys-marks_ordered}
 
 -- merging changes the defined flags alone
 IsKey-features : IsKey features_of
-IsKey-features = record { by_cluster = λ item cluster. and_assoc 4294967288 item.mask 4294967288; by_break = λ item. and_or_apart 4294967288 item.mask 3 refl }
+IsKey-features =
+    record { by_cluster = λ item cluster. and_assoc 4294967288 item.mask 4294967288; by_break = λ item. and_or_apart 4294967288 item.mask 3 refl }
 
 features-merge_out : (start end : ℕ) (b : Buffer) → map features_of (merge_out_clusters start end b).items ≡ map features_of b.items
 features-merge_out start end b = at_level b.cluster_level
   where
-    at_level : (level : BufferClusterLevel) → map features_of (elim level as (λ v. Buffer) [ MonotoneGraphemes ↦ merge_at start end b | MonotoneCharacters ↦ merge_at start end b | Characters ↦ b ]).items ≡ map features_of b.items
+    at_level : (level : BufferClusterLevel)
+        → map features_of (elim level as (λ v. Buffer) [ MonotoneGraphemes ↦ merge_at start end b | MonotoneCharacters ↦ merge_at start end b | Characters ↦ b ]).items ≡ map features_of b.items
     at_level MonotoneGraphemes = keys-merge features_of IsKey-features start end b.items
     at_level MonotoneCharacters = keys-merge features_of IsKey-features start end b.items
     at_level Characters = refl
 
 features-spans_merged_out : (spans : List (ℕ × ℕ)) (b : Buffer) → map features_of (spans_merged_out spans b).items ≡ map features_of b.items
 features-spans_merged_out [] b = refl
-features-spans_merged_out (span ∷ spans) b = features-spans_merged_out spans (merge_out_clusters span.0 span.1 b) ∙ features-merge_out span.0 span.1 b
+features-spans_merged_out (span ∷ spans) b =
+    features-spans_merged_out spans (merge_out_clusters span.0 span.1 b) ∙ features-merge_out span.0 span.1 b
 
 -- ---- what holds of feature bits
 
@@ -59,14 +62,17 @@ module _ (rules : Rules) (P : ℕ → Type 0) where
   parts_have item h [] = tt
   parts_have item h (c ∷ cs) = (h, parts_have item h cs)
 
-  found_have : (invisible : Option GlyphId) (item : Item) → P (features_of item) → (found : Option (List ℕ)) → Has (option_map_or (map (part_item rules.unicode rules.face.nominal_glyph item)) found (whole_item rules invisible item ∷ []))
-  found_have invisible item h None = (whole_item_is rules invisible (λ whole. P (features_of whole)) item (λ glyph. h) (λ glyph space. h), tt)
+  found_have : (invisible : Option GlyphId) (item : Item) → P (features_of item) → (found : Option (List ℕ))
+      → Has (option_map_or (map (part_item rules.unicode rules.face.nominal_glyph item)) found (whole_item rules invisible item ∷ []))
+  found_have invisible item h None =
+      (whole_item_is rules invisible (λ whole. P (features_of whole)) item (λ glyph. h) (λ glyph space. h), tt)
   found_have invisible item h (Some cs) = parts_have item h cs
 
   round_one_has : (b : Buffer) → Has b.items → Has (round_one rules b).items
   round_one_has b each =
       let merged = (pairs_merged rules b).items in
-      expanded_all rules b.invisible_glyph b.not_found_variation_selector_glyph (λ item. P (features_of item)) (λ item. P (features_of item))
+      expanded_all rules b.invisible_glyph b.not_found_variation_selector_glyph (λ item. P (features_of item))
+      (λ item. P (features_of item))
       (λ item glyph h. h) (λ item glyph h. h) (λ short item h. found_have b.invisible_glyph item h (expansion_of rules short item))
       merged (has_same b.items merged (keys-pairs_merged rules features_of IsKey-features b) each)
 
@@ -78,7 +84,8 @@ module _ (rules : Rules) (P : ℕ → Type 0) where
   has_at (item ∷ items) zero other each h = each.0
   has_at (item ∷ items) (suc place) other each h = has_at items place other each.1 h
 
-  put_out_have : (items : List Item) → Has items → (out : List Placed) → AllByRecursion (λ (p : Placed). P (features_of p.item)) out → Has (map (with_cluster_at items) out)
+  put_out_have : (items : List Item) → Has items → (out : List Placed) → AllByRecursion (λ (p : Placed). P (features_of p.item)) out
+      → Has (map (with_cluster_at items) out)
   put_out_have items has [] each = tt
   put_out_have items has (p ∷ out) each = (has_at items p.place p.item has each.0, put_out_have items has out each.1)
 
@@ -95,12 +102,15 @@ module _ (rules : Rules) (P : ℕ → Type 0) where
   normalized_has lawful b each =
       let one : Buffer = round_one rules b in
       kept_by_rounds rules (λ c. Has c.items) b
-      (λ of. each_of_values features_of P (marks_ordered rules.reorder one).items (keys-marks_ordered rules.reorder lawful features_of IsKey-features (λ f is item class. refl) P one (each_value features_of P one.items of)))
-      (λ c of. has_same c.items (joiners_settled c).items (keys-joiners_settled features_of (λ item. refl) c) of)
+      (λ of. each_of_values features_of P (marks_ordered rules.reorder one).items
+      (keys-marks_ordered rules.reorder lawful features_of IsKey-features (λ f is item ccc. refl) P one
+      (each_value features_of P one.items of)))
+      (λ c of. has_same c.items (cgj_settled c).items (keys-cgj_settled features_of (λ item. refl) c) of)
       round_three_has (round_one_has b each)
 
 -- each item of the normalised list has the feature bits of an item of the text
-pub normalized_keeps_features : (rules : Rules) → LawfulReorder rules.reorder → (b new : Buffer) → new ≡ normalized rules b → KeepsFeatures b new
+pub normalized_keeps_features : (rules : Rules) → LawfulReorder rules.reorder → (b new : Buffer) → new ≡ normalized rules b
+    → KeepsFeatures b new
 normalized_keeps_features rules lawful b new is =
     let those : List ℕ = map features_of b.items in
     let all : List Item = (normalized rules b).items in

@@ -13,10 +13,10 @@ use Rattle.shape_buffer.specs.declared.buffer.settings.BufferClusterLevel.{Buffe
 use Rattle.shape_buffer.specs.declared.buffer.settings.BufferClusterLevel.TheVariants.{MonotoneGraphemes, MonotoneCharacters, Characters}
 use Rattle.shape_buffer.specs.declared.buffer.settings.GlyphId.{GlyphId}
 use Rattle.shape_buffer.proofs.KeyLemmas.{IsKey}
-use Rattle.shape_normalize.specs.Normalized.{ordered, normalized, has_seen_joiner, hidden_char, KeepsHidden}
+use Rattle.shape_normalize.specs.Normalized.{ordered, normalized, has_seen_cgj, hidden_char, KeepsHidden}
 use Rattle.shape_normalize.specs.RoundOne.{part_item, whole_item, expansion_of, pairs_merged, round_one}
 use Rattle.shape_normalize.specs.RoundThree.{round_three}
-use Rattle.shape_normalize.specs.RoundTwo.{spans, run_classes, run_settled, marks_ordered, has_mark_past_first, joiners_shown, joiners_settled}
+use Rattle.shape_normalize.specs.RoundTwo.{spans, run_cccs, run_settled, marks_ordered, has_mark_past_first, cgj_shown, cgj_settled}
 use Rattle.shape_plan.specs.Rules.{Rules}
 use Rattle.shape_normalize.proofs.RecomposedItemLemmas.{round_three_all}
 use Rattle.shape_normalize.proofs.ReorderLemmas.{LawfulReorder, kept_by_steps}
@@ -28,44 +28,49 @@ use Rattle.shape_normalize.proofs.SettleLemmas.{run_placed, run_placed-in_order,
 -- ---- ordering sees no joiner
 
 -- the flag of joiners
-abbrev joiner_flag : Buffer → ℕ
-joiner_flag b = bit_and b.scratch_flags.0 8
+abbrev cgj_flag : Buffer → ℕ
+cgj_flag b = bit_and b.scratch_flags.0 8
 
-flag-unsafe_to_break : (start end : ℕ) (b : Buffer) → joiner_flag (unsafe_to_break start end b) ≡ joiner_flag b
+flag-unsafe_to_break : (start end : ℕ) (b : Buffer) → cgj_flag (unsafe_to_break start end b) ≡ cgj_flag b
 flag-unsafe_to_break start end b =
     elim (cases_Bool (nat_lt (start + 1) end)) [ inl long ↦ rw long (and_or_apart 8 b.scratch_flags.0 32 refl) | inr short ↦ rw short refl ]
 
-flag-merge_clusters : (start end : ℕ) (b : Buffer) → joiner_flag (merge_clusters start end b) ≡ joiner_flag b
+flag-merge_clusters : (start end : ℕ) (b : Buffer) → cgj_flag (merge_clusters start end b) ≡ cgj_flag b
 flag-merge_clusters start end b = at_level b.cluster_level
   where
-    at_level : (level : BufferClusterLevel) → joiner_flag (elim level as (λ v. Buffer) [ MonotoneGraphemes ↦ merge_at start end b | MonotoneCharacters ↦ merge_at start end b | Characters ↦ unsafe_to_break start end b ]) ≡ joiner_flag b
+    at_level : (level : BufferClusterLevel)
+        → cgj_flag (elim level as (λ v. Buffer) [ MonotoneGraphemes ↦ merge_at start end b | MonotoneCharacters ↦ merge_at start end b | Characters ↦ unsafe_to_break start end b ]) ≡ cgj_flag b
     at_level MonotoneGraphemes = refl
     at_level MonotoneCharacters = refl
     at_level Characters = flag-unsafe_to_break start end b
 
-flag-merged : (start : ℕ) (b : Buffer) (ps : List (ℕ × ℕ)) → joiner_flag (fold (λ (b : Buffer) (span : ℕ × ℕ). merge_clusters (start + span.0) (start + span.1) b) b ps) ≡ joiner_flag b
+flag-merged : (start : ℕ) (b : Buffer) (ps : List (ℕ × ℕ))
+    → cgj_flag (fold (λ (b : Buffer) (span : ℕ × ℕ). merge_clusters (start + span.0) (start + span.1) b) b ps) ≡ cgj_flag b
 flag-merged start b [] = refl
-flag-merged start b (p ∷ ps) = flag-merged start (merge_clusters (start + p.0) (start + p.1) b) ps ∙ flag-merge_clusters (start + p.0) (start + p.1) b
+flag-merged start b (p ∷ ps) =
+    flag-merged start (merge_clusters (start + p.0) (start + p.1) b) ps ∙ flag-merge_clusters (start + p.0) (start + p.1) b
 
 module _ (reorder : Option (Buffer → ℕ → ℕ → Buffer)) (lawful : LawfulReorder reorder) where
-  flag-run_settled : (start end : ℕ) (b : Buffer) → start ≤ end → end ≤ length b.items → AreMarks (slice_range b.items start end) → joiner_flag (run_settled reorder b (start, end)) ≡ joiner_flag b
+  flag-run_settled : (start end : ℕ) (b : Buffer) → start ≤ end → end ≤ length b.items → AreMarks (slice_range b.items start end)
+      → cgj_flag (run_settled reorder b (start, end)) ≡ cgj_flag b
   flag-run_settled start end b rising within marks =
       let placed : Buffer = run_placed start end b in
       let inside : end ≤ length placed.items = rw (length-run_placed start end b rising) within in
-      settled_cases reorder start end b (λ c. joiner_flag c ≡ joiner_flag b)
-      (λ few. kept_by_steps start end (λ x. joiner_flag x ≡ joiner_flag b)
+      settled_cases reorder start end b (λ c. cgj_flag c ≡ cgj_flag b)
+      (λ few. kept_by_steps start end (λ x. cgj_flag x ≡ cgj_flag b)
       (λ x i j low_i high_i low_j high_j long so_far. so_far) (λ x from to low up high long so_far. flag-merge_clusters from to x ∙ so_far)
-      (λ x i item class low high long is mark so_far. so_far)
-      (Reorders-run_reordered reorder lawful start end placed (run_placed-in_order start end b rising within marks few)) inside (flag-merged start b (spans (run_classes start end b)))) refl
+      (λ x i item ccc low high long is mark so_far. so_far)
+      (Reorders-run_reordered reorder lawful start end placed (run_placed-in_order start end b rising within marks few)) inside
+      (flag-merged start b (spans (run_cccs start end b)))) refl
 
-  flag-marks_ordered : (b : Buffer) → joiner_flag (marks_ordered reorder b) ≡ joiner_flag b
+  flag-marks_ordered : (b : Buffer) → cgj_flag (marks_ordered reorder b) ≡ cgj_flag b
   flag-marks_ordered b =
-      kept_by_marks_ordered reorder lawful (λ c. joiner_flag c ≡ joiner_flag b)
+      kept_by_marks_ordered reorder lawful (λ c. cgj_flag c ≡ cgj_flag b)
       (λ start end c rising within marks so_far. flag-run_settled start end c rising within marks ∙ so_far) b refl
 
 -- where no joiner was seen, none is shown
-joiners_unseen : (b : Buffer) → has_seen_joiner b ≡ false → joiners_settled b ≡ b
-joiners_unseen b unseen = cond-false _ (record b { items = joiners_shown b.items }) b unseen
+cgj_unseen : (b : Buffer) → has_seen_cgj b ≡ false → cgj_settled b ≡ b
+cgj_unseen b unseen = cond-false _ (record b { items = cgj_shown b.items }) b unseen
 
 -- ---- hidden bits
 
@@ -84,37 +89,46 @@ module _ (rules : Rules) (those : List (ℕ × Bool)) where
   parts_hide item [] = tt
   parts_hide item (c ∷ cs) = (inl refl, parts_hide item cs)
 
-  found_hide : (invisible : Option GlyphId) (item : Item) → Contains those (hidden_char item) → (found : Option (List ℕ)) → EachHides (option_map_or (map (part_item rules.unicode rules.face.nominal_glyph item)) found (whole_item rules invisible item ∷ []))
-  found_hide invisible item h None = (whole_item_is rules invisible (λ whole. Hides (hidden_char whole)) item (λ glyph. inr h) (λ glyph space. inr h), tt)
+  found_hide : (invisible : Option GlyphId) (item : Item) → Contains those (hidden_char item) → (found : Option (List ℕ))
+      → EachHides (option_map_or (map (part_item rules.unicode rules.face.nominal_glyph item)) found (whole_item rules invisible item ∷ []))
+  found_hide invisible item h None =
+      (whole_item_is rules invisible (λ whole. Hides (hidden_char whole)) item (λ glyph. inr h) (λ glyph space. inr h), tt)
   found_hide invisible item h (Some cs) = parts_hide item cs
 
   round_one_hides : (b : Buffer) → AllByRecursion (Contains those) (map hidden_char b.items) → EachHides (round_one rules b).items
   round_one_hides b each =
       let merged = (pairs_merged rules b).items in
       let of_merged = subst (AllByRecursion (Contains those)) (sym (keys-pairs_merged rules hidden_char IsKey-hidden_char b)) each in
-      expanded_all rules b.invisible_glyph b.not_found_variation_selector_glyph (λ item. Contains those (hidden_char item)) (λ item. Hides (hidden_char item))
+      expanded_all rules b.invisible_glyph b.not_found_variation_selector_glyph (λ item. Contains those (hidden_char item))
+      (λ item. Hides (hidden_char item))
       (λ item glyph h. inr h) (λ item glyph h. inr h) (λ short item h. found_hide b.invisible_glyph item h (expansion_of rules short item))
       merged (each_of_values hidden_char (Contains those) merged of_merged)
 
   module _ (lawful : LawfulReorder rules.reorder) where
-    ordered_hides : (one : Buffer) (test : Bool) → has_seen_joiner one ≡ false → EachHides one.items → EachHides (joiners_settled (if test then marks_ordered rules.reorder one else one)).items
+    ordered_hides : (one : Buffer) (test : Bool) → has_seen_cgj one ≡ false → EachHides one.items
+        → EachHides (cgj_settled (if test then marks_ordered rules.reorder one else one)).items
     ordered_hides one true unseen each =
         let marked : Buffer = marks_ordered rules.reorder one in
-        subst (λ (c : Buffer). EachHides c.items) (sym (joiners_unseen marked (ap (λ flag. flag == 8) (flag-marks_ordered rules.reorder lawful one) ∙ unseen)))
-        (each_of_values hidden_char Hides marked.items (keys-marks_ordered rules.reorder lawful hidden_char IsKey-hidden_char (λ f is item class. refl) Hides one (each_value hidden_char Hides one.items each)))
-    ordered_hides one false unseen each = subst (λ (c : Buffer). EachHides c.items) (sym (joiners_unseen one unseen)) each
+        subst (λ (c : Buffer). EachHides c.items)
+        (sym (cgj_unseen marked (ap (λ flag. flag == 8) (flag-marks_ordered rules.reorder lawful one) ∙ unseen)))
+        (each_of_values hidden_char Hides marked.items (keys-marks_ordered rules.reorder lawful hidden_char IsKey-hidden_char
+        (λ f is item ccc. refl) Hides one (each_value hidden_char Hides one.items each)))
+    ordered_hides one false unseen each = subst (λ (c : Buffer). EachHides c.items) (sym (cgj_unseen one unseen)) each
 
     recomposed_hides : (test : Bool) (c : Buffer) → EachHides c.items → EachHides (if test then round_three rules c else c).items
-    recomposed_hides true c each = round_three_all rules (λ item. Hides (hidden_char item)) (λ item cluster mask h. h) (λ item d has h. inl refl) c each
+    recomposed_hides true c each =
+        round_three_all rules (λ item. Hides (hidden_char item)) (λ item cluster mask h. h) (λ item d has h. inl refl) c each
     recomposed_hides false c each = each
 
-    normalized_hides : (b : Buffer) → has_seen_joiner (round_one rules b) ≡ false → AllByRecursion (Contains those) (map hidden_char b.items) → EachHides (normalized rules b).items
+    normalized_hides : (b : Buffer) → has_seen_cgj (round_one rules b) ≡ false → AllByRecursion (Contains those) (map hidden_char b.items)
+        → EachHides (normalized rules b).items
     normalized_hides b unseen each =
         recomposed_hides (has_mark_past_first b.items && rules.recomposes) (ordered rules b)
         (ordered_hides (round_one rules b) (has_mark_past_first b.items) unseen (round_one_hides b each))
 
 -- where no joiner was seen, hidden bits are those of characters, or of the text
-pub normalized_keeps_hidden : (rules : Rules) → LawfulReorder rules.reorder → (b new : Buffer) → new ≡ normalized rules b → KeepsHidden rules b new
+pub normalized_keeps_hidden : (rules : Rules) → LawfulReorder rules.reorder → (b new : Buffer) → new ≡ normalized rules b
+    → KeepsHidden rules b new
 normalized_keeps_hidden rules lawful b new is = λ unseen.
     let those : List (ℕ × Bool) = map hidden_char b.items in
     let all : List Item = (normalized rules b).items in

@@ -17,7 +17,7 @@ pub mod RunMarkLemmas
 pub mod SettleLemmas
 pub mod InOrderLemmas
 pub mod RunWalkLemmas
-pub mod JoinerLemmas
+pub mod CgjLemmas
 pub mod NormalizedLemmas
 pub mod SettingLemmas
 pub mod PreparedLemmas

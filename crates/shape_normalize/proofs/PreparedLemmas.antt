@@ -15,8 +15,8 @@ use Rattle.shape_buffer.proofs.KeyLemmas.{IsKey}
 use Rattle.shape_buffer.specs.Prepared.{IsPreparedItem}
 use Rattle.shape_plan.specs.Rules.{Rules}
 use Rattle.shape_normalize.specs.RoundOne.{part_item, whole_item, expansion_of, pairs_merged, round_one}
-use Rattle.shape_normalize.specs.RoundTwo.{joiners_settled}
-use Rattle.shape_normalize.proofs.JoinerLemmas.{keys-joiners_settled}
+use Rattle.shape_normalize.specs.RoundTwo.{cgj_settled}
+use Rattle.shape_normalize.proofs.CgjLemmas.{keys-cgj_settled}
 use Rattle.shape_normalize.proofs.RoundOneLemmas.{whole_item_is, expanded_all, keys-pairs_merged}
 
 -- the same by recursion on the list, for proofs that go along it
@@ -31,77 +31,88 @@ module _ (unicode : UnicodeMeaning) (lawful : LawfulUnicode unicode) where
         | inr low ↦ let below : c < 128 = grind (arith, nat_tests) in absurd (both_ways _ (lawful.ascii_is_no_mark c below) mark)
       ]
 
-  pub unmarked_class : (c : ℕ) → is_mark unicode c ≡ false → unicode.class c ≡ 0
-  unmarked_class c no_mark =
-      elim (cases_eq (unicode.class c) 0) [
+  pub unmarked_ccc : (c : ℕ) → is_mark unicode c ≡ false → unicode.ccc c ≡ 0
+  unmarked_ccc c no_mark =
+      elim (cases_eq (unicode.ccc c) 0) [
         | inl none ↦ none
-        | inr some ↦ absurd (both_ways _ no_mark (lawful.marks_have_classes c some))
+        | inr some ↦ absurd (both_ways _ no_mark (lawful.marks_have_ccc c some))
       ]
 
-  class_with_props : (c : ℕ) → (if beyond_ascii c && is_mark unicode c then unicode.class c else 0) ≡ unicode.class c
-  class_with_props c =
+  ccc_with_props : (c : ℕ) → (if beyond_ascii c && is_mark unicode c then unicode.ccc c else 0) ≡ unicode.ccc c
+  ccc_with_props c =
       elim (cases_Bool (is_mark unicode c)) [
-        | inl mark ↦ cond-true _ (unicode.class c) 0 (and_from _ _ (beyond c mark) mark)
-        | inr no_mark ↦ ap (λ t. if t then unicode.class c else 0) (ap (λ t. beyond_ascii c && t) no_mark ∙ and_right (beyond_ascii c) false refl) ∙ sym (unmarked_class c no_mark)
+        | inl mark ↦ cond-true _ (unicode.ccc c) 0 (and_from _ _ (beyond c mark) mark)
+        | inr no_mark ↦ ap (λ t. if t then unicode.ccc c else 0)
+            (ap (λ t. beyond_ascii c && t) no_mark ∙ and_right (beyond_ascii c) false refl) ∙ sym (unmarked_ccc c no_mark)
       ]
 
   -- an item that takes the properties of its character is prepared
   pub prepared-with_props : (item : Item) → IsPreparedItem unicode (with_unicode_props unicode item)
-  prepared-with_props item = record { mark = refl; class = class_with_props item.codepoint }
+  prepared-with_props item = record { mark = refl; ccc = ccc_with_props item.codepoint }
 
--- what being prepared goes by: the character, the class and the category
+-- what being prepared goes by: the character, the ccc and the category
 abbrev pub PreparedKey : Type 0
 PreparedKey = ℕ × (ℕ × hb_unicode_general_category_t)
 
 abbrev pub prepared_key : Item → PreparedKey
-prepared_key item = (item.codepoint, (item.properties.modified_class, item.properties.general_category))
+prepared_key item = (item.codepoint, (item.properties.modified_ccc, item.properties.general_category))
 
 pub IsKey-prepared_key : IsKey prepared_key
 IsKey-prepared_key = record { by_cluster = λ item cluster. refl; by_break = λ item. refl }
 
 abbrev pub IsPreparedKey : UnicodeMeaning → PreparedKey → Type 0
-IsPreparedKey unicode key = (is_mark_category key.1.1 ≡ is_mark unicode key.0) × (key.1.0 ≡ unicode.class key.0)
+IsPreparedKey unicode key = (is_mark_category key.1.1 ≡ is_mark unicode key.0) × (key.1.0 ≡ unicode.ccc key.0)
 
 pub chars_of_keys : (items : List Item) → map (λ (key : PreparedKey). key.0) (map prepared_key items) ≡ map char_of items
 chars_of_keys [] = refl
 chars_of_keys (item ∷ items) = ap (λ l. item.codepoint ∷ l) (chars_of_keys items)
 
-pub prepared_keys : (unicode : UnicodeMeaning) (items : List Item) → ArePrepared unicode items → AllByRecursion (IsPreparedKey unicode) (map prepared_key items)
+pub prepared_keys : (unicode : UnicodeMeaning) (items : List Item) → ArePrepared unicode items
+    → AllByRecursion (IsPreparedKey unicode) (map prepared_key items)
 prepared_keys unicode [] h = tt
-prepared_keys unicode (item ∷ items) h = ((h.0.mark, h.0.class), prepared_keys unicode items h.1)
+prepared_keys unicode (item ∷ items) h = ((h.0.mark, h.0.ccc), prepared_keys unicode items h.1)
 
-pub prepared_from_keys : (unicode : UnicodeMeaning) (items : List Item) → AllByRecursion (IsPreparedKey unicode) (map prepared_key items) → ArePrepared unicode items
+pub prepared_from_keys : (unicode : UnicodeMeaning) (items : List Item) → AllByRecursion (IsPreparedKey unicode) (map prepared_key items)
+    → ArePrepared unicode items
 prepared_from_keys unicode [] h = tt
-prepared_from_keys unicode (item ∷ items) h = (record { mark = h.0.0; class = h.0.1 }, prepared_from_keys unicode items h.1)
+prepared_from_keys unicode (item ∷ items) h = (record { mark = h.0.0; ccc = h.0.1 }, prepared_from_keys unicode items h.1)
 
 -- what keeps these keys keeps a list prepared
-pub prepared_by_keys : (unicode : UnicodeMeaning) (old new : List Item) → map prepared_key new ≡ map prepared_key old → ArePrepared unicode old → ArePrepared unicode new
-prepared_by_keys unicode old new same h = prepared_from_keys unicode new (subst (AllByRecursion (IsPreparedKey unicode)) (sym same) (prepared_keys unicode old h))
+pub prepared_by_keys : (unicode : UnicodeMeaning) (old new : List Item) → map prepared_key new ≡ map prepared_key old
+    → ArePrepared unicode old → ArePrepared unicode new
+prepared_by_keys unicode old new same h =
+    prepared_from_keys unicode new (subst (AllByRecursion (IsPreparedKey unicode)) (sym same) (prepared_keys unicode old h))
 
 -- so does showing joiners
-pub prepared-joiners_settled : (unicode : UnicodeMeaning) (b : Buffer) → ArePrepared unicode b.items → ArePrepared unicode (joiners_settled b).items
-prepared-joiners_settled unicode b h = prepared_by_keys unicode b.items (joiners_settled b).items (keys-joiners_settled prepared_key (λ item. refl) b) h
+pub prepared-cgj_settled : (unicode : UnicodeMeaning) (b : Buffer) → ArePrepared unicode b.items → ArePrepared unicode (cgj_settled b).items
+prepared-cgj_settled unicode b h = prepared_by_keys unicode b.items (cgj_settled b).items (keys-cgj_settled prepared_key (λ item. refl) b) h
 
 module _ (rules : Rules) (lawful : LawfulUnicode rules.unicode) where
   -- an item of an expansion is prepared, and so is one that is recomposed
   pub prepared-part : (item : Item) (c : ℕ) → IsPreparedItem rules.unicode (part_item rules.unicode rules.face.nominal_glyph item c)
-  prepared-part item c = record { mark = refl; class = class_with_props rules.unicode lawful c }
+  prepared-part item c = record { mark = refl; ccc = ccc_with_props rules.unicode lawful c }
 
   prepared-parts : (item : Item) (cs : List ℕ) → ArePrepared rules.unicode (map (part_item rules.unicode rules.face.nominal_glyph item) cs)
   prepared-parts item [] = tt
   prepared-parts item (c ∷ cs) = (prepared-part item c, prepared-parts item cs)
 
-  prepared-found : (invisible : Option GlyphId) (item : Item) (found : Option (List ℕ)) → IsPreparedItem rules.unicode item → ArePrepared rules.unicode (option_map_or (map (part_item rules.unicode rules.face.nominal_glyph item)) found (whole_item rules invisible item ∷ []))
-  prepared-found invisible item None h =
-      (whole_item_is rules invisible (IsPreparedItem rules.unicode) item (λ glyph. record { mark = h.mark; class = h.class }) (λ glyph space. record { mark = h.mark; class = h.class }), tt)
+  prepared-found : (invisible : Option GlyphId) (item : Item) (found : Option (List ℕ)) → IsPreparedItem rules.unicode item
+      → ArePrepared rules.unicode (option_map_or (map (part_item rules.unicode rules.face.nominal_glyph item)) found
+      (whole_item rules invisible item ∷ []))
+  prepared-found invisible item None h = (
+    whole_item_is rules invisible (IsPreparedItem rules.unicode) item (λ glyph. record { mark = h.mark; ccc = h.ccc })
+        (λ glyph space. record { mark = h.mark; ccc = h.ccc }),
+    tt,
+  )
   prepared-found invisible item (Some cs) h = prepared-parts item cs
 
   -- round one keeps a list prepared
   pub prepared-round_one : (b : Buffer) → ArePrepared rules.unicode b.items → ArePrepared rules.unicode (round_one rules b).items
   prepared-round_one b h =
-      expanded_all rules b.invisible_glyph b.not_found_variation_selector_glyph (IsPreparedItem rules.unicode) (IsPreparedItem rules.unicode)
-      (λ item glyph prepared. record { mark = prepared.mark; class = prepared.class })
-      (λ item glyph prepared. record { mark = prepared.mark; class = prepared.class })
+      expanded_all rules b.invisible_glyph b.not_found_variation_selector_glyph (IsPreparedItem rules.unicode)
+      (IsPreparedItem rules.unicode)
+      (λ item glyph prepared. record { mark = prepared.mark; ccc = prepared.ccc })
+      (λ item glyph prepared. record { mark = prepared.mark; ccc = prepared.ccc })
       (λ short item prepared. prepared-found b.invisible_glyph item (expansion_of rules short item) prepared)
       (pairs_merged rules b).items
       (prepared_by_keys rules.unicode b.items (pairs_merged rules b).items (keys-pairs_merged rules prepared_key IsKey-prepared_key b) h)

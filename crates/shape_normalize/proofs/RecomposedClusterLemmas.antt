@@ -18,45 +18,54 @@ use Rattle.shape_buffer.proofs.KeyLemmas.{length-merge_out}
 use Rattle.canonical_form.proofs.OptionLemmas.{cases_Option}
 use Rattle.canonical_form.proofs.RecomposeLemmas.{composed-some, recomposed_from-some, recomposed_from-starter, recomposed_from-mark}
 use Rattle.shape_plan.specs.Rules.{Rules}
-use Rattle.shape_normalize.specs.RoundThree.{Placed, placed, class_of_placed, is_mark_placed, join_placed, recomposed_items, joined_spans, spans_merged_out, with_cluster_at, round_three}
+use Rattle.shape_normalize.specs.RoundThree.{Placed, placed, ccc_of_placed, is_mark_placed, compose_placed, recomposed_items, joined_spans, spans_merged_out, with_cluster_at, round_three}
 use Rattle.shape_normalize.proofs.RoundThreePlaceLemmas.{joined_is, IsSpan, recomposed_spans_within}
 use Rattle.shape_normalize.proofs.RoundThreeLemmas.{length-spans_merged_out}
 use Rattle.shape_normalize.proofs.DrawnLemmas.{DrawsBefore-same, draws_without}
 
 -- ---- recomposing, of anything
 
-module _ {A : Type 0} (class : A → ℕ) (blocks : List A → A → Bool) (is_mark : A → Bool) (join : A → A → Option A) where
+module _ {A : Type 0} (ccc : A → ℕ) (blocks : List A → A → Bool) (is_mark : A → Bool) (compose : A → A → Option A) where
   -- where what is joined has the number of the starter, the numbers are drawn in order
-  module _ (number : A → ℕ) (joins : (s c d : A) → join s c ≡ Some d → number d ≡ number s) where
-    recomposed_from_draws : (s : A) (ms rest : List A) → DrawsInOrder (number s ∷ map number ms ++ map number rest) (map number (recomposed_from class blocks is_mark join s ms rest))
+  module _ (number : A → ℕ) (joins : (s c d : A) → compose s c ≡ Some d → number d ≡ number s) where
+    recomposed_from_draws : (s : A) (ms rest : List A)
+        → DrawsInOrder (number s ∷ map number ms ++ map number rest) (map number (recomposed_from ccc blocks is_mark compose s ms rest))
     recomposed_from_draws s ms [] = rw (append-nil (map number ms)) (DrawsInOrder-same (number s ∷ map number ms))
     recomposed_from_draws s ms (c ∷ rest) =
-        elim (cases_Option (composed class blocks is_mark join s ms c)) [
+        elim (cases_Option (composed ccc blocks is_mark compose s ms c)) [
           | inr (d, found) ↦
-              let same = joins s c d (composed-some class blocks is_mark join s ms c d found).1 in
-              rw (recomposed_from-some class blocks is_mark join s ms c rest d found)
+              let same = joins s c d (composed-some ccc blocks is_mark compose s ms c d found).1 in
+              rw (recomposed_from-some ccc blocks is_mark compose s ms c rest d found)
               (DrawsInOrder-then _ _ _ (draws_without (number s ∷ map number ms) (number c) (map number rest))
-              (subst (λ n. DrawsInOrder (n ∷ map number ms ++ map number rest) (map number (recomposed_from class blocks is_mark join d ms rest))) same (recomposed_from_draws d ms rest)))
+              (subst (λ n. DrawsInOrder (n ∷ map number ms ++ map number rest)
+              (map number (recomposed_from ccc blocks is_mark compose d ms rest))) same (recomposed_from_draws d ms rest)))
           | inl none ↦
-              elim (cases_Bool (class c == 0)) [
+              elim (cases_Bool (ccc c == 0)) [
                 | inl start ↦
-                    rw (recomposed_from-starter class blocks is_mark join s ms c rest none start, map-append number ms (recomposed_from class blocks is_mark join c [] rest))
+                    rw (
+                      recomposed_from-starter ccc blocks is_mark compose s ms c rest none start,
+                      map-append number ms
+                          (recomposed_from ccc blocks is_mark compose c [] rest),
+                    )
                     (DrawsBefore-same (number s ∷ map number ms) _ _ (recomposed_from_draws c [] rest))
                 | inr mark ↦
-                    rw (recomposed_from-mark class blocks is_mark join s ms c rest none mark)
-                    (subst (λ l. DrawsInOrder (number s ∷ l) (map number (recomposed_from class blocks is_mark join s (ms ++ c ∷ []) rest)))
-                    (ap (λ l. l ++ map number rest) (map-append number ms (c ∷ [])) ∙ append_assoc (map number ms) (number c ∷ []) (map number rest))
+                    rw (recomposed_from-mark ccc blocks is_mark compose s ms c rest none mark)
+                    (subst (λ l. DrawsInOrder (number s ∷ l)
+                    (map number (recomposed_from ccc blocks is_mark compose s (ms ++ c ∷ []) rest)))
+                    (ap (λ l. l ++ map number rest) (map-append number ms (c ∷ []))
+                    ∙ append_assoc (map number ms) (number c ∷ []) (map number rest))
                     (recomposed_from_draws s (ms ++ c ∷ []) rest))
               ]
         ]
 
-    pub recomposed_draws : (xs : List A) → DrawsInOrder (map number xs) (map number (recomposed class blocks is_mark join xs))
+    pub recomposed_draws : (xs : List A) → DrawsInOrder (map number xs) (map number (recomposed ccc blocks is_mark compose xs))
     recomposed_draws [] = DrawsInOrder-same []
     recomposed_draws (x ∷ xs) = recomposed_from_draws x [] xs
 
 -- ---- the spans of compositions
 
-spans_merged_out_keep : (n : ℕ) (spans : List (ℕ × ℕ)) (b : Buffer) → length b.items ≡ n → AllByRecursion (IsSpan n) spans → KeepsClusters (clusters b.items) (clusters (spans_merged_out spans b).items)
+spans_merged_out_keep : (n : ℕ) (spans : List (ℕ × ℕ)) (b : Buffer) → length b.items ≡ n → AllByRecursion (IsSpan n) spans
+    → KeepsClusters (clusters b.items) (clusters (spans_merged_out spans b).items)
 spans_merged_out_keep n [] b as_many within = KeepsClusters-same (clusters b.items)
 spans_merged_out_keep n (span ∷ spans) b as_many within =
     let merged = merge_out_clusters span.0 span.1 b in
@@ -68,23 +77,29 @@ spans_merged_out_keep n (span ∷ spans) b as_many within =
 abbrev cluster_at_place : List ℕ → Placed → ℕ
 cluster_at_place cs p = get_or cs p.place p.item.cluster
 
-clusters-put_out : (items : List Item) (out : List Placed) → clusters (map (with_cluster_at items) out) ≡ map (cluster_at_place (clusters items)) out
+clusters-put_out : (items : List Item) (out : List Placed)
+    → clusters (map (with_cluster_at items) out) ≡ map (cluster_at_place (clusters items)) out
 clusters-put_out items [] = refl
-clusters-put_out items (p ∷ out) = ap₂ ◌∷◌ (sym (get_or-map (λ (item : Item). item.cluster) items p.place p.item)) (clusters-put_out items out)
+clusters-put_out items (p ∷ out) =
+    ap₂ ◌∷◌ (sym (get_or-map (λ (item : Item). item.cluster) items p.place p.item)) (clusters-put_out items out)
 
-clusters-placed : (cs : List ℕ) (place : ℕ) (items : List Item) → length cs ≡ place + length items → map (cluster_at_place cs) (placed place items) ≡ drop place cs
+clusters-placed : (cs : List ℕ) (place : ℕ) (items : List Item) → length cs ≡ place + length items
+    → map (cluster_at_place cs) (placed place items) ≡ drop place cs
 clusters-placed cs place [] as_many = sym (drop_all place cs (omega arith))
 clusters-placed cs place (item ∷ items) as_many =
-    ap (λ l. get_or cs place item.cluster ∷ l) (clusters-placed cs (suc place) items (omega arith)) ∙ sym (drop-cons cs place item.cluster (omega arith))
+    ap (λ l. get_or cs place item.cluster ∷ l) (clusters-placed cs (suc place) items (omega arith))
+    ∙ sym (drop-cons cs place item.cluster (omega arith))
 
 module _ (rules : Rules) where
-  put_out_draws : (items merged : List Item) → length merged ≡ length items → DrawsInOrder (clusters merged) (clusters (map (with_cluster_at merged) (recomposed_items rules items)))
+  put_out_draws : (items merged : List Item) → length merged ≡ length items
+      → DrawsInOrder (clusters merged) (clusters (map (with_cluster_at merged) (recomposed_items rules items)))
   put_out_draws items merged as_many =
       let cs = clusters merged in
-      let begins : map (cluster_at_place cs) (placed 0 items) ≡ cs = clusters-placed cs 0 items (omega (arith, length-map merged (λ (item : Item). item.cluster))) in
+      let begins : map (cluster_at_place cs) (placed 0 items)
+      ≡ cs = clusters-placed cs 0 items (omega (arith, length-map merged (λ (item : Item). item.cluster))) in
       rw (clusters-put_out merged (recomposed_items rules items))
       (subst (λ l. DrawsInOrder l (map (cluster_at_place cs) (recomposed_items rules items))) begins
-      (recomposed_draws class_of_placed (is_blocked_by_last class_of_placed) is_mark_placed (join_placed rules) (cluster_at_place cs)
+      (recomposed_draws ccc_of_placed (is_blocked_by_last ccc_of_placed) is_mark_placed (compose_placed rules) (cluster_at_place cs)
       (λ starter mark made is. ap (cluster_at_place cs) (joined_is rules starter mark made is).2) (placed 0 items)))
 
   -- recomposing keeps the order of clusters, and brings no new one
@@ -93,5 +108,6 @@ module _ (rules : Rules) where
       let out = recomposed_items rules b.items in
       let merged = spans_merged_out (joined_spans out) b in
       KeepsClusters-then _ _ _
-      (spans_merged_out_keep (length b.items) (joined_spans out) b refl (recursion_from_All (IsSpan (length b.items)) (joined_spans out) (recomposed_spans_within rules b.items)))
+      (spans_merged_out_keep (length b.items) (joined_spans out) b refl
+      (recursion_from_All (IsSpan (length b.items)) (joined_spans out) (recomposed_spans_within rules b.items)))
       (KeepsClusters-from_draws _ _ (put_out_draws b.items merged.items (length-spans_merged_out (joined_spans out) b)))

@@ -1,46 +1,55 @@
--- Sequences: what holds of a list holds of its parts, and an item stands in a sequence with marks exactly where it stands in a cluster of the list.
+-- Sequences: what holds of a list holds of its parts, and an item stands in a sequence with marks exactly where it stands in a cluster of
+-- the list.
 use Rattle.std.proofs.Common.{◌≡◌, Bool, true, false, if◌then◌else◌, ◌&&◌, ◌||◌, List, [], ◌∷◌, ◌++◌, map, flat_map, refl, sym, ap, ap₂, ◌∙◌, inl, inr, append_assoc, append-nil}
 use Rattle.std.proofs.lemmas.Bool.{cases_Bool, and_right, or_right}
 use Rattle.std.specs.List.{AllByRecursion}
 use Rattle.canonical_form.proofs.EveryLemmas.{append_all}
 use Rattle.canonical_form.specs.Divided.{put_first, divided}
-use Rattle.canonical_form.specs.Expanded.{begins_with_mark, expanded_from, expanded_in_clusters}
+use Rattle.canonical_form.specs.Expanded.{begins_with_mark, expanded_from, expanded_in_sequences}
 use Rattle.shape_buffer.specs.Items.{Item, is_mark_item}
 use Rattle.shape_normalize.specs.RoundOne.{sequences, is_with_marks}
 
 -- what holds of all that each item becomes holds of all that the list becomes
-pub flat_map_all : {A B : Type 0} (P : A → Type 0) (Q : B → Type 0) (become : A → List B) → ((x : A) → P x → AllByRecursion Q (become x)) → (items : List A) → AllByRecursion P items → AllByRecursion Q (flat_map become items)
+pub flat_map_all : {A B : Type 0} (P : A → Type 0) (Q : B → Type 0) (become : A → List B) → ((x : A) → P x → AllByRecursion Q (become x))
+    → (items : List A) → AllByRecursion P items → AllByRecursion Q (flat_map become items)
 flat_map_all P Q become keeps [] each = tt
-flat_map_all P Q become keeps (x ∷ items) each = append_all Q (become x) (flat_map become items) (keeps x each.0) (flat_map_all P Q become keeps items each.1)
+flat_map_all P Q become keeps (x ∷ items) each =
+    append_all Q (become x) (flat_map become items) (keeps x each.0) (flat_map_all P Q become keeps items each.1)
 
 -- items that become alike make lists that become alike
-pub flat_map_same : {A B : Type 0} (f g : A → List B) (items : List A) → AllByRecursion (λ x. f x ≡ g x) items → flat_map f items ≡ flat_map g items
+pub flat_map_same : {A B : Type 0} (f g : A → List B) (items : List A) → AllByRecursion (λ x. f x ≡ g x) items
+    → flat_map f items ≡ flat_map g items
 flat_map_same f g [] same = refl
 flat_map_same f g (x ∷ items) same = ap₂ ◌++◌ same.0 (flat_map_same f g items same.1)
 
 -- what holds of each of some values holds of the items that they are values of, and the other way round
-pub each_of_values : {A B : Type 0} (f : A → B) (P : B → Type 0) (items : List A) → AllByRecursion P (map f items) → AllByRecursion (λ x. P (f x)) items
+pub each_of_values : {A B : Type 0} (f : A → B) (P : B → Type 0) (items : List A) → AllByRecursion P (map f items)
+    → AllByRecursion (λ x. P (f x)) items
 each_of_values f P [] each = tt
 each_of_values f P (x ∷ items) each = (each.0, each_of_values f P items each.1)
 
-pub each_value : {A B : Type 0} (f : A → B) (P : B → Type 0) (items : List A) → AllByRecursion (λ x. P (f x)) items → AllByRecursion P (map f items)
+pub each_value : {A B : Type 0} (f : A → B) (P : B → Type 0) (items : List A) → AllByRecursion (λ x. P (f x)) items
+    → AllByRecursion P (map f items)
 each_value f P [] each = tt
 each_value f P (x ∷ items) each = (each.0, each_value f P items each.1)
 
 -- what holds where something else does, item by item
-pub each_weaker : {A : Type 0} (P Q : A → Type 0) → ((x : A) → P x → Q x) → (items : List A) → AllByRecursion P items → AllByRecursion Q items
+pub each_weaker : {A : Type 0} (P Q : A → Type 0) → ((x : A) → P x → Q x) → (items : List A) → AllByRecursion P items
+    → AllByRecursion Q items
 each_weaker P Q weaker [] each = tt
 each_weaker P Q weaker (x ∷ items) each = (weaker x each.0, each_weaker P Q weaker items each.1)
 
 module _ {A : Type 0} (belongs : A → Bool) where
-  pub divided-joins : (x y : A) (rest : List A) → belongs y ≡ true → divided belongs (x ∷ y ∷ rest) ≡ put_first x (divided belongs (y ∷ rest))
+  pub divided-joins : (x y : A) (rest : List A) → belongs y ≡ true
+      → divided belongs (x ∷ y ∷ rest) ≡ put_first x (divided belongs (y ∷ rest))
   divided-joins x y rest joins = rw joins refl
 
   pub divided-parts : (x y : A) (rest : List A) → belongs y ≡ false → divided belongs (x ∷ y ∷ rest) ≡ (x ∷ []) ∷ divided belongs (y ∷ rest)
   divided-parts x y rest parts = rw parts refl
 
   -- a list that isn't empty begins with a part that begins with its first item
-  pub divided-begins : (x : A) (rest : List A) → (part : List A) × (parts : List (List A)) × (divided belongs (x ∷ rest) ≡ (x ∷ part) ∷ parts)
+  pub divided-begins : (x : A) (rest : List A)
+      → (part : List A) × (parts : List (List A)) × (divided belongs (x ∷ rest) ≡ (x ∷ part) ∷ parts)
   divided-begins x [] = ([], [], refl)
   divided-begins x (y ∷ rest) =
       elim (cases_Bool (belongs y)) [
@@ -50,7 +59,8 @@ module _ {A : Type 0} (belongs : A → Bool) where
 
   -- what holds of each item of a list holds of each item of its parts
   module _ (P : A → Type 0) where
-    put_first_all : (x : A) (parts : List (List A)) → P x → AllByRecursion (AllByRecursion P) parts → AllByRecursion (AllByRecursion P) (put_first x parts)
+    put_first_all : (x : A) (parts : List (List A)) → P x → AllByRecursion (AllByRecursion P) parts
+        → AllByRecursion (AllByRecursion P) (put_first x parts)
     put_first_all x [] here each = ((here, tt), tt)
     put_first_all x (part ∷ parts) here each = ((here, each.0), each.1)
 
@@ -58,14 +68,18 @@ module _ {A : Type 0} (belongs : A → Bool) where
     each_part [] each = tt
     each_part (x ∷ []) each = ((each.0, tt), tt)
     each_part (x ∷ y ∷ rest) each =
-        elim (belongs y) as (λ t. AllByRecursion (AllByRecursion P) (if t then put_first x (divided belongs (y ∷ rest)) else (x ∷ []) ∷ divided belongs (y ∷ rest))) [
+        elim (belongs y) as (λ t. AllByRecursion (AllByRecursion P)
+        (if t then put_first x (divided belongs (y ∷ rest)) else (x ∷ []) ∷ divided belongs (y ∷ rest))) [
           | true ↦ put_first_all x (divided belongs (y ∷ rest)) each.0 (each_part (y ∷ rest) each.1)
           | false ↦ ((each.0, tt), each_part (y ∷ rest) each.1)
         ]
 
   -- what holds of all that each part becomes holds of all that the list becomes
-  pub flat_map_parts_all : {B : Type 0} (P : A → Type 0) (Q : B → Type 0) (become : List A → List B) → ((part : List A) → AllByRecursion P part → AllByRecursion Q (become part)) → (items : List A) → AllByRecursion P items → AllByRecursion Q (flat_map become (divided belongs items))
-  flat_map_parts_all P Q become keeps items each = flat_map_all (λ part. AllByRecursion P part) Q become keeps (divided belongs items) (each_part P items each)
+  pub flat_map_parts_all : {B : Type 0} (P : A → Type 0) (Q : B → Type 0) (become : List A → List B)
+      → ((part : List A) → AllByRecursion P part → AllByRecursion Q (become part)) → (items : List A) → AllByRecursion P items
+      → AllByRecursion Q (flat_map become (divided belongs items))
+  flat_map_parts_all P Q become keeps items each =
+      flat_map_all (λ part. AllByRecursion P part) Q become keeps (divided belongs items) (each_part P items each)
 
 -- ---- clusters
 
@@ -87,16 +101,20 @@ module _ {B : Type 0} (become : Bool → Item → List B) where
   behind-put_first x (part ∷ parts) = append_assoc (become true x) (flat_map (become true) part) (flat_map sequence_becomes parts)
 
   -- in a sequence of two items or more each is with marks
-  sequence-put_first : (x y : Item) (part : List Item) (parts : List (List Item)) → flat_map sequence_becomes (put_first x ((y ∷ part) ∷ parts)) ≡ become true x ++ behind_becomes ((y ∷ part) ∷ parts)
+  sequence-put_first : (x y : Item) (part : List Item) (parts : List (List Item))
+      → flat_map sequence_becomes (put_first x ((y ∷ part) ∷ parts)) ≡ become true x ++ behind_becomes ((y ∷ part) ∷ parts)
   sequence-put_first x y part parts = append_assoc (become true x) (flat_map (become true) (y ∷ part)) (flat_map sequence_becomes parts)
 
   -- an item that is no mark counts as the first or not alike
   first_or_not : (x : Item) (rest : List Item) → is_mark_item x ≡ false → from true (x ∷ rest) ≡ from false (x ∷ rest)
   first_or_not x rest unmarked =
       let after = begins_with_mark is_mark_item rest in
-      ap (λ t. become ((t && false) || after) x ++ from false rest) unmarked ∙ sym (ap (λ t. become ((t && true) || after) x ++ from false rest) unmarked)
+      ap (λ t. become ((t && false) || after) x ++ from false rest) unmarked
+      ∙ sym (ap (λ t. become ((t && true) || after) x ++ from false rest) unmarked)
 
-  by_sequences : (x : Item) (rest : List Item) → (flat_map sequence_becomes (sequences (x ∷ rest)) ≡ from true (x ∷ rest)) × (is_mark_item x ≡ true → behind_becomes (sequences (x ∷ rest)) ≡ from false (x ∷ rest))
+  by_sequences : (x : Item) (rest : List Item)
+      → (flat_map sequence_becomes (sequences (x ∷ rest)) ≡ from true (x ∷ rest))
+      × (is_mark_item x ≡ true → behind_becomes (sequences (x ∷ rest)) ≡ from false (x ∷ rest))
   by_sequences x [] = (
     append-nil (become false x ++ []) ∙ ap (λ t. become (t || false) x ++ []) (sym (and_right (is_mark_item x) false refl)),
     λ mark. append-nil (become true x ++ []) ∙ ap (λ t. become ((t && true) || false) x ++ []) (sym mark),
@@ -130,6 +148,7 @@ module _ {B : Type 0} (become : Bool → Item → List B) where
       ]
 
   -- each item stands in a sequence with marks exactly where it stands in a cluster
-  pub sequences-expanded : (items : List Item) → flat_map sequence_becomes (sequences items) ≡ expanded_in_clusters is_mark_item become items
+  pub sequences-expanded : (items : List Item)
+      → flat_map sequence_becomes (sequences items) ≡ expanded_in_sequences is_mark_item become items
   sequences-expanded [] = refl
   sequences-expanded (x ∷ rest) = (by_sequences x rest).0

@@ -6,7 +6,7 @@ use Rattle.canonical_form.specs.Equivalent.{IsEquivalent, IsCanonical, ComposesS
 use Rattle.canonical_form.specs.Expanded.{begins_with_mark}
 use Rattle.shape_buffer.specs.Items.{char_of, is_mark_item}
 use Rattle.canonical_form.specs.Laws.{IsWhollySupported}
-use Rattle.canonical_form.specs.Recompose.{is_blocked, join_with_glyph, recomposed}
+use Rattle.canonical_form.specs.Recompose.{is_blocked, compose_with_glyph, recomposed}
 use Rattle.canonical_form.specs.Runs.{HasNoLongerRun}
 use Rattle.shape_buffer.specs.Unicode.{is_mark}
 use Rattle.canonical_form.specs.SplitsFall.{SplitsFall}
@@ -20,18 +20,18 @@ use Rattle.shape_plan.specs.Rules.{Rules, has_glyph}
 abbrev pub text_of : Buffer → List ℕ
 text_of b = map char_of b.items
 
--- two texts are canonically equivalent, by the split in use and Unicode's classes
+-- two texts are canonically equivalent, by the split in use and Unicode's ccc
 abbrev pub AreEquivalent : Rules → List ℕ → List ℕ → Type 0
-AreEquivalent rules s t = IsEquivalent rules.split rules.height rules.unicode.class s t
+AreEquivalent rules s t = IsEquivalent rules.split rules.height rules.unicode.ccc s t
 
 -- a text has canonical form: none of its characters splits, and its marks are in order
 abbrev pub HasCanonicalForm : Rules → List ℕ → Type 0
-HasCanonicalForm rules text = IsCanonical rules.split rules.unicode.class text
+HasCanonicalForm rules text = IsCanonical rules.split rules.unicode.ccc text
 
 -- the hooks are lawful: their splits fall as Unicode's do, and in the modes that compose what they compose is equivalent to its parts
 pub record HasLawfulHooks (rules : Rules) : Type 0 where
-  pub splits : SplitsFall rules.split rules.height rules.unicode.class
-  pub joins : rules.recomposes ≡ true → ComposesSoundly rules.split rules.height rules.unicode.class rules.join
+  pub splits : SplitsFall rules.split rules.height rules.unicode.ccc
+  pub joins : rules.recomposes ≡ true → ComposesSoundly rules.split rules.height rules.unicode.ccc rules.compose
 
 -- no character of a text is a variation selector
 abbrev pub HasNoSelector : Rules → List ℕ → Type 0
@@ -39,7 +39,7 @@ HasNoSelector rules text = All (λ c. rules.unicode.selector c ≡ false) text
 
 -- a text has a glyph for each character of its Full, and no run of more than 32 marks in it
 abbrev pub IsSupported : Rules → List ℕ → Type 0
-IsSupported rules text = IsWhollySupported rules.split rules.height rules.unicode.class (has_glyph rules.face.nominal_glyph) max_run text
+IsSupported rules text = IsWhollySupported rules.split rules.height rules.unicode.ccc (has_glyph rules.face.nominal_glyph) max_run text
 
 -- what equivalence asks of a shaper and a text: lawful hooks, no variation selector, and no hook that reorders
 pub record TextPremises (rules : Rules) (text : List ℕ) : Type 0 where
@@ -47,16 +47,17 @@ pub record TextPremises (rules : Rules) (text : List ℕ) : Type 0 where
   pub no_selector : HasNoSelector rules text
   pub no_reordering : rules.reorder ≡ None
 
--- what it asks of a buffer: that, and that each item's mark and class are those of its character
+-- what it asks of a buffer: that, and that each item's mark and ccc are those of its character
 pub record EquivalencePremises (rules : Rules) (b : Buffer) : Type 0 where
   pub text : TextPremises rules (text_of b)
   pub prepared : IsPrepared rules.unicode b.items
 
 -- what it asks of the expanded list: no run of more than 32 marks, in the modes that compose
 abbrev pub ComposesShortRuns : Rules → Buffer → Type 0
-ComposesShortRuns rules expanded = rules.recomposes ≡ true → HasNoLongerRun rules.unicode.class max_run (text_of expanded)
+ComposesShortRuns rules expanded = rules.recomposes ≡ true → HasNoLongerRun rules.unicode.ccc max_run (text_of expanded)
 
--- what canonical form asks of a text in place of the last: a mode that decomposes fully, glyphs for all of Full, runs that are short enough, and a mark past the first character
+-- what canonical form asks of a text in place of the last: a mode that decomposes fully, glyphs for all of Full, runs that are short
+-- enough, and a mark past the first character
 pub record CanonicalTextPremises (rules : Rules) (text : List ℕ) : Type 0 where
   pub decomposes_fully : (with_marks : Bool) → rules.short with_marks ≡ false
   pub supported : IsSupported rules text
@@ -68,7 +69,9 @@ pub record CanonicalFormPremises (rules : Rules) (b : Buffer) : Type 0 where
 
 -- a text recomposed: marks join the starter before them where the composed character has a glyph
 abbrev pub recomposed_text : Rules → List ℕ → List ℕ
-recomposed_text rules text = recomposed rules.unicode.class (is_blocked rules.unicode.class) (is_mark rules.unicode) (join_with_glyph rules.join (has_glyph rules.face.nominal_glyph)) text
+recomposed_text rules text =
+    recomposed rules.unicode.ccc (is_blocked rules.unicode.ccc) (is_mark rules.unicode)
+    (compose_with_glyph rules.compose (has_glyph rules.face.nominal_glyph)) text
 
 -- the recomposed form of a text: that of an equivalent text in canonical form, of which there is one
 pub record IsRecomposedForm (rules : Rules) (text new : List ℕ) : Type 0 where
@@ -77,13 +80,15 @@ pub record IsRecomposedForm (rules : Rules) (text new : List ℕ) : Type 0 where
   pub equivalent : AreEquivalent rules text canonical
   pub is : new ≡ recomposed_text rules canonical
 
--- a text whose normalised characters go by its characters alone: its items are prepared, there are no variation selectors and no hook that reorders
+-- a text whose normalised characters go by its characters alone: its items are prepared, there are no variation selectors and no hook that
+-- reorders
 pub record PlainPremises (rules : Rules) (b : Buffer) : Type 0 where
   pub prepared : IsPrepared rules.unicode b.items
   pub no_selector : HasNoSelector rules (text_of b)
   pub no_reordering : rules.reorder ≡ None
 
--- what is asked of a text that is cut in two, whose parts may have clusters and masks of their own: all three are plain, the second part and its expanded list begin with no mark, and each part has a mark past its first item
+-- what is asked of a text that is cut in two, whose parts may have clusters and masks of their own: all three are plain, the second part
+-- and its expanded list begin with no mark, and each part has a mark past its first item
 pub record CutPremises (rules : Rules) (old front back : Buffer) : Type 0 where
   pub parts : text_of old ≡ text_of front ++ text_of back
   pub plain : PlainPremises rules old
@@ -94,11 +99,16 @@ pub record CutPremises (rules : Rules) (old front back : Buffer) : Type 0 where
   pub front_marked : has_mark_past_first front.items ≡ true
   pub back_marked : has_mark_past_first back.items ≡ true
 
--- normalising leads from the one text to an equivalent one, which is canonical or recomposed of a canonical one, and the same for equivalent texts alone; it goes by characters alone, and may be done part by part
+-- normalising leads from the one text to an equivalent one, which is canonical or recomposed of a canonical one, and the same for
+-- equivalent texts alone; it goes by characters alone, and may be done part by part
 pub record NormalizesCanonically (rules : Rules) (old new : Buffer) : Type 0 where
-  pub equivalent : EquivalencePremises rules old → ComposesShortRuns rules (round_one rules old) → AreEquivalent rules (text_of old) (text_of new)
+  pub equivalent : EquivalencePremises rules old → ComposesShortRuns rules (round_one rules old)
+      → AreEquivalent rules (text_of old) (text_of new)
   pub canonical : rules.recomposes ≡ false → CanonicalFormPremises rules old → HasCanonicalForm rules (text_of new)
   pub recomposed : rules.recomposes ≡ true → CanonicalFormPremises rules old → IsRecomposedForm rules (text_of old) (text_of new)
-  pub decides : (other : Buffer) → CanonicalFormPremises rules old → CanonicalFormPremises rules other → (text_of new ≡ text_of (normalized rules other)) ↔ AreEquivalent rules (text_of old) (text_of other)
-  pub by_characters : (other : Buffer) → PlainPremises rules old → PlainPremises rules other → text_of old ≡ text_of other → text_of new ≡ text_of (normalized rules other)
-  pub cuts : (front back : Buffer) → CutPremises rules old front back → text_of new ≡ text_of (normalized rules front) ++ text_of (normalized rules back)
+  pub decides : (other : Buffer) → CanonicalFormPremises rules old → CanonicalFormPremises rules other
+      → (text_of new ≡ text_of (normalized rules other)) ↔ AreEquivalent rules (text_of old) (text_of other)
+  pub by_characters : (other : Buffer) → PlainPremises rules old → PlainPremises rules other → text_of old ≡ text_of other
+      → text_of new ≡ text_of (normalized rules other)
+  pub cuts : (front back : Buffer) → CutPremises rules old front back
+      → text_of new ≡ text_of (normalized rules front) ++ text_of (normalized rules back)

@@ -4,7 +4,7 @@ use Rattle.std.specs.Int.RustNames.{bit_and}
 use Rattle.shape_buffer.specs.Buffer.{Buffer}
 use Rattle.shape_buffer.specs.Clusters.{clusters}
 use Rattle.shape_buffer.specs.ClusterOrder.{KeepsClusters, IsMonotoneLevel}
-use Rattle.shape_buffer.specs.Items.{Item, class_of_item, feature_bits}
+use Rattle.shape_buffer.specs.Items.{Item, ccc_of_item, feature_bits}
 use Rattle.shape_buffer.specs.UnicodeProps.{is_hidden_char}
 use Rattle.shape_buffer.specs.declared.buffer.settings.GlyphId.{GlyphId}
 use Rattle.canonical_form.specs.Runs.{HasNoLongerRun}
@@ -12,13 +12,15 @@ use Rattle.shape_plan.specs.Reorder.{IsRunInOrder}
 use Rattle.shape_plan.specs.Rules.{Rules, has_glyph}
 use Rattle.shape_normalize.specs.RoundOne.{round_one, item_glyph, sequences, sequence_items, is_selector_sequence, pairs_merged}
 use Rattle.shape_normalize.specs.RoundThree.{recomposed_by_all, round_three}
-use Rattle.shape_normalize.specs.RoundTwo.{max_run, has_mark_past_first, marks_ordered, joiners_settled, OrdersMarks}
+use Rattle.shape_normalize.specs.RoundTwo.{max_run, has_mark_past_first, marks_ordered, cgj_settled, OrdersMarks}
+use Rattle.shape_buffer.specs.FlagNames.{HAS_CGJ}
 
--- the buffer with its expanded list, with its marks in order where a mark stood past the first item as normalising began, and with joiners shown that keep nothing apart
+-- the buffer with its expanded list, with its marks in order where a mark stood past the first item as normalising began, and with joiners
+-- shown that keep nothing apart
 abbrev pub ordered : Rules → Buffer → Buffer
 ordered rules b =
     let expanded = round_one rules b in
-    joiners_settled (if has_mark_past_first b.items then marks_ordered rules.reorder expanded else expanded)
+    cgj_settled (if has_mark_past_first b.items then marks_ordered rules.reorder expanded else expanded)
 
 -- the buffer with its normalised list: the ordered one, recomposed in the modes that compose, where a mark stood past the first item
 abbrev pub normalized : Rules → Buffer → Buffer
@@ -28,45 +30,54 @@ normalized rules b = if has_mark_past_first b.items && rules.recomposes then rou
 abbrev pub BroughtInHaveGlyphs : (ℕ → Option GlyphId) → List ℕ → List ℕ → Type 0
 BroughtInHaveGlyphs glyph before after = All (λ c. (has_glyph glyph c ≡ true) ⊎ Contains before c) after
 
--- the reorder hook keeps clusters at the monotone levels, where one is given: each of its calls, over a run in order, keeps their order and brings no new one
+-- the reorder hook keeps clusters at the monotone levels, where one is given: each of its calls, over a run in order, keeps their order and
+-- brings no new one
 abbrev pub HookKeepsClusters : Rules → Type 0
 HookKeepsClusters rules =
     (reorder : Buffer → ℕ → ℕ → Buffer) → rules.reorder ≡ Some reorder
-    → (b : Buffer) (start end : ℕ) → IsMonotoneLevel b.cluster_level → IsRunInOrder b.items start end → KeepsClusters (clusters b.items) (clusters (reorder b start end).items)
+    → (b : Buffer) (start end : ℕ) → IsMonotoneLevel b.cluster_level → IsRunInOrder b.items start end
+    → KeepsClusters (clusters b.items) (clusters (reorder b start end).items)
 
 -- what the sequences that hold a variation selector become in round one
 abbrev pub selector_items : Rules → Buffer → List Item
 selector_items rules b =
-    flat_map (sequence_items rules b.invisible_glyph b.not_found_variation_selector_glyph) (filter (is_selector_sequence rules.unicode) (sequences (pairs_merged rules b).items))
+    flat_map (sequence_items rules b.invisible_glyph b.not_found_variation_selector_glyph)
+    (filter (is_selector_sequence rules.unicode) (sequences (pairs_merged rules b).items))
 
--- an item but for its cluster, its mask, its hidden bit and the glyph that its index becomes, which later steps change, and its class where a reorder hook is given, which may set that
+-- an item but for its cluster, its mask, its hidden bit and the glyph that its index becomes, which later steps change, and its ccc where a
+-- reorder hook is given, which may set that
 abbrev pub content : Rules → Item → Item
 content rules item = record item {
   cluster = 0;
   mask = 0;
   glyph_id = 0;
-  properties = record item.properties { hidden = false; modified_class = if is_some rules.reorder then 0 else class_of_item item };
+  properties = record item.properties { hidden = false; modified_ccc = if is_some rules.reorder then 0 else ccc_of_item item };
 }
 
 -- each item has the glyph of its character, or what stands in for it, but for those that come of sequences with a variation selector
 abbrev pub HasItemGlyph : Rules → Buffer → Item → Type 0
 HasItemGlyph rules old item =
-    (item.glyph_index ≡ item_glyph rules old.invisible_glyph item) ⊎ Contains (map (content rules) (selector_items rules old)) (content rules item)
+    (item.glyph_index ≡ item_glyph rules old.invisible_glyph item)
+    ⊎ Contains (map (content rules) (selector_items rules old)) (content rules item)
 
--- the marks of the expanded list were put in order: swaps reach the ordered list, in which each run of at most 32 is in canonical order; in the modes that don't compose it is the new list
+-- the marks of the expanded list were put in order: swaps reach the ordered list, in which each run of at most 32 is in canonical order; in
+-- the modes that don't compose it is the new list
 pub record OrdersExpanded (rules : Rules) (old new : Buffer) : Type 0 where
-  pub ordered_list : has_mark_past_first old.items ≡ true → rules.reorder ≡ None → OrdersMarks (round_one rules old).items (ordered rules old).items
-  pub new_list : has_mark_past_first old.items ≡ true → rules.reorder ≡ None → rules.recomposes ≡ false → OrdersMarks (round_one rules old).items new.items
+  pub ordered_list : has_mark_past_first old.items ≡ true → rules.reorder ≡ None
+      → OrdersMarks (round_one rules old).items (ordered rules old).items
+  pub new_list : has_mark_past_first old.items ≡ true → rules.reorder ≡ None → rules.recomposes ≡ false
+      → OrdersMarks (round_one rules old).items new.items
 
 -- an item but for its cluster and its mask
 abbrev pub without_cluster : Item → Item
 without_cluster item = record item { cluster = 0; mask = 0 }
 
--- no run of more than 32 marks stands in a list, by its items' classes
+-- no run of more than 32 marks stands in a list, by its items' ccc
 abbrev pub HasShortRuns : List Item → Type 0
-HasShortRuns items = HasNoLongerRun (λ class. class) max_run (map class_of_item items)
+HasShortRuns items = HasNoLongerRun (λ ccc. ccc) max_run (map ccc_of_item items)
 
--- in the modes that compose, without a reorder hook and without a run of more than 32, the new list is the ordered one, recomposed by the rule of the standard
+-- in the modes that compose, without a reorder hook and without a run of more than 32, the new list is the ordered one, recomposed by the
+-- rule of the standard
 abbrev pub RecomposesByAll : Rules → Buffer → Buffer → Type 0
 RecomposesByAll rules old new =
     has_mark_past_first old.items ≡ true → rules.recomposes ≡ true → rules.reorder ≡ None → HasShortRuns (round_one rules old).items
@@ -80,16 +91,18 @@ features_of item = feature_bits item.mask
 abbrev pub KeepsFeatures : Buffer → Buffer → Type 0
 KeepsFeatures old new = All (λ item. Contains (map features_of old.items) (features_of item)) new.items
 
--- whether the run has seen a joiner (scratch flag 8)
-abbrev pub has_seen_joiner : Buffer → Bool
-has_seen_joiner b = bit_and b.scratch_flags.0 8 == 8
+-- whether the run has seen a joiner
+abbrev pub has_seen_cgj : Buffer → Bool
+has_seen_cgj b = bit_and b.scratch_flags.0 HAS_CGJ == HAS_CGJ
 
 -- an item's character and whether it is hidden
 abbrev pub hidden_char : Item → ℕ × Bool
 hidden_char item = (item.codepoint, item.properties.hidden)
 
--- where no joiner was seen by the end of round one, each item's hidden bit is that of its character, or the item has the character and the hidden bit of one of the text
+-- where no joiner was seen by the end of round one, each item's hidden bit is that of its character, or the item has the character and the
+-- hidden bit of one of the text
 abbrev pub KeepsHidden : Rules → Buffer → Buffer → Type 0
 KeepsHidden rules old new =
-    has_seen_joiner (round_one rules old) ≡ false
-    → All (λ item. (item.properties.hidden ≡ is_hidden_char item.codepoint) ⊎ Contains (map hidden_char old.items) (hidden_char item)) new.items
+    has_seen_cgj (round_one rules old) ≡ false
+    → All (λ item. (item.properties.hidden ≡ is_hidden_char item.codepoint)
+    ⊎ Contains (map hidden_char old.items) (hidden_char item)) new.items

@@ -3,25 +3,29 @@ use Rattle.std.specs.Prelude.{◌≡◌, ◌⊎◌, ℕ, ◌<◌, map, take, dro
 use Rattle.std.specs.Int.RustNames.{bit_or}
 use Rattle.std.specs.List.Sorted.{IsPermutation}
 use Rattle.shape_buffer.specs.Buffer.{Buffer}
-use Rattle.shape_buffer.specs.Items.{Item, class_of_item, feature_bits}
+use Rattle.shape_buffer.specs.Items.{Item, ccc_of_item, feature_bits}
 use Rattle.shape_buffer.specs.KeepsFlags.{KeepsFlags}
 use Rattle.shape_buffer.specs.declared.buffer.settings.BufferClusterLevel.TheVariants.{Characters}
-use Rattle.shape_plan.specs.Reorder.{with_class}
+use Rattle.shape_plan.specs.Reorder.{with_ccc}
+use Rattle.shape_buffer.specs.FlagNames.{HAS_GLYPH_FLAGS}
 
 -- an item but for its cluster and its defined flags, which merging changes
 abbrev pub unmerged : Item → Item
 unmerged item = record item { cluster = 0; mask = feature_bits item.mask }
 
--- and but for its class, which the hook may set
+-- and but for its ccc, which the hook may set
 abbrev pub unclassed : Item → Item
-unclassed item = with_class 0 (unmerged item)
+unclassed item = with_ccc 0 (unmerged item)
 
--- a run in another order: its items are permuted, but for clusters, defined flags and classes, which stay nonzero; before and behind it all stays but clusters and defined flags; and of the buffer nothing else changes but the scratch flag "has glyph flags" (32), which may come at level CHARACTERS
+-- a run in another order: its items are permuted, but for clusters, defined flags and ccc, which stay nonzero; before and behind it all
+-- stays but clusters and defined flags; and of the buffer nothing else changes but the scratch flag "has glyph flags" (32), which may come
+-- at level CHARACTERS
 pub record ReordersRun (start end : ℕ) (old new : Buffer) : Type 0 where
   pub run : IsPermutation (map unclassed (slice_range old.items start end)) (map unclassed (slice_range new.items start end))
-  pub marks : All (λ item. 0 < class_of_item item) (slice_range new.items start end)
+  pub marks : All (λ item. 0 < ccc_of_item item) (slice_range new.items start end)
   pub before : map unmerged (take start new.items) ≡ map unmerged (take start old.items)
   pub behind : map unmerged (drop end new.items) ≡ map unmerged (drop end old.items)
-  pub scratch : (new.scratch_flags.0 ≡ old.scratch_flags.0) ⊎ ((old.cluster_level ≡ Characters) × (new.scratch_flags.0 ≡ bit_or old.scratch_flags.0 32))
+  pub scratch : (new.scratch_flags.0 ≡ old.scratch_flags.0)
+      ⊎ ((old.cluster_level ≡ Characters) × (new.scratch_flags.0 ≡ bit_or old.scratch_flags.0 HAS_GLYPH_FLAGS))
   pub flags : KeepsFlags old new
   pub rest : record new { items = old.items; scratch_flags = old.scratch_flags } ≡ old

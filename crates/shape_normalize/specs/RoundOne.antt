@@ -1,4 +1,5 @@
--- Round one of normalising: each item becomes the items of its character's expansion, or takes a glyph with the variation selector behind it.
+-- Round one of normalising: each item becomes the items of its character's expansion, or takes a glyph with the variation selector behind
+-- it.
 use Rattle.std.specs.Prelude.{ℕ, ◌+◌, ◌==◌, ◌&&◌, not, Bool, true, false, if◌then◌else◌, List, [], ◌∷◌, ◌++◌, map, fold, replicate, length, Option, None, Some, is_some, unwrap_or}
 use Rattle.std.specs.Option.{option_map, option_map_or, option_or}
 use Rattle.std.specs.List.{flat_map, list_any}
@@ -16,6 +17,7 @@ use Rattle.shape_buffer.specs.UnicodeProps.{with_unicode_props, with_scratch_of}
 use Rattle.shape_buffer.specs.declared.buffer.flags.ScratchFlags.{ScratchFlags}
 use Rattle.shape_buffer.specs.declared.buffer.settings.GlyphId.{GlyphId}
 use Rattle.shape_plan.specs.Rules.{Rules, has_glyph}
+use Rattle.shape_buffer.specs.FlagNames.{HAS_SPACE_FALLBACK, HAS_VARIATION_SELECTOR_FALLBACK}
 
 -- ---- the glyph of an item
 
@@ -30,7 +32,8 @@ space_glyph rules invisible = option_or (rules.face.nominal_glyph 0x20) invisibl
 -- a space separator, by its own category, of a fallback type, where there is a glyph to stand in for it
 abbrev pub is_fallback_space : Rules → Option GlyphId → Item → Bool
 is_fallback_space rules invisible item =
-    is_space_category item.properties.general_category && not (rules.unicode.space_fallback item.codepoint == 0) && is_some (space_glyph rules invisible)
+    is_space_category item.properties.general_category && not (rules.unicode.space_fallback item.codepoint == 0)
+    && is_some (space_glyph rules invisible)
 
 -- the glyph of an item whose character has none: of a fallback space that of a space, of U+2011 that of U+2010, else 0
 abbrev pub fallback_index : Rules → Option GlyphId → Item → ℕ
@@ -61,13 +64,15 @@ remembers_space rules invisible item = not (has_glyph rules.face.nominal_glyph i
 abbrev pub whole_item : Rules → Option GlyphId → Item → Item
 whole_item rules invisible item =
     let kept : Item = record item { glyph_index = item_glyph rules invisible item } in
-    if remembers_space rules invisible item then record kept { properties = record kept.properties { space_type = rules.unicode.space_fallback item.codepoint } }
+    if remembers_space rules invisible item
+    then record kept { properties = record kept.properties { space_type = rules.unicode.space_fallback item.codepoint } }
     else kept
 
 -- what an item becomes: the items of its expansion, itself where none is supported
 abbrev pub expanded_item : Rules → Option GlyphId → Bool → Item → List Item
 expanded_item rules invisible short item =
-    option_map_or (map (part_item rules.unicode rules.face.nominal_glyph item)) (expansion_of rules short item) (whole_item rules invisible item ∷ [])
+    option_map_or (map (part_item rules.unicode rules.face.nominal_glyph item)) (expansion_of rules short item)
+    (whole_item rules invisible item ∷ [])
 
 -- the scratch flags once the characters of a list were seen
 abbrev pub seen_chars : UnicodeMeaning → ScratchFlags → List ℕ → ScratchFlags
@@ -75,7 +80,7 @@ seen_chars unicode flags chars = fold (λ flags c. with_scratch_of unicode c fla
 
 -- scratch flags with "has space fallback"
 abbrev pub with_space_fallback : ScratchFlags → ScratchFlags
-with_space_fallback flags = record { 0 = bit_or flags.0 4 }
+with_space_fallback flags = record { 0 = bit_or flags.0 HAS_SPACE_FALLBACK }
 
 -- the scratch flags once an item was expanded: its parts were seen, or its fallback type was remembered
 abbrev pub seen_expanded : Rules → Option GlyphId → Bool → ScratchFlags → Item → ScratchFlags
@@ -114,12 +119,13 @@ variant_items face not_found (x ∷ v ∷ rest) =
 
 -- scratch flags with "has variation selector fallback"
 abbrev pub with_selector_fallback : ScratchFlags → ScratchFlags
-with_selector_fallback flags = record { 0 = bit_or flags.0 16 }
+with_selector_fallback flags = record { 0 = bit_or flags.0 HAS_VARIATION_SELECTOR_FALLBACK }
 
 abbrev pub seen_variant : FaceMeaning → ScratchFlags → List Item → ScratchFlags
 seen_variant face flags [] = flags
 seen_variant face flags (x ∷ []) = flags
-seen_variant face flags (x ∷ v ∷ rest) = if is_some (face.variation_glyph x.codepoint v.codepoint) then flags else with_selector_fallback flags
+seen_variant face flags (x ∷ v ∷ rest) =
+    if is_some (face.variation_glyph x.codepoint v.codepoint) then flags else with_selector_fallback flags
 
 -- a sequence in parts: each item that is no selector, and the first of all, with the selectors directly after it
 abbrev pub variants : UnicodeMeaning → List Item → List (List Item)
@@ -178,7 +184,8 @@ seen_sequence rules invisible flags sequence =
     if is_selector_sequence rules.unicode sequence then fold (seen_variant rules.face) flags (variants rules.unicode sequence)
     else fold (seen_expanded rules invisible (rules.short (is_with_marks sequence))) flags sequence
 
--- two items that become one are merged first, from left to right; that this is done before the walk changes nothing, since the selector that goes is next to its item and in one cluster with it, so that a merge grows over both or neither
+-- two items that become one are merged first, from left to right; that this is done before the walk changes nothing, since the selector
+-- that goes is next to its item and in one cluster with it, so that a merge grows over both or neither
 abbrev pub pairs_merged : Rules → Buffer → Buffer
 pairs_merged rules b = merged_at b (pairs_from rules.unicode rules.face 0 (sequences b.items))
 

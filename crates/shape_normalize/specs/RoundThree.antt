@@ -2,11 +2,11 @@
 use Rattle.std.specs.Prelude.{ℕ, suc, ◌+◌, ◌&&◌, not, if◌then◌else◌, Bool, List, [], ◌∷◌, ◌++◌, map, fold, replicate, length, get_or, Option, None}
 use Rattle.std.specs.Option.{option_map}
 use Rattle.std.specs.List.{flat_map}
-use Rattle.shape_buffer.specs.Items.{Item, class_of_item, is_mark_item}
+use Rattle.shape_buffer.specs.Items.{Item, ccc_of_item, is_mark_item}
 use Rattle.shape_buffer.specs.Positions.{zero_position}
 use Rattle.shape_buffer.specs.Buffer.{Buffer}
 use Rattle.shape_buffer.specs.BufferClusters.{merge_out_clusters}
-use Rattle.canonical_form.specs.Recompose.{is_blocked, is_blocked_by_last, join_with_glyph, recomposed}
+use Rattle.canonical_form.specs.Recompose.{is_blocked, is_blocked_by_last, compose_with_glyph, recomposed}
 use Rattle.shape_plan.specs.Rules.{Rules, has_glyph}
 use Rattle.shape_normalize.specs.declared.ot_shape_normalize.round_three.PlacedInfo.{PlacedInfo}
 use Rattle.shape_normalize.specs.RoundOne.{part_item, seen_chars}
@@ -27,28 +27,30 @@ abbrev pub placed : ℕ → List Item → List Placed
 placed place [] = []
 placed place (item ∷ items) = record { item = item; place = place; joined = [] } ∷ placed (suc place) items
 
-abbrev pub class_of_placed : Placed → ℕ
-class_of_placed p = class_of_item p.item
+abbrev pub ccc_of_placed : Placed → ℕ
+ccc_of_placed p = ccc_of_item p.item
 
 abbrev pub is_mark_placed : Placed → Bool
 is_mark_placed p = is_mark_item p.item
 
 -- the starter with the character that it makes with a mark, where that has a glyph
-abbrev pub join_placed : Rules → Placed → Placed → Option Placed
-join_placed rules starter mark =
+abbrev pub compose_placed : Rules → Placed → Placed → Option Placed
+compose_placed rules starter mark =
     option_map (λ c. record {
       item = part_item rules.unicode rules.face.nominal_glyph starter.item c;
       place = starter.place;
       joined = starter.joined ++ record { place = mark.place; char = c } ∷ [];
-    }) (join_with_glyph rules.join (has_glyph rules.face.nominal_glyph) starter.item.codepoint mark.item.codepoint)
+    }) (compose_with_glyph rules.compose (has_glyph rules.face.nominal_glyph) starter.item.codepoint mark.item.codepoint)
 
 -- the items that are put out
 abbrev pub recomposed_items : Rules → List Item → List Placed
-recomposed_items rules items = recomposed class_of_placed (is_blocked_by_last class_of_placed) is_mark_placed (join_placed rules) (placed 0 items)
+recomposed_items rules items =
+    recomposed ccc_of_placed (is_blocked_by_last ccc_of_placed) is_mark_placed (compose_placed rules) (placed 0 items)
 
--- the items that are put out by the rule of the standard (D115): a mark is blocked by any mark between it and its starter that has class 0 or a class not less than its own
+-- the items that are put out by the rule of the standard (D115): a mark is blocked by any mark between it and its starter that has ccc 0 or
+-- a ccc not less than its own
 abbrev pub recomposed_by_all : Rules → List Item → List Placed
-recomposed_by_all rules items = recomposed class_of_placed (is_blocked class_of_placed) is_mark_placed (join_placed rules) (placed 0 items)
+recomposed_by_all rules items = recomposed ccc_of_placed (is_blocked ccc_of_placed) is_mark_placed (compose_placed rules) (placed 0 items)
 
 -- the spans from each starter to each mark that was composed with it, in order
 abbrev pub joined_spans : List Placed → List (ℕ × ℕ)
@@ -66,7 +68,8 @@ abbrev pub with_cluster_at : List Item → Placed → Item
 with_cluster_at items p = let at = get_or items p.place p.item in record p.item { cluster = at.cluster; mask = at.mask }
 
 -- round three of normalising: the buffer with its recomposed list, each span of a composition merged, at positions of zeros
--- the spans are merged while the marks that go still stand: each is in one cluster with the item before it from then on, so that a later merge grows over both or neither
+-- the spans are merged while the marks that go still stand: each is in one cluster with the item before it from then on, so that a later
+-- merge grows over both or neither
 abbrev pub round_three : Rules → Buffer → Buffer
 round_three rules b =
     let out = recomposed_items rules b.items in
@@ -84,7 +87,8 @@ abbrev pub spans_between : ℕ → List Joined → List (ℕ × ℕ)
 spans_between from [] = []
 spans_between from (mark ∷ joined) = (from, mark.place + 1) ∷ spans_between mark.place joined
 
--- the spans that the code keeps: once its first is merged a starter and its mark are in one cluster, so that the next span may begin at the mark
+-- the spans that the code keeps: once its first is merged a starter and its mark are in one cluster, so that the next span may begin at the
+-- mark
 abbrev pub chained_spans : List Placed → List (ℕ × ℕ)
 chained_spans out = flat_map (λ p. spans_between p.place p.joined) out
 
@@ -92,14 +96,14 @@ chained_spans out = flat_map (λ p. spans_between p.place p.joined) out
 abbrev pub placed_info : Placed → PlacedInfo
 placed_info p = record { info = p.item; place = p.place }
 
-abbrev pub class_of_placed_info : PlacedInfo → ℕ
-class_of_placed_info p = class_of_item p.info
+abbrev pub ccc_of_placed_info : PlacedInfo → ℕ
+ccc_of_placed_info p = ccc_of_item p.info
 
 -- the character that a starter makes with an item behind it and these marks, where the two compose
 abbrev pub composed_char : Rules → PlacedInfo → List PlacedInfo → PlacedInfo → Option ℕ
 composed_char rules starter marks next =
-    if is_mark_item next.info && not (is_blocked_by_last class_of_placed_info marks next)
-    then join_with_glyph rules.join (has_glyph rules.face.nominal_glyph) starter.info.codepoint next.info.codepoint
+    if is_mark_item next.info && not (is_blocked_by_last ccc_of_placed_info marks next)
+    then compose_with_glyph rules.compose (has_glyph rules.face.nominal_glyph) starter.info.codepoint next.info.codepoint
     else None
 
 abbrev pub settled_info : List Item → PlacedInfo → Item

@@ -92,26 +92,32 @@ glyphs_worked = record {
 
 -- an item whose properties are not those of its character
 abbrev pub odd_item : ℕ → Item
-odd_item c = let plain : Item = new_item c 3 in record plain { mask = 256; properties = record plain.properties { modified_class = 7; continuation = true; shaper_category = 5 } }
+odd_item c =
+    let plain : Item = new_item c 3 in record plain { mask = 256; properties = record plain.properties { modified_ccc = 7; continuation = true; shaper_category = 5 } }
 
--- an item's character, class and the shaper's category byte
+-- an item's character, ccc and the shaper's category byte
 abbrev pub classed : Item → ℕ × (ℕ × ℕ)
-classed one = (one.codepoint, (one.properties.modified_class, one.properties.shaper_category))
+classed one = (one.codepoint, (one.properties.modified_ccc, one.properties.shaper_category))
 
 -- what an item becomes
 pub record ItemsWorked : Type 0 where
   -- an item that keeps its character keeps its properties, but for its glyph and a remembered type
   pub kept : expanded_item (rules_in 1 (0x62 ∷ [])) None false (odd_item 0x62) ≡ record (odd_item 0x62) { glyph_index = 0x62 } ∷ []
-  pub remembered : map (λ (one : Item). one.properties.space_type) (expanded_item (rules_in 1 (0x20 ∷ [])) None false (item 0x2002 0)) ≡ 2 ∷ []
-  pub with_glyph_forgotten : map (λ (one : Item). one.properties.space_type) (expanded_item (rules_in 1 (0x2002 ∷ 0x20 ∷ [])) None false (item 0x2002 0)) ≡ 0 ∷ []
+  pub remembered : map (λ (one : Item). one.properties.space_type) (expanded_item (rules_in 1 (0x20 ∷ [])) None false (item 0x2002 0))
+      ≡ 2 ∷ []
+  pub with_glyph_forgotten : map (λ (one : Item). one.properties.space_type)
+      (expanded_item (rules_in 1 (0x2002 ∷ 0x20 ∷ [])) None false (item 0x2002 0)) ≡ 0 ∷ []
   -- the items of an expansion have their characters' properties, and keep the shaper's two bytes
-  pub parts : map classed (expanded_item (rules_in 1 (0x61 ∷ 0x301 ∷ [])) None false (odd_item 0xE1)) ≡ (0x61, (0, 5)) ∷ (0x301, (230, 5)) ∷ []
-  pub parts_place : map marked (expanded_item (rules_in 1 (0x61 ∷ 0x301 ∷ [])) None false (odd_item 0xE1)) ≡ (0x61, (3, 256)) ∷ (0x301, (3, 256)) ∷ []
+  pub parts : map classed (expanded_item (rules_in 1 (0x61 ∷ 0x301 ∷ [])) None false (odd_item 0xE1))
+      ≡ (0x61, (0, 5)) ∷ (0x301, (230, 5)) ∷ []
+  pub parts_place : map marked (expanded_item (rules_in 1 (0x61 ∷ 0x301 ∷ [])) None false (odd_item 0xE1))
+      ≡ (0x61, (3, 256)) ∷ (0x301, (3, 256)) ∷ []
   pub shortest : map glyph (expanded_item (rules_in 1 (0xE1 ∷ 0x61 ∷ 0x301 ∷ [])) None true (item 0xE1 0)) ≡ (0xE1, 0xE1) ∷ []
   pub half_supported : map glyph (expanded_item (rules_in 1 (0x61 ∷ [])) None false (item 0xE1 0)) ≡ (0xE1, 0) ∷ []
 
 items_worked : ItemsWorked
-items_worked = record { kept = refl; remembered = refl; with_glyph_forgotten = refl; parts = refl; parts_place = refl; shortest = refl; half_supported = refl }
+items_worked =
+    record { kept = refl; remembered = refl; with_glyph_forgotten = refl; parts = refl; parts_place = refl; shortest = refl; half_supported = refl }
 
 -- an item that had a glyph index before
 abbrev pub indexed : ℕ → ℕ → Item
@@ -119,17 +125,21 @@ indexed c index = let plain : Item = item c 0 in record plain { glyph_index = in
 
 -- sequences, and those that hold a variation selector
 pub record SequencesWorked : Type 0 where
-  pub one_mark : map (map at) (sequences (item 0x61 0 ∷ item 0x301 1 ∷ item 0x62 2 ∷ [])) ≡ ((0x61, 0) ∷ (0x301, 1) ∷ []) ∷ ((0x62, 2) ∷ []) ∷ []
+  pub one_mark : map (map at) (sequences (item 0x61 0 ∷ item 0x301 1 ∷ item 0x62 2 ∷ []))
+      ≡ ((0x61, 0) ∷ (0x301, 1) ∷ []) ∷ ((0x62, 2) ∷ []) ∷ []
   -- leading marks are a sequence too
   pub leading : map (map at) (sequences (item 0x344 0 ∷ item 0x323 1 ∷ [])) ≡ ((0x344, 0) ∷ (0x323, 1) ∷ []) ∷ []
-  pub leading_expands : map at (round_one (rules_in 2 (0x344 ∷ 0x308 ∷ 0x301 ∷ 0x323 ∷ [])) (buffer_of (item 0x344 0 ∷ item 0x323 1 ∷ []))).items ≡ (0x308, 0) ∷ (0x301, 0) ∷ (0x323, 1) ∷ []
-  pub alone_stays : map at (round_one (rules_in 2 (0x344 ∷ 0x308 ∷ 0x301 ∷ [])) (buffer_of (item 0x344 0 ∷ item 0x62 1 ∷ []))).items ≡ (0x344, 0) ∷ (0x62, 1) ∷ []
+  pub leading_expands : map at (round_one (rules_in 2 (0x344 ∷ 0x308 ∷ 0x301 ∷ 0x323 ∷ []))
+      (buffer_of (item 0x344 0 ∷ item 0x323 1 ∷ []))).items ≡ (0x308, 0) ∷ (0x301, 0) ∷ (0x323, 1) ∷ []
+  pub alone_stays : map at (round_one (rules_in 2 (0x344 ∷ 0x308 ∷ 0x301 ∷ [])) (buffer_of (item 0x344 0 ∷ item 0x62 1 ∷ []))).items
+      ≡ (0x344, 0) ∷ (0x62, 1) ∷ []
   pub selector_second : is_selector_sequence world (item 0x61 0 ∷ item 0xFE00 0 ∷ []) ≡ true
   pub selector_third : is_selector_sequence world (item 0x61 0 ∷ item 0x301 0 ∷ item 0xFE00 0 ∷ []) ≡ true
   pub selector_first : is_selector_sequence world (item 0xFE00 0 ∷ item 0x301 0 ∷ []) ≡ true
   pub selector_alone : is_selector_sequence world (item 0xFE00 0 ∷ []) ≡ false
   pub no_selector : is_selector_sequence world (item 0x61 0 ∷ item 0x301 0 ∷ []) ≡ false
-  pub not_decomposed : map at (round_one (rules_in 1 (0x61 ∷ 0x301 ∷ [])) (buffer_of (item 0xE1 0 ∷ item 0x301 1 ∷ item 0xFE00 2 ∷ []))).items ≡ (0xE1, 0) ∷ (0x301, 1) ∷ (0xFE00, 2) ∷ []
+  pub not_decomposed : map at (round_one (rules_in 1 (0x61 ∷ 0x301 ∷ []))
+      (buffer_of (item 0xE1 0 ∷ item 0x301 1 ∷ item 0xFE00 2 ∷ []))).items ≡ (0xE1, 0) ∷ (0x301, 1) ∷ (0xFE00, 2) ∷ []
 
 sequences_worked : SequencesWorked
 sequences_worked = record {
@@ -154,16 +164,23 @@ pub record VariantsWorked : Type 0 where
   pub passes_with_glyph : glyph (passed_item (face_of (0x62 ∷ [])).nominal_glyph (indexed 0x62 5)) ≡ (0x62, 0x62)
   -- without a glyph an item keeps the index that it had
   pub passes_without : glyph (passed_item (face_of []).nominal_glyph (indexed 0x62 5)) ≡ (0x62, 5)
-  pub pair : map glyph (variant_items (face_of (0xFE00 ∷ [])) None (item 0x61 0 ∷ item 0xFE00 1 ∷ item 0xFE00 2 ∷ [])) ≡ (0x61, 7) ∷ (0xFE00, 0xFE00) ∷ []
+  pub pair : map glyph (variant_items (face_of (0xFE00 ∷ [])) None (item 0x61 0 ∷ item 0xFE00 1 ∷ item 0xFE00 2 ∷ []))
+      ≡ (0x61, 7) ∷ (0xFE00, 0xFE00) ∷ []
   pub no_pair : map glyph (variant_items (face_of (0x61 ∷ [])) None (item 0x61 0 ∷ item 0xFE00 1 ∷ [])) ≡ (0x61, 0x61) ∷ (0xFE00, 0) ∷ []
-  pub marks_selector : map selects (variant_items (face_of []) None (item 0x62 0 ∷ item 0xFE00 1 ∷ item 0xFE00 2 ∷ [])) ≡ (false, false) ∷ (true, true) ∷ (false, true) ∷ []
-  pub ignorable_goes : map selects (variant_items (face_of []) (Some (record { 0 = 4 })) (item 0x62 0 ∷ item 0xFE00 1 ∷ [])) ≡ (false, false) ∷ (true, false) ∷ []
+  pub marks_selector : map selects (variant_items (face_of []) None (item 0x62 0 ∷ item 0xFE00 1 ∷ item 0xFE00 2 ∷ []))
+      ≡ (false, false) ∷ (true, true) ∷ (false, true) ∷ []
+  pub ignorable_goes : map selects (variant_items (face_of []) (Some (record { 0 = 4 })) (item 0x62 0 ∷ item 0xFE00 1 ∷ []))
+      ≡ (false, false) ∷ (true, false) ∷ []
   -- two items that become one are merged first
-  pub pair_merged : map at (round_one (rules_in 1 (0x61 ∷ 0xFE00 ∷ [])) (buffer_of (item 0x61 1 ∷ item 0xFE00 0 ∷ []))).items ≡ (0x61, 0) ∷ []
-  pub pair_merged_left : map at (round_one (rules_in 1 (0x62 ∷ 0x61 ∷ 0xFE00 ∷ [])) (buffer_of (item 0x62 1 ∷ item 0x61 1 ∷ item 0xFE00 0 ∷ []))).items ≡ (0x62, 0) ∷ (0x61, 0) ∷ []
-  pub apart : map at (pairs_merged (rules_in 1 (0x61 ∷ [])) (buffer_of (item 0x61 1 ∷ item 0xFE00 0 ∷ []))).items ≡ (0x61, 1) ∷ (0xFE00, 0) ∷ []
+  pub pair_merged : map at (round_one (rules_in 1 (0x61 ∷ 0xFE00 ∷ [])) (buffer_of (item 0x61 1 ∷ item 0xFE00 0 ∷ []))).items
+      ≡ (0x61, 0) ∷ []
+  pub pair_merged_left : map at (round_one (rules_in 1 (0x62 ∷ 0x61 ∷ 0xFE00 ∷ []))
+      (buffer_of (item 0x62 1 ∷ item 0x61 1 ∷ item 0xFE00 0 ∷ []))).items ≡ (0x62, 0) ∷ (0x61, 0) ∷ []
+  pub apart : map at (pairs_merged (rules_in 1 (0x61 ∷ [])) (buffer_of (item 0x61 1 ∷ item 0xFE00 0 ∷ []))).items
+      ≡ (0x61, 1) ∷ (0xFE00, 0) ∷ []
   -- at level CHARACTERS they are marked instead
-  pub pair_marked : map marked (pairs_merged (rules_in 1 (0x61 ∷ 0xFE00 ∷ [])) (record (buffer_of (item 0x61 1 ∷ item 0xFE00 0 ∷ [])) { cluster_level = Characters })).items ≡ (0x61, (1, 3)) ∷ (0xFE00, (0, 0)) ∷ []
+  pub pair_marked : map marked (pairs_merged (rules_in 1 (0x61 ∷ 0xFE00 ∷ []))
+      (record (buffer_of (item 0x61 1 ∷ item 0xFE00 0 ∷ [])) { cluster_level = Characters })).items ≡ (0x61, (1, 3)) ∷ (0xFE00, (0, 0)) ∷ []
 
 variants_worked : VariantsWorked
 unfolding merge
@@ -180,7 +197,8 @@ variants_worked = record {
   pair_marked = refl;
 }
 
--- the scratch flags of round one: past ASCII (1), a default ignorable (2), a fallback space (4), U+034F (8), a selector that no glyph came of (16)
+-- the scratch flags of round one: past ASCII (1), a default ignorable (2), a fallback space (4), U+034F (8), a selector that no glyph came
+-- of (16)
 pub record ScratchOneWorked : Type 0 where
   pub expanded : (round_one (rules_in 1 (0x61 ∷ 0x301 ∷ [])) (buffer_of (item 0xE1 0 ∷ []))).scratch_flags.0 ≡ 1
   pub kept : (round_one (rules_in 1 (0xE1 ∷ [])) (buffer_of (item 0xE1 0 ∷ []))).scratch_flags.0 ≡ 0

@@ -17,49 +17,65 @@ recomposed_chars chars items = map (λ (p : Placed). p.item.codepoint) (recompos
 pub record ComposedWorked : Type 0 where
   pub next : recomposed_chars all_chars (item 0x61 0 ∷ item 0x301 1 ∷ []) ≡ 0xE1 ∷ []
   pub without_glyph : recomposed_chars (0x61 ∷ 0x301 ∷ []) (item 0x61 0 ∷ item 0x301 1 ∷ []) ≡ 0x61 ∷ 0x301 ∷ []
-  -- past a mark of a smaller class
-  pub past_smaller : recomposed_chars (0x61 ∷ 0xE1 ∷ 0x301 ∷ 0x323 ∷ []) (item 0x61 0 ∷ item 0x323 1 ∷ item 0x301 2 ∷ []) ≡ 0xE1 ∷ 0x323 ∷ []
-  -- not past one of the same class
-  pub past_same : recomposed_chars (0x61 ∷ 0xE1 ∷ 0x301 ∷ 0x308 ∷ []) (item 0x61 0 ∷ item 0x308 1 ∷ item 0x301 2 ∷ []) ≡ 0x61 ∷ 0x308 ∷ 0x301 ∷ []
-  -- the first item is a starter, whatever its class
+  -- past a mark of a smaller ccc
+  pub past_smaller : recomposed_chars (0x61 ∷ 0xE1 ∷ 0x301 ∷ 0x323 ∷ []) (item 0x61 0 ∷ item 0x323 1 ∷ item 0x301 2 ∷ [])
+      ≡ 0xE1 ∷ 0x323 ∷ []
+  -- not past one of the same ccc
+  pub past_same : recomposed_chars (0x61 ∷ 0xE1 ∷ 0x301 ∷ 0x308 ∷ []) (item 0x61 0 ∷ item 0x308 1 ∷ item 0x301 2 ∷ [])
+      ≡ 0x61 ∷ 0x308 ∷ 0x301 ∷ []
+  -- the first item is a starter, whatever its ccc
   pub first_mark : recomposed_chars all_chars (item 0x308 0 ∷ item 0x301 1 ∷ []) ≡ 0x344 ∷ []
-  -- a mark of class 0 right behind its starter composes, and one behind a mark of class 0 doesn't
-  pub class_0 : recomposed_chars all_chars (item 0x61 0 ∷ item 0x20DD 1 ∷ []) ≡ 0xE001 ∷ []
-  pub class_0_begins_anew : recomposed_chars (0x61 ∷ 0xE1 ∷ 0x301 ∷ 0x20DD ∷ []) (item 0x61 0 ∷ item 0x20DD 1 ∷ item 0x301 2 ∷ []) ≡ 0x61 ∷ 0x20DD ∷ 0x301 ∷ []
+  -- a mark of ccc 0 right behind its starter composes, and one behind a mark of ccc 0 doesn't
+  pub ccc_0 : recomposed_chars all_chars (item 0x61 0 ∷ item 0x20DD 1 ∷ []) ≡ 0xE001 ∷ []
+  pub ccc_0_begins_anew : recomposed_chars (0x61 ∷ 0xE1 ∷ 0x301 ∷ 0x20DD ∷ []) (item 0x61 0 ∷ item 0x20DD 1 ∷ item 0x301 2 ∷ [])
+      ≡ 0x61 ∷ 0x20DD ∷ 0x301 ∷ []
   -- a letter is no mark, and is the starter from then on
   pub new_starter : recomposed_chars all_chars (item 0x62 0 ∷ item 0x61 1 ∷ item 0x301 2 ∷ []) ≡ 0x62 ∷ 0xE1 ∷ []
 
 composed_worked : ComposedWorked
-composed_worked = record { next = refl; without_glyph = refl; past_smaller = refl; past_same = refl; first_mark = refl; class_0 = refl; class_0_begins_anew = refl; new_starter = refl }
+composed_worked =
+    record { next = refl; without_glyph = refl; past_smaller = refl; past_same = refl; first_mark = refl; ccc_0 = refl; ccc_0_begins_anew = refl; new_starter = refl }
 
 -- a composed item has the properties of its character and its glyph, and keeps the mask of its starter
 pub record ComposedItemWorked : Type 0 where
-  pub category : map (λ (p : Placed). p.item.properties.general_category) (recomposed_items (rules_in 3 all_chars) (item 0x61 0 ∷ item 0x20DD 1 ∷ [])) ≡ OtherSymbol ∷ []
-  pub ignorable : map (λ (p : Placed). p.item.properties.ignorable) (recomposed_items (rules_in 3 all_chars) (item 0x61 0 ∷ item 0x20DD 1 ∷ [])) ≡ true ∷ []
-  pub class : map (λ (p : Placed). p.item.properties.modified_class) (recomposed_items (rules_in 3 all_chars) (item 0x308 0 ∷ item 0x301 1 ∷ [])) ≡ 230 ∷ []
-  pub glyph : map (λ (p : Placed). p.item.glyph_index) (recomposed_items (rules_in 3 all_chars) (item 0x61 0 ∷ item 0x301 1 ∷ [])) ≡ 0xE1 ∷ []
-  pub mask : map marked (round_three (rules_in 3 all_chars) (buffer_of (record (item 0x61 0) { mask = 256 } ∷ record (item 0x301 0) { mask = 512 } ∷ []))).items ≡ (0xE1, (0, 256)) ∷ []
+  pub category : map (λ (p : Placed). p.item.properties.general_category)
+      (recomposed_items (rules_in 3 all_chars) (item 0x61 0 ∷ item 0x20DD 1 ∷ [])) ≡ OtherSymbol ∷ []
+  pub ignorable : map (λ (p : Placed). p.item.properties.ignorable)
+      (recomposed_items (rules_in 3 all_chars) (item 0x61 0 ∷ item 0x20DD 1 ∷ [])) ≡ true ∷ []
+  pub ccc : map (λ (p : Placed). p.item.properties.modified_ccc)
+      (recomposed_items (rules_in 3 all_chars) (item 0x308 0 ∷ item 0x301 1 ∷ [])) ≡ 230 ∷ []
+  pub glyph : map (λ (p : Placed). p.item.glyph_index) (recomposed_items (rules_in 3 all_chars) (item 0x61 0 ∷ item 0x301 1 ∷ []))
+      ≡ 0xE1 ∷ []
+  pub mask : map marked (round_three (rules_in 3 all_chars)
+      (buffer_of (record (item 0x61 0) { mask = 256 } ∷ record (item 0x301 0) { mask = 512 } ∷ []))).items ≡ (0xE1, (0, 256)) ∷ []
 
 composed_item_worked : ComposedItemWorked
 unfolding merge
-composed_item_worked = record { category = refl; ignorable = refl; class = refl; glyph = refl; mask = refl }
+composed_item_worked = record { category = refl; ignorable = refl; ccc = refl; glyph = refl; mask = refl }
 
 -- clusters and flags
 pub record MergedOutWorked : Type 0 where
-  pub spans_are : joined_spans (recomposed_items (rules_in 3 (0x61 ∷ 0xE1 ∷ 0x301 ∷ 0x323 ∷ [])) (item 0x61 0 ∷ item 0x323 1 ∷ item 0x301 2 ∷ [])) ≡ (0, 3) ∷ []
-  pub merged : map at (round_three (rules_in 3 (0x61 ∷ 0xE1 ∷ 0x301 ∷ 0x323 ∷ [])) (buffer_of (item 0x61 0 ∷ item 0x323 1 ∷ item 0x301 2 ∷ []))).items ≡ (0xE1, 0) ∷ (0x323, 0) ∷ []
+  pub spans_are : joined_spans (recomposed_items (rules_in 3 (0x61 ∷ 0xE1 ∷ 0x301 ∷ 0x323 ∷ []))
+      (item 0x61 0 ∷ item 0x323 1 ∷ item 0x301 2 ∷ [])) ≡ (0, 3) ∷ []
+  pub merged : map at (round_three (rules_in 3 (0x61 ∷ 0xE1 ∷ 0x301 ∷ 0x323 ∷ []))
+      (buffer_of (item 0x61 0 ∷ item 0x323 1 ∷ item 0x301 2 ∷ []))).items ≡ (0xE1, 0) ∷ (0x323, 0) ∷ []
   -- growing right over what stands in the cluster of the mark that goes
-  pub grows_right : map at (round_three (rules_in 3 all_chars) (buffer_of (item 0x61 0 ∷ item 0x301 1 ∷ item 0x308 1 ∷ []))).items ≡ (0xE1, 0) ∷ (0x308, 0) ∷ []
+  pub grows_right : map at (round_three (rules_in 3 all_chars) (buffer_of (item 0x61 0 ∷ item 0x301 1 ∷ item 0x308 1 ∷ []))).items
+      ≡ (0xE1, 0) ∷ (0x308, 0) ∷ []
   -- at level CHARACTERS nothing is merged, and nothing is marked
-  pub at_characters : map marked (round_three (rules_in 3 all_chars) (record (buffer_of (item 0x61 1 ∷ item 0x301 0 ∷ item 0x308 2 ∷ [])) { cluster_level = Characters })).items ≡ (0xE1, (1, 0)) ∷ (0x308, (2, 0)) ∷ []
-  pub no_flags : (round_three (rules_in 3 (0x61 ∷ 0xE1 ∷ 0x301 ∷ [])) (record (buffer_of (item 0x61 1 ∷ item 0x301 0 ∷ [])) { cluster_level = Characters })).scratch_flags.0 ≡ 1
+  pub at_characters : map marked (round_three (rules_in 3 all_chars)
+      (record (buffer_of (item 0x61 1 ∷ item 0x301 0 ∷ item 0x308 2 ∷ [])) { cluster_level = Characters })).items
+      ≡ (0xE1, (1, 0)) ∷ (0x308, (2, 0)) ∷ []
+  pub no_flags : (round_three (rules_in 3 (0x61 ∷ 0xE1 ∷ 0x301 ∷ []))
+      (record (buffer_of (item 0x61 1 ∷ item 0x301 0 ∷ [])) { cluster_level = Characters })).scratch_flags.0 ≡ 1
   -- the composed characters are seen: U+00E1 is past ASCII (1), U+E001 ignorable too (2)
   pub seen : (round_three (rules_in 3 all_chars) (buffer_of (item 0x61 0 ∷ item 0x301 0 ∷ []))).scratch_flags.0 ≡ 1
   pub seen_ignorable : (round_three (rules_in 3 all_chars) (buffer_of (item 0x61 0 ∷ item 0x20DD 0 ∷ []))).scratch_flags.0 ≡ 3
 
 merged_out_worked : MergedOutWorked
 unfolding merge
-merged_out_worked = record { spans_are = refl; merged = refl; grows_right = refl; at_characters = refl; no_flags = refl; seen = refl; seen_ignorable = refl }
+merged_out_worked =
+    record { spans_are = refl; merged = refl; grows_right = refl; at_characters = refl; no_flags = refl; seen = refl; seen_ignorable = refl }
 
 pub record RoundThreeWorked : Type 0 where
   pub composed : ComposedWorked

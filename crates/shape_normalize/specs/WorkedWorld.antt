@@ -12,7 +12,8 @@ use Rattle.shape_buffer.specs.declared.buffer.general_category.hb_unicode_genera
 use Rattle.shape_buffer.specs.declared.buffer.general_category.hb_unicode_general_category_t.TheVariants.{LowercaseLetter, OtherLetter, OtherSymbol, NonspacingMark, EnclosingMark, SpaceSeparator}
 use Rattle.shape_plan.specs.Rules.{Rules, goes_short, mode_recomposes}
 
--- U+20DD encloses and has class 0, and so has the selector U+FE00; U+E001 is U+0061 enclosed, a symbol that is ignorable; the rest are letters
+-- U+20DD encloses and has ccc 0, and so has the selector U+FE00; U+E001 is U+0061 enclosed, a symbol that is ignorable; the rest are
+-- letters
 abbrev pub world_category : ℕ → hb_unicode_general_category_t
 world_category c =
     if c == 0x301 || c == 0x308 || c == 0x323 || c == 0x344 || c == 0x34F || c == 0xFE00 then NonspacingMark
@@ -22,8 +23,8 @@ world_category c =
     else if c == 0x61 then LowercaseLetter
     else OtherLetter
 
-abbrev pub world_class : ℕ → ℕ
-world_class c = if c == 0x301 || c == 0x308 || c == 0x344 then 230 else if c == 0x323 then 220 else 0
+abbrev pub world_ccc : ℕ → ℕ
+world_ccc c = if c == 0x301 || c == 0x308 || c == 0x344 then 230 else if c == 0x323 then 220 else 0
 
 -- U+00E1: 0061 0301; U+0344: 0308 0301; U+1EA1: 0061 0323
 abbrev pub world_split : ℕ → Option (ℕ × ℕ)
@@ -37,8 +38,8 @@ abbrev pub world_height : ℕ → ℕ
 world_height c = if c == 0xE1 || c == 0x344 || c == 0x1EA1 then 1 else 0
 
 -- the same the other way round, and U+0061 U+20DD makes U+E001
-abbrev pub world_join : ℕ → ℕ → Option ℕ
-world_join a b =
+abbrev pub world_compose : ℕ → ℕ → Option ℕ
+world_compose a b =
     if a == 0x61 && b == 0x301 then Some 0xE1
     else if a == 0x308 && b == 0x301 then Some 0x344
     else if a == 0x61 && b == 0x323 then Some 0x1EA1
@@ -49,10 +50,10 @@ world_join a b =
 abbrev pub world : UnicodeMeaning
 world = record {
   category = world_category;
-  class = world_class;
+  ccc = world_ccc;
   split = world_split;
   height = world_height;
-  join = world_join;
+  compose = world_compose;
   mirrored = λ c. None;
   vertical = λ c. None;
   space_fallback = λ c. if c == 0x2002 then 2 else if c == 0x2011 then 1 else if c == 0x20 then 18 else 0;
@@ -63,7 +64,8 @@ world = record {
   script_direction = λ s. None;
 }
 
--- a face in which each of these characters has the glyph of its own number; U+0061 with U+FE00 behind it has glyph 7 where the face has U+FE00
+-- a face in which each of these characters has the glyph of its own number; U+0061 with U+FE00 behind it has glyph 7 where the face has
+-- U+FE00
 abbrev pub face_of : List ℕ → FaceMeaning
 face_of chars = record {
   nominal_glyph = λ c. option_map (λ known. record { 0 = known }) (find (λ known. known == c) chars);
@@ -83,7 +85,7 @@ rules_in mode chars = record {
   unicode = world;
   split = world.split;
   height = world.height;
-  join = world.join;
+  compose = world.compose;
   face = face_of chars;
   reorder = None;
   short = goes_short (pos mode);

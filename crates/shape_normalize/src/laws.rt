@@ -28,7 +28,7 @@ where
 {}
 
 /// What `reorder_marks` of any shaper does to a run that it is handed, given or not: it permutes the run and
-/// touches nothing else but clusters, classes, which stay nonzero, and flags.
+/// touches nothing else but clusters, ccc, which stay nonzero, and flags.
 pub fn reordering_permutes_the_run<U, F, M, S>(
     shaper: &S,
     plan: &hb_ot_shape_plan_t<'_, S, M::Map, S::Data>,

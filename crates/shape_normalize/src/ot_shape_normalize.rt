@@ -14,18 +14,20 @@ ghost use Rattle.shape_plan.specs.Rules.{rules_of};
 ghost use Rattle.shape_normalize.specs.RoundOne.{round_one};
 ghost use Rattle.shape_normalize.specs.RoundTwo.{has_mark_past_first as has_mark_past_first_of};
 ghost use Rattle.shape_normalize.specs.CanonicalForm.{NormalizesCanonically};
-ghost use Rattle.shape_normalize.specs.Normalized.{normalized, BroughtInHaveGlyphs, HasItemGlyph, HookKeepsClusters, KeepsFeatures, KeepsHidden, OrdersExpanded, RecomposesByAll};
+ghost use Rattle.shape_normalize.specs.Normalized.{normalized, BroughtInHaveGlyphs, HasItemGlyph};
+ghost use Rattle.shape_normalize.specs.Normalized.{HookKeepsClusters, KeepsFeatures, KeepsHidden};
+ghost use Rattle.shape_normalize.specs.Normalized.{OrdersExpanded, RecomposesByAll};
 
+mod cgj;
 mod compare;
 mod context;
 mod decompose;
-mod joiners;
 mod mode;
 mod round_one;
 mod round_three;
 mod round_two;
 
-use crate::ot_shape_normalize::joiners::show_joiners;
+use crate::ot_shape_normalize::cgj::show_cgj;
 use crate::ot_shape_normalize::mode::recomposes;
 use crate::ot_shape_normalize::round_one::expand;
 use crate::ot_shape_normalize::round_three::recompose;
@@ -51,7 +53,7 @@ use std::alloc::Global;
 /// shortest or the longest one, and takes the glyph that the face answers; a space or a non-breaking
 /// hyphen without a glyph takes that of another. A sequence of an item and its marks that holds a
 /// variation selector isn't expanded. Where a mark stood past the first item as normalising began, each
-/// run of at most 32 marks is put in the order of their classes, the clusters of the spans that this
+/// run of at most 32 marks is put in the order of their ccc, the clusters of the spans that this
 /// moves are merged, the shaper may reorder the run, and in the modes that compose, marks are composed
 /// with their starters again, whose clusters are merged. Joiners that keep nothing apart are shown.
 ///
@@ -69,13 +71,14 @@ where
     F: hb_font_t,
     M: hb_ot_layout_t<F>,
     S: hb_ot_shaper_t<U, F, M>,
-    ensures ok { OnOk result (buffer.new ≡ normalized (⟦<S as Runs<U, F, M>>⟧.rules plan.now face.now) buffer.old) }
+    ensures ok { OnOk result (buffer.new
+        ≡ normalized (⟦<S as Runs<U, F, M>>⟧.rules plan.now face.now) buffer.old) }
     ensures brought_in { OnOk result (BroughtInHaveGlyphs (F.face face.now).nominal_glyph
         (map char_of buffer.old.items) (map char_of buffer.new.items)) }
     ensures item_glyphs { OnOk result (All (HasItemGlyph
         (⟦<S as Runs<U, F, M>>⟧.rules plan.now face.now) buffer.old) buffer.new.items) }
     ensures features { OnOk result (KeepsFeatures buffer.old buffer.new) }
-    ensures joiners { OnOk result (KeepsHidden
+    ensures cgj { OnOk result (KeepsHidden
         (⟦<S as Runs<U, F, M>>⟧.rules plan.now face.now) buffer.old buffer.new) }
     ensures canonical_form { OnOk result (NormalizesCanonically
         (⟦<S as Runs<U, F, M>>⟧.rules plan.now face.now) buffer.old buffer.new) }
@@ -118,7 +121,8 @@ where
     F: hb_font_t,
     M: hb_ot_layout_t<F>,
     S: hb_ot_shaper_t<U, F, M>,
-    ensures ok { OnOk result (buffer.new ≡ normalized (⟦<S as Runs<U, F, M>>⟧.rules plan.now face.now) buffer.old) }
+    ensures ok { OnOk result (buffer.new
+        ≡ normalized (⟦<S as Runs<U, F, M>>⟧.rules plan.now face.now) buffer.old) }
     ensures counted { OnOk result (length (round_one
         (⟦<S as Runs<U, F, M>>⟧.rules plan.now face.now) buffer.old).items ≤ limit_of buffer.old) }
     ensures length { result ≡ Err ShapeError.Length → limit_of buffer.old < length (round_one
@@ -145,9 +149,12 @@ where
     M: hb_ot_layout_t<F>,
     S: hb_ot_shaper_t<U, F, M>,
     ensures same_reference { ctx.new.buffer.ghost_name ≡ ctx.old.buffer.ghost_name }
-    ensures ok { OnOk result (ctx.new.buffer.now ≡ normalized (⟦<S as Runs<U, F, M>>⟧.rules ctx.old.plan.now ctx.old.face.now) ctx.old.buffer.now) }
+    ensures ok { OnOk result (ctx.new.buffer.now
+        ≡ normalized (⟦<S as Runs<U, F, M>>⟧.rules ctx.old.plan.now ctx.old.face.now)
+        ctx.old.buffer.now) }
     ensures counted { OnOk result (length (round_one
-        (⟦<S as Runs<U, F, M>>⟧.rules ctx.old.plan.now ctx.old.face.now) ctx.old.buffer.now).items ≤ limit_of ctx.old.buffer.now) }
+        (⟦<S as Runs<U, F, M>>⟧.rules ctx.old.plan.now ctx.old.face.now)
+        ctx.old.buffer.now).items ≤ limit_of ctx.old.buffer.now) }
     ensures length { result ≡ Err ShapeError.Length → limit_of ctx.old.buffer.now < length (round_one
         (⟦<S as Runs<U, F, M>>⟧.rules ctx.old.plan.now ctx.old.face.now) ctx.old.buffer.now).items }
     ensures settings { cleared ctx.new.buffer.now ≡ cleared ctx.old.buffer.now }
@@ -157,7 +164,7 @@ where
     if has_marks {
         order_runs::<U, F, M, S>(alloc, ctx.plan, ctx.face, ctx.buffer)?;
     }
-    show_joiners(ctx.buffer);
+    show_cgj(ctx.buffer);
     if has_marks && recomposes::<U, F, M, S>(ctx.plan) {
         recompose::<U, F, M, S>(alloc, ctx.plan, ctx.buffer, ctx.face)?;
     }

@@ -54,7 +54,9 @@ module _ (run : Run) (target : Direction) (flags : BufferFlags) (lawful : Lawful
     (masks : LawfulMasks run.map) (features : MasksAreFeatures run.decisions) (keeps : RunKeepsFlags run) where
   -- the steps of preparing behind the first, which takes every flag away
   abbrev behind_first : List Step
-  behind_first = (step (graphemes_marked run.unicode) ∷ step (dotted_circled run.unicode run.face) ∷ step clusters_formed ∷ []) ++ order_steps run target
+  behind_first =
+      (step (graphemes_marked run.unicode) ∷ step (dotted_circled run.unicode run.face) ∷ step clusters_formed ∷ [])
+      ++ order_steps run target
 
   seen-prepared : Leads (HasFlags flags) (prepare_steps run target) (IsSeen flags)
   seen-prepared =
@@ -84,7 +86,8 @@ module _ (run : Run) (target : Direction) (flags : BufferFlags) (lawful : Lawful
     leads = λ b seen. record {
       by_cluster = λ text same. record {
         one_set = one_set-propagated b seen.honest;
-        concat = λ off. concat-propagated b seen.honest (subst (λ (f : BufferFlags). (bit_and f.0 64 == 64) ≡ false) (same ∙ sym seen.asked) off);
+        concat = λ off. concat-propagated b seen.honest
+            (subst (λ (f : BufferFlags). (bit_and f.0 64 == 64) ≡ false) (same ∙ sym seen.asked) off);
       };
     };
   }
@@ -108,7 +111,8 @@ module _ (run : Run) (target : Direction) (flags : BufferFlags) (lawful : Lawful
 no_items : (text b : Buffer) → b.items ≡ [] → HasFlagsByCluster text b
 no_items text b none = record { one_set = rw none tt; concat = λ off. rw none refl }
 
-pub flags-run_made : (run : Run) (target : Direction) → LawfulReorder run.rules.reorder → LawfulMasks run.map → MasksAreFeatures run.decisions
+pub flags-run_made : (run : Run) (target : Direction) → LawfulReorder run.rules.reorder → LawfulMasks run.map
+    → MasksAreFeatures run.decisions
     → RunKeepsFlags run → (text b : Buffer) → b.flags ≡ text.flags → HasFlagsByCluster text (run_made run target b)
 flags-run_made run target lawful masks features keeps text b same = from b.items refl
   where

@@ -1,4 +1,5 @@
--- The order of clusters along a whole run: rising in the text, facing its native direction while it is shaped, and shown in the direction of the text.
+-- The order of clusters along a whole run: rising in the text, facing its native direction while it is shaped, and shown in the direction
+-- of the text.
 use Rattle.std.proofs.Common.{◌≡◌, ◌≢◌, ℕ, Bool, true, false, List, [], ◌∷◌, ◌++◌, length, Option, Some, None, refl, ap, sym, ◌∙◌, arith, subst}
 use Rattle.std.specs.Prelude.{Contains, not}
 use Rattle.std.specs.List.Sorted.{IsNonDecreasing}
@@ -64,7 +65,8 @@ comes-kept comes keeps = record {
   monotone = subst IsMonotoneLevel (sym keeps.level) comes.monotone;
 }
 
-ordered-kept : {old new : Buffer} (backward : Bool) → IsOrderedFor backward (clusters old.items) → KeepsOrder old new → IsOrderedFor backward (clusters new.items)
+ordered-kept : {old new : Buffer} (backward : Bool) → IsOrderedFor backward (clusters old.items) → KeepsOrder old new
+    → IsOrderedFor backward (clusters new.items)
 ordered-kept true ordered keeps = keeps.clusters.falling ordered
 ordered-kept false ordered keeps = keeps.clusters.rising ordered
 
@@ -82,10 +84,15 @@ IsKept-facing From target = record {
 IsKept-shown : (From : ℕ → Type 0) (target : Direction) → IsKept (IsShown From target)
 IsKept-shown From target = record {
   monotone = λ b state. state.comes.monotone;
-  kept = λ old new state keeps. record { comes = comes-kept state.comes keeps; ordered = ordered-kept (is_backward target) state.ordered keeps };
+  kept = λ old new state keeps. record {
+    comes = comes-kept state.comes keeps;
+    ordered = ordered-kept
+        (is_backward target) state.ordered keeps;
+  };
 }
 
-run_keeps : {State : Buffer → Type 0} → IsKept State → (steps : List Step) → EachStep IsClusterKeeper steps → (b : Buffer) → State b → State (run_steps steps b)
+run_keeps : {State : Buffer → Type 0} → IsKept State → (steps : List Step) → EachStep IsClusterKeeper steps → (b : Buffer) → State b
+    → State (run_steps steps b)
 run_keeps kept [] keep b state = state
 run_keeps kept (step ∷ steps) keep b state =
     run_keeps kept steps keep.1 (step.makes b) (kept.kept b (step.makes b) state (keep.0 b (kept.monotone b state)))
@@ -102,7 +109,8 @@ back_again RightToLeft valid = refl
 back_again TopToBottom valid = refl
 back_again BottomToTop valid = refl
 
-shown-turned : {From : ℕ → Type 0} (target : Direction) → target ≢ Invalid → (b : Buffer) → IsFacing From target b → IsShown From target (turned b)
+shown-turned : {From : ℕ → Type 0} (target : Direction) → target ≢ Invalid → (b : Buffer) → IsFacing From target b
+    → IsShown From target (turned b)
 shown-turned {From} target valid b state =
     let turns = steps_keep_clusters.turning b in
     record {
@@ -113,7 +121,8 @@ shown-turned {From} target valid b state =
       ordered = by_turn state.turned state.direction state.ordered;
     }
   where
-    by_turn : (once : Bool) → b.direction ≡ direction_for once target → IsOrderedFor once (clusters b.items) → IsOrderedFor (is_backward target) (clusters (turned b).items)
+    by_turn : (once : Bool) → b.direction ≡ direction_for once target → IsOrderedFor once (clusters b.items)
+        → IsOrderedFor (is_backward target) (clusters (turned b).items)
     by_turn true is falls =
         subst (λ (t : Bool). IsOrderedFor t (clusters (turned b).items)) (ap (λ d. not (is_backward d)) is ∙ back_again target valid)
         ((steps_keep_clusters.turning b).falling falls)
@@ -125,7 +134,8 @@ shown-turned {From} target valid b state =
 module _ (run : Run) (target : Direction) (valid : target ≢ Invalid) (From : ℕ → Type 0)
     (lawful : LawfulReorder run.rules.reorder) (keeps : RunKeepsClusters run) where
   -- a text as preparing leaves it
-  facing-prepared : (turned : Bool) (old new : Buffer) → InOrderFor turned old new → old.direction ≡ target → IsMonotoneLevel old.cluster_level
+  facing-prepared : (turned : Bool) (old new : Buffer) → InOrderFor turned old new → old.direction ≡ target
+      → IsMonotoneLevel old.cluster_level
       → ((k : ℕ) → Contains (clusters new.items) k → From k) → IsFacing From target new
   facing-prepared turned old new order is monotone from = record {
     comes = record { from = from; monotone = subst IsMonotoneLevel (sym order.level) monotone };
@@ -150,7 +160,8 @@ module _ (run : Run) (target : Direction) (valid : target ≢ Invalid) (From : �
 
   shown-finished : Leads (IsFacing From target) (finish_steps run) (IsShown From target)
   shown-finished =
-      let turn : Leads (IsFacing From target) (step turned ∷ []) (IsShown From target) = record { leads = λ b state. shown-turned target valid b state } in
+      let turn : Leads (IsFacing From target) (step turned ∷ [])
+      (IsShown From target) = record { leads = λ b state. shown-turned target valid b state } in
       let flags : EachStep IsClusterKeeper (step flags_propagated ∷ []) = (steps_keep_clusters.flags, tt) in
       Leads-then {steps = step turned ∷ []} {more = show_steps run ++ step flags_propagated ∷ []} turn
       (Leads-keepers (IsKept-shown From target) (show_steps run ++ step flags_propagated ∷ [])
@@ -170,7 +181,8 @@ module _ (run : Run) (target : Direction) (valid : target ≢ Invalid) (From : �
         leads = λ c same. rw same (facing-prepared (is_turned run b) b (run_steps (prepare_steps run target) b)
             (preparing_keeps_order run target b keeps.calls monotone rising) is monotone from);
       } in
-      (Leads-then {steps = prepare_steps run target} {more = normalising run.rules ∷ shaped_steps run} prepares shown-normalised).leads b refl
+      (Leads-then {steps = prepare_steps run target} {more = normalising run.rules
+      ∷ shaped_steps run} prepares shown-normalised).leads b refl
 
 -- ---- no text is shaped in an unknown direction
 
@@ -208,7 +220,8 @@ none_in : (xs : List ℕ) (k : ℕ) → xs ≡ [] → Contains xs k → ⊥
 none_in xs k none is = omega (arith, is.1, ap length none)
 
 -- the glyphs of a text come in order
-pub clusters-run_made : (run : Run) (target : Direction) → target ≢ Invalid → LawfulReorder run.rules.reorder → (text : Buffer) → text.direction ≡ target
+pub clusters-run_made : (run : Run) (target : Direction) → target ≢ Invalid → LawfulReorder run.rules.reorder → (text : Buffer)
+    → text.direction ≡ target
     → ClustersComeInOrder run target text (run_made run target text)
 clusters-run_made run target valid lawful text towards keeps monotone rising = from text.items refl
   where
@@ -218,14 +231,20 @@ clusters-run_made run target valid lawful text towards keeps monotone rising = f
     shown From taken = shown-all run target valid From lawful keeps (entered text) towards monotone rising taken
 
     of_text : IsShown (λ k. Contains (clusters text.items) k) target (run_steps (all_steps run target) (entered text))
-    of_text = shown (λ k. Contains (clusters text.items) k) (preparing_keeps_order run target (entered text) keeps.calls monotone rising).none_new
+    of_text =
+        shown (λ k. Contains (clusters text.items) k) (preparing_keeps_order run target (entered text) keeps.calls monotone rising).none_new
 
     of_firsts : text.cluster_level ≡ MonotoneGraphemes
         → IsShown (λ k. Contains (grapheme_clusters run text) k) target (run_steps (all_steps run target) (entered text))
-    of_firsts level = shown (λ k. Contains (grapheme_clusters run text) k) (preparing_keeps_firsts run target (entered text) keeps.calls level rising)
+    of_firsts level =
+        shown (λ k. Contains (grapheme_clusters run text) k) (preparing_keeps_firsts run target (entered text) keeps.calls level rising)
 
     from : (items : List Item) → text.items ≡ items
-        → ComesInOrder run target text (elim items [ [] ↦ text | _ ∷ _ ↦ finished target (run_steps (all_steps run target) (entered text)) ])
+        → ComesInOrder run target text (elim items [
+          | [] ↦ text
+          | _
+              ∷ _ ↦ finished target (run_steps (all_steps run target) (entered text))
+        ])
     from [] is =
         let none : clusters text.items ≡ [] = rw is refl in
         record {

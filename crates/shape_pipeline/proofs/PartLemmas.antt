@@ -23,7 +23,8 @@ Leads-then {After = After} {steps = steps} {more = more} first second = record {
   leads = λ b state. subst After (sym (run_steps-append steps more b)) (second.leads (run_steps steps b) (first.leads b state));
 }
 
-module _ (Keeps : (Buffer → Buffer) → Type 0) (run : Run) (fallback : EachFallback Keeps run.unicode run.face run.direction run.script run.decisions) where
+module _ (Keeps : (Buffer → Buffer) → Type 0) (run : Run)
+    (fallback : EachFallback Keeps run.unicode run.face run.direction run.script run.decisions) where
   pub EachStep-glyph_part : EachSubstitutionStep Keeps run → EachStep Keeps (glyph_part run)
   EachStep-glyph_part each =
       let behind : EachStep Keeps (step (recategorize_step run.decisions) ∷ glyph_steps run) = (fallback.recategorize, each.glyphs) in

@@ -31,12 +31,14 @@ pub refused-length : {steps : List Step} {b : Buffer} {error : ShapeError} → R
 refused-length (for_length past) is = past
 refused-length for_memory is = absurd (let e : Memory ≡ Length = is in cc)
 
-pub outcome-length : {T : Type 0} (steps : List Step) (old new : Buffer) (result : Result T ShapeError) → RunOutcome steps old new result → result ≡ Err Length → SomePast steps old
+pub outcome-length : {T : Type 0} (steps : List Step) (old new : Buffer) (result : Result T ShapeError) → RunOutcome steps old new result
+    → result ≡ Err Length → SomePast steps old
 outcome-length steps old new (Ok value) ran is = absurd (let e : Ok value ≡ Err Length = is in cc)
 outcome-length steps old new (Err error) refused is = refused-length refused (let e : error ≡ Length = cc in e)
 
 -- one that isn't refused has made its steps
-pub outcome-ran : {T : Type 0} (steps : List Step) (old new : Buffer) (result : Result T ShapeError) → RunOutcome steps old new result → OnOk result (Ran steps old new)
+pub outcome-ran : {T : Type 0} (steps : List Step) (old new : Buffer) (result : Result T ShapeError) → RunOutcome steps old new result
+    → OnOk result (Ran steps old new)
 outcome-ran steps old new (Ok value) ran = ran
 outcome-ran steps old new (Err error) refused = tt
 
@@ -44,12 +46,15 @@ limit-normalized : (rules : Rules) (lawful : LawfulReorder rules.reorder) (b : B
 limit-normalized rules lawful b = by_test (has_mark_past_first b.items && rules.recomposes)
   where
     by_test : (test : Bool) → limit_of (if test then round_three rules (ordered rules b) else ordered rules b) ≡ limit_of b
-    by_test true = limit-spans_merged_out (joined_spans (recomposed_items rules (ordered rules b).items)) (ordered rules b) ∙ limit_of-ordered rules lawful b
+    by_test true =
+        limit-spans_merged_out (joined_spans (recomposed_items rules (ordered rules b).items)) (ordered rules b)
+        ∙ limit_of-ordered rules lawful b
     by_test false = limit_of-ordered rules lawful b
 
 -- what normalising promises makes it a step of a run
 pub outcome-normalised : {T : Type 0} (rules : Rules) → LawfulReorder rules.reorder → (old new : Buffer) (result : Result T ShapeError)
-    → OnOk result (new ≡ normalized rules old) → OnOk result (length (round_one rules old).items ≤ limit_of old) → OnOk result (length new.items ≤ limit_of old)
+    → OnOk result (new ≡ normalized rules old) → OnOk result (length (round_one rules old).items ≤ limit_of old)
+    → OnOk result (length new.items ≤ limit_of old)
     → (result ≡ Err Length → limit_of old < length (round_one rules old).items)
     → RunOutcome (normalising rules ∷ []) old new result
 outcome-normalised rules lawful old new (Ok value) made counted within past =
@@ -60,19 +65,24 @@ outcome-normalised rules lawful old new (Err Length) made counted within past = 
 
 -- ---- what is made of a text, by whether it has items
 
-text_from : (run : Run) (target : Direction) (b : Buffer) (items : List Item) → items ≢ [] → prepared run target (entered b) ≡ (elim items [ [] ↦ b | _ ∷ _ ↦ prepared run target (entered b) ])
+text_from : (run : Run) (target : Direction) (b : Buffer) (items : List Item) → items ≢ []
+    → prepared run target (entered b) ≡ (elim items [ [] ↦ b | _ ∷ _ ↦ prepared run target (entered b) ])
 text_from run target b [] some = absurd (some refl)
 text_from run target b (x ∷ xs) some = refl
 
-run_from : (run : Run) (target : Direction) (b : Buffer) (items : List Item) → items ≢ [] → finished target (run_steps (all_steps run target) (entered b)) ≡ (elim items [ [] ↦ b | _ ∷ _ ↦ finished target (run_steps (all_steps run target) (entered b)) ])
+run_from : (run : Run) (target : Direction) (b : Buffer) (items : List Item) → items ≢ []
+    → finished target (run_steps (all_steps run target) (entered b))
+    ≡ (elim items [ [] ↦ b | _ ∷ _ ↦ finished target (run_steps (all_steps run target) (entered b)) ])
 run_from run target b [] some = absurd (some refl)
 run_from run target b (x ∷ xs) some = refl
 
-text_from-none : (run : Run) (target : Direction) (b : Buffer) (items : List Item) → items ≡ [] → b ≡ (elim items [ [] ↦ b | _ ∷ _ ↦ prepared run target (entered b) ])
+text_from-none : (run : Run) (target : Direction) (b : Buffer) (items : List Item) → items ≡ []
+    → b ≡ (elim items [ [] ↦ b | _ ∷ _ ↦ prepared run target (entered b) ])
 text_from-none run target b [] none = refl
 text_from-none run target b (x ∷ xs) none = absurd (let e : x ∷ xs ≡ [] = none in cc)
 
-run_from-none : (run : Run) (target : Direction) (b : Buffer) (items : List Item) → items ≡ [] → b ≡ (elim items [ [] ↦ b | _ ∷ _ ↦ finished target (run_steps (all_steps run target) (entered b)) ])
+run_from-none : (run : Run) (target : Direction) (b : Buffer) (items : List Item) → items ≡ []
+    → b ≡ (elim items [ [] ↦ b | _ ∷ _ ↦ finished target (run_steps (all_steps run target) (entered b)) ])
 run_from-none run target b [] none = refl
 run_from-none run target b (x ∷ xs) none = absurd (let e : x ∷ xs ≡ [] = none in cc)
 
@@ -100,7 +110,8 @@ Shapes-none run target b none = record {
 }
 
 -- all steps are made for every other
-pub Prepares-ran : (run : Run) (target : Direction) (b new : Buffer) → ¬ (length b.items ≡ 0) → Ran (prepare_steps run target) (entered b) new → Prepares run target b new
+pub Prepares-ran : (run : Run) (target : Direction) (b new : Buffer) → ¬ (length b.items ≡ 0)
+    → Ran (prepare_steps run target) (entered b) new → Prepares run target b new
 Prepares-ran run target b new some ran = record {
   made = ran.made ∙ text_from run target b b.items (has_some b.items some);
   within = subst (λ n. length new.items ≤ n) ran.same_limit ran.within;
@@ -112,14 +123,16 @@ pub Shapes-some : (run : Run) (target : Direction) (b mid new : Buffer) → ¬ (
     → Ran (all_steps run target) (entered b) mid → new ≡ finished target mid → Shapes run target b new
 Shapes-some run target b mid new some ran finishes = record {
   made = finishes ∙ ap (finished target) ran.made ∙ run_from run target b b.items (has_some b.items some);
-  within = subst (λ (c : Buffer). length c.items ≤ run_limit (length b.items)) (sym finishes) (subst (λ n. length mid.items ≤ n) ran.same_limit ran.within);
+  within = subst (λ (c : Buffer). length c.items ≤ run_limit (length b.items)) (sym finishes)
+      (subst (λ n. length mid.items ≤ n) ran.same_limit ran.within);
   counted = λ _. ran.each_within;
 }
 
 -- ---- what is handed out
 
 direction_from : (run : Run) (target : Direction) (b : Buffer) → b.direction ≡ target → (items : List Item)
-    → let made : Buffer = elim items [ [] ↦ b | _ ∷ _ ↦ finished target (run_steps (all_steps run target) (entered b)) ] in made.direction ≡ target
+    → let made : Buffer =
+    elim items [ [] ↦ b | _ ∷ _ ↦ finished target (run_steps (all_steps run target) (entered b)) ] in made.direction ≡ target
 direction_from run target b is [] = is
 direction_from run target b is (x ∷ xs) = refl
 
@@ -128,7 +141,8 @@ pub direction-made : (run : Run) (target : Direction) (b : Buffer) → b.directi
 direction-made run target b is = direction_from run target b is b.items
 
 -- the normalised list of any text has its form
-pub normal_form : (rules : Rules) → LawfulReorder rules.reorder → LawfulUnicode rules.unicode → (b : Buffer) → NormalForm rules b (normalized rules b)
+pub normal_form : (rules : Rules) → LawfulReorder rules.reorder → LawfulUnicode rules.unicode → (b : Buffer)
+    → NormalForm rules b (normalized rules b)
 normal_form rules lawful unicode b = record {
   brought_in = normalized_brings_in rules lawful b (normalized rules b) refl;
   item_glyphs = normalized_has_glyphs rules lawful b (normalized rules b) refl;

@@ -14,6 +14,7 @@ use Rattle.shape_plan.specs.Keepers.{RunKeepsFlags}
 use Rattle.shape_plan.specs.Rules.{Rules}
 use Rattle.shape_plan.specs.Run.{Run}
 use Rattle.shape_pipeline.specs.Shaped.{entered, prepared}
+use Rattle.shape_buffer.specs.FlagNames.{UNSAFE_TO_CONCAT, PRODUCE_UNSAFE_TO_CONCAT}
 
 -- the direction that a text is shaped for
 abbrev pub target_of : Run → Buffer → Direction
@@ -27,7 +28,8 @@ prepared_text run text = prepared run (target_of run text) (entered (guessed run
 abbrev pub normalised_list : Run → Buffer → Buffer
 normalised_list run text = normalized run.rules (prepared_text run text)
 
--- what is promised of the normalised list of a prepared text: what is brought in has a glyph, each item has the glyph of its character or what stands in for it, features are those of the text's items, clusters keep their order, and canonical form
+-- what is promised of the normalised list of a prepared text: what is brought in has a glyph, each item has the glyph of its character or
+-- what stands in for it, features are those of the text's items, clusters keep their order, and canonical form
 pub record NormalForm (rules : Rules) (text list : Buffer) : Type 0 where
   pub brought_in : BroughtInHaveGlyphs rules.face.nominal_glyph (text_of text) (text_of list)
   pub item_glyphs : All (HasItemGlyph rules text) list.items
@@ -40,7 +42,8 @@ pub record NormalForm (rules : Rules) (text list : Buffer) : Type 0 where
 -- each cluster has one set of flags, and no glyph UNSAFE_TO_CONCAT (2) unless the caller asks for it (64)
 pub record HasFlagsByCluster (text glyphs : Buffer) : Type 0 where
   pub one_set : HasOneSetOfFlags glyphs.items
-  pub concat : (bit_and text.flags.0 64 == 64) ≡ false → some_has 2 glyphs.items ≡ false
+  pub concat : (bit_and text.flags.0 PRODUCE_UNSAFE_TO_CONCAT == PRODUCE_UNSAFE_TO_CONCAT) ≡ false
+      → some_has UNSAFE_TO_CONCAT glyphs.items ≡ false
 
 -- so it is where lookups and hooks keep flags
 abbrev pub FlagsAreByCluster : Run → Buffer → Buffer → Type 0

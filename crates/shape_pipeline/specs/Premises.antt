@@ -20,7 +20,8 @@ pub record LeavesBuffers (hooks : HookMeaning) : Type 0 where
 abbrev pub HasPlainText : Run → Buffer → Type 0
 HasPlainText run text = HasNoSelector run.rules (text_of (prepared_text run text))
 
--- the cluster premises, the flag premises, and what canonical form asks of a shaper: its hooks are lawful, none reorders, and each text is prepared as normalising begins; so what is left to ask is asked of the text alone
+-- the cluster premises, the flag premises, and what canonical form asks of a shaper: its hooks are lawful, none reorders, and each text is
+-- prepared as normalising begins; so what is left to ask is asked of the text alone
 pub record OwesNothing (run : Run) : Type 0 where
   pub clusters : RunKeepsClusters run
   pub flags : RunKeepsFlags run

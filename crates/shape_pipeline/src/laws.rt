@@ -42,10 +42,12 @@ where
     F: hb_font_t,
     M: hb_ot_layout_t<F>,
     S: hb_ot_shaper_t<U, F, M>,
-    ensures clusters { (plan : Plan S M.Map S.Data) (face : F) → let run = ⟦<S as Runs<U, F, M>>⟧.run plan face in
+    ensures clusters { (plan : Plan S M.Map S.Data) (face : F)
+        → let run = ⟦<S as Runs<U, F, M>>⟧.run plan face in
         ((shaper : S) → LeavesBuffers (S.hooks shaper plan face))
         → LookupsKeepClusters run.lookups → HookKeepsClusters run.rules → RunKeepsClusters run }
-    ensures flags { (plan : Plan S M.Map S.Data) (face : F) → let run = ⟦<S as Runs<U, F, M>>⟧.run plan face in
+    ensures flags { (plan : Plan S M.Map S.Data) (face : F)
+        → let run = ⟦<S as Runs<U, F, M>>⟧.run plan face in
         ((shaper : S) → LeavesBuffers (S.hooks shaper plan face))
         → LookupsKeepFlags run.lookups → RunKeepsFlags run }
 {}
@@ -59,7 +61,8 @@ where
     F: hb_font_t,
     M: hb_ot_layout_t<F>,
     S: hb_ot_shaper_t<U, F, M>,
-    ensures { (plan : Plan S M.Map S.Data) (face : F) → let run = ⟦<S as Runs<U, F, M>>⟧.run plan face in
+    ensures { (plan : Plan S M.Map S.Data) (face : F)
+        → let run = ⟦<S as Runs<U, F, M>>⟧.run plan face in
         S.constants.has_reorder_marks ≡ false
         → ((shaper : S) → S.hooks shaper plan face ≡ no_hooks U.unicode)
         → LookupsKeepClusters run.lookups → LookupsKeepFlags run.lookups → OwesNothing run }
@@ -88,7 +91,8 @@ where
         (text : Buffer) → text.direction ≢ Direction.Invalid
         → ClustersComeInOrder run text.direction text (run_made run text.direction text) }
     ensures flags { let run = ⟦<S as Runs<U, F, M>>⟧.run plan.now face.now in
-        (target : Direction) (text : Buffer) → FlagsAreByCluster run text (run_made run target text) }
+        (target : Direction) (text : Buffer)
+        → FlagsAreByCluster run text (run_made run target text) }
     ensures form { let run = ⟦<S as Runs<U, F, M>>⟧.run plan.now face.now in
         (text : Buffer) → NormalForm run.rules text (normalized run.rules text) }
 {

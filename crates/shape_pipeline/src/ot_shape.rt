@@ -7,7 +7,8 @@
 ghost use Rattle.std.specs.Prelude.{◌≡◌, ◌≢◌, [], IsOk, OnOk, OnErr, Err};
 ghost use Rattle.shape_buffer.specs.Buffer.{cleared};
 ghost use Rattle.shape_buffer.specs.Outcome.{IsWithinLimit, RunOutcome};
-ghost use Rattle.shape_pipeline.specs.Shaped.{all_steps, entered, Prepares, Shapes, PreparingPasses, ShapingPasses};
+ghost use Rattle.shape_pipeline.specs.Shaped.{all_steps, entered, Prepares, Shapes};
+ghost use Rattle.shape_pipeline.specs.Shaped.{PreparingPasses, ShapingPasses};
 ghost use Rattle.shape_prepare.specs.PrepareSteps.{prepare_steps};
 
 mod kept;
@@ -53,10 +54,12 @@ where
     requires known { ctx.old.target_direction ≢ Direction.Invalid }
     ensures same_reference { ctx.new.buffer.ghost_name ≡ ctx.old.buffer.ghost_name }
     ensures same_direction { ctx.new.target_direction ≡ ctx.old.target_direction }
-    ensures ok { OnOk result (Prepares (⟦<S as Runs<U, F, M>>⟧.run ctx.old.plan.now ctx.old.face.now)
+    ensures ok { OnOk result (Prepares
+        (⟦<S as Runs<U, F, M>>⟧.run ctx.old.plan.now ctx.old.face.now)
         ctx.old.target_direction ctx.old.buffer.now ctx.new.buffer.now) }
     ensures length { result ≡ Err ShapeError.Length
-        → PreparingPasses (⟦<S as Runs<U, F, M>>⟧.run ctx.old.plan.now ctx.old.face.now) ctx.old.target_direction ctx.old.buffer.now }
+        → PreparingPasses (⟦<S as Runs<U, F, M>>⟧.run ctx.old.plan.now ctx.old.face.now)
+        ctx.old.target_direction ctx.old.buffer.now }
     ensures cleared { OnErr result (ctx.new.buffer.now ≡ cleared ctx.old.buffer.now) }
     ensures empty { ctx.old.buffer.now.items ≡ [] → IsOk result }
 {
@@ -77,8 +80,10 @@ where
     F: hb_font_t,
     M: hb_ot_layout_t<F>,
     S: hb_ot_shaper_t<U, F, M>,
-    ensures ok { OnOk result (Prepares (⟦<S as Runs<U, F, M>>⟧.run plan.now face.now) target buffer.old buffer.new) }
-    ensures length { result ≡ Err ShapeError.Length → PreparingPasses (⟦<S as Runs<U, F, M>>⟧.run plan.now face.now) target buffer.old }
+    ensures ok { OnOk result (Prepares
+        (⟦<S as Runs<U, F, M>>⟧.run plan.now face.now) target buffer.old buffer.new) }
+    ensures length { result ≡ Err ShapeError.Length
+        → PreparingPasses (⟦<S as Runs<U, F, M>>⟧.run plan.now face.now) target buffer.old }
     ensures cleared { OnErr result (buffer.new ≡ cleared buffer.old) }
     ensures empty { buffer.old.items ≡ [] → IsOk result }
 {
@@ -109,7 +114,8 @@ where
     M: hb_ot_layout_t<F>,
     S: hb_ot_shaper_t<U, F, M>,
     requires { IsWithinLimit (entered buffer.old) }
-    ensures { RunOutcome (prepare_steps (⟦<S as Runs<U, F, M>>⟧.run plan.now face.now) target) (entered buffer.old) buffer.new result }
+    ensures { RunOutcome (prepare_steps (⟦<S as Runs<U, F, M>>⟧.run plan.now face.now) target)
+        (entered buffer.old) buffer.new result }
 {
     buffer.enter();
     prepare::<U, F, M, S>(alloc, plan, face, buffer, target)
@@ -135,7 +141,8 @@ where
     ensures ok { OnOk result (Shapes (⟦<S as Runs<U, F, M>>⟧.run ctx.old.plan.now ctx.old.face.now)
         ctx.old.target_direction ctx.old.buffer.now ctx.new.buffer.now) }
     ensures length { result ≡ Err ShapeError.Length
-        → ShapingPasses (⟦<S as Runs<U, F, M>>⟧.run ctx.old.plan.now ctx.old.face.now) ctx.old.target_direction ctx.old.buffer.now }
+        → ShapingPasses (⟦<S as Runs<U, F, M>>⟧.run ctx.old.plan.now ctx.old.face.now)
+        ctx.old.target_direction ctx.old.buffer.now }
     ensures cleared { OnErr result (ctx.new.buffer.now ≡ cleared ctx.old.buffer.now) }
     ensures empty { ctx.old.buffer.now.items ≡ [] → IsOk result }
 {
@@ -156,8 +163,10 @@ where
     F: hb_font_t,
     M: hb_ot_layout_t<F>,
     S: hb_ot_shaper_t<U, F, M>,
-    ensures ok { OnOk result (Shapes (⟦<S as Runs<U, F, M>>⟧.run plan.now face.now) target buffer.old buffer.new) }
-    ensures length { result ≡ Err ShapeError.Length → ShapingPasses (⟦<S as Runs<U, F, M>>⟧.run plan.now face.now) target buffer.old }
+    ensures ok { OnOk result (Shapes
+        (⟦<S as Runs<U, F, M>>⟧.run plan.now face.now) target buffer.old buffer.new) }
+    ensures length { result ≡ Err ShapeError.Length
+        → ShapingPasses (⟦<S as Runs<U, F, M>>⟧.run plan.now face.now) target buffer.old }
     ensures cleared { OnErr result (buffer.new ≡ cleared buffer.old) }
     ensures empty { buffer.old.items ≡ [] → IsOk result }
 {
@@ -192,7 +201,8 @@ where
     M: hb_ot_layout_t<F>,
     S: hb_ot_shaper_t<U, F, M>,
     requires { IsWithinLimit (entered buffer.old) }
-    ensures { RunOutcome (all_steps (⟦<S as Runs<U, F, M>>⟧.run plan.now face.now) target) (entered buffer.old) buffer.new result }
+    ensures { RunOutcome (all_steps (⟦<S as Runs<U, F, M>>⟧.run plan.now face.now) target)
+        (entered buffer.old) buffer.new result }
 {
     buffer.enter();
     shape_entered::<U, F, M, S>(alloc, plan, face, buffer, target)

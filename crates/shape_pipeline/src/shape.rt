@@ -2,7 +2,8 @@
 ghost use Rattle.std.specs.Prelude.{◌≡◌, ◌≤◌, [], length, IsOk, IfOk, IfErr};
 ghost use Rattle.shape_buffer.specs.Buffer.{cleared, run_limit};
 ghost use Rattle.shape_buffer.specs.Guess.{guessed, guessed_direction};
-ghost use Rattle.shape_pipeline.specs.Headline.{target_of, prepared_text, normalised_list, NormalForm, FlagsAreByCluster};
+ghost use Rattle.shape_pipeline.specs.Headline.{target_of, prepared_text, normalised_list};
+ghost use Rattle.shape_pipeline.specs.Headline.{NormalForm, FlagsAreByCluster};
 ghost use Rattle.shape_pipeline.specs.Order.{ClustersComeInOrder};
 ghost use Rattle.shape_pipeline.specs.Shaped.{shaped, Shapes, ShapingPasses};
 ghost use Rattle.shape_pipeline.specs.Planned.{planned_for};
@@ -33,19 +34,24 @@ where
     M: hb_ot_layout_t<F>,
     S: hb_ot_shaper_t<U, F, M>,
     requires { Fits U.unicode plan.now buffer }
-    ensures glyphs { IfOk result (λ glyphs. glyphs ≡ shaped (⟦<S as Runs<U, F, M>>⟧.run plan.now face.now) buffer) }
+    ensures glyphs { IfOk result (λ glyphs. glyphs
+        ≡ shaped (⟦<S as Runs<U, F, M>>⟧.run plan.now face.now) buffer) }
     ensures direction { IfOk result (λ glyphs. glyphs.direction ≡ guessed_direction U.unicode buffer) }
     ensures form { let run = ⟦<S as Runs<U, F, M>>⟧.run plan.now face.now in
-        IfOk result (λ _. NormalForm run.rules (prepared_text run buffer) (normalised_list run buffer)) }
+        IfOk result (λ _. NormalForm run.rules (prepared_text run buffer)
+        (normalised_list run buffer)) }
     ensures clusters { let run = ⟦<S as Runs<U, F, M>>⟧.run plan.now face.now in
-        IfOk result (λ glyphs. ClustersComeInOrder run (target_of run buffer) (guessed U.unicode buffer) glyphs) }
+        IfOk result (λ glyphs. ClustersComeInOrder run (target_of run buffer)
+        (guessed U.unicode buffer) glyphs) }
     ensures flags { let run = ⟦<S as Runs<U, F, M>>⟧.run plan.now face.now in
         IfOk result (λ glyphs. FlagsAreByCluster run buffer glyphs) }
     ensures within { IfOk result (λ glyphs. length glyphs.items ≤ run_limit (length buffer.items)) }
     ensures counted { let run = ⟦<S as Runs<U, F, M>>⟧.run plan.now face.now in
-        IfOk result (λ glyphs. Shapes run (target_of run buffer) (guessed U.unicode buffer) glyphs) }
+        IfOk result (λ glyphs. Shapes run (target_of run buffer)
+        (guessed U.unicode buffer) glyphs) }
     ensures length { let run = ⟦<S as Runs<U, F, M>>⟧.run plan.now face.now in
-        IfErr result (λ fault. fault.cause ≡ ShapeError.Length → ShapingPasses run (target_of run buffer) (guessed U.unicode buffer)) }
+        IfErr result (λ fault. fault.cause ≡ ShapeError.Length
+        → ShapingPasses run (target_of run buffer) (guessed U.unicode buffer)) }
     ensures cleared { IfErr result (λ fault. fault.buffer ≡ cleared buffer) }
     ensures empty { buffer.items ≡ [] → IsOk result }
 {
@@ -89,20 +95,24 @@ where
     ensures direction { IfOk result (λ glyphs. glyphs.direction ≡ guessed_direction U.unicode buffer) }
     ensures form { let run = ⟦<S as Runs<U, F, M>>⟧.run
         (planned_for U.unicode ⟦<S as Plans<U, F, M>>⟧.planning face.now shaper.now features.now buffer) face.now in
-        IfOk result (λ _. NormalForm run.rules (prepared_text run buffer) (normalised_list run buffer)) }
+        IfOk result (λ _. NormalForm run.rules (prepared_text run buffer)
+        (normalised_list run buffer)) }
     ensures clusters { let run = ⟦<S as Runs<U, F, M>>⟧.run
         (planned_for U.unicode ⟦<S as Plans<U, F, M>>⟧.planning face.now shaper.now features.now buffer) face.now in
-        IfOk result (λ glyphs. ClustersComeInOrder run (target_of run buffer) (guessed U.unicode buffer) glyphs) }
+        IfOk result (λ glyphs. ClustersComeInOrder run (target_of run buffer)
+        (guessed U.unicode buffer) glyphs) }
     ensures flags { let run = ⟦<S as Runs<U, F, M>>⟧.run
         (planned_for U.unicode ⟦<S as Plans<U, F, M>>⟧.planning face.now shaper.now features.now buffer) face.now in
         IfOk result (λ glyphs. FlagsAreByCluster run buffer glyphs) }
     ensures within { IfOk result (λ glyphs. length glyphs.items ≤ run_limit (length buffer.items)) }
     ensures counted { let run = ⟦<S as Runs<U, F, M>>⟧.run
         (planned_for U.unicode ⟦<S as Plans<U, F, M>>⟧.planning face.now shaper.now features.now buffer) face.now in
-        IfOk result (λ glyphs. Shapes run (target_of run buffer) (guessed U.unicode buffer) glyphs) }
+        IfOk result (λ glyphs. Shapes run (target_of run buffer)
+        (guessed U.unicode buffer) glyphs) }
     ensures length { let run = ⟦<S as Runs<U, F, M>>⟧.run
         (planned_for U.unicode ⟦<S as Plans<U, F, M>>⟧.planning face.now shaper.now features.now buffer) face.now in
-        IfErr result (λ fault. fault.cause ≡ ShapeError.Length → ShapingPasses run (target_of run buffer) (guessed U.unicode buffer)) }
+        IfErr result (λ fault. fault.cause ≡ ShapeError.Length
+        → ShapingPasses run (target_of run buffer) (guessed U.unicode buffer)) }
     ensures cleared { IfErr result (λ fault. fault.buffer ≡ cleared buffer) }
 {
     let text = buffer.as_inner();

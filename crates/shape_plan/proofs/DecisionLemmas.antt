@@ -34,7 +34,8 @@ tables-decided f = record {
 }
 
 -- the masks are those of features, whose engine owes that they lack the defined bits
-pub masks-decided : {F S P D : Type 0} (planning : Planning F S P D) (planner : Planner F S) (map : MapMeaning) → LawfulMasks map → MasksAreFeatures (decided (facts_of planning planner map))
+pub masks-decided : {F S P D : Type 0} (planning : Planning F S P D) (planner : Planner F S) (map : MapMeaning) → LawfulMasks map
+    → MasksAreFeatures (decided (facts_of planning planner map))
 unfolding decided facts_of
 masks-decided planning planner map lawful = record {
   frac = lawful.one_mask tag.frac;
@@ -45,7 +46,8 @@ masks-decided planning planner map lawful = record {
   trak = lawful.mask tag.trak;
 }
 
-pub are_lawful-decided : {F S P D : Type 0} (planning : Planning F S P D) (planner : Planner F S) (map : MapMeaning) → LawfulMasks map → AreLawful (decided (facts_of planning planner map))
+pub are_lawful-decided : {F S P D : Type 0} (planning : Planning F S P D) (planner : Planner F S) (map : MapMeaning) → LawfulMasks map
+    → AreLawful (decided (facts_of planning planner map))
 are_lawful-decided planning planner map lawful = record {
   masks = masks-decided planning planner map lawful;
   tables = tables-decided (facts_of planning planner map);

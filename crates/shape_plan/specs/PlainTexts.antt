@@ -1,4 +1,5 @@
--- What the tests of planning bring: functions of Unicode by which every character is a letter of an unknown script, and faces and an engine that are a number.
+-- What the tests of planning bring: functions of Unicode by which every character is a letter of an unknown script, and faces and an engine
+-- that are a number.
 use Rattle.std.specs.Prelude.{◌≡◌, ◌==◌, ℕ, pos, Bool, true, false, Option, Some, None, refl, nat_lt, if◌then◌else◌}
 use Rattle.std.specs.Int.RustNames.{bit_and}
 use Rattle.std.proofs.Common.{rules}
@@ -13,10 +14,10 @@ use Rattle.shape_buffer.specs.declared.interfaces.map_request.TableIndex.TheVari
 abbrev pub plain_unicode : UnicodeMeaning
 plain_unicode = record {
   category = λ _. OtherLetter;
-  class = λ _. 0;
+  ccc = λ _. 0;
   split = λ _. None;
   height = λ _. 0;
-  join = λ _ _. None;
+  compose = λ _ _. None;
   mirrored = λ _. None;
   vertical = λ _. None;
   space_fallback = λ _. 0;
@@ -29,15 +30,15 @@ plain_unicode = record {
 
 pub plain_unicode-lawful : LawfulUnicode plain_unicode
 plain_unicode-lawful = record {
-  marks_have_classes = λ c marked. absurd (marked refl);
+  marks_have_ccc = λ c marked. absurd (marked refl);
   ascii_is_no_mark = λ c _. refl;
   mirrors_are_plain = λ c d e. cc;
   verticals_are_plain = λ c d e. cc;
   splits_fall = record {
     height_falls = record { falls = λ c a b splits. cc };
     second_is_last = λ c a b splits. cc;
-    first_class = λ c a b marked. absurd (marked refl);
-    second_class = λ c a b marked. absurd (marked refl);
+    first_ccc = λ c a b marked. absurd (marked refl);
+    second_ccc = λ c a b marked. absurd (marked refl);
   };
   composes_soundly = record { equivalent = λ a b c joins. cc };
 }
@@ -60,10 +61,15 @@ answers_of number = record {
   tables = record { gsub = has number 1; gpos = has number 2; morx = has number 4; kerx = has number 8; trak = has number 16 };
 }
 
--- what the engine answers: 32 kerning, 64 machine kerning, 128 cross kerning, 256 the script 2 chosen for GPOS in place of 1; requests are compiled to the number
+-- what the engine answers: 32 kerning, 64 machine kerning, 128 cross kerning, 256 the script 2 chosen for GPOS in place of 1; requests are
+-- compiled to the number
 abbrev pub layouts_of : ℕ → LayoutMeaning ℕ
 layouts_of number = record {
-  chosen_script = λ _ _ table. elim table [ GSUB ↦ Some (record { 0 = 1 }) | GPOS ↦ Some (record { 0 = (if has number 256 then 2 else 1) }) ];
+  chosen_script = λ _ _ table. elim table [
+    | GSUB ↦ Some (record { 0 = 1 })
+    | GPOS ↦ Some
+        (record { 0 = (if has number 256 then 2 else 1) })
+  ];
   compiled = λ _. number;
   has_glyph_classes = has number 1024;
   has_kerning = has number 32;

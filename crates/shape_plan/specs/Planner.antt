@@ -127,6 +127,7 @@ compiled_plan planning features planner =
     })
 
 -- the plan for a face, a shaper, a direction, a script, a language and the user's features
-unfoldable pub planned : {F S P D : Type 0} → Planning F S P D → F → S → Direction → Option Script → Option (List ℕ) → List Feature → Plan S P D
+unfoldable pub planned : {F S P D : Type 0} → Planning F S P D → F → S → Direction → Option Script → Option (List ℕ) → List Feature
+    → Plan S P D
 planned planning face shaper direction script language features =
     compiled_plan planning features (collected_planner planning features (begun_planner planning face shaper direction script language))

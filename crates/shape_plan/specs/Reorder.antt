@@ -4,7 +4,7 @@ use Rattle.std.specs.List.{All, swap}
 use Rattle.std.specs.List.Sorted.{IsNonDecreasingBy}
 use Rattle.shape_buffer.specs.Buffer.{Buffer}
 use Rattle.shape_buffer.specs.BufferClusters.{merge_clusters}
-use Rattle.shape_buffer.specs.Items.{Item, class_of_item}
+use Rattle.shape_buffer.specs.Items.{Item, ccc_of_item}
 
 -- the longest run of marks that is put in order
 abbrev pub max_run : ℕ
@@ -15,27 +15,31 @@ pub record IsRunInOrder (items : List Item) (start end : ℕ) : Type 0 where
   pub some : start < end
   pub within : end ≤ length items
   pub short : end - start ≤ max_run
-  pub marks : All (λ item. 0 < class_of_item item) (slice_range items start end)
-  pub in_order : IsNonDecreasingBy class_of_item (slice_range items start end)
+  pub marks : All (λ item. 0 < ccc_of_item item) (slice_range items start end)
+  pub in_order : IsNonDecreasingBy ccc_of_item (slice_range items start end)
 
 -- the items at two places exchanged
 abbrev pub exchanged : ℕ → ℕ → Buffer → Buffer
 exchanged i j b = record b { items = swap b.items i j }
 
 -- an item of another class
-abbrev pub with_class : ℕ → Item → Item
-with_class class item = record item { properties = record item.properties { modified_class = class } }
+abbrev pub with_ccc : ℕ → Item → Item
+with_ccc ccc item = record item { properties = record item.properties { modified_ccc = ccc } }
 
 -- the item at a place with another class
-abbrev pub reclassed : ℕ → Item → ℕ → Buffer → Buffer
-reclassed i item class b = record b { items = set b.items i (with_class class item) }
+abbrev pub ccc_set : ℕ → Item → ℕ → Buffer → Buffer
+ccc_set i item ccc b = record b { items = set b.items i (with_ccc ccc item) }
 
--- the items from place `start` up to `end` in another order: finitely many steps lead there, each of which exchanges two of them, merges the clusters of a span within the range, whose growth may reach items outside it, or gives one of them another nonzero class
+-- the items from place `start` up to `end` in another order: finitely many steps lead there, each of which exchanges two of them, merges
+-- the clusters of a span within the range, whose growth may reach items outside it, or gives one of them another nonzero class
 pub data Reorders (start end : ℕ) : Buffer → Buffer → Type 0 where
   done : {b : Buffer} → Reorders start end b b
-  exchange : {b c : Buffer} (i j : ℕ) → start ≤ i → i < end → start ≤ j → j < end → Reorders start end (exchanged i j b) c → Reorders start end b c
-  merge : {b c : Buffer} (from to : ℕ) → start ≤ from → from ≤ to → to ≤ end → Reorders start end (merge_clusters from to b) c → Reorders start end b c
-  reclass : {b c : Buffer} (i : ℕ) (item : Item) (class : ℕ) → start ≤ i → i < end → item ≡ get_or b.items i item → 0 < class → class < 256 → Reorders start end (reclassed i item class b) c → Reorders start end b c
+  exchange : {b c : Buffer} (i j : ℕ) → start ≤ i → i < end → start ≤ j → j < end → Reorders start end (exchanged i j b) c
+      → Reorders start end b c
+  merge : {b c : Buffer} (from to : ℕ) → start ≤ from → from ≤ to → to ≤ end → Reorders start end (merge_clusters from to b) c
+      → Reorders start end b c
+  set_ccc : {b c : Buffer} (i : ℕ) (item : Item) (ccc : ℕ) → start ≤ i → i < end → item ≡ get_or b.items i item → 0 < ccc → ccc < 256
+      → Reorders start end (ccc_set i item ccc b) c → Reorders start end b c
 
 -- each run in order is put in another order
 pub record ReordersRanges (reordered : Buffer → ℕ → ℕ → Buffer) : Type 0 where

@@ -90,7 +90,8 @@ hook_of given hook shaper = if given then option_map hook shaper else None
 
 -- a hook's requests at the end of a builder
 abbrev pub hooked : Collector → Direction → Option Script → Builder → Builder
-hooked collector direction script builder = option_map_or (λ collect. with_requests builder (collect builder direction script)) collector builder
+hooked collector direction script builder =
+    option_map_or (λ collect. with_requests builder (collect builder direction script)) collector builder
 
 -- a builder is simple no longer where the test holds
 abbrev pub not_simple_if : Bool → Builder → Builder

@@ -14,7 +14,7 @@ pub record Rules : Type 0 where
   -- the split in use, a height that falls along it, and the join in use
   pub split : ℕ → Option (ℕ × ℕ)
   pub height : ℕ → ℕ
-  pub join : ℕ → ℕ → Option ℕ
+  pub compose : ℕ → ℕ → Option ℕ
   pub face : FaceMeaning
   -- what `reorder_marks` does, where it is given
   pub reorder : Option (Buffer → ℕ → ℕ → Buffer)
@@ -31,8 +31,8 @@ abbrev pub used_height : UnicodeMeaning → Bool → Option HookMeaning → ℕ 
 used_height unicode given hooks c = option_map_or (λ h. if given then h.height c else unicode.height c) hooks (unicode.height c)
 
 -- and so is the join
-abbrev pub used_join : UnicodeMeaning → Bool → Option HookMeaning → ℕ → ℕ → Option ℕ
-used_join unicode given hooks a b = option_map_or (λ h. if given then h.join a b else unicode.join a b) hooks (unicode.join a b)
+abbrev pub used_compose : UnicodeMeaning → Bool → Option HookMeaning → ℕ → ℕ → Option ℕ
+used_compose unicode given hooks a b = option_map_or (λ h. if given then h.compose a b else unicode.compose a b) hooks (unicode.compose a b)
 
 -- and what `reorder_marks` does
 abbrev pub used_reorder : Bool → Option HookMeaning → Option (Buffer → ℕ → ℕ → Buffer)
@@ -42,7 +42,8 @@ used_reorder given hooks = if given then option_map (λ h. h.reorder) hooks else
 abbrev pub used_mode : {S P D : Type 0} → ℤ → Plan S P D → ℤ
 used_mode preference plan = option_map_or (λ shaper. preference) plan.shaper (pos 4)
 
--- in mode NONE each character goes short, in COMPOSED_DIACRITICS those by themselves, in the other two none; AUTO acts as COMPOSED_DIACRITICS
+-- in mode NONE each character goes short, in COMPOSED_DIACRITICS those by themselves, in the other two none; AUTO acts as
+-- COMPOSED_DIACRITICS
 abbrev pub goes_short : ℤ → Bool → Bool
 goes_short mode in_sequence =
     if int_eq mode (pos 0) then true
@@ -54,12 +55,13 @@ abbrev pub mode_recomposes : ℤ → Bool
 mode_recomposes mode = int_eq mode (pos 2) || int_eq mode (pos 3) || int_eq mode (pos 4)
 
 -- by Unicode, the constants and meanings of a shaper, the meaning of faces, a plan and a face
-abbrev pub rules_of : {S P D F : Type 0} → UnicodeMeaning → ShaperConstants → (S → Plan S P D → F → HookMeaning) → (F → FaceMeaning) → Plan S P D → F → Rules
+abbrev pub rules_of : {S P D F : Type 0} → UnicodeMeaning → ShaperConstants → (S → Plan S P D → F → HookMeaning) → (F → FaceMeaning)
+    → Plan S P D → F → Rules
 rules_of unicode constants hooks faces plan face = record {
   unicode = unicode;
   split = used_split unicode constants.has_decompose (hooks_of hooks plan face);
   height = used_height unicode constants.has_decompose (hooks_of hooks plan face);
-  join = used_join unicode constants.has_compose (hooks_of hooks plan face);
+  compose = used_compose unicode constants.has_compose (hooks_of hooks plan face);
   face = faces face;
   reorder = used_reorder constants.has_reorder_marks (hooks_of hooks plan face);
   short = goes_short (used_mode constants.preference plan);
@@ -72,7 +74,7 @@ rules_without_shaper unicode face = record {
   unicode = unicode;
   split = unicode.split;
   height = unicode.height;
-  join = unicode.join;
+  compose = unicode.compose;
   face = face;
   reorder = None;
   short = goes_short (pos 4);

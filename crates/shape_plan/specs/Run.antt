@@ -28,7 +28,8 @@ pub record Run : Type 0 where
   -- what normalising goes by
   pub rules : Rules
 
-abbrev pub run_of : {S P D F : Type 0} → UnicodeMeaning → (P → MapMeaning) → (P → F → LookupMeaning) → ShaperConstants → (S → Plan S P D → F → HookMeaning) → (F → FaceMeaning) → Plan S P D → F → Run
+abbrev pub run_of : {S P D F : Type 0} → UnicodeMeaning → (P → MapMeaning) → (P → F → LookupMeaning) → ShaperConstants
+    → (S → Plan S P D → F → HookMeaning) → (F → FaceMeaning) → Plan S P D → F → Run
 run_of unicode masks lookups constants hooks faces plan face = record {
   unicode = unicode;
   face = faces face;

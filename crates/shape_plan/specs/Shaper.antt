@@ -6,6 +6,7 @@ use Rattle.shape_buffer.specs.Items.{Item}
 use Rattle.canonical_form.specs.Chain.{FallsAlong}
 use Rattle.shape_buffer.specs.declared.buffer.settings.hb_tag_t.{hb_tag_t}
 use Rattle.shape_plan.specs.Reorder.{ReordersRanges}
+use Rattle.shape_buffer.specs.FlagNames.{HAS_GLYPH_FLAGS}
 
 -- the constants of a shaper
 pub record ShaperConstants : Type 0 where
@@ -30,7 +31,7 @@ pub record HookMeaning : Type 0 where
   pub split : ℕ → Option (ℕ × ℕ)
   -- falls from a character to the first part of its split
   pub height : ℕ → ℕ
-  pub join : ℕ → ℕ → Option ℕ
+  pub compose : ℕ → ℕ → Option ℕ
   -- the buffer after `reorder_marks` from one place up to another
   pub reorder : Buffer → ℕ → ℕ → Buffer
   pub preprocess : Buffer → Buffer
@@ -59,7 +60,7 @@ without_mask item = record item { mask = 0 }
 -- nothing but masks differs, and the scratch flag "has glyph flags" (32), which may come to be set
 pub record ChangesMasksAlone (before after : Buffer) : Type 0 where
   pub items : map without_mask after.items ≡ map without_mask before.items
-  pub scratch : (after.scratch_flags.0 ≡ before.scratch_flags.0) ⊎ (after.scratch_flags.0 ≡ bit_or before.scratch_flags.0 32)
+  pub scratch : (after.scratch_flags.0 ≡ before.scratch_flags.0) ⊎ (after.scratch_flags.0 ≡ bit_or before.scratch_flags.0 HAS_GLYPH_FLAGS)
   pub rest : record after { items = before.items; scratch_flags = before.scratch_flags } ≡ before
 
 -- what every shaper owes of its hooks, whether they are given or not

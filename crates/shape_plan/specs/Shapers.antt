@@ -11,7 +11,7 @@ abbrev pub no_hooks : UnicodeMeaning → HookMeaning
 no_hooks unicode = record {
   split = unicode.split;
   height = unicode.height;
-  join = unicode.join;
+  compose = unicode.compose;
   reorder = λ b start end. b;
   preprocess = λ b. b;
   setup_masks = λ b. b;

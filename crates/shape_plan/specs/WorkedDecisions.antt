@@ -59,13 +59,16 @@ pub record ChoicesOfFaces : Type 0 where
   pub kern : choices with_kern ≡ false ∷ false ∷ true ∷ false ∷ true ∷ true ∷ true ∷ []
   pub gpos_then_kerx : choices with_both ≡ true ∷ true ∷ false ∷ false ∷ false ∷ false ∷ false ∷ []
   pub gpos_kerns : choices (record with_both { has_gpos_kern = true }) ≡ true ∷ false ∷ false ∷ false ∷ true ∷ false ∷ false ∷ []
-  pub kerx_without_gsub : choices (record with_kerx { tables = record no_tables { gpos = true; kerx = true } }) ≡ false ∷ true ∷ false ∷ false ∷ false ∷ false ∷ false ∷ []
+  pub kerx_without_gsub : choices (record with_kerx { tables = record no_tables { gpos = true; kerx = true } })
+      ≡ false ∷ true ∷ false ∷ false ∷ false ∷ false ∷ false ∷ []
   pub kerx_under_morx : choices (record with_both { apply_morx = true }) ≡ false ∷ true ∷ false ∷ false ∷ false ∷ false ∷ false ∷ []
   pub kerx_before_kern : choices (record with_kerx { has_kerning = true }) ≡ false ∷ true ∷ false ∷ false ∷ false ∷ false ∷ false ∷ []
   pub gpos_and_kern : choices (record with_gpos { has_kerning = true }) ≡ true ∷ false ∷ true ∷ false ∷ true ∷ false ∷ false ∷ []
-  pub gpos_kerns_itself : choices (record with_gpos { has_kerning = true; has_gpos_kern = true }) ≡ true ∷ false ∷ false ∷ false ∷ true ∷ false ∷ false ∷ []
+  pub gpos_kerns_itself : choices (record with_gpos { has_kerning = true; has_gpos_kern = true })
+      ≡ true ∷ false ∷ false ∷ false ∷ true ∷ false ∷ false ∷ []
   pub another_script : choices (record with_gpos { disable_gpos = true }) ≡ false ∷ false ∷ false ∷ true ∷ true ∷ true ∷ true ∷ []
-  pub another_script_kern : choices (record with_gpos { disable_gpos = true; has_gpos_kern = true; has_kerning = true }) ≡ false ∷ false ∷ true ∷ false ∷ true ∷ true ∷ true ∷ []
+  pub another_script_kern : choices (record with_gpos { disable_gpos = true; has_gpos_kern = true; has_kerning = true })
+      ≡ false ∷ false ∷ true ∷ false ∷ true ∷ true ∷ true ∷ []
 
 pub choices_of_faces : ChoicesOfFaces
 unfolding decided
@@ -88,10 +91,12 @@ choices_of_faces = record {
 pub record ChoicesForMarks : Type 0 where
   pub machine : choices (record with_kern { has_machine_kerning = true }) ≡ false ∷ false ∷ true ∷ false ∷ false ∷ true ∷ true ∷ []
   pub cross : choices (record with_kern { has_cross_kerning = true }) ≡ false ∷ false ∷ true ∷ false ∷ true ∷ false ∷ false ∷ []
-  pub machine_unused : choices (record nothing_known { has_machine_kerning = true; has_cross_kerning = true }) ≡ false ∷ false ∷ false ∷ true ∷ true ∷ true ∷ true ∷ []
+  pub machine_unused : choices (record nothing_known { has_machine_kerning = true; has_cross_kerning = true })
+      ≡ false ∷ false ∷ false ∷ true ∷ true ∷ true ∷ true ∷ []
   pub morx : choices (record nothing_known { apply_morx = true }) ≡ false ∷ false ∷ false ∷ true ∷ true ∷ true ∷ false ∷ []
   pub not_zeroed : choices (record nothing_known { script_zero_marks = false }) ≡ false ∷ false ∷ false ∷ true ∷ false ∷ true ∷ true ∷ []
-  pub not_placed : choices (record nothing_known { script_fallback_mark_positioning = false }) ≡ false ∷ false ∷ false ∷ true ∷ true ∷ false ∷ true ∷ []
+  pub not_placed : choices (record nothing_known { script_fallback_mark_positioning = false })
+      ≡ false ∷ false ∷ false ∷ true ∷ true ∷ false ∷ true ∷ []
 
 pub choices_for_marks : ChoicesForMarks
 unfolding decided

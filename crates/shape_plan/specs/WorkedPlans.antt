@@ -115,7 +115,8 @@ pub record KeptShapers : Type 0 where
   pub places : (begun_on constants_of only_morx LeftToRight).script_fallback_mark_positioning ≡ true
   pub zeroes_not : (begun_on (record constants_of { zero_width_marks = 0 }) no_tables LeftToRight).script_zero_marks ≡ false
   pub zeroes_late : (begun_on (record constants_of { zero_width_marks = 2 }) no_tables LeftToRight).script_zero_marks ≡ true
-  pub places_not : (begun_on (record constants_of { fallback_position = false }) no_tables LeftToRight).script_fallback_mark_positioning ≡ false
+  pub places_not : (begun_on (record constants_of { fallback_position = false }) no_tables LeftToRight).script_fallback_mark_positioning
+      ≡ false
   pub gsub_script : (begun_on constants_of no_tables LeftToRight).ot_map.gsub_script ≡ Some (tag 1)
   pub gpos_script : (begun_on constants_of no_tables LeftToRight).ot_map.gpos_script ≡ Some (tag 2)
 
@@ -216,8 +217,10 @@ pub record ScriptsOfShapers : Type 0 where
   pub no_tag : disabled None (Some 5) (Some (tag 2)) ≡ false
   pub gave_way : disabled (Some (tag 3)) None (Some (tag 2)) ≡ false
   -- the script chosen for GPOS counts, not that of GSUB
-  pub of_gpos : (planned_on (record constants_of { gpos_tag = Some (tag 2) }) (record no_tables { gpos = true }) LeftToRight []).decisions.apply_gpos ≡ true
-  pub of_gsub : (planned_on (record constants_of { gpos_tag = Some (tag 1) }) (record no_tables { gpos = true }) LeftToRight []).decisions.apply_gpos ≡ false
+  pub of_gpos : (planned_on (record constants_of { gpos_tag = Some (tag 2) })
+      (record no_tables { gpos = true }) LeftToRight []).decisions.apply_gpos ≡ true
+  pub of_gsub : (planned_on (record constants_of { gpos_tag = Some (tag 1) })
+      (record no_tables { gpos = true }) LeftToRight []).decisions.apply_gpos ≡ false
 
 pub scripts_of_shapers : ScriptsOfShapers
 unfolding begun_planner requested collected_planner facts_of decided compiled_plan planned

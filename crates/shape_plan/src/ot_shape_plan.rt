@@ -2,7 +2,8 @@
 //!
 //! A plan is made once, by its planner, and serves every text that it fits. What holds of every plan's
 //! decisions is kept with the type: no mask has a flag bit, and of `kern` and `kerx` one alone kerns.
-ghost use Rattle.std.specs.Prelude.{◌≡◌, ◌≢◌, ◌↔◌, IsTrue, None, IfOk, IfErr, IsOkUnless, OnOk, MatchResult, Option, option_copied, string_bytes};
+ghost use Rattle.std.specs.Prelude.{◌≡◌, ◌≢◌, ◌↔◌, IsTrue, None, IfOk, IfErr, IsOkUnless, OnOk};
+ghost use Rattle.std.specs.Prelude.{MatchResult, Option, option_copied, string_bytes};
 ghost use Rattle.std.specs.Option.{option_map};
 ghost use Rattle.shape_plan.specs.Decisions.{AreLawful, MasksAreFeatures, PositionsByOneTable};
 ghost use Rattle.shape_plan.specs.Planner.{planned, with_data};
@@ -70,7 +71,9 @@ where
     M: hb_ot_layout_t<F>,
     S: hb_ot_shaper_t<U, F, M>,
     ensures { MatchResult result
-        (λ made. made ≡ option_map (λ make. make plan.now) (hook_of S.constants.has_create_data S.made_data plan.now.shaper))
+        (λ made. made
+        ≡ option_map (λ make. make plan.now)
+        (hook_of S.constants.has_create_data S.made_data plan.now.shaper))
         (λ e. e ≡ ShapeError.Memory) }
 {
     match plan.shaper {
@@ -150,7 +153,8 @@ impl<'a, S, P, D> hb_ot_shape_plan_t<'a, S, P, D> {
         D: Drop,
         requires { direction ≢ Direction.Invalid }
         ensures plan { IfOk result (λ plan. plan ≡ planned ⟦<S as Plans<U, F, M>>⟧.planning face.now shaper.now
-            direction script (option_map (λ l. string_bytes l.now.0) language.entry) user_features.now) }
+            direction script (option_map (λ l. string_bytes l.now.0) language.entry)
+            user_features.now) }
         ensures memory { IfErr result (λ e. e ≡ ShapeError.Memory) }
     {
         let mut planner = hb_ot_shape_planner_t::new::<U, M>(

@@ -3,7 +3,8 @@
 //! A shaper says by constants which hooks it gives; one that isn't given is never called. What the hooks
 //! mean is one record of functions, and what every shaper owes is a law of the trait. Its author writes a
 //! [`script_shaper`] and the hooks that it gives, each by the trait of [`hooks`].
-ghost use Rattle.std.specs.Prelude.{◌≡◌, ◌<◌, ◌≤◌, ℕ, ℤ, Bool, Option, List, length, MatchResult, OnOk, IfErr};
+ghost use Rattle.std.specs.Prelude.{◌≡◌, ◌<◌, ◌≤◌, ℕ, ℤ, Bool, Option, List, length, MatchResult};
+ghost use Rattle.std.specs.Prelude.{OnOk, IfErr};
 ghost use Rattle.shape_buffer.specs.MapBuilder.{Builder, with_requests};
 ghost use Rattle.shape_buffer.specs.Outcome.{IsWithinLimit, Made, Outcome, step};
 ghost use Rattle.shape_buffer.specs.declared.buffer.settings.Direction.{Direction as AnyDirection};
@@ -177,7 +178,8 @@ pub trait hb_ot_shaper_t<U: hb_unicode_funcs_t, F: hb_font_t, M: hb_ot_layout_t<
         direction: Direction,
         script: Option<Script>,
     ) -> Result<(), ShapeError>
-        ensures ok { OnOk result (builder.new ≡ with_requests builder.old (collected self.now builder.old direction script)) }
+        ensures ok { OnOk result (builder.new
+            ≡ with_requests builder.old (collected self.now builder.old direction script)) }
         ensures memory { IfErr result (λ e. e ≡ ShapeError.Memory) };
 
     /// Requests features after those of the user.
@@ -188,7 +190,8 @@ pub trait hb_ot_shaper_t<U: hb_unicode_funcs_t, F: hb_font_t, M: hb_ot_layout_t<
         direction: Direction,
         script: Option<Script>,
     ) -> Result<(), ShapeError>
-        ensures ok { OnOk result (builder.new ≡ with_requests builder.old (overriding self.now builder.old direction script)) }
+        ensures ok { OnOk result (builder.new
+            ≡ with_requests builder.old (overriding self.now builder.old direction script)) }
         ensures memory { IfErr result (λ e. e ≡ ShapeError.Memory) };
 
     /// Makes what the shaper keeps in a plan.
@@ -197,7 +200,8 @@ pub trait hb_ot_shaper_t<U: hb_unicode_funcs_t, F: hb_font_t, M: hb_ot_layout_t<
         alloc: Global,
         plan: &hb_ot_shape_plan_t<'_, Self, M::Map, Self::Data>,
     ) -> Result<Self::Data, ShapeError>
-        ensures { MatchResult result (λ «data». «data» ≡ made_data self.now plan.now) (λ e. e ≡ ShapeError.Memory) };
+        ensures { MatchResult result (λ «data». «data» ≡ made_data self.now plan.now)
+            (λ e. e ≡ ShapeError.Memory) };
 
     /// Changes the text before it is normalised.
     fn preprocess_text(
@@ -208,7 +212,8 @@ pub trait hb_ot_shaper_t<U: hb_unicode_funcs_t, F: hb_font_t, M: hb_ot_layout_t<
         buffer: &mut hb_buffer_t,
     ) -> Result<(), ShapeError>
         requires { IsWithinLimit buffer.old }
-        ensures { Outcome (step (hooks self.now plan.now face.now).preprocess) buffer.old buffer.new result };
+        ensures { Outcome (step (hooks self.now plan.now face.now).preprocess)
+            buffer.old buffer.new result };
 
     /// Changes the glyphs after they were positioned.
     fn postprocess_glyphs(
@@ -219,7 +224,8 @@ pub trait hb_ot_shaper_t<U: hb_unicode_funcs_t, F: hb_font_t, M: hb_ot_layout_t<
         buffer: &mut hb_buffer_t,
     ) -> Result<(), ShapeError>
         requires { IsWithinLimit buffer.old }
-        ensures { Outcome (step (hooks self.now plan.now face.now).postprocess) buffer.old buffer.new result };
+        ensures { Outcome (step (hooks self.now plan.now face.now).postprocess)
+            buffer.old buffer.new result };
 
     /// Runs the pause of number `n` between two stages of substitution.
     fn pause(
@@ -231,7 +237,8 @@ pub trait hb_ot_shaper_t<U: hb_unicode_funcs_t, F: hb_font_t, M: hb_ot_layout_t<
         buffer: &mut hb_buffer_t,
     ) -> Result<(), ShapeError>
         requires { IsWithinLimit buffer.old }
-        ensures { Outcome (step ((hooks self.now plan.now face.now).pause n)) buffer.old buffer.new result };
+        ensures { Outcome (step ((hooks self.now plan.now face.now).pause n))
+            buffer.old buffer.new result };
 
     /// The two parts that a character splits into in one step, in place of Unicode's.
     fn decompose(
@@ -250,7 +257,7 @@ pub trait hb_ot_shaper_t<U: hb_unicode_funcs_t, F: hb_font_t, M: hb_ot_layout_t<
         a: char,
         b: char,
     ) -> Option<char>
-        ensures { result ≡ (hooks self.now plan.now face.now).join a b };
+        ensures { result ≡ (hooks self.now plan.now face.now).compose a b };
 
     /// Sets masks before glyphs are substituted.
     fn setup_masks(
@@ -273,7 +280,8 @@ pub trait hb_ot_shaper_t<U: hb_unicode_funcs_t, F: hb_font_t, M: hb_ot_layout_t<
         requires some { start < end }
         requires within { end ≤ length buffer.old.items }
         requires run { IsRunInOrder buffer.old.items start end }
-        ensures { (face : F) → buffer.new ≡ (hooks self.now plan.now face).reorder buffer.old start end };
+        ensures { (face : F)
+            → buffer.new ≡ (hooks self.now plan.now face).reorder buffer.old start end };
 
     /// The preference and the zero width type are in their ranges.
     ghost lawful_constants: { LawfulConstants constants };

@@ -6,9 +6,12 @@
 //! that come early and late in every text, and the user's behind all, where they win. `compile` has the
 //! engine compile the requests, and then decides who positions, kerns and places marks. All that depends
 //! on no text is settled here, once for every text that the plan fits.
-ghost use Rattle.std.specs.Prelude.{◌≡◌, OnOk, IsOkUnless, IfOk, IfErr, MatchResult, string_bytes, List, Option};
+ghost use Rattle.std.specs.Prelude.{◌≡◌, OnOk, IsOkUnless, IfOk, IfErr, MatchResult, string_bytes};
+ghost use Rattle.std.specs.Prelude.{List, Option};
 ghost use Rattle.std.specs.Option.{option_map};
-ghost use Rattle.shape_plan.specs.Planner.{begun_planner, collected_planner, compiled_plan, facts_of, kept_shaper, kern_tag as kern_tag_of, is_gpos_disabled, uses_morx as uses_morx_of};
+ghost use Rattle.shape_plan.specs.Planner.{begun_planner, collected_planner, compiled_plan};
+ghost use Rattle.shape_plan.specs.Planner.{facts_of, kept_shaper, kern_tag as kern_tag_of};
+ghost use Rattle.shape_plan.specs.Planner.{is_gpos_disabled, uses_morx as uses_morx_of};
 ghost use Rattle.shape_plan.specs.Plan.{given_shaper};
 ghost use Rattle.shape_plan.specs.Decisions.{decided, MasksAreFeatures, PositionsByOneTable};
 
@@ -127,7 +130,8 @@ impl<'a, F, S> hb_ot_shape_planner_t<'a, F, S> {
         F: hb_font_t,
         M: hb_ot_layout_t<F>,
         S: hb_ot_shaper_t<U, F, M>,
-        ensures { result ≡ begun_planner ⟦<S as Plans<U, F, M>>⟧.planning face.now shaper.now direction script
+        ensures { result
+            ≡ begun_planner ⟦<S as Plans<U, F, M>>⟧.planning face.now shaper.now direction script
             (option_map (λ l. string_bytes l.now.0) language.entry) }
     {
         let apply_morx = uses_morx(face.tables(), direction);
@@ -156,7 +160,8 @@ impl<'a, F, S> hb_ot_shape_planner_t<'a, F, S> {
         F: hb_font_t,
         M: hb_ot_layout_t<F>,
         S: hb_ot_shaper_t<U, F, M>,
-        ensures ok { OnOk result (self.new ≡ collected_planner ⟦<S as Plans<U, F, M>>⟧.planning user_features.now self.old) }
+        ensures ok { OnOk result (self.new
+            ≡ collected_planner ⟦<S as Plans<U, F, M>>⟧.planning user_features.now self.old) }
         ensures memory { IsOkUnless result ShapeError.Memory }
     {
         let (direction, script, shaper) = (self.direction, self.script, self.shaper);
@@ -182,7 +187,8 @@ impl<'a, F, S> hb_ot_shape_planner_t<'a, F, S> {
         F: hb_font_t,
         M: hb_ot_layout_t<F>,
         S: hb_ot_shaper_t<U, F, M>,
-        ensures plan { IfOk result (λ plan. plan ≡ compiled_plan ⟦<S as Plans<U, F, M>>⟧.planning user_features.now self.entry) }
+        ensures plan { IfOk result (λ plan. plan
+            ≡ compiled_plan ⟦<S as Plans<U, F, M>>⟧.planning user_features.now self.entry) }
         ensures masks { IfOk result (λ plan. MasksAreFeatures plan.decisions) }
         ensures tables { IfOk result (λ plan. PositionsByOneTable plan.decisions) }
         ensures memory { IfErr result (λ e. e ≡ ShapeError.Memory) }

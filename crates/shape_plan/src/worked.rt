@@ -1,7 +1,10 @@
 //! The definitions of planning, computed on small cases whose answers are worked out by hand.
-ghost use Rattle.shape_plan.specs.WorkedRequests.{RequestsOfDirections, RequestsOfUsers, RequestsOfHooks};
-ghost use Rattle.shape_plan.specs.WorkedDecisions.{ChoicesOfFaces, ChoicesForMarks, DecisionsOfMasks};
-ghost use Rattle.shape_plan.specs.WorkedPlans.{KeptShapers, PlansOfFaces, MasksOfPlans, ScriptsOfShapers};
+ghost use Rattle.shape_plan.specs.WorkedRequests.{RequestsOfDirections, RequestsOfUsers};
+ghost use Rattle.shape_plan.specs.WorkedRequests.{RequestsOfHooks};
+ghost use Rattle.shape_plan.specs.WorkedDecisions.{ChoicesOfFaces, ChoicesForMarks};
+ghost use Rattle.shape_plan.specs.WorkedDecisions.{DecisionsOfMasks};
+ghost use Rattle.shape_plan.specs.WorkedPlans.{KeptShapers, PlansOfFaces, MasksOfPlans};
+ghost use Rattle.shape_plan.specs.WorkedPlans.{ScriptsOfShapers};
 
 /// What is asked for in each direction, for the user and by hooks.
 pub fn requests_meet_worked_cases()

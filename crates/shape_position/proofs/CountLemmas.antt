@@ -31,7 +31,8 @@ record SameCount (before after : Buffer) : Type 0 where
 SameCount-same : (b : Buffer) → SameCount b b
 SameCount-same b = record { items = refl; positions = refl }
 
-SameCount-keeps : (before after : Buffer) → SameCount before after → length before.positions ≡ length before.items → length after.positions ≡ length after.items
+SameCount-keeps : (before after : Buffer) → SameCount before after → length before.positions ≡ length before.items
+    → length after.positions ≡ length after.items
 SameCount-keeps before after same as_many = ap length same.positions ∙ as_many ∙ sym same.items
 
 -- ---- a range of items changed
@@ -96,7 +97,8 @@ count-hand_on k x rest b = elim (cases_Bool (begins_in x.cluster rest)) [
 ]
 
 -- from lists of one length, the same place goes
-length-remove_both : {X Y : Type 0} (k : ℕ) (xs : List X) (ys : List Y) → length xs ≡ length ys → length (remove xs k) ≡ length (remove ys k)
+length-remove_both : {X Y : Type 0} (k : ℕ) (xs : List X) (ys : List Y) → length xs ≡ length ys
+    → length (remove xs k) ≡ length (remove ys k)
 length-remove_both k xs ys same =
     let before = length-take k xs in
     let behind = length-drop (suc k) xs in
@@ -122,7 +124,8 @@ as_many-visit p k next b (x ∷ rest) later as_many = elim (cases_Bool (p x)) [
 
 as_many-delete_from : (p : Item → Bool) (n k : ℕ) → KeepsAsMany (delete_from p n k)
 as_many-delete_from p zero k b as_many = rw (delete_from-zero p k b) as_many
-as_many-delete_from p (suc n) k b as_many = rw (delete_from-suc p n k b) (as_many-visit p k (delete_from p n) b (drop k b.items) (as_many-delete_from p n) as_many)
+as_many-delete_from p (suc n) k b as_many =
+    rw (delete_from-suc p n k b) (as_many-visit p k (delete_from p n) b (drop k b.items) (as_many-delete_from p n) as_many)
 
 -- ---- hiding
 
@@ -140,7 +143,8 @@ as_many-hidden face b as_many = elim (cases_Bool (hides_ignorables b)) [
 
 -- ---- flags
 
-length-flagged : (flags : BufferFlags) (before : Option (ℕ × ℕ)) (items : List Item) → length (flagged_from flags before items) ≡ length items
+length-flagged : (flags : BufferFlags) (before : Option (ℕ × ℕ)) (items : List Item)
+    → length (flagged_from flags before items) ≡ length items
 unfolding flagged_from
 length-flagged flags before [] = refl
 length-flagged flags before (x ∷ items) = ap suc (length-flagged flags (Some (x.cluster, mask_after flags before x (x ∷ items))) items)

@@ -55,13 +55,15 @@ settings-visit : (p : Item → Bool) (k : ℕ) (next : ℕ → Buffer → Buffer
 settings-visit p k next b [] later = SameSettings-same b
 settings-visit p k next b (x ∷ rest) later = elim (cases_Bool (p x)) [
   | inl picked ↦ rw (visit_lost p k next b x rest picked)
-      (SameSettings-then (SameSettings-then (settings-hand_on k x rest b) (settings-lose k (hand_on k x rest b))) (later k (lose k (hand_on k x rest b))))
+      (SameSettings-then (SameSettings-then (settings-hand_on k x rest b) (settings-lose k (hand_on k x rest b)))
+      (later k (lose k (hand_on k x rest b))))
   | inr stays ↦ rw (visit_kept p k next b x rest stays) (later (k + 1) b)
 ]
 
 settings-delete_from : (p : Item → Bool) (n k : ℕ) (b : Buffer) → SameSettings b (delete_from p n k b)
 settings-delete_from p zero k b = rw (delete_from-zero p k b) (SameSettings-same b)
-settings-delete_from p (suc n) k b = rw (delete_from-suc p n k b) (settings-visit p k (delete_from p n) b (drop k b.items) (λ j c. settings-delete_from p n j c))
+settings-delete_from p (suc n) k b =
+    rw (delete_from-suc p n k b) (settings-visit p k (delete_from p n) b (drop k b.items) (λ j c. settings-delete_from p n j c))
 
 pub settings-deleted : (p : Item → Bool) (b : Buffer) → SameSettings b (deleted p b)
 settings-deleted p b = settings-delete_from p (length b.items) 0 b

@@ -19,7 +19,8 @@ use Rattle.shape_plan.specs.Run.{step_if, hook_if}
 use Rattle.shape_plan.specs.Shaper.{HookMeaning}
 use Rattle.shape_position.specs.Kept.{KeepsAsMany}
 
-pub some_has-map : (f : Item → Item) → ((x : Item) → (f x).mask ≡ x.mask) → (flag : ℕ) (xs : List Item) → some_has flag (map f xs) ≡ some_has flag xs
+pub some_has-map : (f : Item → Item) → ((x : Item) → (f x).mask ≡ x.mask) → (flag : ℕ) (xs : List Item)
+    → some_has flag (map f xs) ≡ some_has flag xs
 some_has-map f same flag [] = refl
 some_has-map f same flag (x ∷ xs) = rw (same x, some_has-map f same flag xs) refl
 
@@ -33,7 +34,8 @@ order-positions_mapped f b monotone = record { clusters = KeepsClusters-equal _ 
 
 pub flags-items_mapped : (f : Item → Item) → ((x : Item) → (f x).mask ≡ x.mask) → IsFlagKeeper (items_mapped f)
 unfolding items_mapped
-flags-items_mapped f same b = record { flags = refl; stays_set = λ set. set; none_new = λ flag defined some. inl (sym (some_has-map f same flag b.items) ∙ some) }
+flags-items_mapped f same b =
+    record { flags = refl; stays_set = λ set. set; none_new = λ flag defined some. inl (sym (some_has-map f same flag b.items) ∙ some) }
 
 pub flags-positions_mapped : (f : Item → GlyphPosition → GlyphPosition) → IsFlagKeeper (positions_mapped f)
 unfolding positions_mapped

@@ -88,28 +88,46 @@ as_many-ignorables_zeroed b as_many = elim (cases_Bool (hides_ignorables b && no
 not_found-cluster : (glyph : GlyphId) (item : Item) → (not_found_item glyph item).cluster ≡ item.cluster
 not_found-cluster glyph item = by_mark item.properties.selector_mark
   where
-    by_mark : (marked : Bool) → (if marked then record item { glyph_id = glyph.0; properties = record item.properties { selector_mark = false } } else item).cluster ≡ item.cluster
+    by_mark : (marked : Bool)
+        → (if marked then record item { glyph_id = glyph.0; properties = record item.properties { selector_mark = false } }
+        else item).cluster ≡ item.cluster
     by_mark true = refl
     by_mark false = refl
 
 not_found-mask : (glyph : GlyphId) (item : Item) → (not_found_item glyph item).mask ≡ item.mask
 not_found-mask glyph item = by_mark item.properties.selector_mark
   where
-    by_mark : (marked : Bool) → (if marked then record item { glyph_id = glyph.0; properties = record item.properties { selector_mark = false } } else item).mask ≡ item.mask
+    by_mark : (marked : Bool)
+        → (if marked then record item { glyph_id = glyph.0; properties = record item.properties { selector_mark = false } } else item).mask
+        ≡ item.mask
     by_mark true = refl
     by_mark false = refl
 
 order-replaced_by : (glyph : Option GlyphId) → IsClusterKeeper (selectors_replaced_by glyph)
 order-replaced_by None b monotone = KeepsOrder-same b
-order-replaced_by (Some glyph) b monotone = record { clusters = KeepsClusters-equal _ _ (clusters-map (not_found_item glyph) (not_found-cluster glyph) b.items); direction = refl; flags = refl; level = refl }
+order-replaced_by (Some glyph) b monotone =
+    record {
+      clusters = KeepsClusters-equal _ _ (clusters-map (not_found_item glyph)
+          (not_found-cluster glyph) b.items);
+      direction = refl;
+      flags = refl;
+      level = refl;
+    }
 
 flags-replaced_by : (glyph : Option GlyphId) → IsFlagKeeper (selectors_replaced_by glyph)
 flags-replaced_by None b = KeepsFlags-same b
-flags-replaced_by (Some glyph) b = record { flags = refl; stays_set = λ set. set; none_new = λ flag defined some. inl (sym (some_has-map (not_found_item glyph) (not_found-mask glyph) flag b.items) ∙ some) }
+flags-replaced_by (Some glyph) b =
+    record {
+      flags = refl;
+      stays_set = λ set. set;
+      none_new = λ flag defined some. inl
+          (sym (some_has-map (not_found_item glyph) (not_found-mask glyph) flag b.items) ∙ some);
+    }
 
 as_many-replaced_by : (glyph : Option GlyphId) → KeepsAsMany (selectors_replaced_by glyph)
 as_many-replaced_by None b as_many = as_many
-as_many-replaced_by (Some glyph) b as_many = length-positions_over not_found_position b.items b.positions as_many ∙ sym (length-map b.items (not_found_item glyph))
+as_many-replaced_by (Some glyph) b as_many =
+    length-positions_over not_found_position b.items b.positions as_many ∙ sym (length-map b.items (not_found_item glyph))
 
 order-selectors : IsClusterKeeper selectors_replaced
 unfolding selectors_replaced
@@ -177,7 +195,8 @@ flags-hidden face b = elim (cases_Bool (hides_ignorables b)) [
 
 -- ---- flags
 
-clusters-flagged : (flags : BufferFlags) (before : Option (ℕ × ℕ)) (items : List Item) → clusters (flagged_from flags before items) ≡ clusters items
+clusters-flagged : (flags : BufferFlags) (before : Option (ℕ × ℕ)) (items : List Item)
+    → clusters (flagged_from flags before items) ≡ clusters items
 unfolding flagged_from
 clusters-flagged flags before [] = refl
 clusters-flagged flags before (x ∷ items) =
@@ -204,27 +223,33 @@ flags-flags b = elim (cases_Bool (has_glyph_flags b)) [
 
 -- ---- tables
 
-order-tables : (lookups : LookupMeaning) (decisions : Decisions) → LookupsKeepClusters lookups → IsClusterKeeper (table_positioned lookups decisions)
+order-tables : (lookups : LookupMeaning) (decisions : Decisions) → LookupsKeepClusters lookups
+    → IsClusterKeeper (table_positioned lookups decisions)
 order-tables lookups decisions keeps = by_gpos decisions.apply_gpos
   where
-    by_gpos : (gpos : Bool) → IsClusterKeeper (if gpos then lookups.position else step_if decisions.apply_kerx (lookups.aat_position decisions.kern_mask))
+    by_gpos : (gpos : Bool)
+        → IsClusterKeeper (if gpos then lookups.position else step_if decisions.apply_kerx (lookups.aat_position decisions.kern_mask))
     by_gpos true = keeps.position
     by_gpos false = order-step_if decisions.apply_kerx (keeps.aat_position decisions.kern_mask)
 
-flags-tables : (lookups : LookupMeaning) (decisions : Decisions) → LookupsKeepFlags lookups → IsFlagKeeper (table_positioned lookups decisions)
+flags-tables : (lookups : LookupMeaning) (decisions : Decisions) → LookupsKeepFlags lookups
+    → IsFlagKeeper (table_positioned lookups decisions)
 flags-tables lookups decisions keeps = by_gpos decisions.apply_gpos
   where
-    by_gpos : (gpos : Bool) → IsFlagKeeper (if gpos then lookups.position else step_if decisions.apply_kerx (lookups.aat_position decisions.kern_mask))
+    by_gpos : (gpos : Bool)
+        → IsFlagKeeper (if gpos then lookups.position else step_if decisions.apply_kerx (lookups.aat_position decisions.kern_mask))
     by_gpos true = keeps.position
     by_gpos false = flags-step_if decisions.apply_kerx (keeps.aat_position decisions.kern_mask)
 
 order-zeroed_at : (time : ℕ) (run : Run) → IsClusterKeeper (zeroed_at time run.decisions run.constants run.hooks)
 order-zeroed_at time run =
-    order-step_if (run.decisions.zero_marks && (zero_width_time run.constants run.hooks == time)) (order-marks_zeroed run.decisions.adjust_mark_positioning_when_zeroing)
+    order-step_if (run.decisions.zero_marks && (zero_width_time run.constants run.hooks == time))
+    (order-marks_zeroed run.decisions.adjust_mark_positioning_when_zeroing)
 
 flags-zeroed_at : (time : ℕ) (run : Run) → IsFlagKeeper (zeroed_at time run.decisions run.constants run.hooks)
 flags-zeroed_at time run =
-    flags-step_if (run.decisions.zero_marks && (zero_width_time run.constants run.hooks == time)) (flags-marks_zeroed run.decisions.adjust_mark_positioning_when_zeroing)
+    flags-step_if (run.decisions.zero_marks && (zero_width_time run.constants run.hooks == time))
+    (flags-marks_zeroed run.decisions.adjust_mark_positioning_when_zeroing)
 
 -- ---- the lists
 
@@ -297,7 +322,8 @@ flags-show_steps run keeps = (
 pub steps_keep_clusters : StepsKeepClusters
 steps_keep_clusters = record {
   advances = λ run. (order-positions_mapped _, (order-advanced run.face, tt));
-  tables = λ run keeps. EachStep-append IsClusterKeeper (place_steps run) (close_steps run) (order-place_steps run keeps) (order-close_steps run keeps);
+  tables = λ run keeps. EachStep-append IsClusterKeeper (place_steps run) (close_steps run) (order-place_steps run keeps)
+      (order-close_steps run keeps);
   turning = turns-turned;
   showing = order-show_steps;
   flags = order-flags;
@@ -306,8 +332,13 @@ steps_keep_clusters = record {
 pub steps_keep_flags : StepsKeepFlags
 steps_keep_flags = record {
   advances = λ run. (flags-positions_mapped _, (flags-advanced run.face, tt));
-  tables = λ run keeps. EachStep-append IsFlagKeeper (place_steps run) (close_steps run) (flags-place_steps run keeps) (flags-close_steps run keeps);
-  finish = λ run keeps. (flags-turned, EachStep-append IsFlagKeeper (show_steps run) (plain_step flags_propagated ∷ []) (flags-show_steps run keeps) (flags-flags, tt));
+  tables = λ run keeps. EachStep-append IsFlagKeeper (place_steps run) (close_steps run) (flags-place_steps run keeps)
+      (flags-close_steps run keeps);
+  finish = λ run keeps. (
+    flags-turned,
+    EachStep-append IsFlagKeeper (show_steps run) (plain_step flags_propagated ∷ [])
+        (flags-show_steps run keeps) (flags-flags, tt),
+  );
 }
 
 pub steps_keep_count : StepsKeepCount

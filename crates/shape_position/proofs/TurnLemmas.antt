@@ -26,13 +26,15 @@ falls-reverse : (xs : List ℕ) → IsNonDecreasing xs → IsNonIncreasing (reve
 falls-reverse xs rising i j d le lt =
     let short : j < length xs = rw (← length-reverse xs) lt in
     let first : i < length xs = omega arith in
-    rw (get_or-reverse xs j d short, get_or-reverse xs i d first) (rising (length xs - 1 - j) (length xs - 1 - i) d (omega arith) (omega arith))
+    rw (get_or-reverse xs j d short, get_or-reverse xs i d first)
+    (rising (length xs - 1 - j) (length xs - 1 - i) d (omega arith) (omega arith))
 
 rises-reverse : (xs : List ℕ) → IsNonIncreasing xs → IsNonDecreasing (reverse xs)
 rises-reverse xs falling i j d le lt =
     let short : j < length xs = rw (← length-reverse xs) lt in
     let first : i < length xs = omega arith in
-    rw (get_or-reverse xs i d first, get_or-reverse xs j d short) (falling (length xs - 1 - j) (length xs - 1 - i) d (omega arith) (omega arith))
+    rw (get_or-reverse xs i d first, get_or-reverse xs j d short)
+    (falling (length xs - 1 - j) (length xs - 1 - i) d (omega arith) (omega arith))
 
 Contains-reverse : (xs : List ℕ) (x : ℕ) → Contains (reverse xs) x → Contains xs x
 Contains-reverse xs x (k, lt, e) =
@@ -72,20 +74,27 @@ turns-turned b = record {
   level = turned_level (is_backward b.direction);
 }
   where
-    turned_clusters : (backward : Bool) → clusters (turned_if backward b).items ≡ (if backward then reverse (clusters b.items) else clusters b.items)
+    turned_clusters : (backward : Bool)
+        → clusters (turned_if backward b).items ≡ (if backward then reverse (clusters b.items) else clusters b.items)
     turned_clusters true = clusters-reverse b.items
     turned_clusters false = refl
 
     turned_rising : (backward : Bool) → IsNonDecreasing (clusters b.items) → IsOrderedFor backward (clusters (turned_if backward b).items)
-    turned_rising true rising = let P : List ℕ → Type 0 = λ xs. IsNonIncreasing xs in subst P (sym (clusters-reverse b.items)) (falls-reverse (clusters b.items) rising)
+    turned_rising true rising =
+        let P : List ℕ
+        → Type 0 = λ xs. IsNonIncreasing xs in subst P (sym (clusters-reverse b.items)) (falls-reverse (clusters b.items) rising)
     turned_rising false rising = rising
 
-    turned_falling : (backward : Bool) → IsNonIncreasing (clusters b.items) → IsOrderedFor (not backward) (clusters (turned_if backward b).items)
-    turned_falling true falling = let P : List ℕ → Type 0 = λ xs. IsNonDecreasing xs in subst P (sym (clusters-reverse b.items)) (rises-reverse (clusters b.items) falling)
+    turned_falling : (backward : Bool) → IsNonIncreasing (clusters b.items)
+        → IsOrderedFor (not backward) (clusters (turned_if backward b).items)
+    turned_falling true falling =
+        let P : List ℕ
+        → Type 0 = λ xs. IsNonDecreasing xs in subst P (sym (clusters-reverse b.items)) (rises-reverse (clusters b.items) falling)
     turned_falling false falling = falling
 
     turned_none_new : (backward : Bool) (k : ℕ) → Contains (clusters (turned_if backward b).items) k → Contains (clusters b.items) k
-    turned_none_new true k is = Contains-reverse (clusters b.items) k (let P : List ℕ → Type 0 = λ xs. Contains xs k in subst P (clusters-reverse b.items) is)
+    turned_none_new true k is =
+        Contains-reverse (clusters b.items) k (let P : List ℕ → Type 0 = λ xs. Contains xs k in subst P (clusters-reverse b.items) is)
     turned_none_new false k is = is
 
     turned_direction : (backward : Bool) → (turned_if backward b).direction ≡ b.direction
@@ -101,14 +110,16 @@ turns-turned b = record {
     turned_level false = refl
 
 flags-turned_if : (backward : Bool) (b : Buffer) → KeepsFlags b (turned_if backward b)
-flags-turned_if true b = record { flags = refl; stays_set = λ set. set; none_new = λ flag defined some. inl (some_has-reverse flag b.items some) }
+flags-turned_if true b =
+    record { flags = refl; stays_set = λ set. set; none_new = λ flag defined some. inl (some_has-reverse flag b.items some) }
 flags-turned_if false b = KeepsFlags-same b
 
 pub flags-turned : IsFlagKeeper turned
 unfolding turned
 flags-turned b = flags-turned_if (is_backward b.direction) b
 
-as_many-turned_if : (backward : Bool) (b : Buffer) → length b.positions ≡ length b.items → length (turned_if backward b).positions ≡ length (turned_if backward b).items
+as_many-turned_if : (backward : Bool) (b : Buffer) → length b.positions ≡ length b.items
+    → length (turned_if backward b).positions ≡ length (turned_if backward b).items
 as_many-turned_if true b as_many = length-reverse b.positions ∙ as_many ∙ sym (length-reverse b.items)
 as_many-turned_if false b as_many = as_many
 

@@ -10,6 +10,7 @@ use Rattle.shape_buffer.specs.PositionWalks.{positions_mapped}
 use Rattle.shape_buffer.specs.Walks.{items_mapped}
 use Rattle.shape_buffer.specs.declared.buffer.positions.GlyphPosition.{GlyphPosition}
 use Rattle.shape_buffer.specs.declared.buffer.settings.GlyphId.{GlyphId}
+use Rattle.shape_buffer.specs.FlagNames.{PRESERVE_DEFAULT_IGNORABLES, REMOVE_DEFAULT_IGNORABLES, HAS_DEFAULT_IGNORABLES}
 
 -- the ignorable bit is set, and no lookup has put the glyph in
 abbrev pub is_ignorable : Item → Bool
@@ -17,11 +18,11 @@ is_ignorable item = item.properties.ignorable && not item.properties.substituted
 
 -- the run has seen default ignorables (scratch flag 2)
 abbrev pub has_ignorables : Buffer → Bool
-has_ignorables b = bit_and b.scratch_flags.0 2 == 2
+has_ignorables b = bit_and b.scratch_flags.0 HAS_DEFAULT_IGNORABLES == HAS_DEFAULT_IGNORABLES
 
 -- they stay visible (flag 8)
 abbrev pub preserves_ignorables : Buffer → Bool
-preserves_ignorables b = bit_and b.flags.0 8 == 8
+preserves_ignorables b = bit_and b.flags.0 PRESERVE_DEFAULT_IGNORABLES == PRESERVE_DEFAULT_IGNORABLES
 
 -- they are hidden: some were seen, and they don't stay visible
 abbrev pub hides_ignorables : Buffer → Bool
@@ -29,7 +30,7 @@ hides_ignorables b = has_ignorables b && not (preserves_ignorables b)
 
 -- they are taken out (flag 16)
 abbrev pub removes_ignorables : Buffer → Bool
-removes_ignorables b = bit_and b.flags.0 16 == 16
+removes_ignorables b = bit_and b.flags.0 REMOVE_DEFAULT_IGNORABLES == REMOVE_DEFAULT_IGNORABLES
 
 -- the four values 0; what the glyph is attached to stays
 abbrev pub without_values : GlyphPosition → GlyphPosition

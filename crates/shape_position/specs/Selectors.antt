@@ -7,15 +7,17 @@ use Rattle.shape_buffer.specs.PositionWalks.{positions_over}
 use Rattle.shape_buffer.specs.declared.buffer.positions.GlyphPosition.{GlyphPosition}
 use Rattle.shape_buffer.specs.declared.buffer.settings.GlyphId.{GlyphId}
 use Rattle.shape_position.specs.Ignorables.{without_values}
+use Rattle.shape_buffer.specs.FlagNames.{HAS_VARIATION_SELECTOR_FALLBACK}
 
 -- the run has seen such selectors (scratch flag 16)
 abbrev pub has_selector_fallback : Buffer → Bool
-has_selector_fallback b = bit_and b.scratch_flags.0 16 == 16
+has_selector_fallback b = bit_and b.scratch_flags.0 HAS_VARIATION_SELECTOR_FALLBACK == HAS_VARIATION_SELECTOR_FALLBACK
 
 -- a marked selector takes the glyph and loses its mark
 abbrev pub not_found_item : GlyphId → Item → Item
 not_found_item glyph item =
-    if item.properties.selector_mark then record item { glyph_id = glyph.0; properties = record item.properties { selector_mark = false } } else item
+    if item.properties.selector_mark then record item { glyph_id = glyph.0; properties = record item.properties { selector_mark = false } }
+    else item
 
 -- and its four values become 0
 abbrev pub not_found_position : Item → GlyphPosition → GlyphPosition

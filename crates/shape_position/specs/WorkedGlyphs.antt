@@ -30,7 +30,8 @@ marked item = record item { properties = record item.properties { selector_mark 
 
 -- items with these flags of the buffer and scratch flags, each at a position of its own
 abbrev text_of : List Item → List GlyphPosition → ℕ → ℕ → Buffer
-text_of items positions flags scratch = record new_buffer { items = items; positions = positions; flags = record { 0 = flags }; scratch_flags = record { 0 = scratch } }
+text_of items positions flags scratch =
+    record new_buffer { items = items; positions = positions; flags = record { 0 = flags }; scratch_flags = record { 0 = scratch } }
 
 -- what is handed out of glyphs: each with its cluster
 abbrev shown : Buffer → List (ℕ × ℕ)
@@ -70,7 +71,8 @@ hidden face items flags scratch = shown (ignorables_hidden face (text_of items (
 -- the same with a glyph for what isn't seen
 abbrev hidden_by : GlyphId → List Item → ℕ → List (ℕ × ℕ)
 hidden_by glyph items flags =
-    shown (ignorables_hidden (face_of 1000) (record (text_of items (map (λ _. zero_position) items) flags 2) { invisible_glyph = Some glyph }))
+    shown (ignorables_hidden (face_of 1000)
+    (record (text_of items (map (λ _. zero_position) items) flags 2) { invisible_glyph = Some glyph }))
 
 pub record HidingOfJoiners : Type 0 where
   pub by_space : hidden (face_of 1000) (a_at 0 ∷ joiner_at 1 ∷ []) 0 2 ≡ (1, 0) ∷ (3, 1) ∷ []
@@ -106,7 +108,8 @@ hiding_of_joiners = record {
 
 abbrev selected : Option GlyphId → ℕ → Buffer
 selected glyph scratch =
-    selectors_replaced (record (text_of (a_at 0 ∷ marked (glyph_at 8 0) ∷ []) (wide ∷ wide ∷ []) 0 scratch) { not_found_variation_selector_glyph = glyph })
+    selectors_replaced (record (text_of (a_at 0 ∷ marked (glyph_at 8 0) ∷ [])
+    (wide ∷ wide ∷ []) 0 scratch) { not_found_variation_selector_glyph = glyph })
 
 pub record SelectorsWithoutVariant : Type 0 where
   pub glyphs : shown (selected (Some (record { 0 = 9 })) 16) ≡ (1, 0) ∷ (9, 0) ∷ []
@@ -164,4 +167,5 @@ pub record WorkedGlyphs : Type 0 where
   pub flags : FlagsOfClusters
 
 pub worked_glyphs : WorkedGlyphs
-worked_glyphs = record { zeroing = zeroing_of_ignorables; hiding = hiding_of_joiners; selectors = selectors_without_variant; flags = flags_of_clusters }
+worked_glyphs =
+    record { zeroing = zeroing_of_ignorables; hiding = hiding_of_joiners; selectors = selectors_without_variant; flags = flags_of_clusters }

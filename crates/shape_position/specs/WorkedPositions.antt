@@ -53,14 +53,20 @@ abbrev with_origins : ℤ → FaceMeaning
 with_origins origin = record (face_of 1000) { h_origin = λ _. origin; v_origin = λ _. origin }
 
 pub record AdvancesOfOneGlyph : Type 0 where
-  pub cleared : (positions_cleared (one_glyph LeftToRight (record (at (pos 1) (pos 2) (pos 3) (pos 4)) { attach_chain = pos 5; attach_type = 6 }))).positions ≡ zero_position ∷ []
+  pub cleared : (positions_cleared (one_glyph LeftToRight
+      (record (at (pos 1) (pos 2) (pos 3) (pos 4)) { attach_chain = pos 5; attach_type = 6 }))).positions ≡ zero_position ∷ []
   pub rightward : (advanced (face_of 1000) (one_glyph LeftToRight zero_position)).positions ≡ at (pos 600) (pos 0) (pos 0) (pos 0) ∷ []
   pub leftward : (advanced (face_of 1000) (one_glyph RightToLeft zero_position)).positions ≡ at (pos 600) (pos 0) (pos 0) (pos 0) ∷ []
-  pub downward : (advanced (face_of 1000) (one_glyph TopToBottom zero_position)).positions ≡ at (pos 0) (neg_ℤ (pos 1000)) (neg_ℤ (pos 300)) (neg_ℤ (pos 1000)) ∷ []
-  pub upward : (advanced (face_of 1000) (one_glyph BottomToTop zero_position)).positions ≡ at (pos 0) (neg_ℤ (pos 1000)) (neg_ℤ (pos 300)) (neg_ℤ (pos 1000)) ∷ []
-  pub directionless : (advanced (face_of 1000) (one_glyph Invalid zero_position)).positions ≡ at (pos 0) (neg_ℤ (pos 1000)) (neg_ℤ (pos 300)) (neg_ℤ (pos 1000)) ∷ []
-  pub one_unit : advanced_position (face_of 1) false (glyph_at 1 0) zero_position ≡ at (pos 0) (neg_ℤ (pos 1)) (neg_ℤ (pos 300)) (neg_ℤ (pos 1))
-  pub many_units : advanced_position (face_of 65535) false (glyph_at 1 0) zero_position ≡ at (pos 0) (neg_ℤ (pos 65535)) (neg_ℤ (pos 300)) (neg_ℤ (pos 65535))
+  pub downward : (advanced (face_of 1000) (one_glyph TopToBottom zero_position)).positions
+      ≡ at (pos 0) (neg_ℤ (pos 1000)) (neg_ℤ (pos 300)) (neg_ℤ (pos 1000)) ∷ []
+  pub upward : (advanced (face_of 1000) (one_glyph BottomToTop zero_position)).positions
+      ≡ at (pos 0) (neg_ℤ (pos 1000)) (neg_ℤ (pos 300)) (neg_ℤ (pos 1000)) ∷ []
+  pub directionless : (advanced (face_of 1000) (one_glyph Invalid zero_position)).positions
+      ≡ at (pos 0) (neg_ℤ (pos 1000)) (neg_ℤ (pos 300)) (neg_ℤ (pos 1000)) ∷ []
+  pub one_unit : advanced_position (face_of 1) false (glyph_at 1 0) zero_position
+      ≡ at (pos 0) (neg_ℤ (pos 1)) (neg_ℤ (pos 300)) (neg_ℤ (pos 1))
+  pub many_units : advanced_position (face_of 65535) false (glyph_at 1 0) zero_position
+      ≡ at (pos 0) (neg_ℤ (pos 65535)) (neg_ℤ (pos 300)) (neg_ℤ (pos 65535))
   -- 0 less the least number wraps to the least number
   pub wraps : advanced_position (with_origins (neg_ℤ (pos 2147483648))) false (glyph_at 1 0) zero_position
       ≡ at (pos 0) (neg_ℤ (pos 1000)) (neg_ℤ (pos 2147483648)) (neg_ℤ (pos 2147483648))
@@ -84,7 +90,13 @@ advances_of_one_glyph = record {
 
 -- a mark that advances by 100 and 50
 abbrev one_mark : Direction → Buffer
-one_mark direction = record new_buffer { items = with_class 8 (glyph_at 2 0) ∷ []; positions = at (pos 100) (pos 50) (pos 7) (pos 8) ∷ []; direction = direction }
+one_mark direction =
+    record new_buffer {
+      items = with_class 8 (glyph_at 2 0) ∷ [];
+      positions = at (pos 100) (pos 50) (pos 7) (pos 8)
+          ∷ [];
+      direction = direction;
+    }
 
 -- decisions of a plan: whether marks are zeroed and adjusted, by GPOS, by kerx, by kern, with morx
 abbrev pub decided : Bool → Bool → Bool → Bool → Bool → Bool → Decisions
@@ -135,7 +147,7 @@ abbrev pub no_hooks : HookMeaning
 no_hooks = record {
   split = λ _. None;
   height = λ _. 0;
-  join = λ _ _. None;
+  compose = λ _ _. None;
   reorder = λ b _ _. b;
   preprocess = λ b. b;
   setup_masks = λ b. b;
@@ -155,8 +167,10 @@ pub record ZeroingOfMarks : Type 0 where
   pub directionless : (marks_zeroed true (one_mark Invalid)).positions ≡ at (pos 0) (pos 0) (pos 7) (pos 8) ∷ []
   pub of_base : zeroed_mark true (with_class 2 (glyph_at 1 0)) (at (pos 600) (pos 0) (pos 0) (pos 0)) ≡ at (pos 600) (pos 0) (pos 0) (pos 0)
   pub of_ligature_mark : zeroed_mark false (with_class 12 (glyph_at 1 0)) (at (pos 600) (pos 0) (pos 0) (pos 0)) ≡ zero_position
-  pub wraps : zeroed_mark true (with_class 8 (glyph_at 1 0)) (at (neg_ℤ (pos 2147483648)) (pos 0) (pos 0) (pos 0)) ≡ at (pos 0) (pos 0) (neg_ℤ (pos 2147483648)) (pos 0)
-  pub wraps_below : zeroed_mark true (with_class 8 (glyph_at 1 0)) (at (pos 1) (pos 0) (neg_ℤ (pos 2147483648)) (pos 0)) ≡ at (pos 0) (pos 0) (pos 2147483647) (pos 0)
+  pub wraps : zeroed_mark true (with_class 8 (glyph_at 1 0)) (at (neg_ℤ (pos 2147483648)) (pos 0) (pos 0) (pos 0))
+      ≡ at (pos 0) (pos 0) (neg_ℤ (pos 2147483648)) (pos 0)
+  pub wraps_below : zeroed_mark true (with_class 8 (glyph_at 1 0)) (at (pos 1) (pos 0) (neg_ℤ (pos 2147483648)) (pos 0))
+      ≡ at (pos 0) (pos 0) (pos 2147483647) (pos 0)
 
 pub record TimesOfZeroing : Type 0 where
   pub early : zeroed_positions 1 true 1 (Some no_hooks) ≡ at (pos 0) (pos 0) (pos 7) (pos 8) ∷ []
@@ -184,7 +198,8 @@ zeroing_of_marks = record {
 
 times_of_zeroing : TimesOfZeroing
 unfolding marks_zeroed positions_mapped ◌-ʷ◌ int_wrap
-times_of_zeroing = record { early = refl; late = refl; late_not_early = refl; early_not_late = refl; never = refl; plan_says_no = refl; shaper_not_kept = refl }
+times_of_zeroing =
+    record { early = refl; late = refl; late_not_early = refl; early_not_late = refl; never = refl; plan_says_no = refl; shaper_not_kept = refl }
 
 -- a table that adds to each horizontal advance
 abbrev more_advance : ℤ → GlyphPosition → GlyphPosition
@@ -205,7 +220,8 @@ adding_lookups = record no_lookups {
 
 abbrev by_tables : (LookupMeaning → Decisions → Buffer → Buffer) → Bool → Bool → Bool → Bool → List GlyphPosition
 by_tables tables gpos kerx kern morx =
-    (tables adding_lookups (decided false false gpos kerx kern morx) (one_glyph LeftToRight (at (pos 600) (pos 0) (pos 0) (pos 0)))).positions
+    (tables adding_lookups (decided false false gpos kerx kern morx)
+    (one_glyph LeftToRight (at (pos 600) (pos 0) (pos 0) (pos 0)))).positions
 
 abbrev advances_by : ℕ → List GlyphPosition
 advances_by n = at (pos n) (pos 0) (pos 0) (pos 0) ∷ []
@@ -273,4 +289,5 @@ pub record WorkedPositions : Type 0 where
   pub turning : TurningOfTwo
 
 pub worked_positions : WorkedPositions
-worked_positions = record { advances = advances_of_one_glyph; marks = zeroing_of_marks; times = times_of_zeroing; tables = tables_of_a_plan; turning = turning_of_two }
+worked_positions =
+    record { advances = advances_of_one_glyph; marks = zeroing_of_marks; times = times_of_zeroing; tables = tables_of_a_plan; turning = turning_of_two }

@@ -102,14 +102,29 @@ leftward = record (seen (glyph_at 1 0)) {
 
 pub record OrderOfTables : Type 0 where
   pub begins_anew : (run : Run) → (run_steps (advance_steps (counted run counting 0 (decided false false false false false false)))
-      (record (seen (glyph_at 1 0)) { positions = at (pos 1) (pos 2) (pos 3) (pos 4) ∷ [] })).positions ≡ at (pos 600) (pos 0) (pos 0) (pos 0) ∷ []
-  pub all : (run : Run) → advances (counted run counting 0 (decided false false true false true true)) (glyph_at 1 0) ≡ at (pos 123456) (pos 0) (pos 0) (pos 0) ∷ []
-  pub by_kerx : (run : Run) → advances (counted run counting 0 (decided false false false true false true)) (glyph_at 1 0) ≡ at (pos 13456) (pos 0) (pos 0) (pos 0) ∷ []
-  pub early : (run : Run) → advances (counted run counting 1 (decided true false true false true true)) (with_class 8 (glyph_at 1 0)) ≡ at (pos 23456) (pos 0) (pos 0) (pos 0) ∷ []
-  pub late : (run : Run) → advances (counted run counting 2 (decided true false true false true true)) (with_class 8 (glyph_at 1 0)) ≡ at (pos 456) (pos 0) (pos 0) (pos 0) ∷ []
-  pub early_adjusted : (run : Run) → advances (counted run counting 1 (decided true true false false false false)) (with_class 8 (glyph_at 1 0)) ≡ at (pos 46) (pos 0) (neg_ℤ (pos 1)) (pos 0) ∷ []
-  pub late_adjusted : (run : Run) → advances (counted run counting 2 (decided true true false false true false)) (with_class 8 (glyph_at 1 0)) ≡ at (pos 46) (pos 0) (neg_ℤ (pos 13)) (pos 0) ∷ []
-  pub ignorable : (run : Run) → advances (counted run counting 0 (decided false false true false true true)) (ignored (glyph_at 1 0)) ≡ at (pos 56) (pos 0) (pos 0) (pos 0) ∷ []
+      (record (seen (glyph_at 1 0)) { positions = at (pos 1) (pos 2) (pos 3) (pos 4) ∷ [] })).positions
+      ≡ at (pos 600) (pos 0) (pos 0) (pos 0) ∷ []
+  pub all : (run : Run)
+      → advances (counted run counting 0 (decided false false true false true true)) (glyph_at 1 0)
+      ≡ at (pos 123456) (pos 0) (pos 0) (pos 0) ∷ []
+  pub by_kerx : (run : Run)
+      → advances (counted run counting 0 (decided false false false true false true)) (glyph_at 1 0)
+      ≡ at (pos 13456) (pos 0) (pos 0) (pos 0) ∷ []
+  pub early : (run : Run)
+      → advances (counted run counting 1 (decided true false true false true true)) (with_class 8 (glyph_at 1 0))
+      ≡ at (pos 23456) (pos 0) (pos 0) (pos 0) ∷ []
+  pub late : (run : Run)
+      → advances (counted run counting 2 (decided true false true false true true)) (with_class 8 (glyph_at 1 0))
+      ≡ at (pos 456) (pos 0) (pos 0) (pos 0) ∷ []
+  pub early_adjusted : (run : Run)
+      → advances (counted run counting 1 (decided true true false false false false)) (with_class 8 (glyph_at 1 0))
+      ≡ at (pos 46) (pos 0) (neg_ℤ (pos 1)) (pos 0) ∷ []
+  pub late_adjusted : (run : Run)
+      → advances (counted run counting 2 (decided true true false false true false)) (with_class 8 (glyph_at 1 0))
+      ≡ at (pos 46) (pos 0) (neg_ℤ (pos 13)) (pos 0) ∷ []
+  pub ignorable : (run : Run)
+      → advances (counted run counting 0 (decided false false true false true true)) (ignored (glyph_at 1 0))
+      ≡ at (pos 56) (pos 0) (pos 0) (pos 0) ∷ []
 
 order_of_tables : OrderOfTables
 unfolding positions_mapped advanced marks_zeroed ignorables_zeroed ◌-ʷ◌ int_wrap
@@ -125,14 +140,23 @@ order_of_tables = record {
 }
 
 pub record OrderOfTheEnd : Type 0 where
-  pub hook_after_deletion : (run : Run) → (shown (counted run counting 0 (decided false false false false false true)) (glyph_at 1 0)).positions ≡ at (pos 78) (pos 0) (pos 0) (pos 0) ∷ []
-  pub selector_after_deletion : (run : Run) → (shown (counted run counting 0 (decided false false false false false true)) (selecting (glyph_at 1 0))).positions ≡ at (pos 8) (pos 0) (pos 0) (pos 0) ∷ []
-  pub hook_after_selector : (run : Run) → glyphs (shown (counted run counting 0 (decided false false false false false false)) (selecting (glyph_at 1 0))) ≡ 90 ∷ []
+  pub hook_after_deletion : (run : Run)
+      → (shown (counted run counting 0 (decided false false false false false true)) (glyph_at 1 0)).positions
+      ≡ at (pos 78) (pos 0) (pos 0) (pos 0) ∷ []
+  pub selector_after_deletion : (run : Run)
+      → (shown (counted run counting 0 (decided false false false false false true)) (selecting (glyph_at 1 0))).positions
+      ≡ at (pos 8) (pos 0) (pos 0) (pos 0) ∷ []
+  pub hook_after_selector : (run : Run)
+      → glyphs (shown (counted run counting 0 (decided false false false false false false)) (selecting (glyph_at 1 0))) ≡ 90 ∷ []
   -- a selector that is ignorable too is hidden behind the glyph that it took
-  pub hiding_after_selector : (run : Run) → glyphs (shown (counted run counting 0 (decided false false false false false false)) (ignored (selecting (glyph_at 1 0)))) ≡ 30 ∷ []
-  pub turned_first : (run : Run) → glyphs (run_steps (finish_steps (counted run beheading 0 (decided false false false false false true))) leftward) ≡ 10 ∷ []
+  pub hiding_after_selector : (run : Run)
+      → glyphs (shown (counted run counting 0 (decided false false false false false false)) (ignored (selecting (glyph_at 1 0)))) ≡ 30 ∷ []
+  pub turned_first : (run : Run)
+      → glyphs (run_steps (finish_steps (counted run beheading 0 (decided false false false false false true))) leftward) ≡ 10 ∷ []
   -- the hook's mask 9 loses the bit that is no flag
-  pub flags_last : (run : Run) → map (λ item. item.mask) (run_steps (finish_steps (counted run counting 0 (decided false false false false false false))) (seen (glyph_at 1 0))).items ≡ 1 ∷ []
+  pub flags_last : (run : Run)
+      → map (λ item. item.mask) (run_steps (finish_steps (counted run counting 0 (decided false false false false false false)))
+      (seen (glyph_at 1 0))).items ≡ 1 ∷ []
 
 order_of_the_end : OrderOfTheEnd
 unfolding positions_mapped items_mapped turned selectors_replaced ignorables_hidden flags_propagated

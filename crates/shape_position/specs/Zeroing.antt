@@ -11,10 +11,11 @@ use Rattle.shape_buffer.specs.declared.buffer.positions.GlyphPosition.{GlyphPosi
 use Rattle.shape_plan.specs.Run.{Run, step_if}
 use Rattle.shape_plan.specs.Shaper.{ShaperConstants, HookMeaning}
 use Rattle.shape_plan.specs.declared.decisions.Decisions.{Decisions}
+use Rattle.shape_buffer.specs.FlagNames.{MARK}
 
--- the glyph's class has the bit of marks (8)
+-- the glyph's class has the bit of marks
 abbrev pub is_mark_glyph : Item → Bool
-is_mark_glyph item = bit_and item.properties.glyph_class.0 8 == 8
+is_mark_glyph item = bit_and item.properties.glyph_class.0 MARK == MARK
 
 abbrev pub without_advances : GlyphPosition → GlyphPosition
 without_advances position = record position { x_advance = pos 0; y_advance = pos 0 }
@@ -42,7 +43,8 @@ zero_width_time constants hooks = option_map_or (λ _. constants.zero_width_mark
 -- zeroing at a time, early (1) or late (2): where the plan zeroes marks and the shaper's time is this one
 abbrev pub zeroed_at : ℕ → Decisions → ShaperConstants → Option HookMeaning → Buffer → Buffer
 zeroed_at time decisions constants hooks =
-    step_if (decisions.zero_marks && (zero_width_time constants hooks == time)) (marks_zeroed decisions.adjust_mark_positioning_when_zeroing)
+    step_if (decisions.zero_marks && (zero_width_time constants hooks == time))
+    (marks_zeroed decisions.adjust_mark_positioning_when_zeroing)
 
 abbrev pub zeroed_early : Run → Buffer → Buffer
 zeroed_early run = zeroed_at 1 run.decisions run.constants run.hooks

@@ -6,7 +6,8 @@
 //! hook may have left others.
 ghost use Rattle.std.specs.Prelude.{◌≡◌, false};
 ghost use Rattle.shape_buffer.specs.Outcome.{IsWithinLimit, Made, Ran};
-ghost use Rattle.shape_position.specs.Advances.{positions_cleared, advanced, advanced_position, glyph_of as glyph_of_item, IsExactDifference};
+ghost use Rattle.shape_position.specs.Advances.{positions_cleared, advanced, advanced_position};
+ghost use Rattle.shape_position.specs.Advances.{glyph_of as glyph_of_item, IsExactDifference};
 ghost use Rattle.shape_position.specs.Steps.{advance_steps};
 
 use shape_buffer::buffer::{GlyphId, GlyphPosition, hb_buffer_t, hb_glyph_info_t};
@@ -26,8 +27,12 @@ fn advance_position<F: hb_font_t>(
     position: GlyphPosition,
 ) -> GlyphPosition
     ensures value { result ≡ advanced_position (F.face face.now) horizontal info.now position }
-    ensures exact_x { horizontal ≡ false → IsExactDifference position.x_offset ((F.face face.now).h_origin (glyph_of_item info.now)) result.x_offset }
-    ensures exact_y { horizontal ≡ false → IsExactDifference position.y_offset ((F.face face.now).v_origin (glyph_of_item info.now)) result.y_offset }
+    ensures exact_x { horizontal ≡ false
+        → IsExactDifference position.x_offset
+        ((F.face face.now).h_origin (glyph_of_item info.now)) result.x_offset }
+    ensures exact_y { horizontal ≡ false
+        → IsExactDifference position.y_offset
+        ((F.face face.now).v_origin (glyph_of_item info.now)) result.y_offset }
 {
     let glyph = GlyphId(info.glyph_id);
     if horizontal {
@@ -77,7 +82,8 @@ where
     M: hb_ot_layout_t<F>,
     S: hb_ot_shaper_t<U, F, M>,
     requires { IsWithinLimit buffer.old }
-    ensures { Ran (advance_steps (⟦<S as Runs<U, F, M>>⟧.run plan.now face.now)) buffer.old buffer.new }
+    ensures { Ran (advance_steps (⟦<S as Runs<U, F, M>>⟧.run plan.now face.now))
+        buffer.old buffer.new }
 {
     clear_positions(buffer);
     put_advances(face, buffer);

@@ -43,7 +43,8 @@ where
     S: hb_ot_shaper_t<U, F, M>,
     requires { IsWithinLimit buffer.old }
     ensures { let run = ⟦<S as Runs<U, F, M>>⟧.run plan.now face.now in
-        Outcome (step (hook_if run.constants.has_postprocess_glyphs run.hooks (λ hooks. hooks.postprocess))) buffer.old buffer.new result }
+        Outcome (step (hook_if run.constants.has_postprocess_glyphs run.hooks
+        (λ hooks. hooks.postprocess))) buffer.old buffer.new result }
 {
     match plan.shaper() {
         Some(shaper) if S::HAS_POSTPROCESS_GLYPHS => {
@@ -66,7 +67,8 @@ where
     M: hb_ot_layout_t<F>,
     S: hb_ot_shaper_t<U, F, M>,
     requires { IsWithinLimit buffer.old }
-    ensures { RunOutcome (show_steps (⟦<S as Runs<U, F, M>>⟧.run plan.now face.now)) buffer.old buffer.new result }
+    ensures { RunOutcome (show_steps (⟦<S as Runs<U, F, M>>⟧.run plan.now face.now))
+        buffer.old buffer.new result }
 {
     remove_deleted::<F, M, S, S::Data>(plan, face, buffer);
     deal_with_variation_selectors(buffer);
@@ -90,7 +92,8 @@ where
     M: hb_ot_layout_t<F>,
     S: hb_ot_shaper_t<U, F, M>,
     requires { IsWithinLimit buffer.old }
-    ensures { RunOutcome (finish_steps (⟦<S as Runs<U, F, M>>⟧.run plan.now face.now)) buffer.old buffer.new result }
+    ensures { RunOutcome (finish_steps (⟦<S as Runs<U, F, M>>⟧.run plan.now face.now))
+        buffer.old buffer.new result }
 {
     reverse_backward(buffer);
     substitute_post::<U, F, M, S>(alloc, plan, face, buffer)?;

@@ -5,7 +5,10 @@
 //! any one of them. The masks hold flags alone from here on.
 ghost use Rattle.std.specs.Prelude.{◌≡◌, ◌==◌, false};
 ghost use Rattle.std.specs.Int.RustNames.{bit_and};
-ghost use Rattle.shape_buffer.specs.Flags.{first_joined, settled_flags as settled_flags_of, with_tatweel as with_tatweel_of, mask_after as mask_after_of, flags_propagated, HasOneSetOfFlags};
+ghost use Rattle.shape_buffer.specs.Flags.{first_joined, settled_flags as settled_flags_of};
+ghost use Rattle.shape_buffer.specs.Flags.{with_tatweel as with_tatweel_of};
+ghost use Rattle.shape_buffer.specs.Flags.{mask_after as mask_after_of, flags_propagated};
+ghost use Rattle.shape_buffer.specs.Flags.{HasOneSetOfFlags};
 ghost use Rattle.shape_buffer.specs.KeepsFlags.{some_has};
 ghost use Rattle.shape_buffer.specs.Outcome.{Made};
 ghost use Rattle.shape_buffer.specs.Honest.{IsHonest};
@@ -98,7 +101,8 @@ fn share_flags(buffer: &mut hb_buffer_t)
 pub fn propagate_flags(buffer: &mut hb_buffer_t)
     ensures made { Made flags_propagated buffer.old buffer.new }
     ensures one_set { IsHonest buffer.old → HasOneSetOfFlags buffer.new.items }
-    ensures concat { IsHonest buffer.old → (bit_and buffer.old.flags.0 64 == 64) ≡ false → some_has 2 buffer.new.items ≡ false }
+    ensures concat { IsHonest buffer.old → (bit_and buffer.old.flags.0 64 == 64) ≡ false
+        → some_has 2 buffer.new.items ≡ false }
 {
     share_flags(buffer);
 }

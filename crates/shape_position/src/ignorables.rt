@@ -6,7 +6,14 @@
 //! meant to be seen and stays (The Unicode Standard, section 5.21).
 ghost use Rattle.std.specs.Prelude.{◌≡◌};
 ghost use Rattle.shape_buffer.specs.Outcome.{Made};
-ghost use Rattle.shape_position.specs.Ignorables.{is_ignorable as is_ignorable_of, hides_ignorables as hides_ignorables_of, removes_ignorables as removes_ignorables_of, without_values as without_values_of, zeroed_ignorable, ignorables_zeroed, unseen_glyph as unseen_glyph_of, shown_as as shown_as_of, replaced_or_deleted, ignorables_hidden};
+ghost use Rattle.shape_position.specs.Ignorables.{is_ignorable as is_ignorable_of};
+ghost use Rattle.shape_position.specs.Ignorables.{hides_ignorables as hides_ignorables_of};
+ghost use Rattle.shape_position.specs.Ignorables.{removes_ignorables as removes_ignorables_of};
+ghost use Rattle.shape_position.specs.Ignorables.{without_values as without_values_of};
+ghost use Rattle.shape_position.specs.Ignorables.{zeroed_ignorable, ignorables_zeroed};
+ghost use Rattle.shape_position.specs.Ignorables.{unseen_glyph as unseen_glyph_of};
+ghost use Rattle.shape_position.specs.Ignorables.{shown_as as shown_as_of, replaced_or_deleted};
+ghost use Rattle.shape_position.specs.Ignorables.{ignorables_hidden};
 
 use bitflags::Flags;
 use shape_buffer::buffer::{

@@ -31,7 +31,8 @@ where
     M: hb_ot_layout_t<F>,
     S: hb_ot_shaper_t<U, F, M>,
     requires { IsWithinLimit buffer.old }
-    ensures { RunOutcome (place_steps (⟦<S as Runs<U, F, M>>⟧.run plan.now face.now)) buffer.old buffer.new result }
+    ensures { RunOutcome (place_steps (⟦<S as Runs<U, F, M>>⟧.run plan.now face.now))
+        buffer.old buffer.new result }
 {
     position_start::<F, M, S, S::Data>(plan, face, buffer);
     zero_marks_early::<U, F, M, S>(plan, face, buffer);
@@ -53,7 +54,8 @@ where
     M: hb_ot_layout_t<F>,
     S: hb_ot_shaper_t<U, F, M>,
     requires { IsWithinLimit buffer.old }
-    ensures { Ran (close_steps (⟦<S as Runs<U, F, M>>⟧.run plan.now face.now)) buffer.old buffer.new }
+    ensures { Ran (close_steps (⟦<S as Runs<U, F, M>>⟧.run plan.now face.now))
+        buffer.old buffer.new }
 {
     position_finish_advances::<F, M, S, S::Data>(plan, face, buffer);
     zero_width_default_ignorables(buffer);
@@ -76,7 +78,8 @@ where
     M: hb_ot_layout_t<F>,
     S: hb_ot_shaper_t<U, F, M>,
     requires { IsWithinLimit buffer.old }
-    ensures { RunOutcome (table_steps (⟦<S as Runs<U, F, M>>⟧.run plan.now face.now)) buffer.old buffer.new result }
+    ensures { RunOutcome (table_steps (⟦<S as Runs<U, F, M>>⟧.run plan.now face.now))
+        buffer.old buffer.new result }
 {
     place_by_tables::<U, F, M, S>(alloc, plan, face, buffer)?;
     close_positions::<U, F, M, S>(plan, face, buffer);

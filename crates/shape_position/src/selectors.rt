@@ -4,7 +4,9 @@
 //! it in the buffer; else a selector is hidden like any default ignorable (OpenType, `cmap` format 14).
 ghost use Rattle.std.specs.Prelude.{◌≡◌};
 ghost use Rattle.shape_buffer.specs.Outcome.{Made};
-ghost use Rattle.shape_position.specs.Selectors.{not_found_item as not_found_item_of, not_found_position as not_found_position_of, selectors_replaced, selectors_replaced_by};
+ghost use Rattle.shape_position.specs.Selectors.{not_found_item as not_found_item_of};
+ghost use Rattle.shape_position.specs.Selectors.{not_found_position as not_found_position_of};
+ghost use Rattle.shape_position.specs.Selectors.{selectors_replaced, selectors_replaced_by};
 ghost use Rattle.std.specs.Prelude.{Some};
 
 use crate::ignorables::without_values;

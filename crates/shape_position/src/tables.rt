@@ -4,7 +4,8 @@
 //! asks for it; what the table does is the engine's. Kerning without a table and tracking change nothing.
 ghost use Rattle.std.specs.Prelude.{◌≡◌};
 ghost use Rattle.shape_buffer.specs.Outcome.{IsWithinLimit, Made, Outcome, step};
-ghost use Rattle.shape_position.specs.Tables.{table_positioned, kerned, deleted_narrowed, deleted_removed};
+ghost use Rattle.shape_position.specs.Tables.{table_positioned, kerned, deleted_narrowed};
+ghost use Rattle.shape_position.specs.Tables.{deleted_removed};
 
 use shape_buffer::buffer::{ShapeError, hb_buffer_t};
 use shape_buffer::interfaces::hb_ot_layout_t;
@@ -30,7 +31,8 @@ pub fn position_by_plan<F, M: hb_ot_layout_t<F>, S, D>(
     buffer: &mut hb_buffer_t,
 ) -> Result<(), ShapeError>
     requires { IsWithinLimit buffer.old }
-    ensures { Outcome (step (table_positioned (M.lookups plan.now.ot_map face.now) plan.now.decisions)) buffer.old buffer.new result }
+    ensures { Outcome (step (table_positioned
+        (M.lookups plan.now.ot_map face.now) plan.now.decisions)) buffer.old buffer.new result }
 {
     if plan.apply_gpos() {
         M::position(alloc, plan.ot_map(), face, buffer)
@@ -49,7 +51,8 @@ pub fn kern_by_plan<F, M: hb_ot_layout_t<F>, S, D>(
     buffer: &mut hb_buffer_t,
 ) -> Result<(), ShapeError>
     requires { IsWithinLimit buffer.old }
-    ensures { Outcome (step (kerned (M.lookups plan.now.ot_map face.now) plan.now.decisions)) buffer.old buffer.new result }
+    ensures { Outcome (step (kerned (M.lookups plan.now.ot_map face.now) plan.now.decisions))
+        buffer.old buffer.new result }
 {
     if plan.apply_kern() {
         M::kern(alloc, plan.kern_mask(), face, buffer)
@@ -75,7 +78,8 @@ pub fn zero_width_deleted<F, M: hb_ot_layout_t<F>, S, D>(
     face: &F,
     buffer: &mut hb_buffer_t,
 )
-    ensures { Made (deleted_narrowed (M.lookups plan.now.ot_map face.now) plan.now.decisions) buffer.old buffer.new }
+    ensures { Made (deleted_narrowed (M.lookups plan.now.ot_map face.now) plan.now.decisions)
+        buffer.old buffer.new }
 {
     if plan.apply_morx() {
         M::aat_zero_width_deleted(buffer);
@@ -100,7 +104,8 @@ pub fn remove_deleted<F, M: hb_ot_layout_t<F>, S, D>(
     face: &F,
     buffer: &mut hb_buffer_t,
 )
-    ensures { Made (deleted_removed (M.lookups plan.now.ot_map face.now) plan.now.decisions) buffer.old buffer.new }
+    ensures { Made (deleted_removed (M.lookups plan.now.ot_map face.now) plan.now.decisions)
+        buffer.old buffer.new }
 {
     if plan.apply_morx() && !plan.apply_gpos() {
         M::aat_remove_deleted(buffer);

@@ -8,7 +8,11 @@ ghost use Rattle.std.specs.Prelude.{◌≡◌, ◌==◌, ◌&&◌, true};
 ghost use Rattle.shape_buffer.specs.Outcome.{Made};
 ghost use Rattle.shape_plan.specs.Run.{step_if};
 ghost use Rattle.shape_position.specs.Advances.{IsExactDifference};
-ghost use Rattle.shape_position.specs.Zeroing.{is_mark_glyph as is_mark_glyph_of, without_advances as without_advances_of, moved_back as moved_back_of, zeroed_mark, marks_zeroed, zero_width_time as zero_width_time_of, zeroed_at, zeroed_early, zeroed_late};
+ghost use Rattle.shape_position.specs.Zeroing.{is_mark_glyph as is_mark_glyph_of};
+ghost use Rattle.shape_position.specs.Zeroing.{without_advances as without_advances_of};
+ghost use Rattle.shape_position.specs.Zeroing.{moved_back as moved_back_of, zeroed_mark};
+ghost use Rattle.shape_position.specs.Zeroing.{marks_zeroed, zero_width_time as zero_width_time_of};
+ghost use Rattle.shape_position.specs.Zeroing.{zeroed_at, zeroed_early, zeroed_late};
 
 use bitflags::Flags;
 use shape_buffer::buffer::{GlyphPosition, GlyphPropsFlags, hb_buffer_t, hb_glyph_info_t};
@@ -109,7 +113,8 @@ where
     F: hb_font_t,
     M: hb_ot_layout_t<F>,
     S: hb_ot_shaper_t<U, F, M>,
-    ensures { Made (zeroed_early (⟦<S as Runs<U, F, M>>⟧.run plan.now face.now)) buffer.old buffer.new }
+    ensures { Made (zeroed_early (⟦<S as Runs<U, F, M>>⟧.run plan.now face.now))
+        buffer.old buffer.new }
 {
     let time = zero_width_time::<U, F, M, S>(plan, face);
     if plan.zero_marks() && time == HB_OT_SHAPE_ZERO_WIDTH_MARKS_BY_GDEF_EARLY {
@@ -129,7 +134,8 @@ where
     F: hb_font_t,
     M: hb_ot_layout_t<F>,
     S: hb_ot_shaper_t<U, F, M>,
-    ensures { Made (zeroed_late (⟦<S as Runs<U, F, M>>⟧.run plan.now face.now)) buffer.old buffer.new }
+    ensures { Made (zeroed_late (⟦<S as Runs<U, F, M>>⟧.run plan.now face.now))
+        buffer.old buffer.new }
 {
     let time = zero_width_time::<U, F, M, S>(plan, face);
     if plan.zero_marks() && time == HB_OT_SHAPE_ZERO_WIDTH_MARKS_BY_GDEF_LATE {

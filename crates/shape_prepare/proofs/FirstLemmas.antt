@@ -37,7 +37,8 @@ contains-behind : (x : ℕ) (xs : List ℕ) (k : ℕ) → Contains xs k → Cont
 contains-behind x xs k (i, lt, e) = (suc i, omega arith, e)
 
 -- the first items of parts have the first clusters
-parts-firsts : (Q : ℕ → Type 0) (pre : List Item) (parts : List (List Item)) → SomeEach (map length parts) → ((k : ℕ) → Contains (firsts_of parts) k → Q k) → Firsts Q (length pre) (map length parts) (pre ++ whole parts)
+parts-firsts : (Q : ℕ → Type 0) (pre : List Item) (parts : List (List Item)) → SomeEach (map length parts)
+    → ((k : ℕ) → Contains (firsts_of parts) k → Q k) → Firsts Q (length pre) (map length parts) (pre ++ whole parts)
 parts-firsts Q pre [] some holds = tt
 parts-firsts Q pre ([] ∷ parts) some holds = absurd (omega (arith, some.0))
 parts-firsts Q pre ((x ∷ part) ∷ parts) some holds =
@@ -52,18 +53,24 @@ parts-firsts Q pre ((x ∷ part) ∷ parts) some holds =
           (subst (λ n. Firsts Q n (map length parts) ((pre ++ (x ∷ part)) ++ whole parts)) size rest),
     )
 
-pub own-firsts : (Q : ℕ → Type 0) (xs : List Item) → ((k : ℕ) → Contains (first_clusters xs) k → Q k) → Firsts Q 0 (map length (graphemes xs)) xs
+pub own-firsts : (Q : ℕ → Type 0) (xs : List Item) → ((k : ℕ) → Contains (first_clusters xs) k → Q k)
+    → Firsts Q 0 (map length (graphemes xs)) xs
 own-firsts Q xs holds =
-    let some : SomeEach (map length (graphemes xs)) = subst SomeEach (sym (sizes-bits is_continuation xs)) (some-sizes (map is_continuation xs)) in
-    subst (λ (l : List Item). Firsts Q 0 (map length (graphemes xs)) l) (whole-divided is_continuation xs) (parts-firsts Q [] (graphemes xs) some holds)
+    let some : SomeEach (map length (graphemes xs)) = subst SomeEach (sym (sizes-bits is_continuation xs))
+    (some-sizes (map is_continuation xs)) in
+    subst (λ (l : List Item). Firsts Q 0 (map length (graphemes xs)) l) (whole-divided is_continuation xs)
+    (parts-firsts Q [] (graphemes xs) some holds)
 
 -- merged graphemes have no other clusters than the first ones
-pub merged-firsts : (Q : ℕ → Type 0) (xs : List Item) → IsNonDecreasing (clusters xs) → ((k : ℕ) → Contains (first_clusters xs) k → Q k) → (k : ℕ) → Contains (clusters (graphemes_merged xs)) k → Q k
+pub merged-firsts : (Q : ℕ → Type 0) (xs : List Item) → IsNonDecreasing (clusters xs) → ((k : ℕ) → Contains (first_clusters xs) k → Q k)
+    → (k : ℕ) → Contains (clusters (graphemes_merged xs)) k → Q k
 merged-firsts Q xs rising holds k (i, lt, e) =
     let merged = merged-parts xs rising in
-    let many : length (clusters (graphemes_merged xs)) ≡ length (graphemes_merged xs) = length-map (graphemes_merged xs) (λ item. item.cluster) in
+    let many : length (clusters (graphemes_merged xs))
+    ≡ length (graphemes_merged xs) = length-map (graphemes_merged xs) (λ item. item.cluster) in
     let inside : i < length xs = omega (arith, lt, many, merged.as_many) in
-    let all = all-firsts Q 0 (map length (graphemes xs)) (graphemes_merged xs) merged.one (merged.firsts Q (own-firsts Q xs holds)) i (omega arith) (omega (arith, total-graphemes xs)) in
+    let all = all-firsts Q 0 (map length (graphemes xs)) (graphemes_merged xs) merged.one (merged.firsts Q (own-firsts Q xs holds)) i
+    (omega arith) (omega (arith, total-graphemes xs)) in
     subst Q (sym (at_default (clusters (graphemes_merged xs)) i k lt) ∙ e) all
   where
     at_default : (cs : List ℕ) (i d : ℕ) → i < length cs → get_or cs i d ≡ get_or cs i 0
@@ -73,10 +80,12 @@ merged-firsts Q xs rising holds k (i, lt, e) =
 
 -- ---- a circle before the first item
 
-divided-on : {A : Type 0} (belongs : A → Bool) (x y : A) (rest : List A) → belongs y ≡ true → divided belongs (x ∷ y ∷ rest) ≡ put_first x (divided belongs (y ∷ rest))
+divided-on : {A : Type 0} (belongs : A → Bool) (x y : A) (rest : List A) → belongs y ≡ true
+    → divided belongs (x ∷ y ∷ rest) ≡ put_first x (divided belongs (y ∷ rest))
 divided-on belongs x y rest on = rw on refl
 
-divided-off : {A : Type 0} (belongs : A → Bool) (x y : A) (rest : List A) → belongs y ≡ false → divided belongs (x ∷ y ∷ rest) ≡ (x ∷ []) ∷ divided belongs (y ∷ rest)
+divided-off : {A : Type 0} (belongs : A → Bool) (x y : A) (rest : List A) → belongs y ≡ false
+    → divided belongs (x ∷ y ∷ rest) ≡ (x ∷ []) ∷ divided belongs (y ∷ rest)
 divided-off belongs x y rest off = rw off refl
 
 -- the first grapheme begins with the first item
@@ -91,27 +100,35 @@ contains-once : (x : ℕ) (xs : List ℕ) (k : ℕ) → Contains (x ∷ x ∷ xs
 contains-once x xs k (zero, lt, e) = (zero, omega arith, e)
 contains-once x xs k (suc i, lt, e) = (i, omega arith, e)
 
-ahead-firsts : (circle first : Item) (rest : List Item) → circle.cluster ≡ first.cluster → (k : ℕ) → Contains (first_clusters (circle ∷ first ∷ rest)) k → Contains (first_clusters (first ∷ rest)) k
+ahead-firsts : (circle first : Item) (rest : List Item) → circle.cluster ≡ first.cluster → (k : ℕ)
+    → Contains (first_clusters (circle ∷ first ∷ rest)) k → Contains (first_clusters (first ∷ rest)) k
 ahead-firsts circle first rest same k =
     let h = first-head first rest in
     let own : first_clusters (first ∷ rest) ≡ first.cluster ∷ firsts_of h.1 = ap firsts_of h.2 in
     elim (cases_Bool (is_continuation first)) [
       | inl on ↦ λ c.
-          let all : first_clusters (circle ∷ first ∷ rest) ≡ circle.cluster ∷ firsts_of h.1 = ap firsts_of (divided-on is_continuation circle first rest on ∙ ap (put_first circle) h.2) in
+          let all : first_clusters (circle ∷ first ∷ rest)
+          ≡ circle.cluster
+          ∷ firsts_of h.1 = ap firsts_of (divided-on is_continuation circle first rest on ∙ ap (put_first circle) h.2) in
           subst (λ (l : List ℕ). Contains l k) (all ∙ ap (λ n. n ∷ firsts_of h.1) same ∙ sym own) c
       | inr off ↦ λ c.
-          let all : first_clusters (circle ∷ first ∷ rest) ≡ circle.cluster ∷ first_clusters (first ∷ rest) = ap firsts_of (divided-off is_continuation circle first rest off) in
+          let all : first_clusters (circle ∷ first ∷ rest)
+          ≡ circle.cluster ∷ first_clusters (first ∷ rest) = ap firsts_of (divided-off is_continuation circle first rest off) in
           let twice = all ∙ ap₂ (λ (n : ℕ) (l : List ℕ). n ∷ l) same own in
-          subst (λ (l : List ℕ). Contains l k) (sym own) (contains-once first.cluster (firsts_of h.1) k (subst (λ (l : List ℕ). Contains l k) twice c))
+          subst (λ (l : List ℕ). Contains l k) (sym own)
+          (contains-once first.cluster (firsts_of h.1) k (subst (λ (l : List ℕ). Contains l k) twice c))
     ]
 
-with_circle-firsts : (unicode : UnicodeMeaning) (b : Buffer) (items : List Item) → b.items ≡ items → (k : ℕ) → Contains (first_clusters (with_circle unicode items b).items) k → Contains (first_clusters b.items) k
+with_circle-firsts : (unicode : UnicodeMeaning) (b : Buffer) (items : List Item) → b.items ≡ items → (k : ℕ)
+    → Contains (first_clusters (with_circle unicode items b).items) k → Contains (first_clusters b.items) k
 with_circle-firsts unicode b [] is k c = c
 with_circle-firsts unicode b (first ∷ rest) is k c =
     subst (λ (l : List Item). Contains (first_clusters l) k) (sym is)
-    (ahead-firsts (circle_before unicode first) first rest refl k (subst (λ (l : List Item). Contains (first_clusters (circle_before unicode first ∷ l)) k) is c))
+    (ahead-firsts (circle_before unicode first) first rest refl k
+    (subst (λ (l : List Item). Contains (first_clusters (circle_before unicode first ∷ l)) k) is c))
 
-circled-firsts : (unicode : UnicodeMeaning) (face : FaceMeaning) (b : Buffer) (k : ℕ) → Contains (first_clusters (dotted_circled unicode face b).items) k → Contains (first_clusters b.items) k
+circled-firsts : (unicode : UnicodeMeaning) (face : FaceMeaning) (b : Buffer) (k : ℕ)
+    → Contains (first_clusters (dotted_circled unicode face b).items) k → Contains (first_clusters b.items) k
 unfolding dotted_circled
 circled-firsts unicode face b k = elim (cases_Bool (takes_circle face b && begins_with_mark b.items)) [
   | inl on ↦ rw on (λ c. with_circle-firsts unicode b b.items refl k c)
@@ -123,23 +140,31 @@ circled-firsts unicode face b k = elim (cases_Bool (takes_circle face b && begin
 single-firsts : (xs : List Item) → NoneContinues xs → clusters xs ≡ first_clusters xs
 single-firsts [] none = refl
 single-firsts (x ∷ []) none = refl
-single-firsts (x ∷ y ∷ rest) none = ap (λ (cs : List ℕ). x.cluster ∷ cs) (single-firsts (y ∷ rest) none.1) ∙ sym (ap firsts_of (divided-off is_continuation x y rest none.1.0))
+single-firsts (x ∷ y ∷ rest) none =
+    ap (λ (cs : List ℕ). x.cluster ∷ cs) (single-firsts (y ∷ rest) none.1)
+    ∙ sym (ap firsts_of (divided-off is_continuation x y rest none.1.0))
 
-formed-firsts : (unicode : UnicodeMeaning) (face : FaceMeaning) (b : Buffer) → b.cluster_level ≡ MonotoneGraphemes → IsNonDecreasing (clusters b.items)
-    → (k : ℕ) → Contains (clusters (clusters_formed (dotted_circled unicode face (graphemes_marked unicode b))).items) k → Contains (first_clusters (graphemes_marked unicode b).items) k
+formed-firsts : (unicode : UnicodeMeaning) (face : FaceMeaning) (b : Buffer) → b.cluster_level ≡ MonotoneGraphemes
+    → IsNonDecreasing (clusters b.items)
+    → (k : ℕ) → Contains (clusters (clusters_formed (dotted_circled unicode face (graphemes_marked unicode b))).items) k
+    → Contains (first_clusters (graphemes_marked unicode b).items) k
 formed-firsts unicode face b graphemes_level rising k contains =
     let marked = graphemes_marked unicode b in
     let circled = dotted_circled unicode face marked in
-    let first = KeepsOrder-then b marked circled (graphemes_marked-keeps_order unicode b) (dotted_circled-keeps_order unicode face marked) in
+    let first = KeepsOrder-then b marked circled (graphemes_marked-keeps_order unicode b)
+    (dotted_circled-keeps_order unicode face marked) in
     let level : circled.cluster_level ≡ MonotoneGraphemes = first.level ∙ graphemes_level in
     elim (cases_Bool (seen_past circled.scratch_flags)) [
       | inl seen ↦
-          let whole_is = clusters_formed-merged circled seen level ∙ spans-merged (grapheme_spans circled.items) circled (subst IsMonotoneLevel (sym level) tt) in
-          merged-firsts (λ k. Contains (first_clusters marked.items) k) circled.items (first.clusters.rising rising) (circled-firsts unicode face marked) k
+          let whole_is = clusters_formed-merged circled seen level
+          ∙ spans-merged (grapheme_spans circled.items) circled (subst IsMonotoneLevel (sym level) tt) in
+          merged-firsts (λ k. Contains (first_clusters marked.items) k) circled.items (first.clusters.rising rising)
+          (circled-firsts unicode face marked) k
           (subst (λ (c : Buffer). Contains (clusters c.items) k) whole_is contains)
       | inr unseen ↦
           let same = circled-unseen unicode face marked unseen in
-          let bare : NoneContinues marked.items = marked-unseen unicode b (ap (λ (c : Buffer). seen_past c.scratch_flags) (sym same) ∙ unseen) in
+          let bare : NoneContinues marked.items = marked-unseen unicode b
+          (ap (λ (c : Buffer). seen_past c.scratch_flags) (sym same) ∙ unseen) in
           let own = subst (λ (c : Buffer). Contains (clusters c.items) k) (clusters_formed-unseen circled unseen ∙ same) contains in
           subst (λ (l : List ℕ). Contains l k) (single-firsts marked.items bare) own
     ]
@@ -153,9 +178,11 @@ preparing_keeps_firsts run target b keeps graphemes_level rising k contains =
     let level : start.cluster_level ≡ MonotoneGraphemes = first.level ∙ graphemes_level in
     let ready = formed-ready run.unicode run.face start (subst IsMonotoneLevel (sym level) tt) (first.clusters.rising rising) in
     let turns = natively-in_order run.unicode formed ready in
-    let hook = keeper-hook IsClusterKeeper (λ c _. KeepsOrder-same c) run.constants.has_preprocess_text run.hooks (λ h. h.preprocess) (λ h is. (keeps.hooks h is).preprocess) in
+    let hook = keeper-hook IsClusterKeeper (λ c _. KeepsOrder-same c) run.constants.has_preprocess_text run.hooks (λ h. h.preprocess)
+    (λ h is. (keeps.hooks h is).preprocess) in
     let processed = hook_if run.constants.has_preprocess_text run.hooks (λ h. h.preprocess) ordered in
     let ordered_level : IsMonotoneLevel ordered.cluster_level = subst IsMonotoneLevel (sym turns.level) ready.monotone in
     let by_hook = hook ordered ordered_level in
     let by_forms = rotated-keeps_order run.unicode run.face run.decisions target processed in
-    formed-firsts run.unicode run.face start level (first.clusters.rising rising) k (turns.none_new k (by_hook.clusters.none_new k (by_forms.clusters.none_new k contains)))
+    formed-firsts run.unicode run.face start level (first.clusters.rising rising) k
+    (turns.none_new k (by_hook.clusters.none_new k (by_forms.clusters.none_new k contains)))

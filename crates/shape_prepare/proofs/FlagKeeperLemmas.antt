@@ -70,9 +70,11 @@ begun-honest mask b none = record { honest = λ unseen flag d. begun-bare mask f
 
 -- ---- properties
 
-marked-flags : (flag : ℕ) (unicode : UnicodeMeaning) (items : List Item) (before : Before) → some_has flag (continuations_marked unicode before (map (with_unicode_props unicode) items)) ≡ some_has flag items
+marked-flags : (flag : ℕ) (unicode : UnicodeMeaning) (items : List Item) (before : Before)
+    → some_has flag (continuations_marked unicode before (map (with_unicode_props unicode) items)) ≡ some_has flag items
 marked-flags flag unicode [] before = refl
-marked-flags flag unicode (item ∷ items) before = ap (λ t. has_flag flag item || t) (marked-flags flag unicode items (is_to_next unicode before (with_unicode_props unicode item)))
+marked-flags flag unicode (item ∷ items) before =
+    ap (λ t. has_flag flag item || t) (marked-flags flag unicode items (is_to_next unicode before (with_unicode_props unicode item)))
 
 flag_if-32 : (t : Bool) (flag flags : ℕ) → bit_and flag 32 ≡ 0 → bit_and (flag_if t flag flags) 32 ≡ bit_and flags 32
 flag_if-32 true flag flags apart = and_or_apart 32 flags flag apart
@@ -82,9 +84,11 @@ scratch-32 : (unicode : UnicodeMeaning) (c : ℕ) (flags : ScratchFlags) → bit
 scratch-32 unicode c flags =
     let first = flag_if (beyond_ascii c) 1 flags.0 in
     let second = flag_if (beyond_ascii c && unicode.ignorable c) 2 first in
-    flag_if-32 (c == 0x34F) 8 second refl ∙ flag_if-32 (beyond_ascii c && unicode.ignorable c) 2 first refl ∙ flag_if-32 (beyond_ascii c) 1 flags.0 refl
+    flag_if-32 (c == 0x34F) 8 second refl ∙ flag_if-32 (beyond_ascii c && unicode.ignorable c) 2 first refl
+    ∙ flag_if-32 (beyond_ascii c) 1 flags.0 refl
 
-seen-32 : (unicode : UnicodeMeaning) (items : List Item) (flags : ScratchFlags) → bit_and (fold (seen_item unicode) flags items).0 32 ≡ bit_and flags.0 32
+seen-32 : (unicode : UnicodeMeaning) (items : List Item) (flags : ScratchFlags)
+    → bit_and (fold (seen_item unicode) flags items).0 32 ≡ bit_and flags.0 32
 seen-32 unicode [] flags = refl
 seen-32 unicode (item ∷ items) flags = seen-32 unicode items (seen_item unicode flags item) ∙ scratch-32 unicode item.codepoint flags
 
@@ -102,13 +106,15 @@ once : (p q : Bool) → (p || (p || q)) ≡ true → (p || q) ≡ true
 once true q e = refl
 once false q e = e
 
-with_circle-keeps_flags : (unicode : UnicodeMeaning) (b : Buffer) (items : List Item) → b.items ≡ items → KeepsFlags b (with_circle unicode items b)
+with_circle-keeps_flags : (unicode : UnicodeMeaning) (b : Buffer) (items : List Item) → b.items ≡ items
+    → KeepsFlags b (with_circle unicode items b)
 with_circle-keeps_flags unicode b [] is = KeepsFlags-same b
 with_circle-keeps_flags unicode b (first ∷ rest) is = record {
   flags = refl;
   stays_set = λ e. ap (λ n. n == 32) (scratch-32 unicode 0x25CC b.scratch_flags) ∙ e;
   none_new = λ flag d some. inl (
-      ap (some_has flag) is ∙ once (has_flag flag first) (some_has flag rest) (ap (λ (l : List Item). has_flag flag first || some_has flag l) (sym is) ∙ some)
+      ap (some_has flag) is
+      ∙ once (has_flag flag first) (some_has flag rest) (ap (λ (l : List Item). has_flag flag first || some_has flag l) (sym is) ∙ some)
       );
 }
 
@@ -121,7 +127,8 @@ dotted_circled-keeps_flags unicode face b = elim (cases_Bool (takes_circle face 
 
 -- ---- clusters
 
-fold-keeps_flags : (f : ℕ → ℕ → Buffer → Buffer) → ((start end : ℕ) → IsFlagKeeper (f start end)) → (spans : List (ℕ × ℕ)) (b : Buffer) → KeepsFlags b (fold (λ b span. f span.0 span.1 b) b spans)
+fold-keeps_flags : (f : ℕ → ℕ → Buffer → Buffer) → ((start end : ℕ) → IsFlagKeeper (f start end)) → (spans : List (ℕ × ℕ)) (b : Buffer)
+    → KeepsFlags b (fold (λ b span. f span.0 span.1 b) b spans)
 fold-keeps_flags f keeps [] b = KeepsFlags-same b
 fold-keeps_flags f keeps (span ∷ spans) b =
     let next = f span.0 span.1 b in
@@ -137,7 +144,8 @@ clusters_formed-keeps_flags b = elim (cases_Bool (bit_and b.scratch_flags.0 1 ==
   | inr off ↦ rw off (KeepsFlags-same b)
 ]
   where
-    at_level : (l : BufferClusterLevel) → KeepsFlags b (elim l as (λ v. Buffer) [ MonotoneGraphemes ↦ over_graphemes merge_clusters b | MonotoneCharacters ↦ over_graphemes unsafe_to_break b | Characters ↦ over_graphemes unsafe_to_break b ])
+    at_level : (l : BufferClusterLevel)
+        → KeepsFlags b (elim l as (λ v. Buffer) [ MonotoneGraphemes ↦ over_graphemes merge_clusters b | MonotoneCharacters ↦ over_graphemes unsafe_to_break b | Characters ↦ over_graphemes unsafe_to_break b ])
     at_level MonotoneGraphemes = over-keeps_flags merge_clusters merge_clusters_keeps b
     at_level MonotoneCharacters = over-keeps_flags unsafe_to_break unsafe_to_break_keeps b
     at_level Characters = over-keeps_flags unsafe_to_break unsafe_to_break_keeps b
@@ -153,7 +161,8 @@ from_last-first {A} part parts =
 any-from_last : (p : Item → Bool) (parts : List (List Item)) → list_any p (from_last parts) ≡ true → list_any p (whole parts) ≡ true
 any-from_last p [] some = some
 any-from_last p (part ∷ parts) some =
-    elim (or_cases (list_any p (from_last parts)) (list_any p part) (sym (list_any-append p (from_last parts) part) ∙ sym (ap (list_any p) (from_last-first part parts)) ∙ some)) [
+    elim (or_cases (list_any p (from_last parts)) (list_any p part)
+    (sym (list_any-append p (from_last parts) part) ∙ sym (ap (list_any p) (from_last-first part parts)) ∙ some)) [
       | inl later ↦ list_any-append p part (whole parts) ∙ or_right (list_any p part) _ (any-from_last p parts later)
       | inr here ↦ list_any-append p part (whole parts) ∙ ap (λ t. t || list_any p (whole parts)) here
     ]
@@ -162,13 +171,15 @@ turned-keeps_flags : IsFlagKeeper turned
 turned-keeps_flags b = record {
   flags = refl;
   stays_set = λ e. e;
-  none_new = λ flag d some. inl (ap (some_has flag) (sym (whole-divided is_continuation b.items)) ∙ any-from_last (has_flag flag) (graphemes b.items) some);
+  none_new = λ flag d some. inl (ap (some_has flag) (sym (whole-divided is_continuation b.items))
+      ∙ any-from_last (has_flag flag) (graphemes b.items) some);
 }
 
 merged_to_turn-keeps_flags : IsFlagKeeper merged_to_turn
 merged_to_turn-keeps_flags b = at_level b.cluster_level
   where
-    at_level : (l : BufferClusterLevel) → KeepsFlags b (elim l as (λ v. Buffer) [ MonotoneGraphemes ↦ b | MonotoneCharacters ↦ over_graphemes merge_clusters b | Characters ↦ b ])
+    at_level : (l : BufferClusterLevel)
+        → KeepsFlags b (elim l as (λ v. Buffer) [ MonotoneGraphemes ↦ b | MonotoneCharacters ↦ over_graphemes merge_clusters b | Characters ↦ b ])
     at_level MonotoneGraphemes = KeepsFlags-same b
     at_level MonotoneCharacters = over-keeps_flags merge_clusters merge_clusters_keeps b
     at_level Characters = KeepsFlags-same b
@@ -176,36 +187,44 @@ merged_to_turn-keeps_flags b = at_level b.cluster_level
 pub natively_ordered-keeps_flags : (unicode : UnicodeMeaning) → IsFlagKeeper (natively_ordered unicode)
 unfolding natively_ordered
 natively_ordered-keeps_flags unicode b = elim (cases_Bool (is_against (native_direction unicode b) b.direction)) [
-  | inl on ↦ rw on (KeepsFlags-then b (merged_to_turn b) (turned (merged_to_turn b)) (merged_to_turn-keeps_flags b) (turned-keeps_flags (merged_to_turn b)))
+  | inl on ↦ rw on (KeepsFlags-then b (merged_to_turn b) (turned (merged_to_turn b)) (merged_to_turn-keeps_flags b)
+      (turned-keeps_flags (merged_to_turn b)))
   | inr off ↦ rw off (KeepsFlags-same b)
 ]
 
 -- ---- rotation
 
-masked-flag : (mask flag : ℕ) → bit_and mask flag ≡ 0 → (item : Item) (form : Option ℕ) → has_flag flag (mirrored_or_masked mask item form) ≡ has_flag flag item
+masked-flag : (mask flag : ℕ) → bit_and mask flag ≡ 0 → (item : Item) (form : Option ℕ)
+    → has_flag flag (mirrored_or_masked mask item form) ≡ has_flag flag item
 masked-flag mask flag apart item None = rw (and_or_apart flag item.mask mask apart) refl
 masked-flag mask flag apart item (Some c) = refl
 
-forms-flag : (unicode : UnicodeMeaning) (face : FaceMeaning) (mask flag : ℕ) → bit_and mask flag ≡ 0 → (item : Item) (mirrors is_upright : Bool) → has_flag flag (in_forms unicode face mirrors mask is_upright item) ≡ has_flag flag item
+forms-flag : (unicode : UnicodeMeaning) (face : FaceMeaning) (mask flag : ℕ) → bit_and mask flag ≡ 0
+    → (item : Item) (mirrors is_upright : Bool) → has_flag flag (in_forms unicode face mirrors mask is_upright item) ≡ has_flag flag item
 forms-flag unicode face mask flag apart item true true = masked-flag mask flag apart item (form_in face (unicode.mirrored item.codepoint))
 forms-flag unicode face mask flag apart item true false = masked-flag mask flag apart item (form_in face (unicode.mirrored item.codepoint))
 forms-flag unicode face mask flag apart item false true = refl
 forms-flag unicode face mask flag apart item false false = refl
 
-mapped-flags : (f : Item → Item) (flag : ℕ) → ((item : Item) → has_flag flag (f item) ≡ has_flag flag item) → (items : List Item) → some_has flag (map f items) ≡ some_has flag items
+mapped-flags : (f : Item → Item) (flag : ℕ) → ((item : Item) → has_flag flag (f item) ≡ has_flag flag item) → (items : List Item)
+    → some_has flag (map f items) ≡ some_has flag items
 mapped-flags f flag same [] = refl
 mapped-flags f flag same (item ∷ items) = ap₂ (λ (a b : Bool). a || b) (same item) (mapped-flags f flag same items)
 
-pub rotated-keeps_flags : (unicode : UnicodeMeaning) (face : FaceMeaning) (decisions : Decisions) (target : Direction) → HasNoDefinedFlag decisions.rtlm_mask → IsFlagKeeper (rotated unicode face decisions target)
+pub rotated-keeps_flags : (unicode : UnicodeMeaning) (face : FaceMeaning) (decisions : Decisions) (target : Direction)
+    → HasNoDefinedFlag decisions.rtlm_mask → IsFlagKeeper (rotated unicode face decisions target)
 unfolding rotated items_mapped
 rotated-keeps_flags unicode face decisions target none b = KeepsFlags-items b _ (λ flag d some.
-    sym (mapped-flags (rotated_item unicode face decisions target) flag (λ item. forms-flag unicode face decisions.rtlm_mask flag (no_flag_in decisions.rtlm_mask flag d none) item (is_backward target) _) b.items) ∙ some)
+    sym (mapped-flags (rotated_item unicode face decisions target) flag
+    (λ item. forms-flag unicode face decisions.rtlm_mask flag (no_flag_in decisions.rtlm_mask flag d none) item
+    (is_backward target) _) b.items) ∙ some)
 
 -- ---- all of them
 
 pub preparing_keeps_flags : PreparingKeepsFlags
 preparing_keeps_flags run target writes keeps =
-    let hook = keeper-hook IsFlagKeeper KeepsFlags-same run.constants.has_preprocess_text run.hooks (λ h. h.preprocess) (λ h is. (keeps.hooks h is).preprocess) in
+    let hook = keeper-hook IsFlagKeeper KeepsFlags-same run.constants.has_preprocess_text run.hooks (λ h. h.preprocess)
+    (λ h is. (keeps.hooks h is).preprocess) in
     let order : EachStep IsFlagKeeper (order_steps run target) = (
       natively_ordered-keeps_flags run.unicode,
       (hook, (rotated-keeps_flags run.unicode run.face run.decisions target writes.mirroring, tt)),

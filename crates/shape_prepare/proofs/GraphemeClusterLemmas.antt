@@ -32,7 +32,8 @@ pub spans-merged : (spans : List (ℕ × ℕ)) (b : Buffer) → IsMonotoneLevel 
     → fold (λ b span. merge_clusters span.0 span.1 b) b spans ≡ record b { items = all_merged spans b.items }
 spans-merged [] b monotone = refl
 spans-merged (span ∷ spans) b monotone =
-    ap (λ (b : Buffer). fold (λ (b : Buffer) (span : ℕ × ℕ). merge_clusters span.0 span.1 b) b spans) (merge_at-level span.0 span.1 b b.cluster_level monotone)
+    ap (λ (b : Buffer). fold (λ (b : Buffer) (span : ℕ × ℕ). merge_clusters span.0 span.1 b) b spans)
+    (merge_at-level span.0 span.1 b b.cluster_level monotone)
     ∙ spans-merged spans (merge_at span.0 span.1 b) monotone
 
 -- merging changes no bit
@@ -48,7 +49,8 @@ longer_first (n ∷ ns) = suc n ∷ ns
 abbrev pub sizes_of_bits : List Bool → List ℕ
 sizes_of_bits [] = []
 sizes_of_bits (x ∷ []) = 1 ∷ []
-sizes_of_bits (x ∷ continuation ∷ bits) = if continuation then longer_first (sizes_of_bits (continuation ∷ bits)) else 1 ∷ sizes_of_bits (continuation ∷ bits)
+sizes_of_bits (x ∷ continuation ∷ bits) =
+    if continuation then longer_first (sizes_of_bits (continuation ∷ bits)) else 1 ∷ sizes_of_bits (continuation ∷ bits)
 
 module _ {A : Type 0} (belongs : A → Bool) where
   lengths-put_first : (x : A) (parts : List (List A)) → map length (put_first x parts) ≡ longer_first (map length parts)
@@ -59,7 +61,8 @@ module _ {A : Type 0} (belongs : A → Bool) where
   sizes-bits [] = refl
   sizes-bits (x ∷ []) = refl
   sizes-bits (x ∷ y ∷ rest) = elim (cases_Bool (belongs y)) [
-    | inl on ↦ rw on (lengths-put_first x (divided belongs (y ∷ rest)) ∙ ap longer_first (sizes-bits (y ∷ rest)) ∙ ap (λ t. longer_first (sizes_of_bits (t ∷ map belongs rest))) on)
+    | inl on ↦ rw on (lengths-put_first x (divided belongs (y ∷ rest)) ∙ ap longer_first (sizes-bits (y ∷ rest))
+        ∙ ap (λ t. longer_first (sizes_of_bits (t ∷ map belongs rest))) on)
     | inr off ↦ rw off (ap (λ (ns : List ℕ). 1 ∷ ns) (sizes-bits (y ∷ rest)) ∙ ap (λ t. 1 ∷ sizes_of_bits (t ∷ map belongs rest)) off)
   ]
 
@@ -77,7 +80,8 @@ some-sizes (x ∷ false ∷ bits) = (omega arith, some-sizes (false ∷ bits))
 parted-whole : {A : Type 0} (parts : List (List A)) → parted (map length parts) (whole parts) ≡ parts
 parted-whole [] = refl
 parted-whole {A} (part ∷ parts) =
-    ap₂ (λ (a : List A) (l : List A). a ∷ parted (map length parts) l) (take_at part (whole parts) (length part) refl) (drop_at part (whole parts) (length part) refl)
+    ap₂ (λ (a : List A) (l : List A). a ∷ parted (map length parts) l) (take_at part (whole parts) (length part) refl)
+    (drop_at part (whole parts) (length part) refl)
     ∙ ap (λ (l : List (List A)). part ∷ l) (parted-whole parts)
 
 pub parted-graphemes : (xs : List Item) (sizes : List ℕ) → map length (graphemes xs) ≡ sizes → parted sizes xs ≡ graphemes xs
@@ -92,7 +96,9 @@ abbrev pub graphemes_merged : List Item → List Item
 graphemes_merged xs = all_merged (grapheme_spans xs) xs
 
 pub sizes-merged : (xs : List Item) → map length (graphemes (graphemes_merged xs)) ≡ map length (graphemes xs)
-sizes-merged xs = sizes-bits is_continuation (graphemes_merged xs) ∙ ap sizes_of_bits (bits-merged (grapheme_spans xs) xs) ∙ sym (sizes-bits is_continuation xs)
+sizes-merged xs =
+    sizes-bits is_continuation (graphemes_merged xs) ∙ ap sizes_of_bits (bits-merged (grapheme_spans xs) xs)
+    ∙ sym (sizes-bits is_continuation xs)
 
 pub merged-parts : (xs : List Item) → IsNonDecreasing (clusters xs) → Merged 0 (map length (graphemes xs)) xs (graphemes_merged xs)
 merged-parts xs rising =

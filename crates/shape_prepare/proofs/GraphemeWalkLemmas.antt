@@ -39,15 +39,19 @@ goes_on f start place x [] b e = absurd (let none : true ≡ false = e in cc)
 goes_on f start place x (c ∷ behind) b e = let on : c ≡ true = not_false c e in rw on refl
 
 -- the same, of a list of bits and a place in it
-pub walk_ends : (f : ℕ → ℕ → Buffer → Buffer) (start place : ℕ) (bits : List Bool) (b : Buffer) → place < length bits → ends (drop (place + 1) bits) ≡ true
+pub walk_ends : (f : ℕ → ℕ → Buffer → Buffer) (start place : ℕ) (bits : List Bool) (b : Buffer) → place < length bits
+    → ends (drop (place + 1) bits) ≡ true
     → left_to_do f (place + 1) (place + 1) (drop (place + 1) bits) (f start (place + 1) b) ≡ left_to_do f start place (drop place bits) b
 walk_ends f start place bits b within e =
-    sym (ap (λ l. left_to_do f start place l b) (drop_more bits place false within) ∙ ends_here f start place (get_or bits place false) (drop (place + 1) bits) b e)
+    sym (ap (λ l. left_to_do f start place l b) (drop_more bits place false within)
+    ∙ ends_here f start place (get_or bits place false) (drop (place + 1) bits) b e)
 
-pub walk_goes_on : (f : ℕ → ℕ → Buffer → Buffer) (start place : ℕ) (bits : List Bool) (b : Buffer) → place < length bits → ends (drop (place + 1) bits) ≡ false
+pub walk_goes_on : (f : ℕ → ℕ → Buffer → Buffer) (start place : ℕ) (bits : List Bool) (b : Buffer) → place < length bits
+    → ends (drop (place + 1) bits) ≡ false
     → left_to_do f start (place + 1) (drop (place + 1) bits) b ≡ left_to_do f start place (drop place bits) b
 walk_goes_on f start place bits b within e =
-    sym (ap (λ l. left_to_do f start place l b) (drop_more bits place false within) ∙ goes_on f start place (get_or bits place false) (drop (place + 1) bits) b e)
+    sym (ap (λ l. left_to_do f start place l b) (drop_more bits place false within)
+    ∙ goes_on f start place (get_or bits place false) (drop (place + 1) bits) b e)
 
 -- the spans of parts of these sizes from `place` on, the first of which began at `start`
 abbrev opened_spans : ℕ → ℕ → List ℕ → List (ℕ × ℕ)
@@ -59,7 +63,8 @@ opened_spans-anew place [] some = absurd (omega arith)
 opened_spans-anew place (size ∷ sizes) some = refl
 
 module _ {A : Type 0} (belongs : A → Bool) where
-  opened_spans-longer : (x : A) (start place : ℕ) (parts : List (List A)) → opened_spans start place (map length (put_first x parts)) ≡ opened_spans start (place + 1) (map length parts)
+  opened_spans-longer : (x : A) (start place : ℕ) (parts : List (List A))
+      → opened_spans start place (map length (put_first x parts)) ≡ opened_spans start (place + 1) (map length parts)
   opened_spans-longer x start place [] = refl
   opened_spans-longer x start place (part ∷ parts) =
       let e : place + suc (length part) ≡ place + 1 + length part = omega arith in
@@ -97,12 +102,16 @@ module _ {A : Type 0} (belongs : A → Bool) where
   walk-spans f [] b = refl
   walk-spans f (x ∷ xs) b =
       opened-walk f 0 0 x xs b
-      ∙ ap (λ spans. fold (λ (b : Buffer) (span : ℕ × ℕ). f span.0 span.1 b) b spans) (opened_spans-anew 0 (map length (divided belongs (x ∷ xs))) (some-divided x xs))
+      ∙ ap (λ spans. fold (λ (b : Buffer) (span : ℕ × ℕ). f span.0 span.1 b) b spans)
+      (opened_spans-anew 0 (map length (divided belongs (x ∷ xs))) (some-divided x xs))
 
 -- no merging, marking or turning elsewhere changes what continues
 pub IsKey-continuation : IsKey is_continuation
 IsKey-continuation = record { by_cluster = λ item cluster. refl; by_break = λ item. refl }
 
 -- a test on items is one on their bits
-pub told_by_bits : (end : ℕ) (items of_buffer : List Item) (bits : List Bool) → items ≡ of_buffer → map is_continuation of_buffer ≡ bits → ends (map is_continuation (drop end items)) ≡ ends (drop end bits)
-told_by_bits end items of_buffer bits read same = ap (λ xs. ends (map is_continuation (drop end xs))) read ∙ ap ends (sym (drop-map is_continuation end of_buffer)) ∙ ap (λ l. ends (drop end l)) same
+pub told_by_bits : (end : ℕ) (items of_buffer : List Item) (bits : List Bool) → items ≡ of_buffer → map is_continuation of_buffer ≡ bits
+    → ends (map is_continuation (drop end items)) ≡ ends (drop end bits)
+told_by_bits end items of_buffer bits read same =
+    ap (λ xs. ends (map is_continuation (drop end xs))) read ∙ ap ends (sym (drop-map is_continuation end of_buffer))
+    ∙ ap (λ l. ends (drop end l)) same

@@ -57,9 +57,11 @@ begun-keeps_order mask b = record {
   level = refl;
 }
 
-marked-clusters : (unicode : UnicodeMeaning) (items : List Item) (before : Before) → clusters (continuations_marked unicode before (map (with_unicode_props unicode) items)) ≡ clusters items
+marked-clusters : (unicode : UnicodeMeaning) (items : List Item) (before : Before)
+    → clusters (continuations_marked unicode before (map (with_unicode_props unicode) items)) ≡ clusters items
 marked-clusters unicode [] before = refl
-marked-clusters unicode (item ∷ items) before = ap (λ (cs : List ℕ). item.cluster ∷ cs) (marked-clusters unicode items (is_to_next unicode before (with_unicode_props unicode item)))
+marked-clusters unicode (item ∷ items) before =
+    ap (λ (cs : List ℕ). item.cluster ∷ cs) (marked-clusters unicode items (is_to_next unicode before (with_unicode_props unicode item)))
 
 pub graphemes_marked-keeps_order : (unicode : UnicodeMeaning) (b : Buffer) → KeepsOrder b (graphemes_marked unicode b)
 unfolding graphemes_marked
@@ -70,11 +72,13 @@ graphemes_marked-keeps_order unicode b = record {
   level = refl;
 }
 
-with_circle-keeps_order : (unicode : UnicodeMeaning) (b : Buffer) (items : List Item) → b.items ≡ items → KeepsOrder b (with_circle unicode items b)
+with_circle-keeps_order : (unicode : UnicodeMeaning) (b : Buffer) (items : List Item) → b.items ≡ items
+    → KeepsOrder b (with_circle unicode items b)
 with_circle-keeps_order unicode b [] is = KeepsOrder-same b
 with_circle-keeps_order unicode b (first ∷ rest) is =
     let cs = clusters (first ∷ rest) in
-    let again : KeepsClusters cs (first.cluster ∷ cs) = KeepsClusters-from_draws cs (first.cluster ∷ cs) (DrawsInOrder-again first.cluster (clusters rest) cs (DrawsInOrder-same cs)) in
+    let again : KeepsClusters cs (first.cluster ∷ cs) = KeepsClusters-from_draws cs (first.cluster ∷ cs)
+    (DrawsInOrder-again first.cluster (clusters rest) cs (DrawsInOrder-same cs)) in
     record {
       clusters = subst (λ (l : List Item). KeepsClusters (clusters l) (first.cluster ∷ clusters l)) (sym is) again;
       direction = refl;
@@ -91,12 +95,14 @@ dotted_circled-keeps_order unicode face b = elim (cases_Bool (takes_circle face 
 
 -- ---- clusters of graphemes
 
-sizes-keep : (start : ℕ) (sizes : List ℕ) (xs : List Item) → start + total sizes ≤ length xs → KeepsClusters (clusters xs) (clusters (all_merged (spans_from start sizes) xs))
+sizes-keep : (start : ℕ) (sizes : List ℕ) (xs : List Item) → start + total sizes ≤ length xs
+    → KeepsClusters (clusters xs) (clusters (all_merged (spans_from start sizes) xs))
 sizes-keep start [] xs within = KeepsClusters-equal (clusters xs) (clusters xs) refl
 sizes-keep start (size ∷ sizes) xs within =
     let next = merge start (start + size) xs in
     let many : length next ≡ length xs = length-merge start (start + size) xs in
-    KeepsClusters-then (clusters xs) (clusters next) _ (merge_keeps start (start + size) xs next (omega arith) refl) (sizes-keep (start + size) sizes next (omega arith))
+    KeepsClusters-then (clusters xs) (clusters next) _ (merge_keeps start (start + size) xs next (omega arith) refl)
+    (sizes-keep (start + size) sizes next (omega arith))
 
 pub merged-keeps_order : (b : Buffer) → IsMonotoneLevel b.cluster_level → KeepsOrder b (over_graphemes merge_clusters b)
 merged-keeps_order b monotone = rw (spans-merged (grapheme_spans b.items) b monotone) (record {
@@ -106,15 +112,20 @@ merged-keeps_order b monotone = rw (spans-merged (grapheme_spans b.items) b mono
   level = refl;
 })
 
-clusters-map_range : (f : Item → Item) → ((item : Item) → (f item).cluster ≡ item.cluster) → (from to : ℕ) (xs : List Item) → from ≤ to → clusters (map_range f from to xs) ≡ clusters xs
+clusters-map_range : (f : Item → Item) → ((item : Item) → (f item).cluster ≡ item.cluster) → (from to : ℕ) (xs : List Item) → from ≤ to
+    → clusters (map_range f from to xs) ≡ clusters xs
 clusters-map_range f same from to xs le =
     let key = λ (item : Item). item.cluster in
     map-append key (take from xs) (map f (slice_range xs from to) ++ drop to xs)
-    ∙ ap (λ (l : List ℕ). map key (take from xs) ++ l) (map-append key (map f (slice_range xs from to)) (drop to xs) ∙ ap (λ (l : List ℕ). l ++ map key (drop to xs)) (clusters-map f same (slice_range xs from to)) ∙ sym (map-append key (slice_range xs from to) (drop to xs)) ∙ ap (map key) (sym (drop_split xs from to le)))
+    ∙ ap (λ (l : List ℕ). map key (take from xs) ++ l) (map-append key (map f (slice_range xs from to)) (drop to xs)
+    ∙ ap (λ (l : List ℕ). l ++ map key (drop to xs)) (clusters-map f same (slice_range xs from to))
+    ∙ sym (map-append key (slice_range xs from to) (drop to xs)) ∙ ap (map key) (sym (drop_split xs from to le)))
     ∙ sym (map-append key (take from xs) (drop from xs)) ∙ ap (map key) (take-append-drop from xs)
 
 mark_break-cluster : (least : ℕ) (item : Item) → (mark_break least item).cluster ≡ item.cluster
-mark_break-cluster least item = elim (item.cluster == least) as (λ t. (if t then item else record item { mask = bit_or item.mask 3 }).cluster ≡ item.cluster) [ true ↦ refl | false ↦ refl ]
+mark_break-cluster least item =
+    elim (item.cluster == least) as (λ t. (if t then item else record item { mask = bit_or item.mask 3 }).cluster
+    ≡ item.cluster) [ true ↦ refl | false ↦ refl ]
 
 unsafe_to_break-keeps_order : (start end : ℕ) (b : Buffer) → KeepsOrder b (unsafe_to_break start end b)
 unsafe_to_break-keeps_order start end b =
@@ -122,7 +133,9 @@ unsafe_to_break-keeps_order start end b =
       | inl long ↦
           let lt : start + 1 < end = grind (arith, nat_tests) in
           rw long (record {
-            clusters = KeepsClusters-equal (clusters b.items) _ (clusters-map_range (mark_break (least_cluster (slice_range b.items start end))) (mark_break-cluster (least_cluster (slice_range b.items start end))) start end b.items (omega arith));
+            clusters = KeepsClusters-equal (clusters b.items) _ (clusters-map_range
+                (mark_break (least_cluster (slice_range b.items start end)))
+                (mark_break-cluster (least_cluster (slice_range b.items start end))) start end b.items (omega arith));
             direction = refl;
             flags = refl;
             level = refl;
@@ -130,7 +143,8 @@ unsafe_to_break-keeps_order start end b =
       | inr short ↦ rw short (KeepsOrder-same b)
     ]
 
-fold-keeps_order : (f : ℕ → ℕ → Buffer → Buffer) → ((start end : ℕ) (b : Buffer) → KeepsOrder b (f start end b)) → (spans : List (ℕ × ℕ)) (b : Buffer) → KeepsOrder b (fold (λ b span. f span.0 span.1 b) b spans)
+fold-keeps_order : (f : ℕ → ℕ → Buffer → Buffer) → ((start end : ℕ) (b : Buffer) → KeepsOrder b (f start end b))
+    → (spans : List (ℕ × ℕ)) (b : Buffer) → KeepsOrder b (fold (λ b span. f span.0 span.1 b) b spans)
 fold-keeps_order f keeps [] b = KeepsOrder-same b
 fold-keeps_order f keeps (span ∷ spans) b =
     let next = f span.0 span.1 b in
@@ -139,7 +153,8 @@ fold-keeps_order f keeps (span ∷ spans) b =
 formed_at-keeps_order : (b : Buffer) (level : BufferClusterLevel) → b.cluster_level ≡ level → IsMonotoneLevel level
     → KeepsOrder b (elim level as (λ v. Buffer) [ MonotoneGraphemes ↦ over_graphemes merge_clusters b | MonotoneCharacters ↦ over_graphemes unsafe_to_break b | Characters ↦ over_graphemes unsafe_to_break b ])
 formed_at-keeps_order b MonotoneGraphemes is monotone = merged-keeps_order b (subst IsMonotoneLevel (sym is) monotone)
-formed_at-keeps_order b MonotoneCharacters is monotone = fold-keeps_order unsafe_to_break unsafe_to_break-keeps_order (grapheme_spans b.items) b
+formed_at-keeps_order b MonotoneCharacters is monotone =
+    fold-keeps_order unsafe_to_break unsafe_to_break-keeps_order (grapheme_spans b.items) b
 formed_at-keeps_order b Characters is monotone = absurd monotone
 
 pub clusters_formed-keeps_order : IsClusterKeeper clusters_formed
@@ -155,16 +170,19 @@ masked-cluster : (mask : ℕ) (item : Item) (form : Option ℕ) → (mirrored_or
 masked-cluster mask item None = refl
 masked-cluster mask item (Some c) = refl
 
-forms-cluster : (unicode : UnicodeMeaning) (face : FaceMeaning) (mask : ℕ) (item : Item) (mirrors is_upright : Bool) → (in_forms unicode face mirrors mask is_upright item).cluster ≡ item.cluster
+forms-cluster : (unicode : UnicodeMeaning) (face : FaceMeaning) (mask : ℕ) (item : Item) (mirrors is_upright : Bool)
+    → (in_forms unicode face mirrors mask is_upright item).cluster ≡ item.cluster
 forms-cluster unicode face mask item true true = masked-cluster mask item (form_in face (unicode.mirrored item.codepoint))
 forms-cluster unicode face mask item true false = masked-cluster mask item (form_in face (unicode.mirrored item.codepoint))
 forms-cluster unicode face mask item false true = refl
 forms-cluster unicode face mask item false false = refl
 
-pub rotated-keeps_order : (unicode : UnicodeMeaning) (face : FaceMeaning) (decisions : Decisions) (target : Direction) (b : Buffer) → KeepsOrder b (rotated unicode face decisions target b)
+pub rotated-keeps_order : (unicode : UnicodeMeaning) (face : FaceMeaning) (decisions : Decisions) (target : Direction) (b : Buffer)
+    → KeepsOrder b (rotated unicode face decisions target b)
 unfolding rotated items_mapped
 rotated-keeps_order unicode face decisions target b = record {
-  clusters = KeepsClusters-equal (clusters b.items) _ (clusters-map (rotated_item unicode face decisions target) (λ item. forms-cluster unicode face decisions.rtlm_mask item (is_backward target) _) b.items);
+  clusters = KeepsClusters-equal (clusters b.items) _ (clusters-map (rotated_item unicode face decisions target)
+      (λ item. forms-cluster unicode face decisions.rtlm_mask item (is_backward target) _) b.items);
   direction = refl;
   flags = refl;
   level = refl;
@@ -179,44 +197,55 @@ flag_if-1 : (t : Bool) (flag flags : ℕ) → bit_and flag 1 ≡ 0 → bit_and (
 flag_if-1 true flag flags apart = and_or_apart 1 flags flag apart
 flag_if-1 false flag flags apart = refl
 
-scratch-1 : (unicode : UnicodeMeaning) (c : ℕ) (flags : ScratchFlags) → bit_and (with_scratch_of unicode c flags).0 1 ≡ bit_and (flag_if (beyond_ascii c) 1 flags.0) 1
+scratch-1 : (unicode : UnicodeMeaning) (c : ℕ) (flags : ScratchFlags)
+    → bit_and (with_scratch_of unicode c flags).0 1 ≡ bit_and (flag_if (beyond_ascii c) 1 flags.0) 1
 scratch-1 unicode c flags =
     let first = flag_if (beyond_ascii c) 1 flags.0 in
     let second = flag_if (beyond_ascii c && unicode.ignorable c) 2 first in
     flag_if-1 (c == 0x34F) 8 second refl ∙ flag_if-1 (beyond_ascii c && unicode.ignorable c) 2 first refl
 
-shows-past : (unicode : UnicodeMeaning) (c : ℕ) (flags : ScratchFlags) → beyond_ascii c ≡ true → seen_past (with_scratch_of unicode c flags) ≡ true
-shows-past unicode c flags past = ap (λ n. n == 1) (scratch-1 unicode c flags ∙ ap (λ t. bit_and (flag_if t 1 flags.0) 1) past ∙ and_or_self 1 flags.0)
+shows-past : (unicode : UnicodeMeaning) (c : ℕ) (flags : ScratchFlags) → beyond_ascii c ≡ true
+    → seen_past (with_scratch_of unicode c flags) ≡ true
+shows-past unicode c flags past =
+    ap (λ n. n == 1) (scratch-1 unicode c flags ∙ ap (λ t. bit_and (flag_if t 1 flags.0) 1) past ∙ and_or_self 1 flags.0)
 
-stays-seen : (unicode : UnicodeMeaning) (c : ℕ) (flags : ScratchFlags) → seen_past flags ≡ true → seen_past (with_scratch_of unicode c flags) ≡ true
+stays-seen : (unicode : UnicodeMeaning) (c : ℕ) (flags : ScratchFlags) → seen_past flags ≡ true
+    → seen_past (with_scratch_of unicode c flags) ≡ true
 stays-seen unicode c flags seen = elim (cases_Bool (beyond_ascii c)) [
   | inl past ↦ shows-past unicode c flags past
   | inr within ↦ ap (λ n. n == 1) (scratch-1 unicode c flags ∙ ap (λ t. bit_and (flag_if t 1 flags.0) 1) within) ∙ seen
 ]
 
-all-stay-seen : (unicode : UnicodeMeaning) (items : List Item) (flags : ScratchFlags) → seen_past flags ≡ true → seen_past (fold (seen_item unicode) flags items) ≡ true
+all-stay-seen : (unicode : UnicodeMeaning) (items : List Item) (flags : ScratchFlags) → seen_past flags ≡ true
+    → seen_past (fold (seen_item unicode) flags items) ≡ true
 all-stay-seen unicode [] flags seen = seen
-all-stay-seen unicode (item ∷ items) flags seen = all-stay-seen unicode items (seen_item unicode flags item) (stays-seen unicode item.codepoint flags seen)
+all-stay-seen unicode (item ∷ items) flags seen =
+    all-stay-seen unicode items (seen_item unicode flags item) (stays-seen unicode item.codepoint flags seen)
 
-no_rule : (passed symbol mark skin regional joiner extender : Bool) (t : Bool) → mark ≡ false → skin ≡ false → regional ≡ false → joiner ≡ false → extender ≡ false
+no_rule : (passed symbol mark skin regional joiner extender : Bool) (t : Bool) → mark ≡ false → skin ≡ false → regional ≡ false
+    → joiner ≡ false → extender ≡ false
     → (mark && t || false || (not passed && ((symbol && skin) || (regional && false) || joiner || extender))) ≡ false
 no_rule true symbol mark skin regional joiner extender t m s r j e = rw m refl
 no_rule false true mark skin regional joiner extender t m s r j e = rw (m, s, r, j, e) refl
 no_rule false false mark skin regional joiner extender t m s r j e = rw (m, r, j, e) refl
 
-ascii-continues : (unicode : UnicodeMeaning) (item : Item) → beyond_ascii item.codepoint ≡ false → continues unicode Plain (with_unicode_props unicode item) ≡ false
+ascii-continues : (unicode : UnicodeMeaning) (item : Item) → beyond_ascii item.codepoint ≡ false
+    → continues unicode Plain (with_unicode_props unicode item) ≡ false
 ascii-continues unicode item within =
     let c = item.codepoint in
     let small : c < 128 = grind (arith, nat_tests) in
-    no_rule (is_passed (unicode.category c)) (is_modifier_symbol (unicode.category c)) (beyond_ascii c) (is_skin_tone c) (is_regional_indicator c) (c == 0x200D) (is_extender c) (is_mark unicode c) within
+    no_rule (is_passed (unicode.category c)) (is_modifier_symbol (unicode.category c)) (beyond_ascii c) (is_skin_tone c)
+    (is_regional_indicator c) (c == 0x200D) (is_extender c) (is_mark unicode c) within
     (grind (arith, nat_tests)) (grind (arith, nat_tests)) (grind (arith, nat_tests)) (grind (arith, nat_tests))
 
 -- where no character past ASCII was seen no item continues a grapheme
-none-marked : (unicode : UnicodeMeaning) (items : List Item) (flags : ScratchFlags) → seen_past (fold (seen_item unicode) flags items) ≡ false
+none-marked : (unicode : UnicodeMeaning) (items : List Item) (flags : ScratchFlags)
+    → seen_past (fold (seen_item unicode) flags items) ≡ false
     → NoneContinues (continuations_marked unicode Plain (map (with_unicode_props unicode) items))
 none-marked unicode [] flags unseen = tt
 none-marked unicode (item ∷ items) flags unseen = elim (cases_Bool (beyond_ascii item.codepoint)) [
-  | inl past ↦ absurd (let seen = all-stay-seen unicode items (seen_item unicode flags item) (shows-past unicode item.codepoint flags past) in let e : true ≡ false = sym seen ∙ unseen in cc)
+  | inl past ↦ absurd (let seen = all-stay-seen unicode items (seen_item unicode flags item)
+      (shows-past unicode item.codepoint flags past) in let e : true ≡ false = sym seen ∙ unseen in cc)
   | inr within ↦
       let stays = ascii-continues unicode item within in
       let small : item.codepoint < 128 = grind (arith, nat_tests) in
@@ -227,18 +256,22 @@ none-marked unicode (item ∷ items) flags unseen = elim (cases_Bool (beyond_asc
 ]
 
 -- a circle shows a character past ASCII
-circle-seen : (unicode : UnicodeMeaning) (b : Buffer) (items : List Item) → seen_past (with_circle unicode items b).scratch_flags ≡ false → with_circle unicode items b ≡ b
+circle-seen : (unicode : UnicodeMeaning) (b : Buffer) (items : List Item) → seen_past (with_circle unicode items b).scratch_flags ≡ false
+    → with_circle unicode items b ≡ b
 circle-seen unicode b [] unseen = refl
-circle-seen unicode b (first ∷ rest) unseen = absurd (let e : true ≡ false = sym (shows-past unicode 0x25CC b.scratch_flags refl) ∙ unseen in cc)
+circle-seen unicode b (first ∷ rest) unseen =
+    absurd (let e : true ≡ false = sym (shows-past unicode 0x25CC b.scratch_flags refl) ∙ unseen in cc)
 
-pub circled-unseen : (unicode : UnicodeMeaning) (face : FaceMeaning) (b : Buffer) → seen_past (dotted_circled unicode face b).scratch_flags ≡ false → dotted_circled unicode face b ≡ b
+pub circled-unseen : (unicode : UnicodeMeaning) (face : FaceMeaning) (b : Buffer)
+    → seen_past (dotted_circled unicode face b).scratch_flags ≡ false → dotted_circled unicode face b ≡ b
 unfolding dotted_circled
 circled-unseen unicode face b = elim (cases_Bool (takes_circle face b && begins_with_mark b.items)) [
   | inl on ↦ rw on (λ unseen. circle-seen unicode b b.items unseen)
   | inr off ↦ rw off (λ unseen. refl)
 ]
 
-pub marked-unseen : (unicode : UnicodeMeaning) (b : Buffer) → seen_past (graphemes_marked unicode b).scratch_flags ≡ false → NoneContinues (graphemes_marked unicode b).items
+pub marked-unseen : (unicode : UnicodeMeaning) (b : Buffer) → seen_past (graphemes_marked unicode b).scratch_flags ≡ false
+    → NoneContinues (graphemes_marked unicode b).items
 unfolding graphemes_marked
 marked-unseen unicode b unseen = none-marked unicode b.items b.scratch_flags unseen
 
@@ -254,7 +287,8 @@ turned-in_order : (b : Buffer) → AreOneCluster (graphemes b.items) → IsNonDe
 turned-in_order b one rising =
     let parts = graphemes b.items in
     let together : whole parts ≡ b.items = whole-divided is_continuation b.items in
-    let reversed : clusters (from_last parts) ≡ reverse (clusters b.items) = clusters-turned parts one ∙ ap (λ (l : List Item). reverse (clusters l)) together in
+    let reversed : clusters (from_last parts) ≡ reverse (clusters b.items) = clusters-turned parts one
+    ∙ ap (λ (l : List Item). reverse (clusters l)) together in
     record {
       order = falls-turned parts one (subst (λ (l : List Item). IsNonDecreasing (clusters l)) (sym together) rising);
       none_new = λ k c. contains-reverse (clusters b.items) k (subst (λ (l : List ℕ). Contains l k) reversed c);
@@ -269,10 +303,15 @@ pub record IsReadyToTurn (b : Buffer) : Type 0 where
   pub monotone : IsMonotoneLevel b.cluster_level
   pub one : b.cluster_level ≡ MonotoneGraphemes → AreOneCluster (graphemes b.items)
 
-to_turn-one : (b : Buffer) (level : BufferClusterLevel) → b.cluster_level ≡ level → IsReadyToTurn b → AreOneCluster (graphemes (merged_to_turn b).items)
-to_turn-one b MonotoneGraphemes is ready = subst (λ (c : Buffer). AreOneCluster (graphemes c.items)) (sym (ap (λ l. elim l as (λ v. Buffer) [ MonotoneGraphemes ↦ b | MonotoneCharacters ↦ over_graphemes merge_clusters b | Characters ↦ b ]) is)) (ready.one is)
+to_turn-one : (b : Buffer) (level : BufferClusterLevel) → b.cluster_level ≡ level → IsReadyToTurn b
+    → AreOneCluster (graphemes (merged_to_turn b).items)
+to_turn-one b MonotoneGraphemes is ready =
+    subst (λ (c : Buffer). AreOneCluster (graphemes c.items)) (sym
+    (ap (λ l. elim l as (λ v. Buffer) [ MonotoneGraphemes ↦ b | MonotoneCharacters ↦ over_graphemes merge_clusters b | Characters ↦ b ]) is)) (ready.one is)
 to_turn-one b MonotoneCharacters is ready =
-    subst (λ (c : Buffer). AreOneCluster (graphemes c.items)) (sym (merged_to_turn-merged b is ∙ spans-merged (grapheme_spans b.items) b ready.monotone)) (merged-one_cluster b.items ready.rising)
+    subst (λ (c : Buffer). AreOneCluster (graphemes c.items))
+    (sym (merged_to_turn-merged b is ∙ spans-merged (grapheme_spans b.items) b ready.monotone))
+    (merged-one_cluster b.items ready.rising)
 to_turn-one b Characters is ready = absurd (subst IsMonotoneLevel is ready.monotone)
 
 to_turn-keeps_order : (b : Buffer) (level : BufferClusterLevel) → IsMonotoneLevel b.cluster_level
@@ -303,25 +342,29 @@ in_order-kept turned a b c first last = record {
   level = last.level ∙ first.level;
 }
 
-pub natively-in_order : (unicode : UnicodeMeaning) (b : Buffer) → IsReadyToTurn b → InOrderFor (is_against (native_direction unicode b) b.direction) b (natively_ordered unicode b)
+pub natively-in_order : (unicode : UnicodeMeaning) (b : Buffer) → IsReadyToTurn b
+    → InOrderFor (is_against (native_direction unicode b) b.direction) b (natively_ordered unicode b)
 unfolding natively_ordered
 natively-in_order unicode b ready = elim (cases_Bool (is_against (native_direction unicode b) b.direction)) [
   | inl on ↦ rw on (
       let merged = merged_to_turn b in
       let keeps : KeepsOrder b merged = to_turn-keeps_order b b.cluster_level ready.monotone in
-      in_order-behind true b merged (turned merged) keeps (turned-in_order merged (to_turn-one b b.cluster_level refl ready) (keeps.clusters.rising ready.rising))
+      in_order-behind true b merged (turned merged) keeps
+      (turned-in_order merged (to_turn-one b b.cluster_level refl ready) (keeps.clusters.rising ready.rising))
       )
   | inr off ↦ rw off (record { order = ready.rising; none_new = λ k c. c; direction = refl; flags = refl; level = refl })
 ]
 
 -- ---- the graphemes as the clusters were formed
 
-pub formed-ready : (unicode : UnicodeMeaning) (face : FaceMeaning) (b : Buffer) → IsMonotoneLevel b.cluster_level → IsNonDecreasing (clusters b.items)
+pub formed-ready : (unicode : UnicodeMeaning) (face : FaceMeaning) (b : Buffer) → IsMonotoneLevel b.cluster_level
+    → IsNonDecreasing (clusters b.items)
     → IsReadyToTurn (clusters_formed (dotted_circled unicode face (graphemes_marked unicode b)))
 formed-ready unicode face b monotone rising =
     let marked = graphemes_marked unicode b in
     let circled = dotted_circled unicode face marked in
-    let first = KeepsOrder-then b marked circled (graphemes_marked-keeps_order unicode b) (dotted_circled-keeps_order unicode face marked) in
+    let first = KeepsOrder-then b marked circled (graphemes_marked-keeps_order unicode b)
+    (dotted_circled-keeps_order unicode face marked) in
     let level : IsMonotoneLevel circled.cluster_level = subst IsMonotoneLevel (sym first.level) monotone in
     let keeps = clusters_formed-keeps_order circled level in
     let rises = first.clusters.rising rising in
@@ -330,12 +373,15 @@ formed-ready unicode face b monotone rising =
       monotone = subst IsMonotoneLevel (sym keeps.level) level;
       one = λ at_graphemes. elim (cases_Bool (seen_past circled.scratch_flags)) [
         | inl seen ↦
-            let whole_is = clusters_formed-merged circled seen (sym keeps.level ∙ at_graphemes) ∙ spans-merged (grapheme_spans circled.items) circled level in
+            let whole_is = clusters_formed-merged circled seen (sym keeps.level ∙ at_graphemes)
+            ∙ spans-merged (grapheme_spans circled.items) circled level in
             subst (λ (c : Buffer). AreOneCluster (graphemes c.items)) (sym whole_is) (merged-one_cluster circled.items rises)
         | inr unseen ↦
             let same = circled-unseen unicode face marked unseen in
-            let bare : NoneContinues marked.items = marked-unseen unicode b (ap (λ (c : Buffer). seen_past c.scratch_flags) (sym same) ∙ unseen) in
-            subst (λ (c : Buffer). AreOneCluster (graphemes c.items)) (sym (clusters_formed-unseen circled unseen ∙ same)) (single-one_cluster marked.items bare)
+            let bare : NoneContinues marked.items = marked-unseen unicode b
+            (ap (λ (c : Buffer). seen_past c.scratch_flags) (sym same) ∙ unseen) in
+            subst (λ (c : Buffer). AreOneCluster (graphemes c.items)) (sym (clusters_formed-unseen circled unseen ∙ same))
+            (single-one_cluster marked.items bare)
       ];
     }
 
@@ -350,14 +396,18 @@ preparing_keeps_order run target b keeps monotone rising =
     let formed = clusters_formed circled in
     let ordered = natively_ordered run.unicode formed in
     let level : IsMonotoneLevel start.cluster_level = subst IsMonotoneLevel (sym first.level) monotone in
-    let to_circle = KeepsOrder-then start marked circled (graphemes_marked-keeps_order run.unicode start) (dotted_circled-keeps_order run.unicode run.face marked) in
+    let to_circle = KeepsOrder-then start marked circled (graphemes_marked-keeps_order run.unicode start)
+    (dotted_circled-keeps_order run.unicode run.face marked) in
     let formed_level : IsMonotoneLevel circled.cluster_level = subst IsMonotoneLevel (sym to_circle.level) level in
-    let to_formed = KeepsOrder-then b start formed first (KeepsOrder-then start circled formed to_circle (clusters_formed-keeps_order circled formed_level)) in
+    let to_formed = KeepsOrder-then b start formed first
+    (KeepsOrder-then start circled formed to_circle (clusters_formed-keeps_order circled formed_level)) in
     let ready = formed-ready run.unicode run.face start level (first.clusters.rising rising) in
     let against = is_against (native_direction run.unicode formed) formed.direction in
     let turns = in_order-behind against b formed ordered to_formed (natively-in_order run.unicode formed ready) in
-    let hook = keeper-hook IsClusterKeeper (λ c _. KeepsOrder-same c) run.constants.has_preprocess_text run.hooks (λ h. h.preprocess) (λ h is. (keeps.hooks h is).preprocess) in
+    let hook = keeper-hook IsClusterKeeper (λ c _. KeepsOrder-same c) run.constants.has_preprocess_text run.hooks (λ h. h.preprocess)
+    (λ h is. (keeps.hooks h is).preprocess) in
     let processed = hook_if run.constants.has_preprocess_text run.hooks (λ h. h.preprocess) ordered in
     let ordered_level : IsMonotoneLevel ordered.cluster_level = subst IsMonotoneLevel (sym turns.level) monotone in
     let to_processed = in_order-kept against b ordered processed turns (hook ordered ordered_level) in
-    in_order-kept against b processed (rotated run.unicode run.face run.decisions target processed) to_processed (rotated-keeps_order run.unicode run.face run.decisions target processed)
+    in_order-kept against b processed (rotated run.unicode run.face run.decisions target processed) to_processed
+    (rotated-keeps_order run.unicode run.face run.decisions target processed)

@@ -43,32 +43,34 @@ abbrev Key : Type 0
 Key = ℕ × (ℕ × hb_unicode_general_category_t)
 
 abbrev key_of : Item → Key
-key_of item = (item.codepoint, (item.properties.modified_class, item.properties.general_category))
+key_of item = (item.codepoint, (item.properties.modified_ccc, item.properties.general_category))
 
 IsKey-key_of : IsKey key_of
 IsKey-key_of = record { by_cluster = λ item cluster. refl; by_break = λ item. refl }
 
 record IsPreparedKey (unicode : UnicodeMeaning) (key : Key) : Type 0 where
   pub mark : is_mark_category key.1.1 ≡ is_mark unicode key.0
-  pub class : key.1.0 ≡ unicode.class key.0
+  pub ccc : key.1.0 ≡ unicode.ccc key.0
 
 to_keys : (unicode : UnicodeMeaning) (xs : List Item) → ArePrepared unicode xs → AllByRecursion (IsPreparedKey unicode) (map key_of xs)
 to_keys unicode [] all = tt
-to_keys unicode (x ∷ xs) all = (record { mark = all.0.mark; class = all.0.class }, to_keys unicode xs all.1)
+to_keys unicode (x ∷ xs) all = (record { mark = all.0.mark; ccc = all.0.ccc }, to_keys unicode xs all.1)
 
 from_keys : (unicode : UnicodeMeaning) (xs : List Item) → AllByRecursion (IsPreparedKey unicode) (map key_of xs) → ArePrepared unicode xs
 from_keys unicode [] all = tt
-from_keys unicode (x ∷ xs) all = (record { mark = all.0.mark; class = all.0.class }, from_keys unicode xs all.1)
+from_keys unicode (x ∷ xs) all = (record { mark = all.0.mark; ccc = all.0.ccc }, from_keys unicode xs all.1)
 
 same_keys : (unicode : UnicodeMeaning) (xs ys : List Item) → map key_of ys ≡ map key_of xs → ArePrepared unicode xs → ArePrepared unicode ys
 same_keys unicode xs ys same all = from_keys unicode ys (subst (AllByRecursion (IsPreparedKey unicode)) (sym same) (to_keys unicode xs all))
 
-keys-fold : (f : ℕ → ℕ → Buffer → Buffer) → ((start end : ℕ) (b : Buffer) → map key_of (f start end b).items ≡ map key_of b.items) → (spans : List (ℕ × ℕ)) (b : Buffer)
+keys-fold : (f : ℕ → ℕ → Buffer → Buffer) → ((start end : ℕ) (b : Buffer) → map key_of (f start end b).items ≡ map key_of b.items)
+    → (spans : List (ℕ × ℕ)) (b : Buffer)
     → map key_of (fold (λ b span. f span.0 span.1 b) b spans).items ≡ map key_of b.items
 keys-fold f same [] b = refl
 keys-fold f same (span ∷ spans) b = keys-fold f same spans (f span.0 span.1 b) ∙ same span.0 span.1 b
 
-append-prepared : (unicode : UnicodeMeaning) (xs ys : List Item) → ArePrepared unicode xs → ArePrepared unicode ys → ArePrepared unicode (xs ++ ys)
+append-prepared : (unicode : UnicodeMeaning) (xs ys : List Item) → ArePrepared unicode xs → ArePrepared unicode ys
+    → ArePrepared unicode (xs ++ ys)
 append-prepared unicode [] ys first last = last
 append-prepared unicode (x ∷ xs) ys first last = (first.0, append-prepared unicode xs ys first.1 last)
 
@@ -80,11 +82,13 @@ right-prepared : (unicode : UnicodeMeaning) (xs ys : List Item) → ArePrepared 
 right-prepared unicode [] ys all = all
 right-prepared unicode (x ∷ xs) ys all = right-prepared unicode xs ys all.1
 
-from_last-prepared : (unicode : UnicodeMeaning) (parts : List (List Item)) → ArePrepared unicode (whole parts) → ArePrepared unicode (from_last parts)
+from_last-prepared : (unicode : UnicodeMeaning) (parts : List (List Item)) → ArePrepared unicode (whole parts)
+    → ArePrepared unicode (from_last parts)
 from_last-prepared unicode [] all = all
 from_last-prepared unicode (part ∷ parts) all =
     subst (λ (l : List Item). ArePrepared unicode l) (sym (from_last-first part parts))
-    (append-prepared unicode (from_last parts) part (from_last-prepared unicode parts (right-prepared unicode part (whole parts) all)) (left-prepared unicode part (whole parts) all))
+    (append-prepared unicode (from_last parts) part (from_last-prepared unicode parts (right-prepared unicode part (whole parts) all))
+    (left-prepared unicode part (whole parts) all))
 
 module _ (unicode : UnicodeMeaning) (lawful : LawfulUnicode unicode) where
   beyond : (c : ℕ) → is_mark unicode c ≡ true → beyond_ascii c ≡ true
@@ -94,29 +98,37 @@ module _ (unicode : UnicodeMeaning) (lawful : LawfulUnicode unicode) where
         | inr low ↦ let below : c < 128 = grind (arith, nat_tests) in absurd (both_ways _ (lawful.ascii_is_no_mark c below) mark)
       ]
 
-  unmarked_class : (c : ℕ) → is_mark unicode c ≡ false → unicode.class c ≡ 0
-  unmarked_class c no_mark =
-      elim (cases_eq (unicode.class c) 0) [
+  unmarked_ccc : (c : ℕ) → is_mark unicode c ≡ false → unicode.ccc c ≡ 0
+  unmarked_ccc c no_mark =
+      elim (cases_eq (unicode.ccc c) 0) [
         | inl none ↦ none
-        | inr some ↦ absurd (both_ways _ no_mark (lawful.marks_have_classes c some))
+        | inr some ↦ absurd (both_ways _ no_mark (lawful.marks_have_ccc c some))
       ]
 
-  class_with_props : (c : ℕ) → (if beyond_ascii c && is_mark unicode c then unicode.class c else 0) ≡ unicode.class c
-  class_with_props c =
+  ccc_with_props : (c : ℕ) → (if beyond_ascii c && is_mark unicode c then unicode.ccc c else 0) ≡ unicode.ccc c
+  ccc_with_props c =
       elim (cases_Bool (is_mark unicode c)) [
-        | inl mark ↦ cond-true _ (unicode.class c) 0 (and_from _ _ (beyond c mark) mark)
-        | inr no_mark ↦ ap (λ t. if t then unicode.class c else 0) (ap (λ t. beyond_ascii c && t) no_mark ∙ and_right (beyond_ascii c) false refl) ∙ sym (unmarked_class c no_mark)
+        | inl mark ↦ cond-true _ (unicode.ccc c) 0 (and_from _ _ (beyond c mark) mark)
+        | inr no_mark ↦ ap (λ t. if t then unicode.ccc c else 0)
+            (ap (λ t. beyond_ascii c && t) no_mark ∙ and_right (beyond_ascii c) false refl) ∙ sym (unmarked_ccc c no_mark)
       ]
 
-  marked-prepared : (items : List Item) (before : Before) → ArePrepared unicode (continuations_marked unicode before (map (with_unicode_props unicode) items))
+  marked-prepared : (items : List Item) (before : Before)
+      → ArePrepared unicode (continuations_marked unicode before (map (with_unicode_props unicode) items))
   marked-prepared [] before = tt
-  marked-prepared (item ∷ items) before = (record { mark = refl; class = class_with_props item.codepoint }, marked-prepared items (is_to_next unicode before (with_unicode_props unicode item)))
+  marked-prepared (item ∷ items) before = (
+    record { mark = refl; ccc = ccc_with_props item.codepoint },
+    marked-prepared items
+        (is_to_next unicode before (with_unicode_props unicode item)),
+  )
 
-  with_circle-prepared : (b : Buffer) (items : List Item) → ArePrepared unicode b.items → ArePrepared unicode (with_circle unicode items b).items
+  with_circle-prepared : (b : Buffer) (items : List Item) → ArePrepared unicode b.items
+      → ArePrepared unicode (with_circle unicode items b).items
   with_circle-prepared b [] all = all
-  with_circle-prepared b (first ∷ rest) all = (record { mark = refl; class = class_with_props 0x25CC }, all)
+  with_circle-prepared b (first ∷ rest) all = (record { mark = refl; ccc = ccc_with_props 0x25CC }, all)
 
-  circled-prepared : (face : FaceMeaning) (b : Buffer) → ArePrepared unicode b.items → ArePrepared unicode (dotted_circled unicode face b).items
+  circled-prepared : (face : FaceMeaning) (b : Buffer) → ArePrepared unicode b.items
+      → ArePrepared unicode (dotted_circled unicode face b).items
   unfolding dotted_circled
   circled-prepared face b all = elim (cases_Bool (takes_circle face b && begins_with_mark b.items)) [
     | inl on ↦ rw on (with_circle-prepared b b.items all)
@@ -124,47 +136,60 @@ module _ (unicode : UnicodeMeaning) (lawful : LawfulUnicode unicode) where
   ]
 
   -- a character becomes a form of its own
-  form-prepared : (form : ℕ → Option ℕ) → FormsArePlain unicode form → (item : Item) (d : ℕ) → IsPreparedItem unicode item → form item.codepoint ≡ Some d → IsPreparedItem unicode (record item { codepoint = d })
+  form-prepared : (form : ℕ → Option ℕ) → FormsArePlain unicode form → (item : Item) (d : ℕ) → IsPreparedItem unicode item
+      → form item.codepoint ≡ Some d → IsPreparedItem unicode (record item { codepoint = d })
   form-prepared form plain item d prepared is =
       let both = plain item.codepoint d is in
       record {
         mark = prepared.mark ∙ both.0.no_mark ∙ sym both.1.no_mark;
-        class = prepared.class ∙ unmarked_class item.codepoint both.0.no_mark ∙ sym (unmarked_class d both.1.no_mark);
+        ccc = prepared.ccc ∙ unmarked_ccc item.codepoint both.0.no_mark ∙ sym (unmarked_ccc d both.1.no_mark);
       }
 
-  mirrored-prepared : (face : FaceMeaning) (mask : ℕ) (item : Item) → IsPreparedItem unicode item → (answer : Option ℕ) → unicode.mirrored item.codepoint ≡ answer → IsPreparedItem unicode (mirrored_or_masked mask item (form_in face answer))
-  mirrored-prepared face mask item prepared None is = record { mark = prepared.mark; class = prepared.class }
+  mirrored-prepared : (face : FaceMeaning) (mask : ℕ) (item : Item) → IsPreparedItem unicode item → (answer : Option ℕ)
+      → unicode.mirrored item.codepoint ≡ answer → IsPreparedItem unicode (mirrored_or_masked mask item (form_in face answer))
+  mirrored-prepared face mask item prepared None is = record { mark = prepared.mark; ccc = prepared.ccc }
   mirrored-prepared face mask item prepared (Some d) is =
       elim (is_some (face.nominal_glyph d)) as (λ t. IsPreparedItem unicode (mirrored_or_masked mask item (if t then Some d else None))) [
         | true ↦ form-prepared unicode.mirrored lawful.mirrors_are_plain item d prepared is
-        | false ↦ record { mark = prepared.mark; class = prepared.class }
+        | false ↦ record { mark = prepared.mark; ccc = prepared.ccc }
       ]
 
-  upright-prepared : (face : FaceMeaning) (item : Item) → IsPreparedItem unicode item → (answer : Option ℕ) → unicode.vertical item.codepoint ≡ answer → IsPreparedItem unicode (record item { codepoint = unwrap_or (form_in face answer) item.codepoint })
+  upright-prepared : (face : FaceMeaning) (item : Item) → IsPreparedItem unicode item → (answer : Option ℕ)
+      → unicode.vertical item.codepoint ≡ answer
+      → IsPreparedItem unicode (record item { codepoint = unwrap_or (form_in face answer) item.codepoint })
   upright-prepared face item prepared None is = prepared
   upright-prepared face item prepared (Some d) is =
-      elim (is_some (face.nominal_glyph d)) as (λ t. IsPreparedItem unicode (record item { codepoint = unwrap_or (if t then Some d else None) item.codepoint })) [
+      elim (is_some (face.nominal_glyph d)) as (λ t. IsPreparedItem unicode
+      (record item { codepoint = unwrap_or (if t then Some d else None) item.codepoint })) [
         | true ↦ form-prepared unicode.vertical lawful.verticals_are_plain item d prepared is
         | false ↦ prepared
       ]
 
-  forms-prepared : (face : FaceMeaning) (mask : ℕ) (item : Item) → IsPreparedItem unicode item → (mirrors is_upright : Bool) → IsPreparedItem unicode (in_forms unicode face mirrors mask is_upright item)
+  forms-prepared : (face : FaceMeaning) (mask : ℕ) (item : Item) → IsPreparedItem unicode item → (mirrors is_upright : Bool)
+      → IsPreparedItem unicode (in_forms unicode face mirrors mask is_upright item)
   forms-prepared face mask item prepared true true =
       let mirrored = mirrored_item unicode face mask item in
-      upright-prepared face mirrored (mirrored-prepared face mask item prepared (unicode.mirrored item.codepoint) refl) (unicode.vertical mirrored.codepoint) refl
+      upright-prepared face mirrored (mirrored-prepared face mask item prepared (unicode.mirrored item.codepoint) refl)
+      (unicode.vertical mirrored.codepoint) refl
   forms-prepared face mask item prepared true false = mirrored-prepared face mask item prepared (unicode.mirrored item.codepoint) refl
   forms-prepared face mask item prepared false true = upright-prepared face item prepared (unicode.vertical item.codepoint) refl
   forms-prepared face mask item prepared false false = prepared
 
-  mapped-prepared : (f : Item → Item) → ((item : Item) → IsPreparedItem unicode item → IsPreparedItem unicode (f item)) → (items : List Item) → ArePrepared unicode items → ArePrepared unicode (map f items)
+  mapped-prepared : (f : Item → Item) → ((item : Item) → IsPreparedItem unicode item → IsPreparedItem unicode (f item))
+      → (items : List Item) → ArePrepared unicode items → ArePrepared unicode (map f items)
   mapped-prepared f keeps [] all = tt
   mapped-prepared f keeps (item ∷ items) all = (keeps item all.0, mapped-prepared f keeps items all.1)
 
-  rotated-prepared : (face : FaceMeaning) (decisions : Decisions) (target : Direction) (b : Buffer) → ArePrepared unicode b.items → ArePrepared unicode (rotated unicode face decisions target b).items
+  rotated-prepared : (face : FaceMeaning) (decisions : Decisions) (target : Direction) (b : Buffer) → ArePrepared unicode b.items
+      → ArePrepared unicode (rotated unicode face decisions target b).items
   unfolding rotated items_mapped
-  rotated-prepared face decisions target b all = mapped-prepared (rotated_item unicode face decisions target) (λ item prepared. forms-prepared face decisions.rtlm_mask item prepared (is_backward target) _) b.items all
+  rotated-prepared face decisions target b all =
+      mapped-prepared (rotated_item unicode face decisions target)
+      (λ item prepared. forms-prepared face decisions.rtlm_mask item prepared (is_backward target) _) b.items all
 
-over-prepared : (unicode : UnicodeMeaning) (f : ℕ → ℕ → Buffer → Buffer) → ((start end : ℕ) (b : Buffer) → map key_of (f start end b).items ≡ map key_of b.items) → (b : Buffer) → ArePrepared unicode b.items → ArePrepared unicode (over_graphemes f b).items
+over-prepared : (unicode : UnicodeMeaning) (f : ℕ → ℕ → Buffer → Buffer)
+    → ((start end : ℕ) (b : Buffer) → map key_of (f start end b).items ≡ map key_of b.items) → (b : Buffer) → ArePrepared unicode b.items
+    → ArePrepared unicode (over_graphemes f b).items
 over-prepared unicode f same b all = same_keys unicode b.items (over_graphemes f b).items (keys-fold f same (grapheme_spans b.items) b) all
 
 formed-prepared : (unicode : UnicodeMeaning) (b : Buffer) → ArePrepared unicode b.items → ArePrepared unicode (clusters_formed b).items
@@ -174,7 +199,8 @@ formed-prepared unicode b all = elim (cases_Bool (bit_and b.scratch_flags.0 1 ==
   | inr off ↦ rw off all
 ]
   where
-    at_level : (l : BufferClusterLevel) → ArePrepared unicode (elim l as (λ v. Buffer) [ MonotoneGraphemes ↦ over_graphemes merge_clusters b | MonotoneCharacters ↦ over_graphemes unsafe_to_break b | Characters ↦ over_graphemes unsafe_to_break b ]).items
+    at_level : (l : BufferClusterLevel)
+        → ArePrepared unicode (elim l as (λ v. Buffer) [ MonotoneGraphemes ↦ over_graphemes merge_clusters b | MonotoneCharacters ↦ over_graphemes unsafe_to_break b | Characters ↦ over_graphemes unsafe_to_break b ]).items
     at_level MonotoneGraphemes = over-prepared unicode merge_clusters (keys-merge_clusters key_of IsKey-key_of) b all
     at_level MonotoneCharacters = over-prepared unicode unsafe_to_break (keys-unsafe_to_break key_of IsKey-key_of) b all
     at_level Characters = over-prepared unicode unsafe_to_break (keys-unsafe_to_break key_of IsKey-key_of) b all
@@ -185,17 +211,20 @@ to_turn-prepared unicode b MonotoneGraphemes all = all
 to_turn-prepared unicode b MonotoneCharacters all = over-prepared unicode merge_clusters (keys-merge_clusters key_of IsKey-key_of) b all
 to_turn-prepared unicode b Characters all = all
 
-ordered-prepared : (unicode : UnicodeMeaning) (b : Buffer) → ArePrepared unicode b.items → ArePrepared unicode (natively_ordered unicode b).items
+ordered-prepared : (unicode : UnicodeMeaning) (b : Buffer) → ArePrepared unicode b.items
+    → ArePrepared unicode (natively_ordered unicode b).items
 unfolding natively_ordered
 ordered-prepared unicode b all = elim (cases_Bool (is_against (native_direction unicode b) b.direction)) [
   | inl on ↦ rw on (
       let merged = merged_to_turn b in
-      from_last-prepared unicode (graphemes merged.items) (subst (λ (l : List Item). ArePrepared unicode l) (sym (whole-divided is_continuation merged.items)) (to_turn-prepared unicode b b.cluster_level all))
+      from_last-prepared unicode (graphemes merged.items) (subst (λ (l : List Item). ArePrepared unicode l)
+      (sym (whole-divided is_continuation merged.items)) (to_turn-prepared unicode b b.cluster_level all))
       )
   | inr off ↦ rw off all
 ]
 
-marked_text-prepared : (unicode : UnicodeMeaning) → LawfulUnicode unicode → (b : Buffer) → ArePrepared unicode (graphemes_marked unicode b).items
+marked_text-prepared : (unicode : UnicodeMeaning) → LawfulUnicode unicode → (b : Buffer)
+    → ArePrepared unicode (graphemes_marked unicode b).items
 unfolding graphemes_marked
 marked_text-prepared unicode lawful b = marked-prepared unicode lawful b.items Plain
 
@@ -207,9 +236,12 @@ preparing_prepares run target b lawful keeps =
     let formed = clusters_formed circled in
     let ordered = natively_ordered unicode formed in
     let first = marked_text-prepared unicode lawful (begun run.map.global_mask b) in
-    let before_hook = ordered-prepared unicode formed (formed-prepared unicode circled (circled-prepared unicode lawful run.face marked first)) in
-    let hook = keeper-hook (KeepsPrepared unicode) (λ c all. all) run.constants.has_preprocess_text run.hooks (λ h. h.preprocess) (λ h is. keeps h is) in
+    let before_hook = ordered-prepared unicode formed
+    (formed-prepared unicode circled (circled-prepared unicode lawful run.face marked first)) in
+    let hook = keeper-hook (KeepsPrepared unicode) (λ c all. all) run.constants.has_preprocess_text run.hooks (λ h. h.preprocess)
+    (λ h is. keeps h is) in
     let processed = hook_if run.constants.has_preprocess_text run.hooks (λ h. h.preprocess) ordered in
     let behind_hook = hook ordered (All-from_recursion (IsPreparedItem unicode) ordered.items before_hook) in
     All-from_recursion (IsPreparedItem unicode) (rotated unicode run.face run.decisions target processed).items
-    (rotated-prepared unicode lawful run.face run.decisions target processed (recursion_from_All (IsPreparedItem unicode) processed.items behind_hook))
+    (rotated-prepared unicode lawful run.face run.decisions target processed
+    (recursion_from_All (IsPreparedItem unicode) processed.items behind_hook))

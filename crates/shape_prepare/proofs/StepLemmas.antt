@@ -34,12 +34,14 @@ unfolding begun items_mapped
 Made-begun mask old mid new masked cleared =
     let whole : new ≡ record old { items = map (with_mask mask) old.items; positions = replicate (length old.items) zero_position } =
     cleared ∙ ap (λ (b : Buffer). record b { positions = replicate (length b.items) zero_position }) masked.made
-    ∙ ap (λ n. record old { items = map (with_mask mask) old.items; positions = replicate n zero_position }) (length-map old.items (with_mask mask)) in
+    ∙ ap (λ n. record old { items = map (with_mask mask) old.items; positions = replicate n zero_position })
+    (length-map old.items (with_mask mask)) in
     let size : length new.items ≡ length mid.items = ap (λ (b : Buffer). length b.items) cleared in
     record { made = whole; no_longer = omega (arith, masked.no_longer); same_limit = ap limit_of whole }
 
 -- no form changes an item
-idle_item : (unicode : UnicodeMeaning) (face : FaceMeaning) (mask : ℕ) (item : Item) (mirrors is_upright : Bool) → (not mirrors && not is_upright) ≡ true → in_forms unicode face mirrors mask is_upright item ≡ item
+idle_item : (unicode : UnicodeMeaning) (face : FaceMeaning) (mask : ℕ) (item : Item) (mirrors is_upright : Bool)
+    → (not mirrors && not is_upright) ≡ true → in_forms unicode face mirrors mask is_upright item ≡ item
 idle_item unicode face mask item true is_upright e = absurd (let f : false ≡ true = e in cc)
 idle_item unicode face mask item false true e = absurd (let f : false ≡ true = e in cc)
 idle_item unicode face mask item false false e = refl
@@ -53,30 +55,35 @@ pub rotated-idle : (unicode : UnicodeMeaning) (face : FaceMeaning) (decisions : 
 unfolding rotated items_mapped
 rotated-idle unicode face decisions target b idle =
     ap (λ (items : List Item). record b { items = items })
-    (map-same (rotated_item unicode face decisions target) (λ item. idle_item unicode face decisions.rtlm_mask item (is_backward target) (is_vertical target && not decisions.has_vert) idle) b.items)
+    (map-same (rotated_item unicode face decisions target) (λ item. idle_item unicode face decisions.rtlm_mask item (is_backward target)
+    (is_vertical target && not decisions.has_vert) idle) b.items)
 
 -- clusters where no character past ASCII was seen, and where one was
 pub clusters_formed-unseen : (b : Buffer) → (bit_and b.scratch_flags.0 1 == 1) ≡ false → clusters_formed b ≡ b
 unfolding clusters_formed
 clusters_formed-unseen b unseen = rw unseen refl
 
-pub clusters_formed-merged : (b : Buffer) → (bit_and b.scratch_flags.0 1 == 1) ≡ true → b.cluster_level ≡ MonotoneGraphemes → clusters_formed b ≡ over_graphemes merge_clusters b
+pub clusters_formed-merged : (b : Buffer) → (bit_and b.scratch_flags.0 1 == 1) ≡ true → b.cluster_level ≡ MonotoneGraphemes
+    → clusters_formed b ≡ over_graphemes merge_clusters b
 unfolding clusters_formed
 clusters_formed-merged b seen level = rw seen (
     ap (λ l. elim l as (λ v. Buffer) [ MonotoneGraphemes ↦ over_graphemes merge_clusters b | MonotoneCharacters ↦ over_graphemes unsafe_to_break b | Characters ↦ over_graphemes unsafe_to_break b ]) level
     )
 
-pub clusters_formed-marked : (b : Buffer) → (bit_and b.scratch_flags.0 1 == 1) ≡ true → b.cluster_level ≢ MonotoneGraphemes → clusters_formed b ≡ over_graphemes unsafe_to_break b
+pub clusters_formed-marked : (b : Buffer) → (bit_and b.scratch_flags.0 1 == 1) ≡ true → b.cluster_level ≢ MonotoneGraphemes
+    → clusters_formed b ≡ over_graphemes unsafe_to_break b
 unfolding clusters_formed
 clusters_formed-marked b seen level = rw seen (at_level b.cluster_level level)
   where
-    at_level : (l : BufferClusterLevel) → l ≢ MonotoneGraphemes → (elim l as (λ v. Buffer) [ MonotoneGraphemes ↦ over_graphemes merge_clusters b | MonotoneCharacters ↦ over_graphemes unsafe_to_break b | Characters ↦ over_graphemes unsafe_to_break b ]) ≡ over_graphemes unsafe_to_break b
+    at_level : (l : BufferClusterLevel) → l ≢ MonotoneGraphemes
+        → (elim l as (λ v. Buffer) [ MonotoneGraphemes ↦ over_graphemes merge_clusters b | MonotoneCharacters ↦ over_graphemes unsafe_to_break b | Characters ↦ over_graphemes unsafe_to_break b ]) ≡ over_graphemes unsafe_to_break b
     at_level MonotoneGraphemes other = absurd (other refl)
     at_level MonotoneCharacters other = refl
     at_level Characters other = refl
 
 -- a step is refused, and made, by what it makes of the buffer at hand
-pub Outcome-alike : {T : Type 0} (f g : Buffer → Buffer) (old new : Buffer) (result : Result T ShapeError) → g old ≡ f old → Outcome (step g) old new result → Outcome (step f) old new result
+pub Outcome-alike : {T : Type 0} (f g : Buffer → Buffer) (old new : Buffer) (result : Result T ShapeError) → g old ≡ f old
+    → Outcome (step g) old new result → Outcome (step f) old new result
 Outcome-alike f g old new (Ok _) same ran = record {
   made = ran.made ∙ same;
   each_within = (let P : Buffer → Type 0 = λ b. length b.items ≤ limit_of old in subst P same ran.each_within.0, tt);
@@ -86,16 +93,19 @@ Outcome-alike f g old new (Ok _) same ran = record {
 Outcome-alike f g old new (Err _) same refused = refused_alike refused
   where
     refused_alike : {error : ShapeError} → Refused (step g ∷ []) old error → Refused (step f ∷ []) old error
-    refused_alike (for_length (inl past)) = for_length (inl (let P : Buffer → Type 0 = λ b. limit_of old < length b.items in subst P same past))
+    refused_alike (for_length (inl past)) =
+        for_length (inl (let P : Buffer → Type 0 = λ b. limit_of old < length b.items in subst P same past))
     refused_alike (for_length (inr none)) = absurd none
     refused_alike for_memory = for_memory
 
-length-with_circle : (unicode : UnicodeMeaning) (items : List Item) (b : Buffer) → 0 < length items → length b.items < length (with_circle unicode items b).items
+length-with_circle : (unicode : UnicodeMeaning) (items : List Item) (b : Buffer) → 0 < length items
+    → length b.items < length (with_circle unicode items b).items
 length-with_circle unicode [] b some = absurd (omega arith)
 length-with_circle unicode (first ∷ rest) b some = omega arith
 
 -- a circle is refused for its length only where the list is at its limit
-pub Refused-circle : (unicode : UnicodeMeaning) (b : Buffer) (error : ShapeError) → (error ≡ Length → limit_of b ≤ length b.items) → 0 < length b.items
+pub Refused-circle : (unicode : UnicodeMeaning) (b : Buffer) (error : ShapeError) → (error ≡ Length → limit_of b ≤ length b.items)
+    → 0 < length b.items
     → Refused (step (λ b. with_circle unicode b.items b) ∷ []) b error
 Refused-circle unicode b Memory full some = for_memory
 Refused-circle unicode b Length full some =
@@ -103,24 +113,29 @@ Refused-circle unicode b Length full some =
     let longer = length-with_circle unicode b.items b some in
     for_length (inl (omega (arith, longer)))
 
-pub dotted_circled-put : (unicode : UnicodeMeaning) (face : FaceMeaning) (b : Buffer) → takes_circle face b ≡ true → begins_with_mark b.items ≡ true → with_circle unicode b.items b ≡ dotted_circled unicode face b
+pub dotted_circled-put : (unicode : UnicodeMeaning) (face : FaceMeaning) (b : Buffer) → takes_circle face b ≡ true
+    → begins_with_mark b.items ≡ true → with_circle unicode b.items b ≡ dotted_circled unicode face b
 unfolding dotted_circled
 dotted_circled-put unicode face b takes mark = rw (takes, mark) refl
 
-pub dotted_circled-none : (unicode : UnicodeMeaning) (face : FaceMeaning) (b : Buffer) → takes_circle face b ≡ false → dotted_circled unicode face b ≡ b
+pub dotted_circled-none : (unicode : UnicodeMeaning) (face : FaceMeaning) (b : Buffer) → takes_circle face b ≡ false
+    → dotted_circled unicode face b ≡ b
 unfolding dotted_circled
 dotted_circled-none unicode face b takes = rw takes refl
 
-pub dotted_circled-no_mark : (unicode : UnicodeMeaning) (face : FaceMeaning) (b : Buffer) → takes_circle face b ≡ true → begins_with_mark b.items ≡ false → dotted_circled unicode face b ≡ b
+pub dotted_circled-no_mark : (unicode : UnicodeMeaning) (face : FaceMeaning) (b : Buffer) → takes_circle face b ≡ true
+    → begins_with_mark b.items ≡ false → dotted_circled unicode face b ≡ b
 unfolding dotted_circled
 dotted_circled-no_mark unicode face b takes mark = rw (takes, mark) refl
 
 -- a text in its native direction stays, any other is turned
-pub natively_ordered-kept : (unicode : UnicodeMeaning) (b : Buffer) → is_against (native_direction unicode b) b.direction ≡ false → natively_ordered unicode b ≡ b
+pub natively_ordered-kept : (unicode : UnicodeMeaning) (b : Buffer) → is_against (native_direction unicode b) b.direction ≡ false
+    → natively_ordered unicode b ≡ b
 unfolding natively_ordered
 natively_ordered-kept unicode b native = rw native refl
 
-pub natively_ordered-turned : (unicode : UnicodeMeaning) (b : Buffer) → is_against (native_direction unicode b) b.direction ≡ true → natively_ordered unicode b ≡ turned (merged_to_turn b)
+pub natively_ordered-turned : (unicode : UnicodeMeaning) (b : Buffer) → is_against (native_direction unicode b) b.direction ≡ true
+    → natively_ordered unicode b ≡ turned (merged_to_turn b)
 unfolding natively_ordered
 natively_ordered-turned unicode b against = rw against refl
 
@@ -133,7 +148,8 @@ merged_to_turn-merged b level = ap (at_level_to_turn b) level
 pub merged_to_turn-kept : (b : Buffer) → b.cluster_level ≢ MonotoneCharacters → merged_to_turn b ≡ b
 merged_to_turn-kept b level = kept b.cluster_level level
   where
-    kept : (l : BufferClusterLevel) → l ≢ MonotoneCharacters → (elim l as (λ v. Buffer) [ MonotoneGraphemes ↦ b | MonotoneCharacters ↦ over_graphemes merge_clusters b | Characters ↦ b ]) ≡ b
+    kept : (l : BufferClusterLevel) → l ≢ MonotoneCharacters
+        → (elim l as (λ v. Buffer) [ MonotoneGraphemes ↦ b | MonotoneCharacters ↦ over_graphemes merge_clusters b | Characters ↦ b ]) ≡ b
     kept MonotoneGraphemes other = refl
     kept MonotoneCharacters other = absurd (other refl)
     kept Characters other = refl

@@ -14,7 +14,8 @@ use Rattle.shape_prepare.specs.GraphemeWalk.{reverse_span}
 use Rattle.shape_prepare.specs.NativeOrder.{parted, from_last, turned}
 
 -- one part turned in place
-reversed_range-at : {A : Type 0} (pre part behind : List A) → reversed_range (length pre) (length pre + length part) (pre ++ (part ++ behind)) ≡ pre ++ (reverse part ++ behind)
+reversed_range-at : {A : Type 0} (pre part behind : List A)
+    → reversed_range (length pre) (length pre + length part) (pre ++ (part ++ behind)) ≡ pre ++ (reverse part ++ behind)
 reversed_range-at {A} pre part behind =
     let back : length pre + length part - length pre ≡ length part = omega arith in
     let whole : length pre + length part ≡ length (pre ++ part) = sym (length-append pre part) in
@@ -23,18 +24,22 @@ reversed_range-at {A} pre part behind =
     let middle : take (length pre + length part - length pre) (drop (length pre) (pre ++ (part ++ behind))) ≡ part =
     ap₂ (λ n (l : List A). take n l) back rest ∙ take_at part behind (length part) refl in
     let last : drop (length pre + length part) (pre ++ (part ++ behind)) ≡ behind =
-    ap (λ (l : List A). drop (length pre + length part) l) (sym (append_assoc pre part behind)) ∙ drop_at (pre ++ part) behind (length pre + length part) (sym whole) in
-    ap₂ (λ (a b : List A). a ++ (reverse (take (length pre + length part - length pre) (drop (length pre) (pre ++ (part ++ behind)))) ++ b)) first last
+    ap (λ (l : List A). drop (length pre + length part) l) (sym (append_assoc pre part behind))
+    ∙ drop_at (pre ++ part) behind (length pre + length part) (sym whole) in
+    ap₂ (λ (a b : List A). a
+    ++ (reverse (take (length pre + length part - length pre) (drop (length pre) (pre ++ (part ++ behind)))) ++ b)) first last
     ∙ ap (λ (m : List A). pre ++ (reverse m ++ behind)) middle
 
 -- each part turned in place
 spans-reversed : {A : Type 0} (pre : List A) (parts : List (List A))
-    → fold (λ xs span. reversed_range span.0 span.1 xs) (pre ++ whole parts) (spans_from (length pre) (map length parts)) ≡ pre ++ whole (map reverse parts)
+    → fold (λ xs span. reversed_range span.0 span.1 xs) (pre ++ whole parts) (spans_from (length pre) (map length parts))
+    ≡ pre ++ whole (map reverse parts)
 spans-reversed pre [] = refl
 spans-reversed {A} pre (part ∷ parts) =
     let over = λ (xs : List A) (span : ℕ × ℕ). reversed_range span.0 span.1 xs in
     let size : length pre + length part ≡ length (pre ++ reverse part) = grind (arith, common_steps) in
-    ap (λ xs. fold over xs (spans_from (length pre + length part) (map length parts))) (reversed_range-at pre part (whole parts) ∙ sym (append_assoc pre (reverse part) (whole parts)))
+    ap (λ xs. fold over xs (spans_from (length pre + length part) (map length parts)))
+    (reversed_range-at pre part (whole parts) ∙ sym (append_assoc pre (reverse part) (whole parts)))
     ∙ ap (λ n. fold over ((pre ++ reverse part) ++ whole parts) (spans_from n (map length parts))) size
     ∙ spans-reversed (pre ++ reverse part) parts
     ∙ append_assoc pre (reverse part) (whole (map reverse parts))
@@ -81,27 +86,35 @@ sizes-parted (size ∷ sizes) xs e =
 pub turned-sizes : {A : Type 0} (sizes : List ℕ) (xs : List A) → total sizes ≡ length xs
     → reverse (fold (λ xs span. reversed_range span.0 span.1 xs) xs (spans_from 0 sizes)) ≡ from_last (parted sizes xs)
 turned-sizes {A} sizes xs e =
-    ap₂ (λ (l : List A) (ns : List ℕ). reverse (fold (λ (xs : List A) (span : ℕ × ℕ). reversed_range span.0 span.1 xs) l (spans_from 0 ns))) (sym (whole-parted sizes xs e)) (sym (sizes-parted sizes xs e))
+    ap₂ (λ (l : List A) (ns : List ℕ). reverse (fold (λ (xs : List A) (span : ℕ × ℕ). reversed_range span.0 span.1 xs) l (spans_from 0 ns)))
+    (sym (whole-parted sizes xs e)) (sym (sizes-parted sizes xs e))
     ∙ turned-parts (parted sizes xs)
 
 -- the walk over a buffer goes over its items and over its positions
 pub reverse_spans : (spans : List (ℕ × ℕ)) (b : Buffer)
     → fold (λ b span. reverse_span span.0 span.1 b) b spans
-    ≡ record b { items = fold (λ xs span. reversed_range span.0 span.1 xs) b.items spans; positions = fold (λ xs span. reversed_range span.0 span.1 xs) b.positions spans }
+    ≡ record b {
+      items = fold (λ xs span. reversed_range span.0 span.1 xs) b.items spans;
+      positions = fold
+          (λ xs span. reversed_range span.0 span.1 xs) b.positions spans;
+    }
 reverse_spans [] b = refl
 reverse_spans (span ∷ spans) b = reverse_spans spans (reverse_span span.0 span.1 b)
 
 -- a part that was turned in place changes nothing behind it
-pub behind-reversed : {A B : Type 0} (f : A → B) (start end : ℕ) (xs : List A) → start ≤ end → end ≤ length xs → drop end (map f (reversed_range start end xs)) ≡ drop end (map f xs)
+pub behind-reversed : {A B : Type 0} (f : A → B) (start end : ℕ) (xs : List A) → start ≤ end → end ≤ length xs
+    → drop end (map f (reversed_range start end xs)) ≡ drop end (map f xs)
 behind-reversed {A} f start end xs le within =
     let front = take start xs ++ reverse (slice_range xs start end) in
     let size : length front ≡ end = grind (arith, common_steps) in
-    let split : reversed_range start end xs ≡ front ++ drop end xs = sym (append_assoc (take start xs) (reverse (slice_range xs start end)) (drop end xs)) in
+    let split : reversed_range start end xs
+    ≡ front ++ drop end xs = sym (append_assoc (take start xs) (reverse (slice_range xs start end)) (drop end xs)) in
     drop-map f end (reversed_range start end xs)
     ∙ ap (map f) (ap (λ (l : List A). drop end l) split ∙ drop_at front (drop end xs) end size)
     ∙ sym (drop-map f end xs)
 
-pub length-reversed_range : {A : Type 0} (start end : ℕ) (xs : List A) → start ≤ end → end ≤ length xs → length (reversed_range start end xs) ≡ length xs
+pub length-reversed_range : {A : Type 0} (start end : ℕ) (xs : List A) → start ≤ end → end ≤ length xs
+    → length (reversed_range start end xs) ≡ length xs
 length-reversed_range start end xs le within = grind (arith, common_steps)
 
 -- a buffer turned as a whole, and its direction
@@ -117,6 +130,8 @@ turned-whole b as_many =
     let together : whole parts ≡ b.items = whole-divided is_continuation b.items in
     let full : total sizes ≡ length b.positions = total-lengths parts ∙ ap length together ∙ sym as_many in
     let items : reverse (fold (λ xs span. reversed_range span.0 span.1 xs) b.items spans) ≡ from_last parts =
-    ap (λ (l : List Item). reverse (fold (λ (xs : List Item) (span : ℕ × ℕ). reversed_range span.0 span.1 xs) l spans)) (sym together) ∙ turned-parts parts in
+    ap (λ (l : List Item). reverse (fold (λ (xs : List Item) (span : ℕ × ℕ). reversed_range span.0 span.1 xs) l spans)) (sym together)
+    ∙ turned-parts parts in
     ap turned_over (reverse_spans spans b)
-    ∙ ap₂ (λ (is : List Item) (ps : List GlyphPosition). record b { items = is; positions = ps; direction = reverse_of b.direction }) items (turned-sizes sizes b.positions full)
+    ∙ ap₂ (λ (is : List Item) (ps : List GlyphPosition). record b { items = is; positions = ps; direction = reverse_of b.direction }) items
+    (turned-sizes sizes b.positions full)

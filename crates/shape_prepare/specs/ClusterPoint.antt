@@ -37,7 +37,9 @@ pub record InOrderFor (turned : Bool) (old new : Buffer) : Type 0 where
 
 -- at the monotone levels, where the hooks keep clusters, a text whose clusters never fall is prepared in order
 abbrev pub PreparingKeepsOrder : Type 0
-PreparingKeepsOrder = (run : Run) (target : Direction) (b : Buffer) → CallsKeepClusters run → IsMonotoneLevel b.cluster_level → IsNonDecreasing (clusters b.items)
+PreparingKeepsOrder =
+    (run : Run) (target : Direction) (b : Buffer) → CallsKeepClusters run → IsMonotoneLevel b.cluster_level
+    → IsNonDecreasing (clusters b.items)
     → InOrderFor (is_turned run b) b (run_steps (prepare_steps run target) b)
 
 -- the clusters of the first characters of a list's graphemes
@@ -50,5 +52,7 @@ marked_text run b = graphemes_marked run.unicode (begun run.map.global_mask b)
 
 -- at level MONOTONE_GRAPHEMES each cluster of the prepared text is that of the first character of a grapheme
 abbrev pub PreparingKeepsFirsts : Type 0
-PreparingKeepsFirsts = (run : Run) (target : Direction) (b : Buffer) → CallsKeepClusters run → b.cluster_level ≡ MonotoneGraphemes → IsNonDecreasing (clusters b.items)
+PreparingKeepsFirsts =
+    (run : Run) (target : Direction) (b : Buffer) → CallsKeepClusters run → b.cluster_level ≡ MonotoneGraphemes
+    → IsNonDecreasing (clusters b.items)
     → (k : ℕ) → Contains (clusters (run_steps (prepare_steps run target) b).items) k → Contains (first_clusters (marked_text run b).items) k

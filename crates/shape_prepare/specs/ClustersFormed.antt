@@ -6,6 +6,7 @@ use Rattle.shape_buffer.specs.BufferClusters.{merge_clusters, unsafe_to_break}
 use Rattle.shape_buffer.specs.Items.{Item}
 use Rattle.shape_buffer.specs.declared.buffer.settings.BufferClusterLevel.TheVariants.{MonotoneGraphemes, MonotoneCharacters, Characters}
 use Rattle.shape_prepare.specs.Graphemes.{graphemes}
+use Rattle.shape_buffer.specs.FlagNames.{HAS_NON_ASCII}
 
 -- where parts of these sizes begin and end, the first of them at `start`
 abbrev pub spans_from : ℕ → List ℕ → List (ℕ × ℕ)
@@ -23,7 +24,7 @@ over_graphemes f b = fold (λ b span. f span.0 span.1 b) b (grapheme_spans b.ite
 -- where a character past ASCII was seen (1), each grapheme is merged at level MONOTONE_GRAPHEMES, at the others marked unsafe to break
 unfoldable pub clusters_formed : Buffer → Buffer
 clusters_formed b =
-    if bit_and b.scratch_flags.0 1 == 1 then (elim b.cluster_level [
+    if bit_and b.scratch_flags.0 HAS_NON_ASCII == HAS_NON_ASCII then (elim b.cluster_level [
       | MonotoneGraphemes ↦ over_graphemes merge_clusters b
       | MonotoneCharacters ↦ over_graphemes unsafe_to_break b
       | Characters ↦ over_graphemes unsafe_to_break b

@@ -51,17 +51,20 @@ abbrev pub continues_by_rule : Before → Item → Bool
 continues_by_rule before item =
     let c = item.codepoint in
     not (is_passed item.properties.general_category)
-    && ((is_modifier_symbol item.properties.general_category && is_skin_tone c) || (is_regional_indicator c && is_open before) || item.properties.zwj || is_extender c)
+    && ((is_modifier_symbol item.properties.general_category && is_skin_tone c) || (is_regional_indicator c && is_open before)
+    || item.properties.zwj || is_extender c)
 
 -- an item that continues the grapheme before it: a mark, a pictograph behind a joiner, or one by rule
 abbrev pub continues : UnicodeMeaning → Before → Item → Bool
 continues unicode before item = item.properties.continuation || is_joined unicode before item.codepoint || continues_by_rule before item
 
--- what an item is to the next one: a regional indicator is open unless it continues, and a joiner joins unless it was itself joined or passed
+-- what an item is to the next one: a regional indicator is open unless it continues, and a joiner joins unless it was itself joined or
+-- passed
 abbrev pub is_to_next : UnicodeMeaning → Before → Item → Before
 is_to_next unicode before item =
     if is_regional_indicator item.codepoint && not (continues unicode before item) then OpenIndicator
-    else if item.properties.zwj && not (is_joined unicode before item.codepoint) && not (is_passed item.properties.general_category) then Joiner
+    else if item.properties.zwj && not (is_joined unicode before item.codepoint)
+    && not (is_passed item.properties.general_category) then Joiner
     else Plain
 
 abbrev pub with_continuation : Bool → Item → Item

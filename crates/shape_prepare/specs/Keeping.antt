@@ -13,4 +13,5 @@ pub record WritesFeaturesAlone (run : Run) : Type 0 where
 
 -- each step keeps flags, where the hooks do
 abbrev pub PreparingKeepsFlags : Type 0
-PreparingKeepsFlags = (run : Run) (target : Direction) → WritesFeaturesAlone run → RunKeepsFlags run → EachStep IsFlagKeeper (prepare_steps run target)
+PreparingKeepsFlags =
+    (run : Run) (target : Direction) → WritesFeaturesAlone run → RunKeepsFlags run → EachStep IsFlagKeeper (prepare_steps run target)

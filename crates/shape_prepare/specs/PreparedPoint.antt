@@ -1,4 +1,4 @@
--- Preparing prepares: each item's mark, by its category, and class become those of its character.
+-- Preparing prepares: each item's mark, by its category, and ccc become those of its character.
 use Rattle.std.specs.Prelude.{◌≡◌, Some}
 use Rattle.shape_buffer.specs.Buffer.{Buffer}
 use Rattle.shape_buffer.specs.Outcome.{run_steps}

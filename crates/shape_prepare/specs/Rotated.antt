@@ -34,7 +34,8 @@ in_forms unicode face mirrors rtlm_mask is_upright item =
 
 -- a backward direction mirrors, and a vertical one sets upright where no lookup does
 abbrev pub rotated_item : UnicodeMeaning → FaceMeaning → Decisions → Direction → Item → Item
-rotated_item unicode face decisions target = in_forms unicode face (is_backward target) decisions.rtlm_mask (is_vertical target && not decisions.has_vert)
+rotated_item unicode face decisions target =
+    in_forms unicode face (is_backward target) decisions.rtlm_mask (is_vertical target && not decisions.has_vert)
 
 -- each character in the form for the target direction; properties stay
 unfoldable pub rotated : UnicodeMeaning → FaceMeaning → Decisions → Direction → Buffer → Buffer

@@ -19,7 +19,8 @@ pub record Flags : Type 0 where
 
 flags : Flags
 unfolding graphemes_marked
-flags = record { four = refl; third_pairs_with_fourth = refl; mark_parts_them = refl; beside_the_range = refl; sub_region_tags = refl; beside_the_tags = refl }
+flags =
+    record { four = refl; third_pairs_with_fourth = refl; mark_parts_them = refl; beside_the_range = refl; sub_region_tags = refl; beside_the_tags = refl }
 
 -- sequences of emoji (UAX 29, GB9 and GB11); the joiner joins pictographs alone, and a pictograph without one begins anew
 pub record Emoji : Type 0 where
@@ -69,7 +70,8 @@ pub record Circles : Type 0 where
   pub forbidden : shown (circled (λ c. true) (record accent_first { flags = record { 0 = 34 } })) ≡ (0x301, 7) ∷ (0x61, 9) ∷ []
   pub not_begun : shown (circled (λ c. true) (record accent_first { flags = record { 0 = 0 } })) ≡ (0x301, 7) ∷ (0x61, 9) ∷ []
   pub in_context : shown (circled (λ c. true) (record accent_first { pre_context = 0x61 ∷ [] })) ≡ (0x301, 7) ∷ (0x61, 9) ∷ []
-  pub letter_first : shown (circled (λ c. true) (record (text_of ((0x61, 0) ∷ (0x301, 1) ∷ [])) { flags = record { 0 = 2 } })) ≡ (0x61, 0) ∷ (0x301, 1) ∷ []
+  pub letter_first : shown (circled (λ c. true) (record (text_of ((0x61, 0) ∷ (0x301, 1) ∷ [])) { flags = record { 0 = 2 } }))
+      ≡ (0x61, 0) ∷ (0x301, 1) ∷ []
   pub of_nothing : shown (circled (λ c. true) (record (text_of []) { flags = record { 0 = 2 } })) ≡ []
 
 circles : Circles

@@ -26,17 +26,20 @@ abbrev pub four_indicators : List (ℕ × ℕ)
 four_indicators = (0x1F1E6, 0) ∷ (0x1F1E6, 4) ∷ (0x1F1E6, 8) ∷ (0x1F1E6, 12) ∷ []
 
 pub record FormedClusters : Type 0 where
-  pub regional_pairs : shown (formed (at_level MonotoneGraphemes four_indicators)) ≡ (0x1F1E6, 0) ∷ (0x1F1E6, 0) ∷ (0x1F1E6, 8) ∷ (0x1F1E6, 8) ∷ []
+  pub regional_pairs : shown (formed (at_level MonotoneGraphemes four_indicators))
+      ≡ (0x1F1E6, 0) ∷ (0x1F1E6, 0) ∷ (0x1F1E6, 8) ∷ (0x1F1E6, 8) ∷ []
   pub by_character : shown (formed (at_level MonotoneCharacters four_indicators)) ≡ four_indicators
   pub marked : masks (formed (at_level MonotoneCharacters four_indicators)) ≡ 0 ∷ 3 ∷ 0 ∷ 3 ∷ []
   pub marked_too : masks (formed (at_level Characters four_indicators)) ≡ 0 ∷ 3 ∷ 0 ∷ 3 ∷ []
   pub seen : (formed (at_level Characters four_indicators)).scratch_flags.0 ≡ 33
   pub merged_unmarked : masks (formed (at_level MonotoneGraphemes four_indicators)) ≡ 0 ∷ 0 ∷ 0 ∷ 0 ∷ []
-  pub ascii : masks (clusters_formed (record (graphemes_marked worked_unicode (at_level Characters four_indicators)) { scratch_flags = record { 0 = 0 } })) ≡ 0 ∷ 0 ∷ 0 ∷ 0 ∷ []
+  pub ascii : masks (clusters_formed (record (graphemes_marked worked_unicode
+      (at_level Characters four_indicators)) { scratch_flags = record { 0 = 0 } })) ≡ 0 ∷ 0 ∷ 0 ∷ 0 ∷ []
 
 formed_clusters : FormedClusters
 unfolding graphemes_marked clusters_formed merge
-formed_clusters = record { regional_pairs = refl; by_character = refl; marked = refl; marked_too = refl; seen = refl; merged_unmarked = refl; ascii = refl }
+formed_clusters =
+    record { regional_pairs = refl; by_character = refl; marked = refl; marked_too = refl; seen = refl; merged_unmarked = refl; ascii = refl }
 
 abbrev pub ordered : Direction → Option Script → Buffer → Buffer
 ordered direction script b = natively_ordered worked_unicode (record (formed b) { direction = direction; script = script })
@@ -61,13 +64,16 @@ pub record NativeOrders : Type 0 where
   pub digits : shown (ordered LeftToRight hebrew (at_level MonotoneGraphemes one_two)) ≡ one_two
   pub digits_direction : (ordered LeftToRight hebrew (at_level MonotoneGraphemes one_two)).direction ≡ LeftToRight
   pub digits_right_to_left : shown (ordered RightToLeft hebrew (at_level MonotoneGraphemes one_two)) ≡ one_two
-  pub indicators : shown (ordered LeftToRight hebrew (at_level MonotoneGraphemes ((0x1F1E6, 0) ∷ (0x28, 4) ∷ []))) ≡ (0x1F1E6, 0) ∷ (0x28, 4) ∷ []
+  pub indicators : shown (ordered LeftToRight hebrew (at_level MonotoneGraphemes ((0x1F1E6, 0) ∷ (0x28, 4) ∷ [])))
+      ≡ (0x1F1E6, 0) ∷ (0x28, 4) ∷ []
   pub neither : shown (ordered LeftToRight hebrew (at_level MonotoneGraphemes ((0x28, 0) ∷ (0x29, 1) ∷ []))) ≡ (0x29, 1) ∷ (0x28, 0) ∷ []
-  pub modifier_letter : shown (ordered LeftToRight hebrew (at_level MonotoneGraphemes ((0x31, 0) ∷ (0x20, 1) ∷ (0xFF9E, 2) ∷ []))) ≡ (0x20, 1) ∷ (0xFF9E, 1) ∷ (0x31, 0) ∷ []
+  pub modifier_letter : shown (ordered LeftToRight hebrew (at_level MonotoneGraphemes ((0x31, 0) ∷ (0x20, 1) ∷ (0xFF9E, 2) ∷ [])))
+      ≡ (0x20, 1) ∷ (0xFF9E, 1) ∷ (0x31, 0) ∷ []
   pub no_script : shown (ordered RightToLeft None (at_level MonotoneGraphemes one_two)) ≡ one_two
   pub no_known_direction : shown (ordered RightToLeft common (at_level MonotoneGraphemes one_two)) ≡ one_two
   pub vertical_script : shown (ordered RightToLeft mongolian (at_level MonotoneGraphemes one_two)) ≡ (0x32, 1) ∷ (0x31, 0) ∷ []
-  pub mark_first : shown (ordered RightToLeft latin (at_level MonotoneCharacters ((0x323, 0) ∷ (0x61, 2) ∷ (0x301, 3) ∷ []))) ≡ (0x61, 2) ∷ (0x301, 2) ∷ (0x323, 0) ∷ []
+  pub mark_first : shown (ordered RightToLeft latin (at_level MonotoneCharacters ((0x323, 0) ∷ (0x61, 2) ∷ (0x301, 3) ∷ [])))
+      ≡ (0x61, 2) ∷ (0x301, 2) ∷ (0x323, 0) ∷ []
   pub to_invalid : shown (ordered Invalid hebrew (at_level MonotoneGraphemes alef_one)) ≡ alef_one
 
 native_orders : NativeOrders

@@ -49,10 +49,10 @@ common = Some (record { 0 = record { 0 = 0x5A797979 } })
 abbrev pub worked_unicode : UnicodeMeaning
 worked_unicode = record {
   category = category_of;
-  class = λ c. if c == 0x301 then 230 else if c == 0x323 then 220 else 0;
+  ccc = λ c. if c == 0x301 then 230 else if c == 0x323 then 220 else 0;
   split = λ c. None;
   height = λ c. 0;
-  join = λ a b. None;
+  compose = λ a b. None;
   mirrored = λ c. if c == 0x28 then Some 0x29 else if c == 0x29 then Some 0x28 else None;
   vertical = λ c. if c == 0x2014 then Some 0xFE31 else if c == 0x29 then Some 0xFE36 else None;
   space_fallback = λ c. 0;

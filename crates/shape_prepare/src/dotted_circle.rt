@@ -4,7 +4,10 @@
 //! stand on, as code charts have it, unless the caller forbids it or the text goes on from another one.
 ghost use Rattle.std.specs.Prelude.{◌≡◌, ◌<◌, length, IsTrue};
 ghost use Rattle.shape_buffer.specs.Outcome.{Outcome, IsWithinLimit, step};
-ghost use Rattle.shape_prepare.specs.DottedCircle.{dotted_circled, with_circle, begins_with_mark as begins_with_mark_of, takes_circle as takes_circle_of, circle_before as circle_before_of};
+ghost use Rattle.shape_prepare.specs.DottedCircle.{dotted_circled, with_circle};
+ghost use Rattle.shape_prepare.specs.DottedCircle.{begins_with_mark as begins_with_mark_of};
+ghost use Rattle.shape_prepare.specs.DottedCircle.{takes_circle as takes_circle_of};
+ghost use Rattle.shape_prepare.specs.DottedCircle.{circle_before as circle_before_of};
 ghost use Rattle.shape_buffer.specs.UnicodeProps.{with_scratch_of};
 
 use bitflags::Flags;
@@ -23,7 +26,8 @@ pub fn insert_dotted_circle<U: hb_unicode_funcs_t, F: hb_font_t>(
     buffer: &mut hb_buffer_t,
 ) -> Result<(), ShapeError>
     requires { IsWithinLimit buffer.old }
-    ensures { Outcome (step (dotted_circled U.unicode (F.face face.now))) buffer.old buffer.new result }
+    ensures { Outcome (step (dotted_circled U.unicode (F.face face.now)))
+        buffer.old buffer.new result }
 {
     if takes_circle(face, buffer) && begins_with_mark(buffer.infos()) {
         return insert_circle::<U>(buffer);

@@ -9,7 +9,14 @@
 //! What the rules ask of the item before fits three cases, so one walk sets properties and continuations.
 ghost use Rattle.std.specs.Prelude.{◌≡◌};
 ghost use Rattle.shape_buffer.specs.Outcome.{Made};
-ghost use Rattle.shape_prepare.specs.Graphemes.{graphemes_marked, with_continuation, continues, continues_by_rule as continues_by_rule_of, is_to_next, is_joined as is_joined_of, is_passed as is_passed_of, is_modifier_symbol as is_modifier_symbol_of, is_skin_tone as is_skin_tone_of, is_regional_indicator as is_regional_indicator_of, is_extender as is_extender_of, is_open};
+ghost use Rattle.shape_prepare.specs.Graphemes.{graphemes_marked, with_continuation, continues};
+ghost use Rattle.shape_prepare.specs.Graphemes.{continues_by_rule as continues_by_rule_of};
+ghost use Rattle.shape_prepare.specs.Graphemes.{is_to_next, is_joined as is_joined_of};
+ghost use Rattle.shape_prepare.specs.Graphemes.{is_passed as is_passed_of};
+ghost use Rattle.shape_prepare.specs.Graphemes.{is_modifier_symbol as is_modifier_symbol_of};
+ghost use Rattle.shape_prepare.specs.Graphemes.{is_skin_tone as is_skin_tone_of};
+ghost use Rattle.shape_prepare.specs.Graphemes.{is_regional_indicator as is_regional_indicator_of};
+ghost use Rattle.shape_prepare.specs.Graphemes.{is_extender as is_extender_of, is_open};
 
 use shape_buffer::buffer::{hb_buffer_t, hb_glyph_info_t, hb_unicode_general_category_t};
 use shape_buffer::interfaces::hb_unicode_funcs_t;

@@ -21,7 +21,7 @@ pub fn preparing_keeps_firsts()
     ensures { PreparingKeepsFirsts }
 {}
 
-/// Each item's mark, by its category, and class are those of its character once a text is prepared, where
+/// Each item's mark, by its category, and ccc are those of its character once a text is prepared, where
 /// the shaper's hook leaves them so.
 pub fn preparing_prepares()
     ensures { PreparingPrepares }

@@ -8,7 +8,15 @@ ghost use Rattle.std.specs.List.{list_any};
 ghost use Rattle.shape_buffer.specs.Outcome.{Made};
 ghost use Rattle.shape_prepare.specs.GraphemeWalk.{reverse_span};
 ghost use Rattle.shape_prepare.specs.ClustersFormed.{over_graphemes};
-ghost use Rattle.shape_prepare.specs.NativeOrder.{natively_ordered, native_direction as native_direction_of, native_for as native_for_of, direction_of_script as direction_of_script_of, is_against as is_against_of, has_numbers_alone as has_numbers_alone_of, is_letter as is_letter_of, is_number as is_number_of, is_letter_category, is_decimal_number, turned};
+ghost use Rattle.shape_prepare.specs.NativeOrder.{natively_ordered};
+ghost use Rattle.shape_prepare.specs.NativeOrder.{native_direction as native_direction_of};
+ghost use Rattle.shape_prepare.specs.NativeOrder.{native_for as native_for_of};
+ghost use Rattle.shape_prepare.specs.NativeOrder.{direction_of_script as direction_of_script_of};
+ghost use Rattle.shape_prepare.specs.NativeOrder.{is_against as is_against_of};
+ghost use Rattle.shape_prepare.specs.NativeOrder.{has_numbers_alone as has_numbers_alone_of};
+ghost use Rattle.shape_prepare.specs.NativeOrder.{is_letter as is_letter_of};
+ghost use Rattle.shape_prepare.specs.NativeOrder.{is_number as is_number_of, is_letter_category};
+ghost use Rattle.shape_prepare.specs.NativeOrder.{is_decimal_number, turned};
 
 use crate::clusters::{ends_grapheme, merge_graphemes};
 use crate::graphemes::is_regional_indicator;

@@ -36,7 +36,8 @@ where
     M: hb_ot_layout_t<F>,
     S: hb_ot_shaper_t<U, F, M>,
     requires { IsWithinLimit buffer.old }
-    ensures { RunOutcome (prepare_steps (⟦<S as Runs<U, F, M>>⟧.run plan.now face.now) target) buffer.old buffer.new result }
+    ensures { RunOutcome (prepare_steps (⟦<S as Runs<U, F, M>>⟧.run plan.now face.now) target)
+        buffer.old buffer.new result }
 {
     make_graphemes::<U, F, M, S>(plan, face, buffer)?;
     put_in_order::<U, F, M, S>(alloc, plan, face, buffer, target)
@@ -54,7 +55,8 @@ where
     M: hb_ot_layout_t<F>,
     S: hb_ot_shaper_t<U, F, M>,
     requires { IsWithinLimit buffer.old }
-    ensures { RunOutcome (grapheme_steps (⟦<S as Runs<U, F, M>>⟧.run plan.now face.now)) buffer.old buffer.new result }
+    ensures { RunOutcome (grapheme_steps (⟦<S as Runs<U, F, M>>⟧.run plan.now face.now))
+        buffer.old buffer.new result }
 {
     initialize_masks::<F, M, S, S::Data>(plan, buffer);
     set_unicode_props::<U>(buffer);
@@ -77,7 +79,8 @@ where
     M: hb_ot_layout_t<F>,
     S: hb_ot_shaper_t<U, F, M>,
     requires { IsWithinLimit buffer.old }
-    ensures { RunOutcome (order_steps (⟦<S as Runs<U, F, M>>⟧.run plan.now face.now) target) buffer.old buffer.new result }
+    ensures { RunOutcome (order_steps (⟦<S as Runs<U, F, M>>⟧.run plan.now face.now) target)
+        buffer.old buffer.new result }
 {
     ensure_native_direction::<U>(buffer);
     preprocess_text::<U, F, M, S>(alloc, plan, face, buffer)?;

@@ -22,7 +22,8 @@ where
     S: hb_ot_shaper_t<U, F, M>,
     requires { IsWithinLimit buffer.old }
     ensures { let run = ⟦<S as Runs<U, F, M>>⟧.run plan.now face.now in
-        Outcome (step (hook_if run.constants.has_preprocess_text run.hooks (λ h. h.preprocess))) buffer.old buffer.new result }
+        Outcome (step (hook_if run.constants.has_preprocess_text run.hooks (λ h. h.preprocess)))
+        buffer.old buffer.new result }
 {
     match plan.shaper() {
         Some(shaper) if S::HAS_PREPROCESS_TEXT => {

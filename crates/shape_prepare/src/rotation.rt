@@ -24,7 +24,8 @@ pub fn rotate_chars<U: hb_unicode_funcs_t, F: hb_font_t, S, P, D>(
     buffer: &mut hb_buffer_t,
     target: Direction,
 )
-    ensures { Made (rotated U.unicode (F.face face.now) plan.now.decisions target) buffer.old buffer.new }
+    ensures { Made (rotated U.unicode (F.face face.now) plan.now.decisions target)
+        buffer.old buffer.new }
 {
     let forms = Forms::of(plan, target);
     if forms.is_idle() {
@@ -71,7 +72,9 @@ impl Forms {
         face: &F,
         info: &hb_glyph_info_t,
     ) -> hb_glyph_info_t
-        ensures { result ≡ in_forms U.unicode (F.face face.now) self.mirrors self.rtlm_mask self.is_upright info.now }
+        ensures { result
+            ≡ in_forms U.unicode (F.face face.now)
+            self.mirrors self.rtlm_mask self.is_upright info.now }
     {
         let mut info = *info;
         if self.mirrors {

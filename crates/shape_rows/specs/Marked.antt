@@ -11,8 +11,8 @@ abbrev pub is_marked_selector : ℕ → Bool
 is_marked_selector c = c == 0xFE00 || c == 0xFE01
 
 -- U+0301 above, U+0323 below
-abbrev pub marked_class : ℕ → ℕ
-marked_class c = if c == 0x301 then 230 else (if c == 0x323 then 220 else 0)
+abbrev pub marked_ccc : ℕ → ℕ
+marked_ccc c = if c == 0x301 then 230 else (if c == 0x323 then 220 else 0)
 
 -- of U+2003 that of an em, of U+2007 that of a figure
 abbrev pub marked_space : ℕ → ℕ
@@ -26,10 +26,10 @@ marked_category c =
 abbrev pub marked_unicode : UnicodeMeaning
 marked_unicode = record {
   category = marked_category;
-  class = marked_class;
+  ccc = marked_ccc;
   split = λ _. None;
   height = λ _. 0;
-  join = λ _ _. None;
+  compose = λ _ _. None;
   mirrored = λ _. None;
   vertical = λ _. None;
   space_fallback = marked_space;
@@ -40,23 +40,23 @@ marked_unicode = record {
   script_direction = λ _. None;
 }
 
-marks_have_classes : (c : ℕ) → marked_class c ≢ 0 → is_mark marked_unicode c ≡ true
-marks_have_classes c marked = grind (arith, nat_tests, marked)
+marks_have_ccc : (c : ℕ) → marked_ccc c ≢ 0 → is_mark marked_unicode c ≡ true
+marks_have_ccc c marked = grind (arith, nat_tests, marked)
 
 ascii_is_no_mark : (c : ℕ) → c < 128 → is_mark marked_unicode c ≡ false
 ascii_is_no_mark c ascii = grind (arith, nat_tests, ascii)
 
 pub marked_unicode-lawful : LawfulUnicode marked_unicode
 marked_unicode-lawful = record {
-  marks_have_classes = marks_have_classes;
+  marks_have_ccc = marks_have_ccc;
   ascii_is_no_mark = ascii_is_no_mark;
   mirrors_are_plain = λ c d mirrors. cc;
   verticals_are_plain = λ c d stands. cc;
   splits_fall = record {
     height_falls = record { falls = λ c a b splits. cc };
     second_is_last = λ c a b splits. cc;
-    first_class = λ c a b marked splits. cc;
-    second_class = λ c a b marked splits. cc;
+    first_ccc = λ c a b marked splits. cc;
+    second_ccc = λ c a b marked splits. cc;
   };
   composes_soundly = record { equivalent = λ a b c joins. cc };
 }

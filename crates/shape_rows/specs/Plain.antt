@@ -6,10 +6,10 @@ use Rattle.shape_buffer.specs.declared.buffer.general_category.hb_unicode_genera
 abbrev pub plain_unicode : UnicodeMeaning
 plain_unicode = record {
   category = λ _. OtherLetter;
-  class = λ _. 0;
+  ccc = λ _. 0;
   split = λ _. None;
   height = λ _. 0;
-  join = λ _ _. None;
+  compose = λ _ _. None;
   mirrored = λ _. None;
   vertical = λ _. None;
   space_fallback = λ _. 0;
@@ -22,15 +22,15 @@ plain_unicode = record {
 
 pub plain_unicode-lawful : LawfulUnicode plain_unicode
 plain_unicode-lawful = record {
-  marks_have_classes = λ c marked. absurd (marked refl);
+  marks_have_ccc = λ c marked. absurd (marked refl);
   ascii_is_no_mark = λ c _. refl;
   mirrors_are_plain = λ c d mirrors. cc;
   verticals_are_plain = λ c d stands. cc;
   splits_fall = record {
     height_falls = record { falls = λ c a b splits. cc };
     second_is_last = λ c a b splits. cc;
-    first_class = λ c a b marked. absurd (marked refl);
-    second_class = λ c a b marked. absurd (marked refl);
+    first_ccc = λ c a b marked. absurd (marked refl);
+    second_ccc = λ c a b marked. absurd (marked refl);
   };
   composes_soundly = record { equivalent = λ a b c joins. cc };
 }

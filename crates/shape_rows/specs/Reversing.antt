@@ -14,14 +14,20 @@ abbrev pub reversed : Buffer → ℕ → ℕ → Buffer
 reversed b start end = pairs_exchanged start end ((end - start) / 2) b
 
 -- what steps reach from the buffer with these pairs exchanged, steps reach from the buffer
-reached_by_pairs : (start end k : ℕ) (b c : Buffer) → start ≤ end → k ≤ end - start → Reorders start end (pairs_exchanged start end k b) c → Reorders start end b c
+reached_by_pairs : (start end k : ℕ) (b c : Buffer) → start ≤ end → k ≤ end - start → Reorders start end (pairs_exchanged start end k b) c
+    → Reorders start end b c
 reached_by_pairs start end zero b c ordered few steps = steps
 reached_by_pairs start end (suc k) b c ordered few steps =
-    reached_by_pairs start end k b c ordered (omega arith) (exchange (start + k) (end - 1 - k) (omega arith) (omega arith) (omega arith) (omega arith) steps)
+    reached_by_pairs start end k b c ordered (omega arith)
+    (exchange (start + k) (end - 1 - k) (omega arith) (omega arith) (omega arith) (omega arith) steps)
 
 -- a run's places are in order
 is_ordered : (b : Buffer) (start end : ℕ) → IsRunInOrder b.items start end → start ≤ end
 is_ordered b start end run = omega (arith, run.some)
 
 pub reversed-reorders : ReordersRanges reversed
-reversed-reorders = record { reorders = λ b start end run. reached_by_pairs start end ((end - start) / 2) b (reversed b start end) (is_ordered b start end run) (omega arith) done }
+reversed-reorders =
+    record {
+      reorders = λ b start end run. reached_by_pairs start end ((end - start) / 2) b (reversed b start end)
+          (is_ordered b start end run) (omega arith) done;
+    }

@@ -24,7 +24,8 @@ deep_face face = record {
   v_advance = λ _. face.v_advance;
   h_origin = λ _. face.h_origin;
   v_origin = λ _. face.v_origin;
-  extents = λ glyph. if glyph.0 == 0x62 then Some (record { x_bearing = pos 0; y_bearing = pos 0; width = pos 0; height = pos 0 }) else None;
+  extents = λ glyph. if glyph.0 == 0x62 then Some (record { x_bearing = pos 0; y_bearing = pos 0; width = pos 0; height = pos 0 })
+      else None;
   units_per_em = 1000;
   tables = record { gsub = false; gpos = false; morx = false; kerx = false; trak = false };
 }

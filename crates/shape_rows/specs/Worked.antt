@@ -68,7 +68,7 @@ pub record OrderOfMarks : Type 0 where
   pub two_spans : spans (12 ∷ 10 ∷ 230 ∷ 220 ∷ []) ≡ (0, 2) ∷ (2, 4) ∷ []
   pub one_span : spans (230 ∷ 10 ∷ 220 ∷ []) ≡ (0, 3) ∷ []
   pub nothing_moves : spans (10 ∷ 230 ∷ 230 ∷ []) ≡ (0, 1) ∷ (1, 2) ∷ (2, 3) ∷ []
-  pub in_their_order : in_order (λ class. class) (12 ∷ 10 ∷ 230 ∷ 220 ∷ []) ≡ 10 ∷ 12 ∷ 220 ∷ 230 ∷ []
+  pub in_their_order : in_order (λ ccc. ccc) (12 ∷ 10 ∷ 230 ∷ 220 ∷ []) ≡ 10 ∷ 12 ∷ 220 ∷ 230 ∷ []
 
 order_of_marks : OrderOfMarks
 order_of_marks = record { two_runs = refl; two_spans = refl; one_span = refl; nothing_moves = refl; in_their_order = refl }

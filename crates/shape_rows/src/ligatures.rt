@@ -73,7 +73,7 @@ fn with_marks(
     for mark in marks {
         let mut info = ligated('\u{301}', 2, *mark);
         info._hb_glyph_info_set_general_category(hb_unicode_general_category_t::NonspacingMark);
-        info._hb_glyph_info_set_modified_class(230);
+        info._hb_glyph_info_set_modified_combining_class(230);
         infos.push(info)?;
     }
     let mut buffer = hb_buffer_t::new(alloc);
@@ -190,13 +190,13 @@ fn recategorised(
     alloc: Global,
     c: char,
     category: hb_unicode_general_category_t,
-    class: u8,
+    ccc: u8,
 ) -> Result<Option<u8>, Fail> {
     let face = ligature_face(alloc)?;
     let plan = planned(alloc, &face, Direction::LeftToRight)?;
     let mut info = hb_glyph_info_t::new(c, 0);
     info._hb_glyph_info_set_general_category(category);
-    info._hb_glyph_info_set_modified_class(class);
+    info._hb_glyph_info_set_modified_combining_class(ccc);
     let mut infos = Vec::new(alloc);
     infos.push(info)?;
     let mut buffer = hb_buffer_t::new(alloc);
@@ -206,7 +206,7 @@ fn recategorised(
         buffer
             .infos()
             .first()
-            .map(|info| info._hb_glyph_info_get_modified_class()),
+            .map(|info| info._hb_glyph_info_get_modified_combining_class()),
     )
 }
 
@@ -233,12 +233,8 @@ fn classes_of_single_characters(rt: HostRuntime) -> Result<(), Fail> {
         ('\u{F00}', 0, 0),
         ('\u{301}', 0, 0),
     ];
-    for (c, class, becomes) in rows {
-        assert_eq!(rt;
-            recategorised(alloc, c, mark, class)?,
-            Some(becomes),
-            "{class}"
-        );
+    for (c, ccc, becomes) in rows {
+        assert_eq!(rt; recategorised(alloc, c, mark, ccc)?, Some(becomes), "{ccc}");
     }
     Ok(())
 }
@@ -277,11 +273,11 @@ fn classes_of_other_scripts(rt: HostRuntime) -> Result<(), Fail> {
         (200, 200),
         (230, 230),
     ];
-    for (class, becomes) in rows {
+    for (ccc, becomes) in rows {
         assert_eq!(rt;
-            recategorised(alloc, '\u{301}', mark, class)?,
+            recategorised(alloc, '\u{301}', mark, ccc)?,
             Some(becomes),
-            "{class}"
+            "{ccc}"
         );
     }
     for other in [

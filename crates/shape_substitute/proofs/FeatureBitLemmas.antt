@@ -10,7 +10,8 @@ use Rattle.shape_substitute.specs.Ranges.{with_value}
 -- a feature's mask has no flag
 pub feature_flagless : (mask flag : ℕ) → HasNoDefinedFlag mask → IsDefinedFlag flag → bit_and mask flag ≡ 0
 feature_flagless mask flag none defined =
-    ap (bit_and mask) (sym (defined_flag flag defined)) ∙ sym (and_assoc flag mask 7) ∙ ap (λ n. bit_and n flag) none ∙ and_comm 0 flag ∙ and_zero_r flag
+    ap (bit_and mask) (sym (defined_flag flag defined)) ∙ sym (and_assoc flag mask 7) ∙ ap (λ n. bit_and n flag) none ∙ and_comm 0 flag
+    ∙ and_zero_r flag
 
 pub feature-or : (a b : ℕ) → HasNoDefinedFlag a → HasNoDefinedFlag b → HasNoDefinedFlag (bit_or a b)
 feature-or a b first second = and_or_apart 7 a b second ∙ first
@@ -20,10 +21,14 @@ pub added_brings_none : (mask m flag : ℕ) → HasNoDefinedFlag mask → IsDefi
 added_brings_none mask m flag none defined = and_or_apart flag m mask (feature_flagless mask flag none defined)
 
 -- neither does a value that is set
-pub value_brings_none : (bits value m flag : ℕ) → HasNoDefinedFlag bits → IsDefinedFlag flag → bit_and (with_value bits value m) flag ≤ bit_and m flag
+pub value_brings_none : (bits value m flag : ℕ) → HasNoDefinedFlag bits → IsDefinedFlag flag
+    → bit_and (with_value bits value m) flag ≤ bit_and m flag
 value_brings_none bits value m flag none defined =
     let kept = 4294967295 - bits in
-    let apart : bit_and (bit_and value bits) flag ≡ 0 = and_assoc flag value bits ∙ ap (bit_and value) (feature_flagless bits flag none defined) ∙ and_zero_r value in
-    let left : bit_and (bit_and m kept) flag ≡ bit_and (bit_and m flag) kept = and_assoc flag m kept ∙ ap (bit_and m) (and_comm kept flag) ∙ sym (and_assoc kept m flag) in
-    let all : bit_and (with_value bits value m) flag ≡ bit_and (bit_and m flag) kept = and_or_apart flag (bit_and m kept) (bit_and value bits) apart ∙ left in
+    let apart : bit_and (bit_and value bits) flag ≡ 0 = and_assoc flag value bits
+    ∙ ap (bit_and value) (feature_flagless bits flag none defined) ∙ and_zero_r value in
+    let left : bit_and (bit_and m kept) flag ≡ bit_and (bit_and m flag) kept = and_assoc flag m kept ∙ ap (bit_and m) (and_comm kept flag)
+    ∙ sym (and_assoc kept m flag) in
+    let all : bit_and (with_value bits value m) flag
+    ≡ bit_and (bit_and m flag) kept = and_or_apart flag (bit_and m kept) (bit_and value bits) apart ∙ left in
     omega (arith, all, and_le_l (bit_and m flag) kept)

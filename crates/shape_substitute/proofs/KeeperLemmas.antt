@@ -24,7 +24,8 @@ pub order-masks : (f : Buffer → Buffer) → ((b : Buffer) → MasksAlone b (f 
 order-masks f alone b monotone =
     let changes = alone b in
     record {
-      clusters = KeepsClusters-equal _ _ (sym (clusters-map without_mask (λ x. refl) (f b).items) ∙ ap clusters changes.items ∙ clusters-map without_mask (λ x. refl) b.items);
+      clusters = KeepsClusters-equal _ _ (sym (clusters-map without_mask (λ x. refl) (f b).items) ∙ ap clusters changes.items
+          ∙ clusters-map without_mask (λ x. refl) b.items);
       direction = ap (λ (x : Buffer). x.direction) changes.rest;
       flags = ap (λ (x : Buffer). x.flags) changes.rest;
       level = ap (λ (x : Buffer). x.cluster_level) changes.rest;
@@ -33,13 +34,16 @@ order-masks f alone b monotone =
 -- ---- flags
 
 -- where no item gets a flag that it hasn't, no list does
-some_has-map : (f : Item → Item) (flag : ℕ) → ((x : Item) → has_flag flag (f x) ≡ true → has_flag flag x ≡ true) → (xs : List Item) → some_has flag (map f xs) ≡ true → some_has flag xs ≡ true
+some_has-map : (f : Item → Item) (flag : ℕ) → ((x : Item) → has_flag flag (f x) ≡ true → has_flag flag x ≡ true) → (xs : List Item)
+    → some_has flag (map f xs) ≡ true → some_has flag xs ≡ true
 some_has-map f flag brings [] some = some
 some_has-map f flag brings (x ∷ xs) some = elim (or_cases (has_flag flag (f x)) (some_has flag (map f xs)) some) [
   | inl here ↦ rw (brings x here) refl
   | inr later ↦ or_right (has_flag flag x) _ (some_has-map f flag brings xs later)
 ]
 
-pub flags-items_mapped : (f : Item → Item) → ((flag : ℕ) → IsDefinedFlag flag → (x : Item) → has_flag flag (f x) ≡ true → has_flag flag x ≡ true) → IsFlagKeeper (items_mapped f)
+pub flags-items_mapped : (f : Item → Item)
+    → ((flag : ℕ) → IsDefinedFlag flag → (x : Item) → has_flag flag (f x) ≡ true → has_flag flag x ≡ true) → IsFlagKeeper (items_mapped f)
 unfolding items_mapped
-flags-items_mapped f brings b = KeepsFlags-items b (map f b.items) (λ flag defined some. some_has-map f flag (brings flag defined) b.items some)
+flags-items_mapped f brings b =
+    KeepsFlags-items b (map f b.items) (λ flag defined some. some_has-map f flag (brings flag defined) b.items some)

@@ -16,7 +16,8 @@ use Rattle.shape_plan.proofs.KeeperLemmas.{flags-hook_if, flags-step_if, order-h
 
 -- ---- clusters
 
-order-pause : (given : Bool) (hooks : Option HookMeaning) → ((h : HookMeaning) → hooks ≡ Some h → EachHook IsClusterKeeper h) → (number : Option ℕ)
+order-pause : (given : Bool) (hooks : Option HookMeaning) → ((h : HookMeaning) → hooks ≡ Some h → EachHook IsClusterKeeper h)
+    → (number : Option ℕ)
     → IsClusterKeeper (option_map_or (λ n. hook_if given hooks (λ h. h.pause n)) number (λ b. b))
 order-pause given hooks keep None = λ b monotone. KeepsOrder-same b
 order-pause given hooks keep (Some n) = order-hook_if given hooks (λ h. h.pause n) (λ h is. (keep h is).pause n)
@@ -40,14 +41,21 @@ substitution-keeps_clusters run keep = record {
       (order-ranges_masked run.map run.user_features, tt),
     ),
   );
-  glyphs = (order-glyphs_mapped, (keep.lookups.substitute_start, (order-step_if run.decisions.fallback_glyph_classes order-classes_synthesised, tt)));
+  glyphs = (
+    order-glyphs_mapped,
+    (
+      keep.lookups.substitute_start,
+      (order-step_if run.decisions.fallback_glyph_classes order-classes_synthesised, tt),
+    ),
+  );
   lookups = EachStep-append IsClusterKeeper (lookup_steps run) _ (order-lookups run keep run.decisions.apply_morx)
       (order-step_if (run.decisions.apply_morx && run.decisions.apply_gpos) keep.lookups.aat_remove_deleted, tt);
 }
 
 -- ---- flags
 
-flags-pause : (given : Bool) (hooks : Option HookMeaning) → ((h : HookMeaning) → hooks ≡ Some h → EachHook IsFlagKeeper h) → (number : Option ℕ)
+flags-pause : (given : Bool) (hooks : Option HookMeaning) → ((h : HookMeaning) → hooks ≡ Some h → EachHook IsFlagKeeper h)
+    → (number : Option ℕ)
     → IsFlagKeeper (option_map_or (λ n. hook_if given hooks (λ h. h.pause n)) number (λ b. b))
 flags-pause given hooks keep None = λ b. KeepsFlags-same b
 flags-pause given hooks keep (Some n) = flags-hook_if given hooks (λ h. h.pause n) (λ h is. (keep h is).pause n)
@@ -71,7 +79,13 @@ substitution-keeps_flags run masks features keep = record {
       (flags-ranges_masked run.map masks run.user_features, tt),
     ),
   );
-  glyphs = (flags-glyphs_mapped, (keep.lookups.substitute_start, (flags-step_if run.decisions.fallback_glyph_classes flags-classes_synthesised, tt)));
+  glyphs = (
+    flags-glyphs_mapped,
+    (
+      keep.lookups.substitute_start,
+      (flags-step_if run.decisions.fallback_glyph_classes flags-classes_synthesised, tt),
+    ),
+  );
   lookups = EachStep-append IsFlagKeeper (lookup_steps run) _ (flags-lookups run keep run.decisions.apply_morx)
       (flags-step_if (run.decisions.apply_morx && run.decisions.apply_gpos) keep.lookups.aat_remove_deleted, tt);
 }

@@ -42,7 +42,8 @@ Made-masks f {old} {new} made alone = record {
 
 pub alone-features_added : (mask start end : ℕ) (b : Buffer) → start ≤ end → MasksAlone b (features_added mask start end b)
 unfolding features_added
-alone-features_added mask start end b le = record { items = map-map_range without_mask (with_features mask) (λ item. refl) start end b.items le; rest = refl }
+alone-features_added mask start end b le =
+    record { items = map-map_range without_mask (with_features mask) (λ item. refl) start end b.items le; rest = refl }
 
 mark_break-alone : (least : ℕ) (item : Item) → without_mask (mark_break least item) ≡ without_mask item
 mark_break-alone least item = elim (cases_Bool (item.cluster == least)) [ inl same ↦ rw same refl | inr other ↦ rw other refl ]
@@ -52,7 +53,8 @@ alone-unsafe_to_break start end b = elim (cases_Bool (nat_lt (start + 1) end)) [
   | inl long ↦
       let below : start + 1 < end = grind (arith, nat_tests) in
       rw long (record {
-        items = map-map_range without_mask (mark_break (least_cluster (slice_range b.items start end))) (mark_break-alone _) start end b.items (omega arith);
+        items = map-map_range without_mask (mark_break (least_cluster (slice_range b.items start end)))
+            (mark_break-alone _) start end b.items (omega arith);
         rest = refl;
       })
   | inr short ↦ rw short (MasksAlone-same b)
@@ -65,14 +67,16 @@ alone-unsafe_to_concat start end b le = elim (cases_Bool (bit_and b.flags.0 64 =
 ]
 
 -- the two cases of a slash
-pub slash_masked-alone : (masks : FractionMasks) (slash : ℕ) (b : Buffer) → has_whole b.items slash ≡ false → slash_masked masks slash b ≡ unsafe_to_concat slash (slash + 1) b
+pub slash_masked-alone : (masks : FractionMasks) (slash : ℕ) (b : Buffer) → has_whole b.items slash ≡ false
+    → slash_masked masks slash b ≡ unsafe_to_concat slash (slash + 1) b
 unfolding slash_masked
 slash_masked-alone masks slash b none = rw none refl
 
 pub slash_masked-whole : (masks : FractionMasks) (slash : ℕ) (b : Buffer) → has_whole b.items slash ≡ true
     → slash_masked masks slash b ≡ features_added masks.after (slash + 1) (whole_end b.items slash)
     (features_added masks.slash slash (slash + 1)
-    (features_added masks.before (whole_start b.items slash) slash (unsafe_to_break (whole_start b.items slash) (whole_end b.items slash) b)))
+    (features_added masks.before (whole_start b.items slash) slash
+    (unsafe_to_break (whole_start b.items slash) (whole_end b.items slash) b)))
 unfolding slash_masked
 slash_masked-whole masks slash b some = rw some refl
 
@@ -90,15 +94,19 @@ alone-slash_masked masks slash b = elim (cases_Bool (has_whole b.items slash)) [
 ]
 
 -- what goes by more than the mask stays
-pub same_slash : {old new : Buffer} → MasksAlone old new → (i : ℕ) (d : Item) → is_slash (get_or new.items i d) ≡ is_slash (get_or old.items i d)
+pub same_slash : {old new : Buffer} → MasksAlone old new → (i : ℕ) (d : Item)
+    → is_slash (get_or new.items i d) ≡ is_slash (get_or old.items i d)
 same_slash {old} {new} alone i d =
-    ap is_slash (sym (get_or-map without_mask new.items i d) ∙ ap (λ (xs : List Item). get_or xs i (without_mask d)) alone.items ∙ get_or-map without_mask old.items i d)
+    ap is_slash (sym (get_or-map without_mask new.items i d) ∙ ap (λ (xs : List Item). get_or xs i (without_mask d)) alone.items
+    ∙ get_or-map without_mask old.items i d)
 
-pub alone-slashes_masked : (masks : FractionMasks) (next : ℕ) (slashes : List ℕ) (b : Buffer) → MasksAlone b (slashes_masked masks next slashes b)
+pub alone-slashes_masked : (masks : FractionMasks) (next : ℕ) (slashes : List ℕ) (b : Buffer)
+    → MasksAlone b (slashes_masked masks next slashes b)
 alone-slashes_masked masks next [] b = MasksAlone-same b
 alone-slashes_masked masks next (slash ∷ slashes) b = elim (cases_Bool (nat_lt slash next)) [
   | inl passed ↦ rw passed (alone-slashes_masked masks next slashes b)
-  | inr reached ↦ rw reached (MasksAlone-then (alone-slash_masked masks slash b) (alone-slashes_masked masks (next_place b.items slash) slashes (slash_masked masks slash b)))
+  | inr reached ↦ rw reached (MasksAlone-then (alone-slash_masked masks slash b)
+      (alone-slashes_masked masks (next_place b.items slash) slashes (slash_masked masks slash b)))
 ]
 
 pub alone-fractions_masked : (decisions : Decisions) (b : Buffer) → MasksAlone b (fractions_masked decisions b)

@@ -13,7 +13,8 @@ map_range_none f from xs =
     rw none (take-append-drop from xs)
 
 -- over one more
-pub map_range_more : (f : Item → Item) (from i : ℕ) (xs : List Item) (x : Item) → from ≤ i → i < length xs → x ≡ get_or (map_range f from i xs) i x
+pub map_range_more : (f : Item → Item) (from i : ℕ) (xs : List Item) (x : Item) → from ≤ i → i < length xs
+    → x ≡ get_or (map_range f from i xs) i x
     → set (map_range f from i xs) i (f x) ≡ map_range f from (i + 1) xs
 map_range_more f zero i xs x le lt is =
     let whole : i - 0 ≡ i = omega arith in
@@ -28,12 +29,16 @@ map_range_more f (suc from) (suc i) (y ∷ xs) x le lt is =
     rw (next, part, longer) (ap (λ (zs : List Item). y ∷ zs) (map_range_more f from i xs x (omega arith) (omega arith) (rw part at is)))
 
 -- what f leaves of each item is left of the list
-pub map-map_range : {B : Type 0} (g : Item → B) (f : Item → Item) → ((item : Item) → g (f item) ≡ g item) → (from to : ℕ) (xs : List Item) → from ≤ to → map g (map_range f from to xs) ≡ map g xs
+pub map-map_range : {B : Type 0} (g : Item → B) (f : Item → Item) → ((item : Item) → g (f item) ≡ g item) → (from to : ℕ) (xs : List Item)
+    → from ≤ to → map g (map_range f from to xs) ≡ map g xs
 map-map_range g f same from to xs le =
     map-append g (take from xs) (map f (slice_range xs from to) ++ drop to xs)
-    ∙ ap (λ l. map g (take from xs) ++ l) (map-append g (map f (slice_range xs from to)) (drop to xs) ∙ ap (λ l. l ++ map g (drop to xs)) (map-map_same g f same (slice_range xs from to)) ∙ sym (map-append g (slice_range xs from to) (drop to xs)) ∙ ap (map g) (sym (drop_split xs from to le)))
+    ∙ ap (λ l. map g (take from xs) ++ l) (map-append g (map f (slice_range xs from to)) (drop to xs)
+    ∙ ap (λ l. l ++ map g (drop to xs)) (map-map_same g f same (slice_range xs from to))
+    ∙ sym (map-append g (slice_range xs from to) (drop to xs)) ∙ ap (map g) (sym (drop_split xs from to le)))
     ∙ sym (map-append g (take from xs) (drop from xs)) ∙ ap (map g) (take-append-drop from xs)
   where
-    map-map_same : {B : Type 0} (g : Item → B) (f : Item → Item) → ((item : Item) → g (f item) ≡ g item) → (xs : List Item) → map g (map f xs) ≡ map g xs
+    map-map_same : {B : Type 0} (g : Item → B) (f : Item → Item) → ((item : Item) → g (f item) ≡ g item) → (xs : List Item)
+        → map g (map f xs) ≡ map g xs
     map-map_same g f same [] = refl
     map-map_same g f same (x ∷ xs) = ap₂ ◌∷◌ (same x) (map-map_same g f same xs)

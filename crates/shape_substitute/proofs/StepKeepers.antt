@@ -38,11 +38,17 @@ first_of test (inr brought) = cc
 flags-features_added : (mask start end : ℕ) → HasNoDefinedFlag mask → IsFlagKeeper (features_added mask start end)
 unfolding features_added
 flags-features_added mask start end none b = KeepsFlags-items b _ (λ flag defined some. first_of _
-    (range_brings (with_features mask) (has_flag flag) false (λ x has. inl (ap (nat_lt 0) (sym (added_brings_none mask x.mask flag none defined)) ∙ has)) start end b.items some))
+    (range_brings (with_features mask) (has_flag flag) false
+    (λ x has. inl (ap (nat_lt 0) (sym (added_brings_none mask x.mask flag none defined)) ∙ has)) start end b.items some))
 
 flags-unsafe_to_concat : (start end : ℕ) → IsFlagKeeper (unsafe_to_concat start end)
 flags-unsafe_to_concat start end b = elim (cases_Bool (bit_and b.flags.0 64 == 64)) [
-  | inl asked ↦ rw asked (record { flags = refl; stays_set = λ set. glyph_flags_set b; none_new = λ flag defined some. inr (glyph_flags_set b) })
+  | inl asked ↦ rw asked (record {
+    flags = refl;
+    stays_set = λ set. glyph_flags_set b;
+    none_new = λ flag defined some. inr
+        (glyph_flags_set b);
+  })
   | inr unasked ↦ rw unasked (KeepsFlags-same b)
 ]
 
@@ -65,14 +71,17 @@ flags-slash_masked masks plain slash b = elim (cases_Bool (has_whole b.items sla
   | inr none ↦ rw (slash_masked-alone masks slash b none) (flags-unsafe_to_concat slash (slash + 1) b)
 ]
 
-flags-slashes_masked : (masks : FractionMasks) → PlainParts masks → (next : ℕ) (slashes : List ℕ) (b : Buffer) → KeepsFlags b (slashes_masked masks next slashes b)
+flags-slashes_masked : (masks : FractionMasks) → PlainParts masks → (next : ℕ) (slashes : List ℕ) (b : Buffer)
+    → KeepsFlags b (slashes_masked masks next slashes b)
 flags-slashes_masked masks plain next [] b = KeepsFlags-same b
 flags-slashes_masked masks plain next (slash ∷ slashes) b = elim (cases_Bool (nat_lt slash next)) [
   | inl passed ↦ rw passed (flags-slashes_masked masks plain next slashes b)
-  | inr reached ↦ rw reached (KeepsFlags-then b _ _ (flags-slash_masked masks plain slash b) (flags-slashes_masked masks plain (next_place b.items slash) slashes (slash_masked masks slash b)))
+  | inr reached ↦ rw reached (KeepsFlags-then b _ _ (flags-slash_masked masks plain slash b)
+      (flags-slashes_masked masks plain (next_place b.items slash) slashes (slash_masked masks slash b)))
 ]
 
-plain_parts : (decisions : Decisions) (direction : Direction) → FractionsAreFeatures decisions → PlainParts (fraction_masks decisions direction)
+plain_parts : (decisions : Decisions) (direction : Direction) → FractionsAreFeatures decisions
+    → PlainParts (fraction_masks decisions direction)
 plain_parts decisions direction features = elim (cases_Bool (is_forward direction)) [
   | inl forward ↦ rw forward (record { before = feature-or _ _ features.numr features.frac; slash = features.frac; after = feature-or _ _ features.frac features.dnom })
   | inr backward ↦ rw backward (record { before = feature-or _ _ features.frac features.dnom; slash = features.frac; after = feature-or _ _ features.numr features.frac })
@@ -81,7 +90,8 @@ plain_parts decisions direction features = elim (cases_Bool (is_forward directio
 pub flags-fractions_masked : (decisions : Decisions) → FractionsAreFeatures decisions → IsFlagKeeper (fractions_masked decisions)
 unfolding fractions_masked
 flags-fractions_masked decisions features b = elim (cases_Bool (may_have_fractions decisions b)) [
-  | inl due ↦ rw due (flags-slashes_masked (fraction_masks decisions b.direction) (plain_parts decisions b.direction features) 0 (slash_places 0 b.items) b)
+  | inl due ↦ rw due (flags-slashes_masked (fraction_masks decisions b.direction) (plain_parts decisions b.direction features) 0
+      (slash_places 0 b.items) b)
   | inr not_due ↦ rw not_due (KeepsFlags-same b)
 ]
 
@@ -93,11 +103,13 @@ feature-alone feature place item = elim (cases_Bool (nat_le feature.start item.c
   | inr without ↦ rw without refl
 ]
 
-map-alone : (f : Item → Item) → ((item : Item) → without_mask (f item) ≡ without_mask item) → (xs : List Item) → map without_mask (map f xs) ≡ map without_mask xs
+map-alone : (f : Item → Item) → ((item : Item) → without_mask (f item) ≡ without_mask item) → (xs : List Item)
+    → map without_mask (map f xs) ≡ map without_mask xs
 map-alone f alone [] = refl
 map-alone f alone (x ∷ xs) = ap₂ ◌∷◌ (alone x) (map-alone f alone xs)
 
-alone-items_mapped : (f : Item → Item) → ((item : Item) → without_mask (f item) ≡ without_mask item) → (b : Buffer) → MasksAlone b (items_mapped f b)
+alone-items_mapped : (f : Item → Item) → ((item : Item) → without_mask (f item) ≡ without_mask item) → (b : Buffer)
+    → MasksAlone b (items_mapped f b)
 unfolding items_mapped
 alone-items_mapped f alone b = record { items = map-alone f alone b.items; rest = refl }
 
@@ -109,27 +121,34 @@ alone-range_masked map feature b = elim (cases_Bool (is_global feature)) [
 
 alone-features : (map : MapMeaning) (features : List Feature) (b : Buffer) → MasksAlone b (fold (range_masked map) b features)
 alone-features map [] b = MasksAlone-same b
-alone-features map (feature ∷ features) b = MasksAlone-then (alone-range_masked map feature b) (alone-features map features (range_masked map b feature))
+alone-features map (feature ∷ features) b =
+    MasksAlone-then (alone-range_masked map feature b) (alone-features map features (range_masked map b feature))
 
 pub order-ranges_masked : (map : MapMeaning) (features : List Feature) → IsClusterKeeper (ranges_masked map features)
 unfolding ranges_masked
 order-ranges_masked map features = order-masks (ranges_masked map features) (alone-features map features)
 
-feature_brings_none : (feature : Feature) (place : ℕ × ℕ) → HasNoDefinedFlag place.0 → (flag : ℕ) → IsDefinedFlag flag → (item : Item) → has_flag flag (with_feature feature place item) ≡ true → has_flag flag item ≡ true
-feature_brings_none feature place none flag defined item = elim (cases_Bool (nat_le feature.start item.cluster && nat_lt item.cluster feature.end)) [
-  | inl within ↦ rw within (λ has. let less = value_brings_none place.0 (shifted feature.value place.1) item.mask flag none defined in grind (arith, nat_tests))
-  | inr without ↦ rw without (λ has. has)
-]
+feature_brings_none : (feature : Feature) (place : ℕ × ℕ) → HasNoDefinedFlag place.0 → (flag : ℕ) → IsDefinedFlag flag → (item : Item)
+    → has_flag flag (with_feature feature place item) ≡ true → has_flag flag item ≡ true
+feature_brings_none feature place none flag defined item =
+    elim (cases_Bool (nat_le feature.start item.cluster && nat_lt item.cluster feature.end)) [
+      | inl within ↦ rw within (λ has. let less = value_brings_none place.0 (shifted feature.value place.1) item.mask flag none defined in grind
+          (arith, nat_tests))
+      | inr without ↦ rw without (λ has. has)
+    ]
 
 flags-range_masked : (map : MapMeaning) → LawfulMasks map → (feature : Feature) (b : Buffer) → KeepsFlags b (range_masked map b feature)
 flags-range_masked map lawful feature b = elim (cases_Bool (is_global feature)) [
   | inl global ↦ rw global (KeepsFlags-same b)
-  | inr part ↦ rw part (flags-items_mapped (with_feature feature (map.mask feature.tag)) (feature_brings_none feature (map.mask feature.tag) (lawful.mask feature.tag)) b)
+  | inr part ↦ rw part (flags-items_mapped (with_feature feature (map.mask feature.tag))
+      (feature_brings_none feature (map.mask feature.tag) (lawful.mask feature.tag)) b)
 ]
 
-flags-features : (map : MapMeaning) → LawfulMasks map → (features : List Feature) (b : Buffer) → KeepsFlags b (fold (range_masked map) b features)
+flags-features : (map : MapMeaning) → LawfulMasks map → (features : List Feature) (b : Buffer)
+    → KeepsFlags b (fold (range_masked map) b features)
 flags-features map lawful [] b = KeepsFlags-same b
-flags-features map lawful (feature ∷ features) b = KeepsFlags-then b _ _ (flags-range_masked map lawful feature b) (flags-features map lawful features (range_masked map b feature))
+flags-features map lawful (feature ∷ features) b =
+    KeepsFlags-then b _ _ (flags-range_masked map lawful feature b) (flags-features map lawful features (range_masked map b feature))
 
 pub flags-ranges_masked : (map : MapMeaning) → LawfulMasks map → (features : List Feature) → IsFlagKeeper (ranges_masked map features)
 unfolding ranges_masked

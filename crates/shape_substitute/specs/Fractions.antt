@@ -12,6 +12,7 @@ use Rattle.shape_buffer.specs.declared.buffer.general_category.hb_unicode_genera
 use Rattle.shape_buffer.specs.declared.buffer.settings.Direction.{Direction}
 use Rattle.shape_plan.specs.declared.decisions.Decisions.{Decisions}
 use Rattle.shape_substitute.specs.declared.fractions.FractionMasks.{FractionMasks}
+use Rattle.shape_buffer.specs.FlagNames.{HAS_NON_ASCII}
 
 -- before the slash stands the numerator where text runs forward, else the denominator
 abbrev pub fraction_masks : Decisions → Direction → FractionMasks
@@ -59,7 +60,8 @@ features_added mask start end b = record b { items = map_range (with_features ma
 abbrev pub has_whole : List Item → ℕ → Bool
 has_whole items slash = nat_lt (whole_start items slash) slash && nat_lt (slash + 1) (whole_end items slash)
 
--- the whole is marked unsafe to break, and each of its three parts gets its features; a slash without digits on one side is marked unsafe to concat alone
+-- the whole is marked unsafe to break, and each of its three parts gets its features; a slash without digits on one side is marked unsafe
+-- to concat alone
 unfoldable pub slash_masked : FractionMasks → ℕ → Buffer → Buffer
 slash_masked masks slash b =
     let start = whole_start b.items slash in
@@ -83,7 +85,7 @@ slashes_masked masks next (slash ∷ slashes) b =
 
 -- there are lookups for fractions, and a character past ASCII was seen (scratch flag 1)
 abbrev pub may_have_fractions : Decisions → Buffer → Bool
-may_have_fractions decisions b = decisions.has_frac && bit_and b.scratch_flags.0 1 == 1
+may_have_fractions decisions b = decisions.has_frac && bit_and b.scratch_flags.0 HAS_NON_ASCII == HAS_NON_ASCII
 
 unfoldable pub fractions_masked : Decisions → Buffer → Buffer
 fractions_masked decisions b =

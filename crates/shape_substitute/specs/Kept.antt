@@ -25,4 +25,5 @@ SubstitutionKeepsClusters = (run : Run) → CallsKeepClusters run → EachSubsti
 
 -- and flags, where besides the masks of the plan and of its features are those of features
 abbrev pub SubstitutionKeepsFlags : Type 0
-SubstitutionKeepsFlags = (run : Run) → LawfulMasks run.map → FractionsAreFeatures run.decisions → RunKeepsFlags run → EachSubstitutionStep IsFlagKeeper run
+SubstitutionKeepsFlags =
+    (run : Run) → LawfulMasks run.map → FractionsAreFeatures run.decisions → RunKeepsFlags run → EachSubstitutionStep IsFlagKeeper run

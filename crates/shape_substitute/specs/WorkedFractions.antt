@@ -49,7 +49,8 @@ letter cluster = with_category OtherLetter (new_item 0x61 cluster)
 
 -- a text with flags of the caller and scratch flags
 abbrev pub text : Direction → ℕ → ℕ → List Item → Buffer
-text direction flags scratch items = record new_buffer { items = items; direction = direction; flags = record { 0 = flags }; scratch_flags = record { 0 = scratch } }
+text direction flags scratch items =
+    record new_buffer { items = items; direction = direction; flags = record { 0 = flags }; scratch_flags = record { 0 = scratch } }
 
 abbrev masks_of : Buffer → List ℕ
 masks_of b = map (λ item. item.mask) b.items
@@ -98,7 +99,8 @@ pub record SidesOfSlashes : Type 0 where
   pub none_after : masked_for_concat (digit 0 ∷ slash 1 ∷ []) ≡ 0 ∷ 2 ∷ []
   pub letter_between : masked_for_concat (digit 0 ∷ letter 1 ∷ slash 2 ∷ digit 5 ∷ []) ≡ 0 ∷ 0 ∷ 2 ∷ 0 ∷ []
   pub unasked : masked LeftToRight (slash 0 ∷ digit 3 ∷ []) ≡ 0 ∷ 0 ∷ []
-  pub digits_alone : masked_for_concat (letter 0 ∷ digit 0 ∷ digit 0 ∷ slash 0 ∷ digit 0 ∷ digit 0 ∷ letter 0 ∷ []) ≡ 0 ∷ 0x300 ∷ 0x300 ∷ 0x100 ∷ 0x500 ∷ 0x500 ∷ 0 ∷ []
+  pub digits_alone : masked_for_concat (letter 0 ∷ digit 0 ∷ digit 0 ∷ slash 0 ∷ digit 0 ∷ digit 0 ∷ letter 0 ∷ [])
+      ≡ 0 ∷ 0x300 ∷ 0x300 ∷ 0x100 ∷ 0x500 ∷ 0x500 ∷ 0 ∷ []
   pub by_category : masked LeftToRight (with_category DecimalNumber (letter 0) ∷ slash 0 ∷ digit 0 ∷ []) ≡ 0x300 ∷ 0x100 ∷ 0x500 ∷ []
   pub by_category_alone : masked_for_concat (with_category OtherNumber (digit 0) ∷ slash 0 ∷ digit 0 ∷ []) ≡ 0 ∷ 2 ∷ 0 ∷ []
   pub two_slashes : masked_for_concat (digit 0 ∷ slash 0 ∷ slash 0 ∷ digit 0 ∷ []) ≡ 0 ∷ 2 ∷ 2 ∷ 0 ∷ []

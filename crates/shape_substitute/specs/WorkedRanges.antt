@@ -37,7 +37,8 @@ four mask = masked_item mask 0 ∷ masked_item mask 1 ∷ masked_item mask 2 ∷
 
 pub record UserFeatures : Type 0 where
   pub in_the_middle : masked (feature 1 3 1 3 ∷ []) (four 0) ≡ 0 ∷ 0x300 ∷ 0x300 ∷ 0 ∷ []
-  pub clusters_and_not_places : masked (feature 1 3 1 3 ∷ []) (masked_item 0 7 ∷ masked_item 0 7 ∷ masked_item 0 1 ∷ masked_item 0 1 ∷ []) ≡ 0 ∷ 0 ∷ 0x300 ∷ 0x300 ∷ []
+  pub clusters_and_not_places : masked (feature 1 3 1 3 ∷ []) (masked_item 0 7 ∷ masked_item 0 7 ∷ masked_item 0 1 ∷ masked_item 0 1 ∷ [])
+      ≡ 0 ∷ 0 ∷ 0x300 ∷ 0x300 ∷ []
   pub empty_range : masked (feature 1 3 2 2 ∷ []) (four 0) ≡ 0 ∷ 0 ∷ 0 ∷ 0 ∷ []
   pub from_the_start : masked (feature 1 1 0 1 ∷ []) (four 0) ≡ 0x100 ∷ 0 ∷ 0 ∷ 0 ∷ []
   pub to_the_end : masked (feature 1 1 2 4294967295 ∷ []) (four 0) ≡ 0 ∷ 0 ∷ 0x100 ∷ 0x100 ∷ []
@@ -77,7 +78,8 @@ pub record WordsOfFeatures : Type 0 where
   pub replaced : with_value 0xF0 0x5A 0xABC ≡ 0xA5C
 
 words_of_features : WordsOfFeatures
-words_of_features = record { whole = refl; from_one = refl; almost_to_the_end = refl; shifted_out = refl; not_shifted = refl; replaced = refl }
+words_of_features =
+    record { whole = refl; from_one = refl; almost_to_the_end = refl; shifted_out = refl; not_shifted = refl; replaced = refl }
 
 -- ---- glyphs and classes
 
@@ -112,14 +114,19 @@ pub record ClassesOfGlyphs : Type 0 where
   pub asked_first : (with_class (glyph NonspacingMark true true)).properties.glyph_class.0 ≡ 8
   pub clears_substituted : (with_class (glyph NonspacingMark true true)).properties.substituted ≡ false
   pub clears_ligated : (with_class (glyph OtherLetter false true)).properties.ligated ≡ false
-  pub clears_no_more : record (with_class (glyph OtherLetter true true)) { properties = (glyph OtherLetter true true).properties } ≡ glyph OtherLetter true true
+  pub clears_no_more : record (with_class (glyph OtherLetter true true)) { properties = (glyph OtherLetter true true).properties }
+      ≡ glyph OtherLetter true true
   pub keeps_ligature : (with_class (glyph OtherLetter true true)).properties.ligature_id ≡ 3
   pub glyph_of_index : (with_nominal_glyph (glyph OtherLetter false false)).glyph_id ≡ 7
   pub index_stays : (with_nominal_glyph (glyph OtherLetter false false)).glyph_index ≡ 7
   pub no_syllable : (without_syllable (glyph OtherLetter false false)).properties.syllable ≡ 0
-  pub all_items : map (λ item. item.properties.syllable) (syllables_cleared (record new_buffer { items = glyph OtherLetter false false ∷ glyph SpacingMark false false ∷ [] })).items ≡ 0 ∷ 0 ∷ []
-  pub all_glyphs : map (λ item. item.glyph_id) (glyphs_mapped (record new_buffer { items = glyph OtherLetter false false ∷ glyph SpacingMark false false ∷ [] })).items ≡ 7 ∷ 7 ∷ []
-  pub all_classes : map (λ item. item.properties.glyph_class.0) (classes_synthesised (record new_buffer { items = glyph OtherLetter false false ∷ glyph NonspacingMark false false ∷ [] })).items ≡ 2 ∷ 8 ∷ []
+  pub all_items : map (λ item. item.properties.syllable) (syllables_cleared
+      (record new_buffer { items = glyph OtherLetter false false ∷ glyph SpacingMark false false ∷ [] })).items ≡ 0 ∷ 0 ∷ []
+  pub all_glyphs : map (λ item. item.glyph_id) (glyphs_mapped
+      (record new_buffer { items = glyph OtherLetter false false ∷ glyph SpacingMark false false ∷ [] })).items ≡ 7 ∷ 7 ∷ []
+  pub all_classes : map (λ item. item.properties.glyph_class.0)
+      (classes_synthesised (record new_buffer { items = glyph OtherLetter false false ∷ glyph NonspacingMark false false ∷ [] })).items
+      ≡ 2 ∷ 8 ∷ []
 
 classes_of_glyphs : ClassesOfGlyphs
 unfolding glyphs_mapped classes_synthesised syllables_cleared items_mapped

@@ -98,12 +98,45 @@ first_feature = record { tag = record { 0 = 1 }; value = 2; start = 0; end = 1 }
 
 pub record RunsOfLookups (run : Run) : Type 0 where
   -- 5 and 1, twice, and 3
-  pub pause_between : glyphs (run_steps (substitute_steps (record run { hooks = Some (doubling run.unicode); constants = constants true false; map = with_stages 2; decisions = by_tables false true })) glyph_5) ≡ 15 ∷ []
+  pub pause_between : glyphs (run_steps (substitute_steps (record run {
+    hooks = Some
+        (doubling run.unicode);
+    constants = constants true false;
+    map = with_stages 2;
+    decisions = by_tables false true;
+  })) glyph_5) ≡ 15 ∷ []
   pub without_shaper : glyphs (run_steps (substitute_steps (record run { hooks = None; constants = constants true false; map = with_stages 2; decisions = by_tables false true })) glyph_5) ≡ 9 ∷ []
-  pub pause_not_given : glyphs (run_steps (substitute_steps (record run { hooks = Some (doubling run.unicode); constants = constants false false; map = with_stages 2; decisions = by_tables false false })) glyph_5) ≡ 9 ∷ []
-  pub no_stage : glyphs (run_steps (substitute_steps (record run { hooks = Some (doubling run.unicode); constants = constants true false; map = with_stages 0; decisions = by_tables false false })) glyph_5) ≡ 5 ∷ []
-  pub one_stage : glyphs (run_steps (substitute_steps (record run { hooks = Some (doubling run.unicode); constants = constants true false; map = with_stages 1; decisions = by_tables false false })) glyph_5) ≡ 12 ∷ []
-  pub three_stages : glyphs (run_steps (substitute_steps (record run { hooks = Some (doubling run.unicode); constants = constants true false; map = with_stages 3; decisions = by_tables false false })) glyph_5) ≡ 1015 ∷ []
+  pub pause_not_given : glyphs (run_steps (substitute_steps (record run {
+    hooks = Some
+        (doubling run.unicode);
+    constants = constants false false;
+    map = with_stages 2;
+    decisions = by_tables false false;
+  })) glyph_5)
+      ≡ 9 ∷ []
+  pub no_stage : glyphs (run_steps (substitute_steps (record run {
+    hooks = Some
+        (doubling run.unicode);
+    constants = constants true false;
+    map = with_stages 0;
+    decisions = by_tables false false;
+  })) glyph_5) ≡ 5 ∷ []
+  pub one_stage : glyphs (run_steps (substitute_steps (record run {
+    hooks = Some
+        (doubling run.unicode);
+    constants = constants true false;
+    map = with_stages 1;
+    decisions = by_tables false false;
+  })) glyph_5)
+      ≡ 12 ∷ []
+  pub three_stages : glyphs (run_steps (substitute_steps (record run {
+    hooks = Some
+        (doubling run.unicode);
+    constants = constants true false;
+    map = with_stages 3;
+    decisions = by_tables false false;
+  })) glyph_5)
+      ≡ 1015 ∷ []
   -- 5, two features and 100
   pub by_morx : glyphs (run_steps (substitute_steps (record run { hooks = Some (doubling run.unicode); constants = constants true false; map = with_stages 2; decisions = by_tables true false; user_features = whole_feature ∷ whole_feature ∷ [] })) glyph_5) ≡ 107 ∷ []
   -- 5 and 100, three times
@@ -112,14 +145,39 @@ pub record RunsOfLookups (run : Run) : Type 0 where
 -- before the lookups: the glyph of the index, doubled by `substitute_start`, in class 4; another class in its place where the plan says so
 pub record RunsOfGlyphs (run : Run) : Type 0 where
   pub mapped_first : glyphs (run_steps (glyph_steps (record run { decisions = with_fractions true })) glyph_5) ≡ 12 ∷ []
-  pub classes_of_face : map (λ item. item.properties.glyph_class.0) (run_steps (glyph_steps (record run { decisions = with_fractions true })) glyph_5).items ≡ 4 ∷ []
-  pub classes_made_up : map (λ item. item.properties.glyph_class.0) (run_steps (glyph_steps (record run { decisions = record (with_fractions true) { fallback_glyph_classes = true } })) glyph_5).items ≡ 2 ∷ []
+  pub classes_of_face : map (λ item. item.properties.glyph_class.0)
+      (run_steps (glyph_steps (record run { decisions = with_fractions true })) glyph_5).items ≡ 4 ∷ []
+  pub classes_made_up : map (λ item. item.properties.glyph_class.0)
+      (run_steps (glyph_steps (record run { decisions = record (with_fractions true) { fallback_glyph_classes = true } })) glyph_5).items
+      ≡ 2 ∷ []
 
 -- a fraction adds 0x300, 0x103 and 0x503, the hook adds 0x110, and then the user sets 2 in 0x300 of the first cluster
 pub record RunsOfMasks (run : Run) : Type 0 where
-  pub hook_then_user : map (λ item. item.mask) (run_steps (mask_steps (record run { hooks = Some (doubling run.unicode); constants = constants false true; map = with_stages 0; decisions = with_fractions true; user_features = first_feature ∷ [] })) glyph_5).items ≡ 0x210 ∷ []
-  pub fraction_then_hook : map (λ item. item.mask) (run_steps (mask_steps (record run { hooks = Some (doubling run.unicode); constants = constants false true; map = with_stages 0; decisions = with_fractions true; user_features = [] })) (text LeftToRight 0 1 half)).items ≡ 0x410 ∷ 0x213 ∷ 0x613 ∷ []
-  pub hook_not_given : map (λ item. item.mask) (run_steps (mask_steps (record run { hooks = Some (doubling run.unicode); constants = constants true false; map = with_stages 0; decisions = with_fractions true; user_features = first_feature ∷ [] })) glyph_5).items ≡ 0x200 ∷ []
+  pub hook_then_user : map (λ item. item.mask) (run_steps (mask_steps (record run {
+    hooks = Some
+        (doubling run.unicode);
+    constants = constants false true;
+    map = with_stages 0;
+    decisions = with_fractions true;
+    user_features = first_feature ∷ [];
+  })) glyph_5).items ≡ 0x210 ∷ []
+  pub fraction_then_hook : map (λ item. item.mask) (run_steps (mask_steps (record run {
+    hooks = Some
+        (doubling run.unicode);
+    constants = constants false true;
+    map = with_stages 0;
+    decisions = with_fractions true;
+    user_features = [];
+  }))
+      (text LeftToRight 0 1 half)).items ≡ 0x410 ∷ 0x213 ∷ 0x613 ∷ []
+  pub hook_not_given : map (λ item. item.mask) (run_steps (mask_steps (record run {
+    hooks = Some
+        (doubling run.unicode);
+    constants = constants true false;
+    map = with_stages 0;
+    decisions = with_fractions true;
+    user_features = first_feature ∷ [];
+  })) glyph_5).items ≡ 0x200 ∷ []
   pub without_shaper : map (λ item. item.mask) (run_steps (mask_steps (record run { hooks = None; constants = constants true true; map = with_stages 0; decisions = with_fractions true; user_features = [] })) glyph_5).items ≡ 0 ∷ []
 
 -- whatever else a run goes by

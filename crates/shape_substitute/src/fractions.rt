@@ -7,7 +7,15 @@
 ghost use Rattle.std.specs.Prelude.{◌≡◌, ◌+◌, ◌-◌, ◌^◌, ◌<◌, ◌≤◌, ◌&&◌, nat_lt, length};
 ghost use Rattle.std.specs.List.{prefix_len, suffix_len};
 ghost use Rattle.shape_buffer.specs.Outcome.{Made};
-ghost use Rattle.shape_substitute.specs.Fractions.{fraction_masks as fraction_masks_of, is_slash as is_slash_of, is_digit as is_digit_of, whole_start as whole_start_of, whole_end as whole_end_of, next_place, features_added, slash_masked, slash_places, slashes_masked, may_have_fractions as may_have_fractions_of, fractions_masked};
+ghost use Rattle.shape_substitute.specs.Fractions.{fraction_masks as fraction_masks_of};
+ghost use Rattle.shape_substitute.specs.Fractions.{is_slash as is_slash_of};
+ghost use Rattle.shape_substitute.specs.Fractions.{is_digit as is_digit_of};
+ghost use Rattle.shape_substitute.specs.Fractions.{whole_start as whole_start_of};
+ghost use Rattle.shape_substitute.specs.Fractions.{whole_end as whole_end_of, next_place};
+ghost use Rattle.shape_substitute.specs.Fractions.{features_added, slash_masked, slash_places};
+ghost use Rattle.shape_substitute.specs.Fractions.{slashes_masked};
+ghost use Rattle.shape_substitute.specs.Fractions.{may_have_fractions as may_have_fractions_of};
+ghost use Rattle.shape_substitute.specs.Fractions.{fractions_masked};
 
 use bitflags::Flags;
 use shape_buffer::buffer::{

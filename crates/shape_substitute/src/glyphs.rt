@@ -5,7 +5,11 @@
 ghost use Rattle.std.specs.Prelude.{◌≡◌};
 ghost use Rattle.shape_buffer.specs.Outcome.{IsWithinLimit, Made, Ran};
 ghost use Rattle.shape_plan.specs.Run.{step_if};
-ghost use Rattle.shape_substitute.specs.Classes.{is_ignorable as is_ignorable_of, class_of_glyph as class_of_glyph_of, with_nominal_glyph as with_nominal_glyph_of, with_class as with_class_of, glyphs_mapped, classes_synthesised};
+ghost use Rattle.shape_substitute.specs.Classes.{is_ignorable as is_ignorable_of};
+ghost use Rattle.shape_substitute.specs.Classes.{class_of_glyph as class_of_glyph_of};
+ghost use Rattle.shape_substitute.specs.Classes.{with_nominal_glyph as with_nominal_glyph_of};
+ghost use Rattle.shape_substitute.specs.Classes.{with_class as with_class_of, glyphs_mapped};
+ghost use Rattle.shape_substitute.specs.Classes.{classes_synthesised};
 ghost use Rattle.shape_substitute.specs.Substitution.{glyph_steps};
 
 use shape_buffer::buffer::{
@@ -74,7 +78,8 @@ pub fn hb_synthesize_glyph_classes(buffer: &mut hb_buffer_t)
 
 /// Makes up the classes, where the plan says so, since the face has none.
 pub fn synthesize_classes<S, P, D>(plan: &hb_ot_shape_plan_t<'_, S, P, D>, buffer: &mut hb_buffer_t)
-    ensures { Made (step_if plan.now.decisions.fallback_glyph_classes classes_synthesised) buffer.old buffer.new }
+    ensures { Made (step_if plan.now.decisions.fallback_glyph_classes classes_synthesised)
+        buffer.old buffer.new }
 {
     if plan.fallback_glyph_classes() {
         hb_synthesize_glyph_classes(buffer);
@@ -107,7 +112,8 @@ where
     M: hb_ot_layout_t<F>,
     S: hb_ot_shaper_t<U, F, M>,
     requires { IsWithinLimit buffer.old }
-    ensures { Ran (glyph_steps (⟦<S as Runs<U, F, M>>⟧.run plan.now face.now)) buffer.old buffer.new }
+    ensures { Ran (glyph_steps (⟦<S as Runs<U, F, M>>⟧.run plan.now face.now))
+        buffer.old buffer.new }
 {
     map_glyphs_fast(buffer);
     substitute_start::<F, M, S, S::Data>(plan, face, buffer);

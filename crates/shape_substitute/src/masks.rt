@@ -26,7 +26,8 @@ where
     M: hb_ot_layout_t<F>,
     S: hb_ot_shaper_t<U, F, M>,
     ensures { let run = ⟦<S as Runs<U, F, M>>⟧.run plan.now face.now in
-        Made (hook_if run.constants.has_setup_masks run.hooks (λ hooks. hooks.setup_masks)) buffer.old buffer.new }
+        Made (hook_if run.constants.has_setup_masks run.hooks (λ hooks. hooks.setup_masks))
+        buffer.old buffer.new }
 {
     match plan.shaper() {
         Some(shaper) if S::HAS_SETUP_MASKS => shaper.setup_masks(plan, face, buffer),
@@ -46,7 +47,8 @@ where
     M: hb_ot_layout_t<F>,
     S: hb_ot_shaper_t<U, F, M>,
     requires { IsWithinLimit buffer.old }
-    ensures { Ran (mask_steps (⟦<S as Runs<U, F, M>>⟧.run plan.now face.now)) buffer.old buffer.new }
+    ensures { Ran (mask_steps (⟦<S as Runs<U, F, M>>⟧.run plan.now face.now))
+        buffer.old buffer.new }
 {
     setup_masks_fraction(plan, buffer);
     setup_masks_shaper::<U, F, M, S>(plan, face, buffer);

@@ -6,7 +6,9 @@
 ghost use Rattle.std.specs.Prelude.{◌≡◌, ◌<◌};
 ghost use Rattle.shape_buffer.specs.Outcome.{Made};
 ghost use Rattle.shape_buffer.specs.Walks.{items_mapped};
-ghost use Rattle.shape_substitute.specs.Ranges.{with_value as with_value_of, shifted, with_feature as with_feature_of, range_masked, ranges_masked};
+ghost use Rattle.shape_substitute.specs.Ranges.{with_value as with_value_of, shifted};
+ghost use Rattle.shape_substitute.specs.Ranges.{with_feature as with_feature_of, range_masked};
+ghost use Rattle.shape_substitute.specs.Ranges.{ranges_masked};
 
 use shape_buffer::buffer::{Feature, hb_buffer_t, hb_glyph_info_t, hb_mask_t};
 use shape_buffer::interfaces::hb_ot_layout_t;
@@ -40,7 +42,8 @@ fn with_feature(
 /// Sets the value of a feature in the items whose clusters are in its range.
 fn set_masks(buffer: &mut hb_buffer_t, feature: &Feature, bits: hb_mask_t, shift: u32)
     requires { shift < 32 }
-    ensures { Made (items_mapped (with_feature_of feature.now (bits, shift))) buffer.old buffer.new }
+    ensures { Made (items_mapped (with_feature_of feature.now (bits, shift)))
+        buffer.old buffer.new }
 {
     update_items(buffer, |info| with_feature(feature, bits, shift, info));
 }
@@ -53,7 +56,8 @@ fn set_feature<F, M, S, D>(
 )
 where
     M: hb_ot_layout_t<F>,
-    ensures { Made (λ b. range_masked (M.masks plan.now.ot_map) b feature.now) buffer.old buffer.new }
+    ensures { Made (λ b. range_masked (M.masks plan.now.ot_map) b feature.now)
+        buffer.old buffer.new }
 {
     if !feature.is_global() {
         let (bits, shift) = M::get_mask(plan.ot_map(), feature.tag);
@@ -69,7 +73,8 @@ pub fn setup_masks_user<F, M, S, D>(
 )
 where
     M: hb_ot_layout_t<F>,
-    ensures { Made (ranges_masked (M.masks plan.now.ot_map) plan.now.user_features) buffer.old buffer.new }
+    ensures { Made (ranges_masked (M.masks plan.now.ot_map) plan.now.user_features)
+        buffer.old buffer.new }
 {
     for feature in plan.user_features() {
         set_feature::<F, M, S, D>(plan, buffer, feature);

@@ -4,7 +4,8 @@
 ghost use Rattle.std.specs.Prelude.{◌≡◌, ◌&&◌, ◌∷◌, []};
 ghost use Rattle.shape_buffer.specs.Outcome.{IsWithinLimit, Made, Outcome, RunOutcome, step};
 ghost use Rattle.shape_plan.specs.Run.{step_if};
-ghost use Rattle.shape_substitute.specs.Substitution.{paused, stage_steps, lookup_steps, substitute_steps};
+ghost use Rattle.shape_substitute.specs.Substitution.{paused, stage_steps, lookup_steps};
+ghost use Rattle.shape_substitute.specs.Substitution.{substitute_steps};
 
 use shape_buffer::buffer::{ShapeError, hb_buffer_t};
 use shape_buffer::interfaces::{hb_font_t, hb_ot_layout_t, hb_unicode_funcs_t};
@@ -32,7 +33,8 @@ fn run_lookups<F, M, S, D>(
 where
     M: hb_ot_layout_t<F>,
     requires { IsWithinLimit buffer.old }
-    ensures { Outcome (step ((M.lookups plan.now.ot_map face.now).stage i)) buffer.old buffer.new result }
+    ensures { Outcome (step ((M.lookups plan.now.ot_map face.now).stage i))
+        buffer.old buffer.new result }
 {
     M::substitute_stage(alloc, plan.ot_map(), i, face, buffer)
 }
@@ -52,7 +54,8 @@ where
     M: hb_ot_layout_t<F>,
     S: hb_ot_shaper_t<U, F, M>,
     requires { IsWithinLimit buffer.old }
-    ensures { Outcome (step (paused (⟦<S as Runs<U, F, M>>⟧.run plan.now face.now) i)) buffer.old buffer.new result }
+    ensures { Outcome (step (paused (⟦<S as Runs<U, F, M>>⟧.run plan.now face.now) i))
+        buffer.old buffer.new result }
 {
     match (M::pause_after(plan.ot_map(), i), plan.shaper()) {
         (Some(number), Some(shaper)) if S::HAS_PAUSE => {
@@ -77,7 +80,8 @@ where
     S: hb_ot_shaper_t<U, F, M>,
     requires { IsWithinLimit buffer.old }
     ensures { let run = ⟦<S as Runs<U, F, M>>⟧.run plan.now face.now in
-        RunOutcome (step (run.lookups.stage i) ∷ step (paused run i) ∷ []) buffer.old buffer.new result }
+        RunOutcome (step (run.lookups.stage i) ∷ step (paused run i) ∷ [])
+        buffer.old buffer.new result }
 {
     run_lookups::<F, M, S, S::Data>(alloc, i, plan, face, buffer)?;
     pause_after::<U, F, M, S>(alloc, i, plan, face, buffer)
@@ -133,7 +137,8 @@ where
     M: hb_ot_layout_t<F>,
     S: hb_ot_shaper_t<U, F, M>,
     requires { IsWithinLimit buffer.old }
-    ensures { RunOutcome (lookup_steps (⟦<S as Runs<U, F, M>>⟧.run plan.now face.now)) buffer.old buffer.new result }
+    ensures { RunOutcome (lookup_steps (⟦<S as Runs<U, F, M>>⟧.run plan.now face.now))
+        buffer.old buffer.new result }
 {
     if plan.apply_morx() {
         substitute_aat::<F, M, S, S::Data>(alloc, plan, face, buffer)
@@ -173,7 +178,8 @@ where
     M: hb_ot_layout_t<F>,
     S: hb_ot_shaper_t<U, F, M>,
     requires { IsWithinLimit buffer.old }
-    ensures { RunOutcome (substitute_steps (⟦<S as Runs<U, F, M>>⟧.run plan.now face.now)) buffer.old buffer.new result }
+    ensures { RunOutcome (substitute_steps (⟦<S as Runs<U, F, M>>⟧.run plan.now face.now))
+        buffer.old buffer.new result }
 {
     substitute_complex::<U, F, M, S>(alloc, plan, face, buffer)?;
     remove_deleted::<F, M, S, S::Data>(plan, face, buffer);

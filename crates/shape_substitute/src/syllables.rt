@@ -1,7 +1,8 @@
 //! Syllables, which some shapers number to keep their lookups inside one.
 ghost use Rattle.std.specs.Prelude.{◌≡◌};
 ghost use Rattle.shape_buffer.specs.Outcome.{Made};
-ghost use Rattle.shape_substitute.specs.Classes.{without_syllable as without_syllable_of, syllables_cleared};
+ghost use Rattle.shape_substitute.specs.Classes.{without_syllable as without_syllable_of};
+ghost use Rattle.shape_substitute.specs.Classes.{syllables_cleared};
 
 use shape_buffer::buffer::{hb_buffer_t, hb_glyph_info_t};
 use shape_buffer::walks::update_items;

@@ -27,9 +27,11 @@ brackets_ok : (c : ℕ) → not (is_bracket_category (category_of c)) ≡ false 
 unfolding by_trees tables is_bidi_mirrored bidi_mirrored_ranges
 brackets_ok c some =
     ap (λ t. bracket_ok t c (general_category c)) same_tables
-    ∙ Stepped-at_points general_category general_category_stepped (λ k. not (is_bracket_category (category_from k))) (bracket_ok by_trees) refl c some
+    ∙ Stepped-at_points general_category general_category_stepped (λ k. not (is_bracket_category (category_from k)))
+    (bracket_ok by_trees) refl c some
 
-turned_image : (c : ℕ) (image : Option ℕ) → turns by_rows (general_category c) image ≡ true → (d : ℕ) × ((image ≡ Some d) × (is_turned (category_of c) (category_of d) ≡ true))
+turned_image : (c : ℕ) (image : Option ℕ) → turns by_rows (general_category c) image ≡ true
+    → (d : ℕ) × ((image ≡ Some d) × (is_turned (category_of c) (category_of d) ≡ true))
 turned_image c None h = cc
 turned_image c (Some d) h = (d, (refl, h))
 

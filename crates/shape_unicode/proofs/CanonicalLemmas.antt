@@ -1,4 +1,4 @@
--- Marks that move as usual: their two classes determine each other, so that the same swaps may be made.
+-- Marks that move as usual: their two ccc determine each other, so that the same swaps may be made.
 use Rattle.std.proofs.Common.{◌≡◌, ◌≢◌, ℕ, ◌<◌, ◌==◌, ◌&&◌, ◌||◌, not, Bool, true, false, List, Option, Some, None, is_some, unwrap_or, option_map, refl, sym, ap, ◌∙◌, arith, inl, inr, eqb-true, eq-eqb, ne_eqb}
 use Rattle.std.proofs.lemmas.Bool.{cases_Bool, and_parts, and_from, or_cases, cond-true, cond-false}
 use Rattle.std.specs.List.{find, list_all}
@@ -6,19 +6,19 @@ use Rattle.ucd_table.proofs.RangedFacts.{Stepped-at_points}
 use Rattle.ucd_normal.specs.CanonicalCombiningClass.{canonical_combining_class as ccc}
 use Rattle.ucd_normal.proofs.CanonicalCombiningClassLemmas.{canonical_combining_class_stepped}
 use Rattle.canonical_form.specs.Order.{IsSwap, here, behind, Swaps, done, then}
-use Rattle.shape_unicode.specs.Class.{modified_class, class_by_character, class_from, class_of}
+use Rattle.shape_unicode.specs.Ccc.{modified_ccc, ccc_by_character, modified_ccc_from, modified_ccc_of}
 use Rattle.shape_unicode.specs.Tables.{by_trees}
 use Rattle.shape_unicode.specs.SplitLaws.{not_true, true_is_false}
 use Rattle.shape_unicode.specs.Canonical.{moves_otherwise, EquivalenceIsCanonical}
-use Rattle.shape_unicode.specs.declared.class.TheConstants.{MODIFIED_CLASSES}
+use Rattle.shape_unicode.specs.declared.ccc.TheConstants.{MODIFIED_CCC}
 
--- the combining class that a class stands for
+-- the combining class that a ccc stands for
 abbrev original : ℕ → ℕ
-original class = unwrap_or (option_map (λ entry. entry.0) (find (λ entry. entry.1 == class) MODIFIED_CLASSES)) class
+original ccc = unwrap_or (option_map (λ entry. entry.0) (find (λ entry. entry.1 == ccc) MODIFIED_CCC)) ccc
 
--- a character of combining class n has a class that n can be read from, or moves otherwise
+-- a character of combining class n has a ccc that n can be read from, or moves otherwise
 abbrev told_apart : ℕ → ℕ → Bool
-told_apart c n = moves_otherwise c || (not (class_from n c == 0) && original (class_from n c) == n)
+told_apart c n = moves_otherwise c || (not (modified_ccc_from n c == 0) && original (modified_ccc_from n c) == n)
 
 -- computed over the rows of the database
 told_apart_ok : (c : ℕ) → (ccc c == 0) ≡ false → told_apart c (ccc c) ≡ true
@@ -32,41 +32,42 @@ usual c = not (moves_otherwise c)
 nonzero : (n : ℕ) → 0 < n → (n == 0) ≡ false
 nonzero n positive = ne_eqb n 0 (λ e. omega arith)
 
--- only what has a combining class has a class
-has_combining_class : (c : ℕ) → 0 < class_of c → 0 < ccc c
+-- only what has a combining class has a ccc
+has_combining_class : (c : ℕ) → 0 < modified_ccc_of c → 0 < ccc c
 has_combining_class c positive =
     elim (cases_Bool (ccc c == 0)) [
-      | inl h ↦ let none : class_of c ≡ 0 = cond-true (ccc c == 0) 0 _ h in absurd (omega arith)
+      | inl h ↦ let none : modified_ccc_of c ≡ 0 = cond-true (ccc c == 0) 0 _ h in absurd (omega arith)
       | inr h ↦ let some : ccc c ≢ 0 = λ e. true_is_false (sym (eq-eqb (ccc c) 0 e) ∙ h) in omega arith
     ]
 
 module _ (c : ℕ) (as_usual : usual c ≡ true) (positive : 0 < ccc c) where
-  apart : (not (class_of c == 0) && original (class_of c) == ccc c) ≡ true
+  apart : (not (modified_ccc_of c == 0) && original (modified_ccc_of c) == ccc c) ≡ true
   apart = elim (or_cases _ _ (told_apart_ok c (nonzero (ccc c) positive))) [
     | inl moves ↦ true_is_false (sym moves ∙ not_true _ as_usual)
     | inr told ↦ told
   ]
 
-  has_class : 0 < class_of c
-  has_class =
-      let some : class_of c ≢ 0 = λ e. true_is_false (sym (eq-eqb (class_of c) 0 e) ∙ not_true _ (and_parts _ _ apart).0) in
+  has_ccc : 0 < modified_ccc_of c
+  has_ccc =
+      let some : modified_ccc_of c ≢ 0 = λ e. true_is_false (sym (eq-eqb (modified_ccc_of c) 0 e) ∙ not_true _ (and_parts _ _ apart).0) in
       omega arith
 
-  original_of : original (class_of c) ≡ ccc c
+  original_of : original (modified_ccc_of c) ≡ ccc c
   original_of = eqb-true _ _ (and_parts _ _ apart).1
 
-  modified_of : class_of c ≡ modified_class (ccc c)
-  modified_of = cond-false (ccc c == 0) _ _ (nonzero (ccc c) positive) ∙ ap (λ own. unwrap_or own (modified_class (ccc c))) no_own
+  modified_of : modified_ccc_of c ≡ modified_ccc (ccc c)
+  modified_of = cond-false (ccc c == 0) _ _ (nonzero (ccc c) positive) ∙ ap (λ own. unwrap_or own (modified_ccc (ccc c))) no_own
     where
       none : (own : Option ℕ) → is_some own ≡ false → own ≡ None
       none None h = refl
       none (Some n) h = cc
 
-      no_own : class_by_character c ≡ None
+      no_own : ccc_by_character c ≡ None
       no_own = none _ (not_true _ as_usual)
 
--- swaps by one class are swaps by another one that agrees with it
-module _ (first second : ℕ → ℕ) (agree : (x y : ℕ) → usual x ≡ true → usual y ≡ true → 0 < first x → 0 < first y → first x ≢ first y → (0 < second x) × (0 < second y) × (second x ≢ second y)) where
+-- swaps by one ccc are swaps by another one that agrees with it
+module _ (first second : ℕ → ℕ) (agree : (x y : ℕ) → usual x ≡ true → usual y ≡ true → 0 < first x → 0 < first y → first x ≢ first y
+    → (0 < second x) × (0 < second y) × (second x ≢ second y)) where
   swap_agrees : {xs ys : List ℕ} → list_all usual xs ≡ true → IsSwap first xs ys → IsSwap second xs ys × (list_all usual ys ≡ true)
   swap_agrees each (here x y rest of_x of_y distinct) =
       let head = and_parts (usual x) _ each in
@@ -82,18 +83,21 @@ module _ (first second : ℕ → ℕ) (agree : (x y : ℕ) → usual x ≡ true 
   swaps_agree each done = done
   swaps_agree each (then s rest) = let one = swap_agrees each s in then one.0 (swaps_agree one.1 rest)
 
-class_to_ccc : (x y : ℕ) → usual x ≡ true → usual y ≡ true → 0 < class_of x → 0 < class_of y → class_of x ≢ class_of y → (0 < ccc x) × (0 < ccc y) × (ccc x ≢ ccc y)
-class_to_ccc x y usual_x usual_y of_x of_y distinct =
+modified_to_ccc : (x y : ℕ) → usual x ≡ true → usual y ≡ true → 0 < modified_ccc_of x → 0 < modified_ccc_of y
+    → modified_ccc_of x ≢ modified_ccc_of y → (0 < ccc x) × (0 < ccc y) × (ccc x ≢ ccc y)
+modified_to_ccc x y usual_x usual_y of_x of_y distinct =
     let mark_x = has_combining_class x of_x in
     let mark_y = has_combining_class y of_y in
-    (mark_x, mark_y, λ e. distinct (modified_of x usual_x mark_x ∙ ap modified_class e ∙ sym (modified_of y usual_y mark_y)))
+    (mark_x, mark_y, λ e. distinct (modified_of x usual_x mark_x ∙ ap modified_ccc e ∙ sym (modified_of y usual_y mark_y)))
 
-ccc_to_class : (x y : ℕ) → usual x ≡ true → usual y ≡ true → 0 < ccc x → 0 < ccc y → ccc x ≢ ccc y → (0 < class_of x) × (0 < class_of y) × (class_of x ≢ class_of y)
-ccc_to_class x y usual_x usual_y mark_x mark_y distinct = (
-  has_class x usual_x mark_x,
-  has_class y usual_y mark_y,
+ccc_to_modified : (x y : ℕ) → usual x ≡ true → usual y ≡ true → 0 < ccc x → 0 < ccc y → ccc x ≢ ccc y
+    → (0 < modified_ccc_of x) × (0 < modified_ccc_of y) × (modified_ccc_of x ≢ modified_ccc_of y)
+ccc_to_modified x y usual_x usual_y mark_x mark_y distinct = (
+  has_ccc x usual_x mark_x,
+  has_ccc y usual_y mark_y,
   λ e. distinct (sym (original_of x usual_x mark_x) ∙ ap original e ∙ original_of y usual_y mark_y),
 )
 
 pub equivalence_is_canonical : EquivalenceIsCanonical
-equivalence_is_canonical s t marks = (swaps_agree class_of ccc class_to_ccc marks, swaps_agree ccc class_of ccc_to_class marks)
+equivalence_is_canonical s t marks =
+    (swaps_agree modified_ccc_of ccc modified_to_ccc marks, swaps_agree ccc modified_ccc_of ccc_to_modified marks)

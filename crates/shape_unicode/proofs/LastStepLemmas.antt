@@ -16,12 +16,12 @@ same_parts None None = true
 same_parts (Some p) (Some q) = p.0 == q.0 && p.1 == q.1
 same_parts _ _ = false
 
-abbrev join_by : Tables → ℕ → ℕ → Option ℕ
-join_by t a b = paired_with b (t.pairs a)
+abbrev compose_by : Tables → ℕ → ℕ → Option ℕ
+compose_by t a b = paired_with b (t.pairs a)
 
 -- the step that is found for c is its mapping
 abbrev found_ok : Tables → ℕ → Entry → Bool
-found_ok t c entry = same_parts (split_by (join_by t) c (expand (mapping t) 3 c)) (parts_of (if_canonical entry))
+found_ok t c entry = same_parts (split_by (compose_by t) c (expand (mapping t) 3 c)) (parts_of (if_canonical entry))
 
 found_by_rows : (c : ℕ) → is_empty (if_canonical (decomposition c)) ≡ false → found_ok by_rows c (decomposition c) ≡ true
 unfolding by_trees
@@ -50,6 +50,6 @@ split_by-split c =
           let nil = nil_of_empty (canonical_mapping c) none in
           ap (split_by composite c) (canonical_decomposition-nil c nil) ∙ ap parts_of (sym nil)
       | inr some ↦
-          ap (λ join. split_by join c (canonical_decomposition c)) (λ i a b. composite-paired_with a b i)
+          ap (λ compose. split_by compose c (canonical_decomposition c)) (λ i a b. composite-paired_with a b i)
           ∙ same_parts-true _ _ (found_by_rows c some)
     ]

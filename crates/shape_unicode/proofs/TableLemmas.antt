@@ -98,7 +98,8 @@ mapped_ok : list_all (mapped by_rows) VERTICAL_FORMS ≡ true
 unfolding by_trees
 mapped_ok = ap (λ t. list_all (mapped t) VERTICAL_FORMS) same_tables
 
-entry_of : (d : ℕ) (xs : List ℕ) → is_vertical (decomposition d).0 ≡ true → same_list (decomposition d).1 xs ≡ true → decomposition d ≡ (vertical, xs)
+entry_of : (d : ℕ) (xs : List ℕ) → is_vertical (decomposition d).0 ≡ true → same_list (decomposition d).1 xs ≡ true
+    → decomposition d ≡ (vertical, xs)
 entry_of d xs tag same = ap₂ (λ t ys. (t, ys)) (is_vertical-true _ tag) (same_list-true _ _ same)
 
 pub verticals_are_mapped : VerticalsAreMapped
@@ -108,8 +109,11 @@ verticals_are_mapped c d found =
     let key : at.entry.0 ≡ c = eqb-true _ _ at.is_key in
     let tag : is_vertical (decomposition d).0 ≡ true = subst (λ x. is_vertical (decomposition x).0 ≡ true) at.into both.0 in
     elim (or_cases _ _ both.1) [
-      | inl itself ↦ inl (entry_of d (c ∷ []) tag (subst (λ x. same_list (decomposition x).1 (c ∷ []) ≡ true) at.into (subst (λ x. same_list (decomposition at.entry.1).1 (x ∷ []) ≡ true) key itself)))
-      | inr through ↦ inr (entry_of d (any_mapping c) tag (subst (λ x. same_list (decomposition x).1 (any_mapping c) ≡ true) at.into (subst (λ x. same_list (decomposition at.entry.1).1 (any_mapping x) ≡ true) key through)))
+      | inl itself ↦ inl (entry_of d (c
+          ∷ []) tag (subst (λ x. same_list (decomposition x).1 (c ∷ []) ≡ true) at.into
+          (subst (λ x. same_list (decomposition at.entry.1).1 (x ∷ []) ≡ true) key itself)))
+      | inr through ↦ inr (entry_of d (any_mapping c) tag (subst (λ x. same_list (decomposition x).1 (any_mapping c) ≡ true) at.into
+          (subst (λ x. same_list (decomposition at.entry.1).1 (any_mapping x) ≡ true) key through)))
     ]
 
 abbrev is_single : List ℕ → Bool
@@ -145,7 +149,9 @@ separators_ok = ap (λ t. list_all (λ entry. is_space_category (category_from (
 
 widths_ok : (c : ℕ) → not (is_space_category (category_of c)) ≡ false → (c == 0x1680 || not (space_of c == 0)) ≡ true
 unfolding by_trees
-widths_ok = Stepped-at_points general_category general_category_stepped (λ k. not (is_space_category (category_from k))) (λ c k. c == 0x1680 || not (space_of c == 0)) refl
+widths_ok =
+    Stepped-at_points general_category general_category_stepped (λ k. not (is_space_category (category_from k)))
+    (λ c k. c == 0x1680 || not (space_of c == 0)) refl
 
 in_table : (c : ℕ) → space_of c ≢ 0 → is_space_category (category_of c) ≡ true
 in_table c some =

@@ -15,7 +15,8 @@ use Rattle.shape_unicode.specs.declared.mirror_pairs.TheConstants.{MIRROR_PAIRS}
 use Rattle.shape_unicode.specs.declared.vertical.TheConstants.{VERTICAL_FORMS}
 
 -- what is found passes each test that the whole list passes
-pub found_passes : {X : Type 0} (p test : X → Bool) (xs : List X) (x : X) → list_all test xs ≡ true → find p xs ≡ Some x → (p x ≡ true) × (test x ≡ true)
+pub found_passes : {X : Type 0} (p test : X → Bool) (xs : List X) (x : X) → list_all test xs ≡ true → find p xs ≡ Some x
+    → (p x ≡ true) × (test x ≡ true)
 found_passes p test [] x all found = cc
 found_passes p test (y ∷ ys) x all found =
     let both = and_parts (test y) (list_all test ys) all in
@@ -33,7 +34,8 @@ pub record IsFound {X : Type 0} (key test : X → Bool) (form : X → ℕ) (d : 
   pub passes : test entry ≡ true
   pub into : form entry ≡ d
 
-pub look_up : {X : Type 0} (key test : X → Bool) (xs : List X) (form : X → ℕ) (d : ℕ) → list_all test xs ≡ true → option_map form (find key xs) ≡ Some d → IsFound key test form d
+pub look_up : {X : Type 0} (key test : X → Bool) (xs : List X) (form : X → ℕ) (d : ℕ) → list_all test xs ≡ true
+    → option_map form (find key xs) ≡ Some d → IsFound key test form d
 look_up {X} key test xs form d all found =
     let P : Option X → Type 0 = λ v. find key xs ≡ v → option_map form v ≡ Some d → IsFound key test form d in
     let cases : P (find key xs) = elim (find key xs) as P [
@@ -94,7 +96,8 @@ pub mirrored_cases : (c d : ℕ) → mirrored_of c ≡ Some d → (is_bidi_mirro
 mirrored_cases c d found =
     elim (cases_Bool (is_bidi_mirrored c)) [
       | inl has ↦ (has, sym (cond-true (is_bidi_mirrored c) (other_of_pair c) None has) ∙ found)
-      | inr lacks ↦ let none : ◌≡◌ {A = Option ℕ} None (Some d) = sym (cond-false (is_bidi_mirrored c) (other_of_pair c) None lacks) ∙ found in cc
+      | inr lacks ↦ let none : ◌≡◌ {A = Option ℕ} None (Some d) = sym (cond-false (is_bidi_mirrored c) (other_of_pair c) None lacks)
+          ∙ found in cc
     ]
 
 pub mirrors_are_plain : MirrorsPass → FormsArePlain unicode_database mirrored_of

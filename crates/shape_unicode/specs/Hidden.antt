@@ -5,7 +5,8 @@ use Rattle.ucd_props.specs.Binary.{is_variation_selector}
 
 -- the fillers of Hangul, U+180F and the shorthand format controls, which are shown
 abbrev pub is_seen_though_ignorable : ℕ → Bool
-is_seen_though_ignorable c = c == 0x115F || c == 0x1160 || c == 0x180F || c == 0x3164 || c == 0xFFA0 || (nat_le 0x1BCA0 c && nat_le c 0x1BCA3)
+is_seen_though_ignorable c =
+    c == 0x115F || c == 0x1160 || c == 0x180F || c == 0x3164 || c == 0xFFA0 || (nat_le 0x1BCA0 c && nat_le c 0x1BCA3)
 
 -- Default_Ignorable_Code_Point, without those that are shown
 abbrev pub is_ignorable : ℕ → Bool

@@ -1,29 +1,29 @@
 -- The laws of the functions of Unicode, proved of all characters from what is computed over the short tables.
 use Rattle.shape_buffer.specs.Unicode.{LawfulUnicode}
 use Rattle.canonical_form.specs.SplitsFall.{SplitsFall}
-use Rattle.shape_unicode.specs.Class.{class_of}
+use Rattle.shape_unicode.specs.Ccc.{modified_ccc_of}
 use Rattle.shape_unicode.specs.Split.{split_of, height_of}
 use Rattle.shape_unicode.specs.Meaning.{unicode_database}
-use Rattle.shape_unicode.specs.TableFacts.{ClassesPass, MirrorsPass, VerticalsPass, ascii_ok}
+use Rattle.shape_unicode.specs.TableFacts.{CccPass, MirrorsPass, VerticalsPass, ascii_ok}
 use Rattle.shape_unicode.specs.SplitLaws.{not_true, split_of-falls, second_is_whole}
-use Rattle.shape_unicode.specs.ClassLaws.{marks_have_classes, class_of_parts}
-use Rattle.shape_unicode.specs.JoinLaws.{composes_soundly}
+use Rattle.shape_unicode.specs.CccLaws.{marks_have_ccc, ccc_of_parts}
+use Rattle.shape_unicode.specs.ComposeLaws.{composes_soundly}
 use Rattle.shape_unicode.specs.FormLaws.{mirrors_are_plain, verticals_are_plain}
 
-pub splits_fall : ClassesPass → SplitsFall split_of height_of class_of
+pub splits_fall : CccPass → SplitsFall split_of height_of modified_ccc_of
 splits_fall pass = record {
   height_falls = record { falls = split_of-falls };
   second_is_last = second_is_whole;
-  first_class = λ c a b nonzero splits. (class_of_parts pass c a b nonzero splits).0;
-  second_class = λ c a b nonzero splits. (class_of_parts pass c a b nonzero splits).1;
+  first_ccc = λ c a b nonzero splits. (ccc_of_parts pass c a b nonzero splits).0;
+  second_ccc = λ c a b nonzero splits. (ccc_of_parts pass c a b nonzero splits).1;
 }
 
-pub unicode_database-lawful : ClassesPass → MirrorsPass → VerticalsPass → LawfulUnicode unicode_database
-unicode_database-lawful classes mirrors verticals = record {
-  marks_have_classes = marks_have_classes classes;
+pub unicode_database-lawful : CccPass → MirrorsPass → VerticalsPass → LawfulUnicode unicode_database
+unicode_database-lawful cccs mirrors verticals = record {
+  marks_have_ccc = marks_have_ccc cccs;
   ascii_is_no_mark = λ c ascii. not_true _ (ascii_ok c ascii);
   mirrors_are_plain = mirrors_are_plain mirrors;
   verticals_are_plain = verticals_are_plain verticals;
-  splits_fall = splits_fall classes;
+  splits_fall = splits_fall cccs;
   composes_soundly = composes_soundly;
 }

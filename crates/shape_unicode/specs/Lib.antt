@@ -1,5 +1,5 @@
 pub mod Category
-pub mod Class
+pub mod Ccc
 pub mod Split
 pub mod LastStep
 pub mod Mirror
@@ -12,8 +12,8 @@ pub mod Meaning
 pub mod Tables
 pub mod TableFacts
 pub mod SplitLaws
-pub mod ClassLaws
-pub mod JoinLaws
+pub mod CccLaws
+pub mod ComposeLaws
 pub mod FormLaws
 pub mod Laws
 pub mod Canonical

@@ -1,11 +1,11 @@
 -- The order that shaping puts marks in, where it is not that of combining classes: by the marks themselves.
 use Rattle.std.specs.Prelude.{◌≡◌, ◌≢◌, ◌<◌, ℕ, nat_lt, ◌&&◌, Bool, true, List, [], ◌∷◌}
-use Rattle.shape_unicode.specs.Class.{class_of}
+use Rattle.shape_unicode.specs.Ccc.{modified_ccc_of}
 
--- the class of each is above n and the class of the one before it
+-- the ccc of each is above n and the ccc of the one before it
 abbrev pub rises_above : (ℕ → ℕ) → ℕ → List ℕ → Bool
-rises_above class n [] = true
-rises_above class n (c ∷ rest) = nat_lt n (class c) && rises_above class (class c) rest
+rises_above ccc n [] = true
+rises_above ccc n (c ∷ rest) = nat_lt n (ccc c) && rises_above ccc (ccc c) rest
 
 -- the dots of shin and sin, dagesh, rafe, holam; hataf segol, patah and qamats, tsere, segol, patah, qamats, sheva, hiriq, qubuts; meteg
 abbrev pub hebrew_marks : List ℕ
@@ -29,11 +29,11 @@ thai_marks = 0xE38 ∷ 0xE3A ∷ []
 abbrev pub tibetan_marks : List ℕ
 tibetan_marks = 0xF39 ∷ 0xF71 ∷ 0xF74 ∷ 0xF72 ∷ []
 
--- the marks of each script have classes, in that order; U+0FC6 and U+1A60 come behind every other mark
+-- the marks of each script have ccc, in that order; U+0FC6 and U+1A60 come behind every other mark
 pub record MarksAreInOrder : Type 0 where
-  pub hebrew : rises_above class_of 0 hebrew_marks ≡ true
-  pub arabic : rises_above class_of 0 arabic_marks ≡ true
-  pub telugu : rises_above class_of 0 telugu_marks ≡ true
-  pub thai : rises_above class_of 0 thai_marks ≡ true
-  pub tibetan : rises_above class_of 0 tibetan_marks ≡ true
-  pub last : (c : ℕ) → c ≢ 0xFC6 → c ≢ 0x1A60 → (class_of c < class_of 0xFC6) × (class_of c < class_of 0x1A60)
+  pub hebrew : rises_above modified_ccc_of 0 hebrew_marks ≡ true
+  pub arabic : rises_above modified_ccc_of 0 arabic_marks ≡ true
+  pub telugu : rises_above modified_ccc_of 0 telugu_marks ≡ true
+  pub thai : rises_above modified_ccc_of 0 thai_marks ≡ true
+  pub tibetan : rises_above modified_ccc_of 0 tibetan_marks ≡ true
+  pub last : (c : ℕ) → c ≢ 0xFC6 → c ≢ 0x1A60 → (modified_ccc_of c < modified_ccc_of 0xFC6) × (modified_ccc_of c < modified_ccc_of 0x1A60)

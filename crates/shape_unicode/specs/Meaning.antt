@@ -4,7 +4,7 @@ use Rattle.ucd_script.specs.Script.{script}
 use Rattle.unicode_normalization.specs.Compose.{primary_composite}
 use Rattle.shape_buffer.specs.Unicode.{UnicodeMeaning}
 use Rattle.shape_unicode.specs.Category.{category_of}
-use Rattle.shape_unicode.specs.Class.{class_of}
+use Rattle.shape_unicode.specs.Ccc.{modified_ccc_of}
 use Rattle.shape_unicode.specs.Split.{split_of, height_of}
 use Rattle.shape_unicode.specs.Mirror.{mirrored_of}
 use Rattle.shape_unicode.specs.Vertical.{vertical_of}
@@ -18,10 +18,10 @@ abbrev pub unicode_database : UnicodeMeaning
 unicode_database =
     record {
       category = category_of;
-      class = class_of;
+      ccc = modified_ccc_of;
       split = split_of;
       height = height_of;
-      join = primary_composite;
+      compose = primary_composite;
       mirrored = mirrored_of;
       vertical = vertical_of;
       space_fallback = space_of;

@@ -17,7 +17,8 @@ pub record MirrorsAreMutual : Type 0 where
 
 -- the mapping of a vertical form has the tag `vertical`, and names c or what c itself is mapped to
 abbrev pub VerticalsAreMapped : Type 0
-VerticalsAreMapped = (c d : ℕ) → vertical_of c ≡ Some d → (decomposition d ≡ (vertical, c ∷ [])) ⊎ (decomposition d ≡ (vertical, any_mapping c))
+VerticalsAreMapped =
+    (c d : ℕ) → vertical_of c ≡ Some d → (decomposition d ≡ (vertical, c ∷ [])) ⊎ (decomposition d ≡ (vertical, any_mapping c))
 
 -- what has a mapping with that tag to one character is a vertical form
 abbrev pub VerticalsAreAll : Type 0

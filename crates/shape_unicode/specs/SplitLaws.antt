@@ -22,7 +22,8 @@ nil_of_empty [] h = refl
 nil_of_empty (x ∷ xs) h = cc
 
 -- a split is that of a syllable, or one of the database
-pub split_cases : (c a b : ℕ) → split_of c ≡ Some (a, b) → ((is_syllable c ≡ true) × (split_syllable c ≡ (a, b))) ⊎ ((is_syllable c ≡ false) × (parts_of (canonical_mapping c) ≡ Some (a, b)))
+pub split_cases : (c a b : ℕ) → split_of c ≡ Some (a, b)
+    → ((is_syllable c ≡ true) × (split_syllable c ≡ (a, b))) ⊎ ((is_syllable c ≡ false) × (parts_of (canonical_mapping c) ≡ Some (a, b)))
 split_cases c a b splits =
     elim (cases_Bool (is_syllable c)) [
       | inl h ↦ let e : Some (split_syllable c) ≡ Some (a, b) = sym (cond-true (is_syllable c) _ _ h) ∙ splits in inl (h, cc)
@@ -33,7 +34,8 @@ split_cases c a b splits =
 pub has_mapping : (c a b : ℕ) → parts_of (canonical_mapping c) ≡ Some (a, b) → is_empty (canonical_mapping c) ≡ false
 has_mapping c a b splits =
     elim (cases_Bool (is_empty (canonical_mapping c))) [
-      | inl h ↦ let none : ◌≡◌ {A = Option (ℕ × ℕ)} None (Some (a, b)) = ap parts_of (sym (nil_of_empty (canonical_mapping c) h)) ∙ splits in cc
+      | inl h ↦ let none : ◌≡◌ {A = Option (ℕ × ℕ)} None (Some (a, b)) = ap parts_of (sym (nil_of_empty (canonical_mapping c) h))
+          ∙ splits in cc
       | inr h ↦ h
     ]
 
@@ -61,7 +63,8 @@ by_database c a b splits =
 whole : (c : ℕ) → canonical_mapping c ≡ [] → is_syllable c ≡ false → (split_of c ≡ None) × (height_of c ≡ 0)
 whole c none apart = (
   cond-false (is_syllable c) _ _ apart ∙ ap parts_of none,
-  cond-false (is_syllable c) _ _ apart ∙ ap (λ xs. option_map_or (λ parts. suc (depth_within canonical_mapping 3 parts.0)) (parts_of xs) 0) none,
+  cond-false (is_syllable c) _ _ apart
+      ∙ ap (λ xs. option_map_or (λ parts. suc (depth_within canonical_mapping 3 parts.0)) (parts_of xs) 0) none,
 )
 
 jamo_unmapped : (c : ℕ) → 0x1100 ≤ c → c < 0x1200 → is_empty (canonical_mapping c) ≢ false
@@ -84,7 +87,8 @@ record IsSyllableSplit (c a b : ℕ) : Type 0 where
 by_syllable-lv : (c a b : ℕ) → is_syllable c ≡ true → ((c - 0xAC00) % 28 == 0) ≡ true → split_syllable c ≡ (a, b) → IsSyllableSplit c a b
 by_syllable-lv c a b syllable h splits =
     let range : (0xAC00 ≤ c) × (c < 0xD7A4) = is_syllable-true c syllable in
-    let pair : ◌≡◌ {A = ℕ × ℕ} (0x1100 + (c - 0xAC00) / 588, 0x1161 + (c - 0xAC00) % 588 / 28) (a, b) = sym (cond-true {A = ℕ × ℕ} ((c - 0xAC00) % 28 == 0) _ _ h) ∙ splits in
+    let pair : ◌≡◌ {A = ℕ × ℕ} (0x1100 + (c - 0xAC00) / 588, 0x1161 + (c - 0xAC00) % 588 / 28) (a, b) = sym
+    (cond-true {A = ℕ × ℕ} ((c - 0xAC00) % 28 == 0) _ _ h) ∙ splits in
     let first : 0x1100 + (c - 0xAC00) / 588 ≡ a = ap (λ (x : ℕ × ℕ). x.0) pair in
     let second : 0x1161 + (c - 0xAC00) % 588 / 28 ≡ b = ap (λ (x : ℕ × ℕ). x.1) pair in
     let low : height_of a ≡ 0 = (jamo_whole a (omega arith) (omega arith)).1 in
@@ -95,7 +99,8 @@ by_syllable-lv c a b syllable h splits =
 by_syllable-lvt : (c a b : ℕ) → is_syllable c ≡ true → ((c - 0xAC00) % 28 == 0) ≡ false → split_syllable c ≡ (a, b) → IsSyllableSplit c a b
 by_syllable-lvt c a b syllable h splits =
     let range : (0xAC00 ≤ c) × (c < 0xD7A4) = is_syllable-true c syllable in
-    let pair : ◌≡◌ {A = ℕ × ℕ} (c - (c - 0xAC00) % 28, 0x11A7 + (c - 0xAC00) % 28) (a, b) = sym (cond-false {A = ℕ × ℕ} ((c - 0xAC00) % 28 == 0) _ _ h) ∙ splits in
+    let pair : ◌≡◌ {A = ℕ × ℕ} (c - (c - 0xAC00) % 28, 0x11A7 + (c - 0xAC00) % 28) (a, b) = sym
+    (cond-false {A = ℕ × ℕ} ((c - 0xAC00) % 28 == 0) _ _ h) ∙ splits in
     let first : c - (c - 0xAC00) % 28 ≡ a = ap (λ (x : ℕ × ℕ). x.0) pair in
     let second : 0x11A7 + (c - 0xAC00) % 28 ≡ b = ap (λ (x : ℕ × ℕ). x.1) pair in
     let open_end : (a - 0xAC00) % 28 ≡ 0 = omega arith in

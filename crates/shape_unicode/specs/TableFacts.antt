@@ -16,7 +16,7 @@ use Rattle.ucd_normal.proofs.DecompositionLemmas.{decomposition_stepped}
 use Rattle.unicode_normalization.specs.Hangul.{is_among, is_syllable}
 use Rattle.shape_buffer.specs.Category.{is_mark_category, is_space_category}
 use Rattle.shape_unicode.specs.Category.{category_from}
-use Rattle.shape_unicode.specs.Class.{class_from}
+use Rattle.shape_unicode.specs.Ccc.{modified_ccc_from}
 use Rattle.shape_unicode.specs.Split.{parts_of, depth_within}
 use Rattle.shape_unicode.specs.Tables.{Entry, Tables, by_rows, by_trees, same_tables, mapping}
 use Rattle.shape_unicode.specs.declared.mirror_pairs.TheConstants.{MIRROR_PAIRS}
@@ -27,26 +27,26 @@ is_mark_by t c = is_mark_category (category_from (t.category c))
 
 -- ---- characters with a combining class
 
--- the parts of a split have the class n, U+0000 aside
+-- the parts of a split have the ccc n, U+0000 aside
 abbrev pub parts_keep : (ℕ → ℕ) → ℕ → Option (ℕ × ℕ) → Bool
-parts_keep class n None = true
-parts_keep class n (Some parts) = class parts.0 == n && (parts.1 == 0 || class parts.1 == n)
+parts_keep ccc n None = true
+parts_keep ccc n (Some parts) = ccc parts.0 == n && (parts.1 == 0 || ccc parts.1 == n)
 
--- c, whose combining class is n, is a mark and no syllable, and its parts have its class
-abbrev pub class_ok : Tables → ℕ → ℕ → Bool
-class_ok t c n =
+-- c, whose combining class is n, is a mark and no syllable, and its parts have its ccc
+abbrev pub ccc_ok : Tables → ℕ → ℕ → Bool
+ccc_ok t c n =
     (is_mark_by t c && not (is_syllable c))
-    && parts_keep (λ x. class_from (t.class x) x) (class_from n c) (parts_of (mapping t c))
+    && parts_keep (λ x. modified_ccc_from (t.ccc x) x) (modified_ccc_from n c) (parts_of (mapping t c))
 
 -- so it is with each character that has a combining class
-abbrev pub ClassesPass : Type 0
-ClassesPass = (c : ℕ) → (ccc c == 0) ≡ false → class_ok by_rows c (ccc c) ≡ true
+abbrev pub CccPass : Type 0
+CccPass = (c : ℕ) → (ccc c == 0) ≡ false → ccc_ok by_rows c (ccc c) ≡ true
 
-pub classes_ok : ClassesPass
+pub cccs_ok : CccPass
 unfolding by_trees
-classes_ok c nonzero =
-    ap (λ t. class_ok t c (ccc c)) same_tables
-    ∙ Stepped-at_points ccc canonical_combining_class_stepped (λ n. n == 0) (class_ok by_trees) refl c nonzero
+cccs_ok c nonzero =
+    ap (λ t. ccc_ok t c (ccc c)) same_tables
+    ∙ Stepped-at_points ccc canonical_combining_class_stepped (λ n. n == 0) (ccc_ok by_trees) refl c nonzero
 
 -- ---- characters with a canonical mapping
 

@@ -22,14 +22,14 @@ Entry = Tag × List ℕ
 
 -- the properties that the tests ask for
 pub record Tables : Type 0 where
-  pub class : ℕ → ℕ
+  pub ccc : ℕ → ℕ
   pub entry : ℕ → Entry
   pub category : ℕ → GeneralCategory
   pub pairs : ℕ → List ℕ
 
 -- as the database has them
 abbrev pub by_rows : Tables
-by_rows = record { class = ccc; entry = decomposition; category = general_category; pairs = compositions }
+by_rows = record { ccc = ccc; entry = decomposition; category = general_category; pairs = compositions }
 
 abbrev by_tree : {V : Type 0} (f : ℕ → V) → Stepped f → ℕ → V
 by_tree f s = tree_value s.default (tree_of f s)
@@ -39,7 +39,7 @@ unfoldable pub by_trees : Tables
 unfolding tables points_ok values_ok paired_with expand canonical_combining_class_stepped decomposition_stepped general_category_stepped compositions_stepped
 by_trees =
     record {
-      class = by_tree ccc canonical_combining_class_stepped;
+      ccc = by_tree ccc canonical_combining_class_stepped;
       entry = by_tree decomposition decomposition_stepped;
       category = by_tree general_category general_category_stepped;
       pairs = by_tree compositions compositions_stepped;
@@ -49,7 +49,7 @@ pub same_tables : by_rows ≡ by_trees
 unfolding by_trees
 same_tables =
     λ i. record {
-      class = tree_value-tree_of ccc canonical_combining_class_stepped i;
+      ccc = tree_value-tree_of ccc canonical_combining_class_stepped i;
       entry = tree_value-tree_of decomposition decomposition_stepped i;
       category = tree_value-tree_of general_category general_category_stepped i;
       pairs = tree_value-tree_of compositions compositions_stepped i;

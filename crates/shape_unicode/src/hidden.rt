@@ -1,6 +1,7 @@
 //! Characters that are unseen, and those that pick a variant of the one before them.
 ghost use Rattle.std.specs.Prelude.{◌≡◌};
-ghost use Rattle.shape_unicode.specs.Hidden.{is_seen_though_ignorable, is_ignorable, is_mongolian, is_selector};
+ghost use Rattle.shape_unicode.specs.Hidden.{is_seen_though_ignorable, is_ignorable, is_mongolian};
+ghost use Rattle.shape_unicode.specs.Hidden.{is_selector};
 
 /// Whether `c` is shown though the database has it as ignorable (HarfBuzz, `hb-unicode.hh`): the four
 /// fillers of Hangul take the place of a jamo, U+180F is left to the shaper of Mongolian, and the

@@ -6,16 +6,17 @@
 ghost use Rattle.shape_unicode.specs.Brackets.{BracketsTurn};
 ghost use Rattle.shape_unicode.specs.Canonical.{EquivalenceIsCanonical};
 ghost use Rattle.shape_unicode.specs.MarkOrder.{MarksAreInOrder};
-ghost use Rattle.shape_unicode.specs.OfDatabase.{MirrorsAreMutual, VerticalsAreMapped, VerticalsAreAll, SpacesAreSeparators};
+ghost use Rattle.shape_unicode.specs.OfDatabase.{MirrorsAreMutual, VerticalsAreMapped};
+ghost use Rattle.shape_unicode.specs.OfDatabase.{VerticalsAreAll, SpacesAreSeparators};
 
-/// Equivalence by shaping's classes is canonical equivalence (The Unicode Standard, D70; UAX 15) for texts
-/// that have none of three marks once they are decomposed: U+0F39, U+0FC6 and U+1A60, which have a class
+/// Equivalence by shaping's ccc is canonical equivalence (The Unicode Standard, D70; UAX 15) for texts
+/// that have none of three marks once they are decomposed: U+0F39, U+0FC6 and U+1A60, which have a ccc
 /// of their own.
 pub fn equivalence_is_canonical()
     ensures { EquivalenceIsCanonical }
 {}
 
-/// Marks of Hebrew, Arabic, Telugu, Thai and Tibetan have classes in the order that fonts of these scripts
+/// Marks of Hebrew, Arabic, Telugu, Thai and Tibetan have ccc in the order that fonts of these scripts
 /// expect (HarfBuzz, `hb-unicode.hh`), said by the marks; U+0FC6 and U+1A60 come behind every other mark.
 pub fn marks_are_in_order()
     ensures { MarksAreInOrder }

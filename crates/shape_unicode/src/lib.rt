@@ -12,7 +12,7 @@
 #![allow(non_camel_case_types)]
 
 mod category;
-mod class;
+mod ccc;
 mod hangul;
 mod hidden;
 pub mod laws;

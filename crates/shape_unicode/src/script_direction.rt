@@ -1,6 +1,7 @@
 //! The directions that scripts are written in.
 ghost use Rattle.std.specs.Prelude.{◌≡◌};
-ghost use Rattle.shape_unicode.specs.ScriptDirection.{is_right_to_left, is_either_way, direction_of};
+ghost use Rattle.shape_unicode.specs.ScriptDirection.{is_right_to_left, is_either_way};
+ghost use Rattle.shape_unicode.specs.ScriptDirection.{direction_of};
 
 use shape_buffer::buffer::{Direction, Script, hb_tag_t};
 

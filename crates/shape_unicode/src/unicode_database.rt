@@ -3,7 +3,7 @@ ghost use Rattle.std.specs.Prelude.{◌≡◌};
 ghost use Rattle.shape_unicode.specs.Meaning.{unicode_database};
 
 use crate::category::category_from;
-use crate::class::class_from;
+use crate::ccc::modified_ccc_from;
 use crate::hidden::{is_ignorable, is_selector};
 use crate::mirror::mirrored_of;
 use crate::script::script_from;
@@ -22,20 +22,20 @@ pub struct UnicodeDatabase;
 
 impl hb_unicode_funcs_t for UnicodeDatabase {
     ghost use Rattle.shape_unicode.specs.Laws.{unicode_database-lawful};
-    ghost use Rattle.shape_unicode.specs.TableFacts.{classes_ok, mirrors_ok, verticals_ok};
+    ghost use Rattle.shape_unicode.specs.TableFacts.{cccs_ok, mirrors_ok, verticals_ok};
 
     ghost unicode = { unicode_database };
 
-    ghost lawful = { unicode_database-lawful classes_ok mirrors_ok verticals_ok };
+    ghost lawful = { unicode_database-lawful cccs_ok mirrors_ok verticals_ok };
 
     /// General_Category.
     fn general_category(c: char) -> hb_unicode_general_category_t {
         category_from(GeneralCategory::for_char(c))
     }
 
-    /// Canonical_Combining_Class, some classes changed.
+    /// Canonical_Combining_Class, some ccc changed.
     fn modified_combining_class(c: char) -> u8 {
-        class_from(ucd_normal::canonical_combining_class(c), c)
+        modified_ccc_from(ucd_normal::canonical_combining_class(c), c)
     }
 
     /// Decomposition_Mapping without a tag, and Hangul syllables by arithmetic.

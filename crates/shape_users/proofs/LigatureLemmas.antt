@@ -25,7 +25,9 @@ taken_out-draws : (xs : List Item) (i : ℕ) → DrawsInOrder (clusters xs) (clu
 taken_out-draws [] zero = DrawsInOrder-same []
 taken_out-draws [] (suc i) = DrawsInOrder-same []
 taken_out-draws (x ∷ xs) zero = DrawsInOrder-behind x.cluster (clusters xs) (clusters xs) (DrawsInOrder-same (clusters xs))
-taken_out-draws (x ∷ xs) (suc i) = DrawsInOrder-again x.cluster (clusters xs) (clusters (remove xs i)) (DrawsInOrder-behind x.cluster (clusters xs) (clusters (remove xs i)) (taken_out-draws xs i))
+taken_out-draws (x ∷ xs) (suc i) =
+    DrawsInOrder-again x.cluster (clusters xs) (clusters (remove xs i))
+    (DrawsInOrder-behind x.cluster (clusters xs) (clusters (remove xs i)) (taken_out-draws xs i))
 
 or_left : (a b c : Bool) → (b ≡ true → c ≡ true) → (a || b) ≡ true → (a || c) ≡ true
 or_left true b c more some = refl
@@ -39,19 +41,24 @@ taken_out-some : (flag : ℕ) (xs : List Item) (i : ℕ) → some_has flag (remo
 taken_out-some flag [] zero some = some
 taken_out-some flag [] (suc i) some = some
 taken_out-some flag (x ∷ xs) zero some = or_right (has_flag flag x) (some_has flag xs) some
-taken_out-some flag (x ∷ xs) (suc i) some = or_left (has_flag flag x) (some_has flag (remove xs i)) (some_has flag xs) (taken_out-some flag xs i) some
+taken_out-some flag (x ∷ xs) (suc i) some =
+    or_left (has_flag flag x) (some_has flag (remove xs i)) (some_has flag xs) (taken_out-some flag xs i) some
 
 -- ---- masks that stay
 
-some_has-masks : (flag : ℕ) (xs ys : List Item) → map (λ (x : Item). x.mask) ys ≡ map (λ (x : Item). x.mask) xs → some_has flag ys ≡ true → some_has flag xs ≡ true
-some_has-masks flag xs ys same some = sym (by_masks xs) ∙ ap (λ (ms : List ℕ). list_any (λ m. nat_lt 0 (bit_and m flag)) ms) (sym same) ∙ by_masks ys ∙ some
+some_has-masks : (flag : ℕ) (xs ys : List Item) → map (λ (x : Item). x.mask) ys ≡ map (λ (x : Item). x.mask) xs → some_has flag ys ≡ true
+    → some_has flag xs ≡ true
+some_has-masks flag xs ys same some =
+    sym (by_masks xs) ∙ ap (λ (ms : List ℕ). list_any (λ m. nat_lt 0 (bit_and m flag)) ms) (sym same) ∙ by_masks ys ∙ some
   where
     by_masks : (zs : List Item) → list_any (λ m. nat_lt 0 (bit_and m flag)) (map (λ (x : Item). x.mask) zs) ≡ some_has flag zs
     by_masks [] = refl
     by_masks (z ∷ zs) = ap (λ (b : Bool). nat_lt 0 (bit_and z.mask flag) || b) (by_masks zs)
 
-masks-kept : (b : Buffer) (ys : List Item) → map (λ (x : Item). x.mask) ys ≡ map (λ (x : Item). x.mask) b.items → KeepsFlags b (record b { items = ys })
-masks-kept b ys same = record { flags = refl; stays_set = λ e. e; none_new = λ flag is some. inl (some_has-masks flag b.items ys same some) }
+masks-kept : (b : Buffer) (ys : List Item) → map (λ (x : Item). x.mask) ys ≡ map (λ (x : Item). x.mask) b.items
+    → KeepsFlags b (record b { items = ys })
+masks-kept b ys same =
+    record { flags = refl; stays_set = λ e. e; none_new = λ flag is some. inl (some_has-masks flag b.items ys same some) }
 
 -- ---- single glyphs
 
@@ -63,10 +70,12 @@ single-cluster x = elim (x.glyph_id == 1) as (λ t. (if t then with_glyph 11 x e
 
 masks-singled : (xs : List Item) → map (λ (x : Item). x.mask) (map single xs) ≡ map (λ (x : Item). x.mask) xs
 masks-singled [] = refl
-masks-singled (x ∷ xs) = ap (λ m. m ∷ map (λ (x : Item). x.mask) (map single xs)) (single-mask x) ∙ ap (λ ms. x.mask ∷ ms) (masks-singled xs)
+masks-singled (x ∷ xs) =
+    ap (λ m. m ∷ map (λ (x : Item). x.mask) (map single xs)) (single-mask x) ∙ ap (λ ms. x.mask ∷ ms) (masks-singled xs)
 
 singled-order : IsClusterKeeper singled
-singled-order b monotone = record { clusters = KeepsClusters-equal _ _ (clusters-map single single-cluster b.items); direction = refl; flags = refl; level = refl }
+singled-order b monotone =
+    record { clusters = KeepsClusters-equal _ _ (clusters-map single single-cluster b.items); direction = refl; flags = refl; level = refl }
 
 singled-flags : IsFlagKeeper singled
 singled-flags b = masks-kept b (map single b.items) (masks-singled b.items)
@@ -95,11 +104,15 @@ ligated_at-order i b monotone =
       | true ↦ λ e.
           let put = glyph_put i 23 merged in
           let first = (merged_keeps i (i + 2) b merged (omega arith) (pair-within b.items i e) refl).0 in
-          let second : clusters put.items ≡ clusters merged.items = map-set_same (λ (x : Item). x.cluster) merged.items i (with_glyph 23 (item_at merged.items i)) (new_item 0 0) refl in
-          let third = KeepsClusters-from_draws (clusters put.items) (clusters (remove put.items (i + 1))) (taken_out-draws put.items (i + 1)) in
+          let second : clusters put.items
+          ≡ clusters merged.items = map-set_same (λ (x : Item). x.cluster) merged.items i (with_glyph 23 (item_at merged.items i))
+          (new_item 0 0) refl in
+          let third = KeepsClusters-from_draws (clusters put.items) (clusters (remove put.items (i + 1)))
+          (taken_out-draws put.items (i + 1)) in
           let at : merged ≡ merge_at i (i + 2) b = merged_at_level i (i + 2) b b.cluster_level monotone in
           record {
-            clusters = KeepsClusters-then _ _ _ first (KeepsClusters-then _ _ _ (KeepsClusters-equal (clusters merged.items) (clusters put.items) second) third);
+            clusters = KeepsClusters-then _ _ _ first
+                (KeepsClusters-then _ _ _ (KeepsClusters-equal (clusters merged.items) (clusters put.items) second) third);
             direction = ap (λ (m : Buffer). m.direction) at;
             flags = ap (λ (m : Buffer). m.flags) at;
             level = ap (λ (m : Buffer). m.cluster_level) at;
@@ -118,7 +131,12 @@ ligated_at-flags i b =
           let first = (merged_keeps i (i + 2) b merged (omega arith) (pair-within b.items i e) refl).1 in
           let same = map-set_same (λ (x : Item). x.mask) merged.items i (with_glyph 23 (item_at merged.items i)) (new_item 0 0) refl in
           let second : KeepsFlags merged put = masks-kept merged put.items same in
-          let third : KeepsFlags put (taken_out (i + 1) put) = record { flags = refl; stays_set = λ e. e; none_new = λ flag is some. inl (taken_out-some flag put.items (i + 1) some) } in
+          let third : KeepsFlags put (taken_out (i + 1) put) = record {
+            flags = refl;
+            stays_set = λ e. e;
+            none_new = λ flag is some. inl
+                (taken_out-some flag put.items (i + 1) some);
+          } in
           KeepsFlags-then b merged (taken_out (i + 1) put) first (KeepsFlags-then merged put (taken_out (i + 1) put) second third)
       | false ↦ λ e. KeepsFlags-same b
     ] in
@@ -128,14 +146,17 @@ ligated-order : (n : ℕ) → IsClusterKeeper (ligated n)
 ligated-order zero b monotone = KeepsOrder-same b
 ligated-order (suc n) b monotone =
     let before = ligated-order n b monotone in
-    KeepsOrder-then b (ligated n b) (ligated_at n (ligated n b)) before (ligated_at-order n (ligated n b) (subst IsMonotoneLevel (sym before.level) monotone))
+    KeepsOrder-then b (ligated n b) (ligated_at n (ligated n b)) before
+    (ligated_at-order n (ligated n b) (subst IsMonotoneLevel (sym before.level) monotone))
 
 ligated-flags : (n : ℕ) → IsFlagKeeper (ligated n)
 ligated-flags zero b = KeepsFlags-same b
-ligated-flags (suc n) b = KeepsFlags-then b (ligated n b) (ligated_at n (ligated n b)) (ligated-flags n b) (ligated_at-flags n (ligated n b))
+ligated-flags (suc n) b =
+    KeepsFlags-then b (ligated n b) (ligated_at n (ligated n b)) (ligated-flags n b) (ligated_at-flags n (ligated n b))
 
 substituted-order : IsClusterKeeper substituted
-substituted-order b monotone = KeepsOrder-then b (singled b) (substituted b) (singled-order b monotone) (ligated-order (length b.items) (singled b) monotone)
+substituted-order b monotone =
+    KeepsOrder-then b (singled b) (substituted b) (singled-order b monotone) (ligated-order (length b.items) (singled b) monotone)
 
 substituted-flags : IsFlagKeeper substituted
 substituted-flags b = KeepsFlags-then b (singled b) (substituted b) (singled-flags b) (ligated-flags (length b.items) (singled b))

@@ -30,7 +30,8 @@ between false xs ordered i j m d from to within same =
     omega (arith, low, high, same, cluster-at xs i d (omega arith), cluster-at xs m d (omega arith), cluster-at xs j d within)
 
 -- neighbours in one cluster have the same flags
-neighbours : (xs : List Item) → HasOneSetOfFlags xs → (i : ℕ) (d : Item) → suc i < length xs → (get_or xs i d).cluster ≡ (get_or xs (suc i) d).cluster
+neighbours : (xs : List Item) → HasOneSetOfFlags xs → (i : ℕ) (d : Item) → suc i < length xs
+    → (get_or xs i d).cluster ≡ (get_or xs (suc i) d).cluster
     → flags_of (get_or xs i d) ≡ flags_of (get_or xs (suc i) d)
 neighbours [] one i d within same = absurd (omega arith)
 neighbours (x ∷ []) one i d within same = absurd (omega arith)
@@ -38,11 +39,13 @@ neighbours (x ∷ y ∷ xs) one zero d within same = one.0 same
 neighbours (x ∷ y ∷ xs) one (suc i) d within same = neighbours (y ∷ xs) one.1 i d (omega arith) same
 
 -- and so have all of a cluster
-first_and : (backward : Bool) (xs : List Item) → IsOrderedFor backward (clusters xs) → HasOneSetOfFlags xs → (n : ℕ) (d : Item) → n < length xs
+first_and : (backward : Bool) (xs : List Item) → IsOrderedFor backward (clusters xs) → HasOneSetOfFlags xs → (n : ℕ) (d : Item)
+    → n < length xs
     → (get_or xs 0 d).cluster ≡ (get_or xs n d).cluster → flags_of (get_or xs 0 d) ≡ flags_of (get_or xs n d)
 first_and backward xs ordered one zero d within same = refl
 first_and backward xs ordered one (suc n) d within same =
-    let before : (get_or xs n d).cluster ≡ (get_or xs 0 d).cluster = between backward xs ordered 0 (suc n) n d (omega arith) (omega arith) within same in
+    let before : (get_or xs n d).cluster
+    ≡ (get_or xs 0 d).cluster = between backward xs ordered 0 (suc n) n d (omega arith) (omega arith) within same in
     first_and backward xs ordered one n d (omega arith) (sym before) ∙ neighbours xs one n d within (before ∙ same)
 
 -- the flag is one of the set
@@ -52,7 +55,8 @@ lacks-flags x y same =
     let second : bit_and (flags_of y) 1 ≡ bit_and y.mask 1 = and_assoc 1 y.mask 7 in
     ap (λ (f : ℕ). f == 0) (sym first ∙ ap (λ (f : ℕ). bit_and f 1) same ∙ second)
 
-ordered_rest : (backward : Bool) (x : Item) (xs : List Item) → IsOrderedFor backward (clusters (x ∷ xs)) → IsOrderedFor backward (clusters xs)
+ordered_rest : (backward : Bool) (x : Item) (xs : List Item) → IsOrderedFor backward (clusters (x ∷ xs))
+    → IsOrderedFor backward (clusters xs)
 ordered_rest true x xs ordered = λ i j d from within. ordered (suc i) (suc j) d (omega arith) (omega arith)
 ordered_rest false x xs ordered = λ i j d from within. ordered (suc i) (suc j) d (omega arith) (omega arith)
 
@@ -62,7 +66,8 @@ one_rest x (y ∷ xs) one = one.1
 
 -- what each glyph of the rest answers, one of a longer list does whose first is of another cluster
 later : (cluster : ℕ) (x : Item) (xs : List Item) → All (λ glyph. glyph.cluster ≡ cluster → lacks_break glyph ≡ cut_at cluster xs) xs
-    → (k : ℕ) (d : Item) → k < length (x ∷ xs) → (get_or (x ∷ xs) k d).cluster ≡ cluster → (x.cluster ≡ cluster → ⊥) → lacks_break (get_or (x ∷ xs) k d) ≡ cut_at cluster xs
+    → (k : ℕ) (d : Item) → k < length (x ∷ xs) → (get_or (x ∷ xs) k d).cluster ≡ cluster → (x.cluster ≡ cluster → ⊥)
+    → lacks_break (get_or (x ∷ xs) k d) ≡ cut_at cluster xs
 later cluster x xs all zero d within is other = absurd (other is)
 later cluster x xs all (suc k) d within is other = all k d (omega arith) is
 
@@ -71,11 +76,13 @@ pub each_answers : (backward : Bool) (cluster : ℕ) (xs : List Item) → IsOrde
     → All (λ glyph. glyph.cluster ≡ cluster → lacks_break glyph ≡ cut_at cluster xs) xs
 each_answers backward cluster [] ordered one = λ k d within. absurd (omega arith)
 each_answers backward cluster (x ∷ xs) ordered one = λ k d within is.
-    let P : Bool → Type 0 = λ t. (x.cluster == cluster) ≡ t → lacks_break (get_or (x ∷ xs) k d) ≡ unwrap_or (option_map lacks_break (cond t (Some x) (find (has_cluster cluster) xs))) false in
+    let P : Bool → Type 0 = λ t. (x.cluster == cluster) ≡ t
+    → lacks_break (get_or (x ∷ xs) k d) ≡ unwrap_or (option_map lacks_break (cond t (Some x) (find (has_cluster cluster) xs))) false in
     let cases : P (x.cluster == cluster) = elim (x.cluster == cluster) as P [
       | true ↦ λ e.
           let same : x.cluster ≡ cluster = grind (arith, nat_tests, e) in
           sym (lacks-flags x (get_or (x ∷ xs) k d) (first_and backward (x ∷ xs) ordered one k d within (same ∙ sym is)))
-      | false ↦ λ e. later cluster x xs (each_answers backward cluster xs (ordered_rest backward x xs ordered) (one_rest x xs one)) k d within is (λ same. grind (arith, nat_tests, e, same))
+      | false ↦ λ e. later cluster x xs (each_answers backward cluster xs (ordered_rest backward x xs ordered)
+          (one_rest x xs one)) k d within is (λ same. grind (arith, nat_tests, e, same))
     ] in
     cases refl

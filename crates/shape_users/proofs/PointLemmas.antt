@@ -20,7 +20,8 @@ use Rattle.shape_plan.specs.Shaper.{HookMeaning}
 use Rattle.shape_users.specs.Points.{third_place, step_before, points_reordered, place_in_range}
 
 -- items that share a cluster are exchanged, and the list of clusters stays
-clusters_swapped : (xs : List Item) (i j : ℕ) → i < length xs → j < length xs → j ≢ i → cluster_at xs i ≡ cluster_at xs j → clusters (swap xs i j) ≡ clusters xs
+clusters_swapped : (xs : List Item) (i j : ℕ) → i < length xs → j < length xs → j ≢ i → cluster_at xs i ≡ cluster_at xs j
+    → clusters (swap xs i j) ≡ clusters xs
 clusters_swapped xs i j first second apart joined =
     let d = new_item 0 0 in
     let key : Item → ℕ = λ x. x.cluster in
@@ -38,22 +39,29 @@ merged_at_level start end b MonotoneGraphemes monotone = refl
 merged_at_level start end b MonotoneCharacters monotone = refl
 merged_at_level start end b Characters monotone = absurd monotone
 
-step_keeps : (third : ℕ) (b : Buffer) → IsMonotoneLevel b.cluster_level → 1 ≤ third → third < length b.items → KeepsClusters (clusters b.items) (clusters (step_before third b).items)
+step_keeps : (third : ℕ) (b : Buffer) → IsMonotoneLevel b.cluster_level → 1 ≤ third → third < length b.items
+    → KeepsClusters (clusters b.items) (clusters (step_before third b).items)
 step_keeps third b monotone past within =
     let merged = merge_clusters (third - 1) (third + 1) b in
-    let are : merged.items ≡ merge (third - 1) (third + 1) b.items = ap (λ m. m.items) (merged_at_level (third - 1) (third + 1) b b.cluster_level monotone) in
+    let are : merged.items
+    ≡ merge (third - 1) (third + 1) b.items = ap (λ m. m.items) (merged_at_level (third - 1) (third + 1) b b.cluster_level monotone) in
     let long : length merged.items ≡ length b.items = ap length are ∙ length-merge (third - 1) (third + 1) b.items in
     let next : third - 1 + 1 ≡ third = omega (arith, past) in
     let joined = merge_joins (third - 1) (third + 1) b.items (third - 1) (omega arith) (omega (arith, past)) (omega (arith, within)) in
-    let joined_here : cluster_at merged.items (third - 1) ≡ cluster_at merged.items third = ap (λ xs. cluster_at xs (third - 1)) are ∙ joined ∙ ap (λ xs. cluster_at xs (third - 1 + 1)) (sym are) ∙ ap (cluster_at merged.items) next in
+    let joined_here : cluster_at merged.items (third - 1) ≡ cluster_at merged.items third = ap (λ xs. cluster_at xs (third - 1)) are
+    ∙ joined ∙ ap (λ xs. cluster_at xs (third - 1 + 1)) (sym are) ∙ ap (cluster_at merged.items) next in
     let kept = (merged_keeps (third - 1) (third + 1) b merged (omega arith) (omega (arith, within)) refl).0 in
-    let stays : clusters (swap merged.items (third - 1) third) ≡ clusters merged.items = clusters_swapped merged.items (third - 1) third (omega (arith, long, within)) (omega (arith, long, within)) (λ e. absurd (omega (arith, past, e))) joined_here in
+    let stays : clusters (swap merged.items (third - 1) third)
+    ≡ clusters merged.items = clusters_swapped merged.items (third - 1) third (omega (arith, long, within))
+    (omega (arith, long, within)) (λ e. absurd (omega (arith, past, e))) joined_here in
     subst (KeepsClusters (clusters b.items)) (sym stays) kept
 
-pub points_reordered-keeps : (b : Buffer) (start end : ℕ) → IsMonotoneLevel b.cluster_level → start ≤ end → end ≤ length b.items → KeepsClusters (clusters b.items) (clusters (points_reordered b start end).items)
+pub points_reordered-keeps : (b : Buffer) (start end : ℕ) → IsMonotoneLevel b.cluster_level → start ≤ end → end ≤ length b.items
+    → KeepsClusters (clusters b.items) (clusters (points_reordered b start end).items)
 points_reordered-keeps b start end monotone ordered within =
     let run = slice_range b.items start end in
-    let P : Option ℕ → Type 0 = λ v. third_place 0 0 0 run ≡ v → KeepsClusters (clusters b.items) (clusters (option_map_or (λ place. step_before (start + place) b) v b).items) in
+    let P : Option ℕ → Type 0 = λ v. third_place 0 0 0 run ≡ v
+    → KeepsClusters (clusters b.items) (clusters (option_map_or (λ place. step_before (start + place) b) v b).items) in
     let cases : P (third_place 0 0 0 run) = elim (third_place 0 0 0 run) as P [
       | None ↦ λ e. KeepsClusters-same (clusters b.items)
       | Some place ↦ λ e.
@@ -65,17 +73,22 @@ points_reordered-keeps b start end monotone ordered within =
 -- so it does under every plan, where the plan keeps the shaper
 pub reordering-keeps : (hooks : Option HookMeaning) → ((h : HookMeaning) → hooks ≡ Some h → h.reorder ≡ points_reordered)
     → (reorder : Buffer → ℕ → ℕ → Buffer) → option_map (λ (h : HookMeaning). h.reorder) hooks ≡ Some reorder
-    → (b : Buffer) (start end : ℕ) → IsMonotoneLevel b.cluster_level → IsRunInOrder b.items start end → KeepsClusters (clusters b.items) (clusters (reorder b start end).items)
+    → (b : Buffer) (start end : ℕ) → IsMonotoneLevel b.cluster_level → IsRunInOrder b.items start end
+    → KeepsClusters (clusters b.items) (clusters (reorder b start end).items)
 reordering-keeps None is reorder given = cc
 reordering-keeps (Some hooks) is reorder given =
     let same : points_reordered ≡ reorder = sym (is hooks refl) ∙ (let e : hooks.reorder ≡ reorder = cc in e) in
-    let Keeps : (Buffer → ℕ → ℕ → Buffer) → Type 0 = λ f. (b : Buffer) (start end : ℕ) → IsMonotoneLevel b.cluster_level → IsRunInOrder b.items start end → KeepsClusters (clusters b.items) (clusters (f b start end).items) in
-    let own : Keeps points_reordered = λ b start end monotone run. points_reordered-keeps b start end monotone (let some = run.some in omega arith) run.within in
+    let Keeps : (Buffer → ℕ → ℕ → Buffer) → Type 0 = λ f. (b : Buffer) (start end : ℕ) → IsMonotoneLevel b.cluster_level
+    → IsRunInOrder b.items start end → KeepsClusters (clusters b.items) (clusters (f b start end).items) in
+    let own : Keeps points_reordered = λ b start end monotone run. points_reordered-keeps b start end monotone
+    (let some = run.some in omega arith) run.within in
     subst Keeps same own
 
 -- of a shaper whose hook this is
 pub shaper-keeps : {S : Type 0} (hooks : S → HookMeaning) → ((s : S) → (hooks s).reorder ≡ points_reordered) → (shaper : Option S)
     → (reorder : Buffer → ℕ → ℕ → Buffer) → option_map (λ (h : HookMeaning). h.reorder) (option_map hooks shaper) ≡ Some reorder
-    → (b : Buffer) (start end : ℕ) → IsMonotoneLevel b.cluster_level → IsRunInOrder b.items start end → KeepsClusters (clusters b.items) (clusters (reorder b start end).items)
+    → (b : Buffer) (start end : ℕ) → IsMonotoneLevel b.cluster_level → IsRunInOrder b.items start end
+    → KeepsClusters (clusters b.items) (clusters (reorder b start end).items)
 shaper-keeps hooks is None = reordering-keeps None (λ h e. cc)
-shaper-keeps hooks is (Some s) = reordering-keeps (Some (hooks s)) (λ h e. let same : hooks s ≡ h = cc in sym (ap (λ (x : HookMeaning). x.reorder) same) ∙ is s)
+shaper-keeps hooks is (Some s) =
+    reordering-keeps (Some (hooks s)) (λ h e. let same : hooks s ≡ h = cc in sym (ap (λ (x : HookMeaning). x.reorder) same) ∙ is s)

@@ -54,7 +54,8 @@ abbrev pub ligature_lookups : LookupMeaning
 ligature_lookups = record no_lookups { stage = λ _. substituted }
 
 pub ligature_masks-lawful : LawfulMasks ligature_masks
-ligature_masks-lawful = record { global_mask = no_masks-lawful.global_mask; one_mask = no_masks-lawful.one_mask; mask = no_masks-lawful.mask; shift = no_masks-lawful.shift }
+ligature_masks-lawful =
+    record { global_mask = no_masks-lawful.global_mask; one_mask = no_masks-lawful.one_mask; mask = no_masks-lawful.mask; shift = no_masks-lawful.shift }
 
 pub ligature_lookups-lawful : LawfulLookups ligature_lookups
 ligature_lookups-lawful = record {

@@ -23,15 +23,18 @@ ready_text run text = text_made run (target_of run text) (guessed run.unicode te
 
 -- two spellings have the same normalised characters
 abbrev pub AreSpelledAlike : Run → List ℕ → List ℕ → Type 0
-AreSpelledAlike run first second = text_of (normalized run.rules (ready_text run (spelled first))) ≡ text_of (normalized run.rules (ready_text run (spelled second)))
+AreSpelledAlike run first second =
+    text_of (normalized run.rules (ready_text run (spelled first))) ≡ text_of (normalized run.rules (ready_text run (spelled second)))
 
 -- the word at a place is spelled like this
 abbrev pub IsPlaceOf : Run → List Word → ℕ → List ℕ → Type 0
-IsPlaceOf run words place spelling = (place < length words) × ((d : Word) → AreSpelledAlike run (string_bytes (slice_index_or words place d).spelling) spelling)
+IsPlaceOf run words place spelling =
+    (place < length words) × ((d : Word) → AreSpelledAlike run (string_bytes (slice_index_or words place d).spelling) spelling)
 
 -- none of the first words is
 abbrev pub IsNowhere : Run → List Word → ℕ → List ℕ → Type 0
-IsNowhere run words count spelling = (k : ℕ) (d : Word) → k < count → AreSpelledAlike run (string_bytes (slice_index_or words k d).spelling) spelling → ⊥
+IsNowhere run words count spelling =
+    (k : ℕ) (d : Word) → k < count → AreSpelledAlike run (string_bytes (slice_index_or words k d).spelling) spelling → ⊥
 
 -- the plan at a place serves a text
 abbrev pub FitsAt : {S P D : Type 0} → UnicodeMeaning → List (Plan S P D) → ℕ → Buffer → Type 0

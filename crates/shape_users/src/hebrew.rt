@@ -84,7 +84,7 @@ impl<U: hb_unicode_funcs_t, F: hb_font_t, M: hb_ot_layout_t<F>> script_shaper<U,
 
 impl<U: hb_unicode_funcs_t, F, M: hb_ot_layout_t<F>> compose_hook<HebrewShaper, (), U, F, M>
     for HebrewShaper {
-    ghost join = { λ _ _ _ a b. option_or (U.unicode.join a b) (form_of a b) };
+    ghost compose = { λ _ _ _ a b. option_or (U.unicode.compose a b) (form_of a b) };
 
     ghost GIVEN = { true };
 
@@ -125,9 +125,11 @@ impl<U: hb_unicode_funcs_t, F, M: hb_ot_layout_t<F>> reorder_marks_hook<HebrewSh
 /// A run by this shaper keeps clusters where its engine's lookups do, and flags where they do, whatever the
 /// functions of Unicode, the plan and the face.
 pub fn hebrew_runs_keep<U: hb_unicode_funcs_t, F: hb_font_t, M: hb_ot_layout_t<F>>()
-    ensures clusters { (plan : Plan AnyShaper M.Map Unit) (face : F) → let run = ⟦<HebrewShaper as Runs<U, F, M>>⟧.run plan face in
+    ensures clusters { (plan : Plan AnyShaper M.Map Unit) (face : F)
+        → let run = ⟦<HebrewShaper as Runs<U, F, M>>⟧.run plan face in
         LookupsKeepClusters run.lookups → RunKeepsClusters run }
-    ensures flags { (plan : Plan AnyShaper M.Map Unit) (face : F) → let run = ⟦<HebrewShaper as Runs<U, F, M>>⟧.run plan face in
+    ensures flags { (plan : Plan AnyShaper M.Map Unit) (face : F)
+        → let run = ⟦<HebrewShaper as Runs<U, F, M>>⟧.run plan face in
         LookupsKeepFlags run.lookups → RunKeepsFlags run }
 {
     hooks_not_given_keep::<U, F, M, HebrewShaper>();

@@ -8,7 +8,8 @@ ghost use Rattle.shape_buffer.specs.NoLookups.{no_layout};
 ghost use Rattle.shape_plan.specs.Plan.{Plan};
 ghost use Rattle.shape_plan.specs.declared.ot_shaper.shapers.hb_default_shaper_t.{hb_default_shaper_t as DefaultShaper};
 ghost use Rattle.shape_pipeline.specs.Premises.{OwesNothing};
-ghost use Rattle.shape_users.specs.Ligatures.{ligature_masks, ligature_lookups, ligature_masks-lawful, ligature_lookups-lawful};
+ghost use Rattle.shape_users.specs.Ligatures.{ligature_masks, ligature_lookups};
+ghost use Rattle.shape_users.specs.Ligatures.{ligature_masks-lawful, ligature_lookups-lawful};
 
 mod substitution;
 #[cfg(test)]
@@ -162,8 +163,10 @@ impl<F> hb_ot_layout_t<F> for Ligatures {
 
 /// Each call of the engine keeps clusters, and each keeps flags.
 pub fn ligatures_keep<F: hb_font_t>()
-    ensures clusters { (map : Unit) (face : F) → LookupsKeepClusters (⟦<Ligatures as hb_ot_layout_t<F>>⟧.lookups map face) }
-    ensures flags { (map : Unit) (face : F) → LookupsKeepFlags (⟦<Ligatures as hb_ot_layout_t<F>>⟧.lookups map face) }
+    ensures clusters { (map : Unit) (face : F)
+        → LookupsKeepClusters (⟦<Ligatures as hb_ot_layout_t<F>>⟧.lookups map face) }
+    ensures flags { (map : Unit) (face : F)
+        → LookupsKeepFlags (⟦<Ligatures as hb_ot_layout_t<F>>⟧.lookups map face) }
 {}
 
 /// A run of the default shaper with this engine owes nothing.

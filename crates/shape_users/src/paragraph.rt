@@ -74,14 +74,16 @@ pub fn glyphs_of_text(glyphs: &GlyphBuffer, text: TextSpan) -> GlyphSpan
     ensures exact { IsOrderedFor (is_backward glyphs.now.direction) (clusters glyphs.now.items)
         → (k : ℕ) → k < length glyphs.now.items
         → ((result.start ≤ k) × (k < result.end))
-        ↔ ((text.start ≤ cluster_at glyphs.now.items k) × (cluster_at glyphs.now.items k < text.end)) }
+        ↔ ((text.start ≤ cluster_at glyphs.now.items k)
+        × (cluster_at glyphs.now.items k < text.end)) }
 {
     first_to_last(glyphs.glyph_infos(), text)
 }
 
 /// From the first glyph whose cluster lies in a span of text up to behind the last one.
 fn first_to_last(glyphs: &[hb_glyph_info_t], text: TextSpan) -> GlyphSpan
-    ensures { FirstToLast glyphs.now text.start text.end (length glyphs.now) result.start result.end }
+    ensures { FirstToLast glyphs.now text.start text.end
+        (length glyphs.now) result.start result.end }
 {
     let mut start = 0;
     let mut end = 0;

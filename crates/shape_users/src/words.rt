@@ -6,7 +6,8 @@
 //! another needs no more than that; it may use any mode.
 ghost use Rattle.std.specs.Prelude.{◌≡◌, ◌↔◌, length, IsTrue, IfOk, IfSome, IfNone};
 ghost use Rattle.shape_plan.specs.Plan.{Fits};
-ghost use Rattle.shape_users.specs.Words.{spelled as text_spelled, FitsAt, IsPlaceOf, IsNowhere, NoneFits};
+ghost use Rattle.shape_users.specs.Words.{spelled as text_spelled, FitsAt, IsPlaceOf, IsNowhere};
+ghost use Rattle.shape_users.specs.Words.{NoneFits};
 
 mod spellings;
 #[cfg(test)]
@@ -59,7 +60,8 @@ where
     ensures found { let run = ⟦<S as Runs<U, F, M>>⟧.run plan.now face.now in
         IfOk result (λ place. IfSome place (λ k. IsPlaceOf run words.now k spelling.now)) }
     ensures nowhere { let run = ⟦<S as Runs<U, F, M>>⟧.run plan.now face.now in
-        IfOk result (λ place. IfNone place (IsNowhere run words.now (length words.now) spelling.now)) }
+        IfOk result (λ place. IfNone place
+        (IsNowhere run words.now (length words.now) spelling.now)) }
 {
     for place in 0..words.len() {
         let known = words[place].spelling.as_str();

@@ -18,9 +18,12 @@ unfolding bitflags_on_literals
 all_bits = refl
 
 -- what `from_bits` answers for the number that was read
-pub flags_read : {Good : Type 0} (flags : Option BufferFlags) (bits number : ℕ) → Good → bits ≡ number → IfSome flags (λ f. f.0 ≡ bits) → IsSome flags ↔ (bit_and bits (known_bits flag_rows) ≡ bits) → SomeIff flags (Good × (bit_and number 254 ≡ number)) (record { 0 = number })
+pub flags_read : {Good : Type 0} (flags : Option BufferFlags) (bits number : ℕ) → Good → bits ≡ number → IfSome flags (λ f. f.0 ≡ bits)
+    → IsSome flags ↔ (bit_and bits (known_bits flag_rows) ≡ bits)
+    → SomeIff flags (Good × (bit_and number 254 ≡ number)) (record { 0 = number })
 flags_read None bits number good same value test = λ both.
-    let at : bit_and bits (known_bits flag_rows) ≡ bits = subst (λ n. bit_and n (known_bits flag_rows) ≡ n) (sym same) (ap (bit_and number) all_bits ∙ both.1) in
+    let at : bit_and bits (known_bits flag_rows)
+    ≡ bits = subst (λ n. bit_and n (known_bits flag_rows) ≡ n) (sym same) (ap (bit_and number) all_bits ∙ both.1) in
     let found : IsSome {T = BufferFlags} None = test.1 at in
     absurd cc
 flags_read (Some f) bits number good same value test =

@@ -22,9 +22,14 @@ without_end-other end (b ∷ []) other = ⊎_elim
     (λ same. absurd (other [] (ap (λ x. x ∷ []) (eqb-true b end same))))
     (λ unlike. ap (λ t. cond t [] (b ∷ [])) unlike)
     (cases_Bool (b == end))
-without_end-other end (b ∷ c ∷ cs) other = ap (λ text. b ∷ text) (without_end-other end (c ∷ cs) (λ front is. other (b ∷ front) (ap (λ text. b ∷ text) is)))
+without_end-other end (b ∷ c ∷ cs) other =
+    ap (λ text. b ∷ text) (without_end-other end (c ∷ cs) (λ front is. other (b ∷ front) (ap (λ text. b ∷ text) is)))
 
 -- what `strip_suffix` answers, or else the whole text
-pub without_end-stripped : (end : ℕ) (text : List ℕ) (stripped : Option (Bor (List ℕ))) (whole : Bor (List ℕ)) → MatchOption stripped (FindsCharSuffix end text None) (λ x. StripsSuffix (FindsCharSuffix end) text x.now) → end < 128 → whole.now ≡ text → (unwrap_or stripped whole).now ≡ without_end end text
-without_end-stripped end text None whole result small is = is ∙ sym (without_end-other end text (strip_suffix_char end text None result small))
-without_end-stripped end text (Some rest) whole result small is = sym (ap (without_end end) (strip_suffix_char end text (Some rest) result small) ∙ without_end-ended end rest.now)
+pub without_end-stripped : (end : ℕ) (text : List ℕ) (stripped : Option (Bor (List ℕ))) (whole : Bor (List ℕ))
+    → MatchOption stripped (FindsCharSuffix end text None) (λ x. StripsSuffix (FindsCharSuffix end) text x.now) → end < 128
+    → whole.now ≡ text → (unwrap_or stripped whole).now ≡ without_end end text
+without_end-stripped end text None whole result small is =
+    is ∙ sym (without_end-other end text (strip_suffix_char end text None result small))
+without_end-stripped end text (Some rest) whole result small is =
+    sym (ap (without_end end) (strip_suffix_char end text (Some rest) result small) ∙ without_end-ended end rest.now)

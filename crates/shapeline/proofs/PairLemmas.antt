@@ -25,7 +25,8 @@ text-lacks (w ∷ ws) all = All-cons NoSlash w ws (digits-lack w all.0.1.1) (tex
 
 onto_first-lack : (b : ℕ) (parts : List (List ℕ)) → b ≢ 47 → All NoSlash parts → All NoSlash (onto_first b parts)
 onto_first-lack b [] unlike lack = All-cons NoSlash (b ∷ []) [] (All-cons (λ x. x ≢ 47) b [] unlike (All-nil (λ x. x ≢ 47))) lack
-onto_first-lack b (p ∷ ps) unlike lack = All-cons NoSlash (b ∷ p) ps (All-cons (λ x. x ≢ 47) b p unlike (All-head NoSlash p ps lack)) (All-tail NoSlash p ps lack)
+onto_first-lack b (p ∷ ps) unlike lack =
+    All-cons NoSlash (b ∷ p) ps (All-cons (λ x. x ≢ 47) b p unlike (All-head NoSlash p ps lack)) (All-tail NoSlash p ps lack)
 
 parts-lack : (line : List ℕ) → NoSlash line → All NoSlash (slice_split (λ b. b == 32) line)
 parts-lack [] none = All-cons NoSlash [] [] none (All-nil NoSlash)
@@ -33,8 +34,10 @@ parts-lack (b ∷ bs) none =
     let unlike : b ≢ 47 = All-head (λ x. x ≢ 47) b bs none in
     let later = parts-lack bs (All-tail (λ x. x ≢ 47) b bs none) in
     ⊎_elim
-    (λ space. subst (All NoSlash) (sym (slice_split-cons_yes (λ x. x == 32) b bs space)) (All-cons NoSlash [] (slice_split (λ x. x == 32) bs) (All-nil (λ x. x ≢ 47)) later))
-    (λ letter. subst (All NoSlash) (sym (slice_split-cons_no (λ x. x == 32) b bs letter)) (onto_first-lack b (slice_split (λ x. x == 32) bs) unlike later))
+    (λ space. subst (All NoSlash) (sym (slice_split-cons_yes (λ x. x == 32) b bs space))
+    (All-cons NoSlash [] (slice_split (λ x. x == 32) bs) (All-nil (λ x. x ≢ 47)) later))
+    (λ letter. subst (All NoSlash) (sym (slice_split-cons_no (λ x. x == 32) b bs letter))
+    (onto_first-lack b (slice_split (λ x. x == 32) bs) unlike later))
     (cases_Bool (b == 32))
 
 words-lack : (line : List ℕ) → NoSlash line → All NoSlash (words line)
@@ -44,7 +47,8 @@ slash-stands_out : (word : List ℕ) → NoSlash word → word ≢ 47 ∷ []
 slash-stands_out word none same = All-head (λ b. b ≢ 47) 47 [] (subst NoSlash same none) refl
 
 -- the first word `/` stands at one place
-parted_once : (xs us ys vs : List (List ℕ)) → All NoSlash xs → All NoSlash us → xs ++ (47 ∷ []) ∷ ys ≡ us ++ (47 ∷ []) ∷ vs → (xs ≡ us) × (ys ≡ vs)
+parted_once : (xs us ys vs : List (List ℕ)) → All NoSlash xs → All NoSlash us → xs ++ (47 ∷ []) ∷ ys ≡ us ++ (47 ∷ []) ∷ vs
+    → (xs ≡ us) × (ys ≡ vs)
 parted_once [] [] ys vs left right same = (refl, cc)
 parted_once [] (u ∷ us) ys vs left right same = absurd (slash-stands_out u (All-head NoSlash u us right) cc)
 parted_once (x ∷ xs) [] ys vs left right same = absurd (slash-stands_out x (All-head NoSlash x xs left) cc)
@@ -58,7 +62,9 @@ pub no_slash-no_pair : (line : List ℕ) → LacksSlash line → ¬ IsPair (word
 no_slash-no_pair line lacks pair = lacks pair.0 pair.1 (text-lacks pair.0 pair.3.0) pair.2
 
 -- the sides of a pair are texts
-pub pair-sides : (line first second : List ℕ) → words line ≡ words first ++ (47 ∷ []) ∷ words second → NoSlash first → IsPair (words line) → IsText (words first) × IsText (words second)
+pub pair-sides : (line first second : List ℕ) → words line ≡ words first ++ (47 ∷ []) ∷ words second → NoSlash first → IsPair (words line)
+    → IsText (words first) × IsText (words second)
 pair-sides line first second parted none pair =
-    let same = parted_once pair.0 (words first) pair.1 (words second) (text-lacks pair.0 pair.3.0) (words-lack first none) (sym pair.2 ∙ parted) in
+    let same = parted_once pair.0 (words first) pair.1 (words second) (text-lacks pair.0 pair.3.0) (words-lack first none)
+    (sym pair.2 ∙ parted) in
     (subst IsText same.0 pair.3, subst IsText same.1 pair.4)

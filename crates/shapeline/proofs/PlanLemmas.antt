@@ -10,10 +10,14 @@ use Rattle.shape_buffer.specs.declared.buffer.settings.Direction.TheVariants.{In
 use Rattle.shape_plan.proofs.PlannedLemmas.{direction-planned, script-planned}
 use Rattle.shape_plan.specs.Planner.{Planning, planned}
 
-pub planned_direction : {F S P D : Type 0} (planning : Planning F S P D) (face : F) (shaper : S) (direction : Direction) (script : Option Script) (language : Option (List ℕ)) (features : List Feature) → (planned planning face shaper direction script language features).direction ≡ direction
+pub planned_direction : {F S P D : Type 0} (planning : Planning F S P D) (face : F) (shaper : S) (direction : Direction)
+    (script : Option Script) (language : Option (List ℕ)) (features : List Feature)
+    → (planned planning face shaper direction script language features).direction ≡ direction
 planned_direction = direction-planned
 
-pub planned_script : {F S P D : Type 0} (planning : Planning F S P D) (face : F) (shaper : S) (direction : Direction) (script : Option Script) (language : Option (List ℕ)) (features : List Feature) → (planned planning face shaper direction script language features).script ≡ script
+pub planned_script : {F S P D : Type 0} (planning : Planning F S P D) (face : F) (shaper : S) (direction : Direction)
+    (script : Option Script) (language : Option (List ℕ)) (features : List Feature)
+    → (planned planning face shaper direction script language features).script ≡ script
 planned_script = script-planned
 
 script-twice : (script first : Option Script) → script_or (script_or script first) first ≡ script_or script first
@@ -32,10 +36,12 @@ direction-twice RightToLeft other = refl
 direction-twice TopToBottom other = refl
 direction-twice BottomToTop other = refl
 
-pub script_settled : (unicode : UnicodeMeaning) (text : Buffer) → guessed_script unicode (guessed unicode text) ≡ guessed_script unicode text
+pub script_settled : (unicode : UnicodeMeaning) (text : Buffer)
+    → guessed_script unicode (guessed unicode text) ≡ guessed_script unicode text
 script_settled unicode text = script-twice text.script (first_script unicode text.items)
 
-pub direction_settled : (unicode : UnicodeMeaning) (text : Buffer) → guessed_direction unicode (guessed unicode text) ≡ guessed_direction unicode text
+pub direction_settled : (unicode : UnicodeMeaning) (text : Buffer)
+    → guessed_direction unicode (guessed unicode text) ≡ guessed_direction unicode text
 direction_settled unicode text =
     let same = script_settled unicode text in
     let twice = direction-twice text.direction (script_or_ltr unicode (guessed_script unicode text)) in cc

@@ -33,7 +33,8 @@ pub words-trim : (line rest : List ℕ) → IsTrimStartMatches (FindsCharPrefix 
 words-trim line rest ((spaces, cuts), trimmed) = (words-cut spaces line rest cuts, begins_a_word rest trimmed)
 
 -- a word that a space follows
-words-before : (word rest : List ℕ) → All (λ b. (b == 32) ≡ false) word → BeginsAWord (word ++ 32 ∷ rest) → words (word ++ 32 ∷ rest) ≡ word ∷ words rest
+words-before : (word rest : List ℕ) → All (λ b. (b == 32) ≡ false) word → BeginsAWord (word ++ 32 ∷ rest)
+    → words (word ++ 32 ∷ rest) ≡ word ∷ words rest
 words-before [] rest letters begins = absurd (begins rest refl)
 words-before (b ∷ bs) rest letters begins = ap (filter is_some_text) (slice_split_at (λ b. b == 32) (b ∷ bs) 32 rest letters refl)
 
@@ -51,7 +52,9 @@ letters_of : (word : List ℕ) → ((i : ℕ) → i < length word → get_or wor
 letters_of word unlike = All-from_get_or (λ b. (b == 32) ≡ false) word 0 (λ i h. let other = unlike i h in grind (arith, nat_tests))
 
 -- the first word and the words behind it, as `split_once` gives them
-pub words-split : (line : List ℕ) (cut : Option (Bor (List ℕ) × Bor (List ℕ))) (whole : Bor (List ℕ) × Bor (List ℕ)) → IsSplitOnceResult 32 line cut → BeginsAWord line → 0 < length line → whole.0.now ≡ line → whole.1.now ≡ [] → words line ≡ (unwrap_or cut whole).0.now ∷ words (unwrap_or cut whole).1.now
+pub words-split : (line : List ℕ) (cut : Option (Bor (List ℕ) × Bor (List ℕ))) (whole : Bor (List ℕ) × Bor (List ℕ))
+    → IsSplitOnceResult 32 line cut → BeginsAWord line → 0 < length line → whole.0.now ≡ line → whole.1.now ≡ []
+    → words line ≡ (unwrap_or cut whole).0.now ∷ words (unwrap_or cut whole).1.now
 words-split line None whole result begins some is_line is_empty =
     let unlike = split_parts 32 line None result (lit< tt) in
     words-last line (letters_of line unlike) some ∙ ap (λ w. w ∷ []) (sym is_line) ∙ ap (λ ws. whole.0.now ∷ words ws) (sym is_empty)
@@ -81,18 +84,24 @@ onto_first-append : (b : ℕ) (parts more : List (List ℕ)) → 0 < length part
 onto_first-append b [] more some = absurd (omega arith)
 onto_first-append b (part ∷ parts) more some = refl
 
-parts-append : (xs ys : List ℕ) → slice_split (λ b. b == 32) (xs ++ 32 ∷ ys) ≡ slice_split (λ b. b == 32) xs ++ slice_split (λ b. b == 32) ys
+parts-append : (xs ys : List ℕ)
+    → slice_split (λ b. b == 32) (xs ++ 32 ∷ ys) ≡ slice_split (λ b. b == 32) xs ++ slice_split (λ b. b == 32) ys
 parts-append [] ys = refl
 parts-append (x ∷ xs) ys = ⊎_elim
-    (λ space. slice_split-cons_yes (λ b. b == 32) x (xs ++ 32 ∷ ys) space ∙ ap (λ parts. [] ∷ parts) (parts-append xs ys) ∙ ap (λ parts. parts ++ slice_split (λ b. b == 32) ys) (sym (slice_split-cons_yes (λ b. b == 32) x xs space)))
+    (λ space. slice_split-cons_yes (λ b. b == 32) x (xs ++ 32 ∷ ys) space ∙ ap (λ parts. [] ∷ parts) (parts-append xs ys)
+    ∙ ap (λ parts. parts ++ slice_split (λ b. b == 32) ys) (sym (slice_split-cons_yes (λ b. b == 32) x xs space)))
     (λ letter.
     let some : 0 < length (slice_split (λ b. b == 32) xs) = omega (arith, length-slice_split (λ b. b == 32) xs) in
-    slice_split-cons_no (λ b. b == 32) x (xs ++ 32 ∷ ys) letter ∙ ap (onto_first x) (parts-append xs ys) ∙ onto_first-append x (slice_split (λ b. b == 32) xs) (slice_split (λ b. b == 32) ys) some ∙ ap (λ parts. parts ++ slice_split (λ b. b == 32) ys) (sym (slice_split-cons_no (λ b. b == 32) x xs letter)))
+    slice_split-cons_no (λ b. b == 32) x (xs ++ 32 ∷ ys) letter ∙ ap (onto_first x) (parts-append xs ys)
+    ∙ onto_first-append x (slice_split (λ b. b == 32) xs) (slice_split (λ b. b == 32) ys) some
+    ∙ ap (λ parts. parts ++ slice_split (λ b. b == 32) ys) (sym (slice_split-cons_no (λ b. b == 32) x xs letter)))
     (cases_Bool (x == 32))
 
 -- a space parts the words
 pub words-append : (xs ys : List ℕ) → words (xs ++ 32 ∷ ys) ≡ words xs ++ words ys
-words-append xs ys = ap (filter is_some_text) (parts-append xs ys) ∙ filter-append is_some_text (slice_split (λ b. b == 32) xs) (slice_split (λ b. b == 32) ys)
+words-append xs ys =
+    ap (filter is_some_text) (parts-append xs ys)
+    ∙ filter-append is_some_text (slice_split (λ b. b == 32) xs) (slice_split (λ b. b == 32) ys)
 
 -- the word `/` before a text that begins clear
 words-slash : (second : List ℕ) → BeginsClear second → words (47 ∷ second) ≡ (47 ∷ []) ∷ words second
@@ -102,15 +111,18 @@ words-slash (b ∷ bs) begins =
     ap (λ s. words (47 ∷ s ∷ bs)) space ∙ ap (λ s. (47 ∷ []) ∷ words (s ∷ bs)) (sym space)
 
 -- the word `/` behind a text that ends clear
-words-slash_behind : (front second : List ℕ) → BeginsClear second → words ((front ++ 32 ∷ []) ++ 47 ∷ second) ≡ words (front ++ 32 ∷ []) ++ (47 ∷ []) ∷ words second
+words-slash_behind : (front second : List ℕ) → BeginsClear second
+    → words ((front ++ 32 ∷ []) ++ 47 ∷ second) ≡ words (front ++ 32 ∷ []) ++ (47 ∷ []) ∷ words second
 words-slash_behind front second begins =
     let without : words front ≡ words (front ++ 32 ∷ []) = sym (append-nil (words front)) ∙ sym (words-append front []) in
-    ap words (append_assoc front (32 ∷ []) (47 ∷ second)) ∙ words-append front (47 ∷ second) ∙ ap (λ ws. words front ++ ws) (words-slash second begins) ∙ ap (λ ws. ws ++ (47 ∷ []) ∷ words second) without
+    ap words (append_assoc front (32 ∷ []) (47 ∷ second)) ∙ words-append front (47 ∷ second)
+    ∙ ap (λ ws. words front ++ ws) (words-slash second begins) ∙ ap (λ ws. ws ++ (47 ∷ []) ∷ words second) without
 
 space_last : (text : List ℕ) → EndsClear text → 0 < length text → text ≡ take (length text - 1) text ++ 32 ∷ []
 space_last text ends some =
     let n : ℕ = length text - 1 in
-    let last : drop n text ≡ 32 ∷ [] = drop-cons text n 0 (omega arith) ∙ (λ i. ends some i ∷ drop_of_length-le text {i = suc n} (omega arith) i) in
+    let last : drop n text ≡ 32 ∷ [] = drop-cons text n 0 (omega arith)
+    ∙ (λ i. ends some i ∷ drop_of_length-le text {i = suc n} (omega arith) i) in
     sym (take-append-drop n text) ∙ ap (λ l. take n text ++ l) last
 
 -- the words of a line that is parted
@@ -118,7 +130,8 @@ words-parted : (line first second : List ℕ) → IsPartedAt line first second �
 words-parted line [] second (is, none, ends, begins) = ap words is ∙ words-slash second begins
 words-parted line (b ∷ bs) second (is, none, ends, begins) =
     let first : b ∷ bs ≡ take (length (b ∷ bs) - 1) (b ∷ bs) ++ 32 ∷ [] = space_last (b ∷ bs) ends (omega arith) in
-    ap words is ∙ ap (λ l. words (l ++ 47 ∷ second)) first ∙ words-slash_behind (take (length (b ∷ bs) - 1) (b ∷ bs)) second begins ∙ ap (λ l. words l ++ (47 ∷ []) ∷ words second) (sym first)
+    ap words is ∙ ap (λ l. words (l ++ 47 ∷ second)) first ∙ words-slash_behind (take (length (b ∷ bs) - 1) (b ∷ bs)) second begins
+    ∙ ap (λ l. words l ++ (47 ∷ []) ∷ words second) (sym first)
 
 -- ---- the other way round, from the words to the line: byte by byte from its end
 
@@ -132,13 +145,16 @@ ends_behind_space : (first : List ℕ) → EndsClear first → EndsClear (32 ∷
 ends_behind_space [] ends = λ _. refl
 ends_behind_space (c ∷ cs) ends = ends_more 32 c cs ends
 
-ends_behind_letter : (b : ℕ) (bs first second : List ℕ) → bs ≡ first ++ 47 ∷ second → get_or bs 0 0 ≢ 47 → EndsClear first → EndsClear (b ∷ first)
+ends_behind_letter : (b : ℕ) (bs first second : List ℕ) → bs ≡ first ++ 47 ∷ second → get_or bs 0 0 ≢ 47 → EndsClear first
+    → EndsClear (b ∷ first)
 ends_behind_letter b bs [] second is unlike ends = absurd (unlike (ap (λ l. get_or l 0 0) is))
 ends_behind_letter b bs (c ∷ cs) second is unlike ends = ends_more b c cs ends
 
 -- a byte more at the front
-parted_behind : (b : ℕ) (bs first second : List ℕ) → IsPartedAt bs first second → b ≢ 47 → EndsClear (b ∷ first) → IsPartedAt (b ∷ bs) (b ∷ first) second
-parted_behind b bs first second (is, none, ends, begins) unlike clear = (ap (λ l. b ∷ l) is, All-cons (λ x. x ≢ 47) b first unlike none, clear, begins)
+parted_behind : (b : ℕ) (bs first second : List ℕ) → IsPartedAt bs first second → b ≢ 47 → EndsClear (b ∷ first)
+    → IsPartedAt (b ∷ bs) (b ∷ first) second
+parted_behind b bs first second (is, none, ends, begins) unlike clear =
+    (ap (λ l. b ∷ l) is, All-cons (λ x. x ≢ 47) b first unlike none, clear, begins)
 
 abbrev Parts : List ℕ → Type 0
 Parts line = (first : List ℕ) × (second : List ℕ) × IsPartedAt line first second
@@ -161,16 +177,23 @@ finds-lone b bs later clear first (w ∷ ws) behind none is =
     let word : w ≡ b ∷ [] = cc in
     let rest : words bs ≡ ws ++ (47 ∷ []) ∷ behind = cc in
     let parts : Parts bs = later ws behind (All-tail NoSlash w ws none) rest in
-    let unlike : b ≢ 47 = All-head (λ x. x ≢ 47) b [] (subst NoSlash word (All-head NoSlash w ws none)) in
-    (b ∷ parts.0, parts.1, parted_behind b bs parts.0 parts.1 parts.2 unlike (ends_behind_letter b bs parts.0 parts.1 parts.2.0 (clear_front bs clear) parts.2.2))
+    let unlike : b ≢ 47 = All-head (λ x. x ≢ 47) b [] (subst NoSlash word (All-head NoSlash w ws none)) in (
+      b ∷ parts.0,
+      parts.1,
+      parted_behind b bs parts.0 parts.1 parts.2 unlike
+          (ends_behind_letter b bs parts.0 parts.1 parts.2.0 (clear_front bs clear) parts.2.2),
+    )
 
 -- the first words where two letters stand at the front
-two_letters : (b c : ℕ) (parts : List (List ℕ)) → (q : List ℕ) × (ws : List (List ℕ)) × (filter is_some_text (onto_first c parts) ≡ (c ∷ q) ∷ ws) × (filter is_some_text (onto_first b (onto_first c parts)) ≡ (b ∷ c ∷ q) ∷ ws)
+two_letters : (b c : ℕ) (parts : List (List ℕ))
+    → (q : List ℕ) × (ws : List (List ℕ)) × (filter is_some_text (onto_first c parts) ≡ (c ∷ q) ∷ ws)
+    × (filter is_some_text (onto_first b (onto_first c parts)) ≡ (b ∷ c ∷ q) ∷ ws)
 two_letters b c [] = ([], [], refl, refl)
 two_letters b c (p ∷ ps) = (p, filter is_some_text ps, refl, refl)
 
 -- a letter that lengthens the first word
-finds-longer : (b c : ℕ) (cs q : List ℕ) (rest : List (List ℕ)) → FindsSlash (c ∷ cs) → words (c ∷ cs) ≡ (c ∷ q) ∷ rest → words (b ∷ c ∷ cs) ≡ (b ∷ c ∷ q) ∷ rest → FindsSlash (b ∷ c ∷ cs)
+finds-longer : (b c : ℕ) (cs q : List ℕ) (rest : List (List ℕ)) → FindsSlash (c ∷ cs) → words (c ∷ cs) ≡ (c ∷ q) ∷ rest
+    → words (b ∷ c ∷ cs) ≡ (b ∷ c ∷ q) ∷ rest → FindsSlash (b ∷ c ∷ cs)
 finds-longer b c cs q rest later shorter longer [] behind none is = absurd (let both = sym longer ∙ is in cc)
 finds-longer b c cs q rest later shorter longer (w ∷ ws) behind none is =
     let both = sym longer ∙ is in
@@ -178,15 +201,21 @@ finds-longer b c cs q rest later shorter longer (w ∷ ws) behind none is =
     let others : rest ≡ ws ++ (47 ∷ []) ∷ behind = cc in
     let letters : NoSlash (b ∷ c ∷ q) = subst NoSlash word (All-head NoSlash w ws none) in
     let fewer : NoSlash (c ∷ q) = All-tail (λ x. x ≢ 47) b (c ∷ q) letters in
-    let parts : Parts (c ∷ cs) = later ((c ∷ q) ∷ ws) behind (All-cons NoSlash (c ∷ q) ws fewer (All-tail NoSlash w ws none)) (shorter ∙ ap (λ l. (c ∷ q) ∷ l) others) in
-    (b ∷ parts.0, parts.1, parted_behind b (c ∷ cs) parts.0 parts.1 parts.2 (All-head (λ x. x ≢ 47) b (c ∷ q) letters) (ends_behind_letter b (c ∷ cs) parts.0 parts.1 parts.2.0 (All-head (λ x. x ≢ 47) c q fewer) parts.2.2))
+    let parts : Parts (c ∷ cs) = later ((c ∷ q) ∷ ws) behind (All-cons NoSlash (c ∷ q) ws fewer (All-tail NoSlash w ws none))
+    (shorter ∙ ap (λ l. (c ∷ q) ∷ l) others) in (
+      b ∷ parts.0,
+      parts.1,
+      parted_behind b (c ∷ cs) parts.0 parts.1 parts.2 (All-head (λ x. x ≢ 47) b (c ∷ q) letters)
+          (ends_behind_letter b (c ∷ cs) parts.0 parts.1 parts.2.0 (All-head (λ x. x ≢ 47) c q fewer) parts.2.2),
+    )
 
 finds-two_letters : (b c : ℕ) (cs : List ℕ) → (b == 32) ≡ false → (c == 32) ≡ false → FindsSlash (c ∷ cs) → FindsSlash (b ∷ c ∷ cs)
 finds-two_letters b c cs first second later =
     let parts : List (List ℕ) = slice_split (λ x. x == 32) cs in
     let two = two_letters b c parts in
     let shorter : slice_split (λ x. x == 32) (c ∷ cs) ≡ onto_first c parts = slice_split-cons_no (λ x. x == 32) c cs second in
-    let longer : slice_split (λ x. x == 32) (b ∷ c ∷ cs) ≡ onto_first b (onto_first c parts) = slice_split-cons_no (λ x. x == 32) b (c ∷ cs) first ∙ ap (onto_first b) shorter in
+    let longer : slice_split (λ x. x == 32) (b ∷ c ∷ cs)
+    ≡ onto_first b (onto_first c parts) = slice_split-cons_no (λ x. x == 32) b (c ∷ cs) first ∙ ap (onto_first b) shorter in
     finds-longer b c cs two.0 two.1 later (ap (filter is_some_text) shorter ∙ two.2) (ap (filter is_some_text) longer ∙ two.3)
 
 finds-space : (bs : List ℕ) → FindsSlash bs → FindsSlash (32 ∷ bs)
@@ -195,11 +224,13 @@ finds-space bs later before behind none is =
     (32 ∷ parts.0, parts.1, parted_behind 32 bs parts.0 parts.1 parts.2 (omega arith) (ends_behind_space parts.0 parts.2.2))
 
 finds-letter : (b : ℕ) (bs : List ℕ) → (b == 32) ≡ false → FindsSlash bs → FindsSlash (b ∷ bs)
-finds-letter b [] letter later = finds-lone b [] later (λ some. absurd (omega arith)) (ap (filter is_some_text) (slice_split-cons_no (λ x. x == 32) b [] letter))
+finds-letter b [] letter later =
+    finds-lone b [] later (λ some. absurd (omega arith)) (ap (filter is_some_text) (slice_split-cons_no (λ x. x == 32) b [] letter))
 finds-letter b (c ∷ cs) letter later = ⊎_elim
     (λ space.
     let cut : slice_split (λ x. x == 32) (c ∷ cs) ≡ [] ∷ slice_split (λ x. x == 32) cs = slice_split-cons_yes (λ x. x == 32) c cs space in
-    let alone : words (b ∷ c ∷ cs) ≡ (b ∷ []) ∷ words cs = ap (filter is_some_text) (slice_split-cons_no (λ x. x == 32) b (c ∷ cs) letter ∙ ap (onto_first b) cut) in
+    let alone : words (b ∷ c ∷ cs)
+    ≡ (b ∷ []) ∷ words cs = ap (filter is_some_text) (slice_split-cons_no (λ x. x == 32) b (c ∷ cs) letter ∙ ap (onto_first b) cut) in
     finds-lone b (c ∷ cs) later (λ some. eqb-true c 32 space) (alone ∙ ap (λ ws. (b ∷ []) ∷ ws) (sym (ap (filter is_some_text) cut))))
     (λ second. finds-two_letters b c cs letter second later)
     (cases_Bool (c == 32))
@@ -223,14 +254,17 @@ lacks_slash line result before behind none is =
     split_after 47 line parts.0 parts.1 None result (lit< tt) parts.2.0 (λ i h. parts.2.1 i 0 h)
 
 -- the first `/` that it finds is part of a longer word
-pub lacks_lone_slash : (line : List ℕ) (sides : Bor (List ℕ) × Bor (List ℕ)) → IsSplitOnceResult 47 line (Some sides) → (EndsClear sides.0.now → BeginsClear sides.1.now → ⊥) → LacksSlash line
+pub lacks_lone_slash : (line : List ℕ) (sides : Bor (List ℕ) × Bor (List ℕ)) → IsSplitOnceResult 47 line (Some sides)
+    → (EndsClear sides.0.now → BeginsClear sides.1.now → ⊥) → LacksSlash line
 lacks_lone_slash line sides result joined before behind none is =
     let parts : Parts line = finds_slash line before behind none is in
-    let same : (sides.0.now ≡ parts.0) × (sides.1.now ≡ parts.1) = split_after 47 line parts.0 parts.1 (Some sides) result (lit< tt) parts.2.0 (λ i h. parts.2.1 i 0 h) in
+    let same : (sides.0.now ≡ parts.0)
+    × (sides.1.now ≡ parts.1) = split_after 47 line parts.0 parts.1 (Some sides) result (lit< tt) parts.2.0 (λ i h. parts.2.1 i 0 h) in
     joined (subst EndsClear (sym same.0) parts.2.2) (subst BeginsClear (sym same.1) parts.2.3)
 
 -- the first `/` that it finds is a word
-pub has_lone_slash : (line : List ℕ) (sides : Bor (List ℕ) × Bor (List ℕ)) → IsSplitOnceResult 47 line (Some sides) → EndsClear sides.0.now → BeginsClear sides.1.now → (words line ≡ words sides.0.now ++ (47 ∷ []) ∷ words sides.1.now) × NoSlash sides.0.now
+pub has_lone_slash : (line : List ℕ) (sides : Bor (List ℕ) × Bor (List ℕ)) → IsSplitOnceResult 47 line (Some sides) → EndsClear sides.0.now
+    → BeginsClear sides.1.now → (words line ≡ words sides.0.now ++ (47 ∷ []) ∷ words sides.1.now) × NoSlash sides.0.now
 has_lone_slash line sides result ends begins =
     let cut = split_parts 47 line (Some sides) result (lit< tt) in
     let none : NoSlash sides.0.now = All-from_get_or (λ b. b ≢ 47) sides.0.now 0 cut.1 in

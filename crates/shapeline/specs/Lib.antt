@@ -1,7 +1,7 @@
 pub mod Category
-pub mod Class
+pub mod Ccc
 pub mod Split
-pub mod Join
+pub mod Compose
 pub mod Plain
 pub mod Mirror
 pub mod Vertical

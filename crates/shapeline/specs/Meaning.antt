@@ -1,9 +1,9 @@
 -- What the program's functions of Unicode answer.
 use Rattle.shape_buffer.specs.Unicode.{UnicodeMeaning}
 use Rattle.shapeline.specs.Category.{category_of}
-use Rattle.shapeline.specs.Class.{class_of}
+use Rattle.shapeline.specs.Ccc.{ccc_of}
 use Rattle.shapeline.specs.Split.{split_of, height_of}
-use Rattle.shapeline.specs.Join.{join_of}
+use Rattle.shapeline.specs.Compose.{compose_of}
 use Rattle.shapeline.specs.Mirror.{mirror_of}
 use Rattle.shapeline.specs.Vertical.{vertical_of}
 use Rattle.shapeline.specs.Pictograph.{is_pictograph}
@@ -15,10 +15,10 @@ use Rattle.shapeline.specs.Scripts.{script_of, direction_of_script}
 abbrev pub unicode_tables : UnicodeMeaning
 unicode_tables = record {
   category = category_of;
-  class = class_of;
+  ccc = ccc_of;
   split = split_of;
   height = height_of;
-  join = join_of;
+  compose = compose_of;
   mirrored = mirror_of;
   vertical = vertical_of;
   space_fallback = space_type_of;

@@ -2,10 +2,12 @@
 //!
 //! A space, and nothing else, parts words. A digit is an ASCII digit; leading zeros are fine, a sign
 //! is none but one minus before a signed number.
-ghost use Rattle.std.specs.Prelude.{◌≡◌, ◌≤◌, ◌≢◌, ℕ, List, [], ◌∷◌, ◌++◌, ◌^◌, ◌<◌, length, slice_index, All};
+ghost use Rattle.std.specs.Prelude.{◌≡◌, ◌≤◌, ◌≢◌, ℕ, List, [], ◌∷◌, ◌++◌, ◌^◌, ◌<◌, length};
+ghost use Rattle.std.specs.Prelude.{slice_index, All};
 ghost use Rattle.std.specs.Option.{SomeIff, MatchOption};
 ghost use Rattle.std.specs.Iterator.{at_most};
-ghost use Rattle.std.specs.Str.Parse.{IsNumeral, digits_value, signed_digits_value, without_leading_sign};
+ghost use Rattle.std.specs.Str.Parse.{IsNumeral, digits_value, signed_digits_value};
+ghost use Rattle.std.specs.Str.Parse.{without_leading_sign};
 ghost use Rattle.shapeline.specs.Text.{IsCharacterWord};
 ghost use Rattle.shapeline.specs.Words.{words};
 ghost use mir.Syntax.{w32};
@@ -28,8 +30,11 @@ impl<'a> Words<'a> {
     /// The words before and behind the first `/`, where that is a word by itself.
     pub fn parted(self) -> Option<(Words<'a>, Words<'a>)>
         ensures { MatchOption result
-            ((before behind : List (List ℕ)) → All (All (λ b. b ≢ 47)) before → words self.entry.rest.now ≢ before ++ (47 ∷ []) ∷ behind)
-            (λ sides. (words self.entry.rest.now ≡ words sides.0.rest.now ++ (47 ∷ []) ∷ words sides.1.rest.now) × All (λ b. b ≢ 47) sides.0.rest.now) }
+            ((before behind : List (List ℕ)) → All (All (λ b. b ≢ 47)) before
+            → words self.entry.rest.now ≢ before ++ (47 ∷ []) ∷ behind)
+            (λ sides. (words self.entry.rest.now
+            ≡ words sides.0.rest.now ++ (47 ∷ []) ∷ words sides.1.rest.now)
+            × All (λ b. b ≢ 47) sides.0.rest.now) }
     {
         let (first, second) = self.rest.split_once('/')?;
         let ends = first.is_empty() || first.ends_with(' ');
@@ -66,7 +71,8 @@ impl<'a> Iterator for Words<'a> {
 fn digits(word: &str, radix: u32) -> Option<u32>
     requires low { 2 ≤ radix }
     requires high { radix ≤ 36 }
-    ensures { SomeIff result (IsNumeral radix word.now × (digits_value radix word.now < 2 ^ 32)) (digits_value radix word.now) }
+    ensures { SomeIff result (IsNumeral radix word.now × (digits_value radix word.now < 2 ^ 32))
+        (digits_value radix word.now) }
 {
     if word.starts_with('+') {
         return None;
@@ -87,7 +93,8 @@ pub fn character(word: &str) -> Option<char>
 
 /// The number that decimal digits write. Refuses every other word, and a number above `most`.
 pub fn natural(word: &str, most: u32) -> Option<u32>
-    ensures { SomeIff result (IsNumeral 10 word.now × (digits_value 10 word.now ≤ most)) (digits_value 10 word.now) }
+    ensures { SomeIff result (IsNumeral 10 word.now × (digits_value 10 word.now ≤ most))
+        (digits_value 10 word.now) }
 {
     let number = digits(word, 10)?;
     if number <= most { Some(number) } else { None }
@@ -95,7 +102,9 @@ pub fn natural(word: &str, most: u32) -> Option<u32>
 
 /// The number of 32 bits that decimal digits write, behind one minus at most. Refuses every other word.
 pub fn integer(word: &str) -> Option<i32>
-    ensures { SomeIff result ((slice_index word.now 0 ≢ 43) × IsNumeral 10 (without_leading_sign word.now) × SFits w32 (signed_digits_value 10 word.now)) (signed_digits_value 10 word.now) }
+    ensures { SomeIff result ((slice_index word.now 0 ≢ 43)
+        × IsNumeral 10 (without_leading_sign word.now)
+        × SFits w32 (signed_digits_value 10 word.now)) (signed_digits_value 10 word.now) }
 {
     if word.starts_with('+') {
         return None;

@@ -2,15 +2,15 @@
 //! small tables for everything else.
 //!
 //! A file for each property. No proof knows the value of a category, so the laws may not rest on one:
-//! where a law speaks of marks, the function asks for the category as it runs. A class counts only for
+//! where a law speaks of marks, the function asks for the category as it runs. A ccc counts only for
 //! a mark, a mark splits only into marks, characters compose only into one that splits into them, mirror
 //! images and vertical forms are of characters that are neither marks nor spaces, and an ASCII character
 //! would be no mark whatever the database said. On these tables none of the tests changes an answer.
 
 mod category;
-mod class;
+mod ccc;
+mod compose;
 mod ignorable;
-mod join;
 mod mirror;
 mod pictograph;
 mod plain;
@@ -42,7 +42,7 @@ impl hb_unicode_funcs_t for UnicodeTables {
     }
 
     fn modified_combining_class(c: char) -> u8 {
-        class::modified_combining_class(c)
+        ccc::modified_combining_class(c)
     }
 
     fn decompose(c: char) -> Option<(char, char)> {
@@ -50,7 +50,7 @@ impl hb_unicode_funcs_t for UnicodeTables {
     }
 
     fn compose(a: char, b: char) -> Option<char> {
-        join::compose(a, b)
+        compose::compose(a, b)
     }
 
     fn mirrored(c: char) -> Option<char> {

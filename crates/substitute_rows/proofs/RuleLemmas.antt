@@ -24,7 +24,8 @@ use Rattle.substitute_rows.specs.declared.support.rules.Multiple.{Multiple}
 pub length-merge_clusters : (start end : ℕ) (b : Buffer) → length (merge_clusters start end b).items ≡ length b.items
 length-merge_clusters start end b = at_level b.cluster_level
   where
-    at_level : (level : BufferClusterLevel) → length (elim level as (λ v. Buffer) [ MonotoneGraphemes ↦ merge_at start end b | MonotoneCharacters ↦ merge_at start end b | Characters ↦ unsafe_to_break start end b ]).items ≡ length b.items
+    at_level : (level : BufferClusterLevel)
+        → length (elim level as (λ v. Buffer) [ MonotoneGraphemes ↦ merge_at start end b | MonotoneCharacters ↦ merge_at start end b | Characters ↦ unsafe_to_break start end b ]).items ≡ length b.items
     at_level MonotoneGraphemes = length-merge start end b.items
     at_level MonotoneCharacters = length-merge start end b.items
     at_level Characters = length-masks (alone-unsafe_to_break start end b)
@@ -49,7 +50,8 @@ Made-joined rule i b new made within =
     }
 
 -- one more place is visited
-pub Made-ligated : (rule : Ligature) (i : ℕ) {old mid new : Buffer} → Made (ligated_to rule i) old mid → Made (ligated_at rule i) mid new → Made (ligated_to rule (suc i)) old new
+pub Made-ligated : (rule : Ligature) (i : ℕ) {old mid new : Buffer} → Made (ligated_to rule i) old mid → Made (ligated_at rule i) mid new
+    → Made (ligated_to rule (suc i)) old new
 Made-ligated rule i {old} {mid} {new} first second = record {
   made = second.made ∙ ap (ligated_at rule i) first.made;
   no_longer = omega (arith, first.no_longer, second.no_longer);
@@ -70,7 +72,8 @@ pub Outcome-replaced : (rule : Multiple) (old new : Buffer) (items : List Item) 
     → Outcome (step (multiplied rule)) old new result
 unfolding multiplied
 Outcome-replaced rule old new items n (Ok x) is many ok past =
-    let made = ok ∙ ap₂ (λ (xs : List Item) (k : ℕ). record old { items = xs; positions = replicate k zero_position }) is (many ∙ ap length is) in
+    let made = ok
+    ∙ ap₂ (λ (xs : List Item) (k : ℕ). record old { items = xs; positions = replicate k zero_position }) is (many ∙ ap length is) in
     let long : n ≡ length (flat_map (two_for_one rule) old.items) = many ∙ ap length is in
     let within : n ≤ limit_of old = elim (cases_order (limit_of old) n) [
       | inl same ↦ omega (arith, same)
@@ -90,7 +93,8 @@ Outcome-replaced rule old new items n (Err Length) is many ok past =
     for_length (inl (omega arith))
 
 -- a growth was refused before
-pub Outcome-refused : (f : Buffer → Buffer) (old new : Buffer) (result : Result (Unit {0}) ShapeError) → IsErrAnd result (λ e. e ≡ Memory) → Outcome (step f) old new result
+pub Outcome-refused : (f : Buffer → Buffer) (old new : Buffer) (result : Result (Unit {0}) ShapeError) → IsErrAnd result (λ e. e ≡ Memory)
+    → Outcome (step f) old new result
 Outcome-refused f old new (Ok x) is = absurd is
 Outcome-refused f old new (Err Memory) is = for_memory
 Outcome-refused f old new (Err Length) is = absurd (let e : Length ≡ Memory = is in cc)

@@ -7,8 +7,8 @@ use Rattle.shape_buffer.specs.declared.buffer.general_category.hb_unicode_genera
 use Rattle.shape_buffer.specs.declared.buffer.general_category.hb_unicode_general_category_t.TheVariants.{OtherLetter, NonspacingMark, DecimalNumber, MathSymbol}
 
 -- of U+0301 that above
-abbrev pub digit_class : ℕ → ℕ
-digit_class c = if c == 0x301 then 230 else 0
+abbrev pub digit_ccc : ℕ → ℕ
+digit_ccc c = if c == 0x301 then 230 else 0
 
 abbrev pub digit_category : ℕ → hb_unicode_general_category_t
 digit_category c =
@@ -18,10 +18,10 @@ digit_category c =
 abbrev pub digit_unicode : UnicodeMeaning
 digit_unicode = record {
   category = digit_category;
-  class = digit_class;
+  ccc = digit_ccc;
   split = λ _. None;
   height = λ _. 0;
-  join = λ _ _. None;
+  compose = λ _ _. None;
   mirrored = λ _. None;
   vertical = λ _. None;
   space_fallback = λ _. 0;
@@ -32,23 +32,23 @@ digit_unicode = record {
   script_direction = λ _. None;
 }
 
-marks_have_classes : (c : ℕ) → digit_class c ≢ 0 → is_mark digit_unicode c ≡ true
-marks_have_classes c marked = grind (arith, nat_tests, marked)
+marks_have_ccc : (c : ℕ) → digit_ccc c ≢ 0 → is_mark digit_unicode c ≡ true
+marks_have_ccc c marked = grind (arith, nat_tests, marked)
 
 ascii_is_no_mark : (c : ℕ) → c < 128 → is_mark digit_unicode c ≡ false
 ascii_is_no_mark c ascii = grind (arith, nat_tests, ascii)
 
 pub digit_unicode-lawful : LawfulUnicode digit_unicode
 digit_unicode-lawful = record {
-  marks_have_classes = marks_have_classes;
+  marks_have_ccc = marks_have_ccc;
   ascii_is_no_mark = ascii_is_no_mark;
   mirrors_are_plain = λ c d mirrors. cc;
   verticals_are_plain = λ c d stands. cc;
   splits_fall = record {
     height_falls = record { falls = λ c a b splits. cc };
     second_is_last = λ c a b splits. cc;
-    first_class = λ c a b marked splits. cc;
-    second_class = λ c a b marked splits. cc;
+    first_ccc = λ c a b marked splits. cc;
+    second_ccc = λ c a b marked splits. cc;
   };
   composes_soundly = record { equivalent = λ a b c joins. cc };
 }

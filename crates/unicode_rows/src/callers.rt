@@ -6,9 +6,9 @@ ghost use Rattle.shape_unicode.specs.Meaning.{unicode_database};
 use shape_buffer::interfaces::hb_unicode_funcs_t;
 use shape_unicode::UnicodeDatabase;
 
-/// The class of a mark, and 0 for any other character.
-pub fn class_of_mark(c: char) -> u8
-    ensures { result ≡ (if is_mark unicode_database c then unicode_database.class c else 0) }
+/// The ccc of a mark, and 0 for any other character.
+pub fn ccc_of_mark(c: char) -> u8
+    ensures { result ≡ (if is_mark unicode_database c then unicode_database.ccc c else 0) }
 {
     if UnicodeDatabase::general_category(c).is_mark() {
         UnicodeDatabase::modified_combining_class(c)
@@ -26,14 +26,14 @@ pub fn mirrored_or_same(c: char) -> char
 
 /// Whether two characters compose.
 pub fn composes(a: char, b: char) -> bool
-    ensures { result ≡ is_some (unicode_database.join a b) }
+    ensures { result ≡ is_some (unicode_database.compose a b) }
 {
     UnicodeDatabase::compose(a, b).is_some()
 }
 
 /// The same of any functions of Unicode: a library is generic over them, and its caller chooses.
 pub fn composes_by<U: hb_unicode_funcs_t>(a: char, b: char) -> bool
-    ensures { result ≡ is_some (U.unicode.join a b) }
+    ensures { result ≡ is_some (U.unicode.compose a b) }
 {
     U::compose(a, b).is_some()
 }

@@ -12,7 +12,7 @@ use std::alloc::Global;
 
 /// A base and a mark to stand before a text, so that a mark stands past the first character whatever the
 /// text is, and all its marks are put in order. The two compose with nothing, and the mark has the lowest
-/// class.
+/// ccc.
 pub const BASE_WITH_MARK: [char; 2] = ['q', '\u{334}'];
 
 /// The characters of a text, behind a base with a mark, once it is prepared and normalised by a shaper.

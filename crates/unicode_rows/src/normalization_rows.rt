@@ -3,7 +3,7 @@
 /// The text, then its NFC, NFD, NFKC and NFKD. The first three columns are canonically equivalent, and so
 /// are the last two.
 ///
-/// Of part 0 most lines; of part 1 characters of each kind of mapping; of part 2 marks of the classes that
+/// Of part 0 most lines; of part 1 characters of each kind of mapping; of part 2 marks of the ccc that
 /// shaping changes, and of some that it keeps; of part 3 marks between two characters that would compose.
 pub const NORMALIZATION_ROWS: [[&str; 5]; 57] = [
     [

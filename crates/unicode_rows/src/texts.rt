@@ -8,7 +8,7 @@ pub struct Text {
     pub script: &'static [u8; 4],
     /// The characters.
     pub typed: &'static str,
-    /// The characters split as far as they split, and in order of the classes that shaping has.
+    /// The characters split as far as they split, and in order of the ccc that shaping has.
     pub decomposed: &'static str,
     /// The same with marks put together with their starters; jamo are no marks, so syllables stay split.
     pub recomposed: &'static str,
@@ -19,7 +19,7 @@ pub struct Text {
 }
 
 /// The texts. The lists are written by hand from UnicodeData.txt, and the order of Hebrew points and Arabic
-/// marks from the classes of HarfBuzz.
+/// marks from the ccc of HarfBuzz.
 pub const TEXTS: [Text; 7] = [
     Text {
         name: "Latin with stacked marks: Pinyin, Lithuanian, Livonian, Sanskrit",

@@ -7,7 +7,11 @@ ghost use Rattle.std.specs.Prelude.{◌≡◌, ◌+◌, ◌≤◌, ◌<◌, leng
 ghost use Rattle.std.specs.List.{prefix_len, suffix_len};
 ghost use Rattle.shape_buffer.specs.ClusterOrder.{KeepsClusters};
 ghost use Rattle.shape_buffer.specs.Items.{has_cluster, put_in};
-ghost use Rattle.shape_buffer.specs.Clusters.{clusters, least_cluster as least_cluster_of, growth_left as growth_left_of, growth_right as growth_right_of, map_range, mark_break as mark_break_of, mark_concat as mark_concat_of, merge};
+ghost use Rattle.shape_buffer.specs.Clusters.{clusters, least_cluster as least_cluster_of};
+ghost use Rattle.shape_buffer.specs.Clusters.{growth_left as growth_left_of};
+ghost use Rattle.shape_buffer.specs.Clusters.{growth_right as growth_right_of, map_range};
+ghost use Rattle.shape_buffer.specs.Clusters.{mark_break as mark_break_of};
+ghost use Rattle.shape_buffer.specs.Clusters.{mark_concat as mark_concat_of, merge};
 
 use crate::buffer::items::{UNSAFE_TO_BREAK, UNSAFE_TO_CONCAT, hb_glyph_info_t};
 
@@ -100,7 +104,9 @@ pub(crate) fn merge_items(infos: &mut [hb_glyph_info_t], start: usize, end: usiz
 pub(crate) fn mark_break(infos: &mut [hb_glyph_info_t], start: usize, end: usize)
     requires ordered { start ≤ end }
     requires within { end ≤ length infos.old }
-    ensures { infos.new ≡ map_range (mark_break_of (least_cluster_of (slice_range infos.old start end))) start end infos.old }
+    ensures { infos.new
+        ≡ map_range (mark_break_of (least_cluster_of (slice_range infos.old start end)))
+        start end infos.old }
 {
     let items: &[hb_glyph_info_t] = infos;
     let least = least_cluster(&items[start..end]);

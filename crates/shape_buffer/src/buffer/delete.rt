@@ -6,12 +6,15 @@
 //! A kept run of one cluster may take smaller clusters again and again. So that each item is written
 //! once, only the last item of the run is, and where each run begins is noted. An item of a run whose
 //! last item ends in a smaller cluster than its own has taken that one's: it is written at the end.
-ghost use Rattle.std.specs.Prelude.{◌≡◌, ◌+◌, ◌<◌, ◌≤◌, List, [], ◌∷◌, ◌++◌, length, take, drop, Bool};
+ghost use Rattle.std.specs.Prelude.{◌≡◌, ◌+◌, ◌<◌, ◌≤◌, List, [], ◌∷◌, ◌++◌, length, take, drop};
+ghost use Rattle.std.specs.Prelude.{Bool};
 ghost use Rattle.std.specs.Fn.{FnReturnsAt};
 ghost use Rattle.shape_buffer.specs.Items.{Item};
 ghost use Rattle.shape_buffer.specs.Buffer.{Buffer};
 ghost use Rattle.shape_buffer.specs.BufferClusters.{merge_clusters};
-ghost use Rattle.shape_buffer.specs.Delete.{give_to_kept, hand_over as hand_over_of, hand_on as hand_on_of, begins_in as begins_in_of, deleted};
+ghost use Rattle.shape_buffer.specs.Delete.{give_to_kept, hand_over as hand_over_of};
+ghost use Rattle.shape_buffer.specs.Delete.{hand_on as hand_on_of, begins_in as begins_in_of};
+ghost use Rattle.shape_buffer.specs.Delete.{deleted};
 ghost use Rattle.shape_buffer.specs.Unwritten.{StandsFor, follow as follow_of, written};
 
 use crate::buffer::clusters::{mark_break, merge_items};
@@ -68,7 +71,8 @@ fn write_runs(infos: &mut [hb_glyph_info_t], starts: &[usize])
 /// Notes where an item of that cluster, kept after these, begins a run; gives how many runs there are.
 fn open_run(kept: &[hb_glyph_info_t], starts: &mut [usize], count: usize, cluster: u32) -> usize
     requires { count < length starts.old }
-    ensures stands { (x : Item) → x.cluster ≡ cluster → (given : List Item) → StandsFor kept.now (take count starts.old) given
+    ensures stands { (x : Item) → x.cluster ≡ cluster → (given : List Item)
+        → StandsFor kept.now (take count starts.old) given
         → StandsFor (kept.now ++ x ∷ []) (take result starts.new) (given ++ x ∷ []) }
     ensures at_most { result ≤ count + 1 }
     ensures as_many { length starts.new ≡ length starts.old }
@@ -91,7 +95,8 @@ fn give_to_last(infos: &mut [hb_glyph_info_t], starts: &[usize], picked: &hb_gly
     requires some { 0 < length infos.old }
     requires stands { (given : List Item) × StandsFor infos.old starts.now given }
     ensures stands { (given : List Item) → StandsFor infos.old starts.now given
-        → StandsFor infos.new (take result starts.now) (give_to_kept (length infos.old) picked.now given) }
+        → StandsFor infos.new (take result starts.now)
+        (give_to_kept (length infos.old) picked.now given) }
     ensures as_many { length infos.new ≡ length infos.old }
     ensures at_most { result ≤ length starts.now }
 {
@@ -191,10 +196,17 @@ where
     requires callable { F.IsAlwaysCallable test }
     requires as_many { length positions.old.items ≡ length infos.old.items }
     requires room { length infos.old.items ≤ length starts.old }
-    ensures deleted { (picks : Item → Bool) → ((x : Item) (b : Bool) → FnReturnsAt F.Fn test x b → b ≡ picks x)
+    ensures deleted { (picks : Item → Bool)
+        → ((x : Item) (b : Bool) → FnReturnsAt F.Fn test x b → b ≡ picks x)
         → (b : Buffer) → b.cluster_level ≡ level
         → record b { items = infos.new.items; positions = positions.new.items; scratch_flags = scratch_flags.new }
-        ≡ deleted picks (record b { items = infos.old.items; positions = positions.old.items; scratch_flags = scratch_flags.old }) }
+        ≡ deleted picks (record b {
+          items =
+              infos.old.items;
+          positions =
+              positions.old.items;
+          scratch_flags = scratch_flags.old;
+        }) }
     ensures as_many { length positions.new.items ≡ length infos.new.items }
     ensures fewer { length infos.new.items ≤ length infos.old.items }
     ensures room { length starts.new ≡ length starts.old }

@@ -65,7 +65,7 @@ impl hb_glyph_info_t {
             cluster,
             properties: ItemProperties {
                 general_category: hb_unicode_general_category_t::UppercaseLetter,
-                modified_class: 0,
+                modified_ccc: 0,
                 ignorable: false,
                 hidden: false,
                 continuation: false,
@@ -98,7 +98,7 @@ impl hb_glyph_info_t {
         let mark = beyond_ascii && category.is_mark();
         let ignorable = beyond_ascii && U::is_default_ignorable(c);
         self.properties.general_category = category;
-        self.properties.modified_class = if mark {
+        self.properties.modified_ccc = if mark {
             U::modified_combining_class(c)
         } else {
             0
@@ -149,24 +149,30 @@ impl hb_glyph_info_t {
         &mut self,
         general_category: hb_unicode_general_category_t,
     )
-        ensures { self.new ≡ record self.old { properties = record self.old.properties { general_category = general_category } } }
+        ensures { self.new
+            ≡ record self.old {
+              properties = record self.old.properties { general_category = general_category };
+            } }
     {
         self.properties.general_category = general_category;
     }
 
     /// Reads the modified combining class: `init_unicode_props` sets it to the character's for marks of
     /// U+0080 and more, and to 0 for all others.
-    pub fn _hb_glyph_info_get_modified_class(&self) -> u8
-        ensures { result ≡ self.now.properties.modified_class }
+    pub fn _hb_glyph_info_get_modified_combining_class(&self) -> u8
+        ensures { result ≡ self.now.properties.modified_ccc }
     {
-        self.properties.modified_class
+        self.properties.modified_ccc
     }
 
     /// Sets the modified combining class, and nothing else.
-    pub fn _hb_glyph_info_set_modified_class(&mut self, modified_class: u8)
-        ensures { self.new ≡ record self.old { properties = record self.old.properties { modified_class = modified_class } } }
+    pub fn _hb_glyph_info_set_modified_combining_class(&mut self, modified_ccc: u8)
+        ensures { self.new
+            ≡ record self.old {
+              properties = record self.old.properties { modified_ccc = modified_ccc };
+            } }
     {
-        self.properties.modified_class = modified_class;
+        self.properties.modified_ccc = modified_ccc;
     }
 
     /// Reads the ignorable bit: `init_unicode_props` sets it for default ignorables of U+0080 and more, and
@@ -179,7 +185,10 @@ impl hb_glyph_info_t {
 
     /// Sets or unsets the ignorable bit, and nothing else.
     pub fn _hb_glyph_info_set_ignorable(&mut self, ignorable: bool)
-        ensures { self.new ≡ record self.old { properties = record self.old.properties { ignorable = ignorable } } }
+        ensures { self.new
+            ≡ record self.old {
+              properties = record self.old.properties { ignorable = ignorable };
+            } }
     {
         self.properties.ignorable = ignorable;
     }
@@ -194,7 +203,8 @@ impl hb_glyph_info_t {
 
     /// Sets or unsets the hidden bit, and nothing else.
     pub fn _hb_glyph_info_set_hidden(&mut self, hidden: bool)
-        ensures { self.new ≡ record self.old { properties = record self.old.properties { hidden = hidden } } }
+        ensures { self.new
+            ≡ record self.old { properties = record self.old.properties { hidden = hidden } } }
     {
         self.properties.hidden = hidden;
     }
@@ -209,7 +219,10 @@ impl hb_glyph_info_t {
 
     /// Sets or unsets the continuation bit, and nothing else.
     pub fn _hb_glyph_info_set_continuation(&mut self, continuation: bool)
-        ensures { self.new ≡ record self.old { properties = record self.old.properties { continuation = continuation } } }
+        ensures { self.new
+            ≡ record self.old {
+              properties = record self.old.properties { continuation = continuation };
+            } }
     {
         self.properties.continuation = continuation;
     }
@@ -224,7 +237,8 @@ impl hb_glyph_info_t {
 
     /// Sets or unsets the bit of zero width joiners, and nothing else.
     pub fn _hb_glyph_info_set_zwj(&mut self, zwj: bool)
-        ensures { self.new ≡ record self.old { properties = record self.old.properties { zwj = zwj } } }
+        ensures { self.new
+            ≡ record self.old { properties = record self.old.properties { zwj = zwj } } }
     {
         self.properties.zwj = zwj;
     }
@@ -239,7 +253,8 @@ impl hb_glyph_info_t {
 
     /// Sets or unsets the bit of zero width non-joiners, and nothing else.
     pub fn _hb_glyph_info_set_zwnj(&mut self, zwnj: bool)
-        ensures { self.new ≡ record self.old { properties = record self.old.properties { zwnj = zwnj } } }
+        ensures { self.new
+            ≡ record self.old { properties = record self.old.properties { zwnj = zwnj } } }
     {
         self.properties.zwnj = zwnj;
     }
@@ -253,7 +268,10 @@ impl hb_glyph_info_t {
 
     /// Sets the remembered type of a space without a glyph, and nothing else.
     pub fn _hb_glyph_info_set_space_type(&mut self, space_type: u8)
-        ensures { self.new ≡ record self.old { properties = record self.old.properties { space_type = space_type } } }
+        ensures { self.new
+            ≡ record self.old {
+              properties = record self.old.properties { space_type = space_type };
+            } }
     {
         self.properties.space_type = space_type;
     }
@@ -269,7 +287,10 @@ impl hb_glyph_info_t {
     /// Sets or unsets the selector mark, of a variation selector for which the face has no variation glyph
     /// with the item before it, and nothing else.
     pub fn _hb_glyph_info_set_selector_mark(&mut self, selector_mark: bool)
-        ensures { self.new ≡ record self.old { properties = record self.old.properties { selector_mark = selector_mark } } }
+        ensures { self.new
+            ≡ record self.old {
+              properties = record self.old.properties { selector_mark = selector_mark };
+            } }
     {
         self.properties.selector_mark = selector_mark;
     }
@@ -284,7 +305,13 @@ impl hb_glyph_info_t {
     /// Sets the flags of the glyph's class, and nothing else. Bits that [`GlyphPropsFlags`] doesn't define
     /// are dropped.
     pub fn _hb_glyph_info_set_glyph_class(&mut self, glyph_class: GlyphPropsFlags)
-        ensures { self.new ≡ record self.old { properties = record self.old.properties { glyph_class = record { 0 = bit_and glyph_class.0 14 } } } }
+        ensures { self.new
+            ≡ record self.old {
+              properties =
+                  record self.old.properties {
+                    glyph_class = record { 0 = bit_and glyph_class.0 14 };
+                  };
+            } }
     {
         self.properties.glyph_class = GlyphPropsFlags(glyph_class.0 & 14);
     }
@@ -298,7 +325,10 @@ impl hb_glyph_info_t {
 
     /// Sets or unsets the substituted bit, and nothing else.
     pub fn _hb_glyph_info_set_substituted(&mut self, substituted: bool)
-        ensures { self.new ≡ record self.old { properties = record self.old.properties { substituted = substituted } } }
+        ensures { self.new
+            ≡ record self.old {
+              properties = record self.old.properties { substituted = substituted };
+            } }
     {
         self.properties.substituted = substituted;
     }
@@ -312,7 +342,8 @@ impl hb_glyph_info_t {
 
     /// Sets or unsets the ligated bit, and nothing else.
     pub fn _hb_glyph_info_set_ligated(&mut self, ligated: bool)
-        ensures { self.new ≡ record self.old { properties = record self.old.properties { ligated = ligated } } }
+        ensures { self.new
+            ≡ record self.old { properties = record self.old.properties { ligated = ligated } } }
     {
         self.properties.ligated = ligated;
     }
@@ -326,7 +357,10 @@ impl hb_glyph_info_t {
 
     /// Sets the number of the ligature that the glyph is or belongs to, and nothing else.
     pub fn _hb_glyph_info_set_ligature_id(&mut self, ligature_id: u8)
-        ensures { self.new ≡ record self.old { properties = record self.old.properties { ligature_id = ligature_id } } }
+        ensures { self.new
+            ≡ record self.old {
+              properties = record self.old.properties { ligature_id = ligature_id };
+            } }
     {
         self.properties.ligature_id = ligature_id;
     }
@@ -340,7 +374,10 @@ impl hb_glyph_info_t {
 
     /// Sets the component of the ligature that a mark belongs to, and nothing else.
     pub fn _hb_glyph_info_set_ligature_component(&mut self, ligature_component: u8)
-        ensures { self.new ≡ record self.old { properties = record self.old.properties { ligature_component = ligature_component } } }
+        ensures { self.new
+            ≡ record self.old {
+              properties = record self.old.properties { ligature_component = ligature_component };
+            } }
     {
         self.properties.ligature_component = ligature_component;
     }
@@ -354,7 +391,11 @@ impl hb_glyph_info_t {
 
     /// Sets how many components a ligature has, and nothing else.
     pub fn _hb_glyph_info_set_number_of_components(&mut self, number_of_components: u8)
-        ensures { self.new ≡ record self.old { properties = record self.old.properties { number_of_components = number_of_components } } }
+        ensures { self.new
+            ≡ record self.old {
+              properties =
+                  record self.old.properties { number_of_components = number_of_components };
+            } }
     {
         self.properties.number_of_components = number_of_components;
     }

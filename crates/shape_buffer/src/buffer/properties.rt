@@ -11,7 +11,7 @@ use std::marker::Model;
 #[derive(Clone, Copy, Debug)]
 pub(crate) struct ItemProperties {
     pub(crate) general_category: hb_unicode_general_category_t,
-    pub(crate) modified_class: u8,
+    pub(crate) modified_ccc: u8,
     pub(crate) ignorable: bool,
     pub(crate) hidden: bool,
     pub(crate) continuation: bool,
@@ -37,7 +37,7 @@ impl Model for ItemProperties {
 
     ghost view = { λ p. record {
       general_category = p.general_category;
-      modified_class = p.modified_class;
+      modified_ccc = p.modified_ccc;
       ignorable = p.ignorable;
       hidden = p.hidden;
       continuation = p.continuation;
@@ -58,7 +58,7 @@ impl Model for ItemProperties {
 
     ghost inverse = { λ p. record {
       general_category = p.general_category;
-      modified_class = p.modified_class;
+      modified_ccc = p.modified_ccc;
       ignorable = p.ignorable;
       hidden = p.hidden;
       continuation = p.continuation;

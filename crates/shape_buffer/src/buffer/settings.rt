@@ -64,7 +64,8 @@ impl Feature {
 }
 
 impl Direction {
-    ghost use Rattle.shape_buffer.specs.Direction.{is_horizontal, is_vertical, is_forward, is_backward, reverse_of};
+    ghost use Rattle.shape_buffer.specs.Direction.{is_horizontal, is_vertical, is_forward};
+    ghost use Rattle.shape_buffer.specs.Direction.{is_backward, reverse_of};
 
     /// Whether this is one of left to right and right to left.
     pub fn is_horizontal(self) -> bool

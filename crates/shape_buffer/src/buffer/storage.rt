@@ -169,7 +169,8 @@ impl hb_buffer_t {
     /// Replaces a position.
     pub fn set_position(&mut self, i: usize, position: GlyphPosition)
         requires { i < length self.old.items }
-        ensures { self.new ≡ record self.old { positions = slice_set self.old.positions i position } }
+        ensures { self.new
+            ≡ record self.old { positions = slice_set self.old.positions i position } }
     {
         self.positions[i] = position;
     }

@@ -1,5 +1,6 @@
 //! Text that waits to be shaped.
-ghost use Rattle.std.specs.Prelude.{◌≡◌, ◌<◌, ◌≤◌, ◌^◌, ◌↔◌, [], ◌∷◌, ◌++◌, length, replicate, string_bytes, IsTrue, IsOkUnless, OnOk, OnErr};
+ghost use Rattle.std.specs.Prelude.{◌≡◌, ◌<◌, ◌≤◌, ◌^◌, ◌↔◌, [], ◌∷◌, ◌++◌, length, replicate};
+ghost use Rattle.std.specs.Prelude.{string_bytes, IsTrue, IsOkUnless, OnOk, OnErr};
 ghost use Rattle.std.specs.Option.{option_map};
 
 use crate::buffer::error::ShapeError;
@@ -137,7 +138,10 @@ impl UnicodeBuffer {
 
     /// Sets or unsets the language of the text, and nothing else.
     pub fn set_language(&mut self, language: Option<Language>)
-        ensures { self.new ≡ record self.old { language = option_map (λ language. string_bytes language.0) language } }
+        ensures { self.new
+            ≡ record self.old {
+              language = option_map (λ language. string_bytes language.0) language;
+            } }
     {
         self.buffer.set_language(language);
     }
@@ -197,7 +201,10 @@ impl UnicodeBuffer {
         &mut self,
         not_found_variation_selector_glyph: Option<GlyphId>,
     )
-        ensures { self.new ≡ record self.old { not_found_variation_selector_glyph = not_found_variation_selector_glyph } }
+        ensures { self.new
+            ≡ record self.old {
+              not_found_variation_selector_glyph = not_found_variation_selector_glyph;
+            } }
     {
         self.buffer
             .set_not_found_variation_selector_glyph(not_found_variation_selector_glyph);

@@ -1,7 +1,8 @@
 //! What shaping asks of a layout engine.
 ghost use Rattle.std.specs.Prelude.{◌≡◌, MatchResult, string_bytes};
 ghost use Rattle.std.specs.Option.{option_map};
-ghost use Rattle.shape_buffer.specs.Layout.{LayoutMeaning, MapMeaning, LookupMeaning, LawfulMasks, LawfulLookups};
+ghost use Rattle.shape_buffer.specs.Layout.{LayoutMeaning, MapMeaning, LookupMeaning, LawfulMasks};
+ghost use Rattle.shape_buffer.specs.Layout.{LawfulLookups};
 ghost use Rattle.shape_buffer.specs.Outcome.{IsWithinLimit, Made, Outcome, step};
 
 use crate::buffer::{Feature, Language, Script, ShapeError, hb_buffer_t, hb_mask_t, hb_tag_t};
@@ -81,7 +82,8 @@ pub trait hb_ot_layout_t<F> {
 
     /// Prepares a buffer for substitution.
     fn substitute_start(face: &F, buffer: &mut hb_buffer_t)
-        ensures { (map : Self.Map) → Made (lookups map face.now).substitute_start buffer.old buffer.new };
+        ensures { (map : Self.Map)
+            → Made (lookups map face.now).substitute_start buffer.old buffer.new };
 
     /// How many stages substitution has, with a pause behind each.
     fn stages(map: &Self::Map) -> usize
@@ -96,7 +98,8 @@ pub trait hb_ot_layout_t<F> {
         buffer: &mut hb_buffer_t,
     ) -> Result<(), ShapeError>
         requires { IsWithinLimit buffer.old }
-        ensures { Outcome (step ((lookups map.now face.now).stage i)) buffer.old buffer.new result };
+        ensures { Outcome (step ((lookups map.now face.now).stage i))
+            buffer.old buffer.new result };
 
     /// The number of the pause behind stage `i`, where it has one.
     fn pause_after(map: &Self::Map, i: usize) -> Option<u32>
@@ -111,19 +114,23 @@ pub trait hb_ot_layout_t<F> {
         buffer: &mut hb_buffer_t,
     ) -> Result<(), ShapeError>
         requires { IsWithinLimit buffer.old }
-        ensures { Outcome (step ((lookups map.now face.now).aat_substitute user_features.now)) buffer.old buffer.new result };
+        ensures { Outcome (step ((lookups map.now face.now).aat_substitute user_features.now))
+            buffer.old buffer.new result };
 
     /// Takes out the glyphs that `morx` has deleted.
     fn aat_remove_deleted(buffer: &mut hb_buffer_t)
-        ensures { (map : Self.Map) (face : F) → Made (lookups map face).aat_remove_deleted buffer.old buffer.new };
+        ensures { (map : Self.Map) (face : F)
+            → Made (lookups map face).aat_remove_deleted buffer.old buffer.new };
 
     /// Takes the width from the glyphs that `morx` has deleted.
     fn aat_zero_width_deleted(buffer: &mut hb_buffer_t)
-        ensures { (map : Self.Map) (face : F) → Made (lookups map face).aat_zero_width_deleted buffer.old buffer.new };
+        ensures { (map : Self.Map) (face : F)
+            → Made (lookups map face).aat_zero_width_deleted buffer.old buffer.new };
 
     /// Prepares a buffer for positioning.
     fn position_start(face: &F, buffer: &mut hb_buffer_t)
-        ensures { (map : Self.Map) → Made (lookups map face.now).position_start buffer.old buffer.new };
+        ensures { (map : Self.Map)
+            → Made (lookups map face.now).position_start buffer.old buffer.new };
 
     /// Positions by the table `GPOS`.
     fn position(
@@ -137,11 +144,13 @@ pub trait hb_ot_layout_t<F> {
 
     /// Finishes the advances of glyphs.
     fn position_finish_advances(face: &F, buffer: &mut hb_buffer_t)
-        ensures { (map : Self.Map) → Made (lookups map face.now).position_finish_advances buffer.old buffer.new };
+        ensures { (map : Self.Map)
+            → Made (lookups map face.now).position_finish_advances buffer.old buffer.new };
 
     /// Finishes the offsets of glyphs.
     fn position_finish_offsets(face: &F, buffer: &mut hb_buffer_t)
-        ensures { (map : Self.Map) → Made (lookups map face.now).position_finish_offsets buffer.old buffer.new };
+        ensures { (map : Self.Map)
+            → Made (lookups map face.now).position_finish_offsets buffer.old buffer.new };
 
     /// Positions by the table `kerx`.
     fn aat_position(
@@ -152,7 +161,8 @@ pub trait hb_ot_layout_t<F> {
         buffer: &mut hb_buffer_t,
     ) -> Result<(), ShapeError>
         requires { IsWithinLimit buffer.old }
-        ensures { Outcome (step ((lookups map.now face.now).aat_position kern_mask)) buffer.old buffer.new result };
+        ensures { Outcome (step ((lookups map.now face.now).aat_position kern_mask))
+            buffer.old buffer.new result };
 
     /// Positions by the table `kern`.
     fn kern(
@@ -162,7 +172,8 @@ pub trait hb_ot_layout_t<F> {
         buffer: &mut hb_buffer_t,
     ) -> Result<(), ShapeError>
         requires { IsWithinLimit buffer.old }
-        ensures { (map : Self.Map) → Outcome (step ((lookups map face.now).kern kern_mask)) buffer.old buffer.new result };
+        ensures { (map : Self.Map)
+            → Outcome (step ((lookups map face.now).kern kern_mask)) buffer.old buffer.new result };
 
     /// No mask has a defined flag bit, and shifts are below 32.
     ghost lawful_masks: { (map : Self.Map) → LawfulMasks (masks map) };

@@ -48,8 +48,10 @@ impl MapFace {
     /// before. Refuses where a growth was refused; then the character keeps the glyph that it had.
     pub fn set_glyph(&mut self, c: char, glyph: GlyphId, metrics: Metrics) -> Result<(), AllocError>
         ensures units_per_em { self.new.units_per_em ≡ self.old.units_per_em }
-        ensures glyphs { OnOk result (self.new.glyphs.entries ≡ insert_entry nat_cmp self.old.glyphs.entries c glyph) }
-        ensures metrics { OnOk result (self.new.metrics.entries ≡ insert_entry nat_cmp self.old.metrics.entries glyph.0 metrics) }
+        ensures glyphs { OnOk result (self.new.glyphs.entries
+            ≡ insert_entry nat_cmp self.old.glyphs.entries c glyph) }
+        ensures metrics { OnOk result (self.new.metrics.entries
+            ≡ insert_entry nat_cmp self.old.metrics.entries glyph.0 metrics) }
         ensures err { OnErr result (self.new.glyphs.entries ≡ self.old.glyphs.entries) }
     {
         self.metrics.insert(glyph.0, metrics)?;

@@ -1,5 +1,6 @@
 //! A layout engine for faces without tables of lookups.
-ghost use Rattle.shape_buffer.specs.NoLookups.{no_layout, no_masks, no_lookups, no_masks-lawful, no_lookups-lawful};
+ghost use Rattle.shape_buffer.specs.NoLookups.{no_layout, no_masks, no_lookups, no_masks-lawful};
+ghost use Rattle.shape_buffer.specs.NoLookups.{no_lookups-lawful};
 
 use crate::buffer::{Feature, Language, Script, ShapeError, hb_buffer_t, hb_mask_t, hb_tag_t};
 use crate::interfaces::layout::hb_ot_layout_t;

@@ -17,7 +17,7 @@ pub trait hb_unicode_funcs_t {
 
     /// The combining class that shaping orders marks by, 0 for a character that is not ordered.
     fn modified_combining_class(c: char) -> u8
-        ensures { result ≡ unicode.class c };
+        ensures { result ≡ unicode.ccc c };
 
     /// The two parts that a character splits into in one step; the second one is U+0000 where the
     /// character has one part alone (UAX 44, Decomposition_Mapping without a tag).
@@ -27,7 +27,7 @@ pub trait hb_unicode_funcs_t {
     /// The character that two characters make in one step (The Unicode Standard, D114, primary
     /// composites), where there is one.
     fn compose(a: char, b: char) -> Option<char>
-        ensures { result ≡ unicode.join a b };
+        ensures { result ≡ unicode.compose a b };
 
     /// The character whose glyph is the mirror image of this one's (UAX 9, Bidi_Mirroring_Glyph), where
     /// there is one.

@@ -7,7 +7,8 @@ ghost use Rattle.std.specs.Prelude.{◌≡◌, ◌+◌, ◌<◌, ◌≤◌, leng
 ghost use Rattle.std.specs.List.{prefix_len};
 ghost use Rattle.shape_buffer.specs.Items.{is_mark_item};
 ghost use Rattle.shape_buffer.specs.Outcome.{Made};
-ghost use Rattle.shape_fallback.specs.Bases.{bases_positioned, position_span as position_span_of, positioned_at};
+ghost use Rattle.shape_fallback.specs.Bases.{bases_positioned, position_span as position_span_of};
+ghost use Rattle.shape_fallback.specs.Bases.{positioned_at};
 
 use crate::ot_shape_fallback::marks::{Setting, first_state, make_base, place_marks, zero_marks};
 use shape_buffer::buffer::{GlyphId, hb_buffer_t, hb_glyph_info_t};

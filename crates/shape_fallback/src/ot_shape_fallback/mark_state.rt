@@ -1,11 +1,18 @@
 //! Placing the marks of a base, one after the other.
 //!
-//! A mark stands beyond the marks of its class before it, so each hands on the box that it leaves. A mark
-//! of another class begins at the base's own box again, and one of another component of a ligature at that
+//! A mark stands beyond the marks of its ccc before it, so each hands on the box that it leaves. A mark
+//! of another ccc begins at the base's own box again, and one of another component of a ligature at that
 //! component's. The pen has passed the base when it comes to the marks, so in forward text each is moved
 //! back by the advances since.
 ghost use Rattle.std.specs.Prelude.{◌≡◌, pos, ◌<◌};
-ghost use Rattle.shape_fallback.specs.MarkState.{component_of, place_of, component_extents as component_extents_of, is_same as is_same_of, at_component as at_component_of, with_component as with_component_of, with_class as with_class_of, passed as passed_of, moved as moved_of, place_in as place_in_of, place_mark as place_mark_of};
+ghost use Rattle.shape_fallback.specs.MarkState.{component_of, place_of};
+ghost use Rattle.shape_fallback.specs.MarkState.{component_extents as component_extents_of};
+ghost use Rattle.shape_fallback.specs.MarkState.{is_same as is_same_of};
+ghost use Rattle.shape_fallback.specs.MarkState.{at_component as at_component_of};
+ghost use Rattle.shape_fallback.specs.MarkState.{with_component as with_component_of};
+ghost use Rattle.shape_fallback.specs.MarkState.{with_ccc as with_ccc_of, passed as passed_of};
+ghost use Rattle.shape_fallback.specs.MarkState.{moved as moved_of, place_in as place_in_of};
+ghost use Rattle.shape_fallback.specs.MarkState.{place_mark as place_mark_of};
 
 use crate::ot_shape_fallback::one_mark::{Placed, Surroundings, position_mark};
 use shape_buffer::buffer::{GlyphId, GlyphPosition, hb_glyph_info_t};
@@ -29,8 +36,8 @@ pub struct MarkState {
     /// The last component, at first -1.
     pub component: i32,
     pub component_extents: hb_glyph_extents_t,
-    /// The last class, at first 255.
-    pub class: u8,
+    /// The last ccc, at first 255.
+    pub ccc: u8,
     pub extents: hb_glyph_extents_t,
     /// The running offset.
     pub x_offset: i32,
@@ -110,7 +117,7 @@ fn at_component(base: Base, info: &hb_glyph_info_t, mut state: MarkState) -> Mar
     }
     state.component_extents = component_extents(base, component);
     state.component = component;
-    state.class = 255;
+    state.ccc = 255;
     state
 }
 
@@ -126,20 +133,20 @@ fn with_component(base: Base, info: &hb_glyph_info_t, state: MarkState) -> MarkS
     }
 }
 
-/// Goes to a class.
-#[tactic(auto, using(shape_buffer::proofs::WrappingLemmas::kept_bits), unfolding(crate::specs::MarkState::with_class))]
-fn with_class(class: u8, mut state: MarkState) -> MarkState
-    ensures { result ≡ with_class_of class state }
+/// Goes to a ccc.
+#[tactic(auto, using(shape_buffer::proofs::WrappingLemmas::kept_bits), unfolding(crate::specs::MarkState::with_ccc))]
+fn with_ccc(ccc: u8, mut state: MarkState) -> MarkState
+    ensures { result ≡ with_ccc_of ccc state }
 {
-    if class == state.class {
+    if ccc == state.ccc {
         return state;
     }
-    state.class = class;
+    state.ccc = ccc;
     state.extents = state.component_extents;
     state
 }
 
-/// Passes by a mark without a class.
+/// Passes by a mark without a ccc.
 #[tactic(auto, using(shape_buffer::proofs::WrappingLemmas::kept_bits), unfolding(crate::specs::MarkState::passed))]
 fn passed(forward: bool, position: GlyphPosition, mut state: MarkState) -> MarkState
     ensures { result ≡ passed_of forward position state }
@@ -166,7 +173,7 @@ fn moved(mut position: GlyphPosition, state: &MarkState) -> GlyphPosition
     position
 }
 
-/// Places a mark of a class in the state that it is placed in.
+/// Places a mark of a ccc in the state that it is placed in.
 #[tactic(auto, using(shape_buffer::proofs::WrappingLemmas::kept_bits), unfolding(crate::specs::MarkState::place_in))]
 fn place_in<F: hb_font_t>(
     face: &F,
@@ -181,7 +188,7 @@ fn place_in<F: hb_font_t>(
         face,
         base.surroundings,
         GlyphId(info.glyph_id),
-        info._hb_glyph_info_get_modified_class(),
+        info._hb_glyph_info_get_modified_combining_class(),
         Placed {
             position,
             base: state.extents,
@@ -203,11 +210,11 @@ pub fn place_mark<F: hb_font_t>(
 ) -> MarkStep
     ensures { result ≡ place_mark_of (F.face face.now) base state info.now position }
 {
-    let class = info._hb_glyph_info_get_modified_class();
-    if class == 0 {
+    let ccc = info._hb_glyph_info_get_modified_combining_class();
+    if ccc == 0 {
         let state = passed(base.surroundings.forward, position, state);
         return MarkStep { position, state };
     }
-    let state = with_class(class, with_component(base, info, state));
+    let state = with_ccc(ccc, with_component(base, info, state));
     place_in(face, base, state, info, position)
 }

@@ -3,7 +3,9 @@
 //! A base with a box of its own hands each mark the state that the marks before it have left; one
 //! without a box only takes the advances of its nonspacing marks.
 ghost use Rattle.std.specs.Prelude.{◌≡◌, ◌≤◌, length};
-ghost use Rattle.shape_fallback.specs.Marks.{base_of, first_state as first_state_of, marks_placed, without_advances as without_advances_of, zeroed as zeroed_of};
+ghost use Rattle.shape_fallback.specs.Marks.{base_of, first_state as first_state_of, marks_placed};
+ghost use Rattle.shape_fallback.specs.Marks.{without_advances as without_advances_of};
+ghost use Rattle.shape_fallback.specs.Marks.{zeroed as zeroed_of};
 ghost use Rattle.shape_fallback.specs.Positions.{each_placed, with_positions};
 
 use crate::ot_shape_fallback::mark_state::{Base, MarkState, place_mark};
@@ -49,7 +51,8 @@ pub(crate) fn place_marks<F: hb_font_t>(
 )
     requires ordered { from ≤ to }
     requires within { to ≤ length buffer.old.items }
-    ensures { buffer.new ≡ with_positions (marks_placed (F.face face.now) base first) from to buffer.old }
+    ensures { buffer.new
+        ≡ with_positions (marks_placed (F.face face.now) base first) from to buffer.old }
 {
     let mut state = first;
     for i in from..to {
@@ -117,7 +120,7 @@ pub(crate) fn first_state(base: Base, position: GlyphPosition) -> MarkState
     let mut state = MarkState {
         component: -1,
         component_extents: base.extents,
-        class: 255,
+        ccc: 255,
         extents: base.extents,
         x_offset: 0,
         y_offset: 0,

@@ -1,40 +1,49 @@
 //! Placing one mark.
 //!
-//! The class says at which side of the base the mark stands. Across, its box is put against the left or
+//! The ccc says at which side of the base the mark stands. Across, its box is put against the left or
 //! the right of the base's, or to the middle. Up and down, it comes a gap below or above the base, or
 //! touches it; a mark drawn for a lower base is never moved up to this one, and a mark drawn for a higher
-//! base only half of the way down. The base's box then grows by the mark, so that the next one of the class
+//! base only half of the way down. The base's box then grows by the mark, so that the next one of the ccc
 //! stands beyond.
 ghost use Rattle.std.specs.Prelude.{◌≡◌, if◌then◌else◌, neg_ℤ, pos};
-ghost use Rattle.shape_fallback.specs.Exact.{Fits32, StackedFits, XOffsetFits, exact_hung, exact_piled, exact_x_offset, hung_at, piled_at};
-ghost use Rattle.shape_fallback.specs.OneMark.{is_double as is_double_of, is_left as is_left_of, is_right as is_right_of, mark_x_offset as mark_x_offset_of, agree as agree_of, is_below as is_below_of, is_above as is_above_of, is_attached as is_attached_of, hung as hung_of, lowered as lowered_of, piled as piled_of, raised as raised_of, stacked as stacked_of, placed as placed_of};
+ghost use Rattle.shape_fallback.specs.Exact.{Fits32, StackedFits, XOffsetFits, exact_hung};
+ghost use Rattle.shape_fallback.specs.Exact.{exact_piled, exact_x_offset, hung_at, piled_at};
+ghost use Rattle.shape_fallback.specs.OneMark.{is_double as is_double_of, is_left as is_left_of};
+ghost use Rattle.shape_fallback.specs.OneMark.{is_right as is_right_of};
+ghost use Rattle.shape_fallback.specs.OneMark.{mark_x_offset as mark_x_offset_of};
+ghost use Rattle.shape_fallback.specs.OneMark.{agree as agree_of, is_below as is_below_of};
+ghost use Rattle.shape_fallback.specs.OneMark.{is_above as is_above_of};
+ghost use Rattle.shape_fallback.specs.OneMark.{is_attached as is_attached_of, hung as hung_of};
+ghost use Rattle.shape_fallback.specs.OneMark.{lowered as lowered_of, piled as piled_of};
+ghost use Rattle.shape_fallback.specs.OneMark.{raised as raised_of, stacked as stacked_of};
+ghost use Rattle.shape_fallback.specs.OneMark.{placed as placed_of};
 
 use shape_buffer::buffer::{GlyphId, GlyphPosition};
 use shape_buffer::interfaces::{hb_font_t, hb_glyph_extents_t};
 use shape_buffer::wrapping::{difference, half, negative, sum};
 
-/// Whether the class is of marks over two letters: 233 below them, 234 above.
+/// Whether the ccc is of marks over two letters: 233 below them, 234 above.
 #[tactic(auto, unfolding(crate::specs::OneMark::is_double))]
-fn is_double(class: u8) -> bool
-    ensures { result ≡ is_double_of class }
+fn is_double(ccc: u8) -> bool
+    ensures { result ≡ is_double_of ccc }
 {
-    matches!(class, 233 | 234)
+    matches!(ccc, 233 | 234)
 }
 
-/// Whether the class is of marks at the left: 200 and 218 below, 228 above.
+/// Whether the ccc is of marks at the left: 200 and 218 below, 228 above.
 #[tactic(auto, unfolding(crate::specs::OneMark::is_left))]
-fn is_left(class: u8) -> bool
-    ensures { result ≡ is_left_of class }
+fn is_left(ccc: u8) -> bool
+    ensures { result ≡ is_left_of ccc }
 {
-    matches!(class, 200 | 218 | 228)
+    matches!(ccc, 200 | 218 | 228)
 }
 
-/// Whether the class is of marks at the right: 222 below, 216 and 232 above.
+/// Whether the ccc is of marks at the right: 222 below, 216 and 232 above.
 #[tactic(auto, unfolding(crate::specs::OneMark::is_right))]
-fn is_right(class: u8) -> bool
-    ensures { result ≡ is_right_of class }
+fn is_right(ccc: u8) -> bool
+    ensures { result ≡ is_right_of ccc }
 {
-    matches!(class, 216 | 222 | 232)
+    matches!(ccc, 216 | 222 | 232)
 }
 
 /// The base's width in forward text, else none.
@@ -49,22 +58,22 @@ fn forward_width(forward: bool, base: hb_glyph_extents_t) -> i32
 pub(crate) fn mark_x_offset(
     horizontal: bool,
     forward: bool,
-    class: u8,
+    ccc: u8,
     base: hb_glyph_extents_t,
     mark: hb_glyph_extents_t,
 ) -> i32
-    ensures value { result ≡ mark_x_offset_of horizontal forward class base mark }
-    ensures exact { XOffsetFits horizontal forward class base mark
-        → result ≡ exact_x_offset horizontal forward class base mark }
+    ensures value { result ≡ mark_x_offset_of horizontal forward ccc base mark }
+    ensures exact { XOffsetFits horizontal forward ccc base mark
+        → result ≡ exact_x_offset horizontal forward ccc base mark }
 {
-    if horizontal && is_double(class) {
+    if horizontal && is_double(ccc) {
         let end = sum(base.x_bearing, forward_width(forward, base));
         return difference(difference(end, half(mark.width)), mark.x_bearing);
     }
-    if is_left(class) {
+    if is_left(ccc) {
         return difference(base.x_bearing, mark.x_bearing);
     }
-    if is_right(class) {
+    if is_right(ccc) {
         let end = sum(base.x_bearing, base.width);
         return difference(difference(end, mark.width), mark.x_bearing);
     }
@@ -80,28 +89,28 @@ fn agree(a: i32, b: i32) -> bool
     (a > 0) == (b > 0)
 }
 
-/// Whether the class is of marks below the base.
+/// Whether the ccc is of marks below the base.
 #[tactic(auto, unfolding(crate::specs::OneMark::is_below))]
-fn is_below(class: u8) -> bool
-    ensures { result ≡ is_below_of class }
+fn is_below(ccc: u8) -> bool
+    ensures { result ≡ is_below_of ccc }
 {
-    matches!(class, 233 | 218 | 220 | 222 | 200 | 202)
+    matches!(ccc, 233 | 218 | 220 | 222 | 200 | 202)
 }
 
-/// Whether the class is of marks above the base.
+/// Whether the ccc is of marks above the base.
 #[tactic(auto, unfolding(crate::specs::OneMark::is_above))]
-fn is_above(class: u8) -> bool
-    ensures { result ≡ is_above_of class }
+fn is_above(ccc: u8) -> bool
+    ensures { result ≡ is_above_of ccc }
 {
-    matches!(class, 234 | 228 | 230 | 232 | 214 | 216)
+    matches!(ccc, 234 | 228 | 230 | 232 | 214 | 216)
 }
 
-/// Whether the class is of marks that touch the base, so that there is no gap.
+/// Whether the ccc is of marks that touch the base, so that there is no gap.
 #[tactic(auto, unfolding(crate::specs::OneMark::is_attached))]
-fn is_attached(class: u8) -> bool
-    ensures { result ≡ is_attached_of class }
+fn is_attached(ccc: u8) -> bool
+    ensures { result ≡ is_attached_of ccc }
 {
-    matches!(class, 200 | 202 | 214 | 216)
+    matches!(ccc, 200 | 202 | 214 | 216)
 }
 
 /// A mark's y offset, and the base's extents with the mark.
@@ -151,10 +160,10 @@ fn piled(gap: i32, mark: hb_glyph_extents_t, mut base: hb_glyph_extents_t) -> St
 
 /// A base with a gap below it, but for marks that touch it.
 #[tactic(auto, using(shape_buffer::proofs::WrappingLemmas::kept_bits), unfolding(crate::specs::OneMark::lowered))]
-fn lowered(gap: i32, class: u8, mut base: hb_glyph_extents_t) -> hb_glyph_extents_t
-    ensures { result ≡ lowered_of gap class base }
+fn lowered(gap: i32, ccc: u8, mut base: hb_glyph_extents_t) -> hb_glyph_extents_t
+    ensures { result ≡ lowered_of gap ccc base }
 {
-    if is_attached(class) {
+    if is_attached(ccc) {
         return base;
     }
     base.height = difference(base.height, gap);
@@ -163,10 +172,10 @@ fn lowered(gap: i32, class: u8, mut base: hb_glyph_extents_t) -> hb_glyph_extent
 
 /// A base with a gap above it, but for marks that touch it.
 #[tactic(auto, using(shape_buffer::proofs::WrappingLemmas::kept_bits), unfolding(crate::specs::OneMark::raised))]
-fn raised(gap: i32, class: u8, mut base: hb_glyph_extents_t) -> hb_glyph_extents_t
-    ensures { result ≡ raised_of gap class base }
+fn raised(gap: i32, ccc: u8, mut base: hb_glyph_extents_t) -> hb_glyph_extents_t
+    ensures { result ≡ raised_of gap ccc base }
 {
-    if is_attached(class) {
+    if is_attached(ccc) {
         return base;
     }
     base.y_bearing = sum(base.y_bearing, gap);
@@ -174,20 +183,20 @@ fn raised(gap: i32, class: u8, mut base: hb_glyph_extents_t) -> hb_glyph_extents
     base
 }
 
-/// The mark below or above the base, by its class.
+/// The mark below or above the base, by its ccc.
 pub(crate) fn stack_mark(
     gap: i32,
-    class: u8,
+    ccc: u8,
     base: hb_glyph_extents_t,
     mark: hb_glyph_extents_t,
 ) -> Stacked
-    ensures { result ≡ stacked_of gap class base mark }
+    ensures { result ≡ stacked_of gap ccc base mark }
 {
-    if is_below(class) {
-        return hung(gap, mark, lowered(gap, class, base));
+    if is_below(ccc) {
+        return hung(gap, mark, lowered(gap, ccc, base));
     }
-    if is_above(class) {
-        return piled(gap, mark, raised(gap, class, base));
+    if is_above(ccc) {
+        return piled(gap, mark, raised(gap, ccc, base));
     }
     Stacked { y_offset: 0, base }
 }
@@ -207,16 +216,16 @@ pub struct Surroundings {
     pub gap: i32,
 }
 
-/// Places a mark by its class.
+/// Places a mark by its ccc.
 #[tactic(auto, unfolding(crate::specs::OneMark::placed))]
 pub fn position_mark<F: hb_font_t>(
     face: &F,
     surroundings: Surroundings,
     glyph: GlyphId,
-    class: u8,
+    ccc: u8,
     mut placed: Placed,
 ) -> Placed
-    ensures { result ≡ placed_of surroundings ((F.face face.now).extents glyph) class placed }
+    ensures { result ≡ placed_of surroundings ((F.face face.now).extents glyph) ccc placed }
 {
     let Some(mark) = face.glyph_extents(glyph) else {
         return placed;
@@ -226,8 +235,8 @@ pub fn position_mark<F: hb_font_t>(
         forward,
         gap,
     } = surroundings;
-    placed.position.x_offset = mark_x_offset(horizontal, forward, class, placed.base, mark);
-    let stacked = stack_mark(gap, class, placed.base, mark);
+    placed.position.x_offset = mark_x_offset(horizontal, forward, ccc, placed.base, mark);
+    let stacked = stack_mark(gap, ccc, placed.base, mark);
     placed.position.y_offset = stacked.y_offset;
     placed.base = stacked.base;
     placed

@@ -1,7 +1,8 @@
 //! What the marks of a buffer are placed by, beside the face: how the line runs, how the components of
 //! ligatures run, and the gap between marks.
 ghost use Rattle.std.specs.Prelude.{◌≡◌};
-ghost use Rattle.shape_fallback.specs.Bases.{is_left_to_right as is_left_to_right_of, runs_to_right as runs_to_right_of, setting_of};
+ghost use Rattle.shape_fallback.specs.Bases.{is_left_to_right as is_left_to_right_of};
+ghost use Rattle.shape_fallback.specs.Bases.{runs_to_right as runs_to_right_of, setting_of};
 
 use crate::ot_shape_fallback::marks::Setting;
 use crate::ot_shape_fallback::one_mark::Surroundings;

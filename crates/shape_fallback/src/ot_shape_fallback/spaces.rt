@@ -5,7 +5,13 @@
 //! meant to be; here the glyph gets that advance, along the line alone.
 ghost use Rattle.std.specs.Prelude.{◌≡◌, ◌<◌, false, neg_ℤ, pos};
 ghost use Rattle.shape_buffer.specs.Outcome.{Made};
-ghost use Rattle.shape_fallback.specs.Spaces.{as_wide_as as as_wide_as_of, em_advance as em_advance_of, em_part as em_part_of, first_glyph as first_glyph_of, is_em_part as is_em_part_of, is_lone_space as is_lone_space_of, item_spaced, space_advance as space_advance_of, space_positioned, spaces_placed};
+ghost use Rattle.shape_fallback.specs.Spaces.{as_wide_as as as_wide_as_of};
+ghost use Rattle.shape_fallback.specs.Spaces.{em_advance as em_advance_of, em_part as em_part_of};
+ghost use Rattle.shape_fallback.specs.Spaces.{first_glyph as first_glyph_of};
+ghost use Rattle.shape_fallback.specs.Spaces.{is_em_part as is_em_part_of};
+ghost use Rattle.shape_fallback.specs.Spaces.{is_lone_space as is_lone_space_of, item_spaced};
+ghost use Rattle.shape_fallback.specs.Spaces.{space_advance as space_advance_of, space_positioned};
+ghost use Rattle.shape_fallback.specs.Spaces.{spaces_placed};
 
 use shape_buffer::buffer::{
     GlyphId, GlyphPosition, hb_buffer_t, hb_glyph_info_t, hb_unicode_general_category_t,

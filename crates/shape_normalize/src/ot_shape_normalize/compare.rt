@@ -1,9 +1,11 @@
 //! Comparing two texts by their normalised lists.
-ghost use Rattle.std.specs.Prelude.{◌≡◌, ◌<◌, ◌≤◌, ◌↔◌, ◌⊎◌, ◌==◌, IsTrue, IfOk, OnOk, OnErr, Err, length, map};
+ghost use Rattle.std.specs.Prelude.{◌≡◌, ◌<◌, ◌≤◌, ◌↔◌, ◌⊎◌, ◌==◌, IsTrue, IfOk, OnOk, OnErr, Err};
+ghost use Rattle.std.specs.Prelude.{length, map};
 ghost use Rattle.std.specs.List.{list_all, zip};
 ghost use Rattle.shape_buffer.specs.Buffer.{cleared, limit_of};
 ghost use Rattle.shape_buffer.specs.Items.{char_of};
-ghost use Rattle.shape_normalize.specs.CanonicalForm.{text_of, AreEquivalent, CanonicalFormPremises};
+ghost use Rattle.shape_normalize.specs.CanonicalForm.{text_of, AreEquivalent};
+ghost use Rattle.shape_normalize.specs.CanonicalForm.{CanonicalFormPremises};
 ghost use Rattle.shape_normalize.specs.Normalized.{normalized};
 ghost use Rattle.shape_normalize.specs.RoundOne.{round_one};
 ghost use Rattle.shape_plan.specs.Rules.{rules_of};
@@ -38,11 +40,15 @@ where
     ensures first { OnOk result (a.new ≡ normalized (⟦<S as Runs<U, F, M>>⟧.rules plan.now face.now) a.old) }
     ensures second { OnOk result (b.new ≡ normalized (⟦<S as Runs<U, F, M>>⟧.rules plan.now face.now) b.old) }
     ensures equal { IfOk result (λ equal. IsTrue equal ↔ (text_of a.new ≡ text_of b.new)) }
-    ensures equivalent { IfOk result (λ equal. CanonicalFormPremises (⟦<S as Runs<U, F, M>>⟧.rules plan.now face.now) a.old
+    ensures equivalent { IfOk result (λ equal. CanonicalFormPremises
+        (⟦<S as Runs<U, F, M>>⟧.rules plan.now face.now) a.old
         → CanonicalFormPremises (⟦<S as Runs<U, F, M>>⟧.rules plan.now face.now) b.old
-        → IsTrue equal ↔ AreEquivalent (⟦<S as Runs<U, F, M>>⟧.rules plan.now face.now) (text_of a.old) (text_of b.old)) }
+        → IsTrue equal
+        ↔ AreEquivalent (⟦<S as Runs<U, F, M>>⟧.rules plan.now face.now) (text_of a.old)
+        (text_of b.old)) }
     ensures length { result ≡ Err ShapeError.Length → (limit_of a.old < length (round_one
-        (⟦<S as Runs<U, F, M>>⟧.rules plan.now face.now) a.old).items) ⊎ (limit_of b.old < length (round_one
+        (⟦<S as Runs<U, F, M>>⟧.rules plan.now face.now) a.old).items)
+        ⊎ (limit_of b.old < length (round_one
         (⟦<S as Runs<U, F, M>>⟧.rules plan.now face.now) b.old).items) }
     ensures within_first { OnOk result (length a.new.items ≤ limit_of a.old) }
     ensures within_second { OnOk result (length b.new.items ≤ limit_of b.old) }
@@ -80,7 +86,8 @@ where
     ensures first { OnOk result (a.new ≡ normalized (⟦<S as Runs<U, F, M>>⟧.rules plan.now face.now) a.old) }
     ensures second { OnOk result (b.new ≡ normalized (⟦<S as Runs<U, F, M>>⟧.rules plan.now face.now) b.old) }
     ensures length { result ≡ Err ShapeError.Length → (limit_of a.old < length (round_one
-        (⟦<S as Runs<U, F, M>>⟧.rules plan.now face.now) a.old).items) ⊎ (limit_of b.old < length (round_one
+        (⟦<S as Runs<U, F, M>>⟧.rules plan.now face.now) a.old).items)
+        ⊎ (limit_of b.old < length (round_one
         (⟦<S as Runs<U, F, M>>⟧.rules plan.now face.now) b.old).items) }
     ensures within_first { OnOk result (length a.new.items ≤ limit_of a.old) }
     ensures within_second { OnOk result (length b.new.items ≤ limit_of b.old) }

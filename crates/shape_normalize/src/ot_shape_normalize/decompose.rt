@@ -73,7 +73,8 @@ where
     M: hb_ot_layout_t<F>,
     S: hb_ot_shaper_t<U, F, M>,
     requires { seconds.old.items ≡ [] }
-    ensures { IfOk result (λ found. option_map (λ f. f.0 ∷ reverse (take f.1 seconds.new.items)) found
+    ensures { IfOk result (λ found. option_map
+        (λ f. f.0 ∷ reverse (take f.1 seconds.new.items)) found
         ≡ chosen_expansion (⟦<S as Runs<U, F, M>>⟧.rules plan.now face.now).split
         (⟦<S as Runs<U, F, M>>⟧.rules plan.now face.now).height
         (has_glyph (F.face face.now).nominal_glyph) shortest c) }

@@ -3,11 +3,13 @@
 //!
 //! Whether the shortest or the longest expansion is taken goes by the mode, and whether the item stands in
 //! a sequence with marks. A sequence with marks that holds a variation selector isn't expanded.
-ghost use Rattle.std.specs.Prelude.{◌≡◌, ◌<◌, ◌≤◌, ◌++◌, length, fold, vec_len, OnOk, OnErr, IfOk, Err};
+ghost use Rattle.std.specs.Prelude.{◌≡◌, ◌<◌, ◌≤◌, ◌++◌, length, fold, vec_len, OnOk, OnErr, IfOk};
+ghost use Rattle.std.specs.Prelude.{Err};
 ghost use Rattle.std.specs.List.{flat_map};
 ghost use Rattle.shape_buffer.specs.Buffer.{cleared, limit_of};
 ghost use Rattle.shape_plan.specs.Rules.{rules_of};
-ghost use Rattle.shape_normalize.specs.RoundOne.{expanded, expanded_item, round_one, seen_expanded, seen_sequence, sequence_items, sequences};
+ghost use Rattle.shape_normalize.specs.RoundOne.{expanded, expanded_item, round_one, seen_expanded};
+ghost use Rattle.shape_normalize.specs.RoundOne.{seen_sequence, sequence_items, sequences};
 
 mod expanded;
 mod pairs;
@@ -46,13 +48,16 @@ impl Expanded {
         S: hb_ot_shaper_t<U, F, M>,
         requires { vec_len self.old.infos ≤ limit_of buffer.now }
         ensures infos { OnOk result (self.new.infos.items ≡ self.old.infos.items ++ flat_map (expanded_item
-            (⟦<S as Runs<U, F, M>>⟧.rules plan.now face.now) buffer.now.invisible_glyph shortest) sequence.now) }
+            (⟦<S as Runs<U, F, M>>⟧.rules plan.now face.now) buffer.now.invisible_glyph shortest)
+            sequence.now) }
         ensures flags { OnOk result (self.new.scratch_flags ≡ fold (seen_expanded
             (⟦<S as Runs<U, F, M>>⟧.rules plan.now face.now) buffer.now.invisible_glyph shortest)
             self.old.scratch_flags sequence.now) }
         ensures within { OnOk result (vec_len self.new.infos ≤ limit_of buffer.now) }
-        ensures length { result ≡ Err ShapeError.Length → limit_of buffer.now < length (self.old.infos.items ++ flat_map (expanded_item
-            (⟦<S as Runs<U, F, M>>⟧.rules plan.now face.now) buffer.now.invisible_glyph shortest) sequence.now) }
+        ensures length { result ≡ Err ShapeError.Length
+            → limit_of buffer.now < length (self.old.infos.items ++ flat_map (expanded_item
+            (⟦<S as Runs<U, F, M>>⟧.rules plan.now face.now) buffer.now.invisible_glyph shortest)
+            sequence.now) }
     {
         let invisible = buffer.invisible_glyph();
         let limit = buffer.length_limit();
@@ -84,7 +89,8 @@ impl Expanded {
             (⟦<S as Runs<U, F, M>>⟧.rules plan.now face.now)
             buffer.now.invisible_glyph self.old.scratch_flags sequence.now) }
         ensures within { OnOk result (vec_len self.new.infos ≤ limit_of buffer.now) }
-        ensures length { result ≡ Err ShapeError.Length → limit_of buffer.now < length (self.old.infos.items ++ sequence_items
+        ensures length { result ≡ Err ShapeError.Length
+            → limit_of buffer.now < length (self.old.infos.items ++ sequence_items
             (⟦<S as Runs<U, F, M>>⟧.rules plan.now face.now)
             buffer.now.invisible_glyph buffer.now.not_found_variation_selector_glyph sequence.now) }
     {
@@ -144,7 +150,8 @@ where
     F: hb_font_t,
     M: hb_ot_layout_t<F>,
     S: hb_ot_shaper_t<U, F, M>,
-    ensures ok { OnOk result (buffer.new ≡ round_one (⟦<S as Runs<U, F, M>>⟧.rules plan.now face.now) buffer.old) }
+    ensures ok { OnOk result (buffer.new
+        ≡ round_one (⟦<S as Runs<U, F, M>>⟧.rules plan.now face.now) buffer.old) }
     ensures within { OnOk result (length buffer.new.items ≤ limit_of buffer.old) }
     ensures length { result ≡ Err ShapeError.Length → limit_of buffer.old < length (round_one
         (⟦<S as Runs<U, F, M>>⟧.rules plan.now face.now) buffer.old).items }

@@ -6,12 +6,15 @@
 //! starter and the marks that went into it are merged afterwards, as they stand in the list.
 ghost use Rattle.std.specs.Prelude.{◌≡◌, ◌≤◌, map, length, All, IfOk, IsOkUnless, OnOk};
 ghost use Rattle.shape_buffer.specs.Buffer.{cleared, limit_of};
-ghost use Rattle.canonical_form.specs.Recompose.{is_blocked_by_last, join_with_glyph};
+ghost use Rattle.canonical_form.specs.Recompose.{is_blocked_by_last, compose_with_glyph};
 ghost use Rattle.shape_buffer.specs.UnicodeProps.{with_scratch_of};
 ghost use Rattle.shape_plan.specs.Plan.{hooks_of};
 ghost use Rattle.shape_normalize.specs.RoundOne.{part_item, seen_chars};
-ghost use Rattle.shape_normalize.specs.RoundThree.{recomposed_items, chained_spans, composed_chars, spans_merged_out, placed_info, class_of_placed_info, composed_char, settled_info, round_three};
-ghost use Rattle.shape_plan.specs.Rules.{used_join, has_glyph, rules_of};
+ghost use Rattle.shape_normalize.specs.RoundThree.{recomposed_items, chained_spans, composed_chars};
+ghost use Rattle.shape_normalize.specs.RoundThree.{spans_merged_out, placed_info};
+ghost use Rattle.shape_normalize.specs.RoundThree.{ccc_of_placed_info, composed_char, settled_info};
+ghost use Rattle.shape_normalize.specs.RoundThree.{round_three};
+ghost use Rattle.shape_plan.specs.Rules.{used_compose, has_glyph, rules_of};
 
 use crate::ot_shape_normalize::round_one::part_of;
 use shape_buffer::buffer::{ScratchFlags, ShapeError, hb_buffer_t, hb_glyph_info_t};
@@ -41,7 +44,7 @@ struct Recomposed {
 }
 
 /// The join of two characters: the hook's where it is given and the plan keeps the shaper, else Unicode's.
-fn join_of<U, F, M, S>(
+fn compose_of<U, F, M, S>(
     plan: &hb_ot_shape_plan_t<'_, S, M::Map, S::Data>,
     face: &F,
     a: char,
@@ -52,7 +55,7 @@ where
     F: hb_font_t,
     M: hb_ot_layout_t<F>,
     S: hb_ot_shaper_t<U, F, M>,
-    ensures { result ≡ (⟦<S as Runs<U, F, M>>⟧.rules plan.now face.now).join a b }
+    ensures { result ≡ (⟦<S as Runs<U, F, M>>⟧.rules plan.now face.now).compose a b }
 {
     match plan.shaper() {
         Some(shaper) if S::HAS_COMPOSE => shaper.compose(plan, face, a, b),
@@ -61,7 +64,7 @@ where
 }
 
 /// The join of two characters, where the face has a glyph for it.
-fn join_with_glyph_of<U, F, M, S>(
+fn compose_with_glyph_of<U, F, M, S>(
     plan: &hb_ot_shape_plan_t<'_, S, M::Map, S::Data>,
     face: &F,
     a: char,
@@ -72,22 +75,22 @@ where
     F: hb_font_t,
     M: hb_ot_layout_t<F>,
     S: hb_ot_shaper_t<U, F, M>,
-    ensures { result ≡ join_with_glyph
-        (⟦<S as Runs<U, F, M>>⟧.rules plan.now face.now).join
+    ensures { result ≡ compose_with_glyph
+        (⟦<S as Runs<U, F, M>>⟧.rules plan.now face.now).compose
         (has_glyph (F.face face.now).nominal_glyph) a b }
 {
-    let c = join_of::<U, F, M, S>(plan, face, a, b)?;
+    let c = compose_of::<U, F, M, S>(plan, face, a, b)?;
     if face.has_glyph(c) { Some(c) } else { None }
 }
 
 /// Whether the last of these marks keeps an item behind them from their starter.
 fn is_blocked(marks: &[PlacedInfo], next: &PlacedInfo) -> bool
-    ensures { result ≡ is_blocked_by_last class_of_placed_info marks.now next.now }
+    ensures { result ≡ is_blocked_by_last ccc_of_placed_info marks.now next.now }
 {
     match marks.last() {
         Some(last) => {
-            next.info._hb_glyph_info_get_modified_class()
-                <= last.info._hb_glyph_info_get_modified_class()
+            next.info._hb_glyph_info_get_modified_combining_class()
+                <= last.info._hb_glyph_info_get_modified_combining_class()
         }
         None => false,
     }
@@ -110,7 +113,7 @@ where
         starter.now marks.now next.now }
 {
     if next.info._hb_glyph_info_is_unicode_mark() && !is_blocked(marks, next) {
-        join_with_glyph_of::<U, F, M, S>(plan, face, starter.info.codepoint, next.info.codepoint)
+        compose_with_glyph_of::<U, F, M, S>(plan, face, starter.info.codepoint, next.info.codepoint)
     } else {
         None
     }
@@ -124,7 +127,9 @@ impl PlacedInfo {
         c: char,
         scratch_flags: &mut ScratchFlags,
     ) -> Self
-        ensures item { result ≡ record self.now { info = part_item U.unicode (F.face face.now).nominal_glyph self.now.info c } }
+        ensures item { result ≡ record self.now {
+          info = part_item U.unicode (F.face face.now).nominal_glyph self.now.info c;
+        } }
         ensures flags { scratch_flags.new ≡ with_scratch_of U.unicode c scratch_flags.old }
     {
         PlacedInfo {
@@ -163,7 +168,8 @@ where
         (⟦<S as Runs<U, F, M>>⟧.rules plan.now face.now) infos.now)) }
     ensures spans { IfOk result (λ r. r.spans.items ≡ chained_spans (recomposed_items
         (⟦<S as Runs<U, F, M>>⟧.rules plan.now face.now) infos.now)) }
-    ensures flags { IfOk result (λ r. r.scratch_flags ≡ seen_chars U.unicode scratch_flags (composed_chars (recomposed_items
+    ensures flags { IfOk result (λ r. r.scratch_flags
+        ≡ seen_chars U.unicode scratch_flags (composed_chars (recomposed_items
         (⟦<S as Runs<U, F, M>>⟧.rules plan.now face.now) infos.now))) }
 {
     let mut walk = Recomposed {
@@ -193,7 +199,7 @@ where
             from = place;
             continue;
         }
-        if next.info._hb_glyph_info_get_modified_class() == 0 {
+        if next.info._hb_glyph_info_get_modified_combining_class() == 0 {
             starter = walk.out.len();
             from = place;
         }
@@ -241,7 +247,8 @@ where
     M: hb_ot_layout_t<F>,
     S: hb_ot_shaper_t<U, F, M>,
     requires { length buffer.old.items ≤ limit_of buffer.old }
-    ensures ok { OnOk result (buffer.new ≡ round_three (⟦<S as Runs<U, F, M>>⟧.rules plan.now face.now) buffer.old) }
+    ensures ok { OnOk result (buffer.new
+        ≡ round_three (⟦<S as Runs<U, F, M>>⟧.rules plan.now face.now) buffer.old) }
     ensures memory { IsOkUnless result ShapeError.Memory }
     ensures settings { cleared buffer.new ≡ cleared buffer.old }
 {

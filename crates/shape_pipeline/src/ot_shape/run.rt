@@ -6,7 +6,8 @@
 ghost use Rattle.shape_buffer.specs.Outcome.{IsWithinLimit, Outcome, Ran, RunOutcome};
 ghost use Rattle.std.specs.Prelude.{◌∷◌, ◌++◌};
 ghost use Rattle.shape_position.specs.Steps.{finish_steps};
-ghost use Rattle.shape_pipeline.specs.Shaped.{normalising, glyph_start, glyph_part, place_start, place_part, shaped_steps, all_steps};
+ghost use Rattle.shape_pipeline.specs.Shaped.{normalising, glyph_start, glyph_part, place_start};
+ghost use Rattle.shape_pipeline.specs.Shaped.{place_part, shaped_steps, all_steps};
 
 use shape_buffer::buffer::{Direction, ShapeError, hb_buffer_t};
 use shape_buffer::interfaces::{hb_font_t, hb_ot_layout_t, hb_unicode_funcs_t};
@@ -37,7 +38,8 @@ where
     M: hb_ot_layout_t<F>,
     S: hb_ot_shaper_t<U, F, M>,
     requires { IsWithinLimit buffer.old }
-    ensures { RunOutcome (all_steps (⟦<S as Runs<U, F, M>>⟧.run plan.now face.now) target) buffer.old buffer.new result }
+    ensures { RunOutcome (all_steps (⟦<S as Runs<U, F, M>>⟧.run plan.now face.now) target)
+        buffer.old buffer.new result }
 {
     prepare::<U, F, M, S>(alloc, plan, face, buffer, target)?;
     shape_prepared::<U, F, M, S>(alloc, plan, face, buffer)
@@ -76,7 +78,8 @@ where
     M: hb_ot_layout_t<F>,
     S: hb_ot_shaper_t<U, F, M>,
     requires { IsWithinLimit buffer.old }
-    ensures { Outcome (normalising (⟦<S as Runs<U, F, M>>⟧.run plan.now face.now).rules) buffer.old buffer.new result }
+    ensures { Outcome (normalising (⟦<S as Runs<U, F, M>>⟧.run plan.now face.now).rules)
+        buffer.old buffer.new result }
 {
     _hb_ot_shape_normalize::<U, F, M, S>(alloc, plan, buffer, face)
 }
@@ -94,7 +97,8 @@ where
     M: hb_ot_layout_t<F>,
     S: hb_ot_shaper_t<U, F, M>,
     requires { IsWithinLimit buffer.old }
-    ensures { RunOutcome (shaped_steps (⟦<S as Runs<U, F, M>>⟧.run plan.now face.now)) buffer.old buffer.new result }
+    ensures { RunOutcome (shaped_steps (⟦<S as Runs<U, F, M>>⟧.run plan.now face.now))
+        buffer.old buffer.new result }
 {
     make_glyphs::<U, F, M, S>(alloc, plan, face, buffer)?;
     place_and_finish::<U, F, M, S>(alloc, plan, face, buffer)
@@ -113,7 +117,8 @@ where
     M: hb_ot_layout_t<F>,
     S: hb_ot_shaper_t<U, F, M>,
     requires { IsWithinLimit buffer.old }
-    ensures { RunOutcome (glyph_part (⟦<S as Runs<U, F, M>>⟧.run plan.now face.now)) buffer.old buffer.new result }
+    ensures { RunOutcome (glyph_part (⟦<S as Runs<U, F, M>>⟧.run plan.now face.now))
+        buffer.old buffer.new result }
 {
     substitute_pre::<U, F, M, S>(plan, face, buffer);
     substitute::<U, F, M, S>(alloc, plan, face, buffer)
@@ -131,7 +136,8 @@ where
     M: hb_ot_layout_t<F>,
     S: hb_ot_shaper_t<U, F, M>,
     requires { IsWithinLimit buffer.old }
-    ensures { Ran (glyph_start (⟦<S as Runs<U, F, M>>⟧.run plan.now face.now)) buffer.old buffer.new }
+    ensures { Ran (glyph_start (⟦<S as Runs<U, F, M>>⟧.run plan.now face.now))
+        buffer.old buffer.new }
 {
     setup_masks::<U, F, M, S>(plan, face, buffer);
     recategorize_marks(plan, face, buffer);
@@ -171,7 +177,8 @@ where
     M: hb_ot_layout_t<F>,
     S: hb_ot_shaper_t<U, F, M>,
     requires { IsWithinLimit buffer.old }
-    ensures { RunOutcome (place_part (⟦<S as Runs<U, F, M>>⟧.run plan.now face.now)) buffer.old buffer.new result }
+    ensures { RunOutcome (place_part (⟦<S as Runs<U, F, M>>⟧.run plan.now face.now))
+        buffer.old buffer.new result }
 {
     position_by_face::<U, F, M, S>(plan, face, buffer);
     position_complex::<U, F, M, S>(alloc, plan, face, buffer)?;
@@ -191,7 +198,8 @@ where
     M: hb_ot_layout_t<F>,
     S: hb_ot_shaper_t<U, F, M>,
     requires { IsWithinLimit buffer.old }
-    ensures { Ran (place_start (⟦<S as Runs<U, F, M>>⟧.run plan.now face.now)) buffer.old buffer.new }
+    ensures { Ran (place_start (⟦<S as Runs<U, F, M>>⟧.run plan.now face.now))
+        buffer.old buffer.new }
 {
     position_default::<U, F, M, S>(plan, face, buffer);
     place_spaces(plan, face, buffer);

@@ -43,7 +43,7 @@ impl<
     ghost hooks = { λ shaper plan face. record {
       split = S.Decompose.split shaper plan face;
       height = S.Decompose.height shaper plan face;
-      join = S.Compose.join shaper plan face;
+      compose = S.Compose.compose shaper plan face;
       reorder = S.ReorderMarks.reordered shaper plan;
       preprocess = S.PreprocessText.preprocessed shaper plan face;
       setup_masks = S.SetupMasks.masked shaper plan face;

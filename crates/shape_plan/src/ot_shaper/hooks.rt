@@ -3,7 +3,8 @@
 //! A hook is a trait of its own, implemented for a type that the shaper names: the shaper itself as a rule,
 //! or [`no_hook`](crate::ot_shaper::no_hook) where it gives none. `S` is the shaper, `D` what it keeps in
 //! a plan.
-ghost use Rattle.std.specs.Prelude.{◌≡◌, ◌<◌, ◌≤◌, ℕ, Bool, Option, List, length, MatchResult, OnOk, IfErr};
+ghost use Rattle.std.specs.Prelude.{◌≡◌, ◌<◌, ◌≤◌, ℕ, Bool, Option, List, length, MatchResult};
+ghost use Rattle.std.specs.Prelude.{OnOk, IfErr};
 ghost use Rattle.canonical_form.specs.Chain.{FallsAlong};
 ghost use Rattle.shape_buffer.specs.Buffer.{Buffer};
 ghost use Rattle.shape_buffer.specs.MapBuilder.{Builder, with_requests};
@@ -51,7 +52,7 @@ pub trait decompose_hook<S, D, U: hb_unicode_funcs_t, F, M: hb_ot_layout_t<F>> {
 /// Composes characters in place of Unicode's composites.
 pub trait compose_hook<S, D, U: hb_unicode_funcs_t, F, M: hb_ot_layout_t<F>> {
     /// What two characters make.
-    ghost join: { S → Plan S M.Map D → F → ℕ → ℕ → Option ℕ };
+    ghost compose: { S → Plan S M.Map D → F → ℕ → ℕ → Option ℕ };
 
     ghost GIVEN: { Bool };
 
@@ -66,7 +67,7 @@ pub trait compose_hook<S, D, U: hb_unicode_funcs_t, F, M: hb_ot_layout_t<F>> {
         a: char,
         b: char,
     ) -> Option<char>
-        ensures { result ≡ join shaper.now plan.now face.now a b };
+        ensures { result ≡ compose shaper.now plan.now face.now a b };
 }
 
 /// Puts marks in an order of the shaper's own.
@@ -94,7 +95,8 @@ pub trait reorder_marks_hook<S, D, U: hb_unicode_funcs_t, F, M: hb_ot_layout_t<F
         ensures { buffer.new ≡ reordered shaper.now plan.now buffer.old start end };
 
     /// The items of a run are exchanged, clusters within it merged, and classes set.
-    ghost reorders: { (shaper : S) (plan : Plan S M.Map D) → ReordersRanges (reordered shaper plan) };
+    ghost reorders: { (shaper : S) (plan : Plan S M.Map D)
+        → ReordersRanges (reordered shaper plan) };
 }
 
 /// Sets masks of items before glyphs are substituted.
@@ -141,7 +143,8 @@ pub trait preprocess_text_hook<S, D, U: hb_unicode_funcs_t, F, M: hb_ot_layout_t
         buffer: &mut hb_buffer_t,
     ) -> Result<(), ShapeError>
         requires { IsWithinLimit buffer.old }
-        ensures { Outcome (step (preprocessed shaper.now plan.now face.now)) buffer.old buffer.new result };
+        ensures { Outcome (step (preprocessed shaper.now plan.now face.now))
+            buffer.old buffer.new result };
 }
 
 /// Changes the glyphs after they were positioned.
@@ -164,7 +167,8 @@ pub trait postprocess_glyphs_hook<S, D, U: hb_unicode_funcs_t, F, M: hb_ot_layou
         buffer: &mut hb_buffer_t,
     ) -> Result<(), ShapeError>
         requires { IsWithinLimit buffer.old }
-        ensures { Outcome (step (postprocessed shaper.now plan.now face.now)) buffer.old buffer.new result };
+        ensures { Outcome (step (postprocessed shaper.now plan.now face.now))
+            buffer.old buffer.new result };
 }
 
 /// Changes the glyphs between two stages of substitution.
@@ -188,7 +192,8 @@ pub trait pause_hook<S, D, U: hb_unicode_funcs_t, F, M: hb_ot_layout_t<F>> {
         buffer: &mut hb_buffer_t,
     ) -> Result<(), ShapeError>
         requires { IsWithinLimit buffer.old }
-        ensures { Outcome (step (paused shaper.now plan.now face.now n)) buffer.old buffer.new result };
+        ensures { Outcome (step (paused shaper.now plan.now face.now n))
+            buffer.old buffer.new result };
 }
 
 /// Requests features after those of every text of a direction.
@@ -210,7 +215,8 @@ pub trait collect_features_hook<S> {
         direction: Direction,
         script: Option<Script>,
     ) -> Result<(), ShapeError>
-        ensures ok { OnOk result (builder.new ≡ with_requests builder.old (collected shaper.now builder.old direction script)) }
+        ensures ok { OnOk result (builder.new
+            ≡ with_requests builder.old (collected shaper.now builder.old direction script)) }
         ensures memory { IfErr result (λ e. e ≡ ShapeError.Memory) };
 }
 
@@ -233,7 +239,8 @@ pub trait override_features_hook<S> {
         direction: Direction,
         script: Option<Script>,
     ) -> Result<(), ShapeError>
-        ensures ok { OnOk result (builder.new ≡ with_requests builder.old (overriding shaper.now builder.old direction script)) }
+        ensures ok { OnOk result (builder.new
+            ≡ with_requests builder.old (overriding shaper.now builder.old direction script)) }
         ensures memory { IfErr result (λ e. e ≡ ShapeError.Memory) };
 }
 
@@ -253,5 +260,6 @@ pub trait create_data_hook<S, D, U: hb_unicode_funcs_t, F, M: hb_ot_layout_t<F>>
         alloc: Global,
         plan: &hb_ot_shape_plan_t<'_, S, M::Map, D>,
     ) -> Result<D, ShapeError>
-        ensures { MatchResult result (λ «data». «data» ≡ made shaper.now plan.now) (λ e. e ≡ ShapeError.Memory) };
+        ensures { MatchResult result (λ «data». «data» ≡ made shaper.now plan.now)
+            (λ e. e ≡ ShapeError.Memory) };
 }

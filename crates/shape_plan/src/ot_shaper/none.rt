@@ -39,7 +39,7 @@ impl<S, D, U: hb_unicode_funcs_t, F, M: hb_ot_layout_t<F>> decompose_hook<S, D, 
 }
 
 impl<S, D, U: hb_unicode_funcs_t, F, M: hb_ot_layout_t<F>> compose_hook<S, D, U, F, M> for no_hook {
-    ghost join = { λ _ _ _. U.unicode.join };
+    ghost compose = { λ _ _ _. U.unicode.compose };
 
     ghost GIVEN = { false };
 

@@ -177,7 +177,8 @@ fn add_features(
     builder: &mut hb_ot_map_builder_t,
     features: &[(hb_tag_t, hb_ot_map_feature_flags_t)],
 ) -> Result<(), ShapeError>
-    ensures ok { OnOk result (builder.new ≡ with_requests builder.old (map (λ f. asked f.0 f.1) features.now)) }
+    ensures ok { OnOk result (builder.new
+        ≡ with_requests builder.old (map (λ f. asked f.0 f.1) features.now)) }
     ensures memory { IsOkUnless result ShapeError.Memory }
 {
     for &(tag, flags) in features {
@@ -212,7 +213,8 @@ fn add_user_features(
     builder: &mut hb_ot_map_builder_t,
     features: &[Feature],
 ) -> Result<(), ShapeError>
-    ensures ok { OnOk result (builder.new ≡ with_requests builder.old (map user_request features.now)) }
+    ensures ok { OnOk result (builder.new
+        ≡ with_requests builder.old (map user_request features.now)) }
     ensures memory { IsOkUnless result ShapeError.Memory }
 {
     for feature in features {

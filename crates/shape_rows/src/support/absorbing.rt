@@ -62,7 +62,7 @@ impl<U: hb_unicode_funcs_t, F: hb_font_t, M: hb_ot_layout_t<F>> script_shaper<U,
 
 impl<U: hb_unicode_funcs_t, F, M: hb_ot_layout_t<F>> compose_hook<AbsorbingShaper, (), U, F, M>
     for AbsorbingShaper {
-    ghost join = { λ _ _ _ a b. Some a };
+    ghost compose = { λ _ _ _ a b. Some a };
 
     ghost GIVEN = { true };
 

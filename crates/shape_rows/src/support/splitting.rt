@@ -1,6 +1,7 @@
 //! Shapers whose `decompose` hook splits.
 ghost use Rattle.std.specs.Prelude.{◌≡◌, true, false, None, pos, refl};
-ghost use Rattle.shape_rows.specs.Splitting.{deep_split, deep_height, deep_split-falls, stacked_split, stacked_split-falls};
+ghost use Rattle.shape_rows.specs.Splitting.{deep_split, deep_height, deep_split-falls};
+ghost use Rattle.shape_rows.specs.Splitting.{stacked_split, stacked_split-falls};
 
 use shape_buffer::buffer::hb_tag_t;
 use shape_buffer::interfaces::{hb_font_t, hb_ot_layout_t, hb_unicode_funcs_t};

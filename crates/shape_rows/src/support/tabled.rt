@@ -1,7 +1,8 @@
 //! Faces with tables and with numbers of one's own, and an engine whose tables add to advances.
 ghost use Rattle.std.specs.Prelude.{◌≡◌};
 ghost use Rattle.shape_buffer.specs.NoLookups.{no_masks, no_masks-lawful};
-ghost use Rattle.shape_rows.specs.Tabled.{tabled_face, deep_face, adding_layout, adding_lookups, adding_lookups-lawful, wider_by};
+ghost use Rattle.shape_rows.specs.Tabled.{tabled_face, deep_face, adding_layout, adding_lookups};
+ghost use Rattle.shape_rows.specs.Tabled.{adding_lookups-lawful, wider_by};
 
 use shape_buffer::buffer::{
     Feature, GlyphId, GlyphPosition, Language, Script, ShapeError, hb_buffer_t, hb_glyph_info_t,

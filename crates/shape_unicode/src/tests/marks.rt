@@ -1,7 +1,7 @@
-//! Categories and classes: UnicodeData.txt, and HarfBuzz's modified combining classes.
+//! Categories and ccc: UnicodeData.txt, and HarfBuzz's modified combining classes.
 
 use crate::UnicodeDatabase;
-use crate::class::MODIFIED_CLASSES;
+use crate::ccc::MODIFIED_CCC;
 use shape_buffer::interfaces::{hb_unicode_funcs_t, hb_unicode_general_category_t};
 
 #[test]
@@ -25,9 +25,9 @@ fn categories(rt: HostRuntime) {
     }
 }
 
-/// A mark of each combining class that is changed, and the class that HarfBuzz has for it.
+/// A mark of each combining class that is changed, and the ccc that HarfBuzz has for it.
 #[test]
-fn changed_classes(rt: HostRuntime) {
+fn changed_cccs(rt: HostRuntime) {
     let marks = [
         ('\u{5B0}', 22),
         ('\u{5B1}', 15),
@@ -58,7 +58,7 @@ fn changed_classes(rt: HostRuntime) {
         ('\u{F72}', 132),
         ('\u{F74}', 131),
     ];
-    assert_eq!(rt; marks.len(), MODIFIED_CLASSES.len());
+    assert_eq!(rt; marks.len(), MODIFIED_CCC.len());
     for (c, want) in marks {
         assert_eq!(rt;
             UnicodeDatabase::modified_combining_class(c),
@@ -68,9 +68,9 @@ fn changed_classes(rt: HostRuntime) {
     }
 }
 
-/// Marks of classes that stay, characters that have a class of their own, and letters.
+/// Marks of ccc that stay, characters that have a ccc of their own, and letters.
 #[test]
-fn other_classes(rt: HostRuntime) {
+fn other_cccs(rt: HostRuntime) {
     for (c, want) in [
         ('a', 0),
         ('\u{334}', 1),

@@ -5,7 +5,7 @@ ghost use Rattle.shape_users.specs.Points.{is_triple, third_place, points_reorde
 
 use shape_buffer::buffer::{hb_buffer_t, hb_glyph_info_t};
 
-/// Patah or qamats, then sheva or hiriq, then meteg or a mark below: their modified classes.
+/// Patah or qamats, then sheva or hiriq, then meteg or a mark below: their modified ccc.
 fn is_triple(first: u8, second: u8, third: u8) -> bool
     ensures { result ≡ is_triple first second third }
 {
@@ -19,7 +19,7 @@ fn third_place(run: &[hb_glyph_info_t]) -> Option<usize>
     let mut first = 0;
     let mut second = 0;
     for place in 0..run.len() {
-        let third = run[place]._hb_glyph_info_get_modified_class();
+        let third = run[place]._hb_glyph_info_get_modified_combining_class();
         if is_triple(first, second, third) {
             return Some(place);
         }

@@ -1,6 +1,7 @@
 //! Spellings of words, and whether two of them are one word.
 ghost use Rattle.std.specs.Prelude.{◌≡◌, ◌↔◌, IsTrue, IfOk};
-ghost use Rattle.shape_normalize.specs.CanonicalForm.{text_of, AreEquivalent, CanonicalFormPremises};
+ghost use Rattle.shape_normalize.specs.CanonicalForm.{text_of, AreEquivalent};
+ghost use Rattle.shape_normalize.specs.CanonicalForm.{CanonicalFormPremises};
 ghost use Rattle.shape_users.specs.Words.{spelled as text_spelled, ready_text, AreSpelledAlike};
 
 use shape_buffer::buffer::{ShapeError, UnicodeBuffer, hb_buffer_t};
@@ -36,7 +37,8 @@ where
     F: hb_font_t,
     M: hb_ot_layout_t<F>,
     S: hb_ot_shaper_t<U, F, M>,
-    ensures { IfOk result (λ buffer. buffer ≡ ready_text (⟦<S as Runs<U, F, M>>⟧.run plan.now face.now) (text_spelled spelling.now)) }
+    ensures { IfOk result (λ buffer. buffer
+        ≡ ready_text (⟦<S as Runs<U, F, M>>⟧.run plan.now face.now) (text_spelled spelling.now)) }
 {
     let mut text = spelled(alloc, spelling)?;
     text.guess_segment_properties::<U>();

@@ -87,7 +87,8 @@ impl Session {
 
     /// Does what one line says, and writes what it asks for. A malformed line changes nothing.
     pub fn obey<W: Write>(&mut self, alloc: Global, line: &[u8], writer: &mut W) -> Outcome
-        ensures { IsObeyed (IsLine line.now) self.old (obeyed (line_words line.now) self.old) result self.new }
+        ensures { IsObeyed (IsLine line.now) self.old
+            (obeyed (line_words line.now) self.old) result self.new }
     {
         let Some(mut words) = words_of_line(line) else {
             return Outcome::Malformed;

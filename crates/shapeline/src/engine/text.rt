@@ -56,7 +56,8 @@ pub(super) fn write_refusal<W: Write>(cause: ShapeError, writer: &mut W) -> io::
 /// How many bytes a text takes in UTF-8, where each word is a character and 32 bits can count them. Takes
 /// no memory, so that a malformed text is malformed however little there is.
 pub(super) fn text_len(words: Words) -> Option<u32>
-    ensures { SomeIff result (IsText (words_of words.entry.rest.now)) (utf8_len (words_of words.entry.rest.now)) }
+    ensures { SomeIff result (IsText (words_of words.entry.rest.now))
+        (utf8_len (words_of words.entry.rest.now)) }
 {
     let mut len: u32 = 0;
     for word in words {
@@ -73,7 +74,8 @@ pub(super) fn filled(
     words: Words,
 ) -> Result<UnicodeBuffer, ShapeError>
     requires { IsText (words_of words.rest.now) }
-    ensures items { IfOk result (λ buffer. buffer.items ≡ items_from 0 (characters (words_of words.entry.rest.now))) }
+    ensures items { IfOk result (λ buffer. buffer.items
+        ≡ items_from 0 (characters (words_of words.entry.rest.now))) }
     ensures settings { IfOk result (λ buffer. record buffer { items = []; positions = [] } ≡ record new_buffer {
       direction = manner.direction;
       flags = manner.flags;

@@ -1,6 +1,8 @@
 //! A shaper with the hooks `setup_masks` and `pause`.
 ghost use Rattle.std.specs.Prelude.{◌≡◌, true, false, None, pos, refl};
-ghost use Rattle.substitute_rows.specs.Doubling.{with_bit as with_bit_of, with_double as with_double_of, all_with_bit, all_with_bit-alone, doubled};
+ghost use Rattle.substitute_rows.specs.Doubling.{with_bit as with_bit_of};
+ghost use Rattle.substitute_rows.specs.Doubling.{with_double as with_double_of, all_with_bit};
+ghost use Rattle.substitute_rows.specs.Doubling.{all_with_bit-alone, doubled};
 
 use shape_buffer::buffer::{ShapeError, hb_buffer_t, hb_glyph_info_t, hb_tag_t};
 use shape_buffer::interfaces::{hb_font_t, hb_ot_layout_t, hb_unicode_funcs_t};

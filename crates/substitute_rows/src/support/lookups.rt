@@ -2,7 +2,11 @@
 ghost use Rattle.std.specs.Prelude.{◌≡◌, ◌++◌, ◌+◌, ◌≤◌, true, length, OnOk};
 ghost use Rattle.shape_buffer.specs.Outcome.{IsWithinLimit, Made, Outcome, step};
 ghost use Rattle.shape_buffer.specs.Walks.{items_mapped};
-ghost use Rattle.substitute_rows.specs.Rules.{takes as takes_of, with_glyph as with_glyph_of, added as added_of, one_for_one as one_for_one_of, two_for_one as two_for_one_of, multiplied, begins_with_pair as begins_with_pair_of, joined, ligated_at, ligated, stage_made};
+ghost use Rattle.substitute_rows.specs.Rules.{takes as takes_of, with_glyph as with_glyph_of};
+ghost use Rattle.substitute_rows.specs.Rules.{added as added_of, one_for_one as one_for_one_of};
+ghost use Rattle.substitute_rows.specs.Rules.{two_for_one as two_for_one_of, multiplied};
+ghost use Rattle.substitute_rows.specs.Rules.{begins_with_pair as begins_with_pair_of, joined};
+ghost use Rattle.substitute_rows.specs.Rules.{ligated_at, ligated, stage_made};
 
 use crate::support::rules::{Ligature, Multiple, Single, Stage};
 use shape_buffer::buffer::{ShapeError, hb_buffer_t, hb_glyph_info_t, hb_mask_t};

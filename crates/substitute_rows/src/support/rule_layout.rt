@@ -1,7 +1,11 @@
 //! An engine that substitutes by the rules that its face lists, a stage for each.
 ghost use Rattle.std.specs.Prelude.{◌≡◌};
 ghost use Rattle.shape_buffer.specs.Outcome.{Made};
-ghost use Rattle.substitute_rows.specs.RuleLayouts.{layout_of, one_mask_of, bits_of, masks_of, masks_of-lawful, lookups_of, lookups_of-lawful, with_class_of_face, struck_glyph as struck_glyph_of, struck as struck_of, is_struck as is_struck_of};
+ghost use Rattle.substitute_rows.specs.RuleLayouts.{layout_of, one_mask_of, bits_of, masks_of};
+ghost use Rattle.substitute_rows.specs.RuleLayouts.{masks_of-lawful, lookups_of, lookups_of-lawful};
+ghost use Rattle.substitute_rows.specs.RuleLayouts.{with_class_of_face};
+ghost use Rattle.substitute_rows.specs.RuleLayouts.{struck_glyph as struck_glyph_of};
+ghost use Rattle.substitute_rows.specs.RuleLayouts.{struck as struck_of, is_struck as is_struck_of};
 
 use crate::support::lookups::run_stage;
 use crate::support::rule_face::RuleFace;

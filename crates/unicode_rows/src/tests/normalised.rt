@@ -115,7 +115,7 @@ fn other_forms_have_other_lists(rt: HostRuntime) -> Result<(), Fail> {
     Ok(())
 }
 
-/// The lines whose forms differ by the place of a mark with a class of its own.
+/// The lines whose forms differ by the place of a mark with a ccc of its own.
 #[test]
 fn moved_marks_have_one_list(rt: HostRuntime) -> Result<(), Fail> {
     let alloc = rt.alloc();

@@ -8,7 +8,8 @@ abbrev pub invariant-loop-i : goal.invariant-loop-i
 invariant-loop-i g l = record {
   same_length : length l.buffer.items ≡ length l.fn.buffer.items;
   as_many : length l.fn.buffer.positions ≡ length l.fn.buffer.items;
-  updated : (f : Item → GlyphPosition → GlyphPosition) → ((x : _) (p q : GlyphPosition) → g.C.Fn.post l.change (x, (p, tt)) q → q ≡ f x.now p)
+  updated : (f : Item → GlyphPosition → GlyphPosition)
+      → ((x : _) (p q : GlyphPosition) → g.C.Fn.post l.change (x, (p, tt)) q → q ≡ f x.now p)
       → l.buffer ≡ record l.fn.buffer {
         positions = positions_over f (take l.i l.fn.buffer.items) (take l.i l.fn.buffer.positions) ++ drop l.i l.fn.buffer.positions;
       };

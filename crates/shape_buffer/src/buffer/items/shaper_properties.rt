@@ -13,7 +13,8 @@ impl hb_glyph_info_t {
 
     /// Sets the syllable that a script shaper counts the item to, and nothing else.
     pub fn _hb_glyph_info_set_syllable(&mut self, syllable: u8)
-        ensures { self.new ≡ record self.old { properties = record self.old.properties { syllable = syllable } } }
+        ensures { self.new
+            ≡ record self.old { properties = record self.old.properties { syllable = syllable } } }
     {
         self.properties.syllable = syllable;
     }
@@ -27,7 +28,10 @@ impl hb_glyph_info_t {
 
     /// Sets the script shaper's own category, and nothing else.
     pub fn _hb_glyph_info_set_shaper_category(&mut self, shaper_category: u8)
-        ensures { self.new ≡ record self.old { properties = record self.old.properties { shaper_category = shaper_category } } }
+        ensures { self.new
+            ≡ record self.old {
+              properties = record self.old.properties { shaper_category = shaper_category };
+            } }
     {
         self.properties.shaper_category = shaper_category;
     }
@@ -41,7 +45,10 @@ impl hb_glyph_info_t {
 
     /// Sets the script shaper's auxiliary byte, and nothing else.
     pub fn _hb_glyph_info_set_shaper_auxiliary(&mut self, shaper_auxiliary: u8)
-        ensures { self.new ≡ record self.old { properties = record self.old.properties { shaper_auxiliary = shaper_auxiliary } } }
+        ensures { self.new
+            ≡ record self.old {
+              properties = record self.old.properties { shaper_auxiliary = shaper_auxiliary };
+            } }
     {
         self.properties.shaper_auxiliary = shaper_auxiliary;
     }

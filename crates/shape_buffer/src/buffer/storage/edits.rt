@@ -1,5 +1,7 @@
 //! Calls that change which items there are, or their order: positions go with their items.
-ghost use Rattle.std.specs.Prelude.{◌≡◌, ◌<◌, ◌≤◌, ◌^◌, ◌↔◌, [], ◌∷◌, ◌++◌, length, insert, remove, reverse, swap, replicate, vec_len, IsErrOf, IsOkUnless, OnOk, OnErr};
+ghost use Rattle.std.specs.Prelude.{◌≡◌, ◌<◌, ◌≤◌, ◌^◌, ◌↔◌, [], ◌∷◌, ◌++◌, length, insert, remove};
+ghost use Rattle.std.specs.Prelude.{reverse, swap, replicate, vec_len, IsErrOf, IsOkUnless, OnOk};
+ghost use Rattle.std.specs.Prelude.{OnErr};
 ghost use Rattle.shape_buffer.specs.Buffer.{limit_of};
 ghost use Rattle.shape_buffer.specs.Items.{new_item};
 ghost use Rattle.shape_buffer.specs.Positions.{zero_position};
@@ -145,7 +147,8 @@ pub(super) fn zero_positions(positions: &mut [GlyphPosition])
 
 /// Appends so many positions of zeros; where memory runs out nothing changes.
 fn append_zeros(positions: &mut Vec<GlyphPosition>, count: usize) -> Result<(), AllocError>
-    ensures ok { OnOk result (positions.new.items ≡ positions.old.items ++ replicate count zero_position) }
+    ensures ok { OnOk result (positions.new.items
+        ≡ positions.old.items ++ replicate count zero_position) }
     ensures err { OnErr result (positions.new.items ≡ positions.old.items) }
 {
     positions.reserve(count)?;

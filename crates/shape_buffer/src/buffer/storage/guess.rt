@@ -1,6 +1,7 @@
 //! Guessing what a caller left open: the script of a text and its direction.
 ghost use Rattle.std.specs.Prelude.{◌≡◌};
-ghost use Rattle.shape_buffer.specs.Guess.{guessed, guessed_script, guessed_direction, first_script as first_script_of, script_or_ltr};
+ghost use Rattle.shape_buffer.specs.Guess.{guessed, guessed_script, guessed_direction};
+ghost use Rattle.shape_buffer.specs.Guess.{first_script as first_script_of, script_or_ltr};
 
 use crate::buffer::items::hb_glyph_info_t;
 use crate::buffer::settings::{Direction, Script};

@@ -46,7 +46,10 @@ impl hb_buffer_t {
 
     /// Sets or unsets the language of the text, and nothing else.
     pub fn set_language(&mut self, language: Option<Language>)
-        ensures { self.new ≡ record self.old { language = option_map (λ language. string_bytes language.0) language } }
+        ensures { self.new
+            ≡ record self.old {
+              language = option_map (λ language. string_bytes language.0) language;
+            } }
     {
         self.language = language;
     }
@@ -106,7 +109,10 @@ impl hb_buffer_t {
         &mut self,
         not_found_variation_selector_glyph: Option<GlyphId>,
     )
-        ensures { self.new ≡ record self.old { not_found_variation_selector_glyph = not_found_variation_selector_glyph } }
+        ensures { self.new
+            ≡ record self.old {
+              not_found_variation_selector_glyph = not_found_variation_selector_glyph;
+            } }
     {
         self.not_found_variation_selector_glyph = not_found_variation_selector_glyph;
     }

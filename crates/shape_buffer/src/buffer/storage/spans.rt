@@ -1,7 +1,10 @@
 //! Merging, marking and deleting: what changes clusters and flags of spans of items.
 ghost use Rattle.std.specs.Prelude.{◌≡◌, ◌≤◌, [], Bool, length};
 ghost use Rattle.std.specs.Fn.{FnReturnsAt};
-ghost use Rattle.shape_buffer.specs.BufferClusters.{merge_clusters as merge_clusters_of, merge_out_clusters as merge_out_clusters_of, unsafe_to_break as unsafe_to_break_of, unsafe_to_concat as unsafe_to_concat_of};
+ghost use Rattle.shape_buffer.specs.BufferClusters.{merge_clusters as merge_clusters_of};
+ghost use Rattle.shape_buffer.specs.BufferClusters.{merge_out_clusters as merge_out_clusters_of};
+ghost use Rattle.shape_buffer.specs.BufferClusters.{unsafe_to_break as unsafe_to_break_of};
+ghost use Rattle.shape_buffer.specs.BufferClusters.{unsafe_to_concat as unsafe_to_concat_of};
 ghost use Rattle.shape_buffer.specs.ClusterOrder.{KeepsClusters};
 ghost use Rattle.shape_buffer.specs.Clusters.{clusters};
 ghost use Rattle.shape_buffer.specs.Delete.{deleted};
@@ -27,7 +30,8 @@ impl hb_buffer_t {
         requires within { end ≤ length self.old.items }
         ensures merged { self.new ≡ merge_clusters_of start end self.old }
         ensures len { length self.new.items ≡ length self.old.items }
-        ensures keeps { KeepsClusters (clusters self.old.items) (clusters self.new.items) × KeepsFlags self.old self.new }
+        ensures keeps { KeepsClusters (clusters self.old.items) (clusters self.new.items)
+            × KeepsFlags self.old self.new }
     {
         if self.cluster_level == BufferClusterLevel::Characters {
             self.unsafe_to_break(start, end);
@@ -42,7 +46,8 @@ impl hb_buffer_t {
         requires within { end ≤ length self.old.items }
         ensures merged { self.new ≡ merge_out_clusters_of start end self.old }
         ensures len { length self.new.items ≡ length self.old.items }
-        ensures keeps { KeepsClusters (clusters self.old.items) (clusters self.new.items) × KeepsFlags self.old self.new }
+        ensures keeps { KeepsClusters (clusters self.old.items) (clusters self.new.items)
+            × KeepsFlags self.old self.new }
     {
         if self.cluster_level != BufferClusterLevel::Characters {
             merge_items(self.infos.as_mut_slice(), start, end);
@@ -91,10 +96,13 @@ impl hb_buffer_t {
     where
         F: Drop,
         requires { F.IsAlwaysCallable test }
-        ensures deleted { (picks : Item → Bool) → ((x : Item) (b : Bool) → FnReturnsAt F.Fn test x b → b ≡ picks x)
+        ensures deleted { (picks : Item → Bool)
+            → ((x : Item) (b : Bool) → FnReturnsAt F.Fn test x b → b ≡ picks x)
             → self.new ≡ deleted picks self.old }
-        ensures keeps { (picks : Item → Bool) → ((x : Item) (b : Bool) → FnReturnsAt F.Fn test x b → b ≡ picks x)
-            → KeepsClusters (clusters self.old.items) (clusters self.new.items) × KeepsFlags self.old self.new }
+        ensures keeps { (picks : Item → Bool)
+            → ((x : Item) (b : Bool) → FnReturnsAt F.Fn test x b → b ≡ picks x)
+            → KeepsClusters (clusters self.old.items) (clusters self.new.items)
+            × KeepsFlags self.old self.new }
         ensures fewer { length self.new.items ≤ length self.old.items }
         ensures as_many { length self.new.positions ≡ length self.new.items }
         ensures rest { record self.new { items = []; positions = []; scratch_flags = record { 0 = 0 } }

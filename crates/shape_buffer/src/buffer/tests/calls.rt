@@ -139,7 +139,7 @@ fn limits(rt: HostRuntime) -> Result<(), Fail> {
 fn with_every_property() -> hb_glyph_info_t {
     let mut item = hb_glyph_info_t::new('a', 3);
     item._hb_glyph_info_set_general_category(hb_unicode_general_category_t::NonspacingMark);
-    item._hb_glyph_info_set_modified_class(230);
+    item._hb_glyph_info_set_modified_combining_class(230);
     item._hb_glyph_info_set_ignorable(true);
     item._hb_glyph_info_set_hidden(true);
     item._hb_glyph_info_set_continuation(true);
@@ -167,7 +167,7 @@ fn properties(rt: HostRuntime) -> Result<(), Fail> {
         hb_unicode_general_category_t::NonspacingMark
     );
     assert!(rt; item._hb_glyph_info_is_unicode_mark());
-    assert_eq!(rt; item._hb_glyph_info_get_modified_class(), 230);
+    assert_eq!(rt; item._hb_glyph_info_get_modified_combining_class(), 230);
     assert!(rt; item._hb_glyph_info_get_ignorable() && item._hb_glyph_info_get_hidden());
     assert!(rt; item._hb_glyph_info_get_continuation() && item._hb_glyph_info_get_selector_mark());
     assert!(rt; item._hb_glyph_info_get_zwj() && item._hb_glyph_info_get_zwnj());

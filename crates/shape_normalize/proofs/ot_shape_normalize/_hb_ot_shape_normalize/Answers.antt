@@ -25,7 +25,8 @@ pub returns-then-len-eq0-clause-canonical_form : goal.returns-then-len-eq0-claus
 returns-then-len-eq0-clause-canonical_form g c =
     let shaper = g.S.hb_ot_shaper_t in
     let rules = rules_of g.U.hb_unicode_funcs_t.unicode shaper.constants shaper.hooks g.F.hb_font_t.face c.args.plan.now c.args.face.now in
-    NormalizesCanonically-normalized rules g.met.U.hb_unicode_funcs_t.lawful c.args.buffer.now c.args.buffer.now (empty_is_normalized rules c.args.buffer.now (omega arith) (omega arith))
+    NormalizesCanonically-normalized rules g.met.U.hb_unicode_funcs_t.lawful c.args.buffer.now c.args.buffer.now
+    (empty_is_normalized rules c.args.buffer.now (omega arith) (omega arith))
 
 pub returns-then-len-eq0-clause-ordered : goal.returns-then-len-eq0-clause-ordered
 returns-then-len-eq0-clause-ordered g c =
@@ -92,18 +93,20 @@ returns-else-is_err-clause-features g c =
 
 pub returns-then-len-eq0-clause-features : goal.returns-then-len-eq0-clause-features
 returns-then-len-eq0-clause-features g c =
-    all_of_none (λ (item : Item). Contains (map features_of c.args.buffer.now.items) (features_of item)) c.args.buffer.now.items (omega arith)
+    all_of_none (λ (item : Item). Contains (map features_of c.args.buffer.now.items) (features_of item)) c.args.buffer.now.items
+    (omega arith)
 
-pub returns-else-is_err-clause-joiners : goal.returns-else-is_err-clause-joiners
-returns-else-is_err-clause-joiners g c =
+pub returns-else-is_err-clause-cgj : goal.returns-else-is_err-clause-cgj
+returns-else-is_err-clause-cgj g c =
     let shaper = g.S.hb_ot_shaper_t in
     let rules = rules_of g.U.hb_unicode_funcs_t.unicode shaper.constants shaper.hooks g.F.hb_font_t.face c.args.plan.now c.args.face.now in
     let lawful = used_reorder-lawful shaper.hooks g.met.S.hb_ot_shaper_t.lawful_hooks shaper.constants.has_reorder_marks c.args.plan.now c.args.face.now in
     on_ok_weaker c.normalize-outcome.result (normalized_keeps_hidden rules lawful c.args.buffer.now c.normalize-outcome.new.buffer) c.normalize-outcome.ensures.ok
 
-pub returns-then-len-eq0-clause-joiners : goal.returns-then-len-eq0-clause-joiners
-returns-then-len-eq0-clause-joiners g c = λ unseen.
-    all_of_none (λ (item : Item). (item.properties.hidden ≡ is_hidden_char item.codepoint) ⊎ Contains (map hidden_char c.args.buffer.now.items) (hidden_char item)) c.args.buffer.now.items (omega arith)
+pub returns-then-len-eq0-clause-cgj : goal.returns-then-len-eq0-clause-cgj
+returns-then-len-eq0-clause-cgj g c = λ unseen.
+    all_of_none (λ (item : Item). (item.properties.hidden ≡ is_hidden_char item.codepoint)
+    ⊎ Contains (map hidden_char c.args.buffer.now.items) (hidden_char item)) c.args.buffer.now.items (omega arith)
 
 pub returns-then-len-eq0-clause-recomposed_by_all : goal.returns-then-len-eq0-clause-recomposed_by_all
 returns-then-len-eq0-clause-recomposed_by_all g c =

@@ -3,11 +3,19 @@
 //! An item without a glyph that has no expansion either may take that of another character: a space that
 //! of U+0020, or the invisible glyph, and remembers how wide it is; U+2011 that of U+2010. No shaper has a
 //! say in that, so the functions for one item that stays whole state it by the rules without a shaper.
-ghost use Rattle.std.specs.Prelude.{◌≡◌, ◌<◌, ◌≤◌, [], ◌∷◌, ◌++◌, length, map, reverse, vec_len, if◌then◌else◌, OnOk, Err};
+ghost use Rattle.std.specs.Prelude.{◌≡◌, ◌<◌, ◌≤◌, [], ◌∷◌, ◌++◌, length, map, reverse, vec_len};
+ghost use Rattle.std.specs.Prelude.{if◌then◌else◌, OnOk, Err};
 ghost use Rattle.std.specs.Option.{option_or};
 ghost use Rattle.shape_buffer.specs.UnicodeProps.{with_scratch_of};
 ghost use Rattle.shape_plan.specs.Rules.{rules_of, rules_without_shaper};
-ghost use Rattle.shape_normalize.specs.RoundOne.{part_item, remembers_space as remembers_space_of, whole_item, expanded_item, seen_chars, with_space_fallback, seen_expanded, glyph_index as glyph_index_of, space_glyph as space_glyph_of, is_fallback_space as is_fallback_space_of, fallback_index as fallback_index_of, item_glyph as item_glyph_of};
+ghost use Rattle.shape_normalize.specs.RoundOne.{part_item, remembers_space as remembers_space_of};
+ghost use Rattle.shape_normalize.specs.RoundOne.{whole_item, expanded_item, seen_chars};
+ghost use Rattle.shape_normalize.specs.RoundOne.{with_space_fallback, seen_expanded};
+ghost use Rattle.shape_normalize.specs.RoundOne.{glyph_index as glyph_index_of};
+ghost use Rattle.shape_normalize.specs.RoundOne.{space_glyph as space_glyph_of};
+ghost use Rattle.shape_normalize.specs.RoundOne.{is_fallback_space as is_fallback_space_of};
+ghost use Rattle.shape_normalize.specs.RoundOne.{fallback_index as fallback_index_of};
+ghost use Rattle.shape_normalize.specs.RoundOne.{item_glyph as item_glyph_of};
 
 use crate::ot_shape_normalize::decompose::{Expansion, decompose};
 use bitflags::Flags;
@@ -70,7 +78,9 @@ fn is_fallback_space<U: hb_unicode_funcs_t, F: hb_font_t>(
     info: &hb_glyph_info_t,
     invisible: Option<GlyphId>,
 ) -> bool
-    ensures { result ≡ is_fallback_space_of (rules_without_shaper U.unicode (F.face face.now)) invisible info.now }
+    ensures { result
+        ≡ is_fallback_space_of (rules_without_shaper U.unicode (F.face face.now))
+        invisible info.now }
 {
     let separates = matches!(
         info._hb_glyph_info_get_general_category(),
@@ -87,7 +97,8 @@ fn fallback_index<U: hb_unicode_funcs_t, F: hb_font_t>(
     info: &hb_glyph_info_t,
     invisible: Option<GlyphId>,
 ) -> u32
-    ensures { result ≡ fallback_index_of (rules_without_shaper U.unicode (F.face face.now)) invisible info.now }
+    ensures { result
+        ≡ fallback_index_of (rules_without_shaper U.unicode (F.face face.now)) invisible info.now }
 {
     if is_fallback_space::<U, F>(face, info, invisible) {
         return space_glyph::<U, F>(face, invisible).map_or(0, |glyph| glyph.0);
@@ -104,7 +115,8 @@ fn item_glyph<U: hb_unicode_funcs_t, F: hb_font_t>(
     info: &hb_glyph_info_t,
     invisible: Option<GlyphId>,
 ) -> u32
-    ensures { result ≡ item_glyph_of (rules_without_shaper U.unicode (F.face face.now)) invisible info.now }
+    ensures { result
+        ≡ item_glyph_of (rules_without_shaper U.unicode (F.face face.now)) invisible info.now }
 {
     match face.get_nominal_glyph(info.codepoint) {
         Some(GlyphId(glyph)) => glyph,
@@ -118,7 +130,8 @@ fn remembers_space<U: hb_unicode_funcs_t, F: hb_font_t>(
     info: &hb_glyph_info_t,
     invisible: Option<GlyphId>,
 ) -> bool
-    ensures { result ≡ remembers_space_of (rules_without_shaper U.unicode (F.face face.now)) invisible info.now }
+    ensures { result
+        ≡ remembers_space_of (rules_without_shaper U.unicode (F.face face.now)) invisible info.now }
 {
     !face.has_glyph(info.codepoint) && is_fallback_space::<U, F>(face, info, invisible)
 }
@@ -139,8 +152,10 @@ impl Expanded {
         c: char,
     ) -> Result<(), AllocError>
         ensures infos { OnOk result (self.new.infos.items
-            ≡ self.old.infos.items ++ part_item U.unicode (F.face face.now).nominal_glyph info.now c ∷ []) }
-        ensures flags { OnOk result (self.new.scratch_flags ≡ with_scratch_of U.unicode c self.old.scratch_flags) }
+            ≡ self.old.infos.items ++ part_item U.unicode (F.face face.now).nominal_glyph info.now c
+            ∷ []) }
+        ensures flags { OnOk result (self.new.scratch_flags
+            ≡ with_scratch_of U.unicode c self.old.scratch_flags) }
     {
         let part = part_of::<U, F>(face, info, c, &mut self.scratch_flags);
         self.infos.push(part)?;
@@ -155,8 +170,11 @@ impl Expanded {
         mut chars: Vec<char>,
     ) -> Result<(), AllocError>
         ensures infos { OnOk result (self.new.infos.items
-            ≡ self.old.infos.items ++ map (part_item U.unicode (F.face face.now).nominal_glyph info.now) (reverse chars.items)) }
-        ensures flags { OnOk result (self.new.scratch_flags ≡ seen_chars U.unicode self.old.scratch_flags (reverse chars.items)) }
+            ≡ self.old.infos.items
+            ++ map (part_item U.unicode (F.face face.now).nominal_glyph info.now)
+            (reverse chars.items)) }
+        ensures flags { OnOk result (self.new.scratch_flags
+            ≡ seen_chars U.unicode self.old.scratch_flags (reverse chars.items)) }
     {
         while let Some(c) = chars.pop() {
             self.put_part::<U, F>(face, info, c)?;
@@ -172,9 +190,11 @@ impl Expanded {
         invisible: Option<GlyphId>,
     ) -> Result<(), AllocError>
         ensures infos { OnOk result (self.new.infos.items ≡ self.old.infos.items
-            ++ whole_item (rules_without_shaper U.unicode (F.face face.now)) invisible info.now ∷ []) }
+            ++ whole_item (rules_without_shaper U.unicode (F.face face.now)) invisible info.now
+            ∷ []) }
         ensures flags { OnOk result (self.new.scratch_flags
-            ≡ (if remembers_space_of (rules_without_shaper U.unicode (F.face face.now)) invisible info.now
+            ≡ (if remembers_space_of
+            (rules_without_shaper U.unicode (F.face face.now)) invisible info.now
             then with_space_fallback self.old.scratch_flags else self.old.scratch_flags)) }
     {
         let mut whole = *info;
@@ -207,7 +227,8 @@ impl Expanded {
         ensures infos { OnOk result (self.new.infos.items ≡ self.old.infos.items ++ expanded_item
             (⟦<S as Runs<U, F, M>>⟧.rules plan.now face.now) invisible shortest info.now) }
         ensures flags { OnOk result (self.new.scratch_flags ≡ seen_expanded
-            (⟦<S as Runs<U, F, M>>⟧.rules plan.now face.now) invisible shortest self.old.scratch_flags info.now) }
+            (⟦<S as Runs<U, F, M>>⟧.rules plan.now face.now)
+            invisible shortest self.old.scratch_flags info.now) }
         ensures within { OnOk result (vec_len self.new.infos ≤ limit) }
         ensures length { result ≡ Err ShapeError.Length → limit < length (self.old.infos.items ++ expanded_item
             (⟦<S as Runs<U, F, M>>⟧.rules plan.now face.now) invisible shortest info.now) }

@@ -1,6 +1,7 @@
 //! Items that become one with the variation selector behind them: their clusters are merged first.
 ghost use Rattle.std.specs.Prelude.{◌≡◌, ◌+◌, ◌<◌, ◌^◌, ◌++◌, length, IfOk, OnOk, OnErr};
-ghost use Rattle.shape_normalize.specs.RoundOne.{merged_at, pair_glyph as pair_glyph_of, pair_places, pairs_from, sequences, variants};
+ghost use Rattle.shape_normalize.specs.RoundOne.{merged_at, pair_glyph as pair_glyph_of};
+ghost use Rattle.shape_normalize.specs.RoundOne.{pair_places, pairs_from, sequences, variants};
 
 use crate::ot_shape_normalize::round_one::sequences::{
     first_sequence, first_variant, is_selector_sequence,
@@ -48,7 +49,8 @@ fn pairs<U: hb_unicode_funcs_t, F: hb_font_t>(
     face: &F,
     infos: &[hb_glyph_info_t],
 ) -> Result<Vec<usize>, AllocError>
-    ensures { IfOk result (λ places. places.items ≡ pairs_from U.unicode (F.face face.now) 0 (sequences infos.now)) }
+    ensures { IfOk result (λ places. places.items
+        ≡ pairs_from U.unicode (F.face face.now) 0 (sequences infos.now)) }
 {
     let mut places = Vec::new(alloc);
     let mut place = 0;
@@ -69,7 +71,9 @@ pub(super) fn merge_pairs<U: hb_unicode_funcs_t, F: hb_font_t>(
     face: &F,
     buffer: &mut hb_buffer_t,
 ) -> Result<(), AllocError>
-    ensures merged { OnOk result (buffer.new ≡ merged_at buffer.old (pairs_from U.unicode (F.face face.now) 0 (sequences buffer.old.items))) }
+    ensures merged { OnOk result (buffer.new
+        ≡ merged_at buffer.old (pairs_from U.unicode (F.face face.now) 0
+        (sequences buffer.old.items))) }
     ensures unchanged { OnErr result (buffer.new ≡ buffer.old) }
 {
     let places = pairs::<U, F>(alloc, face, buffer.infos())?;

@@ -1,9 +1,11 @@
 //! Sequences that hold a variation selector: an item and its selector become one item where the face has a
 //! glyph for the two; all other items pass.
-ghost use Rattle.std.specs.Prelude.{◌≡◌, ◌<◌, ◌≤◌, ◌∷◌, ◌++◌, length, map, fold, vec_len, OnOk, Err};
+ghost use Rattle.std.specs.Prelude.{◌≡◌, ◌<◌, ◌≤◌, ◌∷◌, ◌++◌, length, map, fold, vec_len, OnOk};
+ghost use Rattle.std.specs.Prelude.{Err};
 ghost use Rattle.std.specs.List.{flat_map};
 ghost use Rattle.shape_buffer.specs.Buffer.{limit_of};
-ghost use Rattle.shape_normalize.specs.RoundOne.{marked_selector, passed_item, seen_variant, variant_items, variants, with_selector_fallback};
+ghost use Rattle.shape_normalize.specs.RoundOne.{marked_selector, passed_item, seen_variant};
+ghost use Rattle.shape_normalize.specs.RoundOne.{variant_items, variants, with_selector_fallback};
 
 use crate::ot_shape_normalize::round_one::expanded::Expanded;
 use crate::ot_shape_normalize::round_one::sequences::first_variant;
@@ -29,7 +31,8 @@ fn push_passed<F: hb_font_t>(
     face: &F,
     infos: &[hb_glyph_info_t],
 ) -> Result<(), AllocError>
-    ensures { OnOk result (out.new.items ≡ out.old.items ++ map (passed_item (F.face face.now).nominal_glyph) infos.now) }
+    ensures { OnOk result (out.new.items
+        ≡ out.old.items ++ map (passed_item (F.face face.now).nominal_glyph) infos.now) }
 {
     for info in infos {
         out.push(passed(face, info))?;
@@ -57,7 +60,8 @@ impl Expanded {
         rest: &[hb_glyph_info_t],
     ) -> Result<(), AllocError>
         ensures infos { OnOk result (self.new.infos.items ≡ self.old.infos.items
-            ++ record info.now { glyph_index = glyph.0 } ∷ map (passed_item (F.face face.now).nominal_glyph) rest.now) }
+            ++ record info.now { glyph_index = glyph.0 }
+            ∷ map (passed_item (F.face face.now).nominal_glyph) rest.now) }
         ensures flags { self.new.scratch_flags ≡ self.old.scratch_flags }
     {
         let mut pair = *info;
@@ -102,10 +106,14 @@ impl Expanded {
         limit: usize,
     ) -> Result<(), ShapeError>
         requires { vec_len self.old.infos ≤ limit }
-        ensures infos { OnOk result (self.new.infos.items ≡ self.old.infos.items ++ variant_items (F.face face.now) not_found part.now) }
-        ensures flags { OnOk result (self.new.scratch_flags ≡ seen_variant (F.face face.now) self.old.scratch_flags part.now) }
+        ensures infos { OnOk result (self.new.infos.items
+            ≡ self.old.infos.items ++ variant_items (F.face face.now) not_found part.now) }
+        ensures flags { OnOk result (self.new.scratch_flags
+            ≡ seen_variant (F.face face.now) self.old.scratch_flags part.now) }
         ensures within { OnOk result (vec_len self.new.infos ≤ limit) }
-        ensures length { result ≡ Err ShapeError.Length → limit < length (self.old.infos.items ++ variant_items (F.face face.now) not_found part.now) }
+        ensures length { result ≡ Err ShapeError.Length
+            → limit < length (self.old.infos.items
+            ++ variant_items (F.face face.now) not_found part.now) }
     {
         let room = limit - self.infos.len();
         let [info, selector, rest @ ..] = part else {
@@ -138,7 +146,8 @@ impl Expanded {
         ensures infos { OnOk result (self.new.infos.items ≡ self.old.infos.items
             ++ flat_map (variant_items (F.face face.now) buffer.now.not_found_variation_selector_glyph) (variants U.unicode sequence.now)) }
         ensures flags { OnOk result (self.new.scratch_flags
-            ≡ fold (seen_variant (F.face face.now)) self.old.scratch_flags (variants U.unicode sequence.now)) }
+            ≡ fold (seen_variant (F.face face.now)) self.old.scratch_flags
+            (variants U.unicode sequence.now)) }
         ensures within { OnOk result (vec_len self.new.infos ≤ limit_of buffer.now) }
         ensures length { result ≡ Err ShapeError.Length → limit_of buffer.now < length (self.old.infos.items
             ++ flat_map (variant_items (F.face face.now) buffer.now.not_found_variation_selector_glyph) (variants U.unicode sequence.now)) }

@@ -3,7 +3,9 @@ ghost use Rattle.std.specs.Prelude.{◌≡◌, ◌≤◌, [], length, MatchOptio
 ghost use Rattle.std.specs.List.{list_any, prefix_len};
 ghost use Rattle.canonical_form.specs.Divided.{IsFirstPart};
 ghost use Rattle.shape_buffer.specs.Items.{is_mark_item};
-ghost use Rattle.shape_normalize.specs.RoundOne.{is_selector_sequence as is_selector_sequence_of, is_selector_item, is_with_marks as is_with_marks_of};
+ghost use Rattle.shape_normalize.specs.RoundOne.{is_selector_sequence as is_selector_sequence_of};
+ghost use Rattle.shape_normalize.specs.RoundOne.{is_selector_item};
+ghost use Rattle.shape_normalize.specs.RoundOne.{is_with_marks as is_with_marks_of};
 
 use shape_buffer::buffer::hb_glyph_info_t;
 use shape_buffer::interfaces::hb_unicode_funcs_t;
@@ -35,7 +37,8 @@ fn count_selectors<U: hb_unicode_funcs_t>(infos: &[hb_glyph_info_t]) -> usize
 pub(super) fn first_sequence(
     infos: &[hb_glyph_info_t],
 ) -> Option<(&[hb_glyph_info_t], &[hb_glyph_info_t])>
-    ensures { MatchOption result (infos.now ≡ []) (λ p. IsFirstPart is_mark_item infos.now p.0.now p.1.now) }
+    ensures { MatchOption result (infos.now ≡ [])
+        (λ p. IsFirstPart is_mark_item infos.now p.0.now p.1.now) }
 {
     let (_, behind) = infos.split_first()?;
     Some(infos.split_at(1 + count_marks(behind)))
@@ -46,7 +49,8 @@ pub(super) fn first_sequence(
 pub(super) fn first_variant<U: hb_unicode_funcs_t>(
     infos: &[hb_glyph_info_t],
 ) -> Option<(&[hb_glyph_info_t], &[hb_glyph_info_t])>
-    ensures { MatchOption result (infos.now ≡ []) (λ p. IsFirstPart (is_selector_item U.unicode) infos.now p.0.now p.1.now) }
+    ensures { MatchOption result (infos.now ≡ [])
+        (λ p. IsFirstPart (is_selector_item U.unicode) infos.now p.0.now p.1.now) }
 {
     let (_, behind) = infos.split_first()?;
     Some(infos.split_at(1 + count_selectors::<U>(behind)))

@@ -24,7 +24,8 @@ returns-in-Ok-clause-direction g c =
     let unicode = g.U.hb_unicode_funcs_t.unicode in
     let run = run_of g.U.hb_unicode_funcs_t.unicode g.M.hb_ot_layout_t.masks g.M.hb_ot_layout_t.lookups g.S.hb_ot_shaper_t.constants g.S.hb_ot_shaper_t.hooks g.F.hb_font_t.face c.args.plan.now c.args.face.now in
     let made : c.into_glyphs.result ≡ shaped run c.args.buffer = search rules in
-    ap (λ (b : Buffer). b.direction) made ∙ direction-made run (guessed_direction unicode c.args.buffer) (guessed unicode c.args.buffer) refl
+    ap (λ (b : Buffer). b.direction) made
+    ∙ direction-made run (guessed_direction unicode c.args.buffer) (guessed unicode c.args.buffer) refl
 
 pub returns-in-Ok-clause-clusters : goal.returns-in-Ok-clause-clusters
 returns-in-Ok-clause-clusters g c =
@@ -47,11 +48,14 @@ returns-in-Ok-clause-flags g c = λ keeps.
     let masks = g.met.M.hb_ot_layout_t.lawful_masks c.args.plan.now.ot_map in
     let made : c.into_glyphs.result ≡ shaped run c.args.buffer = search rules in
     subst (λ (glyphs : Buffer). HasFlagsByCluster c.args.buffer glyphs) (sym made)
-    (flags-run_made run (guessed_direction unicode c.args.buffer) lawful masks c.masks_are_features.ensures keeps c.args.buffer (guessed unicode c.args.buffer) refl)
+    (flags-run_made run (guessed_direction unicode c.args.buffer) lawful masks c.masks_are_features.ensures keeps c.args.buffer
+    (guessed unicode c.args.buffer) refl)
 
 pub returns-in-Err-clause-length : goal.returns-in-Err-clause-length
 returns-in-Err-clause-length g c = λ is.
     let run = run_of g.U.hb_unicode_funcs_t.unicode g.M.hb_ot_layout_t.masks g.M.hb_ot_layout_t.lookups g.S.hb_ot_shaper_t.constants g.S.hb_ot_shaper_t.hooks g.F.hb_font_t.face c.args.plan.now c.args.face.now in
-    let begins : c.into_inner-inner.result ≡ guessed g.U.hb_unicode_funcs_t.unicode c.args.buffer = c.into_inner-inner.ensures ∙ c.guess_segment_properties.ensures in
+    let begins : c.into_inner-inner.result ≡ guessed g.U.hb_unicode_funcs_t.unicode c.args.buffer = c.into_inner-inner.ensures
+    ∙ c.guess_segment_properties.ensures in
     subst (λ (b : Buffer). ShapingPasses run b.direction b) begins
-    (subst (λ (d : Direction). ShapingPasses run d c.into_inner-inner.result) c.direction-target_direction.ensures (c.in-Err.ensures.length (ap Err is)))
+    (subst (λ (d : Direction). ShapingPasses run d c.into_inner-inner.result) c.direction-target_direction.ensures
+    (c.in-Err.ensures.length (ap Err is)))

@@ -10,4 +10,5 @@ use Rattle.shape_pipeline.proofs.worked.steps_come_in_order.Goals as goal
 pub returns : goal.returns
 returns c = λ run target.
     let deletion : List Step = step (step_if (run.decisions.apply_morx && run.decisions.apply_gpos) run.lookups.aat_remove_deleted) ∷ [] in
-    ap (λ (steps : List Step). steps_to_lookups run target ++ steps) (append_assoc (lookup_steps run) deletion (place_part run ++ finish_steps run))
+    ap (λ (steps : List Step). steps_to_lookups run target ++ steps)
+    (append_assoc (lookup_steps run) deletion (place_part run ++ finish_steps run))

@@ -29,9 +29,15 @@ loop-i-preserved c =
     let here : drop i b.items ≡ x ∷ drop (i + 1) b.items = drop_more b.items i x within ∙ ap (λ z. z ∷ drop (i + 1) b.items) (sym read) in
     let all : slice_range b.items i (length b.items) ≡ drop i b.items = grind (arith, common_steps) in
     let rest : mask ≡ mask_after flags c.loop-i.before x (x ∷ drop (i + 1) b.items) =
-    c.mask_after-mask.ensures ∙ ap (mask_after flags c.loop-i.before x) (ap (λ xs. slice_range xs i (length xs)) c.infos-in-loop-i.ensures ∙ all ∙ here) in
-    let step = walk_step (flagged_from flags c.loop-i.before) (flagged_from flags (Some (x.cluster, mask))) i b x (with_mask mask x) within read (rw (← rest) refl) in
-    record { as_many = grind (arith, common_steps); rest = ap (with_rest (flagged_from flags (Some (x.cluster, mask))) (i + 1)) c.set_info.ensures ∙ step ∙ c.loop-i.invariant.rest }
+    c.mask_after-mask.ensures
+    ∙ ap (mask_after flags c.loop-i.before x) (ap (λ xs. slice_range xs i (length xs)) c.infos-in-loop-i.ensures ∙ all ∙ here) in
+    let step = walk_step (flagged_from flags c.loop-i.before) (flagged_from flags (Some (x.cluster, mask))) i b x
+    (with_mask mask x) within read (rw (← rest) refl) in
+    record {
+      as_many = grind (arith, common_steps);
+      rest = ap
+          (with_rest (flagged_from flags (Some (x.cluster, mask))) (i + 1)) c.set_info.ensures ∙ step ∙ c.loop-i.invariant.rest;
+    }
 
 pub returns : goal.returns
 unfolding flags_propagated flagged_from
@@ -42,7 +48,8 @@ returns c =
     let all = sym end ∙ c.loop-i.invariant.rest in
     record {
       made = all ∙ rw on (ap (λ (items : List Item). record c.args.buffer.now { items = items })
-          (ap (λ (flags : BufferFlags). flagged_from flags None c.args.buffer.now.items) c.flags-flags.ensures ∙ flagged-runs c.args.buffer.now.flags c.args.buffer.now.items));
+          (ap (λ (flags : BufferFlags). flagged_from flags None c.args.buffer.now.items) c.flags-flags.ensures
+          ∙ flagged-runs c.args.buffer.now.flags c.args.buffer.now.items));
       no_longer = omega (arith, c.loop-i.invariant.as_many);
       same_limit = ap limit_of all;
     }

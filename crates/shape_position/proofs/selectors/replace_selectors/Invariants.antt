@@ -9,6 +9,7 @@ invariant-loop-i l = record {
   as_many : length l.fn.buffer.positions ≡ length l.fn.buffer.items;
   updated : l.buffer ≡ record l.fn.buffer {
     items = map (not_found_item l.glyph) (take l.i l.fn.buffer.items) ++ drop l.i l.fn.buffer.items;
-    positions = positions_over not_found_position (take l.i l.fn.buffer.items) (take l.i l.fn.buffer.positions) ++ drop l.i l.fn.buffer.positions;
+    positions = positions_over not_found_position (take l.i l.fn.buffer.items) (take l.i l.fn.buffer.positions)
+        ++ drop l.i l.fn.buffer.positions;
   };
 }

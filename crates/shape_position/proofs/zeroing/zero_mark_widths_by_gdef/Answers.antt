@@ -11,6 +11,12 @@ pub returns : goal.returns
 unfolding marks_zeroed
 returns c =
     let adjust = c.if-adjust_offsets.adjust in
-    let is : adjust ≡ (c.args.adjust_offsets && is_forward c.args.buffer.now.direction) = elim c.if-adjust_offsets.branch [ then-adjust_offsets w ↦ grind (arith, w.adjust-is, w.is_forward-adjust.ensures, w.direction.ensures) | else-adjust_offsets w ↦ grind (arith, w.adjust-is) ] in
+    let is : adjust
+    ≡ (c.args.adjust_offsets
+    && is_forward c.args.buffer.now.direction) = elim c.if-adjust_offsets.branch [
+      | then-adjust_offsets w ↦ grind
+          (arith, w.adjust-is, w.is_forward-adjust.ensures, w.direction.ensures)
+      | else-adjust_offsets w ↦ grind (arith, w.adjust-is)
+    ] in
     Made-as (marks_zeroed c.args.adjust_offsets) (c.update_positions.ensures (zeroed_mark adjust) (λ x p q said. search rules))
     (ap (λ a. positions_mapped (zeroed_mark a) c.args.buffer.now) is)

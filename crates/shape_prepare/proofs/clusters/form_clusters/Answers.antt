@@ -13,10 +13,22 @@ pub returns-then-eq : goal.returns-then-eq
 returns-then-eq c =
     let seen : (bit_and c.args.buffer.now.scratch_flags.0 1 == 1) ≡ true = search rules in
     let level : c.args.buffer.now.cluster_level ≡ MonotoneGraphemes = search rules in
-    record { made = c.merge_graphemes.ensures.made ∙ sym (clusters_formed-merged c.args.buffer.now seen level); no_longer = c.merge_graphemes.ensures.no_longer; same_limit = c.merge_graphemes.ensures.same_limit }
+    record {
+      made = c.merge_graphemes.ensures.made
+          ∙ sym (clusters_formed-merged c.args.buffer.now seen level);
+      no_longer =
+          c.merge_graphemes.ensures.no_longer;
+      same_limit = c.merge_graphemes.ensures.same_limit;
+    }
 
 pub returns-else-eq : goal.returns-else-eq
 returns-else-eq c =
     let seen : (bit_and c.args.buffer.now.scratch_flags.0 1 == 1) ≡ true = search rules in
     let level : c.args.buffer.now.cluster_level ≢ MonotoneGraphemes = search rules in
-    record { made = c.mark_graphemes.ensures.made ∙ sym (clusters_formed-marked c.args.buffer.now seen level); no_longer = c.mark_graphemes.ensures.no_longer; same_limit = c.mark_graphemes.ensures.same_limit }
+    record {
+      made = c.mark_graphemes.ensures.made
+          ∙ sym (clusters_formed-marked c.args.buffer.now seen level);
+      no_longer =
+          c.mark_graphemes.ensures.no_longer;
+      same_limit = c.mark_graphemes.ensures.same_limit;
+    }

@@ -9,7 +9,8 @@ use Rattle.shape_prepare.proofs.clusters.mark_graphemes.Given as goal
 -- what is left of the walk makes of the buffer what the whole walk does
 abbrev pub invariant-loop-last : goal.invariant-loop-last
 invariant-loop-last l = record {
-  whole : left_to_do unsafe_to_break l.start l.last (drop l.last (map is_continuation l.fn.buffer.items)) l.buffer ≡ over_graphemes unsafe_to_break l.fn.buffer;
+  whole : left_to_do unsafe_to_break l.start l.last (drop l.last (map is_continuation l.fn.buffer.items)) l.buffer
+      ≡ over_graphemes unsafe_to_break l.fn.buffer;
   bits : map is_continuation l.buffer.items ≡ map is_continuation l.fn.buffer.items;
   as_many : length l.buffer.items ≡ length l.fn.buffer.items;
   limit : limit_of l.buffer ≡ limit_of l.fn.buffer;

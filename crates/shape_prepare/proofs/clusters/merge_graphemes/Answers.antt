@@ -9,7 +9,8 @@ use Rattle.shape_prepare.proofs.clusters.merge_graphemes.Goals as goal
 use Rattle.shape_prepare.proofs.clusters.merge_graphemes.Goals.{then-ends_grapheme, else-ends_grapheme}
 
 pub loop-last-init : goal.loop-last-init
-loop-last-init c = record { whole = walk-spans is_continuation merge_clusters c.args.buffer.now.items c.args.buffer.now; bits = refl; as_many = refl; limit = refl; ordered = omega arith }
+loop-last-init c =
+    record { whole = walk-spans is_continuation merge_clusters c.args.buffer.now.items c.args.buffer.now; bits = refl; as_many = refl; limit = refl; ordered = omega arith }
 
 pub loop-last-preserved : goal.loop-last-preserved
 loop-last-preserved c =
@@ -24,17 +25,21 @@ loop-last-preserved c =
     elim c.if-ends_grapheme.branch [
       | then-ends_grapheme w ↦
           let made = w.buffer-is ∙ w.merge_clusters.ensures.merged in
-          let kept = ap (λ (b : Buffer). map is_continuation b.items) made ∙ keys-merge_clusters is_continuation IsKey-continuation start (last + 1) b in
+          let kept = ap (λ (b : Buffer). map is_continuation b.items) made
+          ∙ keys-merge_clusters is_continuation IsKey-continuation start (last + 1) b in
           record {
-            whole = rw (w.start-is, made) (walk_ends merge_clusters start last bits b within (sym told ∙ sym c.ends_grapheme.ensures ∙ w.if-ends_grapheme.true) ∙ c.loop-last.invariant.whole);
+            whole = rw (w.start-is, made) (walk_ends merge_clusters start last bits b within
+                (sym told ∙ sym c.ends_grapheme.ensures ∙ w.if-ends_grapheme.true) ∙ c.loop-last.invariant.whole);
             bits = kept ∙ c.loop-last.invariant.bits;
-            as_many = sym (length-map c.if-ends_grapheme.buffer.items is_continuation) ∙ ap length (kept ∙ c.loop-last.invariant.bits) ∙ length-map text.items is_continuation;
+            as_many = sym (length-map c.if-ends_grapheme.buffer.items is_continuation) ∙ ap length (kept ∙ c.loop-last.invariant.bits)
+                ∙ length-map text.items is_continuation;
             limit = ap limit_of made ∙ ap limit_of (without_items-merge_clusters start (last + 1) b) ∙ c.loop-last.invariant.limit;
             ordered = omega arith;
           }
       | else-ends_grapheme w ↦
           record {
-            whole = rw (w.start-is, w.buffer-is) (walk_goes_on merge_clusters start last bits b within (sym told ∙ sym c.ends_grapheme.ensures ∙ w.if-ends_grapheme.false) ∙ c.loop-last.invariant.whole);
+            whole = rw (w.start-is, w.buffer-is) (walk_goes_on merge_clusters start last bits b within
+                (sym told ∙ sym c.ends_grapheme.ensures ∙ w.if-ends_grapheme.false) ∙ c.loop-last.invariant.whole);
             bits = ap (λ (b : Buffer). map is_continuation b.items) w.buffer-is ∙ c.loop-last.invariant.bits;
             as_many = ap (λ (b : Buffer). length b.items) w.buffer-is ∙ size;
             limit = ap limit_of w.buffer-is ∙ c.loop-last.invariant.limit;
@@ -48,7 +53,8 @@ returns c =
     let size : length c.loop-last.buffer.items ≡ length c.args.buffer.now.items = c.loop-last.invariant.as_many in
     let over : length bits ≤ c.loop-last.last = rw (length-map c.args.buffer.now.items is_continuation) (omega arith) in
     record {
-      made = sym (ap (λ l. left_to_do merge_clusters c.loop-last.start c.loop-last.last l c.loop-last.buffer) (drop_all c.loop-last.last bits over)) ∙ c.loop-last.invariant.whole;
+      made = sym (ap (λ l. left_to_do merge_clusters c.loop-last.start c.loop-last.last l c.loop-last.buffer)
+          (drop_all c.loop-last.last bits over)) ∙ c.loop-last.invariant.whole;
       no_longer = omega arith;
       same_limit = c.loop-last.invariant.limit;
     }

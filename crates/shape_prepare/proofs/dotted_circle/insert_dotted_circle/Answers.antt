@@ -12,7 +12,8 @@ returns-then-begins_with_mark g c =
     let b = c.args.buffer.now in
     let takes = sym c.takes_circle.ensures ∙ c.if-takes_circle.true in
     let mark = ap begins_with_mark (sym c.infos.ensures) ∙ sym c.begins_with_mark.ensures.mark ∙ c.if-begins_with_mark.true in
-    Outcome-alike (dotted_circled unicode face) (λ b. with_circle unicode b.items b) b c.insert_circle.new.buffer c.insert_circle.result (dotted_circled-put unicode face b takes mark) c.insert_circle.ensures
+    Outcome-alike (dotted_circled unicode face) (λ b. with_circle unicode b.items b) b c.insert_circle.new.buffer c.insert_circle.result
+    (dotted_circled-put unicode face b takes mark) c.insert_circle.ensures
 
 pub returns : goal.returns
 returns g c =

@@ -35,13 +35,16 @@ loop-i-preserved g c =
     let within : i < length b.items = omega arith in
     let read : x ≡ get_or b.items i x = c.index-infos-i.is ∙ ap (λ xs. get_or xs i x) c.infos.ensures in
     let here : drop i b.items ≡ x ∷ drop (i + 1) b.items = drop_more b.items i x within ∙ ap (λ z. z ∷ drop (i + 1) b.items) (sym read) in
-    let wrote = c.mark_continuation-before.ensures.item ∙ ap (λ (z : Item). with_continuation (continues unicode before z) z) c.init_unicode_props.ensures.item in
+    let wrote = c.mark_continuation-before.ensures.item
+    ∙ ap (λ (z : Item). with_continuation (continues unicode before z) z) c.init_unicode_props.ensures.item in
     let next = c.mark_continuation-before.ensures.next ∙ ap (is_to_next unicode before) c.init_unicode_props.ensures.item in
-    let step = walk_step (marking unicode before) (marking unicode (is_to_next unicode before props)) i b x (with_continuation (continues unicode before props) props) within read refl in
+    let step = walk_step (marking unicode before) (marking unicode (is_to_next unicode before props)) i b x
+    (with_continuation (continues unicode before props) props) within read refl in
     record {
       as_many = grind (arith, common_steps);
       items = ap (with_rest (marking unicode c.mark_continuation-before.result) (i + 1)) c.set_info.ensures
-          ∙ ap₂ (λ (before : Before) (y : Item). with_rest (marking unicode before) (i + 1) (record b { items = set b.items i y })) next wrote
+          ∙ ap₂ (λ (before : Before) (y : Item). with_rest (marking unicode before) (i + 1)
+          (record b { items = set b.items i y })) next wrote
           ∙ step ∙ c.loop-i.invariant.items;
       flags = ap (λ (b : Buffer). fold (seen_item unicode) seen (drop (i + 1) b.items)) c.set_info.ensures
           ∙ ap (fold (seen_item unicode) seen) (drop-set-lt (i + 1) b.items i y (omega arith))
@@ -61,6 +64,8 @@ returns g c =
     let end = walk_end (marking unicode c.loop-i.before) i b over refl in
     let seen = sym (ap (fold (seen_item unicode) c.loop-i.scratch_flags) (drop_all i b.items over)) ∙ c.loop-i.invariant.flags in
     let whole : c.set_scratch_flags.new.self ≡ graphemes_marked unicode c.args.buffer.now =
-    c.set_scratch_flags.ensures ∙ ap₂ (λ (b : Buffer) (s : ScratchFlags). record b { scratch_flags = s }) (sym end ∙ c.loop-i.invariant.items) seen in
-    let same : length c.set_scratch_flags.new.self.items ≡ length b.items = ap (λ (b : Buffer). length b.items) c.set_scratch_flags.ensures in
+    c.set_scratch_flags.ensures
+    ∙ ap₂ (λ (b : Buffer) (s : ScratchFlags). record b { scratch_flags = s }) (sym end ∙ c.loop-i.invariant.items) seen in
+    let same : length c.set_scratch_flags.new.self.items
+    ≡ length b.items = ap (λ (b : Buffer). length b.items) c.set_scratch_flags.ensures in
     record { made = whole; no_longer = omega arith; same_limit = ap limit_of whole }

@@ -13,5 +13,6 @@ invariant-loop-i g l =
       as_many : length l.buffer.items ≡ length l.fn.buffer.items;
       items : with_rest (λ items. continuations_marked unicode l.before (map (with_unicode_props unicode) items)) l.i l.buffer
           ≡ with_rest (λ items. continuations_marked unicode Plain (map (with_unicode_props unicode) items)) 0 l.fn.buffer;
-      flags : fold (seen_item unicode) l.scratch_flags (drop l.i l.buffer.items) ≡ fold (seen_item unicode) l.fn.buffer.scratch_flags l.fn.buffer.items;
+      flags : fold (seen_item unicode) l.scratch_flags (drop l.i l.buffer.items)
+          ≡ fold (seen_item unicode) l.fn.buffer.scratch_flags l.fn.buffer.items;
     }

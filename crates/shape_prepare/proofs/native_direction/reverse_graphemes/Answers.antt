@@ -10,7 +10,8 @@ use Rattle.shape_prepare.proofs.native_direction.reverse_graphemes.Goals as goal
 use Rattle.shape_prepare.proofs.native_direction.reverse_graphemes.Goals.{then-ends_grapheme, else-ends_grapheme}
 
 pub loop-last-init : goal.loop-last-init
-loop-last-init c = record { whole = walk-spans is_continuation reverse_span c.args.buffer.now.items c.args.buffer.now; bits = refl; as_many = refl; limit = refl; ordered = omega arith }
+loop-last-init c =
+    record { whole = walk-spans is_continuation reverse_span c.args.buffer.now.items c.args.buffer.now; bits = refl; as_many = refl; limit = refl; ordered = omega arith }
 
 pub loop-last-preserved : goal.loop-last-preserved
 loop-last-preserved c =
@@ -24,7 +25,8 @@ loop-last-preserved c =
     let le : start ≤ last + 1 = omega arith in
     let inside : last + 1 ≤ length b.items = omega arith in
     let behind : drop (last + 1) (map is_continuation b.items) ≡ drop (last + 1) bits =
-    sym (drop-drop 1 last (map is_continuation b.items)) ∙ ap (λ (l : List Bool). drop 1 l) c.loop-last.invariant.bits ∙ drop-drop 1 last bits in
+    sym (drop-drop 1 last (map is_continuation b.items)) ∙ ap (λ (l : List Bool). drop 1 l) c.loop-last.invariant.bits
+    ∙ drop-drop 1 last bits in
     let told : c.ends_grapheme.result ≡ ends (drop (last + 1) bits) =
     c.ends_grapheme.ensures ∙ ap (λ (xs : List Item). ends (map is_continuation (drop (last + 1) xs))) c.infos.ensures
     ∙ ap ends (sym (drop-map is_continuation (last + 1) b.items) ∙ behind) in
@@ -32,15 +34,18 @@ loop-last-preserved c =
       | then-ends_grapheme w ↦
           let made = w.buffer-is ∙ w.reverse_range.ensures in
           record {
-            whole = rw (w.start-is, made) (walk_ends reverse_span start last bits b within (sym told ∙ w.if-ends_grapheme.true) ∙ c.loop-last.invariant.whole);
-            bits = ap (λ (b : Buffer). drop (last + 1) (map is_continuation b.items)) made ∙ behind-reversed is_continuation start (last + 1) b.items le inside ∙ behind;
+            whole = rw (w.start-is, made) (walk_ends reverse_span start last bits b within (sym told ∙ w.if-ends_grapheme.true)
+                ∙ c.loop-last.invariant.whole);
+            bits = ap (λ (b : Buffer). drop (last + 1) (map is_continuation b.items)) made
+                ∙ behind-reversed is_continuation start (last + 1) b.items le inside ∙ behind;
             as_many = ap (λ (b : Buffer). length b.items) made ∙ length-reversed_range start (last + 1) b.items le inside ∙ size;
             limit = ap limit_of made ∙ c.loop-last.invariant.limit;
             ordered = omega arith;
           }
       | else-ends_grapheme w ↦
           record {
-            whole = rw (w.start-is, w.buffer-is) (walk_goes_on reverse_span start last bits b within (sym told ∙ w.if-ends_grapheme.false) ∙ c.loop-last.invariant.whole);
+            whole = rw (w.start-is, w.buffer-is) (walk_goes_on reverse_span start last bits b within (sym told ∙ w.if-ends_grapheme.false)
+                ∙ c.loop-last.invariant.whole);
             bits = ap (λ (b : Buffer). drop (last + 1) (map is_continuation b.items)) w.buffer-is ∙ behind;
             as_many = ap (λ (b : Buffer). length b.items) w.buffer-is ∙ size;
             limit = ap limit_of w.buffer-is ∙ c.loop-last.invariant.limit;
@@ -54,7 +59,8 @@ returns-clause-reversed c =
     let size : length c.loop-last.buffer.items ≡ length c.args.buffer.now.items = c.loop-last.invariant.as_many in
     let over : length bits ≤ c.loop-last.last = rw (length-map c.args.buffer.now.items is_continuation) (omega arith) in
     record {
-      made = sym (ap (λ l. left_to_do reverse_span c.loop-last.start c.loop-last.last l c.loop-last.buffer) (drop_all c.loop-last.last bits over)) ∙ c.loop-last.invariant.whole;
+      made = sym (ap (λ l. left_to_do reverse_span c.loop-last.start c.loop-last.last l c.loop-last.buffer)
+          (drop_all c.loop-last.last bits over)) ∙ c.loop-last.invariant.whole;
       no_longer = omega arith;
       same_limit = c.loop-last.invariant.limit;
     }

@@ -9,7 +9,8 @@ use Rattle.shape_prepare.proofs.native_direction.reverse_graphemes.Given as goal
 -- what is left of the walk makes of the buffer what the whole walk does; of the items from here on none has moved
 abbrev pub invariant-loop-last : goal.invariant-loop-last
 invariant-loop-last l = record {
-  whole : left_to_do reverse_span l.start l.last (drop l.last (map is_continuation l.fn.buffer.items)) l.buffer ≡ over_graphemes reverse_span l.fn.buffer;
+  whole : left_to_do reverse_span l.start l.last (drop l.last (map is_continuation l.fn.buffer.items)) l.buffer
+      ≡ over_graphemes reverse_span l.fn.buffer;
   bits : drop l.last (map is_continuation l.buffer.items) ≡ drop l.last (map is_continuation l.fn.buffer.items);
   as_many : length l.buffer.items ≡ length l.fn.buffer.items;
   limit : limit_of l.buffer ≡ limit_of l.fn.buffer;

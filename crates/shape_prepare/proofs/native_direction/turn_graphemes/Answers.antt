@@ -14,7 +14,8 @@ returns c =
     let over = c.set_direction.ensures
     ∙ ap (λ (d : Direction). record rev { direction = d }) (c.reverse-direction.ensures ∙ ap reverse_of c.direction.ensures)
     ∙ ap (λ (r : Buffer). record r { direction = reverse_of r.direction }) c.reverse.ensures in
-    let size : length c.set_direction.new.self.items ≡ length mid.items = ap (λ (r : Buffer). length r.items) over ∙ length-reverse mid.items in
+    let size : length c.set_direction.new.self.items ≡ length mid.items = ap (λ (r : Buffer). length r.items) over
+    ∙ length-reverse mid.items in
     record {
       made = over ∙ ap turned_over c.reverse_graphemes.ensures.reversed.made ∙ turned-whole b c.reverse_graphemes.ensures.as_many;
       no_longer = omega (arith, c.reverse_graphemes.ensures.reversed.no_longer);

@@ -8,9 +8,12 @@ use Rattle.shape_prepare.proofs.rotation.rotate_chars.Goals as goal
 
 pub returns-then-is_idle : goal.returns-then-is_idle
 returns-then-is_idle g c =
-    let idle = sym (ap (λ (forms : Forms). not forms.mirrors && not forms.is_upright) c.of-forms.ensures) ∙ sym c.is_idle.ensures ∙ c.if-is_idle.true in
-    Made-same (rotated g.U.hb_unicode_funcs_t.unicode (g.F.hb_font_t.face c.args.face.now) c.args.plan.now.decisions c.args.target) c.args.buffer.now
-    (rotated-idle g.U.hb_unicode_funcs_t.unicode (g.F.hb_font_t.face c.args.face.now) c.args.plan.now.decisions c.args.target c.args.buffer.now idle)
+    let idle = sym (ap (λ (forms : Forms). not forms.mirrors && not forms.is_upright) c.of-forms.ensures) ∙ sym c.is_idle.ensures
+    ∙ c.if-is_idle.true in
+    Made-same (rotated g.U.hb_unicode_funcs_t.unicode
+    (g.F.hb_font_t.face c.args.face.now) c.args.plan.now.decisions c.args.target) c.args.buffer.now
+    (rotated-idle g.U.hb_unicode_funcs_t.unicode
+    (g.F.hb_font_t.face c.args.face.now) c.args.plan.now.decisions c.args.target c.args.buffer.now idle)
 
 pub returns : goal.returns
 unfolding rotated

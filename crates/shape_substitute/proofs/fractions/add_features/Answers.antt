@@ -10,7 +10,8 @@ use Rattle.shape_substitute.proofs.fractions.add_features.Goals as goal
 pub loop-i-init : goal.loop-i-init
 loop-i-init c = record {
   same_length = refl;
-  added = ap (λ (items : List Item). record c.args.buffer.now { items = items }) (sym (map_range_none (with_features c.args.mask) c.args.start c.args.buffer.now.items));
+  added = ap (λ (items : List Item). record c.args.buffer.now { items = items })
+      (sym (map_range_none (with_features c.args.mask) c.args.start c.args.buffer.now.items));
 }
 
 pub loop-i-preserved : goal.loop-i-preserved
@@ -25,12 +26,14 @@ loop-i-preserved c =
     (c.index-infos-i.is ∙ ap (λ (xs : List Item). get_or xs i item) (c.infos.ensures ∙ ap (λ (b : Buffer). b.items) added)) in
     record {
       same_length = grind (arith, common_steps);
-      added = c.set_info.ensures ∙ ap (λ (b : Buffer). record b { items = set b.items i (f item) }) added ∙ ap (λ (items : List Item). record old { items = items }) more;
+      added = c.set_info.ensures ∙ ap (λ (b : Buffer). record b { items = set b.items i (f item) }) added
+          ∙ ap (λ (items : List Item). record old { items = items }) more;
     }
 
 pub returns-clause-added : goal.returns-clause-added
 unfolding features_added
 returns-clause-added c =
     let end : c.loop-i.i ≡ c.args.end = omega arith in
-    let made = c.loop-i.invariant.added ∙ ap (λ n. record c.args.buffer.now { items = map_range (with_features c.args.mask) c.args.start n c.args.buffer.now.items }) end in
+    let made = c.loop-i.invariant.added
+    ∙ ap (λ n. record c.args.buffer.now { items = map_range (with_features c.args.mask) c.args.start n c.args.buffer.now.items }) end in
     record { made = made; no_longer = grind (arith, common_steps); same_limit = grind (arith, common_steps) }

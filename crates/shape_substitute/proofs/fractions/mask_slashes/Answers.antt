@@ -22,7 +22,9 @@ loop-i-preserved c =
     let here : drop i items ≡ item ∷ rest = drop_more items i c.index-infos-i.result (omega arith) in
     let walk = ap (λ (xs : List Item). slashes_masked masks next (slash_places i xs) b) (sym here) ∙ c.loop-i.invariant.walk in
     let like : is_slash item ≡ c.is_slash.result =
-    sym (same_slash c.loop-i.invariant.alone i c.index-infos-i.result) ∙ sym (ap is_slash (c.index-infos-i.is ∙ ap (λ (xs : List Item). get_or xs i c.index-infos-i.result) c.infos.ensures)) ∙ sym c.is_slash.ensures in
+    sym (same_slash c.loop-i.invariant.alone i c.index-infos-i.result)
+    ∙ sym (ap is_slash (c.index-infos-i.is ∙ ap (λ (xs : List Item). get_or xs i c.index-infos-i.result) c.infos.ensures))
+    ∙ sym c.is_slash.ensures in
     elim c.if-is_slash.branch [
       | then-is_slash+then-next-i w ↦
           let slash : is_slash item ≡ true = like ∙ w.if-is_slash.true in
@@ -37,7 +39,12 @@ loop-i-preserved c =
         | else-is_slash-via-then-is_slash+else-next-i v ↦
             let slash : is_slash item ≡ true = like ∙ v.if-is_slash.true in
             let passed : nat_lt i next ≡ true = grind (arith, nat_tests) in
-            record { same_length = as_many; alone = c.loop-i.invariant.alone; walk = slashes-passed masks next i item rest b slash passed ∙ walk }
+            record {
+              same_length = as_many;
+              alone = c.loop-i.invariant.alone;
+              walk = slashes-passed masks next i item rest b slash passed
+                  ∙ walk;
+            }
         | else-is_slash-via-else-is_slash v ↦
             let other : is_slash item ≡ false = like ∙ v.if-is_slash.false in
             record { same_length = as_many; alone = c.loop-i.invariant.alone; walk = slashes-other masks next i item rest b other ∙ walk }

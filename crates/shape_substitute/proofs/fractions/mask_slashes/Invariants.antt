@@ -8,5 +8,6 @@ abbrev pub invariant-loop-i : goal.invariant-loop-i
 invariant-loop-i l = record {
   same_length : length l.buffer.items ≡ length l.fn.buffer.items;
   alone : MasksAlone l.fn.buffer l.buffer;
-  walk : slashes_masked l.masks l.next (slash_places l.i (drop l.i l.fn.buffer.items)) l.buffer ≡ slashes_masked l.masks 0 (slash_places 0 l.fn.buffer.items) l.fn.buffer;
+  walk : slashes_masked l.masks l.next (slash_places l.i (drop l.i l.fn.buffer.items)) l.buffer
+      ≡ slashes_masked l.masks 0 (slash_places 0 l.fn.buffer.items) l.fn.buffer;
 }

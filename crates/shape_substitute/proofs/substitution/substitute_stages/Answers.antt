@@ -12,4 +12,5 @@ pub returns-in_err-substitute_stage : goal.returns-in_err-substitute_stage
 returns-in_err-substitute_stage g c =
     let p = err_from_is_err_and c.from_residual.result c.from_residual.ensures.1 in
     let run = run_of g.U.hb_unicode_funcs_t.unicode g.M.hb_ot_layout_t.masks g.M.hb_ot_layout_t.lookups g.S.hb_ot_shaper_t.constants g.S.hb_ot_shaper_t.hooks g.F.hb_font_t.face c.args.plan.now c.args.face.now in
-    rw (p.1, p.2) (Refused-stages run c.stages.i (g.M.hb_ot_layout_t.masks c.args.plan.now.ot_map).stages (omega arith) (Refused-after c.stages.invariant c.in_err-substitute_stage.ensures))
+    rw (p.1, p.2) (Refused-stages run c.stages.i (g.M.hb_ot_layout_t.masks c.args.plan.now.ot_map).stages (omega arith)
+    (Refused-after c.stages.invariant c.in_err-substitute_stage.ensures))

@@ -15,5 +15,6 @@ returns g c =
     let shaper = g.S.hb_ot_shaper_t in
     let layout = g.M.hb_ot_layout_t in
     let run = run_of g.U.hb_unicode_funcs_t.unicode layout.masks layout.lookups shaper.constants shaper.hooks g.F.hb_font_t.face c.args.plan.now c.args.face.now in
-    let last : c.len-place.result ≡ length c.args.words.now.items = omega (arith, c.len-place.ensures, c.as_slice.ensures.len, ap length c.as_slice.ensures.value) in
+    let last : c.len-place.result
+    ≡ length c.args.words.now.items = omega (arith, c.len-place.ensures, c.as_slice.ensures.len, ap length c.as_slice.ensures.value) in
     place_pushed run c.args.words.now.items c.push.new.self.items _ c.len-place.result c.args.spelling.now c.in_ok-push.ensures.items last c.in_ok-spelling.ensures.ok

@@ -151,7 +151,7 @@ fn new_starter_forgets(rt: HostRuntime) -> Result<(), Fail> {
 }
 
 #[test]
-fn a_mark_of_the_same_class_keeps_apart(rt: HostRuntime) -> Result<(), Fail> {
+fn a_mark_of_the_same_ccc_keeps_apart(rt: HostRuntime) -> Result<(), Fail> {
     expect_answers(
         &rt,
         rt.alloc(),
@@ -313,7 +313,7 @@ fn a_composed_item_has_properties_of_its_own(rt: HostRuntime) -> Result<(), Fail
         assert_eq!(rt; (info.codepoint, info.glyph_index), ('\u{1eb9}', 0x1eb9));
         let category = info._hb_glyph_info_get_general_category();
         assert_eq!(rt; category, hb_unicode_general_category_t::LowercaseLetter);
-        assert_eq!(rt; info._hb_glyph_info_get_modified_class(), 0);
+        assert_eq!(rt; info._hb_glyph_info_get_modified_combining_class(), 0);
     }
     Ok(())
 }

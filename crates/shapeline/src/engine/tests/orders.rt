@@ -34,7 +34,7 @@ fn ordering_merges(rt: HostRuntime) -> Result<(), Fail> {
                 b"text 61 5BC 5C1 301 323\n",
                 b"normal 0061@0 05C1@1 05BC@1 0323@5 0301@5\n",
             ),
-            // Marks of one class keep their order.
+            // Marks of one ccc keep their order.
             (
                 b"text 61 301 301 323 301\n",
                 b"normal 0061@0 0323@1 0301@1 0301@1 0301@7\n",
@@ -111,7 +111,7 @@ fn orders_through_the_library(rt: HostRuntime) -> Result<(), Fail> {
     Ok(())
 }
 
-/// The second character after shaping one with so many marks of class 230, and one of class 220 behind them.
+/// The second character after shaping one with so many marks of ccc 230, and one of ccc 220 behind them.
 fn second_of_many(alloc: Global, marks: usize) -> Result<Option<char>, Fail> {
     let mut text = Vec::new(alloc);
     text.resize(marks, '\u{301}')?;

@@ -4,8 +4,8 @@ use crate::unicode_tables::UnicodeTables;
 use shape_buffer::interfaces::hb_unicode_funcs_t;
 
 #[test]
-fn classes(rt: HostRuntime) {
-    let classes = [
+fn cccs(rt: HostRuntime) {
+    let cccs = [
         ('\u{301}', 230),
         ('\u{302}', 230),
         ('\u{308}', 230),
@@ -15,10 +15,10 @@ fn classes(rt: HostRuntime) {
         ('\u{5BC}', 12),
         ('\u{5C1}', 10),
     ];
-    for (c, class) in classes {
+    for (c, ccc) in cccs {
         assert_eq!(rt;
             UnicodeTables::modified_combining_class(c),
-            class,
+            ccc,
             "for {c:?}"
         );
     }

@@ -52,7 +52,8 @@ loop-i-preserved-then-not-test g c =
             sym (tells x c.test.result (record { shown = _; shows = refl; says = record { met = c.test.ensures } })) ∙ c.if-not-test.true in
             sym (kept_after picks (c.len-len.result - i) (c.len-len.result - (i + 1)) k i given xs (set xs k x) c.loop-i.positions.items
             c.loop-i.scratch_flags b x c.index-then-not-test.result.now
-            (omega arith) (omega arith) (omega arith) size (omega arith) (grind (arith, common_steps)) (grind (arith, common_steps)) picked refl)
+            (omega arith) (omega arith) (omega arith) size (omega arith) (grind (arith, common_steps))
+            (grind (arith, common_steps)) picked refl)
             ∙ c.loop-i.invariant.left.2 picks tells b level,
       );
     }
@@ -68,13 +69,15 @@ loop-i-preserved g c =
     let s = c.loop-i.invariant.left.1 in
     let value : c.as_mut_slice.result.now ≡ xs = c.as_mut_slice.ensures.value in
     let written : take c.loop-i.infos.len (ys ++ drop (length ys) xs) ≡ ys = grind (arith, common_steps) in
-    let handed = c.hand_on-runs.ensures.handed given (subst (λ z. StandsFor (take k z) (take c.loop-i.runs c.loop-i.starts) given) (sym value) s) in
+    let handed = c.hand_on-runs.ensures.handed given
+    (subst (λ z. StandsFor (take k z) (take c.loop-i.runs c.loop-i.starts) given) (sym value) s) in
     let left = handed.0 in
     let runs : length (take c.loop-i.runs c.loop-i.starts) ≡ c.loop-i.runs = length-take-le c.loop-i.runs c.loop-i.starts (omega arith) in
     let fewer : take c.hand_on-runs.result (take c.loop-i.runs c.loop-i.starts) ≡ take c.hand_on-runs.result c.loop-i.starts =
     take-take c.hand_on-runs.result c.loop-i.runs c.loop-i.starts (omega (arith, c.hand_on-runs.ensures.at_most)) in
     let long : length ys ≡ length xs = grind (arith, common_steps) in
-    let stands : StandsFor (take k ys) (take c.hand_on-runs.result c.loop-i.starts) left = subst (λ z. StandsFor (take k ys) z left) fewer handed.1 in
+    let stands : StandsFor (take k ys) (take c.hand_on-runs.result c.loop-i.starts) left = subst
+    (λ z. StandsFor (take k ys) z left) fewer handed.1 in
     let size : k ≡ length given = sym (length-given _ _ given s ∙ length-take-le k xs (omega arith)) in
     let size' : k ≡ length left = sym (length-given _ _ left stands ∙ length-take-le k ys (omega arith)) in
     record {
@@ -88,10 +91,13 @@ loop-i-preserved g c =
         subst (λ z. StandsFor (take k z) (take c.hand_on-runs.result c.loop-i.starts) left) (sym written) stands,
         λ picks tells b level.
             let picked : picks x ≡ true =
-            sym (tells x c.test.result (record { shown = _; shows = refl; says = record { met = c.test.ensures } })) ∙ c.if-not-test.false in
+            sym (tells x c.test.result (record { shown = _; shows = refl; says = record { met = c.test.ensures } }))
+            ∙ c.if-not-test.false in
             let base = with_glyphs xs (standing k i c.loop-i.positions.items) c.loop-i.scratch_flags b in
             let goes = handed.2 base level ∙ ap (λ z. hand_on k x (drop (i + 1) z) (record base { items = given ++ drop i z })) value in
-            ap (λ z. delete_from picks (c.len-len.result - (i + 1)) k (with_glyphs (left ++ drop (i + 1) z) (standing k (i + 1) c.loop-i.positions.items) c.hand_on-runs.new.scratch_flags b)) written
+            ap (λ z. delete_from picks (c.len-len.result - (i + 1)) k
+            (with_glyphs (left ++ drop (i + 1) z)
+            (standing k (i + 1) c.loop-i.positions.items) c.hand_on-runs.new.scratch_flags b)) written
             ∙ sym (lost_after picks (c.len-len.result - i) (c.len-len.result - (i + 1)) k i given left xs ys c.loop-i.positions.items
             c.loop-i.scratch_flags c.hand_on-runs.new.scratch_flags b x
             (omega arith) (omega arith) (omega arith) size size' (omega arith) long (grind (arith, common_steps)) picked goes)
@@ -110,8 +116,10 @@ returns-clause-deleted g c = λ picks tells b level.
     let stands = subst (λ z. StandsFor z (take c.loop-i.runs c.loop-i.starts) given) (sym slice) s in
     let wrote : c.write_runs.new.infos ≡ given = c.write_runs.ensures given stands in
     let long : length c.write_runs.new.infos ≡ length c.as_mut_slice-2.result.now = ap length wrote ∙ length-given _ _ given stands in
-    let cut : take c.truncate.new.self.len (c.write_runs.new.infos ++ drop (length c.write_runs.new.infos) c.truncate.new.self.items) ≡ c.write_runs.new.infos = grind (arith, common_steps) in
-    let items : given ++ drop c.loop-i.i xs ≡ take c.truncate.new.self.len (c.write_runs.new.infos ++ drop (length c.write_runs.new.infos) c.truncate.new.self.items) =
+    let cut : take c.truncate.new.self.len (c.write_runs.new.infos ++ drop (length c.write_runs.new.infos) c.truncate.new.self.items)
+    ≡ c.write_runs.new.infos = grind (arith, common_steps) in
+    let items : given ++ drop c.loop-i.i xs
+    ≡ take c.truncate.new.self.len (c.write_runs.new.infos ++ drop (length c.write_runs.new.infos) c.truncate.new.self.items) =
     ap (λ z. given ++ z) (drop_all c.loop-i.i xs (grind (arith, common_steps))) ∙ append-nil given ∙ sym (cut ∙ wrote) in
     let positions : standing k c.loop-i.i c.loop-i.positions.items ≡ c.truncate-2.new.self.items =
     ap (λ z. take k c.loop-i.positions.items ++ z) (drop_all c.loop-i.i c.loop-i.positions.items (grind (arith, common_steps)))

@@ -17,6 +17,7 @@ invariant-loop-i g l = record {
   left : (given : List Item) × StandsFor (take l.kept l.infos.items) (take l.runs l.starts) given
       × ((picks : Item → Bool) → ((x : Item) (b : Bool) → FnReturnsAt g.F.Fn l.test x b → b ≡ picks x)
       → (b : Buffer) → b.cluster_level ≡ l.level
-      → delete_from picks (l.len - l.i) l.kept (with_glyphs (given ++ drop l.i l.infos.items) (standing l.kept l.i l.positions.items) l.scratch_flags b)
+      → delete_from picks (l.len - l.i) l.kept
+      (with_glyphs (given ++ drop l.i l.infos.items) (standing l.kept l.i l.positions.items) l.scratch_flags b)
       ≡ deleted picks (with_glyphs l.fn.infos.items l.fn.positions.items l.fn.scratch_flags b));
 }

@@ -10,11 +10,13 @@ returns-then-len-eq0-clause-stands c = λ x e given s.
 
 pub returns-then-kept-len-clause-stands : goal.returns-then-kept-len-clause-stands
 returns-then-kept-len-clause-stands c = λ x e given s.
-    more c.args.kept.now (take c.args.count c.args.starts.now) given x c.index-kept-len.result (length c.args.kept.now - 1) (omega (arith, c.if-len-eq0.false))
+    more c.args.kept.now (take c.args.count c.args.starts.now) given x c.index-kept-len.result (length c.args.kept.now - 1)
+    (omega (arith, c.if-len-eq0.false))
     (e ∙ sym c.if-kept-len.true) s
 
 pub returns-clause-stands : goal.returns-clause-stands
 returns-clause-stands c = λ x e given s.
     rw (take_more_set c.args.starts.now c.args.count (length c.args.kept.now) c.requires)
-    (open_next c.args.kept.now (take c.args.count c.args.starts.now) given x c.index-kept-len.result (length c.args.kept.now - 1) (omega (arith, c.if-len-eq0.false))
+    (open_next c.args.kept.now (take c.args.count c.args.starts.now) given x c.index-kept-len.result (length c.args.kept.now - 1)
+    (omega (arith, c.if-len-eq0.false))
     (λ same. c.if-kept-len.false (sym same ∙ e)) s)

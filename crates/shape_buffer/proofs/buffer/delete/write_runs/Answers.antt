@@ -10,7 +10,8 @@ slice_bounds-write_run-count c =
     let n = c.loop-count.count - 1 in
     let at : n + 1 ≡ c.loop-count.count = omega arith in
     let left = c.loop-count.invariant.left c.requires.0 c.requires.1 in
-    start_before c.loop-count.infos c.requires.0 c.args.starts.now c.loop-count.end n left.0 c.loop-count.invariant.within (omega (arith, c.loop-count.invariant.counted))
+    start_before c.loop-count.infos c.requires.0 c.args.starts.now c.loop-count.end n left.0 c.loop-count.invariant.within
+    (omega (arith, c.loop-count.invariant.counted))
     left.1 (ap (λ k. take k c.args.starts.now) at ∙ left.2) left.3
 
 pub offset_bounds-infos-start : goal.offset_bounds-infos-start
@@ -33,7 +34,8 @@ loop-count-init c = record {
     s.runs,
     take_all (length c.args.infos.now) c.args.infos.now (omega arith) ∙ s.items_are,
     take_all (length c.args.starts.now) c.args.starts.now (omega arith) ∙ s.places_are,
-    s.given_are ∙ sym (ap (λ z. written_runs s.runs ++ z) (drop_all (length c.args.infos.now) c.args.infos.now (omega arith)) ∙ append-nil (written_runs s.runs)),
+    s.given_are ∙ sym (ap (λ z. written_runs s.runs ++ z) (drop_all (length c.args.infos.now) c.args.infos.now (omega arith))
+        ∙ append-nil (written_runs s.runs)),
   );
 }
 
@@ -44,7 +46,8 @@ loop-count-preserved c =
     let start = get_or c.args.starts.now n 0 in
     let first = c.loop-count.invariant.left c.requires.0 c.requires.1 in
     let before : start ≤ c.loop-count.end =
-    start_before c.loop-count.infos c.requires.0 c.args.starts.now c.loop-count.end n first.0 c.loop-count.invariant.within (omega (arith, c.loop-count.invariant.counted))
+    start_before c.loop-count.infos c.requires.0 c.args.starts.now c.loop-count.end n first.0 c.loop-count.invariant.within
+    (omega (arith, c.loop-count.invariant.counted))
     first.1 (ap (λ k. take k c.args.starts.now) at ∙ first.2) first.3 in
     let within = c.loop-count.invariant.within in
     record {
@@ -53,7 +56,8 @@ loop-count-preserved c =
       left = λ given s.
           let left = c.loop-count.invariant.left given s in
           write_last-in_place c.loop-count.infos given c.write_run.new.infos c.args.starts.now c.loop-count.end n left.0 c.loop-count.invariant.within
-          (omega (arith, c.loop-count.invariant.counted)) left.1 (ap (λ k. take k c.args.starts.now) at ∙ left.2) left.3 c.write_run.ensures;
+          (omega (arith, c.loop-count.invariant.counted)) left.1
+          (ap (λ k. take k c.args.starts.now) at ∙ left.2) left.3 c.write_run.ensures;
     }
 
 pub returns : goal.returns

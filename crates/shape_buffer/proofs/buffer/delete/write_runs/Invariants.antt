@@ -8,7 +8,8 @@ invariant-loop-count l = record {
   within : l.end ≤ length l.infos;
   counted : l.count ≤ length l.starts;
   left : (given : List Item) → StandsFor l.fn.infos l.starts given
-      → (runs : List Run) × (take l.end l.infos ≡ stored_runs runs) × (take l.count l.starts ≡ starts runs) × (given ≡ written_runs runs ++ drop l.end l.infos);
+      → (runs : List Run) × (take l.end l.infos ≡ stored_runs runs) × (take l.count l.starts ≡ starts runs)
+      × (given ≡ written_runs runs ++ drop l.end l.infos);
 }
 
 abbrev pub decreases-loop-count : goal.decreases-loop-count

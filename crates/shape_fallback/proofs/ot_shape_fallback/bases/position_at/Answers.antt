@@ -15,7 +15,8 @@ pub returns-then-marks-eq0 : goal.returns-then-marks-eq0
 returns-then-marks-eq0 g c =
     let item : c.index-infos-i.result ≡ get_or c.args.buffer.now.items c.args.i c.index-infos-i.result = cc in
     let mark : is_mark_item c.index-infos-i.result ≡ false = cc in
-    let count : c.marks_at_start-marks.result ≡ prefix_len is_mark_item (drop (c.args.i + 1) c.args.buffer.now.items) = grind (arith, common_steps) in
+    let count : c.marks_at_start-marks.result
+    ≡ prefix_len is_mark_item (drop (c.args.i + 1) c.args.buffer.now.items) = grind (arith, common_steps) in
     let none : c.marks_at_start-marks.result ≡ 0 = omega arith in
     sym (at_bare (g.F.hb_font_t.face c.args.face.now) c.args.setting c.args.i c.marks_at_start-marks.result c.args.buffer.now c.index-infos-i.result c.requires item mark count none)
 
@@ -23,6 +24,8 @@ pub returns : goal.returns
 returns g c =
     let item : c.index-infos-i.result ≡ get_or c.args.buffer.now.items c.args.i c.index-infos-i.result = cc in
     let mark : is_mark_item c.index-infos-i.result ≡ false = cc in
-    let count : c.marks_at_start-marks.result ≡ prefix_len is_mark_item (drop (c.args.i + 1) c.args.buffer.now.items) = grind (arith, common_steps) in
+    let count : c.marks_at_start-marks.result
+    ≡ prefix_len is_mark_item (drop (c.args.i + 1) c.args.buffer.now.items) = grind (arith, common_steps) in
     let some : 0 < c.marks_at_start-marks.result = omega arith in
-    c.position_span.ensures ∙ sym (at_base (g.F.hb_font_t.face c.args.face.now) c.args.setting c.args.i c.marks_at_start-marks.result c.args.buffer.now c.index-infos-i.result c.requires item mark count some)
+    c.position_span.ensures
+    ∙ sym (at_base (g.F.hb_font_t.face c.args.face.now) c.args.setting c.args.i c.marks_at_start-marks.result c.args.buffer.now c.index-infos-i.result c.requires item mark count some)

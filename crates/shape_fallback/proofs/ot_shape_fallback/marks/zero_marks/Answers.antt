@@ -10,7 +10,8 @@ loop-i-preserved c =
     let items : c.loop-i.i < length c.loop-i.buffer.items = grind (arith, common_steps) in
     let positions : c.loop-i.i < length c.loop-i.buffer.positions = grind (arith, common_steps) in
     let item : c.index-infos-i.result ≡ get_or c.loop-i.buffer.items c.loop-i.i c.index-infos-i.result = cc in
-    let position : get_or c.positions.result.now c.loop-i.i zero_position ≡ get_or c.loop-i.buffer.positions c.loop-i.i zero_position = cc in
+    let position : get_or c.positions.result.now c.loop-i.i zero_position
+    ≡ get_or c.loop-i.buffer.positions c.loop-i.i zero_position = cc in
     let step = each_step (zeroed c.args.adjust) c.loop-i.i c.args.to c.loop-i.buffer c.index-infos-i.result _ c.loop-i-test.true items positions item position in
     record { as_many = grind (arith, common_steps); rest = cc }
 

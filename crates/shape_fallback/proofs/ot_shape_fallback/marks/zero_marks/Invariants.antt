@@ -6,5 +6,6 @@ use Rattle.shape_fallback.proofs.ot_shape_fallback.marks.zero_marks.Given as goa
 abbrev pub invariant-loop-i : goal.invariant-loop-i
 invariant-loop-i l = record {
   as_many : length l.buffer.items ≡ length l.fn.buffer.items;
-  rest : with_positions (each_placed (zeroed l.adjust)) l.i l.to l.buffer ≡ with_positions (each_placed (zeroed l.adjust)) l.from l.to l.fn.buffer;
+  rest : with_positions (each_placed (zeroed l.adjust)) l.i l.to l.buffer
+      ≡ with_positions (each_placed (zeroed l.adjust)) l.from l.to l.fn.buffer;
 }

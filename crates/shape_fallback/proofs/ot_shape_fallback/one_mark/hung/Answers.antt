@@ -7,7 +7,8 @@ pub returns-then-agree-clause-value : goal.returns-then-agree-clause-value
 returns-then-agree-clause-value c = grind (arith, kept_bits)
 
 pub returns-then-agree-clause-exact : goal.returns-then-agree-clause-exact
-returns-then-agree-clause-exact c = λ unmoved fits. returns-then-agree-clause-value c ∙ hung-exact c.args.gap c.args.mark c.args.base unmoved fits
+returns-then-agree-clause-exact c =
+    λ unmoved fits. returns-then-agree-clause-value c ∙ hung-exact c.args.gap c.args.mark c.args.base unmoved fits
 
 pub returns-clause-value : goal.returns-clause-value
 returns-clause-value c = grind (arith, kept_bits)

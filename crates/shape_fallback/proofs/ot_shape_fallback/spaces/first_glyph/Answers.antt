@@ -8,7 +8,8 @@ returns-in-Some g c =
     let face = g.F.hb_font_t.face c.args.face.now in
     let here : c.c-item.result ≡ get_or c.args.characters.now c.loop-c.c-index c.c-item.result = cc in
     let has : face.nominal_glyph c.c-item.result ≡ Some c.in-Some.glyph = cc in
-    sym (first-found face c.args.characters.now c.loop-c.c-index c.c-item.result c.in-Some.glyph c.loop-c-test.true here has) ∙ c.loop-c.invariant
+    sym (first-found face c.args.characters.now c.loop-c.c-index c.c-item.result c.in-Some.glyph c.loop-c-test.true here has)
+    ∙ c.loop-c.invariant
 
 pub loop-c-preserved : goal.loop-c-preserved
 loop-c-preserved g c =

@@ -13,11 +13,13 @@ unfolding spaces_placed
 loop-i-init g c =
     let face = g.F.hb_font_t.face c.args.face.now in
     let b = c.args.buffer.now in
-    let horizontal : c.is_horizontal-horizontal.result ≡ is_horizontal b.direction = c.is_horizontal-horizontal.ensures ∙ ap is_horizontal c.direction.ensures in
+    let horizontal : c.is_horizontal-horizontal.result ≡ is_horizontal b.direction = c.is_horizontal-horizontal.ensures
+    ∙ ap is_horizontal c.direction.ensures in
     record {
       as_many = refl;
       same_limit = refl;
-      rest = all_placed (item_spaced face c.is_horizontal-horizontal.result) b (sym c.len-i-end.ensures.positions ∙ c.len-i-end.ensures.items)
+      rest =
+          all_placed (item_spaced face c.is_horizontal-horizontal.result) b (sym c.len-i-end.ensures.positions ∙ c.len-i-end.ensures.items)
           ∙ ap (λ (h : Bool). record b { positions = each_placed (item_spaced face h) b.items b.positions }) horizontal;
     }
 
@@ -28,7 +30,8 @@ loop-i-preserved g c =
     let items : c.loop-i.i < length c.loop-i.buffer.items = grind (arith, common_steps) in
     let positions : c.loop-i.i < length c.loop-i.buffer.positions = grind (arith, common_steps) in
     let item : c.index-infos-i.result ≡ get_or c.loop-i.buffer.items c.loop-i.i c.index-infos-i.result = cc in
-    let position : get_or c.positions.result.now c.loop-i.i zero_position ≡ get_or c.loop-i.buffer.positions c.loop-i.i zero_position = cc in
+    let position : get_or c.positions.result.now c.loop-i.i zero_position
+    ≡ get_or c.loop-i.buffer.positions c.loop-i.i zero_position = cc in
     let step = each_step spaced c.loop-i.i (length c.args.buffer.now.items) c.loop-i.buffer c.index-infos-i.result _ lt items positions item position in
     record { as_many = grind (arith, common_steps); same_limit = cc; rest = cc }
 

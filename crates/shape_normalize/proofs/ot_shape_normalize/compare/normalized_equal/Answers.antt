@@ -12,8 +12,10 @@ returns-clause-equivalent g c = λ of_a of_b.
     let planned = rules_of g.U.hb_unicode_funcs_t.unicode shaper.constants shaper.hooks g.F.hb_font_t.face c.args.plan.now c.args.face.now in
     let first : c.if-is_err.a ≡ normalized planned c.args.a.now = search rules in
     let second : c.if-is_err.b ≡ normalized planned c.args.b.now = search rules in
-    let text_a : map char_of c.infos.result.now ≡ text_of (normalized planned c.args.a.now) = ap (map char_of) c.infos.ensures ∙ ap text_of first in
-    let text_b : map char_of c.infos-2.result.now ≡ text_of (normalized planned c.args.b.now) = ap (map char_of) c.infos-2.ensures ∙ ap text_of second in
+    let text_a : map char_of c.infos.result.now ≡ text_of (normalized planned c.args.a.now) = ap (map char_of) c.infos.ensures
+    ∙ ap text_of first in
+    let text_b : map char_of c.infos-2.result.now ≡ text_of (normalized planned c.args.b.now) = ap (map char_of) c.infos-2.ensures
+    ∙ ap text_of second in
     let decides = normalized_decides planned g.met.U.hb_unicode_funcs_t.lawful c.args.a.now c.args.b.now of_a of_b in (
       λ equal. decides.0 (sym text_a ∙ c.have_same_characters.ensures.0 equal ∙ text_b),
       λ equivalent. c.have_same_characters.ensures.1 (text_a ∙ decides.1 equivalent ∙ sym text_b),

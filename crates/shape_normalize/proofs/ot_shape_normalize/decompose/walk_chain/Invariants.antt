@@ -15,10 +15,12 @@ invariant-chain g l =
     let height = used_height g.U.hb_unicode_funcs_t.unicode shaper.constants.has_decompose hooks in
     let test = has_glyph (g.F.hb_font_t.face l.face).nominal_glyph in
     record {
-      walk : chosen_expansion split height test l.shortest l.fn.c ≡ walked (found_parts l.found l.seconds.items) l.seconds.items (sought split test l.shortest (height l.point) l.point);
+      walk : chosen_expansion split height test l.shortest l.fn.c
+          ≡ walked (found_parts l.found l.seconds.items) l.seconds.items (sought split test l.shortest (height l.point) l.point);
       within : IfSome l.found (λ f. f.1 ≤ length l.seconds.items);
     }
 
 abbrev pub decreases-chain : goal.decreases-chain
 decreases-chain g l =
-    used_height g.U.hb_unicode_funcs_t.unicode g.S.hb_ot_shaper_t.constants.has_decompose (hooks_of g.S.hb_ot_shaper_t.hooks l.plan l.face) l.point
+    used_height g.U.hb_unicode_funcs_t.unicode g.S.hb_ot_shaper_t.constants.has_decompose
+    (hooks_of g.S.hb_ot_shaper_t.hooks l.plan l.face) l.point

@@ -25,7 +25,8 @@ returns-in_err-replace_infos-clause-settings g c =
     let shaper = g.S.hb_ot_shaper_t in
     let planned = rules_of g.U.hb_unicode_funcs_t.unicode shaper.constants shaper.hooks g.F.hb_font_t.face c.args.plan.now c.args.face.now in
     let kept : cleared c.replace_infos.new.self ≡ cleared c.args.buffer.now =
-    ap cleared c.in_err-replace_infos.ensures.err ∙ cleared-merged planned c.args.buffer.now c.merge_pairs.new.buffer c.in_ok-merge_pairs.ensures.merged in
+    ap cleared c.in_err-replace_infos.ensures.err
+    ∙ cleared-merged planned c.args.buffer.now c.merge_pairs.new.buffer c.in_ok-merge_pairs.ensures.merged in
     search (rules, kept)
 
 pub returns-clause-ok : goal.returns-clause-ok
@@ -44,8 +45,10 @@ pub returns-clause-within : goal.returns-clause-within
 returns-clause-within g c =
     let shaper = g.S.hb_ot_shaper_t in
     let planned = rules_of g.U.hb_unicode_funcs_t.unicode shaper.constants shaper.hooks g.F.hb_font_t.face c.args.plan.now c.args.face.now in
-    let same : c.set_scratch_flags.new.self.items ≡ c.replace_infos.new.self.items = ap (λ (b : Buffer). b.items) c.set_scratch_flags.ensures in
-    let put : c.replace_infos.new.self.items ≡ c.in_ok-expanded.expanded.infos.items = ap (λ (b : Buffer). b.items) c.in_ok-replace_infos.ensures.ok in
+    let same : c.set_scratch_flags.new.self.items
+    ≡ c.replace_infos.new.self.items = ap (λ (b : Buffer). b.items) c.set_scratch_flags.ensures in
+    let put : c.replace_infos.new.self.items
+    ≡ c.in_ok-expanded.expanded.infos.items = ap (λ (b : Buffer). b.items) c.in_ok-replace_infos.ensures.ok in
     let as_many = ap length (same ∙ put) in
     let limit = limit-merged planned c.args.buffer.now c.merge_pairs.new.buffer c.in_ok-merge_pairs.ensures.merged in
     let within = c.in_ok-expanded.ensures.within in
@@ -55,4 +58,5 @@ pub returns-clause-settings : goal.returns-clause-settings
 returns-clause-settings g c =
     let shaper = g.S.hb_ot_shaper_t in
     let planned = rules_of g.U.hb_unicode_funcs_t.unicode shaper.constants shaper.hooks g.F.hb_font_t.face c.args.plan.now c.args.face.now in
-    ap cleared c.set_scratch_flags.ensures ∙ ap cleared c.in_ok-replace_infos.ensures.ok ∙ cleared-merged planned c.args.buffer.now c.merge_pairs.new.buffer c.in_ok-merge_pairs.ensures.merged
+    ap cleared c.set_scratch_flags.ensures ∙ ap cleared c.in_ok-replace_infos.ensures.ok
+    ∙ cleared-merged planned c.args.buffer.now c.merge_pairs.new.buffer c.in_ok-merge_pairs.ensures.merged

@@ -13,7 +13,8 @@ invariant-sequences g l =
     let not_found = l.buffer.not_found_variation_selector_glyph in
     record {
       infos : l.out.infos.items ++ expanded rules invisible not_found l.rest ≡ expanded rules invisible not_found l.buffer.items;
-      flags : fold (seen_sequence rules invisible) l.out.scratch_flags (sequences l.rest) ≡ fold (seen_sequence rules invisible) l.buffer.scratch_flags (sequences l.buffer.items);
+      flags : fold (seen_sequence rules invisible) l.out.scratch_flags (sequences l.rest)
+          ≡ fold (seen_sequence rules invisible) l.buffer.scratch_flags (sequences l.buffer.items);
       within : vec_len l.out.infos ≤ limit_of l.buffer;
     }
 

@@ -9,5 +9,6 @@ loop-start-preserved c =
     let lt : c.loop-start.start-index < length c.args.spans.now = omega arith in
     record {
       whole = spans_merged_next c.args.spans.now c.loop-start.start-index _ c.loop-start.buffer c.merge_out_clusters.new.self lt c.merge_out_clusters.ensures.merged ∙ c.loop-start.invariant.whole;
-      same_length = ap (λ (b : Buffer). length b.items) c.merge_out_clusters.ensures.merged ∙ length-merge_out _ _ c.loop-start.buffer ∙ c.loop-start.invariant.same_length;
+      same_length = ap (λ (b : Buffer). length b.items) c.merge_out_clusters.ensures.merged ∙ length-merge_out _ _ c.loop-start.buffer
+          ∙ c.loop-start.invariant.same_length;
     }

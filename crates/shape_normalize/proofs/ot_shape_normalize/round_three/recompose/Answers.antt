@@ -9,10 +9,12 @@ pub merge_spans_out-requires : goal.merge_spans_out-requires
 merge_spans_out-requires g c =
     let shaper = g.S.hb_ot_shaper_t in
     let rules = rules_of g.U.hb_unicode_funcs_t.unicode shaper.constants shaper.hooks g.F.hb_font_t.face c.args.plan.now c.args.face.now in
-    walked_spans_within rules c.args.buffer.now.items c.infos.result.now c.deref.result.now c.infos.ensures (c.deref.ensures.value ∙ c.in_ok-recomposed.ensures.spans)
+    walked_spans_within rules c.args.buffer.now.items c.infos.result.now c.deref.result.now c.infos.ensures
+    (c.deref.ensures.value ∙ c.in_ok-recomposed.ensures.spans)
 
 pub returns-in_err-infos-clause-settings : goal.returns-in_err-infos-clause-settings
-returns-in_err-infos-clause-settings g c = ap cleared c.merge_spans_out.ensures ∙ cleared-spans_merged_out c.deref.result.now c.args.buffer.now
+returns-in_err-infos-clause-settings g c =
+    ap cleared c.merge_spans_out.ensures ∙ cleared-spans_merged_out c.deref.result.now c.args.buffer.now
 
 pub returns-in_err-replace_infos-clause-memory : goal.returns-in_err-replace_infos-clause-memory
 returns-in_err-replace_infos-clause-memory g c =
@@ -21,14 +23,18 @@ returns-in_err-replace_infos-clause-memory g c =
     let merged = c.merge_spans_out.new.buffer in
     let infos = c.in_ok-infos.infos in
     let walked = c.in_ok-recomposed.ensures in
-    let merged_is = walked_spans_merged rules c.args.buffer.now merged c.infos.result.now c.deref.result.now c.infos.ensures (c.deref.ensures.value ∙ walked.spans) c.merge_spans_out.ensures in
+    let merged_is = walked_spans_merged rules c.args.buffer.now merged c.infos.result.now c.deref.result.now c.infos.ensures
+    (c.deref.ensures.value ∙ walked.spans) c.merge_spans_out.ensures in
     let within : length infos.items ≤ limit_of merged =
-    settled_within rules c.args.buffer.now merged _ _ _ _ c.infos.ensures merged_is (c.deref-2.ensures.value ∙ walked.out) c.infos-2.ensures c.in_ok-infos.ensures c.requires in
+    settled_within rules c.args.buffer.now merged _ _ _ _ c.infos.ensures merged_is
+    (c.deref-2.ensures.value ∙ walked.out) c.infos-2.ensures c.in_ok-infos.ensures c.requires in
     refused_for_memory c.from_residual-in_err-replace_infos.result c.in_err-replace_infos.field-0.0 c.from_residual-in_err-replace_infos.ensures.1
     (λ e. let past : limit_of merged < infos.len = c.in_err-replace_infos.ensures.past_limit.0 (ap Err e) in omega (arith, infos.ok.0))
 
 pub returns-in_err-replace_infos-clause-settings : goal.returns-in_err-replace_infos-clause-settings
-returns-in_err-replace_infos-clause-settings g c = ap cleared (c.in_err-replace_infos.ensures.err ∙ c.merge_spans_out.ensures) ∙ cleared-spans_merged_out c.deref.result.now c.args.buffer.now
+returns-in_err-replace_infos-clause-settings g c =
+    ap cleared (c.in_err-replace_infos.ensures.err ∙ c.merge_spans_out.ensures)
+    ∙ cleared-spans_merged_out c.deref.result.now c.args.buffer.now
 
 pub returns-clause-ok : goal.returns-clause-ok
 returns-clause-ok g c =
@@ -38,10 +44,12 @@ returns-clause-ok g c =
     let walked = c.in_ok-recomposed.ensures in
     let merged_is = walked_spans_merged rules c.args.buffer.now c.merge_spans_out.new.buffer c.infos.result.now c.deref.result.now c.infos.ensures (c.deref.ensures.value ∙ walked.spans) c.merge_spans_out.ensures in
     c.set_scratch_flags.ensures ∙ ap (λ (b : Buffer). record b { scratch_flags = seen }) c.in_ok-replace_infos.ensures.ok
-    ∙ is_round_three rules c.args.buffer.now c.merge_spans_out.new.buffer _ _ _ _ c.infos.ensures merged_is (c.deref-2.ensures.value ∙ walked.out) c.infos-2.ensures c.in_ok-infos.ensures
+    ∙ is_round_three rules c.args.buffer.now c.merge_spans_out.new.buffer _ _ _ _ c.infos.ensures merged_is
+    (c.deref-2.ensures.value ∙ walked.out) c.infos-2.ensures c.in_ok-infos.ensures
     c.in_ok-infos.infos.len c.scratch_flags.result seen (omega (arith, c.in_ok-infos.infos.ok.0)) c.scratch_flags.ensures walked.flags
 
 pub returns-clause-settings : goal.returns-clause-settings
 returns-clause-settings g c =
-    ap cleared (c.set_scratch_flags.ensures ∙ ap (λ (b : Buffer). record b { scratch_flags = c.in_ok-recomposed.recomposed.scratch_flags }) c.in_ok-replace_infos.ensures.ok)
+    ap cleared (c.set_scratch_flags.ensures
+    ∙ ap (λ (b : Buffer). record b { scratch_flags = c.in_ok-recomposed.recomposed.scratch_flags }) c.in_ok-replace_infos.ensures.ok)
     ∙ ap cleared c.merge_spans_out.ensures ∙ cleared-spans_merged_out c.deref.result.now c.args.buffer.now

@@ -3,7 +3,7 @@ use Rattle.std.proofs.lemmas.List.{take_rest}
 use Rattle.shape_plan.specs.Rules.{rules_of}
 use Rattle.shape_normalize.proofs.RoundThreeWalkLemmas.{IsRecomposedTo-first, IsRecomposedTo-joined, IsRecomposedTo-starter, IsRecomposedTo-mark, walked_all}
 use Rattle.shape_normalize.proofs.ot_shape_normalize.round_three.recompose_all.Goals as goal
-use Rattle.shape_normalize.proofs.ot_shape_normalize.round_three.recompose_all.Goals.{then-hb_glyph_info_get_modified_class-eq0, else-hb_glyph_info_get_modified_class-eq0}
+use Rattle.shape_normalize.proofs.ot_shape_normalize.round_three.recompose_all.Goals.{then-hb_glyph_info_get_modified_combining_class-eq0, else-hb_glyph_info_get_modified_combining_class-eq0}
 
 pub loop-place-init : goal.loop-place-init
 loop-place-init g c =
@@ -13,7 +13,8 @@ loop-place-init g c =
     let items = c.in_ok-push.ensures.items in
     record {
       within = omega (arith, c.in_ok-push.ensures.len);
-      walked = rw (items, none, c.new-2.ensures.items) (IsRecomposedTo-first rules c.args.infos.now c.args.scratch_flags c.in-Some.first.now c.in-Some.ensures.value);
+      walked = rw (items, none, c.new-2.ensures.items)
+          (IsRecomposedTo-first rules c.args.infos.now c.args.scratch_flags c.in-Some.first.now c.in-Some.ensures.value);
     }
 
 pub loop-place-preserved-in-Some-composed_of : goal.loop-place-preserved-in-Some-composed_of
@@ -36,18 +37,22 @@ loop-place-preserved g c =
     let items = c.in_ok-push-3.ensures.items in
     let len = c.in_ok-push-3.ensures.len in
     let bound = c.loop-place.invariant.within in
-    elim c.if-hb_glyph_info_get_modified_class-eq0.branch [
-      | then-hb_glyph_info_get_modified_class-eq0 w ↦
+    elim c.if-hb_glyph_info_get_modified_combining_class-eq0.branch [
+      | then-hb_glyph_info_get_modified_combining_class-eq0 w ↦
           let starter = w.starter-is ∙ w.len-starter.ensures ∙ sym c.deref.ensures.len ∙ ap length c.deref.ensures.value in
-          let class = sym c._hb_glyph_info_get_modified_class.ensures ∙ w.if-hb_glyph_info_get_modified_class-eq0.true in
+          let ccc = sym c._hb_glyph_info_get_modified_combining_class.ensures ∙ w.if-hb_glyph_info_get_modified_combining_class-eq0.true in
           record {
             within = omega (arith, w.starter-is, w.len-starter.ensures);
-            walked = rw (starter, w.from-is, items) (IsRecomposedTo-starter rules _ _ _ _ _ _ _ _ _ _ _ (omega arith) c.index-infos-place.is c.index.ensures marks c.loop-place.invariant.walked none class);
+            walked = rw (starter, w.from-is, items) (IsRecomposedTo-starter rules _ _ _ _ _ _ _ _ _ _ _
+                (omega arith) c.index-infos-place.is c.index.ensures marks c.loop-place.invariant.walked none ccc);
           }
-      | else-hb_glyph_info_get_modified_class-eq0 w ↦
+      | else-hb_glyph_info_get_modified_combining_class-eq0 w ↦
           record {
             within = omega (arith, w.starter-is);
-            walked = rw (w.starter-is, w.from-is, items) (IsRecomposedTo-mark rules _ _ _ _ _ _ _ _ _ _ _ (omega arith) c.index-infos-place.is c.index.ensures marks c.loop-place.invariant.walked none (λ e. w.if-hb_glyph_info_get_modified_class-eq0.false (c._hb_glyph_info_get_modified_class.ensures ∙ e)));
+            walked = rw (w.starter-is, w.from-is, items) (IsRecomposedTo-mark rules _ _ _ _ _ _ _ _ _ _ _
+                (omega arith) c.index-infos-place.is c.index.ensures marks c.loop-place.invariant.walked none
+                (λ e. w.if-hb_glyph_info_get_modified_combining_class-eq0.false
+                (c._hb_glyph_info_get_modified_combining_class.ensures ∙ e)));
           }
     ]
 

@@ -8,4 +8,6 @@ returns-in_err-position_complex g c =
     rw (p.1, p.2) (Refused-after c.position_by_face.ensures (Refused-before _ c.in_err-position_complex.ensures))
 
 pub returns : goal.returns
-returns g c = Ran-then c.position_by_face.ensures (Ran-then c.in_ok-position_complex.ensures (Ran-made c.in_ok-position_complex.ensures.within c.place_marks.ensures))
+returns g c =
+    Ran-then c.position_by_face.ensures (Ran-then c.in_ok-position_complex.ensures
+    (Ran-made c.in_ok-position_complex.ensures.within c.place_marks.ensures))

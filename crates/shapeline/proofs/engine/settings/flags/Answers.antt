@@ -4,4 +4,6 @@ use Rattle.shapeline.specs.Words.{words}
 use Rattle.shapeline.proofs.engine.settings.flags.Goals as goal
 
 pub returns : goal.returns
-returns c = flags_read c.from_bits.result c.in-Some.bits (number (words c.args.words.rest.now)) c.in-Some.ensures.0 c.in-Some.ensures.1 (c.from_bits.ensures.value tt) (c.from_bits.ensures.known tt)
+returns c =
+    flags_read c.from_bits.result c.in-Some.bits (number (words c.args.words.rest.now)) c.in-Some.ensures.0 c.in-Some.ensures.1
+    (c.from_bits.ensures.value tt) (c.from_bits.ensures.known tt)

@@ -11,5 +11,6 @@ invariant-loop-word l = record {
   all_left : AllByRecursion IsCharacterWord (words l.word-iterator.rest.now);
   counted : l.offset + utf8_len (words l.word-iterator.rest.now) < 2 ^ 32;
   rest_is_new : record l.buffer { items = []; positions = [] } ≡ new_buffer;
-  put : l.buffer.items ++ items_from l.offset (characters (words l.word-iterator.rest.now)) ≡ items_from 0 (characters (words l.fn.words.rest.now));
+  put : l.buffer.items ++ items_from l.offset (characters (words l.word-iterator.rest.now))
+      ≡ items_from 0 (characters (words l.fn.words.rest.now));
 }

@@ -15,13 +15,15 @@ returns-then-begins c =
     ] in
     let begins : BeginsClear c.in_ok-first.second.now = elim c.if-is_empty-2.branch [
       | then-is_empty-2 w ↦ λ some. grind (arith, nat_tests)
-      | else-is_empty-2 w ↦ λ some. let test = w.starts_with-begins.ensures.byte (lit< tt) (lit< tt) (λ text cut h. h) in grind (arith, nat_tests)
+      | else-is_empty-2 w ↦ λ some. let test = w.starts_with-begins.ensures.byte (lit< tt) (lit< tt) (λ text cut h. h) in grind
+          (arith, nat_tests)
     ] in
     let parted = has_lone_slash c.args.self.rest.now (c.in_ok-first.first, c.in_ok-first.second) c.in_ok-first.ensures.cases ends begins in
     rw (c.new.ensures, c.new-then-begins.ensures) parted
 
 pub returns-else-ends : goal.returns-else-ends
-returns-else-ends c = lacks_lone_slash c.args.self.rest.now (c.in_ok-first.first, c.in_ok-first.second) c.in_ok-first.ensures.cases (λ ends begins.
+returns-else-ends c =
+    lacks_lone_slash c.args.self.rest.now (c.in_ok-first.first, c.in_ok-first.second) c.in_ok-first.ensures.cases (λ ends begins.
     let ends_true : c.if-is_empty.ends ≡ true = elim c.if-is_empty.branch [
       | then-is_empty w ↦ grind (arith, nat_tests)
       | else-is_empty w ↦ let test = w.ends_with-ends.ensures.byte (lit< tt) (lit< tt) (λ text cut h. h) in grind (arith, nat_tests)

@@ -8,7 +8,8 @@ invariant-parts g l =
     let unicode = g.U.hb_unicode_funcs_t.unicode in
     let face = g.F.hb_font_t.face l.face in
     record {
-      places : l.places.items ++ pair_places face l.place (variants unicode l.rest) ≡ l.initial.places.items ++ pair_places face l.start (variants unicode l.sequence);
+      places : l.places.items ++ pair_places face l.place (variants unicode l.rest)
+          ≡ l.initial.places.items ++ pair_places face l.start (variants unicode l.sequence);
       whole : l.place + length l.rest ≡ l.start + length l.sequence;
     }
 

@@ -7,8 +7,10 @@ invariant-loop-c g l =
     let unicode = g.U.hb_unicode_funcs_t.unicode in
     let part = part_item unicode (g.F.hb_font_t.face l.face).nominal_glyph l.info in
     record {
-      infos : l.self.infos.items ++ map part (reverse l.chars.items) ≡ l.initial.self.infos.items ++ map part (reverse l.initial.chars.items);
-      flags : seen_chars unicode l.self.scratch_flags (reverse l.chars.items) ≡ seen_chars unicode l.initial.self.scratch_flags (reverse l.initial.chars.items);
+      infos : l.self.infos.items ++ map part (reverse l.chars.items)
+          ≡ l.initial.self.infos.items ++ map part (reverse l.initial.chars.items);
+      flags : seen_chars unicode l.self.scratch_flags (reverse l.chars.items)
+          ≡ seen_chars unicode l.initial.self.scratch_flags (reverse l.initial.chars.items);
     }
 
 abbrev pub decreases-loop-c : goal.decreases-loop-c

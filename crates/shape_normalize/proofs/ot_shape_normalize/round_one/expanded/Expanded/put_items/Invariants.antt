@@ -9,7 +9,9 @@ invariant-items g l =
     let shaper = g.S.hb_ot_shaper_t in
     let rules = rules_of g.U.hb_unicode_funcs_t.unicode shaper.constants shaper.hooks g.F.hb_font_t.face l.plan l.face in
     record {
-      infos : l.self.infos.items ≡ l.initial.self.infos.items ++ flat_map (expanded_item rules l.invisible l.shortest) (take l.info-index l.sequence);
-      flags : l.self.scratch_flags ≡ fold (seen_expanded rules l.invisible l.shortest) l.initial.self.scratch_flags (take l.info-index l.sequence);
+      infos : l.self.infos.items
+          ≡ l.initial.self.infos.items ++ flat_map (expanded_item rules l.invisible l.shortest) (take l.info-index l.sequence);
+      flags : l.self.scratch_flags
+          ≡ fold (seen_expanded rules l.invisible l.shortest) l.initial.self.scratch_flags (take l.info-index l.sequence);
       within : vec_len l.self.infos ≤ l.limit;
     }

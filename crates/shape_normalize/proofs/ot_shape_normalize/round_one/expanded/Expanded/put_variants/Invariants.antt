@@ -9,8 +9,10 @@ invariant-parts g l =
     let unicode = g.U.hb_unicode_funcs_t.unicode in
     let face = g.F.hb_font_t.face l.face in
     record {
-      infos : l.self.infos.items ++ flat_map (variant_items face l.not_found) (variants unicode l.rest) ≡ l.initial.self.infos.items ++ flat_map (variant_items face l.not_found) (variants unicode l.sequence);
-      flags : fold (seen_variant face) l.self.scratch_flags (variants unicode l.rest) ≡ fold (seen_variant face) l.initial.self.scratch_flags (variants unicode l.sequence);
+      infos : l.self.infos.items ++ flat_map (variant_items face l.not_found) (variants unicode l.rest)
+          ≡ l.initial.self.infos.items ++ flat_map (variant_items face l.not_found) (variants unicode l.sequence);
+      flags : fold (seen_variant face) l.self.scratch_flags (variants unicode l.rest)
+          ≡ fold (seen_variant face) l.initial.self.scratch_flags (variants unicode l.sequence);
       within : vec_len l.self.infos ≤ l.limit;
     }
 

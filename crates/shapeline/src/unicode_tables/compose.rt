@@ -1,6 +1,6 @@
 //! Canonical compositions in one step (The Unicode Standard, D114, primary composites).
 ghost use Rattle.std.specs.Prelude.{◌≡◌};
-ghost use Rattle.shapeline.specs.Join.{join_in_table, join_of};
+ghost use Rattle.shapeline.specs.Compose.{compose_in_table, compose_of};
 
 use crate::unicode_tables::split::decompose;
 
@@ -16,8 +16,8 @@ const COMPOSITES: [(char, char, char); 8] = [
     ('\u{0065}', '\u{0323}', '\u{1EB9}'),
 ];
 
-fn join_in_table(a: char, b: char) -> Option<char>
-    ensures { result ≡ join_in_table a b }
+fn compose_in_table(a: char, b: char) -> Option<char>
+    ensures { result ≡ compose_in_table a b }
 {
     COMPOSITES
         .iter()
@@ -27,9 +27,9 @@ fn join_in_table(a: char, b: char) -> Option<char>
 
 /// The character of the table, where it splits into the two again.
 pub fn compose(a: char, b: char) -> Option<char>
-    ensures { result ≡ join_of a b }
+    ensures { result ≡ compose_of a b }
 {
-    let c = join_in_table(a, b)?;
+    let c = compose_in_table(a, b)?;
     if decompose(c) == Some((a, b)) {
         Some(c)
     } else {

@@ -1,21 +1,21 @@
-//! The classes that marks are ordered by: combining classes (The Unicode Standard, section 4.3), some of
+//! The ccc that marks are ordered by: combining classes (The Unicode Standard, section 4.3), some of
 //! them changed.
 //!
 //! Combining classes are fixed for ever, and some of them order the marks of a script otherwise than its
 //! fonts do. So shaping takes others in their place, as HarfBuzz does (`hb-unicode.hh`, "modified
-//! combining class"). No two classes become one, and none becomes 0, so that marks of two classes still
+//! combining class"). No two ccc become one, and none becomes 0, so that marks of two ccc still
 //! have two: the order of marks changes, and what is equivalent doesn't
-//! ([`crate::laws::equivalence_is_canonical`]). Three marks have a class of their own.
+//! ([`crate::laws::equivalence_is_canonical`]). Three marks have a ccc of their own.
 ghost use Rattle.std.specs.Prelude.{◌≡◌};
-ghost use Rattle.shape_unicode.specs.Class.{modified_class, class_by_character, class_from};
+ghost use Rattle.shape_unicode.specs.Ccc.{modified_ccc, ccc_by_character, modified_ccc_from};
 
-/// A combining class, and the class that shaping takes in its place; the other classes stay.
+/// A combining class, and the ccc that shaping takes in its place; the other ccc stay.
 ///
 /// Hebrew: points in the order of the SBL Hebrew font's manual: the dots of shin and sin, dagesh, rafe,
 /// holam, then the other vowels. Arabic: shadda before the vowels, as its fonts expect. Telugu: the length
 /// marks before the halant, not past it. Thai: the vowel signs below before the phinthu. Tibetan: the
 /// vowel sign u before the others. Classes 3, 4 and 5 are otherwise unused.
-pub const MODIFIED_CLASSES: [(u8, u8); 28] = [
+pub const MODIFIED_CCC: [(u8, u8); 28] = [
     // Hebrew
     (10, 22),
     (11, 15),
@@ -51,44 +51,44 @@ pub const MODIFIED_CLASSES: [(u8, u8); 28] = [
     (132, 131),
 ];
 
-/// A mark, and the class that shaping takes for it alone, whatever its combining class.
+/// A mark, and the ccc that shaping takes for it alone, whatever its combining class.
 ///
 /// U+0F39 goes before U+0F74, U+0FC6 after all vowel signs, and U+1A60 after all tone marks.
-pub const CLASSES_BY_CHARACTER: [(char, u8); 3] = [
+pub const CCC_BY_CHARACTER: [(char, u8); 3] = [
     ('\u{F39}', 127),
     ('\u{FC6}', 254),
     ('\u{1A60}', 254),
 ];
 
-/// The class that shaping takes in place of a combining class.
-fn modified_class(class: u8) -> u8
-    ensures { result ≡ modified_class class }
+/// The ccc that shaping takes in place of a combining class.
+fn modified_ccc(ccc: u8) -> u8
+    ensures { result ≡ modified_ccc ccc }
 {
-    MODIFIED_CLASSES
+    MODIFIED_CCC
         .iter()
-        .find(|entry| entry.0 == class)
+        .find(|entry| entry.0 == ccc)
         .map(|entry| entry.1)
-        .unwrap_or(class)
+        .unwrap_or(ccc)
 }
 
-/// The class of a mark that has one of its own.
-fn class_by_character(c: char) -> Option<u8>
-    ensures { result ≡ class_by_character c }
+/// The ccc of a mark that has one of its own.
+fn ccc_by_character(c: char) -> Option<u8>
+    ensures { result ≡ ccc_by_character c }
 {
-    CLASSES_BY_CHARACTER
+    CCC_BY_CHARACTER
         .iter()
         .find(|entry| entry.0 == c)
         .map(|entry| entry.1)
 }
 
-/// The class that shaping orders `c` by, whose combining class is `class`. Most characters have the
-/// class 0, and no table is asked for these.
-pub(crate) fn class_from(class: u8, c: char) -> u8
-    ensures { result ≡ class_from class c }
+/// The ccc that shaping orders `c` by, whose combining class is `ccc`. Most characters have the
+/// ccc 0, and no table is asked for these.
+pub(crate) fn modified_ccc_from(ccc: u8, c: char) -> u8
+    ensures { result ≡ modified_ccc_from ccc c }
 {
-    if class == 0 {
+    if ccc == 0 {
         0
     } else {
-        class_by_character(c).unwrap_or(modified_class(class))
+        ccc_by_character(c).unwrap_or(modified_ccc(ccc))
     }
 }

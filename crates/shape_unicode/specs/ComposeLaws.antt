@@ -8,7 +8,7 @@ use Rattle.unicode_normalization.specs.Compose.{primary_composite, or_else}
 use Rattle.unicode_normalization.specs.Hangul.{is_syllable, compose_hangul}
 use Rattle.unicode_normalization.proofs.ComposeLemmas.{cases_Option}
 use Rattle.unicode_normalization.proofs.HangulLemmas.{is_among_from, IsLv, IsLvt, compose_hangul-some}
-use Rattle.shape_unicode.specs.Class.{class_of}
+use Rattle.shape_unicode.specs.Ccc.{modified_ccc_of}
 use Rattle.shape_unicode.specs.Split.{parts_of, split_of, height_of}
 use Rattle.shape_unicode.specs.TableFacts.{pair_has_second, mappings_ok}
 use Rattle.std.proofs.lemmas.List.{append_assoc}
@@ -55,9 +55,9 @@ joins_database a b c joined =
     )
 
 -- a join answers a character that splits into the two
-pub join_splits : (a b c : ℕ) → primary_composite a b ≡ Some c → (split_of c ≡ Some (a, b)) × (b ≢ 0)
+pub composed_splits : (a b c : ℕ) → primary_composite a b ≡ Some c → (split_of c ≡ Some (a, b)) × (b ≢ 0)
 unfolding primary_composite
-join_splits a b c joined =
+composed_splits a b c joined =
     elim (cases_Option (compose_hangul a b)) [
       | inl none ↦ joins_database a b c (ap (λ o. or_else o (composite a b)) (sym none) ∙ joined)
       | inr some ↦
@@ -69,23 +69,26 @@ kept_part_nonzero : (b : ℕ) → b ≢ 0 → kept_part b ≡ b ∷ []
 kept_part_nonzero b nonzero = cond-false (b == 0) _ _ (ne_eqb b 0 nonzero)
 
 -- Full of the composed one is Full of the first part, and then the second part, which is its own Full
-full_of_join : (a b c : ℕ) → primary_composite a b ≡ Some c → full split_of height_of c ≡ full split_of height_of a ++ full split_of height_of b
-full_of_join a b c joined =
-    let splits = join_splits a b c joined in
+full_of_composed : (a b c : ℕ) → primary_composite a b ≡ Some c
+    → full split_of height_of c ≡ full split_of height_of a ++ full split_of height_of b
+full_of_composed a b c joined =
+    let splits = composed_splits a b c joined in
     let falling : FallsAlong split_of height_of = record { falls = split_of-falls } in
     let last : split_of b ≡ None = elim (second_is_whole c a b splits.0) [ inl z ↦ absurd (splits.1 z) | inr h ↦ h ] in
-    let second : kept_part b ≡ full split_of height_of b = kept_part_nonzero b splits.1 ∙ sym (full-stays split_of height_of falling b last) in
+    let second : kept_part b ≡ full split_of height_of b = kept_part_nonzero b splits.1
+    ∙ sym (full-stays split_of height_of falling b last) in
     full-splits split_of height_of falling c a b splits.0 ∙ ap (λ xs. full split_of height_of a ++ xs) second
 
-pub composes_soundly : ComposesSoundly split_of height_of class_of primary_composite
+pub composes_soundly : ComposesSoundly split_of height_of modified_ccc_of primary_composite
 unfolding full_text
 composes_soundly = record { equivalent = sound }
   where
     full_of : ℕ → List ℕ
     full_of c = full split_of height_of c
 
-    sound : (a b c : ℕ) → primary_composite a b ≡ Some c → Swaps class_of (full_text split_of height_of (c ∷ [])) (full_text split_of height_of (a ∷ b ∷ []))
+    sound : (a b c : ℕ) → primary_composite a b ≡ Some c
+        → Swaps modified_ccc_of (full_text split_of height_of (c ∷ [])) (full_text split_of height_of (a ∷ b ∷ []))
     sound a b c joined =
         let same_text : (full_of c ++ []) ≡ (full_of a ++ (full_of b ++ [])) =
-        ap (λ xs. xs ++ []) (full_of_join a b c joined) ∙ append_assoc (full_of a) (full_of b) [] in
-        subst (λ xs. Swaps class_of (full_of c ++ []) xs) same_text done
+        ap (λ xs. xs ++ []) (full_of_composed a b c joined) ∙ append_assoc (full_of a) (full_of b) [] in
+        subst (λ xs. Swaps modified_ccc_of (full_of c ++ []) xs) same_text done

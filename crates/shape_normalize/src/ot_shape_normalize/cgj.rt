@@ -2,7 +2,8 @@
 //!
 //! One that keeps nothing apart is no longer hidden, so that lookups see it.
 ghost use Rattle.std.specs.Prelude.{◌≡◌};
-ghost use Rattle.shape_normalize.specs.RoundTwo.{keeps_nothing_apart as keeps_nothing_apart_of, joiner_shown, joiners_settled};
+ghost use Rattle.shape_normalize.specs.RoundTwo.{keeps_nothing_apart as keeps_nothing_apart_of};
+ghost use Rattle.shape_normalize.specs.RoundTwo.{one_cgj_shown, cgj_settled};
 
 use bitflags::Flags;
 use shape_buffer::buffer::{ScratchFlags, hb_buffer_t, hb_glyph_info_t};
@@ -13,17 +14,17 @@ const COMBINING_GRAPHEME_JOINER: char = '\u{34F}';
 fn keeps_nothing_apart(before: &hb_glyph_info_t, after: &hb_glyph_info_t) -> bool
     ensures { result ≡ keeps_nothing_apart_of before.now after.now }
 {
-    let class = after._hb_glyph_info_get_modified_class();
-    class == 0 || before._hb_glyph_info_get_modified_class() <= class
+    let ccc = after._hb_glyph_info_get_modified_combining_class();
+    ccc == 0 || before._hb_glyph_info_get_modified_combining_class() <= ccc
 }
 
 /// An item between two others, shown where it is a joiner that keeps nothing apart.
-fn show_joiner(
+fn show_one_cgj(
     before: &hb_glyph_info_t,
     info: &hb_glyph_info_t,
     after: &hb_glyph_info_t,
 ) -> hb_glyph_info_t
-    ensures { result ≡ joiner_shown before.now info.now after.now }
+    ensures { result ≡ one_cgj_shown before.now info.now after.now }
 {
     let mut info = *info;
     if info.codepoint == COMBINING_GRAPHEME_JOINER && keeps_nothing_apart(before, after) {
@@ -34,15 +35,15 @@ fn show_joiner(
 
 /// Shows the joiners that keep nothing apart, where the run has seen a joiner; the first and the last
 /// item stay.
-pub(crate) fn show_joiners(buffer: &mut hb_buffer_t)
-    ensures { buffer.new ≡ joiners_settled buffer.old }
+pub(crate) fn show_cgj(buffer: &mut hb_buffer_t)
+    ensures { buffer.new ≡ cgj_settled buffer.old }
 {
     if !buffer.scratch_flags().contains(ScratchFlags::HAS_CGJ) {
         return;
     }
     for i in 1..buffer.len().saturating_sub(1) {
         let infos = buffer.infos();
-        let info = show_joiner(&infos[i - 1], &infos[i], &infos[i + 1]);
+        let info = show_one_cgj(&infos[i - 1], &infos[i], &infos[i + 1]);
         buffer.set_info(i, info);
     }
 }

@@ -1,5 +1,5 @@
 use Rattle.canonical_form.proofs.BlockLemmas.{recomposed_by_last, recomposed_by_greatest}
-use Rattle.canonical_form.proofs.laws.one_class_decides.Goals as goal
+use Rattle.canonical_form.proofs.laws.one_ccc_decides.Goals as goal
 
 pub returns-clause-last : goal.returns-clause-last
 returns-clause-last g c = recomposed_by_last

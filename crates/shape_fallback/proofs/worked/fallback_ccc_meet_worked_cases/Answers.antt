@@ -1,0 +1,5 @@
+use Rattle.shape_fallback.specs.WorkedCcc.{worked_cccs}
+use Rattle.shape_fallback.proofs.worked.fallback_ccc_meet_worked_cases.Goals as goal
+
+pub returns : goal.returns
+returns c = worked_cccs
