@@ -71,7 +71,7 @@ module _ {A : Type 0} (ccc : A → ℕ) (blocks : List A → A → Bool) (is_mar
             ]
       ]
 
-  -- what holds of each item, and of what two items join to, holds of each recomposed item
+  -- what holds of each item, and of what two items compose to, holds of each recomposed item
   recomposed_from-all : (P : A → Type 0) → ((s c d : A) → P s → P c → compose s c ≡ Some d → P d) → (s : A) (ms rest : List A) → P s
       → AllByRecursion P ms → AllByRecursion P rest → AllByRecursion P (recomposed_from ccc blocks is_mark compose s ms rest)
   recomposed_from-all P joins s ms [] of_s of_ms of_rest = (of_s, of_ms)

@@ -8,6 +8,7 @@ mod layout;
 mod map_builder;
 mod map_face;
 mod map_request;
+pub mod modified_combining_class;
 mod no_lookups;
 pub mod space_types;
 mod unicode_funcs;

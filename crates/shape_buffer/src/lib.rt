@@ -13,4 +13,13 @@ pub mod position_walks;
 pub mod walks;
 pub mod wrapping;
 
+pub use buffer::{
+    BufferClusterLevel, BufferFlags, Direction, Feature, GlyphBuffer, GlyphId, GlyphPosition,
+    Language, SAFE_TO_INSERT_TATWEEL, Script, ShapeError, ShapeFault, UNSAFE_TO_BREAK,
+    UNSAFE_TO_CONCAT, UnicodeBuffer, hb_buffer_t, hb_glyph_info_t, hb_mask_t, hb_tag_t,
+};
 pub use canonical_form::laws;
+pub use interfaces::{
+    MapFace, Metrics, NoLookups, hb_font_t, hb_glyph_extents_t, hb_ot_layout_t,
+    hb_ot_map_builder_t, hb_tables_t, hb_unicode_funcs_t,
+};

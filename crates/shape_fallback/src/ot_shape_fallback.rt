@@ -61,7 +61,8 @@ pub fn position_marks<U: hb_unicode_funcs_t, F: hb_font_t, S, P, D>(
     buffer: &mut hb_buffer_t,
     adjust_offsets_when_zeroing: bool,
 )
-    ensures placed { Made (marks_positioned U.unicode (F.face face.now) plan.now.direction plan.now.script
+    ensures placed { Made (marks_positioned U.unicode (F.face face.now)
+        plan.now.direction plan.now.script
         adjust_offsets_when_zeroing) buffer.old buffer.new }
     ensures marked { without_positions buffer.new ≡ without_positions (bases_marked buffer.old) }
 {

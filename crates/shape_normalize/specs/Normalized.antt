@@ -15,8 +15,8 @@ use Rattle.shape_normalize.specs.RoundThree.{recomposed_by_all, round_three}
 use Rattle.shape_normalize.specs.RoundTwo.{max_run, has_mark_past_first, marks_ordered, cgj_settled, OrdersMarks}
 use Rattle.shape_buffer.specs.FlagNames.{HAS_CGJ}
 
--- the buffer with its expanded list, with its marks in order where a mark stood past the first item as normalising began, and with joiners
--- shown that keep nothing apart
+-- the buffer with its expanded list, with its marks in order where a mark stood past the first item as normalising began, and with each CGJ
+-- shown that keeps nothing apart
 abbrev pub ordered : Rules → Buffer → Buffer
 ordered rules b =
     let expanded = round_one rules b in
@@ -91,7 +91,7 @@ features_of item = feature_bits item.mask
 abbrev pub KeepsFeatures : Buffer → Buffer → Type 0
 KeepsFeatures old new = All (λ item. Contains (map features_of old.items) (features_of item)) new.items
 
--- whether the run has seen a joiner
+-- whether the run has seen a CGJ
 abbrev pub has_seen_cgj : Buffer → Bool
 has_seen_cgj b = bit_and b.scratch_flags.0 HAS_CGJ == HAS_CGJ
 
@@ -99,7 +99,7 @@ has_seen_cgj b = bit_and b.scratch_flags.0 HAS_CGJ == HAS_CGJ
 abbrev pub hidden_char : Item → ℕ × Bool
 hidden_char item = (item.codepoint, item.properties.hidden)
 
--- where no joiner was seen by the end of round one, each item's hidden bit is that of its character, or the item has the character and the
+-- where no CGJ was seen by the end of round one, each item's hidden bit is that of its character, or the item has the character and the
 -- hidden bit of one of the text
 abbrev pub KeepsHidden : Rules → Buffer → Buffer → Type 0
 KeepsHidden rules old new =

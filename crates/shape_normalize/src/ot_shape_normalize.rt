@@ -155,7 +155,8 @@ where
     ensures counted { OnOk result (length (round_one
         (⟦<S as Runs<U, F, M>>⟧.rules ctx.old.plan.now ctx.old.face.now)
         ctx.old.buffer.now).items ≤ limit_of ctx.old.buffer.now) }
-    ensures length { result ≡ Err ShapeError.Length → limit_of ctx.old.buffer.now < length (round_one
+    ensures length { result ≡ Err ShapeError.Length
+        → limit_of ctx.old.buffer.now < length (round_one
         (⟦<S as Runs<U, F, M>>⟧.rules ctx.old.plan.now ctx.old.face.now) ctx.old.buffer.now).items }
     ensures settings { cleared ctx.new.buffer.now ≡ cleared ctx.old.buffer.now }
 {

@@ -36,7 +36,8 @@ where
     requires { Fits U.unicode plan.now buffer }
     ensures glyphs { IfOk result (λ glyphs. glyphs
         ≡ shaped (⟦<S as Runs<U, F, M>>⟧.run plan.now face.now) buffer) }
-    ensures direction { IfOk result (λ glyphs. glyphs.direction ≡ guessed_direction U.unicode buffer) }
+    ensures direction { IfOk result (λ glyphs. glyphs.direction
+        ≡ guessed_direction U.unicode buffer) }
     ensures form { let run = ⟦<S as Runs<U, F, M>>⟧.run plan.now face.now in
         IfOk result (λ _. NormalForm run.rules (prepared_text run buffer)
         (normalised_list run buffer)) }
@@ -91,26 +92,33 @@ where
     M: hb_ot_layout_t<F>,
     S: hb_ot_shaper_t<U, F, M>,
     ensures glyphs { IfOk result (λ glyphs. glyphs ≡ shaped (⟦<S as Runs<U, F, M>>⟧.run
-        (planned_for U.unicode ⟦<S as Plans<U, F, M>>⟧.planning face.now shaper.now features.now buffer) face.now) buffer) }
-    ensures direction { IfOk result (λ glyphs. glyphs.direction ≡ guessed_direction U.unicode buffer) }
+        (planned_for U.unicode ⟦<S as Plans<U, F, M>>⟧.planning
+        face.now shaper.now features.now buffer) face.now) buffer) }
+    ensures direction { IfOk result (λ glyphs. glyphs.direction
+        ≡ guessed_direction U.unicode buffer) }
     ensures form { let run = ⟦<S as Runs<U, F, M>>⟧.run
-        (planned_for U.unicode ⟦<S as Plans<U, F, M>>⟧.planning face.now shaper.now features.now buffer) face.now in
+        (planned_for U.unicode ⟦<S as Plans<U, F, M>>⟧.planning
+        face.now shaper.now features.now buffer) face.now in
         IfOk result (λ _. NormalForm run.rules (prepared_text run buffer)
         (normalised_list run buffer)) }
     ensures clusters { let run = ⟦<S as Runs<U, F, M>>⟧.run
-        (planned_for U.unicode ⟦<S as Plans<U, F, M>>⟧.planning face.now shaper.now features.now buffer) face.now in
+        (planned_for U.unicode ⟦<S as Plans<U, F, M>>⟧.planning
+        face.now shaper.now features.now buffer) face.now in
         IfOk result (λ glyphs. ClustersComeInOrder run (target_of run buffer)
         (guessed U.unicode buffer) glyphs) }
     ensures flags { let run = ⟦<S as Runs<U, F, M>>⟧.run
-        (planned_for U.unicode ⟦<S as Plans<U, F, M>>⟧.planning face.now shaper.now features.now buffer) face.now in
+        (planned_for U.unicode ⟦<S as Plans<U, F, M>>⟧.planning
+        face.now shaper.now features.now buffer) face.now in
         IfOk result (λ glyphs. FlagsAreByCluster run buffer glyphs) }
     ensures within { IfOk result (λ glyphs. length glyphs.items ≤ run_limit (length buffer.items)) }
     ensures counted { let run = ⟦<S as Runs<U, F, M>>⟧.run
-        (planned_for U.unicode ⟦<S as Plans<U, F, M>>⟧.planning face.now shaper.now features.now buffer) face.now in
+        (planned_for U.unicode ⟦<S as Plans<U, F, M>>⟧.planning
+        face.now shaper.now features.now buffer) face.now in
         IfOk result (λ glyphs. Shapes run (target_of run buffer)
         (guessed U.unicode buffer) glyphs) }
     ensures length { let run = ⟦<S as Runs<U, F, M>>⟧.run
-        (planned_for U.unicode ⟦<S as Plans<U, F, M>>⟧.planning face.now shaper.now features.now buffer) face.now in
+        (planned_for U.unicode ⟦<S as Plans<U, F, M>>⟧.planning
+        face.now shaper.now features.now buffer) face.now in
         IfErr result (λ fault. fault.cause ≡ ShapeError.Length
         → ShapingPasses run (target_of run buffer) (guessed U.unicode buffer)) }
     ensures cleared { IfErr result (λ fault. fault.buffer ≡ cleared buffer) }

@@ -11,7 +11,7 @@ use Rattle.shape_plan.specs.Shaper.{ShaperConstants, HookMeaning}
 
 pub record Rules : Type 0 where
   pub unicode : UnicodeMeaning
-  -- the split in use, a height that falls along it, and the join in use
+  -- the split in use, a height that falls along it, and what composes in use
   pub split : ℕ → Option (ℕ × ℕ)
   pub height : ℕ → ℕ
   pub compose : ℕ → ℕ → Option ℕ
@@ -30,7 +30,7 @@ used_split unicode given hooks c = option_map_or (λ h. if given then h.split c 
 abbrev pub used_height : UnicodeMeaning → Bool → Option HookMeaning → ℕ → ℕ
 used_height unicode given hooks c = option_map_or (λ h. if given then h.height c else unicode.height c) hooks (unicode.height c)
 
--- and so is the join
+-- and so is what composes
 abbrev pub used_compose : UnicodeMeaning → Bool → Option HookMeaning → ℕ → ℕ → Option ℕ
 used_compose unicode given hooks a b = option_map_or (λ h. if given then h.compose a b else unicode.compose a b) hooks (unicode.compose a b)
 

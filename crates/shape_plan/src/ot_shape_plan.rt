@@ -152,7 +152,8 @@ impl<'a, S, P, D> hb_ot_shape_plan_t<'a, S, P, D> {
         P: Drop,
         D: Drop,
         requires { direction ≢ Direction.Invalid }
-        ensures plan { IfOk result (λ plan. plan ≡ planned ⟦<S as Plans<U, F, M>>⟧.planning face.now shaper.now
+        ensures plan { IfOk result (λ plan. plan
+            ≡ planned ⟦<S as Plans<U, F, M>>⟧.planning face.now shaper.now
             direction script (option_map (λ l. string_bytes l.now.0) language.entry)
             user_features.now) }
         ensures memory { IfErr result (λ e. e ≡ ShapeError.Memory) }

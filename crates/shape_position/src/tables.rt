@@ -67,7 +67,8 @@ pub fn position_finish_advances<F, M: hb_ot_layout_t<F>, S, D>(
     face: &F,
     buffer: &mut hb_buffer_t,
 )
-    ensures { Made (M.lookups plan.now.ot_map face.now).position_finish_advances buffer.old buffer.new }
+    ensures { Made (M.lookups plan.now.ot_map face.now).position_finish_advances
+        buffer.old buffer.new }
 {
     M::position_finish_advances(face, buffer);
 }
@@ -92,7 +93,8 @@ pub fn position_finish_offsets<F, M: hb_ot_layout_t<F>, S, D>(
     face: &F,
     buffer: &mut hb_buffer_t,
 )
-    ensures { Made (M.lookups plan.now.ot_map face.now).position_finish_offsets buffer.old buffer.new }
+    ensures { Made (M.lookups plan.now.ot_map face.now).position_finish_offsets
+        buffer.old buffer.new }
 {
     M::position_finish_offsets(face, buffer);
 }

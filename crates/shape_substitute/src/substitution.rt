@@ -119,7 +119,9 @@ fn substitute_aat<F, M, S, D>(
 where
     M: hb_ot_layout_t<F>,
     requires { IsWithinLimit buffer.old }
-    ensures { Outcome (step ((M.lookups plan.now.ot_map face.now).aat_substitute plan.now.user_features)) buffer.old buffer.new result }
+    ensures { Outcome
+        (step ((M.lookups plan.now.ot_map face.now).aat_substitute plan.now.user_features))
+        buffer.old buffer.new result }
 {
     M::aat_substitute(alloc, plan.ot_map(), plan.user_features(), face, buffer)
 }

@@ -54,7 +54,7 @@ joins_database a b c joined =
       λ e. let zero_second : true ≡ false = sym (eq-eqb b 0 e) ∙ not_true _ second in cc,
     )
 
--- a join answers a character that splits into the two
+-- what two characters compose to splits into the two
 pub composed_splits : (a b c : ℕ) → primary_composite a b ≡ Some c → (split_of c ≡ Some (a, b)) × (b ≢ 0)
 unfolding primary_composite
 composed_splits a b c joined =

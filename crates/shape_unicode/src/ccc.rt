@@ -9,6 +9,8 @@
 ghost use Rattle.std.specs.Prelude.{◌≡◌};
 ghost use Rattle.shape_unicode.specs.Ccc.{modified_ccc, ccc_by_character, modified_ccc_from};
 
+use shape_buffer::interfaces::modified_combining_class as mcc;
+
 /// A combining class, and the ccc that shaping takes in its place; the other ccc stay.
 ///
 /// Hebrew: points in the order of the SBL Hebrew font's manual: the dots of shin and sin, dagesh, rafe,
@@ -17,38 +19,38 @@ ghost use Rattle.shape_unicode.specs.Ccc.{modified_ccc, ccc_by_character, modifi
 /// vowel sign u before the others. Classes 3, 4 and 5 are otherwise unused.
 pub const MODIFIED_CCC: [(u8, u8); 28] = [
     // Hebrew
-    (10, 22),
-    (11, 15),
-    (12, 16),
-    (13, 17),
-    (14, 23),
-    (15, 18),
-    (16, 19),
-    (17, 20),
-    (18, 21),
-    (19, 14),
-    (20, 24),
-    (21, 12),
-    (22, 25),
-    (23, 13),
-    (24, 10),
-    (25, 11),
+    (10, mcc::CCC10),
+    (11, mcc::CCC11),
+    (12, mcc::CCC12),
+    (13, mcc::CCC13),
+    (14, mcc::CCC14),
+    (15, mcc::CCC15),
+    (16, mcc::CCC16),
+    (17, mcc::CCC17),
+    (18, mcc::CCC18),
+    (19, mcc::CCC19),
+    (20, mcc::CCC20),
+    (21, mcc::CCC21),
+    (22, mcc::CCC22),
+    (23, mcc::CCC23),
+    (24, mcc::CCC24),
+    (25, mcc::CCC25),
     // Arabic
-    (27, 28),
-    (28, 29),
-    (29, 30),
-    (30, 31),
-    (31, 32),
-    (32, 33),
-    (33, 27),
+    (27, mcc::CCC27),
+    (28, mcc::CCC28),
+    (29, mcc::CCC29),
+    (30, mcc::CCC30),
+    (31, mcc::CCC31),
+    (32, mcc::CCC32),
+    (33, mcc::CCC33),
     // Telugu
-    (84, 4),
-    (91, 5),
+    (84, mcc::CCC84),
+    (91, mcc::CCC91),
     // Thai
-    (103, 3),
+    (103, mcc::CCC103),
     // Tibetan
-    (130, 132),
-    (132, 131),
+    (130, mcc::CCC130),
+    (132, mcc::CCC132),
 ];
 
 /// A mark, and the ccc that shaping takes for it alone, whatever its combining class.

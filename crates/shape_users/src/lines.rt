@@ -16,7 +16,7 @@ ghost use Rattle.shape_users.specs.Lines.{cut_at, lacks_break};
 #[cfg(test)]
 mod tests;
 
-use shape_buffer::buffer::{GlyphBuffer, UNSAFE_TO_BREAK, hb_glyph_info_t};
+use shape_buffer::{GlyphBuffer, UNSAFE_TO_BREAK, hb_glyph_info_t};
 
 /// Whether a line may end before the character of a cluster: glyphs of that cluster are there, and the
 /// first of them in the list lacks `UNSAFE_TO_BREAK`. Where the clusters stand in the order of the text's

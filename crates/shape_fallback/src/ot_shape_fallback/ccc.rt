@@ -1,4 +1,4 @@
-//! Classes of marks for fallback positions.
+//! The ccc that marks are placed by.
 //!
 //! The ccc of 200 and more name a side of the base (UAX 44, section 5.7.4). Those below
 //! only keep marks of one script apart when they are put in order, so they say nothing of a place; each
@@ -9,37 +9,59 @@ ghost use Rattle.shape_fallback.specs.Ccc.{ccc_in_thai_or_lao as ccc_in_thai_or_
 ghost use Rattle.shape_fallback.specs.Ccc.{recategorized_ccc as recategorized_ccc_of};
 ghost use Rattle.shape_fallback.specs.Ccc.{fallback_ccc as fallback_ccc_of};
 
+use shape_buffer::interfaces::modified_combining_class as mcc;
+
+/// Attached above.
+const ATTACHED_ABOVE: u8 = 214;
+
+/// Below.
+const BELOW: u8 = 220;
+
+/// Below, at the right.
+const BELOW_RIGHT: u8 = 222;
+
+/// Above, at the left.
+const ABOVE_LEFT: u8 = 228;
+
+/// Above.
+const ABOVE: u8 = 230;
+
+/// Above, at the right.
+const ABOVE_RIGHT: u8 = 232;
+
 /// The ccc of a mark of Thai or Lao, by the character.
 fn ccc_in_thai_or_lao(c: char, ccc: u8) -> u8
     ensures { result ≡ ccc_in_thai_or_lao_of c ccc }
 {
     match (ccc, c) {
-        (0, '\u{E31}' | '\u{E34}'..='\u{E37}' | '\u{E47}' | '\u{E4C}'..='\u{E4E}') => 232,
-        (0, '\u{EB1}' | '\u{EB4}'..='\u{EB7}' | '\u{EBB}' | '\u{ECC}' | '\u{ECD}') => 230,
-        (0, '\u{EBC}') => 220,
-        (1.., '\u{E3A}') => 222,
+        (0, '\u{E31}' | '\u{E34}'..='\u{E37}' | '\u{E47}' | '\u{E4C}'..='\u{E4E}') => ABOVE_RIGHT,
+        (0, '\u{EB1}' | '\u{EB4}'..='\u{EB7}' | '\u{EBB}' | '\u{ECC}' | '\u{ECD}') => ABOVE,
+        (0, '\u{EBC}') => BELOW,
+        (1.., '\u{E3A}') => BELOW_RIGHT,
         _ => ccc,
     }
 }
 
-/// The ccc that stands for a modified one.
+/// The ccc that stands for a modified one: marks of Hebrew, Arabic and Syriac, Thai, Lao and Tibetan, in this
+/// order.
 fn recategorized_ccc(ccc: u8) -> u8
     ensures { result ≡ recategorized_ccc_of ccc }
 {
     match ccc {
-        15..=25 => 220,
-        13 => 214,
-        10 => 232,
-        11 | 14 => 228,
-        26 => 230,
-        27..=29 | 31 | 32 | 34..=36 => 230,
-        30 | 33 => 220,
-        3 => 222,
-        107 => 232,
-        118 => 220,
-        122 => 230,
-        129 | 131 => 220,
-        132 => 230,
+        mcc::CCC10 | mcc::CCC11 | mcc::CCC12 | mcc::CCC13 | mcc::CCC14 | mcc::CCC15 => BELOW,
+        mcc::CCC16 | mcc::CCC17 | mcc::CCC18 | mcc::CCC20 | mcc::CCC22 => BELOW,
+        mcc::CCC23 => ATTACHED_ABOVE,
+        mcc::CCC24 => ABOVE_RIGHT,
+        mcc::CCC19 | mcc::CCC25 => ABOVE_LEFT,
+        mcc::CCC26 => ABOVE,
+        mcc::CCC27 | mcc::CCC28 | mcc::CCC30 | mcc::CCC31 => ABOVE,
+        mcc::CCC33 | mcc::CCC34 | mcc::CCC35 | mcc::CCC36 => ABOVE,
+        mcc::CCC29 | mcc::CCC32 => BELOW,
+        mcc::CCC103 => BELOW_RIGHT,
+        mcc::CCC107 => ABOVE_RIGHT,
+        mcc::CCC118 => BELOW,
+        mcc::CCC122 | mcc::CCC130 => ABOVE,
+        mcc::CCC129 | mcc::CCC132 => BELOW,
         _ => ccc,
     }
 }

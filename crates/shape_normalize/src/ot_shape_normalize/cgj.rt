@@ -10,7 +10,7 @@ use shape_buffer::buffer::{ScratchFlags, hb_buffer_t, hb_glyph_info_t};
 
 const COMBINING_GRAPHEME_JOINER: char = '\u{34F}';
 
-/// Whether a joiner between two items keeps nothing apart: the second wouldn't go before the first.
+/// Whether a CGJ between two items keeps nothing apart: the second wouldn't go before the first.
 fn keeps_nothing_apart(before: &hb_glyph_info_t, after: &hb_glyph_info_t) -> bool
     ensures { result ≡ keeps_nothing_apart_of before.now after.now }
 {
@@ -18,7 +18,7 @@ fn keeps_nothing_apart(before: &hb_glyph_info_t, after: &hb_glyph_info_t) -> boo
     ccc == 0 || before._hb_glyph_info_get_modified_combining_class() <= ccc
 }
 
-/// An item between two others, shown where it is a joiner that keeps nothing apart.
+/// An item between two others, shown where it is a CGJ that keeps nothing apart.
 fn show_one_cgj(
     before: &hb_glyph_info_t,
     info: &hb_glyph_info_t,
@@ -33,7 +33,7 @@ fn show_one_cgj(
     info
 }
 
-/// Shows the joiners that keep nothing apart, where the run has seen a joiner; the first and the last
+/// Shows each CGJ that keeps nothing apart, where the run has seen one; the first and the last
 /// item stay.
 pub(crate) fn show_cgj(buffer: &mut hb_buffer_t)
     ensures { buffer.new ≡ cgj_settled buffer.old }

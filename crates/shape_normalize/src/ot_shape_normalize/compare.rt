@@ -37,8 +37,10 @@ where
     F: hb_font_t,
     M: hb_ot_layout_t<F>,
     S: hb_ot_shaper_t<U, F, M>,
-    ensures first { OnOk result (a.new ≡ normalized (⟦<S as Runs<U, F, M>>⟧.rules plan.now face.now) a.old) }
-    ensures second { OnOk result (b.new ≡ normalized (⟦<S as Runs<U, F, M>>⟧.rules plan.now face.now) b.old) }
+    ensures first { OnOk result (a.new
+        ≡ normalized (⟦<S as Runs<U, F, M>>⟧.rules plan.now face.now) a.old) }
+    ensures second { OnOk result (b.new
+        ≡ normalized (⟦<S as Runs<U, F, M>>⟧.rules plan.now face.now) b.old) }
     ensures equal { IfOk result (λ equal. IsTrue equal ↔ (text_of a.new ≡ text_of b.new)) }
     ensures equivalent { IfOk result (λ equal. CanonicalFormPremises
         (⟦<S as Runs<U, F, M>>⟧.rules plan.now face.now) a.old
@@ -83,8 +85,10 @@ where
     F: hb_font_t,
     M: hb_ot_layout_t<F>,
     S: hb_ot_shaper_t<U, F, M>,
-    ensures first { OnOk result (a.new ≡ normalized (⟦<S as Runs<U, F, M>>⟧.rules plan.now face.now) a.old) }
-    ensures second { OnOk result (b.new ≡ normalized (⟦<S as Runs<U, F, M>>⟧.rules plan.now face.now) b.old) }
+    ensures first { OnOk result (a.new
+        ≡ normalized (⟦<S as Runs<U, F, M>>⟧.rules plan.now face.now) a.old) }
+    ensures second { OnOk result (b.new
+        ≡ normalized (⟦<S as Runs<U, F, M>>⟧.rules plan.now face.now) b.old) }
     ensures length { result ≡ Err ShapeError.Length → (limit_of a.old < length (round_one
         (⟦<S as Runs<U, F, M>>⟧.rules plan.now face.now) a.old).items)
         ⊎ (limit_of b.old < length (round_one

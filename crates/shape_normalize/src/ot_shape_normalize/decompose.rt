@@ -43,7 +43,8 @@ where
 
 /// Keeps a second part, unless it is U+0000, and says whether the face has a glyph for it.
 fn keep_second<F: hb_font_t>(face: &F, b: char, seconds: &mut Vec<char>) -> Result<bool, AllocError>
-    ensures test { IfOk result (λ t. t ≡ list_all (has_glyph (F.face face.now).nominal_glyph) (kept_part b)) }
+    ensures test { IfOk result (λ t. t
+        ≡ list_all (has_glyph (F.face face.now).nominal_glyph) (kept_part b)) }
     ensures kept { result ≡ Ok true → seconds.new.items ≡ seconds.old.items ++ kept_part b }
     ensures same { result ≡ Ok false → seconds.new.items ≡ seconds.old.items }
 {

@@ -47,7 +47,8 @@ impl Expanded {
         M: hb_ot_layout_t<F>,
         S: hb_ot_shaper_t<U, F, M>,
         requires { vec_len self.old.infos ≤ limit_of buffer.now }
-        ensures infos { OnOk result (self.new.infos.items ≡ self.old.infos.items ++ flat_map (expanded_item
+        ensures infos { OnOk result (self.new.infos.items
+            ≡ self.old.infos.items ++ flat_map (expanded_item
             (⟦<S as Runs<U, F, M>>⟧.rules plan.now face.now) buffer.now.invisible_glyph shortest)
             sequence.now) }
         ensures flags { OnOk result (self.new.scratch_flags ≡ fold (seen_expanded

@@ -43,7 +43,7 @@ struct Recomposed {
     scratch_flags: ScratchFlags,
 }
 
-/// The join of two characters: the hook's where it is given and the plan keeps the shaper, else Unicode's.
+/// What two characters compose to: the hook's where it is given and the plan keeps the shaper, else Unicode's.
 fn compose_of<U, F, M, S>(
     plan: &hb_ot_shape_plan_t<'_, S, M::Map, S::Data>,
     face: &F,
@@ -63,7 +63,7 @@ where
     }
 }
 
-/// The join of two characters, where the face has a glyph for it.
+/// What two characters compose to, where the face has a glyph for it.
 fn compose_with_glyph_of<U, F, M, S>(
     plan: &hb_ot_shape_plan_t<'_, S, M::Map, S::Data>,
     face: &F,

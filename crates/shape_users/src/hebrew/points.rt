@@ -4,12 +4,15 @@ ghost use Rattle.shape_plan.specs.Reorder.{exchanged};
 ghost use Rattle.shape_users.specs.Points.{is_triple, third_place, points_reordered};
 
 use shape_buffer::buffer::{hb_buffer_t, hb_glyph_info_t};
+use shape_buffer::interfaces::modified_combining_class as mcc;
 
 /// Patah or qamats, then sheva or hiriq, then meteg or a mark below: their modified ccc.
 fn is_triple(first: u8, second: u8, third: u8) -> bool
     ensures { result ≡ is_triple first second third }
 {
-    (first == 20 || first == 21) && (second == 22 || second == 23) && (third == 25 || third == 220)
+    matches!(first, mcc::CCC17 | mcc::CCC18)
+        && matches!(second, mcc::CCC10 | mcc::CCC14)
+        && matches!(third, mcc::CCC22 | 220)
 }
 
 /// The place of the last mark of the first such three.

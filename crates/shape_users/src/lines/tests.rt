@@ -1,9 +1,10 @@
 //! Places of a cut in a letter with its accent and a letter behind it.
 use crate::lines::may_cut;
-use shape_buffer::buffer::{BufferClusterLevel, GlyphBuffer, GlyphId, UnicodeBuffer};
-use shape_buffer::interfaces::{MapFace, Metrics, NoLookups};
-use shape_pipeline::ot_shaper::DEFAULT_SHAPER;
 use shape_pipeline::shape::shape;
+use shape_pipeline::{
+    BufferClusterLevel, DEFAULT_SHAPER, GlyphBuffer, GlyphId, MapFace, Metrics, NoLookups,
+    UnicodeBuffer,
+};
 use shape_unicode::UnicodeDatabase;
 use std::alloc::Global;
 use std::test::Fail;

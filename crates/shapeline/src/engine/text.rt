@@ -76,11 +76,12 @@ pub(super) fn filled(
     requires { IsText (words_of words.rest.now) }
     ensures items { IfOk result (λ buffer. buffer.items
         ≡ items_from 0 (characters (words_of words.entry.rest.now))) }
-    ensures settings { IfOk result (λ buffer. record buffer { items = []; positions = [] } ≡ record new_buffer {
-      direction = manner.direction;
-      flags = manner.flags;
-      cluster_level = manner.level;
-    }) }
+    ensures settings { IfOk result (λ buffer. record buffer { items = []; positions = [] }
+        ≡ record new_buffer {
+          direction = manner.direction;
+          flags = manner.flags;
+          cluster_level = manner.level;
+        }) }
     ensures memory { IsOkUnless result ShapeError.Memory }
 {
     let mut buffer = UnicodeBuffer::new(alloc);

@@ -230,7 +230,8 @@ impl Expanded {
             (⟦<S as Runs<U, F, M>>⟧.rules plan.now face.now)
             invisible shortest self.old.scratch_flags info.now) }
         ensures within { OnOk result (vec_len self.new.infos ≤ limit) }
-        ensures length { result ≡ Err ShapeError.Length → limit < length (self.old.infos.items ++ expanded_item
+        ensures length { result ≡ Err ShapeError.Length
+            → limit < length (self.old.infos.items ++ expanded_item
             (⟦<S as Runs<U, F, M>>⟧.rules plan.now face.now) invisible shortest info.now) }
     {
         let room = limit - self.infos.len();

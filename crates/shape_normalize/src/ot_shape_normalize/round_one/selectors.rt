@@ -144,13 +144,16 @@ impl Expanded {
     ) -> Result<(), ShapeError>
         requires { vec_len self.old.infos ≤ limit_of buffer.now }
         ensures infos { OnOk result (self.new.infos.items ≡ self.old.infos.items
-            ++ flat_map (variant_items (F.face face.now) buffer.now.not_found_variation_selector_glyph) (variants U.unicode sequence.now)) }
+            ++ flat_map (variant_items (F.face face.now)
+            buffer.now.not_found_variation_selector_glyph) (variants U.unicode sequence.now)) }
         ensures flags { OnOk result (self.new.scratch_flags
             ≡ fold (seen_variant (F.face face.now)) self.old.scratch_flags
             (variants U.unicode sequence.now)) }
         ensures within { OnOk result (vec_len self.new.infos ≤ limit_of buffer.now) }
-        ensures length { result ≡ Err ShapeError.Length → limit_of buffer.now < length (self.old.infos.items
-            ++ flat_map (variant_items (F.face face.now) buffer.now.not_found_variation_selector_glyph) (variants U.unicode sequence.now)) }
+        ensures length { result ≡ Err ShapeError.Length
+            → limit_of buffer.now < length (self.old.infos.items
+            ++ flat_map (variant_items (F.face face.now)
+            buffer.now.not_found_variation_selector_glyph) (variants U.unicode sequence.now)) }
     {
         let not_found = buffer.not_found_variation_selector_glyph();
         let limit = buffer.length_limit();
