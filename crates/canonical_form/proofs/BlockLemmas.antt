@@ -7,10 +7,11 @@ use Rattle.canonical_form.specs.Order.{IsOrdered}
 use Rattle.canonical_form.specs.Recompose.{is_blocked, is_blocked_by_last, last_ccc, is_blocked_by_greatest, composed, recomposed_from, recomposed}
 use Rattle.canonical_form.proofs.EveryLemmas.{push_all}
 use Rattle.canonical_form.proofs.OptionLemmas.{cases_Option}
-use Rattle.canonical_form.proofs.RecomposeLemmas.{composed-some, recomposed_from-some, recomposed_from-starter, recomposed_from-mark}
+use Rattle.canonical_form.proofs.RecomposeLemmas.{by_steps, recomposed_from-some, recomposed_from-starter, recomposed_from-mark}
 
 module _ {A : Type 0} (ccc : A → ℕ) where
-  pub greatest_blocks : (ms : List A) (c : A) → AllByRecursion (λ m. 0 < ccc m) ms → is_blocked ccc ms c ≡ is_blocked_by_greatest ccc ms c
+  pub greatest_blocks : (ms : List A) (c : A) → AllByRecursion (λ m. 0 < ccc m) ms
+      → is_blocked ccc ms c ≡ is_blocked_by_greatest ccc ms c
   greatest_blocks [] c marks = refl
   greatest_blocks (m ∷ []) c marks = let mark = marks.0 in grind (arith, nat_tests)
   greatest_blocks (m ∷ n ∷ ms) c marks =
@@ -38,34 +39,31 @@ module _ {A : Type 0} (ccc : A → ℕ) where
       ap (λ b. (ccc m == 0 || nat_le (ccc c) (ccc m)) || b) (last_blocks (n ∷ ms) c rise.2) ∙ grind (arith, nat_tests)
 
 -- recomposing by two tests that agree wherever an invariant of the marks and the rest holds
-module _ {A : Type 0} (ccc : A → ℕ) (is_mark : A → Bool) (compose : A → A → Option A) (blocks blocks' : List A → A → Bool) (I : List A
-    → List A → Type 0) (agree : (ms : List A) (c : A) (rest : List A) → I ms (c ∷ rest)
-    → blocks ms c ≡ blocks' ms c) (joined : (ms : List A) (c : A) (rest : List A) → I ms (c ∷ rest) → blocks ms c ≡ false → I ms rest)
+module _ {A : Type 0} (ccc : A → ℕ) (is_mark : A → Bool) (compose : A → A → Option A) (blocks blocks' : List A → A → Bool)
+    (I : List A → List A → Type 0) (agree : (ms : List A) (c : A) (rest : List A) → I ms (c ∷ rest) → blocks ms c ≡ blocks' ms c)
+    (joined : (ms : List A) (c : A) (rest : List A) → I ms (c ∷ rest) → blocks ms c ≡ false → I ms rest)
     (started : (ms : List A) (c : A) (rest : List A) → I ms (c ∷ rest) → (ccc c == 0) ≡ true → I [] rest)
     (passed : (ms : List A) (c : A) (rest : List A) → I ms (c ∷ rest) → (ccc c == 0) ≡ false → I (ms ++ c ∷ []) rest) where
   same_recomposed : (s : A) (ms rest : List A) → I ms rest
       → recomposed_from ccc blocks is_mark compose s ms rest ≡ recomposed_from ccc blocks' is_mark compose s ms rest
-  same_recomposed s ms [] h = refl
-  same_recomposed s ms (c ∷ rest) h =
-      let other = ap (λ b. cond (is_mark c && not b) (compose s c) None) (sym (agree ms c rest h)) in
-      elim (cases_Option (composed ccc blocks is_mark compose s ms c)) [
-        | inr found ↦
-            let free = (composed-some ccc blocks is_mark compose s ms c found.0 found.1).0 in
-            recomposed_from-some ccc blocks is_mark compose s ms c rest found.0 found.1
-            ∙ same_recomposed found.0 ms rest (joined ms c rest h free)
-            ∙ sym (recomposed_from-some ccc blocks' is_mark compose s ms c rest found.0 (other ∙ found.1))
-        | inl none ↦
-            elim (cases_Bool (ccc c == 0)) [
-              | inl start ↦
-                  recomposed_from-starter ccc blocks is_mark compose s ms c rest none start
-                  ∙ ap (λ l. s ∷ ms ++ l) (same_recomposed c [] rest (started ms c rest h start))
-                  ∙ sym (recomposed_from-starter ccc blocks' is_mark compose s ms c rest (other ∙ none) start)
-              | inr mark ↦
-                  recomposed_from-mark ccc blocks is_mark compose s ms c rest none mark
-                  ∙ same_recomposed s (ms ++ c ∷ []) rest (passed ms c rest h mark)
-                  ∙ sym (recomposed_from-mark ccc blocks' is_mark compose s ms c rest (other ∙ none) mark)
-            ]
-      ]
+  same_recomposed =
+      by_steps ccc blocks is_mark compose (λ s ms rest out. I ms rest → out ≡ recomposed_from ccc blocks' is_mark compose s ms rest)
+      (record {
+        ends = λ s ms h. refl;
+        joins = λ s ms c d rest out found free made later h.
+            later (joined ms c rest h free) ∙ sym (recomposed_from-some ccc blocks' is_mark compose s ms c rest d
+            (other s ms c rest h ∙ found));
+        starts = λ s ms c rest out none start later h.
+            ap (λ l. s ∷ ms ++ l) (later (started ms c rest h start))
+            ∙ sym (recomposed_from-starter ccc blocks' is_mark compose s ms c rest (other s ms c rest h ∙ none) start);
+        passes = λ s ms c rest out none mark later h.
+            later (passed ms c rest h mark) ∙ sym (recomposed_from-mark ccc blocks' is_mark compose s ms c rest
+            (other s ms c rest h ∙ none) mark);
+      })
+    where
+      other : (s : A) (ms : List A) (c : A) (rest : List A) → I ms (c ∷ rest)
+          → composed ccc blocks' is_mark compose s ms c ≡ composed ccc blocks is_mark compose s ms c
+      other s ms c rest h = ap (λ b. cond (is_mark c && not b) (compose s c) None) (sym (agree ms c rest h))
 
 module _ {A : Type 0} (ccc : A → ℕ) (is_mark : A → Bool) (compose : A → A → Option A) where
   push_marks : (ms : List A) (c : A) → AllByRecursion (λ m. 0 < ccc m) ms → (ccc c == 0) ≡ false
@@ -77,7 +75,8 @@ module _ {A : Type 0} (ccc : A → ℕ) (is_mark : A → Bool) (compose : A → 
       → recomposed ccc (is_blocked ccc) is_mark compose xs ≡ recomposed ccc (is_blocked_by_greatest ccc) is_mark compose xs
   recomposed_by_greatest [] = refl
   recomposed_by_greatest (x ∷ xs) =
-      same_recomposed ccc is_mark compose (is_blocked ccc) (is_blocked_by_greatest ccc) (λ ms rest. AllByRecursion (λ m. 0 < ccc m) ms)
+      same_recomposed ccc is_mark compose (is_blocked ccc) (is_blocked_by_greatest ccc)
+      (λ ms rest. AllByRecursion (λ m. 0 < ccc m) ms)
       (λ ms c rest marks. greatest_blocks ccc ms c marks) (λ ms c rest marks free. marks) (λ ms c rest marks start. tt)
       (λ ms c rest marks mark. push_marks ms c marks mark)
       x [] xs tt

@@ -13,6 +13,7 @@ use Rattle.canonical_form.proofs.ExpansionLemmas.{expansion-suc, expansion-end, 
 use Rattle.canonical_form.proofs.ExpandedLemmas.{expanded-parts, expanded-plain}
 use Rattle.canonical_form.proofs.OptionLemmas.{cases_Option}
 use Rattle.canonical_form.specs.Chain.{FallsAlong, kept_part, full, full_text}
+use Rattle.canonical_form.specs.Decompositions.{Decompositions}
 use Rattle.canonical_form.specs.Choice.{IsGreatestSupported, IsLeastSupported, HasNoneSupported, HasGlyphOrIs}
 use Rattle.canonical_form.specs.Expanded.{expanded_text}
 use Rattle.canonical_form.specs.Expansion.{expansion, is_supported, supported, least_supported, greatest_supported, chosen_expansion, choice}
@@ -27,8 +28,8 @@ or_some None p x e = inr (refl, e)
 or_some (Some y) p x e = inl e
 
 -- an expansion that is supported, or else none
-if_supported : (has_glyph : ℕ → Bool) (o : Option (List ℕ)) (l : List ℕ) → (if is_supported has_glyph o then o else None) ≡ Some l
-    → (o ≡ Some l) × (list_all has_glyph l ≡ true)
+if_supported : (has_glyph : ℕ → Bool) (o : Option (List ℕ)) (l : List ℕ)
+    → (if is_supported has_glyph o then o else None) ≡ Some l → (o ≡ Some l) × (list_all has_glyph l ≡ true)
 if_supported has_glyph None l e = absurd (none-some l e)
 if_supported has_glyph (Some xs) l e =
     elim (cases_Bool (list_all has_glyph xs)) [
@@ -75,8 +76,14 @@ module _ (split : ℕ → Option (ℕ × ℕ)) (has_glyph : ℕ → Bool) where
       elim (or_some (at_length (suc n) c) (greatest_supported split has_glyph n c) l e) [
         | inl found ↦ (suc n, omega arith, omega arith, found, λ j above below. absurd (omega arith))
         | inr (none, later) ↦
-            let rest = greatest-some n c l later in
-            (rest.0, rest.1, omega (arith, rest.2), rest.3, λ j above below. next_none c n j none (λ lower. rest.4 j above lower) below)
+            let rest = greatest-some n c l later in (
+              rest.0,
+              rest.1,
+              omega (arith, rest.2),
+              rest.3,
+              λ j above below.
+                  next_none c n j none (λ lower. rest.4 j above lower) below,
+            )
       ]
 
   least-some : (n c : ℕ) (l : List ℕ) → least_supported split has_glyph n c ≡ Some l
@@ -100,46 +107,6 @@ module _ (split : ℕ → Option (ℕ × ℕ)) (has_glyph : ℕ → Bool) where
   none_at_length : (c k : ℕ) → at_length k c ≡ None → is_supported has_glyph (expansion split k c) ≡ false
   none_at_length c k e = if_unsupported has_glyph (expansion split k c) e
 
-  module _ (height : ℕ → ℕ) (falling : FallsAlong split height) where
-    none_past : (c k : ℕ) → height c < k → is_supported has_glyph (expansion split k c) ≡ false
-    none_past c k above = ap (is_supported has_glyph) (expansion-none split height falling k c above)
-
-    none_anywhere : (c : ℕ) → ((k : ℕ) → 0 < k → k ≤ height c → at_length k c ≡ None) → HasNoneSupported split has_glyph c
-    none_anywhere c none k above =
-        elim (cases_order k (height c)) [
-          | inl same ↦ none_at_length c k (none k above (omega arith))
-          | inr (inl below) ↦ none_at_length c k (none k above (omega arith))
-          | inr (inr past) ↦ none_past c k past
-        ]
-
-    pub greatest_none : (c : ℕ) → greatest_supported split has_glyph (height c) c ≡ None → HasNoneSupported split has_glyph c
-    greatest_none c e = none_anywhere c (λ k above below. greatest-none (height c) c k e above below)
-
-    pub least_none : (c : ℕ) → least_supported split has_glyph (height c) c ≡ None → HasNoneSupported split has_glyph c
-    least_none c e = none_anywhere c (λ k above below. least-none (height c) c k e above below)
-
-    pub greatest_found : (c : ℕ) (l : List ℕ) → greatest_supported split has_glyph (height c) c ≡ Some l
-        → IsGreatestSupported split has_glyph c l
-    greatest_found c l e =
-        let at = greatest-some (height c) c l e in
-        let found = found_at_length c at.0 l at.3 in
-        record {
-          length = at.0;
-          above = at.1;
-          is = found.0;
-          supported = found.1;
-          none_longer = λ k longer. beyond at.0 at.4 k longer;
-        }
-      where
-        beyond : (n : ℕ) → ((j : ℕ) → n < j → j ≤ height c → at_length j c ≡ None) → (k : ℕ) → n < k
-            → is_supported has_glyph (expansion split k c) ≡ false
-        beyond n none k longer =
-            elim (cases_order k (height c)) [
-              | inl same ↦ none_at_length c k (none k longer (omega arith))
-              | inr (inl below) ↦ none_at_length c k (none k longer (omega arith))
-              | inr (inr past) ↦ none_past c k past
-            ]
-
   pub least_found : (n c : ℕ) (l : List ℕ) → least_supported split has_glyph n c ≡ Some l → IsLeastSupported split has_glyph c l
   least_found n c l e =
       let at = least-some n c l e in
@@ -152,13 +119,74 @@ module _ (split : ℕ → Option (ℕ × ℕ)) (has_glyph : ℕ → Bool) where
         none_shorter = λ k above shorter. none_at_length c k (at.4 k above shorter);
       }
 
-  -- ---- what a choice is made of
+module _ (D : Decompositions) (has_glyph : ℕ → Bool) (falling : FallsAlong D.split D.height) where
+  none_past : (c k : ℕ) → D.height c < k → is_supported has_glyph (expansion D.split k c) ≡ false
+  none_past c k above = ap (is_supported has_glyph) (expansion-none D falling k c above)
 
-  greatest_glyphs : (n c : ℕ) (l : List ℕ) → greatest_supported split has_glyph n c ≡ Some l → list_all has_glyph l ≡ true
-  greatest_glyphs n c l e = let at = greatest-some n c l e in (if_supported has_glyph (expansion split at.0 c) l at.3).1
+  none_anywhere : (c : ℕ) → ((k : ℕ) → 0 < k → k ≤ D.height c → at_length D.split has_glyph k c ≡ None)
+      → HasNoneSupported D.split has_glyph c
+  none_anywhere c none k above =
+      elim (cases_order k (D.height c)) [
+        | inl same ↦ none_at_length D.split has_glyph c k (none k above (omega arith))
+        | inr (inl below) ↦ none_at_length D.split has_glyph c k (none k above (omega arith))
+        | inr (inr past) ↦ none_past c k past
+      ]
 
-  least_glyphs : (n c : ℕ) (l : List ℕ) → least_supported split has_glyph n c ≡ Some l → list_all has_glyph l ≡ true
-  least_glyphs n c l e = let at = least-some n c l e in (if_supported has_glyph (expansion split at.0 c) l at.3).1
+  pub greatest_none : (c : ℕ) → greatest_supported D.split has_glyph (D.height c) c ≡ None → HasNoneSupported D.split has_glyph c
+  greatest_none c e = none_anywhere c (λ k above below. greatest-none D.split has_glyph (D.height c) c k e above below)
+
+  pub least_none : (c : ℕ) → least_supported D.split has_glyph (D.height c) c ≡ None → HasNoneSupported D.split has_glyph c
+  least_none c e = none_anywhere c (λ k above below. least-none D.split has_glyph (D.height c) c k e above below)
+
+  pub greatest_found : (c : ℕ) (l : List ℕ) → greatest_supported D.split has_glyph (D.height c) c ≡ Some l
+      → IsGreatestSupported D.split has_glyph c l
+  greatest_found c l e =
+      let at = greatest-some D.split has_glyph (D.height c) c l e in
+      let found = found_at_length D.split has_glyph c at.0 l at.3 in
+      record {
+        length = at.0;
+        above = at.1;
+        is = found.0;
+        supported = found.1;
+        none_longer = λ k longer. beyond at.0 at.4 k longer;
+      }
+    where
+      beyond : (n : ℕ) → ((j : ℕ) → n < j → j ≤ D.height c → at_length D.split has_glyph j c ≡ None) → (k : ℕ) → n < k
+          → is_supported has_glyph (expansion D.split k c) ≡ false
+      beyond n none k longer =
+          elim (cases_order k (D.height c)) [
+            | inl same ↦ none_at_length D.split has_glyph c k (none k longer (omega arith))
+            | inr (inl below) ↦ none_at_length D.split has_glyph c k (none k longer (omega arith))
+            | inr (inr past) ↦ none_past c k past
+          ]
+
+-- ---- what a choice is made of
+
+-- a choice is the character itself or an expansion
+abbrev pub IsSomeExpansion : (ℕ → Option (ℕ × ℕ)) → ℕ → List ℕ → Type 0
+IsSomeExpansion split c l = (k : ℕ) × (expansion split k c ≡ Some l)
+
+module _ (D : Decompositions) (has_glyph : ℕ → Bool) where
+  -- what is chosen is an expansion of some length, each of whose characters has a glyph
+  chosen_expands : (short : Bool) (c : ℕ) (l : List ℕ) → chosen_expansion D has_glyph short c ≡ Some l
+      → (k : ℕ) × (expansion D.split k c ≡ Some l) × (list_all has_glyph l ≡ true)
+  chosen_expands false c l e =
+      let at = greatest-some D.split has_glyph (D.height c) c l e in
+      let found = if_supported has_glyph (expansion D.split at.0 c) l at.3 in
+      (at.0, found.0, found.1)
+  chosen_expands true c l e =
+      elim (cases_Bool (has_glyph c)) [
+        | inl whole ↦ absurd (none-some l (sym (cond-true _ None (least_supported D.split has_glyph (D.height c) c) whole) ∙ e))
+        | inr lacks ↦
+            let least = sym (cond-false _ None (least_supported D.split has_glyph (D.height c) c) lacks) ∙ e in
+            let at = least-some D.split has_glyph (D.height c) c l least in
+            let found = if_supported has_glyph (expansion D.split at.0 c) l at.3 in
+            (at.0, found.0, found.1)
+      ]
+
+  pub chosen_glyphs : (short : Bool) (c : ℕ) (l : List ℕ) → chosen_expansion D has_glyph short c ≡ Some l
+      → list_all has_glyph l ≡ true
+  chosen_glyphs short c l e = (chosen_expands short c l e).2
 
   itself_glyphs : (c : ℕ) → All (HasGlyphOrIs has_glyph c) (c ∷ [])
   itself_glyphs c = All-push (HasGlyphOrIs has_glyph c) [] c (All-nil (HasGlyphOrIs has_glyph c)) (inr refl)
@@ -168,137 +196,104 @@ module _ (split : ℕ → Option (ℕ × ℕ)) (has_glyph : ℕ → Bool) where
   or_itself_glyphs c None glyphs = itself_glyphs c
   or_itself_glyphs c (Some l) glyphs = λ k d h. inl (AllPass-from_list_all has_glyph l (glyphs l refl) k d h)
 
-  -- what is chosen is found by one of the two searches
-  chosen_by : (height : ℕ → ℕ) (short : Bool) (c : ℕ) (l : List ℕ) → chosen_expansion split height has_glyph short c ≡ Some l
-      → (greatest_supported split has_glyph (height c) c ≡ Some l) ⊎ (least_supported split has_glyph (height c) c ≡ Some l)
-  chosen_by height false c l e = inl e
-  chosen_by height true c l e =
-      elim (cases_Bool (has_glyph c)) [
-        | inl whole ↦ absurd (none-some l (sym (cond-true _ None (least_supported split has_glyph (height c) c) whole) ∙ e))
-        | inr lacks ↦ inr (sym (cond-false _ None (least_supported split has_glyph (height c) c) lacks) ∙ e)
-      ]
-
-  pub chosen_glyphs : (height : ℕ → ℕ) (short : Bool) (c : ℕ) (l : List ℕ) → chosen_expansion split height has_glyph short c ≡ Some l
-      → list_all has_glyph l ≡ true
-  chosen_glyphs height short c l e =
-      elim (chosen_by height short c l e) [
-        | inl longest ↦ greatest_glyphs (height c) c l longest
-        | inr shortest ↦ least_glyphs
-            (height c) c l shortest
-      ]
-
   -- each character of a choice is the character itself or has a glyph
-  pub choice_glyphs : (height : ℕ → ℕ) (short : Bool) (c : ℕ) → All (HasGlyphOrIs has_glyph c) (choice split height has_glyph short c)
-  choice_glyphs height short c =
-      or_itself_glyphs c (chosen_expansion split height has_glyph short c) (λ l e. chosen_glyphs height short c l e)
+  pub choice_glyphs : (short : Bool) (c : ℕ) → All (HasGlyphOrIs has_glyph c) (choice D has_glyph short c)
+  choice_glyphs short c = or_itself_glyphs c (chosen_expansion D has_glyph short c) (λ l e. chosen_glyphs short c l e)
 
-  -- a choice is the character itself or an expansion
-  abbrev pub IsSomeExpansion : ℕ → List ℕ → Type 0
-  IsSomeExpansion c l = (k : ℕ) × (expansion split k c ≡ Some l)
-
-  or_itself_expansion : (c : ℕ) (o : Option (List ℕ)) → ((l : List ℕ) → o ≡ Some l → IsSomeExpansion c l)
-      → IsSomeExpansion c (unwrap_or o (c ∷ []))
+  or_itself_expansion : (c : ℕ) (o : Option (List ℕ)) → ((l : List ℕ) → o ≡ Some l → IsSomeExpansion D.split c l)
+      → IsSomeExpansion D.split c (unwrap_or o (c ∷ []))
   or_itself_expansion c None found = (0, refl)
   or_itself_expansion c (Some l) found = found l refl
 
-  chosen_is_expansion : (height : ℕ → ℕ) (short : Bool) (c : ℕ) (l : List ℕ) → chosen_expansion split height has_glyph short c ≡ Some l
-      → IsSomeExpansion c l
-  chosen_is_expansion height short c l e =
-      elim (chosen_by height short c l e) [
-        | inl longest ↦ let at = greatest-some (height c) c l longest in (at.0, (if_supported has_glyph (expansion split at.0 c) l at.3).0)
-        | inr shortest ↦ let at = least-some (height c) c l shortest in (at.0, (if_supported has_glyph (expansion split at.0 c) l at.3).0)
-      ]
-
-  pub choice_expansion : (height : ℕ → ℕ) (short : Bool) (c : ℕ) → IsSomeExpansion c (choice split height has_glyph short c)
-  choice_expansion height short c =
-      or_itself_expansion c (chosen_expansion split height has_glyph short c) (λ l e. chosen_is_expansion height short c l e)
+  pub choice_expansion : (short : Bool) (c : ℕ) → IsSomeExpansion D.split c (choice D has_glyph short c)
+  choice_expansion short c =
+      or_itself_expansion c (chosen_expansion D has_glyph short c) (λ l e. let at = chosen_expands short c l e in (at.0, at.1))
 
 -- ---- Full
 
-module _ (split : ℕ → Option (ℕ × ℕ)) (height ccc : ℕ → ℕ) (lawful : SplitsFall split height ccc) where
+module _ (D : Decompositions) (lawful : SplitsFall D) where
   -- Full of an expansion of c is Full of c
-  pub full_text-expansion : (k c : ℕ) (l : List ℕ) → expansion split k c ≡ Some l → full_text split height l ≡ full split height c
+  pub full_text-expansion : (k c : ℕ) (l : List ℕ) → expansion D.split k c ≡ Some l → full_text D l ≡ full D c
   unfolding full_text
   full_text-expansion zero c l e =
       let same : c ∷ [] ≡ l = cc in
-      ap (flat_map (full split height)) (sym same) ∙ append-nil (full split height c)
-  full_text-expansion (suc k) c l e = outer (split c) refl (λ a parts found. full_text-expansion k a parts found)
+      ap (flat_map (full D)) (sym same) ∙ append-nil (full D c)
+  full_text-expansion (suc k) c l e = outer (D.split c) refl (λ a parts found. full_text-expansion k a parts found)
     where
-      inner : (a b : ℕ) → split c ≡ Some (a, b) → (o : Option (List ℕ)) → expansion split k a ≡ o
+      inner : (a b : ℕ) → D.split c ≡ Some (a, b) → (o : Option (List ℕ)) → expansion D.split k a ≡ o
           → option_map (λ xs. xs ++ kept_part b) o ≡ Some l
-          → ((parts : List ℕ) → expansion split k a ≡ Some parts → flat_map (full split height) parts ≡ full split height a)
-          → flat_map (full split height) l ≡ full split height c
+          → ((parts : List ℕ) → expansion D.split k a ≡ Some parts → flat_map (full D) parts ≡ full D a)
+          → flat_map (full D) l ≡ full D c
       inner a b splits None found none later = absurd (none-some l none)
       inner a b splits (Some parts) found some later =
           let same : parts ++ kept_part b ≡ l = cc in
-          ap (flat_map (full split height)) (sym same) ∙ flat_map-append (full split height) parts (kept_part b)
-          ∙ ap₂ ◌++◌ (later parts found) (full_text-kept_part split height ccc lawful c a b splits)
-          ∙ sym (full-splits split height lawful.height_falls c a b splits)
+          ap (flat_map (full D)) (sym same) ∙ flat_map-append (full D) parts (kept_part b)
+          ∙ ap₂ ◌++◌ (later parts found) (full_text-kept_part D lawful c a b splits)
+          ∙ sym (full-splits D lawful.height_falls c a b splits)
 
-      outer : (o : Option (ℕ × ℕ)) → split c ≡ o
-          → ((a : ℕ) (parts : List ℕ) → expansion split k a ≡ Some parts → flat_map (full split height) parts ≡ full split height a)
-          → flat_map (full split height) l ≡ full split height c
-      outer None whole later = absurd (none-some l (sym (expansion-end split k c whole) ∙ e))
+      outer : (o : Option (ℕ × ℕ)) → D.split c ≡ o
+          → ((a : ℕ) (parts : List ℕ) → expansion D.split k a ≡ Some parts → flat_map (full D) parts ≡ full D a)
+          → flat_map (full D) l ≡ full D c
+      outer None whole later = absurd (none-some l (sym (expansion-end D.split k c whole) ∙ e))
       outer (Some p) splits later =
-          inner p.0 p.1 splits (expansion split k p.0) refl (sym (expansion-suc split k c p.0 p.1 splits) ∙ e)
+          inner p.0 p.1 splits (expansion D.split k p.0) refl (sym (expansion-suc D.split k c p.0 p.1 splits) ∙ e)
           (λ parts found. later p.0 parts found)
 
   -- a choice keeps Full
-  pub full_text-choice : (has_glyph : ℕ → Bool) (short : Bool) (c : ℕ)
-      → full_text split height (choice split height has_glyph short c) ≡ full split height c
+  pub full_text-choice : (has_glyph : ℕ → Bool) (short : Bool) (c : ℕ) → full_text D (choice D has_glyph short c) ≡ full D c
   full_text-choice has_glyph short c =
-      let at = choice_expansion split has_glyph height short c in
+      let at = choice_expansion D has_glyph short c in
       full_text-expansion at.0 c _ at.1
 
   -- so do the choices of a text, in clusters and out of them
   pub full_text-expanded : (has_glyph is_mark : ℕ → Bool) (short : Bool → Bool) (text : List ℕ)
-      → full_text split height (expanded_text split height has_glyph is_mark short text) ≡ full_text split height text
+      → full_text D (expanded_text D has_glyph is_mark short text) ≡ full_text D text
   unfolding full_text
   full_text-expanded has_glyph is_mark short text =
-      expanded-parts is_mark (λ with_marks. choice split height has_glyph (short with_marks)) (full split height) (full split height)
+      expanded-parts is_mark (λ with_marks. choice D has_glyph (short with_marks)) (full D) (full D)
       (λ with_marks c. full_text-choice has_glyph (short with_marks) c) text
 
 -- ---- with a glyph for all of Full
 
-module _ (split : ℕ → Option (ℕ × ℕ)) (height : ℕ → ℕ) (falling : FallsAlong split height) where
+module _ (D : Decompositions) (falling : FallsAlong D.split D.height) where
   -- the chain of c ends: at some length the expansion is Full, and none is longer
   pub record EndsAt (c n : ℕ) : Type 0 where
-    pub within : n ≤ height c
-    pub whole : expansion split n c ≡ Some (full split height c)
-    pub none_longer : (j : ℕ) → n < j → expansion split j c ≡ None
+    pub within : n ≤ D.height c
+    pub whole : expansion D.split n c ≡ Some (full D c)
+    pub none_longer : (j : ℕ) → n < j → expansion D.split j c ≡ None
 
-  end_here : (c : ℕ) → split c ≡ None → (j : ℕ) → 0 < j → expansion split j c ≡ None
+  end_here : (c : ℕ) → D.split c ≡ None → (j : ℕ) → 0 < j → expansion D.split j c ≡ None
   end_here c last zero above = absurd (omega arith)
-  end_here c last (suc j) above = expansion-end split j c last
+  end_here c last (suc j) above = expansion-end D.split j c last
 
-  ends_whole : (c : ℕ) → split c ≡ None → (n : ℕ) × EndsAt c n
+  ends_whole : (c : ℕ) → D.split c ≡ None → (n : ℕ) × EndsAt c n
   ends_whole c last =
-      (0, record { within = omega arith; whole = ap Some (sym (full-stays split height falling c last)); none_longer = end_here c last })
+      (0, record { within = omega arith; whole = ap Some (sym (full-stays D falling c last)); none_longer = end_here c last })
 
-  ends_later : (c a b n : ℕ) → split c ≡ Some (a, b) → EndsAt a n → EndsAt c (suc n)
+  ends_later : (c a b n : ℕ) → D.split c ≡ Some (a, b) → EndsAt a n → EndsAt c (suc n)
   ends_later c a b n splits end =
       let falls = falling.falls c a b splits in
       record {
         within = omega (arith, end.within);
         whole =
-            expansion-suc split n c a b splits ∙ ap (option_map (λ parts. parts ++ kept_part b)) end.whole
-            ∙ ap Some (sym (full-splits split height falling c a b splits));
+            expansion-suc D.split n c a b splits ∙ ap (option_map (λ parts. parts ++ kept_part b)) end.whole
+            ∙ ap Some (sym (full-splits D falling c a b splits));
         none_longer = λ j above. longer j above;
       }
     where
-      longer : (j : ℕ) → suc n < j → expansion split j c ≡ None
+      longer : (j : ℕ) → suc n < j → expansion D.split j c ≡ None
       longer zero above = absurd (omega arith)
       longer (suc j) above =
-          expansion-suc split j c a b splits ∙ ap (option_map (λ parts. parts ++ kept_part b)) (end.none_longer j (omega arith))
+          expansion-suc D.split j c a b splits ∙ ap (option_map (λ parts. parts ++ kept_part b)) (end.none_longer j (omega arith))
 
-  pub chain_end : (m c : ℕ) → height c ≤ m → (n : ℕ) × EndsAt c n
-  chain_end zero c low = go (split c) refl
+  pub chain_end : (m c : ℕ) → D.height c ≤ m → (n : ℕ) × EndsAt c n
+  chain_end zero c low = go (D.split c) refl
     where
-      go : (o : Option (ℕ × ℕ)) → split c ≡ o → (n : ℕ) × EndsAt c n
+      go : (o : Option (ℕ × ℕ)) → D.split c ≡ o → (n : ℕ) × EndsAt c n
       go None e = ends_whole c e
       go (Some p) e = absurd (omega (arith, falling.falls c p.0 p.1 e))
   chain_end (suc m) c low =
-      elim (cases_Option (split c)) [
+      elim (cases_Option (D.split c)) [
         | inl last ↦ ends_whole c last
         | inr (p, splits) ↦
             let falls = falling.falls c p.0 p.1 splits in
@@ -306,49 +301,47 @@ module _ (split : ℕ → Option (ℕ × ℕ)) (height : ℕ → ℕ) (falling :
             (suc rest.0, ends_later c p.0 p.1 rest.0 splits rest.1)
       ]
 
-  at_end : (has_glyph : ℕ → Bool) (c n : ℕ) → EndsAt c n → list_all has_glyph (full split height c) ≡ true → (o : Option (List ℕ))
-      → greatest_supported split has_glyph (height c) c ≡ o → unwrap_or o (c ∷ []) ≡ full split height c
+  at_end : (has_glyph : ℕ → Bool) (c n : ℕ) → EndsAt c n → list_all has_glyph (full D c) ≡ true → (o : Option (List ℕ))
+      → greatest_supported D.split has_glyph (D.height c) c ≡ o → unwrap_or o (c ∷ []) ≡ full D c
   at_end has_glyph c n end glyphs None e =
-      let pass : is_supported has_glyph (expansion split n c) ≡ true = ap (is_supported has_glyph) end.whole ∙ glyphs in
+      let pass : is_supported has_glyph (expansion D.split n c) ≡ true = ap (is_supported has_glyph) end.whole ∙ glyphs in
       let last : n ≡ 0 =
       elim (cases_eq n 0) [
         | inl null ↦ null
         | inr long ↦ absurd
-            (both_ways _ (greatest_none split has_glyph height falling c e n (omega arith)) pass)
+            (both_ways _ (greatest_none D has_glyph falling c e n (omega arith)) pass)
       ] in
-      let itself : Some (c ∷ []) ≡ Some (full split height c) = ap (λ k. expansion split k c) (sym last) ∙ end.whole in
+      let itself : Some (c ∷ []) ≡ Some (full D c) = ap (λ k. expansion D.split k c) (sym last) ∙ end.whole in
       cc
   at_end has_glyph c n end glyphs (Some l) e =
-      let pass : is_supported has_glyph (expansion split n c) ≡ true = ap (is_supported has_glyph) end.whole ∙ glyphs in
-      let found = greatest_found split has_glyph height falling c l e in
+      let pass : is_supported has_glyph (expansion D.split n c) ≡ true = ap (is_supported has_glyph) end.whole ∙ glyphs in
+      let found = greatest_found D has_glyph falling c l e in
       let same : found.length ≡ n =
       elim (cases_order found.length n) [
         | inl same ↦ same
         | inr (inl shorter) ↦ absurd (both_ways _ (found.none_longer n shorter) pass)
         | inr (inr longer) ↦ absurd (none-some l (sym (end.none_longer found.length longer) ∙ found.is))
       ] in
-      let whole : Some l ≡ Some (full split height c) = sym found.is ∙ ap (λ k. expansion split k c) same ∙ end.whole in
+      let whole : Some l ≡ Some (full D c) = sym found.is ∙ ap (λ k. expansion D.split k c) same ∙ end.whole in
       cc
 
   -- with a glyph for each character of Full of c, the choice of greatest length is Full of c
-  pub choice-full : (has_glyph : ℕ → Bool) (c : ℕ) → list_all has_glyph (full split height c) ≡ true
-      → choice split height has_glyph false c ≡ full split height c
+  pub choice-full : (has_glyph : ℕ → Bool) (c : ℕ) → list_all has_glyph (full D c) ≡ true → choice D has_glyph false c ≡ full D c
   choice-full has_glyph c glyphs =
-      let end = chain_end (height c) c (omega arith) in
-      at_end has_glyph c end.0 end.1 glyphs (greatest_supported split has_glyph (height c) c) refl
+      let end = chain_end (D.height c) c (omega arith) in
+      at_end has_glyph c end.0 end.1 glyphs (greatest_supported D.split has_glyph (D.height c) c) refl
 
   -- and of a text, Full of the text
-  choices-full : (has_glyph : ℕ → Bool) (text : List ℕ) → list_all has_glyph (full_text split height text) ≡ true
-      → flat_map (choice split height has_glyph false) text ≡ full_text split height text
+  choices-full : (has_glyph : ℕ → Bool) (text : List ℕ) → list_all has_glyph (full_text D text) ≡ true
+      → flat_map (choice D has_glyph false) text ≡ full_text D text
   unfolding full_text
   choices-full has_glyph [] glyphs = refl
   choices-full has_glyph (c ∷ text) glyphs =
-      let parts = and_parts _ _ (sym (list_all-append has_glyph (full split height c) (flat_map (full split height) text)) ∙ glyphs) in
+      let parts = and_parts _ _ (sym (list_all-append has_glyph (full D c) (flat_map (full D) text)) ∙ glyphs) in
       ap₂ ◌++◌ (choice-full has_glyph c parts.0) (choices-full has_glyph text parts.1)
 
-  pub expanded-full : (has_glyph is_mark : ℕ → Bool) (text : List ℕ) → list_all has_glyph (full_text split height text) ≡ true
-      → expanded_text split height has_glyph is_mark (λ with_marks. false) text ≡ full_text split height text
+  pub expanded-full : (has_glyph is_mark : ℕ → Bool) (text : List ℕ) → list_all has_glyph (full_text D text) ≡ true
+      → expanded_text D has_glyph is_mark (λ with_marks. false) text ≡ full_text D text
   expanded-full has_glyph is_mark text glyphs =
-      expanded-plain is_mark (λ with_marks. choice split height has_glyph false) (choice split height has_glyph false)
-      (λ with_marks c. refl) text
+      expanded-plain is_mark (λ with_marks. choice D has_glyph false) (choice D has_glyph false) (λ with_marks c. refl) text
       ∙ choices-full has_glyph text glyphs

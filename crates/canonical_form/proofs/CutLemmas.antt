@@ -14,8 +14,8 @@ module _ {A : Type 0} (ccc : A → ℕ) (limit : ℕ) (blocks : List A → A →
       elim (cases_item ccc limit [] c rest new h) [
         | inl (start, parts) ↦ (
           parts.rest,
-          parts.is
-              ∙ ap (λ run. run ++ c ∷ parts.rest) (Swaps-nil ccc limit (IsSettled-swaps ccc limit [] parts.run parts.settled)),
+          parts.is ∙ ap (λ run. run ++ c ∷ parts.rest)
+              (Swaps-nil ccc limit (IsSettled-swaps ccc limit [] parts.run parts.settled)),
         )
         | inr (mark, later) ↦ absurd (both_ways _ mark starts)
       ]
@@ -24,7 +24,7 @@ module _ {A : Type 0} (ccc : A → ℕ) (limit : ℕ) (blocks : List A → A →
       → recomposed ccc blocks is_mark compose (xs ++ c ∷ ys)
       ≡ recomposed ccc blocks is_mark compose xs ++ recomposed ccc blocks is_mark compose (c ∷ ys)
   recomposed-append [] c ys unmarked start = refl
-  recomposed-append (x ∷ xs) c ys unmarked start = recomposed_from-append ccc blocks is_mark compose x [] xs c ys unmarked start
+  recomposed-append (x ∷ xs) c ys unmarked start = recomposed_from-append ccc blocks is_mark compose c ys unmarked start x [] xs
 
   pub cut : (front back : List A) (c : A) (rest new new' : List A) → back ≡ c ∷ rest → is_mark c ≡ false → (ccc c == 0) ≡ true
       → AreRunsSettled ccc limit [] front new → AreRunsSettled ccc limit [] back new'

@@ -3,6 +3,7 @@ use Rattle.std.proofs.Common.{◌≡◌, ◌≢◌, ℕ, ◌<◌, List, [], ◌�
 use Rattle.std.proofs.lemmas.List.Elements.{All-head, All-tail}
 use Rattle.std.specs.List.{All, AllByRecursion}
 use Rattle.canonical_form.specs.Chain.{FallsAlong, full_text}
+use Rattle.canonical_form.specs.Decompositions.{Decompositions}
 use Rattle.canonical_form.specs.Equivalent.{IsEquivalent, IsCanonical}
 use Rattle.canonical_form.specs.Order.{IsSwap, here, behind, Swaps, done, then}
 use Rattle.canonical_form.proofs.ChainLemmas.{full-stays}
@@ -33,7 +34,8 @@ module _ {A B : Type 0} (IsItem : A → Type 0) (ccc : A → ℕ) (ccc_of_part :
   items-swap (here x y rest mark_x mark_y distinct) items = (items.1.0, (items.0, items.1.1))
   items-swap (behind x s) items = (items.0, items-swap s items.1)
 
-  parts-swap : {xs ys : List A} → IsSwap ccc xs ys → AllByRecursion IsItem xs → Swaps ccc_of_part (flat_map parts xs) (flat_map parts ys)
+  parts-swap : {xs ys : List A} → IsSwap ccc xs ys → AllByRecursion IsItem xs
+      → Swaps ccc_of_part (flat_map parts xs) (flat_map parts ys)
   parts-swap (here x y rest mark_x mark_y distinct) items =
       no_swap (sym (append_assoc (parts x) (parts y) (flat_map parts rest)))
       ⟫ Swaps-before (flat_map parts rest) (past_mark x y items.0 items.1.0 mark_x mark_y distinct)
@@ -46,18 +48,17 @@ module _ {A B : Type 0} (IsItem : A → Type 0) (ccc : A → ℕ) (ccc_of_part :
   parts-swaps done items = done
   parts-swaps (then s rest) items = parts-swap s items ⟫ parts-swaps rest (items-swap s items)
 
-module _ (split : ℕ → Option (ℕ × ℕ)) (height : ℕ → ℕ) (falling : FallsAlong split height) where
+module _ (D : Decompositions) (falling : FallsAlong D.split D.height) where
   -- a list in which nothing splits is its own Full
-  pub full_text-whole : (text : List ℕ) → All (λ c. split c ≡ None) text → full_text split height text ≡ text
+  pub full_text-whole : (text : List ℕ) → All (λ c. D.split c ≡ None) text → full_text D text ≡ text
   unfolding full_text
   full_text-whole [] whole = refl
   full_text-whole (c ∷ text) whole =
-      ap₂ ◌++◌ (full-stays split height falling c (All-head (λ c. split c ≡ None) c text whole))
-      (full_text-whole text (All-tail (λ c. split c ≡ None) c text whole))
+      ap₂ ◌++◌ (full-stays D falling c (All-head (λ c. D.split c ≡ None) c text whole))
+      (full_text-whole text (All-tail (λ c. D.split c ≡ None) c text whole))
 
   -- no two different canonical lists are equivalent
-  pub canonical_equal : (ccc : ℕ → ℕ) (s t : List ℕ) → IsCanonical split ccc s → IsCanonical split ccc t → IsEquivalent split height ccc s t
-      → s ≡ t
-  canonical_equal ccc s t form_s form_t swaps =
-      canonical_unique ccc s t form_s.ordered form_t.ordered
+  pub canonical_equal : (s t : List ℕ) → IsCanonical D s → IsCanonical D t → IsEquivalent D s t → s ≡ t
+  canonical_equal s t form_s form_t swaps =
+      canonical_unique D.ccc s t form_s.ordered form_t.ordered
       (no_swap (sym (full_text-whole s form_s.whole)) ⟫ swaps ⟫ no_swap (full_text-whole t form_t.whole))

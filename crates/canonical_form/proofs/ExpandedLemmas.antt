@@ -13,8 +13,8 @@ module _ {A B : Type 0} (is_mark : A → Bool) (become : Bool → A → List B) 
   expanded_from-plain by_itself same first (x ∷ xs) =
       ap₂ ◌++◌ (same ((is_mark x && not first) || begins_with_mark is_mark xs) x) (expanded_from-plain by_itself same false xs)
 
-  pub expanded-plain : (by_itself : A → List B) → ((with_marks : Bool) (x : A) → become with_marks x ≡ by_itself x) → (xs : List A)
-      → expanded_in_sequences is_mark become xs ≡ flat_map by_itself xs
+  pub expanded-plain : (by_itself : A → List B) → ((with_marks : Bool) (x : A) → become with_marks x ≡ by_itself x)
+      → (xs : List A) → expanded_in_sequences is_mark become xs ≡ flat_map by_itself xs
   expanded-plain by_itself same xs = expanded_from-plain by_itself same true xs
 
   -- what the parts of each item are kept as, those of the list are
@@ -46,16 +46,18 @@ module _ {A B : Type 0} (is_mark : A → Bool) (become : Bool → A → List B) 
   begins_alike x (z ∷ xs) ys none = refl
 
   cut_from : (first : Bool) (xs ys : List A) → begins_with_mark is_mark ys ≡ false
-      → expanded_from is_mark become first (xs ++ ys) ≡ expanded_from is_mark become first xs ++ expanded_from is_mark become true ys
+      → expanded_from is_mark become first (xs ++ ys)
+      ≡ expanded_from is_mark become first xs ++ expanded_from is_mark become true ys
   cut_from first [] ys none = first_alike ys none first
   cut_from first (x ∷ xs) ys none =
       ap₂ (λ t rest. become ((is_mark x && not first) || t) x ++ rest) (begins_alike x xs ys none) (cut_from false xs ys none)
-      ∙ sym (append_assoc (become ((is_mark x && not first) || begins_with_mark is_mark xs) x) (expanded_from is_mark become false xs)
-      (expanded_from is_mark become true ys))
+      ∙ sym (append_assoc (become ((is_mark x && not first) || begins_with_mark is_mark xs) x)
+      (expanded_from is_mark become false xs) (expanded_from is_mark become true ys))
 
   -- before an item that is no mark the list may be cut, and its parts expanded each by itself
   pub expanded-cut : (xs ys : List A) → begins_with_mark is_mark ys ≡ false
-      → expanded_in_sequences is_mark become (xs ++ ys) ≡ expanded_in_sequences is_mark become xs ++ expanded_in_sequences is_mark become ys
+      → expanded_in_sequences is_mark become (xs ++ ys)
+      ≡ expanded_in_sequences is_mark become xs ++ expanded_in_sequences is_mark become ys
   expanded-cut xs ys none = cut_from true xs ys none
 
 -- from items to their characters: where the marks and what an item becomes agree, so does the expanded list
@@ -73,7 +75,8 @@ module _ {A B C D : Type 0} (IsItem : A → Type 0) (f : A → C) (g : B → D) 
       let flag = (is_mark x && not first) || begins_with_mark is_mark xs in
       map-append g (become flag x) (expanded_from is_mark become false xs)
       ∙ ap₂ ◌++◌
-      (becomes flag x items.0 ∙ ap₂ (λ s t. become' ((s && not first) || t) (f x)) (sym (marks x items.0)) (sym (begins-map xs items.1)))
+      (becomes flag x items.0 ∙ ap₂ (λ s t. become' ((s && not first) || t) (f x)) (sym (marks x items.0))
+      (sym (begins-map xs items.1)))
       (expanded_from-map false xs items.1)
 
   pub expanded-map : (xs : List A) → AllByRecursion IsItem xs

@@ -5,6 +5,7 @@ use Rattle.std.specs.List.{list_all}
 use Rattle.std.specs.Option.{option_map, option_map_or, option_and_then, option_or}
 use Rattle.canonical_form.proofs.OptionLemmas.{option_or-none, option_or-assoc}
 use Rattle.canonical_form.specs.Chain.{FallsAlong, kept_part, chain_point, second_part}
+use Rattle.canonical_form.specs.Decompositions.{Decompositions}
 use Rattle.canonical_form.specs.Expansion.{seconds, expansion, is_supported, supported, least_supported, greatest_supported}
 
 module _ (split : ℕ → Option (ℕ × ℕ)) where
@@ -21,10 +22,12 @@ module _ (split : ℕ → Option (ℕ × ℕ)) where
   chain_point-end (suc k) c e = ap (option_and_then next_point) (chain_point-end k c e)
 
   pub seconds-suc : (k c a b : ℕ) → split c ≡ Some (a, b) → seconds split (suc k) c ≡ seconds split k a ++ kept_part b
-  seconds-suc zero c a b e = ap (λ o. option_map_or kept_part (option_map (λ parts. parts.1) o) [] ++ []) e ∙ append-nil (kept_part b)
+  seconds-suc zero c a b e =
+      ap (λ o. option_map_or kept_part (option_map (λ parts. parts.1) o) [] ++ []) e ∙ append-nil (kept_part b)
   seconds-suc (suc k) c a b e =
-      ap₂ (λ point parts. option_map_or kept_part (option_and_then (λ p. option_map (λ parts. parts.1) (split p)) point) [] ++ parts)
-      (chain_point-suc k c a b e) (seconds-suc k c a b e)
+      ap₂ (λ point parts. option_map_or kept_part
+      (option_and_then (λ p. option_map (λ parts. parts.1) (split p)) point) [] ++ parts) (chain_point-suc k c a b e)
+      (seconds-suc k c a b e)
       ∙ sym (append_assoc (option_map_or kept_part (second_part split (suc k) a) []) (seconds split k a) (kept_part b))
 
   extended : (o : Option ℕ) (parts more : List ℕ)
@@ -43,19 +46,22 @@ module _ (split : ℕ → Option (ℕ × ℕ)) where
   pub expansion-end : (k c : ℕ) → split c ≡ None → expansion split (suc k) c ≡ None
   expansion-end k c e = ap (option_map (λ point. point ∷ seconds split (suc k) c)) (chain_point-end k c e)
 
-  -- no expansion is longer than the height
-  pub expansion-none : (height : ℕ → ℕ) → FallsAlong split height → (k c : ℕ) → height c < k → expansion split k c ≡ None
-  expansion-none height falling zero c h = absurd (omega arith)
-  expansion-none height falling (suc k) c h =
-      elim (split c) as (λ o. split c ≡ o → expansion split (suc k) c ≡ None) [
-        | None ↦ λ e. expansion-end k c e
-        | Some p ↦ λ e. expansion-suc k c p.0 p.1 e
-            ∙ ap (option_map (λ xs. xs ++ kept_part p.1))
-            (expansion-none height falling k p.0 (let lt : height p.0 < height c = falling.falls c p.0 p.1 e in omega arith))
-      ] refl
+-- no expansion is longer than the height
+pub expansion-none : (D : Decompositions) → FallsAlong D.split D.height → (k c : ℕ) → D.height c < k
+    → expansion D.split k c ≡ None
+expansion-none D falling zero c h = absurd (omega arith)
+expansion-none D falling (suc k) c h =
+    elim (D.split c) as (λ o. D.split c ≡ o → expansion D.split (suc k) c ≡ None) [
+      | None ↦ λ e. expansion-end D.split k c e
+      | Some p ↦ λ e.
+          let lt : D.height p.0 < D.height c = falling.falls c p.0 p.1 e in
+          expansion-suc D.split k c p.0 p.1 e ∙ ap (option_map (λ xs. xs ++ kept_part p.1))
+          (expansion-none D falling k p.0 (omega arith))
+    ] refl
 
 pub is_supported-extended : (has_glyph : ℕ → Bool) (b : ℕ) (o : Option (List ℕ))
-    → is_supported has_glyph (option_map (λ xs. xs ++ kept_part b) o) ≡ (is_supported has_glyph o && list_all has_glyph (kept_part b))
+    → is_supported has_glyph (option_map (λ xs. xs ++ kept_part b) o)
+    ≡ (is_supported has_glyph o && list_all has_glyph (kept_part b))
 is_supported-extended has_glyph b None = refl
 is_supported-extended has_glyph b (Some xs) = list_all-append has_glyph xs (kept_part b)
 
@@ -93,7 +99,8 @@ module _ (split : ℕ → Option (ℕ × ℕ)) (has_glyph : ℕ → Bool) where
 
   pub greatest-suc : (n c a b : ℕ) → split c ≡ Some (a, b)
       → greatest_supported split has_glyph (suc n) c
-      ≡ put_behind (list_all has_glyph (kept_part b)) b (option_or (greatest_supported split has_glyph n a) (supported split has_glyph 0 a))
+      ≡ put_behind (list_all has_glyph (kept_part b)) b
+      (option_or (greatest_supported split has_glyph n a) (supported split has_glyph 0 a))
   greatest-suc zero c a b e = option_or-none (supported split has_glyph 1 c) ∙ supported-suc 0 c a b e
   greatest-suc (suc n) c a b e =
       ap₂ option_or (supported-suc (suc n) c a b e) (greatest-suc n c a b e)
@@ -105,15 +112,18 @@ module _ (split : ℕ → Option (ℕ × ℕ)) (has_glyph : ℕ → Bool) where
 
   pub least-suc : (n c a b : ℕ) → split c ≡ Some (a, b)
       → least_supported split has_glyph (suc n) c
-      ≡ put_behind (list_all has_glyph (kept_part b)) b (option_or (supported split has_glyph 0 a) (least_supported split has_glyph n a))
+      ≡ put_behind (list_all has_glyph (kept_part b)) b
+      (option_or (supported split has_glyph 0 a) (least_supported split has_glyph n a))
   least-suc zero c a b e =
-      supported-suc 0 c a b e ∙ ap (put_behind (list_all has_glyph (kept_part b)) b) (sym (option_or-none (supported split has_glyph 0 a)))
+      supported-suc 0 c a b e ∙ ap (put_behind (list_all has_glyph (kept_part b)) b)
+      (sym (option_or-none (supported split has_glyph 0 a)))
   least-suc (suc n) c a b e =
       ap₂ option_or (least-suc n c a b e) (supported-suc (suc n) c a b e)
-      ∙ put_behind-or (list_all has_glyph (kept_part b)) b (option_or (supported split has_glyph 0 a) (least_supported split has_glyph n a))
-      (supported split has_glyph (suc n) a)
+      ∙ put_behind-or (list_all has_glyph (kept_part b)) b
+      (option_or (supported split has_glyph 0 a) (least_supported split has_glyph n a)) (supported split has_glyph (suc n) a)
       ∙ ap (put_behind (list_all has_glyph (kept_part b)) b)
-      (option_or-assoc (supported split has_glyph 0 a) (least_supported split has_glyph n a) (supported split has_glyph (suc n) a))
+      (option_or-assoc (supported split has_glyph 0 a) (least_supported split has_glyph n a)
+      (supported split has_glyph (suc n) a))
 
   pub greatest-end : (n c : ℕ) → split c ≡ None → greatest_supported split has_glyph n c ≡ None
   greatest-end zero c e = refl
@@ -123,53 +133,54 @@ module _ (split : ℕ → Option (ℕ × ℕ)) (has_glyph : ℕ → Bool) where
   least-end zero c e = refl
   least-end (suc n) c e = ap₂ option_or (least-end n c e) (supported-end n c e)
 
-  -- ---- the height is far enough to look
+-- ---- the height is far enough to look
 
-  module _ (height : ℕ → ℕ) (falling : FallsAlong split height) where
-    pub supported-none : (k c : ℕ) → height c < k → supported split has_glyph k c ≡ None
-    supported-none k c h = ap (λ o. if is_supported has_glyph o then o else None) (expansion-none split height falling k c h)
+module _ (D : Decompositions) (has_glyph : ℕ → Bool) (falling : FallsAlong D.split D.height) where
+  pub supported-none : (k c : ℕ) → D.height c < k → supported D.split has_glyph k c ≡ None
+  supported-none k c h = ap (λ o. if is_supported has_glyph o then o else None) (expansion-none D falling k c h)
 
-    pub greatest-enough : (d n c : ℕ) → n ≡ d + height c
-        → greatest_supported split has_glyph n c ≡ greatest_supported split has_glyph (height c) c
-    greatest-enough zero n c e = let q : n ≡ height c = omega arith in ap (λ m. greatest_supported split has_glyph m c) q
-    greatest-enough (suc d) n c e =
-        let m : ℕ = d + height c in
-        let q : n ≡ suc m = omega arith in
-        ap (λ m. greatest_supported split has_glyph m c) q
-        ∙ ap (λ o. option_or o (greatest_supported split has_glyph m c)) (supported-none (suc m) c (omega arith))
-        ∙ greatest-enough d m c refl
+  pub greatest-enough : (d n c : ℕ) → n ≡ d + D.height c
+      → greatest_supported D.split has_glyph n c ≡ greatest_supported D.split has_glyph (D.height c) c
+  greatest-enough zero n c e = let q : n ≡ D.height c = omega arith in ap (λ m. greatest_supported D.split has_glyph m c) q
+  greatest-enough (suc d) n c e =
+      let m : ℕ = d + D.height c in
+      let q : n ≡ suc m = omega arith in
+      ap (λ m. greatest_supported D.split has_glyph m c) q
+      ∙ ap (λ o. option_or o (greatest_supported D.split has_glyph m c)) (supported-none (suc m) c (omega arith))
+      ∙ greatest-enough d m c refl
 
-    pub least-enough : (d n c : ℕ) → n ≡ d + height c → least_supported split has_glyph n c ≡ least_supported split has_glyph (height c) c
-    least-enough zero n c e = let q : n ≡ height c = omega arith in ap (λ m. least_supported split has_glyph m c) q
-    least-enough (suc d) n c e =
-        let m : ℕ = d + height c in
-        let q : n ≡ suc m = omega arith in
-        ap (λ m. least_supported split has_glyph m c) q
-        ∙ ap (option_or (least_supported split has_glyph m c)) (supported-none (suc m) c (omega arith))
-        ∙ option_or-none (least_supported split has_glyph m c) ∙ least-enough d m c refl
+  pub least-enough : (d n c : ℕ) → n ≡ d + D.height c
+      → least_supported D.split has_glyph n c ≡ least_supported D.split has_glyph (D.height c) c
+  least-enough zero n c e = let q : n ≡ D.height c = omega arith in ap (λ m. least_supported D.split has_glyph m c) q
+  least-enough (suc d) n c e =
+      let m : ℕ = d + D.height c in
+      let q : n ≡ suc m = omega arith in
+      ap (λ m. least_supported D.split has_glyph m c) q
+      ∙ ap (option_or (least_supported D.split has_glyph m c)) (supported-none (suc m) c (omega arith))
+      ∙ option_or-none (least_supported D.split has_glyph m c) ∙ least-enough d m c refl
 
-    -- the greatest of c from that of its first part
-    pub greatest-split : (c a b : ℕ) → split c ≡ Some (a, b)
-        → greatest_supported split has_glyph (height c) c
-        ≡ put_behind (list_all has_glyph (kept_part b)) b
-        (option_or (greatest_supported split has_glyph (height a) a) (supported split has_glyph 0 a))
-    greatest-split c a b e =
-        let lt : height a < height c = falling.falls c a b e in
-        let m : ℕ = height c - 1 in
-        let q : height c ≡ suc m = omega arith in
-        ap (λ n. greatest_supported split has_glyph n c) q ∙ greatest-suc m c a b e
-        ∙ ap (λ o. put_behind (list_all has_glyph (kept_part b)) b (option_or o (supported split has_glyph 0 a)))
-        (greatest-enough (m - height a) m a (omega arith))
+  -- the greatest of c from that of its first part
+  pub greatest-split : (c a b : ℕ) → D.split c ≡ Some (a, b)
+      → greatest_supported D.split has_glyph (D.height c) c
+      ≡ put_behind (list_all has_glyph (kept_part b)) b
+      (option_or (greatest_supported D.split has_glyph (D.height a) a) (supported D.split has_glyph 0 a))
+  greatest-split c a b e =
+      let lt : D.height a < D.height c = falling.falls c a b e in
+      let m : ℕ = D.height c - 1 in
+      let q : D.height c ≡ suc m = omega arith in
+      ap (λ n. greatest_supported D.split has_glyph n c) q ∙ greatest-suc D.split has_glyph m c a b e
+      ∙ ap (λ o. put_behind (list_all has_glyph (kept_part b)) b (option_or o (supported D.split has_glyph 0 a)))
+      (greatest-enough (m - D.height a) m a (omega arith))
 
-    -- the least of c from that of its first part
-    pub least-split : (c a b : ℕ) → split c ≡ Some (a, b)
-        → least_supported split has_glyph (height c) c
-        ≡ put_behind (list_all has_glyph (kept_part b)) b
-        (option_or (supported split has_glyph 0 a) (least_supported split has_glyph (height a) a))
-    least-split c a b e =
-        let lt : height a < height c = falling.falls c a b e in
-        let m : ℕ = height c - 1 in
-        let q : height c ≡ suc m = omega arith in
-        ap (λ n. least_supported split has_glyph n c) q ∙ least-suc m c a b e
-        ∙ ap (λ o. put_behind (list_all has_glyph (kept_part b)) b (option_or (supported split has_glyph 0 a) o))
-        (least-enough (m - height a) m a (omega arith))
+  -- the least of c from that of its first part
+  pub least-split : (c a b : ℕ) → D.split c ≡ Some (a, b)
+      → least_supported D.split has_glyph (D.height c) c
+      ≡ put_behind (list_all has_glyph (kept_part b)) b
+      (option_or (supported D.split has_glyph 0 a) (least_supported D.split has_glyph (D.height a) a))
+  least-split c a b e =
+      let lt : D.height a < D.height c = falling.falls c a b e in
+      let m : ℕ = D.height c - 1 in
+      let q : D.height c ≡ suc m = omega arith in
+      ap (λ n. least_supported D.split has_glyph n c) q ∙ least-suc D.split has_glyph m c a b e
+      ∙ ap (λ o. put_behind (list_all has_glyph (kept_part b)) b (option_or (supported D.split has_glyph 0 a) o))
+      (least-enough (m - D.height a) m a (omega arith))

@@ -9,7 +9,7 @@ use Rattle.canonical_form.specs.Runs.{IsSettled, AreRunsSettled}
 use Rattle.canonical_form.proofs.SwapLemmas.{all-swap, all-swaps}
 use Rattle.canonical_form.proofs.EveryLemmas.{push_all}
 use Rattle.canonical_form.proofs.OptionLemmas.{cases_Option}
-use Rattle.canonical_form.proofs.RecomposeLemmas.{composed-some, recomposed_from-some, recomposed_from-starter, recomposed_from-mark}
+use Rattle.canonical_form.proofs.RecomposeLemmas.{by_steps, recomposed_from-some, recomposed_from-starter, recomposed_from-mark}
 use Rattle.canonical_form.proofs.RunLemmas.{cases_item, from_starter}
 
 module _ {A B : Type 0} (IsItem : A → Type 0) (f : A → B) (ccc : A → ℕ) (ccc' : B → ℕ)
@@ -40,10 +40,10 @@ module _ {A B : Type 0} (IsItem : A → Type 0) (f : A → B) (ccc : A → ℕ) 
       elim (cases_Bool (nat_le (length run) limit)) [
         | inl short ↦
             let inner = MatchBool-at_true (IsPutInOrder ccc run new) (new ≡ run) short h in
-            rw (length-map, short) (record {
+            rw (length-map, short)
+            (record {
               reached = Swaps-map inner.reached items;
-              ordered = IsOrdered-map new
-                  (all-swaps IsItem inner.reached items) inner.ordered;
+              ordered = IsOrdered-map new (all-swaps IsItem inner.reached items) inner.ordered;
             })
         | inr long ↦ rw (length-map, long) (ap (map f) (MatchBool-at_false (IsPutInOrder ccc run new) (new ≡ run) long h))
       ]
@@ -58,9 +58,11 @@ module _ {A B : Type 0} (IsItem : A → Type 0) (f : A → B) (ccc : A → ℕ) 
             subst (AreRunsSettled ccc' limit (map f pending) (f x ∷ map f xs))
             (sym (ap (map f) parts.is ∙ map-append f parts.run (x ∷ parts.rest)))
             (from_starter ccc' limit (map f pending) (f x) (map f xs) (map f parts.run) (map f parts.rest) (test ∙ start)
-            (IsSettled-map limit pending parts.run marks parts.settled) (AreRunsSettled-map limit [] xs parts.rest tt items.1 parts.later))
+            (IsSettled-map limit pending parts.run marks parts.settled)
+            (AreRunsSettled-map limit [] xs parts.rest tt items.1 parts.later))
         | inr (mark, later) ↦
-            let inner = AreRunsSettled-map limit (pending ++ x ∷ []) xs new (push_all IsItem pending x marks items.0) items.1 later in
+            let inner = AreRunsSettled-map limit (pending ++ x ∷ []) xs new
+            (push_all IsItem pending x marks items.0) items.1 later in
             let is_mark = test ∙ mark in
             rw is_mark (subst (λ l. AreRunsSettled ccc' limit l (map f xs) (map f new)) (map-append f pending (x ∷ [])) inner)
       ]
@@ -75,9 +77,10 @@ module _ {A B : Type 0} (IsItem : A → Type 0) (f : A → B) (ccc : A → ℕ) 
   is_blocked_by_last-map [] c items item = refl
   is_blocked_by_last-map (m ∷ ms) c items item = ap₂ nat_le (same c item) (last_ccc-map (m ∷ ms) items)
 
-  module _ (blocks : List A → A → Bool) (blocks' : List B → B → Bool) (block : (ms : List A) (c : A) → AllByRecursion IsItem ms → IsItem c
-      → blocks' (map f ms) (f c) ≡ blocks ms c) (is_mark : A → Bool) (is_mark' : B → Bool) (compose : A → A → Option A)
-      (compose' : B → B → Option B) (marks : (x : A) → IsItem x → is_mark' (f x) ≡ is_mark x)
+  module _ (blocks : List A → A → Bool) (blocks' : List B → B → Bool)
+      (block : (ms : List A) (c : A) → AllByRecursion IsItem ms → IsItem c → blocks' (map f ms) (f c) ≡ blocks ms c)
+      (is_mark : A → Bool) (is_mark' : B → Bool) (compose : A → A → Option A) (compose' : B → B → Option B)
+      (marks : (x : A) → IsItem x → is_mark' (f x) ≡ is_mark x)
       (joined : (s c d : A) → IsItem s → IsItem c → compose s c ≡ Some d → IsItem d)
       (joins : (s c : A) → IsItem s → IsItem c → compose' (f s) (f c) ≡ option_map f (compose s c)) where
     abbrev after : A → List A → List A → List A
@@ -99,34 +102,27 @@ module _ {A B : Type 0} (IsItem : A → Type 0) (f : A → B) (ccc : A → ℕ) 
 
     recomposed_from-map : (s : A) (ms rest : List A) → IsItem s → AllByRecursion IsItem ms → AllByRecursion IsItem rest
         → map f (after s ms rest) ≡ after' (f s) (map f ms) (map f rest)
-    recomposed_from-map s ms [] item_s items later = refl
-    recomposed_from-map s ms (c ∷ rest) item_s items later =
-        let other = composed-map s ms c item_s items later.0 in
-        let test : (ccc' (f c) == 0) ≡ (ccc c == 0) = ap (λ n. n == 0) (same c later.0) in
-        elim (cases_Option (composed ccc blocks is_mark compose s ms c)) [
-          | inr found ↦
-              let d = found.0 in
-              let item_d = joined s c d item_s later.0 (composed-some ccc blocks is_mark compose s ms c d found.1).1 in
-              ap (map f) (recomposed_from-some ccc blocks is_mark compose s ms c rest d found.1)
-              ∙ recomposed_from-map d ms rest item_d items later.1
+    recomposed_from-map =
+        by_steps ccc blocks is_mark compose (λ s ms rest out. IsItem s → AllByRecursion IsItem ms → AllByRecursion IsItem rest
+        → map f out ≡ after' (f s) (map f ms) (map f rest)) (record {
+          ends = λ s ms item_s items later_items. refl;
+          joins = λ s ms c d rest out found free made later item_s items later_items.
+              later (joined s c d item_s later_items.0 made) items later_items.1
               ∙ sym (recomposed_from-some ccc' blocks' is_mark' compose' (f s) (map f ms) (f c) (map f rest) (f d)
-              (other ∙ ap (option_map f) found.1))
-          | inl none ↦
-              elim (cases_Bool (ccc c == 0)) [
-                | inl start ↦
-                    ap (map f) (recomposed_from-starter ccc blocks is_mark compose s ms c rest none start)
-                    ∙ ap (λ l. f s ∷ l) (map-append f ms (after c [] rest)
-                    ∙ ap (λ l. map f ms ++ l) (recomposed_from-map c [] rest later.0 tt later.1))
-                    ∙ sym (recomposed_from-starter ccc' blocks' is_mark' compose' (f s) (map f ms) (f c) (map f rest)
-                    (other ∙ ap (option_map f) none) (test ∙ start))
-                | inr mark ↦
-                    ap (map f) (recomposed_from-mark ccc blocks is_mark compose s ms c rest none mark)
-                    ∙ recomposed_from-map s (ms ++ c ∷ []) rest item_s (push_all IsItem ms c items later.0) later.1
-                    ∙ ap (λ l. after' (f s) l (map f rest)) (map-append f ms (c ∷ []))
-                    ∙ sym (recomposed_from-mark ccc' blocks' is_mark' compose' (f s) (map f ms) (f c) (map f rest)
-                    (other ∙ ap (option_map f) none) (test ∙ mark))
-              ]
-        ]
+              (composed-map s ms c item_s items later_items.0 ∙ ap (option_map f) found));
+          starts = λ s ms c rest out none start later item_s items later_items.
+              ap (λ l. f s ∷ l) (map-append f ms out ∙ ap (λ l. map f ms ++ l) (later later_items.0 tt later_items.1))
+              ∙ sym (recomposed_from-starter ccc' blocks' is_mark' compose' (f s) (map f ms) (f c) (map f rest)
+              (composed-map s ms c item_s items later_items.0 ∙ ap (option_map f) none) (test c later_items.0 ∙ start));
+          passes = λ s ms c rest out none mark later item_s items later_items.
+              later item_s (push_all IsItem ms c items later_items.0) later_items.1
+              ∙ ap (λ l. after' (f s) l (map f rest)) (map-append f ms (c ∷ []))
+              ∙ sym (recomposed_from-mark ccc' blocks' is_mark' compose' (f s) (map f ms) (f c) (map f rest)
+              (composed-map s ms c item_s items later_items.0 ∙ ap (option_map f) none) (test c later_items.0 ∙ mark));
+        })
+      where
+        test : (c : A) → IsItem c → (ccc' (f c) == 0) ≡ (ccc c == 0)
+        test c item = ap (λ n. n == 0) (same c item)
 
     pub recomposed-map : (xs : List A) → AllByRecursion IsItem xs
         → map f (recomposed ccc blocks is_mark compose xs) ≡ recomposed ccc' blocks' is_mark' compose' (map f xs)

@@ -1,4 +1,4 @@
--- Recomposing keeps the full decomposition, up to swaps.
+-- Recomposing, by what each of its steps keeps: it keeps the full decomposition, up to swaps.
 use Rattle.std.proofs.Common.{◌≡◌, ℕ, ◌<◌, Bool, true, false, not, ◌==◌, ◌&&◌, ◌||◌, nat_le, List, [], ◌∷◌, ◌++◌, Option, Some, None, flat_map, sym, ap, subst, ◌∙◌, arith, inl, inr, append-nil, append_assoc}
 use Rattle.std.proofs.lemmas.Bool.{cond-true, cond-false, cases_Bool, or_parts, and_parts, and_left, not-true}
 use Rattle.std.proofs.lemmas.Bool.Decides.{nat_tests}
@@ -28,7 +28,8 @@ module _ {A : Type 0} (ccc : A → ℕ) (blocks : List A → A → Bool) (is_mar
         | inr fail ↦ let none = sym (cond-false _ (compose s c) None fail) ∙ h in cc
       ]
 
-  pub recomposed_from-some : (s : A) (ms : List A) (c : A) (rest : List A) (d : A) → composed ccc blocks is_mark compose s ms c ≡ Some d
+  pub recomposed_from-some : (s : A) (ms : List A) (c : A) (rest : List A) (d : A)
+      → composed ccc blocks is_mark compose s ms c ≡ Some d
       → recomposed_from ccc blocks is_mark compose s ms (c ∷ rest) ≡ recomposed_from ccc blocks is_mark compose d ms rest
   recomposed_from-some s ms c rest d h = rw (h, recomposed_from)
 
@@ -42,57 +43,71 @@ module _ {A : Type 0} (ccc : A → ℕ) (blocks : List A → A → Bool) (is_mar
       → recomposed_from ccc blocks is_mark compose s ms (c ∷ rest) ≡ recomposed_from ccc blocks is_mark compose s (ms ++ c ∷ []) rest
   recomposed_from-mark s ms c rest h mark = rw (h, mark, recomposed_from)
 
+  -- what each step keeps: it is said of a starter, the marks that were put out since, what is still to come,
+  -- and what is put out of these
+  pub record IsKeptByEachStep (P : A → List A → List A → List A → Type 0) : Type 0 where
+    pub ends : (s : A) (ms : List A) → P s ms [] (s ∷ ms)
+    pub joins : (s : A) (ms : List A) (c d : A) (rest out : List A) → composed ccc blocks is_mark compose s ms c ≡ Some d
+        → blocks ms c ≡ false → compose s c ≡ Some d → P d ms rest out → P s ms (c ∷ rest) out
+    pub starts : (s : A) (ms : List A) (c : A) (rest out : List A) → composed ccc blocks is_mark compose s ms c ≡ None
+        → (ccc c == 0) ≡ true → P c [] rest out → P s ms (c ∷ rest) (s ∷ ms ++ out)
+    pub passes : (s : A) (ms : List A) (c : A) (rest out : List A) → composed ccc blocks is_mark compose s ms c ≡ None
+        → (ccc c == 0) ≡ false → P s (ms ++ c ∷ []) rest out → P s ms (c ∷ rest) out
+
+  -- holds of all that recomposing puts out: the one induction on its walk
+  pub by_steps : (P : A → List A → List A → List A → Type 0) → IsKeptByEachStep P → (s : A) (ms rest : List A)
+      → P s ms rest (recomposed_from ccc blocks is_mark compose s ms rest)
+  by_steps P kept s ms [] = kept.ends s ms
+  by_steps P kept s ms (c ∷ rest) =
+      elim (cases_Option (composed ccc blocks is_mark compose s ms c)) [
+        | inr (d, found) ↦
+            let at = composed-some s ms c d found in
+            subst (P s ms (c ∷ rest)) (sym (recomposed_from-some s ms c rest d found))
+            (kept.joins s ms c d rest _ found at.0 at.1 (by_steps P kept d ms rest))
+        | inl none ↦
+            elim (cases_Bool (ccc c == 0)) [
+              | inl start ↦
+                  subst (P s ms (c ∷ rest)) (sym (recomposed_from-starter s ms c rest none start))
+                  (kept.starts s ms c rest _ none start (by_steps P kept c [] rest))
+              | inr mark ↦
+                  subst (P s ms (c ∷ rest)) (sym (recomposed_from-mark s ms c rest none mark))
+                  (kept.passes s ms c rest _ none mark (by_steps P kept s (ms ++ c ∷ []) rest))
+            ]
+      ]
+
   composed-unmarked : (s : A) (ms : List A) (c : A) → is_mark c ≡ false → composed ccc blocks is_mark compose s ms c ≡ None
   composed-unmarked s ms c h = cond-false _ (compose s c) None (and_left (is_mark c) (not (blocks ms c)) h)
 
   -- before an item of ccc 0 that is no mark the list may be cut
-  pub recomposed_from-append : (s : A) (ms xs : List A) (c : A) (ys : List A) → is_mark c ≡ false → (ccc c == 0) ≡ true
+  pub recomposed_from-append : (c : A) (ys : List A) → is_mark c ≡ false → (ccc c == 0) ≡ true → (s : A) (ms xs : List A)
       → recomposed_from ccc blocks is_mark compose s ms (xs ++ c ∷ ys)
       ≡ recomposed_from ccc blocks is_mark compose s ms xs ++ recomposed ccc blocks is_mark compose (c ∷ ys)
-  recomposed_from-append s ms [] c ys unmarked start = recomposed_from-starter s ms c ys (composed-unmarked s ms c unmarked) start
-  recomposed_from-append s ms (x ∷ xs) c ys unmarked start =
+  recomposed_from-append c ys unmarked start =
       let tail = recomposed ccc blocks is_mark compose (c ∷ ys) in
-      elim (cases_Option (composed ccc blocks is_mark compose s ms x)) [
-        | inr found ↦
-            recomposed_from-some s ms x (xs ++ c ∷ ys) found.0 found.1
-            ∙ recomposed_from-append found.0 ms xs c ys unmarked start
-            ∙ ap (λ l. l ++ tail) (sym (recomposed_from-some s ms x xs found.0 found.1))
-        | inl none ↦
-            elim (cases_Bool (ccc x == 0)) [
-              | inl zero_ccc ↦
-                  recomposed_from-starter s ms x (xs ++ c ∷ ys) none zero_ccc
-                  ∙ ap (λ l. s ∷ ms ++ l) (recomposed_from-append x [] xs c ys unmarked start)
-                  ∙ sym (append_assoc (s ∷ ms) (recomposed_from ccc blocks is_mark compose x [] xs) tail)
-                  ∙ ap (λ l. l ++ tail) (sym (recomposed_from-starter s ms x xs none zero_ccc))
-              | inr mark ↦
-                  recomposed_from-mark s ms x (xs ++ c ∷ ys) none mark
-                  ∙ recomposed_from-append s (ms ++ x ∷ []) xs c ys unmarked start
-                  ∙ ap (λ l. l ++ tail) (sym (recomposed_from-mark s ms x xs none mark))
-            ]
-      ]
+      by_steps (λ s ms xs out. recomposed_from ccc blocks is_mark compose s ms (xs ++ c ∷ ys) ≡ out ++ tail) (record {
+        ends = λ s ms. recomposed_from-starter s ms c ys (composed-unmarked s ms c unmarked) start;
+        joins = λ s ms x d rest out found free made later. recomposed_from-some s ms x (rest ++ c ∷ ys) d found ∙ later;
+        starts = λ s ms x rest out none starts later.
+            recomposed_from-starter s ms x (rest ++ c ∷ ys) none starts ∙ ap (λ l. s ∷ ms ++ l) later
+            ∙ sym (append_assoc (s ∷ ms) out tail);
+        passes = λ s ms x rest out none mark later. recomposed_from-mark s ms x (rest ++ c ∷ ys) none mark ∙ later;
+      })
 
   -- what holds of each item, and of what two items compose to, holds of each recomposed item
-  recomposed_from-all : (P : A → Type 0) → ((s c d : A) → P s → P c → compose s c ≡ Some d → P d) → (s : A) (ms rest : List A) → P s
-      → AllByRecursion P ms → AllByRecursion P rest → AllByRecursion P (recomposed_from ccc blocks is_mark compose s ms rest)
-  recomposed_from-all P joins s ms [] of_s of_ms of_rest = (of_s, of_ms)
-  recomposed_from-all P joins s ms (c ∷ rest) of_s of_ms of_rest =
-      elim (cases_Option (composed ccc blocks is_mark compose s ms c)) [
-        | inr (d, found) ↦
-            subst (AllByRecursion P) (sym (recomposed_from-some s ms c rest d found))
-            (recomposed_from-all P joins d ms rest (joins s c d of_s of_rest.0 (composed-some s ms c d found).1) of_ms of_rest.1)
-        | inl none ↦
-            elim (cases_Bool (ccc c == 0)) [
-              | inl start ↦
-                  subst (AllByRecursion P) (sym (recomposed_from-starter s ms c rest none start))
-                  (of_s, append_all P ms _ of_ms (recomposed_from-all P joins c [] rest of_rest.0 tt of_rest.1))
-              | inr mark ↦
-                  subst (AllByRecursion P) (sym (recomposed_from-mark s ms c rest none mark))
-                  (recomposed_from-all P joins s (ms ++ c ∷ []) rest of_s (push_all P ms c of_ms of_rest.0) of_rest.1)
-            ]
-      ]
+  recomposed_from-all : (P : A → Type 0) → ((s c d : A) → P s → P c → compose s c ≡ Some d → P d) → (s : A) (ms rest : List A)
+      → P s → AllByRecursion P ms → AllByRecursion P rest → AllByRecursion P (recomposed_from ccc blocks is_mark compose s ms rest)
+  recomposed_from-all P joins =
+      by_steps (λ s ms rest out. P s → AllByRecursion P ms → AllByRecursion P rest → AllByRecursion P out) (record {
+        ends = λ s ms of_s of_ms of_rest. (of_s, of_ms);
+        joins = λ s ms c d rest out found free made later of_s of_ms of_rest.
+            later (joins s c d of_s of_rest.0 made) of_ms of_rest.1;
+        starts = λ s ms c rest out none start later of_s of_ms of_rest.
+            (of_s, append_all P ms out of_ms (later of_rest.0 tt of_rest.1));
+        passes = λ s ms c rest out none mark later of_s of_ms of_rest. later of_s (push_all P ms c of_ms of_rest.0) of_rest.1;
+      })
 
-  pub recomposed-all : (P : A → Type 0) → ((s c d : A) → P s → P c → compose s c ≡ Some d → P d) → (xs : List A) → AllByRecursion P xs
-      → AllByRecursion P (recomposed ccc blocks is_mark compose xs)
+  pub recomposed-all : (P : A → Type 0) → ((s c d : A) → P s → P c → compose s c ≡ Some d → P d) → (xs : List A)
+      → AllByRecursion P xs → AllByRecursion P (recomposed ccc blocks is_mark compose xs)
   recomposed-all P joins [] items = tt
   recomposed-all P joins (x ∷ xs) items = recomposed_from-all P joins x [] xs items.0 tt items.1
 
@@ -116,8 +131,8 @@ module _ {A B : Type 0} (IsItem : A → Type 0) (ccc : A → ℕ) (ccc_of_part :
       no_swap (append_assoc (full m) (Fulls ms) (full c))
       ⟫ Swaps-after (full m) (past_marks ms c items.1 item_c parts.2)
       ⟫ no_swap (sym (append_assoc (full m) (full c) (Fulls ms)))
-      ⟫ Swaps-before (Fulls ms) (past_mark IsItem ccc ccc_of_part full lawful.marks m c items.0 item_c parts.0 (omega (arith, parts.1))
-      (λ e. omega (arith, parts.1)))
+      ⟫ Swaps-before (Fulls ms) (past_mark IsItem ccc ccc_of_part full lawful.marks m c items.0 item_c parts.0
+      (omega (arith, parts.1)) (λ e. omega (arith, parts.1)))
       ⟫ no_swap (append_assoc (full c) (full m) (Fulls ms))
 
   -- what a starter and c compose to, in their place
@@ -131,30 +146,24 @@ module _ {A B : Type 0} (IsItem : A → Type 0) (ccc : A → ℕ) (ccc_of_part :
       ⟫ Swaps-before (Fulls ms ++ Fulls rest) (Swaps-sym (lawful.joins s c d item_s item_c joins))
       ⟫ no_swap (ap (λ l. full d ++ l) (sym (flat_map-append full ms rest)))
 
-  pub recomposed_from-keeps : (s : A) (ms rest : List A) → IsItem s → AllByRecursion IsItem ms → AllByRecursion IsItem rest
+  recomposed_from-keeps : (s : A) (ms rest : List A) → IsItem s → AllByRecursion IsItem ms → AllByRecursion IsItem rest
       → Swaps ccc_of_part (Fulls (s ∷ ms ++ rest)) (Fulls (recomposed_from ccc (is_blocked ccc) is_mark compose s ms rest))
-  recomposed_from-keeps s ms [] item_s items rest_items = no_swap (ap (λ l. Fulls (s ∷ l)) (append-nil ms))
-  recomposed_from-keeps s ms (c ∷ rest) item_s items rest_items =
-      elim (cases_Option (composed ccc (is_blocked ccc) is_mark compose s ms c)) [
-        | inr found ↦
-            let d = found.0 in
-            let parts = composed-some ccc (is_blocked ccc) is_mark compose s ms c d found.1 in
-            joined s c d ms rest item_s rest_items.0 items parts.0 parts.1
-            ⟫ recomposed_from-keeps d ms rest (lawful.items s c d item_s rest_items.0 parts.1) items rest_items.1
-            ⟫ no_swap (ap Fulls (sym (recomposed_from-some ccc (is_blocked ccc) is_mark compose s ms c rest d found.1)))
-        | inl none ↦
-            elim (cases_Bool (ccc c == 0)) [
-              | inl starter ↦
-                  no_swap (ap (λ l. full s ++ l) (flat_map-append full ms (c ∷ rest)))
-                  ⟫ Swaps-after (full s) (Swaps-after (Fulls ms) (recomposed_from-keeps c [] rest rest_items.0 tt rest_items.1))
-                  ⟫ no_swap (ap (λ l. full s ++ l) (sym (flat_map-append full ms _)))
-                  ⟫ no_swap (ap Fulls (sym (recomposed_from-starter ccc (is_blocked ccc) is_mark compose s ms c rest none starter)))
-              | inr mark ↦
-                  no_swap (ap (λ l. Fulls (s ∷ l)) (sym (append_assoc ms (c ∷ []) rest)))
-                  ⟫ recomposed_from-keeps s (ms ++ c ∷ []) rest item_s (push_all IsItem ms c items rest_items.0) rest_items.1
-                  ⟫ no_swap (ap Fulls (sym (recomposed_from-mark ccc (is_blocked ccc) is_mark compose s ms c rest none mark)))
-            ]
-      ]
+  recomposed_from-keeps =
+      by_steps ccc (is_blocked ccc) is_mark compose (λ s ms rest out. IsItem s → AllByRecursion IsItem ms
+      → AllByRecursion IsItem rest
+      → Swaps ccc_of_part (Fulls (s ∷ ms ++ rest)) (Fulls out)) (record {
+        ends = λ s ms item_s items rest_items. no_swap (ap (λ l. Fulls (s ∷ l)) (append-nil ms));
+        joins = λ s ms c d rest out found free made later item_s items rest_items.
+            joined s c d ms rest item_s rest_items.0 items free made
+            ⟫ later (lawful.items s c d item_s rest_items.0 made) items rest_items.1;
+        starts = λ s ms c rest out none start later item_s items rest_items.
+            no_swap (ap (λ l. full s ++ l) (flat_map-append full ms (c ∷ rest)))
+            ⟫ Swaps-after (full s) (Swaps-after (Fulls ms) (later rest_items.0 tt rest_items.1))
+            ⟫ no_swap (ap (λ l. full s ++ l) (sym (flat_map-append full ms out)));
+        passes = λ s ms c rest out none mark later item_s items rest_items.
+            no_swap (ap (λ l. Fulls (s ∷ l)) (sym (append_assoc ms (c ∷ []) rest)))
+            ⟫ later item_s (push_all IsItem ms c items rest_items.0) rest_items.1;
+      })
 
   -- recomposing leaves a text equivalent to the one that went in
   pub recomposed-keeps : (xs : List A) → AllByRecursion IsItem xs

@@ -4,7 +4,8 @@ use Rattle.canonical_form.specs.Recompose.{last_ccc, is_blocked_by_last}
 use Rattle.std.proofs.lemmas.Option.{get_or_from_slice_get}
 use Rattle.std.specs.List.{slice_get}
 
-pub last_ccc_is : {A : Type 0} (ccc : A → ℕ) (ms : List A) (d : A) → 0 < length ms → last_ccc ccc ms ≡ ccc (get_or ms (length ms - 1) d)
+pub last_ccc_is : {A : Type 0} (ccc : A → ℕ) (ms : List A) (d : A) → 0 < length ms
+    → last_ccc ccc ms ≡ ccc (get_or ms (length ms - 1) d)
 last_ccc_is ccc [] d h = absurd (omega arith)
 last_ccc_is ccc (m ∷ []) d h = refl
 last_ccc_is ccc (m ∷ n ∷ ms) d h =

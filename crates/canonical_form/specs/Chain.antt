@@ -2,6 +2,7 @@
 use Rattle.std.specs.Prelude.{◌≡◌, ℕ, zero, suc, ◌<◌, ◌==◌, if◌then◌else◌, List, [], ◌∷◌, ◌++◌, Option, Some, None, option_and_then}
 use Rattle.std.specs.Option.{option_map, option_map_or}
 use Rattle.std.specs.List.{flat_map}
+use Rattle.canonical_form.specs.Decompositions.{Decompositions}
 
 -- a height is less for the first part of a split than for the whole
 pub record FallsAlong (split : ℕ → Option (ℕ × ℕ)) (height : ℕ → ℕ) : Type 0 where
@@ -27,12 +28,12 @@ full_within split zero c = c ∷ []
 full_within split (suc steps) c = option_map_or (λ parts. full_within split steps parts.0 ++ kept_part parts.1) (split c) (c ∷ [])
 
 -- Full: the full canonical decomposition before ordering; a chain is no longer than the height of its character
-unfoldable pub full : (ℕ → Option (ℕ × ℕ)) → (ℕ → ℕ) → ℕ → List ℕ
-full split height c = full_within split (height c) c
+unfoldable pub full : Decompositions → ℕ → List ℕ
+full D c = full_within D.split (D.height c) c
 
 -- Full of a text: the parts joined
-unfoldable pub full_text : (ℕ → Option (ℕ × ℕ)) → (ℕ → ℕ) → List ℕ → List ℕ
-full_text split height text = flat_map (full split height) text
+unfoldable pub full_text : Decompositions → List ℕ → List ℕ
+full_text D text = flat_map (full D) text
 
 -- Full by its two rules, without a number of steps
 pub data IsFull (split : ℕ → Option (ℕ × ℕ)) : ℕ → List ℕ → Type 0 where

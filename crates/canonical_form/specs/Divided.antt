@@ -6,12 +6,16 @@ abbrev pub put_first : {A : Type 0} → A → List (List A) → List (List A)
 put_first x [] = (x ∷ []) ∷ []
 put_first x (part ∷ parts) = (x ∷ part) ∷ parts
 
+-- the list divided between neighbours that do not go together
+abbrev pub divided_between : {A : Type 0} → (A → A → Bool) → List A → List (List A)
+divided_between together [] = []
+divided_between together (x ∷ []) = (x ∷ []) ∷ []
+divided_between together (x ∷ y ∷ rest) =
+    if together x y then put_first x (divided_between together (y ∷ rest)) else (x ∷ []) ∷ divided_between together (y ∷ rest)
+
 -- the list divided before each item after the first that doesn't belong to what it follows
 abbrev pub divided : {A : Type 0} → (A → Bool) → List A → List (List A)
-divided belongs [] = []
-divided belongs (x ∷ []) = (x ∷ []) ∷ []
-divided belongs (x ∷ y ∷ rest) =
-    if belongs y then put_first x (divided belongs (y ∷ rest)) else (x ∷ []) ∷ divided belongs (y ∷ rest)
+divided belongs xs = divided_between (λ before x. belongs x) xs
 
 -- the first part of a list, and what stands behind it
 pub record IsFirstPart {A : Type 0} (belongs : A → Bool) (xs part behind : List A) : Type 0 where

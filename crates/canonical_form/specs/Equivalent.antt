@@ -2,17 +2,18 @@
 use Rattle.std.specs.Prelude.{◌≡◌, ℕ, List, [], ◌∷◌, Option, None, Some}
 use Rattle.std.specs.List.{All}
 use Rattle.canonical_form.specs.Chain.{full_text}
+use Rattle.canonical_form.specs.Decompositions.{Decompositions}
 use Rattle.canonical_form.specs.Order.{Swaps, IsOrdered}
 
 -- finitely many swaps lead from Full of one text to Full of the other
-abbrev pub IsEquivalent : (ℕ → Option (ℕ × ℕ)) → (ℕ → ℕ) → (ℕ → ℕ) → List ℕ → List ℕ → Type 0
-IsEquivalent split height ccc s t = Swaps ccc (full_text split height s) (full_text split height t)
+abbrev pub IsEquivalent : Decompositions → List ℕ → List ℕ → Type 0
+IsEquivalent D s t = Swaps D.ccc (full_text D s) (full_text D t)
 
 -- nothing in the list splits, and no neighbours have ccc x > y > 0
-pub record IsCanonical (split : ℕ → Option (ℕ × ℕ)) (ccc : ℕ → ℕ) (text : List ℕ) : Type 0 where
-  pub whole : All (λ c. split c ≡ None) text
-  pub ordered : IsOrdered ccc text
+pub record IsCanonical (D : Decompositions) (text : List ℕ) : Type 0 where
+  pub whole : All (λ c. D.split c ≡ None) text
+  pub ordered : IsOrdered D.ccc text
 
 -- the law composes-soundly: where two characters compose, the composed one is equivalent to the two
-pub record ComposesSoundly (split : ℕ → Option (ℕ × ℕ)) (height ccc : ℕ → ℕ) (compose : ℕ → ℕ → Option ℕ) : Type 0 where
-  pub equivalent : (a b c : ℕ) → compose a b ≡ Some c → IsEquivalent split height ccc (c ∷ []) (a ∷ b ∷ [])
+pub record ComposesSoundly (D : Decompositions) (compose : ℕ → ℕ → Option ℕ) : Type 0 where
+  pub equivalent : (a b c : ℕ) → compose a b ≡ Some c → IsEquivalent D (c ∷ []) (a ∷ b ∷ [])

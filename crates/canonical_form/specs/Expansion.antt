@@ -3,6 +3,7 @@ use Rattle.std.specs.Prelude.{ℕ, zero, suc, Bool, true, false, if◌then◌els
 use Rattle.std.specs.Option.{option_map, option_map_or, option_or}
 use Rattle.std.specs.List.{list_all}
 use Rattle.canonical_form.specs.Chain.{kept_part, chain_point, second_part}
+use Rattle.canonical_form.specs.Decompositions.{Decompositions}
 
 -- the second parts k down to 1 of the chain of c; U+0000 is dropped
 abbrev pub seconds : (ℕ → Option (ℕ × ℕ)) → ℕ → ℕ → List ℕ
@@ -30,14 +31,15 @@ least_supported split has_glyph (suc n) c = option_or (least_supported split has
 -- the supported expansion of greatest length from 1 to n
 abbrev pub greatest_supported : (ℕ → Option (ℕ × ℕ)) → (ℕ → Bool) → ℕ → ℕ → Option (List ℕ)
 greatest_supported split has_glyph zero c = None
-greatest_supported split has_glyph (suc n) c = option_or (supported split has_glyph (suc n) c) (greatest_supported split has_glyph n c)
+greatest_supported split has_glyph (suc n) c =
+    option_or (supported split has_glyph (suc n) c) (greatest_supported split has_glyph n c)
 
--- the expansion that is chosen for c, where `true` asks for the shortest, which is c itself where c has a glyph; no chain is longer than
--- the height of its character
-abbrev pub chosen_expansion : (ℕ → Option (ℕ × ℕ)) → (ℕ → ℕ) → (ℕ → Bool) → Bool → ℕ → Option (List ℕ)
-chosen_expansion split height has_glyph true c = if has_glyph c then None else least_supported split has_glyph (height c) c
-chosen_expansion split height has_glyph false c = greatest_supported split has_glyph (height c) c
+-- the expansion that is chosen for c, where `true` asks for the shortest, which is c itself where c has a glyph;
+-- no chain is longer than the height of its character
+abbrev pub chosen_expansion : Decompositions → (ℕ → Bool) → Bool → ℕ → Option (List ℕ)
+chosen_expansion D has_glyph true c = if has_glyph c then None else least_supported D.split has_glyph (D.height c) c
+chosen_expansion D has_glyph false c = greatest_supported D.split has_glyph (D.height c) c
 
 -- what c becomes: its chosen expansion, or itself
-abbrev pub choice : (ℕ → Option (ℕ × ℕ)) → (ℕ → ℕ) → (ℕ → Bool) → Bool → ℕ → List ℕ
-choice split height has_glyph short c = unwrap_or (chosen_expansion split height has_glyph short c) (c ∷ [])
+abbrev pub choice : Decompositions → (ℕ → Bool) → Bool → ℕ → List ℕ
+choice D has_glyph short c = unwrap_or (chosen_expansion D has_glyph short c) (c ∷ [])

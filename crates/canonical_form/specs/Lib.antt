@@ -1,3 +1,4 @@
+pub mod Decompositions
 pub mod Chain
 pub mod SplitsFall
 pub mod Expansion

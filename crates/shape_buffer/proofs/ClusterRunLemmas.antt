@@ -72,10 +72,19 @@ spread-more flags mask fresh x false true runs is = ap (λ zs. with_mask mask x 
 spread-more flags mask fresh x false false runs is =
     ap (λ zs. with_mask fresh x ∷ zs) (spread-apart flags fresh runs) ∙ ap (λ m. with_mask m x ∷ flat_map (run_flagged flags) runs) is
 
-joined-first : (x : Item) (xs : List Item) → first_joined x.cluster (x ∷ xs) ≡ joined_flags (first_of (cluster_runs (x ∷ xs)))
+-- the runs of one more item
+abbrev one_more : Item → List Item → List (List Item)
+one_more x xs = if begins_in x.cluster xs then put_first x (cluster_runs xs) else (x ∷ []) ∷ cluster_runs xs
+
+runs-more : (x : Item) (xs : List Item) → one_more x xs ≡ cluster_runs (x ∷ xs)
+runs-more x [] = refl
+runs-more x (y ∷ ys) = refl
+
+joined-first : (x : Item) (xs : List Item) → first_joined x.cluster (x ∷ xs) ≡ joined_flags (first_of (one_more x xs))
 joined-first x xs =
     let own : has_cluster x.cluster x ≡ true = grind (arith, nat_tests) in
-    rw own (ap joined_flags (take-one_more x xs (prefix_len (has_cluster x.cluster) xs) ∙ sym (first_run x.cluster x xs refl)))
+    rw own (ap joined_flags (take-one_more x xs (prefix_len (has_cluster x.cluster) xs)
+    ∙ sym (ap first_of (runs-more x xs) ∙ first_run x.cluster x xs refl)))
 
 flagged-spread : (flags : BufferFlags) (c mask : ℕ) (xs : List Item)
     → flagged_from flags (Some (c, mask)) xs ≡ spread flags mask (begins_in c xs) (cluster_runs xs)
@@ -86,6 +95,7 @@ flagged-spread flags c mask (x ∷ xs) =
     ap (λ zs. with_mask now x ∷ zs) (flagged-spread flags x.cluster now xs)
     ∙ spread-more flags mask (settled_flags flags (first_joined x.cluster (x ∷ xs))) x (begins_in x.cluster xs) (has_cluster c x)
     (cluster_runs xs) (ap (settled_flags flags) (joined-first x xs))
+    ∙ ap (spread flags mask (has_cluster c x)) (runs-more x xs)
 
 pub flagged-runs : (flags : BufferFlags) (xs : List Item) → flagged_from flags None xs ≡ flat_map (run_flagged flags) (cluster_runs xs)
 unfolding flagged_from
@@ -94,7 +104,7 @@ flagged-runs flags (x ∷ xs) =
     let now = mask_after flags None x (x ∷ xs) in
     ap (λ zs. with_mask now x ∷ zs) (flagged-spread flags x.cluster now xs)
     ∙ spread-more flags 0 now x (begins_in x.cluster xs) false (cluster_runs xs) (ap (settled_flags flags) (joined-first x xs))
-    ∙ spread-apart flags 0 (cluster_runs (x ∷ xs))
+    ∙ spread-apart flags 0 (one_more x xs) ∙ ap (flat_map (run_flagged flags)) (runs-more x xs)
 
 -- ---- where unsafe to concat isn't asked for, no item has it
 

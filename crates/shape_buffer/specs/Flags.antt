@@ -3,8 +3,7 @@ use Rattle.std.specs.Prelude.{◌≡◌, ◌==◌, ℕ, List, [], ◌∷◌, map
 use Rattle.std.specs.Int.RustNames.{bit_and, bit_or}
 use Rattle.std.specs.List.{flat_map, prefix_len}
 use Rattle.shape_buffer.specs.Buffer.{Buffer}
-use Rattle.shape_buffer.specs.Delete.{begins_in}
-use Rattle.canonical_form.specs.Divided.{put_first}
+use Rattle.canonical_form.specs.Divided.{divided_between}
 use Rattle.shape_buffer.specs.Items.{Item, has_cluster}
 use Rattle.shape_buffer.specs.KeepsFlags.{has_glyph_flags}
 use Rattle.shape_buffer.specs.declared.buffer.flags.BufferFlags.{BufferFlags}
@@ -35,8 +34,7 @@ settled_flags flags joined =
 
 -- the maximal runs of items in one cluster
 abbrev pub cluster_runs : List Item → List (List Item)
-cluster_runs [] = []
-cluster_runs (item ∷ items) = if begins_in item.cluster items then put_first item (cluster_runs items) else (item ∷ []) ∷ cluster_runs items
+cluster_runs items = divided_between (λ item next. has_cluster item.cluster next) items
 
 abbrev pub with_mask : ℕ → Item → Item
 with_mask mask item = record item { mask = mask }

@@ -1,5 +1,6 @@
 -- What the functions of Unicode mean, and the laws that every implementation proves.
 use Rattle.std.specs.Prelude.{◌≡◌, ◌≢◌, ℕ, ◌<◌, Bool, true, false, Option, Some}
+use Rattle.canonical_form.specs.Decompositions.{Decompositions}
 use Rattle.canonical_form.specs.SplitsFall.{SplitsFall}
 use Rattle.canonical_form.specs.Equivalent.{ComposesSoundly}
 use Rattle.shape_buffer.specs.Category.{is_mark_category, is_space_category}
@@ -23,6 +24,10 @@ pub record UnicodeMeaning : Type 0 where
   pub script : ℕ → Script
   pub script_direction : Script → Option Direction
 
+-- its splits, with their heights and the combining classes
+abbrev pub decompositions_of : UnicodeMeaning → Decompositions
+decompositions_of unicode = record { split = unicode.split; height = unicode.height; ccc = unicode.ccc }
+
 -- a character of one of the three categories of marks
 abbrev pub is_mark : UnicodeMeaning → ℕ → Bool
 is_mark unicode c = is_mark_category (unicode.category c)
@@ -42,5 +47,5 @@ pub record LawfulUnicode (unicode : UnicodeMeaning) : Type 0 where
   pub ascii_is_no_mark : (c : ℕ) → c < 128 → is_mark unicode c ≡ false
   pub mirrors_are_plain : FormsArePlain unicode unicode.mirrored
   pub verticals_are_plain : FormsArePlain unicode unicode.vertical
-  pub splits_fall : SplitsFall unicode.split unicode.height unicode.ccc
-  pub composes_soundly : ComposesSoundly unicode.split unicode.height unicode.ccc unicode.compose
+  pub splits_fall : SplitsFall (decompositions_of unicode)
+  pub composes_soundly : ComposesSoundly (decompositions_of unicode) unicode.compose

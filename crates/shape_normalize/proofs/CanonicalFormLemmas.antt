@@ -18,7 +18,7 @@ use Rattle.shape_normalize.specs.CanonicalForm.{text_of, AreEquivalent, HasCanon
 use Rattle.shape_normalize.specs.Normalized.{ordered, normalized}
 use Rattle.shape_normalize.specs.RoundOne.{round_one}
 use Rattle.shape_normalize.specs.RoundTwo.{max_run, has_mark_past_first}
-use Rattle.shape_plan.specs.Rules.{Rules, has_glyph}
+use Rattle.shape_plan.specs.Rules.{Rules, decompositions, has_glyph}
 use Rattle.shape_normalize.proofs.CutFormLemmas.{normalized_cuts}
 use Rattle.shape_normalize.proofs.NormalFormLemmas.{IsPlain, IsPlain-from, choices, recomposed_by_last_text, mark_past_first_char, normalized_is_ordered, normalized_is_choices, normalized_by_characters, IsPlain-premises, ordered_settles, normalized_is_recomposed}
 use Rattle.shape_normalize.proofs.RoundOneLemmas.{chars-round_one}
@@ -26,10 +26,10 @@ use Rattle.shape_normalize.proofs.RoundOneLemmas.{chars-round_one}
 module _ (rules : Rules) where
   -- where no mode goes short each character is asked for its longest expansion
   choices_are_longest : ((with_marks : Bool) → rules.short with_marks ≡ false) → (text : List ℕ)
-      → choices rules text
-      ≡ expanded_text rules.split rules.height (has_glyph rules.face.nominal_glyph) (is_mark rules.unicode) (λ with_marks. false) text
+      → choices rules text ≡ expanded_text (decompositions rules) (has_glyph rules.face.nominal_glyph) (is_mark rules.unicode)
+      (λ with_marks. false) text
   choices_are_longest never text =
-      let of : Bool → ℕ → List ℕ = λ short c. choice rules.split rules.height (has_glyph rules.face.nominal_glyph) short c in
+      let of : Bool → ℕ → List ℕ = λ short c. choice (decompositions rules) (has_glyph rules.face.nominal_glyph) short c in
       expanded-plain (is_mark rules.unicode) (λ with_marks. of (rules.short with_marks)) (of false)
       (λ with_marks c. ap (λ short. of short c) (never with_marks)) text
       ∙ sym (expanded-plain (is_mark rules.unicode) (λ with_marks. of false) (of false) (λ with_marks c. refl) text)
@@ -44,30 +44,31 @@ module _ (rules : Rules) where
         → AreEquivalent rules (text_of b) (text_of (normalized rules b))
     unmarked_is_equivalent b premises unmarked =
         subst (AreEquivalent rules (text_of b)) (sym (normalized_is_choices rules b (plain_of b premises) unmarked))
-        (choices_are_equivalent rules.split rules.height rules.unicode.ccc premises.text.lawful_hooks.splits
-        (has_glyph rules.face.nominal_glyph) (is_mark rules.unicode) rules.short (text_of b))
+        (choices_are_equivalent (decompositions rules) premises.text.lawful_hooks.splits (has_glyph rules.face.nominal_glyph)
+        (is_mark rules.unicode) rules.short (text_of b))
 
     ordered_is_equivalent_to_text : (b : Buffer) → EquivalencePremises rules b → has_mark_past_first b.items ≡ true
         → AreEquivalent rules (text_of b) (text_of (ordered rules b))
     ordered_is_equivalent_to_text b premises marked =
-        ordered_is_equivalent rules.split rules.height rules.unicode.ccc premises.text.lawful_hooks.splits
-        (has_glyph rules.face.nominal_glyph) (is_mark rules.unicode) rules.short max_run
+        ordered_is_equivalent (decompositions rules) premises.text.lawful_hooks.splits (has_glyph rules.face.nominal_glyph)
+        (is_mark rules.unicode) rules.short max_run
         (text_of b) (text_of (ordered rules b)) (ordered_settles rules lawful b (plain_of b premises) marked)
 
     recomposed_is_equivalent_to_text : (b : Buffer) → EquivalencePremises rules b → ComposesShortRuns rules (round_one rules b)
-        → has_mark_past_first b.items ≡ true → rules.recomposes ≡ true → AreEquivalent rules (text_of b) (text_of (normalized rules b))
+        → has_mark_past_first b.items ≡ true → rules.recomposes ≡ true
+        → AreEquivalent rules (text_of b) (text_of (normalized rules b))
     recomposed_is_equivalent_to_text b premises short marked composes =
         let plain = plain_of b premises in
         let hooks = premises.text.lawful_hooks in
         subst (AreEquivalent rules (text_of b)) (sym (normalized_is_recomposed rules lawful b plain marked composes))
-        (equivalent_normalised_by_last rules.split rules.height rules.unicode.ccc hooks.splits (is_mark rules.unicode)
+        (equivalent_normalised_by_last (decompositions rules) hooks.splits (is_mark rules.unicode)
         (compose_with_glyph rules.compose (has_glyph rules.face.nominal_glyph))
-        (sound_with_glyph rules.split rules.height rules.unicode.ccc rules.compose (has_glyph rules.face.nominal_glyph)
-        (hooks.joins composes)) max_run
+        (sound_with_glyph (decompositions rules) rules.compose (has_glyph rules.face.nominal_glyph) (hooks.joins composes)) max_run
         (text_of b) (choices rules (text_of b)) (text_of (ordered rules b))
-        (full_text-expanded rules.split rules.height rules.unicode.ccc hooks.splits (has_glyph rules.face.nominal_glyph)
+        (full_text-expanded (decompositions rules) hooks.splits (has_glyph rules.face.nominal_glyph)
         (is_mark rules.unicode) rules.short (text_of b))
-        (subst (HasNoLongerRun rules.unicode.ccc max_run) (chars-round_one rules b plain.prepared plain.no_selector) (short composes))
+        (subst (HasNoLongerRun rules.unicode.ccc max_run) (chars-round_one rules b plain.prepared plain.no_selector)
+        (short composes))
         (ordered_settles rules lawful b plain marked))
 
     pub normalized_is_equivalent : (b : Buffer) → EquivalencePremises rules b → ComposesShortRuns rules (round_one rules b)
@@ -92,8 +93,7 @@ module _ (rules : Rules) where
 
     abbrev IsDecomposedTo : List ℕ → List ℕ → Type 0
     IsDecomposedTo text new =
-        IsDecomposed rules.split rules.height rules.unicode.ccc (has_glyph rules.face.nominal_glyph)
-        (is_mark rules.unicode) max_run text new
+        IsDecomposed (decompositions rules) (has_glyph rules.face.nominal_glyph) (is_mark rules.unicode) max_run text new
 
     ordered_is_decomposed : (b : Buffer) → CanonicalFormPremises rules b → IsDecomposedTo (text_of b) (text_of (ordered rules b))
     ordered_is_decomposed b premises =
@@ -103,7 +103,7 @@ module _ (rules : Rules) where
 
     ordered_is_canonical : (b : Buffer) → CanonicalFormPremises rules b → HasCanonicalForm rules (text_of (ordered rules b))
     ordered_is_canonical b premises =
-        decomposed_is_canonical rules.split rules.height rules.unicode.ccc premises.equivalence.text.lawful_hooks.splits
+        decomposed_is_canonical (decompositions rules) premises.equivalence.text.lawful_hooks.splits
         (has_glyph rules.face.nominal_glyph) (is_mark rules.unicode) max_run
         (text_of b) (text_of (ordered rules b)) premises.canonical.supported (ordered_is_decomposed b premises)
 
@@ -127,7 +127,8 @@ module _ (rules : Rules) where
           equivalent = ordered_is_equivalent_to_text b premises.equivalence (marked_items b premises);
           is = text_of-composed b premises composes
               ∙ sym (recomposed_by_last rules.unicode.ccc (is_mark rules.unicode)
-              (compose_with_glyph rules.compose (has_glyph rules.face.nominal_glyph)) (text_of (ordered rules b)) canonical.ordered);
+              (compose_with_glyph rules.compose (has_glyph rules.face.nominal_glyph))
+              (text_of (ordered rules b)) canonical.ordered);
         }
 
     -- ---- comparing texts
@@ -139,20 +140,18 @@ module _ (rules : Rules) where
         elim (cases_Bool rules.recomposes) [
           | inr leaves ↦
               rw (normalized_is_ordered rules b leaves, normalized_is_ordered rules c leaves)
-              (decomposed_decides rules.split rules.height rules.unicode.ccc hooks.splits (has_glyph rules.face.nominal_glyph)
+              (decomposed_decides (decompositions rules) hooks.splits (has_glyph rules.face.nominal_glyph)
               (is_mark rules.unicode) max_run
               (text_of b) (text_of (ordered rules b)) (text_of c) (text_of (ordered rules c))
               of_b.canonical.supported of_c.canonical.supported (ordered_is_decomposed b of_b) (ordered_is_decomposed c of_c))
           | inl composes ↦
               rw (text_of-composed b of_b composes, text_of-composed c of_c composes)
-              (recomposed_by_last_equal_iff rules.split rules.height rules.unicode.ccc hooks.splits (has_glyph rules.face.nominal_glyph)
+              (recomposed_by_last_equal_iff (decompositions rules) hooks.splits (has_glyph rules.face.nominal_glyph)
               (is_mark rules.unicode) max_run
               (compose_with_glyph rules.compose (has_glyph rules.face.nominal_glyph))
-              (sound_with_glyph rules.split rules.height rules.unicode.ccc rules.compose (has_glyph rules.face.nominal_glyph)
-              (hooks.joins composes))
+              (sound_with_glyph (decompositions rules) rules.compose (has_glyph rules.face.nominal_glyph) (hooks.joins composes))
               (text_of b) (text_of (ordered rules b)) (text_of c) (text_of (ordered rules c))
-              of_b.canonical.supported.glyphs of_c.canonical.supported.glyphs of_b.canonical.supported.fits of_c.canonical.supported.fits
-              (ordered_is_decomposed b of_b) (ordered_is_decomposed c of_c))
+              of_b.canonical.supported of_c.canonical.supported (ordered_is_decomposed b of_b) (ordered_is_decomposed c of_c))
         ]
 
     -- what a normalised buffer has of the one that it was made of
@@ -163,7 +162,8 @@ module _ (rules : Rules) where
           canonical = normalized_is_canonical old;
           recomposed = normalized_is_recomposed_form old;
           decides = λ other. normalized_decides old other;
-          by_characters = λ other of_old of_other same. normalized_by_characters rules lawful old other (IsPlain-premises rules old of_old)
+          by_characters = λ other of_old of_other same.
+              normalized_by_characters rules lawful old other (IsPlain-premises rules old of_old)
               (IsPlain-premises rules other of_other) same;
           cuts = λ front back. normalized_cuts rules lawful old front back;
         })

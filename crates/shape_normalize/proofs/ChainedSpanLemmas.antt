@@ -1,99 +1,32 @@
 -- The spans that the walk of the code keeps: merged in order they do what the spans from each starter do.
-use Rattle.std.proofs.Common.{◌≡◌, ℕ, suc, ◌+◌, ◌-◌, ◌<◌, ◌≤◌, List, [], ◌∷◌, ◌++◌, length, map, refl, sym, ap, subst, ◌∙◌, arith, inl, inr, ◌==◌}
+use Rattle.std.proofs.Common.{◌≡◌, ℕ, suc, ◌+◌, ◌-◌, ◌<◌, ◌≤◌, List, [], ◌∷◌, ◌++◌, length, map, refl, sym, ap, subst, ◌∙◌, arith}
 use Rattle.std.specs.List.{All, AllByRecursion, fold}
-use Rattle.std.proofs.lemmas.Bool.{cases_Bool}
 use Rattle.std.proofs.lemmas.List.Elements.{All-from_recursion}
 use Rattle.std.proofs.lemmas.List.Sums.{fold-append}
 use Rattle.shape_buffer.specs.Buffer.{Buffer}
 use Rattle.shape_buffer.specs.BufferClusters.{merge_at, merge_out_clusters}
 use Rattle.shape_buffer.specs.Clusters.{merge}
-use Rattle.shape_buffer.specs.Items.{Item, ccc_of_item}
-use Rattle.canonical_form.specs.Recompose.{composed, recomposed_from, is_blocked_by_last}
+use Rattle.shape_buffer.specs.Items.{Item}
 use Rattle.shape_buffer.specs.declared.buffer.settings.BufferClusterLevel.{BufferClusterLevel}
 use Rattle.shape_buffer.specs.declared.buffer.settings.BufferClusterLevel.TheVariants.{MonotoneGraphemes, MonotoneCharacters, Characters}
-use Rattle.canonical_form.proofs.EveryLemmas.{append_all, push_all}
+use Rattle.canonical_form.proofs.EveryLemmas.{append_all}
 use Rattle.shape_buffer.proofs.JoinLemmas.{Joined as SharesCluster, length-merge, merge_joins}
 use Rattle.shape_buffer.proofs.NestedMergeLemmas.{merge-from_later}
-use Rattle.canonical_form.proofs.OptionLemmas.{cases_Option}
-use Rattle.canonical_form.proofs.RecomposeLemmas.{composed-some, recomposed_from-some, recomposed_from-starter, recomposed_from-mark}
-use Rattle.shape_normalize.specs.RoundThree.{Joined, Placed, placed, ccc_of_placed, is_mark_placed, compose_placed, recomposed_items, joined_spans, spans_between, chained_spans, spans_merged_out}
+use Rattle.shape_normalize.specs.RoundThree.{Joined, Placed, recomposed_items, joined_spans, spans_between, chained_spans, spans_merged_out}
 use Rattle.shape_plan.specs.Rules.{Rules}
-use Rattle.shape_normalize.proofs.RoundThreeWalkLemmas.{joined_to}
-use Rattle.shape_normalize.proofs.RoundThreePlaceLemmas.{IsSpan, joined_is}
+use Rattle.shape_normalize.proofs.RoundThreePlaceLemmas.{IsSpan, AreJoinedInOrder, InOrder, recomposed_placed}
 use Rattle.shape_normalize.proofs.RoundThreeLemmas.{merge_out_is}
-
--- ---- the marks of a starter stand in order
-
--- the places rise behind this one, and are below `high`
-abbrev AreJoinedInOrder : ℕ → ℕ → List Joined → Type 0
-AreJoinedInOrder low high [] = Unit {0}
-AreJoinedInOrder low high (mark ∷ joined) = (low < mark.place) × (mark.place < high) × AreJoinedInOrder mark.place high joined
-
-abbrev InOrder : ℕ → Placed → Type 0
-InOrder high p = AreJoinedInOrder p.place high p.joined
-
-in_order-higher : (low high higher : ℕ) (joined : List Joined) → high ≤ higher → AreJoinedInOrder low high joined
-    → AreJoinedInOrder low higher joined
-in_order-higher low high higher [] le h = tt
-in_order-higher low high higher (mark ∷ joined) le h = (h.0, omega (arith, h.1), in_order-higher mark.place high higher joined le h.2)
-
-in_order-push : (low k : ℕ) (joined : List Joined) (mark : Joined) → low < k → mark.place ≡ k → AreJoinedInOrder low k joined
-    → AreJoinedInOrder low (suc k) (joined ++ mark ∷ [])
-in_order-push low k [] mark lt is h = (omega arith, omega arith, tt)
-in_order-push low k (m ∷ joined) mark lt is h = (h.0, omega (arith, h.1), in_order-push m.place k joined mark h.1 is h.2)
-
-module _ (rules : Rules) where
-  abbrev after : Placed → List Placed → List Placed → List Placed
-  after = recomposed_from ccc_of_placed (is_blocked_by_last ccc_of_placed) is_mark_placed (compose_placed rules)
-
-  abbrev item_at : ℕ → Item → Placed
-  item_at place item = record { item = item; place = place; joined = [] }
-
-  -- what is put out of the items from place k on, after the starter and these marks
-  after_in_order : (n k : ℕ) (s : Placed) (ms : List Placed) (items : List Item) → s.place < k → InOrder k s → AllByRecursion (InOrder n) ms
-      → k + length items ≡ n → AllByRecursion (InOrder n) (after s ms (placed k items))
-  after_in_order n k s ms [] lt h each is = (in_order-higher s.place k n s.joined (omega arith) h, each)
-  after_in_order n k s ms (x ∷ items) lt h each is =
-      let next : Placed = item_at k x in
-      let rest = placed (suc k) items in
-      let later : suc k + length items ≡ n = omega arith in
-      let put_out : AllByRecursion (InOrder n) (s ∷ ms) = (in_order-higher s.place k n s.joined (omega arith) h, each) in
-      elim (cases_Option (composed ccc_of_placed (is_blocked_by_last ccc_of_placed) is_mark_placed (compose_placed rules) s ms next)) [
-        | inr (d, found) ↦
-            let made = joined_is rules s next d (composed-some ccc_of_placed (is_blocked_by_last ccc_of_placed) is_mark_placed
-            (compose_placed rules) s ms next d found).1 in
-            let made_in_order : InOrder (suc k) (joined_to rules s next made.0) = in_order-push s.place k s.joined
-            (record { place = k; char = made.0 }) lt refl h in
-            subst (AllByRecursion (InOrder n)) (sym (recomposed_from-some ccc_of_placed (is_blocked_by_last ccc_of_placed) is_mark_placed
-            (compose_placed rules) s ms next rest d found))
-            (after_in_order n (suc k) d ms items (rw made.2 (omega arith)) (rw made.2 made_in_order) each later)
-        | inl none ↦
-            elim (cases_Bool (ccc_of_item x == 0)) [
-              | inl start ↦
-                  subst (AllByRecursion (InOrder n)) (sym (recomposed_from-starter ccc_of_placed
-                  (is_blocked_by_last ccc_of_placed) is_mark_placed (compose_placed rules) s ms next rest none start))
-                  (append_all (InOrder n) (s ∷ ms) (after next [] rest) put_out
-                  (after_in_order n (suc k) next [] items (omega arith) tt tt later))
-              | inr mark ↦
-                  subst (AllByRecursion (InOrder n)) (sym (recomposed_from-mark ccc_of_placed
-                  (is_blocked_by_last ccc_of_placed) is_mark_placed (compose_placed rules) s ms next rest none mark))
-                  (after_in_order n (suc k) s (ms ++ next ∷ []) items (omega arith)
-                  (in_order-higher s.place k (suc k) s.joined (omega arith) h) (push_all (InOrder n) ms next each tt) later)
-            ]
-      ]
-
-  recomposed_in_order : (items : List Item) → AllByRecursion (InOrder (length items)) (recomposed_items rules items)
-  recomposed_in_order [] = tt
-  recomposed_in_order (x ∷ items) = after_in_order (suc (length items)) 1 (item_at 0 x) [] items (omega arith) tt tt (omega arith)
 
 -- ---- the spans are within the list
 
 spans_between_within : (n from : ℕ) (joined : List Joined) → AreJoinedInOrder from n joined
     → AllByRecursion (IsSpan n) (spans_between from joined)
 spans_between_within n from [] h = tt
-spans_between_within n from (mark ∷ joined) h = ((omega (arith, h.0), omega (arith, h.1)), spans_between_within n mark.place joined h.2)
+spans_between_within n from (mark ∷ joined) h =
+    ((omega (arith, h.0), omega (arith, h.1)), spans_between_within n mark.place joined h.2)
 
-chained_spans_within : (n : ℕ) (out : List Placed) → AllByRecursion (InOrder n) out → AllByRecursion (IsSpan n) (chained_spans out)
+chained_spans_within : (n : ℕ) (out : List Placed) → AllByRecursion (InOrder n) out
+    → AllByRecursion (IsSpan n) (chained_spans out)
 chained_spans_within n [] h = tt
 chained_spans_within n (p ∷ out) h =
     append_all (IsSpan n) (spans_between p.place p.joined) (chained_spans out) (spans_between_within n p.place p.joined h.0)
@@ -105,7 +38,7 @@ pub walked_spans_within : (rules : Rules) (items infos : List Item) (spans : Lis
 walked_spans_within rules items infos spans infos_are spans_are =
     subst (All (IsSpan (length items))) (sym (spans_are ∙ ap (λ xs. chained_spans (recomposed_items rules xs)) infos_are))
     (All-from_recursion (IsSpan (length items)) (chained_spans (recomposed_items rules items))
-    (chained_spans_within (length items) (recomposed_items rules items) (recomposed_in_order rules items)))
+    (chained_spans_within (length items) (recomposed_items rules items) (recomposed_placed rules items).in_order))
 
 -- ---- merging them
 
@@ -164,7 +97,9 @@ put_at-same Characters b = refl
 
 -- one span at this level, then the others
 put_at-then : (level : BufferClusterLevel) (span : ℕ × ℕ) (spans : List (ℕ × ℕ)) (b : Buffer)
-    → (let merged = (elim level as (λ v. Buffer) [ MonotoneGraphemes ↦ merge_at span.0 span.1 b | MonotoneCharacters ↦ merge_at span.0 span.1 b | Characters ↦ b ]).items in
+    → (let merged =
+    (elim level as
+    (λ v. Buffer) [ MonotoneGraphemes ↦ merge_at span.0 span.1 b | MonotoneCharacters ↦ merge_at span.0 span.1 b | Characters ↦ b ]).items in
     put_at level (record b { items = merged }) (spans_merged spans merged)
     ≡ put_at level b (spans_merged spans (merge span.0 span.1 b.items)))
 put_at-then MonotoneGraphemes span spans b = refl
@@ -185,7 +120,8 @@ chained_merged : (rules : Rules) (b : Buffer)
 chained_merged rules b =
     let out = recomposed_items rules b.items in
     merged_at (chained_spans out) b
-    ∙ ap (put_at b.cluster_level b) (sym (all_chained (length b.items) out b.items refl (recomposed_in_order rules b.items)))
+    ∙ ap (put_at b.cluster_level b)
+    (sym (all_chained (length b.items) out b.items refl (recomposed_placed rules b.items).in_order))
     ∙ sym (merged_at (joined_spans out) b)
 
 -- the spans of a walk over the items of a buffer make of it what those of the round do

@@ -16,7 +16,7 @@ use Rattle.shape_buffer.specs.Unicode.{UnicodeMeaning, LawfulUnicode, is_mark}
 use Rattle.shape_normalize.specs.CanonicalForm.{text_of, CutPremises}
 use Rattle.shape_normalize.specs.Normalized.{ordered, normalized}
 use Rattle.shape_normalize.specs.RoundTwo.{max_run, has_mark_past_first}
-use Rattle.shape_plan.specs.Rules.{Rules, has_glyph}
+use Rattle.shape_plan.specs.Rules.{Rules, decompositions, has_glyph}
 use Rattle.shape_normalize.proofs.NormalFormLemmas.{IsPlain, IsPlain-premises, mark_past_first_char, choices, recomposed_by_last_text, normalized_is_ordered, ordered_settles, normalized_is_recomposed}
 use Rattle.shape_normalize.proofs.PreparedLemmas.{ArePrepared, unmarked_ccc}
 use Rattle.shape_normalize.proofs.RoundOneLemmas.{chars-round_one}
@@ -73,8 +73,9 @@ module _ (rules : Rules) where
       choices_cut : choices rules (text_of old) ≡ choices rules (text_of front) ++ choices rules (text_of back)
       choices_cut =
           ap (choices rules) premises.parts
-          ∙ expanded-cut (is_mark rules.unicode) (λ with_marks. choice rules.split rules.height (has_glyph rules.face.nominal_glyph)
-          (rules.short with_marks)) (text_of front) (text_of back)
+          ∙ expanded-cut (is_mark rules.unicode) (λ with_marks.
+          choice (decompositions rules) (has_glyph rules.face.nominal_glyph) (rules.short with_marks)) (text_of front)
+          (text_of back)
           (unmarked_text rules.unicode back.items of_back.prepared premises.unmarked)
 
       unmarked_choices : begins_with_mark (is_mark rules.unicode) (choices rules (text_of back)) ≡ false

@@ -11,7 +11,7 @@ use Rattle.shape_buffer.specs.Buffer.{Buffer}
 use Rattle.shape_buffer.specs.declared.buffer.settings.GlyphId.{GlyphId}
 use Rattle.canonical_form.proofs.ChoiceLemmas.{chosen_glyphs}
 use Rattle.canonical_form.proofs.EveryLemmas.{append_all}
-use Rattle.shape_plan.specs.Rules.{Rules, has_glyph}
+use Rattle.shape_plan.specs.Rules.{Rules, decompositions, has_glyph}
 use Rattle.shape_normalize.specs.RoundOne.{item_glyph, remembers_space, part_item, whole_item, expanded_item, expansion_of, sequences, is_selector_sequence, is_with_marks, pairs_merged, sequence_items, round_one}
 use Rattle.shape_normalize.specs.Normalized.{normalized, content, selector_items, HasItemGlyph}
 use Rattle.shape_normalize.proofs.NormalizedLemmas.{normalized_all}
@@ -59,7 +59,7 @@ module _ (rules : Rules) (invisible not_found : Option GlyphId) where
       let has = has_glyph rules.face.nominal_glyph in
       found_has_glyphs item (expansion_of rules short item)
       (λ cs found. recursion_from_All (λ c. has c ≡ true) cs
-      (AllPass-from_list_all has cs (chosen_glyphs rules.split has rules.height short item.codepoint cs found)))
+      (AllPass-from_list_all has cs (chosen_glyphs (decompositions rules) has short item.codepoint cs found)))
 
   plain_have_glyphs : (short : Bool) (sequence : List Item)
       → AllByRecursion HasOwnGlyph (flat_map (expanded_item rules invisible short) sequence)

@@ -10,18 +10,18 @@ use Rattle.shape_buffer.specs.UnicodeProps.{with_unicode_props}
 use Rattle.shape_normalize.specs.CanonicalForm.{HasLawfulHooks}
 use Rattle.shape_plan.specs.Plan.{Plan, hooks_of}
 use Rattle.shape_buffer.specs.Prepared.{IsPrepared, IsPreparedItem}
-use Rattle.shape_plan.specs.Rules.{used_split, used_height, used_compose, used_reorder, rules_of}
+use Rattle.shape_plan.specs.Rules.{used_decompositions, used_compose, used_reorder, rules_of}
 use Rattle.shape_plan.specs.Shaper.{ShaperConstants, HookMeaning}
 use Rattle.shape_normalize.proofs.PreparedLemmas.{prepared-with_props}
 
 -- without the hooks that split and join, both are Unicode's, which is lawful
 splits-unasked : (unicode : UnicodeMeaning) → LawfulUnicode unicode → (hooks : Option HookMeaning)
-    → SplitsFall (used_split unicode false hooks) (used_height unicode false hooks) unicode.ccc
+    → SplitsFall (used_decompositions unicode false hooks)
 splits-unasked unicode lawful None = lawful.splits_fall
 splits-unasked unicode lawful (Some hooks) = lawful.splits_fall
 
 joins-unasked : (unicode : UnicodeMeaning) → LawfulUnicode unicode → (hooks : Option HookMeaning)
-    → ComposesSoundly (used_split unicode false hooks) (used_height unicode false hooks) unicode.ccc (used_compose unicode false hooks)
+    → ComposesSoundly (used_decompositions unicode false hooks) (used_compose unicode false hooks)
 joins-unasked unicode lawful None = lawful.composes_soundly
 joins-unasked unicode lawful (Some hooks) = lawful.composes_soundly
 
@@ -34,7 +34,8 @@ module _ {S P D F : Type 0} (unicode : UnicodeMeaning) (constants : ShaperConsta
     joins = λ recomposes. rw (no_split, no_compose) (joins-unasked unicode lawful (hooks_of hooks plan face));
   }
 
-  pub reorder-unasked : constants.has_reorder_marks ≡ false → used_reorder constants.has_reorder_marks (hooks_of hooks plan face) ≡ None
+  pub reorder-unasked : constants.has_reorder_marks ≡ false
+      → used_reorder constants.has_reorder_marks (hooks_of hooks plan face) ≡ None
   reorder-unasked no_reorder = rw no_reorder refl
 
 pub IsPrepared-with_props : (unicode : UnicodeMeaning) → LawfulUnicode unicode → (items : List Item)

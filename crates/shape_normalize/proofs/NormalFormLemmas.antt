@@ -18,7 +18,7 @@ use Rattle.shape_buffer.specs.Prepared.{IsPrepared, IsPreparedItem}
 use Rattle.shape_normalize.specs.RoundOne.{round_one}
 use Rattle.shape_normalize.specs.RoundThree.{round_three}
 use Rattle.shape_normalize.specs.RoundTwo.{max_run, has_mark_past_first, marks_ordered, cgj_settled}
-use Rattle.shape_plan.specs.Rules.{Rules, has_glyph}
+use Rattle.shape_plan.specs.Rules.{Rules, decompositions, has_glyph}
 use Rattle.shape_normalize.proofs.CgjLemmas.{chars-cgj_settled}
 use Rattle.shape_normalize.proofs.OrderedLemmas.{marks_ordered_settles}
 use Rattle.shape_normalize.proofs.PreparedLemmas.{ArePrepared, PreparedKey, prepared_key, IsKey-prepared_key, IsPreparedKey, chars_of_keys, prepared_keys, prepared_from_keys, prepared-round_one, prepared-cgj_settled}
@@ -86,7 +86,7 @@ IsPlain-premises rules b premises = IsPlain-from rules b premises.prepared premi
 module _ (rules : Rules) where
   -- the choices of the characters of a text
   abbrev pub choices : List ℕ → List ℕ
-  choices text = expanded_text rules.split rules.height (has_glyph rules.face.nominal_glyph) (is_mark rules.unicode) rules.short text
+  choices text = expanded_text (decompositions rules) (has_glyph rules.face.nominal_glyph) (is_mark rules.unicode) rules.short text
 
   -- a text recomposed by the ccc put out last
   abbrev pub recomposed_by_last_text : List ℕ → List ℕ

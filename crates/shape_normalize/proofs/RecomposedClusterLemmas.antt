@@ -2,7 +2,6 @@
 use Rattle.std.proofs.Common.{◌≡◌, ℕ, suc, ◌+◌, Bool, ◌==◌, List, [], ◌∷◌, ◌++◌, map, length, drop, get_or, Option, Some, refl, sym, ap, ap₂, subst, ◌∙◌, arith, inl, inr, append_assoc, append-nil, drop-cons}
 use Rattle.std.specs.List.{AllByRecursion}
 use Rattle.std.proofs.Math.ListN.{get_or-map}
-use Rattle.std.proofs.lemmas.Bool.{cases_Bool}
 use Rattle.std.proofs.lemmas.List.{map-append, length-map, drop_all}
 use Rattle.std.proofs.lemmas.List.Elements.{recursion_from_All}
 use Rattle.shape_buffer.specs.Buffer.{Buffer}
@@ -10,13 +9,12 @@ use Rattle.shape_buffer.specs.BufferClusters.{merge_out_clusters}
 use Rattle.shape_buffer.specs.Clusters.{clusters}
 use Rattle.shape_buffer.specs.ClusterOrder.{KeepsClusters}
 use Rattle.shape_buffer.specs.Items.{Item}
-use Rattle.canonical_form.specs.Recompose.{composed, recomposed_from, recomposed, is_blocked_by_last}
+use Rattle.canonical_form.specs.Recompose.{recomposed_from, recomposed, is_blocked_by_last}
 use Rattle.shape_buffer.proofs.DeleteKeeps.{merged_out_keeps}
 use Rattle.shape_buffer.proofs.DrawsInOrder.{DrawsInOrder, DrawsInOrder-same, DrawsInOrder-then, KeepsClusters-from_draws}
 use Rattle.shape_buffer.proofs.KeeperLemmas.{KeepsClusters-same, KeepsClusters-then}
 use Rattle.shape_buffer.proofs.KeyLemmas.{length-merge_out}
-use Rattle.canonical_form.proofs.OptionLemmas.{cases_Option}
-use Rattle.canonical_form.proofs.RecomposeLemmas.{composed-some, recomposed_from-some, recomposed_from-starter, recomposed_from-mark}
+use Rattle.canonical_form.proofs.RecomposeLemmas.{by_steps}
 use Rattle.shape_plan.specs.Rules.{Rules}
 use Rattle.shape_normalize.specs.RoundThree.{Placed, placed, ccc_of_placed, is_mark_placed, compose_placed, recomposed_items, joined_spans, spans_merged_out, with_cluster_at, round_three}
 use Rattle.shape_normalize.proofs.RoundThreePlaceLemmas.{joined_is, IsSpan, recomposed_spans_within}
@@ -29,34 +27,22 @@ module _ {A : Type 0} (ccc : A → ℕ) (blocks : List A → A → Bool) (is_mar
   -- where what is joined has the number of the starter, the numbers are drawn in order
   module _ (number : A → ℕ) (joins : (s c d : A) → compose s c ≡ Some d → number d ≡ number s) where
     recomposed_from_draws : (s : A) (ms rest : List A)
-        → DrawsInOrder (number s ∷ map number ms ++ map number rest) (map number (recomposed_from ccc blocks is_mark compose s ms rest))
-    recomposed_from_draws s ms [] = rw (append-nil (map number ms)) (DrawsInOrder-same (number s ∷ map number ms))
-    recomposed_from_draws s ms (c ∷ rest) =
-        elim (cases_Option (composed ccc blocks is_mark compose s ms c)) [
-          | inr (d, found) ↦
-              let same = joins s c d (composed-some ccc blocks is_mark compose s ms c d found).1 in
-              rw (recomposed_from-some ccc blocks is_mark compose s ms c rest d found)
-              (DrawsInOrder-then _ _ _ (draws_without (number s ∷ map number ms) (number c) (map number rest))
-              (subst (λ n. DrawsInOrder (n ∷ map number ms ++ map number rest)
-              (map number (recomposed_from ccc blocks is_mark compose d ms rest))) same (recomposed_from_draws d ms rest)))
-          | inl none ↦
-              elim (cases_Bool (ccc c == 0)) [
-                | inl start ↦
-                    rw (
-                      recomposed_from-starter ccc blocks is_mark compose s ms c rest none start,
-                      map-append number ms
-                          (recomposed_from ccc blocks is_mark compose c [] rest),
-                    )
-                    (DrawsBefore-same (number s ∷ map number ms) _ _ (recomposed_from_draws c [] rest))
-                | inr mark ↦
-                    rw (recomposed_from-mark ccc blocks is_mark compose s ms c rest none mark)
-                    (subst (λ l. DrawsInOrder (number s ∷ l)
-                    (map number (recomposed_from ccc blocks is_mark compose s (ms ++ c ∷ []) rest)))
-                    (ap (λ l. l ++ map number rest) (map-append number ms (c ∷ []))
-                    ∙ append_assoc (map number ms) (number c ∷ []) (map number rest))
-                    (recomposed_from_draws s (ms ++ c ∷ []) rest))
-              ]
-        ]
+        → DrawsInOrder (number s ∷ map number ms ++ map number rest)
+        (map number (recomposed_from ccc blocks is_mark compose s ms rest))
+    recomposed_from_draws =
+        by_steps ccc blocks is_mark compose (λ s ms rest out.
+        DrawsInOrder (number s ∷ map number ms ++ map number rest) (map number out)) (record {
+          ends = λ s ms. rw (append-nil (map number ms)) (DrawsInOrder-same (number s ∷ map number ms));
+          joins = λ s ms c d rest out found free made later.
+              DrawsInOrder-then _ _ _ (draws_without (number s ∷ map number ms) (number c) (map number rest))
+              (subst (λ n. DrawsInOrder (n ∷ map number ms ++ map number rest) (map number out)) (joins s c d made) later);
+          starts = λ s ms c rest out none start later.
+              rw (map-append number ms out) (DrawsBefore-same (number s ∷ map number ms) _ _ later);
+          passes = λ s ms c rest out none mark later.
+              subst (λ l. DrawsInOrder (number s ∷ l) (map number out))
+              (ap (λ l. l ++ map number rest) (map-append number ms (c ∷ []))
+              ∙ append_assoc (map number ms) (number c ∷ []) (map number rest)) later;
+        })
 
     pub recomposed_draws : (xs : List A) → DrawsInOrder (map number xs) (map number (recomposed ccc blocks is_mark compose xs))
     recomposed_draws [] = DrawsInOrder-same []
@@ -99,7 +85,8 @@ module _ (rules : Rules) where
       ≡ cs = clusters-placed cs 0 items (omega (arith, length-map merged (λ (item : Item). item.cluster))) in
       rw (clusters-put_out merged (recomposed_items rules items))
       (subst (λ l. DrawsInOrder l (map (cluster_at_place cs) (recomposed_items rules items))) begins
-      (recomposed_draws ccc_of_placed (is_blocked_by_last ccc_of_placed) is_mark_placed (compose_placed rules) (cluster_at_place cs)
+      (recomposed_draws ccc_of_placed (is_blocked_by_last ccc_of_placed) is_mark_placed (compose_placed rules)
+      (cluster_at_place cs)
       (λ starter mark made is. ap (cluster_at_place cs) (joined_is rules starter mark made is).2) (placed 0 items)))
 
   -- recomposing keeps the order of clusters, and brings no new one

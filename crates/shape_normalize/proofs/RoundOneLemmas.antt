@@ -18,7 +18,7 @@ use Rattle.shape_buffer.specs.declared.buffer.settings.GlyphId.{GlyphId}
 use Rattle.shape_normalize.specs.Normalized.{BroughtInHaveGlyphs}
 use Rattle.shape_buffer.specs.Prepared.{IsPreparedItem}
 use Rattle.shape_normalize.specs.RoundOne.{item_glyph, passed_item, part_item, whole_item, remembers_space, expanded_item, expanded, expansion_of, is_selector_item, is_selector_sequence, is_with_marks, marked_selector, variant_items, variants, sequences, sequence_items, pairs_from, merged_at, pairs_merged, round_one}
-use Rattle.shape_plan.specs.Rules.{Rules, has_glyph}
+use Rattle.shape_plan.specs.Rules.{Rules, decompositions, has_glyph}
 use Rattle.shape_normalize.proofs.SelectorLemmas.{keys-merged_at}
 use Rattle.shape_normalize.proofs.SequenceLemmas.{each_part, each_of_values, each_value, each_weaker, flat_map_all, flat_map_same, flat_map_parts_all, sequence_becomes, sequences-expanded}
 
@@ -57,7 +57,7 @@ module _ (rules : Rules) (invisible : Option GlyphId) where
   -- the characters that an item becomes are the choice of its character
   pub chars-expanded_item : (short : Bool) (item : Item)
       → map char_of (expanded_item rules invisible short item)
-      ≡ choice rules.split rules.height (has_glyph rules.face.nominal_glyph) short item.codepoint
+      ≡ choice (decompositions rules) (has_glyph rules.face.nominal_glyph) short item.codepoint
   chars-expanded_item short item = chars-found item (expansion_of rules short item)
 
 -- ---- what holds of each item
@@ -112,12 +112,12 @@ module _ (rules : Rules) (among : List ℕ) where
   expanded_item_brings_in : (invisible : Option GlyphId) (short : Bool) (item : Item) → Contains among item.codepoint
       → AllByRecursion (λ new. IsBroughtIn rules among new.codepoint) (expanded_item rules invisible short item)
   expanded_item_brings_in invisible short item here =
-      let chosen = choice rules.split rules.height (has_glyph rules.face.nominal_glyph) short item.codepoint in
+      let chosen = choice (decompositions rules) (has_glyph rules.face.nominal_glyph) short item.codepoint in
       let each : AllByRecursion (IsBroughtIn rules among) chosen =
       each_weaker (HasGlyphOrIs (has_glyph rules.face.nominal_glyph) item.codepoint) (IsBroughtIn rules among)
       (λ d. of_choice item.codepoint d here) chosen
       (recursion_from_All (HasGlyphOrIs (has_glyph rules.face.nominal_glyph) item.codepoint) chosen
-      (choice_glyphs rules.split (has_glyph rules.face.nominal_glyph) rules.height short item.codepoint)) in
+      (choice_glyphs (decompositions rules) (has_glyph rules.face.nominal_glyph) short item.codepoint)) in
       each_of_values char_of (IsBroughtIn rules among) (expanded_item rules invisible short item)
       (subst (AllByRecursion (IsBroughtIn rules among)) (sym (chars-expanded_item rules invisible short item)) each)
 
@@ -183,15 +183,14 @@ module _ (rules : Rules) where
 
   -- the characters of the expanded list are the choices of those of the list
   pub chars-round_one : (b : Buffer) → AllByRecursion (IsPreparedItem rules.unicode) b.items → HasNoSelectorItem b.items
-      → map char_of (round_one rules b).items
-      ≡ expanded_text rules.split rules.height (has_glyph rules.face.nominal_glyph) (is_mark rules.unicode) rules.short
-      (map char_of b.items)
+      → map char_of (round_one rules b).items ≡ expanded_text (decompositions rules) (has_glyph rules.face.nominal_glyph)
+      (is_mark rules.unicode) rules.short (map char_of b.items)
   chars-round_one b prepared none =
       ap (λ (merged : Buffer). map char_of (expanded rules b.invisible_glyph b.not_found_variation_selector_glyph merged.items))
       (pairs_merged-none b none)
       ∙ ap (map char_of) (expanded-no_selector b.invisible_glyph b.not_found_variation_selector_glyph b.items none)
       ∙ expanded-map (IsPreparedItem rules.unicode) char_of char_of is_mark_item (is_mark rules.unicode) (item_becomes b.invisible_glyph)
-      (λ with_marks. choice rules.split rules.height (has_glyph rules.face.nominal_glyph) (rules.short with_marks))
+      (λ with_marks. choice (decompositions rules) (has_glyph rules.face.nominal_glyph) (rules.short with_marks))
       (λ item prepared. sym prepared.mark) (λ with_marks item prepared. chars-expanded_item rules b.invisible_glyph
       (rules.short with_marks) item)
       b.items prepared

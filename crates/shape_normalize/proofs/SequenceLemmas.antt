@@ -5,6 +5,7 @@ use Rattle.std.proofs.lemmas.Bool.{cases_Bool, and_right, or_right}
 use Rattle.std.specs.List.{AllByRecursion}
 use Rattle.canonical_form.proofs.EveryLemmas.{append_all}
 use Rattle.canonical_form.specs.Divided.{put_first, divided}
+use Rattle.canonical_form.proofs.DividedLemmas.{divided-joins, divided-parts, divided-begins}
 use Rattle.canonical_form.specs.Expanded.{begins_with_mark, expanded_from, expanded_in_sequences}
 use Rattle.shape_buffer.specs.Items.{Item, is_mark_item}
 use Rattle.shape_normalize.specs.RoundOne.{sequences, is_with_marks}
@@ -40,23 +41,6 @@ each_weaker P Q weaker [] each = tt
 each_weaker P Q weaker (x ∷ items) each = (weaker x each.0, each_weaker P Q weaker items each.1)
 
 module _ {A : Type 0} (belongs : A → Bool) where
-  pub divided-joins : (x y : A) (rest : List A) → belongs y ≡ true
-      → divided belongs (x ∷ y ∷ rest) ≡ put_first x (divided belongs (y ∷ rest))
-  divided-joins x y rest joins = rw joins refl
-
-  pub divided-parts : (x y : A) (rest : List A) → belongs y ≡ false → divided belongs (x ∷ y ∷ rest) ≡ (x ∷ []) ∷ divided belongs (y ∷ rest)
-  divided-parts x y rest parts = rw parts refl
-
-  -- a list that isn't empty begins with a part that begins with its first item
-  pub divided-begins : (x : A) (rest : List A)
-      → (part : List A) × (parts : List (List A)) × (divided belongs (x ∷ rest) ≡ (x ∷ part) ∷ parts)
-  divided-begins x [] = ([], [], refl)
-  divided-begins x (y ∷ rest) =
-      elim (cases_Bool (belongs y)) [
-        | inl joins ↦ let later = divided-begins y rest in (y ∷ later.0, later.1, divided-joins x y rest joins ∙ ap (put_first x) later.2)
-        | inr parts ↦ ([], divided belongs (y ∷ rest), divided-parts x y rest parts)
-      ]
-
   -- what holds of each item of a list holds of each item of its parts
   module _ (P : A → Type 0) where
     put_first_all : (x : A) (parts : List (List A)) → P x → AllByRecursion (AllByRecursion P) parts

@@ -14,7 +14,7 @@ use Rattle.shape_normalize.specs.Normalized.{normalized}
 use Rattle.shape_buffer.specs.Prepared.{IsPrepared}
 use Rattle.shape_normalize.specs.RoundOne.{round_one}
 use Rattle.shape_normalize.specs.RoundTwo.{max_run, has_mark_past_first}
-use Rattle.shape_plan.specs.Rules.{Rules, has_glyph}
+use Rattle.shape_plan.specs.Rules.{Rules, decompositions, has_glyph}
 
 -- the characters of a buffer
 abbrev pub text_of : Buffer → List ℕ
@@ -22,16 +22,16 @@ text_of b = map char_of b.items
 
 -- two texts are canonically equivalent, by the split in use and Unicode's ccc
 abbrev pub AreEquivalent : Rules → List ℕ → List ℕ → Type 0
-AreEquivalent rules s t = IsEquivalent rules.split rules.height rules.unicode.ccc s t
+AreEquivalent rules s t = IsEquivalent (decompositions rules) s t
 
 -- a text has canonical form: none of its characters splits, and its marks are in order
 abbrev pub HasCanonicalForm : Rules → List ℕ → Type 0
-HasCanonicalForm rules text = IsCanonical rules.split rules.unicode.ccc text
+HasCanonicalForm rules text = IsCanonical (decompositions rules) text
 
 -- the hooks are lawful: their splits fall as Unicode's do, and in the modes that compose what they compose is equivalent to its parts
 pub record HasLawfulHooks (rules : Rules) : Type 0 where
-  pub splits : SplitsFall rules.split rules.height rules.unicode.ccc
-  pub joins : rules.recomposes ≡ true → ComposesSoundly rules.split rules.height rules.unicode.ccc rules.compose
+  pub splits : SplitsFall (decompositions rules)
+  pub joins : rules.recomposes ≡ true → ComposesSoundly (decompositions rules) rules.compose
 
 -- no character of a text is a variation selector
 abbrev pub HasNoSelector : Rules → List ℕ → Type 0
@@ -39,7 +39,7 @@ HasNoSelector rules text = All (λ c. rules.unicode.selector c ≡ false) text
 
 -- a text has a glyph for each character of its Full, and no run of more than 32 marks in it
 abbrev pub IsSupported : Rules → List ℕ → Type 0
-IsSupported rules text = IsWhollySupported rules.split rules.height rules.unicode.ccc (has_glyph rules.face.nominal_glyph) max_run text
+IsSupported rules text = IsWhollySupported (decompositions rules) (has_glyph rules.face.nominal_glyph) max_run text
 
 -- what equivalence asks of a shaper and a text: lawful hooks, no variation selector, and no hook that reorders
 pub record TextPremises (rules : Rules) (text : List ℕ) : Type 0 where

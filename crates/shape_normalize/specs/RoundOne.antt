@@ -16,7 +16,7 @@ use Rattle.shape_buffer.specs.Unicode.{UnicodeMeaning}
 use Rattle.shape_buffer.specs.UnicodeProps.{with_unicode_props, with_scratch_of}
 use Rattle.shape_buffer.specs.declared.buffer.flags.ScratchFlags.{ScratchFlags}
 use Rattle.shape_buffer.specs.declared.buffer.settings.GlyphId.{GlyphId}
-use Rattle.shape_plan.specs.Rules.{Rules, has_glyph}
+use Rattle.shape_plan.specs.Rules.{Rules, decompositions, has_glyph}
 use Rattle.shape_buffer.specs.FlagNames.{HAS_SPACE_FALLBACK, HAS_VARIATION_SELECTOR_FALLBACK}
 
 -- ---- the glyph of an item
@@ -50,7 +50,7 @@ item_glyph rules invisible item = option_map_or (λ g. g.0) (rules.face.nominal_
 
 -- the expansion of an item's character, where one is supported; `true` asks for the shortest
 abbrev pub expansion_of : Rules → Bool → Item → Option (List ℕ)
-expansion_of rules short item = chosen_expansion rules.split rules.height (has_glyph rules.face.nominal_glyph) short item.codepoint
+expansion_of rules short item = chosen_expansion (decompositions rules) (has_glyph rules.face.nominal_glyph) short item.codepoint
 
 -- an item of an expansion: a copy with a character of its own, its glyph, and the properties of that character
 abbrev pub part_item : UnicodeMeaning → (ℕ → Option GlyphId) → Item → ℕ → Item

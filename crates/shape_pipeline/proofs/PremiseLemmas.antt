@@ -17,7 +17,7 @@ use Rattle.shape_normalize.specs.Normalized.{HookKeepsClusters}
 use Rattle.shape_buffer.specs.Prepared.{IsPrepared}
 use Rattle.shape_plan.specs.Keepers.{EachHook, EachCall, RunKeepsFlags}
 use Rattle.shape_plan.specs.Plan.{Plan}
-use Rattle.shape_plan.specs.Rules.{Rules, rules_of, used_split, used_height, used_compose}
+use Rattle.shape_plan.specs.Rules.{Rules, rules_of, used_decompositions, used_compose}
 use Rattle.shape_plan.specs.Run.{run_of}
 use Rattle.shape_plan.specs.Shaper.{HookMeaning, ShaperConstants}
 use Rattle.shape_plan.specs.Shapers.{no_hooks}
@@ -84,13 +84,12 @@ of_kept hooks Claim claim (Some s) h is = let e : hooks s ≡ h = cc in subst Cl
 
 -- splits and joins are Unicode's, whether hooks that are none are asked or not
 splits-none : (unicode : UnicodeMeaning) → LawfulUnicode unicode → (given : Bool)
-    → SplitsFall (used_split unicode given (Some (no_hooks unicode))) (used_height unicode given (Some (no_hooks unicode))) unicode.ccc
+    → SplitsFall (used_decompositions unicode given (Some (no_hooks unicode)))
 splits-none unicode lawful true = lawful.splits_fall
 splits-none unicode lawful false = lawful.splits_fall
 
 joins-none : (unicode : UnicodeMeaning) → LawfulUnicode unicode → (splits joins : Bool)
-    → ComposesSoundly (used_split unicode splits (Some (no_hooks unicode)))
-    (used_height unicode splits (Some (no_hooks unicode))) unicode.ccc (used_compose unicode joins (Some (no_hooks unicode)))
+    → ComposesSoundly (used_decompositions unicode splits (Some (no_hooks unicode))) (used_compose unicode joins (Some (no_hooks unicode)))
 joins-none unicode lawful true true = lawful.composes_soundly
 joins-none unicode lawful true false = lawful.composes_soundly
 joins-none unicode lawful false true = lawful.composes_soundly
@@ -98,23 +97,19 @@ joins-none unicode lawful false false = lawful.composes_soundly
 
 module _ {S : Type 0} (unicode : UnicodeMeaning) (lawful : LawfulUnicode unicode) (hooks : S → HookMeaning)
     (none : (s : S) → hooks s ≡ no_hooks unicode) where
-  splits-kept : (given : Bool) (shaper : Option S)
-      → SplitsFall (used_split unicode given (option_map hooks shaper)) (used_height unicode given (option_map hooks shaper)) unicode.ccc
+  splits-kept : (given : Bool) (shaper : Option S) → SplitsFall (used_decompositions unicode given (option_map hooks shaper))
   splits-kept given None = lawful.splits_fall
   splits-kept given (Some s) =
-      let P : HookMeaning
-      → Type 0 =
-      λ h. SplitsFall (used_split unicode given (Some h)) (used_height unicode given (Some h)) unicode.ccc in subst P (sym (none s))
-      (splits-none unicode lawful given)
+      let P : HookMeaning → Type 0 = λ h. SplitsFall (used_decompositions unicode given (Some h)) in
+      subst P (sym (none s)) (splits-none unicode lawful given)
 
   joins-kept : (splits joins : Bool) (shaper : Option S)
-      → ComposesSoundly (used_split unicode splits (option_map hooks shaper))
-      (used_height unicode splits (option_map hooks shaper)) unicode.ccc (used_compose unicode joins (option_map hooks shaper))
+      → ComposesSoundly (used_decompositions unicode splits (option_map hooks shaper))
+      (used_compose unicode joins (option_map hooks shaper))
   joins-kept splits joins None = lawful.composes_soundly
   joins-kept splits joins (Some s) =
-      let P : HookMeaning
-      → Type 0 = λ h. ComposesSoundly (used_split unicode splits (Some h)) (used_height unicode splits (Some h)) unicode.ccc
-      (used_compose unicode joins (Some h)) in
+      let P : HookMeaning → Type 0 = λ h.
+      ComposesSoundly (used_decompositions unicode splits (Some h)) (used_compose unicode joins (Some h)) in
       subst P (sym (none s)) (joins-none unicode lawful splits joins)
 
 -- a hook that reorders marks is none where it isn't given

@@ -2,6 +2,7 @@
 use Rattle.std.specs.Prelude.{ℕ, ℤ, pos, Bool, true, false, ◌||◌, not, Option, None, is_some, if◌then◌else◌}
 use Rattle.std.specs.Option.{option_map, option_map_or}
 use Rattle.std.specs.Ordering.{int_eq}
+use Rattle.canonical_form.specs.Decompositions.{Decompositions}
 use Rattle.shape_buffer.specs.Buffer.{Buffer}
 use Rattle.shape_buffer.specs.Unicode.{UnicodeMeaning}
 use Rattle.shape_buffer.specs.Face.{FaceMeaning}
@@ -30,7 +31,15 @@ used_split unicode given hooks c = option_map_or (λ h. if given then h.split c 
 abbrev pub used_height : UnicodeMeaning → Bool → Option HookMeaning → ℕ → ℕ
 used_height unicode given hooks c = option_map_or (λ h. if given then h.height c else unicode.height c) hooks (unicode.height c)
 
--- and so is what composes
+-- both, with Unicode's combining classes
+abbrev pub used_decompositions : UnicodeMeaning → Bool → Option HookMeaning → Decompositions
+used_decompositions unicode given hooks = record {
+  split = used_split unicode given hooks;
+  height = used_height unicode given hooks;
+  ccc = unicode.ccc;
+}
+
+-- the join is the hook's likewise
 abbrev pub used_compose : UnicodeMeaning → Bool → Option HookMeaning → ℕ → ℕ → Option ℕ
 used_compose unicode given hooks a b = option_map_or (λ h. if given then h.compose a b else unicode.compose a b) hooks (unicode.compose a b)
 
@@ -80,6 +89,10 @@ rules_without_shaper unicode face = record {
   short = goes_short (pos 4);
   recomposes = mode_recomposes (pos 4);
 }
+
+-- the splits in use, with their heights and Unicode's combining classes
+abbrev pub decompositions : Rules → Decompositions
+decompositions rules = record { split = rules.split; height = rules.height; ccc = rules.unicode.ccc }
 
 -- whether a character has a glyph
 abbrev pub has_glyph : (ℕ → Option GlyphId) → ℕ → Bool

@@ -5,8 +5,8 @@ use Rattle.std.proofs.lemmas.List.{length-map, length-append, map-append, get_or
 use Rattle.std.specs.Prelude.{Contains}
 use Rattle.std.specs.List.{flat_map}
 use Rattle.std.specs.List.Sorted.{IsNonDecreasing}
-use Rattle.canonical_form.specs.Divided.{divided, put_first}
-use Rattle.canonical_form.proofs.DividedLemmas.{whole, whole-divided}
+use Rattle.canonical_form.specs.Divided.{put_first}
+use Rattle.canonical_form.proofs.DividedLemmas.{whole, whole-divided, divided-joins, divided-parts, divided-begins}
 use Rattle.shape_buffer.specs.Buffer.{Buffer}
 use Rattle.shape_buffer.specs.Clusters.{clusters}
 use Rattle.shape_buffer.specs.ClusterOrder.{IsMonotoneLevel}
@@ -27,7 +27,7 @@ use Rattle.shape_prepare.proofs.StepLemmas.{clusters_formed-unseen, clusters_for
 use Rattle.shape_prepare.specs.DottedCircle.{dotted_circled, with_circle, circle_before, takes_circle, begins_with_mark}
 use Rattle.shape_prepare.specs.Graphemes.{graphemes, graphemes_marked, is_continuation}
 use Rattle.shape_prepare.proofs.RisingMergeLemmas.{Firsts, all-firsts, SomeEach}
-use Rattle.shape_prepare.proofs.GraphemeClusterLemmas.{sizes-bits, some-sizes, total-graphemes, merged-parts, graphemes_merged, spans-merged, NoneContinues}
+use Rattle.shape_prepare.proofs.GraphemeClusterLemmas.{some-graphemes, total-graphemes, merged-parts, graphemes_merged, spans-merged, NoneContinues}
 use Rattle.shape_plan.proofs.KeeperLemmas.{keeper-hook}
 
 abbrev firsts_of : List (List Item) → List ℕ
@@ -56,10 +56,8 @@ parts-firsts Q pre ((x ∷ part) ∷ parts) some holds =
 pub own-firsts : (Q : ℕ → Type 0) (xs : List Item) → ((k : ℕ) → Contains (first_clusters xs) k → Q k)
     → Firsts Q 0 (map length (graphemes xs)) xs
 own-firsts Q xs holds =
-    let some : SomeEach (map length (graphemes xs)) = subst SomeEach (sym (sizes-bits is_continuation xs))
-    (some-sizes (map is_continuation xs)) in
     subst (λ (l : List Item). Firsts Q 0 (map length (graphemes xs)) l) (whole-divided is_continuation xs)
-    (parts-firsts Q [] (graphemes xs) some holds)
+    (parts-firsts Q [] (graphemes xs) (some-graphemes xs) holds)
 
 -- merged graphemes have no other clusters than the first ones
 pub merged-firsts : (Q : ℕ → Type 0) (xs : List Item) → IsNonDecreasing (clusters xs) → ((k : ℕ) → Contains (first_clusters xs) k → Q k)
@@ -80,22 +78,6 @@ merged-firsts Q xs rising holds k (i, lt, e) =
 
 -- ---- a circle before the first item
 
-divided-on : {A : Type 0} (belongs : A → Bool) (x y : A) (rest : List A) → belongs y ≡ true
-    → divided belongs (x ∷ y ∷ rest) ≡ put_first x (divided belongs (y ∷ rest))
-divided-on belongs x y rest on = rw on refl
-
-divided-off : {A : Type 0} (belongs : A → Bool) (x y : A) (rest : List A) → belongs y ≡ false
-    → divided belongs (x ∷ y ∷ rest) ≡ (x ∷ []) ∷ divided belongs (y ∷ rest)
-divided-off belongs x y rest off = rw off refl
-
--- the first grapheme begins with the first item
-first-head : (x : Item) (xs : List Item) → (p : List Item) × (ps : List (List Item)) × (graphemes (x ∷ xs) ≡ (x ∷ p) ∷ ps)
-first-head x [] = ([], [], refl)
-first-head x (y ∷ ys) = elim (cases_Bool (is_continuation y)) [
-  | inl on ↦ (let h = first-head y ys in (y ∷ h.0, h.1, divided-on is_continuation x y ys on ∙ ap (put_first x) h.2))
-  | inr off ↦ ([], graphemes (y ∷ ys), divided-off is_continuation x y ys off)
-]
-
 contains-once : (x : ℕ) (xs : List ℕ) (k : ℕ) → Contains (x ∷ x ∷ xs) k → Contains (x ∷ xs) k
 contains-once x xs k (zero, lt, e) = (zero, omega arith, e)
 contains-once x xs k (suc i, lt, e) = (i, omega arith, e)
@@ -103,17 +85,16 @@ contains-once x xs k (suc i, lt, e) = (i, omega arith, e)
 ahead-firsts : (circle first : Item) (rest : List Item) → circle.cluster ≡ first.cluster → (k : ℕ)
     → Contains (first_clusters (circle ∷ first ∷ rest)) k → Contains (first_clusters (first ∷ rest)) k
 ahead-firsts circle first rest same k =
-    let h = first-head first rest in
+    let h = divided-begins is_continuation first rest in
     let own : first_clusters (first ∷ rest) ≡ first.cluster ∷ firsts_of h.1 = ap firsts_of h.2 in
     elim (cases_Bool (is_continuation first)) [
       | inl on ↦ λ c.
-          let all : first_clusters (circle ∷ first ∷ rest)
-          ≡ circle.cluster
-          ∷ firsts_of h.1 = ap firsts_of (divided-on is_continuation circle first rest on ∙ ap (put_first circle) h.2) in
+          let all : first_clusters (circle ∷ first ∷ rest) ≡ circle.cluster ∷ firsts_of h.1 =
+          ap firsts_of (divided-joins is_continuation circle first rest on ∙ ap (put_first circle) h.2) in
           subst (λ (l : List ℕ). Contains l k) (all ∙ ap (λ n. n ∷ firsts_of h.1) same ∙ sym own) c
       | inr off ↦ λ c.
-          let all : first_clusters (circle ∷ first ∷ rest)
-          ≡ circle.cluster ∷ first_clusters (first ∷ rest) = ap firsts_of (divided-off is_continuation circle first rest off) in
+          let all : first_clusters (circle ∷ first ∷ rest) ≡ circle.cluster ∷ first_clusters (first ∷ rest) =
+          ap firsts_of (divided-parts is_continuation circle first rest off) in
           let twice = all ∙ ap₂ (λ (n : ℕ) (l : List ℕ). n ∷ l) same own in
           subst (λ (l : List ℕ). Contains l k) (sym own)
           (contains-once first.cluster (firsts_of h.1) k (subst (λ (l : List ℕ). Contains l k) twice c))
@@ -142,7 +123,7 @@ single-firsts [] none = refl
 single-firsts (x ∷ []) none = refl
 single-firsts (x ∷ y ∷ rest) none =
     ap (λ (cs : List ℕ). x.cluster ∷ cs) (single-firsts (y ∷ rest) none.1)
-    ∙ sym (ap firsts_of (divided-off is_continuation x y rest none.1.0))
+    ∙ sym (ap firsts_of (divided-parts is_continuation x y rest none.1.0))
 
 formed-firsts : (unicode : UnicodeMeaning) (face : FaceMeaning) (b : Buffer) → b.cluster_level ≡ MonotoneGraphemes
     → IsNonDecreasing (clusters b.items)

@@ -4,7 +4,7 @@ use Rattle.std.proofs.lemmas.Bool.{cases_Bool}
 use Rattle.std.proofs.lemmas.List.{take_at, drop_at}
 use Rattle.std.specs.List.Sorted.{IsNonDecreasing}
 use Rattle.canonical_form.specs.Divided.{divided, put_first}
-use Rattle.canonical_form.proofs.DividedLemmas.{whole, whole-divided}
+use Rattle.canonical_form.proofs.DividedLemmas.{whole, whole-divided, sizes-bits}
 use Rattle.shape_buffer.specs.Buffer.{Buffer}
 use Rattle.shape_buffer.specs.BufferClusters.{merge_clusters, merge_at, unsafe_to_break}
 use Rattle.shape_buffer.specs.Clusters.{clusters, merge}
@@ -41,40 +41,18 @@ bits-merged : (spans : List (ℕ × ℕ)) (xs : List Item) → map is_continuati
 bits-merged [] xs = refl
 bits-merged (span ∷ spans) xs = bits-merged spans (merge span.0 span.1 xs) ∙ keys-merge is_continuation IsKey-continuation span.0 span.1 xs
 
--- sizes of parts go by the bits alone
-abbrev longer_first : List ℕ → List ℕ
-longer_first [] = 1 ∷ []
-longer_first (n ∷ ns) = suc n ∷ ns
+some-put_first : {A : Type 0} (x : A) (parts : List (List A)) → SomeEach (map length parts) → SomeEach (map length (put_first x parts))
+some-put_first x [] some = (omega arith, tt)
+some-put_first x (part ∷ parts) some = (omega arith, some.1)
 
-abbrev pub sizes_of_bits : List Bool → List ℕ
-sizes_of_bits [] = []
-sizes_of_bits (x ∷ []) = 1 ∷ []
-sizes_of_bits (x ∷ continuation ∷ bits) =
-    if continuation then longer_first (sizes_of_bits (continuation ∷ bits)) else 1 ∷ sizes_of_bits (continuation ∷ bits)
-
-module _ {A : Type 0} (belongs : A → Bool) where
-  lengths-put_first : (x : A) (parts : List (List A)) → map length (put_first x parts) ≡ longer_first (map length parts)
-  lengths-put_first x [] = refl
-  lengths-put_first x (part ∷ parts) = refl
-
-  pub sizes-bits : (xs : List A) → map length (divided belongs xs) ≡ sizes_of_bits (map belongs xs)
-  sizes-bits [] = refl
-  sizes-bits (x ∷ []) = refl
-  sizes-bits (x ∷ y ∷ rest) = elim (cases_Bool (belongs y)) [
-    | inl on ↦ rw on (lengths-put_first x (divided belongs (y ∷ rest)) ∙ ap longer_first (sizes-bits (y ∷ rest))
-        ∙ ap (λ t. longer_first (sizes_of_bits (t ∷ map belongs rest))) on)
-    | inr off ↦ rw off (ap (λ (ns : List ℕ). 1 ∷ ns) (sizes-bits (y ∷ rest)) ∙ ap (λ t. 1 ∷ sizes_of_bits (t ∷ map belongs rest)) off)
-  ]
-
-some-longer : (ns : List ℕ) → SomeEach ns → SomeEach (longer_first ns)
-some-longer [] some = (omega arith, tt)
-some-longer (n ∷ ns) some = (omega arith, some.1)
-
-pub some-sizes : (bits : List Bool) → SomeEach (sizes_of_bits bits)
-some-sizes [] = tt
-some-sizes (x ∷ []) = (omega arith, tt)
-some-sizes (x ∷ true ∷ bits) = some-longer (sizes_of_bits (true ∷ bits)) (some-sizes (true ∷ bits))
-some-sizes (x ∷ false ∷ bits) = (omega arith, some-sizes (false ∷ bits))
+-- no grapheme is empty
+pub some-graphemes : (xs : List Item) → SomeEach (map length (graphemes xs))
+some-graphemes [] = tt
+some-graphemes (x ∷ []) = (omega arith, tt)
+some-graphemes (x ∷ y ∷ rest) = elim (cases_Bool (is_continuation y)) [
+  | inl on ↦ rw on (some-put_first x (graphemes (y ∷ rest)) (some-graphemes (y ∷ rest)))
+  | inr off ↦ rw off (omega arith, some-graphemes (y ∷ rest))
+]
 
 -- a list in parts of their sizes
 parted-whole : {A : Type 0} (parts : List (List A)) → parted (map length parts) (whole parts) ≡ parts
@@ -97,14 +75,14 @@ graphemes_merged xs = all_merged (grapheme_spans xs) xs
 
 pub sizes-merged : (xs : List Item) → map length (graphemes (graphemes_merged xs)) ≡ map length (graphemes xs)
 sizes-merged xs =
-    sizes-bits is_continuation (graphemes_merged xs) ∙ ap sizes_of_bits (bits-merged (grapheme_spans xs) xs)
+    sizes-bits is_continuation (graphemes_merged xs)
+    ∙ ap (λ bits. map length (divided (λ bit. bit) bits)) (bits-merged (grapheme_spans xs) xs)
     ∙ sym (sizes-bits is_continuation xs)
 
 pub merged-parts : (xs : List Item) → IsNonDecreasing (clusters xs) → Merged 0 (map length (graphemes xs)) xs (graphemes_merged xs)
 merged-parts xs rising =
     let sizes = map length (graphemes xs) in
-    let some : SomeEach sizes = subst SomeEach (sym (sizes-bits is_continuation xs)) (some-sizes (map is_continuation xs)) in
-    parts-merged 0 sizes xs rising some (omega (arith, total-graphemes xs))
+    parts-merged 0 sizes xs rising (some-graphemes xs) (omega (arith, total-graphemes xs))
 
 pub merged-one_cluster : (xs : List Item) → IsNonDecreasing (clusters xs) → AreOneCluster (graphemes (graphemes_merged xs))
 merged-one_cluster xs rising =

@@ -3,6 +3,7 @@ use Rattle.std.proofs.Common.{◌≡◌, ℕ, suc, ◌+◌, ◌<◌, Bool, true,
 use Rattle.std.proofs.lemmas.Bool.{cases_Bool}
 use Rattle.std.proofs.lemmas.List.{drop_more, drop-map}
 use Rattle.canonical_form.specs.Divided.{divided, put_first}
+use Rattle.canonical_form.proofs.DividedLemmas.{divided-begins}
 use Rattle.shape_buffer.specs.Buffer.{Buffer}
 use Rattle.shape_buffer.specs.Items.{Item}
 use Rattle.shape_buffer.proofs.KeyLemmas.{IsKey}
@@ -70,16 +71,8 @@ module _ {A : Type 0} (belongs : A → Bool) where
       let e : place + suc (length part) ≡ place + 1 + length part = omega arith in
       ap (λ end. (start, end) ∷ spans_from end (map length parts)) e
 
-  some-put_first : (x : A) (parts : List (List A)) → 0 < length (map length (put_first x parts))
-  some-put_first x [] = omega arith
-  some-put_first x (part ∷ parts) = omega arith
-
   some-divided : (x : A) (xs : List A) → 0 < length (map length (divided belongs (x ∷ xs)))
-  some-divided x [] = omega arith
-  some-divided x (y ∷ ys) = elim (cases_Bool (belongs y)) [
-    | inl on ↦ rw on (some-put_first x (divided belongs (y ∷ ys)))
-    | inr off ↦ rw off (omega arith)
-  ]
+  some-divided x xs = rw (divided-begins belongs x xs).2 (omega arith)
 
   opened-walk : (f : ℕ → ℕ → Buffer → Buffer) (start place : ℕ) (x : A) (xs : List A) (b : Buffer)
       → left_to_do f start place (map belongs (x ∷ xs)) b

@@ -2,6 +2,7 @@
 use Rattle.std.specs.Prelude.{◌≡◌, ℕ, ◌==◌, ◌||◌, Bool, true, false, if◌then◌else◌, [], ◌∷◌, Some, None, refl}
 use Rattle.shape_buffer.specs.Buffer.{run_limit}
 use Rattle.canonical_form.specs.Chain.{chain_point, second_part, full}
+use Rattle.canonical_form.specs.Decompositions.{Decompositions}
 use Rattle.canonical_form.specs.Expansion.{expansion, choice}
 use Rattle.canonical_form.specs.Order.{in_order}
 use Rattle.shape_normalize.specs.RoundTwo.{runs, spans}
@@ -11,6 +12,10 @@ use Rattle.shape_rows.specs.Splitting.{stacked_split}
 abbrev pub stacked_height : ℕ → ℕ
 stacked_height c = if c == 0x1EA4 then 2 else (if c == 0xC2 then 1 else 0)
 
+-- the two marks have the combining class of those above
+abbrev pub stacked : Decompositions
+stacked = record { split = stacked_split; height = stacked_height; ccc = λ c. if c == 0x301 || c == 0x302 then 230 else 0 }
+
 -- U+1EA4 splits into U+00C2 U+0301, and U+00C2 into U+0041 U+0302
 pub record ChainOfTwo : Type 0 where
   pub point_0 : chain_point stacked_split 0 0x1EA4 ≡ Some 0x1EA4
@@ -19,7 +24,7 @@ pub record ChainOfTwo : Type 0 where
   pub point_3 : chain_point stacked_split 3 0x1EA4 ≡ None
   pub second_1 : second_part stacked_split 1 0x1EA4 ≡ Some 0x301
   pub second_2 : second_part stacked_split 2 0x1EA4 ≡ Some 0x302
-  pub full_of : full stacked_split stacked_height 0x1EA4 ≡ 0x41 ∷ 0x302 ∷ 0x301 ∷ []
+  pub full_of : full stacked 0x1EA4 ≡ 0x41 ∷ 0x302 ∷ 0x301 ∷ []
   pub length_1 : expansion stacked_split 1 0x1EA4 ≡ Some (0xC2 ∷ 0x301 ∷ [])
   pub length_2 : expansion stacked_split 2 0x1EA4 ≡ Some (0x41 ∷ 0x302 ∷ 0x301 ∷ [])
   pub length_3 : expansion stacked_split 3 0x1EA4 ≡ None
@@ -44,11 +49,11 @@ abbrev with_glyphs : (ℕ → Bool) → ℕ → Bool
 with_glyphs more c = c == 0x41 || c == 0x302 || more c
 
 pub record ChoicesOfU1EA4 : Type 0 where
-  pub shortest : choice stacked_split stacked_height (with_glyphs (λ c. c == 0x301 || c == 0xC2)) true 0x1EA4 ≡ 0xC2 ∷ 0x301 ∷ []
-  pub greatest : choice stacked_split stacked_height (with_glyphs (λ c. c == 0x301 || c == 0xC2)) false 0x1EA4 ≡ 0x41 ∷ 0x302 ∷ 0x301 ∷ []
-  pub half_supported : choice stacked_split stacked_height (with_glyphs (λ c. c == 0xC2)) true 0x1EA4 ≡ 0x1EA4 ∷ []
-  pub none_supported : choice stacked_split stacked_height (with_glyphs (λ c. c == 0xC2)) false 0x1EA4 ≡ 0x1EA4 ∷ []
-  pub has_its_own : choice stacked_split stacked_height (λ _. true) true 0x1EA4 ≡ 0x1EA4 ∷ []
+  pub shortest : choice stacked (with_glyphs (λ c. c == 0x301 || c == 0xC2)) true 0x1EA4 ≡ 0xC2 ∷ 0x301 ∷ []
+  pub greatest : choice stacked (with_glyphs (λ c. c == 0x301 || c == 0xC2)) false 0x1EA4 ≡ 0x41 ∷ 0x302 ∷ 0x301 ∷ []
+  pub half_supported : choice stacked (with_glyphs (λ c. c == 0xC2)) true 0x1EA4 ≡ 0x1EA4 ∷ []
+  pub none_supported : choice stacked (with_glyphs (λ c. c == 0xC2)) false 0x1EA4 ≡ 0x1EA4 ∷ []
+  pub has_its_own : choice stacked (λ _. true) true 0x1EA4 ≡ 0x1EA4 ∷ []
 
 choices_of_U1EA4 : ChoicesOfU1EA4
 choices_of_U1EA4 = record { shortest = refl; greatest = refl; half_supported = refl; none_supported = refl; has_its_own = refl }

@@ -5,6 +5,7 @@ use Rattle.std.specs.List.{find, list_all}
 use Rattle.ucd_table.proofs.RangedFacts.{Stepped-at_points}
 use Rattle.ucd_normal.specs.CanonicalCombiningClass.{canonical_combining_class as ccc}
 use Rattle.ucd_normal.proofs.CanonicalCombiningClassLemmas.{canonical_combining_class_stepped}
+use Rattle.canonical_form.specs.Chain.{full, full_text}
 use Rattle.canonical_form.specs.Order.{IsSwap, here, behind, Swaps, done, then}
 use Rattle.shape_unicode.specs.Ccc.{modified_ccc, ccc_by_character, modified_ccc_from, modified_ccc_of}
 use Rattle.shape_unicode.specs.Tables.{by_trees}
@@ -99,5 +100,6 @@ ccc_to_modified x y usual_x usual_y mark_x mark_y distinct = (
 )
 
 pub equivalence_is_canonical : EquivalenceIsCanonical
+unfolding full full_text
 equivalence_is_canonical s t marks =
     (swaps_agree modified_ccc_of ccc modified_to_ccc marks, swaps_agree ccc modified_ccc_of ccc_to_modified marks)

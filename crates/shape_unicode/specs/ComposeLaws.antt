@@ -9,7 +9,8 @@ use Rattle.unicode_normalization.specs.Hangul.{is_syllable, compose_hangul}
 use Rattle.unicode_normalization.proofs.ComposeLemmas.{cases_Option}
 use Rattle.unicode_normalization.proofs.HangulLemmas.{is_among_from, IsLv, IsLvt, compose_hangul-some}
 use Rattle.shape_unicode.specs.Ccc.{modified_ccc_of}
-use Rattle.shape_unicode.specs.Split.{parts_of, split_of, height_of}
+use Rattle.shape_unicode.specs.Canonical.{by_shaping}
+use Rattle.shape_unicode.specs.Split.{parts_of, split_of}
 use Rattle.shape_unicode.specs.TableFacts.{pair_has_second, mappings_ok}
 use Rattle.std.proofs.lemmas.List.{append_assoc}
 use Rattle.canonical_form.specs.Chain.{FallsAlong, kept_part, full, full_text}
@@ -69,25 +70,23 @@ kept_part_nonzero : (b : ℕ) → b ≢ 0 → kept_part b ≡ b ∷ []
 kept_part_nonzero b nonzero = cond-false (b == 0) _ _ (ne_eqb b 0 nonzero)
 
 -- Full of the composed one is Full of the first part, and then the second part, which is its own Full
-full_of_composed : (a b c : ℕ) → primary_composite a b ≡ Some c
-    → full split_of height_of c ≡ full split_of height_of a ++ full split_of height_of b
+full_of_composed : (a b c : ℕ) → primary_composite a b ≡ Some c → full by_shaping c ≡ full by_shaping a ++ full by_shaping b
 full_of_composed a b c joined =
-    let splits = composed_splits a b c joined in
-    let falling : FallsAlong split_of height_of = record { falls = split_of-falls } in
-    let last : split_of b ≡ None = elim (second_is_whole c a b splits.0) [ inl z ↦ absurd (splits.1 z) | inr h ↦ h ] in
-    let second : kept_part b ≡ full split_of height_of b = kept_part_nonzero b splits.1
-    ∙ sym (full-stays split_of height_of falling b last) in
-    full-splits split_of height_of falling c a b splits.0 ∙ ap (λ xs. full split_of height_of a ++ xs) second
+    let parts = composed_splits a b c joined in
+    let falling : FallsAlong by_shaping.split by_shaping.height = record { falls = split_of-falls } in
+    let last : split_of b ≡ None = elim (second_is_whole c a b parts.0) [ inl z ↦ absurd (parts.1 z) | inr h ↦ h ] in
+    let second : kept_part b ≡ full by_shaping b = kept_part_nonzero b parts.1 ∙ sym (full-stays by_shaping falling b last) in
+    full-splits by_shaping falling c a b parts.0 ∙ ap (λ xs. full by_shaping a ++ xs) second
 
-pub composes_soundly : ComposesSoundly split_of height_of modified_ccc_of primary_composite
+pub composes_soundly : ComposesSoundly by_shaping primary_composite
 unfolding full_text
 composes_soundly = record { equivalent = sound }
   where
     full_of : ℕ → List ℕ
-    full_of c = full split_of height_of c
+    full_of c = full by_shaping c
 
     sound : (a b c : ℕ) → primary_composite a b ≡ Some c
-        → Swaps modified_ccc_of (full_text split_of height_of (c ∷ [])) (full_text split_of height_of (a ∷ b ∷ []))
+        → Swaps modified_ccc_of (full_text by_shaping (c ∷ [])) (full_text by_shaping (a ∷ b ∷ []))
     sound a b c joined =
         let same_text : (full_of c ++ []) ≡ (full_of a ++ (full_of b ++ [])) =
         ap (λ xs. xs ++ []) (full_of_composed a b c joined) ∙ append_assoc (full_of a) (full_of b) [] in

@@ -1,8 +1,7 @@
 -- The laws of the functions of Unicode, proved of all characters from what is computed over the short tables.
 use Rattle.shape_buffer.specs.Unicode.{LawfulUnicode}
 use Rattle.canonical_form.specs.SplitsFall.{SplitsFall}
-use Rattle.shape_unicode.specs.Ccc.{modified_ccc_of}
-use Rattle.shape_unicode.specs.Split.{split_of, height_of}
+use Rattle.shape_unicode.specs.Canonical.{by_shaping}
 use Rattle.shape_unicode.specs.Meaning.{unicode_database}
 use Rattle.shape_unicode.specs.TableFacts.{CccPass, MirrorsPass, VerticalsPass, ascii_ok}
 use Rattle.shape_unicode.specs.SplitLaws.{not_true, split_of-falls, second_is_whole}
@@ -10,7 +9,7 @@ use Rattle.shape_unicode.specs.CccLaws.{marks_have_ccc, ccc_of_parts}
 use Rattle.shape_unicode.specs.ComposeLaws.{composes_soundly}
 use Rattle.shape_unicode.specs.FormLaws.{mirrors_are_plain, verticals_are_plain}
 
-pub splits_fall : CccPass → SplitsFall split_of height_of modified_ccc_of
+pub splits_fall : CccPass → SplitsFall by_shaping
 splits_fall pass = record {
   height_falls = record { falls = split_of-falls };
   second_is_last = second_is_whole;

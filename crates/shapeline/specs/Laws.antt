@@ -9,9 +9,10 @@ use Rattle.std.proofs.lemmas.List.{append_assoc}
 use Rattle.unicode.specs.GeneralCategory.{general_category}
 use Rattle.shape_buffer.specs.Category.{is_mark_category, is_space_category}
 use Rattle.canonical_form.specs.Chain.{kept_part, full, full_text}
+use Rattle.canonical_form.specs.Decompositions.{Decompositions}
 use Rattle.canonical_form.specs.Order.{Swaps, done}
 use Rattle.canonical_form.specs.Equivalent.{ComposesSoundly}
-use Rattle.shape_buffer.specs.Unicode.{FormsArePlain, IsPlain, LawfulUnicode}
+use Rattle.shape_buffer.specs.Unicode.{FormsArePlain, IsPlain, LawfulUnicode, decompositions_of}
 use Rattle.canonical_form.specs.SplitsFall.{SplitsFall}
 use Rattle.shape_buffer.specs.declared.buffer.general_category.hb_unicode_general_category_t.{hb_unicode_general_category_t}
 use Rattle.shape_buffer.specs.declared.buffer.general_category.hb_unicode_general_category_t.TheVariants.{Unassigned}
@@ -161,8 +162,11 @@ ascii_is_no_mark true k h =
     let cases : P (is_mark_category k) = elim (is_mark_category k) as P [ true ↦ λ e. refl | false ↦ λ e. e ] in
     cases refl
 
-splits_fall : list_all falls SPLITS ≡ true → list_all ends SPLITS ≡ true → list_all keeps_ccc SPLITS ≡ true
-    → SplitsFall split_of height_of ccc_of
+-- the splits of the tables
+abbrev by_tables : Decompositions
+by_tables = decompositions_of unicode_tables
+
+splits_fall : list_all falls SPLITS ≡ true → list_all ends SPLITS ≡ true → list_all keeps_ccc SPLITS ≡ true → SplitsFall by_tables
 splits_fall all_fall all_end all_keep = record {
   height_falls = record { falls = height_of-falls all_fall };
   second_is_last = second_is_last all_end;
@@ -220,27 +224,24 @@ kept_part_nonzero : (b : ℕ) → b ≢ 0 → kept_part b ≡ b ∷ []
 kept_part_nonzero b nonzero = let e : (b == 0) ≡ false = grind (arith, nat_tests) in ap (λ t. cond t [] (b ∷ [])) e
 
 -- Full of the composite is Full of the first part, and then the second part, which is its own Full
-full_of_composed : SplitsFall split_of height_of ccc_of → list_all has_two_parts COMPOSITES ≡ true → (a b c : ℕ) → compose_of a b ≡ Some c
-    → full split_of height_of c ≡ full split_of height_of a ++ full split_of height_of b
+full_of_composed : SplitsFall by_tables → list_all has_two_parts COMPOSITES ≡ true → (a b c : ℕ) → compose_of a b ≡ Some c
+    → full by_tables c ≡ full by_tables a ++ full by_tables b
 full_of_composed falling all a b c joined =
     let cases = compose_of_cases a b c joined in
     let splits : split_of c ≡ Some (a, b) = split_into a b (split_of c) cases.1 in
     let nonzero : b ≢ 0 = joined_second all a b c cases.0 in
     let last : split_of b ≡ None = elim (falling.second_is_last c a b splits) [ inl z ↦ absurd (nonzero z) | inr h ↦ h ] in
-    let second : kept_part b ≡ full split_of height_of b = kept_part_nonzero b nonzero
-    ∙ sym (full-stays split_of height_of falling.height_falls b last) in
-    full-splits split_of height_of falling.height_falls c a b splits ∙ ap (λ xs. full split_of height_of a ++ xs) second
+    let second : kept_part b ≡ full by_tables b = kept_part_nonzero b nonzero ∙ sym (full-stays by_tables falling.height_falls b last) in
+    full-splits by_tables falling.height_falls c a b splits ∙ ap (λ xs. full by_tables a ++ xs) second
 
-composes_soundly : SplitsFall split_of height_of ccc_of → list_all has_two_parts COMPOSITES ≡ true
-    → ComposesSoundly split_of height_of ccc_of compose_of
+composes_soundly : SplitsFall by_tables → list_all has_two_parts COMPOSITES ≡ true → ComposesSoundly by_tables compose_of
 unfolding full_text
 composes_soundly falling all = record { equivalent = sound }
   where
     full_of : ℕ → List ℕ
-    full_of c = full split_of height_of c
+    full_of c = full by_tables c
 
-    sound : (a b c : ℕ) → compose_of a b ≡ Some c
-        → Swaps ccc_of (full_text split_of height_of (c ∷ [])) (full_text split_of height_of (a ∷ b ∷ []))
+    sound : (a b c : ℕ) → compose_of a b ≡ Some c → Swaps ccc_of (full_text by_tables (c ∷ [])) (full_text by_tables (a ∷ b ∷ []))
     sound a b c joined =
         let same_text : (full_of c ++ []) ≡ (full_of a ++ (full_of b ++ [])) =
         ap (λ xs. xs ++ []) (full_of_composed falling all a b c joined) ∙ append_assoc (full_of a) (full_of b) [] in

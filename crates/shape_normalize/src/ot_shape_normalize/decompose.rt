@@ -8,7 +8,7 @@ ghost use Rattle.std.specs.Option.{option_map};
 ghost use Rattle.canonical_form.specs.Chain.{kept_part};
 ghost use Rattle.canonical_form.specs.Expansion.{chosen_expansion};
 ghost use Rattle.shape_plan.specs.Plan.{hooks_of};
-ghost use Rattle.shape_plan.specs.Rules.{used_split, used_height, has_glyph};
+ghost use Rattle.shape_plan.specs.Rules.{decompositions, has_glyph};
 
 use shape_buffer::interfaces::{hb_font_t, hb_ot_layout_t, hb_unicode_funcs_t};
 use shape_plan::ot_shape_plan::hb_ot_shape_plan_t;
@@ -76,8 +76,7 @@ where
     requires { seconds.old.items ≡ [] }
     ensures { IfOk result (λ found. option_map
         (λ f. f.0 ∷ reverse (take f.1 seconds.new.items)) found
-        ≡ chosen_expansion (⟦<S as Runs<U, F, M>>⟧.rules plan.now face.now).split
-        (⟦<S as Runs<U, F, M>>⟧.rules plan.now face.now).height
+        ≡ chosen_expansion (decompositions (⟦<S as Runs<U, F, M>>⟧.rules plan.now face.now))
         (has_glyph (F.face face.now).nominal_glyph) shortest c) }
 {
     if shortest && face.has_glyph(c) {
@@ -115,8 +114,7 @@ where
     M: hb_ot_layout_t<F>,
     S: hb_ot_shaper_t<U, F, M>,
     ensures { IfOk result (λ found. option_map (λ x. x.first ∷ reverse x.seconds.items) found
-        ≡ chosen_expansion (⟦<S as Runs<U, F, M>>⟧.rules plan.now face.now).split
-        (⟦<S as Runs<U, F, M>>⟧.rules plan.now face.now).height
+        ≡ chosen_expansion (decompositions (⟦<S as Runs<U, F, M>>⟧.rules plan.now face.now))
         (has_glyph (F.face face.now).nominal_glyph) shortest c) }
 {
     let mut seconds = Vec::new(alloc);

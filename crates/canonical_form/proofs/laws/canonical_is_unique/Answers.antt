@@ -2,4 +2,4 @@ use Rattle.canonical_form.proofs.EquivalentLemmas.{canonical_equal}
 use Rattle.canonical_form.proofs.laws.canonical_is_unique.Goals as goal
 
 pub returns : goal.returns
-returns g = λ split height ccc falling. canonical_equal split height falling ccc
+returns g = canonical_equal

@@ -3,7 +3,7 @@ use Rattle.std.proofs.lemmas.List.{length-append}
 use Rattle.std.specs.List.{list_all}
 use Rattle.canonical_form.specs.Chain.{kept_part}
 use Rattle.canonical_form.proofs.ShortestWalkLemmas.{sought_ended, sought_first, sought_found, sought_passed, sought_broken}
-use Rattle.shape_plan.specs.Rules.{rules_of, has_glyph}
+use Rattle.shape_plan.specs.Rules.{rules_of, decompositions, has_glyph}
 use Rattle.shape_normalize.proofs.RulesLemmas.{FallsAlong-planned}
 use Rattle.shape_normalize.proofs.ot_shape_normalize.decompose.walk_chain.Goals as goal
 
@@ -21,7 +21,9 @@ chain-preserved-else-shortest-2 g c =
     let kept_b : true ≡ list_all (has_glyph rules.face.nominal_glyph) (kept_part c.in-Some.b) = sym c.if-not-branch.false
     ∙ c.in_ok-keep_second.ensures.test in
     record {
-      walk = sought_found rules.split (has_glyph rules.face.nominal_glyph) rules.height falls c.args.shortest _ _ _ _ _ c.chain.point _ _ c.if-shortest-2.false c.chain.invariant.walk c.in-Some.ensures kept_b grown c.if-has_glyph-2.ensures (omega (arith, c.keep_second.new.seconds.ok.0));
+      walk = sought_found (decompositions rules) (has_glyph rules.face.nominal_glyph) falls c.args.shortest _ _ _ _ _ c.chain.point _ _
+          c.if-shortest-2.false c.chain.invariant.walk c.in-Some.ensures kept_b grown c.if-has_glyph-2.ensures
+          (omega (arith, c.keep_second.new.seconds.ok.0));
       within = omega (arith, c.keep_second.new.seconds.ok.0);
     }
 
@@ -34,7 +36,9 @@ returns-then-shortest-2 g c =
     ≡ c.chain.seconds.items ++ kept_part c.in-Some.b = c.in_ok-keep_second.ensures.kept (ap Ok c.if-not-branch.false) in
     let kept_b : true ≡ list_all (has_glyph rules.face.nominal_glyph) (kept_part c.in-Some.b) = sym c.if-not-branch.false
     ∙ c.in_ok-keep_second.ensures.test in
-    sought_first rules.split (has_glyph rules.face.nominal_glyph) rules.height falls c.args.shortest _ _ _ _ _ c.chain.point _ _ c.if-shortest-2.true c.chain.invariant.walk c.in-Some.ensures kept_b grown c.if-has_glyph-2.ensures (omega (arith, c.keep_second.new.seconds.ok.0))
+    sought_first (decompositions rules) (has_glyph rules.face.nominal_glyph) falls c.args.shortest _ _ _ _ _ c.chain.point _ _
+    c.if-shortest-2.true c.chain.invariant.walk c.in-Some.ensures kept_b grown c.if-has_glyph-2.ensures
+    (omega (arith, c.keep_second.new.seconds.ok.0))
 
 pub chain-preserved : goal.chain-preserved
 chain-preserved g c =
@@ -46,7 +50,10 @@ chain-preserved g c =
     let kept_b : true ≡ list_all (has_glyph rules.face.nominal_glyph) (kept_part c.in-Some.b) = sym c.if-not-branch.false
     ∙ c.in_ok-keep_second.ensures.test in
     record {
-      walk = sought_passed rules.split (has_glyph rules.face.nominal_glyph) rules.height falls c.args.shortest _ _ _ c.chain.found c.chain.point _ _ c.chain.invariant.walk c.chain.invariant.within c.in-Some.ensures kept_b grown c.if-has_glyph-2.ensures;
+      walk =
+          sought_passed (decompositions rules)
+          (has_glyph rules.face.nominal_glyph) falls c.args.shortest _ _ _ c.chain.found c.chain.point _ _
+          c.chain.invariant.walk c.chain.invariant.within c.in-Some.ensures kept_b grown c.if-has_glyph-2.ensures;
       within = IfSome-weaker c.chain.found _ _ (omega
           (arith, ap length grown, length-append c.chain.seconds.items (kept_part c.in-Some.b))) c.chain.invariant.within;
     }
@@ -59,7 +66,8 @@ returns-then-not-branch g c =
     let same : c.keep_second.new.seconds.items ≡ c.chain.seconds.items = c.in_ok-keep_second.ensures.same (ap Ok c.if-not-branch.true) in
     let kept_b : false ≡ list_all (has_glyph rules.face.nominal_glyph) (kept_part c.in-Some.b) = sym c.if-not-branch.true
     ∙ c.in_ok-keep_second.ensures.test in
-    rw same (sought_broken rules.split (has_glyph rules.face.nominal_glyph) rules.height falls c.args.shortest _ _ c.chain.seconds.items c.chain.point _ _ c.chain.invariant.walk c.in-Some.ensures kept_b)
+    rw same (sought_broken (decompositions rules) (has_glyph rules.face.nominal_glyph) falls c.args.shortest _ _ c.chain.seconds.items
+    c.chain.point _ _ c.chain.invariant.walk c.in-Some.ensures kept_b)
 
 pub returns : goal.returns
 returns g c =

@@ -3,7 +3,7 @@ use Rattle.canonical_form.specs.Expansion.{chosen_expansion}
 use Rattle.canonical_form.proofs.ShortestWalkLemmas.{sought}
 use Rattle.canonical_form.proofs.WalkLemmas.{found_parts, walked}
 use Rattle.shape_plan.specs.Plan.{hooks_of}
-use Rattle.shape_plan.specs.Rules.{used_split, used_height, has_glyph}
+use Rattle.shape_plan.specs.Rules.{used_height, used_decompositions, has_glyph}
 use Rattle.shape_normalize.proofs.ot_shape_normalize.decompose.walk_chain.Given as goal
 
 -- the expansion is what the rest of the chain gives, with the second parts behind it, else what was found
@@ -11,12 +11,12 @@ abbrev pub invariant-chain : goal.invariant-chain
 invariant-chain g l =
     let shaper = g.S.hb_ot_shaper_t in
     let hooks = hooks_of shaper.hooks l.plan l.face in
-    let split = used_split g.U.hb_unicode_funcs_t.unicode shaper.constants.has_decompose hooks in
-    let height = used_height g.U.hb_unicode_funcs_t.unicode shaper.constants.has_decompose hooks in
+    let D = used_decompositions g.U.hb_unicode_funcs_t.unicode shaper.constants.has_decompose hooks in
     let test = has_glyph (g.F.hb_font_t.face l.face).nominal_glyph in
     record {
-      walk : chosen_expansion split height test l.shortest l.fn.c
-          ≡ walked (found_parts l.found l.seconds.items) l.seconds.items (sought split test l.shortest (height l.point) l.point);
+      walk : chosen_expansion D test l.shortest l.fn.c
+          ≡ walked (found_parts l.found l.seconds.items) l.seconds.items
+          (sought D.split test l.shortest (D.height l.point) l.point);
       within : IfSome l.found (λ f. f.1 ≤ length l.seconds.items);
     }
 
