@@ -3,7 +3,7 @@
 # refuses. The worked cases are of the definitions alone, so that no body can make a wrong rule pass: not even
 # one that does what the wrong rule says.
 #
-# A plant is a file of tests/rules: the round whose worked cases must refuse it (`row:`), and edits (`file:`, `old:`,
+# A plant is a file of tests/rules: the round whose worked cases must refuse it, or `origins` (`row:`), and edits (`file:`, `old:`,
 # `new:`), each old text standing once in its file. Names of plants may be given. All is done on a copy.
 #
 # It takes some 20 seconds a plant. Status 0 says that each was refused, for a case that no longer holds.
@@ -33,7 +33,7 @@ def parts(plant):
     return row, edits
 
 def check(row):
-    name = f"shape_normalize::worked::round_{row}_meets_worked_cases"
+    name = "shape_normalize::worked::" + ("origins_meet" if row == "origins" else f"round_{row}_meets") + "_worked_cases"
     run = subprocess.run(["rt", "check", "--jobs", "1", "--only", name], cwd="crates/shape_normalize",
                          capture_output=True, text=True)
     said = run.stdout + run.stderr
@@ -41,7 +41,7 @@ def check(row):
         return "proved", ""
     # a worked case that no longer holds, and no other error in a file of definitions
     files = re.findall(r"^\./(\S+?):\d+:\d+: error: `(\w+)`: (?:as printed|computed|expected type)", said, re.M)
-    cases = [case for file, case in files if file.startswith("specs/Worked")]
+    cases = [case for file, case in files if file.startswith(("specs/Worked", "proofs/Worked"))]
     wrong = re.findall(r"^\./specs/(?!Worked)\S+: error: .*", said, re.M)
     if cases and not wrong:
         return "refused", ", ".join(sorted(set(cases)))
@@ -50,9 +50,9 @@ def check(row):
 plants = sorted(pathlib.Path("tests/rules").glob("*.plant"))
 if sys.argv[1:]:
     plants = [p for p in plants if p.stem in sys.argv[1:]]
-for row in ("one", "two", "three"):
+for row in ("one", "two", "three", "origins"):
     if check(row)[0] != "proved":
-        sys.exit(f"the worked cases of round {row} don't hold before any plant")
+        sys.exit(f"the worked cases of {row} don't hold before any plant")
 refused = 0
 for plant in plants:
     row, edits = parts(plant)

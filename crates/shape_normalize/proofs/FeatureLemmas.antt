@@ -40,7 +40,8 @@ features-merge_out start end b = at_level b.cluster_level
     at_level MonotoneCharacters = keys-merge features_of IsKey-features start end b.items
     at_level Characters = refl
 
-features-spans_merged_out : (spans : List (ℕ × ℕ)) (b : Buffer) → map features_of (spans_merged_out spans b).items ≡ map features_of b.items
+pub features-spans_merged_out : (spans : List (ℕ × ℕ)) (b : Buffer)
+    → map features_of (spans_merged_out spans b).items ≡ map features_of b.items
 features-spans_merged_out [] b = refl
 features-spans_merged_out (span ∷ spans) b =
     features-spans_merged_out spans (merge_out_clusters span.0 span.1 b) ∙ features-merge_out span.0 span.1 b

@@ -63,13 +63,13 @@ module _ (reorder : Option (Buffer → ℕ → ℕ → Buffer)) (lawful : Lawful
       (Reorders-run_reordered reorder lawful start end placed (run_placed-in_order start end b rising within marks few)) inside
       (flag-merged start b (spans (run_cccs start end b)))) refl
 
-  flag-marks_ordered : (b : Buffer) → cgj_flag (marks_ordered reorder b) ≡ cgj_flag b
+  pub flag-marks_ordered : (b : Buffer) → cgj_flag (marks_ordered reorder b) ≡ cgj_flag b
   flag-marks_ordered b =
       kept_by_marks_ordered reorder lawful (λ c. cgj_flag c ≡ cgj_flag b)
       (λ start end c rising within marks so_far. flag-run_settled start end c rising within marks ∙ so_far) b refl
 
 -- where no joiner was seen, none is shown
-cgj_unseen : (b : Buffer) → has_seen_cgj b ≡ false → cgj_settled b ≡ b
+pub cgj_unseen : (b : Buffer) → has_seen_cgj b ≡ false → cgj_settled b ≡ b
 cgj_unseen b unseen = cond-false _ (record b { items = cgj_shown b.items }) b unseen
 
 -- ---- hidden bits

@@ -34,7 +34,7 @@ module _ (rules : Rules) (invisible not_found : Option GlyphId) where
   abbrev HasOwnGlyph : Item → Type 0
   HasOwnGlyph item = item.glyph_index ≡ item_glyph rules invisible item
 
-  part_has_glyph : (item : Item) (c : ℕ) → has_glyph rules.face.nominal_glyph c ≡ true
+  pub part_has_glyph : (item : Item) (c : ℕ) → has_glyph rules.face.nominal_glyph c ≡ true
       → HasOwnGlyph (part_item rules.unicode rules.face.nominal_glyph item c)
   part_has_glyph item c has = index_of_glyph (rules.face.nominal_glyph c) _ has
 
@@ -43,7 +43,7 @@ module _ (rules : Rules) (invisible not_found : Option GlyphId) where
   parts_have_glyphs item [] each = tt
   parts_have_glyphs item (c ∷ cs) each = (part_has_glyph item c each.0, parts_have_glyphs item cs each.1)
 
-  whole_has_glyph : (item : Item) → HasOwnGlyph (whole_item rules invisible item)
+  pub whole_has_glyph : (item : Item) → HasOwnGlyph (whole_item rules invisible item)
   whole_has_glyph item =
       elim (cases_Bool (remembers_space rules invisible item)) [ inl remembers ↦ rw remembers refl | inr forgets ↦ rw forgets refl ]
 

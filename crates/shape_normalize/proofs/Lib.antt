@@ -34,6 +34,13 @@ pub mod RecomposedClusterLemmas
 pub mod FeatureLemmas
 pub mod HiddenLemmas
 pub mod ItemGlyphLemmas
+pub mod OriginLemmas
+pub mod StarterLemmas
+pub mod PlaceLemmas
+pub mod HookPlaceLemmas
+pub mod FromTextLemmas
+pub mod ByPlaceLemmas
+pub mod WorkedOriginLemmas
 pub mod ByAllLemmas
 pub mod SelectorLemmas
 pub mod NormalFlagLemmas

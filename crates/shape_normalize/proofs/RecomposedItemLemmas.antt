@@ -13,7 +13,8 @@ use Rattle.shape_normalize.specs.RoundOne.{part_item}
 use Rattle.shape_normalize.proofs.RoundThreePlaceLemmas.{joined_is, length-recomposed}
 use Rattle.shape_normalize.specs.RoundThree.{Placed, placed, ccc_of_placed, is_mark_placed, compose_placed, recomposed_items, joined_spans, spans_merged_out, with_cluster_at, round_three}
 
-glyph_of_joined : (has : ℕ → Bool) (o : Option ℕ) (c : ℕ) → option_and_then (λ c. if has c then Some c else None) o ≡ Some c → has c ≡ true
+pub glyph_of_joined : (has : ℕ → Bool) (o : Option ℕ) (c : ℕ) → option_and_then (λ c. if has c then Some c else None) o ≡ Some c
+    → has c ≡ true
 glyph_of_joined has None c is = absurd (cc)
 glyph_of_joined has (Some d) c is =
     elim (cases_Bool (has d)) [

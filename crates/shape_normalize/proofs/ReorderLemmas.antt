@@ -8,10 +8,10 @@ use Rattle.std.specs.List.{swap}
 use Rattle.std.specs.List.Sorted.{IsPermutation}
 use Rattle.shape_buffer.specs.Buffer.{Buffer}
 use Rattle.shape_buffer.specs.BufferClusters.{merge_clusters}
-use Rattle.shape_buffer.specs.Items.{Item, ccc_of_item}
-use Rattle.shape_buffer.proofs.KeyLemmas.{IsKey, IsKey-ccc, keys-merge_clusters, without_items, without_items-merge_clusters, length-merge_clusters}
+use Rattle.shape_buffer.specs.Items.{Item}
+use Rattle.shape_buffer.proofs.KeyLemmas.{IsKey, keys-merge_clusters, without_items, without_items-merge_clusters, length-merge_clusters}
 use Rattle.shape_plan.specs.Reorder.{exchanged, with_ccc, ccc_set, Reorders, done, exchange, merge, set_ccc, ReordersRanges}
-use Rattle.shape_normalize.proofs.SpanLemmas.{length-map-same, map-slice_range}
+use Rattle.shape_normalize.proofs.SpanLemmas.{map-slice_range}
 
 -- what `reorder_marks` owes, where it is given
 abbrev pub LawfulReorder : Option (Buffer → ℕ → ℕ → Buffer) → Type 0
@@ -69,7 +69,7 @@ module _ {X : Type 0} where
       → take n (drop start (set xs (start + k) x)) ≡ set (take n (drop start xs)) k x
   range_set xs start n k x within = ap (take n) (drop-set-add start xs k x) ∙ take-set-lt n (drop start xs) k x within
 
-  range_get : (xs : List X) (start n k : ℕ) (d : X) → k < n → get_or (take n (drop start xs)) k d ≡ get_or xs (start + k) d
+  pub range_get : (xs : List X) (start n k : ℕ) (d : X) → k < n → get_or (take n (drop start xs)) k d ≡ get_or xs (start + k) d
   range_get xs start n k d within = get_or-take n (drop start xs) k d within ∙ get_or-drop start xs k d
 
   -- an exchange within a range is one of the range

@@ -20,7 +20,7 @@ use Rattle.shape_normalize.proofs.ReorderLemmas.{PermutesRange-map, swap_permute
 use Rattle.shape_normalize.proofs.RunMarkLemmas.{All_unmapped}
 use Rattle.shape_normalize.proofs.SpanLemmas.{map-slice_range}
 
-IsKey-unclassed : IsKey unclassed
+pub IsKey-unclassed : IsKey unclassed
 IsKey-unclassed = record {
   by_cluster = λ item cluster. ap (with_ccc 0) (IsKey-unflagged.by_cluster item cluster);
   by_break = λ item. ap (with_ccc 0) (IsKey-unflagged.by_break item);

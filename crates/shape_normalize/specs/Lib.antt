@@ -3,8 +3,10 @@ pub mod RoundTwo
 pub mod Reordered
 pub mod RoundThree
 pub mod Normalized
+pub mod Origins
 pub mod CanonicalForm
 pub mod WorkedWorld
 pub mod WorkedOne
 pub mod WorkedTwo
 pub mod WorkedThree
+pub mod WorkedOrigins

@@ -14,6 +14,7 @@ ghost use Rattle.shape_plan.specs.Rules.{rules_of};
 ghost use Rattle.shape_normalize.specs.RoundOne.{round_one};
 ghost use Rattle.shape_normalize.specs.RoundTwo.{has_mark_past_first as has_mark_past_first_of};
 ghost use Rattle.shape_normalize.specs.CanonicalForm.{NormalizesCanonically};
+ghost use Rattle.shape_normalize.specs.Origins.{ComesByPlace};
 ghost use Rattle.shape_normalize.specs.Normalized.{normalized, BroughtInHaveGlyphs, HasItemGlyph};
 ghost use Rattle.shape_normalize.specs.Normalized.{HookKeepsClusters, KeepsFeatures, KeepsHidden};
 ghost use Rattle.shape_normalize.specs.Normalized.{OrdersExpanded, RecomposesByAll};
@@ -79,6 +80,8 @@ where
         (⟦<S as Runs<U, F, M>>⟧.rules plan.now face.now) buffer.old) buffer.new.items) }
     ensures features { OnOk result (KeepsFeatures buffer.old buffer.new) }
     ensures cgj { OnOk result (KeepsHidden
+        (⟦<S as Runs<U, F, M>>⟧.rules plan.now face.now) buffer.old buffer.new) }
+    ensures by_place { OnOk result (ComesByPlace
         (⟦<S as Runs<U, F, M>>⟧.rules plan.now face.now) buffer.old buffer.new) }
     ensures canonical_form { OnOk result (NormalizesCanonically
         (⟦<S as Runs<U, F, M>>⟧.rules plan.now face.now) buffer.old buffer.new) }

@@ -1,5 +1,6 @@
 //! The definitions of normalising, computed on small cases whose answers are worked out by hand.
 ghost use Rattle.shape_normalize.specs.WorkedOne.{RoundOneWorked};
+ghost use Rattle.shape_normalize.specs.WorkedOrigins.{OriginsWorked};
 ghost use Rattle.shape_normalize.specs.WorkedThree.{RoundThreeWorked};
 ghost use Rattle.shape_normalize.specs.WorkedTwo.{RoundTwoWorked};
 
@@ -16,4 +17,9 @@ pub fn round_two_meets_worked_cases()
 /// What composes, what the composed item has, and what is merged.
 pub fn round_three_meets_worked_cases()
     ensures { RoundThreeWorked }
+{}
+
+/// Where the items of each round came from, and what they have of it.
+pub fn origins_meet_worked_cases()
+    ensures { OriginsWorked }
 {}

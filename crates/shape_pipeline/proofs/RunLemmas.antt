@@ -18,6 +18,7 @@ use Rattle.shape_plan.specs.Rules.{Rules}
 use Rattle.shape_buffer.specs.Unicode.{LawfulUnicode}
 use Rattle.shape_normalize.proofs.CanonicalFormLemmas.{NormalizesCanonically-normalized}
 use Rattle.shape_normalize.proofs.ClusterOrderLemmas.{normalized_keeps}
+use Rattle.shape_normalize.proofs.ByPlaceLemmas.{normalized_by_place}
 use Rattle.shape_normalize.proofs.FeatureLemmas.{normalized_keeps_features}
 use Rattle.shape_normalize.proofs.ItemGlyphLemmas.{normalized_has_glyphs}
 use Rattle.shape_normalize.proofs.NormalizedLemmas.{normalized_brings_in}
@@ -147,6 +148,7 @@ normal_form rules lawful unicode b = record {
   brought_in = normalized_brings_in rules lawful b (normalized rules b) refl;
   item_glyphs = normalized_has_glyphs rules lawful b (normalized rules b) refl;
   features = normalized_keeps_features rules lawful b (normalized rules b) refl;
+  by_place = normalized_by_place rules lawful b (normalized rules b) refl;
   clusters = normalized_keeps rules lawful b (normalized rules b) refl;
   canonical_form = NormalizesCanonically-normalized rules unicode b (normalized rules b) refl;
 }

@@ -39,7 +39,7 @@ used_decompositions unicode given hooks = record {
   ccc = unicode.ccc;
 }
 
--- the join is the hook's likewise
+-- and so is what composes
 abbrev pub used_compose : UnicodeMeaning → Bool → Option HookMeaning → ℕ → ℕ → Option ℕ
 used_compose unicode given hooks a b = option_map_or (λ h. if given then h.compose a b else unicode.compose a b) hooks (unicode.compose a b)
 

@@ -6,6 +6,7 @@ use Rattle.shape_buffer.specs.UnicodeProps.{is_hidden_char}
 use Rattle.shape_normalize.specs.Normalized.{HasItemGlyph, features_of, hidden_char}
 use Rattle.shape_plan.specs.Rules.{rules_of}
 use Rattle.shape_normalize.proofs.ByAllLemmas.{normalized_by_all}
+use Rattle.shape_normalize.proofs.ByPlaceLemmas.{normalized_by_place}
 use Rattle.shape_normalize.proofs.CanonicalFormLemmas.{NormalizesCanonically-normalized}
 use Rattle.shape_normalize.proofs.ClusterOrderLemmas.{normalized_keeps}
 use Rattle.shape_normalize.proofs.FeatureLemmas.{normalized_keeps_features}
@@ -119,3 +120,18 @@ returns-else-is_err-clause-recomposed_by_all g c =
     let shaper = g.S.hb_ot_shaper_t in
     let rules = rules_of g.U.hb_unicode_funcs_t.unicode shaper.constants shaper.hooks g.F.hb_font_t.face c.args.plan.now c.args.face.now in
     on_ok_weaker c.normalize-outcome.result (normalized_by_all rules c.args.buffer.now c.normalize-outcome.new.buffer) c.normalize-outcome.ensures.ok
+
+pub returns-then-len-eq0-clause-by_place : goal.returns-then-len-eq0-clause-by_place
+returns-then-len-eq0-clause-by_place g c =
+    let shaper = g.S.hb_ot_shaper_t in
+    let rules = rules_of g.U.hb_unicode_funcs_t.unicode shaper.constants shaper.hooks g.F.hb_font_t.face c.args.plan.now c.args.face.now in
+    let lawful = used_reorder-lawful shaper.hooks g.met.S.hb_ot_shaper_t.lawful_hooks shaper.constants.has_reorder_marks c.args.plan.now c.args.face.now in
+    normalized_by_place rules lawful c.args.buffer.now c.args.buffer.now
+    (empty_is_normalized rules c.args.buffer.now (omega arith) (omega arith))
+
+pub returns-else-is_err-clause-by_place : goal.returns-else-is_err-clause-by_place
+returns-else-is_err-clause-by_place g c =
+    let shaper = g.S.hb_ot_shaper_t in
+    let rules = rules_of g.U.hb_unicode_funcs_t.unicode shaper.constants shaper.hooks g.F.hb_font_t.face c.args.plan.now c.args.face.now in
+    let lawful = used_reorder-lawful shaper.hooks g.met.S.hb_ot_shaper_t.lawful_hooks shaper.constants.has_reorder_marks c.args.plan.now c.args.face.now in
+    on_ok_weaker c.normalize-outcome.result (normalized_by_place rules lawful c.args.buffer.now c.normalize-outcome.new.buffer) c.normalize-outcome.ensures.ok

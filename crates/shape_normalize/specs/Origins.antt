@@ -1,0 +1,152 @@
+-- Where each item of the normalised list came from, and what it has of the item that stood there, place by place.
+use Rattle.std.specs.Prelude.{◌≡◌, ◌⊎◌, ℕ, suc, ◌+◌, ◌<◌, ◌≤◌, min, max, ◌&&◌, Bool, true, false, if◌then◌else◌, List, [], ◌∷◌, ◌++◌, map, replicate, length, get_or, Option, is_some}
+use Rattle.std.specs.List.{AllZip, range_with_len}
+use Rattle.std.specs.List.Sorted.{IsPermutation}
+use Rattle.std.specs.Option.{MatchOption}
+use Rattle.shape_buffer.specs.Buffer.{Buffer}
+use Rattle.shape_buffer.specs.Face.{FaceMeaning}
+use Rattle.shape_buffer.specs.Items.{Item, new_item, ccc_of_item}
+use Rattle.shape_buffer.specs.UnicodeProps.{is_hidden_char}
+use Rattle.shape_buffer.specs.declared.buffer.settings.GlyphId.{GlyphId}
+use Rattle.canonical_form.specs.Runs.{AreRunsSettled}
+use Rattle.shape_plan.specs.Rules.{Rules, has_glyph}
+use Rattle.shape_normalize.specs.Normalized.{ordered, features_of, has_seen_cgj, hidden_char}
+use Rattle.shape_normalize.specs.Reordered.{unmerged, unclassed}
+use Rattle.shape_normalize.specs.RoundOne.{item_glyph, part_item, expanded_item, variants, sequences, is_with_marks, is_selector_sequence, pairs_merged, round_one}
+use Rattle.shape_normalize.specs.RoundTwo.{max_run, has_mark_past_first, shown}
+use Rattle.shape_normalize.specs.RoundThree.{Joined, Placed, recomposed_items}
+
+-- the item at a place of a list; the item that stands for none past its end is of no account
+abbrev pub item_at : List Item → ℕ → Item
+item_at items place = get_or items place (new_item 0 0)
+
+-- ---- round one
+
+-- the place of the text that an item of the expanded list came from, and whether it stands in a sequence with a variation selector
+pub record Origin : Type 0 where
+  pub place : ℕ
+  pub selects : Bool
+
+abbrev pub origin_at : Bool → ℕ → Origin
+origin_at selects place = record { place = place; selects = selects }
+
+-- the origins of items from this place on, one for each
+abbrev pub origins_from : Bool → ℕ → List Item → List Origin
+origins_from selects place [] = []
+origins_from selects place (item ∷ items) = origin_at selects place ∷ origins_from selects (suc place) items
+
+-- of an item with the selectors directly after it: where the face has a glyph for the first two, they became one item, which came from
+-- the first
+abbrev pub variant_origins : FaceMeaning → ℕ → List Item → List Origin
+variant_origins face place [] = []
+variant_origins face place (x ∷ []) = origin_at true place ∷ []
+variant_origins face place (x ∷ v ∷ rest) =
+    let behind = origins_from true (suc (suc place)) rest in
+    let with_selector = origin_at true (suc place) ∷ behind in
+    origin_at true place ∷ (if is_some (face.variation_glyph x.codepoint v.codepoint) then behind else with_selector)
+
+-- each item of an expansion came from the item that was expanded
+abbrev pub expansion_origins : Rules → Option GlyphId → Bool → ℕ → List Item → List Origin
+expansion_origins rules invisible short place [] = []
+expansion_origins rules invisible short place (item ∷ items) =
+    replicate (length (expanded_item rules invisible short item)) (origin_at false place)
+    ++ expansion_origins rules invisible short (suc place) items
+
+-- the origins of what parts of a list become, which stand one behind the other from this place on
+abbrev pub origins_of_parts : (ℕ → List Item → List Origin) → ℕ → List (List Item) → List Origin
+origins_of_parts become place [] = []
+origins_of_parts become place (part ∷ parts) = become place part ++ origins_of_parts become (place + length part) parts
+
+abbrev pub sequence_origins : Rules → Option GlyphId → ℕ → List Item → List Origin
+sequence_origins rules invisible place sequence =
+    let parts = variants rules.unicode sequence in
+    if is_selector_sequence rules.unicode sequence then origins_of_parts (variant_origins rules.face) place parts
+    else expansion_origins rules invisible (rules.short (is_with_marks sequence)) place sequence
+
+-- the origin of each item of the expanded list
+abbrev pub origins : Rules → Buffer → List Origin
+origins rules text = origins_of_parts (sequence_origins rules text.invisible_glyph) 0 (sequences (pairs_merged rules text).items)
+
+-- what an item has of the text's item at the place that it came from: the feature bits; outside sequences with a selector the glyph of
+-- its own character, or what stands in for that; and, unless joiners were shown since, the hidden bit with the character, or else that
+-- of its own character
+pub record HasOfOrigin (rules : Rules) (text : Buffer) (shows : Bool) (origin : Origin) (item : Item) : Type 0 where
+  pub features : features_of item ≡ features_of (item_at text.items origin.place)
+  pub glyph : origin.selects ≡ false → item.glyph_index ≡ item_glyph rules text.invisible_glyph item
+  pub hidden : shows ≡ false
+      → (hidden_char item ≡ hidden_char (item_at text.items origin.place)) ⊎ (item.properties.hidden ≡ is_hidden_char item.codepoint)
+
+-- ---- round two
+
+-- the places of a list
+abbrev pub all_places : List Item → List ℕ
+all_places items = range_with_len 0 (length items)
+
+-- two places are the same, or from the lower to the higher one all items are marks
+abbrev pub AreInOneRun : List Item → ℕ → ℕ → Type 0
+AreInOneRun items p q = (p ≡ q) ⊎ ((k : ℕ) → min p q ≤ k → k ≤ max p q → 0 < ccc_of_item (item_at items k))
+
+-- a list of places is all of them, each run of marks in another order
+pub record PermutesRuns (items : List Item) (places : List ℕ) : Type 0 where
+  pub all : IsPermutation (all_places items) places
+  pub runs : (i d : ℕ) → i < length items → AreInOneRun items i (get_or places i d)
+
+-- the places of the expanded list in the order that round two leaves: where no reorder hook is given runs of at most 32 marks are
+-- settled, else each run is in another order
+abbrev pub IsOrderOf : Rules → List Item → List ℕ → Type 0
+IsOrderOf rules items places =
+    MatchOption rules.reorder (AreRunsSettled (λ place. ccc_of_item (item_at items place)) max_run [] (all_places items) places)
+    (λ reorder. PermutesRuns items places)
+
+-- an item but for its cluster and its defined flags, which merging changes, and for its ccc where a reorder hook is given, which may
+-- set that
+abbrev pub lasting : Rules → Item → Item
+lasting rules item = if is_some rules.reorder then unclassed item else unmerged item
+
+-- an item is the one of the expanded list that stood at this place; a joiner may be shown, where one was seen
+abbrev pub IsFromPlace : Rules → Buffer → ℕ → Item → Type 0
+IsFromPlace rules expanded place item =
+    let from = item_at expanded.items place in
+    (lasting rules item ≡ lasting rules from)
+    ⊎ ((has_seen_cgj expanded ≡ true) × (from.codepoint ≡ 0x34F) × (lasting rules item ≡ lasting rules (shown from)))
+
+-- ---- round three
+
+-- an item is this one; once marks were composed with that, it has a character of its own that has a glyph, with that glyph and with the
+-- properties of that character
+abbrev pub IsOnceJoined : Rules → Item → List Joined → Item → Type 0
+IsOnceJoined rules from [] item = unmerged item ≡ unmerged from
+IsOnceJoined rules from (mark ∷ marks) item =
+    (has_glyph rules.face.nominal_glyph item.codepoint ≡ true)
+    × (unmerged item ≡ unmerged (part_item rules.unicode rules.face.nominal_glyph from item.codepoint))
+
+-- an item is what became of the starter that stood at its place
+abbrev pub IsFromStarter : Rules → List Item → Placed → Item → Type 0
+IsFromStarter rules items p item = IsOnceJoined rules (item_at items p.place) p.joined item
+
+-- ---- the three rounds
+
+-- whether marks are composed with their starters
+abbrev pub is_recomposed : Rules → Buffer → Bool
+is_recomposed rules text = has_mark_past_first text.items && rules.recomposes
+
+-- the origins of the new list's items, where the items of the ordered list stood at these places of the expanded one
+abbrev pub new_origins : Rules → Buffer → List ℕ → List Origin
+new_origins rules text places =
+    let none = origin_at false 0 in
+    let of_ordered = map (λ place. get_or (origins rules text) place none) places in
+    if is_recomposed rules text then map (λ p. get_or of_ordered p.place none) (recomposed_items rules (ordered rules text).items)
+    else of_ordered
+
+-- each item of the expanded list by the place of the text that it came from, each of the ordered list by its place in the expanded one,
+-- and each of the new list by the place of its starter in the ordered one; and so, what each has of the text's item that it came from
+pub record ComesByPlace (rules : Rules) (text new : Buffer) : Type 0 where
+  pub expanded : AllZip (HasOfOrigin rules text false) (origins rules text) (round_one rules text).items
+  pub places : List ℕ
+  pub unmarked : has_mark_past_first text.items ≡ false → places ≡ all_places (round_one rules text).items
+  pub marked : has_mark_past_first text.items ≡ true → IsOrderOf rules (round_one rules text).items places
+  pub ordered_list : AllZip (IsFromPlace rules (round_one rules text)) places (ordered rules text).items
+  pub recomposed : is_recomposed rules text ≡ true
+      → AllZip (IsFromStarter rules (ordered rules text).items) (recomposed_items rules (ordered rules text).items) new.items
+  pub left : is_recomposed rules text ≡ false → new ≡ ordered rules text
+  pub from_text : AllZip (HasOfOrigin rules text (has_seen_cgj (round_one rules text))) (new_origins rules text places) new.items
