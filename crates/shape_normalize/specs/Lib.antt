@@ -4,6 +4,7 @@ pub mod Reordered
 pub mod RoundThree
 pub mod Normalized
 pub mod CanonicalForm
+pub mod PremiseTest
 pub mod WorkedWorld
 pub mod WorkedOne
 pub mod WorkedTwo
