@@ -45,3 +45,4 @@ pub mod ByAllLemmas
 pub mod SelectorLemmas
 pub mod NormalFlagLemmas
 pub mod ReorderedLemmas
+pub mod PremiseTestLemmas

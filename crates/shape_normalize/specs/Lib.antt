@@ -5,6 +5,7 @@ pub mod RoundThree
 pub mod Normalized
 pub mod Origins
 pub mod CanonicalForm
+pub mod PremiseTest
 pub mod WorkedWorld
 pub mod WorkedOne
 pub mod WorkedTwo

@@ -24,6 +24,7 @@ mod compare;
 mod context;
 mod decompose;
 mod mode;
+mod premises;
 mod round_one;
 mod round_three;
 mod round_two;
@@ -35,6 +36,7 @@ use crate::ot_shape_normalize::round_three::recompose;
 use crate::ot_shape_normalize::round_two::order_runs;
 pub use compare::normalized_equal;
 pub use context::hb_ot_shape_normalize_context_t;
+pub use premises::meets_canonical_premises;
 use shape_buffer::buffer::{ShapeError, hb_buffer_t, hb_glyph_info_t};
 use shape_buffer::interfaces::{hb_font_t, hb_ot_layout_t, hb_unicode_funcs_t};
 pub use shape_plan::normalization_mode::{

@@ -1,5 +1,5 @@
 -- Where the hooks do nothing of their own and the lookups keep clusters and flags, a run's premises hold.
-use Rattle.std.proofs.Common.{◌≡◌, ℕ, Bool, true, false, List, Option, Some, None, sym, subst, ap, ◌∙◌}
+use Rattle.std.proofs.Common.{◌≡◌, ℕ, Bool, true, false, ◌||◌, List, Option, Some, None, refl, sym, subst, ◌∙◌}
 use Rattle.std.specs.Option.{option_map}
 use Rattle.canonical_form.specs.Equivalent.{ComposesSoundly}
 use Rattle.canonical_form.specs.SplitsFall.{SplitsFall}
@@ -15,7 +15,7 @@ use Rattle.shape_buffer.proofs.FlagLemmas.{KeepsFlags-same}
 use Rattle.shape_normalize.specs.CanonicalForm.{HasLawfulHooks, TextPremises, HasNoSelector}
 use Rattle.shape_normalize.specs.Normalized.{HookKeepsClusters}
 use Rattle.shape_buffer.specs.Prepared.{IsPrepared}
-use Rattle.shape_plan.specs.Keepers.{EachHook, EachCall, RunKeepsFlags}
+use Rattle.shape_plan.specs.Keepers.{EachHook, EachCall, RunKeepsFlags, has_steps}
 use Rattle.shape_plan.specs.Plan.{Plan}
 use Rattle.shape_plan.specs.Rules.{Rules, rules_of, used_decompositions, used_compose}
 use Rattle.shape_plan.specs.Run.{run_of}
@@ -24,7 +24,7 @@ use Rattle.shape_plan.specs.Shapers.{no_hooks}
 use Rattle.shape_pipeline.specs.Headline.{prepared_text}
 use Rattle.shape_pipeline.specs.Headline.{target_of}
 use Rattle.shape_pipeline.specs.Order.{RunKeepsClusters}
-use Rattle.shape_pipeline.specs.Premises.{LeavesBuffers, OwesNothing}
+use Rattle.shape_pipeline.specs.Premises.{OwesNothing}
 use Rattle.shape_pipeline.specs.Shaped.{entered}
 use Rattle.shape_normalize.proofs.LawfulLemmas.{reorder-unasked}
 use Rattle.shape_prepare.specs.PreparedPoint.{KeepsPrepared}
@@ -59,22 +59,34 @@ clusters-no_lookups = EachLookup-none IsClusterKeeper clusters-left
 pub flags-no_lookups : LookupsKeepFlags no_lookups
 flags-no_lookups = EachLookup-none IsFlagKeeper flags-left
 
-EachHook-left : (Keeps : (Buffer → Buffer) → Type 0) → Keeps (λ b. b) → (hooks : HookMeaning) → LeavesBuffers hooks → EachHook Keeps hooks
-EachHook-left Keeps left hooks leaves = record {
-  preprocess = subst Keeps (sym leaves.preprocess) left;
-  setup_masks = subst Keeps (sym leaves.setup_masks) left;
-  postprocess = subst Keeps (sym leaves.postprocess) left;
-  pause = λ n. subst (λ (pause : ℕ → Buffer → Buffer). Keeps (pause n)) (sym leaves.pause) left;
+EachHook-none : (Keeps : (Buffer → Buffer) → Type 0) → Keeps (λ b. b) → (unicode : UnicodeMeaning) (constants : ShaperConstants)
+    → EachHook Keeps constants (no_hooks unicode)
+EachHook-none Keeps left unicode constants = record {
+  preprocess = λ given. left;
+  setup_masks = λ given. left;
+  postprocess = λ given. left;
+  pause = λ given n. left;
 }
 
--- hooks that do what is done without them leave buffers as they are
-pub LeavesBuffers-none : (unicode : UnicodeMeaning) (hooks : HookMeaning) → hooks ≡ no_hooks unicode → LeavesBuffers hooks
-LeavesBuffers-none unicode hooks none = record {
-  preprocess = ap (λ (h : HookMeaning). h.preprocess) none;
-  setup_masks = ap (λ (h : HookMeaning). h.setup_masks) none;
-  postprocess = ap (λ (h : HookMeaning). h.postprocess) none;
-  pause = ap (λ (h : HookMeaning). h.pause) none;
-}
+none_given : (preprocess setup_masks postprocess pause : Bool) → (preprocess || setup_masks || postprocess || pause) ≡ false
+    → (preprocess ≡ false) × (setup_masks ≡ false) × (postprocess ≡ false) × (pause ≡ false)
+none_given false false false false none = (refl, refl, refl, refl)
+none_given false false false true none = cc
+none_given false false true pause none = cc
+none_given false true postprocess pause none = cc
+none_given true setup_masks postprocess pause none = cc
+
+EachHook-not_given : (Keeps : (Buffer → Buffer) → Type 0) (constants : ShaperConstants) → has_steps constants ≡ false
+    → (hooks : HookMeaning) → EachHook Keeps constants hooks
+EachHook-not_given Keeps constants none hooks =
+    let each = none_given constants.has_preprocess_text constants.has_setup_masks constants.has_postprocess_glyphs
+    constants.has_pause none in
+    record {
+      preprocess = λ given. absurd (let e : true ≡ false = sym given ∙ each.0 in cc);
+      setup_masks = λ given. absurd (let e : true ≡ false = sym given ∙ each.1 in cc);
+      postprocess = λ given. absurd (let e : true ≡ false = sym given ∙ each.2 in cc);
+      pause = λ given. absurd (let e : true ≡ false = sym given ∙ each.3 in cc);
+    }
 
 -- what holds of the shaper's hooks holds of those that the plan keeps
 of_kept : {S : Type 0} (hooks : S → HookMeaning) (Claim : HookMeaning → Type 0) → ((s : S) → Claim (hooks s))
@@ -119,27 +131,29 @@ no_reorder-keeps rules no_reorder reorder is = absurd (let e : None ≡ Some reo
 module _ {S P D F : Type 0} (unicode : UnicodeMeaning) (masks : P → MapMeaning) (lookups : P → F → LookupMeaning)
     (constants : ShaperConstants)
     (hooks : S → Plan S P D → F → HookMeaning) (faces : F → FaceMeaning) (plan : Plan S P D) (face : F) where
-  calls-left : (Keeps : (Buffer → Buffer) → Type 0) → Keeps (λ b. b) → ((s : S) → LeavesBuffers (hooks s plan face))
-      → EachLookup Keeps (lookups plan.ot_map face)
+  calls-not_given : (Keeps : (Buffer → Buffer) → Type 0) → has_steps constants ≡ false → EachLookup Keeps (lookups plan.ot_map face)
       → EachCall Keeps (run_of unicode masks lookups constants hooks faces plan face)
-  calls-left Keeps left leaves keep = record {
-    lookups = keep;
-    hooks = of_kept (λ s. hooks s plan face) (λ h. EachHook Keeps h)
-        (λ s. EachHook-left Keeps left (hooks s plan face) (leaves s)) plan.shaper;
-  }
+  calls-not_given Keeps not_given keep = record { lookups = keep; hooks = λ h is. EachHook-not_given Keeps constants not_given h }
 
-  pub flags-not_given : ((s : S) → LeavesBuffers (hooks s plan face)) → LookupsKeepFlags (lookups plan.ot_map face)
+  pub flags-not_given : has_steps constants ≡ false → LookupsKeepFlags (lookups plan.ot_map face)
       → RunKeepsFlags (run_of unicode masks lookups constants hooks faces plan face)
-  flags-not_given = calls-left IsFlagKeeper flags-left
+  flags-not_given = calls-not_given IsFlagKeeper
 
-  pub clusters-not_given : ((s : S) → LeavesBuffers (hooks s plan face)) → LookupsKeepClusters (lookups plan.ot_map face)
+  pub clusters-not_given : has_steps constants ≡ false → LookupsKeepClusters (lookups plan.ot_map face)
       → HookKeepsClusters (rules_of unicode constants hooks faces plan face)
       → RunKeepsClusters (run_of unicode masks lookups constants hooks faces plan face)
-  clusters-not_given leaves keep reordering =
-      record { calls = calls-left IsClusterKeeper clusters-left leaves keep; reordering = reordering }
+  clusters-not_given not_given keep reordering = record { calls = calls-not_given IsClusterKeeper not_given keep; reordering = reordering }
 
   module _ (lawful : LawfulUnicode unicode) (no_reorder : constants.has_reorder_marks ≡ false)
       (none : (s : S) → hooks s plan face ≡ no_hooks unicode) where
+    calls-none : (Keeps : (Buffer → Buffer) → Type 0) → Keeps (λ b. b) → EachLookup Keeps (lookups plan.ot_map face)
+        → EachCall Keeps (run_of unicode masks lookups constants hooks faces plan face)
+    calls-none Keeps left keep = record {
+      lookups = keep;
+      hooks = of_kept (λ s. hooks s plan face) (EachHook Keeps constants)
+          (λ s. subst (EachHook Keeps constants) (sym (none s)) (EachHook-none Keeps left unicode constants)) plan.shaper;
+    }
+
     lawful-none : HasLawfulHooks (rules_of unicode constants hooks faces plan face)
     lawful-none = record {
       splits = splits-kept unicode lawful (λ s. hooks s plan face) none constants.has_decompose plan.shaper;
@@ -152,19 +166,21 @@ module _ {S P D F : Type 0} (unicode : UnicodeMeaning) (masks : P → MapMeaning
     prepared-none text =
         let run = run_of unicode masks lookups constants hooks faces plan face in
         preparing_prepares run (target_of run text) (entered (guessed unicode text)) lawful
-        (of_kept (λ s. hooks s plan face) (λ h. KeepsPrepared unicode h.preprocess)
-        (λ s. subst (λ (h : HookMeaning). KeepsPrepared unicode h.preprocess) (sym (none s)) (λ b all. all)) plan.shaper)
+        (λ h is given. of_kept (λ s. hooks s plan face) (λ h. KeepsPrepared unicode h.preprocess)
+        (λ s. subst (λ (h : HookMeaning). KeepsPrepared unicode h.preprocess) (sym (none s)) (λ b all. all)) plan.shaper h is)
 
     pub owes_nothing : LookupsKeepClusters (lookups plan.ot_map face) → LookupsKeepFlags (lookups plan.ot_map face)
         → OwesNothing (run_of unicode masks lookups constants hooks faces plan face)
     owes_nothing clusters flags =
-        let leaves : (s : S) → LeavesBuffers (hooks s plan face) = λ s. LeavesBuffers-none unicode (hooks s plan face) (none s) in
         let unordered = reorder-unasked unicode constants hooks faces plan face no_reorder in
         let asked : (text : List ℕ) → HasNoSelector (rules_of unicode constants hooks faces plan face) text
         → TextPremises (rules_of unicode constants hooks faces plan face) text = λ text plain. record { lawful_hooks = lawful-none; no_selector = plain; no_reordering = unordered } in
         record {
-          clusters = clusters-not_given leaves clusters (no_reorder-keeps (rules_of unicode constants hooks faces plan face) unordered);
-          flags = flags-not_given leaves flags;
+          clusters = record {
+            calls = calls-none IsClusterKeeper clusters-left clusters;
+            reordering = no_reorder-keeps (rules_of unicode constants hooks faces plan face) unordered;
+          };
+          flags = calls-none IsFlagKeeper flags-left flags;
           hooks = lawful-none;
           no_reordering = unordered;
           prepared = prepared-none;

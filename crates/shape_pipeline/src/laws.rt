@@ -10,14 +10,14 @@ ghost use Rattle.shape_buffer.specs.Keepers.{LookupsKeepClusters, LookupsKeepFla
 ghost use Rattle.shape_buffer.specs.NoLookups.{no_lookups};
 ghost use Rattle.shape_buffer.specs.declared.buffer.settings.Direction.{Direction};
 ghost use Rattle.shape_normalize.specs.Normalized.{normalized, HookKeepsClusters};
-ghost use Rattle.shape_plan.specs.Keepers.{RunKeepsFlags};
+ghost use Rattle.shape_plan.specs.Keepers.{RunKeepsFlags, has_steps};
 ghost use Rattle.shape_plan.specs.Plan.{Plan};
 ghost use Rattle.shape_plan.specs.Shapers.{no_hooks};
 ghost use Rattle.shape_plan.specs.declared.ot_shaper.shapers.hb_default_shaper_t.{hb_default_shaper_t as DefaultShaper};
 ghost use Rattle.shape_pipeline.specs.Headline.{NormalForm, FlagsAreByCluster};
 ghost use Rattle.shape_pipeline.specs.Order.{RunKeepsClusters, ClustersComeInOrder};
 ghost use Rattle.shape_pipeline.specs.Shaped.{run_made};
-ghost use Rattle.shape_pipeline.specs.Premises.{LeavesBuffers, OwesNothing};
+ghost use Rattle.shape_pipeline.specs.Premises.{OwesNothing};
 
 use shape_buffer::interfaces::{NoLookups, hb_font_t, hb_ot_layout_t, hb_unicode_funcs_t};
 pub use shape_normalize::laws::{hooks_not_given_are_lawful, reordering_permutes_the_run};
@@ -33,9 +33,9 @@ pub fn no_lookups_keep()
     ensures flags { LookupsKeepFlags no_lookups }
 {}
 
-/// What a run owes of a shaper whose hooks leave buffers as they are, those that split and compose and the
-/// one that reorders marks aside: no more than that its engine's lookups keep clusters, or flags, and that
-/// the hook which reorders marks keeps clusters. A hook that is `no_hook` leaves buffers so, by `refl`.
+/// A run owes nothing of hooks that aren't given, for they are never called: where a shaper gives no hook
+/// that changes a buffer, the one that reorders marks aside, it owes no more than that its engine's lookups
+/// keep clusters, or flags, and that the hook which reorders marks keeps clusters.
 pub fn hooks_not_given_keep<U, F, M, S>()
 where
     U: hb_unicode_funcs_t,
@@ -44,12 +44,11 @@ where
     S: hb_ot_shaper_t<U, F, M>,
     ensures clusters { (plan : Plan S M.Map S.Data) (face : F)
         → let run = ⟦<S as Runs<U, F, M>>⟧.run plan face in
-        ((shaper : S) → LeavesBuffers (S.hooks shaper plan face))
+        has_steps S.constants ≡ false
         → LookupsKeepClusters run.lookups → HookKeepsClusters run.rules → RunKeepsClusters run }
     ensures flags { (plan : Plan S M.Map S.Data) (face : F)
         → let run = ⟦<S as Runs<U, F, M>>⟧.run plan face in
-        ((shaper : S) → LeavesBuffers (S.hooks shaper plan face))
-        → LookupsKeepFlags run.lookups → RunKeepsFlags run }
+        has_steps S.constants ≡ false → LookupsKeepFlags run.lookups → RunKeepsFlags run }
 {}
 
 /// A run owes nothing where its shaper's hooks do what is done without them, whichever of them are given

@@ -14,9 +14,10 @@ keeper-step_if Keeps none false keeper = none
 
 pub keeper-hook : (Keeps : (Buffer → Buffer) → Type 0) → Keeps (λ b. b)
     → (given : Bool) (hooks : Option HookMeaning) (pick : HookMeaning → Buffer → Buffer)
-    → ((h : HookMeaning) → hooks ≡ Some h → Keeps (pick h)) → Keeps (hook_if given hooks pick)
+    → ((h : HookMeaning) → hooks ≡ Some h → given ≡ true → Keeps (pick h)) → Keeps (hook_if given hooks pick)
 keeper-hook Keeps none given None pick each = none
-keeper-hook Keeps none given (Some h) pick each = keeper-step_if Keeps none given (each h refl)
+keeper-hook Keeps none true (Some h) pick each = each h refl refl
+keeper-hook Keeps none false (Some h) pick each = none
 
 -- ---- clusters, and flags
 
@@ -24,12 +25,12 @@ pub order-step_if : {f : Buffer → Buffer} (test : Bool) → IsClusterKeeper f 
 order-step_if test keeper = keeper-step_if IsClusterKeeper (λ b monotone. KeepsOrder-same b) test keeper
 
 pub order-hook_if : (given : Bool) (hooks : Option HookMeaning) (pick : HookMeaning → Buffer → Buffer)
-    → ((h : HookMeaning) → hooks ≡ Some h → IsClusterKeeper (pick h)) → IsClusterKeeper (hook_if given hooks pick)
+    → ((h : HookMeaning) → hooks ≡ Some h → given ≡ true → IsClusterKeeper (pick h)) → IsClusterKeeper (hook_if given hooks pick)
 order-hook_if given hooks pick keep = keeper-hook IsClusterKeeper (λ b monotone. KeepsOrder-same b) given hooks pick keep
 
 pub flags-step_if : {f : Buffer → Buffer} (test : Bool) → IsFlagKeeper f → IsFlagKeeper (step_if test f)
 flags-step_if test keeper = keeper-step_if IsFlagKeeper KeepsFlags-same test keeper
 
 pub flags-hook_if : (given : Bool) (hooks : Option HookMeaning) (pick : HookMeaning → Buffer → Buffer)
-    → ((h : HookMeaning) → hooks ≡ Some h → IsFlagKeeper (pick h)) → IsFlagKeeper (hook_if given hooks pick)
+    → ((h : HookMeaning) → hooks ≡ Some h → given ≡ true → IsFlagKeeper (pick h)) → IsFlagKeeper (hook_if given hooks pick)
 flags-hook_if given hooks pick keep = keeper-hook IsFlagKeeper KeepsFlags-same given hooks pick keep

@@ -238,8 +238,7 @@ preparing_prepares run target b lawful keeps =
     let first = marked_text-prepared unicode lawful (begun run.map.global_mask b) in
     let before_hook = ordered-prepared unicode formed
     (formed-prepared unicode circled (circled-prepared unicode lawful run.face marked first)) in
-    let hook = keeper-hook (KeepsPrepared unicode) (λ c all. all) run.constants.has_preprocess_text run.hooks (λ h. h.preprocess)
-    (λ h is. keeps h is) in
+    let hook = keeper-hook (KeepsPrepared unicode) (λ c all. all) run.constants.has_preprocess_text run.hooks (λ h. h.preprocess) keeps in
     let processed = hook_if run.constants.has_preprocess_text run.hooks (λ h. h.preprocess) ordered in
     let behind_hook = hook ordered (All-from_recursion (IsPreparedItem unicode) ordered.items before_hook) in
     All-from_recursion (IsPreparedItem unicode) (rotated unicode run.face run.decisions target processed).items

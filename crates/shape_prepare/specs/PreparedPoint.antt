@@ -1,5 +1,5 @@
 -- Preparing prepares: each item's mark, by its category, and ccc become those of its character.
-use Rattle.std.specs.Prelude.{◌≡◌, Some}
+use Rattle.std.specs.Prelude.{◌≡◌, true, Some}
 use Rattle.shape_buffer.specs.Buffer.{Buffer}
 use Rattle.shape_buffer.specs.Outcome.{run_steps}
 use Rattle.shape_buffer.specs.Prepared.{IsPrepared}
@@ -16,5 +16,6 @@ KeepsPrepared unicode f = (b : Buffer) → IsPrepared unicode b.items → IsPrep
 -- any text is prepared, where the shaper's hook leaves it so
 abbrev pub PreparingPrepares : Type 0
 PreparingPrepares = (run : Run) (target : Direction) (b : Buffer) → LawfulUnicode run.unicode
-    → ((hooks : HookMeaning) → run.hooks ≡ Some hooks → KeepsPrepared run.unicode hooks.preprocess)
+    → ((hooks : HookMeaning) → run.hooks ≡ Some hooks → run.constants.has_preprocess_text ≡ true
+    → KeepsPrepared run.unicode hooks.preprocess)
     → IsPrepared run.unicode (run_steps (prepare_steps run target) b).items

@@ -18,6 +18,8 @@ mod normalising;
 #[cfg(test)]
 mod placing;
 #[cfg(test)]
+mod premises;
+#[cfg(test)]
 mod preparing;
 #[cfg(test)]
 mod rows;

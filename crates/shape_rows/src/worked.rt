@@ -1,8 +1,15 @@
 //! The definitions, computed on small cases whose answers are worked out by hand.
 ghost use Rattle.shape_rows.specs.Worked.{WorkedCases};
+ghost use Rattle.shape_rows.specs.WorkedClusters.{WorkedPromises};
 
 /// The chain of U+1EA4 with its expansions and choices, limits of runs, and the order of some marks, as
 /// the definitions have them.
 pub fn definitions_meet_worked_cases()
     ensures { WorkedCases }
+{}
+
+/// What is promised of clusters and flags, as some lists of glyphs have it and others miss it, at each level
+/// and in each direction.
+pub fn promises_meet_worked_cases()
+    ensures { WorkedPromises }
 {}

@@ -6,9 +6,8 @@ use Rattle.shape_buffer.specs.Keepers.{IsClusterKeeper, IsFlagKeeper, EachStep}
 use Rattle.shape_buffer.specs.Outcome.{step}
 use Rattle.shape_buffer.proofs.FlagLemmas.{KeepsFlags-same}
 use Rattle.shape_buffer.proofs.KeeperLemmas.{EachStep-append, KeepsOrder-same}
-use Rattle.shape_plan.specs.Keepers.{EachHook, CallsKeepClusters, RunKeepsFlags}
+use Rattle.shape_plan.specs.Keepers.{CallsKeepClusters, RunKeepsFlags}
 use Rattle.shape_plan.specs.Run.{Run, hook_if}
-use Rattle.shape_plan.specs.Shaper.{HookMeaning}
 use Rattle.shape_substitute.specs.Kept.{SubstitutionKeepsClusters, SubstitutionKeepsFlags}
 use Rattle.shape_substitute.specs.Substitution.{stage_steps, lookup_steps}
 use Rattle.shape_substitute.proofs.StepKeepers.{order-fractions_masked, order-ranges_masked, order-glyphs_mapped, order-classes_synthesised, flags-fractions_masked, flags-ranges_masked, flags-glyphs_mapped, flags-classes_synthesised}
@@ -16,16 +15,16 @@ use Rattle.shape_plan.proofs.KeeperLemmas.{flags-hook_if, flags-step_if, order-h
 
 -- ---- clusters
 
-order-pause : (given : Bool) (hooks : Option HookMeaning) → ((h : HookMeaning) → hooks ≡ Some h → EachHook IsClusterKeeper h)
-    → (number : Option ℕ)
-    → IsClusterKeeper (option_map_or (λ n. hook_if given hooks (λ h. h.pause n)) number (λ b. b))
-order-pause given hooks keep None = λ b monotone. KeepsOrder-same b
-order-pause given hooks keep (Some n) = order-hook_if given hooks (λ h. h.pause n) (λ h is. (keep h is).pause n)
+order-pause : (run : Run) → CallsKeepClusters run → (number : Option ℕ)
+    → IsClusterKeeper (option_map_or (λ n. hook_if run.constants.has_pause run.hooks (λ h. h.pause n)) number (λ b. b))
+order-pause run keep None = λ b monotone. KeepsOrder-same b
+order-pause run keep (Some n) =
+    order-hook_if run.constants.has_pause run.hooks (λ h. h.pause n) (λ h is given. (keep.hooks h is).pause given n)
 
 order-stages : (run : Run) → CallsKeepClusters run → (n : ℕ) → EachStep IsClusterKeeper (stage_steps run n)
 order-stages run keep zero = tt
 order-stages run keep (suc n) = EachStep-append IsClusterKeeper (stage_steps run n) _ (order-stages run keep n)
-    (keep.lookups.stage n, (order-pause run.constants.has_pause run.hooks keep.hooks (run.map.pause_after n), tt))
+    (keep.lookups.stage n, (order-pause run keep (run.map.pause_after n), tt))
 
 order-lookups : (run : Run) → CallsKeepClusters run → (morx : Bool)
     → EachStep IsClusterKeeper (if morx then step (run.lookups.aat_substitute run.user_features) ∷ [] else stage_steps run run.map.stages)
@@ -54,16 +53,16 @@ substitution-keeps_clusters run keep = record {
 
 -- ---- flags
 
-flags-pause : (given : Bool) (hooks : Option HookMeaning) → ((h : HookMeaning) → hooks ≡ Some h → EachHook IsFlagKeeper h)
-    → (number : Option ℕ)
-    → IsFlagKeeper (option_map_or (λ n. hook_if given hooks (λ h. h.pause n)) number (λ b. b))
-flags-pause given hooks keep None = λ b. KeepsFlags-same b
-flags-pause given hooks keep (Some n) = flags-hook_if given hooks (λ h. h.pause n) (λ h is. (keep h is).pause n)
+flags-pause : (run : Run) → RunKeepsFlags run → (number : Option ℕ)
+    → IsFlagKeeper (option_map_or (λ n. hook_if run.constants.has_pause run.hooks (λ h. h.pause n)) number (λ b. b))
+flags-pause run keep None = λ b. KeepsFlags-same b
+flags-pause run keep (Some n) =
+    flags-hook_if run.constants.has_pause run.hooks (λ h. h.pause n) (λ h is given. (keep.hooks h is).pause given n)
 
 flags-stages : (run : Run) → RunKeepsFlags run → (n : ℕ) → EachStep IsFlagKeeper (stage_steps run n)
 flags-stages run keep zero = tt
 flags-stages run keep (suc n) = EachStep-append IsFlagKeeper (stage_steps run n) _ (flags-stages run keep n)
-    (keep.lookups.stage n, (flags-pause run.constants.has_pause run.hooks keep.hooks (run.map.pause_after n), tt))
+    (keep.lookups.stage n, (flags-pause run keep (run.map.pause_after n), tt))
 
 flags-lookups : (run : Run) → RunKeepsFlags run → (morx : Bool)
     → EachStep IsFlagKeeper (if morx then step (run.lookups.aat_substitute run.user_features) ∷ [] else stage_steps run run.map.stages)

@@ -18,7 +18,7 @@ use shape_buffer::interfaces::{hb_font_t, hb_ot_layout_t, hb_unicode_funcs_t};
 use shape_pipeline::ot_shape_plan::hb_ot_shape_plan_t;
 use shape_pipeline::ot_shaper::{Runs, hb_ot_shaper_t};
 use shape_pipeline::shape::shape_with_plan;
-pub use spellings::{same_word, spelled};
+pub use spellings::{equivalent_spellings, same_word, spelled};
 use std::alloc::Global;
 
 /// A word that was shaped: how it was spelled, and its glyphs.

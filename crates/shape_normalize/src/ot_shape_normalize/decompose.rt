@@ -23,7 +23,7 @@ pub(crate) struct Expansion {
 }
 
 /// The split of a character: the hook's where it is given and the plan keeps the shaper, else Unicode's.
-fn split_of<U, F, M, S>(
+pub(crate) fn split_of<U, F, M, S>(
     plan: &hb_ot_shape_plan_t<'_, S, M::Map, S::Data>,
     face: &F,
     c: char,

@@ -1,13 +1,13 @@
 //! Spellings of words, and whether two of them are one word.
-ghost use Rattle.std.specs.Prelude.{◌≡◌, ◌↔◌, IsTrue, IfOk};
+ghost use Rattle.std.specs.Prelude.{◌≡◌, ◌↔◌, IsTrue, IsSome, IfOk, IfSome};
 ghost use Rattle.shape_normalize.specs.CanonicalForm.{text_of, AreEquivalent};
-ghost use Rattle.shape_normalize.specs.CanonicalForm.{CanonicalFormPremises};
+ghost use Rattle.shape_normalize.specs.CanonicalForm.{CanonicalFormPremises, HasLawfulHooks};
 ghost use Rattle.shape_users.specs.Words.{spelled as text_spelled, ready_text, AreSpelledAlike};
 
 use shape_buffer::buffer::{ShapeError, UnicodeBuffer, hb_buffer_t};
 use shape_buffer::interfaces::{hb_font_t, hb_ot_layout_t, hb_unicode_funcs_t};
 use shape_pipeline::ot_shape::{hb_ot_shape_context_t, prepare_text};
-use shape_pipeline::ot_shape_normalize::normalized_equal;
+use shape_pipeline::ot_shape_normalize::{meets_canonical_premises, normalized_equal};
 use shape_pipeline::ot_shape_plan::hb_ot_shape_plan_t;
 use shape_pipeline::ot_shaper::{Runs, hb_ot_shaper_t};
 use std::alloc::Global;
@@ -81,4 +81,42 @@ where
     let mut b = prepared::<U, F, M, S>(alloc, face, plan, second)?;
     let same = normalized_equal::<U, F, M, S>(alloc, plan, face, &mut a, &mut b)?;
     Ok(same)
+}
+
+/// Whether two spellings are canonically equivalent. Answers `None` where this can't be told by their
+/// normalised characters: for one of them a premise of canonical form doesn't hold, as for a text with a
+/// variation selector, with a character that the face has no glyph for, or with too many marks in a row.
+/// Refuses as `same_word` does.
+pub fn equivalent_spellings<U, F, M, S>(
+    alloc: Global,
+    face: &F,
+    plan: &hb_ot_shape_plan_t<'_, S, M::Map, S::Data>,
+    first: &str,
+    second: &str,
+) -> Result<Option<bool>, ShapeError>
+where
+    U: hb_unicode_funcs_t,
+    F: hb_font_t,
+    M: hb_ot_layout_t<F>,
+    S: hb_ot_shaper_t<U, F, M>,
+    ensures told { let run = ⟦<S as Runs<U, F, M>>⟧.run plan.now face.now in
+        let a = ready_text run (text_spelled first.now) in
+        let b = ready_text run (text_spelled second.now) in
+        HasLawfulHooks run.rules → IfOk result (λ told. IsSome told
+        ↔ (CanonicalFormPremises run.rules a × CanonicalFormPremises run.rules b)) }
+    ensures equivalent { let run = ⟦<S as Runs<U, F, M>>⟧.run plan.now face.now in
+        let a = text_of (ready_text run (text_spelled first.now)) in
+        let b = text_of (ready_text run (text_spelled second.now)) in
+        HasLawfulHooks run.rules → IfOk result (λ told.
+        IfSome told (λ same. IsTrue same ↔ AreEquivalent run.rules a b)) }
+{
+    let mut a = prepared::<U, F, M, S>(alloc, face, plan, first)?;
+    let mut b = prepared::<U, F, M, S>(alloc, face, plan, second)?;
+    let of_first = meets_canonical_premises::<U, F, M, S>(plan, face, &a);
+    let of_second = meets_canonical_premises::<U, F, M, S>(plan, face, &b);
+    if !(of_first && of_second) {
+        return Ok(None);
+    }
+    let same = normalized_equal::<U, F, M, S>(alloc, plan, face, &mut a, &mut b)?;
+    Ok(Some(same))
 }

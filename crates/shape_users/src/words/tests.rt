@@ -1,5 +1,5 @@
 //! Words under one spelling and another.
-use crate::words::{Word, find_plan, keep_word, spelled};
+use crate::words::{Word, equivalent_spellings, find_plan, keep_word, spelled};
 use shape_buffer::buffer::{Direction, GlyphId, Script, hb_tag_t};
 use shape_buffer::interfaces::{MapFace, Metrics, NoLookups};
 use shape_pipeline::ot_shape_plan::hb_ot_shape_plan_t;
@@ -56,5 +56,44 @@ fn equivalent_spellings_are_one_word(rt: HostRuntime) -> Result<(), Fail> {
         assert_eq!(rt; kept, want);
     }
     assert_eq!(rt; words.len(), 2);
+    Ok(())
+}
+
+/// What the face's glyphs and the text leave open isn't answered.
+#[test]
+fn spellings_that_can_be_told(rt: HostRuntime) -> Result<(), Fail> {
+    let alloc = rt.alloc();
+    let mut face = MapFace::new(alloc, 1000);
+    for (c, glyph) in [('q', 1), ('e', 2), ('\u{301}', 3), ('\u{FE00}', 4)] {
+        let metrics = Metrics {
+            advance: 500,
+            extents: None,
+        };
+        face.set_glyph(c, GlyphId(glyph), metrics)?;
+    }
+    let shaper = Preferring::<Decomposed>::new();
+    let plan = hb_ot_shape_plan_t::new::<UnicodeDatabase, MapFace, NoLookups>(
+        alloc,
+        &face,
+        &shaper,
+        Direction::LeftToRight,
+        Some(Script(hb_tag_t::from_bytes(b"Latn"))),
+        None,
+        &[],
+    )?;
+    let cases = [
+        ("q\u{301}\u{E9}", "q\u{301}e\u{301}", Some(true)),
+        ("q\u{301}\u{E9}", "q\u{301}e", Some(false)),
+        // no mark past the first character, no glyph for x, a variation selector
+        ("qe", "q\u{301}e", None),
+        ("q\u{301}x", "q\u{301}e", None),
+        ("q\u{301}e", "q\u{301}e\u{FE00}", None),
+    ];
+    for (first, second, want) in cases {
+        let told = equivalent_spellings::<UnicodeDatabase, MapFace, NoLookups, _>(
+            alloc, &face, &plan, first, second,
+        )?;
+        assert_eq!(rt; told, want);
+    }
     Ok(())
 }

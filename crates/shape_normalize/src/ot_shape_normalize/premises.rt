@@ -1,0 +1,177 @@
+//! The premises of canonical form, tested on a text.
+//!
+//! Normalising promises canonical form, and decides equivalence, under premises that a text from outside
+//! may miss: a face lacks a glyph, or marks stand in too long a row. This is the test of them. Full of the
+//! text is walked from its end to its beginning, the order in which a chain gives its parts; so all that
+//! is kept is how many marks stand in a row, and no memory is taken.
+ghost use Rattle.std.specs.Prelude.{◌≡◌, ◌↔◌, ◌&&◌, IsTrue, not, is_some};
+ghost use Rattle.std.specs.List.{list_all};
+ghost use Rattle.canonical_form.specs.Chain.{full};
+ghost use Rattle.shape_normalize.specs.CanonicalForm.{CanonicalFormPremises, HasLawfulHooks};
+ghost use Rattle.shape_normalize.specs.PremiseTest.{row_with, row_before as row_before_of};
+ghost use Rattle.shape_normalize.specs.PremiseTest.{is_plain_item, is_full_mode, is_supported_text};
+ghost use Rattle.shape_normalize.specs.PremiseTest.{meets_premises};
+ghost use Rattle.shape_plan.specs.Rules.{rules_of, has_glyph};
+
+use crate::ot_shape_normalize::decompose::split_of;
+use crate::ot_shape_normalize::has_mark_past_first;
+use crate::ot_shape_normalize::mode::goes_short;
+use shape_buffer::buffer::{hb_buffer_t, hb_glyph_info_t};
+use shape_buffer::interfaces::{hb_font_t, hb_ot_layout_t, hb_unicode_funcs_t};
+use shape_plan::ot_shape_plan::hb_ot_shape_plan_t;
+use shape_plan::ot_shaper::{MAX_COMBINING_MARKS, Runs, hb_ot_shaper_t};
+
+/// How many marks a text begins with once `c` came in front of it, where it began with `row` of them.
+/// `None` where these are more than 32, or where the face has no glyph for `c`.
+fn with_mark<U: hb_unicode_funcs_t, F: hb_font_t>(
+    face: &F,
+    row: Option<usize>,
+    c: char,
+) -> Option<usize>
+    ensures { result ≡ row_with U.unicode.ccc (has_glyph (F.face face.now).nominal_glyph) c row }
+{
+    let row = row?;
+    if !face.has_glyph(c) {
+        return None;
+    }
+    if U::modified_combining_class(c) == 0 {
+        return Some(0);
+    }
+    if row < MAX_COMBINING_MARKS {
+        Some(row + 1)
+    } else {
+        None
+    }
+}
+
+/// The same for Full of a character: its chain gives the last part first.
+fn with_full<U, F, M, S>(
+    plan: &hb_ot_shape_plan_t<'_, S, M::Map, S::Data>,
+    face: &F,
+    before: Option<usize>,
+    c: char,
+) -> Option<usize>
+where
+    U: hb_unicode_funcs_t,
+    F: hb_font_t,
+    M: hb_ot_layout_t<F>,
+    S: hb_ot_shaper_t<U, F, M>,
+    ensures { let rules = ⟦<S as Runs<U, F, M>>⟧.rules plan.now face.now in
+        result ≡ row_before_of U.unicode.ccc (has_glyph (F.face face.now).nominal_glyph)
+        (full rules.split rules.height c) before }
+{
+    let mut row = before;
+    let mut point = c;
+    'chain: while let Some((a, b)) = split_of::<U, F, M, S>(plan, face, point) {
+        if b != '\0' {
+            row = with_mark::<U, F>(face, row, b);
+        }
+        point = a;
+    }
+    with_mark::<U, F>(face, row, point)
+}
+
+/// Whether each character of Full has a glyph, and no run of marks in it is longer than 32.
+fn is_supported<U, F, M, S>(
+    plan: &hb_ot_shape_plan_t<'_, S, M::Map, S::Data>,
+    face: &F,
+    infos: &[hb_glyph_info_t],
+) -> bool
+where
+    U: hb_unicode_funcs_t,
+    F: hb_font_t,
+    M: hb_ot_layout_t<F>,
+    S: hb_ot_shaper_t<U, F, M>,
+    ensures { let rules = ⟦<S as Runs<U, F, M>>⟧.rules plan.now face.now in
+        result ≡ is_supported_text rules infos.now }
+{
+    let mut row = Some(0);
+    let mut left = infos;
+    'items: while let Some((info, before)) = left.split_last() {
+        row = with_full::<U, F, M, S>(plan, face, row, info.codepoint);
+        left = before;
+    }
+    row.is_some()
+}
+
+/// Whether an item's mark and ccc are those of its character, which is no variation selector.
+fn is_plain<U: hb_unicode_funcs_t>(info: &hb_glyph_info_t) -> bool
+    ensures { result ≡ is_plain_item U.unicode info.now }
+{
+    let is_mark = info._hb_glyph_info_is_unicode_mark();
+    let same_mark = if U::general_category(info.codepoint).is_mark() {
+        is_mark
+    } else {
+        !is_mark
+    };
+    same_mark
+        && info._hb_glyph_info_get_modified_combining_class()
+            == U::modified_combining_class(info.codepoint)
+        && !U::is_variation_selector(info.codepoint)
+}
+
+/// Whether all items are plain.
+fn are_plain<U: hb_unicode_funcs_t>(infos: &[hb_glyph_info_t]) -> bool
+    ensures { result ≡ list_all (is_plain_item U.unicode) infos.now }
+{
+    infos.iter().all(|info| is_plain::<U>(info))
+}
+
+/// Whether the mode decomposes fully, and no hook reorders marks.
+fn is_full<U, F, M, S>(plan: &hb_ot_shape_plan_t<'_, S, M::Map, S::Data>) -> bool
+where
+    U: hb_unicode_funcs_t,
+    F: hb_font_t,
+    M: hb_ot_layout_t<F>,
+    S: hb_ot_shaper_t<U, F, M>,
+    ensures { (face : F) → let rules = ⟦<S as Runs<U, F, M>>⟧.rules plan.now face in
+        result ≡ is_full_mode rules.short && not (is_some rules.reorder) }
+{
+    let short = goes_short::<U, F, M, S>(plan, true) || goes_short::<U, F, M, S>(plan, false);
+    let reorders = S::HAS_REORDER_MARKS && plan.shaper().is_some();
+    !short && !reorders
+}
+
+/// Whether a text, prepared for normalising, meets the premises of canonical form, but for those that a
+/// shaper's hooks owe ([`crate::laws::hooks_not_given_are_lawful`] has them of hooks that aren't given):
+/// the mode decomposes fully, no hook reorders marks, items are as they were prepared, there is no
+/// variation selector, a mark stands past the first character, and in the full decomposition each
+/// character has a glyph and no run of marks is longer than 32.
+///
+/// So a caller can tell of texts from outside whether they take canonical form, and whether
+/// [`crate::ot_shape_normalize::normalized_equal`] tells of two of them if they are equivalent. Takes no
+/// memory.
+pub fn meets_canonical_premises<U, F, M, S>(
+    plan: &hb_ot_shape_plan_t<'_, S, M::Map, S::Data>,
+    face: &F,
+    buffer: &hb_buffer_t,
+) -> bool
+where
+    U: hb_unicode_funcs_t,
+    F: hb_font_t,
+    M: hb_ot_layout_t<F>,
+    S: hb_ot_shaper_t<U, F, M>,
+    ensures { let rules = ⟦<S as Runs<U, F, M>>⟧.rules plan.now face.now in
+        HasLawfulHooks rules → IsTrue result ↔ CanonicalFormPremises rules buffer.now }
+{
+    have_premises::<U, F, M, S>(plan, face, buffer.infos())
+}
+
+/// Whether the items of a text meet them.
+fn have_premises<U, F, M, S>(
+    plan: &hb_ot_shape_plan_t<'_, S, M::Map, S::Data>,
+    face: &F,
+    infos: &[hb_glyph_info_t],
+) -> bool
+where
+    U: hb_unicode_funcs_t,
+    F: hb_font_t,
+    M: hb_ot_layout_t<F>,
+    S: hb_ot_shaper_t<U, F, M>,
+    ensures { result ≡ meets_premises (⟦<S as Runs<U, F, M>>⟧.rules plan.now face.now) infos.now }
+{
+    is_full::<U, F, M, S>(plan)
+        && are_plain::<U>(infos)
+        && has_mark_past_first(infos)
+        && is_supported::<U, F, M, S>(plan, face, infos)
+}
