@@ -12,8 +12,9 @@ use Rattle.canonical_form.specs.Recompose.{composed, recomposed_from, is_blocked
 use Rattle.shape_buffer.specs.declared.buffer.settings.BufferClusterLevel.{BufferClusterLevel}
 use Rattle.shape_buffer.specs.declared.buffer.settings.BufferClusterLevel.TheVariants.{MonotoneGraphemes, MonotoneCharacters, Characters}
 use Rattle.canonical_form.proofs.EveryLemmas.{append_all, push_all}
-use Rattle.shape_buffer.proofs.JoinLemmas.{Joined as SharesCluster, length-merge, merge_joins}
-use Rattle.shape_buffer.proofs.NestedMergeLemmas.{merge-from_later}
+use Rattle.shape_buffer.proofs.Merging.JoinLemmas.{Joined as SharesCluster, merge_joins}
+use Rattle.shape_buffer.proofs.Merging.KeyLemmas.{length-merge}
+use Rattle.shape_buffer.proofs.Merging.NestedMergeLemmas.{merge-from_later}
 use Rattle.canonical_form.proofs.OptionLemmas.{cases_Option}
 use Rattle.canonical_form.proofs.RecomposeLemmas.{composed-some, recomposed_from-some, recomposed_from-starter, recomposed_from-mark}
 use Rattle.shape_normalize.specs.RoundThree.{Joined, Placed, placed, ccc_of_placed, is_mark_placed, compose_placed, recomposed_items, joined_spans, spans_between, chained_spans, spans_merged_out}

@@ -11,10 +11,10 @@ use Rattle.shape_buffer.specs.Clusters.{clusters}
 use Rattle.shape_buffer.specs.ClusterOrder.{KeepsClusters}
 use Rattle.shape_buffer.specs.Items.{Item}
 use Rattle.canonical_form.specs.Recompose.{composed, recomposed_from, recomposed, is_blocked_by_last}
-use Rattle.shape_buffer.proofs.DeleteKeeps.{merged_out_keeps}
-use Rattle.shape_buffer.proofs.DrawsInOrder.{DrawsInOrder, DrawsInOrder-same, DrawsInOrder-then, KeepsClusters-from_draws}
-use Rattle.shape_buffer.proofs.KeeperLemmas.{KeepsClusters-same, KeepsClusters-then}
-use Rattle.shape_buffer.proofs.KeyLemmas.{length-merge_out}
+use Rattle.shape_buffer.proofs.Deletion.DeleteKeeps.{merged_out_keeps}
+use Rattle.shape_buffer.proofs.Order.DrawsInOrder.{DrawsInOrder, DrawsInOrder-same, DrawsInOrder-then, KeepsClusters-from_draws}
+use Rattle.shape_buffer.proofs.Steps.KeeperLemmas.{KeepsClusters-same, KeepsClusters-then}
+use Rattle.shape_buffer.proofs.Merging.KeyLemmas.{length-merge_out}
 use Rattle.canonical_form.proofs.OptionLemmas.{cases_Option}
 use Rattle.canonical_form.proofs.RecomposeLemmas.{composed-some, recomposed_from-some, recomposed_from-starter, recomposed_from-mark}
 use Rattle.shape_plan.specs.Rules.{Rules}
