@@ -1,20 +1,11 @@
-pub mod ClusterLemmas
-pub mod DrawsInOrder
-pub mod MergeOrder
-pub mod JoinLemmas
-pub mod FlagLemmas
-pub mod FillLemmas
-pub mod TextLemmas
-pub mod DeleteLemmas
-pub mod DeleteKeeps
-pub mod KeyLemmas
-pub mod UnwrittenLemmas
-pub mod NestedMergeLemmas
-pub mod Runs
-pub mod WalkOverLemmas
-pub mod ClusterRunLemmas
-pub mod KeeperLemmas
-pub mod HonestLemmas
-pub mod GraphemeOrderLemmas
+pub mod Merging
+pub mod Order
+pub mod Deletion
+mod Unwritten
+pub mod Flags
+pub mod Steps
+pub mod Loops
+pub mod PreparedLemmas
 pub mod WrappingLemmas
-pub mod PositionWalkLemmas
+mod FillLemmas
+mod TextLemmas

@@ -1,59 +1,16 @@
 -- Lemmas on the bases of a buffer.
-use Rattle.std.proofs.Common.{◌≡◌, ℕ, zero, suc, ◌+◌, ◌-◌, ◌<◌, ◌≤◌, Bool, true, false, List, [], ◌∷◌, ◌++◌, length, get_or, take, drop, map, refl, ap, sym, ◌∙◌, arith, slice_range, nat_lt, cond, inl, inr}
-use Rattle.std.specs.Prelude.{bit_or, fold, if◌then◌else◌, ◌==◌}
+use Rattle.std.proofs.Common.{◌≡◌, ℕ, zero, suc, ◌+◌, ◌<◌, ◌≤◌, Bool, true, false, List, [], ◌∷◌, ◌++◌, length, get_or, drop, map, refl, ap, sym, ◌∙◌, arith, cond}
+use Rattle.std.specs.Prelude.{fold}
 use Rattle.std.specs.List.{prefix_len}
-use Rattle.std.proofs.lemmas.List.{take-append-drop, drop-drop, drop_all, length-map, map-append, drop-map}
+use Rattle.std.proofs.lemmas.List.{drop_all, length-map, drop-map}
 use Rattle.std.proofs.lemmas.List.Sums.{fold-append}
-use Rattle.std.proofs.lemmas.Bool.{cases_Bool}
-use Rattle.std.proofs.lemmas.Bool.Decides.{nat_tests}
 use Rattle.std.proofs.Math.Seq.{drop-cons}
 use Rattle.shape_buffer.specs.Items.{Item, is_mark_item}
-use Rattle.shape_buffer.specs.Clusters.{map_range, mark_break, least_cluster}
 use Rattle.shape_buffer.specs.Buffer.{Buffer}
-use Rattle.shape_buffer.specs.BufferClusters.{unsafe_to_break}
 use Rattle.shape_buffer.specs.Face.{FaceMeaning}
+use Rattle.shape_buffer.proofs.Merging.KeyLemmas.{keys-unsafe_to_break, without_items-unsafe_to_break}
 use Rattle.shape_fallback.specs.declared.ot_shape_fallback.marks.Setting.{Setting}
 use Rattle.shape_fallback.specs.Bases.{Span, marks_of, position_span, base_at, bases, with_marks, positioned_at}
-
--- what is read of an item but for its mask stays when it is marked unsafe to break
-broken : {B : Type 0} (key : Item → B) → ((x : Item) → key (record x { mask = bit_or x.mask 3 }) ≡ key x) → (least : ℕ) (x : Item)
-    → key (mark_break least x) ≡ key x
-broken key same least x =
-    elim (x.cluster == least) as (λ v. key (if v then x else record x { mask = bit_or x.mask 3 }) ≡ key x) [ true ↦ refl | false ↦ same x ]
-
--- the parts of a list
-parts_of : (xs : List Item) (a b : ℕ) → a ≤ b → take a xs ++ (take (b - a) (drop a xs) ++ drop b xs) ≡ xs
-parts_of xs a b le =
-    let sum : a + (b - a) ≡ b = omega arith in
-    let rest : drop (b - a) (drop a xs) ≡ drop b xs = drop-drop (b - a) a xs ∙ ap (λ n. drop n xs) sum in
-    ap (λ (r : List Item). take a xs ++ (take (b - a) (drop a xs) ++ r)) (sym rest)
-    ∙ ap (λ (r : List Item). take a xs ++ r) (take-append-drop (b - a) (drop a xs)) ∙ take-append-drop a xs
-
-keys-broken : {B : Type 0} (key : Item → B) → ((x : Item) → key (record x { mask = bit_or x.mask 3 }) ≡ key x)
-    → (least : ℕ) (xs : List Item)
-    → map key (map (mark_break least) xs) ≡ map key xs
-keys-broken key same least [] = refl
-keys-broken key same least (x ∷ xs) = λ k. broken key same least x k ∷ keys-broken key same least xs k
-
-keys-range : {B : Type 0} (key : Item → B) → ((x : Item) → key (record x { mask = bit_or x.mask 3 }) ≡ key x)
-    → (least a b : ℕ) (xs : List Item) → a ≤ b
-    → map key (map_range (mark_break least) a b xs) ≡ map key xs
-keys-range key same least a b xs le =
-    let whole : map key (take a xs) ++ (map key (take (b - a) (drop a xs)) ++ map key (drop b xs)) ≡ map key xs =
-    simp map-append at (ap (map key) (parts_of xs a b le)) in
-    simp (map-append, keys-broken key same least) whole
-
--- and so it does of all items when a span is
-pub keys-unsafe_to_break : {B : Type 0} (key : Item → B) → ((x : Item) → key (record x { mask = bit_or x.mask 3 }) ≡ key x)
-    → (a b : ℕ) (c : Buffer)
-    → map key (unsafe_to_break a b c).items ≡ map key c.items
-keys-unsafe_to_break key same a b c =
-    elim (cases_Bool (nat_lt (a + 1) b)) [
-      | inl long ↦
-          let below : a + 1 < b = grind (arith, nat_tests) in
-          rw long (keys-range key same (least_cluster (slice_range c.items a b)) a b c.items (omega arith))
-      | inr short ↦ rw short refl
-    ]
 
 -- placing the marks of a span leaves which items are marks
 marks_of-span : (face : FaceMeaning) (s : Setting) (b : Buffer) (span : Span) → marks_of (position_span face s b span) ≡ marks_of b
@@ -77,19 +34,12 @@ pub marks_of-positioned_at : (face : FaceMeaning) (s : Setting) (i : ℕ) (b : B
 unfolding positioned_at
 marks_of-positioned_at face s i b = base_at_keeps face s i b (drop i (marks_of b))
 
--- marking a span unsafe to break leaves the limit
-limit-break : (a b : ℕ) (c : Buffer) → (unsafe_to_break a b c).length_limit ≡ c.length_limit
-limit-break a b c =
-    elim (cases_Bool (nat_lt (a + 1) b)) [
-      | inl long ↦ rw long refl
-      | inr short ↦ rw short refl
-    ]
-
+-- placing the marks of a span leaves the limit
 limit-with_marks : (face : FaceMeaning) (s : Setting) (i : ℕ) (b : Buffer) (n : ℕ)
     → (fold (position_span face s) b (with_marks i n)).length_limit ≡ b.length_limit
 unfolding position_span
 limit-with_marks face s i b zero = refl
-limit-with_marks face s i b (suc n) = limit-break i (i + 1 + suc n) b
+limit-with_marks face s i b (suc n) = ap (λ (c : Buffer). c.length_limit) (without_items-unsafe_to_break i (i + 1 + suc n) b)
 
 limit-base_at : (face : FaceMeaning) (s : Setting) (i : ℕ) (b : Buffer) (ms : List Bool)
     → (fold (position_span face s) b (base_at i ms)).length_limit ≡ b.length_limit

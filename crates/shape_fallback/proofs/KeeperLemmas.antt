@@ -5,7 +5,6 @@ use Rattle.std.proofs.lemmas.Bool.{cases_Bool}
 use Rattle.shape_buffer.specs.Buffer.{Buffer}
 use Rattle.shape_buffer.specs.BufferClusters.{unsafe_to_break}
 use Rattle.shape_buffer.specs.Clusters.{clusters}
-use Rattle.shape_buffer.specs.ClusterOrder.{KeepsClusters}
 use Rattle.shape_buffer.specs.Face.{FaceMeaning}
 use Rattle.shape_buffer.specs.Items.{Item}
 use Rattle.shape_buffer.specs.Keepers.{KeepsOrder, IsClusterKeeper, IsFlagKeeper}
@@ -14,9 +13,8 @@ use Rattle.shape_buffer.specs.Unicode.{UnicodeMeaning}
 use Rattle.shape_buffer.specs.Walks.{items_mapped}
 use Rattle.shape_buffer.specs.declared.buffer.settings.Direction.{Direction}
 use Rattle.shape_buffer.specs.declared.buffer.settings.Script.{Script}
-use Rattle.shape_buffer.proofs.DrawsInOrder.{DrawsInOrder-same, KeepsClusters-from_draws}
-use Rattle.shape_buffer.proofs.FlagLemmas.{KeepsFlags-same, KeepsFlags-then, KeepsFlags-items, unsafe_to_break_keeps}
-use Rattle.shape_buffer.proofs.KeeperLemmas.{KeepsClusters-equal}
+use Rattle.shape_buffer.proofs.Flags.FlagLemmas.{KeepsFlags-same, KeepsFlags-then, KeepsFlags-items, unsafe_to_break_keeps}
+use Rattle.shape_buffer.proofs.Steps.KeeperLemmas.{KeepsClusters-equal}
 use Rattle.shape_plan.specs.Run.{step_if}
 use Rattle.shape_plan.specs.declared.decisions.Decisions.{Decisions}
 use Rattle.shape_fallback.specs.Bases.{Span, position_span, bases, marks_of, bases_positioned, bases_marked, without_positions, marks_positioned}
@@ -25,7 +23,7 @@ use Rattle.shape_fallback.specs.Recategorized.{recategorized, recategorized_item
 use Rattle.shape_fallback.specs.Spaces.{spaces_placed}
 use Rattle.shape_fallback.specs.Steps.{spaces_step, marks_adjusted}
 use Rattle.shape_fallback.specs.declared.ot_shape_fallback.marks.Setting.{Setting}
-use Rattle.shape_fallback.proofs.BasesLemmas.{keys-unsafe_to_break}
+use Rattle.shape_buffer.proofs.Merging.KeyLemmas.{keys-unsafe_to_break, without_items-unsafe_to_break}
 
 -- ---- what leaves clusters and settings alone
 
@@ -58,12 +56,14 @@ LeavesOrder-then b c d first second = record {
 -- ---- the marks
 
 leaves-break : (start end : ℕ) (b : Buffer) → LeavesOrder b (unsafe_to_break start end b)
-leaves-break start end b = record {
-  same_clusters = keys-unsafe_to_break (λ x. x.cluster) (λ x. refl) start end b;
-  direction = elim (cases_Bool (nat_lt (start + 1) end)) [ inl long ↦ rw long refl | inr short ↦ rw short refl ];
-  flags = elim (cases_Bool (nat_lt (start + 1) end)) [ inl long ↦ rw long refl | inr short ↦ rw short refl ];
-  level = elim (cases_Bool (nat_lt (start + 1) end)) [ inl long ↦ rw long refl | inr short ↦ rw short refl ];
-}
+leaves-break start end b =
+    let rest = without_items-unsafe_to_break start end b in
+    record {
+      same_clusters = keys-unsafe_to_break (λ x. x.cluster) (λ x. refl) start end b;
+      direction = ap (λ c. c.direction) rest;
+      flags = ap (λ c. c.flags) rest;
+      level = ap (λ c. c.cluster_level) rest;
+    }
 
 leaves-spans : (face : FaceMeaning) (s : Setting) (spans : List Span) (b : Buffer) → LeavesOrder b (fold (position_span face s) b spans)
 unfolding position_span

@@ -11,6 +11,7 @@ use Rattle.shape_buffer.specs.declared.buffer.general_category.hb_unicode_genera
 use Rattle.shape_buffer.specs.declared.buffer.positions.GlyphPosition.{GlyphPosition}
 use Rattle.shape_buffer.specs.declared.buffer.settings.Direction.{Direction}
 use Rattle.shape_buffer.specs.declared.buffer.settings.Direction.TheVariants.{LeftToRight, RightToLeft, TopToBottom}
+use Rattle.shape_plan.specs.WorkedDecisions.{no_decisions}
 use Rattle.shape_plan.specs.declared.decisions.Decisions.{Decisions}
 use Rattle.shape_fallback.specs.Bases.{position_span, base_at, bases, bases_positioned, bases_marked, runs_to_right, setting_of, marks_positioned}
 use Rattle.shape_fallback.specs.Extents.{Extents}
@@ -182,25 +183,8 @@ widest_mark = record { widest = refl }
 
 -- the decisions of a plan, where marks are placed by their extents or not, and offsets adjusted or not
 abbrev pub worked_decisions : Bool → Bool → Decisions
-worked_decisions fallback adjust = record {
-  apply_morx = false;
-  frac_mask = 0;
-  numr_mask = 0;
-  dnom_mask = 0;
-  rtlm_mask = 0;
-  kern_mask = 0;
-  trak_mask = 0;
-  has_frac = false;
-  has_vert = false;
-  has_gpos_mark = false;
-  requested_kerning = false;
-  apply_trak = false;
-  fallback_glyph_classes = false;
-  apply_gpos = false;
-  apply_kern = false;
+worked_decisions fallback adjust = record no_decisions {
   apply_fallback_kern = true;
-  apply_kerx = false;
-  zero_marks = false;
   fallback_mark_positioning = fallback;
   adjust_mark_positioning_when_zeroing = adjust;
 }

@@ -10,6 +10,7 @@ use Rattle.shape_buffer.specs.declared.buffer.positions.GlyphPosition.{GlyphPosi
 use Rattle.shape_buffer.specs.declared.buffer.settings.Direction.{Direction}
 use Rattle.shape_buffer.specs.declared.buffer.settings.Direction.TheVariants.{Invalid, LeftToRight, RightToLeft, TopToBottom, BottomToTop}
 use Rattle.shape_buffer.specs.declared.buffer.settings.Script.{Script}
+use Rattle.shape_plan.specs.PlainTexts.{plain_unicode}
 use Rattle.shape_fallback.specs.Bases.{base_at, bases, runs_to_right}
 use Rattle.shape_fallback.specs.Extents.{Extents}
 use Rattle.shape_fallback.specs.MarkState.{component_of, place_of, component_extents, is_same, at_component, with_component, with_ccc, passed, moved}
@@ -136,18 +137,8 @@ worked_bases = record { one = refl; bare = refl; marks_first = refl; two = refl;
 
 -- Unicode where only the directions of scripts are known
 abbrev pub worked_unicode : Option Direction → UnicodeMeaning
-worked_unicode direction = record {
+worked_unicode direction = record plain_unicode {
   category = λ c. LowercaseLetter;
-  ccc = λ c. 0;
-  split = λ c. None;
-  height = λ c. 0;
-  compose = λ a b. None;
-  mirrored = λ c. None;
-  vertical = λ c. None;
-  space_fallback = λ c. 0;
-  ignorable = λ c. false;
-  pictographic = λ c. false;
-  selector = λ c. false;
   script = λ c. record { 0 = record { 0 = 0 } };
   script_direction = λ s. direction;
 }

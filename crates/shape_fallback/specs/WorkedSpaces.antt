@@ -11,6 +11,7 @@ use Rattle.shape_buffer.specs.declared.buffer.general_category.hb_unicode_genera
 use Rattle.shape_buffer.specs.declared.buffer.positions.GlyphPosition.{GlyphPosition}
 use Rattle.shape_buffer.specs.declared.buffer.settings.Direction.{Direction}
 use Rattle.shape_buffer.specs.declared.buffer.settings.Direction.TheVariants.{Invalid, LeftToRight, RightToLeft, TopToBottom}
+use Rattle.shape_plan.specs.PlainTexts.{bare_face}
 use Rattle.shape_fallback.specs.Positions.{each_placed}
 use Rattle.shape_fallback.specs.Spaces.{is_em_part, em_part, em_advance, first_glyph, figures, stops, as_wide_as, space_advance, space_positioned, is_lone_space, item_spaced, spaces_placed}
 use Rattle.shape_fallback.specs.Steps.{spaces_step}
@@ -30,17 +31,7 @@ em_parts = record { of_1000 = refl; of_1 = refl; of_8 = refl; of_65535 = refl; n
 
 -- a face of 1000 units where some characters have the glyph of their own number, as wide as that and as high as twice that
 abbrev pub worked_face : (ℕ → Bool) → FaceMeaning
-worked_face has = record {
-  nominal_glyph = λ c. if has c then Some (record { 0 = c }) else None;
-  variation_glyph = λ c selector. None;
-  h_advance = λ g. pos g.0;
-  v_advance = λ g. pos 0;
-  h_origin = λ g. pos 0;
-  v_origin = λ g. pos 0;
-  extents = λ g. None;
-  units_per_em = 1000;
-  tables = record { gsub = false; gpos = false; morx = false; kerx = false; trak = false };
-}
+worked_face has = record bare_face { nominal_glyph = λ c. if has c then Some (record { 0 = c }) else None; h_advance = λ g. pos g.0 }
 
 -- one with vertical advances of -7
 abbrev pub tall_face : (ℕ → Bool) → FaceMeaning

@@ -3,7 +3,7 @@ use Rattle.std.proofs.Common.{◌≡◌, ℕ, suc, true, List, [], ◌∷◌, ma
 use Rattle.std.proofs.lemmas.Bool.{cond-true, and_from}
 use Rattle.shape_buffer.specs.Buffer.{Buffer}
 use Rattle.shape_buffer.specs.Items.{Item, ccc_of_item}
-use Rattle.shape_buffer.proofs.KeyLemmas.{IsKey-ccc}
+use Rattle.shape_buffer.proofs.Merging.KeyLemmas.{IsKey-ccc}
 use Rattle.canonical_form.specs.Order.{IsOrdered}
 use Rattle.canonical_form.specs.Runs.{AreRunsSettled}
 use Rattle.canonical_form.proofs.BlockLemmas.{recomposed_by_last}

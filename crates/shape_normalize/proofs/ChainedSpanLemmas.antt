@@ -10,8 +10,9 @@ use Rattle.shape_buffer.specs.Items.{Item}
 use Rattle.shape_buffer.specs.declared.buffer.settings.BufferClusterLevel.{BufferClusterLevel}
 use Rattle.shape_buffer.specs.declared.buffer.settings.BufferClusterLevel.TheVariants.{MonotoneGraphemes, MonotoneCharacters, Characters}
 use Rattle.canonical_form.proofs.EveryLemmas.{append_all}
-use Rattle.shape_buffer.proofs.JoinLemmas.{Joined as SharesCluster, length-merge, merge_joins}
-use Rattle.shape_buffer.proofs.NestedMergeLemmas.{merge-from_later}
+use Rattle.shape_buffer.proofs.Merging.KeyLemmas.{length-merge}
+use Rattle.shape_buffer.proofs.Merging.JoinLemmas.{Joined as SharesCluster, merge_joins}
+use Rattle.shape_buffer.proofs.Merging.NestedMergeLemmas.{merge-from_later}
 use Rattle.shape_normalize.specs.RoundThree.{Joined, Placed, recomposed_items, joined_spans, spans_between, chained_spans, spans_merged_out}
 use Rattle.shape_plan.specs.Rules.{Rules}
 use Rattle.shape_normalize.proofs.RoundThreePlaceLemmas.{IsSpan, AreJoinedInOrder, InOrder, recomposed_placed}

@@ -10,11 +10,11 @@ use Rattle.shape_buffer.specs.ClusterOrder.{KeepsClusters, IsMonotoneLevel}
 use Rattle.shape_buffer.specs.Keepers.{IsClusterKeeper}
 use Rattle.shape_buffer.specs.Items.{Item, is_mark_item}
 use Rattle.shape_buffer.specs.declared.buffer.settings.GlyphId.{GlyphId}
-use Rattle.shape_buffer.proofs.DeleteKeeps.{merged_keeps}
+use Rattle.shape_buffer.proofs.Deletion.DeleteKeeps.{merged_keeps}
 use Rattle.canonical_form.proofs.DividedLemmas.{values-divided}
-use Rattle.shape_buffer.proofs.DrawsInOrder.{DrawsInOrder, DrawsInOrder-behind, DrawsInOrder-again, KeepsClusters-from_draws}
-use Rattle.shape_buffer.proofs.KeeperLemmas.{KeepsClusters-same, KeepsClusters-then}
-use Rattle.shape_buffer.proofs.KeyLemmas.{length-merge_clusters}
+use Rattle.shape_buffer.proofs.Order.DrawsInOrder.{DrawsInOrder, DrawsInOrder-behind, DrawsInOrder-again, KeepsClusters-from_draws}
+use Rattle.shape_buffer.proofs.Steps.KeeperLemmas.{KeepsClusters-same, KeepsClusters-then}
+use Rattle.shape_buffer.proofs.Merging.KeyLemmas.{length-merge_clusters}
 use Rattle.shape_plan.specs.Rules.{Rules}
 use Rattle.shape_normalize.proofs.SelectorLemmas.{pairs_within}
 use Rattle.std.proofs.lemmas.List.Elements.{recursion_from_All}
@@ -112,7 +112,7 @@ module _ (rules : Rules) where
   merged_at_keeps n [] b as_many within = KeepsClusters-same (clusters b.items)
   merged_at_keeps n (place ∷ places) b as_many within =
       let merged = merge_clusters place (place + 2) b in
-      let first = merged_keeps place (place + 2) b merged (omega arith) (omega (arith, within.0)) refl in
+      let first = merged_keeps place (place + 2) b merged (omega (arith, within.0)) refl in
       KeepsClusters-then _ _ _ first.0 (merged_at_keeps n places merged (length-merge_clusters place (place + 2) b ∙ as_many) within.1)
 
   pairs_merged_keeps : (b : Buffer) → KeepsClusters (clusters b.items) (clusters (pairs_merged rules b).items)

@@ -5,12 +5,10 @@ use Rattle.std.specs.Option.{option_map_or}
 use Rattle.std.proofs.lemmas.List.Elements.{All-from_recursion, recursion_from_All, All-contains_itself}
 use Rattle.std.proofs.lemmas.Nat.{and_assoc, and_or_apart}
 use Rattle.shape_buffer.specs.Buffer.{Buffer}
-use Rattle.shape_buffer.specs.BufferClusters.{merge_at, merge_out_clusters}
+use Rattle.shape_buffer.specs.BufferClusters.{merge_out_clusters}
 use Rattle.shape_buffer.specs.Items.{Item}
-use Rattle.shape_buffer.specs.declared.buffer.settings.BufferClusterLevel.{BufferClusterLevel}
-use Rattle.shape_buffer.specs.declared.buffer.settings.BufferClusterLevel.TheVariants.{MonotoneGraphemes, MonotoneCharacters, Characters}
 use Rattle.shape_buffer.specs.declared.buffer.settings.GlyphId.{GlyphId}
-use Rattle.shape_buffer.proofs.KeyLemmas.{IsKey, keys-merge}
+use Rattle.shape_buffer.proofs.Merging.KeyLemmas.{IsKey, keys-merge_out}
 use Rattle.shape_normalize.specs.Normalized.{normalized, features_of, KeepsFeatures}
 use Rattle.shape_normalize.specs.RoundOne.{part_item, whole_item, expansion_of, pairs_merged, round_one}
 use Rattle.shape_normalize.specs.RoundThree.{Placed, recomposed_items, joined_spans, spans_merged_out, with_cluster_at, round_three}
@@ -31,20 +29,10 @@ IsKey-features : IsKey features_of
 IsKey-features =
     record { by_cluster = λ item cluster. and_assoc 4294967288 item.mask 4294967288; by_break = λ item. and_or_apart 4294967288 item.mask 3 refl }
 
-features-merge_out : (start end : ℕ) (b : Buffer) → map features_of (merge_out_clusters start end b).items ≡ map features_of b.items
-features-merge_out start end b = at_level b.cluster_level
-  where
-    at_level : (level : BufferClusterLevel)
-        → map features_of (elim level as (λ v. Buffer) [ MonotoneGraphemes ↦ merge_at start end b | MonotoneCharacters ↦ merge_at start end b | Characters ↦ b ]).items ≡ map features_of b.items
-    at_level MonotoneGraphemes = keys-merge features_of IsKey-features start end b.items
-    at_level MonotoneCharacters = keys-merge features_of IsKey-features start end b.items
-    at_level Characters = refl
-
-pub features-spans_merged_out : (spans : List (ℕ × ℕ)) (b : Buffer)
-    → map features_of (spans_merged_out spans b).items ≡ map features_of b.items
+pub features-spans_merged_out : (spans : List (ℕ × ℕ)) (b : Buffer) → map features_of (spans_merged_out spans b).items ≡ map features_of b.items
 features-spans_merged_out [] b = refl
 features-spans_merged_out (span ∷ spans) b =
-    features-spans_merged_out spans (merge_out_clusters span.0 span.1 b) ∙ features-merge_out span.0 span.1 b
+    features-spans_merged_out spans (merge_out_clusters span.0 span.1 b) ∙ keys-merge_out features_of IsKey-features span.0 span.1 b
 
 -- ---- what holds of feature bits
 

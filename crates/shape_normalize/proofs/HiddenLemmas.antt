@@ -1,18 +1,17 @@
 -- Where no joiner was seen by the end of round one, none is shown: hidden bits are those of characters, or of the text.
-use Rattle.std.proofs.Common.{◌≡◌, ℕ, ◌+◌, ◌≤◌, ◌==◌, ◌&&◌, nat_lt, bit_and, Bool, true, false, if◌then◌else◌, ◌⊎◌, inl, inr, List, [], ◌∷◌, map, fold, length, slice_range, Option, None, Some, refl, sym, ap, subst, ◌∙◌}
+use Rattle.std.proofs.Common.{◌≡◌, ℕ, ◌+◌, ◌≤◌, ◌==◌, ◌&&◌, bit_and, Bool, true, false, if◌then◌else◌, ◌⊎◌, inl, inr, List, [], ◌∷◌, map, fold, length, slice_range, Option, None, Some, refl, sym, ap, subst, ◌∙◌}
 use Rattle.std.specs.List.{AllByRecursion, Contains}
 use Rattle.std.specs.Option.{option_map_or}
-use Rattle.std.proofs.lemmas.Bool.{cases_Bool, cond-false}
+use Rattle.std.proofs.lemmas.Bool.{cond-false}
 use Rattle.std.proofs.lemmas.List.Elements.{All-from_recursion, recursion_from_All, All-contains_itself}
 use Rattle.std.proofs.lemmas.Nat.{and_or_apart}
 use Rattle.shape_buffer.specs.Buffer.{Buffer}
-use Rattle.shape_buffer.specs.BufferClusters.{merge_at, merge_clusters, unsafe_to_break}
+use Rattle.shape_buffer.specs.BufferClusters.{merge_clusters}
 use Rattle.shape_buffer.specs.Items.{Item}
 use Rattle.shape_buffer.specs.UnicodeProps.{is_hidden_char}
-use Rattle.shape_buffer.specs.declared.buffer.settings.BufferClusterLevel.{BufferClusterLevel}
-use Rattle.shape_buffer.specs.declared.buffer.settings.BufferClusterLevel.TheVariants.{MonotoneGraphemes, MonotoneCharacters, Characters}
 use Rattle.shape_buffer.specs.declared.buffer.settings.GlyphId.{GlyphId}
-use Rattle.shape_buffer.proofs.KeyLemmas.{IsKey}
+use Rattle.shape_buffer.proofs.Merging.ClusterLemmas.{unsafe_to_break-cases, merge_clusters-cases}
+use Rattle.shape_buffer.proofs.Merging.KeyLemmas.{IsKey}
 use Rattle.shape_normalize.specs.Normalized.{ordered, normalized, has_seen_cgj, hidden_char, KeepsHidden}
 use Rattle.shape_normalize.specs.RoundOne.{part_item, whole_item, expansion_of, pairs_merged, round_one}
 use Rattle.shape_normalize.specs.RoundThree.{round_three}
@@ -31,18 +30,11 @@ use Rattle.shape_normalize.proofs.SettleLemmas.{run_placed, run_placed-in_order,
 abbrev cgj_flag : Buffer → ℕ
 cgj_flag b = bit_and b.scratch_flags.0 8
 
-flag-unsafe_to_break : (start end : ℕ) (b : Buffer) → cgj_flag (unsafe_to_break start end b) ≡ cgj_flag b
-flag-unsafe_to_break start end b =
-    elim (cases_Bool (nat_lt (start + 1) end)) [ inl long ↦ rw long (and_or_apart 8 b.scratch_flags.0 32 refl) | inr short ↦ rw short refl ]
-
 flag-merge_clusters : (start end : ℕ) (b : Buffer) → cgj_flag (merge_clusters start end b) ≡ cgj_flag b
-flag-merge_clusters start end b = at_level b.cluster_level
-  where
-    at_level : (level : BufferClusterLevel)
-        → cgj_flag (elim level as (λ v. Buffer) [ MonotoneGraphemes ↦ merge_at start end b | MonotoneCharacters ↦ merge_at start end b | Characters ↦ unsafe_to_break start end b ]) ≡ cgj_flag b
-    at_level MonotoneGraphemes = refl
-    at_level MonotoneCharacters = refl
-    at_level Characters = flag-unsafe_to_break start end b
+flag-merge_clusters start end b =
+    let Kept : Buffer → Type 0 = λ c. cgj_flag c ≡ cgj_flag b in
+    let marked = unsafe_to_break-cases Kept start end b (λ long. and_or_apart 8 b.scratch_flags.0 32 refl) refl in
+    merge_clusters-cases Kept start end b (λ monotone. refl) (λ is. marked)
 
 flag-merged : (start : ℕ) (b : Buffer) (ps : List (ℕ × ℕ))
     → cgj_flag (fold (λ (b : Buffer) (span : ℕ × ℕ). merge_clusters (start + span.0) (start + span.1) b) b ps) ≡ cgj_flag b

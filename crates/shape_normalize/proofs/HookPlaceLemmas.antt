@@ -12,7 +12,7 @@ use Rattle.canonical_form.specs.Order.{IsSwap, Swaps, in_order}
 use Rattle.canonical_form.proofs.OrderLemmas.{Swaps-in_order}
 use Rattle.shape_buffer.specs.Buffer.{Buffer}
 use Rattle.shape_buffer.specs.Items.{Item, new_item, ccc_of_item}
-use Rattle.shape_buffer.proofs.KeyLemmas.{IsKey, IsKey-ccc}
+use Rattle.shape_buffer.proofs.Merging.KeyLemmas.{IsKey, IsKey-ccc}
 use Rattle.shape_normalize.specs.Origins.{item_at, all_places, AreInOneRun, PermutesRuns}
 use Rattle.shape_normalize.specs.Reordered.{unclassed}
 use Rattle.shape_normalize.specs.RoundTwo.{max_run, spans_merged, run_reordered, run_settled, marks_ordered}

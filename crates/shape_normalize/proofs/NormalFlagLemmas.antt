@@ -7,7 +7,7 @@ use Rattle.std.proofs.lemmas.Nat.{and_or_apart}
 use Rattle.std.proofs.lemmas.List.Sorted.{IsPermutation-swap, list_any-IsPermutation}
 use Rattle.std.specs.List.{swap}
 use Rattle.shape_buffer.specs.Buffer.{Buffer}
-use Rattle.shape_buffer.specs.BufferClusters.{merge_clusters, merge_at, merge_out_clusters}
+use Rattle.shape_buffer.specs.BufferClusters.{merge_clusters, merge_out_clusters}
 use Rattle.shape_buffer.specs.Items.{Item, ccc_of_item}
 use Rattle.shape_buffer.specs.KeepsFlags.{has_flag, some_has, KeepsFlags}
 use Rattle.canonical_form.specs.Order.{in_order}
@@ -15,10 +15,8 @@ use Rattle.shape_buffer.specs.UnicodeProps.{with_scratch_of, flag_if, beyond_asc
 use Rattle.shape_buffer.specs.Unicode.{UnicodeMeaning}
 use Rattle.shape_buffer.specs.Face.{FaceMeaning}
 use Rattle.shape_buffer.specs.declared.buffer.flags.ScratchFlags.{ScratchFlags}
-use Rattle.shape_buffer.specs.declared.buffer.settings.BufferClusterLevel.{BufferClusterLevel}
-use Rattle.shape_buffer.specs.declared.buffer.settings.BufferClusterLevel.TheVariants.{MonotoneGraphemes, MonotoneCharacters, Characters}
 use Rattle.shape_buffer.specs.declared.buffer.settings.GlyphId.{GlyphId}
-use Rattle.shape_buffer.proofs.FlagLemmas.{append-cases, take_in, drop_in, KeepsFlags-items, KeepsFlags-same, KeepsFlags-then, merge_clusters_keeps, merge_out_clusters_keeps}
+use Rattle.shape_buffer.proofs.Flags.FlagLemmas.{append-cases, take_in, drop_in, KeepsFlags-items, KeepsFlags-same, KeepsFlags-then, merge_clusters_keeps, merge_out_clusters_keeps}
 use Rattle.canonical_form.proofs.OrderLemmas.{Swaps-in_order}
 use Rattle.canonical_form.proofs.SwapLemmas.{all-swaps}
 use Rattle.shape_normalize.specs.Normalized.{normalized}
@@ -32,6 +30,7 @@ use Rattle.shape_normalize.proofs.NormalizedLemmas.{kept_by_rounds}
 use Rattle.shape_normalize.proofs.RecomposedItemLemmas.{each_recomposed}
 use Rattle.shape_normalize.proofs.ReorderLemmas.{LawfulReorder, kept_by_steps, keys-ccc_set}
 use Rattle.shape_normalize.proofs.RoundOneLemmas.{whole_item_is, expanded_all}
+use Rattle.shape_normalize.proofs.RoundThreeLemmas.{spans_merged_out_is}
 use Rattle.shape_normalize.proofs.RunMarkLemmas.{AreMarks}
 use Rattle.shape_normalize.proofs.SequenceLemmas.{each_of_values, each_value}
 use Rattle.shape_normalize.proofs.SettleLemmas.{run_placed, run_placed-in_order, length-run_placed, settled_cases, kept_by_marks_ordered, Reorders-run_reordered}
@@ -257,14 +256,7 @@ flags-cgj b =
 -- ---- round three
 
 scratch-spans_out : (parts : List (ℕ × ℕ)) (b : Buffer) → (spans_merged_out parts b).scratch_flags ≡ b.scratch_flags
-scratch-spans_out [] b = refl
-scratch-spans_out (span ∷ parts) b = scratch-spans_out parts (merge_out_clusters span.0 span.1 b) ∙ at_level b.cluster_level
-  where
-    at_level : (level : BufferClusterLevel)
-        → (elim level as (λ v. Buffer) [ MonotoneGraphemes ↦ merge_at span.0 span.1 b | MonotoneCharacters ↦ merge_at span.0 span.1 b | Characters ↦ b ]).scratch_flags ≡ b.scratch_flags
-    at_level MonotoneGraphemes = refl
-    at_level MonotoneCharacters = refl
-    at_level Characters = refl
+scratch-spans_out parts b = ap (λ (c : Buffer). c.scratch_flags) (spans_merged_out_is parts b)
 
 module _ (flag : ℕ) where
   bare_at : (items : List Item) (place : ℕ) (other : Item) → Bare flag items → has_flag flag other ≡ false

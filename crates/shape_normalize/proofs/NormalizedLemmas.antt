@@ -7,7 +7,7 @@ use Rattle.std.proofs.lemmas.List.Elements.{All-from_recursion, recursion_from_A
 use Rattle.shape_buffer.specs.Items.{Item, char_of, ccc_of_item}
 use Rattle.shape_buffer.specs.Buffer.{Buffer}
 use Rattle.shape_buffer.specs.declared.buffer.positions.GlyphPosition.{GlyphPosition}
-use Rattle.shape_buffer.proofs.KeyLemmas.{IsKey, IsKey-unflagged}
+use Rattle.shape_buffer.proofs.Merging.KeyLemmas.{IsKey, IsKey-unflagged}
 use Rattle.shape_plan.specs.Rules.{Rules, has_glyph}
 use Rattle.shape_normalize.specs.RoundOne.{round_one, part_item}
 use Rattle.shape_normalize.specs.RoundTwo.{has_mark_past_first, marks_ordered, shown, cgj_settled, without_place, OrdersMarks}

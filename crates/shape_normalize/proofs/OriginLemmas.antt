@@ -9,7 +9,7 @@ use Rattle.canonical_form.proofs.ChoiceLemmas.{chosen_glyphs}
 use Rattle.shape_buffer.specs.Buffer.{Buffer}
 use Rattle.shape_buffer.specs.Items.{Item, is_mark_item}
 use Rattle.shape_buffer.specs.declared.buffer.settings.GlyphId.{GlyphId}
-use Rattle.shape_buffer.proofs.KeyLemmas.{IsKey-unflagged}
+use Rattle.shape_buffer.proofs.Merging.KeyLemmas.{IsKey-unflagged}
 use Rattle.shape_plan.specs.Rules.{Rules, has_glyph}
 use Rattle.shape_normalize.specs.Normalized.{features_of, hidden_char}
 use Rattle.shape_normalize.specs.Origins.{item_at, Origin, origin_at, origins_from, variant_origins, expansion_origins, origins_of_parts, sequence_origins, origins, HasOfOrigin}

@@ -10,10 +10,10 @@ use Rattle.shape_buffer.specs.Clusters.{clusters}
 use Rattle.shape_buffer.specs.ClusterOrder.{KeepsClusters}
 use Rattle.shape_buffer.specs.Items.{Item}
 use Rattle.canonical_form.specs.Recompose.{recomposed_from, recomposed, is_blocked_by_last}
-use Rattle.shape_buffer.proofs.DeleteKeeps.{merged_out_keeps}
-use Rattle.shape_buffer.proofs.DrawsInOrder.{DrawsInOrder, DrawsInOrder-same, DrawsInOrder-then, KeepsClusters-from_draws}
-use Rattle.shape_buffer.proofs.KeeperLemmas.{KeepsClusters-same, KeepsClusters-then}
-use Rattle.shape_buffer.proofs.KeyLemmas.{length-merge_out}
+use Rattle.shape_buffer.proofs.Deletion.DeleteKeeps.{merged_out_keeps}
+use Rattle.shape_buffer.proofs.Order.DrawsInOrder.{DrawsInOrder, DrawsInOrder-same, DrawsInOrder-then, KeepsClusters-from_draws}
+use Rattle.shape_buffer.proofs.Steps.KeeperLemmas.{KeepsClusters-same, KeepsClusters-then}
+use Rattle.shape_buffer.proofs.Merging.KeyLemmas.{length-merge_out}
 use Rattle.canonical_form.proofs.RecomposeLemmas.{by_steps}
 use Rattle.shape_plan.specs.Rules.{Rules}
 use Rattle.shape_normalize.specs.RoundThree.{Placed, placed, ccc_of_placed, is_mark_placed, compose_placed, recomposed_items, joined_spans, spans_merged_out, with_cluster_at, round_three}

@@ -1,18 +1,17 @@
 -- A run that a hook reorders is permuted, and nothing else is touched but clusters, ccc and flags.
-use Rattle.std.proofs.Common.{◌≡◌, ◌⊎◌, ℕ, ◌+◌, ◌-◌, ◌<◌, ◌≤◌, bit_or, max, nat_lt, map, length, set, slice_range, refl, sym, ap, ◌∙◌, arith, inl, inr}
+use Rattle.std.proofs.Common.{◌≡◌, ◌⊎◌, ℕ, ◌+◌, ◌-◌, ◌<◌, ◌≤◌, bit_or, max, map, length, set, slice_range, refl, sym, ap, ◌∙◌, arith, inl, inr}
 use Rattle.std.specs.List.{All, swap}
 use Rattle.std.specs.Int.{bit_at}
 use Rattle.std.proofs.lemmas.Nat.Bits.{bit_at_or, same_from_bits}
-use Rattle.std.proofs.lemmas.Bool.{cases_Bool}
 use Rattle.std.proofs.lemmas.List.{take-map, drop-map, map-set}
 use Rattle.std.proofs.lemmas.List.Elements.{All-map, All-set}
 use Rattle.std.proofs.lemmas.List.Sorted.{All-permutation}
 use Rattle.shape_buffer.specs.Buffer.{Buffer}
-use Rattle.shape_buffer.specs.BufferClusters.{merge_clusters, merge_at, unsafe_to_break}
+use Rattle.shape_buffer.specs.BufferClusters.{merge_clusters}
 use Rattle.shape_buffer.specs.Items.{Item, ccc_of_item}
-use Rattle.shape_buffer.specs.declared.buffer.settings.BufferClusterLevel.{BufferClusterLevel}
-use Rattle.shape_buffer.specs.declared.buffer.settings.BufferClusterLevel.TheVariants.{MonotoneGraphemes, MonotoneCharacters, Characters}
-use Rattle.shape_buffer.proofs.KeyLemmas.{IsKey, IsKey-ccc, IsKey-unflagged, keys-merge_clusters}
+use Rattle.shape_buffer.specs.declared.buffer.settings.BufferClusterLevel.TheVariants.{Characters}
+use Rattle.shape_buffer.proofs.Merging.ClusterLemmas.{unsafe_to_break-cases, merge_clusters-cases}
+use Rattle.shape_buffer.proofs.Merging.KeyLemmas.{IsKey, IsKey-ccc, IsKey-unflagged, keys-merge_clusters, without_items-merge_clusters}
 use Rattle.shape_plan.specs.Reorder.{IsRunInOrder, with_ccc, ccc_set, exchanged, Reorders}
 use Rattle.shape_normalize.specs.Reordered.{unmerged, unclassed, ReordersRun}
 use Rattle.shape_normalize.proofs.NormalFlagLemmas.{flags-Reorders}
@@ -34,19 +33,9 @@ FlagsCome old new =
     (new.scratch_flags.0 ≡ old.scratch_flags.0) ⊎ ((old.cluster_level ≡ Characters) × (new.scratch_flags.0 ≡ bit_or old.scratch_flags.0 32))
 
 flags_come-merge : (from to : ℕ) (b : Buffer) → FlagsCome b (merge_clusters from to b)
-flags_come-merge from to b = at_level b.cluster_level
-  where
-    marked : (unsafe_to_break from to b).scratch_flags.0 ≡ b.scratch_flags.0 ⊎ (unsafe_to_break from to b).scratch_flags.0
-        ≡ bit_or b.scratch_flags.0 32
-    marked = elim (cases_Bool (nat_lt (from + 1) to)) [ inl long ↦ rw long (inr refl) | inr short ↦ rw short (inl refl) ]
-
-    at_level : (level : BufferClusterLevel)
-        → ((elim level as (λ v. Buffer) [ MonotoneGraphemes ↦ merge_at from to b | MonotoneCharacters ↦ merge_at from to b | Characters ↦ unsafe_to_break from to b ]).scratch_flags.0 ≡ b.scratch_flags.0)
-        ⊎ ((level ≡ Characters)
-        × ((elim level as (λ v. Buffer) [ MonotoneGraphemes ↦ merge_at from to b | MonotoneCharacters ↦ merge_at from to b | Characters ↦ unsafe_to_break from to b ]).scratch_flags.0 ≡ bit_or b.scratch_flags.0 32))
-    at_level MonotoneGraphemes = inl refl
-    at_level MonotoneCharacters = inl refl
-    at_level Characters = elim marked [ inl same ↦ inl same | inr come ↦ inr (refl, come) ]
+flags_come-merge from to b =
+    merge_clusters-cases (FlagsCome b) from to b (λ monotone. inl refl)
+    (λ is. unsafe_to_break-cases (FlagsCome b) from to b (λ long. inr (is, refl)) (inl refl))
 
 -- a bit that is set twice is set once
 or_twice : (a m : ℕ) → bit_or (bit_or a m) m ≡ bit_or a m
@@ -66,21 +55,12 @@ flags_come-then b c d level (inr first) (inr second) =
     inr (first.0, second.1 ∙ ap (λ n. bit_or n 32) first.1 ∙ or_twice b.scratch_flags.0 32)
 
 module _ (start end : ℕ) (b : Buffer) (ordered : start ≤ end) (within : end ≤ length b.items) where
-  level-merge : (from to : ℕ) (x : Buffer) → (merge_clusters from to x).cluster_level ≡ x.cluster_level
-  level-merge from to x = at_level x.cluster_level
-    where
-      at_level : (level : BufferClusterLevel)
-          → (elim level as (λ v. Buffer) [ MonotoneGraphemes ↦ merge_at from to x | MonotoneCharacters ↦ merge_at from to x | Characters ↦ unsafe_to_break from to x ]).cluster_level ≡ x.cluster_level
-      at_level MonotoneGraphemes = refl
-      at_level MonotoneCharacters = refl
-      at_level Characters = elim (cases_Bool (nat_lt (from + 1) to)) [ inl long ↦ rw long refl | inr short ↦ rw short refl ]
-
   flags_come-steps : {c : Buffer} → Reorders start end b c → FlagsCome b c
   flags_come-steps steps =
       (kept_by_steps start end (λ x. (x.cluster_level ≡ b.cluster_level) × FlagsCome b x)
       (λ x i j low_i high_i low_j high_j inside so_far. so_far)
       (λ x from to low up high inside so_far. (
-        level-merge from to x
+        ap (λ (c : Buffer). c.cluster_level) (without_items-merge_clusters from to x)
             ∙ so_far.0,
         flags_come-then b x (merge_clusters from to x) so_far.0 so_far.1 (flags_come-merge from to x),
       ))

@@ -7,7 +7,7 @@ use Rattle.std.proofs.lemmas.List.Elements.{All-from_recursion, recursion_from_A
 use Rattle.std.proofs.lemmas.List.Folds.{list_any_none}
 use Rattle.canonical_form.proofs.ChoiceLemmas.{choice_glyphs}
 use Rattle.canonical_form.proofs.ExpandedLemmas.{expanded-map}
-use Rattle.shape_buffer.proofs.KeyLemmas.{IsKey}
+use Rattle.shape_buffer.proofs.Merging.KeyLemmas.{IsKey}
 use Rattle.shape_buffer.specs.Buffer.{Buffer}
 use Rattle.canonical_form.specs.Choice.{HasGlyphOrIs}
 use Rattle.canonical_form.specs.Expanded.{expanded_in_sequences, expanded_text}

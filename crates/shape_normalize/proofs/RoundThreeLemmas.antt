@@ -1,17 +1,15 @@
 -- Round three: what the walk that recomposes has put out, and what it leaves.
-use Rattle.std.proofs.Common.{◌≡◌, ℕ, ◌+◌, ◌<◌, ◌≤◌, List, [], ◌∷◌, length, map, replicate, get_or, drop, Result, Ok, Err, IsErrAnd, IsOkUnless, refl, sym, ap, ap₂, ◌∙◌, arith, add-one, drop-cons}
+use Rattle.std.proofs.Common.{◌≡◌, ℕ, ◌+◌, ◌<◌, ◌≤◌, List, [], ◌∷◌, length, map, replicate, get_or, drop, Result, Ok, Err, IsErrAnd, IsOkUnless, refl, ap, ap₂, ◌∙◌, arith, add-one, drop-cons}
 use Rattle.std.proofs.lemmas.List.{length-map}
 use Rattle.shape_buffer.specs.Buffer.{Buffer, cleared, limit_of}
-use Rattle.shape_buffer.specs.BufferClusters.{merge_at, merge_out_clusters}
-use Rattle.shape_buffer.specs.Clusters.{merge}
-use Rattle.shape_buffer.specs.Items.{Item, ccc_of_item}
+use Rattle.shape_buffer.specs.BufferClusters.{merge_out_clusters}
+use Rattle.shape_buffer.specs.Items.{Item}
 use Rattle.shape_buffer.specs.Positions.{zero_position}
 use Rattle.shape_buffer.specs.declared.buffer.flags.ScratchFlags.{ScratchFlags}
-use Rattle.shape_buffer.specs.declared.buffer.settings.BufferClusterLevel.{BufferClusterLevel}
-use Rattle.shape_buffer.specs.declared.buffer.settings.BufferClusterLevel.TheVariants.{MonotoneGraphemes, MonotoneCharacters, Characters}
 use Rattle.shape_buffer.specs.declared.buffer.error.ShapeError.{ShapeError}
 use Rattle.shape_buffer.specs.declared.buffer.error.ShapeError.TheVariants.{Memory, Length}
-use Rattle.shape_buffer.proofs.KeyLemmas.{keys-merge, IsKey-ccc, length-merge_out}
+use Rattle.shape_buffer.proofs.Merging.ClusterLemmas.{merge_out-cases}
+use Rattle.shape_buffer.proofs.Merging.KeyLemmas.{length-merge_out}
 use Rattle.shape_normalize.specs.RoundOne.{seen_chars}
 use Rattle.shape_normalize.specs.RoundThree.{Placed, recomposed_items, joined_spans, composed_chars, spans_merged_out, placed_info, with_cluster_at, settled_info, round_three}
 use Rattle.shape_plan.specs.Rules.{Rules}
@@ -20,17 +18,10 @@ use Rattle.shape_normalize.proofs.RoundThreePlaceLemmas.{length-recomposed}
 
 -- ---- the spans are merged
 
-merge_out_at_level : (start end : ℕ) (b : Buffer) (level : BufferClusterLevel)
-    → elim level as (λ v. Buffer) [ MonotoneGraphemes ↦ merge_at start end b | MonotoneCharacters ↦ merge_at start end b | Characters ↦ b ]
-    ≡ record b { items = (elim level as (λ v. Buffer) [ MonotoneGraphemes ↦ merge_at start end b | MonotoneCharacters ↦ merge_at start end b | Characters ↦ b ]).items }
-merge_out_at_level start end b MonotoneGraphemes = refl
-merge_out_at_level start end b MonotoneCharacters = refl
-merge_out_at_level start end b Characters = refl
-
 -- merging changes the items alone
 pub merge_out_is : (start end : ℕ) (b : Buffer)
     → merge_out_clusters start end b ≡ record b { items = (merge_out_clusters start end b).items }
-merge_out_is start end b = merge_out_at_level start end b b.cluster_level
+merge_out_is start end b = merge_out-cases (λ c. c ≡ record b { items = c.items }) start end b refl refl
 
 pub spans_merged_out_is : (spans : List (ℕ × ℕ)) (b : Buffer)
     → spans_merged_out spans b ≡ record b { items = (spans_merged_out spans b).items }

@@ -12,7 +12,7 @@ use Rattle.shape_buffer.specs.Positions.{zero_position}
 use Rattle.shape_buffer.specs.Unicode.{UnicodeMeaning}
 use Rattle.shape_buffer.specs.declared.buffer.flags.ScratchFlags.{ScratchFlags}
 use Rattle.canonical_form.proofs.DividedLemmas.{lengths-divided}
-use Rattle.shape_buffer.proofs.KeyLemmas.{IsKey, keys-merge_clusters, without_items, without_items-merge_clusters}
+use Rattle.shape_buffer.proofs.Merging.KeyLemmas.{IsKey, keys-merge_clusters, without_items, without_items-merge_clusters}
 use Rattle.shape_plan.specs.Rules.{Rules}
 use Rattle.shape_normalize.specs.RoundOne.{is_with_marks, is_selector_item, is_selector_sequence, variants, sequences, pair_glyph, pair_places, pairs_from, merged_at, pairs_merged, expanded, seen_sequence, round_one}
 

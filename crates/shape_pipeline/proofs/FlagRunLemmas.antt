@@ -8,8 +8,8 @@ use Rattle.shape_buffer.specs.Layout.{LawfulMasks}
 use Rattle.shape_buffer.specs.Outcome.{Step, step, run_steps}
 use Rattle.shape_buffer.specs.declared.buffer.flags.BufferFlags.{BufferFlags}
 use Rattle.shape_buffer.specs.declared.buffer.settings.Direction.{Direction}
-use Rattle.shape_buffer.proofs.HonestLemmas.{IsHonest, honest-kept, one_set-propagated, concat-propagated}
-use Rattle.shape_buffer.proofs.KeeperLemmas.{EachStep-front}
+use Rattle.shape_buffer.proofs.Flags.HonestLemmas.{IsHonest, honest-kept, one_set-propagated, concat-propagated}
+use Rattle.shape_buffer.proofs.Steps.KeeperLemmas.{EachStep-front}
 use Rattle.shape_fallback.proofs.KeeperLemmas.{fallback-keeps_flags}
 use Rattle.shape_normalize.proofs.NormalFlagLemmas.{KeepsFlags-normalized}
 use Rattle.shape_normalize.proofs.ReorderLemmas.{LawfulReorder}
@@ -24,7 +24,7 @@ use Rattle.shape_prepare.specs.ClustersFormed.{clusters_formed}
 use Rattle.shape_prepare.specs.DottedCircle.{dotted_circled}
 use Rattle.shape_prepare.specs.Graphemes.{graphemes_marked}
 use Rattle.shape_prepare.specs.PrepareSteps.{order_steps, prepare_steps}
-use Rattle.shape_prepare.proofs.FlagKeeperLemmas.{begun-keeps_flags, begun-honest, preparing_keeps_flags}
+use Rattle.shape_prepare.proofs.Keeping.FlagKeeperLemmas.{begun-keeps_flags, begun-honest, preparing_keeps_flags}
 use Rattle.shape_substitute.proofs.ListKeepers.{substitution-keeps_flags}
 use Rattle.shape_pipeline.specs.Headline.{HasFlagsByCluster}
 use Rattle.shape_pipeline.specs.Shaped.{normalising, glyph_part, place_part, shaped_steps, all_steps, entered, finished, run_made}

@@ -17,7 +17,7 @@ use Rattle.shape_buffer.specs.declared.buffer.settings.Script.{Script}
 use Rattle.shape_buffer.specs.declared.buffer.settings.BufferClusterLevel.TheVariants.{MonotoneGraphemes}
 use Rattle.shape_buffer.specs.declared.buffer.settings.Direction.{Direction}
 use Rattle.shape_buffer.specs.declared.buffer.settings.Direction.TheVariants.{Invalid, LeftToRight, RightToLeft, TopToBottom, BottomToTop}
-use Rattle.shape_buffer.proofs.KeeperLemmas.{EachStep-append}
+use Rattle.shape_buffer.proofs.Steps.KeeperLemmas.{EachStep-append}
 use Rattle.shape_fallback.proofs.KeeperLemmas.{fallback-keeps_clusters}
 use Rattle.shape_normalize.proofs.ClusterOrderLemmas.{KeepsOrder-normalized}
 use Rattle.shape_normalize.proofs.ReorderLemmas.{LawfulReorder}
@@ -27,8 +27,8 @@ use Rattle.shape_position.specs.Turning.{turned}
 use Rattle.shape_position.proofs.StepKeepers.{steps_keep_clusters}
 use Rattle.shape_prepare.specs.ClusterPoint.{InOrderFor, direction_for, is_turned}
 use Rattle.shape_prepare.specs.PrepareSteps.{prepare_steps}
-use Rattle.shape_prepare.proofs.FirstLemmas.{preparing_keeps_firsts}
-use Rattle.shape_prepare.proofs.OrderKeeperLemmas.{preparing_keeps_order}
+use Rattle.shape_prepare.proofs.Keeping.FirstLemmas.{preparing_keeps_firsts}
+use Rattle.shape_prepare.proofs.Keeping.OrderKeeperLemmas.{preparing_keeps_order}
 use Rattle.shape_substitute.proofs.ListKeepers.{substitution-keeps_clusters}
 use Rattle.shape_pipeline.specs.Headline.{target_of}
 use Rattle.shape_pipeline.specs.Order.{RunKeepsClusters, ComesInOrder, ClustersComeInOrder, grapheme_clusters}

@@ -3,8 +3,8 @@ use Rattle.std.proofs.Common.{List, [], ◌∷◌, ◌++◌, subst, sym}
 use Rattle.shape_buffer.specs.Buffer.{Buffer}
 use Rattle.shape_buffer.specs.Keepers.{EachStep}
 use Rattle.shape_buffer.specs.Outcome.{Step, step, run_steps}
-use Rattle.shape_buffer.proofs.KeeperLemmas.{EachStep-append}
-use Rattle.shape_buffer.proofs.Runs.{run_steps-append}
+use Rattle.shape_buffer.proofs.Steps.KeeperLemmas.{EachStep-append}
+use Rattle.shape_buffer.proofs.Steps.Runs.{run_steps-append}
 use Rattle.shape_fallback.specs.Keepers.{EachFallback}
 use Rattle.shape_fallback.specs.Steps.{recategorize_step, spaces_step, marks_step}
 use Rattle.shape_plan.specs.Run.{Run}

@@ -11,7 +11,7 @@ use Rattle.shape_buffer.specs.Layout.{LookupMeaning, MapMeaning}
 use Rattle.shape_buffer.specs.NoLookups.{no_lookups}
 use Rattle.shape_buffer.specs.Items.{Item}
 use Rattle.shape_buffer.specs.Unicode.{UnicodeMeaning, LawfulUnicode}
-use Rattle.shape_buffer.proofs.FlagLemmas.{KeepsFlags-same}
+use Rattle.shape_buffer.proofs.Flags.FlagLemmas.{KeepsFlags-same}
 use Rattle.shape_normalize.specs.CanonicalForm.{HasLawfulHooks, TextPremises, HasNoSelector}
 use Rattle.shape_normalize.specs.Normalized.{HookKeepsClusters}
 use Rattle.shape_buffer.specs.Prepared.{IsPrepared}
@@ -28,8 +28,8 @@ use Rattle.shape_pipeline.specs.Premises.{OwesNothing}
 use Rattle.shape_pipeline.specs.Shaped.{entered}
 use Rattle.shape_normalize.proofs.LawfulLemmas.{reorder-unasked}
 use Rattle.shape_prepare.specs.PreparedPoint.{KeepsPrepared}
-use Rattle.shape_buffer.proofs.KeeperLemmas.{KeepsOrder-same}
-use Rattle.shape_prepare.proofs.PreparedLemmas.{preparing_prepares}
+use Rattle.shape_buffer.proofs.Steps.KeeperLemmas.{KeepsOrder-same}
+use Rattle.shape_prepare.proofs.Keeping.PreparedLemmas.{preparing_prepares}
 
 -- what leaves a buffer as it is keeps clusters and flags
 pub clusters-left : IsClusterKeeper (λ b. b)

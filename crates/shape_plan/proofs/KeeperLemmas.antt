@@ -2,8 +2,8 @@
 use Rattle.std.proofs.Common.{◌≡◌, Bool, true, false, Option, Some, None, refl}
 use Rattle.shape_buffer.specs.Buffer.{Buffer}
 use Rattle.shape_buffer.specs.Keepers.{IsClusterKeeper, IsFlagKeeper}
-use Rattle.shape_buffer.proofs.FlagLemmas.{KeepsFlags-same}
-use Rattle.shape_buffer.proofs.KeeperLemmas.{KeepsOrder-same}
+use Rattle.shape_buffer.proofs.Flags.FlagLemmas.{KeepsFlags-same}
+use Rattle.shape_buffer.proofs.Steps.KeeperLemmas.{KeepsOrder-same}
 use Rattle.shape_plan.specs.Run.{step_if, hook_if}
 use Rattle.shape_plan.specs.Shaper.{HookMeaning}
 

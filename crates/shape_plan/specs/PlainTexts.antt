@@ -1,6 +1,6 @@
 -- What the tests of planning bring: functions of Unicode by which every character is a letter of an unknown script, and faces and an engine
 -- that are a number.
-use Rattle.std.specs.Prelude.{◌≡◌, ◌==◌, ℕ, pos, Bool, true, false, Option, Some, None, refl, nat_lt, if◌then◌else◌}
+use Rattle.std.specs.Prelude.{◌==◌, ℕ, pos, Bool, true, false, Some, None, refl, if◌then◌else◌}
 use Rattle.std.specs.Int.RustNames.{bit_and}
 use Rattle.std.proofs.Common.{rules}
 use Rattle.shape_buffer.specs.Face.{FaceMeaning}
@@ -8,7 +8,6 @@ use Rattle.shape_buffer.specs.Layout.{LayoutMeaning, MapMeaning, LawfulMasks, La
 use Rattle.shape_buffer.specs.NoLookups.{no_lookups}
 use Rattle.shape_buffer.specs.Unicode.{UnicodeMeaning, LawfulUnicode}
 use Rattle.shape_buffer.specs.declared.buffer.general_category.hb_unicode_general_category_t.TheVariants.{OtherLetter}
-use Rattle.shape_buffer.specs.declared.buffer.settings.hb_tag_t.{hb_tag_t}
 use Rattle.shape_buffer.specs.declared.interfaces.map_request.TableIndex.TheVariants.{GSUB, GPOS}
 
 abbrev pub plain_unicode : UnicodeMeaning
@@ -43,13 +42,9 @@ plain_unicode-lawful = record {
   composes_soundly = record { equivalent = λ a b c joins. cc };
 }
 
--- a bit of the number
-abbrev pub has : ℕ → ℕ → Bool
-has number bit = bit_and number bit == bit
-
--- which tables the face has: 1, 2, 4, 8, 16 in the order gsub, gpos, morx, kerx, trak
-abbrev pub answers_of : ℕ → FaceMeaning
-answers_of number = record {
+-- a face without glyphs and tables, of 1000 units per em, for rows to begin with
+abbrev pub bare_face : FaceMeaning
+bare_face = record {
   nominal_glyph = λ _. None;
   variation_glyph = λ _ _. None;
   h_advance = λ _. pos 0;
@@ -58,6 +53,16 @@ answers_of number = record {
   v_origin = λ _. pos 0;
   extents = λ _. None;
   units_per_em = 1000;
+  tables = record { gsub = false; gpos = false; morx = false; kerx = false; trak = false };
+}
+
+-- a bit of the number
+abbrev pub has : ℕ → ℕ → Bool
+has number bit = bit_and number bit == bit
+
+-- which tables the face has: 1, 2, 4, 8, 16 in the order gsub, gpos, morx, kerx, trak
+abbrev pub answers_of : ℕ → FaceMeaning
+answers_of number = record bare_face {
   tables = record { gsub = has number 1; gpos = has number 2; morx = has number 4; kerx = has number 8; trak = has number 16 };
 }
 

@@ -32,6 +32,31 @@ nothing_known = record {
   has_cross_kerning = false;
 }
 
+-- a plan that does nothing, for rows to begin with
+abbrev pub no_decisions : Decisions
+no_decisions = record {
+  apply_morx = false;
+  frac_mask = 0;
+  numr_mask = 0;
+  dnom_mask = 0;
+  rtlm_mask = 0;
+  kern_mask = 0;
+  trak_mask = 0;
+  has_frac = false;
+  has_vert = false;
+  has_gpos_mark = false;
+  requested_kerning = false;
+  apply_trak = false;
+  fallback_glyph_classes = false;
+  apply_gpos = false;
+  apply_kern = false;
+  apply_fallback_kern = false;
+  apply_kerx = false;
+  zero_marks = false;
+  fallback_mark_positioning = false;
+  adjust_mark_positioning_when_zeroing = false;
+}
+
 -- who positions: GPOS, kerx, kern, none of the three; and for marks: zeroed, placed by extents, moved back
 abbrev pub choices : PlanFacts → List Bool
 choices f =

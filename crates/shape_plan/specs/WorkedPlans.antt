@@ -1,16 +1,15 @@
 -- Planners and plans, computed on small cases whose answers are worked out by hand.
-use Rattle.std.specs.Prelude.{◌≡◌, ◌*◌, ℕ, pos, Bool, true, false, List, [], ◌∷◌, length, Option, Some, None, is_some, refl, if◌then◌else◌}
+use Rattle.std.specs.Prelude.{◌≡◌, ◌*◌, ℕ, pos, Bool, true, false, List, [], ◌∷◌, length, Option, Some, None, is_some, refl}
 use Rattle.shape_buffer.specs.Face.{FaceMeaning}
 use Rattle.shape_buffer.specs.Layout.{LayoutMeaning, MapMeaning}
 use Rattle.shape_buffer.specs.MapBuilder.{Builder}
 use Rattle.shape_buffer.specs.declared.buffer.settings.Direction.{Direction}
 use Rattle.shape_buffer.specs.declared.buffer.settings.Direction.TheVariants.{LeftToRight, RightToLeft, TopToBottom}
 use Rattle.shape_buffer.specs.declared.buffer.settings.Feature.{Feature}
-use Rattle.shape_buffer.specs.declared.buffer.settings.Script.{Script}
 use Rattle.shape_buffer.specs.declared.buffer.settings.hb_tag_t.{hb_tag_t}
 use Rattle.shape_buffer.specs.declared.interfaces.face.hb_tables_t.{hb_tables_t}
-use Rattle.shape_buffer.specs.declared.interfaces.map_request.MapRequest.{MapRequest}
 use Rattle.shape_buffer.specs.declared.interfaces.map_request.TableIndex.TheVariants.{GSUB, GPOS}
+use Rattle.shape_plan.specs.PlainTexts.{bare_face}
 use Rattle.shape_plan.specs.Plan.{Plan}
 use Rattle.shape_plan.specs.Planner.{Planning, Planner, begun_planner, collected_planner, facts_of, compiled_plan, planned, is_gpos_disabled}
 use Rattle.shape_plan.specs.Requests.{requested}
@@ -22,17 +21,7 @@ use Rattle.shape_plan.specs.WorkedRequests.{ask, kern_off}
 
 -- a face is its tables
 abbrev pub face_of : hb_tables_t → FaceMeaning
-face_of tables = record {
-  nominal_glyph = λ _. None;
-  variation_glyph = λ _ _. None;
-  h_advance = λ _. pos 0;
-  v_advance = λ _. pos 0;
-  h_origin = λ _. pos 0;
-  v_origin = λ _. pos 0;
-  extents = λ _. None;
-  units_per_em = 1000;
-  tables = tables;
-}
+face_of tables = record bare_face { tables = tables }
 
 -- an engine that compiles a builder to itself, and chose script 1 for GSUB and 2 for GPOS; it has machine and cross kerning, but no kerning
 abbrev pub layout_of : LayoutMeaning Builder

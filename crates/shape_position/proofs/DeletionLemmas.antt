@@ -1,69 +1,32 @@
 -- What deletion leaves of the settings of a buffer.
-use Rattle.std.proofs.Common.{◌≡◌, ℕ, zero, suc, ◌+◌, Bool, nat_lt, List, [], ◌∷◌, length, drop, refl, ◌∙◌, inl, inr}
-use Rattle.std.proofs.lemmas.Bool.{cases_Bool}
+use Rattle.std.proofs.Common.{◌≡◌, ℕ, Bool, length, refl, ap, ◌∙◌}
 use Rattle.shape_buffer.specs.Buffer.{Buffer}
-use Rattle.shape_buffer.specs.BufferClusters.{merge_at, unsafe_to_break}
-use Rattle.shape_buffer.specs.Delete.{hand_on, begins_in, lose, visit, delete_from, deleted}
+use Rattle.shape_buffer.specs.BufferClusters.{merge_clusters}
+use Rattle.shape_buffer.specs.Delete.{give_to_kept, deleted}
 use Rattle.shape_buffer.specs.Items.{Item}
-use Rattle.shape_buffer.specs.declared.buffer.settings.BufferClusterLevel.{BufferClusterLevel}
-use Rattle.shape_buffer.specs.declared.buffer.settings.BufferClusterLevel.TheVariants.{MonotoneGraphemes, MonotoneCharacters, Characters}
-use Rattle.shape_buffer.proofs.DeleteLemmas.{delete_from-suc, delete_from-zero, visit_kept, visit_lost}
+use Rattle.shape_buffer.proofs.Deletion.DeleteLemmas.{hand_on-cases, IsKeptByLoss, kept_by_deletion}
+use Rattle.shape_buffer.proofs.Merging.KeyLemmas.{without_items-merge_clusters}
 
 -- direction and level are the same
 pub record SameSettings (before after : Buffer) : Type 0 where
   pub direction : after.direction ≡ before.direction
   pub level : after.cluster_level ≡ before.cluster_level
 
-SameSettings-same : (b : Buffer) → SameSettings b b
-SameSettings-same b = record { direction = refl; level = refl }
+settings-merged : (start end : ℕ) (b c : Buffer) → SameSettings b c → SameSettings b (merge_clusters start end c)
+settings-merged start end b c so_far =
+    let rest = without_items-merge_clusters start end c in
+    record {
+      direction = ap (λ (d : Buffer). d.direction) rest ∙ so_far.direction;
+      level = ap (λ (d : Buffer). d.cluster_level) rest ∙ so_far.level;
+    }
 
-SameSettings-then : {a b c : Buffer} → SameSettings a b → SameSettings b c → SameSettings a c
-SameSettings-then first second = record { direction = second.direction ∙ first.direction; level = second.level ∙ first.level }
-
-settings-unsafe_to_break : (start end : ℕ) (b : Buffer) → SameSettings b (unsafe_to_break start end b)
-settings-unsafe_to_break start end b = elim (cases_Bool (nat_lt (start + 1) end)) [
-  | inl long ↦ rw long (record { direction = refl; level = refl })
-  | inr short ↦ rw short (SameSettings-same b)
-]
-
-settings-at_level : (start end : ℕ) (b : Buffer) (level : BufferClusterLevel) → SameSettings b (elim level [
-  | MonotoneGraphemes ↦ merge_at start end b
-  | MonotoneCharacters ↦ merge_at start end b
-  | Characters ↦ unsafe_to_break start end b
-])
-settings-at_level start end b MonotoneGraphemes = record { direction = refl; level = refl }
-settings-at_level start end b MonotoneCharacters = record { direction = refl; level = refl }
-settings-at_level start end b Characters = settings-unsafe_to_break start end b
-
-settings-hand_on : (k : ℕ) (x : Item) (rest : List Item) (b : Buffer) → SameSettings b (hand_on k x rest b)
-settings-hand_on k x rest b = elim (cases_Bool (begins_in x.cluster rest)) [
-  | inl holds ↦ rw holds (SameSettings-same b)
-  | inr fails ↦ elim (cases_Bool (nat_lt 0 k)) [
-    | inl some ↦ rw (fails, some) (record { direction = refl; level = refl })
-    | inr none ↦ elim (cases_Bool (nat_lt 0 (length rest))) [
-      | inl more ↦ rw (fails, none, more) (settings-at_level 0 2 b b.cluster_level)
-      | inr last ↦ rw (fails, none, last) (SameSettings-same b)
-    ]
-  ]
-]
-
-settings-lose : (k : ℕ) (b : Buffer) → SameSettings b (lose k b)
-settings-lose k b = record { direction = refl; level = refl }
-
-settings-visit : (p : Item → Bool) (k : ℕ) (next : ℕ → Buffer → Buffer) (b : Buffer) (xs : List Item)
-    → ((j : ℕ) (c : Buffer) → SameSettings c (next j c)) → SameSettings b (visit p k next b xs)
-settings-visit p k next b [] later = SameSettings-same b
-settings-visit p k next b (x ∷ rest) later = elim (cases_Bool (p x)) [
-  | inl picked ↦ rw (visit_lost p k next b x rest picked)
-      (SameSettings-then (SameSettings-then (settings-hand_on k x rest b) (settings-lose k (hand_on k x rest b)))
-      (later k (lose k (hand_on k x rest b))))
-  | inr stays ↦ rw (visit_kept p k next b x rest stays) (later (k + 1) b)
-]
-
-settings-delete_from : (p : Item → Bool) (n k : ℕ) (b : Buffer) → SameSettings b (delete_from p n k b)
-settings-delete_from p zero k b = rw (delete_from-zero p k b) (SameSettings-same b)
-settings-delete_from p (suc n) k b =
-    rw (delete_from-suc p n k b) (settings-visit p k (delete_from p n) b (drop k b.items) (λ j c. settings-delete_from p n j c))
+settings-lost : (b : Buffer) → IsKeptByLoss (SameSettings b)
+settings-lost b k x rest c e so_far =
+    let given : SameSettings b (record c { items = give_to_kept k x c.items }) =
+    record { direction = so_far.direction; level = so_far.level } in
+    let handed = hand_on-cases (SameSettings b) k x rest c so_far given (λ more. settings-merged 0 2 b c so_far) in
+    record { direction = handed.direction; level = handed.level }
 
 pub settings-deleted : (p : Item → Bool) (b : Buffer) → SameSettings b (deleted p b)
-settings-deleted p b = settings-delete_from p (length b.items) 0 b
+settings-deleted p b =
+    kept_by_deletion (SameSettings b) (settings-lost b) p (length b.items) 0 b (record { direction = refl; level = refl })

@@ -1,22 +1,15 @@
 -- Steps that keep the order of clusters, the flags of glyphs and the number of positions.
-use Rattle.std.proofs.Common.{◌≡◌, ℕ, Bool, true, false, List, [], ◌∷◌, ◌++◌, map, Option, Some, None, refl, ap, sym, ◌∙◌, subst, inl}
-use Rattle.std.specs.Prelude.{Contains}
-use Rattle.std.specs.List.Sorted.{IsNonDecreasing}
+use Rattle.std.proofs.Common.{◌≡◌, ℕ, Bool, true, false, List, [], ◌∷◌, map, refl, sym, ◌∙◌, inl}
 use Rattle.shape_buffer.specs.Buffer.{Buffer}
-use Rattle.shape_buffer.specs.ClusterOrder.{IsNonIncreasing, KeepsClusters}
-use Rattle.shape_buffer.specs.Clusters.{clusters}
 use Rattle.shape_buffer.specs.Items.{Item}
-use Rattle.shape_buffer.specs.Keepers.{KeepsOrder, IsClusterKeeper, IsFlagKeeper}
+use Rattle.shape_buffer.specs.Keepers.{IsClusterKeeper, IsFlagKeeper}
 use Rattle.shape_buffer.specs.KeepsFlags.{some_has}
-use Rattle.shape_buffer.specs.Outcome.{Step}
 use Rattle.shape_buffer.specs.PositionWalks.{positions_mapped}
 use Rattle.shape_buffer.specs.Walks.{items_mapped}
 use Rattle.shape_buffer.specs.declared.buffer.positions.GlyphPosition.{GlyphPosition}
-use Rattle.shape_buffer.proofs.FlagLemmas.{KeepsFlags-same}
-use Rattle.shape_buffer.proofs.PositionWalkLemmas.{length-positions_over}
-use Rattle.shape_buffer.proofs.KeeperLemmas.{KeepsClusters-equal}
-use Rattle.shape_plan.specs.Run.{step_if, hook_if}
-use Rattle.shape_plan.specs.Shaper.{HookMeaning}
+use Rattle.shape_buffer.proofs.Loops.PositionWalkLemmas.{length-positions_over}
+use Rattle.shape_buffer.proofs.Steps.KeeperLemmas.{KeepsClusters-equal}
+use Rattle.shape_plan.specs.Run.{step_if}
 use Rattle.shape_position.specs.Kept.{KeepsAsMany}
 
 pub some_has-map : (f : Item → Item) → ((x : Item) → (f x).mask ≡ x.mask) → (flag : ℕ) (xs : List Item)

@@ -14,11 +14,11 @@ use Rattle.shape_buffer.specs.Layout.{LookupMeaning}
 use Rattle.shape_buffer.specs.declared.buffer.flags.BufferFlags.{BufferFlags}
 use Rattle.shape_buffer.specs.declared.buffer.settings.GlyphId.{GlyphId}
 use Rattle.shape_buffer.specs.Outcome.{step as plain_step}
-use Rattle.shape_buffer.proofs.ClusterRunLemmas.{flagged-runs}
-use Rattle.shape_buffer.proofs.DeleteKeeps.{deleted_keeps_clusters, deleted_keeps_flags}
-use Rattle.shape_buffer.proofs.FlagLemmas.{KeepsFlags-same}
-use Rattle.shape_buffer.proofs.PositionWalkLemmas.{length-positions_over}
-use Rattle.shape_buffer.proofs.KeeperLemmas.{EachStep-append, KeepsClusters-equal, KeepsOrder-same, clusters-map, order-items_mapped}
+use Rattle.shape_buffer.proofs.Flags.ClusterRunLemmas.{flagged-runs}
+use Rattle.shape_buffer.proofs.Deletion.DeleteKeeps.{deleted_keeps_clusters, deleted_keeps_flags}
+use Rattle.shape_buffer.proofs.Flags.FlagLemmas.{KeepsFlags-same}
+use Rattle.shape_buffer.proofs.Loops.PositionWalkLemmas.{length-positions_over}
+use Rattle.shape_buffer.proofs.Steps.KeeperLemmas.{EachStep-append, KeepsClusters-equal, KeepsOrder-same, clusters-map, order-items_mapped}
 use Rattle.shape_plan.specs.Keepers.{CallsKeepClusters, RunKeepsFlags}
 use Rattle.shape_plan.specs.Run.{Run, step_if}
 use Rattle.shape_plan.specs.declared.decisions.Decisions.{Decisions}

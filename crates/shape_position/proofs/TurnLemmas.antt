@@ -10,7 +10,7 @@ use Rattle.shape_buffer.specs.Direction.{is_backward}
 use Rattle.shape_buffer.specs.Items.{Item}
 use Rattle.shape_buffer.specs.Keepers.{IsFlagKeeper}
 use Rattle.shape_buffer.specs.KeepsFlags.{KeepsFlags, has_flag, some_has}
-use Rattle.shape_buffer.proofs.FlagLemmas.{append-cases, KeepsFlags-same}
+use Rattle.shape_buffer.proofs.Flags.FlagLemmas.{append-cases, KeepsFlags-same}
 use Rattle.shape_position.specs.Kept.{TurnsOrder, KeepsAsMany}
 use Rattle.shape_position.specs.Turning.{turned}
 

@@ -12,7 +12,10 @@ use Rattle.shape_buffer.specs.Wrapping.{◌+ʷ◌, ◌-ʷ◌}
 use Rattle.shape_buffer.specs.declared.buffer.positions.GlyphPosition.{GlyphPosition}
 use Rattle.shape_buffer.specs.declared.buffer.settings.Direction.{Direction}
 use Rattle.shape_buffer.specs.declared.buffer.settings.Direction.TheVariants.{Invalid, LeftToRight, RightToLeft, TopToBottom, BottomToTop}
+use Rattle.shape_plan.specs.PlainTexts.{bare_face}
+use Rattle.shape_plan.specs.WorkedPlans.{constants_of}
 use Rattle.shape_plan.specs.Shaper.{ShaperConstants, HookMeaning}
+use Rattle.shape_plan.specs.WorkedDecisions.{no_decisions}
 use Rattle.shape_plan.specs.declared.decisions.Decisions.{Decisions}
 use Rattle.shape_position.specs.Advances.{positions_cleared, advanced, advanced_position}
 use Rattle.shape_position.specs.Tables.{table_positioned, kerned, deleted_narrowed, deleted_removed}
@@ -37,16 +40,13 @@ one_glyph direction position = record new_buffer { items = glyph_at 1 0 ∷ []; 
 
 -- glyph 1 has advance 600; glyph 3 is that of U+0020; the origin of vertical lines lies half the advance to the right and an em above
 abbrev pub face_of : ℕ → FaceMeaning
-face_of units = record {
+face_of units = record bare_face {
   nominal_glyph = λ c. if c == 0x20 then Some (record { 0 = 3 }) else None;
-  variation_glyph = λ _ _. None;
   h_advance = λ _. pos 600;
   v_advance = λ _. neg_ℤ (pos units);
   h_origin = λ _. pos 300;
   v_origin = λ _. pos units;
-  extents = λ _. None;
   units_per_em = units;
-  tables = record { gsub = false; gpos = false; morx = false; kerx = false; trak = false };
 }
 
 abbrev with_origins : ℤ → FaceMeaning
@@ -100,48 +100,18 @@ one_mark direction =
 
 -- decisions of a plan: whether marks are zeroed and adjusted, by GPOS, by kerx, by kern, with morx
 abbrev pub decided : Bool → Bool → Bool → Bool → Bool → Bool → Decisions
-decided zero_marks adjust gpos kerx kern morx = record {
+decided zero_marks adjust gpos kerx kern morx = record no_decisions {
   apply_morx = morx;
-  frac_mask = 0;
-  numr_mask = 0;
-  dnom_mask = 0;
-  rtlm_mask = 0;
-  kern_mask = 0;
-  trak_mask = 0;
-  has_frac = false;
-  has_vert = false;
-  has_gpos_mark = false;
-  requested_kerning = false;
-  apply_trak = false;
-  fallback_glyph_classes = false;
   apply_gpos = gpos;
   apply_kern = kern;
-  apply_fallback_kern = false;
   apply_kerx = kerx;
   zero_marks = zero_marks;
-  fallback_mark_positioning = false;
   adjust_mark_positioning_when_zeroing = adjust;
 }
 
 -- a shaper without hooks that zeroes marks at this time
 abbrev pub shaper_with : ℕ → ShaperConstants
-shaper_with time = record {
-  is_default = true;
-  preference = pos 4;
-  gpos_tag = None;
-  zero_width_marks = time;
-  fallback_position = true;
-  has_collect_features = false;
-  has_override_features = false;
-  has_create_data = false;
-  has_preprocess_text = false;
-  has_postprocess_glyphs = false;
-  has_pause = false;
-  has_decompose = false;
-  has_compose = false;
-  has_setup_masks = false;
-  has_reorder_marks = false;
-}
+shaper_with time = record constants_of { is_default = true; zero_width_marks = time; has_create_data = false }
 
 abbrev pub no_hooks : HookMeaning
 no_hooks = record {

@@ -1,9 +1,3 @@
-pub mod GraphemeWalkLemmas
-pub mod TurnLemmas
-pub mod StepLemmas
-pub mod FlagKeeperLemmas
-pub mod RisingMergeLemmas
-pub mod GraphemeClusterLemmas
-pub mod OrderKeeperLemmas
-pub mod FirstLemmas
-pub mod PreparedLemmas
+mod Spans
+pub mod Keeping
+mod StepLemmas

@@ -1,5 +1,6 @@
 -- What the steps come to.
-use Rattle.std.proofs.Common.{◌≡◌, ◌≢◌, ℕ, ◌==◌, ◌&&◌, ◌<◌, ◌≤◌, inl, inr, subst, Result, Ok, Err, Bool, true, false, not, List, [], ◌∷◌, length, map, replicate, refl, sym, ap, ap₂, ◌∙◌, arith, bit_and}
+use Rattle.std.proofs.Common.{◌≡◌, ◌≢◌, ℕ, ◌==◌, ◌&&◌, ◌<◌, ◌≤◌, inl, inr, subst, Result, Ok, Err, Bool, true, false, not, List, [], ◌∷◌, length, map, replicate, refl, sym, ap, ap₂, ◌∙◌, arith, bit_and, fold}
+use Rattle.std.proofs.lemmas.Bool.{cases_Bool}
 use Rattle.std.proofs.lemmas.List.{length-map}
 use Rattle.shape_buffer.specs.Buffer.{Buffer, limit_of}
 use Rattle.shape_buffer.specs.BufferClusters.{merge_clusters, unsafe_to_break}
@@ -18,7 +19,7 @@ use Rattle.shape_buffer.specs.declared.buffer.settings.BufferClusterLevel.TheVar
 use Rattle.shape_buffer.specs.declared.buffer.settings.Direction.{Direction}
 use Rattle.shape_plan.specs.declared.decisions.Decisions.{Decisions}
 use Rattle.shape_prepare.specs.Begun.{begun}
-use Rattle.shape_prepare.specs.ClustersFormed.{clusters_formed, over_graphemes}
+use Rattle.shape_prepare.specs.ClustersFormed.{clusters_formed, over_graphemes, grapheme_spans}
 use Rattle.shape_prepare.specs.NativeOrder.{natively_ordered, native_direction, is_against, merged_to_turn, turned}
 use Rattle.shape_prepare.specs.Rotated.{rotated, rotated_item, in_forms}
 use Rattle.shape_buffer.specs.Direction.{is_backward, is_vertical}
@@ -57,6 +58,45 @@ rotated-idle unicode face decisions target b idle =
     ap (λ (items : List Item). record b { items = items })
     (map-same (rotated_item unicode face decisions target) (λ item. idle_item unicode face decisions.rtlm_mask item (is_backward target)
     (is_vertical target && not decisions.has_vert) idle) b.items)
+
+-- ---- a walk over graphemes, and the steps that take one
+
+-- what each call of a walk keeps, the walk keeps
+pub over_graphemes-kept : (P : Buffer → Type 0) (f : ℕ → ℕ → Buffer → Buffer) → ((start end : ℕ) (b : Buffer) → P b → P (f start end b))
+    → (b : Buffer) → P b → P (over_graphemes f b)
+over_graphemes-kept P f keeps b = over_spans (grapheme_spans b.items) b
+  where
+    over_spans : (spans : List (ℕ × ℕ)) (b : Buffer) → P b → P (fold (λ b span. f span.0 span.1 b) b spans)
+    over_spans [] b holds = holds
+    over_spans (span ∷ spans) b holds = over_spans spans (f span.0 span.1 b) (keeps span.0 span.1 b holds)
+
+pub clusters_formed-cases : (P : Buffer → Type 0) (b : Buffer) → P (over_graphemes merge_clusters b) → P (over_graphemes unsafe_to_break b)
+    → P b → P (clusters_formed b)
+unfolding clusters_formed
+clusters_formed-cases P b merged marked same = elim (cases_Bool (bit_and b.scratch_flags.0 1 == 1)) [
+  | inl seen ↦ rw seen (at_level b.cluster_level)
+  | inr unseen ↦ rw unseen same
+]
+  where
+    at_level : (level : BufferClusterLevel) → P (elim level as (λ v. Buffer) [
+      | MonotoneGraphemes ↦ over_graphemes merge_clusters b
+      | MonotoneCharacters ↦ over_graphemes unsafe_to_break b
+      | Characters ↦ over_graphemes unsafe_to_break b
+    ])
+    at_level MonotoneGraphemes = merged
+    at_level MonotoneCharacters = marked
+    at_level Characters = marked
+
+abbrev pub at_level_to_turn : Buffer → BufferClusterLevel → Buffer
+at_level_to_turn b level = elim level [ MonotoneGraphemes ↦ b | MonotoneCharacters ↦ over_graphemes merge_clusters b | Characters ↦ b ]
+
+pub merged_to_turn-cases : (P : Buffer → Type 0) (b : Buffer) → P b → P (over_graphemes merge_clusters b) → P (merged_to_turn b)
+merged_to_turn-cases P b same merged = at_level b.cluster_level
+  where
+    at_level : (level : BufferClusterLevel) → P (at_level_to_turn b level)
+    at_level MonotoneGraphemes = same
+    at_level MonotoneCharacters = merged
+    at_level Characters = same
 
 -- clusters where no character past ASCII was seen, and where one was
 pub clusters_formed-unseen : (b : Buffer) → (bit_and b.scratch_flags.0 1 == 1) ≡ false → clusters_formed b ≡ b
@@ -139,17 +179,13 @@ pub natively_ordered-turned : (unicode : UnicodeMeaning) (b : Buffer) → is_aga
 unfolding natively_ordered
 natively_ordered-turned unicode b against = rw against refl
 
-abbrev at_level_to_turn : Buffer → BufferClusterLevel → Buffer
-at_level_to_turn b level = elim level [ MonotoneGraphemes ↦ b | MonotoneCharacters ↦ over_graphemes merge_clusters b | Characters ↦ b ]
-
 pub merged_to_turn-merged : (b : Buffer) → b.cluster_level ≡ MonotoneCharacters → merged_to_turn b ≡ over_graphemes merge_clusters b
 merged_to_turn-merged b level = ap (at_level_to_turn b) level
 
 pub merged_to_turn-kept : (b : Buffer) → b.cluster_level ≢ MonotoneCharacters → merged_to_turn b ≡ b
 merged_to_turn-kept b level = kept b.cluster_level level
   where
-    kept : (l : BufferClusterLevel) → l ≢ MonotoneCharacters
-        → (elim l as (λ v. Buffer) [ MonotoneGraphemes ↦ b | MonotoneCharacters ↦ over_graphemes merge_clusters b | Characters ↦ b ]) ≡ b
+    kept : (l : BufferClusterLevel) → l ≢ MonotoneCharacters → at_level_to_turn b l ≡ b
     kept MonotoneGraphemes other = refl
     kept MonotoneCharacters other = absurd (other refl)
     kept Characters other = refl

@@ -8,6 +8,7 @@ use Rattle.shape_buffer.specs.declared.buffer.settings.Direction.TheVariants.{In
 use Rattle.shape_buffer.specs.declared.buffer.settings.Script.{Script}
 use Rattle.shape_buffer.specs.Clusters.{merge}
 use Rattle.shape_buffer.specs.Walks.{items_mapped}
+use Rattle.shape_plan.specs.WorkedDecisions.{no_decisions}
 use Rattle.shape_plan.specs.declared.decisions.Decisions.{Decisions}
 use Rattle.shape_prepare.specs.Graphemes.{graphemes_marked}
 use Rattle.shape_prepare.specs.ClustersFormed.{clusters_formed}
@@ -100,27 +101,10 @@ native_orders = record {
 }
 
 abbrev pub decisions_with : ℕ → Bool → Decisions
-decisions_with rtlm_mask has_vert = record {
-  apply_morx = false;
-  frac_mask = 0;
-  numr_mask = 0;
-  dnom_mask = 0;
+decisions_with rtlm_mask has_vert = record no_decisions {
   rtlm_mask = rtlm_mask;
-  kern_mask = 0;
-  trak_mask = 0;
-  has_frac = false;
   has_vert = has_vert;
-  has_gpos_mark = false;
-  requested_kerning = false;
-  apply_trak = false;
-  fallback_glyph_classes = false;
-  apply_gpos = false;
-  apply_kern = false;
   apply_fallback_kern = true;
-  apply_kerx = false;
-  zero_marks = false;
-  fallback_mark_positioning = false;
-  adjust_mark_positioning_when_zeroing = false;
 }
 
 abbrev pub bracket : List (ℕ × ℕ)

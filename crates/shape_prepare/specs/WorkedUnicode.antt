@@ -1,5 +1,5 @@
 -- What Unicode says of the characters of the worked cases, and a text of characters.
-use Rattle.std.specs.Prelude.{ℕ, ◌==◌, ◌&&◌, ◌||◌, nat_le, Bool, false, if◌then◌else◌, List, map, Option, Some, None}
+use Rattle.std.specs.Prelude.{ℕ, ◌==◌, ◌&&◌, ◌||◌, nat_le, Bool, if◌then◌else◌, List, map, Option, Some, None}
 use Rattle.shape_buffer.specs.Buffer.{Buffer, new_buffer}
 use Rattle.shape_buffer.specs.Face.{FaceMeaning}
 use Rattle.shape_buffer.specs.Items.{new_item}
@@ -10,7 +10,7 @@ use Rattle.shape_buffer.specs.declared.buffer.general_category.hb_unicode_genera
 use Rattle.shape_buffer.specs.declared.buffer.settings.Direction.{Direction}
 use Rattle.shape_buffer.specs.declared.buffer.settings.Direction.TheVariants.{LeftToRight, RightToLeft, TopToBottom}
 use Rattle.shape_buffer.specs.declared.buffer.settings.Script.{Script}
-use Rattle.std.specs.Prelude.{pos}
+use Rattle.shape_plan.specs.PlainTexts.{bare_face, plain_unicode}
 
 -- the categories (UAX 44)
 abbrev pub category_of : ℕ → hb_unicode_general_category_t
@@ -47,15 +47,11 @@ abbrev pub common : Option Script
 common = Some (record { 0 = record { 0 = 0x5A797979 } })
 
 abbrev pub worked_unicode : UnicodeMeaning
-worked_unicode = record {
+worked_unicode = record plain_unicode {
   category = category_of;
   ccc = λ c. if c == 0x301 then 230 else if c == 0x323 then 220 else 0;
-  split = λ c. None;
-  height = λ c. 0;
-  compose = λ a b. None;
   mirrored = λ c. if c == 0x28 then Some 0x29 else if c == 0x29 then Some 0x28 else None;
   vertical = λ c. if c == 0x2014 then Some 0xFE31 else if c == 0x29 then Some 0xFE36 else None;
-  space_fallback = λ c. 0;
   ignorable = λ c. c == 0x200D || c == 0xFE0F;
   pictographic = λ c. (nat_le 0x1F400 c && nat_le c 0x1F64F) || c == 0x2764;
   selector = λ c. c == 0xFE0F;
@@ -65,17 +61,7 @@ worked_unicode = record {
 
 -- a face with a glyph for the characters that a test picks
 abbrev pub face_with : (ℕ → Bool) → FaceMeaning
-face_with has = record {
-  nominal_glyph = λ c. if has c then Some (record { 0 = 1 }) else None;
-  variation_glyph = λ c s. None;
-  h_advance = λ g. pos 0;
-  v_advance = λ g. pos 0;
-  h_origin = λ g. pos 0;
-  v_origin = λ g. pos 0;
-  extents = λ g. None;
-  units_per_em = 1000;
-  tables = record { gsub = false; gpos = false; morx = false; kerx = false; trak = false };
-}
+face_with has = record bare_face { nominal_glyph = λ c. if has c then Some (record { 0 = 1 }) else None }
 
 -- a text of characters, each with its cluster
 abbrev pub text_of : List (ℕ × ℕ) → Buffer

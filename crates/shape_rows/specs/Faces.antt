@@ -1,8 +1,9 @@
 -- Faces that know characters alone, and one that knows a variant.
-use Rattle.std.specs.Prelude.{ℕ, List, pos, Bool, false, ◌==◌, ◌&&◌, Option, Some, None, find, if◌then◌else◌}
+use Rattle.std.specs.Prelude.{ℕ, List, ◌==◌, ◌&&◌, Option, Some, None, find, if◌then◌else◌}
 use Rattle.std.specs.Option.{option_map}
 use Rattle.shape_buffer.specs.Face.{FaceMeaning}
 use Rattle.shape_buffer.specs.declared.buffer.settings.GlyphId.{GlyphId}
+use Rattle.shape_plan.specs.PlainTexts.{bare_face}
 use Rattle.shape_rows.specs.declared.support.faces.RowFace.{RowFace}
 
 -- the glyph of its own number, for those of the list
@@ -21,14 +22,4 @@ variant_in face c selector = if face.variant && (c == 0x61 && selector == 0xFE00
 
 -- no glyph has a width or extents, the em square has 1000 units, and there are no tables
 abbrev pub row_face : RowFace → FaceMeaning
-row_face face = record {
-  nominal_glyph = glyph_in face;
-  variation_glyph = variant_in face;
-  h_advance = λ _. pos 0;
-  v_advance = λ _. pos 0;
-  h_origin = λ _. pos 0;
-  v_origin = λ _. pos 0;
-  extents = λ _. None;
-  units_per_em = 1000;
-  tables = record { gsub = false; gpos = false; morx = false; kerx = false; trak = false };
-}
+row_face face = record bare_face { nominal_glyph = glyph_in face; variation_glyph = variant_in face }

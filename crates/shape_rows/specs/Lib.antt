@@ -1,4 +1,3 @@
-pub mod Plain
 pub mod Marked
 pub mod Faces
 pub mod Splitting

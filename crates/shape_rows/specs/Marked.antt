@@ -1,10 +1,11 @@
 -- Functions of Unicode with two marks, two variation selectors and three spaces.
-use Rattle.std.specs.Prelude.{◌≡◌, ◌≢◌, ℕ, ◌<◌, ◌==◌, ◌||◌, Bool, true, false, None, if◌then◌else◌}
+use Rattle.std.specs.Prelude.{◌≡◌, ◌≢◌, ℕ, ◌<◌, ◌==◌, ◌||◌, Bool, true, false, if◌then◌else◌}
 use Rattle.std.proofs.Common.{arith}
 use Rattle.std.proofs.lemmas.Bool.Decides.{nat_tests}
 use Rattle.shape_buffer.specs.Unicode.{UnicodeMeaning, LawfulUnicode, is_mark}
 use Rattle.shape_buffer.specs.declared.buffer.general_category.hb_unicode_general_category_t.{hb_unicode_general_category_t}
 use Rattle.shape_buffer.specs.declared.buffer.general_category.hb_unicode_general_category_t.TheVariants.{OtherLetter, NonspacingMark, SpaceSeparator}
+use Rattle.shape_plan.specs.PlainTexts.{plain_unicode}
 
 -- U+FE00 and U+FE01
 abbrev pub is_marked_selector : ℕ → Bool
@@ -24,20 +25,12 @@ marked_category c =
     else (if c == 0x20 || c == 0x2003 || c == 0x2007 then SpaceSeparator else OtherLetter)
 
 abbrev pub marked_unicode : UnicodeMeaning
-marked_unicode = record {
+marked_unicode = record plain_unicode {
   category = marked_category;
   ccc = marked_ccc;
-  split = λ _. None;
-  height = λ _. 0;
-  compose = λ _ _. None;
-  mirrored = λ _. None;
-  vertical = λ _. None;
   space_fallback = marked_space;
   ignorable = is_marked_selector;
-  pictographic = λ _. false;
   selector = is_marked_selector;
-  script = λ _. record { 0 = record { 0 = 1517976186 } };
-  script_direction = λ _. None;
 }
 
 marks_have_ccc : (c : ℕ) → marked_ccc c ≢ 0 → is_mark marked_unicode c ≡ true

@@ -1,5 +1,5 @@
 -- A face with tables, one that goes down the line by given numbers, and an engine whose tables add to advances.
-use Rattle.std.specs.Prelude.{◌==◌, ℤ, pos, false, Some, None, refl, if◌then◌else◌}
+use Rattle.std.specs.Prelude.{◌==◌, ℤ, pos, Some, None, refl, if◌then◌else◌}
 use Rattle.shape_buffer.specs.Face.{FaceMeaning}
 use Rattle.shape_buffer.specs.Items.{Item}
 use Rattle.shape_buffer.specs.Layout.{LayoutMeaning, LookupMeaning, LawfulLookups}
@@ -8,6 +8,7 @@ use Rattle.shape_buffer.specs.NoLookups.{no_layout, no_lookups}
 use Rattle.shape_buffer.specs.PositionWalks.{positions_mapped}
 use Rattle.shape_buffer.specs.Wrapping.{◌+ʷ◌}
 use Rattle.shape_buffer.specs.declared.buffer.positions.GlyphPosition.{GlyphPosition}
+use Rattle.shape_plan.specs.PlainTexts.{bare_face}
 use Rattle.shape_rows.specs.declared.support.tabled.TabledFace.{TabledFace}
 use Rattle.shape_rows.specs.declared.support.tabled.DeepFace.{DeepFace}
 
@@ -17,17 +18,13 @@ tabled_face face = record (map_face face.glyphs) { tables = face.tables }
 
 -- every character has the glyph of its own number, without width; that of U+0062 alone has a box, of no size
 abbrev pub deep_face : DeepFace → FaceMeaning
-deep_face face = record {
+deep_face face = record bare_face {
   nominal_glyph = λ c. Some (record { 0 = c });
-  variation_glyph = λ _ _. None;
-  h_advance = λ _. pos 0;
   v_advance = λ _. face.v_advance;
   h_origin = λ _. face.h_origin;
   v_origin = λ _. face.v_origin;
   extents = λ glyph. if glyph.0 == 0x62 then Some (record { x_bearing = pos 0; y_bearing = pos 0; width = pos 0; height = pos 0 })
       else None;
-  units_per_em = 1000;
-  tables = record { gsub = false; gpos = false; morx = false; kerx = false; trak = false };
 }
 
 -- it kerns where the face says so

@@ -4,8 +4,8 @@ use Rattle.std.specs.Prelude.{if◌then◌else◌}
 use Rattle.std.specs.Option.{option_map_or}
 use Rattle.shape_buffer.specs.Keepers.{IsClusterKeeper, IsFlagKeeper, EachStep}
 use Rattle.shape_buffer.specs.Outcome.{step}
-use Rattle.shape_buffer.proofs.FlagLemmas.{KeepsFlags-same}
-use Rattle.shape_buffer.proofs.KeeperLemmas.{EachStep-append, KeepsOrder-same}
+use Rattle.shape_buffer.proofs.Flags.FlagLemmas.{KeepsFlags-same}
+use Rattle.shape_buffer.proofs.Steps.KeeperLemmas.{EachStep-append, KeepsOrder-same}
 use Rattle.shape_plan.specs.Keepers.{CallsKeepClusters, RunKeepsFlags}
 use Rattle.shape_plan.specs.Run.{Run, hook_if}
 use Rattle.shape_substitute.specs.Kept.{SubstitutionKeepsClusters, SubstitutionKeepsFlags}

@@ -1,20 +1,19 @@
 -- Steps that change masks and scratch flags alone.
-use Rattle.std.proofs.Common.{◌≡◌, ℕ, ◌+◌, ◌<◌, ◌≤◌, ◌==◌, true, false, nat_lt, List, [], ◌∷◌, length, get_or, map, refl, ap, sym, ◌∙◌, arith, inl, inr, bit_and}
+use Rattle.std.proofs.Common.{◌≡◌, ℕ, ◌+◌, ◌≤◌, ◌==◌, true, false, nat_lt, List, [], ◌∷◌, length, get_or, map, refl, ap, sym, ◌∙◌, arith, inl, inr, bit_and}
 use Rattle.std.proofs.lemmas.Bool.{cases_Bool}
-use Rattle.std.proofs.lemmas.Bool.Decides.{nat_tests}
 use Rattle.std.proofs.lemmas.List.{length-map}
 use Rattle.std.proofs.Math.ListN.{get_or-map}
 use Rattle.shape_buffer.specs.Buffer.{Buffer, limit_of}
 use Rattle.shape_buffer.specs.BufferClusters.{unsafe_to_break, unsafe_to_concat}
-use Rattle.shape_buffer.specs.Clusters.{mark_break, mark_concat, least_cluster}
+use Rattle.shape_buffer.specs.Clusters.{mark_concat}
 use Rattle.shape_buffer.specs.Items.{Item}
 use Rattle.shape_buffer.specs.Outcome.{Made}
 use Rattle.shape_plan.specs.Shaper.{without_mask}
 use Rattle.shape_substitute.specs.Fractions.{features_added, with_features, is_slash, slash_masked, has_whole, whole_start, whole_end, next_place, slashes_masked, slash_places, fraction_masks, may_have_fractions, fractions_masked}
 use Rattle.shape_plan.specs.declared.decisions.Decisions.{Decisions}
 use Rattle.shape_substitute.specs.declared.fractions.FractionMasks.{FractionMasks}
-use Rattle.shape_substitute.proofs.RangeLemmas.{map-map_range}
-use Rattle.std.specs.Prelude.{slice_range}
+use Rattle.shape_buffer.proofs.Merging.ClusterLemmas.{unsafe_to_break-cases}
+use Rattle.shape_buffer.proofs.Merging.KeyLemmas.{keys-map_range, keys-unsafe_to_break}
 
 pub record MasksAlone (before after : Buffer) : Type 0 where
   pub items : map without_mask after.items ≡ map without_mask before.items
@@ -43,26 +42,17 @@ Made-masks f {old} {new} made alone = record {
 pub alone-features_added : (mask start end : ℕ) (b : Buffer) → start ≤ end → MasksAlone b (features_added mask start end b)
 unfolding features_added
 alone-features_added mask start end b le =
-    record { items = map-map_range without_mask (with_features mask) (λ item. refl) start end b.items le; rest = refl }
-
-mark_break-alone : (least : ℕ) (item : Item) → without_mask (mark_break least item) ≡ without_mask item
-mark_break-alone least item = elim (cases_Bool (item.cluster == least)) [ inl same ↦ rw same refl | inr other ↦ rw other refl ]
+    record { items = keys-map_range without_mask (with_features mask) (λ item. refl) start end b.items le; rest = refl }
 
 pub alone-unsafe_to_break : (start end : ℕ) (b : Buffer) → MasksAlone b (unsafe_to_break start end b)
-alone-unsafe_to_break start end b = elim (cases_Bool (nat_lt (start + 1) end)) [
-  | inl long ↦
-      let below : start + 1 < end = grind (arith, nat_tests) in
-      rw long (record {
-        items = map-map_range without_mask (mark_break (least_cluster (slice_range b.items start end)))
-            (mark_break-alone _) start end b.items (omega arith);
-        rest = refl;
-      })
-  | inr short ↦ rw short (MasksAlone-same b)
-]
+alone-unsafe_to_break start end b = record {
+  items = keys-unsafe_to_break without_mask (λ item. refl) start end b;
+  rest = unsafe_to_break-cases (λ c. record c { items = b.items; scratch_flags = b.scratch_flags } ≡ b) start end b (λ long. refl) refl;
+}
 
 pub alone-unsafe_to_concat : (start end : ℕ) (b : Buffer) → start ≤ end → MasksAlone b (unsafe_to_concat start end b)
 alone-unsafe_to_concat start end b le = elim (cases_Bool (bit_and b.flags.0 64 == 64)) [
-  | inl asked ↦ rw asked (record { items = map-map_range without_mask mark_concat (λ item. refl) start end b.items le; rest = refl })
+  | inl asked ↦ rw asked (record { items = keys-map_range without_mask mark_concat (λ item. refl) start end b.items le; rest = refl })
   | inr unasked ↦ rw unasked (MasksAlone-same b)
 ]
 

@@ -1,8 +1,7 @@
 -- A function over a range of a list, item by item.
-use Rattle.std.proofs.Common.{◌≡◌, ℕ, zero, suc, ◌+◌, ◌-◌, ◌<◌, ◌≤◌, List, [], ◌∷◌, ◌++◌, length, get_or, take, drop, set, map, refl, ap, sym, ◌∙◌, arith, slice_range, ap₂}
-use Rattle.std.proofs.lemmas.List.{take-append-drop, map-append}
+use Rattle.std.proofs.Common.{◌≡◌, ℕ, zero, suc, ◌+◌, ◌-◌, ◌<◌, ◌≤◌, List, [], ◌∷◌, length, get_or, set, refl, ap, arith}
+use Rattle.std.proofs.lemmas.List.{take-append-drop}
 use Rattle.std.proofs.lemmas.List.Edits.{map_over_more}
-use Rattle.std.proofs.lemmas.List.Folds.{drop_split}
 use Rattle.shape_buffer.specs.Items.{Item}
 use Rattle.shape_buffer.specs.Clusters.{map_range}
 
@@ -27,18 +26,3 @@ map_range_more f (suc from) (suc i) (y ∷ xs) x le lt is =
     let part : suc i - suc from ≡ i - from = omega arith in
     let longer : suc (i + 1) - suc from ≡ i + 1 - from = omega arith in
     rw (next, part, longer) (ap (λ (zs : List Item). y ∷ zs) (map_range_more f from i xs x (omega arith) (omega arith) (rw part at is)))
-
--- what f leaves of each item is left of the list
-pub map-map_range : {B : Type 0} (g : Item → B) (f : Item → Item) → ((item : Item) → g (f item) ≡ g item) → (from to : ℕ) (xs : List Item)
-    → from ≤ to → map g (map_range f from to xs) ≡ map g xs
-map-map_range g f same from to xs le =
-    map-append g (take from xs) (map f (slice_range xs from to) ++ drop to xs)
-    ∙ ap (λ l. map g (take from xs) ++ l) (map-append g (map f (slice_range xs from to)) (drop to xs)
-    ∙ ap (λ l. l ++ map g (drop to xs)) (map-map_same g f same (slice_range xs from to))
-    ∙ sym (map-append g (slice_range xs from to) (drop to xs)) ∙ ap (map g) (sym (drop_split xs from to le)))
-    ∙ sym (map-append g (take from xs) (drop from xs)) ∙ ap (map g) (take-append-drop from xs)
-  where
-    map-map_same : {B : Type 0} (g : Item → B) (f : Item → Item) → ((item : Item) → g (f item) ≡ g item) → (xs : List Item)
-        → map g (map f xs) ≡ map g xs
-    map-map_same g f same [] = refl
-    map-map_same g f same (x ∷ xs) = ap₂ ◌∷◌ (same x) (map-map_same g f same xs)

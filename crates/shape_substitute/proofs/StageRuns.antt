@@ -3,7 +3,7 @@ use Rattle.std.proofs.Common.{◌≡◌, ℕ, ◌+◌, ◌-◌, ◌<◌, zero, s
 use Rattle.shape_buffer.specs.Buffer.{Buffer}
 use Rattle.shape_buffer.specs.Outcome.{Refused}
 use Rattle.shape_buffer.specs.declared.buffer.error.ShapeError.{ShapeError}
-use Rattle.shape_buffer.proofs.Runs.{Refused-before}
+use Rattle.shape_buffer.proofs.Steps.Runs.{Refused-before}
 use Rattle.shape_plan.specs.Run.{Run}
 use Rattle.shape_substitute.specs.Substitution.{stage_steps}
 

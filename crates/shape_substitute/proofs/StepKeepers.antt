@@ -1,5 +1,5 @@
 -- What each step of masks and substitution keeps.
-use Rattle.std.proofs.Common.{◌≡◌, ◌==◌, ◌&&◌, ◌+◌, ℕ, Bool, true, false, nat_le, nat_lt, List, [], ◌∷◌, map, refl, ap, ap₂, sym, ◌∙◌, inl, inr, ◌⊎◌, arith, bit_and, fold}
+use Rattle.std.proofs.Common.{◌≡◌, ◌==◌, ◌&&◌, ◌+◌, ℕ, true, false, nat_le, nat_lt, List, [], ◌∷◌, map, refl, ap, sym, ◌∙◌, inl, inr, arith, bit_and, fold}
 use Rattle.std.proofs.lemmas.Bool.{cases_Bool}
 use Rattle.std.proofs.lemmas.Bool.Decides.{nat_tests}
 use Rattle.shape_buffer.specs.Buffer.{Buffer}
@@ -12,8 +12,9 @@ use Rattle.shape_buffer.specs.Layout.{MapMeaning, LawfulMasks, HasNoDefinedFlag}
 use Rattle.shape_buffer.specs.Walks.{items_mapped}
 use Rattle.shape_buffer.specs.declared.buffer.settings.Direction.{Direction}
 use Rattle.shape_buffer.specs.declared.buffer.settings.Feature.{Feature}
-use Rattle.shape_buffer.proofs.FlagLemmas.{glyph_flags_set, range_brings, unsafe_to_break_keeps, KeepsFlags-items, KeepsFlags-same, KeepsFlags-then}
-use Rattle.shape_buffer.proofs.KeeperLemmas.{order-items_mapped}
+use Rattle.shape_buffer.proofs.Flags.FlagLemmas.{glyph_flags_set, the_first, range_brings, unsafe_to_break_keeps, KeepsFlags-items, KeepsFlags-same, KeepsFlags-then}
+use Rattle.shape_buffer.proofs.Steps.KeeperLemmas.{order-items_mapped}
+use Rattle.shape_buffer.proofs.Merging.KeyLemmas.{keys-map}
 use Rattle.shape_plan.specs.Shaper.{without_mask}
 use Rattle.shape_plan.specs.declared.decisions.Decisions.{Decisions}
 use Rattle.shape_substitute.specs.Classes.{glyphs_mapped, classes_synthesised, syllables_cleared, with_nominal_glyph, with_class, without_syllable}
@@ -30,14 +31,9 @@ use Rattle.shape_substitute.proofs.MaskLemmas.{MasksAlone, MasksAlone-same, Mask
 pub order-fractions_masked : (decisions : Decisions) → IsClusterKeeper (fractions_masked decisions)
 order-fractions_masked decisions = order-masks (fractions_masked decisions) (alone-fractions_masked decisions)
 
--- one of two, of which the second can't be
-first_of : (test : Bool) → (test ≡ true) ⊎ (false ≡ true) → test ≡ true
-first_of test (inl there) = there
-first_of test (inr brought) = cc
-
 flags-features_added : (mask start end : ℕ) → HasNoDefinedFlag mask → IsFlagKeeper (features_added mask start end)
 unfolding features_added
-flags-features_added mask start end none b = KeepsFlags-items b _ (λ flag defined some. first_of _
+flags-features_added mask start end none b = KeepsFlags-items b _ (λ flag defined some. the_first _
     (range_brings (with_features mask) (has_flag flag) false
     (λ x has. inl (ap (nat_lt 0) (sym (added_brings_none mask x.mask flag none defined)) ∙ has)) start end b.items some))
 
@@ -103,15 +99,10 @@ feature-alone feature place item = elim (cases_Bool (nat_le feature.start item.c
   | inr without ↦ rw without refl
 ]
 
-map-alone : (f : Item → Item) → ((item : Item) → without_mask (f item) ≡ without_mask item) → (xs : List Item)
-    → map without_mask (map f xs) ≡ map without_mask xs
-map-alone f alone [] = refl
-map-alone f alone (x ∷ xs) = ap₂ ◌∷◌ (alone x) (map-alone f alone xs)
-
 alone-items_mapped : (f : Item → Item) → ((item : Item) → without_mask (f item) ≡ without_mask item) → (b : Buffer)
     → MasksAlone b (items_mapped f b)
 unfolding items_mapped
-alone-items_mapped f alone b = record { items = map-alone f alone b.items; rest = refl }
+alone-items_mapped f alone b = record { items = keys-map without_mask f alone b.items; rest = refl }
 
 alone-range_masked : (map : MapMeaning) (feature : Feature) (b : Buffer) → MasksAlone b (range_masked map b feature)
 alone-range_masked map feature b = elim (cases_Bool (is_global feature)) [

@@ -6,33 +6,13 @@ use Rattle.shape_buffer.specs.declared.buffer.general_category.hb_unicode_genera
 use Rattle.shape_buffer.specs.declared.buffer.general_category.hb_unicode_general_category_t.TheVariants.{DecimalNumber, OtherNumber, OtherLetter, MathSymbol}
 use Rattle.shape_buffer.specs.declared.buffer.settings.Direction.{Direction}
 use Rattle.shape_buffer.specs.declared.buffer.settings.Direction.TheVariants.{Invalid, LeftToRight, RightToLeft, TopToBottom, BottomToTop}
+use Rattle.shape_plan.specs.WorkedDecisions.{no_decisions}
 use Rattle.shape_plan.specs.declared.decisions.Decisions.{Decisions}
 use Rattle.shape_substitute.specs.Fractions.{features_added, slash_masked, slash_places, whole_start, whole_end, next_place, fractions_masked}
 
 -- a plan that does nothing but for its masks of fractions: frac 0x100, numr 0x200, dnom 0x400
 abbrev pub with_fractions : Bool → Decisions
-with_fractions has_frac = record {
-  apply_morx = false;
-  frac_mask = 0x100;
-  numr_mask = 0x200;
-  dnom_mask = 0x400;
-  rtlm_mask = 0;
-  kern_mask = 0;
-  trak_mask = 0;
-  has_frac = has_frac;
-  has_vert = false;
-  has_gpos_mark = false;
-  requested_kerning = false;
-  apply_trak = false;
-  fallback_glyph_classes = false;
-  apply_gpos = false;
-  apply_kern = false;
-  apply_fallback_kern = false;
-  apply_kerx = false;
-  zero_marks = false;
-  fallback_mark_positioning = false;
-  adjust_mark_positioning_when_zeroing = false;
-}
+with_fractions has_frac = record no_decisions { frac_mask = 0x100; numr_mask = 0x200; dnom_mask = 0x400; has_frac = has_frac }
 
 abbrev pub with_category : hb_unicode_general_category_t → Item → Item
 with_category category item = record item { properties = record item.properties { general_category = category } }

@@ -1,5 +1,5 @@
 -- Lists of steps, run on small cases whose answers are worked out by hand.
-use Rattle.std.specs.Prelude.{◌≡◌, ℕ, ◌+◌, ◌*◌, ◌==◌, Bool, true, false, List, [], ◌∷◌, length, map, None, Some, pos, refl, if◌then◌else◌}
+use Rattle.std.specs.Prelude.{◌≡◌, ℕ, ◌+◌, ◌*◌, ◌==◌, Bool, true, false, List, [], ◌∷◌, length, map, None, Some, refl, if◌then◌else◌}
 use Rattle.shape_buffer.specs.Buffer.{Buffer, new_buffer}
 use Rattle.shape_buffer.specs.Walks.{items_mapped}
 use Rattle.shape_buffer.specs.Items.{Item, new_item}
@@ -9,6 +9,7 @@ use Rattle.shape_buffer.specs.Outcome.{run_steps}
 use Rattle.shape_buffer.specs.Unicode.{UnicodeMeaning}
 use Rattle.shape_buffer.specs.declared.buffer.settings.Direction.TheVariants.{LeftToRight}
 use Rattle.shape_buffer.specs.declared.buffer.settings.Feature.{Feature}
+use Rattle.shape_plan.specs.WorkedPlans.{constants_of}
 use Rattle.shape_plan.specs.Run.{Run}
 use Rattle.shape_plan.specs.Shaper.{ShaperConstants, HookMeaning}
 use Rattle.shape_plan.specs.declared.decisions.Decisions.{Decisions}
@@ -55,22 +56,13 @@ with_stages n = record {
 }
 
 abbrev pub constants : Bool → Bool → ShaperConstants
-constants has_pause has_setup_masks = record {
+constants has_pause has_setup_masks = record constants_of {
   is_default = true;
-  preference = pos 4;
-  gpos_tag = None;
   zero_width_marks = 0;
   fallback_position = false;
-  has_collect_features = false;
-  has_override_features = false;
   has_create_data = false;
-  has_preprocess_text = false;
-  has_postprocess_glyphs = false;
   has_pause = has_pause;
-  has_decompose = false;
-  has_compose = false;
   has_setup_masks = has_setup_masks;
-  has_reorder_marks = false;
 }
 
 -- pause 7 doubles each glyph, every other one makes it 0; `setup_masks` adds 0x110 to each mask

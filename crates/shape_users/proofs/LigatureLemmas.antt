@@ -12,12 +12,12 @@ use Rattle.shape_buffer.specs.ClusterOrder.{IsMonotoneLevel, KeepsClusters}
 use Rattle.shape_buffer.specs.Items.{Item, new_item}
 use Rattle.shape_buffer.specs.Keepers.{EachLookup, KeepsOrder, IsClusterKeeper, IsFlagKeeper, LookupsKeepClusters, LookupsKeepFlags}
 use Rattle.shape_buffer.specs.KeepsFlags.{IsDefinedFlag, KeepsFlags, has_flag, some_has}
-use Rattle.shape_buffer.proofs.DeleteKeeps.{merged_keeps}
-use Rattle.shape_buffer.proofs.DrawsInOrder.{DrawsInOrder, DrawsInOrder-same, DrawsInOrder-behind, DrawsInOrder-again, KeepsClusters-from_draws}
-use Rattle.shape_buffer.proofs.FlagLemmas.{KeepsFlags-same, KeepsFlags-then}
-use Rattle.shape_buffer.proofs.KeeperLemmas.{KeepsClusters-equal, KeepsClusters-then, KeepsOrder-same, KeepsOrder-then, clusters-map}
+use Rattle.shape_buffer.proofs.Merging.ClusterLemmas.{merge_clusters-monotone}
+use Rattle.shape_buffer.proofs.Deletion.DeleteKeeps.{merged_keeps}
+use Rattle.shape_buffer.proofs.Order.DrawsInOrder.{DrawsInOrder, DrawsInOrder-same, DrawsInOrder-behind, DrawsInOrder-again, KeepsClusters-from_draws}
+use Rattle.shape_buffer.proofs.Flags.FlagLemmas.{KeepsFlags-same, KeepsFlags-then}
+use Rattle.shape_buffer.proofs.Steps.KeeperLemmas.{KeepsClusters-equal, KeepsClusters-then, KeepsOrder-same, KeepsOrder-then, clusters-map}
 use Rattle.shape_users.specs.Ligatures.{with_glyph, single, singled, item_at, is_pair, glyph_put, taken_out, ligated_at, ligated, substituted, ligature_lookups}
-use Rattle.shape_users.proofs.PointLemmas.{merged_at_level}
 
 -- ---- an item taken out
 
@@ -103,13 +103,13 @@ ligated_at-order i b monotone =
     let cases : P (is_pair b.items i) = elim (is_pair b.items i) as P [
       | true ↦ λ e.
           let put = glyph_put i 23 merged in
-          let first = (merged_keeps i (i + 2) b merged (omega arith) (pair-within b.items i e) refl).0 in
+          let first = (merged_keeps i (i + 2) b merged (pair-within b.items i e) refl).0 in
           let second : clusters put.items
           ≡ clusters merged.items = map-set_same (λ (x : Item). x.cluster) merged.items i (with_glyph 23 (item_at merged.items i))
           (new_item 0 0) refl in
           let third = KeepsClusters-from_draws (clusters put.items) (clusters (remove put.items (i + 1)))
           (taken_out-draws put.items (i + 1)) in
-          let at : merged ≡ merge_at i (i + 2) b = merged_at_level i (i + 2) b b.cluster_level monotone in
+          let at : merged ≡ merge_at i (i + 2) b = merge_clusters-monotone i (i + 2) b monotone in
           record {
             clusters = KeepsClusters-then _ _ _ first
                 (KeepsClusters-then _ _ _ (KeepsClusters-equal (clusters merged.items) (clusters put.items) second) third);
@@ -128,7 +128,7 @@ ligated_at-flags i b =
     let cases : P (is_pair b.items i) = elim (is_pair b.items i) as P [
       | true ↦ λ e.
           let put = glyph_put i 23 merged in
-          let first = (merged_keeps i (i + 2) b merged (omega arith) (pair-within b.items i e) refl).1 in
+          let first = (merged_keeps i (i + 2) b merged (pair-within b.items i e) refl).1 in
           let same = map-set_same (λ (x : Item). x.mask) merged.items i (with_glyph 23 (item_at merged.items i)) (new_item 0 0) refl in
           let second : KeepsFlags merged put = masks-kept merged put.items same in
           let third : KeepsFlags put (taken_out (i + 1) put) = record {

@@ -6,15 +6,15 @@ use Rattle.std.proofs.Math.Seq.{map-set_same}
 use Rattle.std.specs.List.{swap}
 use Rattle.std.specs.Option.{option_map, option_map_or}
 use Rattle.shape_buffer.specs.Buffer.{Buffer}
-use Rattle.shape_buffer.specs.BufferClusters.{merge_clusters, merge_at, unsafe_to_break}
+use Rattle.shape_buffer.specs.BufferClusters.{merge_clusters}
 use Rattle.shape_buffer.specs.Clusters.{clusters, merge}
 use Rattle.shape_buffer.specs.ClusterOrder.{KeepsClusters, IsMonotoneLevel}
 use Rattle.shape_buffer.specs.Items.{Item, new_item}
-use Rattle.shape_buffer.specs.declared.buffer.settings.BufferClusterLevel.{BufferClusterLevel}
-use Rattle.shape_buffer.specs.declared.buffer.settings.BufferClusterLevel.TheVariants.{MonotoneGraphemes, MonotoneCharacters, Characters}
-use Rattle.shape_buffer.proofs.DeleteKeeps.{merged_keeps}
-use Rattle.shape_buffer.proofs.JoinLemmas.{cluster_at, merge_joins, length-merge}
-use Rattle.shape_buffer.proofs.KeeperLemmas.{KeepsClusters-same}
+use Rattle.shape_buffer.proofs.Merging.ClusterLemmas.{merge_clusters-monotone}
+use Rattle.shape_buffer.proofs.Deletion.DeleteKeeps.{merged_keeps}
+use Rattle.shape_buffer.proofs.Merging.JoinLemmas.{cluster_at, merge_joins}
+use Rattle.shape_buffer.proofs.Merging.KeyLemmas.{length-merge}
+use Rattle.shape_buffer.proofs.Steps.KeeperLemmas.{KeepsClusters-same}
 use Rattle.shape_plan.specs.Reorder.{IsRunInOrder}
 use Rattle.shape_plan.specs.Shaper.{HookMeaning}
 use Rattle.shape_users.specs.Points.{third_place, step_before, points_reordered, place_in_range}
@@ -33,24 +33,18 @@ clusters_swapped xs i j first second apart joined =
     let outer : map key (set (set xs i b) j a) ≡ map key (set xs i b) = map-set_same key (set xs i b) j a d (same ∙ ap key (sym other)) in
     ap (map key) (sym (swap_is xs i j d first second)) ∙ outer ∙ inner
 
-pub merged_at_level : (start end : ℕ) (b : Buffer) (level : BufferClusterLevel) → IsMonotoneLevel level
-    → elim level as (λ v. Buffer) [ MonotoneGraphemes ↦ merge_at start end b | MonotoneCharacters ↦ merge_at start end b | Characters ↦ unsafe_to_break start end b ] ≡ merge_at start end b
-merged_at_level start end b MonotoneGraphemes monotone = refl
-merged_at_level start end b MonotoneCharacters monotone = refl
-merged_at_level start end b Characters monotone = absurd monotone
-
 step_keeps : (third : ℕ) (b : Buffer) → IsMonotoneLevel b.cluster_level → 1 ≤ third → third < length b.items
     → KeepsClusters (clusters b.items) (clusters (step_before third b).items)
 step_keeps third b monotone past within =
     let merged = merge_clusters (third - 1) (third + 1) b in
     let are : merged.items
-    ≡ merge (third - 1) (third + 1) b.items = ap (λ m. m.items) (merged_at_level (third - 1) (third + 1) b b.cluster_level monotone) in
+    ≡ merge (third - 1) (third + 1) b.items = ap (λ m. m.items) (merge_clusters-monotone (third - 1) (third + 1) b monotone) in
     let long : length merged.items ≡ length b.items = ap length are ∙ length-merge (third - 1) (third + 1) b.items in
     let next : third - 1 + 1 ≡ third = omega (arith, past) in
     let joined = merge_joins (third - 1) (third + 1) b.items (third - 1) (omega arith) (omega (arith, past)) (omega (arith, within)) in
     let joined_here : cluster_at merged.items (third - 1) ≡ cluster_at merged.items third = ap (λ xs. cluster_at xs (third - 1)) are
     ∙ joined ∙ ap (λ xs. cluster_at xs (third - 1 + 1)) (sym are) ∙ ap (cluster_at merged.items) next in
-    let kept = (merged_keeps (third - 1) (third + 1) b merged (omega arith) (omega (arith, within)) refl).0 in
+    let kept = (merged_keeps (third - 1) (third + 1) b merged (omega (arith, within)) refl).0 in
     let stays : clusters (swap merged.items (third - 1) third)
     ≡ clusters merged.items = clusters_swapped merged.items (third - 1) third (omega (arith, long, within))
     (omega (arith, long, within)) (λ e. absurd (omega (arith, past, e))) joined_here in

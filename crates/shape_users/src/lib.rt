@@ -11,4 +11,6 @@ pub mod hebrew;
 pub mod ligatures;
 pub mod lines;
 pub mod paragraph;
+#[cfg(test)]
+mod shaping;
 pub mod words;

@@ -6,29 +6,16 @@ use Rattle.std.proofs.lemmas.List.{length-set}
 use Rattle.std.proofs.lemmas.List.Edits.{length-remove}
 use Rattle.std.specs.List.{remove, flat_map}
 use Rattle.shape_buffer.specs.Buffer.{Buffer, limit_of}
-use Rattle.shape_buffer.specs.BufferClusters.{merge_clusters, merge_at, unsafe_to_break}
+use Rattle.shape_buffer.specs.BufferClusters.{merge_clusters}
 use Rattle.shape_buffer.specs.Items.{Item, new_item}
 use Rattle.shape_buffer.specs.Outcome.{Made, Outcome, step, for_length, for_memory}
 use Rattle.shape_buffer.specs.Positions.{zero_position}
 use Rattle.shape_buffer.specs.declared.buffer.error.ShapeError.{ShapeError}
 use Rattle.shape_buffer.specs.declared.buffer.error.ShapeError.TheVariants.{Memory, Length}
-use Rattle.shape_buffer.specs.declared.buffer.settings.BufferClusterLevel.{BufferClusterLevel}
-use Rattle.shape_buffer.specs.declared.buffer.settings.BufferClusterLevel.TheVariants.{MonotoneGraphemes, MonotoneCharacters, Characters}
-use Rattle.shape_buffer.proofs.JoinLemmas.{length-merge}
-use Rattle.shape_buffer.proofs.KeyLemmas.{without_items-merge_clusters}
-use Rattle.shape_substitute.proofs.MaskLemmas.{length-masks, alone-unsafe_to_break}
+use Rattle.shape_buffer.proofs.Merging.KeyLemmas.{length-merge_clusters, without_items-merge_clusters}
 use Rattle.substitute_rows.specs.Rules.{with_glyph, two_for_one, multiplied, joined, ligated_at, ligated_to}
 use Rattle.substitute_rows.specs.declared.support.rules.Ligature.{Ligature}
 use Rattle.substitute_rows.specs.declared.support.rules.Multiple.{Multiple}
-
-pub length-merge_clusters : (start end : ℕ) (b : Buffer) → length (merge_clusters start end b).items ≡ length b.items
-length-merge_clusters start end b = at_level b.cluster_level
-  where
-    at_level : (level : BufferClusterLevel)
-        → length (elim level as (λ v. Buffer) [ MonotoneGraphemes ↦ merge_at start end b | MonotoneCharacters ↦ merge_at start end b | Characters ↦ unsafe_to_break start end b ]).items ≡ length b.items
-    at_level MonotoneGraphemes = length-merge start end b.items
-    at_level MonotoneCharacters = length-merge start end b.items
-    at_level Characters = length-masks (alone-unsafe_to_break start end b)
 
 -- one of the two items goes
 shorter : (xs : List Item) (i : ℕ) (item : Item) (n : ℕ) → length xs ≡ n → i + 2 ≤ n → length (remove (set xs i item) (i + 1)) ≤ n

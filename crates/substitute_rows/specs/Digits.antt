@@ -1,10 +1,11 @@
 -- Functions of Unicode with the ten digits of ASCII, the fraction slash and two marks.
-use Rattle.std.specs.Prelude.{◌≡◌, ◌≢◌, ℕ, ◌<◌, ◌==◌, ◌||◌, ◌&&◌, nat_le, true, false, None, if◌then◌else◌}
+use Rattle.std.specs.Prelude.{◌≡◌, ◌≢◌, ℕ, ◌<◌, ◌==◌, ◌||◌, ◌&&◌, nat_le, true, false, if◌then◌else◌}
 use Rattle.std.proofs.Common.{arith}
 use Rattle.std.proofs.lemmas.Bool.Decides.{nat_tests}
 use Rattle.shape_buffer.specs.Unicode.{UnicodeMeaning, LawfulUnicode, is_mark}
 use Rattle.shape_buffer.specs.declared.buffer.general_category.hb_unicode_general_category_t.{hb_unicode_general_category_t}
 use Rattle.shape_buffer.specs.declared.buffer.general_category.hb_unicode_general_category_t.TheVariants.{OtherLetter, NonspacingMark, DecimalNumber, MathSymbol}
+use Rattle.shape_plan.specs.PlainTexts.{plain_unicode}
 
 -- of U+0301 that above
 abbrev pub digit_ccc : ℕ → ℕ
@@ -16,21 +17,7 @@ digit_category c =
     else (if c == 0x301 || c == 0x34F then NonspacingMark else (if c == 0x2044 then MathSymbol else OtherLetter))
 
 abbrev pub digit_unicode : UnicodeMeaning
-digit_unicode = record {
-  category = digit_category;
-  ccc = digit_ccc;
-  split = λ _. None;
-  height = λ _. 0;
-  compose = λ _ _. None;
-  mirrored = λ _. None;
-  vertical = λ _. None;
-  space_fallback = λ _. 0;
-  ignorable = λ c. c == 0x34F;
-  pictographic = λ _. false;
-  selector = λ _. false;
-  script = λ _. record { 0 = record { 0 = 1517976186 } };
-  script_direction = λ _. None;
-}
+digit_unicode = record plain_unicode { category = digit_category; ccc = digit_ccc; ignorable = λ c. c == 0x34F }
 
 marks_have_ccc : (c : ℕ) → digit_ccc c ≢ 0 → is_mark digit_unicode c ≡ true
 marks_have_ccc c marked = grind (arith, nat_tests, marked)

@@ -1,5 +1,5 @@
 //! Functions of Unicode by which every character is a letter that neither splits nor composes.
-ghost use Rattle.shape_rows.specs.Plain.{plain_unicode, plain_unicode-lawful};
+ghost use Rattle.shape_plan.specs.PlainTexts.{plain_unicode, plain_unicode-lawful};
 
 use shape_buffer::buffer::{Direction, Script};
 use shape_buffer::interfaces::space_types::{NOT_SPACE, space_t};

@@ -1,36 +1,19 @@
 //! Spans of a text and of its glyphs, in both directions.
 use crate::paragraph::{GlyphSpan, TextSpan, glyphs_of_text, text_of_glyphs};
-use shape_buffer::buffer::{Direction, GlyphBuffer, GlyphId, UnicodeBuffer};
-use shape_buffer::interfaces::{MapFace, Metrics, NoLookups};
+use crate::shaping::{face_of, shaped};
+use shape_buffer::buffer::{Direction, GlyphBuffer, UnicodeBuffer};
+use shape_buffer::interfaces::NoLookups;
 use shape_pipeline::ot_shaper::DEFAULT_SHAPER;
-use shape_pipeline::shape::shape;
-use shape_unicode::UnicodeDatabase;
 use std::alloc::Global;
 use std::test::Fail;
 
 /// The text `a`, `e`, U+0301, `x`, whose graphemes begin at 0, 1 and 4 of its 5 bytes, shaped in a direction.
-fn shaped(alloc: Global, direction: Direction) -> Result<GlyphBuffer, Fail> {
-    let mut face = MapFace::new(alloc, 1000);
-    for (c, glyph) in [('a', 1), ('e', 2), ('\u{301}', 3), ('x', 4)] {
-        let metrics = Metrics {
-            advance: 500,
-            extents: None,
-        };
-        face.set_glyph(c, GlyphId(glyph), metrics)?;
-    }
+fn shaped_towards(alloc: Global, direction: Direction) -> Result<GlyphBuffer, Fail> {
+    let face = face_of(alloc, &[('a', 1), ('e', 2), ('\u{301}', 3), ('x', 4)])?;
     let mut text = UnicodeBuffer::new(alloc);
     text.push_str("ae\u{301}x")?;
     text.set_direction(direction);
-    match shape::<UnicodeDatabase, MapFace, NoLookups, _>(
-        alloc,
-        &face,
-        &DEFAULT_SHAPER,
-        &[],
-        text,
-    ) {
-        Ok(glyphs) => Ok(glyphs),
-        Err(_) => Err(Fail::from("refused")),
-    }
+    shaped::<NoLookups, _>(alloc, &face, &DEFAULT_SHAPER, text)
 }
 
 /// The text that the glyphs from one place up to another show, and the glyphs that show a text.
@@ -57,12 +40,12 @@ fn assert_spans(
 #[test]
 fn spans_lead_there_and_back(rt: HostRuntime) -> Result<(), Fail> {
     let alloc = rt.alloc();
-    let to_right = shaped(alloc, Direction::LeftToRight)?;
+    let to_right = shaped_towards(alloc, Direction::LeftToRight)?;
     // the clusters are 0 1 1 4: half of the accented letter shows all of it
     assert_spans(&rt, &to_right, (0, 1), (0, 1), (0, 1));
     assert_spans(&rt, &to_right, (1, 2), (1, 4), (1, 3));
     assert_spans(&rt, &to_right, (2, 4), (1, 5), (1, 4));
-    let to_left = shaped(alloc, Direction::RightToLeft)?;
+    let to_left = shaped_towards(alloc, Direction::RightToLeft)?;
     // the clusters are 4 1 1 0
     assert_spans(&rt, &to_left, (0, 1), (4, 5), (0, 1));
     assert_spans(&rt, &to_left, (0, 2), (1, 5), (0, 3));

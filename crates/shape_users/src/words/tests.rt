@@ -1,7 +1,8 @@
 //! Words under one spelling and another.
+use crate::shaping::face_of;
 use crate::words::{Word, equivalent_spellings, find_plan, keep_word, spelled};
-use shape_buffer::buffer::{Direction, GlyphId, Script, hb_tag_t};
-use shape_buffer::interfaces::{MapFace, Metrics, NoLookups};
+use shape_buffer::buffer::{Direction, Script, hb_tag_t};
+use shape_buffer::interfaces::{MapFace, NoLookups};
 use shape_pipeline::ot_shape_plan::hb_ot_shape_plan_t;
 use shape_pipeline::ot_shaper::{Decomposed, Preferring};
 use shape_unicode::UnicodeDatabase;
@@ -10,14 +11,7 @@ use std::test::Fail;
 #[test]
 fn equivalent_spellings_are_one_word(rt: HostRuntime) -> Result<(), Fail> {
     let alloc = rt.alloc();
-    let mut face = MapFace::new(alloc, 1000);
-    for (c, glyph) in [('q', 1), ('e', 2), ('\u{301}', 3), ('\u{E9}', 4)] {
-        let metrics = Metrics {
-            advance: 500,
-            extents: None,
-        };
-        face.set_glyph(c, GlyphId(glyph), metrics)?;
-    }
+    let face = face_of(alloc, &[('q', 1), ('e', 2), ('\u{301}', 3), ('\u{E9}', 4)])?;
     let shaper = Preferring::<Decomposed>::new();
     let mut plans = Vec::new(alloc);
     for (direction, script) in [
@@ -63,14 +57,10 @@ fn equivalent_spellings_are_one_word(rt: HostRuntime) -> Result<(), Fail> {
 #[test]
 fn spellings_that_can_be_told(rt: HostRuntime) -> Result<(), Fail> {
     let alloc = rt.alloc();
-    let mut face = MapFace::new(alloc, 1000);
-    for (c, glyph) in [('q', 1), ('e', 2), ('\u{301}', 3), ('\u{FE00}', 4)] {
-        let metrics = Metrics {
-            advance: 500,
-            extents: None,
-        };
-        face.set_glyph(c, GlyphId(glyph), metrics)?;
-    }
+    let face = face_of(
+        alloc,
+        &[('q', 1), ('e', 2), ('\u{301}', 3), ('\u{FE00}', 4)],
+    )?;
     let shaper = Preferring::<Decomposed>::new();
     let plan = hb_ot_shape_plan_t::new::<UnicodeDatabase, MapFace, NoLookups>(
         alloc,

@@ -1,6 +1,6 @@
 use Rattle.std.proofs.Common.{arith}
 use Rattle.std.proofs.lemmas.Grind.{common_steps}
-use Rattle.shape_buffer.proofs.PositionWalkLemmas.{positions_over_more}
+use Rattle.shape_buffer.proofs.Loops.PositionWalkLemmas.{positions_over_more}
 use Rattle.shape_buffer.specs.PositionWalks.{positions_mapped}
 use Rattle.shape_buffer.proofs.position_walks.update_positions.Goals as goal
 

@@ -1,5 +1,5 @@
 use Rattle.std.proofs.lemmas.Result.{err_from_is_err_and}
-use Rattle.shape_buffer.proofs.Runs.{Refused-before, Refused-first_made}
+use Rattle.shape_buffer.proofs.Steps.Runs.{Refused-before, Refused-first_made}
 use Rattle.shape_position.proofs.finishing.finish_glyphs.Goals as goal
 
 pub returns-in_err-substitute_post : goal.returns-in_err-substitute_post

@@ -1,5 +1,5 @@
 use Rattle.std.proofs.Common.{rules}
-use Rattle.shape_buffer.proofs.Runs.{Ran-first_made, Ran-made, RunOutcome-then}
+use Rattle.shape_buffer.proofs.Steps.Runs.{Ran-first_made, Ran-made, RunOutcome-then}
 use Rattle.shape_position.proofs.finishing.substitute_post.Goals as goal
 
 pub returns : goal.returns

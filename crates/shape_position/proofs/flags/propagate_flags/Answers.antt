@@ -1,4 +1,4 @@
-use Rattle.shape_buffer.proofs.HonestLemmas.{one_set-propagated, concat-propagated}
+use Rattle.shape_buffer.proofs.Flags.HonestLemmas.{one_set-propagated, concat-propagated}
 use Rattle.shape_position.proofs.flags.propagate_flags.Goals as goal
 
 pub returns-clause-one_set : goal.returns-clause-one_set

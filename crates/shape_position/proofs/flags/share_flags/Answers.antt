@@ -6,8 +6,8 @@ use Rattle.shape_buffer.specs.Items.{Item}
 use Rattle.shape_buffer.specs.KeepsFlags.{has_glyph_flags}
 use Rattle.shape_buffer.specs.declared.buffer.flags.BufferFlags.{BufferFlags}
 use Rattle.shape_buffer.specs.Flags.{flagged_from, mask_after, with_mask, flags_propagated}
-use Rattle.shape_buffer.proofs.ClusterRunLemmas.{flagged-runs}
-use Rattle.shape_buffer.proofs.WalkOverLemmas.{with_rest, walk_step, walk_end}
+use Rattle.shape_buffer.proofs.Flags.ClusterRunLemmas.{flagged-runs}
+use Rattle.shape_buffer.proofs.Loops.WalkOverLemmas.{with_rest, walk_step, walk_end}
 use Rattle.shape_position.proofs.flags.share_flags.Goals as goal
 
 pub returns-then-not-contains : goal.returns-then-not-contains

@@ -1,6 +1,6 @@
 use Rattle.std.proofs.Common.{◌≡◌, length, None}
 use Rattle.shape_buffer.specs.Flags.{flagged_from}
-use Rattle.shape_buffer.proofs.WalkOverLemmas.{with_rest}
+use Rattle.shape_buffer.proofs.Loops.WalkOverLemmas.{with_rest}
 use Rattle.shape_position.proofs.flags.share_flags.Given as goal
 
 -- what is left of the walk makes of the buffer what the whole walk does

@@ -1,6 +1,6 @@
 use Rattle.std.proofs.Common.{rules}
 use Rattle.std.proofs.lemmas.Result.{err_from_is_err_and}
-use Rattle.shape_buffer.proofs.Runs.{Refused-first_made, Refused-first_ran, Refused-here}
+use Rattle.shape_buffer.proofs.Steps.Runs.{Refused-first_made, Refused-first_ran, Refused-here}
 use Rattle.shape_position.proofs.positioning.place_by_tables.Goals as goal
 
 pub returns-in_err-position_by_plan : goal.returns-in_err-position_by_plan

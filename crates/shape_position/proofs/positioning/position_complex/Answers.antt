@@ -1,5 +1,5 @@
 use Rattle.std.proofs.lemmas.Result.{err_from_is_err_and}
-use Rattle.shape_buffer.proofs.Runs.{Refused-before}
+use Rattle.shape_buffer.proofs.Steps.Runs.{Refused-before}
 use Rattle.shape_position.proofs.positioning.position_complex.Goals as goal
 
 pub returns-in_err-place_by_tables : goal.returns-in_err-place_by_tables

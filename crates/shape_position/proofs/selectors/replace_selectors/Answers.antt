@@ -1,7 +1,7 @@
 use Rattle.std.proofs.Common.{arith}
 use Rattle.std.proofs.lemmas.Grind.{common_steps}
 use Rattle.std.proofs.lemmas.List.Edits.{map_over_more}
-use Rattle.shape_buffer.proofs.PositionWalkLemmas.{positions_over_more}
+use Rattle.shape_buffer.proofs.Loops.PositionWalkLemmas.{positions_over_more}
 use Rattle.shape_position.specs.Selectors.{not_found_item, not_found_position}
 use Rattle.shape_position.proofs.selectors.replace_selectors.Goals as goal
 

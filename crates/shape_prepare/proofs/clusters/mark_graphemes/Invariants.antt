@@ -1,18 +1,11 @@
-use Rattle.std.proofs.Common.{◌≡◌, ◌≤◌, length, map, drop}
-use Rattle.shape_buffer.specs.Buffer.{limit_of}
+use Rattle.std.proofs.Common.{◌≡◌, ◌≤◌, length}
 use Rattle.shape_buffer.specs.BufferClusters.{unsafe_to_break}
-use Rattle.shape_prepare.specs.ClustersFormed.{over_graphemes}
-use Rattle.shape_prepare.specs.Graphemes.{is_continuation}
-use Rattle.shape_prepare.proofs.GraphemeWalkLemmas.{left_to_do}
+use Rattle.shape_prepare.proofs.Spans.WalkedLemmas.{Walked}
 use Rattle.shape_prepare.proofs.clusters.mark_graphemes.Given as goal
 
--- what is left of the walk makes of the buffer what the whole walk does
 abbrev pub invariant-loop-last : goal.invariant-loop-last
 invariant-loop-last l = record {
-  whole : left_to_do unsafe_to_break l.start l.last (drop l.last (map is_continuation l.fn.buffer.items)) l.buffer
-      ≡ over_graphemes unsafe_to_break l.fn.buffer;
-  bits : map is_continuation l.buffer.items ≡ map is_continuation l.fn.buffer.items;
+  walked : Walked unsafe_to_break l.fn.buffer l.start l.last l.buffer;
   as_many : length l.buffer.items ≡ length l.fn.buffer.items;
-  limit : limit_of l.buffer ≡ limit_of l.fn.buffer;
   ordered : l.start ≤ l.last;
 }

@@ -1,5 +1,5 @@
 use Rattle.std.proofs.Common.{sym, ap, ◌∙◌}
-use Rattle.shape_buffer.proofs.Runs.{Ran-made}
+use Rattle.shape_buffer.proofs.Steps.Runs.{Ran-made}
 use Rattle.shape_prepare.specs.DottedCircle.{dotted_circled, with_circle, begins_with_mark}
 use Rattle.shape_prepare.proofs.StepLemmas.{Made-same, Outcome-alike, dotted_circled-put, dotted_circled-none, dotted_circled-no_mark}
 use Rattle.shape_prepare.proofs.dotted_circle.insert_dotted_circle.Goals as goal

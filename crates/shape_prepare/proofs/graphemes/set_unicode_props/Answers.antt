@@ -6,7 +6,7 @@ use Rattle.shape_buffer.specs.Items.{Item}
 use Rattle.shape_buffer.specs.Unicode.{UnicodeMeaning}
 use Rattle.shape_buffer.specs.declared.buffer.flags.ScratchFlags.{ScratchFlags}
 use Rattle.shape_buffer.specs.UnicodeProps.{with_unicode_props}
-use Rattle.shape_buffer.proofs.WalkOverLemmas.{with_rest, walk_step, walk_end}
+use Rattle.shape_buffer.proofs.Loops.WalkOverLemmas.{with_rest, walk_step, walk_end}
 use Rattle.shape_prepare.specs.Graphemes.{graphemes_marked, continuations_marked, continues, with_continuation, is_to_next, seen_item}
 use Rattle.shape_prepare.specs.declared.graphemes.Before.{Before}
 use Rattle.shape_prepare.proofs.graphemes.set_unicode_props.Goals as goal

@@ -1,4 +1,4 @@
-use Rattle.shape_prepare.proofs.FirstLemmas.{preparing_keeps_firsts}
+use Rattle.shape_prepare.proofs.Keeping.FirstLemmas.{preparing_keeps_firsts}
 use Rattle.shape_prepare.proofs.laws.preparing_keeps_firsts.Goals as goal
 
 pub returns : goal.returns

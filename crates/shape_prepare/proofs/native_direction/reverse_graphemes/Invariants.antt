@@ -1,18 +1,11 @@
-use Rattle.std.proofs.Common.{◌≡◌, ◌≤◌, length, map, drop}
-use Rattle.shape_buffer.specs.Buffer.{limit_of}
-use Rattle.shape_prepare.specs.ClustersFormed.{over_graphemes}
-use Rattle.shape_prepare.specs.Graphemes.{is_continuation}
+use Rattle.std.proofs.Common.{◌≡◌, ◌≤◌, length}
 use Rattle.shape_prepare.specs.GraphemeWalk.{reverse_span}
-use Rattle.shape_prepare.proofs.GraphemeWalkLemmas.{left_to_do}
+use Rattle.shape_prepare.proofs.Spans.WalkedLemmas.{Walked}
 use Rattle.shape_prepare.proofs.native_direction.reverse_graphemes.Given as goal
 
--- what is left of the walk makes of the buffer what the whole walk does; of the items from here on none has moved
 abbrev pub invariant-loop-last : goal.invariant-loop-last
 invariant-loop-last l = record {
-  whole : left_to_do reverse_span l.start l.last (drop l.last (map is_continuation l.fn.buffer.items)) l.buffer
-      ≡ over_graphemes reverse_span l.fn.buffer;
-  bits : drop l.last (map is_continuation l.buffer.items) ≡ drop l.last (map is_continuation l.fn.buffer.items);
+  walked : Walked reverse_span l.fn.buffer l.start l.last l.buffer;
   as_many : length l.buffer.items ≡ length l.fn.buffer.items;
-  limit : limit_of l.buffer ≡ limit_of l.fn.buffer;
   ordered : l.start ≤ l.last;
 }

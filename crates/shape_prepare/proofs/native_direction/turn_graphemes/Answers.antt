@@ -3,7 +3,7 @@ use Rattle.std.proofs.lemmas.List.{length-reverse}
 use Rattle.shape_buffer.specs.Buffer.{Buffer, limit_of}
 use Rattle.shape_buffer.specs.Direction.{reverse_of}
 use Rattle.shape_buffer.specs.declared.buffer.settings.Direction.{Direction}
-use Rattle.shape_prepare.proofs.TurnLemmas.{turned_over, turned-whole}
+use Rattle.shape_prepare.proofs.Spans.TurnLemmas.{turned_over, turned-whole}
 use Rattle.shape_prepare.proofs.native_direction.turn_graphemes.Goals as goal
 
 pub returns : goal.returns

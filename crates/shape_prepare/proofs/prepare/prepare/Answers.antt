@@ -1,5 +1,5 @@
 use Rattle.std.proofs.lemmas.Result.{err_from_is_err_and}
-use Rattle.shape_buffer.proofs.Runs.{Refused-before, RunOutcome-then}
+use Rattle.shape_buffer.proofs.Steps.Runs.{Refused-before, RunOutcome-then}
 use Rattle.shape_plan.specs.Run.{run_of}
 use Rattle.shape_prepare.specs.PrepareSteps.{order_steps}
 use Rattle.shape_prepare.proofs.prepare.prepare.Goals as goal

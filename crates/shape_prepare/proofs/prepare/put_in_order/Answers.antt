@@ -1,6 +1,6 @@
 use Rattle.std.proofs.Common.{rules}
 use Rattle.std.proofs.lemmas.Result.{err_from_is_err_and}
-use Rattle.shape_buffer.proofs.Runs.{Refused-first_made, Refused-here}
+use Rattle.shape_buffer.proofs.Steps.Runs.{Refused-first_made, Refused-here}
 use Rattle.shape_prepare.proofs.prepare.put_in_order.Goals as goal
 
 pub returns-in_err-preprocess_text : goal.returns-in_err-preprocess_text

@@ -1,5 +1,5 @@
 use Rattle.std.proofs.lemmas.Result.{err_from_is_err_and}
-use Rattle.shape_buffer.proofs.Runs.{Ran-then, Ran-made, Refused-before}
+use Rattle.shape_buffer.proofs.Steps.Runs.{Ran-then, Ran-made, Refused-before}
 use Rattle.shape_substitute.proofs.substitution.substitute.Goals as goal
 
 pub returns-in_err-substitute_complex : goal.returns-in_err-substitute_complex

@@ -1,5 +1,5 @@
 use Rattle.std.proofs.lemmas.Result.{err_from_is_err_and}
-use Rattle.shape_buffer.proofs.Runs.{RunOutcome-then, Refused-before}
+use Rattle.shape_buffer.proofs.Steps.Runs.{RunOutcome-then, Refused-before}
 use Rattle.shape_substitute.proofs.substitution.substitute_stage.Goals as goal
 
 pub returns-in_err-run_lookups : goal.returns-in_err-run_lookups

@@ -1,6 +1,6 @@
 use Rattle.std.proofs.Common.{add-one, arith}
 use Rattle.std.proofs.lemmas.Result.{err_from_is_err_and}
-use Rattle.shape_buffer.proofs.Runs.{Ran-then, Refused-after}
+use Rattle.shape_buffer.proofs.Steps.Runs.{Ran-then, Refused-after}
 use Rattle.shape_plan.specs.Run.{run_of}
 use Rattle.shape_substitute.proofs.StageRuns.{Refused-stages}
 use Rattle.shape_substitute.proofs.substitution.substitute_stages.Goals as goal

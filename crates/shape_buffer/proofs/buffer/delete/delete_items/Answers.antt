@@ -3,8 +3,9 @@ use Rattle.std.proofs.lemmas.Grind.{common_steps}
 use Rattle.std.proofs.lemmas.List.{drop_all, append-nil, take_more_set, take-take, length-take-le}
 use Rattle.shape_buffer.specs.Delete.{hand_on, delete_from}
 use Rattle.shape_buffer.specs.Unwritten.{StandsFor}
-use Rattle.shape_buffer.proofs.DeleteLemmas.{standing, kept_after, lost_after, finished, with_glyphs}
-use Rattle.shape_buffer.proofs.UnwrittenLemmas.{StandsFor-none, length-given}
+use Rattle.shape_buffer.proofs.Deletion.DeleteLemmas.{standing, kept_after, lost_after, finished, with_glyphs}
+use Rattle.shape_buffer.proofs.Unwritten.UnwrittenLemmas.{StandsFor-none}
+use Rattle.shape_buffer.proofs.Unwritten.GivenLemmas.{length-given}
 use Rattle.shape_buffer.proofs.buffer.delete.delete_items.Goals as goal
 
 pub loop-i-init : goal.loop-i-init

@@ -4,7 +4,7 @@ use Rattle.shape_buffer.specs.Items.{Item}
 use Rattle.shape_buffer.specs.Buffer.{Buffer}
 use Rattle.shape_buffer.specs.Delete.{delete_from, deleted}
 use Rattle.shape_buffer.specs.Unwritten.{StandsFor}
-use Rattle.shape_buffer.proofs.DeleteLemmas.{standing, with_glyphs}
+use Rattle.shape_buffer.proofs.Deletion.DeleteLemmas.{standing, with_glyphs}
 use Rattle.shape_buffer.proofs.buffer.delete.delete_items.Given as goal
 
 abbrev pub invariant-loop-i : goal.invariant-loop-i

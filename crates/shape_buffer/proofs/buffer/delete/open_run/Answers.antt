@@ -1,6 +1,6 @@
 use Rattle.std.proofs.Common.{◌-◌, length, take, arith, sym, ◌∙◌}
 use Rattle.std.proofs.lemmas.List.{take_more_set}
-use Rattle.shape_buffer.proofs.UnwrittenLemmas.{open_first, open_next, more}
+use Rattle.shape_buffer.proofs.Unwritten.UnwrittenLemmas.{open_first, open_next, more}
 use Rattle.shape_buffer.proofs.buffer.delete.open_run.Goals as goal
 
 pub returns-then-len-eq0-clause-stands : goal.returns-then-len-eq0-clause-stands

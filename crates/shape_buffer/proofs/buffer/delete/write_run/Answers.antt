@@ -1,6 +1,6 @@
 use Rattle.std.proofs.Common.{◌≡◌, ◌-◌, ◌∷◌, [], set, arith, ap, sym, ◌∙◌}
 use Rattle.shape_buffer.specs.Unwritten.{follow}
-use Rattle.shape_buffer.proofs.UnwrittenLemmas.{write_begins, write_step}
+use Rattle.shape_buffer.proofs.Unwritten.UnwrittenLemmas.{write_begins, write_step}
 use Rattle.shape_buffer.proofs.buffer.delete.write_run.Goals as goal
 
 pub loop-i-init : goal.loop-i-init

@@ -2,7 +2,7 @@ use Rattle.std.proofs.Common.{◌≡◌, ◌+◌, ◌-◌, ◌≤◌, ◌++◌, 
 use Rattle.std.proofs.lemmas.Grind.{common_steps}
 use Rattle.std.proofs.lemmas.List.{take_all, drop_all, append-nil}
 use Rattle.shape_buffer.specs.Unwritten.{written_runs}
-use Rattle.shape_buffer.proofs.UnwrittenLemmas.{write_last-in_place, write_ends, start_before}
+use Rattle.shape_buffer.proofs.Unwritten.UnwrittenLemmas.{write_last-in_place, write_ends, start_before}
 use Rattle.shape_buffer.proofs.buffer.delete.write_runs.Goals as goal
 
 pub slice_bounds-write_run-count : goal.slice_bounds-write_run-count

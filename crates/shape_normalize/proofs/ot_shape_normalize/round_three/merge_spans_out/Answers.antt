@@ -2,7 +2,7 @@ use Rattle.std.proofs.Common.{◌<◌, length, ap, ◌∙◌, arith}
 use Rattle.shape_buffer.specs.Buffer.{Buffer}
 use Rattle.shape_normalize.proofs.RoundThreeLemmas.{spans_merged_next}
 use Rattle.shape_normalize.proofs.ot_shape_normalize.round_three.merge_spans_out.Goals as goal
-use Rattle.shape_buffer.proofs.KeyLemmas.{length-merge_out}
+use Rattle.shape_buffer.proofs.Merging.KeyLemmas.{length-merge_out}
 
 pub loop-start-preserved : goal.loop-start-preserved
 loop-start-preserved c =

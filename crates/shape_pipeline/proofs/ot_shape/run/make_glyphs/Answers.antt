@@ -1,4 +1,4 @@
-use Rattle.shape_buffer.proofs.Runs.{RunOutcome-then}
+use Rattle.shape_buffer.proofs.Steps.Runs.{RunOutcome-then}
 use Rattle.shape_pipeline.proofs.ot_shape.run.make_glyphs.Goals as goal
 
 pub returns : goal.returns

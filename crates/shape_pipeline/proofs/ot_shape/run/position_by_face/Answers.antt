@@ -1,4 +1,4 @@
-use Rattle.shape_buffer.proofs.Runs.{Ran-then, Ran-made}
+use Rattle.shape_buffer.proofs.Steps.Runs.{Ran-then, Ran-made}
 use Rattle.shape_pipeline.proofs.ot_shape.run.position_by_face.Goals as goal
 
 pub returns : goal.returns

@@ -1,5 +1,5 @@
 use Rattle.std.proofs.lemmas.Result.{err_from_is_err_and}
-use Rattle.shape_buffer.proofs.Runs.{RunOutcome-then, Refused-before}
+use Rattle.shape_buffer.proofs.Steps.Runs.{RunOutcome-then, Refused-before}
 use Rattle.shape_pipeline.proofs.ot_shape.run.shape_normalized.Goals as goal
 
 pub returns-in_err-make_glyphs : goal.returns-in_err-make_glyphs

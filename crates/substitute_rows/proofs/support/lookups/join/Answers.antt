@@ -6,7 +6,8 @@ use Rattle.shape_buffer.specs.Buffer.{Buffer}
 use Rattle.shape_buffer.specs.BufferClusters.{merge_clusters}
 use Rattle.shape_buffer.specs.Items.{Item, new_item}
 use Rattle.substitute_rows.specs.Rules.{with_glyph, joined}
-use Rattle.substitute_rows.proofs.RuleLemmas.{length-merge_clusters, Made-joined}
+use Rattle.shape_buffer.proofs.Merging.KeyLemmas.{length-merge_clusters}
+use Rattle.substitute_rows.proofs.RuleLemmas.{Made-joined}
 use Rattle.substitute_rows.proofs.support.lookups.join.Goals as goal
 
 pub offset_bounds-infos-start : goal.offset_bounds-infos-start

@@ -1,5 +1,5 @@
 use Rattle.std.proofs.Common.{rules}
-use Rattle.shape_buffer.proofs.Runs.{Ran-made}
+use Rattle.shape_buffer.proofs.Steps.Runs.{Ran-made}
 use Rattle.substitute_rows.specs.Rules.{added, one_for_one}
 use Rattle.substitute_rows.proofs.support.lookups.run_stage.Goals as goal
 

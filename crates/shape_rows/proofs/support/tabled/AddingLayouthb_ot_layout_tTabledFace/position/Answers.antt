@@ -1,5 +1,5 @@
 use Rattle.std.proofs.Common.{pos, rules}
-use Rattle.shape_buffer.proofs.Runs.{Ran-made}
+use Rattle.shape_buffer.proofs.Steps.Runs.{Ran-made}
 use Rattle.shape_rows.specs.Tabled.{wider_by}
 use Rattle.shape_rows.proofs.support.tabled.AddingLayouthb_ot_layout_tTabledFace.position.Goals as goal
 

@@ -1,5 +1,5 @@
 use Rattle.std.proofs.Common.{rules}
-use Rattle.shape_buffer.proofs.Runs.{Ran-made}
+use Rattle.shape_buffer.proofs.Steps.Runs.{Ran-made}
 use Rattle.substitute_rows.specs.Doubling.{with_double}
 use Rattle.substitute_rows.proofs.support.doubling.DoublingShaperpause_hookUnit.pause.Goals as goal
 

@@ -1,7 +1,7 @@
 use Rattle.std.proofs.Common.{ℕ, rules, subst}
 use Rattle.shape_buffer.specs.Outcome.{Made}
 use Rattle.shape_buffer.specs.Walks.{items_mapped}
-use Rattle.shape_buffer.proofs.Runs.{Ran-made}
+use Rattle.shape_buffer.proofs.Steps.Runs.{Ran-made}
 use Rattle.substitute_rows.specs.RuleLayouts.{struck}
 use Rattle.substitute_rows.proofs.support.rule_layout.RuleLayouthb_ot_layout_tRuleFace.aat_substitute.Goals as goal
 

@@ -6,13 +6,14 @@ use Rattle.std.proofs.lemmas.List.{length-take, length-drop, length-map, take-ma
 use Rattle.std.specs.List.Sorted.{IsNonDecreasing}
 use Rattle.shape_buffer.specs.Clusters.{clusters, merge, put_range, least_cluster, growth_left, growth_right}
 use Rattle.shape_buffer.specs.Items.{Item}
-use Rattle.shape_buffer.proofs.ClusterLemmas.{merge_short, merge_long}
-use Rattle.shape_buffer.proofs.GraphemeOrderLemmas.{AreOneCluster}
-use Rattle.shape_buffer.proofs.JoinLemmas.{cluster_at, length-merge}
-use Rattle.shape_buffer.proofs.MergeOrder.{least_of_span_reached, put_range_below, put_range_inside, put_range_above, growth_right-within, place_cases, merge_keeps}
+use Rattle.shape_buffer.proofs.Merging.ClusterLemmas.{merge_short, merge_long}
+use Rattle.shape_buffer.proofs.Order.GraphemeOrderLemmas.{AreOneCluster}
+use Rattle.shape_buffer.proofs.Merging.JoinLemmas.{cluster_at}
+use Rattle.shape_buffer.proofs.Merging.KeyLemmas.{length-merge}
+use Rattle.shape_buffer.proofs.Merging.MergeOrder.{least_of_span_reached, put_range_below, put_range_inside, put_range_above, growth_right-within, place_cases, merge_keeps}
 use Rattle.shape_prepare.specs.ClustersFormed.{spans_from}
 use Rattle.shape_prepare.specs.NativeOrder.{parted}
-use Rattle.shape_prepare.proofs.TurnLemmas.{total}
+use Rattle.shape_prepare.proofs.Spans.TurnLemmas.{total}
 
 -- what a merge leaves: the span in the cluster of its first item, what stands before it as it was, and behind it that cluster or the old
 -- one

@@ -1,14 +1,14 @@
 -- What keeps the order of clusters and the flags of glyphs, step by step.
 use Rattle.std.proofs.Common.{◌≡◌, ℕ, List, [], ◌∷◌, ◌++◌, map, refl, ap, sym, ◌∙◌, subst}
-use Rattle.std.specs.Prelude.{Contains}
-use Rattle.std.specs.List.Sorted.{IsNonDecreasing}
 use Rattle.shape_buffer.specs.Buffer.{Buffer}
-use Rattle.shape_buffer.specs.ClusterOrder.{IsNonIncreasing, KeepsClusters}
+use Rattle.shape_buffer.specs.BufferClusters.{unsafe_to_break}
+use Rattle.shape_buffer.specs.ClusterOrder.{KeepsClusters}
 use Rattle.shape_buffer.specs.Clusters.{clusters}
 use Rattle.shape_buffer.specs.Items.{Item}
 use Rattle.shape_buffer.specs.Keepers.{KeepsOrder, IsClusterKeeper, EachStep}
 use Rattle.shape_buffer.specs.Outcome.{Step}
 use Rattle.shape_buffer.specs.Walks.{items_mapped}
+use Rattle.shape_buffer.proofs.Merging.KeyLemmas.{keys-map, keys-unsafe_to_break, without_items-unsafe_to_break}
 
 -- ---- lists of clusters
 
@@ -28,8 +28,7 @@ KeepsClusters-then xs ys zs first later = record {
 
 pub clusters-map : (f : Item → Item) → ((x : Item) → (f x).cluster ≡ x.cluster) → (xs : List Item)
     → clusters (map f xs) ≡ clusters xs
-clusters-map f same [] = refl
-clusters-map f same (x ∷ xs) = ap (λ c. c ∷ clusters (map f xs)) (same x) ∙ ap (λ cs. x.cluster ∷ cs) (clusters-map f same xs)
+clusters-map = keys-map (λ item. item.cluster)
 
 -- ---- buffers
 
@@ -52,6 +51,16 @@ order-items_mapped f same b monotone = record {
   flags = refl;
   level = refl;
 }
+
+pub order-unsafe_to_break : (start end : ℕ) (b : Buffer) → KeepsOrder b (unsafe_to_break start end b)
+order-unsafe_to_break start end b =
+    let rest = without_items-unsafe_to_break start end b in
+    record {
+      clusters = KeepsClusters-equal (clusters b.items) _ (keys-unsafe_to_break (λ item. item.cluster) (λ item. refl) start end b);
+      direction = ap (λ c. c.direction) rest;
+      flags = ap (λ c. c.flags) rest;
+      level = ap (λ c. c.cluster_level) rest;
+    }
 
 -- ---- lists of steps
 

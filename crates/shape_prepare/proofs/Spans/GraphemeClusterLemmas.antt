@@ -6,34 +6,27 @@ use Rattle.std.specs.List.Sorted.{IsNonDecreasing}
 use Rattle.canonical_form.specs.Divided.{divided, put_first}
 use Rattle.canonical_form.proofs.DividedLemmas.{whole, whole-divided, sizes-bits}
 use Rattle.shape_buffer.specs.Buffer.{Buffer}
-use Rattle.shape_buffer.specs.BufferClusters.{merge_clusters, merge_at, unsafe_to_break}
+use Rattle.shape_buffer.specs.BufferClusters.{merge_clusters, merge_at}
 use Rattle.shape_buffer.specs.Clusters.{clusters, merge}
 use Rattle.shape_buffer.specs.ClusterOrder.{IsMonotoneLevel}
 use Rattle.shape_buffer.specs.Items.{Item}
-use Rattle.shape_buffer.specs.declared.buffer.settings.BufferClusterLevel.{BufferClusterLevel}
-use Rattle.shape_buffer.specs.declared.buffer.settings.BufferClusterLevel.TheVariants.{MonotoneGraphemes, MonotoneCharacters, Characters}
-use Rattle.shape_buffer.proofs.GraphemeOrderLemmas.{AreOneCluster}
-use Rattle.shape_buffer.proofs.KeyLemmas.{keys-merge}
+use Rattle.shape_buffer.proofs.Merging.ClusterLemmas.{merge_clusters-monotone}
+use Rattle.shape_buffer.proofs.Order.GraphemeOrderLemmas.{AreOneCluster}
+use Rattle.shape_buffer.proofs.Merging.KeyLemmas.{keys-merge}
 use Rattle.shape_prepare.specs.ClustersFormed.{grapheme_spans}
 use Rattle.shape_prepare.specs.Graphemes.{graphemes, is_continuation}
 use Rattle.shape_prepare.specs.NativeOrder.{parted}
-use Rattle.shape_prepare.proofs.GraphemeWalkLemmas.{IsKey-continuation}
-use Rattle.shape_prepare.proofs.RisingMergeLemmas.{all_merged, parts-merged, parts-one_cluster, SomeEach, Merged}
-use Rattle.shape_prepare.proofs.TurnLemmas.{total, total-lengths}
+use Rattle.shape_prepare.proofs.Spans.GraphemeWalkLemmas.{IsKey-continuation}
+use Rattle.shape_prepare.proofs.Spans.RisingMergeLemmas.{all_merged, parts-merged, parts-one_cluster, SomeEach, Merged}
+use Rattle.shape_prepare.proofs.Spans.TurnLemmas.{total, total-lengths}
 
 -- at a monotone level a walk that merges changes items alone
-merge_at-level : (start end : ℕ) (b : Buffer) (level : BufferClusterLevel) → IsMonotoneLevel level
-    → (elim level as (λ v. Buffer) [ MonotoneGraphemes ↦ merge_at start end b | MonotoneCharacters ↦ merge_at start end b | Characters ↦ unsafe_to_break start end b ]) ≡ merge_at start end b
-merge_at-level start end b MonotoneGraphemes monotone = refl
-merge_at-level start end b MonotoneCharacters monotone = refl
-merge_at-level start end b Characters monotone = absurd monotone
-
 pub spans-merged : (spans : List (ℕ × ℕ)) (b : Buffer) → IsMonotoneLevel b.cluster_level
     → fold (λ b span. merge_clusters span.0 span.1 b) b spans ≡ record b { items = all_merged spans b.items }
 spans-merged [] b monotone = refl
 spans-merged (span ∷ spans) b monotone =
     ap (λ (b : Buffer). fold (λ (b : Buffer) (span : ℕ × ℕ). merge_clusters span.0 span.1 b) b spans)
-    (merge_at-level span.0 span.1 b b.cluster_level monotone)
+    (merge_clusters-monotone span.0 span.1 b monotone)
     ∙ spans-merged spans (merge_at span.0 span.1 b) monotone
 
 -- merging changes no bit

@@ -8,9 +8,9 @@ use Rattle.std.proofs.lemmas.List.Sums.{suffix_len-take_yes}
 use Rattle.std.specs.List.{suffix_len, fold}
 use Rattle.shape_buffer.specs.Items.{Item, new_item, has_cluster, put_in}
 use Rattle.shape_buffer.specs.Clusters.{put_range, merge, least_cluster, growth_left, growth_right}
-use Rattle.shape_buffer.proofs.ClusterLemmas.{merge_long}
-use Rattle.shape_buffer.proofs.JoinLemmas.{cluster_at, Joined}
-use Rattle.shape_buffer.proofs.MergeOrder.{growth_right-within}
+use Rattle.shape_buffer.proofs.Merging.ClusterLemmas.{merge_long}
+use Rattle.shape_buffer.proofs.Merging.JoinLemmas.{cluster_at, Joined}
+use Rattle.shape_buffer.proofs.Merging.MergeOrder.{growth_right-within}
 
 min_same : (a b : ℕ) → a ≡ b → min a b ≡ b
 min_same a b e = grind (arith, nat_tests)

@@ -1,6 +1,6 @@
 -- Merging, marking and deletion keep the flags of glyphs.
-use Rattle.std.proofs.Common.{◌≡◌, ℕ, ◌+◌, ◌-◌, Bool, true, false, nat_lt, List, [], ◌∷◌, ◌++◌, take, drop, map, refl, ap, sym, ◌∙◌, arith, slice_range, inl, inr, ◌⊎◌, bit_and}
-use Rattle.std.proofs.lemmas.Bool.{cases_Bool, or_cases, or_right}
+use Rattle.std.proofs.Common.{◌≡◌, ℕ, ◌-◌, Bool, true, false, List, [], ◌∷◌, ◌++◌, take, drop, map, refl, ap, sym, ◌∙◌, arith, slice_range, inl, inr, ◌⊎◌, bit_and}
+use Rattle.std.proofs.lemmas.Bool.{or_cases, or_right}
 use Rattle.std.proofs.lemmas.Bool.Decides.{nat_tests}
 use Rattle.std.proofs.lemmas.Nat.{and_assoc, and_or_self}
 use Rattle.std.specs.Int.Bits.{and_zero_r}
@@ -8,13 +8,11 @@ use Rattle.std.proofs.lemmas.List.{take-append-drop}
 use Rattle.std.proofs.lemmas.List.Folds.{list_any-append}
 use Rattle.std.specs.List.{list_any}
 use Rattle.shape_buffer.specs.Items.{Item, put_in, feature_bits}
-use Rattle.shape_buffer.specs.Clusters.{map_range, merge, least_cluster, growth_left, growth_right}
+use Rattle.shape_buffer.specs.Clusters.{map_range, merge, least_cluster}
 use Rattle.shape_buffer.specs.Buffer.{Buffer}
-use Rattle.shape_buffer.specs.declared.buffer.settings.BufferClusterLevel.{BufferClusterLevel}
-use Rattle.shape_buffer.specs.declared.buffer.settings.BufferClusterLevel.TheVariants.{MonotoneGraphemes, MonotoneCharacters, Characters}
 use Rattle.shape_buffer.specs.BufferClusters.{with_glyph_flags, merge_at, unsafe_to_break, merge_clusters, merge_out_clusters}
 use Rattle.shape_buffer.specs.KeepsFlags.{IsDefinedFlag, has_flag, some_has, has_glyph_flags, KeepsFlags}
-use Rattle.shape_buffer.proofs.ClusterLemmas.{merge_short, merge_long}
+use Rattle.shape_buffer.proofs.Merging.ClusterLemmas.{grown_start, grown_end, merge-cases, unsafe_to_break-cases, merge_clusters-cases, merge_out-cases}
 
 -- the has-flags bit is set
 pub glyph_flags_set : (b : Buffer) → has_glyph_flags (with_glyph_flags b) ≡ true
@@ -84,20 +82,18 @@ range_brings f p q h a b xs some =
       ]
     ]
 
+-- the second of two cases can't be
+pub the_first : (test : Bool) → (test ≡ true) ⊎ (false ≡ true) → test ≡ true
+the_first test (inl there) = there
+the_first test (inr brought) = cc
+
 merge_brings_none : (start end flag : ℕ) → IsDefinedFlag flag → (xs : List Item) → some_has flag (merge start end xs) ≡ true
     → some_has flag xs ≡ true
-merge_brings_none start end flag d xs some =
-    elim (cases_Bool (nat_lt (start + 1) end)) [
-      | inl long ↦ elim (range_brings (put_in (least_cluster (slice_range xs start end))) (has_flag flag) false
-          (λ x h. inl (put_in-flag _ flag d x h))
-          (start - growth_left xs start (least_cluster (slice_range xs start end)))
-          (end + growth_right xs (end - 1) (least_cluster (slice_range xs start end))) xs
-          (ap (some_has flag) (sym (merge_long start end xs long)) ∙ some)) [
-            | inl there ↦ there
-            | inr brought ↦ grind (arith, nat_tests)
-          ]
-      | inr short ↦ ap (some_has flag) (sym (merge_short start end xs short)) ∙ some
-    ]
+merge_brings_none start end flag d xs =
+    let least = least_cluster (slice_range xs start end) in
+    let brings = range_brings (put_in least) (has_flag flag) false (λ x h. inl (put_in-flag least flag d x h)) in
+    merge-cases (λ ys. some_has flag ys ≡ true → some_has flag xs ≡ true) start end xs
+    (λ long some. the_first _ (brings (grown_start start end xs) (grown_end start end xs) xs some)) (λ some. some)
 
 -- a buffer that only has other items, and no new flag on them
 pub KeepsFlags-items : (b : Buffer) (ys : List Item)
@@ -130,31 +126,11 @@ merge_at_keeps start end b = KeepsFlags-items b _ (λ flag d some. merge_brings_
 
 pub unsafe_to_break_keeps : (start end : ℕ) (b : Buffer) → KeepsFlags b (unsafe_to_break start end b)
 unsafe_to_break_keeps start end b =
-    elim (cases_Bool (nat_lt (start + 1) end)) [
-      | inl long ↦ rw long (KeepsFlags-set b _)
-      | inr short ↦ rw short (KeepsFlags-same b)
-    ]
-
-at_level_keeps : (start end : ℕ) (b : Buffer) (level : BufferClusterLevel) → KeepsFlags b (elim level [
-  | MonotoneGraphemes ↦ merge_at start end b
-  | MonotoneCharacters ↦ merge_at start end b
-  | Characters ↦ unsafe_to_break start end b
-])
-at_level_keeps start end b MonotoneGraphemes = merge_at_keeps start end b
-at_level_keeps start end b MonotoneCharacters = merge_at_keeps start end b
-at_level_keeps start end b Characters = unsafe_to_break_keeps start end b
+    unsafe_to_break-cases (KeepsFlags b) start end b (λ long. KeepsFlags-set b _) (KeepsFlags-same b)
 
 pub merge_clusters_keeps : (start end : ℕ) (b : Buffer) → KeepsFlags b (merge_clusters start end b)
-merge_clusters_keeps start end b = at_level_keeps start end b b.cluster_level
-
-at_level_keeps_out : (start end : ℕ) (b : Buffer) (level : BufferClusterLevel) → KeepsFlags b (elim level [
-  | MonotoneGraphemes ↦ merge_at start end b
-  | MonotoneCharacters ↦ merge_at start end b
-  | Characters ↦ b
-])
-at_level_keeps_out start end b MonotoneGraphemes = merge_at_keeps start end b
-at_level_keeps_out start end b MonotoneCharacters = merge_at_keeps start end b
-at_level_keeps_out start end b Characters = KeepsFlags-same b
+merge_clusters_keeps start end b =
+    merge_clusters-cases (KeepsFlags b) start end b (λ monotone. merge_at_keeps start end b) (λ is. unsafe_to_break_keeps start end b)
 
 pub merge_out_clusters_keeps : (start end : ℕ) (b : Buffer) → KeepsFlags b (merge_out_clusters start end b)
-merge_out_clusters_keeps start end b = at_level_keeps_out start end b b.cluster_level
+merge_out_clusters_keeps start end b = merge_out-cases (KeepsFlags b) start end b (merge_at_keeps start end b) (KeepsFlags-same b)

@@ -1,16 +1,15 @@
 -- Each step of preparing keeps the order of clusters, but for the native order, which may turn it.
-use Rattle.std.proofs.Common.{◌≡◌, ℕ, ◌+◌, ◌-◌, ◌<◌, ◌≤◌, ◌==◌, ◌&&◌, ◌||◌, Bool, true, false, not, nat_lt, if◌then◌else◌, List, [], ◌∷◌, ◌++◌, Option, Some, None, length, take, drop, map, fold, reverse, slice_range, refl, sym, ap, ap₂, ◌∙◌, arith, inl, inr, subst, bit_and, bit_or}
+use Rattle.std.proofs.Common.{◌≡◌, ℕ, ◌+◌, ◌-◌, ◌<◌, ◌≤◌, ◌==◌, ◌&&◌, ◌||◌, Bool, true, false, not, List, [], ◌∷◌, Option, Some, None, length, map, fold, reverse, refl, sym, ap, ◌∙◌, arith, inl, inr, subst, bit_and}
 use Rattle.std.proofs.lemmas.Bool.{cases_Bool}
 use Rattle.std.proofs.lemmas.Bool.Decides.{nat_tests}
-use Rattle.std.proofs.lemmas.List.{map-append, take-append-drop, get_or-reverse, length-reverse}
-use Rattle.std.proofs.lemmas.List.Folds.{drop_split}
+use Rattle.std.proofs.lemmas.List.{get_or-reverse, length-reverse}
 use Rattle.std.proofs.lemmas.Nat.{and_or_apart, and_or_self}
 use Rattle.std.specs.Prelude.{Contains}
 use Rattle.std.specs.List.Sorted.{IsNonDecreasing}
 use Rattle.canonical_form.proofs.DividedLemmas.{whole, whole-divided}
 use Rattle.shape_buffer.specs.Buffer.{Buffer}
 use Rattle.shape_buffer.specs.BufferClusters.{merge_clusters, unsafe_to_break}
-use Rattle.shape_buffer.specs.Clusters.{clusters, merge, map_range, mark_break, least_cluster}
+use Rattle.shape_buffer.specs.Clusters.{clusters, merge}
 use Rattle.shape_buffer.specs.ClusterOrder.{IsMonotoneLevel, IsOrderedFor, KeepsClusters}
 use Rattle.shape_buffer.specs.Direction.{is_backward}
 use Rattle.shape_buffer.specs.Face.{FaceMeaning}
@@ -24,11 +23,11 @@ use Rattle.shape_buffer.specs.declared.buffer.flags.ScratchFlags.{ScratchFlags}
 use Rattle.shape_buffer.specs.declared.buffer.settings.BufferClusterLevel.{BufferClusterLevel}
 use Rattle.shape_buffer.specs.declared.buffer.settings.BufferClusterLevel.TheVariants.{MonotoneGraphemes, MonotoneCharacters, Characters}
 use Rattle.shape_buffer.specs.declared.buffer.settings.Direction.{Direction}
-use Rattle.shape_buffer.proofs.DrawsInOrder.{KeepsClusters-from_draws, DrawsInOrder-same, DrawsInOrder-again}
-use Rattle.shape_buffer.proofs.GraphemeOrderLemmas.{AreOneCluster, clusters-turned, falls-turned}
-use Rattle.shape_buffer.proofs.KeeperLemmas.{KeepsClusters-equal, KeepsClusters-then, KeepsOrder-same, KeepsOrder-then, clusters-map}
-use Rattle.shape_buffer.proofs.MergeOrder.{merge_keeps}
-use Rattle.shape_buffer.proofs.JoinLemmas.{length-merge}
+use Rattle.shape_buffer.proofs.Order.DrawsInOrder.{KeepsClusters-from_draws, DrawsInOrder-same, DrawsInOrder-again}
+use Rattle.shape_buffer.proofs.Order.GraphemeOrderLemmas.{AreOneCluster, clusters-turned, falls-turned}
+use Rattle.shape_buffer.proofs.Steps.KeeperLemmas.{KeepsClusters-equal, KeepsClusters-then, KeepsOrder-same, KeepsOrder-then, clusters-map, order-unsafe_to_break}
+use Rattle.shape_buffer.proofs.Merging.MergeOrder.{merge_keeps}
+use Rattle.shape_buffer.proofs.Merging.KeyLemmas.{length-merge}
 use Rattle.shape_plan.specs.declared.decisions.Decisions.{Decisions}
 use Rattle.shape_prepare.specs.Begun.{begun}
 use Rattle.shape_prepare.specs.ClusterPoint.{direction_for, InOrderFor, PreparingKeepsOrder}
@@ -41,10 +40,10 @@ use Rattle.shape_prepare.specs.NativeOrder.{natively_ordered, native_direction, 
 use Rattle.shape_prepare.specs.Rotated.{rotated, rotated_item, in_forms, mirrored_or_masked, form_in}
 use Rattle.shape_prepare.specs.declared.graphemes.Before.{Before}
 use Rattle.shape_prepare.specs.declared.graphemes.Before.TheVariants.{Plain}
-use Rattle.shape_prepare.proofs.GraphemeClusterLemmas.{spans-merged, merged-one_cluster, total-graphemes, NoneContinues, single-one_cluster}
-use Rattle.shape_prepare.proofs.RisingMergeLemmas.{all_merged}
-use Rattle.shape_prepare.proofs.StepLemmas.{clusters_formed-unseen, clusters_formed-merged, merged_to_turn-merged}
-use Rattle.shape_prepare.proofs.TurnLemmas.{total}
+use Rattle.shape_prepare.proofs.Spans.GraphemeClusterLemmas.{spans-merged, merged-one_cluster, total-graphemes, NoneContinues, single-one_cluster}
+use Rattle.shape_prepare.proofs.Spans.RisingMergeLemmas.{all_merged}
+use Rattle.shape_prepare.proofs.StepLemmas.{over_graphemes-kept, clusters_formed-cases, clusters_formed-unseen, clusters_formed-merged, at_level_to_turn, merged_to_turn-cases, merged_to_turn-merged}
+use Rattle.shape_prepare.proofs.Spans.TurnLemmas.{total}
 
 -- ---- masks, properties, the circle
 
@@ -112,57 +111,12 @@ merged-keeps_order b monotone = rw (spans-merged (grapheme_spans b.items) b mono
   level = refl;
 })
 
-clusters-map_range : (f : Item → Item) → ((item : Item) → (f item).cluster ≡ item.cluster) → (from to : ℕ) (xs : List Item) → from ≤ to
-    → clusters (map_range f from to xs) ≡ clusters xs
-clusters-map_range f same from to xs le =
-    let key = λ (item : Item). item.cluster in
-    map-append key (take from xs) (map f (slice_range xs from to) ++ drop to xs)
-    ∙ ap (λ (l : List ℕ). map key (take from xs) ++ l) (map-append key (map f (slice_range xs from to)) (drop to xs)
-    ∙ ap (λ (l : List ℕ). l ++ map key (drop to xs)) (clusters-map f same (slice_range xs from to))
-    ∙ sym (map-append key (slice_range xs from to) (drop to xs)) ∙ ap (map key) (sym (drop_split xs from to le)))
-    ∙ sym (map-append key (take from xs) (drop from xs)) ∙ ap (map key) (take-append-drop from xs)
-
-mark_break-cluster : (least : ℕ) (item : Item) → (mark_break least item).cluster ≡ item.cluster
-mark_break-cluster least item =
-    elim (item.cluster == least) as (λ t. (if t then item else record item { mask = bit_or item.mask 3 }).cluster
-    ≡ item.cluster) [ true ↦ refl | false ↦ refl ]
-
-unsafe_to_break-keeps_order : (start end : ℕ) (b : Buffer) → KeepsOrder b (unsafe_to_break start end b)
-unsafe_to_break-keeps_order start end b =
-    elim (cases_Bool (nat_lt (start + 1) end)) [
-      | inl long ↦
-          let lt : start + 1 < end = grind (arith, nat_tests) in
-          rw long (record {
-            clusters = KeepsClusters-equal (clusters b.items) _ (clusters-map_range
-                (mark_break (least_cluster (slice_range b.items start end)))
-                (mark_break-cluster (least_cluster (slice_range b.items start end))) start end b.items (omega arith));
-            direction = refl;
-            flags = refl;
-            level = refl;
-          })
-      | inr short ↦ rw short (KeepsOrder-same b)
-    ]
-
-fold-keeps_order : (f : ℕ → ℕ → Buffer → Buffer) → ((start end : ℕ) (b : Buffer) → KeepsOrder b (f start end b))
-    → (spans : List (ℕ × ℕ)) (b : Buffer) → KeepsOrder b (fold (λ b span. f span.0 span.1 b) b spans)
-fold-keeps_order f keeps [] b = KeepsOrder-same b
-fold-keeps_order f keeps (span ∷ spans) b =
-    let next = f span.0 span.1 b in
-    KeepsOrder-then b next (fold (λ b span. f span.0 span.1 b) next spans) (keeps span.0 span.1 b) (fold-keeps_order f keeps spans next)
-
-formed_at-keeps_order : (b : Buffer) (level : BufferClusterLevel) → b.cluster_level ≡ level → IsMonotoneLevel level
-    → KeepsOrder b (elim level as (λ v. Buffer) [ MonotoneGraphemes ↦ over_graphemes merge_clusters b | MonotoneCharacters ↦ over_graphemes unsafe_to_break b | Characters ↦ over_graphemes unsafe_to_break b ])
-formed_at-keeps_order b MonotoneGraphemes is monotone = merged-keeps_order b (subst IsMonotoneLevel (sym is) monotone)
-formed_at-keeps_order b MonotoneCharacters is monotone =
-    fold-keeps_order unsafe_to_break unsafe_to_break-keeps_order (grapheme_spans b.items) b
-formed_at-keeps_order b Characters is monotone = absurd monotone
-
 pub clusters_formed-keeps_order : IsClusterKeeper clusters_formed
-unfolding clusters_formed
-clusters_formed-keeps_order b monotone = elim (cases_Bool (bit_and b.scratch_flags.0 1 == 1)) [
-  | inl on ↦ rw on (formed_at-keeps_order b b.cluster_level refl monotone)
-  | inr off ↦ rw off (KeepsOrder-same b)
-]
+clusters_formed-keeps_order b monotone =
+    let marks = λ (start end : ℕ) (c : Buffer) (so_far : KeepsOrder b c).
+    KeepsOrder-then b c _ so_far (order-unsafe_to_break start end c) in
+    clusters_formed-cases (KeepsOrder b) b (merged-keeps_order b monotone)
+    (over_graphemes-kept (KeepsOrder b) unsafe_to_break marks b (KeepsOrder-same b)) (KeepsOrder-same b)
 
 -- ---- rotation
 
@@ -306,19 +260,15 @@ pub record IsReadyToTurn (b : Buffer) : Type 0 where
 to_turn-one : (b : Buffer) (level : BufferClusterLevel) → b.cluster_level ≡ level → IsReadyToTurn b
     → AreOneCluster (graphemes (merged_to_turn b).items)
 to_turn-one b MonotoneGraphemes is ready =
-    subst (λ (c : Buffer). AreOneCluster (graphemes c.items)) (sym
-    (ap (λ l. elim l as (λ v. Buffer) [ MonotoneGraphemes ↦ b | MonotoneCharacters ↦ over_graphemes merge_clusters b | Characters ↦ b ]) is)) (ready.one is)
+    subst (λ (c : Buffer). AreOneCluster (graphemes c.items)) (sym (ap (at_level_to_turn b) is)) (ready.one is)
 to_turn-one b MonotoneCharacters is ready =
     subst (λ (c : Buffer). AreOneCluster (graphemes c.items))
     (sym (merged_to_turn-merged b is ∙ spans-merged (grapheme_spans b.items) b ready.monotone))
     (merged-one_cluster b.items ready.rising)
 to_turn-one b Characters is ready = absurd (subst IsMonotoneLevel is ready.monotone)
 
-to_turn-keeps_order : (b : Buffer) (level : BufferClusterLevel) → IsMonotoneLevel b.cluster_level
-    → KeepsOrder b (elim level as (λ v. Buffer) [ MonotoneGraphemes ↦ b | MonotoneCharacters ↦ over_graphemes merge_clusters b | Characters ↦ b ])
-to_turn-keeps_order b MonotoneGraphemes monotone = KeepsOrder-same b
-to_turn-keeps_order b MonotoneCharacters monotone = merged-keeps_order b monotone
-to_turn-keeps_order b Characters monotone = KeepsOrder-same b
+to_turn-keeps_order : IsClusterKeeper merged_to_turn
+to_turn-keeps_order b monotone = merged_to_turn-cases (KeepsOrder b) b (KeepsOrder-same b) (merged-keeps_order b monotone)
 
 in_order-behind : (turned : Bool) (a b c : Buffer) → KeepsOrder a b → InOrderFor turned b c → InOrderFor turned a c
 in_order-behind turned a b c first last = record {
@@ -348,7 +298,7 @@ unfolding natively_ordered
 natively-in_order unicode b ready = elim (cases_Bool (is_against (native_direction unicode b) b.direction)) [
   | inl on ↦ rw on (
       let merged = merged_to_turn b in
-      let keeps : KeepsOrder b merged = to_turn-keeps_order b b.cluster_level ready.monotone in
+      let keeps : KeepsOrder b merged = to_turn-keeps_order b ready.monotone in
       in_order-behind true b merged (turned merged) keeps
       (turned-in_order merged (to_turn-one b b.cluster_level refl ready) (keeps.clusters.rising ready.rising))
       )

@@ -1,24 +1,24 @@
 -- Deletion keeps the order of clusters and the flags of glyphs, and brings no new cluster.
-use Rattle.std.proofs.Common.{◌≡◌, ℕ, ◌+◌, ◌-◌, ◌<◌, ◌≤◌, Bool, true, cond, nat_lt, List, [], ◌∷◌, ◌++◌, length, get_or, take, drop, map, refl, ap, sym, ◌∙◌, arith, suc, zero, replicate, slice_range, slice_index, inl, inr, ◌⊎◌, remove, add-zero, bit_and}
+use Rattle.std.proofs.Common.{◌≡◌, ℕ, ◌+◌, ◌-◌, ◌<◌, ◌≤◌, Bool, true, cond, nat_lt, List, [], ◌∷◌, length, get_or, take, drop, map, refl, ap, sym, ◌∙◌, arith, suc, replicate, slice_index, inl, inr, ◌⊎◌, remove, add-zero, bit_and}
 use Rattle.std.proofs.lemmas.Bool.{cases_Bool}
 use Rattle.std.proofs.lemmas.Bool.Decides.{nat_tests}
-use Rattle.std.proofs.lemmas.List.{map-append, take-map, drop-map, length-map, length-drop, get_or-drop, drop-drop, take-append-drop, take_all, drop_all, append-nil}
+use Rattle.std.proofs.lemmas.List.{map-append, take-map, drop-map, length-map, length-drop, get_or-drop, take_all, drop_all, append-nil}
 use Rattle.std.proofs.lemmas.List.Edits.{length-remove, get_or-remove_below, get_or-remove_above}
 use Rattle.std.specs.List.{suffix_len}
 use Rattle.shape_buffer.specs.Items.{Item, has_cluster, feature_bits}
-use Rattle.shape_buffer.specs.Clusters.{clusters, map_range, put_range, mark_break, least_cluster}
+use Rattle.shape_buffer.specs.Clusters.{clusters, map_range, put_range}
 use Rattle.shape_buffer.specs.Buffer.{Buffer}
-use Rattle.shape_buffer.specs.BufferClusters.{merge_at, unsafe_to_break, merge_clusters, merge_out_clusters}
+use Rattle.shape_buffer.specs.BufferClusters.{unsafe_to_break, merge_clusters, merge_out_clusters}
 use Rattle.shape_buffer.specs.KeepsFlags.{IsDefinedFlag, has_flag, some_has, KeepsFlags}
-use Rattle.shape_buffer.specs.declared.buffer.settings.BufferClusterLevel.{BufferClusterLevel}
-use Rattle.shape_buffer.specs.declared.buffer.settings.BufferClusterLevel.TheVariants.{MonotoneGraphemes, MonotoneCharacters, Characters}
-use Rattle.shape_buffer.proofs.FlagLemmas.{no_flag, defined_flag, take_in, drop_in, append-cases, range_brings, merge_clusters_keeps, merge_out_clusters_keeps, KeepsFlags-same, KeepsFlags-then, KeepsFlags-items}
+use Rattle.shape_buffer.proofs.Merging.ClusterLemmas.{merge_clusters-cases, merge_out-cases}
+use Rattle.shape_buffer.proofs.Merging.KeyLemmas.{keys-unsafe_to_break}
+use Rattle.shape_buffer.proofs.Flags.FlagLemmas.{no_flag, defined_flag, take_in, drop_in, append-cases, range_brings, merge_clusters_keeps, merge_out_clusters_keeps, KeepsFlags-same, KeepsFlags-then, KeepsFlags-items}
 use Rattle.std.proofs.lemmas.Nat.{and_assoc, and_or_apart, or_comm}
 use Rattle.shape_buffer.specs.ClusterOrder.{KeepsClusters}
-use Rattle.shape_buffer.specs.Delete.{give_to_kept, hand_on, hand_over, begins_in, lose, visit, delete_from, deleted}
-use Rattle.shape_buffer.proofs.DrawsInOrder.{DrawsInOrder, DrawsInOrder-same, DrawsInOrder-then, KeepsClusters-from_draws}
-use Rattle.shape_buffer.proofs.MergeOrder.{clusters-put_range, put_range_draws, merge_draws}
-use Rattle.shape_buffer.proofs.DeleteLemmas.{delete_from-suc, delete_from-zero, visit_kept, visit_lost}
+use Rattle.shape_buffer.specs.Delete.{give_to_kept, hand_on, hand_over, lose, deleted}
+use Rattle.shape_buffer.proofs.Order.DrawsInOrder.{DrawsInOrder, DrawsInOrder-same, DrawsInOrder-then, KeepsClusters-from_draws}
+use Rattle.shape_buffer.proofs.Merging.MergeOrder.{clusters-put_range, put_range_draws, merge_draws}
+use Rattle.shape_buffer.proofs.Deletion.DeleteLemmas.{hand_on-cases, IsKeptByLoss, kept_by_deletion}
 
 clusters-hand_over : (picked : Item) (xs : List Item) → clusters (map (hand_over picked) xs) ≡ replicate (length xs) picked.cluster
 clusters-hand_over picked [] = refl
@@ -60,68 +60,22 @@ give_draws k x rest xs e =
 unfoldable pub Draws : Buffer → Buffer → Type 0
 Draws b c = DrawsInOrder (clusters b.items) (clusters c.items)
 
-mark_break-cluster : (least : ℕ) (x : Item) → (mark_break least x).cluster ≡ x.cluster
-mark_break-cluster least x = grind (arith, nat_tests)
-
-clusters-same : (f : Item → Item) → ((x : Item) → (f x).cluster ≡ x.cluster) → (xs : List Item) → clusters (map f xs) ≡ clusters xs
-clusters-same f h [] = refl
-clusters-same f h (x ∷ xs) = ap (λ c. c ∷ clusters (map f xs)) (h x) ∙ ap (λ cs. x.cluster ∷ cs) (clusters-same f h xs)
-
-range_whole : (a b : ℕ) (xs : List Item) → a ≤ b → take a xs ++ (slice_range xs a b ++ drop b xs) ≡ xs
-range_whole a b xs le =
-    let sum : a + (b - a) ≡ b = omega arith in
-    let rest : drop (b - a) (drop a xs) ≡ drop b xs = drop-drop (b - a) a xs ∙ ap (λ n. drop n xs) sum in
-    ap (λ z. take a xs ++ (slice_range xs a b ++ z)) (sym rest)
-    ∙ ap (λ z. take a xs ++ z) (take-append-drop (b - a) (drop a xs)) ∙ take-append-drop a xs
-
-clusters-parts : (xs ys zs : List Item) → clusters (xs ++ (ys ++ zs)) ≡ clusters xs ++ (clusters ys ++ clusters zs)
-clusters-parts xs ys zs = simp (map-append)
-
-clusters-map_range : (f : Item → Item) → ((x : Item) → (f x).cluster ≡ x.cluster) → (a b : ℕ) (xs : List Item) → a ≤ b
-    → clusters (map_range f a b xs) ≡ clusters xs
-clusters-map_range f h a b xs le =
-    clusters-parts (take a xs) (map f (slice_range xs a b)) (drop b xs)
-    ∙ ap (λ z. clusters (take a xs) ++ (z ++ clusters (drop b xs))) (clusters-same f h (slice_range xs a b))
-    ∙ sym (clusters-parts (take a xs) (slice_range xs a b) (drop b xs))
-    ∙ ap clusters (range_whole a b xs le)
-
 draws_equal : (xs ys : List Item) → clusters ys ≡ clusters xs → DrawsInOrder (clusters xs) (clusters ys)
 draws_equal xs ys e = rw e (DrawsInOrder-same (clusters xs))
 
-pub unsafe_to_break_draws : (start end : ℕ) (b : Buffer) → start ≤ end → Draws b (unsafe_to_break start end b)
+pub unsafe_to_break_draws : (start end : ℕ) (b : Buffer) → Draws b (unsafe_to_break start end b)
 unfolding Draws
-unsafe_to_break_draws start end b le =
-    elim (cases_Bool (nat_lt (start + 1) end)) [
-      | inl long ↦ rw long (draws_equal b.items _ (clusters-map_range (mark_break (least_cluster (slice_range b.items start end)))
-          (mark_break-cluster _) start end b.items le))
-      | inr short ↦ rw short (DrawsInOrder-same (clusters b.items))
-    ]
+unsafe_to_break_draws start end b = draws_equal b.items _ (keys-unsafe_to_break (λ item. item.cluster) (λ item. refl) start end b)
 
-at_level_draws : (start end : ℕ) (b : Buffer) (level : BufferClusterLevel) → start ≤ end → end ≤ length b.items → Draws b (elim level [
-  | MonotoneGraphemes ↦ merge_at start end b
-  | MonotoneCharacters ↦ merge_at start end b
-  | Characters ↦ unsafe_to_break start end b
-])
+pub merge_clusters_draws : (start end : ℕ) (b : Buffer) → end ≤ length b.items → Draws b (merge_clusters start end b)
 unfolding Draws
-at_level_draws start end b MonotoneGraphemes le within = merge_draws start end b.items within
-at_level_draws start end b MonotoneCharacters le within = merge_draws start end b.items within
-at_level_draws start end b Characters le within = unsafe_to_break_draws start end b le
-
-pub merge_clusters_draws : (start end : ℕ) (b : Buffer) → start ≤ end → end ≤ length b.items → Draws b (merge_clusters start end b)
-merge_clusters_draws start end b le within = at_level_draws start end b b.cluster_level le within
-
-at_level_draws_out : (start end : ℕ) (b : Buffer) (level : BufferClusterLevel) → end ≤ length b.items → Draws b (elim level [
-  | MonotoneGraphemes ↦ merge_at start end b
-  | MonotoneCharacters ↦ merge_at start end b
-  | Characters ↦ b
-])
-unfolding Draws
-at_level_draws_out start end b MonotoneGraphemes within = merge_draws start end b.items within
-at_level_draws_out start end b MonotoneCharacters within = merge_draws start end b.items within
-at_level_draws_out start end b Characters within = DrawsInOrder-same (clusters b.items)
+merge_clusters_draws start end b within =
+    merge_clusters-cases (Draws b) start end b (λ monotone. merge_draws start end b.items within) (λ is. unsafe_to_break_draws start end b)
 
 pub merge_out_clusters_draws : (start end : ℕ) (b : Buffer) → end ≤ length b.items → Draws b (merge_out_clusters start end b)
-merge_out_clusters_draws start end b within = at_level_draws_out start end b b.cluster_level within
+unfolding Draws
+merge_out_clusters_draws start end b within =
+    merge_out-cases (Draws b) start end b (merge_draws start end b.items within) (DrawsInOrder-same (clusters b.items))
 
 -- what is drawn in order keeps clusters
 pub draws_keeps : (b c : Buffer) → Draws b c → KeepsClusters (clusters b.items) (clusters c.items)
@@ -131,17 +85,8 @@ draws_keeps b c h = KeepsClusters-from_draws _ _ h
 hand_on_draws : (k : ℕ) (x : Item) (rest : List Item) (b : Buffer) → drop k b.items ≡ x ∷ rest → Draws b (hand_on k x rest b)
 unfolding Draws
 hand_on_draws k x rest b e =
-    elim (cases_Bool (begins_in x.cluster rest)) [
-      | inl holds ↦ rw holds (DrawsInOrder-same (clusters b.items))
-      | inr fails ↦ elim (cases_Bool (nat_lt 0 k)) [
-        | inl some ↦ rw (fails, some) (give_draws k x rest b.items e)
-        | inr none ↦ elim (cases_Bool (nat_lt 0 (length rest))) [
-          | inl more ↦ let two : 2 ≤ length b.items = at_least_two k b.items rest x e (grind (arith, nat_tests)) in rw (fails, none, more)
-              (merge_clusters_draws 0 2 b (omega arith) two)
-          | inr last ↦ rw (fails, none, last) (DrawsInOrder-same (clusters b.items))
-        ]
-      ]
-    ]
+    hand_on-cases (Draws b) k x rest b (DrawsInOrder-same (clusters b.items)) (give_draws k x rest b.items e)
+    (λ more. merge_clusters_draws 0 2 b (at_least_two k b.items rest x e more))
 
 -- where the cluster at place j comes from, when place k goes
 past : ℕ → ℕ → ℕ
@@ -239,16 +184,7 @@ give_keeps k x rest b e =
 
 hand_on_keeps : (k : ℕ) (x : Item) (rest : List Item) (b : Buffer) → drop k b.items ≡ x ∷ rest → KeepsFlags b (hand_on k x rest b)
 hand_on_keeps k x rest b e =
-    elim (cases_Bool (begins_in x.cluster rest)) [
-      | inl holds ↦ rw holds (KeepsFlags-same b)
-      | inr fails ↦ elim (cases_Bool (nat_lt 0 k)) [
-        | inl some ↦ rw (fails, some) (give_keeps k x rest b e)
-        | inr none ↦ elim (cases_Bool (nat_lt 0 (length rest))) [
-          | inl more ↦ rw (fails, none, more) (merge_clusters_keeps 0 2 b)
-          | inr last ↦ rw (fails, none, last) (KeepsFlags-same b)
-        ]
-      ]
-    ]
+    hand_on-cases (KeepsFlags b) k x rest b (KeepsFlags-same b) (give_keeps k x rest b e) (λ more. merge_clusters_keeps 0 2 b)
 
 lose_keeps : (k : ℕ) (b : Buffer) → KeepsFlags b (lose k b)
 lose_keeps k b = record {
@@ -260,40 +196,28 @@ lose_keeps k b = record {
   ];
 }
 
-visit_keeps : (p : Item → Bool) (k : ℕ) (next : ℕ → Buffer → Buffer) (b : Buffer) (ys : List Item) → drop k b.items ≡ ys
-    → ((j : ℕ) (c : Buffer) → Draws c (next j c) × KeepsFlags c (next j c))
-    → Draws b (visit p k next b ys) × KeepsFlags b (visit p k next b ys)
-visit_keeps p k next b [] e later = (Draws-same b, KeepsFlags-same b)
-visit_keeps p k next b (x ∷ rest) e later =
-    elim (cases_Bool (p x)) [
-      | inl picked ↦
-          let c = hand_on k x rest b in
-          let rest_of = later k (lose k c) in
-          rw (visit_lost p k next b x rest picked) (
-            Draws-then _ _ _ (Draws-then _ _ _ (hand_on_draws k x rest b e) (lose_draws_buffer k c)) rest_of.0,
-            KeepsFlags-then _ _ _ (KeepsFlags-then _ _ _ (hand_on_keeps k x rest b e) (lose_keeps k c)) rest_of.1,
-          )
-      | inr stays ↦ rw (visit_kept p k next b x rest stays) (later (k + 1) b)
-    ]
-
-delete_keeps : (p : Item → Bool) (n k : ℕ) (b : Buffer) → Draws b (delete_from p n k b) × KeepsFlags b (delete_from p n k b)
-delete_keeps p zero k b = rw (delete_from-zero p k b) (Draws-same b, KeepsFlags-same b)
-delete_keeps p (suc n) k b =
-    rw (delete_from-suc p n k b) (visit_keeps p k (delete_from p n) b (drop k b.items) refl (λ j c. delete_keeps p n j c))
+delete_keeps : (p : Item → Bool) (b : Buffer) → Draws b (deleted p b) × KeepsFlags b (deleted p b)
+delete_keeps p b =
+    let loses : IsKeptByLoss (λ c. Draws b c × KeepsFlags b c) = λ k x rest c e so_far.
+    (let handed = hand_on k x rest c in (
+      Draws-then b c _ so_far.0 (Draws-then c handed _ (hand_on_draws k x rest c e) (lose_draws_buffer k handed)),
+      KeepsFlags-then b c _ so_far.1 (KeepsFlags-then c handed _ (hand_on_keeps k x rest c e) (lose_keeps k handed)),
+    )) in
+    kept_by_deletion (λ c. Draws b c × KeepsFlags b c) loses p (length b.items) 0 b (Draws-same b, KeepsFlags-same b)
 
 -- deletion keeps the order of clusters, and brings no new one
 pub deleted_keeps_clusters : (p : Item → Bool) (b : Buffer) → KeepsClusters (clusters b.items) (clusters ((deleted p b).items))
-deleted_keeps_clusters p b = draws_keeps b (deleted p b) ((delete_keeps p (length b.items) 0 b).0)
+deleted_keeps_clusters p b = draws_keeps b (deleted p b) (delete_keeps p b).0
 
 -- and it keeps the flags of glyphs
 pub deleted_keeps_flags : (p : Item → Bool) (b : Buffer) → KeepsFlags b (deleted p b)
-deleted_keeps_flags p b = (delete_keeps p (length b.items) 0 b).1
+deleted_keeps_flags p b = (delete_keeps p b).1
 
 -- the same of a buffer that equals what a call leaves
-pub merged_keeps : (start end : ℕ) (b c : Buffer) → start ≤ end → end ≤ length b.items → c ≡ merge_clusters start end b
+pub merged_keeps : (start end : ℕ) (b c : Buffer) → end ≤ length b.items → c ≡ merge_clusters start end b
     → KeepsClusters (clusters b.items) (clusters c.items) × KeepsFlags b c
-merged_keeps start end b c le within e =
-    rw e (draws_keeps b _ (merge_clusters_draws start end b le within), merge_clusters_keeps start end b)
+merged_keeps start end b c within e =
+    rw e (draws_keeps b _ (merge_clusters_draws start end b within), merge_clusters_keeps start end b)
 
 pub merged_out_keeps : (start end : ℕ) (b c : Buffer) → end ≤ length b.items → c ≡ merge_out_clusters start end b
     → KeepsClusters (clusters b.items) (clusters c.items) × KeepsFlags b c

@@ -1,29 +1,24 @@
 -- A text is prepared by its properties, and stays so.
-use Rattle.std.proofs.Common.{◌≡◌, ℕ, ◌<◌, ◌==◌, ◌&&◌, Bool, true, false, if◌then◌else◌, List, [], ◌∷◌, ◌++◌, map, fold, Option, None, Some, is_some, unwrap_or, refl, sym, ap, ◌∙◌, subst, arith, inl, inr, bit_and}
-use Rattle.std.proofs.lemmas.Bool.{cases_Bool, cases_eq, cond-true, both_ways, and_from, and_right}
-use Rattle.std.proofs.lemmas.Bool.Decides.{nat_tests}
+use Rattle.std.proofs.Common.{◌≡◌, ℕ, ◌&&◌, Bool, true, false, if◌then◌else◌, List, [], ◌∷◌, ◌++◌, map, Option, None, Some, is_some, unwrap_or, refl, sym, ◌∙◌, subst, inl, inr}
+use Rattle.std.proofs.lemmas.Bool.{cases_Bool}
 use Rattle.std.proofs.lemmas.List.Elements.{All-from_recursion, recursion_from_All}
-use Rattle.std.specs.List.{AllByRecursion}
 use Rattle.canonical_form.proofs.DividedLemmas.{whole, whole-divided}
 use Rattle.shape_buffer.specs.Buffer.{Buffer}
 use Rattle.shape_buffer.specs.BufferClusters.{merge_clusters, unsafe_to_break}
-use Rattle.shape_buffer.specs.Category.{is_mark_category}
 use Rattle.shape_buffer.specs.Direction.{is_backward}
 use Rattle.shape_buffer.specs.Face.{FaceMeaning}
 use Rattle.shape_buffer.specs.Items.{Item}
 use Rattle.shape_buffer.specs.Prepared.{IsPreparedItem}
-use Rattle.shape_buffer.specs.Unicode.{UnicodeMeaning, LawfulUnicode, FormsArePlain, is_mark}
-use Rattle.shape_buffer.specs.UnicodeProps.{with_unicode_props, beyond_ascii}
+use Rattle.shape_buffer.specs.Unicode.{UnicodeMeaning, LawfulUnicode, FormsArePlain}
+use Rattle.shape_buffer.specs.UnicodeProps.{with_unicode_props}
 use Rattle.shape_buffer.specs.Walks.{items_mapped}
-use Rattle.shape_buffer.specs.declared.buffer.general_category.hb_unicode_general_category_t.{hb_unicode_general_category_t}
-use Rattle.shape_buffer.specs.declared.buffer.settings.BufferClusterLevel.{BufferClusterLevel}
-use Rattle.shape_buffer.specs.declared.buffer.settings.BufferClusterLevel.TheVariants.{MonotoneGraphemes, MonotoneCharacters, Characters}
 use Rattle.shape_buffer.specs.declared.buffer.settings.Direction.{Direction}
-use Rattle.shape_buffer.proofs.KeyLemmas.{IsKey, keys-merge_clusters, keys-unsafe_to_break}
+use Rattle.shape_buffer.proofs.Merging.KeyLemmas.{keys-merge_clusters, keys-unsafe_to_break}
+use Rattle.shape_buffer.proofs.PreparedLemmas.{ArePrepared, unmarked_ccc, ccc_with_props, prepared_key, IsKey-prepared_key, prepared_by_keys}
 use Rattle.shape_plan.specs.Run.{hook_if}
 use Rattle.shape_plan.specs.declared.decisions.Decisions.{Decisions}
 use Rattle.shape_prepare.specs.Begun.{begun}
-use Rattle.shape_prepare.specs.ClustersFormed.{clusters_formed, over_graphemes, grapheme_spans}
+use Rattle.shape_prepare.specs.ClustersFormed.{clusters_formed, over_graphemes}
 use Rattle.shape_prepare.specs.DottedCircle.{dotted_circled, with_circle, takes_circle, begins_with_mark}
 use Rattle.shape_prepare.specs.Graphemes.{graphemes, graphemes_marked, continuations_marked, is_continuation, is_to_next}
 use Rattle.shape_prepare.specs.NativeOrder.{natively_ordered, native_direction, is_against, merged_to_turn, from_last}
@@ -31,43 +26,9 @@ use Rattle.shape_prepare.specs.PreparedPoint.{KeepsPrepared, PreparingPrepares}
 use Rattle.shape_prepare.specs.Rotated.{rotated, rotated_item, in_forms, mirrored_or_masked, mirrored_item, form_in}
 use Rattle.shape_prepare.specs.declared.graphemes.Before.{Before}
 use Rattle.shape_prepare.specs.declared.graphemes.Before.TheVariants.{Plain}
-use Rattle.shape_prepare.proofs.FlagKeeperLemmas.{from_last-first}
+use Rattle.shape_prepare.proofs.Keeping.FlagKeeperLemmas.{from_last-first}
+use Rattle.shape_prepare.proofs.StepLemmas.{over_graphemes-kept, clusters_formed-cases, merged_to_turn-cases}
 use Rattle.shape_plan.proofs.KeeperLemmas.{keeper-hook}
-
--- the same by recursion on the list
-abbrev ArePrepared : UnicodeMeaning → List Item → Type 0
-ArePrepared unicode items = AllByRecursion (IsPreparedItem unicode) items
-
--- what being prepared goes by
-abbrev Key : Type 0
-Key = ℕ × (ℕ × hb_unicode_general_category_t)
-
-abbrev key_of : Item → Key
-key_of item = (item.codepoint, (item.properties.modified_ccc, item.properties.general_category))
-
-IsKey-key_of : IsKey key_of
-IsKey-key_of = record { by_cluster = λ item cluster. refl; by_break = λ item. refl }
-
-record IsPreparedKey (unicode : UnicodeMeaning) (key : Key) : Type 0 where
-  pub mark : is_mark_category key.1.1 ≡ is_mark unicode key.0
-  pub ccc : key.1.0 ≡ unicode.ccc key.0
-
-to_keys : (unicode : UnicodeMeaning) (xs : List Item) → ArePrepared unicode xs → AllByRecursion (IsPreparedKey unicode) (map key_of xs)
-to_keys unicode [] all = tt
-to_keys unicode (x ∷ xs) all = (record { mark = all.0.mark; ccc = all.0.ccc }, to_keys unicode xs all.1)
-
-from_keys : (unicode : UnicodeMeaning) (xs : List Item) → AllByRecursion (IsPreparedKey unicode) (map key_of xs) → ArePrepared unicode xs
-from_keys unicode [] all = tt
-from_keys unicode (x ∷ xs) all = (record { mark = all.0.mark; ccc = all.0.ccc }, from_keys unicode xs all.1)
-
-same_keys : (unicode : UnicodeMeaning) (xs ys : List Item) → map key_of ys ≡ map key_of xs → ArePrepared unicode xs → ArePrepared unicode ys
-same_keys unicode xs ys same all = from_keys unicode ys (subst (AllByRecursion (IsPreparedKey unicode)) (sym same) (to_keys unicode xs all))
-
-keys-fold : (f : ℕ → ℕ → Buffer → Buffer) → ((start end : ℕ) (b : Buffer) → map key_of (f start end b).items ≡ map key_of b.items)
-    → (spans : List (ℕ × ℕ)) (b : Buffer)
-    → map key_of (fold (λ b span. f span.0 span.1 b) b spans).items ≡ map key_of b.items
-keys-fold f same [] b = refl
-keys-fold f same (span ∷ spans) b = keys-fold f same spans (f span.0 span.1 b) ∙ same span.0 span.1 b
 
 append-prepared : (unicode : UnicodeMeaning) (xs ys : List Item) → ArePrepared unicode xs → ArePrepared unicode ys
     → ArePrepared unicode (xs ++ ys)
@@ -91,41 +52,18 @@ from_last-prepared unicode (part ∷ parts) all =
     (left-prepared unicode part (whole parts) all))
 
 module _ (unicode : UnicodeMeaning) (lawful : LawfulUnicode unicode) where
-  beyond : (c : ℕ) → is_mark unicode c ≡ true → beyond_ascii c ≡ true
-  beyond c mark =
-      elim (cases_Bool (beyond_ascii c)) [
-        | inl past ↦ past
-        | inr low ↦ let below : c < 128 = grind (arith, nat_tests) in absurd (both_ways _ (lawful.ascii_is_no_mark c below) mark)
-      ]
-
-  unmarked_ccc : (c : ℕ) → is_mark unicode c ≡ false → unicode.ccc c ≡ 0
-  unmarked_ccc c no_mark =
-      elim (cases_eq (unicode.ccc c) 0) [
-        | inl none ↦ none
-        | inr some ↦ absurd (both_ways _ no_mark (lawful.marks_have_ccc c some))
-      ]
-
-  ccc_with_props : (c : ℕ) → (if beyond_ascii c && is_mark unicode c then unicode.ccc c else 0) ≡ unicode.ccc c
-  ccc_with_props c =
-      elim (cases_Bool (is_mark unicode c)) [
-        | inl mark ↦ cond-true _ (unicode.ccc c) 0 (and_from _ _ (beyond c mark) mark)
-        | inr no_mark ↦ ap (λ t. if t then unicode.ccc c else 0)
-            (ap (λ t. beyond_ascii c && t) no_mark ∙ and_right (beyond_ascii c) false refl) ∙ sym (unmarked_ccc c no_mark)
-      ]
-
   marked-prepared : (items : List Item) (before : Before)
       → ArePrepared unicode (continuations_marked unicode before (map (with_unicode_props unicode) items))
   marked-prepared [] before = tt
   marked-prepared (item ∷ items) before = (
-    record { mark = refl; ccc = ccc_with_props item.codepoint },
-    marked-prepared items
-        (is_to_next unicode before (with_unicode_props unicode item)),
+    record { mark = refl; ccc = ccc_with_props unicode lawful item.codepoint },
+    marked-prepared items (is_to_next unicode before (with_unicode_props unicode item)),
   )
 
   with_circle-prepared : (b : Buffer) (items : List Item) → ArePrepared unicode b.items
       → ArePrepared unicode (with_circle unicode items b).items
   with_circle-prepared b [] all = all
-  with_circle-prepared b (first ∷ rest) all = (record { mark = refl; ccc = ccc_with_props 0x25CC }, all)
+  with_circle-prepared b (first ∷ rest) all = (record { mark = refl; ccc = ccc_with_props unicode lawful 0x25CC }, all)
 
   circled-prepared : (face : FaceMeaning) (b : Buffer) → ArePrepared unicode b.items
       → ArePrepared unicode (dotted_circled unicode face b).items
@@ -142,7 +80,8 @@ module _ (unicode : UnicodeMeaning) (lawful : LawfulUnicode unicode) where
       let both = plain item.codepoint d is in
       record {
         mark = prepared.mark ∙ both.0.no_mark ∙ sym both.1.no_mark;
-        ccc = prepared.ccc ∙ unmarked_ccc item.codepoint both.0.no_mark ∙ sym (unmarked_ccc d both.1.no_mark);
+        ccc = prepared.ccc ∙ unmarked_ccc unicode lawful item.codepoint both.0.no_mark
+            ∙ sym (unmarked_ccc unicode lawful d both.1.no_mark);
       }
 
   mirrored-prepared : (face : FaceMeaning) (mask : ℕ) (item : Item) → IsPreparedItem unicode item → (answer : Option ℕ)
@@ -188,28 +127,24 @@ module _ (unicode : UnicodeMeaning) (lawful : LawfulUnicode unicode) where
       (λ item prepared. forms-prepared face decisions.rtlm_mask item prepared (is_backward target) _) b.items all
 
 over-prepared : (unicode : UnicodeMeaning) (f : ℕ → ℕ → Buffer → Buffer)
-    → ((start end : ℕ) (b : Buffer) → map key_of (f start end b).items ≡ map key_of b.items) → (b : Buffer) → ArePrepared unicode b.items
-    → ArePrepared unicode (over_graphemes f b).items
-over-prepared unicode f same b all = same_keys unicode b.items (over_graphemes f b).items (keys-fold f same (grapheme_spans b.items) b) all
+    → ((start end : ℕ) (b : Buffer) → map prepared_key (f start end b).items ≡ map prepared_key b.items)
+    → (b : Buffer) → ArePrepared unicode b.items → ArePrepared unicode (over_graphemes f b).items
+over-prepared unicode f same b all =
+    let kept = over_graphemes-kept (λ c. map prepared_key c.items ≡ map prepared_key b.items) f
+    (λ start end c so_far. same start end c ∙ so_far) b refl in
+    prepared_by_keys unicode b.items (over_graphemes f b).items kept all
+
+merged-prepared : (unicode : UnicodeMeaning) (b : Buffer) → ArePrepared unicode b.items
+    → ArePrepared unicode (over_graphemes merge_clusters b).items
+merged-prepared unicode = over-prepared unicode merge_clusters (keys-merge_clusters prepared_key IsKey-prepared_key)
 
 formed-prepared : (unicode : UnicodeMeaning) (b : Buffer) → ArePrepared unicode b.items → ArePrepared unicode (clusters_formed b).items
-unfolding clusters_formed
-formed-prepared unicode b all = elim (cases_Bool (bit_and b.scratch_flags.0 1 == 1)) [
-  | inl on ↦ rw on (at_level b.cluster_level)
-  | inr off ↦ rw off all
-]
-  where
-    at_level : (l : BufferClusterLevel)
-        → ArePrepared unicode (elim l as (λ v. Buffer) [ MonotoneGraphemes ↦ over_graphemes merge_clusters b | MonotoneCharacters ↦ over_graphemes unsafe_to_break b | Characters ↦ over_graphemes unsafe_to_break b ]).items
-    at_level MonotoneGraphemes = over-prepared unicode merge_clusters (keys-merge_clusters key_of IsKey-key_of) b all
-    at_level MonotoneCharacters = over-prepared unicode unsafe_to_break (keys-unsafe_to_break key_of IsKey-key_of) b all
-    at_level Characters = over-prepared unicode unsafe_to_break (keys-unsafe_to_break key_of IsKey-key_of) b all
+formed-prepared unicode b all =
+    clusters_formed-cases (λ c. ArePrepared unicode c.items) b (merged-prepared unicode b all)
+    (over-prepared unicode unsafe_to_break (keys-unsafe_to_break prepared_key IsKey-prepared_key.by_break) b all) all
 
-to_turn-prepared : (unicode : UnicodeMeaning) (b : Buffer) (l : BufferClusterLevel) → ArePrepared unicode b.items
-    → ArePrepared unicode (elim l as (λ v. Buffer) [ MonotoneGraphemes ↦ b | MonotoneCharacters ↦ over_graphemes merge_clusters b | Characters ↦ b ]).items
-to_turn-prepared unicode b MonotoneGraphemes all = all
-to_turn-prepared unicode b MonotoneCharacters all = over-prepared unicode merge_clusters (keys-merge_clusters key_of IsKey-key_of) b all
-to_turn-prepared unicode b Characters all = all
+to_turn-prepared : (unicode : UnicodeMeaning) (b : Buffer) → ArePrepared unicode b.items → ArePrepared unicode (merged_to_turn b).items
+to_turn-prepared unicode b all = merged_to_turn-cases (λ c. ArePrepared unicode c.items) b all (merged-prepared unicode b all)
 
 ordered-prepared : (unicode : UnicodeMeaning) (b : Buffer) → ArePrepared unicode b.items
     → ArePrepared unicode (natively_ordered unicode b).items
@@ -217,8 +152,8 @@ unfolding natively_ordered
 ordered-prepared unicode b all = elim (cases_Bool (is_against (native_direction unicode b) b.direction)) [
   | inl on ↦ rw on (
       let merged = merged_to_turn b in
-      from_last-prepared unicode (graphemes merged.items) (subst (λ (l : List Item). ArePrepared unicode l)
-      (sym (whole-divided is_continuation merged.items)) (to_turn-prepared unicode b b.cluster_level all))
+      from_last-prepared unicode (graphemes merged.items)
+      (subst (λ (l : List Item). ArePrepared unicode l) (sym (whole-divided is_continuation merged.items)) (to_turn-prepared unicode b all))
       )
   | inr off ↦ rw off all
 ]

@@ -1,12 +1,11 @@
 -- A walk that finds the end of each grapheme goes over the spans of the graphemes.
 use Rattle.std.proofs.Common.{◌≡◌, ℕ, suc, ◌+◌, ◌<◌, Bool, true, false, not, if◌then◌else◌, List, [], ◌∷◌, length, get_or, drop, map, fold, refl, sym, ap, ◌∙◌, arith, inl, inr}
 use Rattle.std.proofs.lemmas.Bool.{cases_Bool}
-use Rattle.std.proofs.lemmas.List.{drop_more, drop-map}
+use Rattle.std.proofs.lemmas.List.{drop_more}
 use Rattle.canonical_form.specs.Divided.{divided, put_first}
 use Rattle.canonical_form.proofs.DividedLemmas.{divided-begins}
 use Rattle.shape_buffer.specs.Buffer.{Buffer}
-use Rattle.shape_buffer.specs.Items.{Item}
-use Rattle.shape_buffer.proofs.KeyLemmas.{IsKey}
+use Rattle.shape_buffer.proofs.Merging.KeyLemmas.{IsKey}
 use Rattle.shape_prepare.specs.Graphemes.{is_continuation}
 use Rattle.shape_prepare.specs.ClustersFormed.{spans_from}
 use Rattle.shape_prepare.specs.GraphemeWalk.{ends}
@@ -101,10 +100,3 @@ module _ {A : Type 0} (belongs : A → Bool) where
 -- no merging, marking or turning elsewhere changes what continues
 pub IsKey-continuation : IsKey is_continuation
 IsKey-continuation = record { by_cluster = λ item cluster. refl; by_break = λ item. refl }
-
--- a test on items is one on their bits
-pub told_by_bits : (end : ℕ) (items of_buffer : List Item) (bits : List Bool) → items ≡ of_buffer → map is_continuation of_buffer ≡ bits
-    → ends (map is_continuation (drop end items)) ≡ ends (drop end bits)
-told_by_bits end items of_buffer bits read same =
-    ap (λ xs. ends (map is_continuation (drop end xs))) read ∙ ap ends (sym (drop-map is_continuation end of_buffer))
-    ∙ ap (λ l. ends (drop end l)) same

@@ -13,7 +13,7 @@ use Rattle.shape_buffer.specs.ClusterOrder.{IsMonotoneLevel}
 use Rattle.shape_buffer.specs.Face.{FaceMeaning}
 use Rattle.shape_buffer.specs.Items.{Item}
 use Rattle.shape_buffer.specs.Unicode.{UnicodeMeaning}
-use Rattle.shape_buffer.proofs.JoinLemmas.{cluster_at}
+use Rattle.shape_buffer.proofs.Merging.JoinLemmas.{cluster_at}
 use Rattle.shape_prepare.specs.ClusterPoint.{first_clusters, PreparingKeepsFirsts}
 use Rattle.shape_prepare.specs.Begun.{begun}
 use Rattle.shape_prepare.specs.ClustersFormed.{clusters_formed, grapheme_spans}
@@ -21,13 +21,13 @@ use Rattle.shape_prepare.specs.NativeOrder.{natively_ordered}
 use Rattle.shape_plan.specs.Run.{hook_if}
 use Rattle.shape_buffer.specs.Keepers.{IsClusterKeeper}
 use Rattle.shape_buffer.specs.declared.buffer.settings.BufferClusterLevel.TheVariants.{MonotoneGraphemes}
-use Rattle.shape_buffer.proofs.KeeperLemmas.{KeepsOrder-same, KeepsOrder-then}
-use Rattle.shape_prepare.proofs.OrderKeeperLemmas.{begun-keeps_order, graphemes_marked-keeps_order, dotted_circled-keeps_order, rotated-keeps_order, natively-in_order, formed-ready, circled-unseen, marked-unseen, seen_past}
+use Rattle.shape_buffer.proofs.Steps.KeeperLemmas.{KeepsOrder-same, KeepsOrder-then}
+use Rattle.shape_prepare.proofs.Keeping.OrderKeeperLemmas.{begun-keeps_order, graphemes_marked-keeps_order, dotted_circled-keeps_order, rotated-keeps_order, natively-in_order, formed-ready, circled-unseen, marked-unseen, seen_past}
 use Rattle.shape_prepare.proofs.StepLemmas.{clusters_formed-unseen, clusters_formed-merged}
 use Rattle.shape_prepare.specs.DottedCircle.{dotted_circled, with_circle, circle_before, takes_circle, begins_with_mark}
 use Rattle.shape_prepare.specs.Graphemes.{graphemes, graphemes_marked, is_continuation}
-use Rattle.shape_prepare.proofs.RisingMergeLemmas.{Firsts, all-firsts, SomeEach}
-use Rattle.shape_prepare.proofs.GraphemeClusterLemmas.{some-graphemes, total-graphemes, merged-parts, graphemes_merged, spans-merged, NoneContinues}
+use Rattle.shape_prepare.proofs.Spans.RisingMergeLemmas.{Firsts, all-firsts, SomeEach}
+use Rattle.shape_prepare.proofs.Spans.GraphemeClusterLemmas.{some-graphemes, total-graphemes, merged-parts, graphemes_merged, spans-merged, NoneContinues}
 use Rattle.shape_plan.proofs.KeeperLemmas.{keeper-hook}
 
 abbrev firsts_of : List (List Item) → List ℕ

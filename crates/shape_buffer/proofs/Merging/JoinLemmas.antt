@@ -2,14 +2,13 @@
 use Rattle.std.proofs.Common.{◌≡◌, ℕ, zero, suc, ◌+◌, ◌-◌, ◌<◌, ◌≤◌, Bool, true, false, ◌==◌, nat_lt, List, length, get_or, take, refl, sym, ap, ◌∙◌, arith, slice_range, slice_index, inl, inr}
 use Rattle.std.proofs.lemmas.Bool.{cases_Bool, cases_eq, cases_order, both_ways}
 use Rattle.std.proofs.lemmas.Bool.Decides.{nat_tests}
-use Rattle.std.proofs.lemmas.List.{get_or-map, length-map}
+use Rattle.std.proofs.lemmas.List.{get_or-map}
 use Rattle.std.proofs.lemmas.List.Sums.{suffix_len-take_yes, suffix_len-take_no}
 use Rattle.std.specs.List.{suffix_len}
-use Rattle.shape_buffer.specs.Items.{Item, new_item, has_cluster, ccc_of_item}
+use Rattle.shape_buffer.specs.Items.{Item, new_item, has_cluster}
 use Rattle.shape_buffer.specs.Clusters.{clusters, merge, least_cluster, growth_left, growth_right}
-use Rattle.shape_buffer.proofs.ClusterLemmas.{merge_short, merge_long}
-use Rattle.shape_buffer.proofs.KeyLemmas.{IsKey-ccc, keys-merge}
-use Rattle.shape_buffer.proofs.MergeOrder.{growth_right-within, put_range_below, put_range_inside}
+use Rattle.shape_buffer.proofs.Merging.ClusterLemmas.{merge_short, merge_long}
+use Rattle.shape_buffer.proofs.Merging.MergeOrder.{growth_right-within, put_range_below, put_range_inside}
 
 -- the cluster of the item at a place
 abbrev pub cluster_at : List Item → ℕ → ℕ
@@ -18,11 +17,6 @@ cluster_at xs k = get_or (clusters xs) k 0
 -- the item at a place and the next one share a cluster
 abbrev pub Joined : List Item → ℕ → Type 0
 Joined xs k = cluster_at xs k ≡ cluster_at xs (k + 1)
-
-pub length-merge : (start end : ℕ) (xs : List Item) → length (merge start end xs) ≡ length xs
-length-merge start end xs =
-    sym (length-map (merge start end xs) ccc_of_item) ∙ ap length (keys-merge ccc_of_item IsKey-ccc start end xs)
-    ∙ length-map xs ccc_of_item
 
 -- from this place on to the end each item passes, and the one before it doesn't
 record PassesFrom (p : Item → Bool) (xs : List Item) (d : Item) (from end : ℕ) : Type 0 where

@@ -19,17 +19,13 @@ use Rattle.shape_buffer.specs.Unicode.{UnicodeMeaning}
 use Rattle.shape_buffer.specs.UnicodeProps.{with_unicode_props, with_scratch_of, flag_if, beyond_ascii}
 use Rattle.shape_buffer.specs.Walks.{items_mapped}
 use Rattle.shape_buffer.specs.declared.buffer.flags.ScratchFlags.{ScratchFlags}
-use Rattle.shape_buffer.specs.declared.buffer.settings.BufferClusterLevel.{BufferClusterLevel}
-use Rattle.shape_buffer.specs.declared.buffer.settings.BufferClusterLevel.TheVariants.{MonotoneGraphemes, MonotoneCharacters, Characters}
 use Rattle.shape_buffer.specs.declared.buffer.settings.Direction.{Direction}
 use Rattle.shape_buffer.specs.Direction.{is_backward}
-use Rattle.shape_buffer.proofs.FlagLemmas.{KeepsFlags-same, KeepsFlags-then, KeepsFlags-items, merge_clusters_keeps, unsafe_to_break_keeps}
-use Rattle.shape_buffer.proofs.HonestLemmas.{IsHonest}
-use Rattle.shape_plan.specs.Run.{hook_if}
-use Rattle.shape_plan.specs.Shaper.{HookMeaning}
+use Rattle.shape_buffer.proofs.Flags.FlagLemmas.{KeepsFlags-same, KeepsFlags-then, KeepsFlags-items, merge_clusters_keeps, unsafe_to_break_keeps}
+use Rattle.shape_buffer.proofs.Flags.HonestLemmas.{IsHonest}
 use Rattle.shape_plan.specs.declared.decisions.Decisions.{Decisions}
 use Rattle.shape_prepare.specs.Begun.{begun}
-use Rattle.shape_prepare.specs.ClustersFormed.{clusters_formed, over_graphemes, grapheme_spans}
+use Rattle.shape_prepare.specs.ClustersFormed.{clusters_formed, over_graphemes}
 use Rattle.shape_prepare.specs.DottedCircle.{dotted_circled, with_circle, takes_circle, begins_with_mark}
 use Rattle.shape_prepare.specs.Graphemes.{graphemes, graphemes_marked, continuations_marked, seen_item, is_continuation, is_to_next}
 use Rattle.shape_prepare.specs.Keeping.{PreparingKeepsFlags}
@@ -39,6 +35,7 @@ use Rattle.shape_prepare.specs.Rotated.{rotated, rotated_item, in_forms, mirrore
 use Rattle.shape_prepare.specs.declared.graphemes.Before.{Before}
 use Rattle.shape_prepare.specs.declared.graphemes.Before.TheVariants.{Plain}
 use Rattle.shape_plan.proofs.KeeperLemmas.{keeper-hook}
+use Rattle.shape_prepare.proofs.StepLemmas.{over_graphemes-kept, clusters_formed-cases, merged_to_turn-cases}
 
 -- a mask without a defined flag
 no_flag_in : (mask flag : ℕ) → IsDefinedFlag flag → HasNoDefinedFlag mask → bit_and mask flag ≡ 0
@@ -127,28 +124,14 @@ dotted_circled-keeps_flags unicode face b = elim (cases_Bool (takes_circle face 
 
 -- ---- clusters
 
-fold-keeps_flags : (f : ℕ → ℕ → Buffer → Buffer) → ((start end : ℕ) → IsFlagKeeper (f start end)) → (spans : List (ℕ × ℕ)) (b : Buffer)
-    → KeepsFlags b (fold (λ b span. f span.0 span.1 b) b spans)
-fold-keeps_flags f keeps [] b = KeepsFlags-same b
-fold-keeps_flags f keeps (span ∷ spans) b =
-    let next = f span.0 span.1 b in
-    KeepsFlags-then b next (fold (λ b span. f span.0 span.1 b) next spans) (keeps span.0 span.1 b) (fold-keeps_flags f keeps spans next)
-
 over-keeps_flags : (f : ℕ → ℕ → Buffer → Buffer) → ((start end : ℕ) → IsFlagKeeper (f start end)) → IsFlagKeeper (over_graphemes f)
-over-keeps_flags f keeps b = fold-keeps_flags f keeps (grapheme_spans b.items) b
+over-keeps_flags f keeps b =
+    over_graphemes-kept (KeepsFlags b) f (λ start end c so_far. KeepsFlags-then b c _ so_far (keeps start end c)) b (KeepsFlags-same b)
 
 pub clusters_formed-keeps_flags : IsFlagKeeper clusters_formed
-unfolding clusters_formed
-clusters_formed-keeps_flags b = elim (cases_Bool (bit_and b.scratch_flags.0 1 == 1)) [
-  | inl on ↦ rw on (at_level b.cluster_level)
-  | inr off ↦ rw off (KeepsFlags-same b)
-]
-  where
-    at_level : (l : BufferClusterLevel)
-        → KeepsFlags b (elim l as (λ v. Buffer) [ MonotoneGraphemes ↦ over_graphemes merge_clusters b | MonotoneCharacters ↦ over_graphemes unsafe_to_break b | Characters ↦ over_graphemes unsafe_to_break b ])
-    at_level MonotoneGraphemes = over-keeps_flags merge_clusters merge_clusters_keeps b
-    at_level MonotoneCharacters = over-keeps_flags unsafe_to_break unsafe_to_break_keeps b
-    at_level Characters = over-keeps_flags unsafe_to_break unsafe_to_break_keeps b
+clusters_formed-keeps_flags b =
+    clusters_formed-cases (KeepsFlags b) b (over-keeps_flags merge_clusters merge_clusters_keeps b)
+    (over-keeps_flags unsafe_to_break unsafe_to_break_keeps b) (KeepsFlags-same b)
 
 -- ---- the native order
 
@@ -176,13 +159,8 @@ turned-keeps_flags b = record {
 }
 
 merged_to_turn-keeps_flags : IsFlagKeeper merged_to_turn
-merged_to_turn-keeps_flags b = at_level b.cluster_level
-  where
-    at_level : (l : BufferClusterLevel)
-        → KeepsFlags b (elim l as (λ v. Buffer) [ MonotoneGraphemes ↦ b | MonotoneCharacters ↦ over_graphemes merge_clusters b | Characters ↦ b ])
-    at_level MonotoneGraphemes = KeepsFlags-same b
-    at_level MonotoneCharacters = over-keeps_flags merge_clusters merge_clusters_keeps b
-    at_level Characters = KeepsFlags-same b
+merged_to_turn-keeps_flags b =
+    merged_to_turn-cases (KeepsFlags b) b (KeepsFlags-same b) (over-keeps_flags merge_clusters merge_clusters_keeps b)
 
 pub natively_ordered-keeps_flags : (unicode : UnicodeMeaning) → IsFlagKeeper (natively_ordered unicode)
 unfolding natively_ordered

@@ -1,5 +1,5 @@
 -- Lemmas on deletion in place.
-use Rattle.std.proofs.Common.{◌≡◌, ℕ, ◌+◌, ◌-◌, ◌<◌, ◌≤◌, Bool, true, false, cond, nat_lt, List, [], ◌∷◌, ◌++◌, length, get_or, take, drop, set, map, refl, ap, sym, ◌∙◌, arith, suc, slice_range, slice_index, remove, add-one}
+use Rattle.std.proofs.Common.{◌≡◌, ℕ, ◌+◌, ◌-◌, ◌<◌, ◌≤◌, Bool, true, false, cond, nat_lt, List, [], ◌∷◌, ◌++◌, length, get_or, take, drop, set, map, refl, ap, sym, ◌∙◌, arith, zero, suc, inl, inr, slice_range, slice_index, remove, add-one}
 use Rattle.std.proofs.lemmas.List.{drop_at, take_at, drop_more, take_more_set, drop-set-lt, append_assoc, length-take-le, drop-drop, get_or_append_left, length-map, map-append, take-append-le, take_all, drop_all, append-nil}
 use Rattle.std.proofs.lemmas.Slice.{between_is}
 use Rattle.std.specs.List.{suffix_len}
@@ -9,6 +9,7 @@ use Rattle.shape_buffer.specs.Buffer.{Buffer}
 use Rattle.shape_buffer.specs.Items.{Item, has_cluster}
 use Rattle.shape_buffer.specs.Clusters.{clusters, map_range}
 use Rattle.shape_buffer.specs.BufferClusters.{merge_clusters}
+use Rattle.std.proofs.lemmas.Bool.{cases_Bool}
 use Rattle.std.proofs.lemmas.Bool.Decides.{nat_tests}
 use Rattle.shape_buffer.specs.Delete.{begins_in, give_to_kept, hand_on, hand_over, lose, visit, delete_from}
 
@@ -146,6 +147,41 @@ hand_on-fourth k x rest b e none last =
     let fails : nat_lt 0 k ≡ false = grind (arith, nat_tests) in
     let fails' : nat_lt 0 (length rest) ≡ false = grind (arith, nat_tests) in
     rw (e, fails, fails') refl
+
+pub hand_on-cases : (P : Buffer → Type 0) (k : ℕ) (x : Item) (rest : List Item) (b : Buffer) → P b
+    → P (record b { items = give_to_kept k x b.items }) → (0 < length rest → P (merge_clusters 0 2 b)) → P (hand_on k x rest b)
+hand_on-cases P k x rest b same given merged = elim (cases_Bool (begins_in x.cluster rest)) [
+  | inl holds ↦ rw holds same
+  | inr fails ↦ elim (cases_Bool (nat_lt 0 k)) [
+    | inl some ↦ rw (fails, some) given
+    | inr none ↦ elim (cases_Bool (nat_lt 0 (length rest))) [
+      | inl more ↦ rw (fails, none, more) (merged (grind (arith, nat_tests)))
+      | inr last ↦ rw (fails, none, last) same
+    ]
+  ]
+]
+
+-- ---- what deletion keeps
+
+-- what stays where the glyph at a place goes
+abbrev pub IsKeptByLoss : (Buffer → Type 0) → Type 0
+IsKeptByLoss P = (k : ℕ) (x : Item) (rest : List Item) (b : Buffer) → drop k b.items ≡ x ∷ rest → P b → P (lose k (hand_on k x rest b))
+
+kept_by_visit : (P : Buffer → Type 0) → IsKeptByLoss P → (p : Item → Bool) (k : ℕ) (next : ℕ → Buffer → Buffer) (b : Buffer)
+    (xs : List Item) → drop k b.items ≡ xs → ((j : ℕ) (c : Buffer) → P c → P (next j c)) → P b → P (visit p k next b xs)
+kept_by_visit P keeps p k next b [] e later holds = holds
+kept_by_visit P keeps p k next b (x ∷ rest) e later holds = elim (cases_Bool (p x)) [
+  | inl picked ↦ rw (visit_lost p k next b x rest picked) (later k (lose k (hand_on k x rest b)) (keeps k x rest b e holds))
+  | inr stays ↦ rw (visit_kept p k next b x rest stays) (later (k + 1) b holds)
+]
+
+pub kept_by_deletion : (P : Buffer → Type 0) → IsKeptByLoss P → (p : Item → Bool) (n k : ℕ) (b : Buffer) → P b → P (delete_from p n k b)
+kept_by_deletion P keeps p zero k b holds = rw (delete_from-zero p k b) holds
+kept_by_deletion P keeps p (suc n) k b holds =
+    rw (delete_from-suc p n k b)
+    (kept_by_visit P keeps p k (delete_from p n) b (drop k b.items) refl (λ j c. kept_by_deletion P keeps p n j c) holds)
+
+-- ---- the walk of the code
 
 -- a vector whose first k items stand for others: the one at i is kept
 pub kept_after : (p : Item → Bool) (m n k i : ℕ) (given xs xs' : List Item) (ps : List GlyphPosition) (fs : ScratchFlags) (b : Buffer)

@@ -10,7 +10,7 @@ use Rattle.shape_buffer.specs.KeepsFlags.{IsDefinedFlag, has_flag, some_has, has
 pub use Rattle.shape_buffer.specs.Honest.{IsHonest}
 use Rattle.shape_buffer.specs.Flags.{flags_of, flags_propagated, HasOneSetOfFlags}
 use Rattle.shape_buffer.specs.Outcome.{Step, run_steps}
-use Rattle.shape_buffer.proofs.ClusterRunLemmas.{flagged-runs, one_set-flagged, concat-flagged}
+use Rattle.shape_buffer.proofs.Flags.ClusterRunLemmas.{flagged-runs, one_set-flagged, concat-flagged}
 
 pub honest-kept : {old new : Buffer} → KeepsFlags old new → IsHonest old → IsHonest new
 honest-kept {old} {new} keeps before = record {

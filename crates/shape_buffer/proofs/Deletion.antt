@@ -1,0 +1,3 @@
+-- Deletion, and what it keeps.
+pub mod DeleteLemmas
+pub mod DeleteKeeps

@@ -1,0 +1,4 @@
+-- The flags of glyphs.
+pub mod FlagLemmas
+pub mod HonestLemmas
+pub mod ClusterRunLemmas

@@ -1,0 +1,3 @@
+-- Loops that write a list item by item.
+pub mod WalkOverLemmas
+pub mod PositionWalkLemmas

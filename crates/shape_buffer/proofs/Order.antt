@@ -1,0 +1,3 @@
+-- The order of clusters.
+pub mod DrawsInOrder
+pub mod GraphemeOrderLemmas

@@ -1,0 +1,5 @@
+-- What preparing keeps.
+pub mod OrderKeeperLemmas
+pub mod FirstLemmas
+pub mod FlagKeeperLemmas
+pub mod PreparedLemmas

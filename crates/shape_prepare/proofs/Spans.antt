@@ -1,0 +1,6 @@
+-- The spans of graphemes, and the walk over them.
+pub mod GraphemeWalkLemmas
+pub mod TurnLemmas
+pub mod WalkedLemmas
+pub mod RisingMergeLemmas
+pub mod GraphemeClusterLemmas
