@@ -1,5 +1,5 @@
 -- Where the hooks do nothing of their own and the lookups keep clusters and flags, a run's premises hold.
-use Rattle.std.proofs.Common.{◌≡◌, ℕ, Bool, true, false, ◌||◌, List, Option, Some, None, refl, sym, subst, ◌∙◌}
+use Rattle.std.proofs.Common.{◌≡◌, ◌⊎◌, inl, inr, ℕ, Bool, true, false, ◌||◌, List, Option, Some, None, refl, sym, subst, ◌∙◌}
 use Rattle.std.specs.Option.{option_map}
 use Rattle.canonical_form.specs.Equivalent.{ComposesSoundly}
 use Rattle.canonical_form.specs.SplitsFall.{SplitsFall}
@@ -24,7 +24,7 @@ use Rattle.shape_plan.specs.Shapers.{no_hooks}
 use Rattle.shape_pipeline.specs.Headline.{prepared_text}
 use Rattle.shape_pipeline.specs.Headline.{target_of}
 use Rattle.shape_pipeline.specs.Order.{RunKeepsClusters}
-use Rattle.shape_pipeline.specs.Premises.{OwesNothing}
+use Rattle.shape_pipeline.specs.Premises.{LeavesBuffers, OwesNothing}
 use Rattle.shape_pipeline.specs.Shaped.{entered}
 use Rattle.shape_normalize.proofs.LawfulLemmas.{reorder-unasked}
 use Rattle.shape_prepare.specs.PreparedPoint.{KeepsPrepared}
@@ -88,6 +88,15 @@ EachHook-not_given Keeps constants none hooks =
       pause = λ given. absurd (let e : true ≡ false = sym given ∙ each.3 in cc);
     }
 
+EachHook-left : (Keeps : (Buffer → Buffer) → Type 0) → Keeps (λ b. b) → (constants : ShaperConstants) (hooks : HookMeaning)
+    → LeavesBuffers hooks → EachHook Keeps constants hooks
+EachHook-left Keeps left constants hooks leaves = record {
+  preprocess = λ given. subst Keeps (sym leaves.preprocess) left;
+  setup_masks = λ given. subst Keeps (sym leaves.setup_masks) left;
+  postprocess = λ given. subst Keeps (sym leaves.postprocess) left;
+  pause = λ given n. subst (λ pause. Keeps (pause n)) (sym leaves.pause) left;
+}
+
 -- what holds of the shaper's hooks holds of those that the plan keeps
 of_kept : {S : Type 0} (hooks : S → HookMeaning) (Claim : HookMeaning → Type 0) → ((s : S) → Claim (hooks s))
     → (shaper : Option S) (h : HookMeaning) → option_map hooks shaper ≡ Some h → Claim h
@@ -131,18 +140,30 @@ no_reorder-keeps rules no_reorder reorder is = absurd (let e : None ≡ Some reo
 module _ {S P D F : Type 0} (unicode : UnicodeMeaning) (masks : P → MapMeaning) (lookups : P → F → LookupMeaning)
     (constants : ShaperConstants)
     (hooks : S → Plan S P D → F → HookMeaning) (faces : F → FaceMeaning) (plan : Plan S P D) (face : F) where
-  calls-not_given : (Keeps : (Buffer → Buffer) → Type 0) → has_steps constants ≡ false → EachLookup Keeps (lookups plan.ot_map face)
+  -- no hook is given, or each leaves buffers as they are
+  abbrev LeavesAll : Type 0
+  LeavesAll = (has_steps constants ≡ false) ⊎ ((s : S) → LeavesBuffers (hooks s plan face))
+
+  calls-not_given : (Keeps : (Buffer → Buffer) → Type 0) → Keeps (λ b. b) → LeavesAll → EachLookup Keeps (lookups plan.ot_map face)
       → EachCall Keeps (run_of unicode masks lookups constants hooks faces plan face)
-  calls-not_given Keeps not_given keep = record { lookups = keep; hooks = λ h is. EachHook-not_given Keeps constants not_given h }
+  calls-not_given Keeps left (inl none) keep = record { lookups = keep; hooks = λ h is. EachHook-not_given Keeps constants none h }
+  calls-not_given Keeps left (inr leaves) keep = record {
+    lookups = keep;
+    hooks = of_kept (λ s. hooks s plan face) (EachHook Keeps constants)
+        (λ s. EachHook-left Keeps left constants (hooks s plan face) (leaves s)) plan.shaper;
+  }
 
-  pub flags-not_given : has_steps constants ≡ false → LookupsKeepFlags (lookups plan.ot_map face)
+  pub flags-not_given : LeavesAll → LookupsKeepFlags (lookups plan.ot_map face)
       → RunKeepsFlags (run_of unicode masks lookups constants hooks faces plan face)
-  flags-not_given = calls-not_given IsFlagKeeper
+  flags-not_given = calls-not_given IsFlagKeeper flags-left
 
-  pub clusters-not_given : has_steps constants ≡ false → LookupsKeepClusters (lookups plan.ot_map face)
+  pub clusters-not_given : LeavesAll → LookupsKeepClusters (lookups plan.ot_map face)
       → HookKeepsClusters (rules_of unicode constants hooks faces plan face)
       → RunKeepsClusters (run_of unicode masks lookups constants hooks faces plan face)
-  clusters-not_given not_given keep reordering = record { calls = calls-not_given IsClusterKeeper not_given keep; reordering = reordering }
+  clusters-not_given not_given keep reordering = record {
+    calls = calls-not_given IsClusterKeeper clusters-left not_given keep;
+    reordering = reordering;
+  }
 
   module _ (lawful : LawfulUnicode unicode) (no_reorder : constants.has_reorder_marks ≡ false)
       (none : (s : S) → hooks s plan face ≡ no_hooks unicode) where

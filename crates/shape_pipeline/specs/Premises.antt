@@ -5,8 +5,16 @@ use Rattle.shape_buffer.specs.Prepared.{IsPrepared}
 use Rattle.shape_normalize.specs.CanonicalForm.{text_of, HasLawfulHooks, HasNoSelector, CanonicalTextPremises, EquivalencePremises, CanonicalFormPremises, PlainPremises}
 use Rattle.shape_plan.specs.Keepers.{RunKeepsFlags}
 use Rattle.shape_plan.specs.Run.{Run}
+use Rattle.shape_plan.specs.Shaper.{HookMeaning}
 use Rattle.shape_pipeline.specs.Headline.{prepared_text}
 use Rattle.shape_pipeline.specs.Order.{RunKeepsClusters}
+
+-- hooks that leave every buffer as it is, but for the one that reorders marks
+pub record LeavesBuffers (hooks : HookMeaning) : Type 0 where
+  pub preprocess : hooks.preprocess ≡ (λ b. b)
+  pub setup_masks : hooks.setup_masks ≡ (λ b. b)
+  pub postprocess : hooks.postprocess ≡ (λ b. b)
+  pub pause : hooks.pause ≡ (λ n b. b)
 
 -- the text as normalising begins has no variation selector
 abbrev pub HasPlainText : Run → Buffer → Type 0

@@ -4,7 +4,7 @@
 //! flags, and for canonical form that they split and compose lawfully. A plain caller, whose shaper gives
 //! no hook and whose engine has no lookups, has all of it by [`plain_runs_owe_nothing`]; one with hooks or
 //! lookups of its own proves those alone, and takes the rest from here.
-ghost use Rattle.std.specs.Prelude.{◌≡◌, ◌≢◌, false};
+ghost use Rattle.std.specs.Prelude.{◌≡◌, ◌≢◌, ◌⊎◌, false};
 ghost use Rattle.shape_buffer.specs.Buffer.{Buffer};
 ghost use Rattle.shape_buffer.specs.Keepers.{LookupsKeepClusters, LookupsKeepFlags};
 ghost use Rattle.shape_buffer.specs.NoLookups.{no_lookups};
@@ -17,7 +17,7 @@ ghost use Rattle.shape_plan.specs.declared.ot_shaper.shapers.hb_default_shaper_t
 ghost use Rattle.shape_pipeline.specs.Headline.{NormalForm, FlagsAreByCluster};
 ghost use Rattle.shape_pipeline.specs.Order.{RunKeepsClusters, ClustersComeInOrder};
 ghost use Rattle.shape_pipeline.specs.Shaped.{run_made};
-ghost use Rattle.shape_pipeline.specs.Premises.{OwesNothing};
+ghost use Rattle.shape_pipeline.specs.Premises.{LeavesBuffers, OwesNothing};
 
 use shape_buffer::interfaces::{NoLookups, hb_font_t, hb_ot_layout_t, hb_unicode_funcs_t};
 pub use shape_normalize::laws::{hooks_not_given_are_lawful, reordering_permutes_the_run};
@@ -33,9 +33,9 @@ pub fn no_lookups_keep()
     ensures flags { LookupsKeepFlags no_lookups }
 {}
 
-/// A run owes nothing of hooks that aren't given, for they are never called: where a shaper gives no hook
-/// that changes a buffer, the one that reorders marks aside, it owes no more than that its engine's lookups
-/// keep clusters, or flags, and that the hook which reorders marks keeps clusters.
+/// A run owes nothing of hooks that aren't given, for they are never called, nor of hooks that leave buffers as
+/// they are: where a shaper gives no other hook, the one that reorders marks aside, it owes no more than that
+/// its engine's lookups keep clusters, or flags, and that the hook which reorders marks keeps clusters.
 pub fn hooks_not_given_keep<U, F, M, S>()
 where
     U: hb_unicode_funcs_t,
@@ -44,11 +44,12 @@ where
     S: hb_ot_shaper_t<U, F, M>,
     ensures clusters { (plan : Plan S M.Map S.Data) (face : F)
         → let run = ⟦<S as Runs<U, F, M>>⟧.run plan face in
-        has_steps S.constants ≡ false
+        (has_steps S.constants ≡ false) ⊎ ((shaper : S) → LeavesBuffers (S.hooks shaper plan face))
         → LookupsKeepClusters run.lookups → HookKeepsClusters run.rules → RunKeepsClusters run }
     ensures flags { (plan : Plan S M.Map S.Data) (face : F)
         → let run = ⟦<S as Runs<U, F, M>>⟧.run plan face in
-        has_steps S.constants ≡ false → LookupsKeepFlags run.lookups → RunKeepsFlags run }
+        (has_steps S.constants ≡ false) ⊎ ((shaper : S) → LeavesBuffers (S.hooks shaper plan face))
+        → LookupsKeepFlags run.lookups → RunKeepsFlags run }
 {}
 
 /// A run owes nothing where its shaper's hooks do what is done without them, whichever of them are given
