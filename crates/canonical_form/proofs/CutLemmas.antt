@@ -3,8 +3,8 @@ use Rattle.std.proofs.Common.{◌≡◌, ℕ, true, false, Bool, ◌==◌, List,
 use Rattle.std.proofs.lemmas.Bool.{both_ways}
 use Rattle.canonical_form.specs.Recompose.{recomposed}
 use Rattle.canonical_form.specs.Runs.{AreRunsSettled}
-use Rattle.canonical_form.proofs.RecomposeLemmas.{recomposed_from-append}
-use Rattle.canonical_form.proofs.RunLemmas.{cases_item, AreRunsSettled-append, Swaps-nil, IsSettled-swaps}
+use Rattle.canonical_form.proofs.Recomposing.RecomposeLemmas.{recomposed_from-append}
+use Rattle.canonical_form.proofs.Ordering.RunLemmas.{cases_item, AreRunsSettled-append, Swaps-nil, IsSettled-swaps}
 
 module _ {A : Type 0} (ccc : A → ℕ) (limit : ℕ) (blocks : List A → A → Bool) (is_mark : A → Bool) (compose : A → A → Option A) where
   -- a starter in front stays in front

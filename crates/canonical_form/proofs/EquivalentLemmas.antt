@@ -6,9 +6,9 @@ use Rattle.canonical_form.specs.Chain.{FallsAlong, full_text}
 use Rattle.canonical_form.specs.Decompositions.{Decompositions}
 use Rattle.canonical_form.specs.Equivalent.{IsEquivalent, IsCanonical}
 use Rattle.canonical_form.specs.Order.{IsSwap, here, behind, Swaps, done, then}
-use Rattle.canonical_form.proofs.ChainLemmas.{full-stays}
-use Rattle.canonical_form.proofs.OrderLemmas.{canonical_unique}
-use Rattle.canonical_form.proofs.SwapLemmas.{◌⟫◌, no_swap, Passes, Swaps-after, Swaps-before, Swaps-blocks}
+use Rattle.canonical_form.proofs.Expanding.ChainLemmas.{full-stays}
+use Rattle.canonical_form.proofs.Ordering.OrderLemmas.{canonical_unique}
+use Rattle.canonical_form.proofs.Ordering.SwapLemmas.{◌⟫◌, no_swap, Passes, Swaps-after, Swaps-before, Swaps-blocks}
 
 -- items of a domain, whose parts have a ccc of their own: those of a mark have its ccc
 module _ {A B : Type 0} (IsItem : A → Type 0) (ccc : A → ℕ) (ccc_of_part : B → ℕ) (parts : A → List B)

@@ -1,10 +1,10 @@
 -- The laws in the form in which they are stated.
 use Rattle.std.proofs.Common.{◌≡◌, ℕ, zero, suc, ◌≤◌, ◌⊎◌, List, [], ◌∷◌, Option, Some, None, unwrap_or, refl, sym, ap, subst, ◌∙◌, arith, inl, inr, append-nil}
 use Rattle.std.proofs.lemmas.Bool.{cond-true, cond-false}
-use Rattle.canonical_form.proofs.ChainLemmas.{IsFull-full, full-stays, full-splits}
-use Rattle.canonical_form.proofs.ChoiceLemmas.{greatest_none, greatest_found, least_none, least_found, full_text-expansion, full_text-expanded}
+use Rattle.canonical_form.proofs.Expanding.ChainLemmas.{IsFull-full, full-stays, full-splits}
+use Rattle.canonical_form.proofs.Expanding.ChoiceLemmas.{greatest_none, greatest_found, least_none, least_found, full_text-expansion, full_text-expanded}
 use Rattle.canonical_form.proofs.NormaliseLemmas.{sound_with_glyph, equivalent_settled, equivalent_normalised, canonical_settled, settled_equal_iff, recomposed_equal_iff, equivalent_recomposed}
-use Rattle.canonical_form.proofs.SwapLemmas.{no_swap}
+use Rattle.canonical_form.proofs.Ordering.SwapLemmas.{no_swap}
 use Rattle.canonical_form.specs.Chain.{FallsAlong, full, full_text, IsFull, stays, splits_into}
 use Rattle.canonical_form.specs.Decompositions.{Decompositions}
 use Rattle.canonical_form.specs.Choice.{IsGreatestSupported, IsLeastSupported, HasNoneSupported}

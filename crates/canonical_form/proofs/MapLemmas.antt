@@ -6,11 +6,11 @@ use Rattle.std.specs.List.{AllByRecursion}
 use Rattle.canonical_form.specs.Order.{IsSwap, here, behind, Swaps, done, then, IsOrdered, IsPutInOrder}
 use Rattle.canonical_form.specs.Recompose.{last_ccc, is_blocked_by_last, composed, recomposed_from, recomposed}
 use Rattle.canonical_form.specs.Runs.{IsSettled, AreRunsSettled}
-use Rattle.canonical_form.proofs.SwapLemmas.{all-swap, all-swaps}
-use Rattle.canonical_form.proofs.EveryLemmas.{push_all}
-use Rattle.canonical_form.proofs.OptionLemmas.{cases_Option}
-use Rattle.canonical_form.proofs.RecomposeLemmas.{by_steps, recomposed_from-some, recomposed_from-starter, recomposed_from-mark}
-use Rattle.canonical_form.proofs.RunLemmas.{cases_item, from_starter}
+use Rattle.canonical_form.proofs.Ordering.SwapLemmas.{all-swap, all-swaps}
+use Rattle.canonical_form.proofs.Lists.EveryLemmas.{push_all}
+use Rattle.canonical_form.proofs.Lists.OptionLemmas.{cases_Option}
+use Rattle.canonical_form.proofs.Recomposing.RecomposeLemmas.{by_steps, recomposed_from-some, recomposed_from-starter, recomposed_from-mark}
+use Rattle.canonical_form.proofs.Ordering.RunLemmas.{cases_item, from_starter}
 
 module _ {A B : Type 0} (IsItem : A → Type 0) (f : A → B) (ccc : A → ℕ) (ccc' : B → ℕ)
     (same : (x : A) → IsItem x → ccc' (f x) ≡ ccc x) where

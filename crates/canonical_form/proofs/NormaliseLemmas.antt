@@ -13,14 +13,14 @@ use Rattle.canonical_form.specs.Order.{Swaps, IsOrdered}
 use Rattle.canonical_form.specs.Recompose.{is_blocked, is_blocked_by_last, compose_with_glyph, recomposed}
 use Rattle.canonical_form.specs.Runs.{AreRunsSettled, HasNoLongerRun}
 use Rattle.canonical_form.specs.SplitsFall.{SplitsFall}
-use Rattle.canonical_form.proofs.BlockLemmas.{recomposed_by_last}
-use Rattle.canonical_form.proofs.ChainLemmas.{full-ccc, full-whole}
-use Rattle.canonical_form.proofs.ChoiceLemmas.{full_text-expanded, expanded-full}
-use Rattle.canonical_form.proofs.EveryLemmas.{append_all}
+use Rattle.canonical_form.proofs.Recomposing.BlockLemmas.{recomposed_by_last}
+use Rattle.canonical_form.proofs.Expanding.ChainLemmas.{full-ccc, full-whole}
+use Rattle.canonical_form.proofs.Expanding.ChoiceLemmas.{full_text-expanded, expanded-full}
+use Rattle.canonical_form.proofs.Lists.EveryLemmas.{append_all}
 use Rattle.canonical_form.proofs.EquivalentLemmas.{parts-swaps, canonical_equal}
-use Rattle.canonical_form.proofs.RecomposeLemmas.{JoinsLawfully, joined, recomposed-keeps}
-use Rattle.canonical_form.proofs.RunLemmas.{AreRunsSettled-swaps, AreRunsSettled-ordered}
-use Rattle.canonical_form.proofs.SwapLemmas.{◌⟫◌, no_swap, Swaps-sym, all-swaps}
+use Rattle.canonical_form.proofs.Recomposing.RecomposeLemmas.{JoinsLawfully, joined, recomposed-keeps}
+use Rattle.canonical_form.proofs.Ordering.RunLemmas.{AreRunsSettled-swaps, AreRunsSettled-ordered}
+use Rattle.canonical_form.proofs.Ordering.SwapLemmas.{◌⟫◌, no_swap, Swaps-sym, all-swaps}
 
 -- every number is a character here
 abbrev IsAny : ℕ → Type 0

@@ -11,8 +11,8 @@ use Rattle.shape_buffer.specs.declared.buffer.settings.Direction.{Direction}
 use Rattle.shape_buffer.proofs.Flags.HonestLemmas.{IsHonest, honest-kept, one_set-propagated, concat-propagated}
 use Rattle.shape_buffer.proofs.Steps.KeeperLemmas.{EachStep-front}
 use Rattle.shape_fallback.proofs.KeeperLemmas.{fallback-keeps_flags}
-use Rattle.shape_normalize.proofs.NormalFlagLemmas.{KeepsFlags-normalized}
-use Rattle.shape_normalize.proofs.ReorderLemmas.{LawfulReorder}
+use Rattle.shape_normalize.proofs.Normalized.NormalFlagLemmas.{KeepsFlags-normalized}
+use Rattle.shape_normalize.proofs.Hooks.ReorderLemmas.{LawfulReorder}
 use Rattle.shape_plan.specs.Decisions.{MasksAreFeatures}
 use Rattle.shape_plan.specs.Keepers.{RunKeepsFlags}
 use Rattle.shape_plan.specs.Run.{Run}

@@ -19,8 +19,8 @@ use Rattle.shape_buffer.specs.declared.buffer.settings.Direction.{Direction}
 use Rattle.shape_buffer.specs.declared.buffer.settings.Direction.TheVariants.{Invalid, LeftToRight, RightToLeft, TopToBottom, BottomToTop}
 use Rattle.shape_buffer.proofs.Steps.KeeperLemmas.{EachStep-append}
 use Rattle.shape_fallback.proofs.KeeperLemmas.{fallback-keeps_clusters}
-use Rattle.shape_normalize.proofs.ClusterOrderLemmas.{KeepsOrder-normalized}
-use Rattle.shape_normalize.proofs.ReorderLemmas.{LawfulReorder}
+use Rattle.shape_normalize.proofs.Normalized.ClusterOrderLemmas.{KeepsOrder-normalized}
+use Rattle.shape_normalize.proofs.Hooks.ReorderLemmas.{LawfulReorder}
 use Rattle.shape_plan.specs.Run.{Run}
 use Rattle.shape_position.specs.Steps.{show_steps, finish_steps}
 use Rattle.shape_position.specs.Turning.{turned}

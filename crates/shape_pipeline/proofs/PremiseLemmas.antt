@@ -26,7 +26,7 @@ use Rattle.shape_pipeline.specs.Headline.{target_of}
 use Rattle.shape_pipeline.specs.Order.{RunKeepsClusters}
 use Rattle.shape_pipeline.specs.Premises.{LeavesBuffers, OwesNothing}
 use Rattle.shape_pipeline.specs.Shaped.{entered}
-use Rattle.shape_normalize.proofs.LawfulLemmas.{reorder-unasked}
+use Rattle.shape_normalize.proofs.Hooks.LawfulLemmas.{reorder-unasked}
 use Rattle.shape_prepare.specs.PreparedPoint.{KeepsPrepared}
 use Rattle.shape_buffer.proofs.Steps.KeeperLemmas.{KeepsOrder-same}
 use Rattle.shape_prepare.proofs.Keeping.PreparedLemmas.{preparing_prepares}

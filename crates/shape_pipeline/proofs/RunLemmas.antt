@@ -11,17 +11,17 @@ use Rattle.shape_normalize.specs.Normalized.{normalized, ordered}
 use Rattle.shape_normalize.specs.RoundOne.{round_one}
 use Rattle.shape_normalize.specs.RoundThree.{round_three, joined_spans, recomposed_items}
 use Rattle.shape_normalize.specs.RoundTwo.{has_mark_past_first}
-use Rattle.shape_normalize.proofs.ReorderLemmas.{LawfulReorder}
-use Rattle.shape_normalize.proofs.RoundThreeLemmas.{limit-spans_merged_out}
-use Rattle.shape_normalize.proofs.SettingLemmas.{limit_of-ordered}
+use Rattle.shape_normalize.proofs.Hooks.ReorderLemmas.{LawfulReorder}
+use Rattle.shape_normalize.proofs.RoundThree.RoundThreeLemmas.{limit-spans_merged_out}
+use Rattle.shape_normalize.proofs.Normalized.SettingLemmas.{limit_of-ordered}
 use Rattle.shape_plan.specs.Rules.{Rules}
 use Rattle.shape_buffer.specs.Unicode.{LawfulUnicode}
-use Rattle.shape_normalize.proofs.CanonicalFormLemmas.{NormalizesCanonically-normalized}
-use Rattle.shape_normalize.proofs.ClusterOrderLemmas.{normalized_keeps}
-use Rattle.shape_normalize.proofs.ByPlaceLemmas.{normalized_by_place}
-use Rattle.shape_normalize.proofs.FeatureLemmas.{normalized_keeps_features}
-use Rattle.shape_normalize.proofs.ItemGlyphLemmas.{normalized_has_glyphs}
-use Rattle.shape_normalize.proofs.NormalizedLemmas.{normalized_brings_in}
+use Rattle.shape_normalize.proofs.Form.CanonicalFormLemmas.{NormalizesCanonically-normalized}
+use Rattle.shape_normalize.proofs.Normalized.ClusterOrderLemmas.{normalized_keeps}
+use Rattle.shape_normalize.proofs.Places.ByPlaceLemmas.{normalized_by_place}
+use Rattle.shape_normalize.proofs.Normalized.FeatureLemmas.{normalized_keeps_features}
+use Rattle.shape_normalize.proofs.Normalized.ItemGlyphLemmas.{normalized_has_glyphs}
+use Rattle.shape_normalize.proofs.Normalized.NormalizedLemmas.{normalized_brings_in}
 use Rattle.shape_pipeline.specs.Headline.{NormalForm}
 use Rattle.shape_plan.specs.Run.{Run}
 use Rattle.shape_prepare.specs.PrepareSteps.{prepare_steps}

@@ -16,7 +16,7 @@ use Rattle.std.proofs.lemmas.List.{append_assoc}
 use Rattle.canonical_form.specs.Chain.{FallsAlong, kept_part, full, full_text}
 use Rattle.canonical_form.specs.Order.{Swaps, done}
 use Rattle.canonical_form.specs.Equivalent.{ComposesSoundly}
-use Rattle.canonical_form.proofs.ChainLemmas.{full-stays, full-splits}
+use Rattle.canonical_form.proofs.Expanding.ChainLemmas.{full-stays, full-splits}
 use Rattle.shape_unicode.specs.SplitLaws.{not_true, has_mapping, split_of-falls, second_is_whole}
 
 joins_hangul : (a b c : ℕ) → IsLv a b c ⊎ IsLvt a b c → (split_of c ≡ Some (a, b)) × (b ≢ 0)

@@ -26,7 +26,7 @@ use Rattle.shapeline.specs.Compose.{compose_in_table, compose_of, is_split_into}
 use Rattle.shapeline.specs.Meaning.{unicode_tables}
 use Rattle.shapeline.specs.declared.unicode_tables.split.TheConstants.{SPLITS}
 use Rattle.shapeline.specs.declared.unicode_tables.compose.TheConstants.{COMPOSITES}
-use Rattle.canonical_form.proofs.ChainLemmas.{full-stays, full-splits}
+use Rattle.canonical_form.proofs.Expanding.ChainLemmas.{full-stays, full-splits}
 
 -- what is found passes each test that the whole list passes
 found_passes : {X : Type 0} (p test : X → Bool) (xs : List X) (x : X) → list_all test xs ≡ true → find p xs ≡ Some x

@@ -6,7 +6,7 @@ use Rattle.std.specs.Prelude.{Contains}
 use Rattle.std.specs.List.{flat_map}
 use Rattle.std.specs.List.Sorted.{IsNonDecreasing}
 use Rattle.canonical_form.specs.Divided.{put_first}
-use Rattle.canonical_form.proofs.DividedLemmas.{whole, whole-divided, divided-joins, divided-parts, divided-begins}
+use Rattle.canonical_form.proofs.Lists.DividedLemmas.{whole, whole-divided, divided-joins, divided-parts, divided-begins}
 use Rattle.shape_buffer.specs.Buffer.{Buffer}
 use Rattle.shape_buffer.specs.Clusters.{clusters}
 use Rattle.shape_buffer.specs.ClusterOrder.{IsMonotoneLevel}

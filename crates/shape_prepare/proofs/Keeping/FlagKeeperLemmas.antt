@@ -6,7 +6,7 @@ use Rattle.std.proofs.lemmas.List.{reverse-append, append-nil}
 use Rattle.std.proofs.lemmas.List.Folds.{list_any-append}
 use Rattle.std.proofs.lemmas.Grind.{flat_map-append}
 use Rattle.std.specs.List.{list_any}
-use Rattle.canonical_form.proofs.DividedLemmas.{whole, whole-divided}
+use Rattle.canonical_form.proofs.Lists.DividedLemmas.{whole, whole-divided}
 use Rattle.shape_buffer.specs.Buffer.{Buffer}
 use Rattle.shape_buffer.specs.BufferClusters.{merge_clusters, unsafe_to_break}
 use Rattle.shape_buffer.specs.Face.{FaceMeaning}

@@ -6,7 +6,7 @@ use Rattle.std.proofs.lemmas.List.{get_or-reverse, length-reverse}
 use Rattle.std.proofs.lemmas.Nat.{and_or_apart, and_or_self}
 use Rattle.std.specs.Prelude.{Contains}
 use Rattle.std.specs.List.Sorted.{IsNonDecreasing}
-use Rattle.canonical_form.proofs.DividedLemmas.{whole, whole-divided}
+use Rattle.canonical_form.proofs.Lists.DividedLemmas.{whole, whole-divided}
 use Rattle.shape_buffer.specs.Buffer.{Buffer}
 use Rattle.shape_buffer.specs.BufferClusters.{merge_clusters, unsafe_to_break}
 use Rattle.shape_buffer.specs.Clusters.{clusters, merge}

@@ -4,7 +4,7 @@ use Rattle.std.proofs.lemmas.Bool.{cases_Bool}
 use Rattle.std.proofs.lemmas.List.{take_at, drop_at}
 use Rattle.std.specs.List.Sorted.{IsNonDecreasing}
 use Rattle.canonical_form.specs.Divided.{divided, put_first}
-use Rattle.canonical_form.proofs.DividedLemmas.{whole, whole-divided, sizes-bits}
+use Rattle.canonical_form.proofs.Lists.DividedLemmas.{whole, whole-divided, sizes-bits}
 use Rattle.shape_buffer.specs.Buffer.{Buffer}
 use Rattle.shape_buffer.specs.BufferClusters.{merge_clusters, merge_at}
 use Rattle.shape_buffer.specs.Clusters.{clusters, merge}

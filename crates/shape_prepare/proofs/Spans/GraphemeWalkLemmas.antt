@@ -3,7 +3,7 @@ use Rattle.std.proofs.Common.{◌≡◌, ℕ, suc, ◌+◌, ◌<◌, Bool, true,
 use Rattle.std.proofs.lemmas.Bool.{cases_Bool}
 use Rattle.std.proofs.lemmas.List.{drop_more}
 use Rattle.canonical_form.specs.Divided.{divided, put_first}
-use Rattle.canonical_form.proofs.DividedLemmas.{divided-begins}
+use Rattle.canonical_form.proofs.Lists.DividedLemmas.{divided-begins}
 use Rattle.shape_buffer.specs.Buffer.{Buffer}
 use Rattle.shape_buffer.proofs.Merging.KeyLemmas.{IsKey}
 use Rattle.shape_prepare.specs.Graphemes.{is_continuation}

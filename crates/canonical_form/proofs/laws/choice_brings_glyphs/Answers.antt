@@ -1,4 +1,4 @@
-use Rattle.canonical_form.proofs.ChoiceLemmas.{choice_glyphs}
+use Rattle.canonical_form.proofs.Expanding.ChoiceLemmas.{choice_glyphs}
 use Rattle.canonical_form.proofs.laws.choice_brings_glyphs.Goals as goal
 
 pub returns : goal.returns

@@ -1,5 +1,5 @@
 use Rattle.canonical_form.proofs.CutLemmas.{cut}
-use Rattle.canonical_form.proofs.ExpandedLemmas.{expanded-cut}
+use Rattle.canonical_form.proofs.Expanding.ExpandedLemmas.{expanded-cut}
 use Rattle.canonical_form.proofs.laws.cuts_apart.Goals as goal
 
 pub returns-clause-expanded : goal.returns-clause-expanded

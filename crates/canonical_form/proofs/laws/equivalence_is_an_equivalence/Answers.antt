@@ -1,4 +1,4 @@
-use Rattle.canonical_form.proofs.SwapLemmas.{◌⟫◌, Swaps-sym}
+use Rattle.canonical_form.proofs.Ordering.SwapLemmas.{◌⟫◌, Swaps-sym}
 use Rattle.canonical_form.specs.Order.{done}
 use Rattle.canonical_form.proofs.laws.equivalence_is_an_equivalence.Goals as goal
 

@@ -1,4 +1,4 @@
-use Rattle.canonical_form.proofs.BlockLemmas.{recomposed_by_last, recomposed_by_greatest}
+use Rattle.canonical_form.proofs.Recomposing.BlockLemmas.{recomposed_by_last, recomposed_by_greatest}
 use Rattle.canonical_form.proofs.laws.one_ccc_decides.Goals as goal
 
 pub returns-clause-last : goal.returns-clause-last

@@ -1,4 +1,4 @@
-use Rattle.canonical_form.proofs.OrderLemmas.{canonical_unique, Swaps-in_order, IsOrdered-in_order}
+use Rattle.canonical_form.proofs.Ordering.OrderLemmas.{canonical_unique, Swaps-in_order, IsOrdered-in_order}
 use Rattle.canonical_form.proofs.laws.order_is_unique.Goals as goal
 
 pub returns-clause-reached : goal.returns-clause-reached

@@ -1,6 +1,6 @@
 use Rattle.std.proofs.Common.{◌<◌, []}
 use Rattle.std.proofs.lemmas.List.Elements.{All-nil}
-use Rattle.canonical_form.proofs.RunLemmas.{AreRunsSettled-swaps, AreRunsSettled-ordered, AreRunsSettled-unique}
+use Rattle.canonical_form.proofs.Ordering.RunLemmas.{AreRunsSettled-swaps, AreRunsSettled-ordered, AreRunsSettled-unique}
 use Rattle.canonical_form.proofs.laws.settled_is_reached.Goals as goal
 
 pub returns-clause-reached : goal.returns-clause-reached

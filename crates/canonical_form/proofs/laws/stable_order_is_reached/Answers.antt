@@ -1,4 +1,4 @@
-use Rattle.canonical_form.proofs.SortLemmas.{IsPutInOrder-from_sort}
+use Rattle.canonical_form.proofs.Ordering.SortLemmas.{IsPutInOrder-from_sort}
 use Rattle.canonical_form.proofs.laws.stable_order_is_reached.Goals as goal
 
 pub returns : goal.returns

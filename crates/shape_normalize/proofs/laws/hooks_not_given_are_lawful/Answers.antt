@@ -1,4 +1,4 @@
-use Rattle.shape_normalize.proofs.LawfulLemmas.{lawful-unasked, reorder-unasked}
+use Rattle.shape_normalize.proofs.Hooks.LawfulLemmas.{lawful-unasked, reorder-unasked}
 use Rattle.shape_normalize.proofs.laws.hooks_not_given_are_lawful.Goals as goal
 
 pub returns-clause-lawful : goal.returns-clause-lawful

@@ -1,4 +1,4 @@
-use Rattle.shape_normalize.proofs.ReorderedLemmas.{ReordersRun-steps}
+use Rattle.shape_normalize.proofs.Hooks.ReorderedLemmas.{ReordersRun-steps}
 use Rattle.shape_normalize.proofs.laws.reordering_permutes_the_run.Goals as goal
 
 pub returns : goal.returns

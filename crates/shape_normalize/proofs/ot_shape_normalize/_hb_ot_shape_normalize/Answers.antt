@@ -5,15 +5,15 @@ use Rattle.shape_buffer.specs.Items.{Item}
 use Rattle.shape_buffer.specs.UnicodeProps.{is_hidden_char}
 use Rattle.shape_normalize.specs.Normalized.{HasItemGlyph, features_of, hidden_char}
 use Rattle.shape_plan.specs.Rules.{rules_of}
-use Rattle.shape_normalize.proofs.ByAllLemmas.{normalized_by_all}
-use Rattle.shape_normalize.proofs.ByPlaceLemmas.{normalized_by_place}
-use Rattle.shape_normalize.proofs.CanonicalFormLemmas.{NormalizesCanonically-normalized}
-use Rattle.shape_normalize.proofs.ClusterOrderLemmas.{normalized_keeps}
-use Rattle.shape_normalize.proofs.FeatureLemmas.{normalized_keeps_features}
-use Rattle.shape_normalize.proofs.HiddenLemmas.{normalized_keeps_hidden}
-use Rattle.shape_normalize.proofs.ItemGlyphLemmas.{normalized_has_glyphs, all_of_none}
-use Rattle.shape_normalize.proofs.NormalizedLemmas.{empty_is_normalized, normalized_brings_in, normalized_orders, within_normalized}
-use Rattle.shape_normalize.proofs.RulesLemmas.{used_reorder-lawful}
+use Rattle.shape_normalize.proofs.RoundThree.ByAllLemmas.{normalized_by_all}
+use Rattle.shape_normalize.proofs.Places.ByPlaceLemmas.{normalized_by_place}
+use Rattle.shape_normalize.proofs.Form.CanonicalFormLemmas.{NormalizesCanonically-normalized}
+use Rattle.shape_normalize.proofs.Normalized.ClusterOrderLemmas.{normalized_keeps}
+use Rattle.shape_normalize.proofs.Normalized.FeatureLemmas.{normalized_keeps_features}
+use Rattle.shape_normalize.proofs.Normalized.HiddenLemmas.{normalized_keeps_hidden}
+use Rattle.shape_normalize.proofs.Normalized.ItemGlyphLemmas.{normalized_has_glyphs, all_of_none}
+use Rattle.shape_normalize.proofs.Normalized.NormalizedLemmas.{empty_is_normalized, normalized_brings_in, normalized_orders, within_normalized}
+use Rattle.shape_normalize.proofs.Hooks.RulesLemmas.{used_reorder-lawful}
 use Rattle.shape_normalize.proofs.ot_shape_normalize._hb_ot_shape_normalize.Goals as goal
 
 pub returns-then-len-eq0-clause-ok : goal.returns-then-len-eq0-clause-ok

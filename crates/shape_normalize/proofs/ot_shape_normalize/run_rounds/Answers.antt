@@ -3,8 +3,8 @@ use Rattle.shape_buffer.specs.Buffer.{limit_of, Buffer}
 use Rattle.shape_normalize.specs.Normalized.{ordered}
 use Rattle.shape_plan.specs.Rules.{rules_of}
 use Rattle.shape_normalize.specs.RoundOne.{round_one}
-use Rattle.shape_normalize.proofs.RulesLemmas.{used_reorder-lawful}
-use Rattle.shape_normalize.proofs.SettingLemmas.{within_ordered}
+use Rattle.shape_normalize.proofs.Hooks.RulesLemmas.{used_reorder-lawful}
+use Rattle.shape_normalize.proofs.Normalized.SettingLemmas.{within_ordered}
 use Rattle.shape_normalize.proofs.ot_shape_normalize.run_rounds.Goals as goal
 
 pub recompose-requires : goal.recompose-requires

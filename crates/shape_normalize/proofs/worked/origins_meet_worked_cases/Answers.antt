@@ -1,4 +1,4 @@
-use Rattle.shape_normalize.proofs.WorkedOriginLemmas.{origins_worked}
+use Rattle.shape_normalize.proofs.Places.WorkedOriginLemmas.{origins_worked}
 use Rattle.shape_normalize.proofs.worked.origins_meet_worked_cases.Goals as goal
 
 pub returns : goal.returns

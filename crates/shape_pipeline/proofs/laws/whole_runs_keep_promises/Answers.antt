@@ -1,5 +1,5 @@
 use Rattle.std.proofs.Common.{refl}
-use Rattle.shape_normalize.proofs.RulesLemmas.{used_reorder-lawful}
+use Rattle.shape_normalize.proofs.Hooks.RulesLemmas.{used_reorder-lawful}
 use Rattle.shape_plan.specs.Run.{run_of}
 use Rattle.shape_pipeline.proofs.FlagRunLemmas.{flags-run_made}
 use Rattle.shape_pipeline.proofs.OrderLemmas.{clusters-run_made}

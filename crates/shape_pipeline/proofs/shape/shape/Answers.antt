@@ -1,6 +1,6 @@
 use Rattle.std.proofs.Common.{◌≡◌, ◌∙◌, ap, sym, rules}
 use Rattle.shape_buffer.specs.Guess.{guessed_direction, guessed_script}
-use Rattle.shape_normalize.proofs.RulesLemmas.{used_reorder-lawful}
+use Rattle.shape_normalize.proofs.Hooks.RulesLemmas.{used_reorder-lawful}
 use Rattle.shape_plan.specs.Plan.{known_script}
 use Rattle.shape_plan.proofs.PlannedLemmas.{direction-planned, script-planned}
 use Rattle.shape_pipeline.specs.Planned.{planned_for}

@@ -3,7 +3,7 @@ use Rattle.std.proofs.lemmas.Grind.{common_steps}
 use Rattle.shape_buffer.specs.Buffer.{Buffer}
 use Rattle.shape_buffer.specs.Items.{Item}
 use Rattle.shape_normalize.specs.RoundTwo.{one_cgj_shown}
-use Rattle.shape_normalize.proofs.CgjLemmas.{shown_more, shown_all}
+use Rattle.shape_normalize.proofs.RoundTwo.CgjLemmas.{shown_more, shown_all}
 use Rattle.shape_normalize.proofs.ot_shape_normalize.cgj.show_cgj.Goals as goal
 
 pub loop-i-preserved : goal.loop-i-preserved

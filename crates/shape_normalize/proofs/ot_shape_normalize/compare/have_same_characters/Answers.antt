@@ -1,6 +1,6 @@
 use Rattle.std.proofs.Common.{◌∙◌, sym, ne_eqb}
 use Rattle.std.proofs.lemmas.Bool.{both_ways}
-use Rattle.shape_normalize.proofs.CompareLemmas.{same_where_alike, alike_where_same, as_long_where_same}
+use Rattle.shape_normalize.proofs.Form.CompareLemmas.{same_where_alike, alike_where_same, as_long_where_same}
 use Rattle.shape_normalize.proofs.ot_shape_normalize.compare.have_same_characters.Goals as goal
 
 pub returns-then-a-b : goal.returns-then-a-b

@@ -3,7 +3,7 @@ use Rattle.shape_buffer.specs.Items.{char_of}
 use Rattle.shape_normalize.specs.CanonicalForm.{text_of}
 use Rattle.shape_normalize.specs.Normalized.{normalized}
 use Rattle.shape_plan.specs.Rules.{rules_of}
-use Rattle.shape_normalize.proofs.CanonicalFormLemmas.{normalized_decides}
+use Rattle.shape_normalize.proofs.Form.CanonicalFormLemmas.{normalized_decides}
 use Rattle.shape_normalize.proofs.ot_shape_normalize.compare.normalized_equal.Goals as goal
 
 pub returns-clause-equivalent : goal.returns-clause-equivalent

@@ -2,9 +2,9 @@ use Rattle.std.proofs.Common.{◌≡◌, ℕ, ◌≤◌, true, false, Option, No
 use Rattle.std.proofs.lemmas.List.{length-append}
 use Rattle.std.specs.List.{list_all}
 use Rattle.canonical_form.specs.Chain.{kept_part}
-use Rattle.canonical_form.proofs.ShortestWalkLemmas.{sought_ended, sought_first, sought_found, sought_passed, sought_broken}
+use Rattle.canonical_form.proofs.Expanding.ShortestWalkLemmas.{sought_ended, sought_first, sought_found, sought_passed, sought_broken}
 use Rattle.shape_plan.specs.Rules.{rules_of, decompositions, has_glyph}
-use Rattle.shape_normalize.proofs.RulesLemmas.{FallsAlong-planned}
+use Rattle.shape_normalize.proofs.Hooks.RulesLemmas.{FallsAlong-planned}
 use Rattle.shape_normalize.proofs.ot_shape_normalize.decompose.walk_chain.Goals as goal
 
 IfSome-weaker : (found : Option (ℕ × ℕ)) (m n : ℕ) → m ≤ n → IfSome found (λ f. f.1 ≤ m) → IfSome found (λ f. f.1 ≤ n)

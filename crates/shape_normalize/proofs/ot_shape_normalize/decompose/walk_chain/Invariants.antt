@@ -1,7 +1,7 @@
 use Rattle.std.proofs.Common.{◌≡◌, ◌≤◌, length, IfSome}
 use Rattle.canonical_form.specs.Expansion.{chosen_expansion}
-use Rattle.canonical_form.proofs.ShortestWalkLemmas.{sought}
-use Rattle.canonical_form.proofs.WalkLemmas.{found_parts, walked}
+use Rattle.canonical_form.proofs.Expanding.ShortestWalkLemmas.{sought}
+use Rattle.canonical_form.proofs.Expanding.WalkLemmas.{found_parts, walked}
 use Rattle.shape_plan.specs.Plan.{hooks_of}
 use Rattle.shape_plan.specs.Rules.{used_height, used_decompositions, has_glyph}
 use Rattle.shape_normalize.proofs.ot_shape_normalize.decompose.walk_chain.Given as goal

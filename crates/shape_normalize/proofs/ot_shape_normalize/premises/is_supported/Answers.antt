@@ -4,7 +4,7 @@ use Rattle.canonical_form.specs.Chain.{full, full_text}
 use Rattle.shape_buffer.specs.Items.{Item, char_of}
 use Rattle.shape_plan.specs.Rules.{rules_of, has_glyph}
 use Rattle.shape_normalize.specs.PremiseTest.{row_before}
-use Rattle.shape_normalize.proofs.PremiseTestLemmas.{row_before-last, row_before-none}
+use Rattle.shape_normalize.proofs.Form.PremiseTestLemmas.{row_before-last, row_before-none}
 use Rattle.shape_normalize.proofs.ot_shape_normalize.premises.is_supported.Goals as goal
 
 pub items-preserved : goal.items-preserved

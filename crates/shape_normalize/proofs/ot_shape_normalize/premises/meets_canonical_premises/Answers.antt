@@ -1,7 +1,7 @@
 use Rattle.std.proofs.Common.{◌≡◌, Bool, ap, ◌∙◌, sym}
 use Rattle.shape_plan.specs.Rules.{rules_of}
 use Rattle.shape_normalize.specs.PremiseTest.{meets_premises}
-use Rattle.shape_normalize.proofs.PremiseTestLemmas.{test_tells}
+use Rattle.shape_normalize.proofs.Form.PremiseTestLemmas.{test_tells}
 use Rattle.shape_normalize.proofs.ot_shape_normalize.premises.meets_canonical_premises.Goals as goal
 
 pub returns : goal.returns

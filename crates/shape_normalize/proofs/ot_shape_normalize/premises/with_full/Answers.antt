@@ -1,7 +1,7 @@
 use Rattle.std.proofs.Common.{◌≡◌, Some, None, sym, ◌∙◌}
 use Rattle.shape_plan.specs.Rules.{rules_of, has_glyph}
-use Rattle.shape_normalize.proofs.PremiseTestLemmas.{row_before-kept, row_before-dropped, row_before-whole}
-use Rattle.shape_normalize.proofs.RulesLemmas.{FallsAlong-planned}
+use Rattle.shape_normalize.proofs.Form.PremiseTestLemmas.{row_before-kept, row_before-dropped, row_before-whole}
+use Rattle.shape_normalize.proofs.Hooks.RulesLemmas.{FallsAlong-planned}
 use Rattle.shape_normalize.proofs.ot_shape_normalize.premises.with_full.Goals as goal
 
 pub chain-preserved-then-b-ne0 : goal.chain-preserved-then-b-ne0

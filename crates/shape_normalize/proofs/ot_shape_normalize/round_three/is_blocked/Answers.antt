@@ -1,4 +1,4 @@
-use Rattle.canonical_form.proofs.RecomposeWalkLemmas.{blocked_by_found}
+use Rattle.canonical_form.proofs.Recomposing.RecomposeWalkLemmas.{blocked_by_found}
 use Rattle.shape_normalize.specs.RoundThree.{ccc_of_placed_info}
 use Rattle.shape_normalize.proofs.ot_shape_normalize.round_three.is_blocked.Goals as goal
 

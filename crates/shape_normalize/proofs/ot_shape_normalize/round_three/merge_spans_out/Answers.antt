@@ -1,6 +1,6 @@
 use Rattle.std.proofs.Common.{◌<◌, length, ap, ◌∙◌, arith}
 use Rattle.shape_buffer.specs.Buffer.{Buffer}
-use Rattle.shape_normalize.proofs.RoundThreeLemmas.{spans_merged_next}
+use Rattle.shape_normalize.proofs.RoundThree.RoundThreeLemmas.{spans_merged_next}
 use Rattle.shape_normalize.proofs.ot_shape_normalize.round_three.merge_spans_out.Goals as goal
 use Rattle.shape_buffer.proofs.Merging.KeyLemmas.{length-merge_out}
 

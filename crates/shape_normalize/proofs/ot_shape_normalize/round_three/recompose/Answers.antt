@@ -1,8 +1,8 @@
 use Rattle.std.proofs.Common.{◌<◌, ◌≤◌, Err, length, ap, ◌∙◌, arith}
 use Rattle.shape_buffer.specs.Buffer.{Buffer, cleared, limit_of}
 use Rattle.shape_plan.specs.Rules.{rules_of}
-use Rattle.shape_normalize.proofs.ChainedSpanLemmas.{walked_spans_within, walked_spans_merged}
-use Rattle.shape_normalize.proofs.RoundThreeLemmas.{cleared-spans_merged_out, is_round_three, settled_within, refused_for_memory}
+use Rattle.shape_normalize.proofs.RoundThree.ChainedSpanLemmas.{walked_spans_within, walked_spans_merged}
+use Rattle.shape_normalize.proofs.RoundThree.RoundThreeLemmas.{cleared-spans_merged_out, is_round_three, settled_within, refused_for_memory}
 use Rattle.shape_normalize.proofs.ot_shape_normalize.round_three.recompose.Goals as goal
 
 pub merge_spans_out-requires : goal.merge_spans_out-requires

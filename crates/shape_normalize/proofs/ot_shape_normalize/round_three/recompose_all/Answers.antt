@@ -1,7 +1,7 @@
 use Rattle.std.proofs.Common.{◌+◌, drop, length, sym, ap, ◌∙◌, arith}
 use Rattle.std.proofs.lemmas.List.{take_rest}
 use Rattle.shape_plan.specs.Rules.{rules_of}
-use Rattle.shape_normalize.proofs.RoundThreeWalkLemmas.{IsRecomposedTo-first, IsRecomposedTo-joined, IsRecomposedTo-starter, IsRecomposedTo-mark, walked_all}
+use Rattle.shape_normalize.proofs.RoundThree.RoundThreeWalkLemmas.{IsRecomposedTo-first, IsRecomposedTo-joined, IsRecomposedTo-starter, IsRecomposedTo-mark, walked_all}
 use Rattle.shape_normalize.proofs.ot_shape_normalize.round_three.recompose_all.Goals as goal
 use Rattle.shape_normalize.proofs.ot_shape_normalize.round_three.recompose_all.Goals.{then-hb_glyph_info_get_modified_combining_class-eq0, else-hb_glyph_info_get_modified_combining_class-eq0}
 

@@ -1,6 +1,6 @@
 use Rattle.std.proofs.Common.{◌<◌, vec_len}
 use Rattle.shape_plan.specs.Rules.{rules_of}
-use Rattle.shape_normalize.proofs.RoundThreeWalkLemmas.{IsRecomposedTo}
+use Rattle.shape_normalize.proofs.RoundThree.RoundThreeWalkLemmas.{IsRecomposedTo}
 use Rattle.shape_normalize.proofs.ot_shape_normalize.round_three.recompose_all.Given as goal
 
 abbrev pub invariant-loop-place : goal.invariant-loop-place

@@ -1,4 +1,4 @@
-use Rattle.shape_normalize.proofs.RulesLemmas.{used_reorder-lawful}
+use Rattle.shape_normalize.proofs.Hooks.RulesLemmas.{used_reorder-lawful}
 use Rattle.shape_plan.specs.Rules.{rules_of}
 use Rattle.shape_pipeline.proofs.RunLemmas.{outcome-normalised}
 use Rattle.shape_pipeline.proofs.ot_shape.run.normalize.Goals as goal

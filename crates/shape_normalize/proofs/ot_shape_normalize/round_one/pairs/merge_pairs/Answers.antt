@@ -1,7 +1,7 @@
 use Rattle.std.proofs.Common.{◌+◌, ◌≤◌, take, length, ap, ◌∙◌, arith}
 use Rattle.std.specs.List.{All}
 use Rattle.shape_buffer.specs.Buffer.{Buffer}
-use Rattle.shape_normalize.proofs.SelectorLemmas.{pairs_within, length-merged_at}
+use Rattle.shape_normalize.proofs.RoundOne.SelectorLemmas.{pairs_within, length-merged_at}
 use Rattle.shape_normalize.proofs.ot_shape_normalize.round_one.pairs.merge_pairs.Goals as goal
 
 pub overflow_add-place : goal.overflow_add-place

@@ -1,5 +1,5 @@
 use Rattle.std.proofs.Common.{rules}
-use Rattle.canonical_form.proofs.DividedLemmas.{IsFirstPart-at}
+use Rattle.canonical_form.proofs.Lists.DividedLemmas.{IsFirstPart-at}
 use Rattle.shape_normalize.specs.RoundOne.{is_selector_item}
 use Rattle.shape_normalize.proofs.ot_shape_normalize.round_one.sequences.first_variant.Goals as goal
 

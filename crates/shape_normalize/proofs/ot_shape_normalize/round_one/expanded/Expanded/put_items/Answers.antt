@@ -1,7 +1,7 @@
 use Rattle.std.proofs.Common.{rules, arith}
 use Rattle.shape_plan.specs.Rules.{rules_of}
 use Rattle.shape_normalize.specs.RoundOne.{expanded_item}
-use Rattle.shape_normalize.proofs.PieceLemmas.{passed_by_all}
+use Rattle.shape_normalize.proofs.RoundOne.PieceLemmas.{passed_by_all}
 use Rattle.shape_normalize.proofs.ot_shape_normalize.round_one.expanded.Expanded.put_items.Goals as goal
 
 -- what the items up to this one become is a part of what all become

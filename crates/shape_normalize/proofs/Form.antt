@@ -1,0 +1,7 @@
+-- Canonical form: normalised characters, their form, cuts, and the test of the premises.
+pub mod PreparedLemmas
+pub mod CompareLemmas
+pub mod NormalFormLemmas
+pub mod CutFormLemmas
+pub mod CanonicalFormLemmas
+pub mod PremiseTestLemmas

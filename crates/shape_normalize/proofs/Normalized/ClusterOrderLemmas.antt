@@ -1,0 +1,157 @@
+-- Normalising keeps the order of clusters at the monotone levels, and brings no new one.
+use Rattle.std.proofs.Common.{◌≡◌, ℕ, ◌+◌, ◌≤◌, Bool, true, false, if◌then◌else◌, List, [], ◌∷◌, ◌++◌, map, length, Option, None, Some, refl, sym, ap, subst, ◌∙◌, arith}
+use Rattle.std.proofs.lemmas.List.Concat.{flat_map_single}
+use Rattle.std.specs.List.{AllByRecursion, flat_map}
+use Rattle.std.specs.Option.{option_map_or}
+use Rattle.shape_buffer.specs.Buffer.{Buffer}
+use Rattle.shape_buffer.specs.BufferClusters.{merge_clusters}
+use Rattle.shape_buffer.specs.Clusters.{clusters}
+use Rattle.shape_buffer.specs.ClusterOrder.{KeepsClusters, IsMonotoneLevel}
+use Rattle.shape_buffer.specs.Keepers.{IsClusterKeeper}
+use Rattle.shape_buffer.specs.Items.{Item, is_mark_item}
+use Rattle.shape_buffer.specs.declared.buffer.settings.GlyphId.{GlyphId}
+use Rattle.shape_buffer.proofs.Deletion.DeleteKeeps.{merged_keeps}
+use Rattle.canonical_form.proofs.Lists.DividedLemmas.{values-divided}
+use Rattle.shape_buffer.proofs.Order.DrawsInOrder.{DrawsInOrder, DrawsInOrder-behind, DrawsInOrder-again, KeepsClusters-from_draws}
+use Rattle.shape_buffer.proofs.Steps.KeeperLemmas.{KeepsClusters-same, KeepsClusters-then}
+use Rattle.shape_buffer.proofs.Merging.KeyLemmas.{length-merge_clusters}
+use Rattle.shape_plan.specs.Rules.{Rules}
+use Rattle.shape_normalize.proofs.RoundOne.SelectorLemmas.{pairs_within}
+use Rattle.std.proofs.lemmas.List.Elements.{recursion_from_All}
+use Rattle.shape_normalize.specs.RoundOne.{part_item, whole_item, expansion_of, expanded_item, passed_item, marked_selector, variant_items, variants, is_selector_item, is_selector_sequence, is_with_marks, pairs_from, merged_at, pairs_merged, sequences, sequence_items, expanded, round_one}
+use Rattle.shape_normalize.specs.RoundTwo.{cgj_settled}
+use Rattle.shape_normalize.specs.Normalized.{normalized, HookKeepsClusters}
+use Rattle.shape_normalize.proofs.RoundOne.DrawnLemmas.{DrawsBefore, DrawsBefore-same, draws_whole, draws_pieces}
+use Rattle.shape_normalize.proofs.RoundTwo.CgjLemmas.{keys-cgj_settled}
+use Rattle.shape_normalize.proofs.Normalized.NormalizedLemmas.{kept_by_rounds}
+use Rattle.shape_normalize.proofs.RoundTwo.OrderedClusterLemmas.{marks_ordered_keeps}
+use Rattle.shape_normalize.proofs.RoundThree.RecomposedClusterLemmas.{round_three_keeps}
+use Rattle.shape_normalize.proofs.Hooks.ReorderLemmas.{LawfulReorder}
+use Rattle.shape_normalize.proofs.RoundOne.RoundOneLemmas.{whole_item_is}
+use Rattle.shape_normalize.proofs.Normalized.SettingLemmas.{level-round_one, settings-normalized}
+
+-- ---- round one: what the items become
+
+module _ (rules : Rules) where
+  -- the parts of an item stand in its cluster
+  draws_parts : (item : Item) (cs : List ℕ) (from drawn : List ℕ) → DrawsInOrder (item.cluster ∷ from) drawn
+      → DrawsInOrder (item.cluster ∷ from) (clusters (map (part_item rules.unicode rules.face.nominal_glyph item) cs) ++ drawn)
+  draws_parts item [] from drawn h = h
+  draws_parts item (c ∷ cs) from drawn h =
+      DrawsInOrder-again item.cluster from (clusters (map (part_item rules.unicode rules.face.nominal_glyph item) cs) ++ drawn)
+      (draws_parts item cs from drawn h)
+
+  cluster-whole_item : (invisible : Option GlyphId) (item : Item) → (whole_item rules invisible item).cluster ≡ item.cluster
+  cluster-whole_item invisible item =
+      whole_item_is rules invisible (λ whole. whole.cluster ≡ item.cluster) item (λ glyph. refl) (λ glyph space. refl)
+
+  draws_found : (invisible : Option GlyphId) (item : Item) (found : Option (List ℕ))
+      → DrawsBefore (item.cluster
+      ∷ []) (clusters (option_map_or (map (part_item rules.unicode rules.face.nominal_glyph item)) found
+      (whole_item rules invisible item ∷ [])))
+  draws_found invisible item None = rw (cluster-whole_item invisible item) (DrawsBefore-same (item.cluster ∷ []))
+  draws_found invisible item (Some cs) = λ from drawn h. draws_parts item cs from drawn (DrawsInOrder-behind item.cluster from drawn h)
+
+  draws_expanded_items : (invisible : Option GlyphId) (short : Bool) (items : List Item)
+      → DrawsBefore (clusters items) (clusters (flat_map (expanded_item rules invisible short) items))
+  draws_expanded_items invisible short items =
+      rw (← flat_map_single (λ (item : Item). item.cluster) items)
+      (draws_pieces (expanded_item rules invisible short) (λ (item : Item). item.cluster ∷ [])
+      (λ item. draws_found invisible item (expansion_of rules short item)) items)
+
+  clusters-passed : (items : List Item) → clusters (map (passed_item rules.face.nominal_glyph) items) ≡ clusters items
+  clusters-passed [] = refl
+  clusters-passed (item ∷ items) = ap (λ l. item.cluster ∷ l) (clusters-passed items)
+
+  -- of an item and its selectors the first selector may go
+  draws_variant : (not_found : Option GlyphId) (part : List Item)
+      → DrawsBefore (clusters part) (clusters (variant_items rules.face not_found part))
+  draws_variant not_found [] = DrawsBefore-same []
+  draws_variant not_found (x ∷ []) = DrawsBefore-same (x.cluster ∷ [])
+  draws_variant not_found (x ∷ v ∷ rest) =
+      elim (rules.face.variation_glyph x.codepoint v.codepoint) as (λ o. DrawsBefore (clusters (x ∷ v ∷ rest)) (clusters
+      (elim o [
+        | Some g ↦ record x { glyph_index = g.0 }
+            ∷ map (passed_item rules.face.nominal_glyph) rest
+        | None ↦ passed_item rules.face.nominal_glyph x
+            ∷ marked_selector not_found (passed_item rules.face.nominal_glyph v) ∷ map (passed_item rules.face.nominal_glyph) rest
+      ]))) [
+        | Some g ↦ rw (clusters-passed rest) (λ from drawn h. DrawsInOrder-again x.cluster _ _
+            (DrawsInOrder-behind x.cluster _ _ (DrawsInOrder-behind v.cluster _ _ (DrawsBefore-same (clusters rest) from drawn h))))
+        | None ↦ rw (clusters-passed rest) (DrawsBefore-same (clusters (x ∷ v ∷ rest)))
+      ]
+
+  draws_variants : (not_found : Option GlyphId) (sequence : List Item)
+      → DrawsBefore (clusters sequence) (clusters (flat_map (variant_items rules.face not_found) (variants rules.unicode sequence)))
+  draws_variants not_found sequence =
+      rw (← values-divided (is_selector_item rules.unicode) (λ (item : Item). item.cluster) sequence)
+      (draws_pieces (variant_items rules.face not_found) clusters (draws_variant not_found) (variants rules.unicode sequence))
+
+  draws_sequence : (invisible not_found : Option GlyphId) (sequence : List Item)
+      → DrawsBefore (clusters sequence) (clusters (sequence_items rules invisible not_found sequence))
+  draws_sequence invisible not_found sequence =
+      elim (is_selector_sequence rules.unicode sequence) as (λ t. DrawsBefore (clusters sequence)
+      (clusters (if t then flat_map (variant_items rules.face not_found) (variants rules.unicode sequence)
+      else flat_map (expanded_item rules invisible (rules.short (is_with_marks sequence))) sequence))) [
+        | true ↦ draws_variants not_found sequence
+        | false ↦ draws_expanded_items invisible (rules.short (is_with_marks sequence)) sequence
+      ]
+
+  expanded_draws : (invisible not_found : Option GlyphId) (items : List Item)
+      → DrawsInOrder (clusters items) (clusters (expanded rules invisible not_found items))
+  expanded_draws invisible not_found items =
+      draws_whole (clusters items) (clusters (expanded rules invisible not_found items))
+      (rw (← values-divided is_mark_item (λ (item : Item). item.cluster) items)
+      (draws_pieces (sequence_items rules invisible not_found) clusters (draws_sequence invisible not_found) (sequences items)))
+
+-- ---- round one: the pairs that are merged
+
+module _ (rules : Rules) where
+  merged_at_keeps : (n : ℕ) (places : List ℕ) (b : Buffer) → length b.items ≡ n → AllByRecursion (λ place. place + 2 ≤ n) places
+      → KeepsClusters (clusters b.items) (clusters (merged_at b places).items)
+  merged_at_keeps n [] b as_many within = KeepsClusters-same (clusters b.items)
+  merged_at_keeps n (place ∷ places) b as_many within =
+      let merged = merge_clusters place (place + 2) b in
+      let first = merged_keeps place (place + 2) b merged (omega (arith, within.0)) refl in
+      KeepsClusters-then _ _ _ first.0 (merged_at_keeps n places merged (length-merge_clusters place (place + 2) b ∙ as_many) within.1)
+
+  pairs_merged_keeps : (b : Buffer) → KeepsClusters (clusters b.items) (clusters (pairs_merged rules b).items)
+  pairs_merged_keeps b =
+      merged_at_keeps (length b.items) (pairs_from rules.unicode rules.face 0 (sequences b.items)) b refl
+      (recursion_from_All (λ place. place + 2 ≤ length b.items) _ (pairs_within rules.unicode rules.face b.items))
+
+  -- expanding keeps the order of clusters
+  pub round_one_keeps : (b : Buffer) → KeepsClusters (clusters b.items) (clusters (round_one rules b).items)
+  round_one_keeps b =
+      KeepsClusters-then _ _ _ (pairs_merged_keeps b) (KeepsClusters-from_draws _ _
+      (expanded_draws rules b.invisible_glyph b.not_found_variation_selector_glyph (pairs_merged rules b).items))
+
+-- ---- the rounds together
+
+-- showing joiners changes no cluster
+pub cgj_settled_clusters : (b : Buffer) → clusters (cgj_settled b).items ≡ clusters b.items
+cgj_settled_clusters b = keys-cgj_settled (λ item. item.cluster) (λ item. refl) b
+
+module _ (rules : Rules) (lawful : LawfulReorder rules.reorder) where
+  -- normalising keeps the order of clusters at the monotone levels, and brings no new one, where the reorder hook does
+  pub normalized_keeps : (b new : Buffer) → new ≡ normalized rules b → IsMonotoneLevel b.cluster_level → HookKeepsClusters rules
+      → KeepsClusters (clusters b.items) (clusters new.items)
+  normalized_keeps b new is monotone hook =
+      let one : Buffer = round_one rules b in
+      rw is (kept_by_rounds rules (λ c. KeepsClusters (clusters b.items) (clusters c.items)) b
+      (λ so_far. KeepsClusters-then _ _ _ so_far (marks_ordered_keeps rules.reorder lawful hook one
+      (subst IsMonotoneLevel (sym (level-round_one rules b)) monotone)))
+      (λ c so_far. rw (cgj_settled_clusters c) so_far)
+      (λ c so_far. KeepsClusters-then _ _ _ so_far (round_three_keeps rules c))
+      (round_one_keeps rules b))
+
+  -- so normalising keeps clusters as a step of a run
+  pub KeepsOrder-normalized : HookKeepsClusters rules → IsClusterKeeper (normalized rules)
+  KeepsOrder-normalized hook b monotone =
+      let same = settings-normalized rules lawful b in
+      record {
+        clusters = normalized_keeps b (normalized rules b) refl monotone hook;
+        direction = ap (λ (c : Buffer). c.direction) same;
+        flags = ap (λ (c : Buffer). c.flags) same;
+        level = ap (λ (c : Buffer). c.cluster_level) same;
+      }

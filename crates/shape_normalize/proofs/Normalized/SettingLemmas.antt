@@ -1,0 +1,68 @@
+-- Normalising keeps the cluster level, and the limit, which the lists of its rounds stay within.
+use Rattle.std.proofs.Common.{◌≡◌, ◌≤◌, ◌==◌, Bool, true, false, [], if◌then◌else◌, length, bit_and, refl, ap, ◌∙◌, arith}
+use Rattle.shape_buffer.specs.Buffer.{Buffer, limit_of}
+use Rattle.shape_plan.specs.Rules.{Rules}
+use Rattle.shape_normalize.specs.RoundOne.{sequences, pairs_from, round_one}
+use Rattle.shape_normalize.specs.RoundThree.{joined_spans, recomposed_items}
+use Rattle.shape_normalize.specs.RoundTwo.{marks_ordered, cgj_settled, cgj_shown, has_mark_past_first}
+use Rattle.shape_normalize.specs.Normalized.{normalized, ordered}
+use Rattle.shape_normalize.proofs.Normalized.NormalizedLemmas.{length-ordered, kept_by_rounds}
+use Rattle.shape_normalize.proofs.Hooks.ReorderLemmas.{LawfulReorder}
+use Rattle.shape_normalize.proofs.RoundThree.RoundThreeLemmas.{spans_merged_out_is}
+use Rattle.shape_normalize.proofs.RoundOne.SelectorLemmas.{without_items-merged_at}
+use Rattle.shape_normalize.proofs.RoundTwo.SettleLemmas.{without_items-marks_ordered}
+
+-- ---- round one
+
+module _ (rules : Rules) (b : Buffer) where
+  pub level-round_one : (round_one rules b).cluster_level ≡ b.cluster_level
+  level-round_one =
+      ap (λ (c : Buffer). c.cluster_level) (without_items-merged_at b (pairs_from rules.unicode rules.face 0 (sequences b.items)))
+
+  limit-round_one : (round_one rules b).length_limit ≡ b.length_limit
+  limit-round_one =
+      ap (λ (c : Buffer). c.length_limit) (without_items-merged_at b (pairs_from rules.unicode rules.face 0 (sequences b.items)))
+
+-- ---- the ordered list
+
+limit-cgj_settled : (b : Buffer) → (cgj_settled b).length_limit ≡ b.length_limit
+limit-cgj_settled b =
+    elim (bit_and b.scratch_flags.0 8 == 8) as (λ t. (if t then record b { items = cgj_shown b.items } else b).length_limit
+    ≡ b.length_limit) [ true ↦ refl | false ↦ refl ]
+
+module _ (rules : Rules) (lawful : LawfulReorder rules.reorder) where
+  limit-ordered : (b : Buffer) → (ordered rules b).length_limit ≡ b.length_limit
+  limit-ordered b = limit-cgj_settled _ ∙ by_test (has_mark_past_first b.items) ∙ limit-round_one rules b
+    where
+      by_test : (test : Bool)
+          → (if test then marks_ordered rules.reorder (round_one rules b) else round_one rules b).length_limit
+          ≡ (round_one rules b).length_limit
+      by_test true = ap (λ (c : Buffer). c.length_limit) (without_items-marks_ordered rules.reorder lawful (round_one rules b))
+      by_test false = refl
+
+  -- where the expanded list is within the limit, so is the ordered one, within its own
+  pub within_ordered : (b : Buffer) → length (round_one rules b).items ≤ limit_of b
+      → length (ordered rules b).items ≤ limit_of (ordered rules b)
+  within_ordered b within = rw (limit-ordered b) (omega (arith, length-ordered rules lawful b))
+
+  pub limit_of-ordered : (b : Buffer) → limit_of (ordered rules b) ≡ limit_of b
+  limit_of-ordered b = rw (limit-ordered b) refl
+
+-- ---- what no round writes
+
+-- all of a buffer but its items, their positions and the scratch flags
+abbrev pub settings_of : Buffer → Buffer
+settings_of b = record b { items = []; positions = []; scratch_flags = record { 0 = 0 } }
+
+settings-cgj : (b : Buffer) → settings_of (cgj_settled b) ≡ settings_of b
+settings-cgj b = elim (bit_and b.scratch_flags.0 8 == 8)
+    as (λ t. settings_of (if t then record b { items = cgj_shown b.items } else b) ≡ settings_of b) [ true ↦ refl | false ↦ refl ]
+
+pub settings-normalized : (rules : Rules) → LawfulReorder rules.reorder → (b : Buffer) → settings_of (normalized rules b) ≡ settings_of b
+settings-normalized rules lawful b =
+    let one : Buffer = round_one rules b in
+    kept_by_rounds rules (λ c. settings_of c ≡ settings_of b) b
+    (λ so_far. ap settings_of (without_items-marks_ordered rules.reorder lawful one) ∙ so_far)
+    (λ c so_far. settings-cgj c ∙ so_far)
+    (λ c so_far. ap settings_of (spans_merged_out_is (joined_spans (recomposed_items rules c.items)) c) ∙ so_far)
+    (ap settings_of (without_items-merged_at b (pairs_from rules.unicode rules.face 0 (sequences b.items))))

@@ -1,0 +1,112 @@
+-- Each item of the recomposed list is what became of the starter that stood at its place.
+use Rattle.std.proofs.Common.{◌≡◌, ℕ, zero, suc, true, List, [], ◌∷◌, ◌++◌, map, get_or, Some, refl, sym, ap, subst, ◌∙◌}
+use Rattle.std.specs.List.{AllByRecursion, AllZip}
+use Rattle.shape_buffer.specs.Buffer.{Buffer}
+use Rattle.shape_buffer.specs.Items.{Item}
+use Rattle.canonical_form.specs.Recompose.{is_blocked_by_last}
+use Rattle.canonical_form.proofs.Recomposing.RecomposeLemmas.{recomposed-all}
+use Rattle.shape_plan.specs.Rules.{Rules, has_glyph}
+use Rattle.shape_normalize.specs.Normalized.{features_of}
+use Rattle.shape_normalize.specs.Origins.{item_at, IsOnceJoined, IsFromStarter}
+use Rattle.shape_normalize.specs.Reordered.{unmerged}
+use Rattle.shape_normalize.specs.RoundOne.{part_item}
+use Rattle.shape_normalize.specs.RoundThree.{Joined, Placed, placed, ccc_of_placed, is_mark_placed, compose_placed, recomposed_items, joined_spans, spans_merged_out, with_cluster_at, round_three}
+use Rattle.shape_normalize.proofs.Normalized.FeatureLemmas.{features-spans_merged_out}
+use Rattle.shape_normalize.proofs.Places.OriginLemmas.{AllAt, same_at}
+use Rattle.shape_normalize.proofs.RoundThree.RecomposedItemLemmas.{glyph_of_joined}
+use Rattle.shape_normalize.proofs.RoundThree.RoundThreePlaceLemmas.{joined_is}
+
+-- what holds of each item and what is made of it holds along both lists
+zip_map : {A B : Type 0} (R : A → B → Type 0) (f : A → B) (xs : List A) → AllByRecursion (λ x. R x (f x)) xs → AllZip R xs (map f xs)
+zip_map R f [] each = tt
+zip_map R f (x ∷ xs) each = (each.0, zip_map R f xs each.1)
+
+-- of lists with the same feature bits, what stands at a place has those of an item that has them in the other
+features_at : (xs ys : List Item) → map features_of xs ≡ map features_of ys → (place : ℕ) (other : Item)
+    → features_of (item_at ys place) ≡ features_of other → features_of (get_or xs place other) ≡ features_of other
+features_at [] ys same place other is = refl
+features_at (x ∷ xs) [] same place other is = absurd (cc)
+features_at (x ∷ xs) (y ∷ ys) same zero other is = let head : features_of x ≡ features_of y = cc in head ∙ is
+features_at (x ∷ xs) (y ∷ ys) same (suc place) other is = let tail : map features_of xs ≡ map features_of ys = cc in
+    features_at xs ys tail place other is
+
+module _ (rules : Rules) where
+  -- an item, once marks were composed with it, by the character that it has then
+  abbrev once_joined : Item → List Joined → ℕ → Item
+  once_joined from [] c = from
+  once_joined from (mark ∷ marks) c = part_item rules.unicode rules.face.nominal_glyph from c
+
+  -- which has a glyph
+  abbrev HasGlyphOnceJoined : List Joined → ℕ → Type 0
+  HasGlyphOnceJoined [] c = Unit {0}
+  HasGlyphOnceJoined (mark ∷ marks) c = has_glyph rules.face.nominal_glyph c ≡ true
+
+  -- an item that is composed with one more mark has that character alone
+  joined_once : (from item : Item) (joined : List Joined) (mark : Joined) (c : ℕ) → item ≡ once_joined from joined item.codepoint
+      → part_item rules.unicode rules.face.nominal_glyph item c ≡ once_joined from (joined ++ mark ∷ []) c
+  joined_once from item [] mark c is = ap (λ (one : Item). part_item rules.unicode rules.face.nominal_glyph one c) is
+  joined_once from item (m ∷ ms) mark c is = ap (λ (one : Item). part_item rules.unicode rules.face.nominal_glyph one c) is
+
+  has_glyph_once : (joined : List Joined) (mark : Joined) (c : ℕ) → has_glyph rules.face.nominal_glyph c ≡ true
+      → HasGlyphOnceJoined (joined ++ mark ∷ []) c
+  has_glyph_once [] mark c has = has
+  has_glyph_once (m ∷ ms) mark c has = has
+
+  features_once : (from : Item) (joined : List Joined) (c : ℕ) → features_of (once_joined from joined c) ≡ features_of from
+  features_once from [] c = refl
+  features_once from (mark ∷ marks) c = refl
+
+  -- whatever its cluster and its flags
+  settled_once : (from item new : Item) (joined : List Joined) → item ≡ once_joined from joined item.codepoint
+      → HasGlyphOnceJoined joined item.codepoint → unmerged new ≡ unmerged item → IsOnceJoined rules from joined new
+  settled_once from item new [] is has same = same ∙ ap unmerged is
+  settled_once from item new (mark ∷ marks) is has same =
+      let char : new.codepoint ≡ item.codepoint = ap (λ (one : Item). one.codepoint) same in (
+        ap (has_glyph rules.face.nominal_glyph) char ∙ has,
+        same ∙ ap unmerged is ∙ ap (λ c. unmerged (part_item rules.unicode rules.face.nominal_glyph from c)) (sym char),
+      )
+
+  module _ (items : List Item) where
+    -- an item that was put out, before it takes the cluster and the mask at its place
+    abbrev IsPutOut : Placed → Type 0
+    IsPutOut p = (p.item ≡ once_joined (item_at items p.place) p.joined p.item.codepoint) × HasGlyphOnceJoined p.joined p.item.codepoint
+
+    placed_once : (place : ℕ) (rest : List Item) → AllAt (λ n item. item ≡ item_at items n) place rest
+        → AllByRecursion IsPutOut (placed place rest)
+    placed_once place [] each = tt
+    placed_once place (item ∷ rest) each = ((each.0, tt), placed_once (suc place) rest each.1)
+
+    joins_once : (s mark d : Placed) → IsPutOut s → IsPutOut mark → compose_placed rules s mark ≡ Some d → IsPutOut d
+    joins_once s mark d of_s of_mark is =
+        let made = joined_is rules s mark d is in
+        let last : Joined = record { place = mark.place; char = made.0 } in
+        let has = glyph_of_joined (has_glyph rules.face.nominal_glyph) (rules.compose s.item.codepoint mark.item.codepoint) made.0 made.1 in
+        subst IsPutOut (sym made.2)
+        (joined_once (item_at items s.place) s.item s.joined last made.0 of_s.0, has_glyph_once s.joined last made.0 has)
+
+    each_once : AllByRecursion IsPutOut (recomposed_items rules items)
+    each_once =
+        recomposed-all ccc_of_placed (is_blocked_by_last ccc_of_placed) is_mark_placed (compose_placed rules) IsPutOut joins_once
+        (placed 0 items)
+        (placed_once 0 items (same_at (λ item. item) items items refl))
+
+    settled_from : (merged : List Item) → map features_of merged ≡ map features_of items → (out : List Placed)
+        → AllByRecursion IsPutOut out → AllByRecursion (λ p. IsFromStarter rules items p (with_cluster_at merged p)) out
+    settled_from merged same [] each = tt
+    settled_from merged same (p ∷ out) each =
+        let from = item_at items p.place in
+        let own : features_of from ≡ features_of p.item = sym (ap features_of each.0.0 ∙ features_once from p.joined p.item.codepoint) in
+        let item : Item = p.item in (
+          settled_once from item (with_cluster_at merged p) p.joined each.0.0 each.0.1
+              (ap (λ mask. record item { cluster = 0; mask = mask }) (features_at merged items same p.place p.item own)),
+          settled_from merged same out each.1,
+        )
+
+  -- each item of the recomposed list is what became of its starter
+  pub recomposed_by_place : (b : Buffer)
+      → AllZip (IsFromStarter rules b.items) (recomposed_items rules b.items) (round_three rules b).items
+  recomposed_by_place b =
+      let out = recomposed_items rules b.items in
+      let merged = (spans_merged_out (joined_spans out) b).items in
+      zip_map (IsFromStarter rules b.items) (with_cluster_at merged) out
+      (settled_from b.items merged (features-spans_merged_out (joined_spans out) b) out (each_once b.items))

@@ -1,0 +1,163 @@
+-- The worked cases of where items came from.
+use Rattle.std.proofs.Common.{◌≡◌, ℕ, zero, suc, ◌<◌, ◌≤◌, true, false, [], ◌∷◌, ◌++◌, get_or, refl, sym, ap, ◌∙◌, arith, inl, inr}
+use Rattle.std.proofs.lemmas.List.Sorted.{length_permutation}
+use Rattle.canonical_form.specs.Order.{IsSwap, Swaps}
+use Rattle.canonical_form.proofs.Ordering.OrderLemmas.{in_order_from_reached}
+use Rattle.shape_buffer.specs.Clusters.{merge}
+use Rattle.shape_buffer.specs.Items.{Item, ccc_of_item}
+use Rattle.shape_normalize.specs.Origins.{item_at, AreInOneRun, IsOrderOf}
+use Rattle.shape_normalize.specs.RoundTwo.{run_settled}
+use Rattle.shape_normalize.specs.WorkedWorld.{rules_in}
+use Rattle.shape_normalize.specs.WorkedOrigins.{PlacesWorked, NewPlacesWorked, OfOriginWorked, runs_of_marks, OrderWorked, FromPlaceWorked, FromStarterWorked, OriginsWorked}
+
+places_worked : PlacesWorked
+unfolding merge
+places_worked = record {
+  parts = refl;
+  whole = refl;
+  in_sequence = refl;
+  pair = refl;
+  no_pair = refl;
+  second_selector = refl;
+  behind_pair = refl;
+  before_pair = refl;
+  lone_selector = refl;
+}
+
+new_places_worked : NewPlacesWorked
+unfolding merge run_settled
+new_places_worked = record { composed = refl; left = refl }
+
+of_origin_worked : OfOriginWorked
+of_origin_worked = record {
+  part = record { features = refl; glyph = λ outside. refl; hidden = λ stays. inr refl };
+  kept = record { features = refl; glyph = λ outside. refl; hidden = λ stays. inl refl };
+  other_features = λ h. let no : 512 ≡ 256 = h.features in omega (arith, no);
+  other_glyph = λ h. let no : 7 ≡ 0x61 = h.glyph refl in omega (arith, no);
+  variant_glyph = record { features = refl; glyph = λ inside. absurd (cc); hidden = λ stays. inr refl };
+  other_hidden = λ h. elim (h.hidden refl) [ inl same ↦ let no : 0x61 ≡ 0xE1 = ap (λ k. k.0) same in omega (arith, no) | inr own ↦ cc ];
+  neighbour_hidden = λ h. elim (h.hidden refl) [
+    | inl same ↦ let no : 0x61 ≡ 0x62 = ap (λ k. k.0) same in omega (arith, no)
+    | inr own ↦
+        cc
+  ];
+  once_shown = record { features = refl; glyph = λ outside. refl; hidden = λ stays. absurd (cc) };
+}
+
+-- the three marks of the first run
+first_run : (k : ℕ) → 1 ≤ k → k ≤ 3 → 0 < ccc_of_item (item_at runs_of_marks k)
+first_run zero low high = absurd (omega arith)
+first_run (suc zero) low high = omega arith
+first_run (suc (suc zero)) low high = omega arith
+first_run (suc (suc (suc zero))) low high = omega arith
+first_run (suc (suc (suc (suc k)))) low high = absurd (omega arith)
+
+starter_apart : AreInOneRun runs_of_marks 0 1 → ⊥
+starter_apart h = elim h [
+  | inl same ↦ omega (arith, same)
+  | inr between ↦ let no : 0 < 0 = between 0 (omega arith) (omega arith) in
+      omega (arith, no)
+]
+
+runs_apart : AreInOneRun runs_of_marks 3 5 → ⊥
+runs_apart h = elim h [
+  | inl same ↦ omega (arith, same)
+  | inr between ↦ let no : 0 < 0 = between 4 (omega arith) (omega arith) in
+      omega (arith, no)
+]
+
+turned_runs : (i d : ℕ) → i < 6 → AreInOneRun runs_of_marks i (get_or (0 ∷ 3 ∷ 2 ∷ 1 ∷ 4 ∷ 5 ∷ []) i d)
+turned_runs zero d lt = inl refl
+turned_runs (suc zero) d lt = inr (λ k low high. first_run k (omega arith) (omega arith))
+turned_runs (suc (suc zero)) d lt = inl refl
+turned_runs (suc (suc (suc zero))) d lt = inr (λ k low high. first_run k (omega arith) (omega arith))
+turned_runs (suc (suc (suc (suc zero)))) d lt = inl refl
+turned_runs (suc (suc (suc (suc (suc zero))))) d lt = inl refl
+turned_runs (suc (suc (suc (suc (suc (suc i)))))) d lt = absurd (omega arith)
+
+-- settled, the first run begins with U+0323
+as_they_stood : IsOrderOf (rules_in 1 []) runs_of_marks (0 ∷ 1 ∷ 2 ∷ 3 ∷ 4 ∷ 5 ∷ []) → ⊥
+as_they_stood h =
+    let ccc : ℕ → ℕ = λ place. ccc_of_item (item_at runs_of_marks place) in
+    let none : h.0 ≡ [] = in_order_from_reached ccc [] h.0 h.2.reached h.2.ordered in
+    let run : h.3.0 ≡ 2 ∷ 1 ∷ 3 ∷ [] = in_order_from_reached ccc (1 ∷ 2 ∷ 3 ∷ []) h.3.0 h.3.2.reached h.3.2.ordered in
+    let all : (0 ∷ 1 ∷ 2 ∷ 3 ∷ 4 ∷ 5 ∷ []) ≡ 0 ∷ h.1 = h.4 ∙ ap (λ l. l ++ 0 ∷ h.1) none in
+    let later : h.1 ≡ 2 ∷ 1 ∷ 3 ∷ 4 ∷ h.3.1 = h.3.4 ∙ ap (λ l. l ++ 4 ∷ h.3.1) run in
+    let no : get_or (0 ∷ h.1) 1 7 ≡ 1 = ap (λ l. get_or l 1 7) (sym all) in
+    let yes : get_or (0 ∷ h.1) 1 7 ≡ 2 = ap (λ l. get_or l 0 7) later in
+    omega (arith, no, yes)
+
+order_worked : OrderWorked
+order_worked = record {
+  same_place = inl refl;
+  in_run = inr (λ k low high. first_run k (omega arith) (omega arith));
+  not_with_starter = λ h. elim h [
+    | inl same ↦ omega (arith, same)
+    | inr between ↦ let no : 0 < 0 =
+        between 0 (omega arith) (omega arith) in omega (arith, no)
+  ];
+  not_past_starter = runs_apart;
+  turned = record { all = record { moves = (1, 3) ∷ []; below = (omega arith, omega arith, tt); is = refl }; runs = turned_runs };
+  starter_moved = λ h. starter_apart (h.runs 0 0 (omega arith));
+  other_run = λ h. runs_apart (h.runs 3 0 (omega arith));
+  left_out = λ h. let no : 5 ≡ 6 = length_permutation (0 ∷ 1 ∷ 2 ∷ 3 ∷ 4 ∷ 5 ∷ []) (0 ∷ 1 ∷ 2 ∷ 4 ∷ 5 ∷ []) h.all in omega (arith, no);
+  by_ccc = (
+    [],
+    2 ∷ 1 ∷ 3 ∷ 4 ∷ 5 ∷ [],
+    record { reached = Swaps.done; ordered = tt },
+    (
+      2 ∷ 1 ∷ 3 ∷ [],
+      5 ∷ [],
+      record {
+        reached = Swaps.then (IsSwap.here 1 2 (3 ∷ []) (omega arith) (omega arith) (λ e. omega (arith, e))) Swaps.done;
+        ordered =
+            (λ mark. omega arith, (λ mark. omega arith, tt));
+      },
+      record { reached = Swaps.done; ordered = tt },
+      refl,
+    ),
+    refl,
+  );
+  not_by_ccc = λ h. as_they_stood h;
+}
+
+from_place_worked : FromPlaceWorked
+from_place_worked = record {
+  stays = inl refl;
+  seen = inr (refl, refl, refl);
+  unseen = λ h. elim h [
+    | inl same ↦ let no : false ≡ true = ap (λ (one : Item). one.properties.hidden) same in cc
+    | inr showing ↦
+        let no : false ≡ true = showing.0 in cc
+  ];
+  other_place = λ h. elim h [
+    | inl same ↦ let no : 0x34F ≡ 0x61 = ap (λ (one : Item). one.codepoint) same in
+        omega (arith, no)
+    | inr showing ↦ let no : 0x61 ≡ 0x34F = showing.1 in omega (arith, no)
+  ];
+  other_features = λ h. elim h [
+    | inl same ↦ let no : 512 ≡ 256 = ap (λ (one : Item). one.mask) same in omega (arith, no)
+    | inr showing ↦
+        let no : 512 ≡ 256 = ap (λ (one : Item). one.mask) showing.2 in omega (arith, no)
+  ];
+}
+
+from_starter_worked : FromStarterWorked
+from_starter_worked = record {
+  stays = refl;
+  composed = (refl, refl);
+  features_of_mark = λ h. let no : 512 ≡ 256 = ap (λ (one : Item). one.mask) h.1 in omega (arith, no);
+  not_composed = λ h. let no : 0xE1 ≡ 0x61 = ap (λ (one : Item). one.codepoint) h in omega (arith, no);
+  other_glyph = λ h. let no : 0x61 ≡ 0xE1 = ap (λ (one : Item). one.glyph_index) h.1 in omega (arith, no);
+}
+
+pub origins_worked : OriginsWorked
+origins_worked = record {
+  places = places_worked;
+  new_places = new_places_worked;
+  of_origin = of_origin_worked;
+  order = order_worked;
+  from_place =
+      from_place_worked;
+  from_starter = from_starter_worked;
+}

@@ -1,0 +1,7 @@
+-- Round one: sequences, those that hold a variation selector, and what each item becomes.
+pub mod StepLemmas
+pub mod PieceLemmas
+pub mod SequenceLemmas
+pub mod DrawnLemmas
+pub mod SelectorLemmas
+pub mod RoundOneLemmas

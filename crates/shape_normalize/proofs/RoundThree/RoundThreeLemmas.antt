@@ -1,0 +1,115 @@
+-- Round three: what the walk that recomposes has put out, and what it leaves.
+use Rattle.std.proofs.Common.{◌≡◌, ℕ, ◌+◌, ◌<◌, ◌≤◌, List, [], ◌∷◌, length, map, replicate, get_or, drop, Result, Ok, Err, IsErrAnd, IsOkUnless, refl, ap, ap₂, ◌∙◌, arith, add-one, drop-cons}
+use Rattle.std.proofs.lemmas.List.{length-map}
+use Rattle.shape_buffer.specs.Buffer.{Buffer, cleared, limit_of}
+use Rattle.shape_buffer.specs.BufferClusters.{merge_out_clusters}
+use Rattle.shape_buffer.specs.Items.{Item}
+use Rattle.shape_buffer.specs.Positions.{zero_position}
+use Rattle.shape_buffer.specs.declared.buffer.flags.ScratchFlags.{ScratchFlags}
+use Rattle.shape_buffer.specs.declared.buffer.error.ShapeError.{ShapeError}
+use Rattle.shape_buffer.specs.declared.buffer.error.ShapeError.TheVariants.{Memory, Length}
+use Rattle.shape_buffer.proofs.Merging.ClusterLemmas.{merge_out-cases}
+use Rattle.shape_buffer.proofs.Merging.KeyLemmas.{length-merge_out}
+use Rattle.shape_normalize.specs.RoundOne.{seen_chars}
+use Rattle.shape_normalize.specs.RoundThree.{Placed, recomposed_items, joined_spans, composed_chars, spans_merged_out, placed_info, with_cluster_at, settled_info, round_three}
+use Rattle.shape_plan.specs.Rules.{Rules}
+use Rattle.shape_normalize.specs.declared.ot_shape_normalize.round_three.PlacedInfo.{PlacedInfo}
+use Rattle.shape_normalize.proofs.RoundThree.RoundThreePlaceLemmas.{length-recomposed}
+
+-- ---- the spans are merged
+
+-- merging changes the items alone
+pub merge_out_is : (start end : ℕ) (b : Buffer)
+    → merge_out_clusters start end b ≡ record b { items = (merge_out_clusters start end b).items }
+merge_out_is start end b = merge_out-cases (λ c. c ≡ record b { items = c.items }) start end b refl refl
+
+pub spans_merged_out_is : (spans : List (ℕ × ℕ)) (b : Buffer)
+    → spans_merged_out spans b ≡ record b { items = (spans_merged_out spans b).items }
+spans_merged_out_is [] b = refl
+spans_merged_out_is (span ∷ spans) b =
+    let merged : Buffer = merge_out_clusters span.0 span.1 b in
+    spans_merged_out_is spans merged
+    ∙ ap (λ (m : Buffer). record m { items = (spans_merged_out spans merged).items }) (merge_out_is span.0 span.1 b)
+
+pub length-spans_merged_out : (spans : List (ℕ × ℕ)) (b : Buffer) → length (spans_merged_out spans b).items ≡ length b.items
+length-spans_merged_out [] b = refl
+length-spans_merged_out (span ∷ spans) b =
+    length-spans_merged_out spans (merge_out_clusters span.0 span.1 b) ∙ length-merge_out span.0 span.1 b
+
+-- one more span merged
+pub spans_merged_next : (spans : List (ℕ × ℕ)) (i : ℕ) (d : ℕ × ℕ) (b new : Buffer) → i < length spans
+    → new ≡ merge_out_clusters (get_or spans i d).0 (get_or spans i d).1 b
+    → spans_merged_out (drop (i + 1) spans) new ≡ spans_merged_out (drop i spans) b
+spans_merged_next spans i d b new lt is = rw (is, add-one, drop-cons spans i d) refl
+
+pub cleared-spans_merged_out : (spans : List (ℕ × ℕ)) (b : Buffer) → cleared (spans_merged_out spans b) ≡ cleared b
+cleared-spans_merged_out spans b = ap cleared (spans_merged_out_is spans b)
+
+pub limit-spans_merged_out : (spans : List (ℕ × ℕ)) (b : Buffer) → limit_of (spans_merged_out spans b) ≡ limit_of b
+limit-spans_merged_out spans b = ap limit_of (spans_merged_out_is spans b)
+
+-- ---- the round
+
+settled_all : (items : List Item) (out : List Placed) → map (settled_info items) (map placed_info out) ≡ map (with_cluster_at items) out
+settled_all items [] = refl
+settled_all items (p ∷ out) = ap (λ l. with_cluster_at items p ∷ l) (settled_all items out)
+
+-- the items of a buffer were walked over, their clusters merged, and what was put out took these
+module _ (rules : Rules) (old merged : Buffer) (infos merged_infos settled : List Item) (out : List PlacedInfo) (infos_are : infos
+    ≡ old.items) (merged_is : merged ≡ spans_merged_out (joined_spans (recomposed_items rules old.items)) old)
+    (out_is : out ≡ map placed_info (recomposed_items rules infos)) (merged_infos_are : merged_infos ≡ merged.items)
+    (settled_is : settled ≡ map (settled_info merged_infos) out) where
+  put_out : List Placed
+  put_out = recomposed_items rules old.items
+
+  spanned : Buffer
+  spanned = spans_merged_out (joined_spans put_out) old
+
+  merged_spanned : merged ≡ spanned
+  unfolding put_out spanned
+  merged_spanned = merged_is
+
+  settled_items : settled ≡ map (with_cluster_at spanned.items) put_out
+  unfolding put_out
+  settled_items =
+      settled_is
+      ∙ ap₂ (λ xs o. map (settled_info xs) o) (merged_infos_are ∙ ap (λ (b : Buffer). b.items) merged_spanned)
+      (out_is ∙ ap (λ xs. map placed_info (recomposed_items rules xs)) infos_are)
+      ∙ settled_all spanned.items put_out
+
+  settled_length : length settled ≡ length put_out
+  settled_length = ap length settled_items ∙ length-map put_out (with_cluster_at spanned.items)
+
+  -- that is within the limit that the list was in
+  pub settled_within : length old.items ≤ limit_of old → length settled ≤ limit_of merged
+  unfolding put_out spanned
+  settled_within within =
+      let same : limit_of merged ≡ limit_of old = ap limit_of merged_spanned ∙ limit-spans_merged_out (joined_spans put_out) old in
+      omega (arith, settled_length, length-recomposed rules old.items)
+
+  -- and makes the buffer that of the round
+  pub is_round_three : (n : ℕ) (flags seen : ScratchFlags) → n ≡ length settled → flags ≡ old.scratch_flags
+      → seen ≡ seen_chars rules.unicode flags (composed_chars (recomposed_items rules infos))
+      → record merged { items = settled; positions = replicate n zero_position; scratch_flags = seen } ≡ round_three rules old
+  unfolding put_out spanned
+  is_round_three n flags seen n_is flags_are seen_is =
+      ap (λ (m : Buffer). record m { items = settled; positions = replicate n zero_position; scratch_flags = seen }) merged_spanned
+      ∙ ap₂ (λ (xs : List Item) k. record spanned { items = xs; positions = replicate k zero_position; scratch_flags = seen }) settled_items
+      (n_is ∙ settled_length)
+      ∙ ap (λ (f : ScratchFlags). record spanned {
+        items = map (with_cluster_at spanned.items) put_out;
+        positions = replicate
+            (length put_out) zero_position;
+        scratch_flags = f;
+      })
+      (seen_is ∙ ap₂ (λ f xs. seen_chars rules.unicode f (composed_chars (recomposed_items rules xs))) flags_are infos_are)
+
+-- a refusal that isn't for the length is for memory
+only_memory : (e : ShapeError) → (e ≡ Length → ⊥) → e ≡ Memory
+only_memory Memory other = refl
+only_memory Length other = absurd (other refl)
+
+pub refused_for_memory : (result : Result (Unit {0}) ShapeError) (e : ShapeError) → IsErrAnd result (λ x. x ≡ e) → (e ≡ Length → ⊥)
+    → IsOkUnless result Memory
+refused_for_memory (Ok x) e is other = absurd is
+refused_for_memory (Err x) e is other = is ∙ only_memory e other

@@ -1,0 +1,162 @@
+-- The places of what round three puts out, and the spans of its compositions.
+use Rattle.std.proofs.Common.{◌≡◌, ℕ, suc, ◌+◌, ◌<◌, ◌≤◌, List, [], ◌∷◌, ◌++◌, length, map, Option, None, Some, refl, sym, subst, arith}
+use Rattle.std.specs.Option.{option_map}
+use Rattle.std.specs.List.{All, AllByRecursion}
+use Rattle.std.proofs.lemmas.List.Elements.{All-from_recursion}
+use Rattle.shape_buffer.specs.Items.{Item}
+use Rattle.canonical_form.specs.Recompose.{is_blocked_by_last, compose_with_glyph}
+use Rattle.canonical_form.proofs.Lists.EveryLemmas.{append_all}
+use Rattle.canonical_form.proofs.Recomposing.RecomposeLemmas.{by_steps}
+use Rattle.shape_normalize.specs.RoundThree.{Joined, Placed, placed, ccc_of_placed, is_mark_placed, compose_placed, recomposed_items, joined_spans}
+use Rattle.shape_plan.specs.Rules.{Rules, has_glyph}
+use Rattle.shape_normalize.proofs.RoundThree.RoundThreeWalkLemmas.{after, item_at, joined_to}
+
+-- ---- the places
+
+-- the places rise, from `low` on, and are below `high`
+abbrev pub AreRising : ℕ → ℕ → List Placed → Type 0
+AreRising low high [] = low ≤ high
+AreRising low high (p ∷ ps) = (low ≤ p.place) × AreRising (p.place + 1) high ps
+
+-- marks stood one behind the other, from behind this place on, and before place `high`
+abbrev pub AreJoinedInOrder : ℕ → ℕ → List Joined → Type 0
+AreJoinedInOrder low high [] = Unit {0}
+AreJoinedInOrder low high (mark ∷ joined) = (low < mark.place) × (mark.place < high) × AreJoinedInOrder mark.place high joined
+
+-- the marks that were composed with an item stood behind it
+abbrev pub InOrder : ℕ → Placed → Type 0
+InOrder high p = AreJoinedInOrder p.place high p.joined
+
+in_order-higher : (low high higher : ℕ) (joined : List Joined) → high ≤ higher → AreJoinedInOrder low high joined
+    → AreJoinedInOrder low higher joined
+in_order-higher low high higher [] le h = tt
+in_order-higher low high higher (mark ∷ joined) le h =
+    (h.0, omega (arith, h.1), in_order-higher mark.place high higher joined le h.2)
+
+in_order-push : (low k : ℕ) (joined : List Joined) (mark : Joined) → low < k → mark.place ≡ k → AreJoinedInOrder low k joined
+    → AreJoinedInOrder low (suc k) (joined ++ mark ∷ [])
+in_order-push low k [] mark lt is h = (omega arith, omega arith, tt)
+in_order-push low k (m ∷ joined) mark lt is h = (h.0, omega (arith, h.1), in_order-push m.place k joined mark h.1 is h.2)
+
+AreRising-append : (low middle high : ℕ) (xs ys : List Placed) → AreRising low middle xs → AreRising middle high ys
+    → AreRising low high (xs ++ ys)
+AreRising-append low middle high [] [] up up' = omega arith
+AreRising-append low middle high [] (y ∷ ys) up up' = (omega (arith, up'.0), up'.1)
+AreRising-append low middle high (x ∷ xs) ys up up' = (up.0, AreRising-append (x.place + 1) middle high xs ys up.1 up')
+
+AreRising-higher : (low high higher : ℕ) (xs : List Placed) → high ≤ higher → AreRising low high xs → AreRising low higher xs
+AreRising-higher low high higher [] le up = omega arith
+AreRising-higher low high higher (x ∷ xs) le up = (up.0, AreRising-higher (x.place + 1) high higher xs le up.1)
+
+pub AreRising-fit : (low high : ℕ) (xs : List Placed) → AreRising low high xs → low + length xs ≤ high
+AreRising-fit low high [] up = omega arith
+AreRising-fit low high (x ∷ xs) up = omega (arith, up.0, AreRising-fit (x.place + 1) high xs up.1)
+
+-- what was put out of the places from `low` on and below `high`
+pub record ArePlaced (low high : ℕ) (xs : List Placed) : Type 0 where
+  pub rising : AreRising low high xs
+  pub in_order : AllByRecursion (InOrder high) xs
+
+each_higher : (high higher : ℕ) (xs : List Placed) → high ≤ higher → AllByRecursion (InOrder high) xs
+    → AllByRecursion (InOrder higher) xs
+each_higher high higher [] le each = tt
+each_higher high higher (p ∷ xs) le each =
+    (in_order-higher p.place high higher p.joined le each.0, each_higher high higher xs le each.1)
+
+ArePlaced-append : (low k high : ℕ) (xs ys : List Placed) → ArePlaced low k xs → ArePlaced k high ys
+    → ArePlaced low high (xs ++ ys)
+ArePlaced-append low k high xs ys front back =
+    let fit = AreRising-fit k high ys back.rising in
+    record {
+      rising = AreRising-append low k high xs ys front.rising back.rising;
+      in_order = append_all (InOrder high) xs ys (each_higher k high xs (omega arith) front.in_order) back.in_order;
+    }
+
+-- items from this place on to the end of a list of length n, with nothing composed yet
+abbrev AreFrom : ℕ → ℕ → List Placed → Type 0
+AreFrom n k [] = k ≡ n
+AreFrom n k (p ∷ ps) = (p.place ≡ k) × (p.joined ≡ []) × AreFrom n (suc k) ps
+
+AreFrom-placed : (n k : ℕ) (items : List Item) → k + length items ≡ n → AreFrom n k (placed k items)
+AreFrom-placed n k [] is = omega arith
+AreFrom-placed n k (x ∷ items) is = (refl, refl, AreFrom-placed n (suc k) items (omega arith))
+
+ArePlaced-once : (k : ℕ) (p : Placed) → p.place ≡ k → p.joined ≡ [] → ArePlaced k (suc k) (p ∷ [])
+ArePlaced-once k p here none = record {
+  rising = (omega arith, omega arith);
+  in_order = (subst (AreJoinedInOrder p.place (suc k)) (sym none) tt, tt);
+}
+
+option_map-some : {A B : Type 0} (f : A → B) (o : Option A) (d : B) → option_map f o ≡ Some d → (c : A) × (o ≡ Some c) × (d ≡ f c)
+option_map-some f None d h = cc
+option_map-some f (Some c) d h = (c, refl, cc)
+
+module _ (rules : Rules) where
+  -- a starter that is joined is a part of what it was, and keeps its place
+  pub joined_is : (s mark d : Placed) → compose_placed rules s mark ≡ Some d
+      → (c : ℕ) × (compose_with_glyph rules.compose (has_glyph rules.face.nominal_glyph) s.item.codepoint mark.item.codepoint ≡ Some c)
+      × (d ≡ joined_to rules s mark c)
+  joined_is s mark d joins =
+      let found = compose_with_glyph rules.compose (has_glyph rules.face.nominal_glyph) s.item.codepoint mark.item.codepoint in
+      option_map-some (joined_to rules s mark) found d joins
+
+  placed_joined : (low k : ℕ) (s : Placed) (ms : List Placed) (mark d : Placed) → ArePlaced low k (s ∷ ms) → mark.place ≡ k
+      → compose_placed rules s mark ≡ Some d → ArePlaced low (suc k) (d ∷ ms)
+  placed_joined low k s ms mark d h here joins =
+      let made = joined_is s mark d joins in
+      let fit = AreRising-fit (s.place + 1) k ms h.rising.1 in
+      subst (λ p. ArePlaced low (suc k) (p ∷ ms)) (sym made.2) (record {
+        rising = (h.rising.0, AreRising-higher (s.place + 1) k (suc k) ms (omega arith) h.rising.1);
+        in_order = (
+          in_order-push s.place k s.joined (record { place = mark.place; char = made.0 }) (omega arith) here h.in_order.0,
+          each_higher k (suc k) ms (omega arith) h.in_order.1,
+        );
+      })
+
+  after_placed : (n : ℕ) (s : Placed) (ms rest : List Placed) → (low k : ℕ) → ArePlaced low k (s ∷ ms) → AreFrom n k rest
+      → ArePlaced low n (after rules s ms rest)
+  after_placed n =
+      by_steps ccc_of_placed (is_blocked_by_last ccc_of_placed) is_mark_placed (compose_placed rules)
+      (λ s ms rest out. (low k : ℕ) → ArePlaced low k (s ∷ ms) → AreFrom n k rest → ArePlaced low n out) (record {
+        ends = λ s ms low k h from. subst (λ m. ArePlaced low m (s ∷ ms)) from h;
+        joins = λ s ms c d rest out found free made later low k h from.
+            later low (suc k) (placed_joined low k s ms c d h from.0 made) from.2;
+        starts = λ s ms c rest out none start later low k h from.
+            ArePlaced-append low k n (s ∷ ms) out h (later k (suc k) (ArePlaced-once k c from.0 from.1) from.2);
+        passes = λ s ms c rest out none mark later low k h from.
+            later low (suc k) (ArePlaced-append low k (suc k) (s ∷ ms) (c ∷ []) h (ArePlaced-once k c from.0 from.1)) from.2;
+      })
+
+  -- what is put out has rising places of the list, and so have the marks that were composed
+  pub recomposed_placed : (items : List Item) → ArePlaced 0 (length items) (recomposed_items rules items)
+  recomposed_placed [] = record { rising = omega arith; in_order = tt }
+  recomposed_placed (x ∷ items) =
+      after_placed (suc (length items)) (item_at rules 0 x) [] (placed 1 items) 0 1
+      (ArePlaced-once 0 (item_at rules 0 x) refl refl) (AreFrom-placed (suc (length items)) 1 items (omega arith))
+
+  -- no more items are put out than there were
+  pub length-recomposed : (items : List Item) → length (recomposed_items rules items) ≤ length items
+  length-recomposed items =
+      omega (arith, AreRising-fit 0 (length items) (recomposed_items rules items) (recomposed_placed items).rising)
+
+-- a span of a list of this length
+abbrev pub IsSpan : ℕ → ℕ × ℕ → Type 0
+IsSpan n span = (span.0 ≤ span.1) × (span.1 ≤ n)
+
+spans_of_within : (n place from : ℕ) (joined : List Joined) → place ≤ from → AreJoinedInOrder from n joined
+    → AllByRecursion (IsSpan n) (map (λ (mark : Joined). (place, mark.place + 1)) joined)
+spans_of_within n place from [] le h = tt
+spans_of_within n place from (mark ∷ joined) le h =
+    ((omega (arith, h.0), omega (arith, h.1)), spans_of_within n place mark.place joined (omega (arith, h.0)) h.2)
+
+spans_within : (n : ℕ) (out : List Placed) → AllByRecursion (InOrder n) out → AllByRecursion (IsSpan n) (joined_spans out)
+spans_within n [] h = tt
+spans_within n (p ∷ out) h =
+    append_all (IsSpan n) (map (λ (mark : Joined). (p.place, mark.place + 1)) p.joined) (joined_spans out)
+    (spans_of_within n p.place p.place p.joined (omega arith) h.0) (spans_within n out h.1)
+
+pub recomposed_spans_within : (rules : Rules) (items : List Item)
+    → All (IsSpan (length items)) (joined_spans (recomposed_items rules items))
+recomposed_spans_within rules items =
+    All-from_recursion (IsSpan (length items)) (joined_spans (recomposed_items rules items))
+    (spans_within (length items) (recomposed_items rules items) (recomposed_placed rules items).in_order)

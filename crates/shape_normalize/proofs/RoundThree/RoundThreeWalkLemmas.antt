@@ -1,0 +1,281 @@
+-- The walk of round three: what it puts out, step by step.
+use Rattle.std.proofs.Common.{◌≡◌, ℕ, suc, ◌+◌, ◌<◌, ◌≤◌, Bool, true, false, ◌&&◌, not, if◌then◌else◌, List, [], ◌∷◌, ◌++◌, length, map, get_or, set, drop, Option, None, Some, refl, sym, ap, ap₂, ◌∙◌, add-one, append_assoc, append-nil, drop-cons, eq-eqb, ne_eqb}
+use Rattle.std.specs.Option.{option_map}
+use Rattle.std.specs.List.{AllByRecursion, flat_map, slice_get}
+use Rattle.std.proofs.lemmas.List.{map-append, drop_all}
+use Rattle.std.proofs.lemmas.Grind.{flat_map-append}
+use Rattle.std.proofs.lemmas.List.Sums.{fold-append}
+use Rattle.shape_buffer.specs.Items.{Item, ccc_of_item, is_mark_item}
+use Rattle.canonical_form.specs.Recompose.{composed, recomposed_from, is_blocked_by_last, compose_with_glyph}
+use Rattle.shape_buffer.specs.UnicodeProps.{with_scratch_of}
+use Rattle.shape_buffer.specs.declared.buffer.flags.ScratchFlags.{ScratchFlags}
+use Rattle.canonical_form.proofs.MapLemmas.{is_blocked_by_last-map}
+use Rattle.canonical_form.proofs.Recomposing.RecomposeLemmas.{recomposed_from-some, recomposed_from-starter, recomposed_from-mark}
+use Rattle.canonical_form.proofs.Recomposing.RecomposeWalkLemmas.{at_split, drop_split, set_split}
+use Rattle.shape_normalize.specs.RoundOne.{part_item, seen_chars}
+use Rattle.shape_normalize.specs.RoundThree.{Joined, Placed, placed, ccc_of_placed, is_mark_placed, compose_placed, recomposed_items, spans_between, chained_spans, composed_chars, placed_info, ccc_of_placed_info, composed_char}
+use Rattle.shape_plan.specs.Rules.{Rules, has_glyph}
+use Rattle.shape_normalize.specs.declared.ot_shape_normalize.round_three.PlacedInfo.{PlacedInfo}
+
+-- ---- the test of blocking goes by the items alone
+
+each_placed : (ms : List Placed) → AllByRecursion (λ (p : Placed). Unit {0}) ms
+each_placed [] = tt
+each_placed (m ∷ ms) = (tt, each_placed ms)
+
+blocked_infos : (ms : List Placed) (c : Placed)
+    → is_blocked_by_last ccc_of_placed_info (map placed_info ms) (placed_info c) ≡ is_blocked_by_last ccc_of_placed ms c
+blocked_infos ms c =
+    is_blocked_by_last-map (λ (p : Placed). Unit {0}) placed_info ccc_of_placed ccc_of_placed_info (λ p h. refl) ms c (each_placed ms) tt
+
+option_map-if : {A B : Type 0} (f : A → B) (t : Bool) (o : Option A)
+    → (if t then option_map f o else None) ≡ option_map f (if t then o else None)
+option_map-if f true o = refl
+option_map-if f false o = refl
+
+-- ---- lists that each item adds to
+
+module _ {B : Type 0} (f : Placed → List B) where
+  -- those of the marks, where there are none
+  adds_to_starter : (before : List Placed) (at : Placed) (marks : List Placed) → flat_map f marks ≡ []
+      → flat_map f (before ++ at ∷ marks) ≡ flat_map f (before ++ at ∷ [])
+  adds_to_starter before at marks none =
+      flat_map-append f before (at ∷ marks) ∙ ap (λ l. flat_map f before ++ (f at ++ l)) none ∙ sym (flat_map-append f before (at ∷ []))
+
+  -- an item that adds none
+  adds_none : (xs : List Placed) (c : Placed) → f c ≡ [] → flat_map f (xs ++ c ∷ []) ≡ flat_map f xs
+  adds_none xs c none =
+      flat_map-append f xs (c ∷ []) ∙ ap (λ l. flat_map f xs ++ (l ++ [])) none ∙ append-nil (flat_map f xs)
+
+  -- a starter that adds one more
+  adds_one : (before : List Placed) (at d : Placed) (x : B) → f d ≡ f at ++ x ∷ []
+      → flat_map f (before ++ d ∷ []) ≡ flat_map f (before ++ at ∷ []) ++ x ∷ []
+  adds_one before at d x more =
+      flat_map-append f before (d ∷ [])
+      ∙ ap (λ l. flat_map f before ++ l) (append-nil (f d) ∙ more ∙ ap (λ l. l ++ x ∷ []) (sym (append-nil (f at))))
+      ∙ sym (append_assoc (flat_map f before) (f at ++ []) (x ∷ []))
+      ∙ ap (λ l. l ++ x ∷ []) (sym (flat_map-append f before (at ∷ [])))
+
+-- the spans and the characters of one item
+abbrev spans_of : Placed → List (ℕ × ℕ)
+spans_of p = spans_between p.place p.joined
+
+abbrev chars_of : Placed → List ℕ
+chars_of p = map (λ mark. mark.char) p.joined
+
+-- the place of the last of these marks, or this one where there are none
+abbrev last_joined : ℕ → List Joined → ℕ
+last_joined from [] = from
+last_joined from (mark ∷ joined) = last_joined mark.place joined
+
+last_joined-push : (from : ℕ) (joined : List Joined) (mark : Joined) → last_joined from (joined ++ mark ∷ []) ≡ mark.place
+last_joined-push from [] mark = refl
+last_joined-push from (m ∷ joined) mark = last_joined-push m.place joined mark
+
+spans_between-push : (from : ℕ) (joined : List Joined) (mark : Joined)
+    → spans_between from (joined ++ mark ∷ []) ≡ spans_between from joined ++ (last_joined from joined, mark.place + 1) ∷ []
+spans_between-push from [] mark = refl
+spans_between-push from (m ∷ joined) mark = ap (λ l. (from, m.place + 1) ∷ l) (spans_between-push m.place joined mark)
+
+-- ---- the walk
+
+module _ (rules : Rules) where
+  -- what is still to come of a starter, its marks and the rest
+  abbrev pub after : Placed → List Placed → List Placed → List Placed
+  after = recomposed_from ccc_of_placed (is_blocked_by_last ccc_of_placed) is_mark_placed (compose_placed rules)
+
+  -- the item that stood at a place
+  abbrev pub item_at : ℕ → Item → Placed
+  item_at place item = record { item = item; place = place; joined = [] }
+
+  -- the starter with the character that it makes with a mark
+  abbrev pub joined_to : Placed → Placed → ℕ → Placed
+  joined_to starter mark c = record {
+    item = part_item rules.unicode rules.face.nominal_glyph starter.item c;
+    place = starter.place;
+    joined = starter.joined ++ record { place = mark.place; char = c } ∷ [];
+  }
+
+  composed_info : (s : Placed) (ms : List Placed) (c : Placed)
+      → composed ccc_of_placed (is_blocked_by_last ccc_of_placed) is_mark_placed (compose_placed rules) s ms c
+      ≡ option_map (joined_to s c) (composed_char rules (placed_info s) (map placed_info ms) (placed_info c))
+  composed_info s ms c =
+      let compose = compose_with_glyph rules.compose (has_glyph rules.face.nominal_glyph) s.item.codepoint c.item.codepoint in
+      option_map-if (joined_to s c) (is_mark_item c.item && not (is_blocked_by_last ccc_of_placed ms c)) compose
+      ∙ ap (λ b. option_map (joined_to s c) (if is_mark_item c.item && not b then compose else None)) (sym (blocked_infos ms c))
+
+  placed-next : (i : ℕ) (items : List Item) (x : Item) → i < length items → x ≡ get_or items i x
+      → placed i (drop i items) ≡ item_at i x ∷ placed (i + 1) (drop (i + 1) items)
+  placed-next i items x lt is = rw (add-one, drop-cons items i x) (ap (λ y. item_at i y ∷ placed (suc i) (drop (suc i) items)) (sym is))
+
+  -- the items before place i were walked over: out is put out, with the starter at its place, these are the spans and the flags, and the
+  -- next span begins at `from`
+  pub record IsRecomposedTo (items : List Item) (flags : ScratchFlags) (i : ℕ) (out : List PlacedInfo) (spans : List (ℕ × ℕ))
+      (seen : ScratchFlags) (starter from : ℕ) : Type 0 where
+    pub before : List Placed
+    pub at : Placed
+    pub marks : List Placed
+    pub out_is : out ≡ map placed_info before ++ placed_info at ∷ map placed_info marks
+    pub starter_is : starter ≡ length (map placed_info before)
+    pub from_is : from ≡ last_joined at.place at.joined
+    pub whole : recomposed_items rules items ≡ before ++ after at marks (placed i (drop i items))
+    pub spans_are : spans ≡ chained_spans (before ++ at ∷ [])
+    pub seen_is : seen ≡ seen_chars rules.unicode flags (composed_chars (before ++ at ∷ []))
+    pub none_spanned : chained_spans marks ≡ []
+    pub none_seen : composed_chars marks ≡ []
+
+  pub IsRecomposedTo-first : (items : List Item) (flags : ScratchFlags) (x : Item) → Some x ≡ slice_get items 0
+      → IsRecomposedTo items flags 1 (record { info = x; place = 0 } ∷ []) [] flags 0 0
+  IsRecomposedTo-first [] flags x first = cc
+  IsRecomposedTo-first (y ∷ items) flags x first =
+      let same : x ≡ y = cc in
+      record {
+        before = [];
+        at = item_at 0 y;
+        marks = [];
+        out_is = ap (λ i. record { info = i; place = 0 } ∷ []) same;
+        starter_is = refl;
+        from_is = refl;
+        whole = refl;
+        spans_are = refl;
+        seen_is = refl;
+        none_spanned = refl;
+        none_seen = refl;
+      }
+
+  -- the whole list was walked over
+  pub walked_all : (items : List Item) (flags : ScratchFlags) (i : ℕ) (out : List PlacedInfo) (spans : List (ℕ × ℕ)) (seen : ScratchFlags)
+      (starter from : ℕ) → length items ≤ i → IsRecomposedTo items flags i out spans seen starter from
+      → (out ≡ map placed_info (recomposed_items rules items)) × (spans ≡ chained_spans (recomposed_items rules items))
+      × (seen ≡ seen_chars rules.unicode flags (composed_chars (recomposed_items rules items)))
+  walked_all items flags i out spans seen starter from le h =
+      let none : placed i (drop i items) ≡ [] = ap (placed i) (drop_all i items le) in
+      let all : recomposed_items rules items ≡ h.before ++ h.at ∷ h.marks = h.whole
+      ∙ ap (λ rest. h.before ++ after h.at h.marks rest) none in (
+        h.out_is ∙ sym (map-append placed_info h.before (h.at ∷ h.marks)) ∙ ap (map placed_info) (sym all),
+        h.spans_are ∙ sym (adds_to_starter spans_of h.before h.at h.marks h.none_spanned) ∙ ap chained_spans (sym all),
+        h.seen_is ∙ ap (seen_chars rules.unicode flags)
+            (sym (adds_to_starter chars_of h.before h.at h.marks h.none_seen) ∙ ap composed_chars (sym all)),
+      )
+
+  module _ (items : List Item) (flags : ScratchFlags) (i : ℕ) (out : List PlacedInfo) (spans : List (ℕ × ℕ)) (seen : ScratchFlags)
+      (starter from : ℕ) (x : Item) (s : PlacedInfo) (marks : List PlacedInfo) (lt : i < length items) (is_x : x ≡ get_or items i x)
+      (is_s : s ≡ get_or out starter s) (are_marks : marks ≡ drop (starter + 1) out)
+      (h : IsRecomposedTo items flags i out spans seen starter from) where
+    abbrev next : Placed
+    next = item_at i x
+
+    abbrev rest : List Placed
+    rest = placed (i + 1) (drop (i + 1) items)
+
+    starter_at : s ≡ placed_info h.at
+    starter_at =
+        is_s ∙ ap₂ (λ l n. get_or l n s) h.out_is h.starter_is
+        ∙ at_split (map placed_info h.before) (map placed_info h.marks) (placed_info h.at) s
+
+    marks_at : marks ≡ map placed_info h.marks
+    marks_at =
+        are_marks ∙ rw add-one (ap₂ (λ l n. drop (suc n) l) h.out_is h.starter_is
+        ∙ drop_split (map placed_info h.before) (map placed_info h.marks) (placed_info h.at))
+
+    composed_at : (o : Option ℕ) → o ≡ composed_char rules s marks (placed_info next)
+        → composed ccc_of_placed (is_blocked_by_last ccc_of_placed) is_mark_placed (compose_placed rules) h.at h.marks next
+        ≡ option_map (joined_to h.at next) o
+    composed_at o was =
+        composed_info h.at h.marks next
+        ∙ ap (option_map (joined_to h.at next))
+        (ap₂ (λ p ms. composed_char rules p ms (placed_info next)) (sym starter_at) (sym marks_at) ∙ sym was)
+
+    whole_next : recomposed_items rules items ≡ h.before ++ after h.at h.marks (next ∷ rest)
+    whole_next = h.whole ∙ ap (λ l. h.before ++ after h.at h.marks l) (placed-next i items x lt is_x)
+
+    -- the next item goes into the starter
+    pub IsRecomposedTo-joined : (c : ℕ) → Some c ≡ composed_char rules s marks (placed_info next)
+        → IsRecomposedTo items flags (i + 1) (set out starter (record s { info = part_item rules.unicode rules.face.nominal_glyph s.info c })) (spans ++ (from, i + 1) ∷ []) (with_scratch_of rules.unicode c seen) starter i
+    IsRecomposedTo-joined c was =
+        let d : Placed = joined_to h.at next c in
+        let set_is : set out starter (record s { info = part_item rules.unicode rules.face.nominal_glyph s.info c })
+        ≡ map placed_info h.before ++ placed_info d ∷ map placed_info h.marks =
+        ap (λ (p : PlacedInfo). set out starter (record p { info = part_item rules.unicode rules.face.nominal_glyph p.info c })) starter_at
+        ∙ ap₂ (λ l n. set l n (placed_info d)) h.out_is h.starter_is
+        ∙ set_split (map placed_info h.before) (map placed_info h.marks) (placed_info h.at) (placed_info d) in
+        record {
+          before = h.before;
+          at = d;
+          marks = h.marks;
+          out_is = set_is;
+          starter_is = h.starter_is;
+          from_is = sym (last_joined-push h.at.place h.at.joined (record { place = i; char = c }));
+          whole = whole_next
+              ∙ ap (λ l. h.before
+              ++ l) (recomposed_from-some ccc_of_placed (is_blocked_by_last ccc_of_placed) is_mark_placed
+              (compose_placed rules) h.at h.marks next rest d (composed_at (Some c) was));
+          spans_are =
+              ap₂ (λ l n. l ++ (n, i + 1) ∷ []) h.spans_are h.from_is
+              ∙ sym (adds_one spans_of h.before h.at d (last_joined h.at.place h.at.joined, i + 1)
+              (spans_between-push h.at.place h.at.joined (record { place = i; char = c })));
+          seen_is =
+              ap (with_scratch_of rules.unicode c) h.seen_is
+              ∙ sym (fold-append (λ flags c. with_scratch_of rules.unicode c flags) flags (composed_chars (h.before ++ h.at ∷ [])) (c ∷ []))
+              ∙ ap (seen_chars rules.unicode flags)
+              (sym (adds_one chars_of h.before h.at d c (map-append (λ (mark : Joined). mark.char) h.at.joined _)));
+          none_spanned = h.none_spanned;
+          none_seen = h.none_seen;
+        }
+
+    put_behind : out ++ placed_info next ∷ [] ≡ map placed_info h.before ++ placed_info h.at ∷ map placed_info (h.marks ++ next ∷ [])
+    put_behind =
+        ap (λ l. l ++ placed_info next ∷ []) h.out_is
+        ∙ append_assoc (map placed_info h.before) (placed_info h.at ∷ map placed_info h.marks) (placed_info next ∷ [])
+        ∙ ap (λ l. map placed_info h.before ++ placed_info h.at ∷ l) (sym (map-append placed_info h.marks (next ∷ [])))
+
+    whole_out : out ≡ map placed_info (h.before ++ h.at ∷ h.marks)
+    whole_out = h.out_is ∙ sym (map-append placed_info h.before (h.at ∷ h.marks))
+
+    -- the next item is put out, and is the starter from then on
+    pub IsRecomposedTo-starter : None ≡ composed_char rules s marks (placed_info next) → ccc_of_item x ≡ 0
+        → IsRecomposedTo items flags (i + 1) (out ++ placed_info next ∷ []) spans seen (length out) i
+    IsRecomposedTo-starter was zero_ccc =
+        let done = h.before ++ h.at ∷ h.marks in
+        record {
+          before = done;
+          at = next;
+          marks = [];
+          out_is = ap (λ l. l ++ placed_info next ∷ []) whole_out;
+          starter_is = ap length whole_out;
+          from_is = refl;
+          whole =
+              whole_next
+              ∙ ap (λ l. h.before
+              ++ l) (recomposed_from-starter ccc_of_placed (is_blocked_by_last ccc_of_placed) is_mark_placed
+              (compose_placed rules) h.at h.marks next rest (composed_at None was) (eq-eqb _ 0 zero_ccc))
+              ∙ sym (append_assoc h.before (h.at ∷ h.marks) (after next [] rest));
+          spans_are = h.spans_are ∙ sym (adds_none spans_of done next refl ∙ adds_to_starter spans_of h.before h.at h.marks h.none_spanned);
+          seen_is = h.seen_is
+              ∙ ap (seen_chars rules.unicode flags)
+              (sym (adds_none chars_of done next refl ∙ adds_to_starter chars_of h.before h.at h.marks h.none_seen));
+          none_spanned = refl;
+          none_seen = refl;
+        }
+
+    -- the next item is put out behind the starter
+    pub IsRecomposedTo-mark : None ≡ composed_char rules s marks (placed_info next) → (ccc_of_item x ≡ 0 → ⊥)
+        → IsRecomposedTo items flags (i + 1) (out ++ placed_info next ∷ []) spans seen starter from
+    IsRecomposedTo-mark was some_ccc =
+        record {
+          before = h.before;
+          at = h.at;
+          marks = h.marks ++ next ∷ [];
+          out_is = put_behind;
+          starter_is = h.starter_is;
+          from_is = h.from_is;
+          whole =
+              whole_next
+              ∙ ap (λ l. h.before
+              ++ l) (recomposed_from-mark ccc_of_placed (is_blocked_by_last ccc_of_placed) is_mark_placed
+              (compose_placed rules) h.at h.marks next rest (composed_at None was) (ne_eqb _ 0 some_ccc));
+          spans_are = h.spans_are;
+          seen_is = h.seen_is;
+          none_spanned = adds_none spans_of h.marks next refl ∙ h.none_spanned;
+          none_seen = adds_none chars_of h.marks next refl ∙ h.none_seen;
+        }
