@@ -3,7 +3,8 @@ use Rattle.std.specs.Prelude.{◌≡◌, ℕ, true, false, List, [], ◌∷◌, 
 use Rattle.shape_buffer.specs.Buffer.{Buffer}
 use Rattle.shape_buffer.specs.Items.{Item}
 use Rattle.shape_plan.specs.Rules.{Rules}
-use Rattle.shape_normalize.specs.Origins.{Origin, origin_at, origins, new_origins, HasOfOrigin, AreInOneRun, IsOrderOf, IsFromPlace, IsFromStarter}
+use Rattle.shape_normalize.specs.Normalized.{KeepsFeatures}
+use Rattle.shape_normalize.specs.Origins.{Origin, origin_at, origins, new_origins, HasOfOrigin, AreInOneRun, IsOrderOf, IsFromPlace, IsFromStarter, ComesByPlace}
 use Rattle.shape_normalize.specs.RoundThree.{Placed}
 use Rattle.shape_normalize.specs.WorkedWorld.{rules_in, item, buffer_of}
 
@@ -138,6 +139,17 @@ pub record FromStarterWorked : Type 0 where
   pub not_composed : FromStarter alone (masked 256 0xE1 (item 0xE1 5)) → ⊥
   pub other_glyph : FromStarter with_mark (masked 256 0x61 (item 0xE1 5)) → ⊥
 
+-- ---- whole lists
+
+-- two letters with feature bits of their own
+abbrev pub letters : ℕ → ℕ → Buffer
+letters first second = buffer_of (masked first 0x62 (item 0x62 0) ∷ masked second 0x62 (item 0x62 1) ∷ [])
+
+-- two letters that change feature bits have those of items of the text, but not of the items that they came from
+pub record WholeWorked : Type 0 where
+  pub of_some_item : KeepsFeatures (letters 256 512) (letters 512 256)
+  pub not_by_place : ComesByPlace (rules_in 1 (0x62 ∷ [])) (letters 256 512) (letters 512 256) → ⊥
+
 pub record OriginsWorked : Type 0 where
   pub places : PlacesWorked
   pub new_places : NewPlacesWorked
@@ -145,3 +157,4 @@ pub record OriginsWorked : Type 0 where
   pub order : OrderWorked
   pub from_place : FromPlaceWorked
   pub from_starter : FromStarterWorked
+  pub whole : WholeWorked

@@ -1,14 +1,18 @@
 -- The worked cases of where items came from.
-use Rattle.std.proofs.Common.{◌≡◌, ℕ, zero, suc, ◌<◌, ◌≤◌, true, false, [], ◌∷◌, ◌++◌, get_or, refl, sym, ap, ◌∙◌, arith, inl, inr}
+use Rattle.std.proofs.Common.{◌≡◌, ℕ, zero, suc, ◌<◌, ◌≤◌, true, false, [], ◌∷◌, ◌++◌, get_or, refl, sym, ap, subst, ◌∙◌, arith, inl, inr}
+use Rattle.std.specs.List.{AllZip, Contains}
+use Rattle.std.proofs.lemmas.List.Elements.{All-from_recursion}
 use Rattle.std.proofs.lemmas.List.Sorted.{length_permutation}
 use Rattle.canonical_form.specs.Order.{IsSwap, Swaps}
 use Rattle.canonical_form.proofs.Ordering.OrderLemmas.{in_order_from_reached}
 use Rattle.shape_buffer.specs.Clusters.{merge}
 use Rattle.shape_buffer.specs.Items.{Item, ccc_of_item}
-use Rattle.shape_normalize.specs.Origins.{item_at, AreInOneRun, IsOrderOf}
+use Rattle.shape_normalize.specs.Normalized.{features_of, has_seen_cgj}
+use Rattle.shape_normalize.specs.Origins.{item_at, HasOfOrigin, AreInOneRun, IsOrderOf, new_origins, ComesByPlace}
+use Rattle.shape_normalize.specs.RoundOne.{round_one}
 use Rattle.shape_normalize.specs.RoundTwo.{run_settled}
 use Rattle.shape_normalize.specs.WorkedWorld.{rules_in}
-use Rattle.shape_normalize.specs.WorkedOrigins.{PlacesWorked, NewPlacesWorked, OfOriginWorked, runs_of_marks, OrderWorked, FromPlaceWorked, FromStarterWorked, OriginsWorked}
+use Rattle.shape_normalize.specs.WorkedOrigins.{letters, PlacesWorked, NewPlacesWorked, WholeWorked, OfOriginWorked, runs_of_marks, OrderWorked, FromPlaceWorked, FromStarterWorked, OriginsWorked}
 
 places_worked : PlacesWorked
 unfolding merge
@@ -151,6 +155,26 @@ from_starter_worked = record {
   other_glyph = λ h. let no : 0x61 ≡ 0xE1 = ap (λ (one : Item). one.glyph_index) h.1 in omega (arith, no);
 }
 
+changed : ComesByPlace (rules_in 1 (0x62 ∷ [])) (letters 256 512) (letters 512 256) → ⊥
+changed h =
+    let rules = rules_in 1 (0x62 ∷ []) in
+    let text = letters 256 512 in
+    let new = letters 512 256 in
+    let in_place : h.places ≡ 0 ∷ 1 ∷ [] = h.unmarked refl in
+    let each : AllZip (HasOfOrigin rules text (has_seen_cgj (round_one rules text))) (new_origins rules text (0 ∷ 1 ∷ [])) new.items =
+    subst (λ places. AllZip (HasOfOrigin rules text (has_seen_cgj (round_one rules text))) (new_origins rules text places) new.items)
+    in_place h.from_text in
+    let no : 512 ≡ 256 = each.0.features in
+    omega (arith, no)
+
+whole_worked : WholeWorked
+whole_worked = record {
+  of_some_item =
+      All-from_recursion (λ (item : Item). Contains (256 ∷ 512 ∷ []) (features_of item)) (letters 512 256).items
+      ((1, omega arith, refl), ((0, omega arith, refl), tt));
+  not_by_place = changed;
+}
+
 pub origins_worked : OriginsWorked
 origins_worked = record {
   places = places_worked;
@@ -160,4 +184,5 @@ origins_worked = record {
   from_place =
       from_place_worked;
   from_starter = from_starter_worked;
+  whole = whole_worked;
 }
