@@ -23,26 +23,26 @@ module _ (unicode : UnicodeMeaning) (lawful : LawfulUnicode unicode) where
         | inr low ↦ let below : c < 128 = grind (arith, nat_tests) in absurd (both_ways _ (lawful.ascii_is_no_mark c below) mark)
       ]
 
-  pub unmarked_class : (c : ℕ) → is_mark unicode c ≡ false → unicode.ccc c ≡ 0
-  unmarked_class c no_mark =
+  pub unmarked_ccc : (c : ℕ) → is_mark unicode c ≡ false → unicode.ccc c ≡ 0
+  unmarked_ccc c no_mark =
       elim (cases_eq (unicode.ccc c) 0) [
         | inl none ↦ none
         | inr some ↦ absurd (both_ways _ no_mark (lawful.marks_have_ccc c some))
       ]
 
   -- an item that takes the properties of its character has its class
-  pub class_with_props : (c : ℕ) → (if beyond_ascii c && is_mark unicode c then unicode.ccc c else 0) ≡ unicode.ccc c
-  class_with_props c =
+  pub ccc_with_props : (c : ℕ) → (if beyond_ascii c && is_mark unicode c then unicode.ccc c else 0) ≡ unicode.ccc c
+  ccc_with_props c =
       elim (cases_Bool (is_mark unicode c)) [
         | inl mark ↦ cond-true _ (unicode.ccc c) 0 (and_from _ _ (beyond c mark) mark)
         | inr no_mark ↦
             ap (λ t. if t then unicode.ccc c else 0) (ap (λ t. beyond_ascii c && t) no_mark ∙ and_right (beyond_ascii c) false refl)
-            ∙ sym (unmarked_class c no_mark)
+            ∙ sym (unmarked_ccc c no_mark)
       ]
 
   -- an item that takes the properties of its character is prepared
   pub prepared-with_props : (item : Item) → IsPreparedItem unicode (with_unicode_props unicode item)
-  prepared-with_props item = record { mark = refl; ccc = class_with_props item.codepoint }
+  prepared-with_props item = record { mark = refl; ccc = ccc_with_props item.codepoint }
 
 -- what being prepared goes by: the character, the class and the category
 abbrev pub PreparedKey : Type 0
