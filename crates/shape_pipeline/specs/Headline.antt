@@ -29,9 +29,9 @@ prepared_text run text = prepared run (target_of run text) (entered (guessed run
 abbrev pub normalised_list : Run → Buffer → Buffer
 normalised_list run text = normalized run.rules (prepared_text run text)
 
--- what is promised of the normalised list of a prepared text: what is brought in has a glyph, each item has the glyph of its character or
--- what stands in
--- for it, features are those of the text's items, each item comes by its place, clusters keep their order, and canonical form
+-- what is promised of the normalised list of a prepared text: what is brought in has a glyph, each item has the glyph of its character
+-- or what stands in for it, features are those of the text's items, each item comes by its place, clusters keep their order, and
+-- canonical form
 pub record NormalForm (rules : Rules) (text list : Buffer) : Type 0 where
   pub brought_in : BroughtInHaveGlyphs rules.face.nominal_glyph (text_of text) (text_of list)
   pub item_glyphs : All (HasItemGlyph rules text) list.items
