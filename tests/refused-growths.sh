@@ -1,7 +1,8 @@
 #!/bin/sh
 # Runs the test of the buffer's calls, those of stages of substitution which take memory, and then the built
 # program on its stored input and on those of `growths`, with the first growth of memory refused, then the
-# second, and so on until a run is whole. Between them it counts the growths of the buffer's other calls.
+# second, and so on until a run is whole. Between them it counts the growths of calls that take no memory: the
+# buffer's, the steps of a run that can't be refused, and runs over an empty text.
 #
 # A run of a test must pass, or say that a call was `refused` (behind its own comparisons of what that call
 # left), or that a list or a text of the test's own could not grow (`AllocError`, `Memory`). A run of the program
@@ -50,20 +51,28 @@ refuse_test shape_buffer buffer::tests::refusals::growths "the buffer's calls" |
 refuse_test substitute_rows refusals::growths_in_a_stage "the stages that grow" || exit 1
 refuse_test substitute_rows refusals::growths_in_a_run "the runs with such stages" || exit 1
 
-# How many growths a test of shape_buffer asks for.
+# How many growths a test of a crate asks for.
 growths_of() {
-    COUNTED_GROWTHS="$work/count" LD_PRELOAD="$work/refuse.so" crates/shape_buffer/out/shape_buffer_tests "$1" > /dev/null || exit 1
+    COUNTED_GROWTHS="$work/count" LD_PRELOAD="$work/refuse.so" "crates/$1/out/$1_tests" "$2" > /dev/null || exit 1
     cat "$work/count"
 }
 
-# Calls that can't be refused take no memory.
-filled=$(growths_of buffer::tests::no_memory::filled_is_begun) || exit 1
-used=$(growths_of buffer::tests::no_memory::filled_and_used) || exit 1
-if [ "$filled" -eq 0 ] || [ "$filled" -ne "$used" ]; then
-    echo "a buffer that is filled takes $filled growths, and with calls that take none $used"
-    exit 1
-fi
-echo "growths: $filled for a filled buffer, and none for the calls that can't be refused"
+# Two tests of a crate begin alike; what the second one does besides takes no memory.
+take_none() {
+    [ -x "crates/$1/out/$1_tests" ] || (cd "crates/$1" && rt test > /dev/null) || return 1
+    begun=$(growths_of "$1" "$2") || return 1
+    used=$(growths_of "$1" "$3") || return 1
+    if [ "$begun" -eq 0 ] || [ "$begun" -ne "$used" ]; then
+        echo "$4 take memory: $begun growths without them, and $used with them"
+        return 1
+    fi
+    echo "growths: $begun, and none for $4"
+}
+
+filled=buffer::tests::no_memory::filled
+take_none shape_buffer "${filled}_is_begun" "${filled}_and_used" "the buffer's calls that can't be refused" || exit 1
+take_none shape_rows no_memory::text_is_begun no_memory::steps_are_made "the steps that can't be refused" || exit 1
+take_none shape_rows no_memory::text_is_begun no_memory::empty_text_is_shaped "runs over an empty text" || exit 1
 
 # Whether an answer is the expected one with `refused 1` in place of what answers one line.
 is_refused() {

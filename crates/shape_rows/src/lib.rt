@@ -14,6 +14,8 @@ mod limits;
 #[cfg(test)]
 mod modes;
 #[cfg(test)]
+mod no_memory;
+#[cfg(test)]
 mod normalising;
 #[cfg(test)]
 mod placing;
