@@ -5,7 +5,7 @@ use Rattle.canonical_form.specs.Chain.{full_text}
 use Rattle.shape_buffer.specs.Items.{Item, char_of, ccc_of_item, is_mark_item}
 use Rattle.shape_buffer.specs.Unicode.{UnicodeMeaning, is_mark}
 use Rattle.shape_normalize.specs.RoundTwo.{max_run, has_mark_past_first}
-use Rattle.shape_plan.specs.Rules.{Rules, has_glyph}
+use Rattle.shape_plan.specs.Rules.{Rules, decompositions, has_glyph}
 
 -- how many marks a list begins with, by how many it began with before one more character came in front;
 -- none where a row is longer than 32, or a character has no glyph
@@ -32,7 +32,7 @@ is_full_mode short = not (short true) && not (short false)
 -- each character of Full has a glyph, and no run of marks in it is longer than 32
 abbrev pub is_supported_text : Rules → List Item → Bool
 is_supported_text rules items =
-    let parts = full_text rules.split rules.height (map char_of items) in
+    let parts = full_text (decompositions rules) (map char_of items) in
     is_some (row_before rules.unicode.ccc (has_glyph rules.face.nominal_glyph) parts (Some 0))
 
 -- what canonical form asks of a text, a shaper and a face, but for lawful hooks

@@ -8,13 +8,14 @@ use Rattle.std.proofs.lemmas.List.Elements.{All-from_recursion, recursion_from_A
 use Rattle.std.specs.List.{All, AllByRecursion, list_all}
 use Rattle.std.specs.Option.{is_some}
 use Rattle.canonical_form.specs.Chain.{FallsAlong, kept_part, full, full_text}
+use Rattle.canonical_form.specs.Decompositions.{Decompositions}
 use Rattle.canonical_form.specs.Runs.{HasNoLongerRun}
 use Rattle.canonical_form.proofs.Expanding.ChainLemmas.{full-stays, full-splits, kept_part_zero}
 use Rattle.shape_buffer.specs.Buffer.{Buffer}
 use Rattle.shape_buffer.specs.Items.{Item, char_of, ccc_of_item, is_mark_item}
 use Rattle.shape_buffer.specs.Prepared.{IsPrepared, IsPreparedItem}
 use Rattle.shape_buffer.specs.Unicode.{UnicodeMeaning, is_mark}
-use Rattle.shape_plan.specs.Rules.{Rules, has_glyph}
+use Rattle.shape_plan.specs.Rules.{Rules, decompositions, has_glyph}
 use Rattle.shape_normalize.specs.CanonicalForm.{CanonicalFormPremises, HasLawfulHooks, IsSupported, text_of}
 use Rattle.shape_normalize.specs.PremiseTest.{row_with, row_before, is_plain_item, is_full_mode, is_supported_text, meets_premises}
 use Rattle.shape_normalize.specs.RoundTwo.{max_run, has_mark_past_first}
@@ -167,49 +168,49 @@ module _ (ccc : ℕ → ℕ) (glyph : ℕ → Bool) where
 
 -- ---- along a chain, and from the last item to the first
 
-module _ (split : ℕ → Option (ℕ × ℕ)) (height ccc : ℕ → ℕ) (glyph : ℕ → Bool) where
-  module _ (falls : FallsAlong split height) where
+module _ (D : Decompositions) (glyph : ℕ → Bool) where
+  module _ (falls : FallsAlong D.split D.height) where
     -- the last part of Full comes in front first, where it isn't U+0000
-    row_before-split : (c a b : ℕ) (row : Option ℕ) → split c ≡ Some (a, b)
-        → row_before ccc glyph (full split height c) row
-        ≡ row_before ccc glyph (full split height a) (row_before ccc glyph (kept_part b) row)
+    row_before-split : (c a b : ℕ) (row : Option ℕ) → D.split c ≡ Some (a, b)
+        → row_before D.ccc glyph (full D c) row
+        ≡ row_before D.ccc glyph (full D a) (row_before D.ccc glyph (kept_part b) row)
     row_before-split c a b row splits =
-        ap (λ xs. row_before ccc glyph xs row) (full-splits split height falls c a b splits)
-        ∙ row_before-append ccc glyph (full split height a) (kept_part b) row
+        ap (λ xs. row_before D.ccc glyph xs row) (full-splits D falls c a b splits)
+        ∙ row_before-append D.ccc glyph (full D a) (kept_part b) row
 
-    pub row_before-kept : (c a b : ℕ) (row next : Option ℕ) → split c ≡ Some (a, b) → (b ≡ 0 → ⊥) → next ≡ row_with ccc glyph b row
-        → row_before ccc glyph (full split height c) row ≡ row_before ccc glyph (full split height a) next
+    pub row_before-kept : (c a b : ℕ) (row next : Option ℕ) → D.split c ≡ Some (a, b) → (b ≡ 0 → ⊥) → next ≡ row_with D.ccc glyph b row
+        → row_before D.ccc glyph (full D c) row ≡ row_before D.ccc glyph (full D a) next
     row_before-kept c a b row next splits some is =
         let kept : kept_part b ≡ b ∷ [] = rw (ne_eqb b 0 some) refl in
         row_before-split c a b row splits
-        ∙ ap (λ xs. row_before ccc glyph (full split height a) (row_before ccc glyph xs row)) kept
-        ∙ ap (λ o. row_before ccc glyph (full split height a) o) (sym is)
+        ∙ ap (λ xs. row_before D.ccc glyph (full D a) (row_before D.ccc glyph xs row)) kept
+        ∙ ap (λ o. row_before D.ccc glyph (full D a) o) (sym is)
 
-    pub row_before-dropped : (c a b : ℕ) (row : Option ℕ) → split c ≡ Some (a, b) → b ≡ 0
-        → row_before ccc glyph (full split height c) row ≡ row_before ccc glyph (full split height a) row
+    pub row_before-dropped : (c a b : ℕ) (row : Option ℕ) → D.split c ≡ Some (a, b) → b ≡ 0
+        → row_before D.ccc glyph (full D c) row ≡ row_before D.ccc glyph (full D a) row
     row_before-dropped c a b row splits none =
         row_before-split c a b row splits
-        ∙ ap (λ xs. row_before ccc glyph (full split height a) (row_before ccc glyph xs row)) (kept_part_zero b none)
+        ∙ ap (λ xs. row_before D.ccc glyph (full D a) (row_before D.ccc glyph xs row)) (kept_part_zero b none)
 
-    pub row_before-whole : (c : ℕ) (row : Option ℕ) → split c ≡ None
-        → row_before ccc glyph (full split height c) row ≡ row_with ccc glyph c row
-    row_before-whole c row stays = ap (λ xs. row_before ccc glyph xs row) (full-stays split height falls c stays)
+    pub row_before-whole : (c : ℕ) (row : Option ℕ) → D.split c ≡ None
+        → row_before D.ccc glyph (full D c) row ≡ row_with D.ccc glyph c row
+    row_before-whole c row stays = ap (λ xs. row_before D.ccc glyph xs row) (full-stays D falls c stays)
 
   abbrev row_before_items : List Item → Option ℕ → Option ℕ
-  row_before_items items row = row_before ccc glyph (full_text split height (map char_of items)) row
+  row_before_items items row = row_before D.ccc glyph (full_text D (map char_of items)) row
 
   pub row_before-last : (items before : List Item) (item : Item) (row : Option ℕ) → items ≡ before ++ item ∷ []
-      → row_before_items items row ≡ row_before_items before (row_before ccc glyph (full split height item.codepoint) row)
+      → row_before_items items row ≡ row_before_items before (row_before D.ccc glyph (full D item.codepoint) row)
   unfolding full_text
   row_before-last items before item row is =
-      let parts = flat_map (full split height) in
-      let last = full split height item.codepoint in
+      let parts = flat_map (full D) in
+      let last = full D item.codepoint in
       let chars : map char_of items ≡ map char_of before ++ item.codepoint ∷ [] =
       ap (map char_of) is ∙ map-append char_of before (item ∷ []) in
       let full_of : parts (map char_of items) ≡ parts (map char_of before) ++ last =
-      ap parts chars ∙ flat_map-append (full split height) (map char_of before) (item.codepoint ∷ [])
+      ap parts chars ∙ flat_map-append (full D) (map char_of before) (item.codepoint ∷ [])
       ∙ ap (λ cs. parts (map char_of before) ++ cs) (append-nil last) in
-      ap (λ cs. row_before ccc glyph cs row) full_of ∙ row_before-append ccc glyph (parts (map char_of before)) last row
+      ap (λ cs. row_before D.ccc glyph cs row) full_of ∙ row_before-append D.ccc glyph (parts (map char_of before)) last row
 
   pub row_before-none : (items : List Item) (row : Option ℕ) → length items ≡ 0 → row_before_items items row ≡ row
   unfolding full_text
@@ -289,7 +290,7 @@ module _ (rules : Rules) (lawful : HasLawfulHooks rules) (b : Buffer) where
   glyph = has_glyph rules.face.nominal_glyph
 
   abbrev full_of_text : List ℕ
-  full_of_text = full_text rules.split rules.height (text_of b)
+  full_of_text = full_text (decompositions rules) (text_of b)
 
   -- the five tests
   abbrev mode : Bool

@@ -10,7 +10,7 @@ use Rattle.shape_buffer.specs.Buffer.{Buffer}
 use Rattle.shape_buffer.specs.Items.{Item, is_mark_item}
 use Rattle.shape_buffer.specs.declared.buffer.settings.GlyphId.{GlyphId}
 use Rattle.shape_buffer.proofs.Merging.KeyLemmas.{IsKey-unflagged}
-use Rattle.shape_plan.specs.Rules.{Rules, has_glyph}
+use Rattle.shape_plan.specs.Rules.{Rules, decompositions, has_glyph}
 use Rattle.shape_normalize.specs.Normalized.{features_of, hidden_char}
 use Rattle.shape_normalize.specs.Origins.{item_at, Origin, origin_at, origins_from, variant_origins, expansion_origins, origins_of_parts, sequence_origins, origins, HasOfOrigin}
 use Rattle.shape_normalize.specs.Reordered.{unmerged}
@@ -179,7 +179,7 @@ module _ (rules : Rules) (text : Buffer) where
         let has = has_glyph rules.face.nominal_glyph in
         found_have place item stood (expansion_of rules short item)
         (λ cs found. recursion_from_All (λ c. has c ≡ true) cs
-        (AllPass-from_list_all has cs (chosen_glyphs rules.split has rules.height short item.codepoint cs found)))
+        (AllPass-from_list_all has cs (chosen_glyphs (decompositions rules) has short item.codepoint cs found)))
 
     expansion_zip : (short : Bool) (place : ℕ) (items : List Item) → AllAt Stood place items
         → AllZip Has (expansion_origins rules text.invisible_glyph short place items)

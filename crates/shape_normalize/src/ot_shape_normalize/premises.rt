@@ -11,7 +11,7 @@ ghost use Rattle.shape_normalize.specs.CanonicalForm.{CanonicalFormPremises, Has
 ghost use Rattle.shape_normalize.specs.PremiseTest.{row_with, row_before as row_before_of};
 ghost use Rattle.shape_normalize.specs.PremiseTest.{is_plain_item, is_full_mode, is_supported_text};
 ghost use Rattle.shape_normalize.specs.PremiseTest.{meets_premises};
-ghost use Rattle.shape_plan.specs.Rules.{rules_of, has_glyph};
+ghost use Rattle.shape_plan.specs.Rules.{rules_of, decompositions, has_glyph};
 
 use crate::ot_shape_normalize::decompose::split_of;
 use crate::ot_shape_normalize::has_mark_past_first;
@@ -58,7 +58,7 @@ where
     S: hb_ot_shaper_t<U, F, M>,
     ensures { let rules = ⟦<S as Runs<U, F, M>>⟧.rules plan.now face.now in
         result ≡ row_before_of U.unicode.ccc (has_glyph (F.face face.now).nominal_glyph)
-        (full rules.split rules.height c) before }
+        (full (decompositions rules) c) before }
 {
     let mut row = before;
     let mut point = c;

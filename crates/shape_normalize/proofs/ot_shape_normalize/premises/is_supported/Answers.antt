@@ -2,7 +2,7 @@ use Rattle.std.proofs.Common.{◌≡◌, ℕ, [], length, map, Option, Some, sym
 use Rattle.std.specs.Option.{is_some}
 use Rattle.canonical_form.specs.Chain.{full, full_text}
 use Rattle.shape_buffer.specs.Items.{Item, char_of}
-use Rattle.shape_plan.specs.Rules.{rules_of, has_glyph}
+use Rattle.shape_plan.specs.Rules.{rules_of, decompositions, has_glyph}
 use Rattle.shape_normalize.specs.PremiseTest.{row_before}
 use Rattle.shape_normalize.proofs.Form.PremiseTestLemmas.{row_before-last, row_before-none}
 use Rattle.shape_normalize.proofs.ot_shape_normalize.premises.is_supported.Goals as goal
@@ -13,9 +13,9 @@ items-preserved g c =
     let rules = rules_of g.U.hb_unicode_funcs_t.unicode shaper.constants shaper.hooks g.F.hb_font_t.face c.args.plan.now c.args.face.now in
     let glyph = has_glyph rules.face.nominal_glyph in
     c.items.invariant
-    ∙ row_before-last rules.split rules.height rules.unicode.ccc glyph c.items.left.now c.in-Some.before.now c.in-Some.info.now
+    ∙ row_before-last (decompositions rules) glyph c.items.left.now c.in-Some.before.now c.in-Some.info.now
     c.items.row c.in-Some.ensures.cases.0
-    ∙ ap (row_before rules.unicode.ccc glyph (full_text rules.split rules.height (map char_of c.in-Some.before.now)))
+    ∙ ap (row_before rules.unicode.ccc glyph (full_text (decompositions rules) (map char_of c.in-Some.before.now)))
     (sym c.with_full-row.ensures)
 
 pub returns : goal.returns
@@ -23,6 +23,6 @@ returns g c =
     let shaper = g.S.hb_ot_shaper_t in
     let rules = rules_of g.U.hb_unicode_funcs_t.unicode shaper.constants shaper.hooks g.F.hb_font_t.face c.args.plan.now c.args.face.now in
     let glyph = has_glyph rules.face.nominal_glyph in
-    let none = row_before-none rules.split rules.height rules.unicode.ccc glyph c.items.left.now c.items.row
+    let none = row_before-none (decompositions rules) glyph c.items.left.now c.items.row
     c.in_default.ensures.cases in
     c.is_some.ensures ∙ sym (ap is_some (c.items.invariant ∙ none))

@@ -1,7 +1,7 @@
 use Rattle.std.proofs.Common.{◌≡◌, map, length, Some}
 use Rattle.canonical_form.specs.Chain.{full_text}
 use Rattle.shape_buffer.specs.Items.{char_of}
-use Rattle.shape_plan.specs.Rules.{rules_of, has_glyph}
+use Rattle.shape_plan.specs.Rules.{rules_of, decompositions, has_glyph}
 use Rattle.shape_normalize.specs.PremiseTest.{row_before}
 use Rattle.shape_normalize.proofs.ot_shape_normalize.premises.is_supported.Given as goal
 
@@ -11,8 +11,8 @@ invariant-items g l =
     let shaper = g.S.hb_ot_shaper_t in
     let rules = rules_of g.U.hb_unicode_funcs_t.unicode shaper.constants shaper.hooks g.F.hb_font_t.face l.plan l.face in
     let glyph = has_glyph rules.face.nominal_glyph in
-    row_before rules.unicode.ccc glyph (full_text rules.split rules.height (map char_of l.infos)) (Some 0)
-    ≡ row_before rules.unicode.ccc glyph (full_text rules.split rules.height (map char_of l.left)) l.row
+    row_before rules.unicode.ccc glyph (full_text (decompositions rules) (map char_of l.infos)) (Some 0)
+    ≡ row_before rules.unicode.ccc glyph (full_text (decompositions rules) (map char_of l.left)) l.row
 
 abbrev pub decreases-items : goal.decreases-items
 decreases-items g l = length l.left

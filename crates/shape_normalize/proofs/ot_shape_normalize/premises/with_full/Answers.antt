@@ -1,5 +1,5 @@
 use Rattle.std.proofs.Common.{◌≡◌, Some, None, sym, ◌∙◌}
-use Rattle.shape_plan.specs.Rules.{rules_of, has_glyph}
+use Rattle.shape_plan.specs.Rules.{rules_of, decompositions, has_glyph}
 use Rattle.shape_normalize.proofs.Form.PremiseTestLemmas.{row_before-kept, row_before-dropped, row_before-whole}
 use Rattle.shape_normalize.proofs.Hooks.RulesLemmas.{FallsAlong-planned}
 use Rattle.shape_normalize.proofs.ot_shape_normalize.premises.with_full.Goals as goal
@@ -11,7 +11,7 @@ chain-preserved-then-b-ne0 g c =
     let falls = FallsAlong-planned g.met.U.hb_unicode_funcs_t.lawful shaper.constants.has_decompose shaper.hooks
     g.met.S.hb_ot_shaper_t.lawful_hooks c.args.plan.now c.args.face.now in
     c.chain.invariant
-    ∙ row_before-kept rules.split rules.height rules.unicode.ccc (has_glyph rules.face.nominal_glyph) falls
+    ∙ row_before-kept (decompositions rules) (has_glyph rules.face.nominal_glyph) falls
     c.chain.point c.in-Some.a c.in-Some.b
     c.chain.row c.with_mark-row.result (sym c.split_of.ensures ∙ c.in-Some.is) c.if-b-ne0.true c.with_mark-row.ensures
 
@@ -22,7 +22,7 @@ chain-preserved g c =
     let falls = FallsAlong-planned g.met.U.hb_unicode_funcs_t.lawful shaper.constants.has_decompose shaper.hooks
     g.met.S.hb_ot_shaper_t.lawful_hooks c.args.plan.now c.args.face.now in
     c.chain.invariant
-    ∙ row_before-dropped rules.split rules.height rules.unicode.ccc (has_glyph rules.face.nominal_glyph) falls
+    ∙ row_before-dropped (decompositions rules) (has_glyph rules.face.nominal_glyph) falls
     c.chain.point c.in-Some.a c.in-Some.b
     c.chain.row (sym c.split_of.ensures ∙ c.in-Some.is) c.if-b-ne0.false
 
@@ -34,5 +34,5 @@ returns g c =
     g.met.S.hb_ot_shaper_t.lawful_hooks c.args.plan.now c.args.face.now in
     c.with_mark.ensures
     ∙ sym (c.chain.invariant
-    ∙ row_before-whole rules.split rules.height rules.unicode.ccc (has_glyph rules.face.nominal_glyph) falls
+    ∙ row_before-whole (decompositions rules) (has_glyph rules.face.nominal_glyph) falls
     c.chain.point c.chain.row (sym c.split_of.ensures ∙ c.in_default.is))

@@ -1,6 +1,6 @@
 use Rattle.std.proofs.Common.{◌≡◌}
 use Rattle.canonical_form.specs.Chain.{full}
-use Rattle.shape_plan.specs.Rules.{rules_of, has_glyph}
+use Rattle.shape_plan.specs.Rules.{rules_of, decompositions, has_glyph}
 use Rattle.shape_plan.specs.Plan.{hooks_of}
 use Rattle.shape_plan.specs.Rules.{used_height}
 use Rattle.shape_normalize.specs.PremiseTest.{row_before}
@@ -12,8 +12,8 @@ invariant-chain g l =
     let shaper = g.S.hb_ot_shaper_t in
     let rules = rules_of g.U.hb_unicode_funcs_t.unicode shaper.constants shaper.hooks g.F.hb_font_t.face l.plan l.face in
     let glyph = has_glyph rules.face.nominal_glyph in
-    row_before rules.unicode.ccc glyph (full rules.split rules.height l.fn.c) l.fn.before
-    ≡ row_before rules.unicode.ccc glyph (full rules.split rules.height l.point) l.row
+    row_before rules.unicode.ccc glyph (full (decompositions rules) l.fn.c) l.fn.before
+    ≡ row_before rules.unicode.ccc glyph (full (decompositions rules) l.point) l.row
 
 abbrev pub decreases-chain : goal.decreases-chain
 decreases-chain g l =
