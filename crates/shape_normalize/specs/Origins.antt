@@ -68,13 +68,13 @@ abbrev pub origins : Rules → Buffer → List Origin
 origins rules text = origins_of_parts (sequence_origins rules text.invisible_glyph) 0 (sequences (pairs_merged rules text).items)
 
 -- what an item has of the text's item at the place that it came from: the feature bits; outside sequences with a selector the glyph of
--- its own character, or what stands in for that; and, unless joiners were shown since, the hidden bit with the character, or else that
--- of its own character
+-- its own character, or what stands in for that; and the hidden bit with the character, or else that of its own character, but for a CGJ
+-- that may have been shown since
 pub record HasOfOrigin (rules : Rules) (text : Buffer) (shows : Bool) (origin : Origin) (item : Item) : Type 0 where
   pub features : features_of item ≡ features_of (item_at text.items origin.place)
   pub glyph : origin.selects ≡ false → item.glyph_index ≡ item_glyph rules text.invisible_glyph item
-  pub hidden : shows ≡ false
-      → (hidden_char item ≡ hidden_char (item_at text.items origin.place)) ⊎ (item.properties.hidden ≡ is_hidden_char item.codepoint)
+  pub hidden : (hidden_char item ≡ hidden_char (item_at text.items origin.place))
+      ⊎ (item.properties.hidden ≡ is_hidden_char item.codepoint) ⊎ ((shows ≡ true) × (item.codepoint ≡ 0x34F))
 
 -- ---- round two
 
@@ -82,7 +82,7 @@ pub record HasOfOrigin (rules : Rules) (text : Buffer) (shows : Bool) (origin : 
 abbrev pub all_places : List Item → List ℕ
 all_places items = range_with_len 0 (length items)
 
--- two places are the same, or from the lower to the higher one all items are marks
+-- two places are the same, or from the lower to the higher one no item has ccc 0
 abbrev pub AreInOneRun : List Item → ℕ → ℕ → Type 0
 AreInOneRun items p q = (p ≡ q) ⊎ ((k : ℕ) → min p q ≤ k → k ≤ max p q → 0 < ccc_of_item (item_at items k))
 
@@ -103,7 +103,7 @@ IsOrderOf rules items places =
 abbrev pub lasting : Rules → Item → Item
 lasting rules item = if is_some rules.reorder then unclassed item else unmerged item
 
--- an item is the one of the expanded list that stood at this place; a joiner may be shown, where one was seen
+-- an item is the one of the expanded list that stood at this place; a CGJ may be shown, where one was seen
 abbrev pub IsFromPlace : Rules → Buffer → ℕ → Item → Type 0
 IsFromPlace rules expanded place item =
     let from = item_at expanded.items place in
@@ -112,12 +112,17 @@ IsFromPlace rules expanded place item =
 
 -- ---- round three
 
--- an item is this one; once marks were composed with that, it has a character of its own that has a glyph, with that glyph and with the
--- properties of that character
+-- the character of the last of some compositions, by that of the first
+abbrev pub last_char : ℕ → List Joined → ℕ
+last_char c [] = c
+last_char c (mark ∷ marks) = last_char mark.char marks
+
+-- an item is this one; once marks were composed with that, it has the character of the last composition, which has a glyph, with that
+-- glyph and with the properties of that character
 abbrev pub IsOnceJoined : Rules → Item → List Joined → Item → Type 0
 IsOnceJoined rules from [] item = unmerged item ≡ unmerged from
 IsOnceJoined rules from (mark ∷ marks) item =
-    (has_glyph rules.face.nominal_glyph item.codepoint ≡ true)
+    (item.codepoint ≡ last_char mark.char marks) × (has_glyph rules.face.nominal_glyph item.codepoint ≡ true)
     × (unmerged item ≡ unmerged (part_item rules.unicode rules.face.nominal_glyph from item.codepoint))
 
 -- an item is what became of the starter that stood at its place

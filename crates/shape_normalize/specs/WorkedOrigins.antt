@@ -55,6 +55,10 @@ masked mask index plain = record plain { mask = mask; glyph_index = index }
 abbrev pub hidden_item : Item → Item
 hidden_item plain = record plain { properties = record plain.properties { hidden = true } }
 
+-- an item that is not
+abbrev pub shown_item : Item → Item
+shown_item plain = record plain { properties = record plain.properties { hidden = false } }
+
 -- U+00E1 and a U+0062 that is hidden, each with feature bits of its own
 abbrev pub text : Buffer
 text = buffer_of (masked 256 0 (item 0xE1 0) ∷ masked 512 0 (hidden_item (item 0x62 1)) ∷ [])
@@ -73,8 +77,10 @@ pub record OfOriginWorked : Type 0 where
   -- nor hidden where neither it nor its character is
   pub other_hidden : Has (origin_at false 0) (masked 256 0x61 (hidden_item (item 0x61 0))) → ⊥
   pub neighbour_hidden : Has (origin_at false 1) (masked 512 0x61 (hidden_item (item 0x61 0))) → ⊥
-  -- unless joiners were shown since
-  pub once_shown : HasOfOrigin (rules_in 1 (0x61 ∷ [])) text true (origin_at false 1) (masked 512 0x61 (hidden_item (item 0x61 0)))
+  -- but for a CGJ, once these were shown, and for nothing else
+  pub once_shown : HasOfOrigin (rules_in 1 (0x34F ∷ [])) text true (origin_at false 1) (masked 512 0x34F (shown_item (item 0x34F 0)))
+  pub none_shown : HasOfOrigin (rules_in 1 (0x34F ∷ [])) text false (origin_at false 1) (masked 512 0x34F (shown_item (item 0x34F 0))) → ⊥
+  pub other_shown : HasOfOrigin (rules_in 1 (0x61 ∷ [])) text true (origin_at false 1) (masked 512 0x61 (hidden_item (item 0x61 0))) → ⊥
 
 -- ---- the order that round two leaves
 
@@ -100,21 +106,21 @@ pub record OrderWorked : Type 0 where
   pub by_ccc : IsOrderOf (rules_in 1 []) runs_of_marks (0 ∷ 2 ∷ 1 ∷ 3 ∷ 4 ∷ 5 ∷ [])
   pub not_by_ccc : IsOrderOf (rules_in 1 []) runs_of_marks (0 ∷ 1 ∷ 2 ∷ 3 ∷ 4 ∷ 5 ∷ []) → ⊥
 
--- ---- joiners
+-- ---- CGJ
 
--- U+0061 and U+034F, of which the run has seen the joiner or not
-abbrev pub with_joiner : ℕ → Buffer
-with_joiner flags = record (buffer_of (item 0x61 0 ∷ masked 256 0 (item 0x34F 1) ∷ [])) { scratch_flags = record { 0 = flags } }
+-- U+0061 and U+034F, which the run has seen or not
+abbrev pub with_cgj : ℕ → Buffer
+with_cgj flags = record (buffer_of (item 0x61 0 ∷ masked 256 0 (item 0x34F 1) ∷ [])) { scratch_flags = record { 0 = flags } }
 
-abbrev pub shown_joiner : Item
-shown_joiner = let plain : Item = masked 256 0 (item 0x34F 7) in record plain { properties = record plain.properties { hidden = false } }
+abbrev pub shown_cgj : Item
+shown_cgj = masked 256 0 (shown_item (item 0x34F 7))
 
 pub record FromPlaceWorked : Type 0 where
-  pub stays : IsFromPlace (rules_in 1 []) (with_joiner 0) 1 (masked 259 0 (item 0x34F 7))
-  pub seen : IsFromPlace (rules_in 1 []) (with_joiner 8) 1 shown_joiner
-  pub unseen : IsFromPlace (rules_in 1 []) (with_joiner 0) 1 shown_joiner → ⊥
-  pub other_place : IsFromPlace (rules_in 1 []) (with_joiner 8) 0 shown_joiner → ⊥
-  pub other_features : IsFromPlace (rules_in 1 []) (with_joiner 8) 1 (masked 512 0 (item 0x34F 7)) → ⊥
+  pub stays : IsFromPlace (rules_in 1 []) (with_cgj 0) 1 (masked 259 0 (item 0x34F 7))
+  pub seen : IsFromPlace (rules_in 1 []) (with_cgj 8) 1 shown_cgj
+  pub unseen : IsFromPlace (rules_in 1 []) (with_cgj 0) 1 shown_cgj → ⊥
+  pub other_place : IsFromPlace (rules_in 1 []) (with_cgj 8) 0 shown_cgj → ⊥
+  pub other_features : IsFromPlace (rules_in 1 []) (with_cgj 8) 1 (masked 512 0 (item 0x34F 7)) → ⊥
 
 -- ---- composed items
 
@@ -138,6 +144,7 @@ pub record FromStarterWorked : Type 0 where
   pub features_of_mark : FromStarter with_mark (masked 512 0xE1 (item 0xE1 5)) → ⊥
   pub not_composed : FromStarter alone (masked 256 0xE1 (item 0xE1 5)) → ⊥
   pub other_glyph : FromStarter with_mark (masked 256 0x61 (item 0xE1 5)) → ⊥
+  pub starter_itself : FromStarter with_mark (masked 256 0x61 (item 0x61 5)) → ⊥
 
 -- ---- whole lists
 

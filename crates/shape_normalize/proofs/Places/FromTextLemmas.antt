@@ -88,9 +88,10 @@ module _ (rules : Rules) (text : Buffer) where
         features = ap (λ (item : Item). item.mask) same ∙ has.features;
         glyph = λ outside. ap (λ (item : Item). item.glyph_index) same ∙ has.glyph outside
             ∙ sym (ap (item_glyph rules text.invisible_glyph) same);
-        hidden = λ unseen. elim (has.hidden unseen) [
+        hidden = elim has.hidden [
           | inl kept ↦ inl (hidden ∙ kept)
-          | inr own ↦ inr (ap (λ k. k.1) hidden ∙ own ∙ sym (ap (λ k. is_hidden_char k.0) hidden))
+          | inr (inl own) ↦ inr (inl (ap (λ k. k.1) hidden ∙ own ∙ sym (ap (λ k. is_hidden_char k.0) hidden)))
+          | inr (inr cgj) ↦ inr (inr (cgj.0, ap (λ k. k.0) hidden ∙ cgj.1))
         ];
       }
 
@@ -112,12 +113,19 @@ module _ (rules : Rules) (text : Buffer) where
       let hook = is_some rules.reorder in
       elim is [
         | inl same ↦
-            let kept : Has origin from = record { features = had.features; glyph = had.glyph; hidden = λ unseen. had.hidden refl } in
-            has_same origin item from (unclassed_of hook item from same) kept
+            has_same origin item from (unclassed_of hook item from same) (record {
+              features = had.features;
+              glyph = had.glyph;
+              hidden = elim had.hidden [
+                | inl kept ↦ inl kept
+                | inr (inl own) ↦ inr (inl own)
+                | inr (inr cgj) ↦ absurd (let no : false ≡ true = cgj.0 in cc)
+              ];
+            })
         | inr showing ↦
             let seen : has_seen_cgj one ≡ true = showing.0 in
             let once_shown : Has origin (shown from) =
-            record { features = had.features; glyph = had.glyph; hidden = λ unseen. absurd (cc) } in
+            record { features = had.features; glyph = had.glyph; hidden = inr (inr (seen, showing.1)) } in
             has_same origin item (shown from) (unclassed_of hook item (shown from) showing.2) once_shown
       ]
 
@@ -138,11 +146,11 @@ module _ (rules : Rules) (text : Buffer) where
         → Has origin item
     has_once_joined origin from item [] has same = has_same origin item from (ap (with_ccc 0) same) has
     has_once_joined origin from item (mark ∷ marks) has joined =
-        has_same origin item (part_item rules.unicode rules.face.nominal_glyph from item.codepoint) (ap (with_ccc 0) joined.1)
+        has_same origin item (part_item rules.unicode rules.face.nominal_glyph from item.codepoint) (ap (with_ccc 0) joined.2)
         (record {
           features = has.features;
-          glyph = λ outside. part_has_glyph rules text.invisible_glyph None from item.codepoint joined.0;
-          hidden = λ unseen. inr refl;
+          glyph = λ outside. part_has_glyph rules text.invisible_glyph None from item.codepoint joined.1;
+          hidden = inr (inl refl);
         })
 
     recomposed_has : (items : List Item)

@@ -111,7 +111,7 @@ module _ (rules : Rules) (text : Buffer) where
   kept_there place item new stood features hidden = record {
     features = features ∙ same_features place item stood;
     glyph = λ no. absurd (cc);
-    hidden = λ stays. inl (hidden ∙ same_hidden place item stood);
+    hidden = inl (hidden ∙ same_hidden place item stood);
   }
 
   passed_zip : (place : ℕ) (rest : List Item) → AllAt Stood place rest
@@ -151,7 +151,7 @@ module _ (rules : Rules) (text : Buffer) where
       record {
         features = same_features place item stood;
         glyph = λ outside. part_has_glyph rules text.invisible_glyph not_found item c each.0;
-        hidden = λ stays. inr refl;
+        hidden = inr (inl refl);
       },
       parts_have place item stood cs each.1,
     )
@@ -161,7 +161,7 @@ module _ (rules : Rules) (text : Buffer) where
       features = whole_item_is rules text.invisible_glyph (λ whole. features_of whole ≡ features_of item) item (λ glyph. refl)
           (λ glyph space. refl) ∙ same_features place item stood;
       glyph = λ outside. whole_has_glyph rules text.invisible_glyph not_found item;
-      hidden = λ stays. inl (whole_item_is rules text.invisible_glyph (λ whole. hidden_char whole ≡ hidden_char item) item (λ glyph. refl)
+      hidden = inl (whole_item_is rules text.invisible_glyph (λ whole. hidden_char whole ≡ hidden_char item) item (λ glyph. refl)
           (λ glyph space. refl) ∙ same_hidden place item stood);
     }
 

@@ -7,7 +7,7 @@ use Rattle.canonical_form.specs.Recompose.{is_blocked_by_last}
 use Rattle.canonical_form.proofs.Recomposing.RecomposeLemmas.{recomposed-all}
 use Rattle.shape_plan.specs.Rules.{Rules, has_glyph}
 use Rattle.shape_normalize.specs.Normalized.{features_of}
-use Rattle.shape_normalize.specs.Origins.{item_at, IsOnceJoined, IsFromStarter}
+use Rattle.shape_normalize.specs.Origins.{item_at, last_char, IsOnceJoined, IsFromStarter}
 use Rattle.shape_normalize.specs.Reordered.{unmerged}
 use Rattle.shape_normalize.specs.RoundOne.{part_item}
 use Rattle.shape_normalize.specs.RoundThree.{Joined, Placed, placed, ccc_of_placed, is_mark_placed, compose_placed, recomposed_items, joined_spans, spans_merged_out, with_cluster_at, round_three}
@@ -30,16 +30,20 @@ features_at (x ∷ xs) (y ∷ ys) same zero other is = let head : features_of x 
 features_at (x ∷ xs) (y ∷ ys) same (suc place) other is = let tail : map features_of xs ≡ map features_of ys = cc in
     features_at xs ys tail place other is
 
+last_char-push : (c : ℕ) (marks : List Joined) (mark : Joined) → last_char c (marks ++ mark ∷ []) ≡ mark.char
+last_char-push c [] mark = refl
+last_char-push c (m ∷ marks) mark = last_char-push m.char marks mark
+
 module _ (rules : Rules) where
   -- an item, once marks were composed with it, by the character that it has then
   abbrev once_joined : Item → List Joined → ℕ → Item
   once_joined from [] c = from
   once_joined from (mark ∷ marks) c = part_item rules.unicode rules.face.nominal_glyph from c
 
-  -- which has a glyph
+  -- which is that of the last composition, and has a glyph
   abbrev HasGlyphOnceJoined : List Joined → ℕ → Type 0
   HasGlyphOnceJoined [] c = Unit {0}
-  HasGlyphOnceJoined (mark ∷ marks) c = has_glyph rules.face.nominal_glyph c ≡ true
+  HasGlyphOnceJoined (mark ∷ marks) c = (c ≡ last_char mark.char marks) × (has_glyph rules.face.nominal_glyph c ≡ true)
 
   -- an item that is composed with one more mark has that character alone
   joined_once : (from item : Item) (joined : List Joined) (mark : Joined) (c : ℕ) → item ≡ once_joined from joined item.codepoint
@@ -47,10 +51,10 @@ module _ (rules : Rules) where
   joined_once from item [] mark c is = ap (λ (one : Item). part_item rules.unicode rules.face.nominal_glyph one c) is
   joined_once from item (m ∷ ms) mark c is = ap (λ (one : Item). part_item rules.unicode rules.face.nominal_glyph one c) is
 
-  has_glyph_once : (joined : List Joined) (mark : Joined) (c : ℕ) → has_glyph rules.face.nominal_glyph c ≡ true
-      → HasGlyphOnceJoined (joined ++ mark ∷ []) c
-  has_glyph_once [] mark c has = has
-  has_glyph_once (m ∷ ms) mark c has = has
+  has_glyph_once : (joined : List Joined) (mark : Joined) → has_glyph rules.face.nominal_glyph mark.char ≡ true
+      → HasGlyphOnceJoined (joined ++ mark ∷ []) mark.char
+  has_glyph_once [] mark has = (refl, has)
+  has_glyph_once (m ∷ ms) mark has = (sym (last_char-push m.char ms mark), has)
 
   features_once : (from : Item) (joined : List Joined) (c : ℕ) → features_of (once_joined from joined c) ≡ features_of from
   features_once from [] c = refl
@@ -62,7 +66,8 @@ module _ (rules : Rules) where
   settled_once from item new [] is has same = same ∙ ap unmerged is
   settled_once from item new (mark ∷ marks) is has same =
       let char : new.codepoint ≡ item.codepoint = ap (λ (one : Item). one.codepoint) same in (
-        ap (has_glyph rules.face.nominal_glyph) char ∙ has,
+        char ∙ has.0,
+        ap (has_glyph rules.face.nominal_glyph) char ∙ has.1,
         same ∙ ap unmerged is ∙ ap (λ c. unmerged (part_item rules.unicode rules.face.nominal_glyph from c)) (sym char),
       )
 
@@ -82,7 +87,7 @@ module _ (rules : Rules) where
         let last : Joined = record { place = mark.place; char = made.0 } in
         let has = glyph_of_joined (has_glyph rules.face.nominal_glyph) (rules.compose s.item.codepoint mark.item.codepoint) made.0 made.1 in
         subst IsPutOut (sym made.2)
-        (joined_once (item_at items s.place) s.item s.joined last made.0 of_s.0, has_glyph_once s.joined last made.0 has)
+        (joined_once (item_at items s.place) s.item s.joined last made.0 of_s.0, has_glyph_once s.joined last has)
 
     each_once : AllByRecursion IsPutOut (recomposed_items rules items)
     each_once =

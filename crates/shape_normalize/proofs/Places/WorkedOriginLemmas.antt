@@ -34,18 +34,32 @@ new_places_worked = record { composed = refl; left = refl }
 
 of_origin_worked : OfOriginWorked
 of_origin_worked = record {
-  part = record { features = refl; glyph = λ outside. refl; hidden = λ stays. inr refl };
-  kept = record { features = refl; glyph = λ outside. refl; hidden = λ stays. inl refl };
+  part = record { features = refl; glyph = λ outside. refl; hidden = inr (inl refl) };
+  kept = record { features = refl; glyph = λ outside. refl; hidden = inl refl };
   other_features = λ h. let no : 512 ≡ 256 = h.features in omega (arith, no);
   other_glyph = λ h. let no : 7 ≡ 0x61 = h.glyph refl in omega (arith, no);
-  variant_glyph = record { features = refl; glyph = λ inside. absurd (cc); hidden = λ stays. inr refl };
-  other_hidden = λ h. elim (h.hidden refl) [ inl same ↦ let no : 0x61 ≡ 0xE1 = ap (λ k. k.0) same in omega (arith, no) | inr own ↦ cc ];
-  neighbour_hidden = λ h. elim (h.hidden refl) [
-    | inl same ↦ let no : 0x61 ≡ 0x62 = ap (λ k. k.0) same in omega (arith, no)
-    | inr own ↦
-        cc
+  variant_glyph = record { features = refl; glyph = λ inside. absurd (cc); hidden = inr (inl refl) };
+  other_hidden = λ h. elim h.hidden [
+    | inl same ↦ let no : 0x61 ≡ 0xE1 = ap (λ k. k.0) same in omega (arith, no)
+    | inr (inl own) ↦ cc
+    | inr (inr cgj) ↦ let no : 0x61 ≡ 0x34F = cgj.1 in omega (arith, no)
   ];
-  once_shown = record { features = refl; glyph = λ outside. refl; hidden = λ stays. absurd (cc) };
+  neighbour_hidden = λ h. elim h.hidden [
+    | inl same ↦ let no : 0x61 ≡ 0x62 = ap (λ k. k.0) same in omega (arith, no)
+    | inr (inl own) ↦ cc
+    | inr (inr cgj) ↦ let no : 0x61 ≡ 0x34F = cgj.1 in omega (arith, no)
+  ];
+  once_shown = record { features = refl; glyph = λ outside. refl; hidden = inr (inr (refl, refl)) };
+  none_shown = λ h. elim h.hidden [
+    | inl same ↦ let no : 0x34F ≡ 0x62 = ap (λ k. k.0) same in omega (arith, no)
+    | inr (inl own) ↦ let no : false ≡ true = own in cc
+    | inr (inr cgj) ↦ let no : false ≡ true = cgj.0 in cc
+  ];
+  other_shown = λ h. elim h.hidden [
+    | inl same ↦ let no : 0x61 ≡ 0x62 = ap (λ k. k.0) same in omega (arith, no)
+    | inr (inl own) ↦ cc
+    | inr (inr cgj) ↦ let no : 0x61 ≡ 0x34F = cgj.1 in omega (arith, no)
+  ];
 }
 
 -- the three marks of the first run
@@ -149,10 +163,11 @@ from_place_worked = record {
 from_starter_worked : FromStarterWorked
 from_starter_worked = record {
   stays = refl;
-  composed = (refl, refl);
-  features_of_mark = λ h. let no : 512 ≡ 256 = ap (λ (one : Item). one.mask) h.1 in omega (arith, no);
+  composed = (refl, refl, refl);
+  features_of_mark = λ h. let no : 512 ≡ 256 = ap (λ (one : Item). one.mask) h.2 in omega (arith, no);
   not_composed = λ h. let no : 0xE1 ≡ 0x61 = ap (λ (one : Item). one.codepoint) h in omega (arith, no);
-  other_glyph = λ h. let no : 0x61 ≡ 0xE1 = ap (λ (one : Item). one.glyph_index) h.1 in omega (arith, no);
+  other_glyph = λ h. let no : 0x61 ≡ 0xE1 = ap (λ (one : Item). one.glyph_index) h.2 in omega (arith, no);
+  starter_itself = λ h. let no : 0x61 ≡ 0xE1 = h.0 in omega (arith, no);
 }
 
 changed : ComesByPlace (rules_in 1 (0x62 ∷ [])) (letters 256 512) (letters 512 256) → ⊥
