@@ -6,5 +6,5 @@ pub record Decompositions : Type 0 where
   pub split : ℕ → Option (ℕ × ℕ)
   -- a height that falls along splits
   pub height : ℕ → ℕ
-  -- its combining class (D104)
+  -- the combining class of each (D104)
   pub ccc : ℕ → ℕ

@@ -142,7 +142,7 @@ where
     run_rounds::<U, F, M, S>(alloc, &mut ctx)
 }
 
-/// Expands the items and shows joiners; where there are marks past the first item, puts them in order, and
+/// Expands the items and shows CGJ; where there are marks past the first item, puts them in order, and
 /// composes them in the modes that do.
 fn run_rounds<U, F, M, S>(
     alloc: Global,

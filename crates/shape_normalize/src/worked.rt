@@ -9,7 +9,7 @@ pub fn round_one_meets_worked_cases()
     ensures { RoundOneWorked }
 {}
 
-/// Runs of marks and their spans, the shaper's hook, and joiners.
+/// Runs of marks and their spans, the shaper's hook, and CGJ.
 pub fn round_two_meets_worked_cases()
     ensures { RoundTwoWorked }
 {}

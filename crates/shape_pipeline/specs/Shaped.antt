@@ -17,7 +17,7 @@ use Rattle.shape_substitute.specs.Substitution.{mask_steps, glyph_steps, substit
 abbrev pub normalising : Rules → Step
 normalising rules = record { makes = normalized rules; counts = λ b. length (round_one rules b).items }
 
--- what substitution finds: masks, classes that marks are placed by, glyphs with their classes
+-- what substitution finds: masks, ccc that marks are placed by, glyphs with their classes
 abbrev pub glyph_start : Run → List Step
 glyph_start run = mask_steps run ++ (step (recategorize_step run.decisions) ∷ glyph_steps run)
 

@@ -1,9 +1,10 @@
 //! Laws that spare callers a proof: each function has laws as its contract, and nothing to do.
 //!
 //! A run owes what its shaper's hooks and its engine's lookups do: that they keep clusters, that they keep
-//! flags, and for canonical form that they split and compose lawfully. A plain caller, whose shaper gives
-//! no hook and whose engine has no lookups, has all of it by [`plain_runs_owe_nothing`]; one with hooks or
-//! lookups of its own proves those alone, and takes the rest from here.
+//! flags, and for canonical form that they split and compose lawfully. A caller with
+//! the default shaper and the engine that changes nothing has all of it by [`plain_runs_owe_nothing`], one
+//! with another shaper without hooks by [`runs_without_hooks_owe_nothing`]; one with hooks or lookups of its
+//! own proves those alone, and takes the rest from here.
 ghost use Rattle.std.specs.Prelude.{◌≡◌, ◌≢◌, ◌⊎◌, false};
 ghost use Rattle.shape_buffer.specs.Buffer.{Buffer};
 ghost use Rattle.shape_buffer.specs.Keepers.{LookupsKeepClusters, LookupsKeepFlags};

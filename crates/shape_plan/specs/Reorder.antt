@@ -10,7 +10,7 @@ use Rattle.shape_buffer.specs.Items.{Item, ccc_of_item}
 abbrev pub max_run : ℕ
 max_run = 32
 
--- the items from place `start` up to `end` are a run in order: not empty, at most 32 of them, of nonzero classes that never fall
+-- the items from place `start` up to `end` are a run in order: not empty, at most 32 of them, of nonzero ccc that never fall
 pub record IsRunInOrder (items : List Item) (start end : ℕ) : Type 0 where
   pub some : start < end
   pub within : end ≤ length items
@@ -22,11 +22,11 @@ pub record IsRunInOrder (items : List Item) (start end : ℕ) : Type 0 where
 abbrev pub exchanged : ℕ → ℕ → Buffer → Buffer
 exchanged i j b = record b { items = swap b.items i j }
 
--- an item of another class
+-- an item of another ccc
 abbrev pub with_ccc : ℕ → Item → Item
 with_ccc ccc item = record item { properties = record item.properties { modified_ccc = ccc } }
 
--- the item at a place with another class
+-- the item at a place with another ccc
 abbrev pub ccc_set : ℕ → Item → ℕ → Buffer → Buffer
 ccc_set i item ccc b = record b { items = set b.items i (with_ccc ccc item) }
 

@@ -269,7 +269,7 @@ pub trait hb_ot_shaper_t<U: hb_unicode_funcs_t, F: hb_font_t, M: hb_ot_layout_t<
         ensures { Made (hooks self.now plan.now face.now).setup_masks buffer.old buffer.new };
 
     /// Puts the items from place `start` up to `end`, at most 32 marks in canonical order, in an order of
-    /// the shaper's own. May merge clusters within the run, and give its items other nonzero classes.
+    /// the shaper's own. May merge clusters within the run, and give its items other nonzero ccc.
     fn reorder_marks(
         &self,
         plan: &hb_ot_shape_plan_t<'_, Self, M::Map, Self::Data>,

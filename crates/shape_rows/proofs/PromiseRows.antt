@@ -129,26 +129,26 @@ shown_in ks k there =
 -- a cluster that isn't the text's, or not that of a first character
 from_nowhere : (level : BufferClusterLevel) (target : Direction) (ks : List ℕ) (k : ℕ) → holds ks k ≡ true
     → holds (0 ∷ 1 ∷ 3 ∷ []) k ≡ false → ComeNot level target ks
-from_nowhere level target ks k there nowhere come run =
+from_nowhere level target ks k there nowhere run come =
     let here = shown_in ks k there in
-    both_ways _ nowhere (contained (0 ∷ 1 ∷ 3 ∷ []) k ((come run).from_text k here))
+    both_ways _ nowhere (contained (0 ∷ 1 ∷ 3 ∷ []) k (come.from_text k here))
 
 inside : (target : Direction) (ks : List ℕ) (k : ℕ) → holds ks k ≡ true → holds (0 ∷ 3 ∷ []) k ≡ false → ComeNot MonotoneGraphemes target ks
-inside target ks k there nowhere come run =
+inside target ks k there nowhere run come =
     let here = shown_in ks k there in
-    let first = (come run).from_firsts refl k here in
+    let first = come.from_firsts refl k here in
     both_ways _ nowhere (contained (0 ∷ 3 ∷ []) k (subst (λ (ns : List ℕ). Contains ns k) (firsts run MonotoneGraphemes) first))
 
 no_order_of_clusters : NoOrderOfClusters
 no_order_of_clusters = record {
-  falls = λ come run. no_rise (1 ∷ 0 ∷ 3 ∷ []) 0 1 (lit≤ tt) (lit< tt) (lit< tt) (come run).ordered;
-  falls_at_the_end = λ come run. no_rise (0 ∷ 3 ∷ 1 ∷ []) 1 2 (lit≤ tt) (lit< tt) (lit< tt) (come run).ordered;
-  falls_downward = λ come run. no_rise (3 ∷ 1 ∷ 0 ∷ []) 0 1 (lit≤ tt) (lit< tt) (lit< tt) (come run).ordered;
-  rises_leftward = λ come run. no_fall (0 ∷ 1 ∷ 3 ∷ []) 0 1 (lit≤ tt) (lit< tt) (lit< tt) (come run).ordered;
-  rises_upward = λ come run. no_fall (3 ∷ 0 ∷ 1 ∷ []) 1 2 (lit≤ tt) (lit< tt) (lit< tt) (come run).ordered;
+  falls = λ run come. no_rise (1 ∷ 0 ∷ 3 ∷ []) 0 1 (lit≤ tt) (lit< tt) (lit< tt) come.ordered;
+  falls_at_the_end = λ run come. no_rise (0 ∷ 3 ∷ 1 ∷ []) 1 2 (lit≤ tt) (lit< tt) (lit< tt) come.ordered;
+  falls_downward = λ run come. no_rise (3 ∷ 1 ∷ 0 ∷ []) 0 1 (lit≤ tt) (lit< tt) (lit< tt) come.ordered;
+  rises_leftward = λ run come. no_fall (0 ∷ 1 ∷ 3 ∷ []) 0 1 (lit≤ tt) (lit< tt) (lit< tt) come.ordered;
+  rises_upward = λ run come. no_fall (3 ∷ 0 ∷ 1 ∷ []) 1 2 (lit≤ tt) (lit< tt) (lit< tt) come.ordered;
   from_nowhere = from_nowhere MonotoneCharacters LeftToRight (0 ∷ 2 ∷ 3 ∷ []) 2 refl refl;
   past_the_text = from_nowhere MonotoneCharacters RightToLeft (4 ∷ 0 ∷ []) 4 refl refl;
-  falls_at_graphemes = λ come run. no_rise (3 ∷ 0 ∷ 0 ∷ []) 0 1 (lit≤ tt) (lit< tt) (lit< tt) (come run).ordered;
+  falls_at_graphemes = λ run come. no_rise (3 ∷ 0 ∷ 0 ∷ []) 0 1 (lit≤ tt) (lit< tt) (lit< tt) come.ordered;
   inside_a_grapheme = inside LeftToRight (0 ∷ 1 ∷ 3 ∷ []) 1 refl refl;
   inside_leftward = inside RightToLeft (3 ∷ 1 ∷ []) 1 refl refl;
 }

@@ -67,7 +67,7 @@ pub record LimitsOfRuns : Type 0 where
 limits_of_runs : LimitsOfRuns
 limits_of_runs = record { of_one = refl; of_many = refl; of_too_many = refl }
 
--- runs of marks by their classes, the spans that their order moves, and that order
+-- runs of marks by their ccc, the spans that their order moves, and that order
 pub record OrderOfMarks : Type 0 where
   pub two_runs : runs (0 ∷ 230 ∷ 220 ∷ 0 ∷ 230 ∷ []) ≡ (0, 0) ∷ (1, 3) ∷ (4, 5) ∷ []
   pub two_spans : spans (12 ∷ 10 ∷ 230 ∷ 220 ∷ []) ≡ (0, 2) ∷ (2, 4) ∷ []

@@ -25,7 +25,8 @@ abbrev pub Come : BufferClusterLevel → Direction → List ℕ → Type 0
 Come level target ks = (run : Run) → ComesInOrder (record run { unicode = worked_unicode }) target (accented level) (glyphs_in ks)
 
 abbrev pub ComeNot : BufferClusterLevel → Direction → List ℕ → Type 0
-ComeNot level target ks = Come level target ks → (run : Run) → ⊥
+ComeNot level target ks =
+    (run : Run) → ComesInOrder (record run { unicode = worked_unicode }) target (accented level) (glyphs_in ks) → ⊥
 
 pub record OrderOfClusters : Type 0 where
   pub rightward : Come MonotoneCharacters LeftToRight (0 ∷ 1 ∷ 3 ∷ [])

@@ -1,4 +1,4 @@
-//! Marks round a base, through the two calls for them: the components of ligatures, and the classes that
+//! Marks round a base, through the two calls for them: the components of ligatures, and the ccc that
 //! marks are placed by. The em square has 1000 units, so that the gap is 62.
 
 use crate::support::PlainUnicode;
@@ -58,7 +58,7 @@ fn ligated(c: char, glyph: u32, component: Component) -> hb_glyph_info_t {
     info
 }
 
-/// A base of a ligature with as many components, and behind it marks of class 230.
+/// A base of a ligature with as many components, and behind it marks of ccc 230.
 fn with_marks(
     alloc: Global,
     direction: Direction,
@@ -185,7 +185,7 @@ fn marks_of_a_component_pile_up(rt: HostRuntime) -> Result<(), Fail> {
     Ok(())
 }
 
-/// The class of a character that has this category and class, once marks are recategorised.
+/// The ccc of a character that has this category and ccc, once marks are recategorised.
 fn recategorised(
     alloc: Global,
     c: char,

@@ -1,8 +1,8 @@
-//! A cache of shaped words, which finds a word under each equivalent spelling of it.
+//! A cache of shaped words, which finds a word under each spelling with the same normalised characters.
 //!
 //! A plan serves every text that it fits, so plans are kept and found by `fits`. A word is found by its
-//! normalised characters: in the modes that decompose fully these are the same exactly for equivalent
-//! spellings, so that `é` as one character or as two is kept once. A cache that must never show one word for
+//! normalised characters; where `equivalent_spellings` can tell, these are the equivalent spellings, so that
+//! U+0071 U+0301 U+00E9 and U+0071 U+0301 U+0065 U+0301 are kept once. A cache that must never show one word for
 //! another needs no more than that; it may use any mode.
 ghost use Rattle.std.specs.Prelude.{◌≡◌, ◌↔◌, length, IsTrue, IfOk, IfSome, IfNone};
 ghost use Rattle.shape_plan.specs.Plan.{Fits};
@@ -44,7 +44,7 @@ pub fn find_plan<U: hb_unicode_funcs_t, S, P, D>(
     None
 }
 
-/// The place of a word that was shaped under this spelling or an equivalent one.
+/// The place of a word that was shaped under a spelling with the same normalised characters.
 pub fn find_word<U, F, M, S>(
     alloc: Global,
     face: &F,
@@ -72,7 +72,7 @@ where
     Ok(None)
 }
 
-/// The place of a word under this spelling or an equivalent one; it is shaped, and kept behind the others,
+/// The place of a word under a spelling with the same normalised characters; it is shaped, and kept behind the others,
 /// where there is none yet. Refuses as `find_word` and `shape_with_plan` do.
 pub fn keep_word<U, F, M, S>(
     alloc: Global,

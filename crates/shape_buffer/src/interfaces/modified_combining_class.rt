@@ -67,12 +67,12 @@ pub const CCC91: u8 = 5;
 
 /// Thai sara u and sara uu.
 pub const CCC103: u8 = 3;
-/// Thai mai.
+/// Thai tone marks, mai ek and the others.
 pub const CCC107: u8 = 107;
 
 /// Lao sign u and sign uu.
 pub const CCC118: u8 = 118;
-/// Lao mai.
+/// Lao tone marks, mai ek and the others.
 pub const CCC122: u8 = 122;
 
 /// Tibetan sign aa.

@@ -1,4 +1,4 @@
--- Prepared lists stay prepared in round one and where joiners are shown.
+-- Prepared lists stay prepared in round one and where CGJ are shown.
 use Rattle.std.proofs.Common.{ℕ, List, [], ◌∷◌, map, Option, None, Some, refl}
 use Rattle.std.specs.Option.{option_map_or}
 use Rattle.shape_buffer.specs.Buffer.{Buffer}
@@ -13,7 +13,7 @@ use Rattle.shape_normalize.specs.RoundTwo.{cgj_settled}
 use Rattle.shape_normalize.proofs.RoundTwo.CgjLemmas.{keys-cgj_settled}
 use Rattle.shape_normalize.proofs.RoundOne.RoundOneLemmas.{whole_item_is, expanded_all, keys-pairs_merged}
 
--- showing joiners keeps a list prepared
+-- showing CGJ keeps a list prepared
 pub prepared-cgj_settled : (unicode : UnicodeMeaning) (b : Buffer) → ArePrepared unicode b.items → ArePrepared unicode (cgj_settled b).items
 prepared-cgj_settled unicode b h = prepared_by_keys unicode b.items (cgj_settled b).items (keys-cgj_settled prepared_key (λ item. refl) b) h
 

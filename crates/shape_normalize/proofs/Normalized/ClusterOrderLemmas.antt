@@ -128,7 +128,7 @@ module _ (rules : Rules) where
 
 -- ---- the rounds together
 
--- showing joiners changes no cluster
+-- showing CGJ changes no cluster
 pub cgj_settled_clusters : (b : Buffer) → clusters (cgj_settled b).items ≡ clusters b.items
 cgj_settled_clusters b = keys-cgj_settled (λ item. item.cluster) (λ item. refl) b
 

@@ -1,4 +1,4 @@
--- Where no joiner was seen by the end of round one, none is shown: hidden bits are those of characters, or of the text.
+-- Where no CGJ was seen by the end of round one, none is shown: hidden bits are those of characters, or of the text.
 use Rattle.std.proofs.Common.{◌≡◌, ℕ, ◌+◌, ◌≤◌, ◌==◌, ◌&&◌, bit_and, Bool, true, false, if◌then◌else◌, ◌⊎◌, inl, inr, List, [], ◌∷◌, map, fold, length, slice_range, Option, None, Some, refl, sym, ap, subst, ◌∙◌}
 use Rattle.std.specs.List.{AllByRecursion, Contains}
 use Rattle.std.specs.Option.{option_map_or}
@@ -24,9 +24,9 @@ use Rattle.shape_normalize.proofs.RoundOne.SequenceLemmas.{each_of_values, each_
 use Rattle.shape_normalize.proofs.RoundTwo.RunMarkLemmas.{AreMarks}
 use Rattle.shape_normalize.proofs.RoundTwo.SettleLemmas.{run_placed, run_placed-in_order, length-run_placed, settled_cases, Reorders-run_reordered, kept_by_marks_ordered, keys-marks_ordered}
 
--- ---- ordering sees no joiner
+-- ---- ordering sees no CGJ
 
--- the flag of joiners
+-- the flag of CGJ
 abbrev cgj_flag : Buffer → ℕ
 cgj_flag b = bit_and b.scratch_flags.0 8
 
@@ -60,7 +60,7 @@ module _ (reorder : Option (Buffer → ℕ → ℕ → Buffer)) (lawful : Lawful
       kept_by_marks_ordered reorder lawful (λ c. cgj_flag c ≡ cgj_flag b)
       (λ start end c rising within marks so_far. flag-run_settled start end c rising within marks ∙ so_far) b refl
 
--- where no joiner was seen, none is shown
+-- where no CGJ was seen, none is shown
 pub cgj_unseen : (b : Buffer) → has_seen_cgj b ≡ false → cgj_settled b ≡ b
 cgj_unseen b unseen = cond-false _ (record b { items = cgj_shown b.items }) b unseen
 
@@ -118,7 +118,7 @@ module _ (rules : Rules) (those : List (ℕ × Bool)) where
         recomposed_hides (has_mark_past_first b.items && rules.recomposes) (ordered rules b)
         (ordered_hides (round_one rules b) (has_mark_past_first b.items) unseen (round_one_hides b each))
 
--- where no joiner was seen, hidden bits are those of characters, or of the text
+-- where no CGJ was seen, hidden bits are those of characters, or of the text
 pub normalized_keeps_hidden : (rules : Rules) → LawfulReorder rules.reorder → (b new : Buffer) → new ≡ normalized rules b
     → KeepsHidden rules b new
 normalized_keeps_hidden rules lawful b new is = λ unseen.

@@ -31,7 +31,7 @@ module _ (rules : Rules) where
   abbrev recomposed_where : Bool → Buffer → Buffer
   recomposed_where test b = if test then round_three rules b else b
 
-  -- what holds after round one, and what ordering, showing joiners and recomposing keep, holds of the normalised list
+  -- what holds after round one, and what ordering, showing CGJ and recomposing keep, holds of the normalised list
   pub kept_by_rounds : (P : Buffer → Type 0) (b : Buffer) → (P (round_one rules b) → P (marks_ordered rules.reorder (round_one rules b)))
       → ((c : Buffer) → P c → P (cgj_settled c)) → ((c : Buffer) → P c → P (round_three rules c))
       → P (round_one rules b) → P (normalized rules b)

@@ -43,9 +43,9 @@ zip_then R S T both (x ∷ xs) [] zs first second = absurd first
 zip_then R S T both (x ∷ xs) (y ∷ ys) [] first second = absurd second
 zip_then R S T both (x ∷ xs) (y ∷ ys) (z ∷ zs) first second = (both x y z first.0 second.0, zip_then R S T both xs ys zs first.1 second.1)
 
--- ---- joiners
+-- ---- CGJ
 
--- an item stays, or is a joiner that is shown
+-- an item stays, or is a CGJ that is shown
 abbrev MayShow : Item → Item → Type 0
 MayShow item new = (new ≡ item) ⊎ ((item.codepoint ≡ 0x34F) × (new ≡ shown item))
 
@@ -98,7 +98,7 @@ module _ (rules : Rules) (one : Buffer) where
       let hook = is_some rules.reorder in
       inr (seen, sym (lasting_char hook item from same) ∙ shows.0, ap (lasting rules) shows.1 ∙ lasting_shown hook item from same)
 
-  -- with joiners shown, where one was seen
+  -- with CGJ shown, where one was seen
   settled_by_place : (c : Buffer) (places : List ℕ) → bit_and c.scratch_flags.0 8 ≡ bit_and one.scratch_flags.0 8
       → map (lasting rules) c.items ≡ map (λ place. lasting rules (item_at one.items place)) places
       → AllZip (IsFromPlace rules one) places (cgj_settled c).items

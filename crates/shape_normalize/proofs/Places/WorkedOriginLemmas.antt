@@ -30,7 +30,7 @@ places_worked = record {
 
 new_places_worked : NewPlacesWorked
 unfolding merge run_settled
-new_places_worked = record { composed = refl; left = refl }
+new_places_worked = record { composed = refl; left = refl; expanded_composed = refl; unmarked = refl }
 
 of_origin_worked : OfOriginWorked
 of_origin_worked = record {

@@ -1,4 +1,4 @@
--- What showing joiners keeps, and a walk over the items between the first and the last that shows them.
+-- What showing CGJ keeps, and a walk over the items between the first and the last that shows them.
 use Rattle.std.proofs.Common.{◌≡◌, ℕ, zero, suc, ◌+◌, ◌<◌, ◌≤◌, ◌==◌, ◌&&◌, bit_and, if◌then◌else◌, true, false, List, [], ◌∷◌, ◌++◌, map, take, drop, length, get_or, set, refl, ap, ap₂, arith, add-one}
 use Rattle.shape_buffer.specs.Items.{Item, ccc_of_item, char_of}
 use Rattle.shape_buffer.specs.Buffer.{Buffer}

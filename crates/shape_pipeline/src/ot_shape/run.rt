@@ -104,7 +104,7 @@ where
     place_and_finish::<U, F, M, S>(alloc, plan, face, buffer)
 }
 
-/// Masks, fallback classes, glyphs and substitution.
+/// Masks, fallback ccc, glyphs and substitution.
 fn make_glyphs<U, F, M, S>(
     alloc: Global,
     plan: &hb_ot_shape_plan_t<'_, S, M::Map, S::Data>,
@@ -124,7 +124,7 @@ where
     substitute::<U, F, M, S>(alloc, plan, face, buffer)
 }
 
-/// What substitution finds: masks, classes that marks are placed by, glyphs with their classes.
+/// What substitution finds: masks, ccc that marks are placed by, glyphs with their classes.
 fn substitute_pre<U, F, M, S>(
     plan: &hb_ot_shape_plan_t<'_, S, M::Map, S::Data>,
     face: &F,

@@ -81,7 +81,7 @@ pub trait reorder_marks_hook<S, D, U: hb_unicode_funcs_t, F, M: hb_ot_layout_t<F
     const GIVEN: bool;
 
     /// Puts the items from place `start` up to `end`, at most 32 marks in canonical order, in an order of
-    /// the shaper's own. May merge clusters within the run, and give its items other nonzero classes.
+    /// the shaper's own. May merge clusters within the run, and give its items other nonzero ccc.
     fn reorder_marks(
         shaper: &S,
         plan: &hb_ot_shape_plan_t<'_, S, M::Map, D>,
@@ -94,7 +94,7 @@ pub trait reorder_marks_hook<S, D, U: hb_unicode_funcs_t, F, M: hb_ot_layout_t<F
         requires run { IsRunInOrder buffer.old.items start end }
         ensures { buffer.new ≡ reordered shaper.now plan.now buffer.old start end };
 
-    /// The items of a run are exchanged, clusters within it merged, and classes set.
+    /// The items of a run are exchanged, clusters within it merged, and ccc set.
     ghost reorders: { (shaper : S) (plan : Plan S M.Map D)
         → ReordersRanges (reordered shaper plan) };
 }

@@ -84,8 +84,8 @@ where
 }
 
 /// Whether two spellings are canonically equivalent. Answers `None` where this can't be told by their
-/// normalised characters: for one of them a premise of canonical form doesn't hold, as for a text with a
-/// variation selector, with a character that the face has no glyph for, or with too many marks in a row.
+/// normalised characters: for one of them a premise of canonical form doesn't hold, as for a text without a
+/// mark past its first character (so most words without accents), with a variation selector, with a character that the face has no glyph for, or with too many marks in a row.
 /// Refuses as `same_word` does.
 pub fn equivalent_spellings<U, F, M, S>(
     alloc: Global,
