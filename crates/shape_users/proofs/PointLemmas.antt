@@ -1,37 +1,18 @@
 -- The hook that reorders points keeps clusters at the monotone levels: what it exchanges shares a cluster by then.
-use Rattle.std.proofs.Common.{◌≡◌, ◌≢◌, ℕ, ◌+◌, ◌-◌, ◌<◌, ◌≤◌, List, map, length, get_or, set, slice_range, Option, Some, None, refl, sym, ap, ◌∙◌, arith, subst}
-use Rattle.std.proofs.lemmas.List.{get_or-map, get_or-set_other}
-use Rattle.std.proofs.lemmas.List.Edits.{swap_is}
-use Rattle.std.proofs.Math.Seq.{map-set_same}
+use Rattle.std.proofs.Common.{◌≡◌, ℕ, ◌+◌, ◌-◌, ◌<◌, ◌≤◌, length, slice_range, Option, Some, None, refl, sym, ap, ◌∙◌, arith, subst}
 use Rattle.std.specs.List.{swap}
-use Rattle.std.specs.Option.{option_map, option_map_or}
+use Rattle.std.specs.Option.{option_map_or}
 use Rattle.shape_buffer.specs.Buffer.{Buffer}
 use Rattle.shape_buffer.specs.BufferClusters.{merge_clusters}
 use Rattle.shape_buffer.specs.Clusters.{clusters, merge}
 use Rattle.shape_buffer.specs.ClusterOrder.{KeepsClusters, IsMonotoneLevel}
-use Rattle.shape_buffer.specs.Items.{Item, new_item}
 use Rattle.shape_buffer.proofs.Merging.ClusterLemmas.{merge_clusters-monotone}
 use Rattle.shape_buffer.proofs.Deletion.DeleteKeeps.{merged_keeps}
 use Rattle.shape_buffer.proofs.Merging.JoinLemmas.{cluster_at, merge_joins}
 use Rattle.shape_buffer.proofs.Merging.KeyLemmas.{length-merge}
 use Rattle.shape_buffer.proofs.Steps.KeeperLemmas.{KeepsClusters-same}
-use Rattle.shape_plan.specs.Reorder.{IsRunInOrder}
-use Rattle.shape_plan.specs.Shaper.{HookMeaning}
+use Rattle.shape_users.proofs.HookLemmas.{KeepsRuns, clusters_swapped}
 use Rattle.shape_users.specs.Points.{third_place, step_before, points_reordered, place_in_range}
-
--- items that share a cluster are exchanged, and the list of clusters stays
-clusters_swapped : (xs : List Item) (i j : ℕ) → i < length xs → j < length xs → j ≢ i → cluster_at xs i ≡ cluster_at xs j
-    → clusters (swap xs i j) ≡ clusters xs
-clusters_swapped xs i j first second apart joined =
-    let d = new_item 0 0 in
-    let key : Item → ℕ = λ x. x.cluster in
-    let a = get_or xs i d in
-    let b = get_or xs j d in
-    let same : key a ≡ key b = sym (get_or-map key xs i d 0 first) ∙ joined ∙ get_or-map key xs j d 0 second in
-    let inner : map key (set xs i b) ≡ map key xs = map-set_same key xs i b d (sym same) in
-    let other : get_or (set xs i b) j d ≡ b = get_or-set_other xs i j b d apart in
-    let outer : map key (set (set xs i b) j a) ≡ map key (set xs i b) = map-set_same key (set xs i b) j a d (same ∙ ap key (sym other)) in
-    ap (map key) (sym (swap_is xs i j d first second)) ∙ outer ∙ inner
 
 step_keeps : (third : ℕ) (b : Buffer) → IsMonotoneLevel b.cluster_level → 1 ≤ third → third < length b.items
     → KeepsClusters (clusters b.items) (clusters (step_before third b).items)
@@ -64,25 +45,5 @@ points_reordered-keeps b start end monotone ordered within =
     ] in
     cases refl
 
--- so it does under every plan, where the plan keeps the shaper
-pub reordering-keeps : (hooks : Option HookMeaning) → ((h : HookMeaning) → hooks ≡ Some h → h.reorder ≡ points_reordered)
-    → (reorder : Buffer → ℕ → ℕ → Buffer) → option_map (λ (h : HookMeaning). h.reorder) hooks ≡ Some reorder
-    → (b : Buffer) (start end : ℕ) → IsMonotoneLevel b.cluster_level → IsRunInOrder b.items start end
-    → KeepsClusters (clusters b.items) (clusters (reorder b start end).items)
-reordering-keeps None is reorder given = cc
-reordering-keeps (Some hooks) is reorder given =
-    let same : points_reordered ≡ reorder = sym (is hooks refl) ∙ (let e : hooks.reorder ≡ reorder = cc in e) in
-    let Keeps : (Buffer → ℕ → ℕ → Buffer) → Type 0 = λ f. (b : Buffer) (start end : ℕ) → IsMonotoneLevel b.cluster_level
-    → IsRunInOrder b.items start end → KeepsClusters (clusters b.items) (clusters (f b start end).items) in
-    let own : Keeps points_reordered = λ b start end monotone run. points_reordered-keeps b start end monotone
-    (let some = run.some in omega arith) run.within in
-    subst Keeps same own
-
--- of a shaper whose hook this is
-pub shaper-keeps : {S : Type 0} (hooks : S → HookMeaning) → ((s : S) → (hooks s).reorder ≡ points_reordered) → (shaper : Option S)
-    → (reorder : Buffer → ℕ → ℕ → Buffer) → option_map (λ (h : HookMeaning). h.reorder) (option_map hooks shaper) ≡ Some reorder
-    → (b : Buffer) (start end : ℕ) → IsMonotoneLevel b.cluster_level → IsRunInOrder b.items start end
-    → KeepsClusters (clusters b.items) (clusters (reorder b start end).items)
-shaper-keeps hooks is None = reordering-keeps None (λ h e. cc)
-shaper-keeps hooks is (Some s) =
-    reordering-keeps (Some (hooks s)) (λ h e. let same : hooks s ≡ h = cc in sym (ap (λ (x : HookMeaning). x.reorder) same) ∙ is s)
+pub points_keep_runs : KeepsRuns points_reordered
+points_keep_runs = λ b start end monotone run. points_reordered-keeps b start end monotone (let some = run.some in omega arith) run.within

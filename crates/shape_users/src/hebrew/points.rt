@@ -1,8 +1,8 @@
 //! The order of points below a letter.
-ghost use Rattle.std.specs.Prelude.{◌≡◌, ◌<◌, ◌≤◌, length};
-ghost use Rattle.shape_plan.specs.Reorder.{exchanged};
+ghost use Rattle.std.specs.Prelude.{◌≡◌, ◌≤◌, length};
 ghost use Rattle.shape_users.specs.Points.{is_triple, third_place, points_reordered};
 
+use crate::marks::exchange;
 use shape_buffer::buffer::{hb_buffer_t, hb_glyph_info_t};
 use shape_buffer::interfaces::modified_combining_class as mcc;
 
@@ -30,18 +30,6 @@ fn third_place(run: &[hb_glyph_info_t]) -> Option<usize>
         second = third;
     }
     None
-}
-
-/// Exchanges two items.
-fn exchange(buffer: &mut hb_buffer_t, i: usize, j: usize)
-    requires first { i < length buffer.old.items }
-    requires second { j < length buffer.old.items }
-    ensures { buffer.new ≡ exchanged i j buffer.old }
-{
-    let first = buffer.infos()[i];
-    let second = buffer.infos()[j];
-    buffer.set_info(i, second);
-    buffer.set_info(j, first);
 }
 
 /// The third mark of the first three steps before the second one, and the two are one cluster.

@@ -1,0 +1,60 @@
+-- How modifier marks are reordered, on runs whose answers are worked out by hand.
+use Rattle.std.specs.Prelude.{◌≡◌, ℕ, List, [], ◌∷◌, map, refl}
+use Rattle.shape_buffer.specs.Buffer.{Buffer, new_buffer}
+use Rattle.shape_buffer.specs.Clusters.{merge}
+use Rattle.shape_buffer.specs.Items.{Item, new_item, ccc_of_item}
+use Rattle.shape_buffer.specs.declared.buffer.settings.BufferClusterLevel.TheVariants.{Characters}
+use Rattle.shape_plan.specs.Reorder.{with_ccc}
+use Rattle.shape_users.specs.Arabic.{modifiers_reordered}
+
+-- a character, its ccc and its cluster
+abbrev pub Mark : Type 0
+Mark = ℕ × ℕ × ℕ
+
+abbrev pub item_of : Mark → Item
+item_of mark = with_ccc mark.1 (new_item mark.0 mark.2)
+
+abbrev pub marked : List Mark → Buffer
+marked marks = record new_buffer { items = map item_of marks }
+
+abbrev pub shown : Buffer → List Mark
+shown b = map (λ item. (item.codepoint, ccc_of_item item, item.cluster)) b.items
+
+-- beh, then its marks
+abbrev pub shadda_and_hamza : List Mark
+shadda_and_hamza = (0x628, 0, 0) ∷ (0x651, 27, 2) ∷ (0x654, 230, 4) ∷ []
+
+abbrev pub below_and_above : List Mark
+below_and_above = (0x628, 0, 0) ∷ (0x64E, 31, 2) ∷ (0x655, 220, 4) ∷ (0x654, 230, 6) ∷ []
+
+abbrev pub two_above : List Mark
+two_above = (0x628, 0, 0) ∷ (0x651, 27, 2) ∷ (0x6DC, 230, 4) ∷ (0x654, 230, 6) ∷ (0x653, 230, 8) ∷ []
+
+abbrev pub no_modifier : List Mark
+no_modifier = (0x628, 0, 0) ∷ (0x64E, 31, 2) ∷ (0x653, 230, 4) ∷ []
+
+abbrev pub not_first : List Mark
+not_first = (0x628, 0, 0) ∷ (0x64E, 31, 2) ∷ (0x653, 230, 4) ∷ (0x654, 230, 6) ∷ []
+
+pub record WorkedModifiers : Type 0 where
+  pub above_shadda : shown (modifiers_reordered (marked shadda_and_hamza) 1 3)
+      ≡ (0x628, 0, 0) ∷ (0x654, 26, 2) ∷ (0x651, 27, 2) ∷ []
+  pub below_then_above : shown (modifiers_reordered (marked below_and_above) 1 4)
+      ≡ (0x628, 0, 0) ∷ (0x655, 25, 2) ∷ (0x654, 26, 2) ∷ (0x64E, 31, 2) ∷ []
+  pub in_their_order : shown (modifiers_reordered (marked two_above) 1 5)
+      ≡ (0x628, 0, 0) ∷ (0x6DC, 26, 2) ∷ (0x654, 26, 2) ∷ (0x651, 27, 2) ∷ (0x653, 230, 8) ∷ []
+  pub none : shown (modifiers_reordered (marked no_modifier) 1 3) ≡ no_modifier
+  pub behind_another : shown (modifiers_reordered (marked not_first) 1 4) ≡ not_first
+  pub by_character : shown (modifiers_reordered (record (marked shadda_and_hamza) { cluster_level = Characters }) 1 3)
+      ≡ (0x628, 0, 0) ∷ (0x654, 26, 4) ∷ (0x651, 27, 2) ∷ []
+
+pub worked_modifiers : WorkedModifiers
+unfolding merge
+worked_modifiers = record {
+  above_shadda = refl;
+  below_then_above = refl;
+  in_their_order = refl;
+  none = refl;
+  behind_another = refl;
+  by_character = refl;
+}
