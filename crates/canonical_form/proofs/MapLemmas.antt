@@ -81,8 +81,8 @@ module _ {A B : Type 0} (IsItem : A → Type 0) (f : A → B) (ccc : A → ℕ) 
       (block : (ms : List A) (c : A) → AllByRecursion IsItem ms → IsItem c → blocks' (map f ms) (f c) ≡ blocks ms c)
       (is_mark : A → Bool) (is_mark' : B → Bool) (compose : A → A → Option A) (compose' : B → B → Option B)
       (marks : (x : A) → IsItem x → is_mark' (f x) ≡ is_mark x)
-      (joined : (s c d : A) → IsItem s → IsItem c → compose s c ≡ Some d → IsItem d)
-      (joins : (s c : A) → IsItem s → IsItem c → compose' (f s) (f c) ≡ option_map f (compose s c)) where
+      (makes_item : (s c d : A) → IsItem s → IsItem c → compose s c ≡ Some d → IsItem d)
+      (composes : (s c : A) → IsItem s → IsItem c → compose' (f s) (f c) ≡ option_map f (compose s c)) where
     abbrev after : A → List A → List A → List A
     after = recomposed_from ccc blocks is_mark compose
 
@@ -97,7 +97,7 @@ module _ {A B : Type 0} (IsItem : A → Type 0) (f : A → B) (ccc : A → ℕ) 
         → composed ccc' blocks' is_mark' compose' (f s) (map f ms) (f c) ≡ option_map f (composed ccc blocks is_mark compose s ms c)
     composed-map s ms c item_s items item_c =
         ap₂ (λ a b. cond (a && not b) (compose' (f s) (f c)) None) (marks c item_c) (block ms c items item_c)
-        ∙ ap (λ o. cond (is_mark c && not (blocks ms c)) o None) (joins s c item_s item_c)
+        ∙ ap (λ o. cond (is_mark c && not (blocks ms c)) o None) (composes s c item_s item_c)
         ∙ sym (option_map-cond (is_mark c && not (blocks ms c)) (compose s c))
 
     recomposed_from-map : (s : A) (ms rest : List A) → IsItem s → AllByRecursion IsItem ms → AllByRecursion IsItem rest
@@ -106,8 +106,8 @@ module _ {A B : Type 0} (IsItem : A → Type 0) (f : A → B) (ccc : A → ℕ) 
         by_steps ccc blocks is_mark compose (λ s ms rest out. IsItem s → AllByRecursion IsItem ms → AllByRecursion IsItem rest
         → map f out ≡ after' (f s) (map f ms) (map f rest)) (record {
           ends = λ s ms item_s items later_items. refl;
-          joins = λ s ms c d rest out found free made later item_s items later_items.
-              later (joined s c d item_s later_items.0 made) items later_items.1
+          composes = λ s ms c d rest out found free made later item_s items later_items.
+              later (makes_item s c d item_s later_items.0 made) items later_items.1
               ∙ sym (recomposed_from-some ccc' blocks' is_mark' compose' (f s) (map f ms) (f c) (map f rest) (f d)
               (composed-map s ms c item_s items later_items.0 ∙ ap (option_map f) found));
           starts = λ s ms c rest out none start later item_s items later_items.

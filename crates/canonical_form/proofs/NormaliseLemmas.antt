@@ -18,7 +18,7 @@ use Rattle.canonical_form.proofs.Expanding.ChainLemmas.{full-ccc, full-whole}
 use Rattle.canonical_form.proofs.Expanding.ChoiceLemmas.{full_text-expanded, expanded-full}
 use Rattle.canonical_form.proofs.Lists.EveryLemmas.{append_all}
 use Rattle.canonical_form.proofs.EquivalentLemmas.{parts-swaps, canonical_equal}
-use Rattle.canonical_form.proofs.Recomposing.RecomposeLemmas.{JoinsLawfully, joined, recomposed-keeps}
+use Rattle.canonical_form.proofs.Recomposing.RecomposeLemmas.{ComposesLawfully, swaps_composed, recomposed-keeps}
 use Rattle.canonical_form.proofs.Ordering.RunLemmas.{AreRunsSettled-swaps, AreRunsSettled-ordered}
 use Rattle.canonical_form.proofs.Ordering.SwapLemmas.{◌⟫◌, no_swap, Swaps-sym, all-swaps}
 
@@ -47,13 +47,13 @@ module _ (D : Decompositions) (lawful : SplitsFall D) where
   equivalent_from_swaps xs ys swaps =
       parts-swaps IsAny D.ccc D.ccc (full D) (λ c any mark. full-ccc D lawful c mark) swaps (all_any xs)
 
-  joins_soundly : (compose : ℕ → ℕ → Option ℕ) → ComposesSoundly D compose → JoinsLawfully IsAny D.ccc D.ccc (full D) compose
+  composes_lawfully : (compose : ℕ → ℕ → Option ℕ) → ComposesSoundly D compose → ComposesLawfully IsAny D.ccc D.ccc (full D) compose
   unfolding full_text
-  joins_soundly compose sound = record {
+  composes_lawfully compose sound = record {
     marks = λ c any mark. full-ccc D lawful c mark;
-    items = λ s c d any_s any_c joins. tt;
-    joins = λ s c d any_s any_c joins.
-        no_swap (sym (append-nil (full D d))) ⟫ sound.equivalent s c d joins
+    items = λ s c d any_s any_c composes. tt;
+    composes = λ s c d any_s any_c composes.
+        no_swap (sym (append-nil (full D d))) ⟫ sound.equivalent s c d composes
         ⟫ no_swap (ap (λ l. full D s ++ l) (append-nil (full D c)));
   }
 
@@ -62,7 +62,7 @@ module _ (D : Decompositions) (lawful : SplitsFall D) where
       → IsEquivalent D xs (recomposed D.ccc (is_blocked D.ccc) is_mark compose xs)
   unfolding full_text
   equivalent_recomposed is_mark compose sound xs =
-      recomposed-keeps IsAny D.ccc D.ccc (full D) is_mark compose (joins_soundly compose sound) xs (all_any xs)
+      recomposed-keeps IsAny D.ccc D.ccc (full D) is_mark compose (composes_lawfully compose sound) xs (all_any xs)
 
   -- by the ccc put out last too, where the list is ordered
   pub equivalent_recomposed_by_last : (is_mark : ℕ → Bool) (compose : ℕ → ℕ → Option ℕ) → ComposesSoundly D compose → (xs : List ℕ)
@@ -71,11 +71,11 @@ module _ (D : Decompositions) (lawful : SplitsFall D) where
       subst (IsEquivalent D xs) (recomposed_by_last D.ccc is_mark compose xs up) (equivalent_recomposed is_mark compose sound xs)
 
   -- a starter and a mark past others that don't block it, and what the two compose to
-  pub equivalent_joined : (compose : ℕ → ℕ → Option ℕ) → ComposesSoundly D compose → (s c d : ℕ) (ms rest : List ℕ)
+  pub equivalent_composed : (compose : ℕ → ℕ → Option ℕ) → ComposesSoundly D compose → (s c d : ℕ) (ms rest : List ℕ)
       → is_blocked D.ccc ms c ≡ false → compose s c ≡ Some d → IsEquivalent D (s ∷ ms ++ c ∷ rest) (d ∷ ms ++ rest)
   unfolding full_text
-  equivalent_joined compose sound s c d ms rest free joins =
-      joined IsAny D.ccc D.ccc (full D) (λ c. true) compose (joins_soundly compose sound) s c d ms rest tt tt (all_any ms) free joins
+  equivalent_composed compose sound s c d ms rest free composes =
+      swaps_composed IsAny D.ccc D.ccc (full D) (λ c. true) compose (composes_lawfully compose sound) s c d ms rest tt tt (all_any ms) free composes
 
   -- settling the runs of a list with the same Full keeps a text equivalent
   pub equivalent_settled : (limit : ℕ) (text ready new : List ℕ) → full_text D ready ≡ full_text D text

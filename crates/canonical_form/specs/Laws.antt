@@ -137,8 +137,8 @@ RecomposedIsEquivalent = ForLawfulSplits (λ D.
     (compose : ℕ → ℕ → Option ℕ) → ComposesSoundly D compose → (is_mark : ℕ → Bool) (text : List ℕ)
     → IsEquivalent D text (recomposed D.ccc (is_blocked D.ccc) is_mark compose text))
 
-abbrev pub JoinedPastMarksIsEquivalent : Type 0
-JoinedPastMarksIsEquivalent = ForLawfulSplits (λ D.
+abbrev pub ComposedPastMarksIsEquivalent : Type 0
+ComposedPastMarksIsEquivalent = ForLawfulSplits (λ D.
     (compose : ℕ → ℕ → Option ℕ) → ComposesSoundly D compose → (s c d : ℕ) (marks rest : List ℕ)
     → is_blocked D.ccc marks c ≡ false → compose s c ≡ Some d → IsEquivalent D (s ∷ marks ++ c ∷ rest) (d ∷ marks ++ rest))
 

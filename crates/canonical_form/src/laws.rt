@@ -11,7 +11,7 @@ ghost use Rattle.canonical_form.specs.Laws.{ChoiceBringsGlyphs, ChoiceIsFull, St
 ghost use Rattle.canonical_form.specs.Laws.{OrderIsReached, OrderIsUnique, SettledIsReached};
 ghost use Rattle.canonical_form.specs.Laws.{SettledIsOrdered, SettledIsUnique, CanonicalIsUnique};
 ghost use Rattle.canonical_form.specs.Laws.{DecomposedIsCanonical, DecomposedDecides};
-ghost use Rattle.canonical_form.specs.Laws.{RecomposedIsEquivalent, JoinedPastMarksIsEquivalent};
+ghost use Rattle.canonical_form.specs.Laws.{RecomposedIsEquivalent, ComposedPastMarksIsEquivalent};
 ghost use Rattle.canonical_form.specs.Laws.{LastDecides, GreatestDecides, RecomposedDecides};
 ghost use Rattle.canonical_form.specs.Laws.{OrderedIsEquivalent, NormalisedIsEquivalent};
 ghost use Rattle.canonical_form.specs.Laws.{ExpandedCutsApart, SettledCutsApart};
@@ -91,7 +91,7 @@ pub fn decomposed_is_canonical()
 /// block it (The Unicode Standard, D115 to D117).
 pub fn recomposed_is_equivalent()
     ensures whole { RecomposedIsEquivalent }
-    ensures step { JoinedPastMarksIsEquivalent }
+    ensures step { ComposedPastMarksIsEquivalent }
 {}
 
 /// Where a composed character is always equivalent to its two parts, each character of Full of both

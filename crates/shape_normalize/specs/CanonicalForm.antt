@@ -31,7 +31,7 @@ HasCanonicalForm rules text = IsCanonical (decompositions rules) text
 -- the hooks are lawful: their splits fall as Unicode's do, and in the modes that compose what they compose is equivalent to its parts
 pub record HasLawfulHooks (rules : Rules) : Type 0 where
   pub splits : SplitsFall (decompositions rules)
-  pub joins : rules.recomposes ≡ true → ComposesSoundly (decompositions rules) rules.compose
+  pub composes : rules.recomposes ≡ true → ComposesSoundly (decompositions rules) rules.compose
 
 -- no character of a text is a variation selector
 abbrev pub HasNoSelector : Rules → List ℕ → Type 0
@@ -67,7 +67,7 @@ pub record CanonicalFormPremises (rules : Rules) (b : Buffer) : Type 0 where
   pub equivalence : EquivalencePremises rules b
   pub canonical : CanonicalTextPremises rules (text_of b)
 
--- a text recomposed: marks join the starter before them where the composed character has a glyph
+-- a text recomposed: marks go into the starter before them where the composed character has a glyph
 abbrev pub recomposed_text : Rules → List ℕ → List ℕ
 recomposed_text rules text =
     recomposed rules.unicode.ccc (is_blocked rules.unicode.ccc) (is_mark rules.unicode)

@@ -14,7 +14,7 @@ use Rattle.shape_normalize.specs.Normalized.{ordered, features_of, has_seen_cgj,
 use Rattle.shape_normalize.specs.Reordered.{unmerged, unclassed}
 use Rattle.shape_normalize.specs.RoundOne.{item_glyph, part_item, expanded_item, variants, sequences, is_with_marks, is_selector_sequence, pairs_merged, round_one}
 use Rattle.shape_normalize.specs.RoundTwo.{max_run, has_mark_past_first, shown}
-use Rattle.shape_normalize.specs.RoundThree.{Joined, Placed, recomposed_items}
+use Rattle.shape_normalize.specs.RoundThree.{Absorbed, Placed, recomposed_items}
 
 -- the item at a place of a list; the item that stands for none past its end is of no account
 abbrev pub item_at : List Item → ℕ → Item
@@ -113,21 +113,21 @@ IsFromPlace rules expanded place item =
 -- ---- round three
 
 -- the character of the last of some compositions, by that of the first
-abbrev pub last_char : ℕ → List Joined → ℕ
+abbrev pub last_char : ℕ → List Absorbed → ℕ
 last_char c [] = c
 last_char c (mark ∷ marks) = last_char mark.char marks
 
 -- an item is this one; once marks were composed with that, it has the character of the last composition, which has a glyph, with that
 -- glyph and with the properties of that character
-abbrev pub IsOnceJoined : Rules → Item → List Joined → Item → Type 0
-IsOnceJoined rules from [] item = unmerged item ≡ unmerged from
-IsOnceJoined rules from (mark ∷ marks) item =
+abbrev pub IsOnceComposed : Rules → Item → List Absorbed → Item → Type 0
+IsOnceComposed rules from [] item = unmerged item ≡ unmerged from
+IsOnceComposed rules from (mark ∷ marks) item =
     (item.codepoint ≡ last_char mark.char marks) × (has_glyph rules.face.nominal_glyph item.codepoint ≡ true)
     × (unmerged item ≡ unmerged (part_item rules.unicode rules.face.nominal_glyph from item.codepoint))
 
 -- an item is what became of the starter that stood at its place
 abbrev pub IsFromStarter : Rules → List Item → Placed → Item → Type 0
-IsFromStarter rules items p item = IsOnceJoined rules (item_at items p.place) p.joined item
+IsFromStarter rules items p item = IsOnceComposed rules (item_at items p.place) p.absorbed item
 
 -- ---- the three rounds
 

@@ -12,7 +12,7 @@ use Rattle.shape_normalize.specs.declared.ot_shape_normalize.round_three.PlacedI
 use Rattle.shape_normalize.specs.RoundOne.{part_item, seen_chars}
 
 -- a mark that was composed with a starter: the place where it stood, and the character that the two made
-pub record Joined : Type 0 where
+pub record Absorbed : Type 0 where
   pub place : ℕ
   pub char : ℕ
 
@@ -20,12 +20,12 @@ pub record Joined : Type 0 where
 pub record Placed : Type 0 where
   pub item : Item
   pub place : ℕ
-  pub joined : List Joined
+  pub absorbed : List Absorbed
 
 -- the items from this place on, with nothing composed yet
 abbrev pub placed : ℕ → List Item → List Placed
 placed place [] = []
-placed place (item ∷ items) = record { item = item; place = place; joined = [] } ∷ placed (suc place) items
+placed place (item ∷ items) = record { item = item; place = place; absorbed = [] } ∷ placed (suc place) items
 
 abbrev pub ccc_of_placed : Placed → ℕ
 ccc_of_placed p = ccc_of_item p.item
@@ -39,7 +39,7 @@ compose_placed rules starter mark =
     option_map (λ c. record {
       item = part_item rules.unicode rules.face.nominal_glyph starter.item c;
       place = starter.place;
-      joined = starter.joined ++ record { place = mark.place; char = c } ∷ [];
+      absorbed = starter.absorbed ++ record { place = mark.place; char = c } ∷ [];
     }) (compose_with_glyph rules.compose (has_glyph rules.face.nominal_glyph) starter.item.codepoint mark.item.codepoint)
 
 -- the items that are put out
@@ -53,15 +53,15 @@ abbrev pub recomposed_by_all : Rules → List Item → List Placed
 recomposed_by_all rules items = recomposed ccc_of_placed (is_blocked ccc_of_placed) is_mark_placed (compose_placed rules) (placed 0 items)
 
 -- the spans from each starter to each mark that was composed with it, in order
-abbrev pub joined_spans : List Placed → List (ℕ × ℕ)
-joined_spans out = flat_map (λ p. map (λ mark. (p.place, mark.place + 1)) p.joined) out
+abbrev pub absorbed_spans : List Placed → List (ℕ × ℕ)
+absorbed_spans out = flat_map (λ p. map (λ mark. (p.place, mark.place + 1)) p.absorbed) out
 
 abbrev pub spans_merged_out : List (ℕ × ℕ) → Buffer → Buffer
 spans_merged_out spans b = fold (λ b span. merge_out_clusters span.0 span.1 b) b spans
 
 -- the characters that were composed, in order
 abbrev pub composed_chars : List Placed → List ℕ
-composed_chars out = flat_map (λ p. map (λ mark. mark.char) p.joined) out
+composed_chars out = flat_map (λ p. map (λ mark. mark.char) p.absorbed) out
 
 -- an item with the cluster and the mask that stand at its place
 abbrev pub with_cluster_at : List Item → Placed → Item
@@ -73,7 +73,7 @@ with_cluster_at items p = let at = get_or items p.place p.item in record p.item 
 abbrev pub round_three : Rules → Buffer → Buffer
 round_three rules b =
     let out = recomposed_items rules b.items in
-    let merged = spans_merged_out (joined_spans out) b in
+    let merged = spans_merged_out (absorbed_spans out) b in
     record merged {
       items = map (with_cluster_at merged.items) out;
       positions = replicate (length out) zero_position;
@@ -83,14 +83,14 @@ round_three rules b =
 -- ---- the walk of the code, which keeps the spans and the flags beside what it puts out
 
 -- a span from this place to the first of these marks, and from each of them to the next
-abbrev pub spans_between : ℕ → List Joined → List (ℕ × ℕ)
+abbrev pub spans_between : ℕ → List Absorbed → List (ℕ × ℕ)
 spans_between from [] = []
-spans_between from (mark ∷ joined) = (from, mark.place + 1) ∷ spans_between mark.place joined
+spans_between from (mark ∷ absorbed) = (from, mark.place + 1) ∷ spans_between mark.place absorbed
 
 -- the spans that the code keeps: once its first is merged a starter and its mark are in one cluster, so that the next span may begin at the
 -- mark
 abbrev pub chained_spans : List Placed → List (ℕ × ℕ)
-chained_spans out = flat_map (λ p. spans_between p.place p.joined) out
+chained_spans out = flat_map (λ p. spans_between p.place p.absorbed) out
 
 -- an item that was put out, with its place alone
 abbrev pub placed_info : Placed → PlacedInfo
@@ -107,4 +107,4 @@ composed_char rules starter marks next =
     else None
 
 abbrev pub settled_info : List Item → PlacedInfo → Item
-settled_info items p = with_cluster_at items (record { item = p.info; place = p.place; joined = [] })
+settled_info items p = with_cluster_at items (record { item = p.info; place = p.place; absorbed = [] })

@@ -137,10 +137,10 @@ to_compose = masked 256 0x61 (item 0x61 0) ∷ masked 512 0x301 (item 0x301 1) �
 
 -- the starter by itself, and with the mark composed with it
 abbrev pub alone : Placed
-alone = record { item = item 0x61 0; place = 0; joined = [] }
+alone = record { item = item 0x61 0; place = 0; absorbed = [] }
 
 abbrev pub with_mark : Placed
-with_mark = record alone { joined = record { place = 1; char = 0xE1 } ∷ [] }
+with_mark = record alone { absorbed = record { place = 1; char = 0xE1 } ∷ [] }
 
 abbrev pub FromStarter : Placed → Item → Type 0
 FromStarter p one = IsFromStarter (rules_in 1 (0x61 ∷ 0xE1 ∷ [])) to_compose p one

@@ -4,7 +4,7 @@ use Rattle.shape_buffer.specs.Clusters.{merge}
 use Rattle.shape_buffer.specs.Items.{Item}
 use Rattle.shape_buffer.specs.declared.buffer.general_category.hb_unicode_general_category_t.TheVariants.{OtherSymbol}
 use Rattle.shape_buffer.specs.declared.buffer.settings.BufferClusterLevel.TheVariants.{Characters}
-use Rattle.shape_normalize.specs.RoundThree.{Placed, recomposed_items, joined_spans, round_three}
+use Rattle.shape_normalize.specs.RoundThree.{Placed, recomposed_items, absorbed_spans, round_three}
 use Rattle.shape_normalize.specs.WorkedWorld.{rules_in, item, buffer_of, at, marked}
 
 -- every character of the small world
@@ -55,7 +55,7 @@ composed_item_worked = record { category = refl; ignorable = refl; ccc = refl; g
 
 -- clusters and flags
 pub record MergedOutWorked : Type 0 where
-  pub spans_are : joined_spans (recomposed_items (rules_in 3 (0x61 ∷ 0xE1 ∷ 0x301 ∷ 0x323 ∷ []))
+  pub spans_are : absorbed_spans (recomposed_items (rules_in 3 (0x61 ∷ 0xE1 ∷ 0x301 ∷ 0x323 ∷ []))
       (item 0x61 0 ∷ item 0x323 1 ∷ item 0x301 2 ∷ [])) ≡ (0, 3) ∷ []
   pub merged : map at (round_three (rules_in 3 (0x61 ∷ 0xE1 ∷ 0x301 ∷ 0x323 ∷ []))
       (buffer_of (item 0x61 0 ∷ item 0x323 1 ∷ item 0x301 2 ∷ []))).items ≡ (0xE1, 0) ∷ (0x323, 0) ∷ []

@@ -10,8 +10,8 @@ use shape_buffer::interfaces::{hb_font_t, hb_ot_layout_t, hb_unicode_funcs_t};
 use shape_plan::ot_shape_plan::hb_ot_shape_plan_t;
 use shape_plan::ot_shaper::{Runs, hb_ot_shaper_t};
 
-/// What canonical form asks of a shaper's hooks holds of one that gives none: its splits and joins are
-/// Unicode's, which are lawful, and nothing is reordered.
+/// What canonical form asks of a shaper's hooks holds of one that gives none: it decomposes and composes
+/// as Unicode does, which is lawful, and reorders nothing.
 pub fn hooks_not_given_are_lawful<U, F, M, S>(
     plan: &hb_ot_shape_plan_t<'_, S, M::Map, S::Data>,
     face: &F,

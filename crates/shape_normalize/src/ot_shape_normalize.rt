@@ -58,7 +58,7 @@ use std::alloc::Global;
 /// variation selector isn't expanded. Where a mark stood past the first item as normalising began, each
 /// run of at most 32 marks is put in the order of their ccc, the clusters of the spans that this
 /// moves are merged, the shaper may reorder the run, and in the modes that compose, marks are composed
-/// with their starters again, whose clusters are merged. Joiners that keep nothing apart are shown.
+/// with their starters again, whose clusters are merged. Each CGJ that keeps nothing apart is shown.
 ///
 /// Refuses with `Length` where the expanded list is longer than the buffer's limit, and with `Memory`
 /// where a growth was refused; after a refusal the buffer is cleared. An empty buffer is left as it is,

@@ -103,18 +103,18 @@ of_kept : {S : Type 0} (hooks : S → HookMeaning) (Claim : HookMeaning → Type
 of_kept hooks Claim claim None h is = cc
 of_kept hooks Claim claim (Some s) h is = let e : hooks s ≡ h = cc in subst Claim e (claim s)
 
--- splits and joins are Unicode's, whether hooks that are none are asked or not
+-- decompositions and compositions are Unicode's, whether hooks that are none are asked or not
 splits-none : (unicode : UnicodeMeaning) → LawfulUnicode unicode → (given : Bool)
     → SplitsFall (used_decompositions unicode given (Some (no_hooks unicode)))
 splits-none unicode lawful true = lawful.splits_fall
 splits-none unicode lawful false = lawful.splits_fall
 
-joins-none : (unicode : UnicodeMeaning) → LawfulUnicode unicode → (splits joins : Bool)
-    → ComposesSoundly (used_decompositions unicode splits (Some (no_hooks unicode))) (used_compose unicode joins (Some (no_hooks unicode)))
-joins-none unicode lawful true true = lawful.composes_soundly
-joins-none unicode lawful true false = lawful.composes_soundly
-joins-none unicode lawful false true = lawful.composes_soundly
-joins-none unicode lawful false false = lawful.composes_soundly
+composes-none : (unicode : UnicodeMeaning) → LawfulUnicode unicode → (splits composes : Bool)
+    → ComposesSoundly (used_decompositions unicode splits (Some (no_hooks unicode))) (used_compose unicode composes (Some (no_hooks unicode)))
+composes-none unicode lawful true true = lawful.composes_soundly
+composes-none unicode lawful true false = lawful.composes_soundly
+composes-none unicode lawful false true = lawful.composes_soundly
+composes-none unicode lawful false false = lawful.composes_soundly
 
 module _ {S : Type 0} (unicode : UnicodeMeaning) (lawful : LawfulUnicode unicode) (hooks : S → HookMeaning)
     (none : (s : S) → hooks s ≡ no_hooks unicode) where
@@ -124,14 +124,14 @@ module _ {S : Type 0} (unicode : UnicodeMeaning) (lawful : LawfulUnicode unicode
       let P : HookMeaning → Type 0 = λ h. SplitsFall (used_decompositions unicode given (Some h)) in
       subst P (sym (none s)) (splits-none unicode lawful given)
 
-  joins-kept : (splits joins : Bool) (shaper : Option S)
+  composes-kept : (splits composes : Bool) (shaper : Option S)
       → ComposesSoundly (used_decompositions unicode splits (option_map hooks shaper))
-      (used_compose unicode joins (option_map hooks shaper))
-  joins-kept splits joins None = lawful.composes_soundly
-  joins-kept splits joins (Some s) =
+      (used_compose unicode composes (option_map hooks shaper))
+  composes-kept splits composes None = lawful.composes_soundly
+  composes-kept splits composes (Some s) =
       let P : HookMeaning → Type 0 = λ h.
-      ComposesSoundly (used_decompositions unicode splits (Some h)) (used_compose unicode joins (Some h)) in
-      subst P (sym (none s)) (joins-none unicode lawful splits joins)
+      ComposesSoundly (used_decompositions unicode splits (Some h)) (used_compose unicode composes (Some h)) in
+      subst P (sym (none s)) (composes-none unicode lawful splits composes)
 
 -- a hook that reorders marks is none where it isn't given
 no_reorder-keeps : (rules : Rules) → rules.reorder ≡ None → HookKeepsClusters rules
@@ -178,7 +178,7 @@ module _ {S P D F : Type 0} (unicode : UnicodeMeaning) (masks : P → MapMeaning
     lawful-none : HasLawfulHooks (rules_of unicode constants hooks faces plan face)
     lawful-none = record {
       splits = splits-kept unicode lawful (λ s. hooks s plan face) none constants.has_decompose plan.shaper;
-      joins = λ recomposes. joins-kept unicode lawful
+      composes = λ recomposes. composes-kept unicode lawful
           (λ s. hooks s plan face) none constants.has_decompose constants.has_compose plan.shaper;
     }
 

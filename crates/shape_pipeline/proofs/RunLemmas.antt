@@ -9,7 +9,7 @@ use Rattle.shape_buffer.specs.declared.buffer.error.ShapeError.{ShapeError}
 use Rattle.shape_buffer.specs.declared.buffer.error.ShapeError.TheVariants.{Memory, Length}
 use Rattle.shape_normalize.specs.Normalized.{normalized, ordered}
 use Rattle.shape_normalize.specs.RoundOne.{round_one}
-use Rattle.shape_normalize.specs.RoundThree.{round_three, joined_spans, recomposed_items}
+use Rattle.shape_normalize.specs.RoundThree.{round_three, absorbed_spans, recomposed_items}
 use Rattle.shape_normalize.specs.RoundTwo.{has_mark_past_first}
 use Rattle.shape_normalize.proofs.Hooks.ReorderLemmas.{LawfulReorder}
 use Rattle.shape_normalize.proofs.RoundThree.RoundThreeLemmas.{limit-spans_merged_out}
@@ -48,7 +48,7 @@ limit-normalized rules lawful b = by_test (has_mark_past_first b.items && rules.
   where
     by_test : (test : Bool) → limit_of (if test then round_three rules (ordered rules b) else ordered rules b) ≡ limit_of b
     by_test true =
-        limit-spans_merged_out (joined_spans (recomposed_items rules (ordered rules b).items)) (ordered rules b)
+        limit-spans_merged_out (absorbed_spans (recomposed_items rules (ordered rules b).items)) (ordered rules b)
         ∙ limit_of-ordered rules lawful b
     by_test false = limit_of-ordered rules lawful b
 

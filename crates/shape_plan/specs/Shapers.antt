@@ -6,7 +6,7 @@ use Rattle.shape_buffer.specs.Unicode.{UnicodeMeaning}
 use Rattle.shape_plan.specs.Reorder.{ReordersRanges, done}
 use Rattle.shape_plan.specs.Shaper.{HookMeaning, ChangesMasksAlone}
 
--- what hooks do that do nothing of their own: splits and joins are those of Unicode
+-- what hooks do that do nothing of their own: decompositions and compositions are those of Unicode
 abbrev pub no_hooks : UnicodeMeaning → HookMeaning
 no_hooks unicode = record {
   split = unicode.split;

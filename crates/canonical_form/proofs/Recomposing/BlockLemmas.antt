@@ -41,7 +41,7 @@ module _ {A : Type 0} (ccc : A → ℕ) where
 -- recomposing by two tests that agree wherever an invariant of the marks and the rest holds
 module _ {A : Type 0} (ccc : A → ℕ) (is_mark : A → Bool) (compose : A → A → Option A) (blocks blocks' : List A → A → Bool)
     (I : List A → List A → Type 0) (agree : (ms : List A) (c : A) (rest : List A) → I ms (c ∷ rest) → blocks ms c ≡ blocks' ms c)
-    (joined : (ms : List A) (c : A) (rest : List A) → I ms (c ∷ rest) → blocks ms c ≡ false → I ms rest)
+    (goes_on : (ms : List A) (c : A) (rest : List A) → I ms (c ∷ rest) → blocks ms c ≡ false → I ms rest)
     (started : (ms : List A) (c : A) (rest : List A) → I ms (c ∷ rest) → (ccc c == 0) ≡ true → I [] rest)
     (passed : (ms : List A) (c : A) (rest : List A) → I ms (c ∷ rest) → (ccc c == 0) ≡ false → I (ms ++ c ∷ []) rest) where
   same_recomposed : (s : A) (ms rest : List A) → I ms rest
@@ -50,8 +50,8 @@ module _ {A : Type 0} (ccc : A → ℕ) (is_mark : A → Bool) (compose : A → 
       by_steps ccc blocks is_mark compose (λ s ms rest out. I ms rest → out ≡ recomposed_from ccc blocks' is_mark compose s ms rest)
       (record {
         ends = λ s ms h. refl;
-        joins = λ s ms c d rest out found free made later h.
-            later (joined ms c rest h free) ∙ sym (recomposed_from-some ccc blocks' is_mark compose s ms c rest d
+        composes = λ s ms c d rest out found free made later h.
+            later (goes_on ms c rest h free) ∙ sym (recomposed_from-some ccc blocks' is_mark compose s ms c rest d
             (other s ms c rest h ∙ found));
         starts = λ s ms c rest out none start later h.
             ap (λ l. s ∷ ms ++ l) (later (started ms c rest h start))

@@ -11,12 +11,12 @@ use Rattle.canonical_form.proofs.Lists.EveryLemmas.{append_all, push_all}
 use Rattle.canonical_form.proofs.EquivalentLemmas.{past_mark}
 use Rattle.canonical_form.proofs.Ordering.SwapLemmas.{◌⟫◌, no_swap, Swaps-sym, Swaps-after, Swaps-before}
 
--- each item is of a domain, marks decompose to their own ccc, and what is joined has the decomposition of its two parts
-pub record JoinsLawfully {A B : Type 0} (IsItem : A → Type 0) (ccc : A → ℕ) (ccc_of_part : B → ℕ) (full : A → List B)
+-- each item is of a domain, marks decompose to their own ccc, and what is composed has the decomposition of its two parts
+pub record ComposesLawfully {A B : Type 0} (IsItem : A → Type 0) (ccc : A → ℕ) (ccc_of_part : B → ℕ) (full : A → List B)
     (compose : A → A → Option A) : Type 0 where
   pub marks : (c : A) → IsItem c → 0 < ccc c → AllByRecursion (λ d. ccc_of_part d ≡ ccc c) (full c)
   pub items : (s c d : A) → IsItem s → IsItem c → compose s c ≡ Some d → IsItem d
-  pub joins : (s c d : A) → IsItem s → IsItem c → compose s c ≡ Some d → Swaps ccc_of_part (full d) (full s ++ full c)
+  pub composes : (s c d : A) → IsItem s → IsItem c → compose s c ≡ Some d → Swaps ccc_of_part (full d) (full s ++ full c)
 
 -- the three steps, whatever the test of blocking
 module _ {A : Type 0} (ccc : A → ℕ) (blocks : List A → A → Bool) (is_mark : A → Bool) (compose : A → A → Option A) where
@@ -47,7 +47,7 @@ module _ {A : Type 0} (ccc : A → ℕ) (blocks : List A → A → Bool) (is_mar
   -- and what is put out of these
   pub record IsKeptByEachStep (P : A → List A → List A → List A → Type 0) : Type 0 where
     pub ends : (s : A) (ms : List A) → P s ms [] (s ∷ ms)
-    pub joins : (s : A) (ms : List A) (c d : A) (rest out : List A) → composed ccc blocks is_mark compose s ms c ≡ Some d
+    pub composes : (s : A) (ms : List A) (c d : A) (rest out : List A) → composed ccc blocks is_mark compose s ms c ≡ Some d
         → blocks ms c ≡ false → compose s c ≡ Some d → P d ms rest out → P s ms (c ∷ rest) out
     pub starts : (s : A) (ms : List A) (c : A) (rest out : List A) → composed ccc blocks is_mark compose s ms c ≡ None
         → (ccc c == 0) ≡ true → P c [] rest out → P s ms (c ∷ rest) (s ∷ ms ++ out)
@@ -63,7 +63,7 @@ module _ {A : Type 0} (ccc : A → ℕ) (blocks : List A → A → Bool) (is_mar
         | inr (d, found) ↦
             let at = composed-some s ms c d found in
             subst (P s ms (c ∷ rest)) (sym (recomposed_from-some s ms c rest d found))
-            (kept.joins s ms c d rest _ found at.0 at.1 (by_steps P kept d ms rest))
+            (kept.composes s ms c d rest _ found at.0 at.1 (by_steps P kept d ms rest))
         | inl none ↦
             elim (cases_Bool (ccc c == 0)) [
               | inl start ↦
@@ -86,7 +86,7 @@ module _ {A : Type 0} (ccc : A → ℕ) (blocks : List A → A → Bool) (is_mar
       let tail = recomposed ccc blocks is_mark compose (c ∷ ys) in
       by_steps (λ s ms xs out. recomposed_from ccc blocks is_mark compose s ms (xs ++ c ∷ ys) ≡ out ++ tail) (record {
         ends = λ s ms. recomposed_from-starter s ms c ys (composed-unmarked s ms c unmarked) start;
-        joins = λ s ms x d rest out found free made later. recomposed_from-some s ms x (rest ++ c ∷ ys) d found ∙ later;
+        composes = λ s ms x d rest out found free made later. recomposed_from-some s ms x (rest ++ c ∷ ys) d found ∙ later;
         starts = λ s ms x rest out none starts later.
             recomposed_from-starter s ms x (rest ++ c ∷ ys) none starts ∙ ap (λ l. s ∷ ms ++ l) later
             ∙ sym (append_assoc (s ∷ ms) out tail);
@@ -96,11 +96,11 @@ module _ {A : Type 0} (ccc : A → ℕ) (blocks : List A → A → Bool) (is_mar
   -- what holds of each item, and of what two items compose to, holds of each recomposed item
   recomposed_from-all : (P : A → Type 0) → ((s c d : A) → P s → P c → compose s c ≡ Some d → P d) → (s : A) (ms rest : List A)
       → P s → AllByRecursion P ms → AllByRecursion P rest → AllByRecursion P (recomposed_from ccc blocks is_mark compose s ms rest)
-  recomposed_from-all P joins =
+  recomposed_from-all P composes =
       by_steps (λ s ms rest out. P s → AllByRecursion P ms → AllByRecursion P rest → AllByRecursion P out) (record {
         ends = λ s ms of_s of_ms of_rest. (of_s, of_ms);
-        joins = λ s ms c d rest out found free made later of_s of_ms of_rest.
-            later (joins s c d of_s of_rest.0 made) of_ms of_rest.1;
+        composes = λ s ms c d rest out found free made later of_s of_ms of_rest.
+            later (composes s c d of_s of_rest.0 made) of_ms of_rest.1;
         starts = λ s ms c rest out none start later of_s of_ms of_rest.
             (of_s, append_all P ms out of_ms (later of_rest.0 tt of_rest.1));
         passes = λ s ms c rest out none mark later of_s of_ms of_rest. later of_s (push_all P ms c of_ms of_rest.0) of_rest.1;
@@ -108,11 +108,11 @@ module _ {A : Type 0} (ccc : A → ℕ) (blocks : List A → A → Bool) (is_mar
 
   pub recomposed-all : (P : A → Type 0) → ((s c d : A) → P s → P c → compose s c ≡ Some d → P d) → (xs : List A)
       → AllByRecursion P xs → AllByRecursion P (recomposed ccc blocks is_mark compose xs)
-  recomposed-all P joins [] items = tt
-  recomposed-all P joins (x ∷ xs) items = recomposed_from-all P joins x [] xs items.0 tt items.1
+  recomposed-all P composes [] items = tt
+  recomposed-all P composes (x ∷ xs) items = recomposed_from-all P composes x [] xs items.0 tt items.1
 
 module _ {A B : Type 0} (IsItem : A → Type 0) (ccc : A → ℕ) (ccc_of_part : B → ℕ) (full : A → List B) (is_mark : A → Bool)
-    (compose : A → A → Option A) (lawful : JoinsLawfully IsItem ccc ccc_of_part full compose) where
+    (compose : A → A → Option A) (lawful : ComposesLawfully IsItem ccc ccc_of_part full compose) where
   abbrev Fulls : List A → List B
   Fulls xs = flat_map full xs
 
@@ -136,14 +136,14 @@ module _ {A B : Type 0} (IsItem : A → Type 0) (ccc : A → ℕ) (ccc_of_part :
       ⟫ no_swap (append_assoc (full c) (full m) (Fulls ms))
 
   -- what a starter and c compose to, in their place
-  pub joined : (s c d : A) (ms rest : List A) → IsItem s → IsItem c → AllByRecursion IsItem ms → is_blocked ccc ms c ≡ false
+  pub swaps_composed : (s c d : A) (ms rest : List A) → IsItem s → IsItem c → AllByRecursion IsItem ms → is_blocked ccc ms c ≡ false
       → compose s c ≡ Some d → Swaps ccc_of_part (Fulls (s ∷ ms ++ c ∷ rest)) (Fulls (d ∷ ms ++ rest))
-  joined s c d ms rest item_s item_c items free joins =
+  swaps_composed s c d ms rest item_s item_c items free composes =
       no_swap (ap (λ l. full s ++ l) (flat_map-append full ms (c ∷ rest) ∙ sym (append_assoc (Fulls ms) (full c) (Fulls rest))))
       ⟫ Swaps-after (full s) (Swaps-before (Fulls rest) (past_marks ms c items item_c free))
       ⟫ no_swap (ap (λ l. full s ++ l) (append_assoc (full c) (Fulls ms) (Fulls rest))
       ∙ sym (append_assoc (full s) (full c) (Fulls ms ++ Fulls rest)))
-      ⟫ Swaps-before (Fulls ms ++ Fulls rest) (Swaps-sym (lawful.joins s c d item_s item_c joins))
+      ⟫ Swaps-before (Fulls ms ++ Fulls rest) (Swaps-sym (lawful.composes s c d item_s item_c composes))
       ⟫ no_swap (ap (λ l. full d ++ l) (sym (flat_map-append full ms rest)))
 
   recomposed_from-keeps : (s : A) (ms rest : List A) → IsItem s → AllByRecursion IsItem ms → AllByRecursion IsItem rest
@@ -153,8 +153,8 @@ module _ {A B : Type 0} (IsItem : A → Type 0) (ccc : A → ℕ) (ccc_of_part :
       → AllByRecursion IsItem rest
       → Swaps ccc_of_part (Fulls (s ∷ ms ++ rest)) (Fulls out)) (record {
         ends = λ s ms item_s items rest_items. no_swap (ap (λ l. Fulls (s ∷ l)) (append-nil ms));
-        joins = λ s ms c d rest out found free made later item_s items rest_items.
-            joined s c d ms rest item_s rest_items.0 items free made
+        composes = λ s ms c d rest out found free made later item_s items rest_items.
+            swaps_composed s c d ms rest item_s rest_items.0 items free made
             ⟫ later (lawful.items s c d item_s rest_items.0 made) items rest_items.1;
         starts = λ s ms c rest out none start later item_s items rest_items.
             no_swap (ap (λ l. full s ++ l) (flat_map-append full ms (c ∷ rest)))

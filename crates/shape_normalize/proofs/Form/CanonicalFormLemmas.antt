@@ -63,7 +63,7 @@ module _ (rules : Rules) where
         subst (AreEquivalent rules (text_of b)) (sym (normalized_is_recomposed rules lawful b plain marked composes))
         (equivalent_normalised_by_last (decompositions rules) hooks.splits (is_mark rules.unicode)
         (compose_with_glyph rules.compose (has_glyph rules.face.nominal_glyph))
-        (sound_with_glyph (decompositions rules) rules.compose (has_glyph rules.face.nominal_glyph) (hooks.joins composes)) max_run
+        (sound_with_glyph (decompositions rules) rules.compose (has_glyph rules.face.nominal_glyph) (hooks.composes composes)) max_run
         (text_of b) (choices rules (text_of b)) (text_of (ordered rules b))
         (full_text-expanded (decompositions rules) hooks.splits (has_glyph rules.face.nominal_glyph)
         (is_mark rules.unicode) rules.short (text_of b))
@@ -149,7 +149,7 @@ module _ (rules : Rules) where
               (recomposed_by_last_equal_iff (decompositions rules) hooks.splits (has_glyph rules.face.nominal_glyph)
               (is_mark rules.unicode) max_run
               (compose_with_glyph rules.compose (has_glyph rules.face.nominal_glyph))
-              (sound_with_glyph (decompositions rules) rules.compose (has_glyph rules.face.nominal_glyph) (hooks.joins composes))
+              (sound_with_glyph (decompositions rules) rules.compose (has_glyph rules.face.nominal_glyph) (hooks.composes composes))
               (text_of b) (text_of (ordered rules b)) (text_of c) (text_of (ordered rules c))
               of_b.canonical.supported of_c.canonical.supported (ordered_is_decomposed b of_b) (ordered_is_decomposed c of_c))
         ]

@@ -14,16 +14,16 @@ use Rattle.shape_plan.specs.Rules.{used_decompositions, used_compose, used_reord
 use Rattle.shape_plan.specs.Shaper.{ShaperConstants, HookMeaning}
 use Rattle.shape_normalize.proofs.Form.PreparedLemmas.{prepared-with_props}
 
--- without the hooks that split and join, both are Unicode's, which is lawful
+-- without the hooks that split and compose, both are Unicode's, which is lawful
 splits-unasked : (unicode : UnicodeMeaning) → LawfulUnicode unicode → (hooks : Option HookMeaning)
     → SplitsFall (used_decompositions unicode false hooks)
 splits-unasked unicode lawful None = lawful.splits_fall
 splits-unasked unicode lawful (Some hooks) = lawful.splits_fall
 
-joins-unasked : (unicode : UnicodeMeaning) → LawfulUnicode unicode → (hooks : Option HookMeaning)
+composes-unasked : (unicode : UnicodeMeaning) → LawfulUnicode unicode → (hooks : Option HookMeaning)
     → ComposesSoundly (used_decompositions unicode false hooks) (used_compose unicode false hooks)
-joins-unasked unicode lawful None = lawful.composes_soundly
-joins-unasked unicode lawful (Some hooks) = lawful.composes_soundly
+composes-unasked unicode lawful None = lawful.composes_soundly
+composes-unasked unicode lawful (Some hooks) = lawful.composes_soundly
 
 module _ {S P D F : Type 0} (unicode : UnicodeMeaning) (constants : ShaperConstants) (hooks : S → Plan S P D → F → HookMeaning)
     (faces : F → FaceMeaning) (plan : Plan S P D) (face : F) where
@@ -31,7 +31,7 @@ module _ {S P D F : Type 0} (unicode : UnicodeMeaning) (constants : ShaperConsta
       → HasLawfulHooks (rules_of unicode constants hooks faces plan face)
   lawful-unasked lawful no_split no_compose = record {
     splits = rw no_split (splits-unasked unicode lawful (hooks_of hooks plan face));
-    joins = λ recomposes. rw (no_split, no_compose) (joins-unasked unicode lawful (hooks_of hooks plan face));
+    composes = λ recomposes. rw (no_split, no_compose) (composes-unasked unicode lawful (hooks_of hooks plan face));
   }
 
   pub reorder-unasked : constants.has_reorder_marks ≡ false

@@ -11,7 +11,7 @@ use Rattle.shape_buffer.specs.declared.buffer.settings.GlyphId.{GlyphId}
 use Rattle.shape_buffer.proofs.Merging.KeyLemmas.{IsKey, keys-merge_out}
 use Rattle.shape_normalize.specs.Normalized.{normalized, features_of, KeepsFeatures}
 use Rattle.shape_normalize.specs.RoundOne.{part_item, whole_item, expansion_of, pairs_merged, round_one}
-use Rattle.shape_normalize.specs.RoundThree.{Placed, recomposed_items, joined_spans, spans_merged_out, with_cluster_at, round_three}
+use Rattle.shape_normalize.specs.RoundThree.{Placed, recomposed_items, absorbed_spans, spans_merged_out, with_cluster_at, round_three}
 use Rattle.shape_normalize.specs.RoundTwo.{marks_ordered, cgj_settled}
 use Rattle.shape_plan.specs.Rules.{Rules}
 use Rattle.shape_normalize.proofs.RoundTwo.CgjLemmas.{keys-cgj_settled}
@@ -81,8 +81,8 @@ module _ (rules : Rules) (P : ℕ → Type 0) where
   round_three_has : (b : Buffer) → Has b.items → Has (round_three rules b).items
   round_three_has b each =
       let out = recomposed_items rules b.items in
-      let merged = (spans_merged_out (joined_spans out) b).items in
-      put_out_have merged (has_same b.items merged (features-spans_merged_out (joined_spans out) b) each) out
+      let merged = (spans_merged_out (absorbed_spans out) b).items in
+      put_out_have merged (has_same b.items merged (features-spans_merged_out (absorbed_spans out) b) each) out
       (each_recomposed rules (λ item. P (features_of item)) (λ item c has h. h) b.items each)
 
   -- ---- the rounds

@@ -22,7 +22,7 @@ use Rattle.canonical_form.proofs.Ordering.SwapLemmas.{all-swaps}
 use Rattle.shape_normalize.specs.Normalized.{normalized}
 use Rattle.shape_plan.specs.Reorder.{exchanged, ccc_set, Reorders}
 use Rattle.shape_normalize.specs.RoundOne.{part_item, whole_item, expansion_of, pairs_merged, pairs_from, merged_at, sequences, round_one, remembers_space, seen_chars, seen_expanded, seen_variant, seen_sequence, variants, is_selector_sequence, is_with_marks, with_space_fallback, with_selector_fallback}
-use Rattle.shape_normalize.specs.RoundThree.{Placed, recomposed_items, joined_spans, spans_merged_out, with_cluster_at, round_three, composed_chars}
+use Rattle.shape_normalize.specs.RoundThree.{Placed, recomposed_items, absorbed_spans, spans_merged_out, with_cluster_at, round_three, composed_chars}
 use Rattle.shape_normalize.specs.RoundTwo.{spans, run_cccs, spans_merged, run_in_order, run_reordered, run_settled, marks_ordered, cgj_settled, cgj_shown}
 use Rattle.shape_plan.specs.Rules.{Rules}
 use Rattle.shape_normalize.proofs.RoundTwo.CgjLemmas.{keys-cgj_settled}
@@ -273,8 +273,8 @@ module _ (flag : ℕ) where
 flags-round_three : (rules : Rules) (b : Buffer) → KeepsFlags b (round_three rules b)
 flags-round_three rules b =
     let out = recomposed_items rules b.items in
-    let merged = spans_merged_out (joined_spans out) b in
-    let keeps = flags-spans_out (joined_spans out) b in
+    let merged = spans_merged_out (absorbed_spans out) b in
+    let keeps = flags-spans_out (absorbed_spans out) b in
     let chars = seen-chars rules.unicode (composed_chars out) b.scratch_flags in
     record {
       flags = keeps.flags;
@@ -285,7 +285,7 @@ flags-round_three rules b =
           | inl came ↦ elim (keeps.none_new flag d came) [
             | inl there ↦ inl there
             | inr set ↦ inr (ap (λ n. n == 32)
-                (chars ∙ ap (λ (s : ScratchFlags). bit_and s.0 32) (sym (scratch-spans_out (joined_spans out) b))) ∙ set)
+                (chars ∙ ap (λ (s : ScratchFlags). bit_and s.0 32) (sym (scratch-spans_out (absorbed_spans out) b))) ∙ set)
           ]
           | inr still ↦
               let bare = put_out_bare flag merged.items (bare_of flag merged.items still) out

@@ -3,7 +3,7 @@ use Rattle.std.proofs.Common.{◌≡◌, ◌≤◌, ◌==◌, Bool, true, false,
 use Rattle.shape_buffer.specs.Buffer.{Buffer, limit_of}
 use Rattle.shape_plan.specs.Rules.{Rules}
 use Rattle.shape_normalize.specs.RoundOne.{sequences, pairs_from, round_one}
-use Rattle.shape_normalize.specs.RoundThree.{joined_spans, recomposed_items}
+use Rattle.shape_normalize.specs.RoundThree.{absorbed_spans, recomposed_items}
 use Rattle.shape_normalize.specs.RoundTwo.{marks_ordered, cgj_settled, cgj_shown, has_mark_past_first}
 use Rattle.shape_normalize.specs.Normalized.{normalized, ordered}
 use Rattle.shape_normalize.proofs.Normalized.NormalizedLemmas.{length-ordered, kept_by_rounds}
@@ -64,5 +64,5 @@ settings-normalized rules lawful b =
     kept_by_rounds rules (λ c. settings_of c ≡ settings_of b) b
     (λ so_far. ap settings_of (without_items-marks_ordered rules.reorder lawful one) ∙ so_far)
     (λ c so_far. settings-cgj c ∙ so_far)
-    (λ c so_far. ap settings_of (spans_merged_out_is (joined_spans (recomposed_items rules c.items)) c) ∙ so_far)
+    (λ c so_far. ap settings_of (spans_merged_out_is (absorbed_spans (recomposed_items rules c.items)) c) ∙ so_far)
     (ap settings_of (without_items-merged_at b (pairs_from rules.unicode rules.face 0 (sequences b.items))))

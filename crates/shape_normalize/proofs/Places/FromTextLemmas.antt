@@ -15,11 +15,11 @@ use Rattle.shape_buffer.specs.UnicodeProps.{is_hidden_char}
 use Rattle.shape_plan.specs.Reorder.{with_ccc}
 use Rattle.shape_plan.specs.Rules.{Rules}
 use Rattle.shape_normalize.specs.Normalized.{ordered, hidden_char, has_seen_cgj}
-use Rattle.shape_normalize.specs.Origins.{item_at, Origin, origin_at, origins, HasOfOrigin, all_places, PermutesRuns, IsFromPlace, IsOnceJoined, IsFromStarter, is_recomposed, new_origins}
+use Rattle.shape_normalize.specs.Origins.{item_at, Origin, origin_at, origins, HasOfOrigin, all_places, PermutesRuns, IsFromPlace, IsOnceComposed, IsFromStarter, is_recomposed, new_origins}
 use Rattle.shape_normalize.specs.Reordered.{unmerged, unclassed}
 use Rattle.shape_normalize.specs.RoundOne.{item_glyph, part_item, round_one}
 use Rattle.shape_normalize.specs.RoundTwo.{max_run, shown}
-use Rattle.shape_normalize.specs.RoundThree.{Joined, Placed, recomposed_items}
+use Rattle.shape_normalize.specs.RoundThree.{Absorbed, Placed, recomposed_items}
 use Rattle.shape_normalize.proofs.Normalized.ItemGlyphLemmas.{part_has_glyph}
 use Rattle.shape_normalize.proofs.RoundThree.RoundThreePlaceLemmas.{AreRising, AreRising-fit, recomposed_placed}
 
@@ -142,14 +142,14 @@ module _ (rules : Rules) (text : Buffer) where
 
     -- ---- round three
 
-    has_once_joined : (origin : Origin) (from item : Item) (joined : List Joined) → Has origin from → IsOnceJoined rules from joined item
+    has_once_composed : (origin : Origin) (from item : Item) (absorbed : List Absorbed) → Has origin from → IsOnceComposed rules from absorbed item
         → Has origin item
-    has_once_joined origin from item [] has same = has_same origin item from (ap (with_ccc 0) same) has
-    has_once_joined origin from item (mark ∷ marks) has joined =
-        has_same origin item (part_item rules.unicode rules.face.nominal_glyph from item.codepoint) (ap (with_ccc 0) joined.2)
+    has_once_composed origin from item [] has same = has_same origin item from (ap (with_ccc 0) same) has
+    has_once_composed origin from item (mark ∷ marks) has absorbed =
+        has_same origin item (part_item rules.unicode rules.face.nominal_glyph from item.codepoint) (ap (with_ccc 0) absorbed.2)
         (record {
           features = has.features;
-          glyph = λ outside. part_has_glyph rules text.invisible_glyph None from item.codepoint joined.1;
+          glyph = λ outside. part_has_glyph rules text.invisible_glyph None from item.codepoint absorbed.1;
           hidden = inr (inl refl);
         })
 
@@ -160,7 +160,7 @@ module _ (rules : Rules) (text : Buffer) where
         let old = (ordered rules text).items in
         let out = recomposed_items rules old in
         zip_places (λ (p : Placed). p.place < length old) (IsFromStarter rules old) Has (λ (p : Placed). get_or of_ordered p.place none)
-        (λ p item lt is. has_once_joined (get_or of_ordered p.place none) (item_at old p.place) item p.joined
+        (λ p item lt is. has_once_composed (get_or of_ordered p.place none) (item_at old p.place) item p.absorbed
         (zip_at Has of_ordered old p.place none (new_item 0 0) ordered_has lt) is)
         out items (rising_below 0 (length old) out (recomposed_placed rules old).rising) from_starters
 

@@ -7,14 +7,14 @@ use Rattle.canonical_form.specs.Recompose.{is_blocked_by_last}
 use Rattle.canonical_form.proofs.Recomposing.RecomposeLemmas.{recomposed-all}
 use Rattle.shape_plan.specs.Rules.{Rules, has_glyph}
 use Rattle.shape_normalize.specs.Normalized.{features_of}
-use Rattle.shape_normalize.specs.Origins.{item_at, last_char, IsOnceJoined, IsFromStarter}
+use Rattle.shape_normalize.specs.Origins.{item_at, last_char, IsOnceComposed, IsFromStarter}
 use Rattle.shape_normalize.specs.Reordered.{unmerged}
 use Rattle.shape_normalize.specs.RoundOne.{part_item}
-use Rattle.shape_normalize.specs.RoundThree.{Joined, Placed, placed, ccc_of_placed, is_mark_placed, compose_placed, recomposed_items, joined_spans, spans_merged_out, with_cluster_at, round_three}
+use Rattle.shape_normalize.specs.RoundThree.{Absorbed, Placed, placed, ccc_of_placed, is_mark_placed, compose_placed, recomposed_items, absorbed_spans, spans_merged_out, with_cluster_at, round_three}
 use Rattle.shape_normalize.proofs.Normalized.FeatureLemmas.{features-spans_merged_out}
 use Rattle.shape_normalize.proofs.Places.OriginLemmas.{AllAt, same_at}
-use Rattle.shape_normalize.proofs.RoundThree.RecomposedItemLemmas.{glyph_of_joined}
-use Rattle.shape_normalize.proofs.RoundThree.RoundThreePlaceLemmas.{joined_is}
+use Rattle.shape_normalize.proofs.RoundThree.RecomposedItemLemmas.{glyph_of_composed}
+use Rattle.shape_normalize.proofs.RoundThree.RoundThreePlaceLemmas.{absorbed_is}
 
 -- what holds of each item and what is made of it holds along both lists
 zip_map : {A B : Type 0} (R : A → B → Type 0) (f : A → B) (xs : List A) → AllByRecursion (λ x. R x (f x)) xs → AllZip R xs (map f xs)
@@ -30,39 +30,39 @@ features_at (x ∷ xs) (y ∷ ys) same zero other is = let head : features_of x 
 features_at (x ∷ xs) (y ∷ ys) same (suc place) other is = let tail : map features_of xs ≡ map features_of ys = cc in
     features_at xs ys tail place other is
 
-last_char-push : (c : ℕ) (marks : List Joined) (mark : Joined) → last_char c (marks ++ mark ∷ []) ≡ mark.char
+last_char-push : (c : ℕ) (marks : List Absorbed) (mark : Absorbed) → last_char c (marks ++ mark ∷ []) ≡ mark.char
 last_char-push c [] mark = refl
 last_char-push c (m ∷ marks) mark = last_char-push m.char marks mark
 
 module _ (rules : Rules) where
   -- an item, once marks were composed with it, by the character that it has then
-  abbrev once_joined : Item → List Joined → ℕ → Item
-  once_joined from [] c = from
-  once_joined from (mark ∷ marks) c = part_item rules.unicode rules.face.nominal_glyph from c
+  abbrev once_composed : Item → List Absorbed → ℕ → Item
+  once_composed from [] c = from
+  once_composed from (mark ∷ marks) c = part_item rules.unicode rules.face.nominal_glyph from c
 
   -- which is that of the last composition, and has a glyph
-  abbrev HasGlyphOnceJoined : List Joined → ℕ → Type 0
-  HasGlyphOnceJoined [] c = Unit {0}
-  HasGlyphOnceJoined (mark ∷ marks) c = (c ≡ last_char mark.char marks) × (has_glyph rules.face.nominal_glyph c ≡ true)
+  abbrev HasGlyphOnceComposed : List Absorbed → ℕ → Type 0
+  HasGlyphOnceComposed [] c = Unit {0}
+  HasGlyphOnceComposed (mark ∷ marks) c = (c ≡ last_char mark.char marks) × (has_glyph rules.face.nominal_glyph c ≡ true)
 
   -- an item that is composed with one more mark has that character alone
-  joined_once : (from item : Item) (joined : List Joined) (mark : Joined) (c : ℕ) → item ≡ once_joined from joined item.codepoint
-      → part_item rules.unicode rules.face.nominal_glyph item c ≡ once_joined from (joined ++ mark ∷ []) c
-  joined_once from item [] mark c is = ap (λ (one : Item). part_item rules.unicode rules.face.nominal_glyph one c) is
-  joined_once from item (m ∷ ms) mark c is = ap (λ (one : Item). part_item rules.unicode rules.face.nominal_glyph one c) is
+  composed_once : (from item : Item) (absorbed : List Absorbed) (mark : Absorbed) (c : ℕ) → item ≡ once_composed from absorbed item.codepoint
+      → part_item rules.unicode rules.face.nominal_glyph item c ≡ once_composed from (absorbed ++ mark ∷ []) c
+  composed_once from item [] mark c is = ap (λ (one : Item). part_item rules.unicode rules.face.nominal_glyph one c) is
+  composed_once from item (m ∷ ms) mark c is = ap (λ (one : Item). part_item rules.unicode rules.face.nominal_glyph one c) is
 
-  has_glyph_once : (joined : List Joined) (mark : Joined) → has_glyph rules.face.nominal_glyph mark.char ≡ true
-      → HasGlyphOnceJoined (joined ++ mark ∷ []) mark.char
+  has_glyph_once : (absorbed : List Absorbed) (mark : Absorbed) → has_glyph rules.face.nominal_glyph mark.char ≡ true
+      → HasGlyphOnceComposed (absorbed ++ mark ∷ []) mark.char
   has_glyph_once [] mark has = (refl, has)
   has_glyph_once (m ∷ ms) mark has = (sym (last_char-push m.char ms mark), has)
 
-  features_once : (from : Item) (joined : List Joined) (c : ℕ) → features_of (once_joined from joined c) ≡ features_of from
+  features_once : (from : Item) (absorbed : List Absorbed) (c : ℕ) → features_of (once_composed from absorbed c) ≡ features_of from
   features_once from [] c = refl
   features_once from (mark ∷ marks) c = refl
 
   -- whatever its cluster and its flags
-  settled_once : (from item new : Item) (joined : List Joined) → item ≡ once_joined from joined item.codepoint
-      → HasGlyphOnceJoined joined item.codepoint → unmerged new ≡ unmerged item → IsOnceJoined rules from joined new
+  settled_once : (from item new : Item) (absorbed : List Absorbed) → item ≡ once_composed from absorbed item.codepoint
+      → HasGlyphOnceComposed absorbed item.codepoint → unmerged new ≡ unmerged item → IsOnceComposed rules from absorbed new
   settled_once from item new [] is has same = same ∙ ap unmerged is
   settled_once from item new (mark ∷ marks) is has same =
       let char : new.codepoint ≡ item.codepoint = ap (λ (one : Item). one.codepoint) same in (
@@ -74,24 +74,24 @@ module _ (rules : Rules) where
   module _ (items : List Item) where
     -- an item that was put out, before it takes the cluster and the mask at its place
     abbrev IsPutOut : Placed → Type 0
-    IsPutOut p = (p.item ≡ once_joined (item_at items p.place) p.joined p.item.codepoint) × HasGlyphOnceJoined p.joined p.item.codepoint
+    IsPutOut p = (p.item ≡ once_composed (item_at items p.place) p.absorbed p.item.codepoint) × HasGlyphOnceComposed p.absorbed p.item.codepoint
 
     placed_once : (place : ℕ) (rest : List Item) → AllAt (λ n item. item ≡ item_at items n) place rest
         → AllByRecursion IsPutOut (placed place rest)
     placed_once place [] each = tt
     placed_once place (item ∷ rest) each = ((each.0, tt), placed_once (suc place) rest each.1)
 
-    joins_once : (s mark d : Placed) → IsPutOut s → IsPutOut mark → compose_placed rules s mark ≡ Some d → IsPutOut d
-    joins_once s mark d of_s of_mark is =
-        let made = joined_is rules s mark d is in
-        let last : Joined = record { place = mark.place; char = made.0 } in
-        let has = glyph_of_joined (has_glyph rules.face.nominal_glyph) (rules.compose s.item.codepoint mark.item.codepoint) made.0 made.1 in
+    composes_once : (s mark d : Placed) → IsPutOut s → IsPutOut mark → compose_placed rules s mark ≡ Some d → IsPutOut d
+    composes_once s mark d of_s of_mark is =
+        let made = absorbed_is rules s mark d is in
+        let last : Absorbed = record { place = mark.place; char = made.0 } in
+        let has = glyph_of_composed (has_glyph rules.face.nominal_glyph) (rules.compose s.item.codepoint mark.item.codepoint) made.0 made.1 in
         subst IsPutOut (sym made.2)
-        (joined_once (item_at items s.place) s.item s.joined last made.0 of_s.0, has_glyph_once s.joined last has)
+        (composed_once (item_at items s.place) s.item s.absorbed last made.0 of_s.0, has_glyph_once s.absorbed last has)
 
     each_once : AllByRecursion IsPutOut (recomposed_items rules items)
     each_once =
-        recomposed-all ccc_of_placed (is_blocked_by_last ccc_of_placed) is_mark_placed (compose_placed rules) IsPutOut joins_once
+        recomposed-all ccc_of_placed (is_blocked_by_last ccc_of_placed) is_mark_placed (compose_placed rules) IsPutOut composes_once
         (placed 0 items)
         (placed_once 0 items (same_at (λ item. item) items items refl))
 
@@ -100,9 +100,9 @@ module _ (rules : Rules) where
     settled_from merged same [] each = tt
     settled_from merged same (p ∷ out) each =
         let from = item_at items p.place in
-        let own : features_of from ≡ features_of p.item = sym (ap features_of each.0.0 ∙ features_once from p.joined p.item.codepoint) in
+        let own : features_of from ≡ features_of p.item = sym (ap features_of each.0.0 ∙ features_once from p.absorbed p.item.codepoint) in
         let item : Item = p.item in (
-          settled_once from item (with_cluster_at merged p) p.joined each.0.0 each.0.1
+          settled_once from item (with_cluster_at merged p) p.absorbed each.0.0 each.0.1
               (ap (λ mask. record item { cluster = 0; mask = mask }) (features_at merged items same p.place p.item own)),
           settled_from merged same out each.1,
         )
@@ -112,6 +112,6 @@ module _ (rules : Rules) where
       → AllZip (IsFromStarter rules b.items) (recomposed_items rules b.items) (round_three rules b).items
   recomposed_by_place b =
       let out = recomposed_items rules b.items in
-      let merged = (spans_merged_out (joined_spans out) b).items in
+      let merged = (spans_merged_out (absorbed_spans out) b).items in
       zip_map (IsFromStarter rules b.items) (with_cluster_at merged) out
-      (settled_from b.items merged (features-spans_merged_out (joined_spans out) b) out (each_once b.items))
+      (settled_from b.items merged (features-spans_merged_out (absorbed_spans out) b) out (each_once b.items))

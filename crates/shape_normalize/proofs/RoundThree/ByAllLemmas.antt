@@ -11,7 +11,7 @@ use Rattle.canonical_form.proofs.Ordering.RunLemmas.{AreRunsSettled-ordered}
 use Rattle.shape_plan.specs.Rules.{Rules}
 use Rattle.shape_normalize.specs.Normalized.{ordered, normalized, without_cluster, HasShortRuns, RecomposesByAll}
 use Rattle.shape_normalize.specs.RoundOne.{round_one}
-use Rattle.shape_normalize.specs.RoundThree.{Placed, placed, ccc_of_placed, is_mark_placed, compose_placed, recomposed_items, recomposed_by_all, joined_spans, spans_merged_out, with_cluster_at, round_three}
+use Rattle.shape_normalize.specs.RoundThree.{Placed, placed, ccc_of_placed, is_mark_placed, compose_placed, recomposed_items, recomposed_by_all, absorbed_spans, spans_merged_out, with_cluster_at, round_three}
 use Rattle.shape_normalize.specs.RoundTwo.{max_run, has_mark_past_first, marks_ordered, cgj_settled}
 use Rattle.shape_normalize.proofs.RoundTwo.CgjLemmas.{keys-cgj_settled}
 use Rattle.shape_normalize.proofs.RoundTwo.OrderedLemmas.{marks_ordered_settles}
@@ -55,5 +55,5 @@ normalized_by_all rules old new is = λ marked composes none short.
     let out : List Placed = recomposed_items rules (ordered rules old).items in
     let both = and_from (has_mark_past_first old.items) rules.recomposes marked composes in
     ap (λ (c : Buffer). map without_cluster c.items) (is ∙ cond-true _ (round_three rules (ordered rules old)) (ordered rules old) both)
-    ∙ put_out (spans_merged_out (joined_spans out) (ordered rules old)).items out
+    ∙ put_out (spans_merged_out (absorbed_spans out) (ordered rules old)).items out
     ∙ ap (map (λ (p : Placed). without_cluster p.item)) (by_all rules old marked none short)

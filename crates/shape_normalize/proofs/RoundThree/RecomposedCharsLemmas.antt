@@ -7,11 +7,11 @@ use Rattle.shape_buffer.specs.Items.{Item, char_of}
 use Rattle.canonical_form.specs.Recompose.{is_blocked_by_last, compose_with_glyph, recomposed}
 use Rattle.shape_buffer.specs.Unicode.{LawfulUnicode, is_mark}
 use Rattle.shape_buffer.specs.Prepared.{IsPreparedItem}
-use Rattle.shape_normalize.specs.RoundThree.{Placed, placed, ccc_of_placed, is_mark_placed, compose_placed, recomposed_items, joined_spans, spans_merged_out, with_cluster_at, round_three}
+use Rattle.shape_normalize.specs.RoundThree.{Placed, placed, ccc_of_placed, is_mark_placed, compose_placed, recomposed_items, absorbed_spans, spans_merged_out, with_cluster_at, round_three}
 use Rattle.shape_plan.specs.Rules.{Rules, has_glyph}
 use Rattle.shape_normalize.proofs.Form.PreparedLemmas.{ArePrepared, prepared-part}
-use Rattle.shape_normalize.proofs.RoundThree.RoundThreeWalkLemmas.{joined_to}
-use Rattle.shape_normalize.proofs.RoundThree.RoundThreePlaceLemmas.{joined_is}
+use Rattle.shape_normalize.proofs.RoundThree.RoundThreeWalkLemmas.{made_with}
+use Rattle.shape_normalize.proofs.RoundThree.RoundThreePlaceLemmas.{absorbed_is}
 
 abbrev char_of_placed : Placed → ℕ
 char_of_placed p = p.item.codepoint
@@ -36,13 +36,13 @@ module _ (rules : Rules) (lawful : LawfulUnicode rules.unicode) where
   compose_chars = compose_with_glyph rules.compose (has_glyph rules.face.nominal_glyph)
 
   -- a starter that takes another character takes its properties too
-  prepared-joined : (starter mark d : Placed) → compose_placed rules starter mark ≡ Some d → IsPreparedPlaced d
-  prepared-joined starter mark d made =
-      let at = joined_is rules starter mark d made in
+  prepared-composed : (starter mark d : Placed) → compose_placed rules starter mark ≡ Some d → IsPreparedPlaced d
+  prepared-composed starter mark d made =
+      let at = absorbed_is rules starter mark d made in
       subst IsPreparedPlaced (sym at.2) (prepared-part rules lawful starter.item at.0)
 
   same_char : (starter mark : Placed) (found : Option ℕ)
-      → found ≡ option_map char_of_placed (option_map (joined_to rules starter mark) found)
+      → found ≡ option_map char_of_placed (option_map (made_with rules starter mark) found)
   same_char starter mark None = refl
   same_char starter mark (Some c) = refl
 
@@ -56,7 +56,7 @@ module _ (rules : Rules) (lawful : LawfulUnicode rules.unicode) where
       (is_blocked_by_last ccc_of_placed) (is_blocked_by_last ccc)
       (is_blocked_by_last-map IsPreparedPlaced char_of_placed ccc_of_placed ccc cccs)
       is_mark_placed (is_mark rules.unicode) (compose_placed rules) compose_chars (λ p prepared. sym prepared.mark)
-      (λ starter mark d of_starter of_mark made. prepared-joined starter mark d made)
+      (λ starter mark d of_starter of_mark made. prepared-composed starter mark d made)
       (λ starter mark of_starter of_mark. same_char starter mark (compose_chars starter.item.codepoint mark.item.codepoint))
       (placed 0 items) (prepared-placed 0 items h)
       ∙ ap (recomposed ccc (is_blocked_by_last ccc) (is_mark rules.unicode) compose_chars) (chars-placed 0 items)
@@ -67,4 +67,4 @@ module _ (rules : Rules) (lawful : LawfulUnicode rules.unicode) where
       ≡ recomposed rules.unicode.ccc (is_blocked_by_last rules.unicode.ccc) (is_mark rules.unicode) compose_chars (map char_of b.items)
   chars-round_three b h =
       let out : List Placed = recomposed_items rules b.items in
-      chars-with_clusters (spans_merged_out (joined_spans out) b).items out ∙ chars-recomposed b.items h
+      chars-with_clusters (spans_merged_out (absorbed_spans out) b).items out ∙ chars-recomposed b.items h

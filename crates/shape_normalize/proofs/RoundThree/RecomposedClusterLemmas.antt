@@ -16,16 +16,16 @@ use Rattle.shape_buffer.proofs.Steps.KeeperLemmas.{KeepsClusters-same, KeepsClus
 use Rattle.shape_buffer.proofs.Merging.KeyLemmas.{length-merge_out}
 use Rattle.canonical_form.proofs.Recomposing.RecomposeLemmas.{by_steps}
 use Rattle.shape_plan.specs.Rules.{Rules}
-use Rattle.shape_normalize.specs.RoundThree.{Placed, placed, ccc_of_placed, is_mark_placed, compose_placed, recomposed_items, joined_spans, spans_merged_out, with_cluster_at, round_three}
-use Rattle.shape_normalize.proofs.RoundThree.RoundThreePlaceLemmas.{joined_is, IsSpan, recomposed_spans_within}
+use Rattle.shape_normalize.specs.RoundThree.{Placed, placed, ccc_of_placed, is_mark_placed, compose_placed, recomposed_items, absorbed_spans, spans_merged_out, with_cluster_at, round_three}
+use Rattle.shape_normalize.proofs.RoundThree.RoundThreePlaceLemmas.{absorbed_is, IsSpan, recomposed_spans_within}
 use Rattle.shape_normalize.proofs.RoundThree.RoundThreeLemmas.{length-spans_merged_out}
 use Rattle.shape_normalize.proofs.RoundOne.DrawnLemmas.{DrawsBefore-same, draws_without}
 
 -- ---- recomposing, of anything
 
 module _ {A : Type 0} (ccc : A → ℕ) (blocks : List A → A → Bool) (is_mark : A → Bool) (compose : A → A → Option A) where
-  -- where what is joined has the number of the starter, the numbers are drawn in order
-  module _ (number : A → ℕ) (joins : (s c d : A) → compose s c ≡ Some d → number d ≡ number s) where
+  -- where what is absorbed has the number of the starter, the numbers are drawn in order
+  module _ (number : A → ℕ) (composes : (s c d : A) → compose s c ≡ Some d → number d ≡ number s) where
     recomposed_from_draws : (s : A) (ms rest : List A)
         → DrawsInOrder (number s ∷ map number ms ++ map number rest)
         (map number (recomposed_from ccc blocks is_mark compose s ms rest))
@@ -33,9 +33,9 @@ module _ {A : Type 0} (ccc : A → ℕ) (blocks : List A → A → Bool) (is_mar
         by_steps ccc blocks is_mark compose (λ s ms rest out.
         DrawsInOrder (number s ∷ map number ms ++ map number rest) (map number out)) (record {
           ends = λ s ms. rw (append-nil (map number ms)) (DrawsInOrder-same (number s ∷ map number ms));
-          joins = λ s ms c d rest out found free made later.
+          composes = λ s ms c d rest out found free made later.
               DrawsInOrder-then _ _ _ (draws_without (number s ∷ map number ms) (number c) (map number rest))
-              (subst (λ n. DrawsInOrder (n ∷ map number ms ++ map number rest) (map number out)) (joins s c d made) later);
+              (subst (λ n. DrawsInOrder (n ∷ map number ms ++ map number rest) (map number out)) (composes s c d made) later);
           starts = λ s ms c rest out none start later.
               rw (map-append number ms out) (DrawsBefore-same (number s ∷ map number ms) _ _ later);
           passes = λ s ms c rest out none mark later.
@@ -87,14 +87,14 @@ module _ (rules : Rules) where
       (subst (λ l. DrawsInOrder l (map (cluster_at_place cs) (recomposed_items rules items))) begins
       (recomposed_draws ccc_of_placed (is_blocked_by_last ccc_of_placed) is_mark_placed (compose_placed rules)
       (cluster_at_place cs)
-      (λ starter mark made is. ap (cluster_at_place cs) (joined_is rules starter mark made is).2) (placed 0 items)))
+      (λ starter mark made is. ap (cluster_at_place cs) (absorbed_is rules starter mark made is).2) (placed 0 items)))
 
   -- recomposing keeps the order of clusters, and brings no new one
   pub round_three_keeps : (b : Buffer) → KeepsClusters (clusters b.items) (clusters (round_three rules b).items)
   round_three_keeps b =
       let out = recomposed_items rules b.items in
-      let merged = spans_merged_out (joined_spans out) b in
+      let merged = spans_merged_out (absorbed_spans out) b in
       KeepsClusters-then _ _ _
-      (spans_merged_out_keep (length b.items) (joined_spans out) b refl
-      (recursion_from_All (IsSpan (length b.items)) (joined_spans out) (recomposed_spans_within rules b.items)))
-      (KeepsClusters-from_draws _ _ (put_out_draws b.items merged.items (length-spans_merged_out (joined_spans out) b)))
+      (spans_merged_out_keep (length b.items) (absorbed_spans out) b refl
+      (recursion_from_All (IsSpan (length b.items)) (absorbed_spans out) (recomposed_spans_within rules b.items)))
+      (KeepsClusters-from_draws _ _ (put_out_draws b.items merged.items (length-spans_merged_out (absorbed_spans out) b)))

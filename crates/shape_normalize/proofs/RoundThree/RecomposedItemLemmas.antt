@@ -10,13 +10,13 @@ use Rattle.canonical_form.specs.Recompose.{is_blocked_by_last}
 use Rattle.canonical_form.proofs.Recomposing.RecomposeLemmas.{recomposed-all}
 use Rattle.shape_plan.specs.Rules.{Rules, has_glyph}
 use Rattle.shape_normalize.specs.RoundOne.{part_item}
-use Rattle.shape_normalize.proofs.RoundThree.RoundThreePlaceLemmas.{joined_is, length-recomposed}
-use Rattle.shape_normalize.specs.RoundThree.{Placed, placed, ccc_of_placed, is_mark_placed, compose_placed, recomposed_items, joined_spans, spans_merged_out, with_cluster_at, round_three}
+use Rattle.shape_normalize.proofs.RoundThree.RoundThreePlaceLemmas.{absorbed_is, length-recomposed}
+use Rattle.shape_normalize.specs.RoundThree.{Placed, placed, ccc_of_placed, is_mark_placed, compose_placed, recomposed_items, absorbed_spans, spans_merged_out, with_cluster_at, round_three}
 
-pub glyph_of_joined : (has : ℕ → Bool) (o : Option ℕ) (c : ℕ) → option_and_then (λ c. if has c then Some c else None) o ≡ Some c
+pub glyph_of_composed : (has : ℕ → Bool) (o : Option ℕ) (c : ℕ) → option_and_then (λ c. if has c then Some c else None) o ≡ Some c
     → has c ≡ true
-glyph_of_joined has None c is = absurd (cc)
-glyph_of_joined has (Some d) c is =
+glyph_of_composed has None c is = absurd (cc)
+glyph_of_composed has (Some d) c is =
     elim (cases_Bool (has d)) [
       | inl has_one ↦ let same : Some d ≡ Some c = sym (cond-true _ (Some d) None has_one)
           ∙ is in let d_is : d ≡ c = cc in rw (← d_is) has_one
@@ -31,18 +31,18 @@ module _ (rules : Rules) (P : Item → Type 0) (composes : (item : Item) (c : �
   each_placed place [] each = tt
   each_placed place (item ∷ items) each = (each.0, each_placed (suc place) items each.1)
 
-  each_joined : (starter mark made : Placed) → P starter.item → P mark.item → compose_placed rules starter mark ≡ Some made → P made.item
-  each_joined starter mark made of_starter of_mark is =
-      let at = joined_is rules starter mark made is in
+  each_composed : (starter mark made : Placed) → P starter.item → P mark.item → compose_placed rules starter mark ≡ Some made → P made.item
+  each_composed starter mark made of_starter of_mark is =
+      let at = absorbed_is rules starter mark made is in
       subst (λ (p : Placed). P p.item) (sym at.2)
-      (composes starter.item at.0 (glyph_of_joined (has_glyph rules.face.nominal_glyph)
+      (composes starter.item at.0 (glyph_of_composed (has_glyph rules.face.nominal_glyph)
       (rules.compose starter.item.codepoint mark.item.codepoint) at.0 at.1) of_starter)
 
   pub each_recomposed : (items : List Item) → AllByRecursion P items
       → AllByRecursion (λ (p : Placed). P p.item) (recomposed_items rules items)
   each_recomposed items each =
       recomposed-all ccc_of_placed (is_blocked_by_last ccc_of_placed) is_mark_placed (compose_placed rules)
-      (λ (p : Placed). P p.item) each_joined (placed 0 items) (each_placed 0 items each)
+      (λ (p : Placed). P p.item) each_composed (placed 0 items) (each_placed 0 items each)
 
 -- what holds of an item whatever its cluster and its mask, and of what a starter becomes that has it, holds of each item that is put out
 module _ (rules : Rules) (P : Item → Type 0)
@@ -57,10 +57,10 @@ module _ (rules : Rules) (P : Item → Type 0)
   pub round_three_all : (b : Buffer) → AllByRecursion P b.items → AllByRecursion P (round_three rules b).items
   round_three_all b each =
       let out = recomposed_items rules b.items in
-      each_put_out (spans_merged_out (joined_spans out) b).items out (each_recomposed rules P composes b.items each)
+      each_put_out (spans_merged_out (absorbed_spans out) b).items out (each_recomposed rules P composes b.items each)
 
 -- there are no more of them than there were
 pub length-round_three : (rules : Rules) (b : Buffer) → length (round_three rules b).items ≤ length b.items
 length-round_three rules b =
     let out = recomposed_items rules b.items in
-    omega (arith, length-map out (with_cluster_at (spans_merged_out (joined_spans out) b).items), length-recomposed rules b.items)
+    omega (arith, length-map out (with_cluster_at (spans_merged_out (absorbed_spans out) b).items), length-recomposed rules b.items)

@@ -11,7 +11,7 @@ use Rattle.shape_buffer.specs.declared.buffer.error.ShapeError.TheVariants.{Memo
 use Rattle.shape_buffer.proofs.Merging.ClusterLemmas.{merge_out-cases}
 use Rattle.shape_buffer.proofs.Merging.KeyLemmas.{length-merge_out}
 use Rattle.shape_normalize.specs.RoundOne.{seen_chars}
-use Rattle.shape_normalize.specs.RoundThree.{Placed, recomposed_items, joined_spans, composed_chars, spans_merged_out, placed_info, with_cluster_at, settled_info, round_three}
+use Rattle.shape_normalize.specs.RoundThree.{Placed, recomposed_items, absorbed_spans, composed_chars, spans_merged_out, placed_info, with_cluster_at, settled_info, round_three}
 use Rattle.shape_plan.specs.Rules.{Rules}
 use Rattle.shape_normalize.specs.declared.ot_shape_normalize.round_three.PlacedInfo.{PlacedInfo}
 use Rattle.shape_normalize.proofs.RoundThree.RoundThreePlaceLemmas.{length-recomposed}
@@ -56,14 +56,14 @@ settled_all items (p ∷ out) = ap (λ l. with_cluster_at items p ∷ l) (settle
 
 -- the items of a buffer were walked over, their clusters merged, and what was put out took these
 module _ (rules : Rules) (old merged : Buffer) (infos merged_infos settled : List Item) (out : List PlacedInfo) (infos_are : infos
-    ≡ old.items) (merged_is : merged ≡ spans_merged_out (joined_spans (recomposed_items rules old.items)) old)
+    ≡ old.items) (merged_is : merged ≡ spans_merged_out (absorbed_spans (recomposed_items rules old.items)) old)
     (out_is : out ≡ map placed_info (recomposed_items rules infos)) (merged_infos_are : merged_infos ≡ merged.items)
     (settled_is : settled ≡ map (settled_info merged_infos) out) where
   put_out : List Placed
   put_out = recomposed_items rules old.items
 
   spanned : Buffer
-  spanned = spans_merged_out (joined_spans put_out) old
+  spanned = spans_merged_out (absorbed_spans put_out) old
 
   merged_spanned : merged ≡ spanned
   unfolding put_out spanned
@@ -84,7 +84,7 @@ module _ (rules : Rules) (old merged : Buffer) (infos merged_infos settled : Lis
   pub settled_within : length old.items ≤ limit_of old → length settled ≤ limit_of merged
   unfolding put_out spanned
   settled_within within =
-      let same : limit_of merged ≡ limit_of old = ap limit_of merged_spanned ∙ limit-spans_merged_out (joined_spans put_out) old in
+      let same : limit_of merged ≡ limit_of old = ap limit_of merged_spanned ∙ limit-spans_merged_out (absorbed_spans put_out) old in
       omega (arith, settled_length, length-recomposed rules old.items)
 
   -- and makes the buffer that of the round

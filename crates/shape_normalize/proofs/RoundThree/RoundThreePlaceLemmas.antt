@@ -7,9 +7,9 @@ use Rattle.shape_buffer.specs.Items.{Item}
 use Rattle.canonical_form.specs.Recompose.{is_blocked_by_last, compose_with_glyph}
 use Rattle.canonical_form.proofs.Lists.EveryLemmas.{append_all}
 use Rattle.canonical_form.proofs.Recomposing.RecomposeLemmas.{by_steps}
-use Rattle.shape_normalize.specs.RoundThree.{Joined, Placed, placed, ccc_of_placed, is_mark_placed, compose_placed, recomposed_items, joined_spans}
+use Rattle.shape_normalize.specs.RoundThree.{Absorbed, Placed, placed, ccc_of_placed, is_mark_placed, compose_placed, recomposed_items, absorbed_spans}
 use Rattle.shape_plan.specs.Rules.{Rules, has_glyph}
-use Rattle.shape_normalize.proofs.RoundThree.RoundThreeWalkLemmas.{after, item_at, joined_to}
+use Rattle.shape_normalize.proofs.RoundThree.RoundThreeWalkLemmas.{after, item_at, made_with}
 
 -- ---- the places
 
@@ -19,24 +19,24 @@ AreRising low high [] = low ≤ high
 AreRising low high (p ∷ ps) = (low ≤ p.place) × AreRising (p.place + 1) high ps
 
 -- marks stood one behind the other, from behind this place on, and before place `high`
-abbrev pub AreJoinedInOrder : ℕ → ℕ → List Joined → Type 0
-AreJoinedInOrder low high [] = Unit {0}
-AreJoinedInOrder low high (mark ∷ joined) = (low < mark.place) × (mark.place < high) × AreJoinedInOrder mark.place high joined
+abbrev pub AreAbsorbedInOrder : ℕ → ℕ → List Absorbed → Type 0
+AreAbsorbedInOrder low high [] = Unit {0}
+AreAbsorbedInOrder low high (mark ∷ absorbed) = (low < mark.place) × (mark.place < high) × AreAbsorbedInOrder mark.place high absorbed
 
 -- the marks that were composed with an item stood behind it
 abbrev pub InOrder : ℕ → Placed → Type 0
-InOrder high p = AreJoinedInOrder p.place high p.joined
+InOrder high p = AreAbsorbedInOrder p.place high p.absorbed
 
-in_order-higher : (low high higher : ℕ) (joined : List Joined) → high ≤ higher → AreJoinedInOrder low high joined
-    → AreJoinedInOrder low higher joined
+in_order-higher : (low high higher : ℕ) (absorbed : List Absorbed) → high ≤ higher → AreAbsorbedInOrder low high absorbed
+    → AreAbsorbedInOrder low higher absorbed
 in_order-higher low high higher [] le h = tt
-in_order-higher low high higher (mark ∷ joined) le h =
-    (h.0, omega (arith, h.1), in_order-higher mark.place high higher joined le h.2)
+in_order-higher low high higher (mark ∷ absorbed) le h =
+    (h.0, omega (arith, h.1), in_order-higher mark.place high higher absorbed le h.2)
 
-in_order-push : (low k : ℕ) (joined : List Joined) (mark : Joined) → low < k → mark.place ≡ k → AreJoinedInOrder low k joined
-    → AreJoinedInOrder low (suc k) (joined ++ mark ∷ [])
+in_order-push : (low k : ℕ) (absorbed : List Absorbed) (mark : Absorbed) → low < k → mark.place ≡ k → AreAbsorbedInOrder low k absorbed
+    → AreAbsorbedInOrder low (suc k) (absorbed ++ mark ∷ [])
 in_order-push low k [] mark lt is h = (omega arith, omega arith, tt)
-in_order-push low k (m ∷ joined) mark lt is h = (h.0, omega (arith, h.1), in_order-push m.place k joined mark h.1 is h.2)
+in_order-push low k (m ∷ absorbed) mark lt is h = (h.0, omega (arith, h.1), in_order-push m.place k absorbed mark h.1 is h.2)
 
 AreRising-append : (low middle high : ℕ) (xs ys : List Placed) → AreRising low middle xs → AreRising middle high ys
     → AreRising low high (xs ++ ys)
@@ -61,7 +61,7 @@ each_higher : (high higher : ℕ) (xs : List Placed) → high ≤ higher → All
     → AllByRecursion (InOrder higher) xs
 each_higher high higher [] le each = tt
 each_higher high higher (p ∷ xs) le each =
-    (in_order-higher p.place high higher p.joined le each.0, each_higher high higher xs le each.1)
+    (in_order-higher p.place high higher p.absorbed le each.0, each_higher high higher xs le each.1)
 
 ArePlaced-append : (low k high : ℕ) (xs ys : List Placed) → ArePlaced low k xs → ArePlaced k high ys
     → ArePlaced low high (xs ++ ys)
@@ -75,16 +75,16 @@ ArePlaced-append low k high xs ys front back =
 -- items from this place on to the end of a list of length n, with nothing composed yet
 abbrev AreFrom : ℕ → ℕ → List Placed → Type 0
 AreFrom n k [] = k ≡ n
-AreFrom n k (p ∷ ps) = (p.place ≡ k) × (p.joined ≡ []) × AreFrom n (suc k) ps
+AreFrom n k (p ∷ ps) = (p.place ≡ k) × (p.absorbed ≡ []) × AreFrom n (suc k) ps
 
 AreFrom-placed : (n k : ℕ) (items : List Item) → k + length items ≡ n → AreFrom n k (placed k items)
 AreFrom-placed n k [] is = omega arith
 AreFrom-placed n k (x ∷ items) is = (refl, refl, AreFrom-placed n (suc k) items (omega arith))
 
-ArePlaced-once : (k : ℕ) (p : Placed) → p.place ≡ k → p.joined ≡ [] → ArePlaced k (suc k) (p ∷ [])
+ArePlaced-once : (k : ℕ) (p : Placed) → p.place ≡ k → p.absorbed ≡ [] → ArePlaced k (suc k) (p ∷ [])
 ArePlaced-once k p here none = record {
   rising = (omega arith, omega arith);
-  in_order = (subst (AreJoinedInOrder p.place (suc k)) (sym none) tt, tt);
+  in_order = (subst (AreAbsorbedInOrder p.place (suc k)) (sym none) tt, tt);
 }
 
 option_map-some : {A B : Type 0} (f : A → B) (o : Option A) (d : B) → option_map f o ≡ Some d → (c : A) × (o ≡ Some c) × (d ≡ f c)
@@ -92,23 +92,23 @@ option_map-some f None d h = cc
 option_map-some f (Some c) d h = (c, refl, cc)
 
 module _ (rules : Rules) where
-  -- a starter that is joined is a part of what it was, and keeps its place
-  pub joined_is : (s mark d : Placed) → compose_placed rules s mark ≡ Some d
+  -- a starter that is absorbed is a part of what it was, and keeps its place
+  pub absorbed_is : (s mark d : Placed) → compose_placed rules s mark ≡ Some d
       → (c : ℕ) × (compose_with_glyph rules.compose (has_glyph rules.face.nominal_glyph) s.item.codepoint mark.item.codepoint ≡ Some c)
-      × (d ≡ joined_to rules s mark c)
-  joined_is s mark d joins =
+      × (d ≡ made_with rules s mark c)
+  absorbed_is s mark d composes =
       let found = compose_with_glyph rules.compose (has_glyph rules.face.nominal_glyph) s.item.codepoint mark.item.codepoint in
-      option_map-some (joined_to rules s mark) found d joins
+      option_map-some (made_with rules s mark) found d composes
 
-  placed_joined : (low k : ℕ) (s : Placed) (ms : List Placed) (mark d : Placed) → ArePlaced low k (s ∷ ms) → mark.place ≡ k
+  placed_absorbed : (low k : ℕ) (s : Placed) (ms : List Placed) (mark d : Placed) → ArePlaced low k (s ∷ ms) → mark.place ≡ k
       → compose_placed rules s mark ≡ Some d → ArePlaced low (suc k) (d ∷ ms)
-  placed_joined low k s ms mark d h here joins =
-      let made = joined_is s mark d joins in
+  placed_absorbed low k s ms mark d h here composes =
+      let made = absorbed_is s mark d composes in
       let fit = AreRising-fit (s.place + 1) k ms h.rising.1 in
       subst (λ p. ArePlaced low (suc k) (p ∷ ms)) (sym made.2) (record {
         rising = (h.rising.0, AreRising-higher (s.place + 1) k (suc k) ms (omega arith) h.rising.1);
         in_order = (
-          in_order-push s.place k s.joined (record { place = mark.place; char = made.0 }) (omega arith) here h.in_order.0,
+          in_order-push s.place k s.absorbed (record { place = mark.place; char = made.0 }) (omega arith) here h.in_order.0,
           each_higher k (suc k) ms (omega arith) h.in_order.1,
         );
       })
@@ -119,8 +119,8 @@ module _ (rules : Rules) where
       by_steps ccc_of_placed (is_blocked_by_last ccc_of_placed) is_mark_placed (compose_placed rules)
       (λ s ms rest out. (low k : ℕ) → ArePlaced low k (s ∷ ms) → AreFrom n k rest → ArePlaced low n out) (record {
         ends = λ s ms low k h from. subst (λ m. ArePlaced low m (s ∷ ms)) from h;
-        joins = λ s ms c d rest out found free made later low k h from.
-            later low (suc k) (placed_joined low k s ms c d h from.0 made) from.2;
+        composes = λ s ms c d rest out found free made later low k h from.
+            later low (suc k) (placed_absorbed low k s ms c d h from.0 made) from.2;
         starts = λ s ms c rest out none start later low k h from.
             ArePlaced-append low k n (s ∷ ms) out h (later k (suc k) (ArePlaced-once k c from.0 from.1) from.2);
         passes = λ s ms c rest out none mark later low k h from.
@@ -143,20 +143,20 @@ module _ (rules : Rules) where
 abbrev pub IsSpan : ℕ → ℕ × ℕ → Type 0
 IsSpan n span = (span.0 ≤ span.1) × (span.1 ≤ n)
 
-spans_of_within : (n place from : ℕ) (joined : List Joined) → place ≤ from → AreJoinedInOrder from n joined
-    → AllByRecursion (IsSpan n) (map (λ (mark : Joined). (place, mark.place + 1)) joined)
+spans_of_within : (n place from : ℕ) (absorbed : List Absorbed) → place ≤ from → AreAbsorbedInOrder from n absorbed
+    → AllByRecursion (IsSpan n) (map (λ (mark : Absorbed). (place, mark.place + 1)) absorbed)
 spans_of_within n place from [] le h = tt
-spans_of_within n place from (mark ∷ joined) le h =
-    ((omega (arith, h.0), omega (arith, h.1)), spans_of_within n place mark.place joined (omega (arith, h.0)) h.2)
+spans_of_within n place from (mark ∷ absorbed) le h =
+    ((omega (arith, h.0), omega (arith, h.1)), spans_of_within n place mark.place absorbed (omega (arith, h.0)) h.2)
 
-spans_within : (n : ℕ) (out : List Placed) → AllByRecursion (InOrder n) out → AllByRecursion (IsSpan n) (joined_spans out)
+spans_within : (n : ℕ) (out : List Placed) → AllByRecursion (InOrder n) out → AllByRecursion (IsSpan n) (absorbed_spans out)
 spans_within n [] h = tt
 spans_within n (p ∷ out) h =
-    append_all (IsSpan n) (map (λ (mark : Joined). (p.place, mark.place + 1)) p.joined) (joined_spans out)
-    (spans_of_within n p.place p.place p.joined (omega arith) h.0) (spans_within n out h.1)
+    append_all (IsSpan n) (map (λ (mark : Absorbed). (p.place, mark.place + 1)) p.absorbed) (absorbed_spans out)
+    (spans_of_within n p.place p.place p.absorbed (omega arith) h.0) (spans_within n out h.1)
 
 pub recomposed_spans_within : (rules : Rules) (items : List Item)
-    → All (IsSpan (length items)) (joined_spans (recomposed_items rules items))
+    → All (IsSpan (length items)) (absorbed_spans (recomposed_items rules items))
 recomposed_spans_within rules items =
-    All-from_recursion (IsSpan (length items)) (joined_spans (recomposed_items rules items))
+    All-from_recursion (IsSpan (length items)) (absorbed_spans (recomposed_items rules items))
     (spans_within (length items) (recomposed_items rules items) (recomposed_placed rules items).in_order)

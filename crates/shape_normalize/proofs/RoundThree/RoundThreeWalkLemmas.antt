@@ -13,7 +13,7 @@ use Rattle.canonical_form.proofs.MapLemmas.{is_blocked_by_last-map}
 use Rattle.canonical_form.proofs.Recomposing.RecomposeLemmas.{recomposed_from-some, recomposed_from-starter, recomposed_from-mark}
 use Rattle.canonical_form.proofs.Recomposing.RecomposeWalkLemmas.{at_split, drop_split, set_split}
 use Rattle.shape_normalize.specs.RoundOne.{part_item, seen_chars}
-use Rattle.shape_normalize.specs.RoundThree.{Joined, Placed, placed, ccc_of_placed, is_mark_placed, compose_placed, recomposed_items, spans_between, chained_spans, composed_chars, placed_info, ccc_of_placed_info, composed_char}
+use Rattle.shape_normalize.specs.RoundThree.{Absorbed, Placed, placed, ccc_of_placed, is_mark_placed, compose_placed, recomposed_items, spans_between, chained_spans, composed_chars, placed_info, ccc_of_placed_info, composed_char}
 use Rattle.shape_plan.specs.Rules.{Rules, has_glyph}
 use Rattle.shape_normalize.specs.declared.ot_shape_normalize.round_three.PlacedInfo.{PlacedInfo}
 
@@ -58,24 +58,24 @@ module _ {B : Type 0} (f : Placed → List B) where
 
 -- the spans and the characters of one item
 abbrev spans_of : Placed → List (ℕ × ℕ)
-spans_of p = spans_between p.place p.joined
+spans_of p = spans_between p.place p.absorbed
 
 abbrev chars_of : Placed → List ℕ
-chars_of p = map (λ mark. mark.char) p.joined
+chars_of p = map (λ mark. mark.char) p.absorbed
 
 -- the place of the last of these marks, or this one where there are none
-abbrev last_joined : ℕ → List Joined → ℕ
-last_joined from [] = from
-last_joined from (mark ∷ joined) = last_joined mark.place joined
+abbrev last_absorbed : ℕ → List Absorbed → ℕ
+last_absorbed from [] = from
+last_absorbed from (mark ∷ absorbed) = last_absorbed mark.place absorbed
 
-last_joined-push : (from : ℕ) (joined : List Joined) (mark : Joined) → last_joined from (joined ++ mark ∷ []) ≡ mark.place
-last_joined-push from [] mark = refl
-last_joined-push from (m ∷ joined) mark = last_joined-push m.place joined mark
+last_absorbed-push : (from : ℕ) (absorbed : List Absorbed) (mark : Absorbed) → last_absorbed from (absorbed ++ mark ∷ []) ≡ mark.place
+last_absorbed-push from [] mark = refl
+last_absorbed-push from (m ∷ absorbed) mark = last_absorbed-push m.place absorbed mark
 
-spans_between-push : (from : ℕ) (joined : List Joined) (mark : Joined)
-    → spans_between from (joined ++ mark ∷ []) ≡ spans_between from joined ++ (last_joined from joined, mark.place + 1) ∷ []
+spans_between-push : (from : ℕ) (absorbed : List Absorbed) (mark : Absorbed)
+    → spans_between from (absorbed ++ mark ∷ []) ≡ spans_between from absorbed ++ (last_absorbed from absorbed, mark.place + 1) ∷ []
 spans_between-push from [] mark = refl
-spans_between-push from (m ∷ joined) mark = ap (λ l. (from, m.place + 1) ∷ l) (spans_between-push m.place joined mark)
+spans_between-push from (m ∷ absorbed) mark = ap (λ l. (from, m.place + 1) ∷ l) (spans_between-push m.place absorbed mark)
 
 -- ---- the walk
 
@@ -86,23 +86,23 @@ module _ (rules : Rules) where
 
   -- the item that stood at a place
   abbrev pub item_at : ℕ → Item → Placed
-  item_at place item = record { item = item; place = place; joined = [] }
+  item_at place item = record { item = item; place = place; absorbed = [] }
 
   -- the starter with the character that it makes with a mark
-  abbrev pub joined_to : Placed → Placed → ℕ → Placed
-  joined_to starter mark c = record {
+  abbrev pub made_with : Placed → Placed → ℕ → Placed
+  made_with starter mark c = record {
     item = part_item rules.unicode rules.face.nominal_glyph starter.item c;
     place = starter.place;
-    joined = starter.joined ++ record { place = mark.place; char = c } ∷ [];
+    absorbed = starter.absorbed ++ record { place = mark.place; char = c } ∷ [];
   }
 
   composed_info : (s : Placed) (ms : List Placed) (c : Placed)
       → composed ccc_of_placed (is_blocked_by_last ccc_of_placed) is_mark_placed (compose_placed rules) s ms c
-      ≡ option_map (joined_to s c) (composed_char rules (placed_info s) (map placed_info ms) (placed_info c))
+      ≡ option_map (made_with s c) (composed_char rules (placed_info s) (map placed_info ms) (placed_info c))
   composed_info s ms c =
       let compose = compose_with_glyph rules.compose (has_glyph rules.face.nominal_glyph) s.item.codepoint c.item.codepoint in
-      option_map-if (joined_to s c) (is_mark_item c.item && not (is_blocked_by_last ccc_of_placed ms c)) compose
-      ∙ ap (λ b. option_map (joined_to s c) (if is_mark_item c.item && not b then compose else None)) (sym (blocked_infos ms c))
+      option_map-if (made_with s c) (is_mark_item c.item && not (is_blocked_by_last ccc_of_placed ms c)) compose
+      ∙ ap (λ b. option_map (made_with s c) (if is_mark_item c.item && not b then compose else None)) (sym (blocked_infos ms c))
 
   placed-next : (i : ℕ) (items : List Item) (x : Item) → i < length items → x ≡ get_or items i x
       → placed i (drop i items) ≡ item_at i x ∷ placed (i + 1) (drop (i + 1) items)
@@ -117,7 +117,7 @@ module _ (rules : Rules) where
     pub marks : List Placed
     pub out_is : out ≡ map placed_info before ++ placed_info at ∷ map placed_info marks
     pub starter_is : starter ≡ length (map placed_info before)
-    pub from_is : from ≡ last_joined at.place at.joined
+    pub from_is : from ≡ last_absorbed at.place at.absorbed
     pub whole : recomposed_items rules items ≡ before ++ after at marks (placed i (drop i items))
     pub spans_are : spans ≡ chained_spans (before ++ at ∷ [])
     pub seen_is : seen ≡ seen_chars rules.unicode flags (composed_chars (before ++ at ∷ []))
@@ -180,20 +180,20 @@ module _ (rules : Rules) where
 
     composed_at : (o : Option ℕ) → o ≡ composed_char rules s marks (placed_info next)
         → composed ccc_of_placed (is_blocked_by_last ccc_of_placed) is_mark_placed (compose_placed rules) h.at h.marks next
-        ≡ option_map (joined_to h.at next) o
+        ≡ option_map (made_with h.at next) o
     composed_at o was =
         composed_info h.at h.marks next
-        ∙ ap (option_map (joined_to h.at next))
+        ∙ ap (option_map (made_with h.at next))
         (ap₂ (λ p ms. composed_char rules p ms (placed_info next)) (sym starter_at) (sym marks_at) ∙ sym was)
 
     whole_next : recomposed_items rules items ≡ h.before ++ after h.at h.marks (next ∷ rest)
     whole_next = h.whole ∙ ap (λ l. h.before ++ after h.at h.marks l) (placed-next i items x lt is_x)
 
     -- the next item goes into the starter
-    pub IsRecomposedTo-joined : (c : ℕ) → Some c ≡ composed_char rules s marks (placed_info next)
+    pub IsRecomposedTo-absorbed : (c : ℕ) → Some c ≡ composed_char rules s marks (placed_info next)
         → IsRecomposedTo items flags (i + 1) (set out starter (record s { info = part_item rules.unicode rules.face.nominal_glyph s.info c })) (spans ++ (from, i + 1) ∷ []) (with_scratch_of rules.unicode c seen) starter i
-    IsRecomposedTo-joined c was =
-        let d : Placed = joined_to h.at next c in
+    IsRecomposedTo-absorbed c was =
+        let d : Placed = made_with h.at next c in
         let set_is : set out starter (record s { info = part_item rules.unicode rules.face.nominal_glyph s.info c })
         ≡ map placed_info h.before ++ placed_info d ∷ map placed_info h.marks =
         ap (λ (p : PlacedInfo). set out starter (record p { info = part_item rules.unicode rules.face.nominal_glyph p.info c })) starter_at
@@ -205,20 +205,20 @@ module _ (rules : Rules) where
           marks = h.marks;
           out_is = set_is;
           starter_is = h.starter_is;
-          from_is = sym (last_joined-push h.at.place h.at.joined (record { place = i; char = c }));
+          from_is = sym (last_absorbed-push h.at.place h.at.absorbed (record { place = i; char = c }));
           whole = whole_next
               ∙ ap (λ l. h.before
               ++ l) (recomposed_from-some ccc_of_placed (is_blocked_by_last ccc_of_placed) is_mark_placed
               (compose_placed rules) h.at h.marks next rest d (composed_at (Some c) was));
           spans_are =
               ap₂ (λ l n. l ++ (n, i + 1) ∷ []) h.spans_are h.from_is
-              ∙ sym (adds_one spans_of h.before h.at d (last_joined h.at.place h.at.joined, i + 1)
-              (spans_between-push h.at.place h.at.joined (record { place = i; char = c })));
+              ∙ sym (adds_one spans_of h.before h.at d (last_absorbed h.at.place h.at.absorbed, i + 1)
+              (spans_between-push h.at.place h.at.absorbed (record { place = i; char = c })));
           seen_is =
               ap (with_scratch_of rules.unicode c) h.seen_is
               ∙ sym (fold-append (λ flags c. with_scratch_of rules.unicode c flags) flags (composed_chars (h.before ++ h.at ∷ [])) (c ∷ []))
               ∙ ap (seen_chars rules.unicode flags)
-              (sym (adds_one chars_of h.before h.at d c (map-append (λ (mark : Joined). mark.char) h.at.joined _)));
+              (sym (adds_one chars_of h.before h.at d c (map-append (λ (mark : Absorbed). mark.char) h.at.absorbed _)));
           none_spanned = h.none_spanned;
           none_seen = h.none_seen;
         }

@@ -1,7 +1,7 @@
 use Rattle.std.proofs.Common.{◌+◌, drop, length, sym, ap, ◌∙◌, arith}
 use Rattle.std.proofs.lemmas.List.{take_rest}
 use Rattle.shape_plan.specs.Rules.{rules_of}
-use Rattle.shape_normalize.proofs.RoundThree.RoundThreeWalkLemmas.{IsRecomposedTo-first, IsRecomposedTo-joined, IsRecomposedTo-starter, IsRecomposedTo-mark, walked_all}
+use Rattle.shape_normalize.proofs.RoundThree.RoundThreeWalkLemmas.{IsRecomposedTo-first, IsRecomposedTo-absorbed, IsRecomposedTo-starter, IsRecomposedTo-mark, walked_all}
 use Rattle.shape_normalize.proofs.ot_shape_normalize.round_three.recompose_all.Goals as goal
 use Rattle.shape_normalize.proofs.ot_shape_normalize.round_three.recompose_all.Goals.{then-hb_glyph_info_get_modified_combining_class-eq0, else-hb_glyph_info_get_modified_combining_class-eq0}
 
@@ -25,7 +25,7 @@ loop-place-preserved-in-Some-composed_of g c =
     record {
       within = c.loop-place.invariant.within;
       walked = rw (c.with_char.ensures.item, c.with_char.ensures.flags, c.in_ok-push-2.ensures.items)
-          (IsRecomposedTo-joined rules _ _ _ _ _ _ _ _ _ _ _ (omega arith) c.index-infos-place.is c.index.ensures marks c.loop-place.invariant.walked c.in-Some-composed_of.c c.in-Some-composed_of.ensures);
+          (IsRecomposedTo-absorbed rules _ _ _ _ _ _ _ _ _ _ _ (omega arith) c.index-infos-place.is c.index.ensures marks c.loop-place.invariant.walked c.in-Some-composed_of.c c.in-Some-composed_of.ensures);
     }
 
 pub loop-place-preserved : goal.loop-place-preserved
