@@ -1,6 +1,6 @@
 -- Splits: chains, expansions along them, the choice of one, and the walks that find it.
 pub mod ChainLemmas
-pub mod ExpansionLemmas
+mod ExpansionLemmas
 pub mod WalkLemmas
 pub mod ShortestWalkLemmas
 pub mod ChoiceLemmas

@@ -2,7 +2,7 @@ pub mod Lists
 pub mod Expanding
 pub mod Ordering
 pub mod Recomposing
-pub mod EquivalentLemmas
+mod EquivalentLemmas
 pub mod MapLemmas
 pub mod CutLemmas
 pub mod NormaliseLemmas

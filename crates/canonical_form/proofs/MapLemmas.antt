@@ -8,7 +8,6 @@ use Rattle.canonical_form.specs.Recompose.{last_ccc, is_blocked_by_last, compose
 use Rattle.canonical_form.specs.Runs.{IsSettled, AreRunsSettled}
 use Rattle.canonical_form.proofs.Ordering.SwapLemmas.{all-swap, all-swaps}
 use Rattle.canonical_form.proofs.Lists.EveryLemmas.{push_all}
-use Rattle.canonical_form.proofs.Lists.OptionLemmas.{cases_Option}
 use Rattle.canonical_form.proofs.Recomposing.RecomposeLemmas.{by_steps, recomposed_from-some, recomposed_from-starter, recomposed_from-mark}
 use Rattle.canonical_form.proofs.Ordering.RunLemmas.{cases_item, from_starter}
 

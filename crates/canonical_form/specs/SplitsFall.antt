@@ -1,5 +1,5 @@
 -- What decompositions owe that texts are put into canonical form by.
-use Rattle.std.specs.Prelude.{◌≡◌, ◌≢◌, ℕ, ◌⊎◌, Option, Some, None}
+use Rattle.std.specs.Prelude.{◌≡◌, ◌≢◌, ℕ, ◌⊎◌, Some, None}
 use Rattle.canonical_form.specs.Chain.{FallsAlong}
 use Rattle.canonical_form.specs.Decompositions.{Decompositions}
 

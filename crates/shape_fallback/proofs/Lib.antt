@@ -1,6 +1,6 @@
-pub mod PositionsLemmas
-pub mod SpacesLemmas
-pub mod MarksLemmas
-pub mod BasesLemmas
+mod PositionsLemmas
+mod SpacesLemmas
+mod MarksLemmas
+mod BasesLemmas
 pub mod KeeperLemmas
-pub mod ExactLemmas
+mod ExactLemmas

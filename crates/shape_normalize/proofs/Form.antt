@@ -2,6 +2,6 @@
 pub mod PreparedLemmas
 pub mod CompareLemmas
 pub mod NormalFormLemmas
-pub mod CutFormLemmas
+mod CutFormLemmas
 pub mod CanonicalFormLemmas
 pub mod PremiseTestLemmas

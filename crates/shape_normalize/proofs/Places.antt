@@ -1,8 +1,8 @@
 -- Where each item of the normalised list came from.
-pub mod OriginLemmas
-pub mod StarterLemmas
-pub mod PlaceLemmas
-pub mod HookPlaceLemmas
-pub mod FromTextLemmas
+mod OriginLemmas
+mod StarterLemmas
+mod PlaceLemmas
+mod HookPlaceLemmas
+mod FromTextLemmas
 pub mod ByPlaceLemmas
 pub mod WorkedOriginLemmas

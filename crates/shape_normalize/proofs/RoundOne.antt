@@ -1,5 +1,4 @@
 -- Round one: sequences, those that hold a variation selector, and what each item becomes.
-pub mod StepLemmas
 pub mod PieceLemmas
 pub mod SequenceLemmas
 pub mod DrawnLemmas

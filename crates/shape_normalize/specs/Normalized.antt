@@ -10,7 +10,7 @@ use Rattle.shape_buffer.specs.declared.buffer.settings.GlyphId.{GlyphId}
 use Rattle.canonical_form.specs.Runs.{HasNoLongerRun}
 use Rattle.shape_plan.specs.Reorder.{IsRunInOrder}
 use Rattle.shape_plan.specs.Rules.{Rules, has_glyph}
-use Rattle.shape_normalize.specs.RoundOne.{round_one, item_glyph, sequences, sequence_items, is_selector_sequence, pairs_merged}
+use Rattle.shape_normalize.specs.RoundOne.{round_one, item_glyph, sequences, sequence_items, is_selector_sequence, variation_sequences_merged}
 use Rattle.shape_normalize.specs.RoundThree.{recomposed_by_all, round_three}
 use Rattle.shape_normalize.specs.RoundTwo.{max_run, has_mark_past_first, marks_ordered, cgj_settled, OrdersMarks}
 use Rattle.shape_buffer.specs.FlagNames.{HAS_CGJ}
@@ -42,7 +42,7 @@ HookKeepsClusters rules =
 abbrev pub selector_items : Rules → Buffer → List Item
 selector_items rules b =
     flat_map (sequence_items rules b.invisible_glyph b.not_found_variation_selector_glyph)
-    (filter (is_selector_sequence rules.unicode) (sequences (pairs_merged rules b).items))
+    (filter (is_selector_sequence rules.unicode) (sequences (variation_sequences_merged rules b).items))
 
 -- an item but for its cluster, its mask, its hidden bit and the glyph that its index becomes, which later steps change, and its ccc where a
 -- reorder hook is given, which may set that

@@ -12,7 +12,7 @@ use Rattle.canonical_form.specs.Runs.{AreRunsSettled}
 use Rattle.shape_plan.specs.Rules.{Rules, has_glyph}
 use Rattle.shape_normalize.specs.Normalized.{ordered, features_of, has_seen_cgj, hidden_char}
 use Rattle.shape_normalize.specs.Reordered.{unmerged, unclassed}
-use Rattle.shape_normalize.specs.RoundOne.{item_glyph, part_item, expanded_item, variants, sequences, is_with_marks, is_selector_sequence, pairs_merged, round_one}
+use Rattle.shape_normalize.specs.RoundOne.{item_glyph, part_item, expanded_item, variants, sequences, is_with_marks, is_selector_sequence, variation_sequences_merged, round_one}
 use Rattle.shape_normalize.specs.RoundTwo.{max_run, has_mark_past_first, shown}
 use Rattle.shape_normalize.specs.RoundThree.{Absorbed, Placed, recomposed_items}
 
@@ -65,7 +65,7 @@ sequence_origins rules invisible place sequence =
 
 -- the origin of each item of the expanded list
 abbrev pub origins : Rules → Buffer → List Origin
-origins rules text = origins_of_parts (sequence_origins rules text.invisible_glyph) 0 (sequences (pairs_merged rules text).items)
+origins rules text = origins_of_parts (sequence_origins rules text.invisible_glyph) 0 (sequences (variation_sequences_merged rules text).items)
 
 -- what an item has of the text's item at the place that it came from: the feature bits; outside sequences with a selector the glyph of
 -- its own character, or what stands in for that; and the hidden bit with the character, or else that of its own character, but for a CGJ

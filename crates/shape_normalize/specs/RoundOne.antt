@@ -132,17 +132,17 @@ abbrev pub variants : UnicodeMeaning → List Item → List (List Item)
 variants unicode sequence = divided (is_selector_item unicode) sequence
 
 -- the glyph of the first two of these items, where the face has one for the two
-abbrev pub pair_glyph : FaceMeaning → List Item → Option GlyphId
-pair_glyph face [] = None
-pair_glyph face (x ∷ []) = None
-pair_glyph face (x ∷ v ∷ rest) = face.variation_glyph x.codepoint v.codepoint
+abbrev pub variation_sequence_glyph : FaceMeaning → List Item → Option GlyphId
+variation_sequence_glyph face [] = None
+variation_sequence_glyph face (x ∷ []) = None
+variation_sequence_glyph face (x ∷ v ∷ rest) = face.variation_glyph x.codepoint v.codepoint
 
 -- the places of the items that become one with the selector behind them, in parts that begin at this place
-abbrev pub pair_places : FaceMeaning → ℕ → List (List Item) → List ℕ
-pair_places face place [] = []
-pair_places face place (part ∷ parts) =
-    let later = pair_places face (place + length part) parts in
-    if is_some (pair_glyph face part) then place ∷ later else later
+abbrev pub variation_sequence_places : FaceMeaning → ℕ → List (List Item) → List ℕ
+variation_sequence_places face place [] = []
+variation_sequence_places face place (part ∷ parts) =
+    let later = variation_sequence_places face (place + length part) parts in
+    if is_some (variation_sequence_glyph face part) then place ∷ later else later
 
 -- ---- combining sequences (as those of The Unicode Standard, D56, but of marks alone; one item may be a sequence too)
 
@@ -161,11 +161,11 @@ abbrev pub is_selector_sequence : UnicodeMeaning → List Item → Bool
 is_selector_sequence unicode sequence = is_with_marks sequence && list_any (is_selector_item unicode) sequence
 
 -- the places of the items that become one with the selector behind them, in sequences that begin at this place
-abbrev pub pairs_from : UnicodeMeaning → FaceMeaning → ℕ → List (List Item) → List ℕ
-pairs_from unicode face place [] = []
-pairs_from unicode face place (sequence ∷ rest) =
-    let later = pairs_from unicode face (place + length sequence) rest in
-    if is_selector_sequence unicode sequence then pair_places face place (variants unicode sequence) ++ later else later
+abbrev pub variation_sequences_from : UnicodeMeaning → FaceMeaning → ℕ → List (List Item) → List ℕ
+variation_sequences_from unicode face place [] = []
+variation_sequences_from unicode face place (sequence ∷ rest) =
+    let later = variation_sequences_from unicode face (place + length sequence) rest in
+    if is_selector_sequence unicode sequence then variation_sequence_places face place (variants unicode sequence) ++ later else later
 
 -- the buffer with the clusters of such items merged, each with its selector, from left to right
 abbrev pub merged_at : Buffer → List ℕ → Buffer
@@ -186,8 +186,8 @@ seen_sequence rules invisible flags sequence =
 
 -- two items that become one are merged first, from left to right; that this is done before the walk changes nothing, since the selector
 -- that goes is next to its item and in one cluster with it, so that a merge grows over both or neither
-abbrev pub pairs_merged : Rules → Buffer → Buffer
-pairs_merged rules b = merged_at b (pairs_from rules.unicode rules.face 0 (sequences b.items))
+abbrev pub variation_sequences_merged : Rules → Buffer → Buffer
+variation_sequences_merged rules b = merged_at b (variation_sequences_from rules.unicode rules.face 0 (sequences b.items))
 
 -- what the items of a list become
 abbrev pub expanded : Rules → Option GlyphId → Option GlyphId → List Item → List Item
@@ -196,7 +196,7 @@ expanded rules invisible not_found items = flat_map (sequence_items rules invisi
 -- round one of normalising: the buffer with its expanded list, at positions of zeros
 abbrev pub round_one : Rules → Buffer → Buffer
 round_one rules b =
-    let merged = pairs_merged rules b in
+    let merged = variation_sequences_merged rules b in
     let items = expanded rules b.invisible_glyph b.not_found_variation_selector_glyph merged.items in
     record merged {
       items = items;

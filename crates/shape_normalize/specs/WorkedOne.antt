@@ -6,7 +6,7 @@ use Rattle.shape_buffer.specs.declared.buffer.general_category.hb_unicode_genera
 use Rattle.shape_buffer.specs.declared.buffer.settings.BufferClusterLevel.TheVariants.{Characters}
 use Rattle.shape_plan.specs.Plan.{Plan}
 use Rattle.shape_plan.specs.Rules.{goes_short, mode_recomposes, used_mode}
-use Rattle.shape_normalize.specs.RoundOne.{is_fallback_space, item_glyph, expanded_item, passed_item, variant_items, sequences, is_selector_sequence, pairs_merged, round_one}
+use Rattle.shape_normalize.specs.RoundOne.{is_fallback_space, item_glyph, expanded_item, passed_item, variant_items, sequences, is_selector_sequence, variation_sequences_merged, round_one}
 use Rattle.shape_normalize.specs.WorkedWorld.{world, face_of, rules_in, item, buffer_of, at, glyph, marked}
 
 -- which modes go short, by themselves and in a sequence, and which compose
@@ -164,22 +164,22 @@ pub record VariantsWorked : Type 0 where
   pub passes_with_glyph : glyph (passed_item (face_of (0x62 ∷ [])).nominal_glyph (indexed 0x62 5)) ≡ (0x62, 0x62)
   -- without a glyph an item keeps the index that it had
   pub passes_without : glyph (passed_item (face_of []).nominal_glyph (indexed 0x62 5)) ≡ (0x62, 5)
-  pub pair : map glyph (variant_items (face_of (0xFE00 ∷ [])) None (item 0x61 0 ∷ item 0xFE00 1 ∷ item 0xFE00 2 ∷ []))
+  pub variation_sequence : map glyph (variant_items (face_of (0xFE00 ∷ [])) None (item 0x61 0 ∷ item 0xFE00 1 ∷ item 0xFE00 2 ∷ []))
       ≡ (0x61, 7) ∷ (0xFE00, 0xFE00) ∷ []
-  pub no_pair : map glyph (variant_items (face_of (0x61 ∷ [])) None (item 0x61 0 ∷ item 0xFE00 1 ∷ [])) ≡ (0x61, 0x61) ∷ (0xFE00, 0) ∷ []
+  pub no_variation_sequence : map glyph (variant_items (face_of (0x61 ∷ [])) None (item 0x61 0 ∷ item 0xFE00 1 ∷ [])) ≡ (0x61, 0x61) ∷ (0xFE00, 0) ∷ []
   pub marks_selector : map selects (variant_items (face_of []) None (item 0x62 0 ∷ item 0xFE00 1 ∷ item 0xFE00 2 ∷ []))
       ≡ (false, false) ∷ (true, true) ∷ (false, true) ∷ []
   pub ignorable_goes : map selects (variant_items (face_of []) (Some (record { 0 = 4 })) (item 0x62 0 ∷ item 0xFE00 1 ∷ []))
       ≡ (false, false) ∷ (true, false) ∷ []
   -- two items that become one are merged first
-  pub pair_merged : map at (round_one (rules_in 1 (0x61 ∷ 0xFE00 ∷ [])) (buffer_of (item 0x61 1 ∷ item 0xFE00 0 ∷ []))).items
+  pub variation_sequence_merged : map at (round_one (rules_in 1 (0x61 ∷ 0xFE00 ∷ [])) (buffer_of (item 0x61 1 ∷ item 0xFE00 0 ∷ []))).items
       ≡ (0x61, 0) ∷ []
-  pub pair_merged_left : map at (round_one (rules_in 1 (0x62 ∷ 0x61 ∷ 0xFE00 ∷ []))
+  pub variation_sequence_merged_left : map at (round_one (rules_in 1 (0x62 ∷ 0x61 ∷ 0xFE00 ∷ []))
       (buffer_of (item 0x62 1 ∷ item 0x61 1 ∷ item 0xFE00 0 ∷ []))).items ≡ (0x62, 0) ∷ (0x61, 0) ∷ []
-  pub apart : map at (pairs_merged (rules_in 1 (0x61 ∷ [])) (buffer_of (item 0x61 1 ∷ item 0xFE00 0 ∷ []))).items
+  pub apart : map at (variation_sequences_merged (rules_in 1 (0x61 ∷ [])) (buffer_of (item 0x61 1 ∷ item 0xFE00 0 ∷ []))).items
       ≡ (0x61, 1) ∷ (0xFE00, 0) ∷ []
   -- at level CHARACTERS they are marked instead
-  pub pair_marked : map marked (pairs_merged (rules_in 1 (0x61 ∷ 0xFE00 ∷ []))
+  pub variation_sequence_marked : map marked (variation_sequences_merged (rules_in 1 (0x61 ∷ 0xFE00 ∷ []))
       (record (buffer_of (item 0x61 1 ∷ item 0xFE00 0 ∷ [])) { cluster_level = Characters })).items ≡ (0x61, (1, 3)) ∷ (0xFE00, (0, 0)) ∷ []
 
 variants_worked : VariantsWorked
@@ -187,14 +187,14 @@ unfolding merge
 variants_worked = record {
   passes_with_glyph = refl;
   passes_without = refl;
-  pair = refl;
-  no_pair = refl;
+  variation_sequence = refl;
+  no_variation_sequence = refl;
   marks_selector = refl;
   ignorable_goes = refl;
-  pair_merged = refl;
-  pair_merged_left = refl;
+  variation_sequence_merged = refl;
+  variation_sequence_merged_left = refl;
   apart = refl;
-  pair_marked = refl;
+  variation_sequence_marked = refl;
 }
 
 -- the scratch flags of round one: past ASCII (1), a default ignorable (2), a fallback space (4), U+034F (8), a selector that no glyph came
@@ -204,11 +204,11 @@ pub record ScratchOneWorked : Type 0 where
   pub kept : (round_one (rules_in 1 (0xE1 ∷ [])) (buffer_of (item 0xE1 0 ∷ []))).scratch_flags.0 ≡ 0
   pub space : (round_one (rules_in 1 (0x20 ∷ [])) (buffer_of (item 0x2002 0 ∷ []))).scratch_flags.0 ≡ 4
   pub selector : (round_one (rules_in 1 (0x61 ∷ [])) (buffer_of (item 0x61 0 ∷ item 0xFE00 0 ∷ []))).scratch_flags.0 ≡ 16
-  pub pair : (round_one (rules_in 1 (0x61 ∷ 0xFE00 ∷ [])) (buffer_of (item 0x61 0 ∷ item 0xFE00 0 ∷ []))).scratch_flags.0 ≡ 0
+  pub variation_sequence : (round_one (rules_in 1 (0x61 ∷ 0xFE00 ∷ [])) (buffer_of (item 0x61 0 ∷ item 0xFE00 0 ∷ []))).scratch_flags.0 ≡ 0
 
 scratch_one_worked : ScratchOneWorked
 unfolding merge
-scratch_one_worked = record { expanded = refl; kept = refl; space = refl; selector = refl; pair = refl }
+scratch_one_worked = record { expanded = refl; kept = refl; space = refl; selector = refl; variation_sequence = refl }
 
 pub record RoundOneWorked : Type 0 where
   pub modes : ModesWorked

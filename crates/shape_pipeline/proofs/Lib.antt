@@ -1,5 +1,5 @@
-pub mod FlagRunLemmas
-pub mod OrderLemmas
-pub mod PartLemmas
-pub mod PremiseLemmas
-pub mod RunLemmas
+mod FlagRunLemmas
+mod OrderLemmas
+mod PartLemmas
+mod PremiseLemmas
+mod RunLemmas

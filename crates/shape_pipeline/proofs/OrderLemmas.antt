@@ -8,7 +8,7 @@ use Rattle.shape_buffer.specs.ClusterOrder.{IsMonotoneLevel, IsOrderedFor}
 use Rattle.shape_buffer.specs.Clusters.{clusters}
 use Rattle.shape_buffer.specs.Direction.{is_backward, reverse_of}
 use Rattle.shape_buffer.specs.Flags.{flags_propagated}
-use Rattle.shape_buffer.specs.Guess.{guessed, guessed_script, known_or_ltr, script_or_ltr, direction_or}
+use Rattle.shape_buffer.specs.Guess.{guessed_script, known_or_ltr, script_or_ltr, direction_or}
 use Rattle.shape_buffer.specs.Items.{Item}
 use Rattle.shape_buffer.specs.Keepers.{KeepsOrder, IsClusterKeeper, EachStep}
 use Rattle.shape_buffer.specs.Outcome.{Step, step, run_steps}

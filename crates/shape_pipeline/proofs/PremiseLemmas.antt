@@ -9,7 +9,6 @@ use Rattle.shape_buffer.specs.Guess.{guessed}
 use Rattle.shape_buffer.specs.Keepers.{EachLookup, IsClusterKeeper, IsFlagKeeper, LookupsKeepClusters, LookupsKeepFlags}
 use Rattle.shape_buffer.specs.Layout.{LookupMeaning, MapMeaning}
 use Rattle.shape_buffer.specs.NoLookups.{no_lookups}
-use Rattle.shape_buffer.specs.Items.{Item}
 use Rattle.shape_buffer.specs.Unicode.{UnicodeMeaning, LawfulUnicode}
 use Rattle.shape_buffer.proofs.Flags.FlagLemmas.{KeepsFlags-same}
 use Rattle.shape_normalize.specs.CanonicalForm.{HasLawfulHooks, TextPremises, HasNoSelector}

@@ -32,17 +32,6 @@ pub refused-length : {steps : List Step} {b : Buffer} {error : ShapeError} → R
 refused-length (for_length past) is = past
 refused-length for_memory is = absurd (let e : Memory ≡ Length = is in cc)
 
-pub outcome-length : {T : Type 0} (steps : List Step) (old new : Buffer) (result : Result T ShapeError) → RunOutcome steps old new result
-    → result ≡ Err Length → SomePast steps old
-outcome-length steps old new (Ok value) ran is = absurd (let e : Ok value ≡ Err Length = is in cc)
-outcome-length steps old new (Err error) refused is = refused-length refused (let e : error ≡ Length = cc in e)
-
--- one that isn't refused has made its steps
-pub outcome-ran : {T : Type 0} (steps : List Step) (old new : Buffer) (result : Result T ShapeError) → RunOutcome steps old new result
-    → OnOk result (Ran steps old new)
-outcome-ran steps old new (Ok value) ran = ran
-outcome-ran steps old new (Err error) refused = tt
-
 limit-normalized : (rules : Rules) (lawful : LawfulReorder rules.reorder) (b : Buffer) → limit_of (normalized rules b) ≡ limit_of b
 limit-normalized rules lawful b = by_test (has_mark_past_first b.items && rules.recomposes)
   where

@@ -1,3 +1,3 @@
-pub mod DecisionLemmas
+mod DecisionLemmas
 pub mod KeeperLemmas
 pub mod PlannedLemmas

@@ -16,9 +16,3 @@ pub script-planned : {F S P D : Type 0} (planning : Planning F S P D) (face : F)
     → (planned planning face shaper direction script language features).script ≡ script
 unfolding begun_planner collected_planner compiled_plan planned
 script-planned planning face shaper direction script language features = refl
-
-pub features-planned : {F S P D : Type 0} (planning : Planning F S P D) (face : F) (shaper : S) (direction : Direction)
-    (script : Option Script) (language : Option (List ℕ)) (features : List Feature)
-    → (planned planning face shaper direction script language features).user_features ≡ features
-unfolding begun_planner collected_planner compiled_plan planned
-features-planned planning face shaper direction script language features = refl

@@ -1,6 +1,5 @@
 -- Steps that keep the order of clusters, the flags of glyphs and the number of positions.
-use Rattle.std.proofs.Common.{◌≡◌, ℕ, Bool, true, false, List, [], ◌∷◌, map, refl, sym, ◌∙◌, inl}
-use Rattle.shape_buffer.specs.Buffer.{Buffer}
+use Rattle.std.proofs.Common.{◌≡◌, ℕ, List, [], ◌∷◌, map, refl, sym, ◌∙◌, inl}
 use Rattle.shape_buffer.specs.Items.{Item}
 use Rattle.shape_buffer.specs.Keepers.{IsClusterKeeper, IsFlagKeeper}
 use Rattle.shape_buffer.specs.KeepsFlags.{some_has}
@@ -9,7 +8,6 @@ use Rattle.shape_buffer.specs.Walks.{items_mapped}
 use Rattle.shape_buffer.specs.declared.buffer.positions.GlyphPosition.{GlyphPosition}
 use Rattle.shape_buffer.proofs.Loops.PositionWalkLemmas.{length-positions_over}
 use Rattle.shape_buffer.proofs.Steps.KeeperLemmas.{KeepsClusters-equal}
-use Rattle.shape_plan.specs.Run.{step_if}
 use Rattle.shape_position.specs.Kept.{KeepsAsMany}
 
 pub some_has-map : (f : Item → Item) → ((x : Item) → (f x).mask ≡ x.mask) → (flag : ℕ) (xs : List Item)
@@ -39,7 +37,3 @@ flags-positions_mapped f b = record { flags = refl; stays_set = λ set. set; non
 pub as_many-positions_mapped : (f : Item → GlyphPosition → GlyphPosition) → KeepsAsMany (positions_mapped f)
 unfolding positions_mapped
 as_many-positions_mapped f b as_many = length-positions_over f b.items b.positions as_many
-
-pub as_many-step_if : (f : Buffer → Buffer) (test : Bool) → KeepsAsMany f → KeepsAsMany (step_if test f)
-as_many-step_if f true keeper = keeper
-as_many-step_if f false keeper = λ b as_many. as_many

@@ -1,7 +1,7 @@
-pub mod StepLemmas
-pub mod KeeperLemmas
-pub mod DeletionLemmas
-pub mod CountLemmas
-pub mod TurnLemmas
+mod StepLemmas
+mod KeeperLemmas
+mod DeletionLemmas
+mod CountLemmas
+mod TurnLemmas
 pub mod StepKeepers
-pub mod OneTableLemmas
+mod OneTableLemmas

@@ -101,8 +101,9 @@ fn share_flags(buffer: &mut hb_buffer_t)
 pub fn propagate_flags(buffer: &mut hb_buffer_t)
     ensures made { Made flags_propagated buffer.old buffer.new }
     ensures one_set { IsHonest buffer.old → HasOneSetOfFlags buffer.new.items }
-    ensures concat { IsHonest buffer.old → (bit_and buffer.old.flags.0 64 == 64) ≡ false
-        → some_has 2 buffer.new.items ≡ false }
+    ensures concat { IsHonest buffer.old
+        → (bit_and buffer.old.flags.0 PRODUCE_UNSAFE_TO_CONCAT == PRODUCE_UNSAFE_TO_CONCAT) ≡ false
+        → some_has UNSAFE_TO_CONCAT buffer.new.items ≡ false }
 {
     share_flags(buffer);
 }

@@ -1,5 +1,5 @@
 -- The spans of graphemes, and the walk over them.
-pub mod GraphemeWalkLemmas
+mod GraphemeWalkLemmas
 pub mod TurnLemmas
 pub mod WalkedLemmas
 pub mod RisingMergeLemmas

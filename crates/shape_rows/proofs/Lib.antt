@@ -1,1 +1,1 @@
-pub mod PromiseRows
+mod PromiseRows

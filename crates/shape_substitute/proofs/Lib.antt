@@ -1,8 +1,8 @@
-pub mod RangeLemmas
-pub mod MaskLemmas
-pub mod SlashLemmas
-pub mod StageRuns
-pub mod FeatureBitLemmas
-pub mod KeeperLemmas
-pub mod StepKeepers
+mod RangeLemmas
+mod MaskLemmas
+mod SlashLemmas
+mod StageRuns
+mod FeatureBitLemmas
+mod KeeperLemmas
+mod StepKeepers
 pub mod ListKeepers

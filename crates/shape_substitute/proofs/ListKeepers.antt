@@ -1,5 +1,5 @@
 -- What the lists of steps of masks and substitution keep.
-use Rattle.std.proofs.Common.{◌≡◌, ◌&&◌, ℕ, zero, suc, Bool, true, false, [], ◌∷◌, Option, Some, None}
+use Rattle.std.proofs.Common.{◌&&◌, ℕ, zero, suc, Bool, true, false, [], ◌∷◌, Option, Some, None}
 use Rattle.std.specs.Prelude.{if◌then◌else◌}
 use Rattle.std.specs.Option.{option_map_or}
 use Rattle.shape_buffer.specs.Keepers.{IsClusterKeeper, IsFlagKeeper, EachStep}

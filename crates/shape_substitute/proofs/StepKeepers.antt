@@ -17,7 +17,7 @@ use Rattle.shape_buffer.proofs.Steps.KeeperLemmas.{order-items_mapped}
 use Rattle.shape_buffer.proofs.Merging.KeyLemmas.{keys-map}
 use Rattle.shape_plan.specs.Shaper.{without_mask}
 use Rattle.shape_plan.specs.declared.decisions.Decisions.{Decisions}
-use Rattle.shape_substitute.specs.Classes.{glyphs_mapped, classes_synthesised, syllables_cleared, with_nominal_glyph, with_class, without_syllable}
+use Rattle.shape_substitute.specs.Classes.{glyphs_mapped, classes_synthesised, with_nominal_glyph, with_class}
 use Rattle.shape_substitute.specs.Fractions.{with_features, features_added, has_whole, whole_start, whole_end, slash_masked, slash_places, next_place, slashes_masked, fraction_masks, may_have_fractions, fractions_masked}
 use Rattle.shape_substitute.specs.Kept.{FractionsAreFeatures}
 use Rattle.shape_substitute.specs.Ranges.{shifted, is_global, with_feature, range_masked, ranges_masked}
@@ -162,11 +162,3 @@ order-classes_synthesised = order-items_mapped with_class (λ item. refl)
 pub flags-classes_synthesised : IsFlagKeeper classes_synthesised
 unfolding classes_synthesised
 flags-classes_synthesised = flags-items_mapped with_class (λ flag defined item has. has)
-
-pub order-syllables_cleared : IsClusterKeeper syllables_cleared
-unfolding syllables_cleared
-order-syllables_cleared = order-items_mapped without_syllable (λ item. refl)
-
-pub flags-syllables_cleared : IsFlagKeeper syllables_cleared
-unfolding syllables_cleared
-flags-syllables_cleared = flags-items_mapped without_syllable (λ flag defined item has. has)

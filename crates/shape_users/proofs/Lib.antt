@@ -1,7 +1,7 @@
-pub mod HookLemmas
-pub mod LigatureLemmas
-pub mod LineLemmas
-pub mod ModifierLemmas
-pub mod ParagraphLemmas
-pub mod PointLemmas
-pub mod WordLemmas
+mod HookLemmas
+mod LigatureLemmas
+mod LineLemmas
+mod ModifierLemmas
+mod ParagraphLemmas
+mod PointLemmas
+mod WordLemmas

@@ -1,5 +1,5 @@
-pub mod WordLemmas
-pub mod PairLemmas
-pub mod LineLemmas
-pub mod FlagLemmas
-pub mod PlanLemmas
+mod WordLemmas
+mod PairLemmas
+mod LineLemmas
+mod FlagLemmas
+mod PlanLemmas

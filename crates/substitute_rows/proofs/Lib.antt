@@ -1,1 +1,1 @@
-pub mod RuleLemmas
+mod RuleLemmas

@@ -1,5 +1,5 @@
 -- Rules of substitution keep the limit, and none but that of two glyphs for one makes a list longer.
-use Rattle.std.proofs.Common.{◌≡◌, ℕ, suc, ◌+◌, ◌≤◌, ◌<◌, ◌↔◌, List, length, get_or, set, replicate, Result, Ok, Err, OnOk, refl, ap, ap₂, sym, subst, ◌∙◌, inl, inr, arith}
+use Rattle.std.proofs.Common.{◌≡◌, ℕ, ◌+◌, ◌≤◌, ◌<◌, ◌↔◌, List, length, get_or, set, replicate, Result, Ok, Err, OnOk, refl, ap, ap₂, sym, subst, ◌∙◌, inl, inr, arith}
 use Rattle.std.specs.Prelude.{IsErrOf, IsErrAnd}
 use Rattle.std.proofs.lemmas.Bool.{cases_order}
 use Rattle.std.proofs.lemmas.List.{length-set}
@@ -13,7 +13,7 @@ use Rattle.shape_buffer.specs.Positions.{zero_position}
 use Rattle.shape_buffer.specs.declared.buffer.error.ShapeError.{ShapeError}
 use Rattle.shape_buffer.specs.declared.buffer.error.ShapeError.TheVariants.{Memory, Length}
 use Rattle.shape_buffer.proofs.Merging.KeyLemmas.{length-merge_clusters, without_items-merge_clusters}
-use Rattle.substitute_rows.specs.Rules.{with_glyph, two_for_one, multiplied, joined, ligated_at, ligated_to}
+use Rattle.substitute_rows.specs.Rules.{with_glyph, two_for_one, multiplied, joined}
 use Rattle.substitute_rows.specs.declared.support.rules.Ligature.{Ligature}
 use Rattle.substitute_rows.specs.declared.support.rules.Multiple.{Multiple}
 
@@ -35,18 +35,6 @@ Made-joined rule i b new made within =
       no_longer = (let P : Buffer → Type 0 = λ x. length x.items ≤ length b.items in subst P (sym made) fewer);
       same_limit = ap limit_of made ∙ ap limit_of (without_items-merge_clusters i (i + 2) b);
     }
-
--- one more place is visited
-pub Made-ligated : (rule : Ligature) (i : ℕ) {old mid new : Buffer} → Made (ligated_to rule i) old mid → Made (ligated_at rule i) mid new
-    → Made (ligated_to rule (suc i)) old new
-Made-ligated rule i {old} {mid} {new} first second = record {
-  made = second.made ∙ ap (ligated_at rule i) first.made;
-  no_longer = omega (arith, first.no_longer, second.no_longer);
-  same_limit = second.same_limit ∙ first.same_limit;
-}
-
-pub Made-alike : {f g : Buffer → Buffer} {old new : Buffer} → Made f old new → f old ≡ g old → Made g old new
-Made-alike made alike = record { made = made.made ∙ alike; no_longer = made.no_longer; same_limit = made.same_limit }
 
 pub Made-same : (f : Buffer → Buffer) (b : Buffer) → f b ≡ b → Made f b b
 Made-same f b same = record { made = sym same; no_longer = omega arith; same_limit = refl }

@@ -1,12 +1,10 @@
 -- The tests of blocking agree: the greatest ccc always, and the last one where the marks rise.
-use Rattle.std.proofs.Common.{◌≡◌, ℕ, ◌<◌, ◌≤◌, Bool, true, false, not, ◌==◌, ◌&&◌, ◌||◌, nat_le, cond, List, [], ◌∷◌, ◌++◌, Option, None, refl, sym, ap, subst, ◌∙◌, arith, inl, inr}
-use Rattle.std.proofs.lemmas.Bool.{cases_Bool}
+use Rattle.std.proofs.Common.{◌≡◌, ℕ, ◌<◌, ◌≤◌, Bool, true, false, not, ◌==◌, ◌&&◌, ◌||◌, nat_le, cond, List, [], ◌∷◌, ◌++◌, Option, None, refl, sym, ap, subst, ◌∙◌, arith}
 use Rattle.std.proofs.lemmas.Bool.Decides.{nat_tests}
 use Rattle.std.specs.List.{AllByRecursion}
 use Rattle.canonical_form.specs.Order.{IsOrdered}
 use Rattle.canonical_form.specs.Recompose.{is_blocked, is_blocked_by_last, last_ccc, is_blocked_by_greatest, composed, recomposed_from, recomposed}
 use Rattle.canonical_form.proofs.Lists.EveryLemmas.{push_all}
-use Rattle.canonical_form.proofs.Lists.OptionLemmas.{cases_Option}
 use Rattle.canonical_form.proofs.Recomposing.RecomposeLemmas.{by_steps, recomposed_from-some, recomposed_from-starter, recomposed_from-mark}
 
 module _ {A : Type 0} (ccc : A → ℕ) where

@@ -23,9 +23,6 @@ pub SomePast-append_right : (steps more : List Step) (b : Buffer) → SomePast m
 SomePast-append_right [] more b past = past
 SomePast-append_right (step ∷ steps) more b past = inr (SomePast-append_right steps more (step.makes b) past)
 
-pub Ran-none : (b : Buffer) → IsWithinLimit b → Ran [] b b
-Ran-none b within = record { made = refl; each_within = tt; within = within; same_limit = refl }
-
 pub Ran-then : {steps more : List Step} {old mid new : Buffer} → Ran steps old mid → Ran more mid new → Ran (steps ++ more) old new
 Ran-then {steps} {more} {old} {mid} {new} first second = record {
   made = second.made ∙ ap (run_steps more) first.made ∙ sym (run_steps-append steps more old);

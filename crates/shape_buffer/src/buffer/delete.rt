@@ -199,12 +199,13 @@ where
     ensures deleted { (picks : Item → Bool)
         → ((x : Item) (b : Bool) → FnReturnsAt F.Fn test x b → b ≡ picks x)
         → (b : Buffer) → b.cluster_level ≡ level
-        → record b { items = infos.new.items; positions = positions.new.items; scratch_flags = scratch_flags.new }
-        ≡ deleted picks (record b {
-          items =
-              infos.old.items;
-          positions =
-              positions.old.items;
+        → record b {
+          items = infos.new.items;
+          positions = positions.new.items;
+          scratch_flags = scratch_flags.new;
+        } ≡ deleted picks (record b {
+          items = infos.old.items;
+          positions = positions.old.items;
           scratch_flags = scratch_flags.old;
         }) }
     ensures as_many { length positions.new.items ≡ length infos.new.items }

@@ -90,7 +90,8 @@ impl hb_glyph_info_t {
     /// `scratch_flags` what the character shows of its text.
     pub fn init_unicode_props<U: hb_unicode_funcs_t>(&mut self, scratch_flags: &mut ScratchFlags)
         ensures item { self.new ≡ with_unicode_props U.unicode self.old }
-        ensures flags { scratch_flags.new ≡ with_scratch_of U.unicode self.old.codepoint scratch_flags.old }
+        ensures flags { scratch_flags.new
+            ≡ with_scratch_of U.unicode self.old.codepoint scratch_flags.old }
     {
         let c = self.codepoint;
         let beyond_ascii = c >= '\u{80}';

@@ -1,11 +1,11 @@
 -- The test of the premises of canonical form tells whether they hold.
-use Rattle.std.proofs.Common.{◌≡◌, ◌↔◌, ℕ, ◌+◌, ◌<◌, ◌≤◌, ◌⊎◌, ◌==◌, ◌&&◌, ◌||◌, nat_lt, not, Bool, if◌then◌else◌, lit≤, true, false, List, [], ◌∷◌, ◌++◌, length, map, Option, None, Some, flat_map, refl, sym, ◌∙◌, ap, ap₂, subst, arith, inl, inr, eqb-true, eq-eqb, ne_eqb, suc, add-one}
+use Rattle.std.proofs.Common.{◌≡◌, ◌↔◌, ℕ, ◌+◌, ◌<◌, ◌≤◌, ◌==◌, ◌&&◌, nat_lt, not, Bool, if◌then◌else◌, lit≤, true, false, List, [], ◌∷◌, ◌++◌, length, map, Option, None, Some, flat_map, refl, sym, ◌∙◌, ap, arith, inl, inr, eqb-true, eq-eqb, ne_eqb, suc, add-one}
 use Rattle.std.proofs.lemmas.Bool.{cases_Bool, both_ways, and_parts, and_from}
 use Rattle.std.proofs.lemmas.Bool.Decides.{nat_tests}
 use Rattle.std.proofs.lemmas.Grind.{flat_map-append}
 use Rattle.std.proofs.lemmas.List.{map-append, append-nil}
 use Rattle.std.proofs.lemmas.List.Elements.{All-from_recursion, recursion_from_All}
-use Rattle.std.specs.List.{All, AllByRecursion, list_all}
+use Rattle.std.specs.List.{AllByRecursion, list_all}
 use Rattle.std.specs.Option.{is_some}
 use Rattle.canonical_form.specs.Chain.{FallsAlong, kept_part, full, full_text}
 use Rattle.canonical_form.specs.Decompositions.{Decompositions}
@@ -13,10 +13,10 @@ use Rattle.canonical_form.specs.Runs.{HasNoLongerRun}
 use Rattle.canonical_form.proofs.Expanding.ChainLemmas.{full-stays, full-splits, kept_part_zero}
 use Rattle.shape_buffer.specs.Buffer.{Buffer}
 use Rattle.shape_buffer.specs.Items.{Item, char_of, ccc_of_item, is_mark_item}
-use Rattle.shape_buffer.specs.Prepared.{IsPrepared, IsPreparedItem}
+use Rattle.shape_buffer.specs.Prepared.{IsPreparedItem}
 use Rattle.shape_buffer.specs.Unicode.{UnicodeMeaning, is_mark}
 use Rattle.shape_plan.specs.Rules.{Rules, decompositions, has_glyph}
-use Rattle.shape_normalize.specs.CanonicalForm.{CanonicalFormPremises, HasLawfulHooks, IsSupported, text_of}
+use Rattle.shape_normalize.specs.CanonicalForm.{CanonicalFormPremises, HasLawfulHooks, text_of}
 use Rattle.shape_normalize.specs.PremiseTest.{row_with, row_before, is_plain_item, is_full_mode, is_supported_text, meets_premises}
 use Rattle.shape_normalize.specs.RoundTwo.{max_run, has_mark_past_first}
 use Rattle.shape_normalize.proofs.Form.NormalFormLemmas.{mark_past_first_char}

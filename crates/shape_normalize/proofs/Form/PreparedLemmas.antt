@@ -8,10 +8,10 @@ use Rattle.shape_buffer.specs.declared.buffer.settings.GlyphId.{GlyphId}
 use Rattle.shape_buffer.specs.Prepared.{IsPreparedItem}
 pub use Rattle.shape_buffer.proofs.PreparedLemmas.{ArePrepared, unmarked_ccc, ccc_with_props, prepared-with_props, PreparedKey, prepared_key, IsKey-prepared_key, IsPreparedKey, chars_of_keys, prepared_keys, prepared_from_keys, prepared_by_keys}
 use Rattle.shape_plan.specs.Rules.{Rules}
-use Rattle.shape_normalize.specs.RoundOne.{part_item, whole_item, expansion_of, pairs_merged, round_one}
+use Rattle.shape_normalize.specs.RoundOne.{part_item, whole_item, expansion_of, variation_sequences_merged, round_one}
 use Rattle.shape_normalize.specs.RoundTwo.{cgj_settled}
 use Rattle.shape_normalize.proofs.RoundTwo.CgjLemmas.{keys-cgj_settled}
-use Rattle.shape_normalize.proofs.RoundOne.RoundOneLemmas.{whole_item_is, expanded_all, keys-pairs_merged}
+use Rattle.shape_normalize.proofs.RoundOne.RoundOneLemmas.{whole_item_is, expanded_all, keys-variation_sequences_merged}
 
 -- showing CGJ keeps a list prepared
 pub prepared-cgj_settled : (unicode : UnicodeMeaning) (b : Buffer) → ArePrepared unicode b.items → ArePrepared unicode (cgj_settled b).items
@@ -44,5 +44,5 @@ module _ (rules : Rules) (lawful : LawfulUnicode rules.unicode) where
       (λ item glyph prepared. record { mark = prepared.mark; ccc = prepared.ccc })
       (λ item glyph prepared. record { mark = prepared.mark; ccc = prepared.ccc })
       (λ short item prepared. prepared-found b.invisible_glyph item (expansion_of rules short item) prepared)
-      (pairs_merged rules b).items
-      (prepared_by_keys rules.unicode b.items (pairs_merged rules b).items (keys-pairs_merged rules prepared_key IsKey-prepared_key b) h)
+      (variation_sequences_merged rules b).items
+      (prepared_by_keys rules.unicode b.items (variation_sequences_merged rules b).items (keys-variation_sequences_merged rules prepared_key IsKey-prepared_key b) h)

@@ -16,9 +16,9 @@ use Rattle.shape_buffer.proofs.Order.DrawsInOrder.{DrawsInOrder, DrawsInOrder-be
 use Rattle.shape_buffer.proofs.Steps.KeeperLemmas.{KeepsClusters-same, KeepsClusters-then}
 use Rattle.shape_buffer.proofs.Merging.KeyLemmas.{length-merge_clusters}
 use Rattle.shape_plan.specs.Rules.{Rules}
-use Rattle.shape_normalize.proofs.RoundOne.SelectorLemmas.{pairs_within}
+use Rattle.shape_normalize.proofs.RoundOne.SelectorLemmas.{variation_sequences_within}
 use Rattle.std.proofs.lemmas.List.Elements.{recursion_from_All}
-use Rattle.shape_normalize.specs.RoundOne.{part_item, whole_item, expansion_of, expanded_item, passed_item, marked_selector, variant_items, variants, is_selector_item, is_selector_sequence, is_with_marks, pairs_from, merged_at, pairs_merged, sequences, sequence_items, expanded, round_one}
+use Rattle.shape_normalize.specs.RoundOne.{part_item, whole_item, expansion_of, expanded_item, passed_item, marked_selector, variant_items, variants, is_selector_item, is_selector_sequence, is_with_marks, variation_sequences_from, merged_at, variation_sequences_merged, sequences, sequence_items, expanded, round_one}
 use Rattle.shape_normalize.specs.RoundTwo.{cgj_settled}
 use Rattle.shape_normalize.specs.Normalized.{normalized, HookKeepsClusters}
 use Rattle.shape_normalize.proofs.RoundOne.DrawnLemmas.{DrawsBefore, DrawsBefore-same, draws_whole, draws_pieces}
@@ -104,7 +104,7 @@ module _ (rules : Rules) where
       (rw (← values-divided is_mark_item (λ (item : Item). item.cluster) items)
       (draws_pieces (sequence_items rules invisible not_found) clusters (draws_sequence invisible not_found) (sequences items)))
 
--- ---- round one: the pairs that are merged
+-- ---- round one: the variation sequences that are merged
 
 module _ (rules : Rules) where
   merged_at_keeps : (n : ℕ) (places : List ℕ) (b : Buffer) → length b.items ≡ n → AllByRecursion (λ place. place + 2 ≤ n) places
@@ -115,16 +115,16 @@ module _ (rules : Rules) where
       let first = merged_keeps place (place + 2) b merged (omega (arith, within.0)) refl in
       KeepsClusters-then _ _ _ first.0 (merged_at_keeps n places merged (length-merge_clusters place (place + 2) b ∙ as_many) within.1)
 
-  pairs_merged_keeps : (b : Buffer) → KeepsClusters (clusters b.items) (clusters (pairs_merged rules b).items)
-  pairs_merged_keeps b =
-      merged_at_keeps (length b.items) (pairs_from rules.unicode rules.face 0 (sequences b.items)) b refl
-      (recursion_from_All (λ place. place + 2 ≤ length b.items) _ (pairs_within rules.unicode rules.face b.items))
+  variation_sequences_merged_keeps : (b : Buffer) → KeepsClusters (clusters b.items) (clusters (variation_sequences_merged rules b).items)
+  variation_sequences_merged_keeps b =
+      merged_at_keeps (length b.items) (variation_sequences_from rules.unicode rules.face 0 (sequences b.items)) b refl
+      (recursion_from_All (λ place. place + 2 ≤ length b.items) _ (variation_sequences_within rules.unicode rules.face b.items))
 
   -- expanding keeps the order of clusters
   pub round_one_keeps : (b : Buffer) → KeepsClusters (clusters b.items) (clusters (round_one rules b).items)
   round_one_keeps b =
-      KeepsClusters-then _ _ _ (pairs_merged_keeps b) (KeepsClusters-from_draws _ _
-      (expanded_draws rules b.invisible_glyph b.not_found_variation_selector_glyph (pairs_merged rules b).items))
+      KeepsClusters-then _ _ _ (variation_sequences_merged_keeps b) (KeepsClusters-from_draws _ _
+      (expanded_draws rules b.invisible_glyph b.not_found_variation_selector_glyph (variation_sequences_merged rules b).items))
 
 -- ---- the rounds together
 

@@ -10,7 +10,7 @@ use Rattle.shape_buffer.specs.Items.{Item}
 use Rattle.shape_buffer.specs.declared.buffer.settings.GlyphId.{GlyphId}
 use Rattle.shape_buffer.proofs.Merging.KeyLemmas.{IsKey, keys-merge_out}
 use Rattle.shape_normalize.specs.Normalized.{normalized, features_of, KeepsFeatures}
-use Rattle.shape_normalize.specs.RoundOne.{part_item, whole_item, expansion_of, pairs_merged, round_one}
+use Rattle.shape_normalize.specs.RoundOne.{part_item, whole_item, expansion_of, variation_sequences_merged, round_one}
 use Rattle.shape_normalize.specs.RoundThree.{Placed, recomposed_items, absorbed_spans, spans_merged_out, with_cluster_at, round_three}
 use Rattle.shape_normalize.specs.RoundTwo.{marks_ordered, cgj_settled}
 use Rattle.shape_plan.specs.Rules.{Rules}
@@ -18,7 +18,7 @@ use Rattle.shape_normalize.proofs.RoundTwo.CgjLemmas.{keys-cgj_settled}
 use Rattle.shape_normalize.proofs.Normalized.NormalizedLemmas.{kept_by_rounds}
 use Rattle.shape_normalize.proofs.RoundThree.RecomposedItemLemmas.{each_recomposed}
 use Rattle.shape_normalize.proofs.Hooks.ReorderLemmas.{LawfulReorder}
-use Rattle.shape_normalize.proofs.RoundOne.RoundOneLemmas.{keys-pairs_merged, whole_item_is, expanded_all}
+use Rattle.shape_normalize.proofs.RoundOne.RoundOneLemmas.{keys-variation_sequences_merged, whole_item_is, expanded_all}
 use Rattle.shape_normalize.proofs.RoundOne.SequenceLemmas.{each_of_values, each_value}
 use Rattle.shape_normalize.proofs.RoundTwo.SettleLemmas.{keys-marks_ordered}
 
@@ -59,11 +59,11 @@ module _ (rules : Rules) (P : ℕ → Type 0) where
 
   round_one_has : (b : Buffer) → Has b.items → Has (round_one rules b).items
   round_one_has b each =
-      let merged = (pairs_merged rules b).items in
+      let merged = (variation_sequences_merged rules b).items in
       expanded_all rules b.invisible_glyph b.not_found_variation_selector_glyph (λ item. P (features_of item))
       (λ item. P (features_of item))
       (λ item glyph h. h) (λ item glyph h. h) (λ short item h. found_have b.invisible_glyph item h (expansion_of rules short item))
-      merged (has_same b.items merged (keys-pairs_merged rules features_of IsKey-features b) each)
+      merged (has_same b.items merged (keys-variation_sequences_merged rules features_of IsKey-features b) each)
 
   -- ---- round three
 

@@ -13,13 +13,13 @@ use Rattle.shape_buffer.specs.declared.buffer.settings.GlyphId.{GlyphId}
 use Rattle.shape_buffer.proofs.Merging.ClusterLemmas.{unsafe_to_break-cases, merge_clusters-cases}
 use Rattle.shape_buffer.proofs.Merging.KeyLemmas.{IsKey}
 use Rattle.shape_normalize.specs.Normalized.{ordered, normalized, has_seen_cgj, hidden_char, KeepsHidden}
-use Rattle.shape_normalize.specs.RoundOne.{part_item, whole_item, expansion_of, pairs_merged, round_one}
+use Rattle.shape_normalize.specs.RoundOne.{part_item, whole_item, expansion_of, variation_sequences_merged, round_one}
 use Rattle.shape_normalize.specs.RoundThree.{round_three}
 use Rattle.shape_normalize.specs.RoundTwo.{spans, run_cccs, run_settled, marks_ordered, has_mark_past_first, cgj_shown, cgj_settled}
 use Rattle.shape_plan.specs.Rules.{Rules}
 use Rattle.shape_normalize.proofs.RoundThree.RecomposedItemLemmas.{round_three_all}
 use Rattle.shape_normalize.proofs.Hooks.ReorderLemmas.{LawfulReorder, kept_by_steps}
-use Rattle.shape_normalize.proofs.RoundOne.RoundOneLemmas.{keys-pairs_merged, whole_item_is, expanded_all}
+use Rattle.shape_normalize.proofs.RoundOne.RoundOneLemmas.{keys-variation_sequences_merged, whole_item_is, expanded_all}
 use Rattle.shape_normalize.proofs.RoundOne.SequenceLemmas.{each_of_values, each_value}
 use Rattle.shape_normalize.proofs.RoundTwo.RunMarkLemmas.{AreMarks}
 use Rattle.shape_normalize.proofs.RoundTwo.SettleLemmas.{run_placed, run_placed-in_order, length-run_placed, settled_cases, Reorders-run_reordered, kept_by_marks_ordered, keys-marks_ordered}
@@ -89,8 +89,8 @@ module _ (rules : Rules) (those : List (ℕ × Bool)) where
 
   round_one_hides : (b : Buffer) → AllByRecursion (Contains those) (map hidden_char b.items) → EachHides (round_one rules b).items
   round_one_hides b each =
-      let merged = (pairs_merged rules b).items in
-      let of_merged = subst (AllByRecursion (Contains those)) (sym (keys-pairs_merged rules hidden_char IsKey-hidden_char b)) each in
+      let merged = (variation_sequences_merged rules b).items in
+      let of_merged = subst (AllByRecursion (Contains those)) (sym (keys-variation_sequences_merged rules hidden_char IsKey-hidden_char b)) each in
       expanded_all rules b.invisible_glyph b.not_found_variation_selector_glyph (λ item. Contains those (hidden_char item))
       (λ item. Hides (hidden_char item))
       (λ item glyph h. inr h) (λ item glyph h. inr h) (λ short item h. found_hide b.invisible_glyph item h (expansion_of rules short item))

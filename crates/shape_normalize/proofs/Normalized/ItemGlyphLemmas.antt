@@ -12,7 +12,7 @@ use Rattle.shape_buffer.specs.declared.buffer.settings.GlyphId.{GlyphId}
 use Rattle.canonical_form.proofs.Expanding.ChoiceLemmas.{chosen_glyphs}
 use Rattle.canonical_form.proofs.Lists.EveryLemmas.{append_all}
 use Rattle.shape_plan.specs.Rules.{Rules, decompositions, has_glyph}
-use Rattle.shape_normalize.specs.RoundOne.{item_glyph, remembers_space, part_item, whole_item, expanded_item, expansion_of, sequences, is_selector_sequence, is_with_marks, pairs_merged, sequence_items, round_one}
+use Rattle.shape_normalize.specs.RoundOne.{item_glyph, remembers_space, part_item, whole_item, expanded_item, expansion_of, sequences, is_selector_sequence, is_with_marks, variation_sequences_merged, sequence_items, round_one}
 use Rattle.shape_normalize.specs.Normalized.{normalized, content, selector_items, HasItemGlyph}
 use Rattle.shape_normalize.proofs.Normalized.NormalizedLemmas.{normalized_all}
 use Rattle.shape_normalize.proofs.Hooks.ReorderLemmas.{LawfulReorder}
@@ -95,7 +95,7 @@ module _ (rules : Rules) where
   -- an item of the expanded list has its glyph, or is one of those that sequences with a selector become
   round_one_has_glyphs : (b : Buffer) → AllByRecursion (HasItemGlyph rules b) (round_one rules b).items
   round_one_has_glyphs b =
-      let merged = (pairs_merged rules b).items in
+      let merged = (variation_sequences_merged rules b).items in
       let become = sequence_items rules b.invisible_glyph b.not_found_variation_selector_glyph in
       let those : List Item = map (content rules) (selector_items rules b) in
       let themselves : AllByRecursion (λ item. Contains those (content rules item)) (selector_items rules b) =

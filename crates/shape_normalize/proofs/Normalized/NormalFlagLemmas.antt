@@ -21,7 +21,7 @@ use Rattle.canonical_form.proofs.Ordering.OrderLemmas.{Swaps-in_order}
 use Rattle.canonical_form.proofs.Ordering.SwapLemmas.{all-swaps}
 use Rattle.shape_normalize.specs.Normalized.{normalized}
 use Rattle.shape_plan.specs.Reorder.{exchanged, ccc_set, Reorders}
-use Rattle.shape_normalize.specs.RoundOne.{part_item, whole_item, expansion_of, pairs_merged, pairs_from, merged_at, sequences, round_one, remembers_space, seen_chars, seen_expanded, seen_variant, seen_sequence, variants, is_selector_sequence, is_with_marks, with_space_fallback, with_selector_fallback}
+use Rattle.shape_normalize.specs.RoundOne.{part_item, whole_item, expansion_of, variation_sequences_merged, variation_sequences_from, merged_at, sequences, round_one, remembers_space, seen_chars, seen_expanded, seen_variant, seen_sequence, variants, is_selector_sequence, is_with_marks, with_space_fallback, with_selector_fallback}
 use Rattle.shape_normalize.specs.RoundThree.{Placed, recomposed_items, absorbed_spans, spans_merged_out, with_cluster_at, round_three, composed_chars}
 use Rattle.shape_normalize.specs.RoundTwo.{spans, run_cccs, spans_merged, run_in_order, run_reordered, run_settled, marks_ordered, cgj_settled, cgj_shown}
 use Rattle.shape_plan.specs.Rules.{Rules}
@@ -171,8 +171,8 @@ module _ (rules : Rules) (flag : ℕ) where
 
 flags-round_one : (rules : Rules) (b : Buffer) → KeepsFlags b (round_one rules b)
 flags-round_one rules b =
-    let merged = pairs_merged rules b in
-    KeepsFlags-then b merged (round_one rules b) (flags-merged_at (pairs_from rules.unicode rules.face 0 (sequences b.items)) b)
+    let merged = variation_sequences_merged rules b in
+    KeepsFlags-then b merged (round_one rules b) (flags-merged_at (variation_sequences_from rules.unicode rules.face 0 (sequences b.items)) b)
     (KeepsFlags-bare merged (round_one rules b) refl
     (seen-fold (seen_sequence rules b.invisible_glyph) (seen-sequence rules b.invisible_glyph)
     (sequences merged.items) merged.scratch_flags)

@@ -2,7 +2,7 @@
 use Rattle.std.proofs.Common.{◌≡◌, ◌≤◌, ◌==◌, Bool, true, false, [], if◌then◌else◌, length, bit_and, refl, ap, ◌∙◌, arith}
 use Rattle.shape_buffer.specs.Buffer.{Buffer, limit_of}
 use Rattle.shape_plan.specs.Rules.{Rules}
-use Rattle.shape_normalize.specs.RoundOne.{sequences, pairs_from, round_one}
+use Rattle.shape_normalize.specs.RoundOne.{sequences, variation_sequences_from, round_one}
 use Rattle.shape_normalize.specs.RoundThree.{absorbed_spans, recomposed_items}
 use Rattle.shape_normalize.specs.RoundTwo.{marks_ordered, cgj_settled, cgj_shown, has_mark_past_first}
 use Rattle.shape_normalize.specs.Normalized.{normalized, ordered}
@@ -17,11 +17,11 @@ use Rattle.shape_normalize.proofs.RoundTwo.SettleLemmas.{without_items-marks_ord
 module _ (rules : Rules) (b : Buffer) where
   pub level-round_one : (round_one rules b).cluster_level ≡ b.cluster_level
   level-round_one =
-      ap (λ (c : Buffer). c.cluster_level) (without_items-merged_at b (pairs_from rules.unicode rules.face 0 (sequences b.items)))
+      ap (λ (c : Buffer). c.cluster_level) (without_items-merged_at b (variation_sequences_from rules.unicode rules.face 0 (sequences b.items)))
 
   limit-round_one : (round_one rules b).length_limit ≡ b.length_limit
   limit-round_one =
-      ap (λ (c : Buffer). c.length_limit) (without_items-merged_at b (pairs_from rules.unicode rules.face 0 (sequences b.items)))
+      ap (λ (c : Buffer). c.length_limit) (without_items-merged_at b (variation_sequences_from rules.unicode rules.face 0 (sequences b.items)))
 
 -- ---- the ordered list
 
@@ -65,4 +65,4 @@ settings-normalized rules lawful b =
     (λ so_far. ap settings_of (without_items-marks_ordered rules.reorder lawful one) ∙ so_far)
     (λ c so_far. settings-cgj c ∙ so_far)
     (λ c so_far. ap settings_of (spans_merged_out_is (absorbed_spans (recomposed_items rules c.items)) c) ∙ so_far)
-    (ap settings_of (without_items-merged_at b (pairs_from rules.unicode rules.face 0 (sequences b.items))))
+    (ap settings_of (without_items-merged_at b (variation_sequences_from rules.unicode rules.face 0 (sequences b.items))))

@@ -14,9 +14,9 @@ use Rattle.shape_plan.specs.Rules.{Rules, decompositions, has_glyph}
 use Rattle.shape_normalize.specs.Normalized.{features_of, hidden_char}
 use Rattle.shape_normalize.specs.Origins.{item_at, Origin, origin_at, origins_from, variant_origins, expansion_origins, origins_of_parts, sequence_origins, origins, HasOfOrigin}
 use Rattle.shape_normalize.specs.Reordered.{unmerged}
-use Rattle.shape_normalize.specs.RoundOne.{passed_item, part_item, whole_item, expanded_item, expansion_of, is_selector_item, is_selector_sequence, is_with_marks, marked_selector, variant_items, variants, sequences, sequence_items, pairs_merged, round_one}
+use Rattle.shape_normalize.specs.RoundOne.{passed_item, part_item, whole_item, expanded_item, expansion_of, is_selector_item, is_selector_sequence, is_with_marks, marked_selector, variant_items, variants, sequences, sequence_items, variation_sequences_merged, round_one}
 use Rattle.shape_normalize.proofs.Normalized.ItemGlyphLemmas.{part_has_glyph, whole_has_glyph}
-use Rattle.shape_normalize.proofs.RoundOne.RoundOneLemmas.{keys-pairs_merged, whole_item_is}
+use Rattle.shape_normalize.proofs.RoundOne.RoundOneLemmas.{keys-variation_sequences_merged, whole_item_is}
 
 -- ---- what holds of each item by its place
 
@@ -213,9 +213,9 @@ module _ (rules : Rules) (text : Buffer) where
   -- each item of the expanded list has what is promised of the item at its origin's place
   pub expanded_by_place : AllZip Has (origins rules text) (round_one rules text).items
   expanded_by_place =
-      let merged = (pairs_merged rules text).items in
+      let merged = (variation_sequences_merged rules text).items in
       let not_found = text.not_found_variation_selector_glyph in
       parts_zip Stood Has (sequence_origins rules text.invisible_glyph) (sequence_items rules text.invisible_glyph not_found)
       (sequence_zip not_found) 0 (sequences merged)
       (each_part_at Stood is_mark_item 0 merged
-      (same_at unmerged merged text.items (keys-pairs_merged rules unmerged IsKey-unflagged text)))
+      (same_at unmerged merged text.items (keys-variation_sequences_merged rules unmerged IsKey-unflagged text)))

@@ -20,11 +20,11 @@ places_worked = record {
   parts = refl;
   whole = refl;
   in_sequence = refl;
-  pair = refl;
-  no_pair = refl;
+  variation_sequence = refl;
+  no_variation_sequence = refl;
   second_selector = refl;
-  behind_pair = refl;
-  before_pair = refl;
+  behind_variation_sequence = refl;
+  before_variation_sequence = refl;
   lone_selector = refl;
 }
 

@@ -17,17 +17,17 @@ use Rattle.shape_buffer.specs.Unicode.{is_mark}
 use Rattle.shape_buffer.specs.declared.buffer.settings.GlyphId.{GlyphId}
 use Rattle.shape_normalize.specs.Normalized.{BroughtInHaveGlyphs}
 use Rattle.shape_buffer.specs.Prepared.{IsPreparedItem}
-use Rattle.shape_normalize.specs.RoundOne.{item_glyph, passed_item, part_item, whole_item, remembers_space, expanded_item, expanded, expansion_of, is_selector_item, is_selector_sequence, is_with_marks, marked_selector, variant_items, variants, sequences, sequence_items, pairs_from, merged_at, pairs_merged, round_one}
+use Rattle.shape_normalize.specs.RoundOne.{item_glyph, passed_item, part_item, whole_item, remembers_space, expanded_item, expanded, expansion_of, is_selector_item, is_selector_sequence, is_with_marks, marked_selector, variant_items, variants, sequences, sequence_items, variation_sequences_from, merged_at, variation_sequences_merged, round_one}
 use Rattle.shape_plan.specs.Rules.{Rules, decompositions, has_glyph}
 use Rattle.shape_normalize.proofs.RoundOne.SelectorLemmas.{keys-merged_at}
 use Rattle.shape_normalize.proofs.RoundOne.SequenceLemmas.{each_part, each_of_values, each_value, each_weaker, flat_map_all, flat_map_same, flat_map_parts_all, sequence_becomes, sequences-expanded}
 
--- ---- merging the pairs
+-- ---- merging variation sequences
 
 module _ (rules : Rules) where
   -- what goes by neither clusters nor the defined flags stays
-  pub keys-pairs_merged : {B : Type 0} (key : Item → B) → IsKey key → (b : Buffer) → map key (pairs_merged rules b).items ≡ map key b.items
-  keys-pairs_merged key is_key b = keys-merged_at key is_key b (pairs_from rules.unicode rules.face 0 (sequences b.items))
+  pub keys-variation_sequences_merged : {B : Type 0} (key : Item → B) → IsKey key → (b : Buffer) → map key (variation_sequences_merged rules b).items ≡ map key b.items
+  keys-variation_sequences_merged key is_key b = keys-merged_at key is_key b (variation_sequences_from rules.unicode rules.face 0 (sequences b.items))
 
 -- ---- what an item becomes
 
@@ -134,12 +134,12 @@ pub round_one_brings_in : (rules : Rules) (b : Buffer)
     → BroughtInHaveGlyphs rules.face.nominal_glyph (map char_of b.items) (map char_of (round_one rules b).items)
 round_one_brings_in rules b =
     let among : List ℕ = map char_of b.items in
-    let each : AllByRecursion (Contains among) (map char_of (pairs_merged rules b).items) =
-    subst (AllByRecursion (Contains among)) (sym (keys-pairs_merged rules char_of
+    let each : AllByRecursion (Contains among) (map char_of (variation_sequences_merged rules b).items) =
+    subst (AllByRecursion (Contains among)) (sym (keys-variation_sequences_merged rules char_of
     (record { by_cluster = λ item cluster. refl; by_break = λ item. refl }) b))
     (recursion_from_All (Contains among) among (All-contains_itself among)) in
     All-from_recursion (IsBroughtIn rules among) (map char_of (round_one rules b).items)
-    (expanded_brings_in rules among b.invisible_glyph b.not_found_variation_selector_glyph (pairs_merged rules b).items each)
+    (expanded_brings_in rules among b.invisible_glyph b.not_found_variation_selector_glyph (variation_sequences_merged rules b).items each)
 
 -- ---- texts without variation selectors
 
@@ -154,18 +154,18 @@ module _ (rules : Rules) where
       (list_any_none (is_selector_item rules.unicode) sequence
       (All-from_recursion (λ item. is_selector_item rules.unicode item ≡ false) sequence none))
 
-  pairs_from-none : (place : ℕ) (parts : List (List Item)) → AllByRecursion HasNoSelectorItem parts
-      → pairs_from rules.unicode rules.face place parts ≡ []
-  pairs_from-none place [] none = refl
-  pairs_from-none place (sequence ∷ parts) none =
-      cond-false _ _ _ (is_selector_sequence-none sequence none.0) ∙ pairs_from-none (place + length sequence) parts none.1
+  variation_sequences_from-none : (place : ℕ) (parts : List (List Item)) → AllByRecursion HasNoSelectorItem parts
+      → variation_sequences_from rules.unicode rules.face place parts ≡ []
+  variation_sequences_from-none place [] none = refl
+  variation_sequences_from-none place (sequence ∷ parts) none =
+      cond-false _ _ _ (is_selector_sequence-none sequence none.0) ∙ variation_sequences_from-none (place + length sequence) parts none.1
 
   none_by_sequences : (items : List Item) → HasNoSelectorItem items → AllByRecursion HasNoSelectorItem (sequences items)
   none_by_sequences items none = each_part is_mark_item (λ item. is_selector_item rules.unicode item ≡ false) items none
 
   -- nothing is merged
-  pub pairs_merged-none : (b : Buffer) → HasNoSelectorItem b.items → pairs_merged rules b ≡ b
-  pairs_merged-none b none = ap (merged_at b) (pairs_from-none 0 (sequences b.items) (none_by_sequences b.items none))
+  pub variation_sequences_merged-none : (b : Buffer) → HasNoSelectorItem b.items → variation_sequences_merged rules b ≡ b
+  variation_sequences_merged-none b none = ap (merged_at b) (variation_sequences_from-none 0 (sequences b.items) (none_by_sequences b.items none))
 
   -- what an item becomes by whether it stands in a sequence with marks
   abbrev pub item_becomes : Option GlyphId → Bool → Item → List Item
@@ -187,7 +187,7 @@ module _ (rules : Rules) where
       (is_mark rules.unicode) rules.short (map char_of b.items)
   chars-round_one b prepared none =
       ap (λ (merged : Buffer). map char_of (expanded rules b.invisible_glyph b.not_found_variation_selector_glyph merged.items))
-      (pairs_merged-none b none)
+      (variation_sequences_merged-none b none)
       ∙ ap (map char_of) (expanded-no_selector b.invisible_glyph b.not_found_variation_selector_glyph b.items none)
       ∙ expanded-map (IsPreparedItem rules.unicode) char_of char_of is_mark_item (is_mark rules.unicode) (item_becomes b.invisible_glyph)
       (λ with_marks. choice (decompositions rules) (has_glyph rules.face.nominal_glyph) (rules.short with_marks))

@@ -14,7 +14,7 @@ use Rattle.shape_buffer.specs.declared.buffer.flags.ScratchFlags.{ScratchFlags}
 use Rattle.canonical_form.proofs.Lists.DividedLemmas.{lengths-divided}
 use Rattle.shape_buffer.proofs.Merging.KeyLemmas.{IsKey, keys-merge_clusters, without_items, without_items-merge_clusters}
 use Rattle.shape_plan.specs.Rules.{Rules}
-use Rattle.shape_normalize.specs.RoundOne.{is_with_marks, is_selector_item, is_selector_sequence, variants, sequences, pair_glyph, pair_places, pairs_from, merged_at, pairs_merged, expanded, seen_sequence, round_one}
+use Rattle.shape_normalize.specs.RoundOne.{is_with_marks, is_selector_item, is_selector_sequence, variants, sequences, variation_sequence_glyph, variation_sequence_places, variation_sequences_from, merged_at, variation_sequences_merged, expanded, seen_sequence, round_one}
 
 -- a sequence has marks where it has more than one item
 pub is_with_marks-length : (sequence : List Item) → is_with_marks sequence ≡ nat_lt 1 (length sequence)
@@ -28,12 +28,12 @@ is_with_marks-length (x ∷ y ∷ rest) = search rules
 abbrev IsPairBelow : ℕ → ℕ → Type 0
 IsPairBelow end place = place + 2 ≤ end
 
-pairs_below_further : (end further : ℕ) → end ≤ further → (places : List ℕ) → All (IsPairBelow end) places
+variation_sequences_below_further : (end further : ℕ) → end ≤ further → (places : List ℕ) → All (IsPairBelow end) places
     → All (IsPairBelow further) places
-pairs_below_further end further le places = All-weaker (IsPairBelow end) (IsPairBelow further) (λ place below. omega arith) places
+variation_sequences_below_further end further le places = All-weaker (IsPairBelow end) (IsPairBelow further) (λ place below. omega arith) places
 
 one_more_below : (face : FaceMeaning) (place end : ℕ) (part : List Item) (more : List ℕ) → place + length part ≤ end
-    → All (IsPairBelow end) more → All (IsPairBelow end) (if is_some (pair_glyph face part) then place ∷ more else more)
+    → All (IsPairBelow end) more → All (IsPairBelow end) (if is_some (variation_sequence_glyph face part) then place ∷ more else more)
 one_more_below face place end [] more le below = below
 one_more_below face place end (x ∷ []) more le below = below
 one_more_below face place end (x ∷ v ∷ rest) more le below =
@@ -42,39 +42,39 @@ one_more_below face place end (x ∷ v ∷ rest) more le below =
       | false ↦ below
     ]
 
-pair_places-within : (face : FaceMeaning) (place : ℕ) (parts : List (List Item))
-    → All (IsPairBelow (place + sum_by length parts)) (pair_places face place parts)
-pair_places-within face place [] = All-nil (IsPairBelow (place + 0))
-pair_places-within face place (part ∷ parts) =
+variation_sequence_places-within : (face : FaceMeaning) (place : ℕ) (parts : List (List Item))
+    → All (IsPairBelow (place + sum_by length parts)) (variation_sequence_places face place parts)
+variation_sequence_places-within face place [] = All-nil (IsPairBelow (place + 0))
+variation_sequence_places-within face place (part ∷ parts) =
     let all = sum_by-cons length part parts in
     let end = place + sum_by length (part ∷ parts) in
-    let more = pair_places face (place + length part) parts in
+    let more = variation_sequence_places face (place + length part) parts in
     one_more_below face place end part more (omega (arith, all))
-    (pairs_below_further _ end (omega (arith, all)) more (pair_places-within face (place + length part) parts))
+    (variation_sequences_below_further _ end (omega (arith, all)) more (variation_sequence_places-within face (place + length part) parts))
 
-pairs_from-within : (unicode : UnicodeMeaning) (face : FaceMeaning) (place : ℕ) (parts : List (List Item))
-    → All (IsPairBelow (place + sum_by length parts)) (pairs_from unicode face place parts)
-pairs_from-within unicode face place [] = All-nil (IsPairBelow (place + 0))
-pairs_from-within unicode face place (sequence ∷ rest) =
+variation_sequences_from-within : (unicode : UnicodeMeaning) (face : FaceMeaning) (place : ℕ) (parts : List (List Item))
+    → All (IsPairBelow (place + sum_by length parts)) (variation_sequences_from unicode face place parts)
+variation_sequences_from-within unicode face place [] = All-nil (IsPairBelow (place + 0))
+variation_sequences_from-within unicode face place (sequence ∷ rest) =
     let all = sum_by-cons length sequence rest in
-    let more = pairs_from unicode face (place + length sequence) rest in
-    let here = pair_places face place (variants unicode sequence) in
+    let more = variation_sequences_from unicode face (place + length sequence) rest in
+    let here = variation_sequence_places face place (variants unicode sequence) in
     let end = place + sum_by length (sequence ∷ rest) in
     let as_long : sum_by length (variants unicode sequence) ≡ length sequence = lengths-divided (is_selector_item unicode) sequence in
-    let later : All (IsPairBelow end) more = pairs_below_further _ end (omega (arith, all)) more
-    (pairs_from-within unicode face (place + length sequence) rest) in
+    let later : All (IsPairBelow end) more = variation_sequences_below_further _ end (omega (arith, all)) more
+    (variation_sequences_from-within unicode face (place + length sequence) rest) in
     elim (is_selector_sequence unicode sequence) as (λ t. All (IsPairBelow end) (if t then here ++ more else more)) [
-      | true ↦ All-append (IsPairBelow end) here more (pairs_below_further _ end (omega (arith, all, as_long)) here
-          (pair_places-within face place (variants unicode sequence))) later
+      | true ↦ All-append (IsPairBelow end) here more (variation_sequences_below_further _ end (omega (arith, all, as_long)) here
+          (variation_sequence_places-within face place (variants unicode sequence))) later
       | false ↦ later
     ]
 
--- each pair lies in the list
-pub pairs_within : (unicode : UnicodeMeaning) (face : FaceMeaning) (items : List Item)
-    → All (λ place. place + 2 ≤ length items) (pairs_from unicode face 0 (sequences items))
-pairs_within unicode face items =
-    pairs_below_further _ (length items) (omega (arith, lengths-divided is_mark_item items)) _
-    (pairs_from-within unicode face 0 (sequences items))
+-- each variation sequence lies in the list
+pub variation_sequences_within : (unicode : UnicodeMeaning) (face : FaceMeaning) (items : List Item)
+    → All (λ place. place + 2 ≤ length items) (variation_sequences_from unicode face 0 (sequences items))
+variation_sequences_within unicode face items =
+    variation_sequences_below_further _ (length items) (omega (arith, lengths-divided is_mark_item items)) _
+    (variation_sequences_from-within unicode face 0 (sequences items))
 
 -- ---- merging them
 
@@ -98,9 +98,9 @@ length-merged_at b places =
 
 -- ---- round one
 
-module _ (rules : Rules) (b merged : Buffer) (is_merged : merged ≡ pairs_merged rules b) where
+module _ (rules : Rules) (b merged : Buffer) (is_merged : merged ≡ variation_sequences_merged rules b) where
   settings : without_items merged ≡ without_items b
-  settings = ap without_items is_merged ∙ without_items-merged_at b (pairs_from rules.unicode rules.face 0 (sequences b.items))
+  settings = ap without_items is_merged ∙ without_items-merged_at b (variation_sequences_from rules.unicode rules.face 0 (sequences b.items))
 
   -- merging keeps the limit, and what clearing keeps
   pub limit-merged : limit_of merged ≡ limit_of b
@@ -135,5 +135,5 @@ module _ (rules : Rules) (b merged : Buffer) (is_merged : merged ≡ pairs_merge
       → record merged { items = items; positions = replicate (length items) zero_position; scratch_flags = flags } ≡ round_one rules b
   round_one-from_merged items flags items_are flags_are =
       ap (λ (m : Buffer). record m { items = items; positions = replicate (length items) zero_position; scratch_flags = flags }) is_merged
-      ∙ ap₂ (λ xs f. record (pairs_merged rules b) { items = xs; positions = replicate (length xs) zero_position; scratch_flags = f })
+      ∙ ap₂ (λ xs f. record (variation_sequences_merged rules b) { items = xs; positions = replicate (length xs) zero_position; scratch_flags = f })
       (items_are ∙ items-round_one) (flags_are ∙ flags-round_one)

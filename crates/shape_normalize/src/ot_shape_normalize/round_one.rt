@@ -12,16 +12,16 @@ ghost use Rattle.shape_normalize.specs.RoundOne.{expanded, expanded_item, round_
 ghost use Rattle.shape_normalize.specs.RoundOne.{seen_sequence, sequence_items, sequences};
 
 mod expanded;
-mod pairs;
 mod selectors;
 mod sequences;
+mod variation_sequences;
 
 use crate::ot_shape_normalize::mode::goes_short;
 use crate::ot_shape_normalize::round_one::expanded::Expanded;
-use crate::ot_shape_normalize::round_one::pairs::merge_pairs;
 use crate::ot_shape_normalize::round_one::sequences::{
     first_sequence, is_selector_sequence, is_with_marks,
 };
+use crate::ot_shape_normalize::round_one::variation_sequences::merge_variation_sequences;
 pub(crate) use expanded::part_of;
 use shape_buffer::buffer::{ShapeError, hb_buffer_t, hb_glyph_info_t};
 use shape_buffer::interfaces::{hb_font_t, hb_ot_layout_t, hb_unicode_funcs_t};
@@ -158,7 +158,7 @@ where
         (⟦<S as Runs<U, F, M>>⟧.rules plan.now face.now) buffer.old).items }
     ensures settings { cleared buffer.new ≡ cleared buffer.old }
 {
-    merge_pairs::<U, F>(alloc, face, buffer)?;
+    merge_variation_sequences::<U, F>(alloc, face, buffer)?;
     let expanded = expand_all::<U, F, M, S>(alloc, plan, face, buffer)?;
     let scratch_flags = expanded.scratch_flags;
     buffer.replace_infos(expanded.infos)?;

@@ -52,7 +52,7 @@ fn mark_selector(info: &mut hb_glyph_info_t, not_found: Option<GlyphId>)
 
 impl Expanded {
     /// Puts out an item that became one with its selector, and those behind them.
-    fn put_pair<F: hb_font_t>(
+    fn put_variation_sequence<F: hb_font_t>(
         &mut self,
         face: &F,
         info: &hb_glyph_info_t,
@@ -64,9 +64,9 @@ impl Expanded {
             ∷ map (passed_item (F.face face.now).nominal_glyph) rest.now) }
         ensures flags { self.new.scratch_flags ≡ self.old.scratch_flags }
     {
-        let mut pair = *info;
-        pair.glyph_index = glyph.0;
-        self.infos.push(pair)?;
+        let mut one = *info;
+        one.glyph_index = glyph.0;
+        self.infos.push(one)?;
         push_passed(&mut self.infos, face, rest)?;
         Ok(())
     }
@@ -123,12 +123,12 @@ impl Expanded {
             push_passed(&mut self.infos, face, part)?;
             return Ok(());
         };
-        let pair = face.glyph_variation_index(info.codepoint, selector.codepoint);
-        if room < part.len() - usize::from(pair.is_some()) {
+        let glyph = face.glyph_variation_index(info.codepoint, selector.codepoint);
+        if room < part.len() - usize::from(glyph.is_some()) {
             return Err(ShapeError::Length);
         }
-        match pair {
-            Some(glyph) => self.put_pair(face, info, glyph, rest)?,
+        match glyph {
+            Some(glyph) => self.put_variation_sequence(face, info, glyph, rest)?,
             None => self.put_apart(face, info, selector, rest, not_found)?,
         }
         Ok(())

@@ -1,7 +1,7 @@
-use Rattle.std.proofs.Common.{◌≡◌, ℕ, [], length, map, Option, Some, sym, ap, ◌∙◌, arith}
+use Rattle.std.proofs.Common.{map, sym, ap, ◌∙◌}
 use Rattle.std.specs.Option.{is_some}
-use Rattle.canonical_form.specs.Chain.{full, full_text}
-use Rattle.shape_buffer.specs.Items.{Item, char_of}
+use Rattle.canonical_form.specs.Chain.{full_text}
+use Rattle.shape_buffer.specs.Items.{char_of}
 use Rattle.shape_plan.specs.Rules.{rules_of, decompositions, has_glyph}
 use Rattle.shape_normalize.specs.PremiseTest.{row_before}
 use Rattle.shape_normalize.proofs.Form.PremiseTestLemmas.{row_before-last, row_before-none}

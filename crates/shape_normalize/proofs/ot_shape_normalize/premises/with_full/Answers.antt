@@ -1,4 +1,4 @@
-use Rattle.std.proofs.Common.{◌≡◌, Some, None, sym, ◌∙◌}
+use Rattle.std.proofs.Common.{sym, ◌∙◌}
 use Rattle.shape_plan.specs.Rules.{rules_of, decompositions, has_glyph}
 use Rattle.shape_normalize.proofs.Form.PremiseTestLemmas.{row_before-kept, row_before-dropped, row_before-whole}
 use Rattle.shape_normalize.proofs.Hooks.RulesLemmas.{FallsAlong-planned}

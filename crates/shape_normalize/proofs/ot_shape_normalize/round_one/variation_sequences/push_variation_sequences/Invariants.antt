@@ -1,6 +1,6 @@
 use Rattle.std.proofs.Common.{◌≡◌, ◌+◌, ◌++◌, length}
-use Rattle.shape_normalize.specs.RoundOne.{pair_places, variants}
-use Rattle.shape_normalize.proofs.ot_shape_normalize.round_one.pairs.push_pairs.Given as goal
+use Rattle.shape_normalize.specs.RoundOne.{variation_sequence_places, variants}
+use Rattle.shape_normalize.proofs.ot_shape_normalize.round_one.variation_sequences.push_variation_sequences.Given as goal
 
 -- with what is left of the sequence come the places that the whole sequence has
 abbrev pub invariant-parts : goal.invariant-parts
@@ -8,8 +8,8 @@ invariant-parts g l =
     let unicode = g.U.hb_unicode_funcs_t.unicode in
     let face = g.F.hb_font_t.face l.face in
     record {
-      places : l.places.items ++ pair_places face l.place (variants unicode l.rest)
-          ≡ l.initial.places.items ++ pair_places face l.start (variants unicode l.sequence);
+      places : l.places.items ++ variation_sequence_places face l.place (variants unicode l.rest)
+          ≡ l.initial.places.items ++ variation_sequence_places face l.start (variants unicode l.sequence);
       whole : l.place + length l.rest ≡ l.start + length l.sequence;
     }
 

@@ -1,7 +1,7 @@
 //! Items that become one with the variation selector behind them: their clusters are merged first.
 ghost use Rattle.std.specs.Prelude.{◌≡◌, ◌+◌, ◌<◌, ◌^◌, ◌++◌, length, IfOk, OnOk, OnErr};
-ghost use Rattle.shape_normalize.specs.RoundOne.{merged_at, pair_glyph as pair_glyph_of};
-ghost use Rattle.shape_normalize.specs.RoundOne.{pair_places, pairs_from, sequences, variants};
+ghost use Rattle.shape_normalize.specs.RoundOne.{merged_at, variation_sequence_glyph as variation_sequence_glyph_of};
+ghost use Rattle.shape_normalize.specs.RoundOne.{variation_sequence_places, variation_sequences_from, sequences, variants};
 
 use crate::ot_shape_normalize::round_one::sequences::{
     first_sequence, first_variant, is_selector_sequence,
@@ -11,8 +11,8 @@ use shape_buffer::interfaces::{hb_font_t, hb_unicode_funcs_t};
 use std::alloc::{AllocError, Global};
 
 /// The glyph of the first two of these items, where the face has one for the two.
-fn pair_glyph<F: hb_font_t>(face: &F, part: &[hb_glyph_info_t]) -> Option<GlyphId>
-    ensures { result ≡ pair_glyph_of (F.face face.now) part.now }
+fn variation_sequence_glyph<F: hb_font_t>(face: &F, part: &[hb_glyph_info_t]) -> Option<GlyphId>
+    ensures { result ≡ variation_sequence_glyph_of (F.face face.now) part.now }
 {
     let (info, behind) = part.split_first()?;
     let (selector, _) = behind.split_first()?;
@@ -20,7 +20,7 @@ fn pair_glyph<F: hb_font_t>(face: &F, part: &[hb_glyph_info_t]) -> Option<GlyphI
 }
 
 /// Adds the places of the items of a sequence that become one with the selector behind them.
-fn push_pairs<U: hb_unicode_funcs_t, F: hb_font_t>(
+fn push_variation_sequences<U: hb_unicode_funcs_t, F: hb_font_t>(
     face: &F,
     start: usize,
     sequence: &[hb_glyph_info_t],
@@ -28,12 +28,12 @@ fn push_pairs<U: hb_unicode_funcs_t, F: hb_font_t>(
 ) -> Result<(), AllocError>
     requires { start + length sequence.now < 2 ^ 64 }
     ensures { OnOk result (places.new.items ≡ places.old.items
-        ++ pair_places (F.face face.now) start (variants U.unicode sequence.now)) }
+        ++ variation_sequence_places (F.face face.now) start (variants U.unicode sequence.now)) }
 {
     let mut place = start;
     let mut rest = sequence;
     'parts: while let Some((part, behind)) = first_variant::<U>(rest) {
-        if pair_glyph(face, part).is_some() {
+        if variation_sequence_glyph(face, part).is_some() {
             places.push(place)?;
         }
         place += part.len();
@@ -44,20 +44,20 @@ fn push_pairs<U: hb_unicode_funcs_t, F: hb_font_t>(
 
 /// The places of all items that become one with the selector behind them. Takes no memory where there are
 /// none.
-fn pairs<U: hb_unicode_funcs_t, F: hb_font_t>(
+fn variation_sequences<U: hb_unicode_funcs_t, F: hb_font_t>(
     alloc: Global,
     face: &F,
     infos: &[hb_glyph_info_t],
 ) -> Result<Vec<usize>, AllocError>
     ensures { IfOk result (λ places. places.items
-        ≡ pairs_from U.unicode (F.face face.now) 0 (sequences infos.now)) }
+        ≡ variation_sequences_from U.unicode (F.face face.now) 0 (sequences infos.now)) }
 {
     let mut places = Vec::new(alloc);
     let mut place = 0;
     let mut rest = infos;
     'sequences: while let Some((sequence, behind)) = first_sequence(rest) {
         if is_selector_sequence::<U>(sequence) {
-            push_pairs::<U, F>(face, place, sequence, &mut places)?;
+            push_variation_sequences::<U, F>(face, place, sequence, &mut places)?;
         }
         place += sequence.len();
         rest = behind;
@@ -66,17 +66,17 @@ fn pairs<U: hb_unicode_funcs_t, F: hb_font_t>(
 }
 
 /// Merges the clusters of each item that becomes one with the selector behind it, and of that selector.
-pub(super) fn merge_pairs<U: hb_unicode_funcs_t, F: hb_font_t>(
+pub(super) fn merge_variation_sequences<U: hb_unicode_funcs_t, F: hb_font_t>(
     alloc: Global,
     face: &F,
     buffer: &mut hb_buffer_t,
 ) -> Result<(), AllocError>
     ensures merged { OnOk result (buffer.new
-        ≡ merged_at buffer.old (pairs_from U.unicode (F.face face.now) 0
+        ≡ merged_at buffer.old (variation_sequences_from U.unicode (F.face face.now) 0
         (sequences buffer.old.items))) }
     ensures unchanged { OnErr result (buffer.new ≡ buffer.old) }
 {
-    let places = pairs::<U, F>(alloc, face, buffer.infos())?;
+    let places = variation_sequences::<U, F>(alloc, face, buffer.infos())?;
     'merges: for place in &places {
         buffer.merge_clusters(*place, *place + 2);
     }
