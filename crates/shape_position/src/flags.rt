@@ -8,6 +8,7 @@ ghost use Rattle.std.specs.Int.RustNames.{bit_and};
 ghost use Rattle.shape_buffer.specs.Flags.{first_joined, settled_flags as settled_flags_of};
 ghost use Rattle.shape_buffer.specs.Flags.{with_tatweel as with_tatweel_of};
 ghost use Rattle.shape_buffer.specs.Flags.{mask_after as mask_after_of, flags_propagated};
+ghost use Rattle.shape_buffer.specs.FlagNames.{PRODUCE_UNSAFE_TO_CONCAT, UNSAFE_TO_CONCAT};
 ghost use Rattle.shape_buffer.specs.Flags.{HasOneSetOfFlags};
 ghost use Rattle.shape_buffer.specs.KeepsFlags.{some_has};
 ghost use Rattle.shape_buffer.specs.Outcome.{Made};
