@@ -10,6 +10,11 @@ is_mark_category SpacingMark = true
 is_mark_category EnclosingMark = true
 is_mark_category _ = false
 
+-- the category of marks that take no room along the line
+abbrev pub is_nonspacing_category : hb_unicode_general_category_t → Bool
+is_nonspacing_category NonspacingMark = true
+is_nonspacing_category _ = false
+
 -- the category of space separators
 abbrev pub is_space_category : hb_unicode_general_category_t → Bool
 is_space_category SpaceSeparator = true

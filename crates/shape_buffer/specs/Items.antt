@@ -43,6 +43,10 @@ new_item c cluster = record {
 abbrev pub is_mark_item : Item → Bool
 is_mark_item item = is_mark_category item.properties.general_category
 
+-- a default ignorable that no lookup has replaced
+abbrev pub is_ignorable_item : Item → Bool
+is_ignorable_item item = item.properties.ignorable && not item.properties.substituted
+
 -- the modified combining class of an item
 abbrev pub ccc_of_item : Item → ℕ
 ccc_of_item item = item.properties.modified_ccc

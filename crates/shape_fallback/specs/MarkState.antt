@@ -6,7 +6,7 @@ use Rattle.shape_buffer.specs.declared.buffer.positions.GlyphPosition.{GlyphPosi
 use Rattle.shape_buffer.specs.Wrapping.{◌+ʷ◌, ◌-ʷ◌, ◌*ʷ◌}
 use Rattle.shape_fallback.specs.Extents.{Extents}
 use Rattle.shape_buffer.specs.Face.{FaceMeaning}
-use Rattle.shape_fallback.specs.OneMark.{placed}
+use Rattle.shape_fallback.specs.OneMark.{mark_placed}
 use Rattle.shape_fallback.specs.declared.ot_shape_fallback.mark_state.Base.{Base}
 use Rattle.shape_fallback.specs.declared.ot_shape_fallback.mark_state.MarkState.{MarkState}
 use Rattle.shape_fallback.specs.declared.ot_shape_fallback.mark_state.MarkStep.{MarkStep}
@@ -48,8 +48,8 @@ unfoldable pub with_component : Base → Item → MarkState → MarkState
 with_component base item s = if nat_lt 1 base.number_of_components then at_component base item s else s
 
 -- the state at a ccc: a new ccc begins with the component's extents
-unfoldable pub with_ccc : ℕ → MarkState → MarkState
-with_ccc ccc s = if ccc == s.ccc then s else record s { ccc = ccc; extents = s.component_extents }
+unfoldable pub at_ccc : ℕ → MarkState → MarkState
+at_ccc ccc s = if ccc == s.ccc then s else record s { ccc = ccc; extents = s.component_extents }
 
 -- the state past a mark without a ccc
 unfoldable pub passed : Bool → GlyphPosition → MarkState → MarkState
@@ -69,7 +69,7 @@ moved p s = record p {
 -- a mark of a ccc in the state that it is placed in
 unfoldable pub place_in : FaceMeaning → Base → MarkState → Item → GlyphPosition → MarkStep
 place_in face base s item p =
-    let there = placed base.surroundings (face.extents (record { 0 = item.glyph_id })) item.properties.modified_ccc
+    let there = mark_placed base.surroundings (face.extents (record { 0 = item.glyph_id })) item.properties.modified_ccc
     (record { position = p; base = s.extents }) in
     record { position = moved there.position s; state = record s { extents = there.base } }
 
@@ -77,4 +77,4 @@ place_in face base s item p =
 unfoldable pub place_mark : FaceMeaning → Base → MarkState → Item → GlyphPosition → MarkStep
 place_mark face base s item p =
     if item.properties.modified_ccc == 0 then record { position = p; state = passed base.surroundings.forward p s }
-    else place_in face base (with_ccc item.properties.modified_ccc (with_component base item s)) item p
+    else place_in face base (at_ccc item.properties.modified_ccc (with_component base item s)) item p

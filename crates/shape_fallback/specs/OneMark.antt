@@ -2,7 +2,7 @@
 use Rattle.std.specs.Prelude.{ℕ, ℤ, pos, Bool, not, ◌==◌, ◌||◌, ◌&&◌, if◌then◌else◌, int_div, Option, Some, None}
 use Rattle.std.specs.Int.{is_positive}
 use Rattle.shape_fallback.specs.declared.ot_shape_fallback.one_mark.Stacked.{Stacked}
-use Rattle.shape_fallback.specs.declared.ot_shape_fallback.one_mark.Placed.{Placed}
+use Rattle.shape_fallback.specs.declared.ot_shape_fallback.one_mark.Placed.{PlacedMark}
 use Rattle.shape_fallback.specs.declared.ot_shape_fallback.one_mark.Surroundings.{Surroundings}
 use Rattle.shape_buffer.specs.Wrapping.{◌+ʷ◌, ◌-ʷ◌, neg_w}
 use Rattle.shape_fallback.specs.Extents.{Extents}
@@ -78,8 +78,8 @@ stacked gap ccc B E =
     else record { y_offset = pos 0; base = B }
 
 -- a mark of known extents
-abbrev pub placed_with : Bool → Bool → ℤ → ℕ → Placed → Extents → Placed
-placed_with horizontal forward gap ccc p E =
+abbrev pub mark_placed_with : Bool → Bool → ℤ → ℕ → PlacedMark → Extents → PlacedMark
+mark_placed_with horizontal forward gap ccc p E =
     let s = stacked gap ccc p.base E in
     record {
       position = record p.position { x_offset = mark_x_offset horizontal forward ccc p.base E; y_offset = s.y_offset };
@@ -87,6 +87,6 @@ placed_with horizontal forward gap ccc p E =
     }
 
 -- a mark; where the face has no extents for it nothing changes
-unfoldable pub placed : Surroundings → Option Extents → ℕ → Placed → Placed
-placed s None ccc p = p
-placed s (Some E) ccc p = placed_with s.horizontal s.forward s.gap ccc p E
+unfoldable pub mark_placed : Surroundings → Option Extents → ℕ → PlacedMark → PlacedMark
+mark_placed s None ccc p = p
+mark_placed s (Some E) ccc p = mark_placed_with s.horizontal s.forward s.gap ccc p E

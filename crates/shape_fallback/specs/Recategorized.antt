@@ -1,15 +1,10 @@
 -- The ccc that the marks of a buffer are placed by.
 use Rattle.std.specs.Prelude.{Bool, true, false, if◌then◌else◌}
 use Rattle.shape_buffer.specs.Buffer.{Buffer}
+use Rattle.shape_buffer.specs.Category.{is_nonspacing_category}
 use Rattle.shape_buffer.specs.Items.{Item}
 use Rattle.shape_buffer.specs.Walks.{items_mapped}
-use Rattle.shape_buffer.specs.declared.buffer.general_category.hb_unicode_general_category_t.{hb_unicode_general_category_t}
-use Rattle.shape_buffer.specs.declared.buffer.general_category.hb_unicode_general_category_t.TheVariants.{NonspacingMark}
 use Rattle.shape_fallback.specs.Ccc.{fallback_ccc}
-
-abbrev pub is_nonspacing_category : hb_unicode_general_category_t → Bool
-is_nonspacing_category NonspacingMark = true
-is_nonspacing_category _ = false
 
 -- a mark that takes no room of its own along the line
 unfoldable pub is_nonspacing : Item → Bool

@@ -15,9 +15,9 @@ use Rattle.shape_plan.specs.WorkedDecisions.{no_decisions}
 use Rattle.shape_plan.specs.declared.decisions.Decisions.{Decisions}
 use Rattle.shape_fallback.specs.Bases.{position_span, base_at, bases, bases_positioned, bases_marked, runs_to_right, setting_of, marks_positioned}
 use Rattle.shape_fallback.specs.Extents.{Extents}
-use Rattle.shape_fallback.specs.MarkState.{component_of, place_of, component_extents, is_same, at_component, with_component, with_ccc, passed, moved, place_in, place_mark}
+use Rattle.shape_fallback.specs.MarkState.{component_of, place_of, component_extents, is_same, at_component, with_component, at_ccc, passed, moved, place_in, place_mark}
 use Rattle.shape_fallback.specs.Marks.{marks_placed, without_advances, zeroed, base_of, first_state, around_base}
-use Rattle.shape_fallback.specs.OneMark.{is_double, is_left, is_right, is_below, is_above, is_attached, agree, lowered, raised, placed}
+use Rattle.shape_fallback.specs.OneMark.{is_double, is_left, is_right, is_below, is_above, is_attached, agree, lowered, raised, mark_placed}
 use Rattle.shape_fallback.specs.Positions.{each_placed}
 use Rattle.shape_fallback.specs.Recategorized.{is_nonspacing, recategorized_item}
 use Rattle.shape_fallback.specs.Steps.{recategorize_step, marks_step, marks_adjusted}
@@ -98,7 +98,7 @@ pub record AboveAndBelow : Type 0 where
       ≡ at (pos 0) (negsuc 999) (negsuc 299) (negsuc 999) ∷ at (pos 0) (pos 0) (pos 150) (pos 556) ∷ []
 
 above_and_below : AboveAndBelow
-unfolding marks_positioned setting_of runs_to_right bases_positioned bases base_at position_span around_base base_of first_state marks_placed place_mark place_in with_ccc with_component moved placed is_double is_left is_right is_below is_above is_attached agree lowered raised ◌+ʷ◌ ◌-ʷ◌ neg_w int_wrap
+unfolding marks_positioned setting_of runs_to_right bases_positioned bases base_at position_span around_base base_of first_state marks_placed place_mark place_in at_ccc with_component moved mark_placed is_double is_left is_right is_below is_above is_attached agree lowered raised ◌+ʷ◌ ◌-ʷ◌ neg_w int_wrap
 above_and_below =
     record { above = refl; below = refl; two_acutes = refl; above_then_below = refl; moved_base = refl; no_gap = refl; gap_of_one = refl; right_to_left = refl; downwards = refl }
 
@@ -127,7 +127,7 @@ pub record OnLigatures : Type 0 where
       ∷ at (pos 0) (pos 0) (negsuc 599) (pos 324) ∷ []
 
 on_ligatures : OnLigatures
-unfolding marks_positioned setting_of runs_to_right bases_positioned bases base_at position_span around_base base_of first_state marks_placed place_mark place_in with_ccc with_component at_component component_of place_of component_extents is_same moved placed is_double is_left is_right is_below is_above is_attached agree lowered raised ◌+ʷ◌ ◌-ʷ◌ ◌*ʷ◌ neg_w int_wrap
+unfolding marks_positioned setting_of runs_to_right bases_positioned bases base_at position_span around_base base_of first_state marks_placed place_mark place_in at_ccc with_component at_component component_of place_of component_extents is_same moved mark_placed is_double is_left is_right is_below is_above is_attached agree lowered raised ◌+ʷ◌ ◌-ʷ◌ ◌*ʷ◌ neg_w int_wrap
 on_ligatures = record { second = refl; first = refl; none = refl; first_from_the_right = refl; downwards = refl; two_components = refl }
 
 pub record MarksOfCcc0 : Type 0 where
@@ -146,7 +146,7 @@ pub record MarksOfCcc0 : Type 0 where
       ≡ at (pos 600) (pos 0) (pos 0) (pos 0) ∷ at (pos 0) (pos 0) (negsuc 598) (pos 2) ∷ []
 
 marks_of_ccc_0 : MarksOfCcc0
-unfolding marks_positioned setting_of runs_to_right bases_positioned bases base_at position_span around_base base_of first_state marks_placed place_mark place_in with_ccc with_component passed moved placed is_double is_left is_right is_below is_above is_attached agree lowered raised ◌+ʷ◌ ◌-ʷ◌ neg_w int_wrap
+unfolding marks_positioned setting_of runs_to_right bases_positioned bases base_at position_span around_base base_of first_state marks_placed place_mark place_in at_ccc with_component passed moved mark_placed is_double is_left is_right is_below is_above is_attached agree lowered raised ◌+ʷ◌ ◌-ʷ◌ neg_w int_wrap
 marks_of_ccc_0 = record { forward = refl; backward = refl; without_a_box = refl }
 
 pub record BasesWithoutABox : Type 0 where
@@ -178,7 +178,7 @@ pub record WidestMark : Type 0 where
       ≡ at (pos 2147483647) (pos 0) (pos 0) (pos 0) ∷ at (pos 0) (pos 0) (negsuc 2147483646) (pos 62) ∷ []
 
 widest_mark : WidestMark
-unfolding marks_positioned setting_of runs_to_right bases_positioned bases base_at position_span around_base base_of first_state marks_placed place_mark place_in with_ccc with_component moved placed is_double is_left is_right is_below is_above is_attached agree lowered raised ◌+ʷ◌ ◌-ʷ◌ neg_w int_wrap
+unfolding marks_positioned setting_of runs_to_right bases_positioned bases base_at position_span around_base base_of first_state marks_placed place_mark place_in at_ccc with_component moved mark_placed is_double is_left is_right is_below is_above is_attached agree lowered raised ◌+ʷ◌ ◌-ʷ◌ neg_w int_wrap
 widest_mark = record { widest = refl }
 
 -- the decisions of a plan, where marks are placed by their extents or not, and offsets adjusted or not

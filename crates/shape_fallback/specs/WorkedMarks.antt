@@ -13,7 +13,7 @@ use Rattle.shape_buffer.specs.declared.buffer.settings.Script.{Script}
 use Rattle.shape_plan.specs.PlainTexts.{plain_unicode}
 use Rattle.shape_fallback.specs.Bases.{base_at, bases, runs_to_right}
 use Rattle.shape_fallback.specs.Extents.{Extents}
-use Rattle.shape_fallback.specs.MarkState.{component_of, place_of, component_extents, is_same, at_component, with_component, with_ccc, passed, moved}
+use Rattle.shape_fallback.specs.MarkState.{component_of, place_of, component_extents, is_same, at_component, with_component, at_ccc, passed, moved}
 use Rattle.shape_fallback.specs.Marks.{without_advances, first_state}
 use Rattle.shape_fallback.specs.WorkedOneMark.{box}
 use Rattle.shape_fallback.specs.declared.ot_shape_fallback.mark_state.Base.{Base}
@@ -76,15 +76,15 @@ pub record States : Type 0 where
   pub two_components : with_component (worked_base true 1 2 (pos 900)) (component_mark 2 230 1 2)
       (worked_state (negsuc 0) 230 (box (pos 0) (pos 700) (pos 900) (negsuc 699)) (box (pos 0) (pos 912) (pos 900) (negsuc 911)))
       ≡ worked_state (pos 1) 255 (box (pos 450) (pos 700) (pos 450) (negsuc 699)) (box (pos 0) (pos 912) (pos 900) (negsuc 911))
-  pub another_ccc : with_ccc 220 (worked_state (pos 0) 230 (box (pos 0) (pos 700) (pos 300) (negsuc 699))
+  pub another_ccc : at_ccc 220 (worked_state (pos 0) 230 (box (pos 0) (pos 700) (pos 300) (negsuc 699))
       (box (pos 0) (pos 912) (pos 300) (negsuc 911)))
       ≡ worked_state (pos 0) 220 (box (pos 0) (pos 700) (pos 300) (negsuc 699)) (box (pos 0) (pos 700) (pos 300) (negsuc 699))
-  pub same_ccc : with_ccc 230 (worked_state (pos 0) 230 (box (pos 0) (pos 700) (pos 300) (negsuc 699))
+  pub same_ccc : at_ccc 230 (worked_state (pos 0) 230 (box (pos 0) (pos 700) (pos 300) (negsuc 699))
       (box (pos 0) (pos 912) (pos 300) (negsuc 911)))
       ≡ worked_state (pos 0) 230 (box (pos 0) (pos 700) (pos 300) (negsuc 699)) (box (pos 0) (pos 912) (pos 300) (negsuc 911))
 
 states : States
-unfolding at_component with_component with_ccc component_of place_of component_extents is_same ◌+ʷ◌ ◌-ʷ◌ ◌*ʷ◌ int_wrap
+unfolding at_component with_component at_ccc component_of place_of component_extents is_same ◌+ʷ◌ ◌-ʷ◌ ◌*ʷ◌ int_wrap
 states =
     record { another_component = refl; same_component = refl; one_component = refl; two_components = refl; another_ccc = refl; same_ccc = refl }
 

@@ -5,7 +5,7 @@ use Rattle.shape_buffer.specs.Positions.{zero_position}
 use Rattle.shape_buffer.specs.Wrapping.{◌+ʷ◌, ◌-ʷ◌, neg_w}
 use Rattle.shape_buffer.specs.declared.buffer.positions.GlyphPosition.{GlyphPosition}
 use Rattle.shape_fallback.specs.Extents.{Extents}
-use Rattle.shape_fallback.specs.OneMark.{mark_x_offset, is_double, is_left, is_right, is_below, is_above, is_attached, agree, lowered, raised, stacked, placed}
+use Rattle.shape_fallback.specs.OneMark.{mark_x_offset, is_double, is_left, is_right, is_below, is_above, is_attached, agree, lowered, raised, stacked, mark_placed}
 use Rattle.shape_fallback.specs.declared.ot_shape_fallback.one_mark.Stacked.{Stacked}
 
 -- x_bearing, y_bearing, width, height
@@ -102,19 +102,19 @@ pub record OneMark : Type 0 where
       (box (pos 50) (pos 800) (pos 200) (negsuc 149))) (1 ∷ 224 ∷ 226 ∷ 240 ∷ [])
       ≡ stack (pos 0) (box (pos 0) (pos 700) (pos 600) (negsuc 699)) ∷ stack (pos 0) (box (pos 0) (pos 700) (pos 600) (negsuc 699))
       ∷ stack (pos 0) (box (pos 0) (pos 700) (pos 600) (negsuc 699)) ∷ stack (pos 0) (box (pos 0) (pos 700) (pos 600) (negsuc 699)) ∷ []
-  pub without_a_box : placed (record { horizontal = true; forward = true; gap = pos 62 }) None 230
+  pub without_a_box : mark_placed (record { horizontal = true; forward = true; gap = pos 62 }) None 230
       (record { position = moved_by (pos 3) (pos 4); base = box (pos 0) (pos 700) (pos 600) (negsuc 699) })
       ≡ record { position = moved_by (pos 3) (pos 4); base = box (pos 0) (pos 700) (pos 600) (negsuc 699) }
-  pub acute : placed (record { horizontal = true; forward = true; gap = pos 62 }) (Some (box (pos 50) (pos 800) (pos 200) (negsuc 149))) 230
+  pub acute : mark_placed (record { horizontal = true; forward = true; gap = pos 62 }) (Some (box (pos 50) (pos 800) (pos 200) (negsuc 149))) 230
       (record { position = moved_by (pos 3) (pos 4); base = box (pos 0) (pos 700) (pos 600) (negsuc 699) })
       ≡ record { position = moved_by (pos 150) (pos 112); base = box (pos 0) (pos 912) (pos 600) (negsuc 911) }
-  pub dot_below : placed (record { horizontal = true; forward = true; gap = pos 62 })
+  pub dot_below : mark_placed (record { horizontal = true; forward = true; gap = pos 62 })
       (Some (box (pos 50) (negsuc 49) (pos 200) (negsuc 99))) 220
       (record { position = moved_by (pos 3) (pos 4); base = box (pos 0) (pos 700) (pos 600) (negsuc 699) })
       ≡ record { position = moved_by (pos 150) (negsuc 11); base = box (pos 0) (pos 700) (pos 600) (negsuc 861) }
 
 one_mark : OneMark
-unfolding placed is_double is_left is_right is_below is_above is_attached agree lowered raised ◌+ʷ◌ ◌-ʷ◌ neg_w int_wrap
+unfolding mark_placed is_double is_left is_right is_below is_above is_attached agree lowered raised ◌+ʷ◌ ◌-ʷ◌ neg_w int_wrap
 one_mark = record { beside = refl; without_a_box = refl; acute = refl; dot_below = refl }
 
 pub record WorkedOneMark : Type 0 where

@@ -1,10 +1,10 @@
 //! Fallback positions: what stands in for the lookups that a face lacks.
 //!
 //! A font without positioning lookups leaves its marks beside their bases, and may have no glyph for
-//! most of the spaces. So each mark goes by its combining class to a side of its base: below, above, at
-//! the left or at the right of the box round the base's ink, a gap apart, each next mark of the ccc
-//! beyond the one before. Classes that only tell marks of one script apart are first made ones that name
-//! a side. A mark of a ligature goes to its own component, an equal part of the ligature's advance. A
+//! most of the spaces. So each mark goes by its ccc to a side of its base: below, above, at the left or at
+//! the right of the base's box, which is as wide as its advance and as high as its ink, a gap apart, each
+//! next mark of the ccc beyond the one before. A ccc that only tells marks of one script apart is first
+//! made one that names a side. A mark of a ligature goes to its own component, an equal part of the ligature's advance. A
 //! space takes its part of the em square, or the advance of a digit or a full stop.
 //!
 //! Contracts say every number, each sum, difference and product taken modulo 2^32; where all of them fit

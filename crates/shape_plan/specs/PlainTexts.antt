@@ -104,14 +104,3 @@ masks_of-lawful number = record {
   mask = λ _. no_flag (has number 2048);
   shift = λ _. Prim.search rules;
 }
-
-pub no_lookups-lawful : LawfulLookups no_lookups
-no_lookups-lawful = record {
-  aat_zero_width_deleted = λ _. refl;
-  position_start = λ _. refl;
-  position = λ _. refl;
-  position_finish_advances = λ _. refl;
-  position_finish_offsets = λ _. refl;
-  aat_position = λ _ _. refl;
-  kern = λ _ _. refl;
-}

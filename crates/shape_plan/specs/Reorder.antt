@@ -31,7 +31,7 @@ abbrev pub ccc_set : ℕ → Item → ℕ → Buffer → Buffer
 ccc_set i item ccc b = record b { items = set b.items i (with_ccc ccc item) }
 
 -- the items from place `start` up to `end` in another order: finitely many steps lead there, each of which exchanges two of them, merges
--- the clusters of a span within the range, whose growth may reach items outside it, or gives one of them another nonzero class
+-- the clusters of a span within the range, whose growth may reach items outside it, or gives one of them another nonzero ccc
 pub data Reorders (start end : ℕ) : Buffer → Buffer → Type 0 where
   done : {b : Buffer} → Reorders start end b b
   exchange : {b c : Buffer} (i j : ℕ) → start ≤ i → i < end → start ≤ j → j < end → Reorders start end (exchanged i j b) c

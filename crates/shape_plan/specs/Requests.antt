@@ -98,8 +98,8 @@ abbrev pub not_simple_if : Bool → Builder → Builder
 not_simple_if test builder = if test then record builder { is_simple = false } else builder
 
 -- the builder up to the shaper's first hook
-abbrev pub begun : Direction → Builder → Builder
-begun direction builder = with_requests (record builder { is_simple = true }) (first_requests direction)
+abbrev pub begun_requests : Direction → Builder → Builder
+begun_requests direction builder = with_requests (record builder { is_simple = true }) (first_requests direction)
 
 -- with that hook, which makes it simple no longer before it runs
 abbrev pub collected : Collector → Direction → Option Script → Builder → Builder
@@ -112,4 +112,4 @@ widened direction features builder = with_requests (not_simple_if (not (length f
 -- all that a planner asks for, by its direction and script, the shaper's two hooks, the user's features and the builder as it stands
 unfoldable pub requested : Direction → Option Script → Collector → Collector → List Feature → Builder → Builder
 requested direction script collects overrides features builder =
-    hooked overrides direction script (widened direction features (collected collects direction script (begun direction builder)))
+    hooked overrides direction script (widened direction features (collected collects direction script (begun_requests direction builder)))

@@ -5,7 +5,7 @@
 //! for features in the order in which their lookups are to run, so that a shaper's stand between those
 //! that come early and late in every text, and the user's behind all, where they win. `compile` has the
 //! engine compile the requests, and then decides who positions, kerns and places marks. All that depends
-//! on no text is settled here, once for every text that the plan fits.
+//! on no text is decided here, once for every text that the plan fits.
 ghost use Rattle.std.specs.Prelude.{◌≡◌, OnOk, IsOkUnless, IfOk, IfErr, MatchResult, string_bytes};
 ghost use Rattle.std.specs.Prelude.{List, Option};
 ghost use Rattle.std.specs.Option.{option_map};

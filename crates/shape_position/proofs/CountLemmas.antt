@@ -9,7 +9,7 @@ use Rattle.shape_buffer.specs.Clusters.{clusters}
 use Rattle.shape_buffer.specs.Delete.{hand_over, give_to_kept, hand_on, delete_from}
 use Rattle.shape_buffer.specs.Face.{FaceMeaning}
 use Rattle.shape_buffer.specs.Flags.{flags_propagated, flagged_from, mask_after}
-use Rattle.shape_buffer.specs.Items.{Item, has_cluster}
+use Rattle.shape_buffer.specs.Items.{Item, has_cluster, is_ignorable_item}
 use Rattle.shape_buffer.specs.KeepsFlags.{has_glyph_flags}
 use Rattle.shape_buffer.specs.Walks.{items_mapped}
 use Rattle.shape_buffer.specs.declared.buffer.flags.BufferFlags.{BufferFlags}
@@ -17,7 +17,7 @@ use Rattle.shape_buffer.specs.declared.buffer.settings.GlyphId.{GlyphId}
 use Rattle.shape_buffer.proofs.Flags.ClusterRunLemmas.{flagged-runs}
 use Rattle.shape_buffer.proofs.Deletion.DeleteLemmas.{hand_on-cases, kept_by_deletion}
 use Rattle.shape_buffer.proofs.Merging.KeyLemmas.{length-map_range, length-merge_clusters, without_items-merge_clusters}
-use Rattle.shape_position.specs.Ignorables.{ignorables_hidden, is_ignorable, shown_as, replaced_or_deleted, hides_ignorables, removes_ignorables, unseen_glyph}
+use Rattle.shape_position.specs.Ignorables.{ignorables_hidden, shown_as, replaced_or_deleted, hides_ignorables, removes_ignorables, unseen_glyph}
 use Rattle.shape_position.specs.Kept.{KeepsAsMany}
 
 -- ---- deletion
@@ -60,7 +60,7 @@ as_many-delete_from p n k =
 
 as_many-replaced_or_deleted : (glyph : Option GlyphId) → KeepsAsMany (replaced_or_deleted glyph)
 unfolding items_mapped
-as_many-replaced_or_deleted None b as_many = as_many-delete_from is_ignorable (length b.items) 0 b as_many
+as_many-replaced_or_deleted None b as_many = as_many-delete_from is_ignorable_item (length b.items) 0 b as_many
 as_many-replaced_or_deleted (Some glyph) b as_many = as_many ∙ sym (length-map b.items (shown_as glyph))
 
 pub as_many-hidden : (face : FaceMeaning) → KeepsAsMany (ignorables_hidden face)

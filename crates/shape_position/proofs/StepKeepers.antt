@@ -7,7 +7,7 @@ use Rattle.shape_buffer.specs.Clusters.{clusters}
 use Rattle.shape_buffer.specs.Direction.{is_horizontal, is_forward}
 use Rattle.shape_buffer.specs.Face.{FaceMeaning}
 use Rattle.shape_buffer.specs.Flags.{flags_propagated, flagged_from, mask_after}
-use Rattle.shape_buffer.specs.Items.{Item}
+use Rattle.shape_buffer.specs.Items.{Item, is_ignorable_item}
 use Rattle.shape_buffer.specs.Keepers.{IsClusterKeeper, IsFlagKeeper, LookupsKeepClusters, LookupsKeepFlags, EachStep}
 use Rattle.shape_buffer.specs.KeepsFlags.{has_glyph_flags}
 use Rattle.shape_buffer.specs.Layout.{LookupMeaning}
@@ -23,7 +23,7 @@ use Rattle.shape_plan.specs.Keepers.{CallsKeepClusters, RunKeepsFlags}
 use Rattle.shape_plan.specs.Run.{Run, step_if}
 use Rattle.shape_plan.specs.declared.decisions.Decisions.{Decisions}
 use Rattle.shape_position.specs.Advances.{advanced, advanced_position}
-use Rattle.shape_position.specs.Ignorables.{ignorables_zeroed, ignorables_hidden, is_ignorable, shown_as, replaced_or_deleted, zeroed_ignorable, hides_ignorables, removes_ignorables, unseen_glyph}
+use Rattle.shape_position.specs.Ignorables.{ignorables_zeroed, ignorables_hidden, shown_as, replaced_or_deleted, zeroed_ignorable, hides_ignorables, removes_ignorables, unseen_glyph}
 use Rattle.shape_position.specs.Keepers.{StepsKeepClusters, StepsKeepFlags, StepsKeepCount, StepsKeep}
 use Rattle.shape_position.specs.Kept.{KeepsAsMany}
 use Rattle.shape_position.specs.Selectors.{selectors_replaced, selectors_replaced_by, not_found_item, not_found_position, has_selector_fallback}
@@ -153,14 +153,14 @@ as_many-selectors b as_many = elim (cases_Bool (has_selector_fallback b)) [
 -- ---- hiding
 
 shown-cluster : (glyph : GlyphId) (item : Item) → (shown_as glyph item).cluster ≡ item.cluster
-shown-cluster glyph item = by_bit (is_ignorable item)
+shown-cluster glyph item = by_bit (is_ignorable_item item)
   where
     by_bit : (ignorable : Bool) → (if ignorable then record item { glyph_id = glyph.0 } else item).cluster ≡ item.cluster
     by_bit true = refl
     by_bit false = refl
 
 shown-mask : (glyph : GlyphId) (item : Item) → (shown_as glyph item).mask ≡ item.mask
-shown-mask glyph item = by_bit (is_ignorable item)
+shown-mask glyph item = by_bit (is_ignorable_item item)
   where
     by_bit : (ignorable : Bool) → (if ignorable then record item { glyph_id = glyph.0 } else item).mask ≡ item.mask
     by_bit true = refl
@@ -168,15 +168,15 @@ shown-mask glyph item = by_bit (is_ignorable item)
 
 order-replaced_or_deleted : (glyph : Option GlyphId) → IsClusterKeeper (replaced_or_deleted glyph)
 order-replaced_or_deleted None b monotone = record {
-  clusters = deleted_keeps_clusters is_ignorable b;
-  direction = (settings-deleted is_ignorable b).direction;
-  flags = (deleted_keeps_flags is_ignorable b).flags;
-  level = (settings-deleted is_ignorable b).level;
+  clusters = deleted_keeps_clusters is_ignorable_item b;
+  direction = (settings-deleted is_ignorable_item b).direction;
+  flags = (deleted_keeps_flags is_ignorable_item b).flags;
+  level = (settings-deleted is_ignorable_item b).level;
 }
 order-replaced_or_deleted (Some glyph) b monotone = order-items_mapped (shown_as glyph) (shown-cluster glyph) b monotone
 
 flags-replaced_or_deleted : (glyph : Option GlyphId) → IsFlagKeeper (replaced_or_deleted glyph)
-flags-replaced_or_deleted None b = deleted_keeps_flags is_ignorable b
+flags-replaced_or_deleted None b = deleted_keeps_flags is_ignorable_item b
 flags-replaced_or_deleted (Some glyph) b = flags-items_mapped (shown_as glyph) (shown-mask glyph) b
 
 order-hidden : (face : FaceMeaning) → IsClusterKeeper (ignorables_hidden face)

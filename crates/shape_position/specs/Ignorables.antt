@@ -5,16 +5,12 @@ use Rattle.std.specs.Option.{option_or}
 use Rattle.shape_buffer.specs.Buffer.{Buffer}
 use Rattle.shape_buffer.specs.Delete.{deleted}
 use Rattle.shape_buffer.specs.Face.{FaceMeaning}
-use Rattle.shape_buffer.specs.Items.{Item}
+use Rattle.shape_buffer.specs.Items.{Item, is_ignorable_item}
 use Rattle.shape_buffer.specs.PositionWalks.{positions_mapped}
 use Rattle.shape_buffer.specs.Walks.{items_mapped}
 use Rattle.shape_buffer.specs.declared.buffer.positions.GlyphPosition.{GlyphPosition}
 use Rattle.shape_buffer.specs.declared.buffer.settings.GlyphId.{GlyphId}
 use Rattle.shape_buffer.specs.FlagNames.{PRESERVE_DEFAULT_IGNORABLES, REMOVE_DEFAULT_IGNORABLES, HAS_DEFAULT_IGNORABLES}
-
--- the ignorable bit is set, and no lookup has put the glyph in
-abbrev pub is_ignorable : Item → Bool
-is_ignorable item = item.properties.ignorable && not item.properties.substituted
 
 -- the run has seen default ignorables (scratch flag 2)
 abbrev pub has_ignorables : Buffer → Bool
@@ -37,7 +33,7 @@ abbrev pub without_values : GlyphPosition → GlyphPosition
 without_values position = record position { x_advance = pos 0; y_advance = pos 0; x_offset = pos 0; y_offset = pos 0 }
 
 abbrev pub zeroed_ignorable : Item → GlyphPosition → GlyphPosition
-zeroed_ignorable item position = if is_ignorable item then without_values position else position
+zeroed_ignorable item position = if is_ignorable_item item then without_values position else position
 
 -- ignorables lose their values, unless they are preserved or removed
 unfoldable pub ignorables_zeroed : Buffer → Buffer
@@ -49,11 +45,11 @@ abbrev pub unseen_glyph : FaceMeaning → Buffer → Option GlyphId
 unseen_glyph face b = option_or b.invisible_glyph (face.nominal_glyph 0x20)
 
 abbrev pub shown_as : GlyphId → Item → Item
-shown_as glyph item = if is_ignorable item then record item { glyph_id = glyph.0 } else item
+shown_as glyph item = if is_ignorable_item item then record item { glyph_id = glyph.0 } else item
 
 -- each ignorable takes the unseen glyph; they are deleted where there is none
 abbrev pub replaced_or_deleted : Option GlyphId → Buffer → Buffer
-replaced_or_deleted None = deleted is_ignorable
+replaced_or_deleted None = deleted is_ignorable_item
 replaced_or_deleted (Some glyph) = items_mapped (shown_as glyph)
 
 -- hiding: unless ignorables are preserved they are replaced, and deleted where that is asked or no glyph can replace them

@@ -6,7 +6,7 @@
 //! meant to be seen and stays (The Unicode Standard, section 5.21).
 ghost use Rattle.std.specs.Prelude.{◌≡◌};
 ghost use Rattle.shape_buffer.specs.Outcome.{Made};
-ghost use Rattle.shape_position.specs.Ignorables.{is_ignorable as is_ignorable_of};
+ghost use Rattle.shape_buffer.specs.Items.{is_ignorable_item};
 ghost use Rattle.shape_position.specs.Ignorables.{hides_ignorables as hides_ignorables_of};
 ghost use Rattle.shape_position.specs.Ignorables.{removes_ignorables as removes_ignorables_of};
 ghost use Rattle.shape_position.specs.Ignorables.{without_values as without_values_of};
@@ -25,7 +25,7 @@ use shape_buffer::walks::update_items;
 
 /// Whether a glyph stands for a default ignorable: its bit is set, and no lookup has put the glyph in.
 fn is_ignorable(info: &hb_glyph_info_t) -> bool
-    ensures { result ≡ is_ignorable_of info.now }
+    ensures { result ≡ is_ignorable_item info.now }
 {
     info._hb_glyph_info_get_ignorable() && !info._hb_glyph_info_get_substituted()
 }

@@ -1,11 +1,10 @@
 -- Glyphs and their classes as substitution begins; syllables.
 use Rattle.std.specs.Prelude.{◌&&◌, not, Bool, true, false, if◌then◌else◌}
 use Rattle.shape_buffer.specs.Buffer.{Buffer}
-use Rattle.shape_buffer.specs.Items.{Item}
+use Rattle.shape_buffer.specs.Category.{is_nonspacing_category}
+use Rattle.shape_buffer.specs.Items.{Item, is_ignorable_item}
 use Rattle.shape_buffer.specs.Walks.{items_mapped}
 use Rattle.shape_buffer.specs.declared.buffer.flags.GlyphPropsFlags.{GlyphPropsFlags}
-use Rattle.shape_buffer.specs.declared.buffer.general_category.hb_unicode_general_category_t.{hb_unicode_general_category_t}
-use Rattle.shape_buffer.specs.declared.buffer.general_category.hb_unicode_general_category_t.TheVariants.{NonspacingMark}
 
 -- the glyph of an item becomes the one that the face answered for its character
 abbrev pub with_nominal_glyph : Item → Item
@@ -14,19 +13,10 @@ with_nominal_glyph item = record item { glyph_id = item.glyph_index }
 unfoldable pub glyphs_mapped : Buffer → Buffer
 glyphs_mapped b = items_mapped with_nominal_glyph b
 
--- the category of marks that take no space
-abbrev pub is_nonspacing_category : hb_unicode_general_category_t → Bool
-is_nonspacing_category NonspacingMark = true
-is_nonspacing_category _ = false
-
--- a default ignorable that no lookup has replaced
-abbrev pub is_ignorable : Item → Bool
-is_ignorable item = item.properties.ignorable && not item.properties.substituted
-
 -- MARK (8) for a nonspacing mark that isn't ignorable, else BASE_GLYPH (2)
 abbrev pub class_of_glyph : Item → GlyphPropsFlags
 class_of_glyph item =
-    if is_nonspacing_category item.properties.general_category && not (is_ignorable item) then record { 0 = 8 } else record { 0 = 2 }
+    if is_nonspacing_category item.properties.general_category && not (is_ignorable_item item) then record { 0 = 8 } else record { 0 = 2 }
 
 -- the item with that class, as a glyph that no lookup has made
 abbrev pub with_class : Item → Item

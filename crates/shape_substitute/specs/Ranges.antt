@@ -6,10 +6,7 @@ use Rattle.shape_buffer.specs.Items.{Item}
 use Rattle.shape_buffer.specs.Layout.{MapMeaning}
 use Rattle.shape_buffer.specs.Walks.{items_mapped}
 use Rattle.shape_buffer.specs.declared.buffer.settings.Feature.{Feature}
-
--- asked for over the whole text
-abbrev pub is_global : Feature → Bool
-is_global feature = feature.start == 0 && feature.end == 4294967295
+use Rattle.shape_plan.specs.Requests.{is_global}
 
 -- a value at its place in a mask, bits past 32 dropped
 abbrev pub shifted : ℕ → ℕ → ℕ

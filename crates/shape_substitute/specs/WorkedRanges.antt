@@ -8,7 +8,8 @@ use Rattle.shape_buffer.specs.declared.buffer.general_category.hb_unicode_genera
 use Rattle.shape_buffer.specs.declared.buffer.general_category.hb_unicode_general_category_t.TheVariants.{NonspacingMark, SpacingMark, EnclosingMark, OtherLetter}
 use Rattle.shape_buffer.specs.declared.buffer.settings.Feature.{Feature}
 use Rattle.shape_substitute.specs.Classes.{class_of_glyph, with_class, with_nominal_glyph, without_syllable, glyphs_mapped, classes_synthesised, syllables_cleared}
-use Rattle.shape_substitute.specs.Ranges.{is_global, shifted, with_value, ranges_masked}
+use Rattle.shape_plan.specs.Requests.{is_global}
+use Rattle.shape_substitute.specs.Ranges.{shifted, with_value, ranges_masked}
 
 -- feature 1 has the bits 0x300, feature 2 the two highest, every other one none
 abbrev two_features : MapMeaning

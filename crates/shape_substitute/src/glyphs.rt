@@ -5,7 +5,7 @@
 ghost use Rattle.std.specs.Prelude.{◌≡◌};
 ghost use Rattle.shape_buffer.specs.Outcome.{IsWithinLimit, Made, Ran};
 ghost use Rattle.shape_plan.specs.Run.{step_if};
-ghost use Rattle.shape_substitute.specs.Classes.{is_ignorable as is_ignorable_of};
+ghost use Rattle.shape_buffer.specs.Items.{is_ignorable_item};
 ghost use Rattle.shape_substitute.specs.Classes.{class_of_glyph as class_of_glyph_of};
 ghost use Rattle.shape_substitute.specs.Classes.{with_nominal_glyph as with_nominal_glyph_of};
 ghost use Rattle.shape_substitute.specs.Classes.{with_class as with_class_of, glyphs_mapped};
@@ -38,7 +38,7 @@ pub fn map_glyphs_fast(buffer: &mut hb_buffer_t)
 
 /// Whether an item is a default ignorable that no lookup has replaced.
 fn is_ignorable(info: &hb_glyph_info_t) -> bool
-    ensures { result ≡ is_ignorable_of info.now }
+    ensures { result ≡ is_ignorable_item info.now }
 {
     info._hb_glyph_info_get_ignorable() && !info._hb_glyph_info_get_substituted()
 }

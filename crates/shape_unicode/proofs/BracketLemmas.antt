@@ -9,7 +9,7 @@ use Rattle.ucd_bidi.specs.BidiMirroredRanges.{bidi_mirrored_ranges}
 use Rattle.ucd_category.specs.GeneralCategory.{general_category}
 use Rattle.ucd_category.specs.declared.GeneralCategory.{GeneralCategory}
 use Rattle.ucd_category.proofs.GeneralCategoryLemmas.{general_category_stepped}
-use Rattle.shape_unicode.specs.Brackets.{is_bracket_category, is_turned, is_new_bracket, BracketsTurn}
+use Rattle.shape_unicode.specs.Brackets.{is_bracket_category, is_counterpart, is_new_bracket, BracketsTurn}
 use Rattle.shape_unicode.specs.Category.{category_from, category_of}
 use Rattle.shape_unicode.specs.Mirror.{other_of_pair}
 use Rattle.shape_unicode.specs.SplitLaws.{not_true, true_is_false}
@@ -17,7 +17,7 @@ use Rattle.shape_unicode.specs.Tables.{Tables, by_rows, by_trees, same_tables}
 
 -- the image is one that category k turns to
 abbrev turns : Tables → GeneralCategory → Option ℕ → Bool
-turns t k image = option_map_or (λ d. is_turned (category_from k) (category_from (t.category d))) image false
+turns t k image = option_map_or (λ d. is_counterpart (category_from k) (category_from (t.category d))) image false
 
 -- c, whose category is k, is new, or is not mirrored, or has such an image
 abbrev bracket_ok : Tables → ℕ → GeneralCategory → Bool
@@ -31,7 +31,7 @@ brackets_ok c some =
     (bracket_ok by_trees) refl c some
 
 turned_image : (c : ℕ) (image : Option ℕ) → turns by_rows (general_category c) image ≡ true
-    → (d : ℕ) × ((image ≡ Some d) × (is_turned (category_of c) (category_of d) ≡ true))
+    → (d : ℕ) × ((image ≡ Some d) × (is_counterpart (category_of c) (category_of d) ≡ true))
 turned_image c None h = cc
 turned_image c (Some d) h = (d, (refl, h))
 

@@ -15,12 +15,12 @@ is_bracket_category FinalPunctuation = true
 is_bracket_category _ = false
 
 -- one opens what the other one closes
-abbrev pub is_turned : hb_unicode_general_category_t → hb_unicode_general_category_t → Bool
-is_turned OpenPunctuation ClosePunctuation = true
-is_turned ClosePunctuation OpenPunctuation = true
-is_turned InitialPunctuation FinalPunctuation = true
-is_turned FinalPunctuation InitialPunctuation = true
-is_turned _ _ = false
+abbrev pub is_counterpart : hb_unicode_general_category_t → hb_unicode_general_category_t → Bool
+is_counterpart OpenPunctuation ClosePunctuation = true
+is_counterpart ClosePunctuation OpenPunctuation = true
+is_counterpart InitialPunctuation FinalPunctuation = true
+is_counterpart FinalPunctuation InitialPunctuation = true
+is_counterpart _ _ = false
 
 -- the two that came with version 18, which the pairs of version 15 don't have
 abbrev pub is_new_bracket : ℕ → Bool
@@ -30,4 +30,4 @@ is_new_bracket c = c == 0x2E62 || c == 0x2E63
 abbrev pub BracketsTurn : Type 0
 BracketsTurn =
     (c : ℕ) → is_new_bracket c ≡ false → is_bidi_mirrored c ≡ true → is_bracket_category (category_of c) ≡ true
-    → (d : ℕ) × ((mirrored_of c ≡ Some d) × (is_turned (category_of c) (category_of d) ≡ true))
+    → (d : ℕ) × ((mirrored_of c ≡ Some d) × (is_counterpart (category_of c) (category_of d) ≡ true))

@@ -19,8 +19,8 @@ use Rattle.canonical_form.specs.Equivalent.{ComposesSoundly}
 use Rattle.canonical_form.proofs.Expanding.ChainLemmas.{full-stays, full-splits}
 use Rattle.shape_unicode.specs.SplitLaws.{not_true, has_mapping, split_of-falls, second_is_whole}
 
-joins_hangul : (a b c : ℕ) → IsLv a b c ⊎ IsLvt a b c → (split_of c ≡ Some (a, b)) × (b ≢ 0)
-joins_hangul a b c (inl h) =
+composes_hangul : (a b c : ℕ) → IsLv a b c ⊎ IsLvt a b c → (split_of c ≡ Some (a, b)) × (b ≢ 0)
+composes_hangul a b c (inl h) =
     let leading = h.leading in
     let vowel = h.vowel in
     let value = h.value in
@@ -31,7 +31,7 @@ joins_hangul a b c (inl h) =
       cond-true (is_syllable c) _ _ syllable ∙ ap Some (cond-true _ _ _ (eq-eqb _ 0 open_end) ∙ ap₂ (λ x y. (x, y)) first second),
       λ e. omega arith,
     )
-joins_hangul a b c (inr h) =
+composes_hangul a b c (inr h) =
     let range = h.syllable in
     let trailing = h.trailing in
     let value = h.value in
@@ -44,9 +44,9 @@ joins_hangul a b c (inr h) =
       λ e. omega arith,
     )
 
-joins_database : (a b c : ℕ) → composite a b ≡ Some c → (split_of c ≡ Some (a, b)) × (b ≢ 0)
-joins_database a b c joined =
-    let mapping : canonical_mapping c ≡ a ∷ b ∷ [] = (composite-IsCompositeOf a b c joined).mapping in
+composes_database : (a b c : ℕ) → composite a b ≡ Some c → (split_of c ≡ Some (a, b)) × (b ≢ 0)
+composes_database a b c composed =
+    let mapping : canonical_mapping c ≡ a ∷ b ∷ [] = (composite-IsCompositeOf a b c composed).mapping in
     let into : parts_of (canonical_mapping c) ≡ Some (a, b) = ap parts_of mapping in
     let ok = and_parts _ _ (mappings_ok c (has_mapping c a b into)) in
     let apart : is_syllable c ≡ false = not_true _ (and_parts _ _ ok.0).0 in
@@ -58,12 +58,12 @@ joins_database a b c joined =
 -- what two characters compose to splits into the two
 pub composed_splits : (a b c : ℕ) → primary_composite a b ≡ Some c → (split_of c ≡ Some (a, b)) × (b ≢ 0)
 unfolding primary_composite
-composed_splits a b c joined =
+composed_splits a b c composed =
     elim (cases_Option (compose_hangul a b)) [
-      | inl none ↦ joins_database a b c (ap (λ o. or_else o (composite a b)) (sym none) ∙ joined)
+      | inl none ↦ composes_database a b c (ap (λ o. or_else o (composite a b)) (sym none) ∙ composed)
       | inr some ↦
-          let e : Some some.0 ≡ Some c = ap (λ o. or_else o (composite a b)) (sym some.1) ∙ joined in
-          joins_hangul a b c (compose_hangul-some a b c (some.1 ∙ e))
+          let e : Some some.0 ≡ Some c = ap (λ o. or_else o (composite a b)) (sym some.1) ∙ composed in
+          composes_hangul a b c (compose_hangul-some a b c (some.1 ∙ e))
     ]
 
 kept_part_nonzero : (b : ℕ) → b ≢ 0 → kept_part b ≡ b ∷ []
@@ -71,8 +71,8 @@ kept_part_nonzero b nonzero = cond-false (b == 0) _ _ (ne_eqb b 0 nonzero)
 
 -- Full of the composed one is Full of the first part, and then the second part, which is its own Full
 full_of_composed : (a b c : ℕ) → primary_composite a b ≡ Some c → full by_shaping c ≡ full by_shaping a ++ full by_shaping b
-full_of_composed a b c joined =
-    let parts = composed_splits a b c joined in
+full_of_composed a b c composed =
+    let parts = composed_splits a b c composed in
     let falling : FallsAlong by_shaping.split by_shaping.height = record { falls = split_of-falls } in
     let last : split_of b ≡ None = elim (second_is_whole c a b parts.0) [ inl z ↦ absurd (parts.1 z) | inr h ↦ h ] in
     let second : kept_part b ≡ full by_shaping b = kept_part_nonzero b parts.1 ∙ sym (full-stays by_shaping falling b last) in
@@ -87,7 +87,7 @@ composes_soundly = record { equivalent = sound }
 
     sound : (a b c : ℕ) → primary_composite a b ≡ Some c
         → Swaps modified_ccc_of (full_text by_shaping (c ∷ [])) (full_text by_shaping (a ∷ b ∷ []))
-    sound a b c joined =
+    sound a b c composed =
         let same_text : (full_of c ++ []) ≡ (full_of a ++ (full_of b ++ [])) =
-        ap (λ xs. xs ++ []) (full_of_composed a b c joined) ∙ append_assoc (full_of a) (full_of b) [] in
+        ap (λ xs. xs ++ []) (full_of_composed a b c composed) ∙ append_assoc (full_of a) (full_of b) [] in
         subst (λ xs. Swaps modified_ccc_of (full_of c ++ []) xs) same_text done

@@ -10,11 +10,11 @@ ghost use Rattle.shape_fallback.specs.MarkState.{component_extents as component_
 ghost use Rattle.shape_fallback.specs.MarkState.{is_same as is_same_of};
 ghost use Rattle.shape_fallback.specs.MarkState.{at_component as at_component_of};
 ghost use Rattle.shape_fallback.specs.MarkState.{with_component as with_component_of};
-ghost use Rattle.shape_fallback.specs.MarkState.{with_ccc as with_ccc_of, passed as passed_of};
+ghost use Rattle.shape_fallback.specs.MarkState.{at_ccc as at_ccc_of, passed as passed_of};
 ghost use Rattle.shape_fallback.specs.MarkState.{moved as moved_of, place_in as place_in_of};
 ghost use Rattle.shape_fallback.specs.MarkState.{place_mark as place_mark_of};
 
-use crate::ot_shape_fallback::one_mark::{Placed, Surroundings, position_mark};
+use crate::ot_shape_fallback::one_mark::{PlacedMark, Surroundings, position_mark};
 use shape_buffer::buffer::{GlyphId, GlyphPosition, hb_glyph_info_t};
 use shape_buffer::interfaces::{hb_font_t, hb_glyph_extents_t};
 use shape_buffer::wrapping::{difference, product, quotient, sum};
@@ -134,9 +134,9 @@ fn with_component(base: Base, info: &hb_glyph_info_t, state: MarkState) -> MarkS
 }
 
 /// Goes to a ccc.
-#[tactic(auto, using(shape_buffer::proofs::WrappingLemmas::kept_bits), unfolding(crate::specs::MarkState::with_ccc))]
-fn with_ccc(ccc: u8, mut state: MarkState) -> MarkState
-    ensures { result ≡ with_ccc_of ccc state }
+#[tactic(auto, using(shape_buffer::proofs::WrappingLemmas::kept_bits), unfolding(crate::specs::MarkState::at_ccc))]
+fn at_ccc(ccc: u8, mut state: MarkState) -> MarkState
+    ensures { result ≡ at_ccc_of ccc state }
 {
     if ccc == state.ccc {
         return state;
@@ -189,7 +189,7 @@ fn place_in<F: hb_font_t>(
         base.surroundings,
         GlyphId(info.glyph_id),
         info._hb_glyph_info_get_modified_combining_class(),
-        Placed {
+        PlacedMark {
             position,
             base: state.extents,
         },
@@ -215,6 +215,6 @@ pub fn place_mark<F: hb_font_t>(
         let state = passed(base.surroundings.forward, position, state);
         return MarkStep { position, state };
     }
-    let state = with_ccc(ccc, with_component(base, info, state));
+    let state = at_ccc(ccc, with_component(base, info, state));
     place_in(face, base, state, info, position)
 }

@@ -16,7 +16,7 @@ ghost use Rattle.shape_fallback.specs.OneMark.{is_above as is_above_of};
 ghost use Rattle.shape_fallback.specs.OneMark.{is_attached as is_attached_of, hung as hung_of};
 ghost use Rattle.shape_fallback.specs.OneMark.{lowered as lowered_of, piled as piled_of};
 ghost use Rattle.shape_fallback.specs.OneMark.{raised as raised_of, stacked as stacked_of};
-ghost use Rattle.shape_fallback.specs.OneMark.{placed as placed_of};
+ghost use Rattle.shape_fallback.specs.OneMark.{mark_placed as mark_placed_of};
 
 use shape_buffer::buffer::{GlyphId, GlyphPosition};
 use shape_buffer::interfaces::{hb_font_t, hb_glyph_extents_t};
@@ -203,7 +203,7 @@ pub(crate) fn stack_mark(
 
 /// A mark's position, and the base's extents that go on to the next mark.
 #[derive(Clone, Copy, Debug)]
-pub struct Placed {
+pub struct PlacedMark {
     pub position: GlyphPosition,
     pub base: hb_glyph_extents_t,
 }
@@ -217,15 +217,15 @@ pub struct Surroundings {
 }
 
 /// Places a mark by its ccc.
-#[tactic(auto, unfolding(crate::specs::OneMark::placed))]
+#[tactic(auto, unfolding(crate::specs::OneMark::mark_placed))]
 pub fn position_mark<F: hb_font_t>(
     face: &F,
     surroundings: Surroundings,
     glyph: GlyphId,
     ccc: u8,
-    mut placed: Placed,
-) -> Placed
-    ensures { result ≡ placed_of surroundings ((F.face face.now).extents glyph) ccc placed }
+    mut placed: PlacedMark,
+) -> PlacedMark
+    ensures { result ≡ mark_placed_of surroundings ((F.face face.now).extents glyph) ccc placed }
 {
     let Some(mark) = face.glyph_extents(glyph) else {
         return placed;

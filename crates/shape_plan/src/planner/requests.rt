@@ -1,9 +1,9 @@
 //! What a planner asks of the layout engine, in order.
 //!
-//! Lookups run in the order of the features that asked for them, so the order of the requests is their
-//! meaning: variations of the face come before everything, a direction's forms and fractions before a
-//! script's features, those of every text behind them, and the user's last. Each function here appends one
-//! row of the order to a builder; what it appends stands in its contract.
+//! An engine is to run lookups in the order of the features that asked for them, so the order of the
+//! requests is their meaning: variations of the face come before everything, a direction's forms and
+//! fractions before a script's features, those of every text behind them, and the user's last. Each
+//! function here appends one row of the order to a builder; what it appends stands in its contract.
 ghost use Rattle.std.specs.Prelude.{◌≡◌, OnOk, IsOkUnless, IfErr, map, is_some};
 ghost use Rattle.shape_buffer.specs.MapBuilder.{with_requests};
 ghost use Rattle.shape_plan.specs.Requests.{
@@ -24,7 +24,7 @@ ghost use Rattle.shape_plan.specs.Requests.{
   hook_of,
   hooked,
   not_simple_if,
-  begun,
+  begun_requests,
   collected as collected_of,
   widened,
 };
@@ -124,7 +124,7 @@ pub(crate) fn begin(
     builder: &mut hb_ot_map_builder_t,
     direction: Direction,
 ) -> Result<(), ShapeError>
-    ensures ok { OnOk result (builder.new ≡ begun direction builder.old) }
+    ensures ok { OnOk result (builder.new ≡ begun_requests direction builder.old) }
     ensures memory { IsOkUnless result ShapeError.Memory }
 {
     builder.set_simple(true);

@@ -1,10 +1,10 @@
 //! What the tests of planning bring: functions of Unicode by which every character is a letter, and faces
 //! and an engine whose answers are the bits of a number.
 ghost use Rattle.std.specs.Prelude.{◌≡◌};
-ghost use Rattle.shape_buffer.specs.NoLookups.{no_lookups};
+ghost use Rattle.shape_buffer.specs.NoLookups.{no_lookups, no_lookups-lawful};
 ghost use Rattle.shape_plan.specs.PlainTexts.{plain_unicode, plain_unicode-lawful, answers_of};
 ghost use Rattle.shape_plan.specs.PlainTexts.{layouts_of, masks_of, masks_of-lawful};
-ghost use Rattle.shape_plan.specs.PlainTexts.{no_lookups-lawful, has as answer};
+ghost use Rattle.shape_plan.specs.PlainTexts.{has as answer};
 
 use shape_buffer::buffer::{
     Direction, Feature, GlyphId, Language, Script, ShapeError, hb_buffer_t, hb_mask_t, hb_tag_t,
