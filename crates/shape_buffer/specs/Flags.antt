@@ -13,23 +13,23 @@ use Rattle.shape_buffer.specs.FlagNames.{UNSAFE_TO_BREAK, SAFE_TO_INSERT_TATWEEL
 abbrev pub flags_of : Item → ℕ
 flags_of item = bit_and item.mask DEFINED
 
--- the defined flags of some items, joined
-abbrev pub joined_flags : List Item → ℕ
-joined_flags items = fold (λ joined item. bit_or joined (flags_of item)) 0 items
+-- the defined flags of some items, united
+abbrev pub united_flags : List Item → ℕ
+united_flags items = fold (λ united item. bit_or united (flags_of item)) 0 items
 
 -- where tatweel is asked for: unsafe to break clears safe to insert tatweel, and one that is left brings both unsafe flags
 abbrev pub with_tatweel : BufferFlags → ℕ → ℕ
-with_tatweel flags joined =
+with_tatweel flags united =
     if bit_and flags.0 PRODUCE_SAFE_TO_INSERT_TATWEEL == PRODUCE_SAFE_TO_INSERT_TATWEEL then
-    (if bit_and joined UNSAFE_TO_BREAK == UNSAFE_TO_BREAK then bit_and joined UNSAFE
-    else if bit_and joined SAFE_TO_INSERT_TATWEEL == SAFE_TO_INSERT_TATWEEL then bit_or joined UNSAFE
-    else joined)
-    else joined
+    (if bit_and united UNSAFE_TO_BREAK == UNSAFE_TO_BREAK then bit_and united UNSAFE
+    else if bit_and united SAFE_TO_INSERT_TATWEEL == SAFE_TO_INSERT_TATWEEL then bit_or united UNSAFE
+    else united)
+    else united
 
 -- unsafe to concat stands only where it is asked for
-abbrev pub settled_flags : BufferFlags → ℕ → ℕ
-settled_flags flags joined =
-    let tatweel = with_tatweel flags joined in
+abbrev pub handed_flags : BufferFlags → ℕ → ℕ
+handed_flags flags united =
+    let tatweel = with_tatweel flags united in
     if bit_and flags.0 PRODUCE_UNSAFE_TO_CONCAT == PRODUCE_UNSAFE_TO_CONCAT then tatweel else bit_and tatweel NOT_FOR_CONCAT
 
 -- the maximal runs of items in one cluster
@@ -41,7 +41,7 @@ with_mask mask item = record item { mask = mask }
 
 -- a run, each item with the flags of all
 abbrev pub run_flagged : BufferFlags → List Item → List Item
-run_flagged flags run = map (with_mask (settled_flags flags (joined_flags run))) run
+run_flagged flags run = map (with_mask (handed_flags flags (united_flags run))) run
 
 -- where the run has seen flags (scratch flag 32), each cluster gets one set of them
 unfoldable pub flags_propagated : Buffer → Buffer
@@ -56,15 +56,15 @@ HasOneSetOfFlags (item ∷ next ∷ items) = (item.cluster ≡ next.cluster → 
 
 -- ---- the walk of the code, which keeps the cluster of the item before and the mask that it got
 
--- the joined flags of the items at the start of a list that are in one cluster
-abbrev pub first_joined : ℕ → List Item → ℕ
-first_joined cluster items = joined_flags (take (prefix_len (has_cluster cluster) items) items)
+-- the united flags of the items at the start of a list that are in one cluster
+abbrev pub first_united : ℕ → List Item → ℕ
+first_united cluster items = united_flags (take (prefix_len (has_cluster cluster) items) items)
 
 -- the mask of the first of some items, after one in this cluster with this mask
 abbrev pub mask_after : BufferFlags → Option (ℕ × ℕ) → Item → List Item → ℕ
-mask_after flags None item items = settled_flags flags (first_joined item.cluster items)
+mask_after flags None item items = handed_flags flags (first_united item.cluster items)
 mask_after flags (Some before) item items =
-    if has_cluster before.0 item then before.1 else settled_flags flags (first_joined item.cluster items)
+    if has_cluster before.0 item then before.1 else handed_flags flags (first_united item.cluster items)
 
 unfoldable pub flagged_from : BufferFlags → Option (ℕ × ℕ) → List Item → List Item
 flagged_from flags before [] = []

@@ -130,8 +130,8 @@ abbrev shared : List Item → ℕ → ℕ → List ℕ
 shared items flags scratch = map (λ (item : Item). item.mask) (flags_propagated (text_of items [] flags scratch)).items
 
 pub record FlagsOfClusters : Type 0 where
-  -- joined, though unsafe to concat is asked for
-  pub joined : shared (masked 1 0 ∷ masked 0 0 ∷ []) 64 32 ≡ 1 ∷ 1 ∷ []
+  -- united, though unsafe to concat is asked for
+  pub united : shared (masked 1 0 ∷ masked 0 0 ∷ []) 64 32 ≡ 1 ∷ 1 ∷ []
   pub tatweel : shared (masked 4 0 ∷ masked 0 0 ∷ []) 128 32 ≡ 5 ∷ 5 ∷ []
   pub tatweel_and_concat : shared (masked 4 0 ∷ masked 0 0 ∷ []) 192 32 ≡ 7 ∷ 7 ∷ []
   pub tatweel_unsafe : shared (masked 4 0 ∷ masked 1 0 ∷ []) 128 32 ≡ 1 ∷ 1 ∷ []
@@ -147,7 +147,7 @@ pub record FlagsOfClusters : Type 0 where
 flags_of_clusters : FlagsOfClusters
 unfolding flags_propagated
 flags_of_clusters = record {
-  joined = refl;
+  united = refl;
   tatweel = refl;
   tatweel_and_concat = refl;
   tatweel_unsafe = refl;

@@ -1,11 +1,11 @@
 //! The last step over the list: each cluster gets one set of flags.
 //!
 //! Shaping marks single glyphs as unsafe to break or to concat before, but a line can only be cut between
-//! clusters. So the flags of a cluster's glyphs are joined and each of them gets all: a caller may then ask
+//! clusters. So the flags of a cluster's glyphs are united and each of them gets all: a caller may then ask
 //! any one of them. The masks hold flags alone from here on.
 ghost use Rattle.std.specs.Prelude.{◌≡◌, ◌==◌, false};
 ghost use Rattle.std.specs.Int.RustNames.{bit_and};
-ghost use Rattle.shape_buffer.specs.Flags.{first_joined, settled_flags as settled_flags_of};
+ghost use Rattle.shape_buffer.specs.Flags.{first_united, handed_flags as handed_flags_of};
 ghost use Rattle.shape_buffer.specs.Flags.{with_tatweel as with_tatweel_of};
 ghost use Rattle.shape_buffer.specs.Flags.{mask_after as mask_after_of, flags_propagated};
 ghost use Rattle.shape_buffer.specs.FlagNames.{PRODUCE_UNSAFE_TO_CONCAT, UNSAFE_TO_CONCAT};
@@ -20,37 +20,37 @@ use shape_buffer::buffer::{
     hb_buffer_t, hb_glyph_info_t, hb_mask_t,
 };
 
-/// The defined flags of the first items, as long as they are in the cluster, joined.
-fn joined_flags(infos: &[hb_glyph_info_t], cluster: u32) -> hb_mask_t
-    ensures { result ≡ first_joined cluster infos.now }
+/// The defined flags of the first items, as long as they are in the cluster, united.
+fn united_flags(infos: &[hb_glyph_info_t], cluster: u32) -> hb_mask_t
+    ensures { result ≡ first_united cluster infos.now }
 {
     infos
         .iter()
         .take_while(|info| info.cluster == cluster)
-        .fold(0, |joined, info| joined | info.mask & DEFINED)
+        .fold(0, |united, info| united | info.mask & DEFINED)
 }
 
-/// The joined flags of a cluster, where tatweel is asked for: a tatweel may not be put in where it is unsafe
+/// The united flags of a cluster, where tatweel is asked for: a tatweel may not be put in where it is unsafe
 /// to break, and where it may be put in it is unsafe to break and to concat.
-fn with_tatweel(flags: BufferFlags, joined: hb_mask_t) -> hb_mask_t
-    ensures { result ≡ with_tatweel_of flags joined }
+fn with_tatweel(flags: BufferFlags, united: hb_mask_t) -> hb_mask_t
+    ensures { result ≡ with_tatweel_of flags united }
 {
     if !flags.contains(BufferFlags::PRODUCE_SAFE_TO_INSERT_TATWEEL) {
-        joined
-    } else if joined & UNSAFE_TO_BREAK == UNSAFE_TO_BREAK {
-        joined & (UNSAFE_TO_BREAK | UNSAFE_TO_CONCAT)
-    } else if joined & SAFE_TO_INSERT_TATWEEL == SAFE_TO_INSERT_TATWEEL {
-        joined | (UNSAFE_TO_BREAK | UNSAFE_TO_CONCAT)
+        united
+    } else if united & UNSAFE_TO_BREAK == UNSAFE_TO_BREAK {
+        united & (UNSAFE_TO_BREAK | UNSAFE_TO_CONCAT)
+    } else if united & SAFE_TO_INSERT_TATWEEL == SAFE_TO_INSERT_TATWEEL {
+        united | (UNSAFE_TO_BREAK | UNSAFE_TO_CONCAT)
     } else {
-        joined
+        united
     }
 }
 
-/// What of the joined flags of a cluster is handed out: unsafe to concat only where it is asked for.
-fn settled_flags(flags: BufferFlags, joined: hb_mask_t) -> hb_mask_t
-    ensures { result ≡ settled_flags_of flags joined }
+/// What of the united flags of a cluster is handed out: unsafe to concat only where it is asked for.
+fn handed_flags(flags: BufferFlags, united: hb_mask_t) -> hb_mask_t
+    ensures { result ≡ handed_flags_of flags united }
 {
-    let tatweel = with_tatweel(flags, joined);
+    let tatweel = with_tatweel(flags, united);
     if flags.contains(BufferFlags::PRODUCE_UNSAFE_TO_CONCAT) {
         tatweel
     } else {
@@ -72,7 +72,7 @@ fn mask_after(
             return mask;
         }
     }
-    settled_flags(flags, joined_flags(infos, info.cluster))
+    handed_flags(flags, united_flags(infos, info.cluster))
 }
 
 /// Gives the items of each cluster the flags of all, where the run has seen flags.
@@ -96,7 +96,7 @@ fn share_flags(buffer: &mut hb_buffer_t)
     }
 }
 
-/// Gives each cluster one set of flags, where the run has seen flags: the defined bits of its items joined,
+/// Gives each cluster one set of flags, where the run has seen flags: the defined bits of its items united,
 /// settled by what the caller asks for, in place of each mask. Where it hasn't seen any and no item has
 /// one, nothing is to be done. Takes no memory.
 pub fn propagate_flags(buffer: &mut hb_buffer_t)

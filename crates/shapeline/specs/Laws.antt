@@ -176,7 +176,7 @@ splits_fall all_fall all_end all_keep = record {
 
 -- what the functions compose is of the table, and splits into the two again
 compose_of_cases : (a b c : ℕ) → compose_of a b ≡ Some c → (compose_in_table a b ≡ Some c) × (is_split_into a b (split_of c) ≡ true)
-compose_of_cases a b c joined =
+compose_of_cases a b c composed =
     let P : Option ℕ → Type 0 = λ v. option_and_then (λ d. cond (is_split_into a b (split_of d)) (Some d) None) v ≡ Some c
     → (v ≡ Some c) × (is_split_into a b (split_of c) ≡ true) in
     let cases : P (compose_in_table a b) = elim (compose_in_table a b) as P [
@@ -190,7 +190,7 @@ compose_of_cases a b c joined =
           ] in
           inner refl h
     ] in
-    cases joined
+    cases composed
 
 split_into : (a b : ℕ) (o : Option (ℕ × ℕ)) → is_split_into a b o ≡ true → o ≡ Some (a, b)
 split_into a b None h = cc
@@ -204,8 +204,8 @@ split_into a b (Some parts) h =
 abbrev has_two_parts : Entry → Bool
 has_two_parts e = not (e.1 == 0)
 
-joined_second : list_all has_two_parts COMPOSITES ≡ true → (a b c : ℕ) → compose_in_table a b ≡ Some c → b ≢ 0
-joined_second all a b c joined =
+composed_second : list_all has_two_parts COMPOSITES ≡ true → (a b c : ℕ) → compose_in_table a b ≡ Some c → b ≢ 0
+composed_second all a b c composed =
     let is_key : Entry → Bool = λ e. e.0 == a && e.1 == b in
     let made : Entry → ℕ = λ e. e.2 in
     let P : Option Entry → Type 0 = λ v. find is_key COMPOSITES ≡ v → option_map made v ≡ Some c → b ≢ 0 in
@@ -218,7 +218,7 @@ joined_second all a b c joined =
           let nonzero = passes.1 in
           grind (arith, nat_tests)
     ] in
-    cases refl joined
+    cases refl composed
 
 kept_part_nonzero : (b : ℕ) → b ≢ 0 → kept_part b ≡ b ∷ []
 kept_part_nonzero b nonzero = let e : (b == 0) ≡ false = grind (arith, nat_tests) in ap (λ t. cond t [] (b ∷ [])) e
@@ -226,10 +226,10 @@ kept_part_nonzero b nonzero = let e : (b == 0) ≡ false = grind (arith, nat_tes
 -- Full of the composite is Full of the first part, and then the second part, which is its own Full
 full_of_composed : SplitsFall by_tables → list_all has_two_parts COMPOSITES ≡ true → (a b c : ℕ) → compose_of a b ≡ Some c
     → full by_tables c ≡ full by_tables a ++ full by_tables b
-full_of_composed falling all a b c joined =
-    let cases = compose_of_cases a b c joined in
+full_of_composed falling all a b c composed =
+    let cases = compose_of_cases a b c composed in
     let splits : split_of c ≡ Some (a, b) = split_into a b (split_of c) cases.1 in
-    let nonzero : b ≢ 0 = joined_second all a b c cases.0 in
+    let nonzero : b ≢ 0 = composed_second all a b c cases.0 in
     let last : split_of b ≡ None = elim (falling.second_is_last c a b splits) [ inl z ↦ absurd (nonzero z) | inr h ↦ h ] in
     let second : kept_part b ≡ full by_tables b = kept_part_nonzero b nonzero ∙ sym (full-stays by_tables falling.height_falls b last) in
     full-splits by_tables falling.height_falls c a b splits ∙ ap (λ xs. full by_tables a ++ xs) second
@@ -242,9 +242,9 @@ composes_soundly falling all = record { equivalent = sound }
     full_of c = full by_tables c
 
     sound : (a b c : ℕ) → compose_of a b ≡ Some c → Swaps ccc_of (full_text by_tables (c ∷ [])) (full_text by_tables (a ∷ b ∷ []))
-    sound a b c joined =
+    sound a b c composed =
         let same_text : (full_of c ++ []) ≡ (full_of a ++ (full_of b ++ [])) =
-        ap (λ xs. xs ++ []) (full_of_composed falling all a b c joined) ∙ append_assoc (full_of a) (full_of b) [] in
+        ap (λ xs. xs ++ []) (full_of_composed falling all a b c composed) ∙ append_assoc (full_of a) (full_of b) [] in
         subst (λ xs. Swaps ccc_of (full_of c ++ []) xs) same_text done
 
 not_false : (t : Bool) → not t ≡ true → t ≡ false

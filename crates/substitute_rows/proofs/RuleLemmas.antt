@@ -13,7 +13,7 @@ use Rattle.shape_buffer.specs.Positions.{zero_position}
 use Rattle.shape_buffer.specs.declared.buffer.error.ShapeError.{ShapeError}
 use Rattle.shape_buffer.specs.declared.buffer.error.ShapeError.TheVariants.{Memory, Length}
 use Rattle.shape_buffer.proofs.Merging.KeyLemmas.{length-merge_clusters, without_items-merge_clusters}
-use Rattle.substitute_rows.specs.Rules.{with_glyph, two_for_one, multiplied, joined}
+use Rattle.substitute_rows.specs.Rules.{with_glyph, two_for_one, multiplied, made_one}
 use Rattle.substitute_rows.specs.declared.support.rules.Ligature.{Ligature}
 use Rattle.substitute_rows.specs.declared.support.rules.Multiple.{Multiple}
 
@@ -24,9 +24,9 @@ shorter xs i item n as_many within =
     let one = length-remove (set xs i item) (i + 1) (omega arith) in
     omega arith
 
-pub Made-joined : (rule : Ligature) (i : ℕ) (b new : Buffer) → new ≡ joined rule i b → i + 2 ≤ length b.items → Made (joined rule i) b new
-unfolding joined
-Made-joined rule i b new made within =
+pub Made-made_one : (rule : Ligature) (i : ℕ) (b new : Buffer) → new ≡ made_one rule i b → i + 2 ≤ length b.items → Made (made_one rule i) b new
+unfolding made_one
+Made-made_one rule i b new made within =
     let merged = merge_clusters i (i + 2) b in
     let glyph = with_glyph rule.into (get_or merged.items i (new_item 0 0)) in
     let fewer = shorter merged.items i glyph (length b.items) (length-merge_clusters i (i + 2) b) within in

@@ -49,14 +49,14 @@ begins_with_pair rule (first ∷ []) = false
 begins_with_pair rule (first ∷ second ∷ items) = takes rule.feature rule.first first && takes rule.feature rule.second second
 
 -- the items at places i and i + 1 become one, once their clusters are merged
-unfoldable pub joined : OneForTwo → ℕ → Buffer → Buffer
-joined rule i b =
+unfoldable pub made_one : OneForTwo → ℕ → Buffer → Buffer
+made_one rule i b =
     let merged = merge_clusters i (i + 2) b in
     let glyph = with_glyph rule.into (get_or merged.items i (new_item 0 0)) in
     record merged { items = remove (set merged.items i glyph) (i + 1); positions = remove merged.positions (i + 1) }
 
 abbrev pub ligated_at : OneForTwo → ℕ → Buffer → Buffer
-ligated_at rule i b = if begins_with_pair rule (drop i b.items) then joined rule i b else b
+ligated_at rule i b = if begins_with_pair rule (drop i b.items) then made_one rule i b else b
 
 -- the first n places are visited from left to right, as places are when each is reached
 abbrev pub ligated_to : OneForTwo → ℕ → Buffer → Buffer

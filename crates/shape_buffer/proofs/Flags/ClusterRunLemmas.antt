@@ -10,7 +10,7 @@ use Rattle.shape_buffer.specs.Delete.{begins_in}
 use Rattle.canonical_form.specs.Divided.{put_first}
 use Rattle.shape_buffer.specs.Items.{Item, has_cluster}
 use Rattle.shape_buffer.specs.declared.buffer.flags.BufferFlags.{BufferFlags}
-use Rattle.shape_buffer.specs.Flags.{cluster_runs, run_flagged, with_mask, settled_flags, with_tatweel, first_joined, joined_flags, mask_after, flagged_from, HasOneSetOfFlags}
+use Rattle.shape_buffer.specs.Flags.{cluster_runs, run_flagged, with_mask, handed_flags, with_tatweel, first_united, united_flags, mask_after, flagged_from, HasOneSetOfFlags}
 
 -- neighbours that the walk has written have one set of flags
 pub one_set-flagged : (flags : BufferFlags) (before : Option (ℕ × ℕ)) (items : List Item)
@@ -61,7 +61,7 @@ spread-apart flags mask (run ∷ runs) = refl
 
 -- one more item, whose run goes on behind it or not, and with what is before it or not
 spread-more : (flags : BufferFlags) (mask fresh : ℕ) (x : Item) (goes_on same : Bool) (runs : List (List Item))
-    → fresh ≡ settled_flags flags (joined_flags (first_of (if goes_on then put_first x runs else (x ∷ []) ∷ runs)))
+    → fresh ≡ handed_flags flags (united_flags (first_of (if goes_on then put_first x runs else (x ∷ []) ∷ runs)))
     → with_mask (if same then mask else fresh) x ∷ spread flags (if same then mask else fresh) goes_on runs
     ≡ spread flags mask same (if goes_on then put_first x runs else (x ∷ []) ∷ runs)
 spread-more flags mask fresh x true true [] is = refl
@@ -80,10 +80,10 @@ runs-more : (x : Item) (xs : List Item) → one_more x xs ≡ cluster_runs (x �
 runs-more x [] = refl
 runs-more x (y ∷ ys) = refl
 
-joined-first : (x : Item) (xs : List Item) → first_joined x.cluster (x ∷ xs) ≡ joined_flags (first_of (one_more x xs))
-joined-first x xs =
+united-first : (x : Item) (xs : List Item) → first_united x.cluster (x ∷ xs) ≡ united_flags (first_of (one_more x xs))
+united-first x xs =
     let own : has_cluster x.cluster x ≡ true = grind (arith, nat_tests) in
-    rw own (ap joined_flags (take-one_more x xs (prefix_len (has_cluster x.cluster) xs)
+    rw own (ap united_flags (take-one_more x xs (prefix_len (has_cluster x.cluster) xs)
     ∙ sym (ap first_of (runs-more x xs) ∙ first_run x.cluster x xs refl)))
 
 flagged-spread : (flags : BufferFlags) (c mask : ℕ) (xs : List Item)
@@ -93,8 +93,8 @@ flagged-spread flags c mask [] = refl
 flagged-spread flags c mask (x ∷ xs) =
     let now = mask_after flags (Some (c, mask)) x (x ∷ xs) in
     ap (λ zs. with_mask now x ∷ zs) (flagged-spread flags x.cluster now xs)
-    ∙ spread-more flags mask (settled_flags flags (first_joined x.cluster (x ∷ xs))) x (begins_in x.cluster xs) (has_cluster c x)
-    (cluster_runs xs) (ap (settled_flags flags) (joined-first x xs))
+    ∙ spread-more flags mask (handed_flags flags (first_united x.cluster (x ∷ xs))) x (begins_in x.cluster xs) (has_cluster c x)
+    (cluster_runs xs) (ap (handed_flags flags) (united-first x xs))
     ∙ ap (spread flags mask (has_cluster c x)) (runs-more x xs)
 
 pub flagged-runs : (flags : BufferFlags) (xs : List Item) → flagged_from flags None xs ≡ flat_map (run_flagged flags) (cluster_runs xs)
@@ -103,22 +103,22 @@ flagged-runs flags [] = refl
 flagged-runs flags (x ∷ xs) =
     let now = mask_after flags None x (x ∷ xs) in
     ap (λ zs. with_mask now x ∷ zs) (flagged-spread flags x.cluster now xs)
-    ∙ spread-more flags 0 now x (begins_in x.cluster xs) false (cluster_runs xs) (ap (settled_flags flags) (joined-first x xs))
+    ∙ spread-more flags 0 now x (begins_in x.cluster xs) false (cluster_runs xs) (ap (handed_flags flags) (united-first x xs))
     ∙ spread-apart flags 0 (one_more x xs) ∙ ap (flat_map (run_flagged flags)) (runs-more x xs)
 
 -- ---- where unsafe to concat isn't asked for, no item has it
 
-settled-concat : (flags : BufferFlags) (joined : ℕ) → (bit_and flags.0 64 == 64) ≡ false
-    → nat_lt 0 (bit_and (settled_flags flags joined) 2) ≡ false
-settled-concat flags joined off = rw (off, and_assoc 2 (with_tatweel flags joined) 5, and_zero_r (with_tatweel flags joined)) refl
+handed-concat : (flags : BufferFlags) (united : ℕ) → (bit_and flags.0 64 == 64) ≡ false
+    → nat_lt 0 (bit_and (handed_flags flags united) 2) ≡ false
+handed-concat flags united off = rw (off, and_assoc 2 (with_tatweel flags united) 5, and_zero_r (with_tatweel flags united)) refl
 
 mask_after-concat : (flags : BufferFlags) → (bit_and flags.0 64 == 64) ≡ false → (before : Option (ℕ × ℕ))
     → IfSome before (λ r. nat_lt 0 (bit_and r.1 2) ≡ false)
     → (x : Item) (xs : List Item) → nat_lt 0 (bit_and (mask_after flags before x xs) 2) ≡ false
-mask_after-concat flags off None had x xs = settled-concat flags (first_joined x.cluster xs) off
+mask_after-concat flags off None had x xs = handed-concat flags (first_united x.cluster xs) off
 mask_after-concat flags off (Some before) had x xs = elim (cases_Bool (has_cluster before.0 x)) [
   | inl same ↦ rw same had
-  | inr other ↦ rw other (settled-concat flags (first_joined x.cluster xs) off)
+  | inr other ↦ rw other (handed-concat flags (first_united x.cluster xs) off)
 ]
 
 pub concat-flagged : (flags : BufferFlags) → (bit_and flags.0 64 == 64) ≡ false → (before : Option (ℕ × ℕ))

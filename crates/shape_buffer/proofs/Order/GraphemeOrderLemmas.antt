@@ -4,13 +4,10 @@ use Rattle.std.proofs.lemmas.List.{get_or-reverse, length-reverse, reverse-appen
 use Rattle.std.proofs.lemmas.Grind.{flat_map-append}
 use Rattle.std.specs.List.{flat_map}
 use Rattle.std.specs.List.Sorted.{IsNonDecreasing}
+use Rattle.canonical_form.proofs.Lists.DividedLemmas.{whole}
 use Rattle.shape_buffer.specs.Items.{Item}
 use Rattle.shape_buffer.specs.Clusters.{clusters}
 use Rattle.shape_buffer.specs.ClusterOrder.{IsNonIncreasing}
-
--- the items of parts, one after another
-abbrev pub joined : List (List Item) → List Item
-joined parts = flat_map (λ part. part) parts
 
 -- a part stands in one cluster
 abbrev pub IsOneCluster : List Item → Type 0
@@ -32,23 +29,23 @@ reverse-replicate (suc n) c =
 one_cluster-reverse : (part : List Item) → IsOneCluster part → reverse (clusters part) ≡ clusters part
 one_cluster-reverse part (c, is) = ap (λ (cs : List ℕ). reverse cs) is ∙ reverse-replicate (length part) c ∙ sym is
 
-joined-behind : (parts : List (List Item)) (part : List Item)
-    → clusters (joined (parts ++ (part ∷ []))) ≡ clusters (joined parts) ++ clusters part
-joined-behind parts part =
-    ap clusters (flat_map-append (λ (p : List Item). p) parts (part ∷ []) ∙ ap (λ (xs : List Item). joined parts ++ xs) (append-nil part))
-    ∙ map-append (λ (item : Item). item.cluster) (joined parts) part
+whole-behind : (parts : List (List Item)) (part : List Item)
+    → clusters (whole (parts ++ (part ∷ []))) ≡ clusters (whole parts) ++ clusters part
+whole-behind parts part =
+    ap clusters (flat_map-append (λ (p : List Item). p) parts (part ∷ []) ∙ ap (λ (xs : List Item). whole parts ++ xs) (append-nil part))
+    ∙ map-append (λ (item : Item). item.cluster) (whole parts) part
 
 -- parts in one cluster each, from the last to the first, have the clusters of the whole from its end
 pub clusters-turned : (parts : List (List Item)) → AreOneCluster parts
-    → clusters (joined (reverse parts)) ≡ reverse (clusters (joined parts))
+    → clusters (whole (reverse parts)) ≡ reverse (clusters (whole parts))
 clusters-turned [] one = refl
 clusters-turned (part ∷ parts) one =
-    ap (λ (ps : List (List Item)). clusters (joined ps)) (reverse-append (part ∷ []) parts)
-    ∙ joined-behind (reverse parts) part
+    ap (λ (ps : List (List Item)). clusters (whole ps)) (reverse-append (part ∷ []) parts)
+    ∙ whole-behind (reverse parts) part
     ∙ ap (λ (cs : List ℕ). cs ++ clusters part) (clusters-turned parts one.1)
-    ∙ ap (λ (cs : List ℕ). reverse (clusters (joined parts)) ++ cs) (sym (one_cluster-reverse part one.0))
-    ∙ sym (reverse-append (clusters part) (clusters (joined parts)))
-    ∙ ap (λ (cs : List ℕ). reverse cs) (sym (map-append (λ (item : Item). item.cluster) part (joined parts)))
+    ∙ ap (λ (cs : List ℕ). reverse (clusters (whole parts)) ++ cs) (sym (one_cluster-reverse part one.0))
+    ∙ sym (reverse-append (clusters part) (clusters (whole parts)))
+    ∙ ap (λ (cs : List ℕ). reverse cs) (sym (map-append (λ (item : Item). item.cluster) part (whole parts)))
 
 falls-reverse : (xs : List ℕ) → IsNonDecreasing xs → IsNonIncreasing (reverse xs)
 falls-reverse xs rising i j d le lt =
@@ -58,7 +55,7 @@ falls-reverse xs rising i j d le lt =
     (rising (length xs - 1 - j) (length xs - 1 - i) d (omega arith) (omega arith))
 
 -- rising clusters fall once the parts are turned
-pub falls-turned : (parts : List (List Item)) → AreOneCluster parts → IsNonDecreasing (clusters (joined parts))
-    → IsNonIncreasing (clusters (joined (reverse parts)))
+pub falls-turned : (parts : List (List Item)) → AreOneCluster parts → IsNonDecreasing (clusters (whole parts))
+    → IsNonIncreasing (clusters (whole (reverse parts)))
 falls-turned parts one rising =
-    subst (λ (cs : List ℕ). IsNonIncreasing cs) (sym (clusters-turned parts one)) (falls-reverse (clusters (joined parts)) rising)
+    subst (λ (cs : List ℕ). IsNonIncreasing cs) (sym (clusters-turned parts one)) (falls-reverse (clusters (whole parts)) rising)

@@ -5,7 +5,7 @@ ghost use Rattle.shape_buffer.specs.Walks.{items_mapped};
 ghost use Rattle.substitute_rows.specs.Rules.{takes as takes_of, with_glyph as with_glyph_of};
 ghost use Rattle.substitute_rows.specs.Rules.{added as added_of, one_for_one as one_for_one_of};
 ghost use Rattle.substitute_rows.specs.Rules.{two_for_one as two_for_one_of, multiplied};
-ghost use Rattle.substitute_rows.specs.Rules.{begins_with_pair as begins_with_pair_of, joined};
+ghost use Rattle.substitute_rows.specs.Rules.{begins_with_pair as begins_with_pair_of, made_one};
 ghost use Rattle.substitute_rows.specs.Rules.{ligated_at, ligated, stage_made};
 
 use crate::support::rules::{Ligature, Multiple, Single, Stage};
@@ -89,10 +89,10 @@ fn begins_with_pair(rule: &Ligature, infos: &[hb_glyph_info_t]) -> bool
 }
 
 /// Makes one item of the two from `start` up to `end`.
-fn join(rule: &Ligature, start: usize, end: usize, buffer: &mut hb_buffer_t)
+fn make_one(rule: &Ligature, start: usize, end: usize, buffer: &mut hb_buffer_t)
     requires two { end ≡ start + 2 }
     requires within { end ≤ length buffer.old.items }
-    ensures { Made (joined rule.now start) buffer.old buffer.new }
+    ensures { Made (made_one rule.now start) buffer.old buffer.new }
 {
     buffer.merge_clusters(start, end);
     let info = with_glyph(rule.into, &buffer.infos()[start]);
@@ -105,7 +105,7 @@ fn ligate_at(rule: &Ligature, i: usize, buffer: &mut hb_buffer_t)
     ensures { Made (ligated_at rule.now i) buffer.old buffer.new }
 {
     if i < buffer.len() && begins_with_pair(rule, &buffer.infos()[i..]) {
-        join(rule, i, i + 2, buffer);
+        make_one(rule, i, i + 2, buffer);
     }
 }
 

@@ -5,10 +5,10 @@ use Rattle.std.specs.List.{remove}
 use Rattle.shape_buffer.specs.Buffer.{Buffer}
 use Rattle.shape_buffer.specs.BufferClusters.{merge_clusters}
 use Rattle.shape_buffer.specs.Items.{Item, new_item}
-use Rattle.substitute_rows.specs.Rules.{with_glyph, joined}
+use Rattle.substitute_rows.specs.Rules.{with_glyph, made_one}
 use Rattle.shape_buffer.proofs.Merging.KeyLemmas.{length-merge_clusters}
-use Rattle.substitute_rows.proofs.RuleLemmas.{Made-joined}
-use Rattle.substitute_rows.proofs.support.lookups.join.Goals as goal
+use Rattle.substitute_rows.proofs.RuleLemmas.{Made-made_one}
+use Rattle.substitute_rows.proofs.support.lookups.make_one.Goals as goal
 
 pub offset_bounds-infos-start : goal.offset_bounds-infos-start
 offset_bounds-infos-start c =
@@ -38,7 +38,7 @@ remove-requires c =
     omega arith
 
 pub returns : goal.returns
-unfolding joined
+unfolding made_one
 returns c =
     let rule = c.args.rule.now in
     let start = c.args.start in
@@ -56,4 +56,4 @@ returns c =
     let last : c.args.end - 1 ≡ start + 1 = omega (arith, c.requires.two) in
     let removed = c.remove.ensures
     ∙ ap₂ (λ (b : Buffer) (i : ℕ). record b { items = remove b.items i; positions = remove b.positions i }) set_there last in
-    Made-joined rule start old c.remove.new.self removed (omega (arith, c.requires.two, c.requires.within))
+    Made-made_one rule start old c.remove.new.self removed (omega (arith, c.requires.two, c.requires.within))
