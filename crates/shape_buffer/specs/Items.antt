@@ -1,5 +1,5 @@
 -- Items.
-use Rattle.std.specs.Prelude.{ℕ, Bool, false, ◌==◌, if◌then◌else◌}
+use Rattle.std.specs.Prelude.{◌&&◌, not, ℕ, Bool, false, ◌==◌, if◌then◌else◌}
 use Rattle.std.specs.Int.RustNames.{bit_and}
 use Rattle.shape_buffer.specs.Category.{is_mark_category}
 use Rattle.shape_buffer.specs.declared.buffer.general_category.hb_unicode_general_category_t.TheVariants.{UppercaseLetter}
