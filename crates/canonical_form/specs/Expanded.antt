@@ -7,8 +7,8 @@ abbrev pub begins_with_mark : {A : Type 0} → (A → Bool) → List A → Bool
 begins_with_mark is_mark [] = false
 begins_with_mark is_mark (x ∷ xs) = is_mark x
 
--- an item is in a cluster where a mark follows it directly, and where it is itself a mark, but for the first of the list;
--- `become` says what an item in a cluster, or a simple one, becomes
+-- an item stands in a sequence with marks where a mark follows it directly, and where it is itself a mark, but for the first of the list;
+-- `become` says what an item in such a sequence, or one by itself, becomes
 abbrev pub expanded_from : {A B : Type 0} → (A → Bool) → (Bool → A → List B) → Bool → List A → List B
 expanded_from is_mark become first [] = []
 expanded_from is_mark become first (x ∷ rest) =
@@ -17,7 +17,7 @@ expanded_from is_mark become first (x ∷ rest) =
 abbrev pub expanded_in_sequences : {A B : Type 0} → (A → Bool) → (Bool → A → List B) → List A → List B
 expanded_in_sequences is_mark become items = expanded_from is_mark become true items
 
--- the choices of a text, where `short` says of a character in a cluster, and of a simple one, whether the shortest is asked
+-- the choices of a text, where `short` says of a character with marks, and of one by itself, whether the shortest is asked
 abbrev pub expanded_text : Decompositions → (ℕ → Bool) → (ℕ → Bool) → (Bool → Bool) → List ℕ → List ℕ
 expanded_text D has_glyph is_mark short text =
     expanded_in_sequences is_mark (λ with_marks. choice D has_glyph (short with_marks)) text

@@ -108,9 +108,9 @@ pub fn one_ccc_decides<T>()
     ensures greatest { GreatestDecides T }
 {}
 
-/// Normalising keeps a text equivalent in every mode: expanded, with the shortest choices asked for
-/// all characters, for simple ones or for none, then settled run by run; and then, where a composed
-/// character is always equivalent to its two parts, recomposed to composed characters that have glyphs.
+/// Normalising keeps a text equivalent in every mode: expanded, with the shortest choices asked for all
+/// characters, for those that stand by themselves or for none, then settled run by run; and then, where a
+/// composed character is always equivalent to its two parts, recomposed to composed characters that have glyphs.
 pub fn normalised_is_equivalent()
     ensures ordered { OrderedIsEquivalent }
     ensures recomposed { NormalisedIsEquivalent }

@@ -32,14 +32,14 @@ handed_flags flags united =
     let tatweel = with_tatweel flags united in
     if bit_and flags.0 PRODUCE_UNSAFE_TO_CONCAT == PRODUCE_UNSAFE_TO_CONCAT then tatweel else bit_and tatweel NOT_FOR_CONCAT
 
--- the maximal runs of items in one cluster
+-- the runs of one cluster: the longest spans of items that share their cluster
 abbrev pub cluster_runs : List Item → List (List Item)
 cluster_runs items = divided_between (λ item next. has_cluster item.cluster next) items
 
 abbrev pub with_mask : ℕ → Item → Item
 with_mask mask item = record item { mask = mask }
 
--- a run, each item with the flags of all
+-- a run of one cluster, each item with the flags of all
 abbrev pub run_flagged : BufferFlags → List Item → List Item
 run_flagged flags run = map (with_mask (handed_flags flags (united_flags run))) run
 

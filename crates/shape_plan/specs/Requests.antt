@@ -105,7 +105,7 @@ begun_requests direction builder = with_requests (record builder { is_simple = t
 abbrev pub collected : Collector → Direction → Option Script → Builder → Builder
 collected collects direction script builder = hooked collects direction script (not_simple_if (is_some collects) builder)
 
--- with the features of every text and of the user, where there are some of whom it is simple no longer
+-- with the features of every text and of the user; where the user asks for some it is simple no longer
 abbrev pub widened : Direction → List Feature → Builder → Builder
 widened direction features builder = with_requests (not_simple_if (not (length features == 0)) builder) (later_requests direction features)
 

@@ -13,7 +13,7 @@ use Rattle.shape_buffer.specs.FlagNames.{HAS_VARIATION_SELECTOR_FALLBACK}
 abbrev pub has_selector_fallback : Buffer → Bool
 has_selector_fallback b = bit_and b.scratch_flags.0 HAS_VARIATION_SELECTOR_FALLBACK == HAS_VARIATION_SELECTOR_FALLBACK
 
--- a marked selector takes the glyph and loses its mark
+-- a marked selector takes the glyph and is marked no longer
 abbrev pub not_found_item : GlyphId → Item → Item
 not_found_item glyph item =
     if item.properties.selector_mark then record item { glyph_id = glyph.0; properties = record item.properties { selector_mark = false } }

@@ -171,7 +171,7 @@ module _ (rules : Rules) where
   abbrev pub item_becomes : Option GlyphId → Bool → Item → List Item
   item_becomes invisible with_marks item = expanded_item rules invisible (rules.short with_marks) item
 
-  -- each item is expanded, by whether it stands in a cluster
+  -- each item is expanded, by whether it stands in a sequence with marks
   pub expanded-no_selector : (invisible not_found : Option GlyphId) (items : List Item) → HasNoSelectorItem items
       → expanded rules invisible not_found items ≡ expanded_in_sequences is_mark_item (item_becomes invisible) items
   expanded-no_selector invisible not_found items none =

@@ -1,4 +1,4 @@
--- Sequences: what holds of a list holds of its parts, and an item stands in a sequence with marks exactly where it stands in a cluster of
+-- Sequences: what holds of a list holds of its parts, and an item stands in a sequence with marks exactly where a mark stands at it of
 -- the list.
 use Rattle.std.proofs.Common.{◌≡◌, Bool, true, false, if◌then◌else◌, ◌&&◌, ◌||◌, List, [], ◌∷◌, ◌++◌, map, flat_map, refl, sym, ap, ap₂, ◌∙◌, inl, inr, append_assoc, append-nil}
 use Rattle.std.proofs.lemmas.Bool.{cases_Bool, and_right, or_right}
@@ -131,7 +131,7 @@ module _ {B : Type 0} (become : Bool → Item → List B) where
             )
       ]
 
-  -- each item stands in a sequence with marks exactly where it stands in a cluster
+  -- each item stands in a sequence with marks exactly where a mark stands at it
   pub sequences-expanded : (items : List Item)
       → flat_map sequence_becomes (sequences items) ≡ expanded_in_sequences is_mark_item become items
   sequences-expanded [] = refl
