@@ -2,6 +2,7 @@
 pub mod OriginLemmas
 pub mod StarterLemmas
 pub mod PlaceLemmas
+pub mod WholeRunLemmas
 pub mod HookPlaceLemmas
 pub mod FromTextLemmas
 pub mod ByPlaceLemmas
