@@ -2,6 +2,7 @@
 mod OriginLemmas
 mod StarterLemmas
 mod PlaceLemmas
+mod WholeRunLemmas
 mod HookPlaceLemmas
 mod FromTextLemmas
 pub mod ByPlaceLemmas

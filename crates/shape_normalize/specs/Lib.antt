@@ -10,4 +10,5 @@ pub mod WorkedWorld
 pub mod WorkedOne
 pub mod WorkedTwo
 pub mod WorkedThree
+pub mod WorkedHooks
 pub mod WorkedOrigins

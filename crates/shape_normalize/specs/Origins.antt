@@ -1,5 +1,5 @@
 -- Where each item of the normalised list came from, and what it has of the item that stood there, place by place.
-use Rattle.std.specs.Prelude.{◌≡◌, ◌⊎◌, ℕ, suc, ◌+◌, ◌<◌, ◌≤◌, min, max, ◌&&◌, Bool, true, false, if◌then◌else◌, List, [], ◌∷◌, ◌++◌, map, replicate, length, get_or, Option, is_some}
+use Rattle.std.specs.Prelude.{◌≡◌, ◌⊎◌, ℕ, suc, ◌+◌, ◌-◌, ◌<◌, ◌≤◌, ◌&&◌, Bool, true, false, if◌then◌else◌, List, [], ◌∷◌, ◌++◌, map, replicate, length, get_or, Option, is_some}
 use Rattle.std.specs.List.{AllZip, range_with_len}
 use Rattle.std.specs.List.Sorted.{IsPermutation}
 use Rattle.std.specs.Option.{MatchOption}
@@ -82,17 +82,32 @@ pub record HasOfOrigin (rules : Rules) (text : Buffer) (shows : Bool) (origin : 
 abbrev pub all_places : List Item → List ℕ
 all_places items = range_with_len 0 (length items)
 
--- two places are the same, or from the lower to the higher one no item has ccc 0
-abbrev pub AreInOneRun : List Item → ℕ → ℕ → Type 0
-AreInOneRun items p q = (p ≡ q) ⊎ ((k : ℕ) → min p q ≤ k → k ≤ max p q → 0 < ccc_of_item (item_at items k))
+-- a run of marks from one place up to another, of at most 32: the items in it have a ccc, the ones beside it have none
+pub record IsShortRun (items : List Item) (start end : ℕ) : Type 0 where
+  pub short : end - start ≤ max_run
+  pub marks : (k : ℕ) → start ≤ k → k < end → 0 < ccc_of_item (item_at items k)
+  pub before : (k : ℕ) → suc k ≡ start → ccc_of_item (item_at items k) ≡ 0
+  pub behind : ccc_of_item (item_at items end) ≡ 0
 
--- a list of places is all of them, each run of marks in another order
+-- two places of one such run
+pub record ShareShortRun (items : List Item) (p q : ℕ) : Type 0 where
+  pub start : ℕ
+  pub end : ℕ
+  pub run : IsShortRun items start end
+  pub first : (start ≤ p) × (p < end)
+  pub second : (start ≤ q) × (q < end)
+
+-- an item may go from one place to another: they are the same, or in one run of at most 32 marks
+abbrev pub AreInOneRun : List Item → ℕ → ℕ → Type 0
+AreInOneRun items p q = (p ≡ q) ⊎ ShareShortRun items p q
+
+-- a list of places is all of them, each run of at most 32 marks in another order
 pub record PermutesRuns (items : List Item) (places : List ℕ) : Type 0 where
   pub all : IsPermutation (all_places items) places
   pub runs : (i d : ℕ) → i < length items → AreInOneRun items i (get_or places i d)
 
 -- the places of the expanded list in the order that round two leaves: where no reorder hook is given runs of at most 32 marks are
--- settled, else each run is in another order
+-- settled, else each of these is in another order
 abbrev pub IsOrderOf : Rules → List Item → List ℕ → Type 0
 IsOrderOf rules items places =
     MatchOption rules.reorder (AreRunsSettled (λ place. ccc_of_item (item_at items place)) max_run [] (all_places items) places)

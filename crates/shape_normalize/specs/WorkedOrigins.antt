@@ -1,10 +1,11 @@
 -- Where items came from, computed on small cases whose answers are worked out by hand.
-use Rattle.std.specs.Prelude.{◌≡◌, ℕ, true, false, List, [], ◌∷◌, Some}
+use Rattle.std.specs.Prelude.{◌≡◌, ℕ, true, false, List, [], ◌∷◌, replicate, Some}
+use Rattle.std.specs.List.{range_with_len}
 use Rattle.shape_buffer.specs.Buffer.{Buffer}
 use Rattle.shape_buffer.specs.Items.{Item}
 use Rattle.shape_plan.specs.Rules.{Rules}
 use Rattle.shape_normalize.specs.Normalized.{KeepsFeatures}
-use Rattle.shape_normalize.specs.Origins.{Origin, origin_at, origins, new_origins, HasOfOrigin, AreInOneRun, IsOrderOf, IsFromPlace, IsFromStarter, ComesByPlace}
+use Rattle.shape_normalize.specs.Origins.{Origin, origin_at, origins, new_origins, HasOfOrigin, all_places, AreInOneRun, IsOrderOf, IsFromPlace, IsFromStarter, ComesByPlace}
 use Rattle.shape_normalize.specs.RoundThree.{Placed}
 use Rattle.shape_normalize.specs.WorkedWorld.{rules_in, item, buffer_of}
 
@@ -95,6 +96,10 @@ pub record OfOriginWorked : Type 0 where
 abbrev pub runs_of_marks : List Item
 runs_of_marks = item 0x61 0 ∷ item 0x301 1 ∷ item 0x323 2 ∷ item 0x308 3 ∷ item 0x62 4 ∷ item 0x301 5 ∷ []
 
+-- a starter with so many marks of one ccc
+abbrev pub with_marks : ℕ → List Item
+with_marks n = item 0x61 0 ∷ replicate n (item 0x301 1)
+
 -- rules with a reorder hook that does nothing
 abbrev pub hooked : Rules
 hooked = record (rules_in 1 []) { reorder = Some (λ b start end. b) }
@@ -109,6 +114,11 @@ pub record OrderWorked : Type 0 where
   pub starter_moved : IsOrderOf hooked runs_of_marks (1 ∷ 0 ∷ 2 ∷ 3 ∷ 4 ∷ 5 ∷ []) → ⊥
   pub other_run : IsOrderOf hooked runs_of_marks (0 ∷ 1 ∷ 2 ∷ 5 ∷ 4 ∷ 3 ∷ []) → ⊥
   pub left_out : IsOrderOf hooked runs_of_marks (0 ∷ 1 ∷ 2 ∷ 4 ∷ 5 ∷ []) → ⊥
+  -- it is handed runs of at most 32 marks: a longer one stays, and no part of it counts as a run
+  pub in_run_of_32 : AreInOneRun (with_marks 32) 1 32
+  pub not_in_run_of_33 : AreInOneRun (with_marks 33) 1 2 → ⊥
+  pub long_run_stays : IsOrderOf hooked (with_marks 33) (all_places (with_marks 33))
+  pub long_run_moved : IsOrderOf hooked (with_marks 33) (0 ∷ 2 ∷ 1 ∷ range_with_len 3 31) → ⊥
   -- without one the marks stand in the order of their ccc
   pub by_ccc : IsOrderOf (rules_in 1 []) runs_of_marks (0 ∷ 2 ∷ 1 ∷ 3 ∷ 4 ∷ 5 ∷ [])
   pub not_by_ccc : IsOrderOf (rules_in 1 []) runs_of_marks (0 ∷ 1 ∷ 2 ∷ 3 ∷ 4 ∷ 5 ∷ []) → ⊥

@@ -1,4 +1,5 @@
 //! The definitions of normalising, computed on small cases whose answers are worked out by hand.
+ghost use Rattle.shape_normalize.specs.WorkedHooks.{HooksWorked};
 ghost use Rattle.shape_normalize.specs.WorkedOne.{RoundOneWorked};
 ghost use Rattle.shape_normalize.specs.WorkedOrigins.{OriginsWorked};
 ghost use Rattle.shape_normalize.specs.WorkedThree.{RoundThreeWorked};
@@ -22,4 +23,9 @@ pub fn round_three_meets_worked_cases()
 /// Where the items of each round came from, and what they have of it.
 pub fn origins_meet_worked_cases()
     ensures { OriginsWorked }
+{}
+
+/// Whose ccc counts where hooks split, compose or reorder.
+pub fn hooks_meet_worked_cases()
+    ensures { HooksWorked }
 {}

@@ -20,6 +20,7 @@ use Rattle.shape_plan.specs.Rules.{Rules, rules_of, used_decompositions, used_co
 use Rattle.shape_plan.specs.Run.{run_of}
 use Rattle.shape_plan.specs.Shaper.{HookMeaning, ShaperConstants}
 use Rattle.shape_plan.specs.Shapers.{no_hooks}
+use Rattle.shape_plan.proofs.KeeperLemmas.{called}
 use Rattle.shape_pipeline.specs.Headline.{prepared_text}
 use Rattle.shape_pipeline.specs.Headline.{target_of}
 use Rattle.shape_pipeline.specs.Order.{RunKeepsClusters}
@@ -145,9 +146,12 @@ module _ {S P D F : Type 0} (unicode : UnicodeMeaning) (masks : P → MapMeaning
 
   calls-not_given : (Keeps : (Buffer → Buffer) → Type 0) → Keeps (λ b. b) → LeavesAll → EachLookup Keeps (lookups plan.ot_map face)
       → EachCall Keeps (run_of unicode masks lookups constants hooks faces plan face)
-  calls-not_given Keeps left (inl none) keep = record { lookups = keep; hooks = λ h is. EachHook-not_given Keeps constants none h }
+  calls-not_given Keeps left (inl none) keep = record {
+    lookups = called Keeps (run_of unicode masks lookups constants hooks faces plan face) keep;
+    hooks = λ h is. EachHook-not_given Keeps constants none h;
+  }
   calls-not_given Keeps left (inr leaves) keep = record {
-    lookups = keep;
+    lookups = called Keeps (run_of unicode masks lookups constants hooks faces plan face) keep;
     hooks = of_kept (λ s. hooks s plan face) (EachHook Keeps constants)
         (λ s. EachHook-left Keeps left constants (hooks s plan face) (leaves s)) plan.shaper;
   }
@@ -169,7 +173,7 @@ module _ {S P D F : Type 0} (unicode : UnicodeMeaning) (masks : P → MapMeaning
     calls-none : (Keeps : (Buffer → Buffer) → Type 0) → Keeps (λ b. b) → EachLookup Keeps (lookups plan.ot_map face)
         → EachCall Keeps (run_of unicode masks lookups constants hooks faces plan face)
     calls-none Keeps left keep = record {
-      lookups = keep;
+      lookups = called Keeps (run_of unicode masks lookups constants hooks faces plan face) keep;
       hooks = of_kept (λ s. hooks s plan face) (EachHook Keeps constants)
           (λ s. subst (EachHook Keeps constants) (sym (none s)) (EachHook-none Keeps left unicode constants)) plan.shaper;
     }

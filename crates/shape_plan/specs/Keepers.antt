@@ -1,7 +1,7 @@
 -- What is asked of a shaper's hooks and an engine's lookups so that a run keeps the clusters and the flags of its text.
-use Rattle.std.specs.Prelude.{◌≡◌, ℕ, Some, Bool, true, ◌||◌}
+use Rattle.std.specs.Prelude.{◌≡◌, ℕ, ◌<◌, Some, Bool, true, false, ◌||◌}
 use Rattle.shape_buffer.specs.Buffer.{Buffer}
-use Rattle.shape_buffer.specs.Keepers.{IsClusterKeeper, IsFlagKeeper, EachLookup}
+use Rattle.shape_buffer.specs.Keepers.{IsClusterKeeper, IsFlagKeeper}
 use Rattle.shape_plan.specs.Run.{Run}
 use Rattle.shape_plan.specs.Shaper.{ShaperConstants, HookMeaning}
 
@@ -16,9 +16,24 @@ pub record EachHook (Keeps : (Buffer → Buffer) → Type 0) (constants : Shaper
 abbrev pub has_steps : ShaperConstants → Bool
 has_steps constants = constants.has_preprocess_text || constants.has_setup_masks || constants.has_postprocess_glyphs || constants.has_pause
 
--- a property of each lookup and of each hook of the shaper, where the plan keeps it
+-- a property of each lookup that a run calls: of the tables that its plan applies, by its stages, features and masks
+pub record EachCalledLookup (Keeps : (Buffer → Buffer) → Type 0) (run : Run) : Type 0 where
+  pub substitute_start : Keeps run.lookups.substitute_start
+  pub stage : run.decisions.apply_morx ≡ false → (i : ℕ) → i < run.map.stages → Keeps (run.lookups.stage i)
+  pub aat_substitute : run.decisions.apply_morx ≡ true → Keeps (run.lookups.aat_substitute run.user_features)
+  pub aat_remove_deleted : run.decisions.apply_morx ≡ true → Keeps run.lookups.aat_remove_deleted
+  pub aat_zero_width_deleted : run.decisions.apply_morx ≡ true → Keeps run.lookups.aat_zero_width_deleted
+  pub position_start : Keeps run.lookups.position_start
+  pub position : run.decisions.apply_gpos ≡ true → Keeps run.lookups.position
+  pub position_finish_advances : Keeps run.lookups.position_finish_advances
+  pub position_finish_offsets : Keeps run.lookups.position_finish_offsets
+  pub aat_position : run.decisions.apply_gpos ≡ false → run.decisions.apply_kerx ≡ true
+      → Keeps (run.lookups.aat_position run.decisions.kern_mask)
+  pub kern : run.decisions.apply_kern ≡ true → Keeps (run.lookups.kern run.decisions.kern_mask)
+
+-- a property of each lookup that is called and of each hook of the shaper, where the plan keeps it
 pub record EachCall (Keeps : (Buffer → Buffer) → Type 0) (run : Run) : Type 0 where
-  pub lookups : EachLookup Keeps run.lookups
+  pub lookups : EachCalledLookup Keeps run
   pub hooks : (hooks : HookMeaning) → run.hooks ≡ Some hooks → EachHook Keeps run.constants hooks
 
 -- the flag premises

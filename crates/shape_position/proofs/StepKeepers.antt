@@ -1,16 +1,15 @@
 -- Each step of positions and of the end of a run keeps clusters, flags and the number of positions.
 use Rattle.std.proofs.Common.{◌≡◌, ℕ, Bool, true, false, List, [], ◌∷◌, Option, Some, None, refl, ap, sym, ◌∙◌, inl, inr}
 use Rattle.std.specs.Prelude.{◌==◌, ◌&&◌, not, if◌then◌else◌}
-use Rattle.std.proofs.lemmas.Bool.{cases_Bool}
+use Rattle.std.proofs.lemmas.Bool.{and_parts, cases_Bool}
 use Rattle.std.proofs.lemmas.List.{length-map}
 use Rattle.shape_buffer.specs.Clusters.{clusters}
 use Rattle.shape_buffer.specs.Direction.{is_horizontal, is_forward}
 use Rattle.shape_buffer.specs.Face.{FaceMeaning}
 use Rattle.shape_buffer.specs.Flags.{flags_propagated, flagged_from, mask_after}
 use Rattle.shape_buffer.specs.Items.{Item, is_ignorable_item}
-use Rattle.shape_buffer.specs.Keepers.{IsClusterKeeper, IsFlagKeeper, LookupsKeepClusters, LookupsKeepFlags, EachStep}
+use Rattle.shape_buffer.specs.Keepers.{IsClusterKeeper, IsFlagKeeper, EachStep}
 use Rattle.shape_buffer.specs.KeepsFlags.{has_glyph_flags}
-use Rattle.shape_buffer.specs.Layout.{LookupMeaning}
 use Rattle.shape_buffer.specs.declared.buffer.flags.BufferFlags.{BufferFlags}
 use Rattle.shape_buffer.specs.declared.buffer.settings.GlyphId.{GlyphId}
 use Rattle.shape_buffer.specs.Outcome.{step as plain_step}
@@ -21,7 +20,6 @@ use Rattle.shape_buffer.proofs.Loops.PositionWalkLemmas.{length-positions_over}
 use Rattle.shape_buffer.proofs.Steps.KeeperLemmas.{EachStep-append, KeepsClusters-equal, KeepsOrder-same, clusters-map, order-items_mapped}
 use Rattle.shape_plan.specs.Keepers.{CallsKeepClusters, RunKeepsFlags}
 use Rattle.shape_plan.specs.Run.{Run, step_if}
-use Rattle.shape_plan.specs.declared.decisions.Decisions.{Decisions}
 use Rattle.shape_position.specs.Advances.{advanced, advanced_position}
 use Rattle.shape_position.specs.Ignorables.{ignorables_zeroed, ignorables_hidden, shown_as, replaced_or_deleted, zeroed_ignorable, hides_ignorables, removes_ignorables, unseen_glyph}
 use Rattle.shape_position.specs.Keepers.{StepsKeepClusters, StepsKeepFlags, StepsKeepCount, StepsKeep}
@@ -34,7 +32,7 @@ use Rattle.shape_position.proofs.CountLemmas.{as_many-hidden, as_many-flags}
 use Rattle.shape_position.proofs.DeletionLemmas.{settings-deleted}
 use Rattle.shape_position.proofs.KeeperLemmas.{some_has-map, order-positions_mapped, flags-items_mapped, flags-positions_mapped, as_many-positions_mapped}
 use Rattle.shape_position.proofs.TurnLemmas.{turns-turned, flags-turned, as_many-turned}
-use Rattle.shape_plan.proofs.KeeperLemmas.{flags-hook_if, flags-step_if, order-hook_if, order-step_if}
+use Rattle.shape_plan.proofs.KeeperLemmas.{flags-hook_if, flags-step_if, flags-step_due, order-hook_if, order-step_if, order-step_due}
 
 -- ---- steps over positions
 
@@ -223,23 +221,23 @@ flags-flags b = elim (cases_Bool (has_glyph_flags b)) [
 
 -- ---- tables
 
-order-tables : (lookups : LookupMeaning) (decisions : Decisions) → LookupsKeepClusters lookups
-    → IsClusterKeeper (table_positioned lookups decisions)
-order-tables lookups decisions keeps = by_gpos decisions.apply_gpos
+order-tables : (run : Run) → CallsKeepClusters run → IsClusterKeeper (table_positioned run.lookups run.decisions)
+order-tables run keeps = by_gpos run.decisions.apply_gpos refl
   where
-    by_gpos : (gpos : Bool)
-        → IsClusterKeeper (if gpos then lookups.position else step_if decisions.apply_kerx (lookups.aat_position decisions.kern_mask))
-    by_gpos true = keeps.position
-    by_gpos false = order-step_if decisions.apply_kerx (keeps.aat_position decisions.kern_mask)
+    by_gpos : (gpos : Bool) → run.decisions.apply_gpos ≡ gpos
+        → IsClusterKeeper (if gpos then run.lookups.position
+        else step_if run.decisions.apply_kerx (run.lookups.aat_position run.decisions.kern_mask))
+    by_gpos true due = keeps.lookups.position due
+    by_gpos false not_due = order-step_due run.decisions.apply_kerx (keeps.lookups.aat_position not_due)
 
-flags-tables : (lookups : LookupMeaning) (decisions : Decisions) → LookupsKeepFlags lookups
-    → IsFlagKeeper (table_positioned lookups decisions)
-flags-tables lookups decisions keeps = by_gpos decisions.apply_gpos
+flags-tables : (run : Run) → RunKeepsFlags run → IsFlagKeeper (table_positioned run.lookups run.decisions)
+flags-tables run keeps = by_gpos run.decisions.apply_gpos refl
   where
-    by_gpos : (gpos : Bool)
-        → IsFlagKeeper (if gpos then lookups.position else step_if decisions.apply_kerx (lookups.aat_position decisions.kern_mask))
-    by_gpos true = keeps.position
-    by_gpos false = flags-step_if decisions.apply_kerx (keeps.aat_position decisions.kern_mask)
+    by_gpos : (gpos : Bool) → run.decisions.apply_gpos ≡ gpos
+        → IsFlagKeeper (if gpos then run.lookups.position
+        else step_if run.decisions.apply_kerx (run.lookups.aat_position run.decisions.kern_mask))
+    by_gpos true due = keeps.lookups.position due
+    by_gpos false not_due = flags-step_due run.decisions.apply_kerx (keeps.lookups.aat_position not_due)
 
 order-zeroed_at : (time : ℕ) (run : Run) → IsClusterKeeper (zeroed_at time run.decisions run.constants run.hooks)
 order-zeroed_at time run =
@@ -259,8 +257,8 @@ order-place_steps run keeps = (
   (
     order-zeroed_at 1 run,
     (
-      order-tables run.lookups run.decisions keeps.lookups,
-      (order-step_if run.decisions.apply_kern (keeps.lookups.kern run.decisions.kern_mask), (order-zeroed_at 2 run, tt)),
+      order-tables run keeps,
+      (order-step_due run.decisions.apply_kern keeps.lookups.kern, (order-zeroed_at 2 run, tt)),
     ),
   ),
 )
@@ -270,13 +268,14 @@ order-close_steps run keeps = (
   keeps.lookups.position_finish_advances,
   (
     order-ignorables_zeroed,
-    (order-step_if run.decisions.apply_morx keeps.lookups.aat_zero_width_deleted, (keeps.lookups.position_finish_offsets, tt)),
+    (order-step_due run.decisions.apply_morx keeps.lookups.aat_zero_width_deleted, (keeps.lookups.position_finish_offsets, tt)),
   ),
 )
 
 order-show_steps : (run : Run) → CallsKeepClusters run → EachStep IsClusterKeeper (show_steps run)
 order-show_steps run keeps = (
-  order-step_if (run.decisions.apply_morx && not run.decisions.apply_gpos) keeps.lookups.aat_remove_deleted,
+  order-step_due (run.decisions.apply_morx && not run.decisions.apply_gpos)
+      (λ both. keeps.lookups.aat_remove_deleted (and_parts run.decisions.apply_morx (not run.decisions.apply_gpos) both).0),
   (
     order-selectors,
     (
@@ -292,8 +291,8 @@ flags-place_steps run keeps = (
   (
     flags-zeroed_at 1 run,
     (
-      flags-tables run.lookups run.decisions keeps.lookups,
-      (flags-step_if run.decisions.apply_kern (keeps.lookups.kern run.decisions.kern_mask), (flags-zeroed_at 2 run, tt)),
+      flags-tables run keeps,
+      (flags-step_due run.decisions.apply_kern keeps.lookups.kern, (flags-zeroed_at 2 run, tt)),
     ),
   ),
 )
@@ -303,13 +302,14 @@ flags-close_steps run keeps = (
   keeps.lookups.position_finish_advances,
   (
     flags-ignorables_zeroed,
-    (flags-step_if run.decisions.apply_morx keeps.lookups.aat_zero_width_deleted, (keeps.lookups.position_finish_offsets, tt)),
+    (flags-step_due run.decisions.apply_morx keeps.lookups.aat_zero_width_deleted, (keeps.lookups.position_finish_offsets, tt)),
   ),
 )
 
 flags-show_steps : (run : Run) → RunKeepsFlags run → EachStep IsFlagKeeper (show_steps run)
 flags-show_steps run keeps = (
-  flags-step_if (run.decisions.apply_morx && not run.decisions.apply_gpos) keeps.lookups.aat_remove_deleted,
+  flags-step_due (run.decisions.apply_morx && not run.decisions.apply_gpos)
+      (λ both. keeps.lookups.aat_remove_deleted (and_parts run.decisions.apply_morx (not run.decisions.apply_gpos) both).0),
   (
     flags-selectors,
     (

@@ -141,6 +141,9 @@ pub record FlagsOfClusters : Type 0 where
   pub concat_asked : shared (masked 3 0 ∷ masked 2 1 ∷ []) 64 32 ≡ 3 ∷ 2 ∷ []
   -- a cluster that comes again is another run
   pub runs : shared (masked 1 0 ∷ masked 2 1 ∷ masked 4 0 ∷ masked 0 0 ∷ []) 64 32 ≡ 1 ∷ 2 ∷ 4 ∷ 4 ∷ []
+  -- nor do clusters beside each other share any: what one asks for or clears is its own
+  pub apart : shared (masked 1 0 ∷ masked 0 1 ∷ masked 2 2 ∷ []) 64 32 ≡ 1 ∷ 0 ∷ 2 ∷ []
+  pub tatweel_apart : shared (masked 1 0 ∷ masked 4 1 ∷ masked 0 2 ∷ []) 128 32 ≡ 1 ∷ 5 ∷ 0 ∷ []
   pub features_go : shared (masked 0x101 0 ∷ masked 0x200 0 ∷ []) 0 32 ≡ 1 ∷ 1 ∷ []
   pub unseen : shared (masked 1 0 ∷ masked 0x200 0 ∷ []) 0 31 ≡ 1 ∷ 0x200 ∷ []
 
@@ -156,6 +159,8 @@ flags_of_clusters = record {
   concat_unasked = refl;
   concat_asked = refl;
   runs = refl;
+  apart = refl;
+  tatweel_apart = refl;
   features_go = refl;
   unseen = refl;
 }

@@ -67,6 +67,10 @@ pub record LimitsOfRuns : Type 0 where
 limits_of_runs : LimitsOfRuns
 limits_of_runs = record { of_one = refl; of_many = refl; of_too_many = refl }
 
+-- the ccc of a mark, which is written beside it
+abbrev pub ccc_of_mark : ℕ × ℕ → ℕ
+ccc_of_mark mark = mark.1
+
 -- runs of marks by their ccc, the spans that their order moves, and that order
 pub record OrderOfMarks : Type 0 where
   pub two_runs : runs (0 ∷ 230 ∷ 220 ∷ 0 ∷ 230 ∷ []) ≡ (0, 0) ∷ (1, 3) ∷ (4, 5) ∷ []
@@ -74,9 +78,25 @@ pub record OrderOfMarks : Type 0 where
   pub one_span : spans (230 ∷ 10 ∷ 220 ∷ []) ≡ (0, 3) ∷ []
   pub nothing_moves : spans (10 ∷ 230 ∷ 230 ∷ []) ≡ (0, 1) ∷ (1, 2) ∷ (2, 3) ∷ []
   pub in_their_order : in_order (λ ccc. ccc) (12 ∷ 10 ∷ 230 ∷ 220 ∷ []) ≡ 10 ∷ 12 ∷ 220 ∷ 230 ∷ []
+  -- two of one ccc keep their order, around one of a smaller ccc, before it and behind it
+  pub around : in_order ccc_of_mark ((0x301, 230) ∷ (0x323, 220) ∷ (0x300, 230) ∷ []) ≡ (0x323, 220) ∷ (0x301, 230) ∷ (0x300, 230) ∷ []
+  pub before : in_order ccc_of_mark ((0x301, 230) ∷ (0x300, 230) ∷ (0x323, 220) ∷ []) ≡ (0x323, 220) ∷ (0x301, 230) ∷ (0x300, 230) ∷ []
+  pub behind : in_order ccc_of_mark ((0x323, 220) ∷ (0x300, 230) ∷ (0x301, 230) ∷ []) ≡ (0x323, 220) ∷ (0x300, 230) ∷ (0x301, 230) ∷ []
+  -- nothing passes one of ccc 0, nor does that
+  pub past_none : in_order ccc_of_mark ((0x301, 230) ∷ (0x61, 0) ∷ (0x323, 220) ∷ []) ≡ (0x301, 230) ∷ (0x61, 0) ∷ (0x323, 220) ∷ []
 
 order_of_marks : OrderOfMarks
-order_of_marks = record { two_runs = refl; two_spans = refl; one_span = refl; nothing_moves = refl; in_their_order = refl }
+order_of_marks = record {
+  two_runs = refl;
+  two_spans = refl;
+  one_span = refl;
+  nothing_moves = refl;
+  in_their_order = refl;
+  around = refl;
+  before = refl;
+  behind = refl;
+  past_none = refl;
+}
 
 pub record WorkedCases : Type 0 where
   pub chain : ChainOfTwo

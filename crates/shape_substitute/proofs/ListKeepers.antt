@@ -1,6 +1,7 @@
 -- What the lists of steps of masks and substitution keep.
-use Rattle.std.proofs.Common.{◌&&◌, ℕ, zero, suc, Bool, true, false, [], ◌∷◌, Option, Some, None}
+use Rattle.std.proofs.Common.{◌≡◌, ◌&&◌, ◌≤◌, ℕ, zero, suc, Bool, true, false, [], ◌∷◌, Option, Some, None, refl, arith}
 use Rattle.std.specs.Prelude.{if◌then◌else◌}
+use Rattle.std.proofs.lemmas.Bool.{and_parts}
 use Rattle.std.specs.Option.{option_map_or}
 use Rattle.shape_buffer.specs.Keepers.{IsClusterKeeper, IsFlagKeeper, EachStep}
 use Rattle.shape_buffer.specs.Outcome.{step}
@@ -11,7 +12,7 @@ use Rattle.shape_plan.specs.Run.{Run, hook_if}
 use Rattle.shape_substitute.specs.Kept.{SubstitutionKeepsClusters, SubstitutionKeepsFlags}
 use Rattle.shape_substitute.specs.Substitution.{stage_steps, lookup_steps}
 use Rattle.shape_substitute.proofs.StepKeepers.{order-fractions_masked, order-ranges_masked, order-glyphs_mapped, order-classes_synthesised, flags-fractions_masked, flags-ranges_masked, flags-glyphs_mapped, flags-classes_synthesised}
-use Rattle.shape_plan.proofs.KeeperLemmas.{flags-hook_if, flags-step_if, order-hook_if, order-step_if}
+use Rattle.shape_plan.proofs.KeeperLemmas.{flags-hook_if, flags-step_if, flags-step_due, order-hook_if, order-step_if, order-step_due}
 
 -- ---- clusters
 
@@ -21,15 +22,16 @@ order-pause run keep None = λ b monotone. KeepsOrder-same b
 order-pause run keep (Some n) =
     order-hook_if run.constants.has_pause run.hooks (λ h. h.pause n) (λ h is given. (keep.hooks h is).pause given n)
 
-order-stages : (run : Run) → CallsKeepClusters run → (n : ℕ) → EachStep IsClusterKeeper (stage_steps run n)
-order-stages run keep zero = tt
-order-stages run keep (suc n) = EachStep-append IsClusterKeeper (stage_steps run n) _ (order-stages run keep n)
-    (keep.lookups.stage n, (order-pause run keep (run.map.pause_after n), tt))
+order-stages : (run : Run) → CallsKeepClusters run → run.decisions.apply_morx ≡ false → (n : ℕ) → n ≤ run.map.stages
+    → EachStep IsClusterKeeper (stage_steps run n)
+order-stages run keep staged zero within = tt
+order-stages run keep staged (suc n) within = EachStep-append IsClusterKeeper (stage_steps run n) _ (order-stages run keep staged n (omega arith))
+    (keep.lookups.stage staged n (omega arith), (order-pause run keep (run.map.pause_after n), tt))
 
-order-lookups : (run : Run) → CallsKeepClusters run → (morx : Bool)
+order-lookups : (run : Run) → CallsKeepClusters run → (morx : Bool) → run.decisions.apply_morx ≡ morx
     → EachStep IsClusterKeeper (if morx then step (run.lookups.aat_substitute run.user_features) ∷ [] else stage_steps run run.map.stages)
-order-lookups run keep true = (keep.lookups.aat_substitute run.user_features, tt)
-order-lookups run keep false = order-stages run keep run.map.stages
+order-lookups run keep true due = (keep.lookups.aat_substitute due, tt)
+order-lookups run keep false staged = order-stages run keep staged run.map.stages (omega arith)
 
 pub substitution-keeps_clusters : SubstitutionKeepsClusters
 substitution-keeps_clusters run keep = record {
@@ -47,8 +49,9 @@ substitution-keeps_clusters run keep = record {
       (order-step_if run.decisions.fallback_glyph_classes order-classes_synthesised, tt),
     ),
   );
-  lookups = EachStep-append IsClusterKeeper (lookup_steps run) _ (order-lookups run keep run.decisions.apply_morx)
-      (order-step_if (run.decisions.apply_morx && run.decisions.apply_gpos) keep.lookups.aat_remove_deleted, tt);
+  lookups = EachStep-append IsClusterKeeper (lookup_steps run) _ (order-lookups run keep run.decisions.apply_morx refl)
+      (order-step_due (run.decisions.apply_morx && run.decisions.apply_gpos)
+      (λ both. keep.lookups.aat_remove_deleted (and_parts run.decisions.apply_morx run.decisions.apply_gpos both).0), tt);
 }
 
 -- ---- flags
@@ -59,15 +62,16 @@ flags-pause run keep None = λ b. KeepsFlags-same b
 flags-pause run keep (Some n) =
     flags-hook_if run.constants.has_pause run.hooks (λ h. h.pause n) (λ h is given. (keep.hooks h is).pause given n)
 
-flags-stages : (run : Run) → RunKeepsFlags run → (n : ℕ) → EachStep IsFlagKeeper (stage_steps run n)
-flags-stages run keep zero = tt
-flags-stages run keep (suc n) = EachStep-append IsFlagKeeper (stage_steps run n) _ (flags-stages run keep n)
-    (keep.lookups.stage n, (flags-pause run keep (run.map.pause_after n), tt))
+flags-stages : (run : Run) → RunKeepsFlags run → run.decisions.apply_morx ≡ false → (n : ℕ) → n ≤ run.map.stages
+    → EachStep IsFlagKeeper (stage_steps run n)
+flags-stages run keep staged zero within = tt
+flags-stages run keep staged (suc n) within = EachStep-append IsFlagKeeper (stage_steps run n) _ (flags-stages run keep staged n (omega arith))
+    (keep.lookups.stage staged n (omega arith), (flags-pause run keep (run.map.pause_after n), tt))
 
-flags-lookups : (run : Run) → RunKeepsFlags run → (morx : Bool)
+flags-lookups : (run : Run) → RunKeepsFlags run → (morx : Bool) → run.decisions.apply_morx ≡ morx
     → EachStep IsFlagKeeper (if morx then step (run.lookups.aat_substitute run.user_features) ∷ [] else stage_steps run run.map.stages)
-flags-lookups run keep true = (keep.lookups.aat_substitute run.user_features, tt)
-flags-lookups run keep false = flags-stages run keep run.map.stages
+flags-lookups run keep true due = (keep.lookups.aat_substitute due, tt)
+flags-lookups run keep false staged = flags-stages run keep staged run.map.stages (omega arith)
 
 pub substitution-keeps_flags : SubstitutionKeepsFlags
 substitution-keeps_flags run masks features keep = record {
@@ -85,6 +89,7 @@ substitution-keeps_flags run masks features keep = record {
       (flags-step_if run.decisions.fallback_glyph_classes flags-classes_synthesised, tt),
     ),
   );
-  lookups = EachStep-append IsFlagKeeper (lookup_steps run) _ (flags-lookups run keep run.decisions.apply_morx)
-      (flags-step_if (run.decisions.apply_morx && run.decisions.apply_gpos) keep.lookups.aat_remove_deleted, tt);
+  lookups = EachStep-append IsFlagKeeper (lookup_steps run) _ (flags-lookups run keep run.decisions.apply_morx refl)
+      (flags-step_due (run.decisions.apply_morx && run.decisions.apply_gpos)
+      (λ both. keep.lookups.aat_remove_deleted (and_parts run.decisions.apply_morx run.decisions.apply_gpos both).0), tt);
 }

@@ -1,5 +1,5 @@
 -- Words that are found under each equivalent spelling.
-use Rattle.std.specs.Prelude.{◌≡◌, ℕ, ◌<◌, List, length, replicate, slice_index_or, string_bytes}
+use Rattle.std.specs.Prelude.{◌≡◌, ◌⊎◌, ℕ, ◌<◌, List, [], ◌∷◌, ◌++◌, length, replicate, slice_index_or, string_bytes}
 use Rattle.shape_buffer.specs.Buffer.{Buffer, new_buffer}
 use Rattle.shape_buffer.specs.Guess.{guessed}
 use Rattle.shape_buffer.specs.Positions.{zero_position}
@@ -10,7 +10,7 @@ use Rattle.shape_buffer.specs.Unicode.{UnicodeMeaning}
 use Rattle.shape_plan.specs.Plan.{Plan, Fits}
 use Rattle.shape_plan.specs.Run.{Run}
 use Rattle.shape_pipeline.specs.Headline.{target_of}
-use Rattle.shape_pipeline.specs.Shaped.{text_made}
+use Rattle.shape_pipeline.specs.Shaped.{text_made, shaped}
 use Rattle.shape_users.specs.declared.words.Word.{Word}
 
 -- the text of a spelling, nothing else set
@@ -35,6 +35,19 @@ IsPlaceOf run words place spelling =
 abbrev pub IsNowhere : Run → List Word → ℕ → List ℕ → Type 0
 IsNowhere run words count spelling =
     (k : ℕ) (d : Word) → k < count → AreSpelledAlike run (string_bytes (slice_index_or words k d).spelling) spelling → ⊥
+
+-- one word more: none of the old ones is spelled like this, and behind them all stands a word with this spelling and its glyphs
+pub record IsOneWordMore (run : Run) (old new : List Word) (spelling : List ℕ) : Type 0 where
+  pub nowhere : IsNowhere run old (length old) spelling
+  pub word : Word
+  pub behind : new ≡ old ++ word ∷ []
+  pub spelling_is : string_bytes word.spelling ≡ spelling
+  pub glyphs_are : word.glyphs ≡ shaped run (spelled spelling)
+
+-- the words once one was asked for and is at a place: the old ones where the place is one of theirs, else one word more, at its end
+abbrev pub KeepsWords : Run → List Word → List Word → ℕ → List ℕ → Type 0
+KeepsWords run old new place spelling =
+    ((place < length old) × (new ≡ old)) ⊎ ((place ≡ length old) × IsOneWordMore run old new spelling)
 
 -- the plan at a place serves a text
 abbrev pub FitsAt : {S P D : Type 0} → UnicodeMeaning → List (Plan S P D) → ℕ → Buffer → Type 0

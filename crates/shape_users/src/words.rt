@@ -4,10 +4,10 @@
 //! normalised characters; where `equivalent_spellings` can tell, these are the equivalent spellings, so that
 //! U+0071 U+0301 U+00E9 and U+0071 U+0301 U+0065 U+0301 are kept once. A cache that must never show one word for
 //! another needs no more than that; it may use any mode.
-ghost use Rattle.std.specs.Prelude.{◌≡◌, ◌↔◌, length, IsTrue, IfOk, IfSome, IfNone};
+ghost use Rattle.std.specs.Prelude.{◌≡◌, ◌↔◌, length, IsTrue, IfOk, OnErr, IfSome, IfNone};
 ghost use Rattle.shape_plan.specs.Plan.{Fits};
 ghost use Rattle.shape_users.specs.Words.{spelled as text_spelled, FitsAt, IsPlaceOf, IsNowhere};
-ghost use Rattle.shape_users.specs.Words.{NoneFits};
+ghost use Rattle.shape_users.specs.Words.{NoneFits, KeepsWords};
 
 mod spellings;
 #[cfg(test)]
@@ -73,7 +73,8 @@ where
 }
 
 /// The place of a word under a spelling with the same normalised characters; it is shaped, and kept behind the others,
-/// where there is none yet. Refuses as `find_word` and `shape_with_plan` do.
+/// where there is none yet. The words that were there stay as they were, at their places. Refuses as `find_word` and
+/// `shape_with_plan` do, and then keeps nothing.
 pub fn keep_word<U, F, M, S>(
     alloc: Global,
     face: &F,
@@ -87,8 +88,11 @@ where
     M: hb_ot_layout_t<F>,
     S: hb_ot_shaper_t<U, F, M>,
     requires { Fits U.unicode plan.now (text_spelled spelling.now) }
-    ensures { let run = ⟦<S as Runs<U, F, M>>⟧.run plan.now face.now in
+    ensures place { let run = ⟦<S as Runs<U, F, M>>⟧.run plan.now face.now in
         IfOk result (λ place. IsPlaceOf run words.new.items place spelling.now) }
+    ensures kept { let run = ⟦<S as Runs<U, F, M>>⟧.run plan.now face.now in
+        IfOk result (λ place. KeepsWords run words.old.items words.new.items place spelling.now) }
+    ensures refused { OnErr result (words.new.items ≡ words.old.items) }
 {
     if let Some(place) = find_word::<U, F, M, S>(alloc, face, plan, words.as_slice(), spelling)? {
         return Ok(place);

@@ -1,4 +1,4 @@
--- Round two by places, where a reorder hook is given: each run of marks of the expanded list is in another order.
+-- Round two by places, where a reorder hook is given: each run of at most 32 marks of the expanded list is in another order.
 use Rattle.std.proofs.Common.{◌≡◌, ◌⊎◌, ℕ, zero, suc, ◌+◌, ◌-◌, ◌<◌, ◌≤◌, List, [], ◌∷◌, ◌++◌, map, take, drop, length, get_or, set, slice_range, Some, refl, sym, ap, ap₂, subst, ◌∙◌, arith, inl, inr}
 use Rattle.std.specs.List.{All, swap}
 use Rattle.std.specs.List.Sorted.{IsPermutation, SwapsInRange, apply_swaps}
@@ -11,16 +11,17 @@ use Rattle.std.proofs.lemmas.List.Sorted.{All-permutation, IsPermutation-refl, I
 use Rattle.canonical_form.specs.Order.{IsSwap, Swaps, in_order}
 use Rattle.canonical_form.proofs.Ordering.OrderLemmas.{Swaps-in_order}
 use Rattle.shape_buffer.specs.Buffer.{Buffer}
-use Rattle.shape_buffer.specs.Items.{Item, new_item, ccc_of_item}
-use Rattle.shape_buffer.proofs.Merging.KeyLemmas.{IsKey, IsKey-ccc}
-use Rattle.shape_normalize.specs.Origins.{item_at, all_places, AreInOneRun, PermutesRuns}
+use Rattle.shape_buffer.specs.Items.{Item, ccc_of_item}
+use Rattle.shape_buffer.proofs.Merging.KeyLemmas.{IsKey}
+use Rattle.shape_normalize.specs.Origins.{item_at, all_places, IsShortRun, AreInOneRun, PermutesRuns}
 use Rattle.shape_normalize.specs.Reordered.{unclassed}
 use Rattle.shape_normalize.specs.RoundTwo.{max_run, spans_merged, run_reordered, run_settled, marks_ordered}
 use Rattle.shape_normalize.proofs.Places.PlaceLemmas.{by_places}
-use Rattle.shape_normalize.proofs.Hooks.ReorderLemmas.{LawfulReorder, PermutesRange, PermutesRange-trans, PermutesRange-map, IsPermutation-range, Reorders-permutes, Reorders-before, Reorders-behind, range_get}
+use Rattle.shape_normalize.proofs.Places.WholeRunLemmas.{kept_by_whole_runs}
+use Rattle.shape_normalize.proofs.Hooks.ReorderLemmas.{LawfulReorder, PermutesRange, PermutesRange-trans, PermutesRange-map, IsPermutation-range, Reorders-permutes, range_get}
 use Rattle.shape_normalize.proofs.Hooks.ReorderedLemmas.{IsKey-unclassed}
 use Rattle.shape_normalize.proofs.RoundTwo.RunMarkLemmas.{AreMarks, written_part}
-use Rattle.shape_normalize.proofs.RoundTwo.SettleLemmas.{drop_behind, run_placed, merged_length, length-run_placed, settled_cases, Reorders-run_reordered, run_placed-in_order, kept_by_marks_ordered}
+use Rattle.shape_normalize.proofs.RoundTwo.SettleLemmas.{drop_behind, run_placed, merged_length, length-run_placed, settled_cases, Reorders-run_reordered, run_placed-in_order}
 use Rattle.shape_normalize.proofs.RoundTwo.SpanLemmas.{keys-spans_merged, map-slice_range}
 
 -- ---- permutations
@@ -102,15 +103,31 @@ outside start end xs ys k d before behind (inr high) =
 
 -- ---- places in a run
 
--- within a run of marks it doesn't matter from which place another lies in its run
-module _ (items : List Item) (start end : ℕ) (marks : (k : ℕ) → start ≤ k → k < end → 0 < ccc_of_item (item_at items k)) where
+-- within a run it doesn't matter from which place another lies in its run
+module _ (items : List Item) (start end : ℕ) (run : IsShortRun items start end) where
   from_another : (i j p : ℕ) → start ≤ i → i < end → start ≤ j → j < end → AreInOneRun items j p → AreInOneRun items i p
-  from_another i j p low_i high_i low_j high_j (inl same) = inr (λ k low high. marks k (omega arith) (omega arith))
-  from_another i j p low_i high_i low_j high_j (inr between) = inr (λ k low high.
-      elim (cases_lt k start) [
-        | inl below ↦ between k (omega arith) (omega arith)
-        | inr from ↦ elim (cases_lt k end) [ inl inside ↦ marks k from inside | inr above ↦ between k (omega arith) (omega arith) ]
-      ])
+  from_another i j p low_i high_i low_j high_j (inl same) = inr (record {
+    start = start;
+    end = end;
+    run = run;
+    first = (low_i, high_i);
+    second = (omega arith, omega arith);
+  })
+  from_another i j p low_i high_i low_j high_j (inr other) =
+      let low_other = other.first.0 in
+      let high_other = other.first.1 in
+      let low : other.start ≤ i = elim (cases_lt i other.start) [
+        | inl below ↦ absurd (no_starter (other.start - 1) (omega arith) (omega arith) (other.run.before (other.start - 1) (omega arith)))
+        | inr from ↦ from
+      ] in
+      let high : i < other.end = elim (cases_lt i other.end) [
+        | inl inside ↦ inside
+        | inr above ↦ absurd (no_starter other.end (omega arith) (omega arith) other.run.behind)
+      ] in
+      inr (record { start = other.start; end = other.end; run = other.run; first = (low, high); second = other.second })
+    where
+      no_starter : (k : ℕ) → start ≤ k → k < end → ccc_of_item (item_at items k) ≡ 0 → ⊥
+      no_starter k from to none = let mark = run.marks k from to in omega (arith, mark, none)
 
   runs_permuted : (places new : List ℕ) → start ≤ end → end ≤ length places → PermutesRange start end places new
       → ((i d : ℕ) → i < length places → AreInOneRun items i (get_or places i d)) → (i d : ℕ) → i < length places
@@ -141,11 +158,6 @@ module _ (items : List Item) (start end : ℕ) (marks : (k : ℕ) → start ≤ 
         ]
       ]
 
--- ---- ccc by places
-
-ccc_at : (items : List Item) (k : ℕ) → get_or (map ccc_of_item items) k 0 ≡ ccc_of_item (item_at items k)
-ccc_at items k = value_at ccc_of_item items k (new_item 0 0)
-
 -- ---- a run that the hook reorders
 
 -- a run with its spans merged, in order, is permuted
@@ -161,33 +173,21 @@ placed_permutes key is_key start end b ordered within =
     (permutes_swaps (Swaps-in_order ccc_of_item run))))
 
 module _ (f : Buffer → ℕ → ℕ → Buffer) (lawful : LawfulReorder (Some f)) (one : Buffer) where
-  -- a buffer's items are those of the expanded list, each run in another order, but for clusters, defined flags and ccc; and no more
-  -- of them are marks
+  -- a buffer's items are those of the expanded list, each short run in another order, but for clusters, defined flags and ccc
   pub record IsPlaced (c : Buffer) : Type 0 where
     pub places : List ℕ
     pub order : PermutesRuns one.items places
     pub same : map unclassed c.items ≡ map (λ place. unclassed (item_at one.items place)) places
-    pub marks : (k : ℕ) → 0 < ccc_of_item (item_at c.items k) → 0 < ccc_of_item (item_at one.items k)
 
   module _ (start end : ℕ) (c : Buffer) (ordered : start ≤ end) (within : end ≤ length c.items)
-      (marks : AreMarks (slice_range c.items start end)) (so_far : IsPlaced c) where
+      (marks : AreMarks (slice_range c.items start end)) (run : end - start ≤ max_run → IsShortRun one.items start end)
+      (so_far : IsPlaced c) where
     long : length so_far.places ≡ length c.items
     long = sym (length-map so_far.places (λ place. unclassed (item_at one.items place))) ∙ ap length (sym so_far.same)
         ∙ length-map c.items unclassed
 
     as_long : length so_far.places ≡ length one.items
     as_long = length_permutation (all_places one.items) so_far.places so_far.order.all ∙ length-range_with_len 0 (length one.items)
-
-    run_marks : (k : ℕ) → start ≤ k → k < end → 0 < ccc_of_item (item_at one.items k)
-    run_marks k low high =
-        let n = end - start in
-        let size : length (slice_range c.items start end) ≡ n =
-        length-take-le n (drop start c.items) (rw (length-drop start c.items) (omega arith)) in
-        let sum : start + (k - start) ≡ k = omega arith in
-        let d = item_at [] 0 in
-        so_far.marks k
-        (subst (λ (item : Item). 0 < ccc_of_item item)
-        (range_get c.items start n (k - start) d (omega arith) ∙ ap (λ m. get_or c.items m d) sum) (marks (k - start) d (omega arith)))
 
     reordered : end - start ≤ max_run → IsPlaced (run_reordered (Some f) start end (run_placed start end c))
     reordered few =
@@ -198,9 +198,6 @@ module _ (f : Buffer → ℕ → ℕ → Buffer) (lawful : LawfulReorder (Some f
         let moved = PermutesRange-trans start end (map unclassed c.items) (map unclassed placed.items) (map unclassed new.items)
         (placed_permutes unclassed IsKey-unclassed start end c ordered within)
         (Reorders-permutes start end placed inside unclassed IsKey-unclassed (λ item ccc. refl) steps) in
-        let cccs = placed_permutes ccc_of_item IsKey-ccc start end c ordered within in
-        let before = Reorders-before start end placed inside ccc_of_item IsKey-ccc steps ∙ cccs.before in
-        let behind = Reorders-behind start end placed inside ccc_of_item IsKey-ccc steps ∙ cccs.behind in
         let fits : end ≤ length so_far.places = rw long within in
         let lifted = things_permuted (λ place. unclassed (item_at one.items place)) so_far.places
         (map unclassed new.items) start end ordered fits (rw (← so_far.same) moved) in
@@ -209,23 +206,10 @@ module _ (f : Buffer → ℕ → ℕ → Buffer) (lawful : LawfulReorder (Some f
           order = record {
             all = IsPermutation-trans (all_places one.items) so_far.places lifted.0 so_far.order.all
                 (IsPermutation-range start end so_far.places lifted.0 ordered lifted.1);
-            runs = λ i d lt. runs_permuted one.items start end run_marks so_far.places lifted.0 ordered fits lifted.1
+            runs = λ i d lt. runs_permuted one.items start end (run few) so_far.places lifted.0 ordered fits lifted.1
                 (λ j e below. so_far.order.runs j e (omega (arith, as_long))) i d (omega (arith, as_long));
           };
           same = sym lifted.2;
-          marks = λ k mark.
-              let kept : ((k < start) ⊎ (end ≤ k)) → ccc_of_item (item_at new.items k) ≡ ccc_of_item (item_at c.items k) =
-              λ out. sym (ccc_at new.items k)
-              ∙ outside start end (map ccc_of_item c.items) (map ccc_of_item new.items) k 0 before behind out
-              ∙ ccc_at c.items k in
-              elim (cases_lt k start) [
-                | inl low ↦ so_far.marks k (rw (← kept (inl low)) mark)
-                | inr from ↦ elim (cases_lt k end) [
-                  | inl high ↦ run_marks k from high
-                  | inr above ↦
-                      so_far.marks k (rw (← kept (inr above)) mark)
-                ]
-              ];
         }
 
     settled_place : IsPlaced (run_settled (Some f) c (start, end))
@@ -233,7 +217,7 @@ module _ (f : Buffer → ℕ → ℕ → Buffer) (lawful : LawfulReorder (Some f
 
   pub marks_placed : IsPlaced (marks_ordered (Some f) one)
   marks_placed =
-      kept_by_marks_ordered (Some f) lawful IsPlaced settled_place one
+      kept_by_whole_runs (Some f) lawful one IsPlaced settled_place
       (record {
         places = all_places one.items;
         order = record {
@@ -242,5 +226,4 @@ module _ (f : Buffer → ℕ → ℕ → Buffer) (lawful : LawfulReorder (Some f
               inl (omega arith);
         };
         same = by_places unclassed one.items;
-        marks = λ k mark. mark;
       })

@@ -1,18 +1,20 @@
 -- The worked cases of where items came from.
-use Rattle.std.proofs.Common.{◌≡◌, ℕ, zero, suc, ◌<◌, ◌≤◌, true, false, [], ◌∷◌, ◌++◌, get_or, refl, sym, ap, subst, ◌∙◌, arith, inl, inr}
+use Rattle.std.proofs.Common.{◌≡◌, ℕ, zero, suc, ◌+◌, ◌<◌, ◌≤◌, true, false, List, [], ◌∷◌, ◌++◌, replicate, length, get_or, refl, sym, ap, subst, ◌∙◌, arith, inl, inr}
 use Rattle.std.specs.List.{AllZip, Contains}
 use Rattle.std.proofs.lemmas.List.Elements.{All-from_recursion}
-use Rattle.std.proofs.lemmas.List.Sorted.{length_permutation}
+use Rattle.std.proofs.lemmas.Bool.{cases_lt}
+use Rattle.std.proofs.lemmas.List.FromFn.{get_or-range_with_len}
+use Rattle.std.proofs.lemmas.List.Sorted.{IsPermutation-refl, length_permutation}
 use Rattle.canonical_form.specs.Order.{IsSwap, Swaps}
 use Rattle.canonical_form.proofs.Ordering.OrderLemmas.{in_order_from_reached}
 use Rattle.shape_buffer.specs.Clusters.{merge}
-use Rattle.shape_buffer.specs.Items.{Item, ccc_of_item}
+use Rattle.shape_buffer.specs.Items.{Item, new_item, ccc_of_item}
 use Rattle.shape_normalize.specs.Normalized.{features_of, has_seen_cgj}
-use Rattle.shape_normalize.specs.Origins.{item_at, HasOfOrigin, AreInOneRun, IsOrderOf, new_origins, ComesByPlace}
+use Rattle.shape_normalize.specs.Origins.{item_at, HasOfOrigin, all_places, AreInOneRun, PermutesRuns, IsOrderOf, new_origins, ComesByPlace}
 use Rattle.shape_normalize.specs.RoundOne.{round_one}
 use Rattle.shape_normalize.specs.RoundTwo.{run_settled}
-use Rattle.shape_normalize.specs.WorkedWorld.{rules_in}
-use Rattle.shape_normalize.specs.WorkedOrigins.{letters, PlacesWorked, NewPlacesWorked, WholeWorked, OfOriginWorked, runs_of_marks, OrderWorked, FromPlaceWorked, FromStarterWorked, OriginsWorked}
+use Rattle.shape_normalize.specs.WorkedWorld.{rules_in, item}
+use Rattle.shape_normalize.specs.WorkedOrigins.{letters, PlacesWorked, NewPlacesWorked, WholeWorked, OfOriginWorked, runs_of_marks, with_marks, OrderWorked, FromPlaceWorked, FromStarterWorked, OriginsWorked}
 
 places_worked : PlacesWorked
 unfolding merge
@@ -63,35 +65,94 @@ of_origin_worked = record {
 }
 
 -- the three marks of the first run
-first_run : (k : ℕ) → 1 ≤ k → k ≤ 3 → 0 < ccc_of_item (item_at runs_of_marks k)
-first_run zero low high = absurd (omega arith)
-first_run (suc zero) low high = omega arith
-first_run (suc (suc zero)) low high = omega arith
-first_run (suc (suc (suc zero))) low high = omega arith
-first_run (suc (suc (suc (suc k)))) low high = absurd (omega arith)
+first_marks : (k : ℕ) → 1 ≤ k → k < 4 → 0 < ccc_of_item (item_at runs_of_marks k)
+first_marks zero low high = absurd (omega arith)
+first_marks (suc zero) low high = omega arith
+first_marks (suc (suc zero)) low high = omega arith
+first_marks (suc (suc (suc zero))) low high = omega arith
+first_marks (suc (suc (suc (suc k)))) low high = absurd (omega arith)
+
+-- what stands before a run that begins at place 1 is the first item
+before_first : (items : List Item) → ccc_of_item (item_at items 0) ≡ 0 → (k : ℕ) → suc k ≡ 1 → ccc_of_item (item_at items k) ≡ 0
+before_first items none k is = let first : k ≡ 0 = omega (arith, is) in ap (λ n. ccc_of_item (item_at items n)) first ∙ none
+
+in_first_run : (p q : ℕ) → 1 ≤ p → p < 4 → 1 ≤ q → q < 4 → AreInOneRun runs_of_marks p q
+in_first_run p q low high low' high' = inr (record {
+  start = 1;
+  end = 4;
+  run = record { short = omega arith; marks = first_marks; before = before_first runs_of_marks refl; behind = refl };
+  first = (low, high);
+  second = (low', high');
+})
+
+-- places with an item of ccc 0 between them, or at one of them, are in no run
+module _ (items : List Item) (k : ℕ) (starter : ccc_of_item (item_at items k) ≡ 0) where
+  parted : (p q : ℕ) → p < q → p ≤ k → k ≤ q → AreInOneRun items p q → ⊥
+  parted p q ordered from to (inl same) = omega (arith, same, ordered)
+  parted p q ordered from to (inr shared) =
+      let mark = shared.run.marks k (let low = shared.first.0 in omega arith) (let high = shared.second.1 in omega arith) in
+      omega (arith, mark, starter)
 
 starter_apart : AreInOneRun runs_of_marks 0 1 → ⊥
-starter_apart h = elim h [
-  | inl same ↦ omega (arith, same)
-  | inr between ↦ let no : 0 < 0 = between 0 (omega arith) (omega arith) in
-      omega (arith, no)
-]
+starter_apart = parted runs_of_marks 0 refl 0 1 (omega arith) (omega arith) (omega arith)
 
 runs_apart : AreInOneRun runs_of_marks 3 5 → ⊥
-runs_apart h = elim h [
-  | inl same ↦ omega (arith, same)
-  | inr between ↦ let no : 0 < 0 = between 4 (omega arith) (omega arith) in
-      omega (arith, no)
-]
+runs_apart = parted runs_of_marks 4 refl 3 5 (omega arith) (omega arith) (omega arith)
 
 turned_runs : (i d : ℕ) → i < 6 → AreInOneRun runs_of_marks i (get_or (0 ∷ 3 ∷ 2 ∷ 1 ∷ 4 ∷ 5 ∷ []) i d)
 turned_runs zero d lt = inl refl
-turned_runs (suc zero) d lt = inr (λ k low high. first_run k (omega arith) (omega arith))
+turned_runs (suc zero) d lt = in_first_run 1 3 (omega arith) (omega arith) (omega arith) (omega arith)
 turned_runs (suc (suc zero)) d lt = inl refl
-turned_runs (suc (suc (suc zero))) d lt = inr (λ k low high. first_run k (omega arith) (omega arith))
+turned_runs (suc (suc (suc zero))) d lt = in_first_run 3 1 (omega arith) (omega arith) (omega arith) (omega arith)
 turned_runs (suc (suc (suc (suc zero)))) d lt = inl refl
 turned_runs (suc (suc (suc (suc (suc zero))))) d lt = inl refl
 turned_runs (suc (suc (suc (suc (suc (suc i)))))) d lt = absurd (omega arith)
+
+-- so many marks behind the first item
+mark_of : (n k : ℕ) → k < n → 0 < ccc_of_item (get_or (replicate n (item 0x301 1)) k (new_item 0 0))
+mark_of zero k lt = absurd (omega arith)
+mark_of (suc n) zero lt = omega arith
+mark_of (suc n) (suc k) lt = mark_of n k (omega arith)
+
+mark_behind_first : (n k : ℕ) → 1 ≤ k → k ≤ n → 0 < ccc_of_item (item_at (with_marks n) k)
+mark_behind_first n zero low high = absurd (omega arith)
+mark_behind_first n (suc k) low high = mark_of n k (omega arith)
+
+run_of_32 : AreInOneRun (with_marks 32) 1 32
+run_of_32 = inr (record {
+  start = 1;
+  end = 33;
+  run = record {
+    short = omega arith;
+    marks = λ k from to. mark_behind_first 32 k from (omega arith);
+    before = before_first (with_marks 32) refl;
+    behind = refl;
+  };
+  first = (omega arith, omega arith);
+  second = (omega arith, omega arith);
+})
+
+-- a part of 32 marks has a mark beside it
+run_of_33 : AreInOneRun (with_marks 33) 1 2 → ⊥
+run_of_33 (inl same) = omega (arith, same)
+run_of_33 (inr shared) =
+    let low = shared.first.0 in
+    let high = shared.second.1 in
+    let few = shared.run.short in
+    elim (cases_lt shared.start 1) [
+      | inl first ↦ let no : 0 < 0 = shared.run.marks 0 (omega arith) (omega arith) in omega (arith, no)
+      | inr behind ↦
+          let mark = mark_behind_first 33 shared.end (omega arith) (omega arith) in
+          let none = shared.run.behind in
+          omega (arith, mark, none)
+    ]
+
+-- every list of places is one where nothing moves
+in_place : (items : List Item) → PermutesRuns items (all_places items)
+in_place items = record {
+  all = IsPermutation-refl (all_places items);
+  runs = λ i d lt. let at : get_or (all_places items) i d ≡ 0 + i = get_or-range_with_len 0 (length items) i d lt in inl (omega arith);
+}
 
 -- settled, the first run begins with U+0323
 as_they_stood : IsOrderOf (rules_in 1 []) runs_of_marks (0 ∷ 1 ∷ 2 ∷ 3 ∷ 4 ∷ 5 ∷ []) → ⊥
@@ -108,17 +169,24 @@ as_they_stood h =
 order_worked : OrderWorked
 order_worked = record {
   same_place = inl refl;
-  in_run = inr (λ k low high. first_run k (omega arith) (omega arith));
+  in_run = in_first_run 3 1 (omega arith) (omega arith) (omega arith) (omega arith);
   not_with_starter = λ h. elim h [
     | inl same ↦ omega (arith, same)
-    | inr between ↦ let no : 0 < 0 =
-        between 0 (omega arith) (omega arith) in omega (arith, no)
+    | inr shared ↦
+        let low = shared.second.0 in
+        let high = shared.first.1 in
+        let no : 0 < 0 = shared.run.marks 0 (omega arith) (omega arith) in
+        omega (arith, no)
   ];
   not_past_starter = runs_apart;
   turned = record { all = record { moves = (1, 3) ∷ []; below = (omega arith, omega arith, tt); is = refl }; runs = turned_runs };
   starter_moved = λ h. starter_apart (h.runs 0 0 (omega arith));
   other_run = λ h. runs_apart (h.runs 3 0 (omega arith));
   left_out = λ h. let no : 5 ≡ 6 = length_permutation (0 ∷ 1 ∷ 2 ∷ 3 ∷ 4 ∷ 5 ∷ []) (0 ∷ 1 ∷ 2 ∷ 4 ∷ 5 ∷ []) h.all in omega (arith, no);
+  in_run_of_32 = run_of_32;
+  not_in_run_of_33 = run_of_33;
+  long_run_stays = in_place (with_marks 33);
+  long_run_moved = λ h. run_of_33 (h.runs 1 0 (omega arith));
   by_ccc = (
     [],
     2 ∷ 1 ∷ 3 ∷ 4 ∷ 5 ∷ [],
