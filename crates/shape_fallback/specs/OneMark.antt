@@ -2,7 +2,7 @@
 use Rattle.std.specs.Prelude.{ℕ, ℤ, pos, Bool, not, ◌==◌, ◌||◌, ◌&&◌, if◌then◌else◌, int_div, Option, Some, None}
 use Rattle.std.specs.Int.{is_positive}
 use Rattle.shape_fallback.specs.declared.ot_shape_fallback.one_mark.Stacked.{Stacked}
-use Rattle.shape_fallback.specs.declared.ot_shape_fallback.one_mark.PlacedMark.{PlacedMarkMark}
+use Rattle.shape_fallback.specs.declared.ot_shape_fallback.one_mark.PlacedMark.{PlacedMark}
 use Rattle.shape_fallback.specs.declared.ot_shape_fallback.one_mark.Surroundings.{Surroundings}
 use Rattle.shape_buffer.specs.Wrapping.{◌+ʷ◌, ◌-ʷ◌, neg_w}
 use Rattle.shape_fallback.specs.Extents.{Extents}
