@@ -10,6 +10,8 @@ ghost use Rattle.shape_buffer.specs.Clusters.{clusters};
 ghost use Rattle.shape_buffer.specs.Delete.{deleted};
 ghost use Rattle.shape_buffer.specs.Items.{Item};
 ghost use Rattle.shape_buffer.specs.KeepsFlags.{KeepsFlags};
+ghost use Rattle.shape_buffer.specs.Spans.{AreSpansInOrder, all_merged};
+ghost use Rattle.shape_buffer.specs.Spans.{spans_merged_out as spans_merged_out_of};
 
 use crate::buffer::clusters::{mark_break, mark_concat, merge_items};
 use crate::buffer::delete::delete_items;
@@ -51,6 +53,33 @@ impl hb_buffer_t {
     {
         if self.cluster_level != BufferClusterLevel::Characters {
             merge_items(self.infos.as_mut_slice(), start, end);
+        }
+    }
+
+    /// Merges the clusters of many spans, as one call of `merge_clusters` after the other would. A span
+    /// is a start and an end; none begins before the one before it.
+    pub fn merge_spans(&mut self, spans: &[(usize, usize)])
+        requires in_order { AreSpansInOrder 0 (length self.old.items) spans.now }
+        ensures merged { self.new ≡ all_merged spans.now self.old }
+        ensures len { length self.new.items ≡ length self.old.items }
+        ensures keeps { KeepsClusters (clusters self.old.items) (clusters self.new.items)
+            × KeepsFlags self.old self.new }
+    {
+        for (start, end) in spans {
+            self.merge_clusters(*start, *end);
+        }
+    }
+
+    /// Merges as `merge_spans` does, but changes nothing at level CHARACTERS.
+    pub fn merge_spans_out(&mut self, spans: &[(usize, usize)])
+        requires in_order { AreSpansInOrder 0 (length self.old.items) spans.now }
+        ensures merged { self.new ≡ spans_merged_out_of spans.now self.old }
+        ensures len { length self.new.items ≡ length self.old.items }
+        ensures keeps { KeepsClusters (clusters self.old.items) (clusters self.new.items)
+            × KeepsFlags self.old self.new }
+    {
+        for (start, end) in spans {
+            self.merge_out_clusters(*start, *end);
         }
     }
 

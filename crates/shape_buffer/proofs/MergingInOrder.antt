@@ -1,0 +1,2 @@
+-- Spans that are merged one after the other.
+pub mod EachSpanLemmas

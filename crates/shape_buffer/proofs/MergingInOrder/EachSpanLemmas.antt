@@ -1,0 +1,78 @@
+-- What merging one span after the other keeps.
+use Rattle.std.proofs.Common.{◌≡◌, ℕ, ◌+◌, ◌<◌, ◌≤◌, List, [], ◌∷◌, length, get_or, drop, refl, ap, sym, subst, ◌∙◌, arith, add-one, drop-cons}
+use Rattle.shape_buffer.specs.Items.{Item}
+use Rattle.shape_buffer.specs.Buffer.{Buffer}
+use Rattle.shape_buffer.specs.BufferClusters.{merge_clusters, merge_out_clusters}
+use Rattle.shape_buffer.specs.Clusters.{clusters, merge}
+use Rattle.shape_buffer.specs.ClusterOrder.{KeepsClusters}
+use Rattle.shape_buffer.specs.KeepsFlags.{KeepsFlags}
+use Rattle.shape_buffer.specs.Spans.{AreSpansInOrder, merge_each, all_merged, spans_merged_out}
+use Rattle.shape_buffer.proofs.Deletion.DeleteKeeps.{merged_keeps, merged_out_keeps}
+use Rattle.shape_buffer.proofs.Flags.FlagLemmas.{KeepsFlags-same, KeepsFlags-then}
+use Rattle.shape_buffer.proofs.Merging.KeyLemmas.{length-merge, length-merge_clusters, length-merge_out}
+use Rattle.shape_buffer.proofs.Steps.KeeperLemmas.{KeepsClusters-same, KeepsClusters-then}
+
+-- the spans from the one at a place on: that one, and those after it
+pub AreSpansInOrder-next : (from size : ℕ) (spans : List (ℕ × ℕ)) (i : ℕ) (d : ℕ × ℕ) → i < length spans
+    → AreSpansInOrder from size (drop i spans) → AreSpansInOrder from size (get_or spans i d ∷ drop (i + 1) spans)
+AreSpansInOrder-next from size spans i d lt in_order =
+    subst (AreSpansInOrder from size) (drop-cons spans i d lt ∙ ap (λ n. get_or spans i d ∷ drop n spans) (sym (add-one i))) in_order
+
+pub all_merged-next : (spans : List (ℕ × ℕ)) (i : ℕ) (d : ℕ × ℕ) (b new : Buffer) → i < length spans
+    → new ≡ merge_clusters (get_or spans i d).0 (get_or spans i d).1 b
+    → all_merged (drop (i + 1) spans) new ≡ all_merged (drop i spans) b
+all_merged-next spans i d b new lt is = rw (is, add-one, drop-cons spans i d) refl
+
+pub spans_merged_out-next : (spans : List (ℕ × ℕ)) (i : ℕ) (d : ℕ × ℕ) (b new : Buffer) → i < length spans
+    → new ≡ merge_out_clusters (get_or spans i d).0 (get_or spans i d).1 b
+    → spans_merged_out (drop (i + 1) spans) new ≡ spans_merged_out (drop i spans) b
+spans_merged_out-next spans i d b new lt is = rw (is, add-one, drop-cons spans i d) refl
+
+-- ---- as many items
+
+pub length-merge_each : (spans : List (ℕ × ℕ)) (xs : List Item) → length (merge_each spans xs) ≡ length xs
+length-merge_each [] xs = refl
+length-merge_each (span ∷ spans) xs = length-merge_each spans (merge span.0 span.1 xs) ∙ length-merge span.0 span.1 xs
+
+pub length-all_merged : (spans : List (ℕ × ℕ)) (b : Buffer) → length (all_merged spans b).items ≡ length b.items
+length-all_merged [] b = refl
+length-all_merged (span ∷ spans) b =
+    length-all_merged spans (merge_clusters span.0 span.1 b) ∙ length-merge_clusters span.0 span.1 b
+
+pub length-spans_merged_out : (spans : List (ℕ × ℕ)) (b : Buffer) → length (spans_merged_out spans b).items ≡ length b.items
+length-spans_merged_out [] b = refl
+length-spans_merged_out (span ∷ spans) b =
+    length-spans_merged_out spans (merge_out_clusters span.0 span.1 b) ∙ length-merge_out span.0 span.1 b
+
+-- ---- the order of clusters, and the flags
+
+-- the order of clusters and the flags are kept
+abbrev KeepsBoth : Buffer → Buffer → Type 0
+KeepsBoth b c = KeepsClusters (clusters b.items) (clusters c.items) × KeepsFlags b c
+
+KeepsBoth-then : (a b c : Buffer) → KeepsBoth a b → KeepsBoth b c → KeepsBoth a c
+KeepsBoth-then a b c first later =
+    (KeepsClusters-then _ _ _ first.0 later.0, KeepsFlags-then a b c first.1 later.1)
+
+pub all_merged_keep : (from : ℕ) (spans : List (ℕ × ℕ)) (b c : Buffer) → AreSpansInOrder from (length b.items) spans
+    → c ≡ all_merged spans b
+    → KeepsClusters (clusters b.items) (clusters c.items) × KeepsFlags b c
+all_merged_keep from spans b c in_order e = rw e (each from spans b in_order) where
+  each : (from : ℕ) (spans : List (ℕ × ℕ)) (b : Buffer) → AreSpansInOrder from (length b.items) spans → KeepsBoth b (all_merged spans b)
+  each from [] b in_order = (KeepsClusters-same (clusters b.items), KeepsFlags-same b)
+  each from (span ∷ spans) b in_order =
+      let merged = merge_clusters span.0 span.1 b in
+      KeepsBoth-then b merged _ (merged_keeps span.0 span.1 b merged in_order.2 refl)
+      (each span.0 spans merged (rw (length-merge_clusters span.0 span.1 b) in_order.3))
+
+pub spans_merged_out_keep : (from : ℕ) (spans : List (ℕ × ℕ)) (b c : Buffer) → AreSpansInOrder from (length b.items) spans
+    → c ≡ spans_merged_out spans b
+    → KeepsClusters (clusters b.items) (clusters c.items) × KeepsFlags b c
+spans_merged_out_keep from spans b c in_order e = rw e (each from spans b in_order) where
+  each : (from : ℕ) (spans : List (ℕ × ℕ)) (b : Buffer) → AreSpansInOrder from (length b.items) spans
+      → KeepsBoth b (spans_merged_out spans b)
+  each from [] b in_order = (KeepsClusters-same (clusters b.items), KeepsFlags-same b)
+  each from (span ∷ spans) b in_order =
+      let merged = merge_out_clusters span.0 span.1 b in
+      KeepsBoth-then b merged _ (merged_out_keeps span.0 span.1 b merged in_order.2 refl)
+      (each span.0 spans merged (rw (length-merge_out span.0 span.1 b) in_order.3))

@@ -1,0 +1,12 @@
+use Rattle.std.proofs.Common.{◌≡◌, [], drop, ap, sym, ◌∙◌, arith}
+use Rattle.std.proofs.lemmas.List.{drop_all}
+use Rattle.shape_buffer.specs.Spans.{all_merged}
+use Rattle.shape_buffer.proofs.MergingInOrder.EachSpanLemmas.{all_merged_keep}
+use Rattle.shape_buffer.proofs.buffer.storage.hb_buffer_t.merge_spans.Goals as goal
+
+pub returns-clause-keeps : goal.returns-clause-keeps
+returns-clause-keeps c =
+    let spans = c.args.spans.now in
+    let none : drop c.loop-start.start-index spans ≡ [] = drop_all c.loop-start.start-index spans (omega arith) in
+    all_merged_keep 0 spans c.args.self.now c.loop-start.self c.requires.in_order
+    (sym (ap (λ s. all_merged s c.loop-start.self) none) ∙ c.loop-start.invariant.whole)
