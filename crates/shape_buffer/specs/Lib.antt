@@ -8,6 +8,7 @@ pub mod Clusters
 pub mod ClusterOrder
 pub mod Buffer
 pub mod BufferClusters
+pub mod Spans
 pub mod Delete
 pub mod KeepsFlags
 pub mod Unwritten

@@ -1,4 +1,4 @@
--- Runs whose writing deletion puts off: where they begin, and where they are written.
+-- Runs whose writing is put off: where they begin, and where they are written.
 use Rattle.std.proofs.Common.{◌≡◌, ◌≢◌, ℕ, ◌+◌, ◌-◌, ◌<◌, ◌≤◌, List, [], ◌∷◌, ◌++◌, length, get_or, take, drop, set, refl, ap, sym, ◌∙◌, arith, ◌⊎◌, append_assoc, length-append}
 use borrow.Rule.Slice.PartMut.{put_mid}
 use Rattle.std.proofs.lemmas.Slice.{between_is}
