@@ -87,7 +87,7 @@ where
 impl<'a, S, P, D> hb_ot_shape_plan_t<'a, S, P, D> {
     ghost use Rattle.shape_plan.specs.Plan.{Plan, Fits};
 
-    /// A plan of these parts, with what the shaper makes for it, last, when all else is settled. Refuses
+    /// A plan of these parts, with what the shaper makes for it, last, when all else is decided. Refuses
     /// with `Memory` alone.
     pub(crate) fn with_parts<U, F, M>(
         alloc: Global,

@@ -97,7 +97,7 @@ fn share_flags(buffer: &mut hb_buffer_t)
 }
 
 /// Gives each cluster one set of flags, where the run has seen flags: the defined bits of its items united,
-/// settled by what the caller asks for, in place of each mask. Where it hasn't seen any and no item has
+/// as far as the caller asks for them, in place of each mask. Where it hasn't seen any and no item has
 /// one, nothing is to be done. Takes no memory.
 pub fn propagate_flags(buffer: &mut hb_buffer_t)
     ensures made { Made flags_propagated buffer.old buffer.new }

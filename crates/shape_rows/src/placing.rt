@@ -195,8 +195,8 @@ fn a_cleared_buffer_serves_again(rt: HostRuntime) -> Result<(), Fail> {
     Ok(())
 }
 
-/// The masks of two glyphs of one cluster after the flags were settled.
-fn settled(alloc: Global, flags: BufferFlags, masks: [u32; 2]) -> Result<[u32; 2], Fail> {
+/// The masks of two glyphs of one cluster after the flags were handed out.
+fn handed_out(alloc: Global, flags: BufferFlags, masks: [u32; 2]) -> Result<[u32; 2], Fail> {
     let mut items = Vec::new(alloc);
     for mask in masks {
         let mut item = hb_glyph_info_t::new('a', 0);
@@ -217,9 +217,9 @@ fn settled(alloc: Global, flags: BufferFlags, masks: [u32; 2]) -> Result<[u32; 2
 #[test]
 fn joined_flags_and_tatweel(rt: HostRuntime) -> Result<(), Fail> {
     let alloc = rt.alloc();
-    let joined = settled(alloc, BufferFlags::PRODUCE_UNSAFE_TO_CONCAT, [1, 0])?;
-    assert_eq!(rt; joined, [1, 1]);
-    let tatweel = settled(alloc, BufferFlags::PRODUCE_SAFE_TO_INSERT_TATWEEL, [4, 0])?;
+    let united = handed_out(alloc, BufferFlags::PRODUCE_UNSAFE_TO_CONCAT, [1, 0])?;
+    assert_eq!(rt; united, [1, 1]);
+    let tatweel = handed_out(alloc, BufferFlags::PRODUCE_SAFE_TO_INSERT_TATWEEL, [4, 0])?;
     assert_eq!(rt; tatweel, [5, 5]);
     Ok(())
 }

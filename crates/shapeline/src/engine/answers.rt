@@ -38,7 +38,7 @@ where
     ensures guessed { text.new ≡ guessed unicode_tables text.old }
     ensures known { text.new.direction ≢ Direction.Invalid }
     ensures fits { IfOk result (λ plan. Fits unicode_tables plan text.new) }
-    ensures settled { IfOk result (λ plan. plan.direction ≢ Direction.Invalid) }
+    ensures directed { IfOk result (λ plan. plan.direction ≢ Direction.Invalid) }
 {
     guess(text);
     hb_ot_shape_plan_t::new::<UnicodeTables, MapFace, NoLookups>(
