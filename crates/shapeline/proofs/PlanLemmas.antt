@@ -36,12 +36,12 @@ direction-twice RightToLeft other = refl
 direction-twice TopToBottom other = refl
 direction-twice BottomToTop other = refl
 
-pub script_settled : (unicode : UnicodeMeaning) (text : Buffer)
+pub script_guessed_again : (unicode : UnicodeMeaning) (text : Buffer)
     → guessed_script unicode (guessed unicode text) ≡ guessed_script unicode text
-script_settled unicode text = script-twice text.script (first_script unicode text.items)
+script_guessed_again unicode text = script-twice text.script (first_script unicode text.items)
 
-pub direction_settled : (unicode : UnicodeMeaning) (text : Buffer)
+pub direction_guessed_again : (unicode : UnicodeMeaning) (text : Buffer)
     → guessed_direction unicode (guessed unicode text) ≡ guessed_direction unicode text
-direction_settled unicode text =
-    let same = script_settled unicode text in
+direction_guessed_again unicode text =
+    let same = script_guessed_again unicode text in
     let twice = direction-twice text.direction (script_or_ltr unicode (guessed_script unicode text)) in cc

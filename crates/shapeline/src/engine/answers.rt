@@ -25,7 +25,7 @@ pub fn guess(text: &mut UnicodeBuffer)
     text.guess_segment_properties::<UnicodeTables>();
 }
 
-#[tactic(auto, using(crate::proofs::PlanLemmas::planned_direction, crate::proofs::PlanLemmas::planned_script, crate::proofs::PlanLemmas::script_settled, crate::proofs::PlanLemmas::direction_settled))]
+#[tactic(auto, using(crate::proofs::PlanLemmas::planned_direction, crate::proofs::PlanLemmas::planned_script, crate::proofs::PlanLemmas::script_guessed_again, crate::proofs::PlanLemmas::direction_guessed_again))]
 /// Guesses what a text leaves open, and plans for it.
 pub fn planned<'a, S>(
     alloc: Global,
