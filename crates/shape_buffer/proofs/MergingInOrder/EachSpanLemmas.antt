@@ -1,5 +1,5 @@
 -- What merging one span after the other keeps.
-use Rattle.std.proofs.Common.{◌≡◌, ◌≢◌, ℕ, ◌+◌, ◌<◌, ◌≤◌, List, [], ◌∷◌, length, get_or, drop, refl, ap, sym, subst, ◌∙◌, arith, add-one, drop-cons, inl, inr}
+use Rattle.std.proofs.Common.{◌≡◌, ◌≢◌, ℕ, ◌+◌, ◌<◌, List, [], ◌∷◌, length, get_or, drop, refl, ap, sym, subst, ◌∙◌, add-one, drop-cons, inl, inr}
 use Rattle.shape_buffer.specs.Items.{Item}
 use Rattle.shape_buffer.specs.Buffer.{Buffer}
 use Rattle.shape_buffer.specs.BufferClusters.{merge_at, merge_clusters, merge_out_clusters}
@@ -10,7 +10,7 @@ use Rattle.shape_buffer.specs.Spans.{AreSpansInOrder, merge_each, all_merged, sp
 use Rattle.shape_buffer.specs.declared.buffer.settings.BufferClusterLevel.TheVariants.{Characters}
 use Rattle.shape_buffer.proofs.Deletion.DeleteKeeps.{merged_keeps, merged_out_keeps}
 use Rattle.shape_buffer.proofs.Flags.FlagLemmas.{KeepsFlags-same, KeepsFlags-then}
-use Rattle.shape_buffer.proofs.Merging.ClusterLemmas.{merge_clusters-monotone, merge_out-monotone, level_cases}
+use Rattle.shape_buffer.proofs.Merging.ClusterLemmas.{merge_out-cases, merge_clusters-monotone, merge_out-monotone, level_cases}
 use Rattle.shape_buffer.proofs.Merging.KeyLemmas.{length-merge, length-merge_clusters, length-merge_out}
 use Rattle.shape_buffer.proofs.Steps.KeeperLemmas.{KeepsClusters-same, KeepsClusters-then}
 
@@ -30,11 +30,6 @@ pub all_merged-next : (spans : List (ℕ × ℕ)) (i : ℕ) (d : ℕ × ℕ) (b 
     → all_merged (drop (i + 1) spans) new ≡ all_merged (drop i spans) b
 all_merged-next spans i d b new lt is = rw (is, add-one, drop-cons spans i d) refl
 
-pub spans_merged_out-next : (spans : List (ℕ × ℕ)) (i : ℕ) (d : ℕ × ℕ) (b new : Buffer) → i < length spans
-    → new ≡ merge_out_clusters (get_or spans i d).0 (get_or spans i d).1 b
-    → spans_merged_out (drop (i + 1) spans) new ≡ spans_merged_out (drop i spans) b
-spans_merged_out-next spans i d b new lt is = rw (is, add-one, drop-cons spans i d) refl
-
 -- ---- as many items
 
 pub length-merge_each : (spans : List (ℕ × ℕ)) (xs : List Item) → length (merge_each spans xs) ≡ length xs
@@ -50,6 +45,20 @@ pub length-spans_merged_out : (spans : List (ℕ × ℕ)) (b : Buffer) → lengt
 length-spans_merged_out [] b = refl
 length-spans_merged_out (span ∷ spans) b =
     length-spans_merged_out spans (merge_out_clusters span.0 span.1 b) ∙ length-merge_out span.0 span.1 b
+
+-- ---- the rest of the buffer
+
+merge_out_is : (start end : ℕ) (b : Buffer) → merge_out_clusters start end b ≡ record b { items = (merge_out_clusters start end b).items }
+merge_out_is start end b = merge_out-cases (λ c. c ≡ record b { items = c.items }) start end b refl refl
+
+-- merging out changes the items alone
+pub spans_merged_out_is : (spans : List (ℕ × ℕ)) (b : Buffer)
+    → spans_merged_out spans b ≡ record b { items = (spans_merged_out spans b).items }
+spans_merged_out_is [] b = refl
+spans_merged_out_is (span ∷ spans) b =
+    let merged : Buffer = merge_out_clusters span.0 span.1 b in
+    spans_merged_out_is spans merged
+    ∙ ap (λ (m : Buffer). record m { items = (spans_merged_out spans merged).items }) (merge_out_is span.0 span.1 b)
 
 -- ---- the order of clusters, and the flags
 

@@ -1,5 +1,5 @@
 -- What a merge makes of the items before its span, where they stand as runs.
-use Rattle.std.proofs.Common.{◌≡◌, ◌≢◌, ℕ, ◌+◌, ◌-◌, ◌<◌, ◌≤◌, true, false, nat_lt, List, [], ◌∷◌, ◌++◌, length, get_or, take, drop, map, refl, ap, ap₂, sym, ◌∙◌, arith, inl, inr, bit_and, bit_or, length-append}
+use Rattle.std.proofs.Common.{◌≡◌, ◌≢◌, ℕ, ◌+◌, ◌-◌, ◌<◌, true, false, nat_lt, List, [], ◌∷◌, ◌++◌, length, get_or, take, drop, map, refl, ap, ap₂, sym, ◌∙◌, arith, inl, inr, bit_and, bit_or, length-append}
 use Rattle.std.proofs.lemmas.Bool.{cases_Bool}
 use Rattle.std.proofs.lemmas.Bool.Decides.{nat_tests}
 use Rattle.std.proofs.lemmas.List.{take-append-drop}
@@ -7,10 +7,10 @@ use Rattle.std.proofs.lemmas.List.Sums.{suffix_len_is}
 use Rattle.std.specs.Int.Bits.{and_zero_l, or_zero_r}
 use Rattle.std.specs.List.{suffix_len}
 use Rattle.shape_buffer.specs.Items.{Item, has_cluster, put_in, feature_bits}
-use Rattle.shape_buffer.specs.Clusters.{map_range, put_range}
+use Rattle.shape_buffer.specs.Clusters.{map_range}
 use Rattle.shape_buffer.specs.Delete.{hand_over, give_to_kept}
 use Rattle.shape_buffer.specs.Spans.{grown_left}
-use Rattle.shape_buffer.specs.Unwritten.{AreAbove, Run, written, items_of, stored_runs, written_runs, AreRuns, StandsFor}
+use Rattle.shape_buffer.specs.Unwritten.{Run, written, items_of, stored_runs, written_runs, AreRuns, StandsFor}
 use Rattle.shape_buffer.proofs.Unwritten.GivenLemmas.{has_not, last_run_len, map_range-end, give_runs, length-given}
 use Rattle.shape_buffer.proofs.Unwritten.UnwrittenLemmas.{StandsFor-empty}
 use Rattle.shape_buffer.proofs.Unwritten.WrittenLemmas.{AreIn, written-in, last_stored, last_written, length-written_runs}

@@ -1,13 +1,13 @@
 -- A list whose items before a span stand for others: what merging the span makes of it.
-use Rattle.std.proofs.Common.{◌≡◌, ℕ, ◌+◌, ◌-◌, ◌<◌, ◌≤◌, ◌==◌, true, false, nat_lt, List, [], ◌∷◌, ◌++◌, length, get_or, take, drop, map, min, slice_range, slice_index, refl, ap, ap₂, sym, ◌∙◌, arith, inl, inr, append_assoc, add-one, drop-cons}
+use Rattle.std.proofs.Common.{◌≡◌, ℕ, ◌+◌, ◌-◌, ◌<◌, ◌≤◌, ◌==◌, true, false, nat_lt, List, [], ◌∷◌, ◌++◌, length, get_or, take, drop, map, min, slice_range, slice_index, refl, ap, ap₂, sym, ◌∙◌, arith, inl, inr, append_assoc}
 use Rattle.std.proofs.lemmas.Bool.{cases_Bool}
 use Rattle.std.proofs.lemmas.Bool.Decides.{nat_tests}
 use Rattle.std.proofs.lemmas.List.{take_at, drop_at, take-take, drop-drop, drop-map, get_or-drop, get_or-map, take_more, take_all, drop_all, take-append-le, drop-append-le, take-append-drop, length-take-le, map-append, append-nil}
 use Rattle.std.proofs.lemmas.Slice.{between_is}
-use Rattle.std.specs.List.{fold, suffix_len}
-use Rattle.shape_buffer.specs.Items.{Item, new_item, has_cluster, put_in}
+use Rattle.std.specs.List.{fold}
+use Rattle.shape_buffer.specs.Items.{Item, new_item, put_in}
 use Rattle.shape_buffer.specs.Clusters.{clusters, map_range, put_range, merge, least_cluster, growth_left, growth_right}
-use Rattle.shape_buffer.specs.Spans.{grown_left, merge_each}
+use Rattle.shape_buffer.specs.Spans.{grown_left}
 use Rattle.shape_buffer.proofs.Merging.ClusterLemmas.{merge_long}
 use Rattle.shape_buffer.proofs.Merging.NestedMergeLemmas.{slice-first}
 use Rattle.shape_buffer.proofs.MergingInOrder.GrownLeftLemmas.{map_range-none}
