@@ -5,3 +5,4 @@ pub mod ModifierLemmas
 pub mod ParagraphLemmas
 pub mod PointLemmas
 pub mod WordLemmas
+pub mod WordRows
