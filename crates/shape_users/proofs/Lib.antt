@@ -5,3 +5,4 @@ mod ModifierLemmas
 mod ParagraphLemmas
 mod PointLemmas
 mod WordLemmas
+mod WordRows

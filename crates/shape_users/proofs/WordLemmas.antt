@@ -1,7 +1,7 @@
 -- One word more is looked at.
-use Rattle.std.proofs.Common.{◌≡◌, ℕ, ◌+◌, ◌<◌, ◌≤◌, List, [], ◌∷◌, ◌++◌, length, get_or, Option, Some, None, refl, inl, inr, ap, sym, ◌∙◌, subst, arith}
+use Rattle.std.proofs.Common.{◌≡◌, ℕ, ◌+◌, ◌<◌, List, [], ◌∷◌, ◌++◌, length, get_or, Option, Some, None, refl, inl, inr, ap, sym, ◌∙◌, subst, arith}
 use Rattle.std.proofs.lemmas.List.{get_or_default, get_or_push, length-append}
-use Rattle.std.specs.Prelude.{IfSome, string_bytes}
+use Rattle.std.specs.Prelude.{IfSome, IfNone, string_bytes}
 use Rattle.shape_plan.specs.Run.{Run}
 use Rattle.shape_users.specs.Words.{AreSpelledAlike, IsNowhere, IsPlaceOf}
 use Rattle.shape_users.specs.declared.words.Word.{Word}
@@ -34,6 +34,12 @@ place_of run xs ys same None place spelling is found = cc
 place_of run xs ys same (Some k) place spelling is found =
     let here : k ≡ place = cc in
     subst (λ (words : List Word). IsPlaceOf run words place spelling) same (subst (λ (i : ℕ). IsPlaceOf run xs i spelling) here found)
+
+-- where none was found there is none, in the list that was looked at
+pub none_of : (run : Run) (xs ys : List Word) → xs ≡ ys → (o : Option ℕ) (spelling : List ℕ) → o ≡ None
+    → IfNone o (IsNowhere run xs (length xs) spelling) → IsNowhere run ys (length ys) spelling
+none_of run xs ys same None spelling is nowhere = subst (λ (words : List Word). IsNowhere run words (length words) spelling) same nowhere
+none_of run xs ys same (Some k) spelling is nowhere = cc
 
 -- and so is one that was put behind the others
 pub place_pushed : (run : Run) (words more : List Word) (word : Word) (place : ℕ) (spelling : List ℕ) → more ≡ words ++ word ∷ []

@@ -6,3 +6,4 @@ pub mod Paragraph
 pub mod Points
 pub mod WorkedArabic
 pub mod Words
+pub mod WorkedWords

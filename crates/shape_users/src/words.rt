@@ -8,6 +8,7 @@ ghost use Rattle.std.specs.Prelude.{◌≡◌, ◌↔◌, length, IsTrue, IfOk, 
 ghost use Rattle.shape_plan.specs.Plan.{Fits};
 ghost use Rattle.shape_users.specs.Words.{spelled as text_spelled, FitsAt, IsPlaceOf, IsNowhere};
 ghost use Rattle.shape_users.specs.Words.{NoneFits, KeepsWords};
+ghost use Rattle.shape_users.specs.WorkedWords.{WorkedWords};
 
 mod spellings;
 #[cfg(test)]
@@ -107,3 +108,8 @@ where
     words.push(Word { spelling, glyphs })?;
     Ok(place)
 }
+
+/// What a cache keeps of its words, on lists that were worked by hand. Does nothing.
+pub fn words_meet_worked_cases()
+    ensures { WorkedWords }
+{}

@@ -49,7 +49,20 @@ fn equivalent_spellings_are_one_word(rt: HostRuntime) -> Result<(), Fail> {
         )?;
         assert_eq!(rt; kept, want);
     }
+    // the second call kept what the first had shaped
     assert_eq!(rt; words.len(), 2);
+    let wants = [
+        ("q\u{301}\u{E9}", [1, 3, 2, 3].as_slice()),
+        ("q\u{301}e", [1, 3, 2].as_slice()),
+    ];
+    for (word, (spelling, glyphs)) in words.iter().zip(wants) {
+        assert!(rt; word.spelling.as_str() == spelling);
+        let mut shown = Vec::new(alloc);
+        for info in word.glyphs.glyph_infos() {
+            shown.push(info.glyph_id)?;
+        }
+        assert!(rt; shown.as_slice() == glyphs);
+    }
     Ok(())
 }
 
