@@ -49,6 +49,9 @@ def check(row):
 
 plants = sorted(pathlib.Path("tests/rules").glob("*.plant"))
 if sys.argv[1:]:
+    unknown = set(sys.argv[1:]) - {p.stem for p in plants}
+    if unknown:
+        sys.exit(f"no such plant: {', '.join(sorted(unknown))}")
     plants = [p for p in plants if p.stem in sys.argv[1:]]
 for row in ("one", "two", "three", "origins"):
     if check(row)[0] != "proved":
