@@ -41,7 +41,7 @@ def check(row):
         return "proved", ""
     # a worked case that no longer holds, and no other error in a file of definitions
     files = re.findall(r"^\./(\S+?):\d+:\d+: error: `(\w+)`: (?:as printed|computed|expected type)", said, re.M)
-    cases = [case for file, case in files if file.startswith(("specs/Worked", "proofs/Worked"))]
+    cases = [case for file, case in files if pathlib.PurePath(file).name.startswith("Worked")]
     wrong = re.findall(r"^\./specs/(?!Worked)\S+: error: .*", said, re.M)
     if cases and not wrong:
         return "refused", ", ".join(sorted(set(cases)))
@@ -49,6 +49,9 @@ def check(row):
 
 plants = sorted(pathlib.Path("tests/rules").glob("*.plant"))
 if sys.argv[1:]:
+    unknown = set(sys.argv[1:]) - {p.stem for p in plants}
+    if unknown:
+        sys.exit(f"no such plant: {', '.join(sorted(unknown))}")
     plants = [p for p in plants if p.stem in sys.argv[1:]]
 for row in ("one", "two", "three", "origins"):
     if check(row)[0] != "proved":

@@ -7,6 +7,7 @@ mod calls;
 mod clusters;
 mod deletion;
 mod no_memory;
+mod numbers;
 mod refusals;
 
 /// A buffer of these clusters and masks.
