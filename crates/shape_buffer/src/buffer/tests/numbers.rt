@@ -47,12 +47,12 @@ fn flags_of_requests(rt: HostRuntime) {
         F_PER_SYLLABLE,
     ];
     assert_eq!(rt; single, [0, 1, 2, 4, 8, 16, 32, 64]);
-    let joined = [
+    let several = [
         F_GLOBAL_HAS_FALLBACK,
         F_MANUAL_JOINERS,
         F_GLOBAL_MANUAL_JOINERS,
     ];
-    assert_eq!(rt; joined, [3, 12, 13]);
+    assert_eq!(rt; several, [3, 12, 13]);
     assert_eq!(rt; MAX_VALUE, 255);
 }
 
