@@ -26,7 +26,8 @@ fn open_runs(
     requires within { start ≤ length infos.now }
     requires room { length infos.now ≤ length starts.old }
     requires runs { runs ≤ kept }
-    ensures stands { (given : List Item) → StandsFor (take kept infos.now) (take runs starts.old) given
+    ensures stands { (given : List Item)
+        → StandsFor (take kept infos.now) (take runs starts.old) given
         → StandsFor (take start infos.now) (take result starts.new)
         (given ++ slice_range infos.now kept start) }
     ensures runs { result ≤ start }
