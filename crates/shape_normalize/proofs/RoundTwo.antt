@@ -14,3 +14,4 @@ pub mod PartLemmas
 pub mod MergeFirstLemmas
 pub mod SpanOrderLemmas
 pub mod MovedSpanLemmas
+pub mod SpansAheadLemmas
