@@ -9,3 +9,9 @@ pub mod OrderedLemmas
 pub mod RunClusterLemmas
 pub mod OrderedClusterLemmas
 pub mod CgjLemmas
+pub mod ByClusterLemmas
+pub mod PartLemmas
+pub mod MergeFirstLemmas
+pub mod SpanOrderLemmas
+pub mod MovedSpanLemmas
+pub mod SpansAheadLemmas

@@ -16,6 +16,7 @@ ghost use Rattle.shape_plan.specs.Rules.{rules_of, decompositions, has_glyph};
 use crate::ot_shape_normalize::decompose::split_of;
 use crate::ot_shape_normalize::has_mark_past_first;
 use crate::ot_shape_normalize::mode::goes_short;
+use crate::ot_shape_normalize::round_two::reorders_marks;
 use shape_buffer::buffer::{hb_buffer_t, hb_glyph_info_t};
 use shape_buffer::interfaces::{hb_font_t, hb_ot_layout_t, hb_unicode_funcs_t};
 use shape_plan::ot_shape_plan::hb_ot_shape_plan_t;
@@ -128,7 +129,7 @@ where
         result ≡ is_full_mode rules.short && not (is_some rules.reorder) }
 {
     let short = goes_short::<U, F, M, S>(plan, true) || goes_short::<U, F, M, S>(plan, false);
-    let reorders = S::HAS_REORDER_MARKS && plan.shaper().is_some();
+    let reorders = reorders_marks::<U, F, M, S>(plan);
     !short && !reorders
 }
 
