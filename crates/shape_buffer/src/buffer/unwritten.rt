@@ -55,7 +55,12 @@ pub(super) fn write_runs(infos: &mut [hb_glyph_info_t], starts: &[usize])
 }
 
 /// Notes where an item of that cluster, kept after these, begins a run; gives how many runs there are.
-pub(super) fn open_run(kept: &[hb_glyph_info_t], starts: &mut [usize], count: usize, cluster: u32) -> usize
+pub(super) fn open_run(
+    kept: &[hb_glyph_info_t],
+    starts: &mut [usize],
+    count: usize,
+    cluster: u32,
+) -> usize
     requires { count < length starts.old }
     ensures stands { (x : Item) → x.cluster ≡ cluster → (given : List Item)
         → StandsFor kept.now (take count starts.old) given
@@ -77,7 +82,11 @@ pub(super) fn open_run(kept: &[hb_glyph_info_t], starts: &mut [usize], count: us
 
 /// Gives the picked item's cluster and flags to the last run, where that is below its own; gives how many
 /// runs there are, one fewer where the last one joins the one before it.
-pub(super) fn give_to_last(infos: &mut [hb_glyph_info_t], starts: &[usize], picked: &hb_glyph_info_t) -> usize
+pub(super) fn give_to_last(
+    infos: &mut [hb_glyph_info_t],
+    starts: &[usize],
+    picked: &hb_glyph_info_t,
+) -> usize
     requires some { 0 < length infos.old }
     requires stands { (given : List Item) × StandsFor infos.old starts.now given }
     ensures stands { (given : List Item) → StandsFor infos.old starts.now given
