@@ -1,5 +1,5 @@
 -- What merging one span after the other keeps.
-use Rattle.std.proofs.Common.{◌≡◌, ◌≢◌, ℕ, ◌+◌, ◌<◌, List, [], ◌∷◌, length, get_or, drop, refl, ap, sym, subst, ◌∙◌, add-one, drop-cons, inl, inr}
+use Rattle.std.proofs.Common.{◌≡◌, ◌≢◌, ℕ, ◌+◌, ◌<◌, ◌≤◌, List, [], ◌∷◌, length, get_or, drop, refl, ap, sym, subst, ◌∙◌, arith, add-one, drop-cons, inl, inr}
 use Rattle.shape_buffer.specs.Items.{Item}
 use Rattle.shape_buffer.specs.Buffer.{Buffer}
 use Rattle.shape_buffer.specs.BufferClusters.{merge_at, merge_clusters, merge_out_clusters}
@@ -14,11 +14,21 @@ use Rattle.shape_buffer.proofs.Merging.ClusterLemmas.{merge_out-cases, merge_clu
 use Rattle.shape_buffer.proofs.Merging.KeyLemmas.{length-merge, length-merge_clusters, length-merge_out}
 use Rattle.shape_buffer.proofs.Steps.KeeperLemmas.{KeepsClusters-same, KeepsClusters-then}
 
+-- ---- spans in order
+
+-- they may begin behind an earlier place
+pub AreSpansInOrder-lower : (low from size : ℕ) (spans : List (ℕ × ℕ)) → low ≤ from → AreSpansInOrder from size spans
+    → AreSpansInOrder low size spans
+AreSpansInOrder-lower low from size [] le h = tt
+AreSpansInOrder-lower low from size (span ∷ spans) le h = (omega (arith, h.0), h.1, h.2, h.3)
+
 -- the spans from the one at a place on: that one, and those after it
 pub AreSpansInOrder-next : (from size : ℕ) (spans : List (ℕ × ℕ)) (i : ℕ) (d : ℕ × ℕ) → i < length spans
     → AreSpansInOrder from size (drop i spans) → AreSpansInOrder from size (get_or spans i d ∷ drop (i + 1) spans)
 AreSpansInOrder-next from size spans i d lt in_order =
     subst (AreSpansInOrder from size) (drop-cons spans i d lt ∙ ap (λ n. get_or spans i d ∷ drop n spans) (sym (add-one i))) in_order
+
+-- ---- one more span
 
 pub merge_each-next : (spans : List (ℕ × ℕ)) (i : ℕ) (d : ℕ × ℕ) (xs new : List Item) → i < length spans
     → new ≡ merge (get_or spans i d).0 (get_or spans i d).1 xs

@@ -42,8 +42,8 @@ module _ (xs ys : List Item) (start : ℕ) (same : drop start xs ≡ drop start 
   cluster-from k le =
       let sum : start + (k - start) ≡ k = omega arith in
       let read = λ (zs : List Item).
-          ap (λ cs. get_or cs (k - start) 0) (sym (drop-map (λ (x : Item). x.cluster) start zs))
-          ∙ get_or-drop start (clusters zs) (k - start) 0 ∙ ap (λ j. get_or (clusters zs) j 0) sum in
+      ap (λ cs. get_or cs (k - start) 0) (sym (drop-map (λ (x : Item). x.cluster) start zs))
+      ∙ get_or-drop start (clusters zs) (k - start) 0 ∙ ap (λ j. get_or (clusters zs) j 0) sum in
       sym (read xs) ∙ ap (λ zs. get_or (clusters zs) (k - start) 0) same ∙ read ys
 
   growth_right-from : (last least : ℕ) → start ≤ last → growth_right xs last least ≡ growth_right ys last least

@@ -42,12 +42,7 @@ fn open_runs(
 
 /// Puts the last run into the least cluster of a span that comes next, where the run ends in the cluster
 /// of the span's first item and the least is below that; gives how many runs there are.
-fn grow_left(
-    kept: &mut [hb_glyph_info_t],
-    starts: &[usize],
-    first: u32,
-    least: u32,
-) -> usize
+fn grow_left(kept: &mut [hb_glyph_info_t], starts: &[usize], first: u32, least: u32) -> usize
     requires { (given : List Item) × StandsFor kept.old starts.now given }
     ensures stands { (given : List Item) → StandsFor kept.old starts.now given
         → StandsFor kept.new (take result starts.now) (grown_left first least given) }
@@ -71,12 +66,7 @@ fn grow_left(
 }
 
 /// Merges a span, where the items before it stand as these runs; gives how many runs there are.
-fn merge_behind(
-    infos: &mut [hb_glyph_info_t],
-    starts: &[usize],
-    start: usize,
-    end: usize,
-) -> usize
+fn merge_behind(infos: &mut [hb_glyph_info_t], starts: &[usize], start: usize, end: usize) -> usize
     requires ordered { start ≤ end }
     requires within { end ≤ length infos.old }
     requires stands { (given : List Item) × StandsFor (take start infos.old) starts.now given }

@@ -9,6 +9,7 @@ mod deletion;
 mod no_memory;
 mod numbers;
 mod refusals;
+mod spans;
 
 /// A buffer of these clusters and masks.
 fn filled(
