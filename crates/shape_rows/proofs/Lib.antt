@@ -1,1 +1,2 @@
 pub mod PromiseRows
+pub mod PremiseRows
