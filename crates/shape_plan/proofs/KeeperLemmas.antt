@@ -8,11 +8,15 @@ use Rattle.shape_plan.specs.Keepers.{EachCalledLookup}
 use Rattle.shape_plan.specs.Run.{Run, step_if, hook_if}
 use Rattle.shape_plan.specs.Shaper.{HookMeaning}
 
--- a step that is due only where a test holds owes nothing elsewhere
-pub keeper-step_if : (Keeps : (Buffer → Buffer) → Type 0) → Keeps (λ b. b) → {f : Buffer → Buffer} (test : Bool)
+-- a step owes nothing where it isn't due
+pub keeper-step_due : (Keeps : (Buffer → Buffer) → Type 0) → Keeps (λ b. b) → {f : Buffer → Buffer} (test : Bool)
     → (test ≡ true → Keeps f) → Keeps (step_if test f)
-keeper-step_if Keeps none true keeper = keeper refl
-keeper-step_if Keeps none false keeper = none
+keeper-step_due Keeps none true keeper = keeper refl
+keeper-step_due Keeps none false keeper = none
+
+pub keeper-step_if : (Keeps : (Buffer → Buffer) → Type 0) → Keeps (λ b. b) → {f : Buffer → Buffer} (test : Bool)
+    → Keeps f → Keeps (step_if test f)
+keeper-step_if Keeps none test keeper = keeper-step_due Keeps none test (λ due. keeper)
 
 pub keeper-hook : (Keeps : (Buffer → Buffer) → Type 0) → Keeps (λ b. b)
     → (given : Bool) (hooks : Option HookMeaning) (pick : HookMeaning → Buffer → Buffer)
@@ -24,20 +28,20 @@ keeper-hook Keeps none false (Some h) pick each = none
 -- ---- clusters, and flags
 
 pub order-step_if : {f : Buffer → Buffer} (test : Bool) → IsClusterKeeper f → IsClusterKeeper (step_if test f)
-order-step_if test keeper = keeper-step_if IsClusterKeeper (λ b monotone. KeepsOrder-same b) test (λ due. keeper)
+order-step_if test keeper = keeper-step_if IsClusterKeeper (λ b monotone. KeepsOrder-same b) test keeper
 
 pub order-step_due : {f : Buffer → Buffer} (test : Bool) → (test ≡ true → IsClusterKeeper f) → IsClusterKeeper (step_if test f)
-order-step_due test keeper = keeper-step_if IsClusterKeeper (λ b monotone. KeepsOrder-same b) test keeper
+order-step_due test keeper = keeper-step_due IsClusterKeeper (λ b monotone. KeepsOrder-same b) test keeper
 
 pub order-hook_if : (given : Bool) (hooks : Option HookMeaning) (pick : HookMeaning → Buffer → Buffer)
     → ((h : HookMeaning) → hooks ≡ Some h → given ≡ true → IsClusterKeeper (pick h)) → IsClusterKeeper (hook_if given hooks pick)
 order-hook_if given hooks pick keep = keeper-hook IsClusterKeeper (λ b monotone. KeepsOrder-same b) given hooks pick keep
 
 pub flags-step_if : {f : Buffer → Buffer} (test : Bool) → IsFlagKeeper f → IsFlagKeeper (step_if test f)
-flags-step_if test keeper = keeper-step_if IsFlagKeeper KeepsFlags-same test (λ due. keeper)
+flags-step_if test keeper = keeper-step_if IsFlagKeeper KeepsFlags-same test keeper
 
 pub flags-step_due : {f : Buffer → Buffer} (test : Bool) → (test ≡ true → IsFlagKeeper f) → IsFlagKeeper (step_if test f)
-flags-step_due test keeper = keeper-step_if IsFlagKeeper KeepsFlags-same test keeper
+flags-step_due test keeper = keeper-step_due IsFlagKeeper KeepsFlags-same test keeper
 
 pub flags-hook_if : (given : Bool) (hooks : Option HookMeaning) (pick : HookMeaning → Buffer → Buffer)
     → ((h : HookMeaning) → hooks ≡ Some h → given ≡ true → IsFlagKeeper (pick h)) → IsFlagKeeper (hook_if given hooks pick)

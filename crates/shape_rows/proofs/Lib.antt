@@ -1,1 +1,2 @@
 mod PromiseRows
+mod PremiseRows

@@ -4,4 +4,5 @@ pub mod Splitting
 pub mod Reversing
 pub mod Worked
 pub mod WorkedClusters
+pub mod WorkedPremises
 pub mod Tabled

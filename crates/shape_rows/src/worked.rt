@@ -1,6 +1,7 @@
 //! The definitions, computed on small cases whose answers are worked out by hand.
 ghost use Rattle.shape_rows.specs.Worked.{WorkedCases};
 ghost use Rattle.shape_rows.specs.WorkedClusters.{WorkedPromises};
+ghost use Rattle.shape_rows.specs.WorkedPremises.{WorkedPremises};
 
 /// The chain of U+1EA4 with its expansions and choices, limits of runs, and the order of some marks, as
 /// the definitions have them.
@@ -12,4 +13,9 @@ pub fn definitions_meet_worked_cases()
 /// and in each direction.
 pub fn promises_meet_worked_cases()
     ensures { WorkedPromises }
+{}
+
+/// What a run asks of its lookups: of those that its plan calls, and of no other.
+pub fn premises_meet_worked_cases()
+    ensures { WorkedPremises }
 {}

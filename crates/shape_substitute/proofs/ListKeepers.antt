@@ -49,9 +49,11 @@ substitution-keeps_clusters run keep = record {
       (order-step_if run.decisions.fallback_glyph_classes order-classes_synthesised, tt),
     ),
   );
-  lookups = EachStep-append IsClusterKeeper (lookup_steps run) _ (order-lookups run keep run.decisions.apply_morx refl)
-      (order-step_due (run.decisions.apply_morx && run.decisions.apply_gpos)
-      (λ both. keep.lookups.aat_remove_deleted (and_parts run.decisions.apply_morx run.decisions.apply_gpos both).0), tt);
+  lookups = EachStep-append IsClusterKeeper (lookup_steps run) _ (order-lookups run keep run.decisions.apply_morx refl) (
+    order-step_due (run.decisions.apply_morx && run.decisions.apply_gpos)
+        (λ both. keep.lookups.aat_remove_deleted (and_parts run.decisions.apply_morx run.decisions.apply_gpos both).0),
+    tt,
+  );
 }
 
 -- ---- flags
@@ -89,7 +91,9 @@ substitution-keeps_flags run masks features keep = record {
       (flags-step_if run.decisions.fallback_glyph_classes flags-classes_synthesised, tt),
     ),
   );
-  lookups = EachStep-append IsFlagKeeper (lookup_steps run) _ (flags-lookups run keep run.decisions.apply_morx refl)
-      (flags-step_due (run.decisions.apply_morx && run.decisions.apply_gpos)
-      (λ both. keep.lookups.aat_remove_deleted (and_parts run.decisions.apply_morx run.decisions.apply_gpos both).0), tt);
+  lookups = EachStep-append IsFlagKeeper (lookup_steps run) _ (flags-lookups run keep run.decisions.apply_morx refl) (
+    flags-step_due (run.decisions.apply_morx && run.decisions.apply_gpos)
+        (λ both. keep.lookups.aat_remove_deleted (and_parts run.decisions.apply_morx run.decisions.apply_gpos both).0),
+    tt,
+  );
 }
