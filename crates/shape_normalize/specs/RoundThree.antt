@@ -103,5 +103,5 @@ composed_char rules starter marks next =
     then compose_with_glyph rules.compose (has_glyph rules.face.nominal_glyph) starter.info.codepoint next.info.codepoint
     else None
 
-abbrev pub settled_info : List Item → PlacedInfo → Item
-settled_info items p = with_cluster_at items (record { item = p.info; place = p.place; absorbed = [] })
+abbrev pub info_at_its_place : List Item → PlacedInfo → Item
+info_at_its_place items p = with_cluster_at items (record { item = p.info; place = p.place; absorbed = [] })

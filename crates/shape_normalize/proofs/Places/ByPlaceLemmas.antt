@@ -12,7 +12,7 @@ use Rattle.shape_normalize.specs.Normalized.{ordered, normalized, has_seen_cgj}
 use Rattle.shape_normalize.specs.Origins.{item_at, all_places, PermutesRuns, IsOrderOf, lasting, IsFromPlace, IsFromStarter, is_recomposed, ComesByPlace}
 use Rattle.shape_normalize.specs.Reordered.{unmerged, unclassed}
 use Rattle.shape_normalize.specs.RoundOne.{round_one}
-use Rattle.shape_normalize.specs.RoundTwo.{max_run, has_mark_past_first, marks_ordered, keeps_nothing_apart, shown, one_cgj_shown, cgj_shown_after, cgj_shown, cgj_settled}
+use Rattle.shape_normalize.specs.RoundTwo.{max_run, has_mark_past_first, marks_ordered, keeps_nothing_apart, shown, one_cgj_shown, cgj_shown_after, cgj_shown, cgj_shown_where_seen}
 use Rattle.shape_normalize.specs.RoundThree.{recomposed_items, round_three}
 use Rattle.shape_normalize.proofs.Places.FromTextLemmas.{order_below, all_places_below, new_has}
 use Rattle.shape_normalize.proofs.Normalized.HiddenLemmas.{flag-marks_ordered, cgj_unseen}
@@ -101,7 +101,7 @@ module _ (rules : Rules) (one : Buffer) where
   -- with CGJ shown, where one was seen
   settled_by_place : (c : Buffer) (places : List ℕ) → bit_and c.scratch_flags.0 8 ≡ bit_and one.scratch_flags.0 8
       → map (lasting rules) c.items ≡ map (λ place. lasting rules (item_at one.items place)) places
-      → AllZip (IsFromPlace rules one) places (cgj_settled c).items
+      → AllZip (IsFromPlace rules one) places (cgj_shown_where_seen c).items
   settled_by_place c places flag same =
       let Same : ℕ → Item → Type 0 = λ place item. lasting rules item ≡ lasting rules (item_at one.items place) in
       let each : AllZip Same places c.items =
@@ -122,7 +122,7 @@ module _ (rules : Rules) (one : Buffer) where
   ordered_by_place : LawfulReorder rules.reorder → (test : Bool) → (places : List ℕ)
       × (test ≡ false → places ≡ all_places one.items)
       × (test ≡ true → IsOrderOf rules one.items places)
-      × AllZip (IsFromPlace rules one) places (cgj_settled (if test then marks_ordered rules.reorder one else one)).items
+      × AllZip (IsFromPlace rules one) places (cgj_shown_where_seen (if test then marks_ordered rules.reorder one else one)).items
   ordered_by_place lawful true =
       let marks = marks_by_place rules.reorder lawful one in (
         marks.0,

@@ -10,7 +10,7 @@ use Rattle.shape_buffer.specs.declared.buffer.error.ShapeError.TheVariants.{Memo
 use Rattle.shape_buffer.proofs.MergingInOrder.EachSpanLemmas.{spans_merged_out_is}
 use Rattle.shape_normalize.specs.RoundOne.{seen_chars}
 use Rattle.shape_buffer.specs.Spans.{spans_merged_out}
-use Rattle.shape_normalize.specs.RoundThree.{Placed, recomposed_items, absorbed_spans, composed_chars, placed_info, with_cluster_at, settled_info, round_three}
+use Rattle.shape_normalize.specs.RoundThree.{Placed, recomposed_items, absorbed_spans, composed_chars, placed_info, with_cluster_at, info_at_its_place, round_three}
 use Rattle.shape_plan.specs.Rules.{Rules}
 use Rattle.shape_normalize.specs.declared.ot_shape_normalize.round_three.PlacedInfo.{PlacedInfo}
 use Rattle.shape_normalize.proofs.RoundThree.RoundThreePlaceLemmas.{length-recomposed}
@@ -25,7 +25,7 @@ limit-spans_merged_out spans b = ap limit_of (spans_merged_out_is spans b)
 
 -- ---- the round
 
-settled_all : (items : List Item) (out : List Placed) → map (settled_info items) (map placed_info out) ≡ map (with_cluster_at items) out
+settled_all : (items : List Item) (out : List Placed) → map (info_at_its_place items) (map placed_info out) ≡ map (with_cluster_at items) out
 settled_all items [] = refl
 settled_all items (p ∷ out) = ap (λ l. with_cluster_at items p ∷ l) (settled_all items out)
 
@@ -33,7 +33,7 @@ settled_all items (p ∷ out) = ap (λ l. with_cluster_at items p ∷ l) (settle
 module _ (rules : Rules) (old merged : Buffer) (infos merged_infos settled : List Item) (out : List PlacedInfo) (infos_are : infos
     ≡ old.items) (merged_is : merged ≡ spans_merged_out (absorbed_spans (recomposed_items rules old.items)) old)
     (out_is : out ≡ map placed_info (recomposed_items rules infos)) (merged_infos_are : merged_infos ≡ merged.items)
-    (settled_is : settled ≡ map (settled_info merged_infos) out) where
+    (settled_is : settled ≡ map (info_at_its_place merged_infos) out) where
   put_out : List Placed
   put_out = recomposed_items rules old.items
 
@@ -48,7 +48,7 @@ module _ (rules : Rules) (old merged : Buffer) (infos merged_infos settled : Lis
   unfolding put_out
   settled_items =
       settled_is
-      ∙ ap₂ (λ xs o. map (settled_info xs) o) (merged_infos_are ∙ ap (λ (b : Buffer). b.items) merged_spanned)
+      ∙ ap₂ (λ xs o. map (info_at_its_place xs) o) (merged_infos_are ∙ ap (λ (b : Buffer). b.items) merged_spanned)
       (out_is ∙ ap (λ xs. map placed_info (recomposed_items rules xs)) infos_are)
       ∙ settled_all spanned.items put_out
 

@@ -2,7 +2,7 @@
 use Rattle.std.proofs.Common.{◌≡◌, ℕ, zero, suc, ◌+◌, ◌<◌, ◌≤◌, ◌==◌, ◌&&◌, bit_and, if◌then◌else◌, true, false, List, [], ◌∷◌, ◌++◌, map, take, drop, length, get_or, set, refl, ap, ap₂, arith, add-one}
 use Rattle.shape_buffer.specs.Items.{Item, ccc_of_item, char_of}
 use Rattle.shape_buffer.specs.Buffer.{Buffer}
-use Rattle.shape_normalize.specs.RoundTwo.{keeps_nothing_apart, shown, one_cgj_shown, cgj_shown_after, cgj_shown, cgj_settled}
+use Rattle.shape_normalize.specs.RoundTwo.{keeps_nothing_apart, shown, one_cgj_shown, cgj_shown_after, cgj_shown, cgj_shown_where_seen}
 
 -- ---- what showing keeps
 
@@ -23,13 +23,13 @@ module _ {B : Type 0} (key : Item → B) (same : (item : Item) → key (shown it
   keys-cgj_shown (first ∷ rest) = ap (λ l. key first ∷ l) (keys-cgj_shown_after first rest)
 
   -- what doesn't go by the hidden bit stays
-  pub keys-cgj_settled : (b : Buffer) → map key (cgj_settled b).items ≡ map key b.items
-  keys-cgj_settled b =
+  pub keys-cgj_shown_where_seen : (b : Buffer) → map key (cgj_shown_where_seen b).items ≡ map key b.items
+  keys-cgj_shown_where_seen b =
       elim (bit_and b.scratch_flags.0 8 == 8) as (λ t. map key (if t then record b { items = cgj_shown b.items } else b).items
       ≡ map key b.items) [ true ↦ keys-cgj_shown b.items | false ↦ refl ]
 
-pub chars-cgj_settled : (b : Buffer) → map char_of (cgj_settled b).items ≡ map char_of b.items
-chars-cgj_settled b = keys-cgj_settled char_of (λ item. refl) b
+pub chars-cgj_shown_where_seen : (b : Buffer) → map char_of (cgj_shown_where_seen b).items ≡ map char_of b.items
+chars-cgj_shown_where_seen b = keys-cgj_shown_where_seen char_of (λ item. refl) b
 
 -- ---- the walk
 

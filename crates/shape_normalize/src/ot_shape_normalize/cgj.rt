@@ -3,7 +3,7 @@
 //! One that keeps nothing apart is no longer hidden, so that lookups see it.
 ghost use Rattle.std.specs.Prelude.{◌≡◌};
 ghost use Rattle.shape_normalize.specs.RoundTwo.{keeps_nothing_apart as keeps_nothing_apart_of};
-ghost use Rattle.shape_normalize.specs.RoundTwo.{one_cgj_shown, cgj_settled};
+ghost use Rattle.shape_normalize.specs.RoundTwo.{one_cgj_shown, cgj_shown_where_seen};
 
 use bitflags::Flags;
 use shape_buffer::buffer::{ScratchFlags, hb_buffer_t, hb_glyph_info_t};
@@ -36,7 +36,7 @@ fn show_one_cgj(
 /// Shows each CGJ that keeps nothing apart, where the run has seen one; the first and the last
 /// item stay.
 pub(crate) fn show_cgj(buffer: &mut hb_buffer_t)
-    ensures { buffer.new ≡ cgj_settled buffer.old }
+    ensures { buffer.new ≡ cgj_shown_where_seen buffer.old }
 {
     if !buffer.scratch_flags().contains(ScratchFlags::HAS_CGJ) {
         return;

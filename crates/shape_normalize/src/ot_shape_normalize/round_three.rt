@@ -12,7 +12,7 @@ ghost use Rattle.shape_plan.specs.Plan.{hooks_of};
 ghost use Rattle.shape_normalize.specs.RoundOne.{part_item, seen_chars};
 ghost use Rattle.shape_normalize.specs.RoundThree.{recomposed_items, chained_spans, composed_chars};
 ghost use Rattle.shape_normalize.specs.RoundThree.{placed_info};
-ghost use Rattle.shape_normalize.specs.RoundThree.{ccc_of_placed_info, composed_char, settled_info};
+ghost use Rattle.shape_normalize.specs.RoundThree.{ccc_of_placed_info, composed_char, info_at_its_place};
 ghost use Rattle.shape_normalize.specs.RoundThree.{round_three};
 ghost use Rattle.shape_plan.specs.Rules.{used_compose, has_glyph, rules_of};
 
@@ -139,8 +139,8 @@ impl PlacedInfo {
     }
 
     /// The item with the cluster and the mask that stand at its place.
-    fn settled(&self, infos: &[hb_glyph_info_t]) -> hb_glyph_info_t
-        ensures { result ≡ settled_info infos.now self.now }
+    fn at_its_place(&self, infos: &[hb_glyph_info_t]) -> hb_glyph_info_t
+        ensures { result ≡ info_at_its_place infos.now self.now }
     {
         let mut info = self.info;
         if let Some(at) = infos.get(self.place) {
@@ -209,18 +209,19 @@ where
 }
 
 /// The items that were put out, each with the cluster and the mask that stand at its place.
-fn settle_all(
+fn all_at_their_places(
     alloc: Global,
     out: &[PlacedInfo],
     infos: &[hb_glyph_info_t],
 ) -> Result<Vec<hb_glyph_info_t>, AllocError>
-    ensures { IfOk result (λ settled. settled.items ≡ map (settled_info infos.now) out.now) }
+    ensures { IfOk result (λ placed_back. placed_back.items
+        ≡ map (info_at_its_place infos.now) out.now) }
 {
-    let mut settled = Vec::new(alloc);
+    let mut placed_back = Vec::new(alloc);
     for placed in out {
-        settled.push(placed.settled(infos))?;
+        placed_back.push(placed.at_its_place(infos))?;
     }
-    Ok(settled)
+    Ok(placed_back)
 }
 
 /// Composes marks with their starters. Refuses with `Memory` where a growth was refused; the settings that
@@ -250,7 +251,7 @@ where
         buffer.scratch_flags(),
     )?;
     buffer.merge_spans_out(&recomposed.spans);
-    let infos = settle_all(alloc, &recomposed.out, buffer.infos())?;
+    let infos = all_at_their_places(alloc, &recomposed.out, buffer.infos())?;
     buffer.replace_infos(infos)?;
     buffer.set_scratch_flags(recomposed.scratch_flags);
     Ok(())
