@@ -13,7 +13,7 @@ use Rattle.canonical_form.proofs.Recomposing.RecomposeLemmas.{by_steps}
 use Rattle.shape_buffer.proofs.Merging.KeyLemmas.{length-merge}
 use Rattle.shape_buffer.proofs.Merging.JoinLemmas.{Joined as SharesCluster, merge_joins}
 use Rattle.shape_buffer.proofs.Merging.NestedMergeLemmas.{merge-from_later}
-use Rattle.shape_buffer.proofs.MergingInOrder.EachSpanLemmas.{length-merge_each, spans_merged_out-equal, spans_merged_out_keep}
+use Rattle.shape_buffer.proofs.MergingInOrder.EachSpanLemmas.{AreSpansInOrder-lower, length-merge_each, spans_merged_out-equal, spans_merged_out_keep}
 use Rattle.shape_normalize.specs.RoundThree.{Absorbed, Placed, placed, ccc_of_placed, is_mark_placed, compose_placed, recomposed_items, absorbed_spans, spans_between, chained_spans}
 use Rattle.shape_plan.specs.Rules.{Rules}
 use Rattle.shape_normalize.proofs.RoundThree.RoundThreePlaceLemmas.{AreAbsorbedInOrder, InOrder, AreFrom, AreFrom-placed, in_order-higher, in_order-push, absorbed_is, recomposed_placed}
@@ -21,20 +21,16 @@ use Rattle.shape_normalize.proofs.RoundThree.RoundThreeWalkLemmas.{after, item_a
 
 -- ---- the spans are in order
 
-from_lower : (low from size : ℕ) (spans : List (ℕ × ℕ)) → low ≤ from → AreSpansInOrder from size spans → AreSpansInOrder low size spans
-from_lower low from size [] le h = tt
-from_lower low from size (span ∷ spans) le h = (omega (arith, h.0), h.1, h.2, h.3)
-
 -- the spans of one starter, and then those that begin behind its marks
 chained_then : (from k n : ℕ) (absorbed : List Absorbed) (spans : List (ℕ × ℕ)) → from ≤ k → k ≤ n → AreAbsorbedInOrder from k absorbed
     → AreSpansInOrder k n spans → AreSpansInOrder from n (spans_between from absorbed ++ spans)
-chained_then from k n [] spans le within h later = from_lower from k n spans le later
+chained_then from k n [] spans le within h later = AreSpansInOrder-lower from k n spans le later
 chained_then from k n (mark ∷ absorbed) spans le within h later =
     let behind = chained_then mark.place k n absorbed spans (omega (arith, h.1)) within h.2 later in (
       omega arith,
       omega (arith, h.0),
       omega (arith, h.1),
-      from_lower from mark.place n (spans_between mark.place absorbed ++ spans) (omega (arith, h.0)) behind,
+      AreSpansInOrder-lower from mark.place n (spans_between mark.place absorbed ++ spans) (omega (arith, h.0)) behind,
     )
 
 -- nothing was composed with these
