@@ -1,5 +1,6 @@
-//! The tables, entry by entry, and the characters beside them.
+//! The tables, entry by entry, the characters beside them, and how many they name.
 
+mod counts;
 mod forms;
 mod letters;
 mod ranges;
