@@ -4,8 +4,11 @@
 //! run by hand, with any argument; without one it does nothing, so that the gate may run it.
 #![tactic(auto)]
 
+ghost use Rattle.std.specs.Prelude.{IfOk};
+ghost use Rattle.shape_buffer.specs.Spans.{AreSpansInOrder};
+
 use shape_buffer::buffer::{ShapeError, UnicodeBuffer, hb_buffer_t};
-use std::alloc::Global;
+use std::alloc::{AllocError, Global};
 use std::time::Instant;
 use std::{env, io};
 
@@ -50,6 +53,26 @@ fn joining(alloc: Global, count: u32) -> Result<hb_buffer_t, ShapeError> {
     Ok(text.into_inner())
 }
 
+/// Items each in a cluster of its own, which fall.
+fn falling_each(alloc: Global, count: u32) -> Result<hb_buffer_t, ShapeError> {
+    let mut text = UnicodeBuffer::new(alloc);
+    for i in 0..count {
+        text.add('a', count - i)?;
+    }
+    Ok(text.into_inner())
+}
+
+/// The spans of two neighbours each, of so many items.
+fn neighbours(alloc: Global, len: usize) -> Result<Vec<(usize, usize)>, AllocError>
+    ensures { IfOk result (λ spans. AreSpansInOrder 0 len spans.items) }
+{
+    let mut spans = Vec::new(alloc);
+    for i in 1..len {
+        spans.push((i - 1, i + 1))?;
+    }
+    Ok(spans)
+}
+
 fn delete(buffer: &mut hb_buffer_t) {
     buffer.delete_glyphs_inplace(|info| info.codepoint == 'x');
 }
@@ -87,6 +110,19 @@ fn time_deletion(
     )
 }
 
+/// Prints what merging each two neighbours of a text costs, one span after the other.
+fn time_spans(rt: &HostRuntime, count: u32, text: &mut hb_buffer_t) -> io::Result<()> {
+    let Ok(spans) = neighbours(rt.alloc(), text.len()) else {
+        return Ok(());
+    };
+    let start = Instant::now(rt)?;
+    text.merge_spans_out(&spans);
+    println!(rt;
+        "{count} items: merge each two, falling {}",
+        start.elapsed(rt)?.as_micros()
+    )
+}
+
 fn main(rt: HostRuntime) -> io::Result<()> {
     if env::args(&rt)?.count() < 2 {
         return Ok(());
@@ -98,6 +134,9 @@ fn main(rt: HostRuntime) -> io::Result<()> {
         }
         if let Ok(mut text) = joining(rt.alloc(), count) {
             time_deletion(&rt, count, "joining", &mut text)?;
+        }
+        if let Ok(mut text) = falling_each(rt.alloc(), count) {
+            time_spans(&rt, count, &mut text)?;
         }
     }
     Ok(())

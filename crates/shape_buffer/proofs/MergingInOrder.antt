@@ -1,2 +1,4 @@
 -- Spans that are merged one after the other.
 pub mod EachSpanLemmas
+pub mod GrownLeftLemmas
+pub mod StandingLemmas

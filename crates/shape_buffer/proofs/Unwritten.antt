@@ -1,4 +1,4 @@
--- Runs whose writing the code of deletion puts off.
+-- Runs whose writing is put off.
 pub mod WrittenLemmas
 pub mod GivenLemmas
 pub mod UnwrittenLemmas

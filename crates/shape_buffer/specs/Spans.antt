@@ -1,7 +1,8 @@
 -- Spans of items that are merged one after the other.
-use Rattle.std.specs.Prelude.{ℕ, ◌≤◌, ⊤, List, [], ◌∷◌, fold}
-use Rattle.shape_buffer.specs.Items.{Item}
-use Rattle.shape_buffer.specs.Clusters.{merge}
+use Rattle.std.specs.Prelude.{ℕ, ◌-◌, ◌≤◌, ⊤, List, [], ◌∷◌, fold, length, nat_lt, if◌then◌else◌}
+use Rattle.std.specs.List.{suffix_len}
+use Rattle.shape_buffer.specs.Items.{Item, has_cluster}
+use Rattle.shape_buffer.specs.Clusters.{merge, put_range}
 use Rattle.shape_buffer.specs.Buffer.{Buffer}
 use Rattle.shape_buffer.specs.BufferClusters.{merge_clusters, merge_out_clusters}
 
@@ -22,3 +23,9 @@ all_merged spans b = fold (λ b span. merge_clusters span.0 span.1 b) b spans
 -- and with each span merged at the monotone levels alone
 abbrev pub spans_merged_out : List (ℕ × ℕ) → Buffer → Buffer
 spans_merged_out spans b = fold (λ b span. merge_out_clusters span.0 span.1 b) b spans
+
+-- the items before a span of that least cluster whose first item is in the cluster `first`: those at their end in that cluster are put in
+-- the least, where that is below
+abbrev pub grown_left : ℕ → ℕ → List Item → List Item
+grown_left first least given =
+    if nat_lt least first then put_range (length given - suffix_len (has_cluster first) given) (length given) least given else given

@@ -1,4 +1,4 @@
--- How deletion puts off writing: the kept items as runs of one cluster, of which the last item alone is written when the run takes another
+-- Writing that is put off: items as runs of one cluster, of which the last item alone is written when the run takes another
 -- cluster.
 use Rattle.std.specs.Prelude.{◌≡◌, ◌≢◌, ℕ, ◌≤◌, ⊤, List, [], ◌∷◌, ◌++◌, length, nat_lt, if◌then◌else◌}
 use Rattle.shape_buffer.specs.Items.{Item}

@@ -8,6 +8,7 @@
 mod clusters;
 mod context;
 mod delete;
+mod each_span;
 mod error;
 mod flags;
 mod general_category;
@@ -22,6 +23,7 @@ mod storage;
 mod tests;
 mod text;
 mod unicode_buffer;
+mod unwritten;
 
 pub use error::{ShapeError, ShapeFault};
 pub use flags::{BufferFlags, GlyphPropsFlags, ScratchFlags};

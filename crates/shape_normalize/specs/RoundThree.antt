@@ -1,11 +1,11 @@
 -- Round three of normalising: marks are composed with their starters again (The Unicode Standard, D115 to D117).
-use Rattle.std.specs.Prelude.{ℕ, suc, ◌+◌, ◌&&◌, not, if◌then◌else◌, Bool, List, [], ◌∷◌, ◌++◌, map, fold, replicate, length, get_or, Option, None}
+use Rattle.std.specs.Prelude.{ℕ, suc, ◌+◌, ◌&&◌, not, if◌then◌else◌, Bool, List, [], ◌∷◌, ◌++◌, map, replicate, length, get_or, Option, None}
 use Rattle.std.specs.Option.{option_map}
 use Rattle.std.specs.List.{flat_map}
 use Rattle.shape_buffer.specs.Items.{Item, ccc_of_item, is_mark_item}
 use Rattle.shape_buffer.specs.Positions.{zero_position}
 use Rattle.shape_buffer.specs.Buffer.{Buffer}
-use Rattle.shape_buffer.specs.BufferClusters.{merge_out_clusters}
+use Rattle.shape_buffer.specs.Spans.{spans_merged_out}
 use Rattle.canonical_form.specs.Recompose.{is_blocked, is_blocked_by_last, compose_with_glyph, recomposed}
 use Rattle.shape_plan.specs.Rules.{Rules, has_glyph}
 use Rattle.shape_normalize.specs.declared.ot_shape_normalize.round_three.PlacedInfo.{PlacedInfo}
@@ -55,9 +55,6 @@ recomposed_by_all rules items = recomposed ccc_of_placed (is_blocked ccc_of_plac
 -- the spans from each starter to each mark that was composed with it, in order
 abbrev pub absorbed_spans : List Placed → List (ℕ × ℕ)
 absorbed_spans out = flat_map (λ p. map (λ mark. (p.place, mark.place + 1)) p.absorbed) out
-
-abbrev pub spans_merged_out : List (ℕ × ℕ) → Buffer → Buffer
-spans_merged_out spans b = fold (λ b span. merge_out_clusters span.0 span.1 b) b spans
 
 -- the characters that were composed, in order
 abbrev pub composed_chars : List Placed → List ℕ

@@ -1,5 +1,5 @@
 -- Merging and marking, case by case: a span is long or short, a level merges or marks.
-use Rattle.std.proofs.Common.{◌≡◌, ℕ, ◌+◌, ◌-◌, ◌<◌, ◌≤◌, true, false, List, map, refl, sym, subst, arith, nat_lt, slice_range, inl, inr}
+use Rattle.std.proofs.Common.{◌≡◌, ℕ, ◌+◌, ◌-◌, ◌<◌, ◌≤◌, true, false, List, map, refl, sym, subst, arith, nat_lt, slice_range, inl, inr, ◌⊎◌}
 use Rattle.std.proofs.lemmas.Bool.{cases_Bool}
 use Rattle.std.proofs.lemmas.Bool.Decides.{nat_tests}
 use Rattle.std.proofs.lemmas.List.{drop-drop}
@@ -93,3 +93,22 @@ pub merge_clusters-monotone : (start end : ℕ) (b : Buffer) → IsMonotoneLevel
     → merge_clusters start end b ≡ merge_at start end b
 merge_clusters-monotone start end b monotone =
     merge_clusters-cases (λ c. c ≡ merge_at start end b) start end b (λ m. refl) (λ is. absurd (subst IsMonotoneLevel is monotone))
+
+pub merge_out-monotone : (start end : ℕ) (b : Buffer) → IsMonotoneLevel b.cluster_level
+    → merge_out_clusters start end b ≡ merge_at start end b
+merge_out-monotone start end b = at_level b.cluster_level
+  where
+    at_level : (level : BufferClusterLevel) → IsMonotoneLevel level → (elim level as (λ v. Buffer) [
+      | MonotoneGraphemes ↦ merge_at start end b
+      | MonotoneCharacters ↦ merge_at start end b
+      | Characters ↦ b
+    ]) ≡ merge_at start end b
+    at_level MonotoneGraphemes monotone = refl
+    at_level MonotoneCharacters monotone = refl
+    at_level Characters monotone = absurd monotone
+
+-- a level merges, or it is CHARACTERS
+pub level_cases : (level : BufferClusterLevel) → IsMonotoneLevel level ⊎ (level ≡ Characters)
+level_cases MonotoneGraphemes = inl tt
+level_cases MonotoneCharacters = inl tt
+level_cases Characters = inr refl

@@ -19,7 +19,7 @@ min_same a b e = grind (arith, nat_tests)
 least-behind : (x y : Item) (zs : List Item) → x.cluster ≡ y.cluster → least_cluster (x ∷ y ∷ zs) ≡ least_cluster (y ∷ zs)
 least-behind x y zs same = ap (λ c. fold (λ least item. min least item.cluster) c zs) (min_same x.cluster y.cluster same)
 
-slice-first : (xs : List Item) (k end : ℕ) (d : Item) → k < end → end ≤ length xs
+pub slice-first : (xs : List Item) (k end : ℕ) (d : Item) → k < end → end ≤ length xs
     → slice_range xs k end ≡ get_or xs k d ∷ slice_range xs (k + 1) end
 slice-first xs k end d lt within =
     let more : end - k ≡ suc (end - (k + 1)) = omega arith in

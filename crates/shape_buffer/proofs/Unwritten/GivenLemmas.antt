@@ -1,5 +1,5 @@
 -- What runs take of an item that goes.
-use Rattle.std.proofs.Common.{◌≡◌, ◌≢◌, ℕ, ◌+◌, ◌-◌, ◌<◌, ◌≤◌, true, false, nat_lt, List, [], ◌∷◌, ◌++◌, length, get_or, take, drop, set, map, refl, ap, sym, ◌∙◌, arith, suc, zero, slice_index, ◌⊎◌, append_assoc, length-append}
+use Rattle.std.proofs.Common.{◌≡◌, ◌≢◌, ℕ, ◌+◌, ◌-◌, ◌<◌, ◌≤◌, true, false, nat_lt, List, [], ◌∷◌, ◌++◌, length, get_or, take, drop, set, map, refl, ap, sym, ◌∙◌, arith, suc, zero, slice_index, append_assoc, length-append}
 use Rattle.std.proofs.lemmas.Bool.Decides.{nat_tests}
 use Rattle.std.proofs.lemmas.List.{length-map, map-append, take_all, drop_all, take_at, drop_at, append-nil}
 use Rattle.std.proofs.Math.ListN.{get_or-append}
@@ -21,7 +21,7 @@ in-at c (x ∷ xs) (suc k) d all lt = in-at c xs k d all.1 (omega arith)
 has_it : (c : ℕ) (x : Item) → x.cluster ≡ c → has_cluster c x ≡ true
 has_it c x e = grind (arith, nat_tests)
 
-has_not : (c : ℕ) (x : Item) → x.cluster ≢ c → has_cluster c x ≡ false
+pub has_not : (c : ℕ) (x : Item) → x.cluster ≢ c → has_cluster c x ≡ false
 has_not c x ne = grind (arith, nat_tests)
 
 -- the cluster of the last item, as clauses read it
@@ -41,7 +41,7 @@ written_last-differs (other ∷ before) run d apart some =
     (λ e. apart (sym e ∙ ap (λ y. y.cluster) at))
 
 -- how many written items at the end stand in the cluster of the last run
-last_run_len : (run : Run) (before : List Run) (d : Item) → AreAbove run.last.cluster run.front → IsApart run before
+pub last_run_len : (run : Run) (before : List Run) (d : Item) → AreAbove run.last.cluster run.front → IsApart run before
     → suffix_len (has_cluster run.last.cluster) (written_runs (run ∷ before))
     ≡ length (written_runs (run ∷ before)) - length (written_runs before)
 last_run_len run before d above apart =
@@ -56,7 +56,7 @@ last_run_len run before d above apart =
     ∙ written_last-differs before run d apart some)
 
 -- an edit of all that comes after a part
-map_range-end : (f : Item → Item) (xs ys : List Item) (n m : ℕ) → n ≡ length xs → m ≡ length (xs ++ ys)
+pub map_range-end : (f : Item → Item) (xs ys : List Item) (n m : ℕ) → n ≡ length xs → m ≡ length (xs ++ ys)
     → map_range f n m (xs ++ ys) ≡ xs ++ map f ys
 map_range-end f xs ys n m en em =
     let size : length (xs ++ ys) ≡ length xs + length ys = length-append xs ys in
@@ -69,7 +69,7 @@ map_range-end f xs ys n m en em =
     ∙ ap (λ z. xs ++ (map f ys ++ z)) none ∙ ap (λ z. xs ++ z) (append-nil (map f ys))
 
 -- what the kept items take, where the last run takes it
-give_runs : (p : Item) (run : Run) (before : List Run) (k : ℕ) → AreAbove run.last.cluster run.front → IsApart run before
+pub give_runs : (p : Item) (run : Run) (before : List Run) (k : ℕ) → AreAbove run.last.cluster run.front → IsApart run before
     → p.cluster < run.last.cluster
     → k ≡ length (written_runs (run ∷ before))
     → give_to_kept k p (written_runs (run ∷ before)) ≡ written_runs before ++ map (hand_over p) (written (items_of run))

@@ -1,5 +1,5 @@
--- Runs whose writing deletion puts off: where they begin, and where they are written.
-use Rattle.std.proofs.Common.{◌≡◌, ◌≢◌, ℕ, ◌+◌, ◌-◌, ◌<◌, ◌≤◌, List, [], ◌∷◌, ◌++◌, length, get_or, take, drop, set, refl, ap, sym, ◌∙◌, arith, ◌⊎◌, append_assoc, length-append}
+-- Runs whose writing is put off: where they begin, and where they are written.
+use Rattle.std.proofs.Common.{◌≡◌, ◌≢◌, ℕ, ◌+◌, ◌-◌, ◌<◌, ◌≤◌, List, [], ◌∷◌, ◌++◌, length, get_or, take, drop, set, refl, ap, sym, ◌∙◌, arith, append_assoc, length-append}
 use borrow.Rule.Slice.PartMut.{put_mid}
 use Rattle.std.proofs.lemmas.Slice.{between_is}
 use Rattle.std.proofs.lemmas.List.{drop-drop, take_more, drop_more, take-take, get_or-take, length-take-le, length-drop, take-append-drop, take_all, drop_all, take_at, drop_at}

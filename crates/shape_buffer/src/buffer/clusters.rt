@@ -16,7 +16,7 @@ ghost use Rattle.shape_buffer.specs.Clusters.{mark_concat as mark_concat_of, mer
 use crate::buffer::items::{UNSAFE_TO_BREAK, UNSAFE_TO_CONCAT, hb_glyph_info_t};
 
 /// The least cluster, 0 for no items.
-fn least_cluster(infos: &[hb_glyph_info_t]) -> u32
+pub(super) fn least_cluster(infos: &[hb_glyph_info_t]) -> u32
     ensures { result ≡ least_cluster_of infos.now }
 {
     match infos.split_first() {
@@ -62,7 +62,7 @@ fn growth_left(infos: &[hb_glyph_info_t], start: usize, least: u32) -> usize
 }
 
 /// How many items directly after a span of that least cluster, which ends with `last`, the merge takes in.
-fn growth_right(infos: &[hb_glyph_info_t], last: usize, least: u32) -> usize
+pub(super) fn growth_right(infos: &[hb_glyph_info_t], last: usize, least: u32) -> usize
     requires { last < length infos.now }
     ensures value { result ≡ growth_right_of infos.now last least }
     ensures within { last + result < length infos.now }
@@ -75,7 +75,7 @@ fn growth_right(infos: &[hb_glyph_info_t], last: usize, least: u32) -> usize
 }
 
 /// Puts every item into one cluster.
-fn put_all_in(infos: &mut [hb_glyph_info_t], cluster: u32)
+pub(super) fn put_all_in(infos: &mut [hb_glyph_info_t], cluster: u32)
     ensures { infos.new ≡ map (put_in cluster) infos.old }
 {
     for info in infos.iter_mut() {

@@ -3,118 +3,25 @@
 //! The kept glyphs are moved to the front, one by one. Before a picked glyph goes, its cluster is handed
 //! on, so that no piece of the text is without a glyph that leads to it.
 //!
-//! A kept run of one cluster may take smaller clusters again and again. So that each item is written
-//! once, only the last item of the run is, and where each run begins is noted. An item of a run whose
-//! last item ends in a smaller cluster than its own has taken that one's: it is written at the end.
+//! A kept run of one cluster may take smaller clusters again and again. So the kept items stand as runs
+//! whose writing is put off, and each item is written once.
 ghost use Rattle.std.specs.Prelude.{◌≡◌, ◌+◌, ◌<◌, ◌≤◌, List, [], ◌∷◌, ◌++◌, length, take, drop};
 ghost use Rattle.std.specs.Prelude.{Bool};
 ghost use Rattle.std.specs.Fn.{FnReturnsAt};
 ghost use Rattle.shape_buffer.specs.Items.{Item};
 ghost use Rattle.shape_buffer.specs.Buffer.{Buffer};
 ghost use Rattle.shape_buffer.specs.BufferClusters.{merge_clusters};
-ghost use Rattle.shape_buffer.specs.Delete.{give_to_kept, hand_over as hand_over_of};
 ghost use Rattle.shape_buffer.specs.Delete.{hand_on as hand_on_of, begins_in as begins_in_of};
 ghost use Rattle.shape_buffer.specs.Delete.{deleted};
-ghost use Rattle.shape_buffer.specs.Unwritten.{StandsFor, follow as follow_of, written};
+ghost use Rattle.shape_buffer.specs.Unwritten.{StandsFor};
 
 use crate::buffer::clusters::{mark_break, merge_items};
 use crate::buffer::flags::ScratchFlags;
-use crate::buffer::items::{DEFINED, hb_glyph_info_t};
+use crate::buffer::items::hb_glyph_info_t;
 use crate::buffer::positions::GlyphPosition;
 use crate::buffer::settings::BufferClusterLevel;
+use crate::buffer::unwritten::{give_to_last, open_run, write_runs};
 use bitflags::Flags;
-
-/// Gives the picked item's cluster and flags to an item.
-fn hand_over(info: &mut hb_glyph_info_t, picked: &hb_glyph_info_t)
-    ensures { info.new ≡ hand_over_of picked.now info.old }
-{
-    info.cluster = picked.cluster;
-    info.mask = (info.mask & !DEFINED) | (picked.mask & DEFINED);
-}
-
-/// Writes the item before one that is written: it takes that one's cluster where it is smaller.
-fn follow(info: &mut hb_glyph_info_t, next: &hb_glyph_info_t)
-    ensures { info.new ≡ follow_of info.old (next.now ∷ []) }
-{
-    if next.cluster < info.cluster {
-        hand_over(info, next);
-    }
-}
-
-/// Writes a run, from its end.
-fn write_run(infos: &mut [hb_glyph_info_t])
-    ensures { infos.new ≡ written infos.old }
-{
-    let mut i = infos.len();
-    while 1 < i {
-        i -= 1;
-        let next = infos[i];
-        follow(&mut infos[i - 1], &next);
-    }
-}
-
-/// Writes every run of kept items.
-fn write_runs(infos: &mut [hb_glyph_info_t], starts: &[usize])
-    requires { (given : List Item) × StandsFor infos.old starts.now given }
-    ensures { (given : List Item) → StandsFor infos.old starts.now given → infos.new ≡ given }
-{
-    let mut end = infos.len();
-    let mut count = starts.len();
-    while 0 < count {
-        count -= 1;
-        let start = starts[count];
-        write_run(&mut infos[start..end]);
-        end = start;
-    }
-}
-
-/// Notes where an item of that cluster, kept after these, begins a run; gives how many runs there are.
-fn open_run(kept: &[hb_glyph_info_t], starts: &mut [usize], count: usize, cluster: u32) -> usize
-    requires { count < length starts.old }
-    ensures stands { (x : Item) → x.cluster ≡ cluster → (given : List Item)
-        → StandsFor kept.now (take count starts.old) given
-        → StandsFor (kept.now ++ x ∷ []) (take result starts.new) (given ++ x ∷ []) }
-    ensures at_most { result ≤ count + 1 }
-    ensures as_many { length starts.new ≡ length starts.old }
-{
-    let len = kept.len();
-    if len == 0 {
-        starts[count] = len;
-        return count + 1;
-    }
-    if kept[len - 1].cluster == cluster {
-        return count;
-    }
-    starts[count] = len;
-    count + 1
-}
-
-/// Gives the picked item's cluster and flags to the last run, where that is below its own; gives how many
-/// runs there are, one fewer where the last one joins the one before it.
-fn give_to_last(infos: &mut [hb_glyph_info_t], starts: &[usize], picked: &hb_glyph_info_t) -> usize
-    requires some { 0 < length infos.old }
-    requires stands { (given : List Item) × StandsFor infos.old starts.now given }
-    ensures stands { (given : List Item) → StandsFor infos.old starts.now given
-        → StandsFor infos.new (take result starts.now)
-        (give_to_kept (length infos.old) picked.now given) }
-    ensures as_many { length infos.new ≡ length infos.old }
-    ensures at_most { result ≤ length starts.now }
-{
-    let last = infos.len() - 1;
-    let count = starts.len();
-    if infos[last].cluster <= picked.cluster {
-        return count;
-    }
-    hand_over(&mut infos[last], picked);
-    let start = starts[count - 1];
-    if start == 0 {
-        return count;
-    }
-    if infos[start - 1].cluster != picked.cluster {
-        return count;
-    }
-    count - 1
-}
 
 /// Merges the first two items, as a buffer of that level does.
 fn merge_first_two(

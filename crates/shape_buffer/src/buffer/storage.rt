@@ -27,7 +27,7 @@ const MAX_LEN_MIN: usize = 16384;
 pub struct hb_buffer_t {
     infos: Vec<hb_glyph_info_t>,
     positions: Vec<GlyphPosition>,
-    /// Room for deletion, which takes no memory: a number for each item, at least.
+    /// Room for deletion and for merging many spans, which take no memory: a number for each item, at least.
     run_starts: Vec<usize>,
     direction: Direction,
     script: Option<Script>,

@@ -8,6 +8,7 @@ mod clusters;
 mod deletion;
 mod no_memory;
 mod refusals;
+mod spans;
 
 /// A buffer of these clusters and masks.
 fn filled(

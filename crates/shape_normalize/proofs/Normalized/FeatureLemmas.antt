@@ -11,7 +11,8 @@ use Rattle.shape_buffer.specs.declared.buffer.settings.GlyphId.{GlyphId}
 use Rattle.shape_buffer.proofs.Merging.KeyLemmas.{IsKey, keys-merge_out}
 use Rattle.shape_normalize.specs.Normalized.{normalized, features_of, KeepsFeatures}
 use Rattle.shape_normalize.specs.RoundOne.{part_item, whole_item, expansion_of, pairs_merged, round_one}
-use Rattle.shape_normalize.specs.RoundThree.{Placed, recomposed_items, absorbed_spans, spans_merged_out, with_cluster_at, round_three}
+use Rattle.shape_buffer.specs.Spans.{spans_merged_out}
+use Rattle.shape_normalize.specs.RoundThree.{Placed, recomposed_items, absorbed_spans, with_cluster_at, round_three}
 use Rattle.shape_normalize.specs.RoundTwo.{marks_ordered, cgj_settled}
 use Rattle.shape_plan.specs.Rules.{Rules}
 use Rattle.shape_normalize.proofs.RoundTwo.CgjLemmas.{keys-cgj_settled}

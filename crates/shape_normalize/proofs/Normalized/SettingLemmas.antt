@@ -8,7 +8,7 @@ use Rattle.shape_normalize.specs.RoundTwo.{marks_ordered, cgj_settled, cgj_shown
 use Rattle.shape_normalize.specs.Normalized.{normalized, ordered}
 use Rattle.shape_normalize.proofs.Normalized.NormalizedLemmas.{length-ordered, kept_by_rounds}
 use Rattle.shape_normalize.proofs.Hooks.ReorderLemmas.{LawfulReorder}
-use Rattle.shape_normalize.proofs.RoundThree.RoundThreeLemmas.{spans_merged_out_is}
+use Rattle.shape_buffer.proofs.MergingInOrder.EachSpanLemmas.{spans_merged_out_is}
 use Rattle.shape_normalize.proofs.RoundOne.SelectorLemmas.{without_items-merged_at}
 use Rattle.shape_normalize.proofs.RoundTwo.SettleLemmas.{without_items-marks_ordered}
 

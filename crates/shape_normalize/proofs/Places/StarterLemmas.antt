@@ -10,7 +10,8 @@ use Rattle.shape_normalize.specs.Normalized.{features_of}
 use Rattle.shape_normalize.specs.Origins.{item_at, last_char, IsOnceComposed, IsFromStarter}
 use Rattle.shape_normalize.specs.Reordered.{unmerged}
 use Rattle.shape_normalize.specs.RoundOne.{part_item}
-use Rattle.shape_normalize.specs.RoundThree.{Absorbed, Placed, placed, ccc_of_placed, is_mark_placed, compose_placed, recomposed_items, absorbed_spans, spans_merged_out, with_cluster_at, round_three}
+use Rattle.shape_buffer.specs.Spans.{spans_merged_out}
+use Rattle.shape_normalize.specs.RoundThree.{Absorbed, Placed, placed, ccc_of_placed, is_mark_placed, compose_placed, recomposed_items, absorbed_spans, with_cluster_at, round_three}
 use Rattle.shape_normalize.proofs.Normalized.FeatureLemmas.{features-spans_merged_out}
 use Rattle.shape_normalize.proofs.Places.OriginLemmas.{AllAt, same_at}
 use Rattle.shape_normalize.proofs.RoundThree.RecomposedItemLemmas.{glyph_of_composed}

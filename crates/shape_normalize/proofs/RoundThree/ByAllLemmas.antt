@@ -11,7 +11,8 @@ use Rattle.canonical_form.proofs.Ordering.RunLemmas.{AreRunsSettled-ordered}
 use Rattle.shape_plan.specs.Rules.{Rules}
 use Rattle.shape_normalize.specs.Normalized.{ordered, normalized, without_cluster, HasShortRuns, RecomposesByAll}
 use Rattle.shape_normalize.specs.RoundOne.{round_one}
-use Rattle.shape_normalize.specs.RoundThree.{Placed, placed, ccc_of_placed, is_mark_placed, compose_placed, recomposed_items, recomposed_by_all, absorbed_spans, spans_merged_out, with_cluster_at, round_three}
+use Rattle.shape_buffer.specs.Spans.{spans_merged_out}
+use Rattle.shape_normalize.specs.RoundThree.{Placed, placed, ccc_of_placed, is_mark_placed, compose_placed, recomposed_items, recomposed_by_all, absorbed_spans, with_cluster_at, round_three}
 use Rattle.shape_normalize.specs.RoundTwo.{max_run, has_mark_past_first, marks_ordered, cgj_settled}
 use Rattle.shape_normalize.proofs.RoundTwo.CgjLemmas.{keys-cgj_settled}
 use Rattle.shape_normalize.proofs.RoundTwo.OrderedLemmas.{marks_ordered_settles}

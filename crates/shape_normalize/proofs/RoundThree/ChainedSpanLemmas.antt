@@ -1,60 +1,112 @@
--- The spans that the walk of the code keeps: merged in order they do what the spans from each starter do.
-use Rattle.std.proofs.Common.{◌≡◌, ℕ, suc, ◌+◌, ◌-◌, ◌<◌, ◌≤◌, List, [], ◌∷◌, ◌++◌, length, map, refl, sym, ap, subst, ◌∙◌, arith}
-use Rattle.std.specs.List.{All, AllByRecursion, fold}
-use Rattle.std.proofs.lemmas.List.Elements.{All-from_recursion}
+-- The spans that the walk of the code keeps: they are in order, and merged they do what the spans from each starter do.
+use Rattle.std.proofs.Common.{◌≡◌, ℕ, suc, ◌+◌, ◌-◌, ◌<◌, ◌≤◌, List, [], ◌∷◌, ◌++◌, length, map, Some, refl, sym, ap, subst, ◌∙◌, arith, append-nil}
+use Rattle.std.specs.List.{AllByRecursion}
 use Rattle.std.proofs.lemmas.List.Sums.{fold-append}
 use Rattle.shape_buffer.specs.Buffer.{Buffer}
-use Rattle.shape_buffer.specs.BufferClusters.{merge_at, merge_out_clusters}
-use Rattle.shape_buffer.specs.Clusters.{merge}
+use Rattle.shape_buffer.specs.Clusters.{clusters, merge}
+use Rattle.shape_buffer.specs.ClusterOrder.{KeepsClusters}
 use Rattle.shape_buffer.specs.Items.{Item}
-use Rattle.shape_buffer.specs.declared.buffer.settings.BufferClusterLevel.{BufferClusterLevel}
-use Rattle.shape_buffer.specs.declared.buffer.settings.BufferClusterLevel.TheVariants.{MonotoneGraphemes, MonotoneCharacters, Characters}
-use Rattle.canonical_form.proofs.Lists.EveryLemmas.{append_all}
+use Rattle.shape_buffer.specs.Spans.{AreSpansInOrder, merge_each, spans_merged_out}
+use Rattle.canonical_form.specs.Recompose.{is_blocked_by_last}
+use Rattle.canonical_form.proofs.Lists.EveryLemmas.{push_all}
+use Rattle.canonical_form.proofs.Recomposing.RecomposeLemmas.{by_steps}
 use Rattle.shape_buffer.proofs.Merging.KeyLemmas.{length-merge}
 use Rattle.shape_buffer.proofs.Merging.JoinLemmas.{Joined as SharesCluster, merge_joins}
 use Rattle.shape_buffer.proofs.Merging.NestedMergeLemmas.{merge-from_later}
-use Rattle.shape_normalize.specs.RoundThree.{Absorbed, Placed, recomposed_items, absorbed_spans, spans_between, chained_spans, spans_merged_out}
+use Rattle.shape_buffer.proofs.MergingInOrder.EachSpanLemmas.{AreSpansInOrder-lower, length-merge_each, spans_merged_out-equal, spans_merged_out_keep}
+use Rattle.shape_normalize.specs.RoundThree.{Absorbed, Placed, placed, ccc_of_placed, is_mark_placed, compose_placed, recomposed_items, absorbed_spans, spans_between, chained_spans}
 use Rattle.shape_plan.specs.Rules.{Rules}
-use Rattle.shape_normalize.proofs.RoundThree.RoundThreePlaceLemmas.{IsSpan, AreAbsorbedInOrder, InOrder, recomposed_placed}
-use Rattle.shape_normalize.proofs.RoundThree.RoundThreeLemmas.{merge_out_is}
+use Rattle.shape_normalize.proofs.RoundThree.RoundThreePlaceLemmas.{AreAbsorbedInOrder, InOrder, AreFrom, AreFrom-placed, in_order-higher, in_order-push, absorbed_is, recomposed_placed}
+use Rattle.shape_normalize.proofs.RoundThree.RoundThreeWalkLemmas.{after, item_at}
 
--- ---- the spans are within the list
+-- ---- the spans are in order
 
-spans_between_within : (n from : ℕ) (absorbed : List Absorbed) → AreAbsorbedInOrder from n absorbed
-    → AllByRecursion (IsSpan n) (spans_between from absorbed)
-spans_between_within n from [] h = tt
-spans_between_within n from (mark ∷ absorbed) h =
-    ((omega (arith, h.0), omega (arith, h.1)), spans_between_within n mark.place absorbed h.2)
+-- the spans of one starter, and then those that begin behind its marks
+chained_then : (from k n : ℕ) (absorbed : List Absorbed) (spans : List (ℕ × ℕ)) → from ≤ k → k ≤ n → AreAbsorbedInOrder from k absorbed
+    → AreSpansInOrder k n spans → AreSpansInOrder from n (spans_between from absorbed ++ spans)
+chained_then from k n [] spans le within h later = AreSpansInOrder-lower from k n spans le later
+chained_then from k n (mark ∷ absorbed) spans le within h later =
+    let behind = chained_then mark.place k n absorbed spans (omega (arith, h.1)) within h.2 later in (
+      omega arith,
+      omega (arith, h.0),
+      omega (arith, h.1),
+      AreSpansInOrder-lower from mark.place n (spans_between mark.place absorbed ++ spans) (omega (arith, h.0)) behind,
+    )
 
-chained_spans_within : (n : ℕ) (out : List Placed) → AllByRecursion (InOrder n) out
-    → AllByRecursion (IsSpan n) (chained_spans out)
-chained_spans_within n [] h = tt
-chained_spans_within n (p ∷ out) h =
-    append_all (IsSpan n) (spans_between p.place p.absorbed) (chained_spans out) (spans_between_within n p.place p.absorbed h.0)
-    (chained_spans_within n out h.1)
+-- nothing was composed with these
+abbrev AreUnabsorbed : List Placed → Type 0
+AreUnabsorbed ms = AllByRecursion (λ (m : Placed). m.absorbed ≡ []) ms
 
--- the spans of a walk over these items are within them
-pub walked_spans_within : (rules : Rules) (items infos : List Item) (spans : List (ℕ × ℕ)) → infos ≡ items
-    → spans ≡ chained_spans (recomposed_items rules infos) → All (IsSpan (length items)) spans
-walked_spans_within rules items infos spans infos_are spans_are =
-    subst (All (IsSpan (length items))) (sym (spans_are ∙ ap (λ xs. chained_spans (recomposed_items rules xs)) infos_are))
-    (All-from_recursion (IsSpan (length items)) (chained_spans (recomposed_items rules items))
-    (chained_spans_within (length items) (recomposed_items rules items) (recomposed_placed rules items).in_order))
+chained-unabsorbed : (ms out : List Placed) → AreUnabsorbed ms → chained_spans (ms ++ out) ≡ chained_spans out
+chained-unabsorbed [] out none = refl
+chained-unabsorbed (m ∷ ms) out none =
+    ap (λ absorbed. spans_between m.place absorbed ++ chained_spans (ms ++ out)) none.0 ∙ chained-unabsorbed ms out none.1
+
+AreFrom-fit : (n k : ℕ) (rest : List Placed) → AreFrom n k rest → k ≤ n
+AreFrom-fit n k [] from = omega arith
+AreFrom-fit n k (p ∷ ps) from = let later = AreFrom-fit n (suc k) ps from.2 in omega arith
+
+-- those of a starter and of what comes after it, once all of that is put out
+abbrev IsChained : ℕ → Placed → List Placed → List Placed → List Placed → Type 0
+IsChained n s ms rest out =
+    (k : ℕ) → s.place < k → AreAbsorbedInOrder s.place k s.absorbed → AreUnabsorbed ms → AreFrom n k rest
+    → AreSpansInOrder s.place n (chained_spans out)
+
+module _ (rules : Rules) (n : ℕ) where
+  chained_ends : (s : Placed) (ms : List Placed) → IsChained n s ms [] (s ∷ ms)
+  chained_ends s ms k behind absorbed none from =
+      let unabsorbed : chained_spans ms ≡ [] = ap chained_spans (sym (append-nil ms)) ∙ chained-unabsorbed ms [] none in
+      subst (λ spans. AreSpansInOrder s.place n (spans_between s.place s.absorbed ++ spans)) (sym unabsorbed)
+      (chained_then s.place k n s.absorbed [] (omega arith) (omega arith) absorbed tt)
+
+  chained_absorbs : (s mark d : Placed) (ms rest out : List Placed) → compose_placed rules s mark ≡ Some d → IsChained n d ms rest out
+      → IsChained n s ms (mark ∷ rest) out
+  chained_absorbs s mark d ms rest out composes later k behind absorbed none from =
+      let made = absorbed_is rules s mark d composes in
+      let place : d.place ≡ s.place = ap (λ (p : Placed). p.place) made.2 in
+      let more : AreAbsorbedInOrder d.place (suc k) d.absorbed =
+      subst (λ p. AreAbsorbedInOrder p.place (suc k) p.absorbed) (sym made.2)
+      (in_order-push s.place k s.absorbed (record { place = mark.place; char = made.0 }) behind from.0 absorbed) in
+      subst (λ low. AreSpansInOrder low n (chained_spans out)) place (later (suc k) (omega arith) more none from.2)
+
+  chained_starts : (s c : Placed) (ms rest out : List Placed) → IsChained n c [] rest out → IsChained n s ms (c ∷ rest) (s ∷ ms ++ out)
+  chained_starts s c ms rest out later k behind absorbed none from =
+      let fresh : AreAbsorbedInOrder c.place (suc k) c.absorbed = subst (AreAbsorbedInOrder c.place (suc k)) (sym from.1) tt in
+      let others = subst (λ low. AreSpansInOrder low n (chained_spans out)) from.0 (later (suc k) (omega (arith, from.0)) fresh tt from.2) in
+      let fit = AreFrom-fit n (suc k) rest from.2 in
+      subst (λ spans. AreSpansInOrder s.place n (spans_between s.place s.absorbed ++ spans)) (sym (chained-unabsorbed ms out none))
+      (chained_then s.place k n s.absorbed (chained_spans out) (omega arith) (omega arith) absorbed others)
+
+  chained_after : (s : Placed) (ms rest : List Placed) → IsChained n s ms rest (after rules s ms rest)
+  chained_after =
+      by_steps ccc_of_placed (is_blocked_by_last ccc_of_placed) is_mark_placed (compose_placed rules) (IsChained n) (record {
+        ends = chained_ends;
+        composes = λ s ms c d rest out found free made later. chained_absorbs s c d ms rest out made later;
+        starts = λ s ms c rest out none start later. chained_starts s c ms rest out later;
+        passes = λ s ms c rest out none mark later k behind absorbed unabsorbed from.
+            later (suc k) (omega arith) (in_order-higher s.place k (suc k) s.absorbed (omega arith) absorbed)
+            (push_all (λ (m : Placed). m.absorbed ≡ []) ms c unabsorbed from.1) from.2;
+      })
+
+chained_in_order : (rules : Rules) (items : List Item) → AreSpansInOrder 0 (length items) (chained_spans (recomposed_items rules items))
+chained_in_order rules [] = tt
+chained_in_order rules (x ∷ items) =
+    chained_after rules (suc (length items)) (item_at rules 0 x) [] (placed 1 items) 1 (omega arith) tt tt
+    (AreFrom-placed (suc (length items)) 1 items (omega arith))
+
+-- the spans of a walk over these items are in order
+pub walked_spans_in_order : (rules : Rules) (items infos : List Item) (spans : List (ℕ × ℕ)) → infos ≡ items
+    → spans ≡ chained_spans (recomposed_items rules infos) → AreSpansInOrder 0 (length items) spans
+walked_spans_in_order rules items infos spans infos_are spans_are =
+    subst (AreSpansInOrder 0 (length items)) (sym (spans_are ∙ ap (λ xs. chained_spans (recomposed_items rules xs)) infos_are))
+    (chained_in_order rules items)
 
 -- ---- merging them
-
--- the spans merged in order
-abbrev spans_merged : List (ℕ × ℕ) → List Item → List Item
-spans_merged spans xs = fold (λ xs span. merge span.0 span.1 xs) xs spans
-
-length-spans_merged : (spans : List (ℕ × ℕ)) (xs : List Item) → length (spans_merged spans xs) ≡ length xs
-length-spans_merged [] xs = refl
-length-spans_merged (span ∷ spans) xs = length-spans_merged spans (merge span.0 span.1 xs) ∙ length-merge span.0 span.1 xs
 
 -- the spans of one starter from `from` on, where the items from `place` up to it share their cluster
 one_chained : (place from : ℕ) (absorbed : List Absorbed) (xs : List Item) → place ≤ from → AreAbsorbedInOrder from (length xs) absorbed
     → ((k : ℕ) → place ≤ k → k < from → SharesCluster xs k)
-    → spans_merged (map (λ (mark : Absorbed). (place, mark.place + 1)) absorbed) xs ≡ spans_merged (spans_between from absorbed) xs
+    → merge_each (map (λ (mark : Absorbed). (place, mark.place + 1)) absorbed) xs ≡ merge_each (spans_between from absorbed) xs
 one_chained place from [] xs le h shares = refl
 one_chained place from (mark ∷ absorbed) xs le h shares =
     let sum : place + (from - place) ≡ from = omega arith in
@@ -67,11 +119,11 @@ one_chained place from (mark ∷ absorbed) xs le h shares =
     ∙ ap (λ s. merge s end xs) sum in
     one_chained place mark.place absorbed merged (omega arith) (rw (length-merge place end xs) h.2)
     (λ k ge lt. merge_joins place end xs k ge (omega arith) within)
-    ∙ ap (spans_merged (spans_between mark.place absorbed)) same
+    ∙ ap (merge_each (spans_between mark.place absorbed)) same
 
 -- one starter after the other
 all_chained : (n : ℕ) (out : List Placed) (xs : List Item) → length xs ≡ n → AllByRecursion (InOrder n) out
-    → spans_merged (absorbed_spans out) xs ≡ spans_merged (chained_spans out) xs
+    → merge_each (absorbed_spans out) xs ≡ merge_each (chained_spans out) xs
 all_chained n [] xs is h = refl
 all_chained n (p ∷ out) xs is h =
     let first = one_chained p.place p.place p.absorbed xs (omega arith) (rw is h.0) (λ k ge lt. absurd (omega arith)) in
@@ -79,40 +131,9 @@ all_chained n (p ∷ out) xs is h =
     let from_starter = map (λ (mark : Absorbed). (p.place, mark.place + 1)) p.absorbed in
     let chain = spans_between p.place p.absorbed in
     fold-append step xs from_starter (absorbed_spans out)
-    ∙ ap (spans_merged (absorbed_spans out)) first
-    ∙ all_chained n out (spans_merged chain xs) (length-spans_merged chain xs ∙ is) h.1
+    ∙ ap (merge_each (absorbed_spans out)) first
+    ∙ all_chained n out (merge_each chain xs) (length-merge_each chain xs ∙ is) h.1
     ∙ sym (fold-append step xs chain (chained_spans out))
-
--- ---- at every level
-
--- the buffer with these items at the levels that merge
-abbrev put_at : BufferClusterLevel → Buffer → List Item → Buffer
-put_at MonotoneGraphemes b xs = record b { items = xs }
-put_at MonotoneCharacters b xs = record b { items = xs }
-put_at Characters b xs = b
-
-put_at-same : (level : BufferClusterLevel) (b : Buffer) → b ≡ put_at level b b.items
-put_at-same MonotoneGraphemes b = refl
-put_at-same MonotoneCharacters b = refl
-put_at-same Characters b = refl
-
--- one span at this level, then the others
-put_at-then : (level : BufferClusterLevel) (span : ℕ × ℕ) (spans : List (ℕ × ℕ)) (b : Buffer)
-    → (let merged =
-    (elim level as
-    (λ v. Buffer) [ MonotoneGraphemes ↦ merge_at span.0 span.1 b | MonotoneCharacters ↦ merge_at span.0 span.1 b | Characters ↦ b ]).items in
-    put_at level (record b { items = merged }) (spans_merged spans merged)
-    ≡ put_at level b (spans_merged spans (merge span.0 span.1 b.items)))
-put_at-then MonotoneGraphemes span spans b = refl
-put_at-then MonotoneCharacters span spans b = refl
-put_at-then Characters span spans b = refl
-
-merged_at : (spans : List (ℕ × ℕ)) (b : Buffer) → spans_merged_out spans b ≡ put_at b.cluster_level b (spans_merged spans b.items)
-merged_at [] b = put_at-same b.cluster_level b
-merged_at (span ∷ spans) b =
-    merged_at spans (merge_out_clusters span.0 span.1 b)
-    ∙ ap (λ (m : Buffer). put_at m.cluster_level m (spans_merged spans m.items)) (merge_out_is span.0 span.1 b)
-    ∙ put_at-then b.cluster_level span spans b
 
 -- the spans of the code do what those of the round do
 chained_merged : (rules : Rules) (b : Buffer)
@@ -120,10 +141,8 @@ chained_merged : (rules : Rules) (b : Buffer)
     ≡ spans_merged_out (absorbed_spans (recomposed_items rules b.items)) b
 chained_merged rules b =
     let out = recomposed_items rules b.items in
-    merged_at (chained_spans out) b
-    ∙ ap (put_at b.cluster_level b)
+    spans_merged_out-equal (chained_spans out) (absorbed_spans out) b
     (sym (all_chained (length b.items) out b.items refl (recomposed_placed rules b.items).in_order))
-    ∙ sym (merged_at (absorbed_spans out) b)
 
 -- the spans of a walk over the items of a buffer make of it what those of the round do
 pub walked_spans_merged : (rules : Rules) (old merged : Buffer) (infos : List Item) (spans : List (ℕ × ℕ)) → infos ≡ old.items
@@ -132,3 +151,10 @@ pub walked_spans_merged : (rules : Rules) (old merged : Buffer) (infos : List It
 walked_spans_merged rules old merged infos spans infos_are spans_are merged_is =
     merged_is ∙ ap (λ s. spans_merged_out s old) (spans_are ∙ ap (λ xs. chained_spans (recomposed_items rules xs)) infos_are)
     ∙ chained_merged rules old
+
+-- merging them keeps the order of clusters, and brings no new one
+pub recomposed_spans_keep : (rules : Rules) (b : Buffer)
+    → KeepsClusters (clusters b.items) (clusters (spans_merged_out (absorbed_spans (recomposed_items rules b.items)) b).items)
+recomposed_spans_keep rules b =
+    (spans_merged_out_keep 0 (chained_spans (recomposed_items rules b.items)) b _ (chained_in_order rules b.items)
+    (sym (chained_merged rules b))).0

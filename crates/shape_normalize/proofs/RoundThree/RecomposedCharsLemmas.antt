@@ -7,7 +7,8 @@ use Rattle.shape_buffer.specs.Items.{Item, char_of}
 use Rattle.canonical_form.specs.Recompose.{is_blocked_by_last, compose_with_glyph, recomposed}
 use Rattle.shape_buffer.specs.Unicode.{LawfulUnicode, is_mark}
 use Rattle.shape_buffer.specs.Prepared.{IsPreparedItem}
-use Rattle.shape_normalize.specs.RoundThree.{Placed, placed, ccc_of_placed, is_mark_placed, compose_placed, recomposed_items, absorbed_spans, spans_merged_out, with_cluster_at, round_three}
+use Rattle.shape_buffer.specs.Spans.{spans_merged_out}
+use Rattle.shape_normalize.specs.RoundThree.{Placed, placed, ccc_of_placed, is_mark_placed, compose_placed, recomposed_items, absorbed_spans, with_cluster_at, round_three}
 use Rattle.shape_plan.specs.Rules.{Rules, has_glyph}
 use Rattle.shape_normalize.proofs.Form.PreparedLemmas.{ArePrepared, prepared-part}
 use Rattle.shape_normalize.proofs.RoundThree.RoundThreeWalkLemmas.{made_with}

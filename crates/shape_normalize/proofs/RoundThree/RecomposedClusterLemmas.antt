@@ -1,24 +1,21 @@
 -- Recomposing keeps the order of clusters, and brings no new one.
 use Rattle.std.proofs.Common.{◌≡◌, ℕ, suc, ◌+◌, Bool, ◌==◌, List, [], ◌∷◌, ◌++◌, map, length, drop, get_or, Option, Some, refl, sym, ap, ap₂, subst, ◌∙◌, arith, inl, inr, append_assoc, append-nil, drop-cons}
-use Rattle.std.specs.List.{AllByRecursion}
 use Rattle.std.proofs.Math.ListN.{get_or-map}
 use Rattle.std.proofs.lemmas.List.{map-append, length-map, drop_all}
-use Rattle.std.proofs.lemmas.List.Elements.{recursion_from_All}
 use Rattle.shape_buffer.specs.Buffer.{Buffer}
-use Rattle.shape_buffer.specs.BufferClusters.{merge_out_clusters}
 use Rattle.shape_buffer.specs.Clusters.{clusters}
 use Rattle.shape_buffer.specs.ClusterOrder.{KeepsClusters}
 use Rattle.shape_buffer.specs.Items.{Item}
 use Rattle.canonical_form.specs.Recompose.{recomposed_from, recomposed, is_blocked_by_last}
-use Rattle.shape_buffer.proofs.Deletion.DeleteKeeps.{merged_out_keeps}
 use Rattle.shape_buffer.proofs.Order.DrawsInOrder.{DrawsInOrder, DrawsInOrder-same, DrawsInOrder-then, KeepsClusters-from_draws}
-use Rattle.shape_buffer.proofs.Steps.KeeperLemmas.{KeepsClusters-same, KeepsClusters-then}
-use Rattle.shape_buffer.proofs.Merging.KeyLemmas.{length-merge_out}
+use Rattle.shape_buffer.proofs.Steps.KeeperLemmas.{KeepsClusters-then}
+use Rattle.shape_buffer.proofs.MergingInOrder.EachSpanLemmas.{length-spans_merged_out}
 use Rattle.canonical_form.proofs.Recomposing.RecomposeLemmas.{by_steps}
 use Rattle.shape_plan.specs.Rules.{Rules}
-use Rattle.shape_normalize.specs.RoundThree.{Placed, placed, ccc_of_placed, is_mark_placed, compose_placed, recomposed_items, absorbed_spans, spans_merged_out, with_cluster_at, round_three}
-use Rattle.shape_normalize.proofs.RoundThree.RoundThreePlaceLemmas.{absorbed_is, IsSpan, recomposed_spans_within}
-use Rattle.shape_normalize.proofs.RoundThree.RoundThreeLemmas.{length-spans_merged_out}
+use Rattle.shape_buffer.specs.Spans.{spans_merged_out}
+use Rattle.shape_normalize.specs.RoundThree.{Placed, placed, ccc_of_placed, is_mark_placed, compose_placed, recomposed_items, absorbed_spans, with_cluster_at, round_three}
+use Rattle.shape_normalize.proofs.RoundThree.RoundThreePlaceLemmas.{absorbed_is}
+use Rattle.shape_normalize.proofs.RoundThree.ChainedSpanLemmas.{recomposed_spans_keep}
 use Rattle.shape_normalize.proofs.RoundOne.DrawnLemmas.{DrawsBefore-same, draws_without}
 
 -- ---- recomposing, of anything
@@ -47,16 +44,6 @@ module _ {A : Type 0} (ccc : A → ℕ) (blocks : List A → A → Bool) (is_mar
     pub recomposed_draws : (xs : List A) → DrawsInOrder (map number xs) (map number (recomposed ccc blocks is_mark compose xs))
     recomposed_draws [] = DrawsInOrder-same []
     recomposed_draws (x ∷ xs) = recomposed_from_draws x [] xs
-
--- ---- the spans of compositions
-
-spans_merged_out_keep : (n : ℕ) (spans : List (ℕ × ℕ)) (b : Buffer) → length b.items ≡ n → AllByRecursion (IsSpan n) spans
-    → KeepsClusters (clusters b.items) (clusters (spans_merged_out spans b).items)
-spans_merged_out_keep n [] b as_many within = KeepsClusters-same (clusters b.items)
-spans_merged_out_keep n (span ∷ spans) b as_many within =
-    let merged = merge_out_clusters span.0 span.1 b in
-    let first = merged_out_keeps span.0 span.1 b merged (omega (arith, within.0)) refl in
-    KeepsClusters-then _ _ _ first.0 (spans_merged_out_keep n spans merged (length-merge_out span.0 span.1 b ∙ as_many) within.1)
 
 -- ---- the clusters of the items that are put out
 
@@ -95,6 +82,5 @@ module _ (rules : Rules) where
       let out = recomposed_items rules b.items in
       let merged = spans_merged_out (absorbed_spans out) b in
       KeepsClusters-then _ _ _
-      (spans_merged_out_keep (length b.items) (absorbed_spans out) b refl
-      (recursion_from_All (IsSpan (length b.items)) (absorbed_spans out) (recomposed_spans_within rules b.items)))
+      (recomposed_spans_keep rules b)
       (KeepsClusters-from_draws _ _ (put_out_draws b.items merged.items (length-spans_merged_out (absorbed_spans out) b)))

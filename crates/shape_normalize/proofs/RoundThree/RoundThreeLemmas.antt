@@ -2,45 +2,20 @@
 use Rattle.std.proofs.Common.{◌≡◌, ℕ, ◌+◌, ◌<◌, ◌≤◌, List, [], ◌∷◌, length, map, replicate, get_or, drop, Result, Ok, Err, IsErrAnd, IsOkUnless, refl, ap, ap₂, ◌∙◌, arith, add-one, drop-cons}
 use Rattle.std.proofs.lemmas.List.{length-map}
 use Rattle.shape_buffer.specs.Buffer.{Buffer, cleared, limit_of}
-use Rattle.shape_buffer.specs.BufferClusters.{merge_out_clusters}
 use Rattle.shape_buffer.specs.Items.{Item}
 use Rattle.shape_buffer.specs.Positions.{zero_position}
 use Rattle.shape_buffer.specs.declared.buffer.flags.ScratchFlags.{ScratchFlags}
 use Rattle.shape_buffer.specs.declared.buffer.error.ShapeError.{ShapeError}
 use Rattle.shape_buffer.specs.declared.buffer.error.ShapeError.TheVariants.{Memory, Length}
-use Rattle.shape_buffer.proofs.Merging.ClusterLemmas.{merge_out-cases}
-use Rattle.shape_buffer.proofs.Merging.KeyLemmas.{length-merge_out}
+use Rattle.shape_buffer.proofs.MergingInOrder.EachSpanLemmas.{spans_merged_out_is}
 use Rattle.shape_normalize.specs.RoundOne.{seen_chars}
-use Rattle.shape_normalize.specs.RoundThree.{Placed, recomposed_items, absorbed_spans, composed_chars, spans_merged_out, placed_info, with_cluster_at, settled_info, round_three}
+use Rattle.shape_buffer.specs.Spans.{spans_merged_out}
+use Rattle.shape_normalize.specs.RoundThree.{Placed, recomposed_items, absorbed_spans, composed_chars, placed_info, with_cluster_at, settled_info, round_three}
 use Rattle.shape_plan.specs.Rules.{Rules}
 use Rattle.shape_normalize.specs.declared.ot_shape_normalize.round_three.PlacedInfo.{PlacedInfo}
 use Rattle.shape_normalize.proofs.RoundThree.RoundThreePlaceLemmas.{length-recomposed}
 
 -- ---- the spans are merged
-
--- merging changes the items alone
-pub merge_out_is : (start end : ℕ) (b : Buffer)
-    → merge_out_clusters start end b ≡ record b { items = (merge_out_clusters start end b).items }
-merge_out_is start end b = merge_out-cases (λ c. c ≡ record b { items = c.items }) start end b refl refl
-
-pub spans_merged_out_is : (spans : List (ℕ × ℕ)) (b : Buffer)
-    → spans_merged_out spans b ≡ record b { items = (spans_merged_out spans b).items }
-spans_merged_out_is [] b = refl
-spans_merged_out_is (span ∷ spans) b =
-    let merged : Buffer = merge_out_clusters span.0 span.1 b in
-    spans_merged_out_is spans merged
-    ∙ ap (λ (m : Buffer). record m { items = (spans_merged_out spans merged).items }) (merge_out_is span.0 span.1 b)
-
-pub length-spans_merged_out : (spans : List (ℕ × ℕ)) (b : Buffer) → length (spans_merged_out spans b).items ≡ length b.items
-length-spans_merged_out [] b = refl
-length-spans_merged_out (span ∷ spans) b =
-    length-spans_merged_out spans (merge_out_clusters span.0 span.1 b) ∙ length-merge_out span.0 span.1 b
-
--- one more span merged
-pub spans_merged_next : (spans : List (ℕ × ℕ)) (i : ℕ) (d : ℕ × ℕ) (b new : Buffer) → i < length spans
-    → new ≡ merge_out_clusters (get_or spans i d).0 (get_or spans i d).1 b
-    → spans_merged_out (drop (i + 1) spans) new ≡ spans_merged_out (drop i spans) b
-spans_merged_next spans i d b new lt is = rw (is, add-one, drop-cons spans i d) refl
 
 pub cleared-spans_merged_out : (spans : List (ℕ × ℕ)) (b : Buffer) → cleared (spans_merged_out spans b) ≡ cleared b
 cleared-spans_merged_out spans b = ap cleared (spans_merged_out_is spans b)

@@ -1,13 +1,12 @@
--- The places of what round three puts out, and the spans of its compositions.
+-- The places of what round three puts out.
 use Rattle.std.proofs.Common.{◌≡◌, ℕ, suc, ◌+◌, ◌<◌, ◌≤◌, List, [], ◌∷◌, ◌++◌, length, map, Option, None, Some, refl, sym, subst, arith}
 use Rattle.std.specs.Option.{option_map}
-use Rattle.std.specs.List.{All, AllByRecursion}
-use Rattle.std.proofs.lemmas.List.Elements.{All-from_recursion}
+use Rattle.std.specs.List.{AllByRecursion}
 use Rattle.shape_buffer.specs.Items.{Item}
 use Rattle.canonical_form.specs.Recompose.{is_blocked_by_last, compose_with_glyph}
 use Rattle.canonical_form.proofs.Lists.EveryLemmas.{append_all}
 use Rattle.canonical_form.proofs.Recomposing.RecomposeLemmas.{by_steps}
-use Rattle.shape_normalize.specs.RoundThree.{Absorbed, Placed, placed, ccc_of_placed, is_mark_placed, compose_placed, recomposed_items, absorbed_spans}
+use Rattle.shape_normalize.specs.RoundThree.{Absorbed, Placed, placed, ccc_of_placed, is_mark_placed, compose_placed, recomposed_items}
 use Rattle.shape_plan.specs.Rules.{Rules, has_glyph}
 use Rattle.shape_normalize.proofs.RoundThree.RoundThreeWalkLemmas.{after, item_at, made_with}
 
@@ -27,13 +26,13 @@ AreAbsorbedInOrder low high (mark ∷ absorbed) = (low < mark.place) × (mark.pl
 abbrev pub InOrder : ℕ → Placed → Type 0
 InOrder high p = AreAbsorbedInOrder p.place high p.absorbed
 
-in_order-higher : (low high higher : ℕ) (absorbed : List Absorbed) → high ≤ higher → AreAbsorbedInOrder low high absorbed
+pub in_order-higher : (low high higher : ℕ) (absorbed : List Absorbed) → high ≤ higher → AreAbsorbedInOrder low high absorbed
     → AreAbsorbedInOrder low higher absorbed
 in_order-higher low high higher [] le h = tt
 in_order-higher low high higher (mark ∷ absorbed) le h =
     (h.0, omega (arith, h.1), in_order-higher mark.place high higher absorbed le h.2)
 
-in_order-push : (low k : ℕ) (absorbed : List Absorbed) (mark : Absorbed) → low < k → mark.place ≡ k → AreAbsorbedInOrder low k absorbed
+pub in_order-push : (low k : ℕ) (absorbed : List Absorbed) (mark : Absorbed) → low < k → mark.place ≡ k → AreAbsorbedInOrder low k absorbed
     → AreAbsorbedInOrder low (suc k) (absorbed ++ mark ∷ [])
 in_order-push low k [] mark lt is h = (omega arith, omega arith, tt)
 in_order-push low k (m ∷ absorbed) mark lt is h = (h.0, omega (arith, h.1), in_order-push m.place k absorbed mark h.1 is h.2)
@@ -73,11 +72,11 @@ ArePlaced-append low k high xs ys front back =
     }
 
 -- items from this place on to the end of a list of length n, with nothing composed yet
-abbrev AreFrom : ℕ → ℕ → List Placed → Type 0
+abbrev pub AreFrom : ℕ → ℕ → List Placed → Type 0
 AreFrom n k [] = k ≡ n
 AreFrom n k (p ∷ ps) = (p.place ≡ k) × (p.absorbed ≡ []) × AreFrom n (suc k) ps
 
-AreFrom-placed : (n k : ℕ) (items : List Item) → k + length items ≡ n → AreFrom n k (placed k items)
+pub AreFrom-placed : (n k : ℕ) (items : List Item) → k + length items ≡ n → AreFrom n k (placed k items)
 AreFrom-placed n k [] is = omega arith
 AreFrom-placed n k (x ∷ items) is = (refl, refl, AreFrom-placed n (suc k) items (omega arith))
 
@@ -138,25 +137,3 @@ module _ (rules : Rules) where
   pub length-recomposed : (items : List Item) → length (recomposed_items rules items) ≤ length items
   length-recomposed items =
       omega (arith, AreRising-fit 0 (length items) (recomposed_items rules items) (recomposed_placed items).rising)
-
--- a span of a list of this length
-abbrev pub IsSpan : ℕ → ℕ × ℕ → Type 0
-IsSpan n span = (span.0 ≤ span.1) × (span.1 ≤ n)
-
-spans_of_within : (n place from : ℕ) (absorbed : List Absorbed) → place ≤ from → AreAbsorbedInOrder from n absorbed
-    → AllByRecursion (IsSpan n) (map (λ (mark : Absorbed). (place, mark.place + 1)) absorbed)
-spans_of_within n place from [] le h = tt
-spans_of_within n place from (mark ∷ absorbed) le h =
-    ((omega (arith, h.0), omega (arith, h.1)), spans_of_within n place mark.place absorbed (omega (arith, h.0)) h.2)
-
-spans_within : (n : ℕ) (out : List Placed) → AllByRecursion (InOrder n) out → AllByRecursion (IsSpan n) (absorbed_spans out)
-spans_within n [] h = tt
-spans_within n (p ∷ out) h =
-    append_all (IsSpan n) (map (λ (mark : Absorbed). (p.place, mark.place + 1)) p.absorbed) (absorbed_spans out)
-    (spans_of_within n p.place p.place p.absorbed (omega arith) h.0) (spans_within n out h.1)
-
-pub recomposed_spans_within : (rules : Rules) (items : List Item)
-    → All (IsSpan (length items)) (absorbed_spans (recomposed_items rules items))
-recomposed_spans_within rules items =
-    All-from_recursion (IsSpan (length items)) (absorbed_spans (recomposed_items rules items))
-    (spans_within (length items) (recomposed_items rules items) (recomposed_placed rules items).in_order)

@@ -4,14 +4,14 @@
 //! keeps from its starter makes one character with it, where there is one with a glyph (The Unicode
 //! Standard, D115 to D117). The walk puts out items and remembers what was composed; the clusters of each
 //! starter and the marks that went into it are merged afterwards, as they stand in the list.
-ghost use Rattle.std.specs.Prelude.{◌≡◌, ◌≤◌, map, length, All, IfOk, IsOkUnless, OnOk};
+ghost use Rattle.std.specs.Prelude.{◌≡◌, ◌≤◌, map, length, IfOk, IsOkUnless, OnOk};
 ghost use Rattle.shape_buffer.specs.Buffer.{cleared, limit_of};
 ghost use Rattle.canonical_form.specs.Recompose.{is_blocked_by_last, compose_with_glyph};
 ghost use Rattle.shape_buffer.specs.UnicodeProps.{with_scratch_of};
 ghost use Rattle.shape_plan.specs.Plan.{hooks_of};
 ghost use Rattle.shape_normalize.specs.RoundOne.{part_item, seen_chars};
 ghost use Rattle.shape_normalize.specs.RoundThree.{recomposed_items, chained_spans, composed_chars};
-ghost use Rattle.shape_normalize.specs.RoundThree.{spans_merged_out, placed_info};
+ghost use Rattle.shape_normalize.specs.RoundThree.{placed_info};
 ghost use Rattle.shape_normalize.specs.RoundThree.{ccc_of_placed_info, composed_char, settled_info};
 ghost use Rattle.shape_normalize.specs.RoundThree.{round_three};
 ghost use Rattle.shape_plan.specs.Rules.{used_compose, has_glyph, rules_of};
@@ -208,16 +208,6 @@ where
     Ok(walk)
 }
 
-/// Merges the clusters of each span, in order.
-fn merge_spans_out(buffer: &mut hb_buffer_t, spans: &[(usize, usize)])
-    requires { All (λ span. (span.0 ≤ span.1) × (span.1 ≤ length buffer.old.items)) spans.now }
-    ensures { buffer.new ≡ spans_merged_out spans.now buffer.old }
-{
-    for (start, end) in spans {
-        buffer.merge_out_clusters(*start, *end);
-    }
-}
-
 /// The items that were put out, each with the cluster and the mask that stand at its place.
 fn settle_all(
     alloc: Global,
@@ -259,7 +249,7 @@ where
         buffer.infos(),
         buffer.scratch_flags(),
     )?;
-    merge_spans_out(buffer, &recomposed.spans);
+    buffer.merge_spans_out(&recomposed.spans);
     let infos = settle_all(alloc, &recomposed.out, buffer.infos())?;
     buffer.replace_infos(infos)?;
     buffer.set_scratch_flags(recomposed.scratch_flags);

@@ -10,11 +10,12 @@ ghost use Rattle.shape_buffer.specs.Clusters.{clusters};
 ghost use Rattle.shape_buffer.specs.Delete.{deleted};
 ghost use Rattle.shape_buffer.specs.Items.{Item};
 ghost use Rattle.shape_buffer.specs.KeepsFlags.{KeepsFlags};
-ghost use Rattle.shape_buffer.specs.Spans.{AreSpansInOrder, all_merged};
+ghost use Rattle.shape_buffer.specs.Spans.{AreSpansInOrder, all_merged, merge_each as merge_each_of};
 ghost use Rattle.shape_buffer.specs.Spans.{spans_merged_out as spans_merged_out_of};
 
 use crate::buffer::clusters::{mark_break, mark_concat, merge_items};
 use crate::buffer::delete::delete_items;
+use crate::buffer::each_span::merge_each;
 use crate::buffer::flags::{BufferFlags, ScratchFlags};
 use crate::buffer::items::hb_glyph_info_t;
 use crate::buffer::settings::BufferClusterLevel;
@@ -57,7 +58,8 @@ impl hb_buffer_t {
     }
 
     /// Merges the clusters of many spans, as one call of `merge_clusters` after the other would. A span
-    /// is a start and an end; none begins before the one before it.
+    /// is a start and an end; none begins before the one before it. Takes no memory; the time is in step
+    /// with the list and the lengths of the spans, whatever the clusters are (measured, not proved).
     pub fn merge_spans(&mut self, spans: &[(usize, usize)])
         requires in_order { AreSpansInOrder 0 (length self.old.items) spans.now }
         ensures merged { self.new ≡ all_merged spans.now self.old }
@@ -65,8 +67,10 @@ impl hb_buffer_t {
         ensures keeps { KeepsClusters (clusters self.old.items) (clusters self.new.items)
             × KeepsFlags self.old self.new }
     {
-        for (start, end) in spans {
-            self.merge_clusters(*start, *end);
+        if self.cluster_level == BufferClusterLevel::Characters {
+            self.merge_one_by_one(spans);
+        } else {
+            self.merge_at_once(spans);
         }
     }
 
@@ -78,8 +82,28 @@ impl hb_buffer_t {
         ensures keeps { KeepsClusters (clusters self.old.items) (clusters self.new.items)
             × KeepsFlags self.old self.new }
     {
+        if self.cluster_level == BufferClusterLevel::Characters {
+            return;
+        }
+        self.merge_at_once(spans);
+    }
+
+    /// Merges the spans, whatever the level is.
+    fn merge_at_once(&mut self, spans: &[(usize, usize)])
+        requires { AreSpansInOrder 0 (length self.old.items) spans.now }
+        ensures { self.new ≡ record self.old { items = merge_each_of spans.now self.old.items } }
+    {
+        let starts = self.run_starts.as_mut_slice();
+        merge_each(self.infos.as_mut_slice(), starts, spans);
+    }
+
+    /// Merges span by span. At level CHARACTERS each merge marks its span and touches no more.
+    fn merge_one_by_one(&mut self, spans: &[(usize, usize)])
+        requires { AreSpansInOrder 0 (length self.old.items) spans.now }
+        ensures { self.new ≡ all_merged spans.now self.old }
+    {
         for (start, end) in spans {
-            self.merge_out_clusters(*start, *end);
+            self.merge_clusters(*start, *end);
         }
     }
 

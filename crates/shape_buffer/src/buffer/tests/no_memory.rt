@@ -43,6 +43,12 @@ fn merge_and_mark(buffer: &mut hb_buffer_t, level: BufferClusterLevel) {
         buffer.merge_out_clusters(1, 3);
     }
     if 3 <= buffer.len() {
+        buffer.merge_spans(&[(0, 2), (1, 3)]);
+    }
+    if 3 <= buffer.len() {
+        buffer.merge_spans_out(&[(0, 2), (1, 3)]);
+    }
+    if 3 <= buffer.len() {
         buffer.unsafe_to_break(0, 3);
     }
     if 3 <= buffer.len() {

@@ -1,12 +1,26 @@
-use Rattle.std.proofs.Common.{◌≡◌, [], drop, ap, sym, ◌∙◌, arith}
-use Rattle.std.proofs.lemmas.List.{drop_all}
-use Rattle.shape_buffer.specs.Spans.{all_merged}
-use Rattle.shape_buffer.proofs.MergingInOrder.EachSpanLemmas.{all_merged_keep}
+use Rattle.std.proofs.Common.{◌≢◌, length, ap, ◌∙◌, rules}
+use Rattle.shape_buffer.specs.Buffer.{Buffer}
+use Rattle.shape_buffer.specs.declared.buffer.settings.BufferClusterLevel.TheVariants.{Characters}
+use Rattle.shape_buffer.proofs.MergingInOrder.EachSpanLemmas.{length-merge_each, length-all_merged, all_merged_keep, merged_at_once}
 use Rattle.shape_buffer.proofs.buffer.storage.hb_buffer_t.merge_spans.Goals as goal
 
-pub returns-clause-keeps : goal.returns-clause-keeps
-returns-clause-keeps c =
-    let spans = c.args.spans.now in
-    let none : drop c.loop-start.start-index spans ≡ [] = drop_all c.loop-start.start-index spans (omega arith) in
-    all_merged_keep 0 spans c.args.self.now c.loop-start.self c.requires.in_order
-    (sym (ap (λ s. all_merged s c.loop-start.self) none) ∙ c.loop-start.invariant.whole)
+pub returns-then-eq-clause-len : goal.returns-then-eq-clause-len
+returns-then-eq-clause-len c =
+    ap (λ (b : Buffer). length b.items) c.merge_one_by_one.ensures ∙ length-all_merged c.args.spans.now c.args.self.now
+
+pub returns-then-eq-clause-keeps : goal.returns-then-eq-clause-keeps
+returns-then-eq-clause-keeps c = all_merged_keep 0 c.args.spans.now c.args.self.now _ c.requires.in_order c.merge_one_by_one.ensures
+
+pub returns-else-eq-clause-merged : goal.returns-else-eq-clause-merged
+returns-else-eq-clause-merged c =
+    let other : c.self.inside.cluster_level ≢ Characters = search rules in
+    merged_at_once c.args.spans.now c.args.self.now _ (λ is. other (ap (λ (b : Buffer). b.cluster_level) c.self.view_is ∙ is))
+    c.merge_at_once.ensures
+
+pub returns-else-eq-clause-len : goal.returns-else-eq-clause-len
+returns-else-eq-clause-len c =
+    ap (λ (b : Buffer). length b.items) c.merge_at_once.ensures ∙ length-merge_each c.args.spans.now c.args.self.now.items
+
+pub returns-else-eq-clause-keeps : goal.returns-else-eq-clause-keeps
+returns-else-eq-clause-keeps c =
+    all_merged_keep 0 c.args.spans.now c.args.self.now _ c.requires.in_order (returns-else-eq-clause-merged c)

@@ -3,7 +3,7 @@ use Rattle.std.proofs.lemmas.Grind.{common_steps}
 use Rattle.std.proofs.lemmas.List.{take_all, drop_all, append-nil}
 use Rattle.shape_buffer.specs.Unwritten.{written_runs}
 use Rattle.shape_buffer.proofs.Unwritten.UnwrittenLemmas.{write_last-in_place, write_ends, start_before}
-use Rattle.shape_buffer.proofs.buffer.delete.write_runs.Goals as goal
+use Rattle.shape_buffer.proofs.buffer.unwritten.write_runs.Goals as goal
 
 pub slice_bounds-write_run-count : goal.slice_bounds-write_run-count
 slice_bounds-write_run-count c =

@@ -1,7 +1,7 @@
 use Rattle.std.proofs.Common.{◌≡◌, ◌≤◌, ◌++◌, List, length, take, drop}
 use Rattle.shape_buffer.specs.Items.{Item}
 use Rattle.shape_buffer.specs.Unwritten.{Run, StandsFor, stored_runs, written_runs, starts}
-use Rattle.shape_buffer.proofs.buffer.delete.write_runs.Given as goal
+use Rattle.shape_buffer.proofs.buffer.unwritten.write_runs.Given as goal
 
 abbrev pub invariant-loop-count : goal.invariant-loop-count
 invariant-loop-count l = record {

@@ -1,7 +1,7 @@
 use Rattle.std.proofs.Common.{◌-◌, length, take, arith, sym, ◌∙◌}
 use Rattle.std.proofs.lemmas.List.{take_more_set}
 use Rattle.shape_buffer.proofs.Unwritten.UnwrittenLemmas.{open_first, open_next, more}
-use Rattle.shape_buffer.proofs.buffer.delete.open_run.Goals as goal
+use Rattle.shape_buffer.proofs.buffer.unwritten.open_run.Goals as goal
 
 pub returns-then-len-eq0-clause-stands : goal.returns-then-len-eq0-clause-stands
 returns-then-len-eq0-clause-stands c = λ x e given s.

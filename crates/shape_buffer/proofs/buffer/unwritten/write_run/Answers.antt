@@ -1,7 +1,7 @@
 use Rattle.std.proofs.Common.{◌≡◌, ◌-◌, ◌∷◌, [], set, arith, ap, sym, ◌∙◌}
 use Rattle.shape_buffer.specs.Unwritten.{follow}
 use Rattle.shape_buffer.proofs.Unwritten.UnwrittenLemmas.{write_begins, write_step}
-use Rattle.shape_buffer.proofs.buffer.delete.write_run.Goals as goal
+use Rattle.shape_buffer.proofs.buffer.unwritten.write_run.Goals as goal
 
 pub loop-i-init : goal.loop-i-init
 loop-i-init c = record { within = omega arith; done = write_begins c.args.infos.now }

@@ -3,7 +3,7 @@ use Rattle.std.proofs.lemmas.Grind.{common_steps}
 use Rattle.std.proofs.lemmas.List.{take_all, get_or_default, length-set}
 use Rattle.shape_buffer.specs.Delete.{hand_over}
 use Rattle.shape_buffer.proofs.Unwritten.GivenLemmas.{some_start, start_within, give_nothing, give_apart, give_joins}
-use Rattle.shape_buffer.proofs.buffer.delete.give_to_last.Goals as goal
+use Rattle.shape_buffer.proofs.buffer.unwritten.give_to_last.Goals as goal
 
 pub returns-then-infos-last-clause-stands : goal.returns-then-infos-last-clause-stands
 returns-then-infos-last-clause-stands c = λ given s.

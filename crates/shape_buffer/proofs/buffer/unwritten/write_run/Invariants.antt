@@ -1,6 +1,6 @@
 use Rattle.std.proofs.Common.{◌≡◌, ◌-◌, ◌≤◌, ◌++◌, length, take, drop}
 use Rattle.shape_buffer.specs.Unwritten.{written}
-use Rattle.shape_buffer.proofs.buffer.delete.write_run.Given as goal
+use Rattle.shape_buffer.proofs.buffer.unwritten.write_run.Given as goal
 
 abbrev pub invariant-loop-i : goal.invariant-loop-i
 invariant-loop-i l = record {
