@@ -22,6 +22,9 @@ use crate::buffer::settings::BufferClusterLevel;
 use crate::buffer::storage::hb_buffer_t;
 use bitflags::Flags;
 
+/// As many spans as a run of 32 marks can have: so few cost less one by one than a walk over the list.
+const FEW_SPANS: usize = 16;
+
 impl hb_buffer_t {
     /// Merges the clusters of the items from `start` up to `end`: they, and the items beside them that
     /// share a cluster which changes, get the least cluster of the span, and an item whose cluster
@@ -59,7 +62,8 @@ impl hb_buffer_t {
 
     /// Merges the clusters of many spans, as one call of `merge_clusters` after the other would. A span
     /// is a start and an end; none begins before the one before it. Takes no memory; the time is in step
-    /// with the list and the lengths of the spans, whatever the clusters are (measured, not proved).
+    /// with the list and the lengths of the spans, whatever the clusters are (measured, not proved). Few
+    /// spans, as those of one run of marks, are merged one by one: the items before them aren't walked over.
     pub fn merge_spans(&mut self, spans: &[(usize, usize)])
         requires in_order { AreSpansInOrder 0 (length self.old.items) spans.now }
         ensures merged { self.new ≡ all_merged spans.now self.old }
@@ -67,6 +71,10 @@ impl hb_buffer_t {
         ensures keeps { KeepsClusters (clusters self.old.items) (clusters self.new.items)
             × KeepsFlags self.old self.new }
     {
+        if spans.len() <= FEW_SPANS {
+            self.merge_one_by_one(spans);
+            return;
+        }
         if self.cluster_level == BufferClusterLevel::Characters {
             self.merge_one_by_one(spans);
         } else {

@@ -4,12 +4,20 @@ use Rattle.shape_buffer.specs.declared.buffer.settings.BufferClusterLevel.TheVar
 use Rattle.shape_buffer.proofs.MergingInOrder.EachSpanLemmas.{length-merge_each, length-all_merged, all_merged_keep, merged_at_once}
 use Rattle.shape_buffer.proofs.buffer.storage.hb_buffer_t.merge_spans.Goals as goal
 
-pub returns-then-eq-clause-len : goal.returns-then-eq-clause-len
-returns-then-eq-clause-len c =
+pub returns-then-spans-le-FEW_SPANS-clause-len : goal.returns-then-spans-le-FEW_SPANS-clause-len
+returns-then-spans-le-FEW_SPANS-clause-len c =
     ap (λ (b : Buffer). length b.items) c.merge_one_by_one.ensures ∙ length-all_merged c.args.spans.now c.args.self.now
 
+pub returns-then-spans-le-FEW_SPANS-clause-keeps : goal.returns-then-spans-le-FEW_SPANS-clause-keeps
+returns-then-spans-le-FEW_SPANS-clause-keeps c =
+    all_merged_keep 0 c.args.spans.now c.args.self.now _ c.requires.in_order c.merge_one_by_one.ensures
+
+pub returns-then-eq-clause-len : goal.returns-then-eq-clause-len
+returns-then-eq-clause-len c =
+    ap (λ (b : Buffer). length b.items) c.merge_one_by_one-then-eq.ensures ∙ length-all_merged c.args.spans.now c.args.self.now
+
 pub returns-then-eq-clause-keeps : goal.returns-then-eq-clause-keeps
-returns-then-eq-clause-keeps c = all_merged_keep 0 c.args.spans.now c.args.self.now _ c.requires.in_order c.merge_one_by_one.ensures
+returns-then-eq-clause-keeps c = all_merged_keep 0 c.args.spans.now c.args.self.now _ c.requires.in_order c.merge_one_by_one-then-eq.ensures
 
 pub returns-else-eq-clause-merged : goal.returns-else-eq-clause-merged
 returns-else-eq-clause-merged c =
