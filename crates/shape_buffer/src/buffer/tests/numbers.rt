@@ -67,7 +67,10 @@ fn flags_of_buffers_and_glyphs(rt: HostRuntime) {
         BufferFlags::PRODUCE_UNSAFE_TO_CONCAT,
         BufferFlags::PRODUCE_SAFE_TO_INSERT_TATWEEL,
     ];
-    assert_eq!(rt; asked, [2, 4, 8, 16, 32, 64, 128].map(|bit| BufferFlags(bit)));
+    assert_eq!(rt;
+        asked,
+        [2, 4, 8, 16, 32, 64, 128].map(|bit| BufferFlags(bit))
+    );
     let seen = [
         ScratchFlags::HAS_NON_ASCII,
         ScratchFlags::HAS_DEFAULT_IGNORABLES,
