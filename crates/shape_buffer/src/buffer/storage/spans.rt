@@ -10,7 +10,8 @@ ghost use Rattle.shape_buffer.specs.Clusters.{clusters};
 ghost use Rattle.shape_buffer.specs.Delete.{deleted};
 ghost use Rattle.shape_buffer.specs.Items.{Item};
 ghost use Rattle.shape_buffer.specs.KeepsFlags.{KeepsFlags};
-ghost use Rattle.shape_buffer.specs.Spans.{AreSpansInOrder, all_merged, merge_each as merge_each_of};
+ghost use Rattle.shape_buffer.specs.Spans.{AreSpansInOrder, all_merged};
+ghost use Rattle.shape_buffer.specs.Spans.{merge_each as merge_each_of};
 ghost use Rattle.shape_buffer.specs.Spans.{spans_merged_out as spans_merged_out_of};
 
 use crate::buffer::clusters::{mark_break, mark_concat, merge_items};

@@ -108,6 +108,36 @@ fn short_spans_change_nothing(rt: HostRuntime) -> Result<(), Fail> {
     leaves_out(&rt, alloc, level, &[], &[(0, 0)], &[])
 }
 
+/// More spans than are merged one by one: fourteen that change nothing, then those of the first test.
+#[test]
+fn many_spans_are_merged_as_few_are(rt: HostRuntime) -> Result<(), Fail> {
+    let alloc = rt.alloc();
+    let before = [(9, 8), (9, 15), (8, 9), (7, 10), (6, 12)];
+    let after = [(6, 8), (6, 8), (6, 8), (6, 8), (6, 12)];
+    let short = (0, 1);
+    let spans = [
+        short,
+        short,
+        short,
+        short,
+        short,
+        short,
+        short,
+        short,
+        short,
+        short,
+        short,
+        short,
+        short,
+        short,
+        (1, 3),
+        (2, 4),
+        (3, 5),
+    ];
+    let level = BufferClusterLevel::MonotoneCharacters;
+    leaves(&rt, alloc, level, &before, &spans, &after)
+}
+
 #[test]
 fn spans_are_marked_at_level_characters(rt: HostRuntime) -> Result<(), Fail> {
     let alloc = rt.alloc();

@@ -120,7 +120,7 @@ fn each_line_sets_one_thing(rt: HostRuntime) -> Result<(), Fail> {
         // A new face keeps the mode.
         (
             FACE,
-            b"mode 1\nface 1000\nglyph 41 1 0\nglyph 302 2 0\ntext C2\n",
+            b"mode 1\nface 1000\nglyph C2 3 0\nglyph 41 1 0\nglyph 302 2 0\ntext C2\n",
             b"normal 0041@0 0302@0\n",
         ),
         // A new face has no glyph of the old one.

@@ -11,7 +11,7 @@ const PLACED: &[u8] =
 fn runs_over_a_grapheme(rt: HostRuntime) {
     let cases: [(&[u8], &[u8]); 4] = [
         (
-            b"text 61 301\n",
+            b"level 1\nlevel 0\ntext 61 301\n",
             b"prepared 0061@0 0301@0\nnormal 0061@0 0301@0\nglyphs 1@0(600,0,0,0)/0 2@0(0,0,-450,112)/0\n",
         ),
         (
