@@ -15,29 +15,29 @@ written [] = []
 written (x ∷ rest) = follow x (written rest) ∷ written rest
 
 -- a run as it is stored: its last item, and the ones before that
-pub record Run : Type 0 where
+pub record UnwrittenRun : Type 0 where
   pub front : List Item
   pub last : Item
 
-abbrev pub items_of : Run → List Item
+abbrev pub items_of : UnwrittenRun → List Item
 items_of run = run.front ++ run.last ∷ []
 
 -- runs as they are stored, the last run first
-abbrev pub stored_runs : List Run → List Item
+abbrev pub stored_runs : List UnwrittenRun → List Item
 stored_runs [] = []
 stored_runs (run ∷ before) = stored_runs before ++ items_of run
 
 -- and once they are written
-abbrev pub written_runs : List Run → List Item
+abbrev pub written_runs : List UnwrittenRun → List Item
 written_runs [] = []
 written_runs (run ∷ before) = written_runs before ++ written (items_of run)
 
 -- where the runs begin
-abbrev pub starts : List Run → List ℕ
+abbrev pub starts : List UnwrittenRun → List ℕ
 starts [] = []
 starts (run ∷ before) = starts before ++ length (stored_runs before) ∷ []
 
-abbrev pub IsApart : Run → List Run → Type 0
+abbrev pub IsApart : UnwrittenRun → List UnwrittenRun → Type 0
 IsApart run [] = ⊤
 IsApart run (other ∷ _) = run.last.cluster ≢ other.last.cluster
 
@@ -47,13 +47,13 @@ AreAbove cluster [] = ⊤
 AreAbove cluster (x ∷ xs) = (cluster ≤ x.cluster) × AreAbove cluster xs
 
 -- no cluster of a run is below its last one, and neighbours end in different clusters
-abbrev pub AreRuns : List Run → Type 0
+abbrev pub AreRuns : List UnwrittenRun → Type 0
 AreRuns [] = ⊤
 AreRuns (run ∷ before) = AreAbove run.last.cluster run.front × IsApart run before × AreRuns before
 
 -- the stored items stand for the given ones, with runs that begin at these places
 pub record StandsFor (items : List Item) (places : List ℕ) (given : List Item) : Type 0 where
-  pub runs : List Run
+  pub runs : List UnwrittenRun
   pub are_runs : AreRuns runs
   pub items_are : items ≡ stored_runs runs
   pub places_are : places ≡ starts runs

@@ -12,7 +12,7 @@ use Rattle.shape_buffer.specs.declared.buffer.positions.GlyphPosition.{GlyphPosi
 use Rattle.shape_fallback.specs.Exact.{Fits32, exact_x_offset, XOffsetFits, hung_at, exact_hung, piled_at, pushed_up, exact_piled, StackedFits, exact_component, ExactRound, ExactMarks, ExactSpaces}
 use Rattle.shape_fallback.specs.Extents.{Extents}
 use Rattle.shape_fallback.specs.MarkState.{component_of, place_of, component_extents, passed, moved}
-use Rattle.shape_fallback.specs.Marks.{base_of, first_state, without_advances}
+use Rattle.shape_fallback.specs.Marks.{base_of, first_state, zeroed_position}
 use Rattle.shape_fallback.specs.OneMark.{mark_x_offset, is_double, is_left, is_right, is_attached, agree, hung, piled, lowered, raised}
 use Rattle.shape_fallback.specs.Spaces.{em_part, em_advance}
 use Rattle.shape_fallback.specs.declared.ot_shape_fallback.mark_state.Base.{Base}
@@ -154,12 +154,12 @@ unfolding moved
 moved_up-exact p s fits = +ʷ-exact p.y_offset s.y_offset fits
 
 zeroed_right-exact : (p : GlyphPosition) → Fits32 (p.x_offset -ℤ p.x_advance)
-    → (without_advances true p).x_offset ≡ p.x_offset -ℤ p.x_advance
-unfolding without_advances
+    → (zeroed_position true p).x_offset ≡ p.x_offset -ℤ p.x_advance
+unfolding zeroed_position
 zeroed_right-exact p fits = -ʷ-exact p.x_offset p.x_advance fits
 
-zeroed_up-exact : (p : GlyphPosition) → Fits32 (p.y_offset -ℤ p.y_advance) → (without_advances true p).y_offset ≡ p.y_offset -ℤ p.y_advance
-unfolding without_advances
+zeroed_up-exact : (p : GlyphPosition) → Fits32 (p.y_offset -ℤ p.y_advance) → (zeroed_position true p).y_offset ≡ p.y_offset -ℤ p.y_advance
+unfolding zeroed_position
 zeroed_up-exact p fits = -ʷ-exact p.y_offset p.y_advance fits
 
 component-exact : (base : Base) (c : ℤ) → Fits32 (place_of base c *ℤ base.extents.width)

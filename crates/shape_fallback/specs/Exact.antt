@@ -6,7 +6,7 @@ use Rattle.shape_buffer.specs.Items.{Item}
 use Rattle.shape_buffer.specs.declared.buffer.positions.GlyphPosition.{GlyphPosition}
 use Rattle.shape_fallback.specs.Extents.{Extents}
 use Rattle.shape_fallback.specs.MarkState.{component_of, place_of, component_extents, passed, moved}
-use Rattle.shape_fallback.specs.Marks.{base_of, first_state, without_advances}
+use Rattle.shape_fallback.specs.Marks.{base_of, first_state, zeroed_position}
 use Rattle.shape_fallback.specs.OneMark.{mark_x_offset, is_double, is_left, is_right, is_attached, agree, hung, piled, lowered, raised}
 use Rattle.shape_fallback.specs.Spaces.{em_part, em_advance}
 use Rattle.shape_fallback.specs.declared.ot_shape_fallback.mark_state.Base.{Base}
@@ -115,8 +115,8 @@ pub record ExactMarks : Type 0 where
       → (moved p s).x_offset ≡ p.x_offset +ℤ s.x_offset
   pub moved_up : (p : GlyphPosition) (s : MarkState) → Fits32 (p.y_offset +ℤ s.y_offset) → (moved p s).y_offset ≡ p.y_offset +ℤ s.y_offset
   pub zeroed_right : (p : GlyphPosition) → Fits32 (p.x_offset -ℤ p.x_advance)
-      → (without_advances true p).x_offset ≡ p.x_offset -ℤ p.x_advance
-  pub zeroed_up : (p : GlyphPosition) → Fits32 (p.y_offset -ℤ p.y_advance) → (without_advances true p).y_offset ≡ p.y_offset -ℤ p.y_advance
+      → (zeroed_position true p).x_offset ≡ p.x_offset -ℤ p.x_advance
+  pub zeroed_up : (p : GlyphPosition) → Fits32 (p.y_offset -ℤ p.y_advance) → (zeroed_position true p).y_offset ≡ p.y_offset -ℤ p.y_advance
   pub component : (base : Base) (c : ℤ) → Fits32 (place_of base c *ℤ base.extents.width)
       → Fits32 (base.extents.x_bearing +ℤ int_div (place_of base c *ℤ base.extents.width) (pos base.number_of_components))
       → (component_extents base c).x_bearing

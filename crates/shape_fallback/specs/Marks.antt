@@ -21,14 +21,14 @@ marks_placed face base s (x ∷ xs) (p ∷ ps) =
     step.position ∷ marks_placed face base step.state xs ps
 
 -- a position without its advances; the offsets lose them first where they are adjusted
-unfoldable pub without_advances : Bool → GlyphPosition → GlyphPosition
-without_advances adjust p =
+unfoldable pub zeroed_position : Bool → GlyphPosition → GlyphPosition
+zeroed_position adjust p =
     if adjust then record p { x_advance = pos 0; y_advance = pos 0; x_offset = p.x_offset -ʷ p.x_advance; y_offset = p.y_offset -ʷ p.y_advance }
     else record p { x_advance = pos 0; y_advance = pos 0 }
 
 -- a nonspacing mark loses its advances
 unfoldable pub zeroed : Bool → Item → GlyphPosition → GlyphPosition
-zeroed adjust x p = if is_nonspacing x then without_advances adjust p else p
+zeroed adjust x p = if is_nonspacing x then zeroed_position adjust p else p
 
 -- a base with these extents of its glyph
 unfoldable pub base_of : FaceMeaning → Setting → Item → GlyphPosition → Extents → Base

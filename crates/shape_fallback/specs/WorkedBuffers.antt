@@ -16,7 +16,7 @@ use Rattle.shape_plan.specs.declared.decisions.Decisions.{Decisions}
 use Rattle.shape_fallback.specs.Bases.{position_span, base_at, bases, bases_positioned, bases_marked, runs_to_right, setting_of, marks_positioned}
 use Rattle.shape_fallback.specs.Extents.{Extents}
 use Rattle.shape_fallback.specs.MarkState.{component_of, place_of, component_extents, is_same, at_component, with_component, at_ccc, passed, moved, place_in, place_mark}
-use Rattle.shape_fallback.specs.Marks.{marks_placed, without_advances, zeroed, base_of, first_state, around_base}
+use Rattle.shape_fallback.specs.Marks.{marks_placed, zeroed_position, zeroed, base_of, first_state, around_base}
 use Rattle.shape_fallback.specs.OneMark.{is_double, is_left, is_right, is_below, is_above, is_attached, agree, lowered, raised, mark_placed}
 use Rattle.shape_fallback.specs.Positions.{each_placed}
 use Rattle.shape_fallback.specs.Recategorized.{is_nonspacing, recategorized_item}
@@ -162,7 +162,7 @@ pub record BasesWithoutABox : Type 0 where
       ≡ at (pos 600) (pos 0) (pos 0) (pos 0) ∷ at (pos 0) (pos 0) (negsuc 2147483647) (pos 0) ∷ []
 
 bases_without_a_box : BasesWithoutABox
-unfolding marks_positioned setting_of runs_to_right bases_positioned bases base_at position_span around_base each_placed zeroed is_nonspacing without_advances ◌-ʷ◌ int_wrap
+unfolding marks_positioned setting_of runs_to_right bases_positioned bases base_at position_span around_base each_placed zeroed is_nonspacing zeroed_position ◌-ʷ◌ int_wrap
 bases_without_a_box = record { adjusted = refl; not_adjusted = refl; least_advance = refl }
 
 -- a face whose base and mark are as wide as numbers go
@@ -214,7 +214,7 @@ pub record DueSteps : Type 0 where
       (record new_buffer { items = worked_mark 0xE34 NonspacingMark 0 ∷ [] })).items ≡ worked_mark 0xE34 NonspacingMark 0 ∷ []
 
 due_steps : DueSteps
-unfolding marks_adjusted marks_positioned setting_of runs_to_right bases_positioned bases base_at position_span around_base each_placed zeroed is_nonspacing without_advances recategorized_item items_mapped ◌-ʷ◌ int_wrap
+unfolding marks_adjusted marks_positioned setting_of runs_to_right bases_positioned bases base_at position_span around_base each_placed zeroed is_nonspacing zeroed_position recategorized_item items_mapped ◌-ʷ◌ int_wrap
 due_steps = record { to_the_right = refl; to_the_left = refl; not_adjusted = refl; not_due = refl; cccs_due = refl; cccs_not_due = refl }
 
 -- spans are marked: a mark of a later cluster than its base's, and the bit of the run; no item outside

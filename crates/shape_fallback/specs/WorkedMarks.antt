@@ -14,7 +14,7 @@ use Rattle.shape_plan.specs.PlainTexts.{plain_unicode}
 use Rattle.shape_fallback.specs.Bases.{base_at, bases, runs_to_right}
 use Rattle.shape_fallback.specs.Extents.{Extents}
 use Rattle.shape_fallback.specs.MarkState.{component_of, place_of, component_extents, is_same, at_component, with_component, at_ccc, passed, moved}
-use Rattle.shape_fallback.specs.Marks.{without_advances, first_state}
+use Rattle.shape_fallback.specs.Marks.{zeroed_position, first_state}
 use Rattle.shape_fallback.specs.WorkedOneMark.{box}
 use Rattle.shape_fallback.specs.declared.ot_shape_fallback.mark_state.Base.{Base}
 use Rattle.shape_fallback.specs.declared.ot_shape_fallback.mark_state.MarkState.{MarkState}
@@ -109,13 +109,13 @@ pub record RunningOffsets : Type 0 where
       (pos 900)) { surroundings = record { horizontal = true; forward = false; gap = pos 62 } }) (at (pos 600) (negsuc 6) (pos 1) (pos 2))
       ≡ record (worked_state (negsuc 0) 255 (box (pos 0) (pos 700) (pos 900) (negsuc 699))
       (box (pos 0) (pos 700) (pos 900) (negsuc 699))) { x_offset = pos 0; y_offset = pos 0 }
-  pub adjusted : without_advances true (at (pos 30) (pos 4) (pos 1) (pos 2)) ≡ at (pos 0) (pos 0) (negsuc 28) (negsuc 1)
-  pub not_adjusted : without_advances false (at (pos 30) (pos 4) (pos 1) (pos 2)) ≡ at (pos 0) (pos 0) (pos 1) (pos 2)
-  pub least_advance : without_advances true (at (negsuc 2147483647) (pos 0) (pos 0) (pos 0))
+  pub adjusted : zeroed_position true (at (pos 30) (pos 4) (pos 1) (pos 2)) ≡ at (pos 0) (pos 0) (negsuc 28) (negsuc 1)
+  pub not_adjusted : zeroed_position false (at (pos 30) (pos 4) (pos 1) (pos 2)) ≡ at (pos 0) (pos 0) (pos 1) (pos 2)
+  pub least_advance : zeroed_position true (at (negsuc 2147483647) (pos 0) (pos 0) (pos 0))
       ≡ at (pos 0) (pos 0) (negsuc 2147483647) (pos 0)
 
 running_offsets : RunningOffsets
-unfolding passed moved first_state without_advances ◌+ʷ◌ ◌-ʷ◌ neg_w int_wrap
+unfolding passed moved first_state zeroed_position ◌+ʷ◌ ◌-ʷ◌ neg_w int_wrap
 running_offsets =
     record { passed_forward = refl; passed_backward = refl; added = refl; first_forward = refl; first_backward = refl; adjusted = refl; not_adjusted = refl; least_advance = refl }
 

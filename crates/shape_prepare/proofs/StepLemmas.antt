@@ -2,15 +2,16 @@
 use Rattle.std.proofs.Common.{◌≡◌, ◌≢◌, ℕ, ◌==◌, ◌&&◌, ◌<◌, ◌≤◌, inl, inr, subst, Result, Ok, Err, Bool, true, false, not, List, [], ◌∷◌, length, map, replicate, refl, sym, ap, ap₂, ◌∙◌, arith, bit_and, fold}
 use Rattle.std.proofs.lemmas.Bool.{cases_Bool}
 use Rattle.std.proofs.lemmas.List.{length-map}
+use Rattle.canonical_form.specs.Expanded.{begins_with_mark}
 use Rattle.shape_buffer.specs.Buffer.{Buffer, limit_of}
 use Rattle.shape_buffer.specs.BufferClusters.{merge_clusters, unsafe_to_break}
 use Rattle.shape_buffer.specs.Face.{FaceMeaning}
 use Rattle.shape_buffer.specs.Flags.{with_mask}
-use Rattle.shape_buffer.specs.Items.{Item}
+use Rattle.shape_buffer.specs.Items.{Item, is_mark_item}
 use Rattle.shape_buffer.specs.Outcome.{Made, Outcome, Refused, for_length, for_memory, step}
 use Rattle.shape_buffer.specs.declared.buffer.error.ShapeError.{ShapeError}
 use Rattle.shape_buffer.specs.declared.buffer.error.ShapeError.TheVariants.{Memory, Length}
-use Rattle.shape_prepare.specs.DottedCircle.{dotted_circled, with_circle, takes_circle, begins_with_mark}
+use Rattle.shape_prepare.specs.DottedCircle.{dotted_circled, with_circle, takes_circle}
 use Rattle.shape_buffer.specs.Positions.{zero_position}
 use Rattle.shape_buffer.specs.Unicode.{UnicodeMeaning}
 use Rattle.shape_buffer.specs.Walks.{items_mapped}
@@ -20,7 +21,7 @@ use Rattle.shape_buffer.specs.declared.buffer.settings.Direction.{Direction}
 use Rattle.shape_plan.specs.declared.decisions.Decisions.{Decisions}
 use Rattle.shape_prepare.specs.Begun.{begun}
 use Rattle.shape_prepare.specs.ClustersFormed.{clusters_formed, over_graphemes, grapheme_spans}
-use Rattle.shape_prepare.specs.NativeOrder.{natively_ordered, native_direction, is_against, merged_to_turn, turned}
+use Rattle.shape_prepare.specs.NativeOrder.{natively_ordered, native_direction, is_against, merged_to_turn, graphemes_turned}
 use Rattle.shape_prepare.specs.Rotated.{rotated, rotated_item, in_forms}
 use Rattle.shape_buffer.specs.Direction.{is_backward, is_vertical}
 
@@ -154,7 +155,7 @@ Refused-circle unicode b Length full some =
     for_length (inl (omega (arith, longer)))
 
 pub dotted_circled-put : (unicode : UnicodeMeaning) (face : FaceMeaning) (b : Buffer) → takes_circle face b ≡ true
-    → begins_with_mark b.items ≡ true → with_circle unicode b.items b ≡ dotted_circled unicode face b
+    → begins_with_mark is_mark_item b.items ≡ true → with_circle unicode b.items b ≡ dotted_circled unicode face b
 unfolding dotted_circled
 dotted_circled-put unicode face b takes mark = rw (takes, mark) refl
 
@@ -164,7 +165,7 @@ unfolding dotted_circled
 dotted_circled-none unicode face b takes = rw takes refl
 
 pub dotted_circled-no_mark : (unicode : UnicodeMeaning) (face : FaceMeaning) (b : Buffer) → takes_circle face b ≡ true
-    → begins_with_mark b.items ≡ false → dotted_circled unicode face b ≡ b
+    → begins_with_mark is_mark_item b.items ≡ false → dotted_circled unicode face b ≡ b
 unfolding dotted_circled
 dotted_circled-no_mark unicode face b takes mark = rw (takes, mark) refl
 
@@ -175,7 +176,7 @@ unfolding natively_ordered
 natively_ordered-kept unicode b native = rw native refl
 
 pub natively_ordered-turned : (unicode : UnicodeMeaning) (b : Buffer) → is_against (native_direction unicode b) b.direction ≡ true
-    → natively_ordered unicode b ≡ turned (merged_to_turn b)
+    → natively_ordered unicode b ≡ graphemes_turned (merged_to_turn b)
 unfolding natively_ordered
 natively_ordered-turned unicode b against = rw against refl
 

@@ -1,6 +1,7 @@
 -- The base of a mark that begins a text.
 use Rattle.std.specs.Prelude.{ℕ, Bool, true, false, ◌==◌, ◌&&◌, not, if◌then◌else◌, List, [], ◌∷◌, is_some}
 use Rattle.std.specs.Int.RustNames.{bit_and}
+use Rattle.canonical_form.specs.Expanded.{begins_with_mark}
 use Rattle.shape_buffer.specs.Buffer.{Buffer}
 use Rattle.shape_buffer.specs.Face.{FaceMeaning}
 use Rattle.shape_buffer.specs.Items.{Item, new_item, is_mark_item}
@@ -32,10 +33,6 @@ with_circle unicode (first ∷ rest) b = record b {
   scratch_flags = with_scratch_of unicode 0x25CC b.scratch_flags;
 }
 
-abbrev pub begins_with_mark : List Item → Bool
-begins_with_mark [] = false
-begins_with_mark (first ∷ rest) = is_mark_item first
-
 -- where the first item is a mark it gets a dotted circle before it
 unfoldable pub dotted_circled : UnicodeMeaning → FaceMeaning → Buffer → Buffer
-dotted_circled unicode face b = if takes_circle face b && begins_with_mark b.items then with_circle unicode b.items b else b
+dotted_circled unicode face b = if takes_circle face b && begins_with_mark is_mark_item b.items then with_circle unicode b.items b else b

@@ -77,8 +77,8 @@ abbrev pub from_last : {A : Type 0} → List (List A) → List A
 from_last parts = flat_map (λ part. part) (reverse parts)
 
 -- the graphemes, with their positions, from the last to the first, and the direction turned
-abbrev pub turned : Buffer → Buffer
-turned b = record b {
+abbrev pub graphemes_turned : Buffer → Buffer
+graphemes_turned b = record b {
   items = from_last (graphemes b.items);
   positions = from_last (parted (map length (graphemes b.items)) b.positions);
   direction = reverse_of b.direction;
@@ -94,4 +94,4 @@ merged_to_turn b = elim b.cluster_level [
 
 -- text against its native direction is turned
 unfoldable pub natively_ordered : UnicodeMeaning → Buffer → Buffer
-natively_ordered unicode b = if is_against (native_direction unicode b) b.direction then turned (merged_to_turn b) else b
+natively_ordered unicode b = if is_against (native_direction unicode b) b.direction then graphemes_turned (merged_to_turn b) else b

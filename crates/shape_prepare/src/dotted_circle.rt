@@ -4,8 +4,9 @@
 //! stand on, as code charts have it, unless the caller forbids it or the text goes on from another one.
 ghost use Rattle.std.specs.Prelude.{◌≡◌, ◌<◌, length, IsTrue};
 ghost use Rattle.shape_buffer.specs.Outcome.{Outcome, IsWithinLimit, step};
+ghost use Rattle.canonical_form.specs.Expanded.{begins_with_mark as begins_with_mark_of};
+ghost use Rattle.shape_buffer.specs.Items.{is_mark_item};
 ghost use Rattle.shape_prepare.specs.DottedCircle.{dotted_circled, with_circle};
-ghost use Rattle.shape_prepare.specs.DottedCircle.{begins_with_mark as begins_with_mark_of};
 ghost use Rattle.shape_prepare.specs.DottedCircle.{takes_circle as takes_circle_of};
 ghost use Rattle.shape_prepare.specs.DottedCircle.{circle_before as circle_before_of};
 ghost use Rattle.shape_buffer.specs.UnicodeProps.{with_scratch_of};
@@ -50,7 +51,7 @@ fn insert_circle<U: hb_unicode_funcs_t>(buffer: &mut hb_buffer_t) -> Result<(), 
 
 /// Whether the first item is a mark; not so where there is none.
 fn begins_with_mark(infos: &[hb_glyph_info_t]) -> bool
-    ensures mark { result ≡ begins_with_mark_of infos.now }
+    ensures mark { result ≡ begins_with_mark_of is_mark_item infos.now }
     ensures some { IsTrue result → 0 < length infos.now }
 {
     match infos.first() {

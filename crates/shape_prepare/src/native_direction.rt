@@ -16,7 +16,7 @@ ghost use Rattle.shape_prepare.specs.NativeOrder.{is_against as is_against_of};
 ghost use Rattle.shape_prepare.specs.NativeOrder.{has_numbers_alone as has_numbers_alone_of};
 ghost use Rattle.shape_prepare.specs.NativeOrder.{is_letter as is_letter_of};
 ghost use Rattle.shape_prepare.specs.NativeOrder.{is_number as is_number_of, is_letter_category};
-ghost use Rattle.shape_prepare.specs.NativeOrder.{is_decimal_number, turned};
+ghost use Rattle.shape_prepare.specs.NativeOrder.{is_decimal_number, graphemes_turned};
 
 use crate::clusters::{ends_grapheme, merge_graphemes};
 use crate::graphemes::is_regional_indicator;
@@ -124,7 +124,7 @@ fn is_number(info: &hb_glyph_info_t) -> bool
 
 /// Turns the order of the graphemes, each of which stays as it is, and the direction.
 fn turn_graphemes(buffer: &mut hb_buffer_t)
-    ensures { Made turned buffer.old buffer.new }
+    ensures { Made graphemes_turned buffer.old buffer.new }
 {
     reverse_graphemes(buffer);
     buffer.reverse();

@@ -10,7 +10,7 @@ use Rattle.shape_buffer.specs.Items.{Item, has_cluster, put_in, feature_bits}
 use Rattle.shape_buffer.specs.Clusters.{map_range}
 use Rattle.shape_buffer.specs.Delete.{hand_over, give_to_kept}
 use Rattle.shape_buffer.specs.Spans.{grown_left}
-use Rattle.shape_buffer.specs.Unwritten.{Run, written, items_of, stored_runs, written_runs, AreRuns, StandsFor}
+use Rattle.shape_buffer.specs.Unwritten.{UnwrittenRun, written, items_of, stored_runs, written_runs, AreRuns, StandsFor}
 use Rattle.shape_buffer.proofs.Unwritten.GivenLemmas.{has_not, last_run_len, map_range-end, give_runs, length-given}
 use Rattle.shape_buffer.proofs.Unwritten.UnwrittenLemmas.{StandsFor-empty}
 use Rattle.shape_buffer.proofs.Unwritten.WrittenLemmas.{AreIn, written-in, last_stored, last_written, length-written_runs}
@@ -39,7 +39,7 @@ grown_left-none items places given first least none s =
 pub grown_left-apart : (items : List Item) (places : List ℕ) (given : List Item) (x : Item) (n first least : ℕ) → n + 1 ≡ length items
     → x ≡ get_or items n x → x.cluster ≢ first → StandsFor items places given → grown_left first least given ≡ given
 grown_left-apart items places given x n first least size ex apart s = in_runs s.runs s.items_are s.given_are where
-  in_runs : (runs : List Run) → items ≡ stored_runs runs → given ≡ written_runs runs → grown_left first least given ≡ given
+  in_runs : (runs : List UnwrittenRun) → items ≡ stored_runs runs → given ≡ written_runs runs → grown_left first least given ≡ given
   in_runs [] ei eg = let none : length items ≡ 0 = ap length ei in absurd (omega arith)
   in_runs (run ∷ before) ei eg =
       let last : x ≡ run.last = ex ∙ ap (λ z. get_or z n x) ei ∙ last_stored run before x n (size ∙ ap length ei) in
@@ -68,7 +68,7 @@ put-all_handed p c [] clear lt all = refl
 put-all_handed p c (x ∷ xs) clear lt all =
     ap₂ ◌∷◌ (put-handed p x clear (λ e. absurd (omega (arith, all.0)))) (put-all_handed p c xs clear lt all.1)
 
-grow_runs : (c least : ℕ) (run : Run) (before : List Run) → AreRuns (run ∷ before) → run.last.cluster ≡ c → least < c
+grow_runs : (c least : ℕ) (run : UnwrittenRun) (before : List UnwrittenRun) → AreRuns (run ∷ before) → run.last.cluster ≡ c → least < c
     → grown_left c least (written_runs (run ∷ before)) ≡ written_runs before ++ map (put_in least) (written (items_of run))
 grow_runs c least run before are in_it lt =
     let w = written_runs before in
@@ -85,7 +85,7 @@ pub grown_left-given : (items : List Item) (places : List ℕ) (given : List Ite
     → x ≡ get_or items n x → x.cluster ≡ first → p.cluster < first → p.mask ≡ 0
     → StandsFor items places given → give_to_kept (length items) p given ≡ grown_left first p.cluster given
 grown_left-given items places given p x n first size ex in_it lt clear s = in_runs s.runs s.are_runs s.items_are s.given_are where
-  in_runs : (runs : List Run) → AreRuns runs → items ≡ stored_runs runs → given ≡ written_runs runs
+  in_runs : (runs : List UnwrittenRun) → AreRuns runs → items ≡ stored_runs runs → given ≡ written_runs runs
       → give_to_kept (length items) p given ≡ grown_left first p.cluster given
   in_runs [] are ei eg = let none : length items ≡ 0 = ap length ei in absurd (omega arith)
   in_runs (run ∷ before) are ei eg =

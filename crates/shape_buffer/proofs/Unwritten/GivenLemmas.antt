@@ -9,7 +9,7 @@ use Rattle.std.specs.List.{suffix_len}
 use Rattle.shape_buffer.specs.Items.{Item, has_cluster}
 use Rattle.shape_buffer.specs.Clusters.{clusters, map_range}
 use Rattle.shape_buffer.specs.Delete.{hand_over, give_to_kept}
-use Rattle.shape_buffer.specs.Unwritten.{AreAbove, Run, written, items_of, stored_runs, written_runs, starts, IsApart, AreRuns, StandsFor}
+use Rattle.shape_buffer.specs.Unwritten.{AreAbove, UnwrittenRun, written, items_of, stored_runs, written_runs, starts, IsApart, AreRuns, StandsFor}
 use Rattle.shape_buffer.proofs.Unwritten.WrittenLemmas.{length-written, some_last, written-append, AreIn, written-in, written-hand_over, above-less, above-append, follow_run, at_end, stored-ends, written_runs-ends, length-written_runs, last_stored, last_written, apart_as}
 
 in-at : (c : ℕ) (xs : List Item) (k : ℕ) (d : Item) → AreIn c xs → k < length xs → (get_or xs k d).cluster ≡ c
@@ -31,7 +31,7 @@ last_cluster ys x n e =
     length-append (clusters ys) (x.cluster ∷ []) ∙ ap (λ k. k + 1) (length-map ys (λ y. y.cluster)) ∙ sym (length-append ys (x ∷ [])) in
     ap (λ cs. get_or cs n 0) (map-append (λ y. y.cluster) ys (x ∷ [])) ∙ at_end (clusters ys) x.cluster 0 n (e ∙ sym size)
 
-written_last-differs : (before : List Run) (run : Run) (d : Item) → IsApart run before → 0 < length (written_runs before)
+written_last-differs : (before : List UnwrittenRun) (run : UnwrittenRun) (d : Item) → IsApart run before → 0 < length (written_runs before)
     → has_cluster run.last.cluster (get_or (written_runs before) (length (written_runs before) - 1) d) ≡ false
 written_last-differs [] run d apart some = absurd (omega arith)
 written_last-differs (other ∷ before) run d apart some =
@@ -41,7 +41,7 @@ written_last-differs (other ∷ before) run d apart some =
     (λ e. apart (sym e ∙ ap (λ y. y.cluster) at))
 
 -- how many written items at the end stand in the cluster of the last run
-pub last_run_len : (run : Run) (before : List Run) (d : Item) → AreAbove run.last.cluster run.front → IsApart run before
+pub last_run_len : (run : UnwrittenRun) (before : List UnwrittenRun) (d : Item) → AreAbove run.last.cluster run.front → IsApart run before
     → suffix_len (has_cluster run.last.cluster) (written_runs (run ∷ before))
     ≡ length (written_runs (run ∷ before)) - length (written_runs before)
 last_run_len run before d above apart =
@@ -69,7 +69,7 @@ map_range-end f xs ys n m en em =
     ∙ ap (λ z. xs ++ (map f ys ++ z)) none ∙ ap (λ z. xs ++ z) (append-nil (map f ys))
 
 -- what the kept items take, where the last run takes it
-pub give_runs : (p : Item) (run : Run) (before : List Run) (k : ℕ) → AreAbove run.last.cluster run.front → IsApart run before
+pub give_runs : (p : Item) (run : UnwrittenRun) (before : List UnwrittenRun) (k : ℕ) → AreAbove run.last.cluster run.front → IsApart run before
     → p.cluster < run.last.cluster
     → k ≡ length (written_runs (run ∷ before))
     → give_to_kept k p (written_runs (run ∷ before)) ≡ written_runs before ++ map (hand_over p) (written (items_of run))
@@ -88,7 +88,7 @@ give_runs p run before k above apart lt e =
     rw (last, smaller, whole, count) (map_range-end (hand_over p) w r (length w) k refl e)
 
 -- the last item is written
-set_last : (run : Run) (before : List Run) (y : Item) (n : ℕ) → n + 1 ≡ length (stored_runs (run ∷ before))
+set_last : (run : UnwrittenRun) (before : List UnwrittenRun) (y : Item) (n : ℕ) → n + 1 ≡ length (stored_runs (run ∷ before))
     → set (stored_runs (run ∷ before)) n y ≡ stored_runs before ++ (run.front ++ y ∷ [])
 set_last run before y n e =
     let size : length ((stored_runs before ++ run.front) ++ run.last ∷ [])
@@ -98,7 +98,7 @@ set_last run before y n e =
     ∙ set-append_seam (stored_runs before ++ run.front) run.last [] y ∙ append_assoc (stored_runs before) run.front (y ∷ [])
 
 -- the last run takes the cluster of an item, and ends apart from the one before it
-stays_apart : (run : Run) (before : List Run) (p : Item) → AreRuns (run ∷ before) → p.cluster < run.last.cluster
+stays_apart : (run : UnwrittenRun) (before : List UnwrittenRun) (p : Item) → AreRuns (run ∷ before) → p.cluster < run.last.cluster
     → IsApart (record { front = run.front; last = hand_over p run.last }) before
     → StandsFor (stored_runs before ++ (run.front ++ hand_over p run.last ∷ [])) (starts (run ∷ before))
     (written_runs before ++ map (hand_over p) (written (items_of run)))
@@ -111,13 +111,13 @@ stays_apart run before p are lt apart = record {
 }
 
 -- or it joins that one
-joins : (run other : Run) (before : List Run) (p : Item) → AreRuns (run ∷ other ∷ before) → p.cluster < run.last.cluster
+joins : (run other : UnwrittenRun) (before : List UnwrittenRun) (p : Item) → AreRuns (run ∷ other ∷ before) → p.cluster < run.last.cluster
     → other.last.cluster ≡ p.cluster
     → StandsFor (stored_runs (other ∷ before) ++ (run.front ++ hand_over p run.last ∷ [])) (starts (other ∷ before))
     (written_runs (other ∷ before) ++ map (hand_over p) (written (items_of run)))
 joins run other before p are lt same =
     let y = hand_over p run.last in
-    let both : Run = record { front = items_of other ++ run.front; last = y } in
+    let both : UnwrittenRun = record { front = items_of other ++ run.front; last = y } in
     let above : AreAbove p.cluster run.front = above-less run.last.cluster p.cluster run.front (omega arith) are.0 in
     let split : (items_of other ++ run.front) ++ y ∷ []
     ≡ items_of other ++ (run.front ++ y ∷ []) = append_assoc (items_of other) run.front (y ∷ []) in
@@ -140,18 +140,18 @@ joins run other before p are lt same =
           ∙ ap written (sym split));
     }
 
-last_start : (run : Run) (before : List Run) (m : ℕ) → m + 1 ≡ length (starts (run ∷ before))
+last_start : (run : UnwrittenRun) (before : List UnwrittenRun) (m : ℕ) → m + 1 ≡ length (starts (run ∷ before))
     → get_or (starts (run ∷ before)) m 0 ≡ length (stored_runs before)
 last_start run before m e = at_end (starts before) (length (stored_runs before)) 0 m e
 
-some_stored : (run : Run) (before : List Run) → 0 < length (stored_runs (run ∷ before))
+some_stored : (run : UnwrittenRun) (before : List UnwrittenRun) → 0 < length (stored_runs (run ∷ before))
 some_stored run before =
     let size : length (stored_runs (run ∷ before)) ≡ length (stored_runs before ++ run.front) + 1 = ap length (stored-ends run before)
     ∙ length-append (stored_runs before ++ run.front) (run.last ∷ []) in
     omega arith
 
 -- the item before the last run
-before_last : (other : Run) (before : List Run) (ys : List Item) (d : Item)
+before_last : (other : UnwrittenRun) (before : List UnwrittenRun) (ys : List Item) (d : Item)
     → get_or (stored_runs (other ∷ before) ++ ys) (length (stored_runs (other ∷ before)) - 1) d ≡ other.last
 before_last other before ys d =
     let size : length (stored_runs (other ∷ before)) ≡ length (stored_runs before ++ other.front) + 1 = ap length (stored-ends other before)
@@ -162,7 +162,7 @@ before_last other before ys d =
 pub some_start : (items : List Item) (places : List ℕ) (given : List Item) → StandsFor items places given → 0 < length items
     → 0 < length places
 some_start items places given s some = counted s.runs s.items_are s.places_are where
-  counted : (runs : List Run) → items ≡ stored_runs runs → places ≡ starts runs → 0 < length places
+  counted : (runs : List UnwrittenRun) → items ≡ stored_runs runs → places ≡ starts runs → 0 < length places
   counted [] ei ep = let none : length items ≡ 0 = ap length ei in absurd (omega arith)
   counted (run ∷ before) ei ep =
       let size : length places ≡ length (starts before) + 1 = ap length ep
@@ -172,7 +172,7 @@ some_start items places given s some = counted s.runs s.items_are s.places_are w
 pub start_within : (items : List Item) (places : List ℕ) (given : List Item) (m : ℕ) → StandsFor items places given → m + 1 ≡ length places
     → get_or places m 0 < length items
 start_within items places given m s e = within s.runs s.items_are s.places_are where
-  within : (runs : List Run) → items ≡ stored_runs runs → places ≡ starts runs → get_or places m 0 < length items
+  within : (runs : List UnwrittenRun) → items ≡ stored_runs runs → places ≡ starts runs → get_or places m 0 < length items
   within [] ei ep = let none : length places ≡ 0 = ap length ep in absurd (omega arith)
   within (run ∷ before) ei ep =
       let start : get_or places m 0 ≡ length (stored_runs before) = ap (λ z. get_or z m 0) ep
@@ -191,7 +191,7 @@ pub give_nothing : (items : List Item) (places : List ℕ) (given : List Item) (
     → x ≡ get_or items n x → x.cluster ≤ p.cluster
     → StandsFor items places given → give_to_kept (length items) p given ≡ given
 give_nothing items places given p x n size ex le s = unchanged s.runs s.items_are s.given_are where
-  unchanged : (runs : List Run) → items ≡ stored_runs runs → given ≡ written_runs runs → give_to_kept (length items) p given ≡ given
+  unchanged : (runs : List UnwrittenRun) → items ≡ stored_runs runs → given ≡ written_runs runs → give_to_kept (length items) p given ≡ given
   unchanged [] ei eg = let none : length items ≡ 0 = ap length ei in absurd (omega arith)
   unchanged (run ∷ before) ei eg =
       let end = written_runs-ends run before in
@@ -211,7 +211,7 @@ pub give_apart : (items : List Item) (places : List ℕ) (given : List Item) (p 
     → (0 < get_or places m 0 → (get_or (set items n (hand_over p x)) (get_or places m 0 - 1) d).cluster ≢ p.cluster)
     → StandsFor items places given → StandsFor (set items n (hand_over p x)) places (give_to_kept (length items) p given)
 give_apart items places given p x d n m size count ex lt apart s = given_to s.runs s.are_runs s.items_are s.places_are s.given_are where
-  given_to : (runs : List Run) → AreRuns runs → items ≡ stored_runs runs → places ≡ starts runs → given ≡ written_runs runs
+  given_to : (runs : List UnwrittenRun) → AreRuns runs → items ≡ stored_runs runs → places ≡ starts runs → given ≡ written_runs runs
       → StandsFor (set items n (hand_over p x)) places (give_to_kept (length items) p given)
   given_to [] are ei ep eg = let none : length items ≡ 0 = ap length ei in absurd (omega arith)
   given_to (run ∷ before) are ei ep eg =
@@ -227,7 +227,7 @@ give_apart items places given p x d n m size count ex lt apart s = given_to s.ru
       ∙ give_runs p run before (length items) are.0 are.1 smaller (ap length ei ∙ sym (length-written_runs (run ∷ before))) in
       rw (stored, ep, gives) (stays_apart run before p are smaller (before_differs before start stored))
     where
-      before_differs : (others : List Run) → get_or places m 0 ≡ length (stored_runs others)
+      before_differs : (others : List UnwrittenRun) → get_or places m 0 ≡ length (stored_runs others)
           → set items n (hand_over p x) ≡ stored_runs others ++ (run.front ++ hand_over p run.last ∷ [])
           → IsApart (record { front = run.front; last = hand_over p run.last }) others
       before_differs [] start stored = tt
@@ -247,7 +247,7 @@ pub give_joins : (items : List Item) (places : List ℕ) (given : List Item) (p 
     → StandsFor items places given → StandsFor (set items n (hand_over p x)) (take m places) (give_to_kept (length items) p given)
 give_joins items places given p x d n m size count ex lt later same s =
     given_to s.runs s.are_runs s.items_are s.places_are s.given_are where
-      given_to : (runs : List Run) → AreRuns runs → items ≡ stored_runs runs → places ≡ starts runs → given ≡ written_runs runs
+      given_to : (runs : List UnwrittenRun) → AreRuns runs → items ≡ stored_runs runs → places ≡ starts runs → given ≡ written_runs runs
           → StandsFor (set items n (hand_over p x)) (take m places) (give_to_kept (length items) p given)
       given_to [] are ei ep eg = let none : length items ≡ 0 = ap length ei in absurd (omega arith)
       given_to (run ∷ []) are ei ep eg =

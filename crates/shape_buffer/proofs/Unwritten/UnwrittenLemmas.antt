@@ -5,7 +5,7 @@ use Rattle.std.proofs.lemmas.Slice.{between_is}
 use Rattle.std.proofs.lemmas.List.{drop-drop, take_more, drop_more, take-take, get_or-take, length-take-le, length-drop, take-append-drop, take_all, drop_all, take_at, drop_at}
 use Rattle.std.proofs.Math.Seq.{get_or-append_seam, set-append_seam}
 use Rattle.shape_buffer.specs.Items.{Item}
-use Rattle.shape_buffer.specs.Unwritten.{Run, follow, written, items_of, stored_runs, written_runs, starts, IsApart, AreRuns, StandsFor}
+use Rattle.shape_buffer.specs.Unwritten.{UnwrittenRun, follow, written, items_of, stored_runs, written_runs, starts, IsApart, AreRuns, StandsFor}
 use Rattle.shape_buffer.proofs.Unwritten.WrittenLemmas.{follow_stays, length-written, written-append, above-less, above-append, at_end, stored-ends, last_stored, apart_as}
 use Rattle.shape_buffer.proofs.Unwritten.GivenLemmas.{length-given}
 
@@ -24,7 +24,7 @@ opens items places given x s apart = record {
 pub open_first : (items : List Item) (places : List ℕ) (given : List Item) (x : Item) → length items ≡ 0 → StandsFor items places given
     → StandsFor (items ++ x ∷ []) (places ++ length items ∷ []) (given ++ x ∷ [])
 open_first items places given x none s = opens items places given x s (apart s.runs s.items_are) where
-  apart : (runs : List Run) → items ≡ stored_runs runs → IsApart (record { front = []; last = x }) runs
+  apart : (runs : List UnwrittenRun) → items ≡ stored_runs runs → IsApart (record { front = []; last = x }) runs
   apart [] e = tt
   apart (run ∷ before) e =
       let size : length (stored_runs (run ∷ before)) ≡ length (stored_runs before ++ run.front) + 1 = ap length (stored-ends run before)
@@ -36,7 +36,7 @@ pub open_next : (items : List Item) (places : List ℕ) (given : List Item) (x d
     → x.cluster ≢ (get_or items n d).cluster → StandsFor items places given
     → StandsFor (items ++ x ∷ []) (places ++ length items ∷ []) (given ++ x ∷ [])
 open_next items places given x d n size differs s = opens items places given x s (apart s.runs s.items_are) where
-  apart : (runs : List Run) → items ≡ stored_runs runs → IsApart (record { front = []; last = x }) runs
+  apart : (runs : List UnwrittenRun) → items ≡ stored_runs runs → IsApart (record { front = []; last = x }) runs
   apart [] e = tt
   apart (run ∷ before) e =
       λ same. differs (same ∙ ap (λ y. y.cluster) (sym (ap (λ z. get_or z n d) e ∙ last_stored run before d n (size ∙ ap length e))))
@@ -46,13 +46,13 @@ pub more : (items : List Item) (places : List ℕ) (given : List Item) (x d : It
     → x.cluster ≡ (get_or items n d).cluster → StandsFor items places given
     → StandsFor (items ++ x ∷ []) places (given ++ x ∷ [])
 more items places given x d n size same s = with_runs s.runs s.are_runs s.items_are s.places_are s.given_are where
-  with_runs : (runs : List Run) → AreRuns runs → items ≡ stored_runs runs → places ≡ starts runs → given ≡ written_runs runs
+  with_runs : (runs : List UnwrittenRun) → AreRuns runs → items ≡ stored_runs runs → places ≡ starts runs → given ≡ written_runs runs
       → StandsFor (items ++ x ∷ []) places (given ++ x ∷ [])
   with_runs [] are ei ep eg = let none : length items ≡ 0 = ap length ei in absurd (omega arith)
   with_runs (run ∷ before) are ei ep eg =
       let cluster : x.cluster ≡ run.last.cluster = same
       ∙ ap (λ y. y.cluster) (ap (λ z. get_or z n d) ei ∙ last_stored run before d n (size ∙ ap length ei)) in
-      let longer : Run = record { front = items_of run; last = x } in
+      let longer : UnwrittenRun = record { front = items_of run; last = x } in
       let stays : follow run.last (x ∷ []) ≡ run.last = follow_stays run.last x [] (omega arith) in
       record {
         runs = longer ∷ before;
@@ -122,9 +122,9 @@ write_begins (x ∷ xs) =
     sym (ap (λ zs. take n old ++ written zs) last ∙ sym (take_more old n x (omega arith)) ∙ take_all (n + 1) old (omega arith))
 
 -- the last run is written
-pub write_last : (infos given : List Item) (places : List ℕ) (e c : ℕ) (runs : List Run) → e ≤ length infos → c + 1 ≤ length places
+pub write_last : (infos given : List Item) (places : List ℕ) (e c : ℕ) (runs : List UnwrittenRun) → e ≤ length infos → c + 1 ≤ length places
     → take e infos ≡ stored_runs runs → take (c + 1) places ≡ starts runs → given ≡ written_runs runs ++ drop e infos
-    → (before : List Run) × (get_or places c 0 ≤ e) × (take (get_or places c 0) infos ≡ stored_runs before)
+    → (before : List UnwrittenRun) × (get_or places c 0 ≤ e) × (take (get_or places c 0) infos ≡ stored_runs before)
     × (take c places ≡ starts before)
     × (given ≡ written_runs before ++ (written (drop (get_or places c 0) (take e infos)) ++ drop e infos))
 write_last infos given places e c [] le lt ei ep eg =
@@ -154,7 +154,7 @@ write_last infos given places e c (run ∷ before) le lt ei ep eg =
           ∙ ap (λ z. written_runs before ++ (written z ++ drop e infos)) (sym (ap (λ k. drop k (take e infos)) at ∙ tail)),
     )
 
-pub write_ends : (infos given : List Item) (places : List ℕ) (e : ℕ) (runs : List Run) → e ≤ length infos
+pub write_ends : (infos given : List Item) (places : List ℕ) (e : ℕ) (runs : List UnwrittenRun) → e ≤ length infos
     → take e infos ≡ stored_runs runs → take 0 places ≡ starts runs → given ≡ written_runs runs ++ drop e infos → infos ≡ given
 write_ends infos given places e [] le ei ep eg =
     sym (take-append-drop e infos) ∙ ap (λ z. z ++ drop e infos) ei ∙ sym eg
@@ -165,11 +165,11 @@ write_ends infos given places e (run ∷ before) le ei ep eg =
     absurd (omega arith)
 
 -- the same, where the list was written in place
-pub write_last-in_place : (infos given w : List Item) (places : List ℕ) (e c : ℕ) (runs : List Run) → e ≤ length infos
+pub write_last-in_place : (infos given w : List Item) (places : List ℕ) (e c : ℕ) (runs : List UnwrittenRun) → e ≤ length infos
     → c + 1 ≤ length places
     → take e infos ≡ stored_runs runs → take (c + 1) places ≡ starts runs → given ≡ written_runs runs ++ drop e infos
     → w ≡ written (take (e - get_or places c 0) (drop (get_or places c 0) infos))
-    → (before : List Run) × (take (get_or places c 0) (put_mid (get_or places c 0) (e - get_or places c 0) infos w) ≡ stored_runs before)
+    → (before : List UnwrittenRun) × (take (get_or places c 0) (put_mid (get_or places c 0) (e - get_or places c 0) infos w) ≡ stored_runs before)
     × (take c places ≡ starts before)
     × (given ≡ written_runs before ++ drop (get_or places c 0) (put_mid (get_or places c 0) (e - get_or places c 0) infos w))
 write_last-in_place infos given w places e c runs le lt ei ep eg ew =
@@ -188,7 +188,7 @@ write_last-in_place infos given w places e c runs le lt ei ep eg ew =
     ∙ ap (λ z. z ++ drop (e - start) (drop start infos)) written_is ∙ ap (λ z. written (drop start (take e infos)) ++ z) rest in
     (found.0, head, found.3, found.4 ∙ ap (λ z. written_runs found.0 ++ z) (sym tail))
 
-pub start_before : (infos given : List Item) (places : List ℕ) (e c : ℕ) (runs : List Run) → e ≤ length infos → c + 1 ≤ length places
+pub start_before : (infos given : List Item) (places : List ℕ) (e c : ℕ) (runs : List UnwrittenRun) → e ≤ length infos → c + 1 ≤ length places
     → take e infos ≡ stored_runs runs → take (c + 1) places ≡ starts runs → given ≡ written_runs runs ++ drop e infos
     → get_or places c 0 ≤ e
 start_before infos given places e c runs le lt ei ep eg = (write_last infos given places e c runs le lt ei ep eg).1

@@ -7,7 +7,7 @@ use Rattle.std.specs.Int.Bits.{and_zero_r}
 use Rattle.std.proofs.Math.Seq.{get_or-append_seam}
 use Rattle.shape_buffer.specs.Items.{Item, feature_bits}
 use Rattle.shape_buffer.specs.Delete.{hand_over}
-use Rattle.shape_buffer.specs.Unwritten.{AreAbove, Run, follow, written, items_of, stored_runs, written_runs, IsApart}
+use Rattle.shape_buffer.specs.Unwritten.{AreAbove, UnwrittenRun, follow, written, items_of, stored_runs, written_runs, IsApart}
 
 -- what was handed over replaces what was handed over before
 twice_defined : (m n : ℕ) → bit_and (bit_or (feature_bits m) (bit_and n 7)) 7 ≡ bit_and n 7
@@ -125,7 +125,7 @@ at_end xs x d n e =
     let there : n ≡ length xs = omega arith in
     ap (λ k. get_or (xs ++ x ∷ []) k d) there ∙ get_or-append_seam xs x [] d
 
-pub stored-ends : (run : Run) (before : List Run) → stored_runs (run ∷ before) ≡ (stored_runs before ++ run.front) ++ run.last ∷ []
+pub stored-ends : (run : UnwrittenRun) (before : List UnwrittenRun) → stored_runs (run ∷ before) ≡ (stored_runs before ++ run.front) ++ run.last ∷ []
 stored-ends run before = sym (append_assoc (stored_runs before) run.front (run.last ∷ []))
 
 written-ends : (front : List Item) (x : Item) → (ys : List Item) × (written (front ++ x ∷ []) ≡ ys ++ x ∷ [])
@@ -134,7 +134,7 @@ written-ends (y ∷ front) x =
     let later = written-ends front x in
     (follow y (written (front ++ x ∷ [])) ∷ later.0, ap (λ z. follow y (written (front ++ x ∷ [])) ∷ z) later.1)
 
-pub written_runs-ends : (run : Run) (before : List Run) → (ys : List Item) × (written_runs (run ∷ before) ≡ ys ++ run.last ∷ [])
+pub written_runs-ends : (run : UnwrittenRun) (before : List UnwrittenRun) → (ys : List Item) × (written_runs (run ∷ before) ≡ ys ++ run.last ∷ [])
 written_runs-ends run before =
     let end = written-ends run.front run.last in (
       written_runs before ++ end.0,
@@ -142,7 +142,7 @@ written_runs-ends run before =
           ∙ sym (append_assoc (written_runs before) end.0 (run.last ∷ [])),
     )
 
-pub length-written_runs : (runs : List Run) → length (written_runs runs) ≡ length (stored_runs runs)
+pub length-written_runs : (runs : List UnwrittenRun) → length (written_runs runs) ≡ length (stored_runs runs)
 length-written_runs [] = refl
 length-written_runs (run ∷ before) =
     length-append (written_runs before) (written (items_of run))
@@ -151,18 +151,18 @@ length-written_runs (run ∷ before) =
     ∙ sym (length-append (stored_runs before) (items_of run))
 
 -- the last stored item is that of the last run
-pub last_stored : (run : Run) (before : List Run) (d : Item) (n : ℕ) → n + 1 ≡ length (stored_runs (run ∷ before))
+pub last_stored : (run : UnwrittenRun) (before : List UnwrittenRun) (d : Item) (n : ℕ) → n + 1 ≡ length (stored_runs (run ∷ before))
     → get_or (stored_runs (run ∷ before)) n d ≡ run.last
 last_stored run before d n e =
     ap (λ z. get_or z n d) (stored-ends run before)
     ∙ at_end (stored_runs before ++ run.front) run.last d n (e ∙ ap length (stored-ends run before))
 
-pub last_written : (run : Run) (before : List Run) (d : Item) (n : ℕ) → n + 1 ≡ length (written_runs (run ∷ before))
+pub last_written : (run : UnwrittenRun) (before : List UnwrittenRun) (d : Item) (n : ℕ) → n + 1 ≡ length (written_runs (run ∷ before))
     → get_or (written_runs (run ∷ before)) n d ≡ run.last
 last_written run before d n e =
     let end = written_runs-ends run before in
     ap (λ z. get_or z n d) end.1 ∙ at_end end.0 run.last d n (e ∙ ap length end.1)
 
-pub apart_as : (a b : Run) (others : List Run) → b.last.cluster ≡ a.last.cluster → IsApart a others → IsApart b others
+pub apart_as : (a b : UnwrittenRun) (others : List UnwrittenRun) → b.last.cluster ≡ a.last.cluster → IsApart a others → IsApart b others
 apart_as a b [] e apart = tt
 apart_as a b (other ∷ _) e apart = λ same. apart (sym e ∙ same)

@@ -4,7 +4,7 @@
 //! without a box only takes the advances of its nonspacing marks.
 ghost use Rattle.std.specs.Prelude.{◌≡◌, ◌≤◌, length};
 ghost use Rattle.shape_fallback.specs.Marks.{base_of, first_state as first_state_of, marks_placed};
-ghost use Rattle.shape_fallback.specs.Marks.{without_advances as without_advances_of};
+ghost use Rattle.shape_fallback.specs.Marks.{zeroed_position as zeroed_position_of};
 ghost use Rattle.shape_fallback.specs.Marks.{zeroed as zeroed_of};
 ghost use Rattle.shape_fallback.specs.Positions.{each_placed, with_positions};
 
@@ -24,9 +24,9 @@ pub struct Setting {
 }
 
 /// A position without its advances.
-#[tactic(auto, using(shape_buffer::proofs::WrappingLemmas::kept_bits), unfolding(crate::specs::Marks::without_advances))]
-pub(crate) fn without_advances(adjust: bool, mut position: GlyphPosition) -> GlyphPosition
-    ensures { result ≡ without_advances_of adjust position }
+#[tactic(auto, using(shape_buffer::proofs::WrappingLemmas::kept_bits), unfolding(crate::specs::Marks::zeroed_position))]
+pub(crate) fn zeroed_position(adjust: bool, mut position: GlyphPosition) -> GlyphPosition
+    ensures { result ≡ zeroed_position_of adjust position }
 {
     if adjust {
         position.x_offset = difference(position.x_offset, position.x_advance);
@@ -70,7 +70,7 @@ fn zeroed(adjust: bool, info: &hb_glyph_info_t, position: GlyphPosition) -> Glyp
     ensures { result ≡ zeroed_of adjust info.now position }
 {
     if is_nonspacing(info) {
-        return without_advances(adjust, position);
+        return zeroed_position(adjust, position);
     }
     position
 }

@@ -7,11 +7,12 @@ use Rattle.std.specs.List.{flat_map}
 use Rattle.std.specs.List.Sorted.{IsNonDecreasing}
 use Rattle.canonical_form.specs.Divided.{put_first}
 use Rattle.canonical_form.proofs.Lists.DividedLemmas.{whole, whole-divided, divided-joins, divided-parts, divided-begins}
+use Rattle.canonical_form.specs.Expanded.{begins_with_mark}
 use Rattle.shape_buffer.specs.Buffer.{Buffer}
 use Rattle.shape_buffer.specs.Clusters.{clusters}
 use Rattle.shape_buffer.specs.ClusterOrder.{IsMonotoneLevel}
 use Rattle.shape_buffer.specs.Face.{FaceMeaning}
-use Rattle.shape_buffer.specs.Items.{Item}
+use Rattle.shape_buffer.specs.Items.{Item, is_mark_item}
 use Rattle.shape_buffer.specs.Unicode.{UnicodeMeaning}
 use Rattle.shape_buffer.proofs.Merging.JoinLemmas.{cluster_at}
 use Rattle.shape_prepare.specs.ClusterPoint.{first_clusters, PreparingKeepsFirsts}
@@ -24,7 +25,7 @@ use Rattle.shape_buffer.specs.declared.buffer.settings.BufferClusterLevel.TheVar
 use Rattle.shape_buffer.proofs.Steps.KeeperLemmas.{KeepsOrder-same, KeepsOrder-then}
 use Rattle.shape_prepare.proofs.Keeping.OrderKeeperLemmas.{begun-keeps_order, graphemes_marked-keeps_order, dotted_circled-keeps_order, rotated-keeps_order, natively-in_order, formed-ready, circled-unseen, marked-unseen, seen_past}
 use Rattle.shape_prepare.proofs.StepLemmas.{clusters_formed-unseen, clusters_formed-merged}
-use Rattle.shape_prepare.specs.DottedCircle.{dotted_circled, with_circle, circle_before, takes_circle, begins_with_mark}
+use Rattle.shape_prepare.specs.DottedCircle.{dotted_circled, with_circle, circle_before, takes_circle}
 use Rattle.shape_prepare.specs.Graphemes.{graphemes, graphemes_marked, is_continuation}
 use Rattle.shape_prepare.proofs.Spans.RisingMergeLemmas.{Firsts, all-firsts, SomeEach}
 use Rattle.shape_prepare.proofs.Spans.GraphemeClusterLemmas.{some-graphemes, total-graphemes, merged-parts, graphemes_merged, spans-merged, NoneContinues}
@@ -111,7 +112,7 @@ with_circle-firsts unicode b (first ∷ rest) is k c =
 circled-firsts : (unicode : UnicodeMeaning) (face : FaceMeaning) (b : Buffer) (k : ℕ)
     → Contains (first_clusters (dotted_circled unicode face b).items) k → Contains (first_clusters b.items) k
 unfolding dotted_circled
-circled-firsts unicode face b k = elim (cases_Bool (takes_circle face b && begins_with_mark b.items)) [
+circled-firsts unicode face b k = elim (cases_Bool (takes_circle face b && begins_with_mark is_mark_item b.items)) [
   | inl on ↦ rw on (λ c. with_circle-firsts unicode b b.items refl k c)
   | inr off ↦ rw off (λ c. c)
 ]

@@ -7,11 +7,12 @@ use Rattle.std.proofs.lemmas.List.Folds.{list_any-append}
 use Rattle.std.proofs.lemmas.Grind.{flat_map-append}
 use Rattle.std.specs.List.{list_any}
 use Rattle.canonical_form.proofs.Lists.DividedLemmas.{whole, whole-divided}
+use Rattle.canonical_form.specs.Expanded.{begins_with_mark}
 use Rattle.shape_buffer.specs.Buffer.{Buffer}
 use Rattle.shape_buffer.specs.BufferClusters.{merge_clusters, unsafe_to_break}
 use Rattle.shape_buffer.specs.Face.{FaceMeaning}
 use Rattle.shape_buffer.specs.Flags.{with_mask}
-use Rattle.shape_buffer.specs.Items.{Item}
+use Rattle.shape_buffer.specs.Items.{Item, is_mark_item}
 use Rattle.shape_buffer.specs.Keepers.{IsFlagKeeper, EachStep}
 use Rattle.shape_buffer.specs.KeepsFlags.{KeepsFlags, IsDefinedFlag, has_flag, some_has}
 use Rattle.shape_buffer.specs.Layout.{HasNoDefinedFlag}
@@ -26,10 +27,10 @@ use Rattle.shape_buffer.proofs.Flags.HonestLemmas.{IsHonest}
 use Rattle.shape_plan.specs.declared.decisions.Decisions.{Decisions}
 use Rattle.shape_prepare.specs.Begun.{begun}
 use Rattle.shape_prepare.specs.ClustersFormed.{clusters_formed, over_graphemes}
-use Rattle.shape_prepare.specs.DottedCircle.{dotted_circled, with_circle, takes_circle, begins_with_mark}
+use Rattle.shape_prepare.specs.DottedCircle.{dotted_circled, with_circle, takes_circle}
 use Rattle.shape_prepare.specs.Graphemes.{graphemes, graphemes_marked, continuations_marked, seen_item, is_continuation, is_to_next}
 use Rattle.shape_prepare.specs.Keeping.{PreparingKeepsFlags}
-use Rattle.shape_prepare.specs.NativeOrder.{natively_ordered, native_direction, is_against, turned, merged_to_turn, from_last}
+use Rattle.shape_prepare.specs.NativeOrder.{natively_ordered, native_direction, is_against, graphemes_turned, merged_to_turn, from_last}
 use Rattle.shape_prepare.specs.PrepareSteps.{order_steps}
 use Rattle.shape_prepare.specs.Rotated.{rotated, rotated_item, in_forms, mirrored_or_masked, form_in}
 use Rattle.shape_prepare.specs.declared.graphemes.Before.{Before}
@@ -117,7 +118,7 @@ with_circle-keeps_flags unicode b (first ∷ rest) is = record {
 
 pub dotted_circled-keeps_flags : (unicode : UnicodeMeaning) (face : FaceMeaning) → IsFlagKeeper (dotted_circled unicode face)
 unfolding dotted_circled
-dotted_circled-keeps_flags unicode face b = elim (cases_Bool (takes_circle face b && begins_with_mark b.items)) [
+dotted_circled-keeps_flags unicode face b = elim (cases_Bool (takes_circle face b && begins_with_mark is_mark_item b.items)) [
   | inl on ↦ rw on (with_circle-keeps_flags unicode b b.items refl)
   | inr off ↦ rw off (KeepsFlags-same b)
 ]
@@ -150,7 +151,7 @@ any-from_last p (part ∷ parts) some =
       | inr here ↦ list_any-append p part (whole parts) ∙ ap (λ t. t || list_any p (whole parts)) here
     ]
 
-turned-keeps_flags : IsFlagKeeper turned
+turned-keeps_flags : IsFlagKeeper graphemes_turned
 turned-keeps_flags b = record {
   flags = refl;
   stays_set = λ e. e;
@@ -165,7 +166,7 @@ merged_to_turn-keeps_flags b =
 pub natively_ordered-keeps_flags : (unicode : UnicodeMeaning) → IsFlagKeeper (natively_ordered unicode)
 unfolding natively_ordered
 natively_ordered-keeps_flags unicode b = elim (cases_Bool (is_against (native_direction unicode b) b.direction)) [
-  | inl on ↦ rw on (KeepsFlags-then b (merged_to_turn b) (turned (merged_to_turn b)) (merged_to_turn-keeps_flags b)
+  | inl on ↦ rw on (KeepsFlags-then b (merged_to_turn b) (graphemes_turned (merged_to_turn b)) (merged_to_turn-keeps_flags b)
       (turned-keeps_flags (merged_to_turn b)))
   | inr off ↦ rw off (KeepsFlags-same b)
 ]

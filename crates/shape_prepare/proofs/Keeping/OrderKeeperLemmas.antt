@@ -7,6 +7,7 @@ use Rattle.std.proofs.lemmas.Nat.{and_or_apart, and_or_self}
 use Rattle.std.specs.Prelude.{Contains}
 use Rattle.std.specs.List.Sorted.{IsNonDecreasing}
 use Rattle.canonical_form.proofs.Lists.DividedLemmas.{whole, whole-divided}
+use Rattle.canonical_form.specs.Expanded.{begins_with_mark}
 use Rattle.shape_buffer.specs.Buffer.{Buffer}
 use Rattle.shape_buffer.specs.BufferClusters.{merge_clusters, unsafe_to_break}
 use Rattle.shape_buffer.specs.Clusters.{clusters, merge}
@@ -14,7 +15,7 @@ use Rattle.shape_buffer.specs.ClusterOrder.{IsMonotoneLevel, IsOrderedFor, Keeps
 use Rattle.shape_buffer.specs.Direction.{is_backward}
 use Rattle.shape_buffer.specs.Face.{FaceMeaning}
 use Rattle.shape_buffer.specs.Flags.{with_mask}
-use Rattle.shape_buffer.specs.Items.{Item}
+use Rattle.shape_buffer.specs.Items.{Item, is_mark_item}
 use Rattle.shape_buffer.specs.Keepers.{KeepsOrder, IsClusterKeeper}
 use Rattle.shape_buffer.specs.Unicode.{UnicodeMeaning, is_mark}
 use Rattle.shape_buffer.specs.UnicodeProps.{with_unicode_props, with_scratch_of, flag_if, beyond_ascii}
@@ -34,9 +35,9 @@ use Rattle.shape_prepare.specs.ClusterPoint.{direction_for, InOrderFor, Preparin
 use Rattle.shape_plan.specs.Run.{hook_if}
 use Rattle.shape_plan.proofs.KeeperLemmas.{keeper-hook}
 use Rattle.shape_prepare.specs.ClustersFormed.{clusters_formed, over_graphemes, grapheme_spans, spans_from}
-use Rattle.shape_prepare.specs.DottedCircle.{dotted_circled, with_circle, takes_circle, begins_with_mark}
+use Rattle.shape_prepare.specs.DottedCircle.{dotted_circled, with_circle, takes_circle}
 use Rattle.shape_prepare.specs.Graphemes.{graphemes, graphemes_marked, continuations_marked, continues, seen_item, is_continuation, is_to_next, is_skin_tone, is_regional_indicator, is_extender, is_passed, is_modifier_symbol}
-use Rattle.shape_prepare.specs.NativeOrder.{natively_ordered, native_direction, is_against, turned, merged_to_turn, from_last}
+use Rattle.shape_prepare.specs.NativeOrder.{natively_ordered, native_direction, is_against, graphemes_turned, merged_to_turn, from_last}
 use Rattle.shape_prepare.specs.Rotated.{rotated, rotated_item, in_forms, mirrored_or_masked, form_in}
 use Rattle.shape_prepare.specs.declared.graphemes.Before.{Before}
 use Rattle.shape_prepare.specs.declared.graphemes.Before.TheVariants.{Plain}
@@ -87,7 +88,7 @@ with_circle-keeps_order unicode b (first ∷ rest) is =
 
 pub dotted_circled-keeps_order : (unicode : UnicodeMeaning) (face : FaceMeaning) (b : Buffer) → KeepsOrder b (dotted_circled unicode face b)
 unfolding dotted_circled
-dotted_circled-keeps_order unicode face b = elim (cases_Bool (takes_circle face b && begins_with_mark b.items)) [
+dotted_circled-keeps_order unicode face b = elim (cases_Bool (takes_circle face b && begins_with_mark is_mark_item b.items)) [
   | inl on ↦ rw on (with_circle-keeps_order unicode b b.items refl)
   | inr off ↦ rw off (KeepsOrder-same b)
 ]
@@ -219,7 +220,7 @@ circle-seen unicode b (first ∷ rest) unseen =
 pub circled-unseen : (unicode : UnicodeMeaning) (face : FaceMeaning) (b : Buffer)
     → seen_past (dotted_circled unicode face b).scratch_flags ≡ false → dotted_circled unicode face b ≡ b
 unfolding dotted_circled
-circled-unseen unicode face b = elim (cases_Bool (takes_circle face b && begins_with_mark b.items)) [
+circled-unseen unicode face b = elim (cases_Bool (takes_circle face b && begins_with_mark is_mark_item b.items)) [
   | inl on ↦ rw on (λ unseen. circle-seen unicode b b.items unseen)
   | inr off ↦ rw off (λ unseen. refl)
 ]
@@ -237,7 +238,7 @@ contains-reverse xs x (k, lt, e) =
     (length xs - 1 - k, omega arith, sym (get_or-reverse xs k x short) ∙ e)
 
 -- graphemes of one cluster each, turned
-turned-in_order : (b : Buffer) → AreOneCluster (graphemes b.items) → IsNonDecreasing (clusters b.items) → InOrderFor true b (turned b)
+turned-in_order : (b : Buffer) → AreOneCluster (graphemes b.items) → IsNonDecreasing (clusters b.items) → InOrderFor true b (graphemes_turned b)
 turned-in_order b one rising =
     let parts = graphemes b.items in
     let together : whole parts ≡ b.items = whole-divided is_continuation b.items in
@@ -299,7 +300,7 @@ natively-in_order unicode b ready = elim (cases_Bool (is_against (native_directi
   | inl on ↦ rw on (
       let merged = merged_to_turn b in
       let keeps : KeepsOrder b merged = to_turn-keeps_order b ready.monotone in
-      in_order-behind true b merged (turned merged) keeps
+      in_order-behind true b merged (graphemes_turned merged) keeps
       (turned-in_order merged (to_turn-one b b.cluster_level refl ready) (keeps.clusters.rising ready.rising))
       )
   | inr off ↦ rw off (record { order = ready.rising; none_new = λ k c. c; direction = refl; flags = refl; level = refl })

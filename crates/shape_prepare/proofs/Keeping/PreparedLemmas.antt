@@ -3,11 +3,12 @@ use Rattle.std.proofs.Common.{◌≡◌, ℕ, ◌&&◌, Bool, true, false, if◌
 use Rattle.std.proofs.lemmas.Bool.{cases_Bool}
 use Rattle.std.proofs.lemmas.List.Elements.{All-from_recursion, recursion_from_All}
 use Rattle.canonical_form.proofs.Lists.DividedLemmas.{whole, whole-divided}
+use Rattle.canonical_form.specs.Expanded.{begins_with_mark}
 use Rattle.shape_buffer.specs.Buffer.{Buffer}
 use Rattle.shape_buffer.specs.BufferClusters.{merge_clusters, unsafe_to_break}
 use Rattle.shape_buffer.specs.Direction.{is_backward}
 use Rattle.shape_buffer.specs.Face.{FaceMeaning}
-use Rattle.shape_buffer.specs.Items.{Item}
+use Rattle.shape_buffer.specs.Items.{Item, is_mark_item}
 use Rattle.shape_buffer.specs.Prepared.{IsPreparedItem}
 use Rattle.shape_buffer.specs.Unicode.{UnicodeMeaning, LawfulUnicode, FormsArePlain}
 use Rattle.shape_buffer.specs.UnicodeProps.{with_unicode_props}
@@ -19,7 +20,7 @@ use Rattle.shape_plan.specs.Run.{hook_if}
 use Rattle.shape_plan.specs.declared.decisions.Decisions.{Decisions}
 use Rattle.shape_prepare.specs.Begun.{begun}
 use Rattle.shape_prepare.specs.ClustersFormed.{clusters_formed, over_graphemes}
-use Rattle.shape_prepare.specs.DottedCircle.{dotted_circled, with_circle, takes_circle, begins_with_mark}
+use Rattle.shape_prepare.specs.DottedCircle.{dotted_circled, with_circle, takes_circle}
 use Rattle.shape_prepare.specs.Graphemes.{graphemes, graphemes_marked, continuations_marked, is_continuation, is_to_next}
 use Rattle.shape_prepare.specs.NativeOrder.{natively_ordered, native_direction, is_against, merged_to_turn, from_last}
 use Rattle.shape_prepare.specs.PreparedPoint.{KeepsPrepared, PreparingPrepares}
@@ -68,7 +69,7 @@ module _ (unicode : UnicodeMeaning) (lawful : LawfulUnicode unicode) where
   circled-prepared : (face : FaceMeaning) (b : Buffer) → ArePrepared unicode b.items
       → ArePrepared unicode (dotted_circled unicode face b).items
   unfolding dotted_circled
-  circled-prepared face b all = elim (cases_Bool (takes_circle face b && begins_with_mark b.items)) [
+  circled-prepared face b all = elim (cases_Bool (takes_circle face b && begins_with_mark is_mark_item b.items)) [
     | inl on ↦ rw on (with_circle-prepared b b.items all)
     | inr off ↦ rw off all
   ]

@@ -11,7 +11,7 @@ use Rattle.shape_buffer.specs.declared.buffer.positions.GlyphPosition.{GlyphPosi
 use Rattle.shape_prepare.specs.Graphemes.{graphemes, is_continuation}
 use Rattle.shape_prepare.specs.ClustersFormed.{spans_from, over_graphemes}
 use Rattle.shape_prepare.specs.GraphemeWalk.{reverse_span}
-use Rattle.shape_prepare.specs.NativeOrder.{parted, from_last, turned}
+use Rattle.shape_prepare.specs.NativeOrder.{parted, from_last, graphemes_turned}
 
 -- one part turned in place
 reversed_range-at : {A : Type 0} (pre part behind : List A)
@@ -122,7 +122,7 @@ abbrev pub turned_over : Buffer → Buffer
 turned_over b = record b { items = reverse b.items; positions = reverse b.positions; direction = reverse_of b.direction }
 
 -- the walk over the parts of a buffer, and the buffer turned then, leaves the parts from the last
-pub turned-whole : (b : Buffer) → length b.positions ≡ length b.items → turned_over (over_graphemes reverse_span b) ≡ turned b
+pub turned-whole : (b : Buffer) → length b.positions ≡ length b.items → turned_over (over_graphemes reverse_span b) ≡ graphemes_turned b
 turned-whole b as_many =
     let parts = graphemes b.items in
     let sizes = map length parts in

@@ -1,7 +1,7 @@
 use Rattle.std.proofs.Common.{◌≡◌, ◌≢◌, ◌≤◌, true, false, length, sym, ap, ap₂, ◌∙◌, rules, arith}
 use Rattle.shape_buffer.specs.Buffer.{Buffer, limit_of}
 use Rattle.shape_buffer.specs.declared.buffer.settings.BufferClusterLevel.TheVariants.{MonotoneCharacters}
-use Rattle.shape_prepare.specs.NativeOrder.{natively_ordered, is_against, turned}
+use Rattle.shape_prepare.specs.NativeOrder.{natively_ordered, is_against, graphemes_turned}
 use Rattle.shape_prepare.proofs.StepLemmas.{Made-same, natively_ordered-kept, natively_ordered-turned, merged_to_turn-merged, merged_to_turn-kept}
 use Rattle.shape_prepare.proofs.native_direction.ensure_native_direction.Goals as goal
 use Rattle.shape_prepare.proofs.native_direction.ensure_native_direction.Goals.{then-eq, else-eq}
@@ -27,7 +27,7 @@ returns g c =
           let merged = w.buffer-is ∙ w.merge_graphemes.ensures.made ∙ sym (merged_to_turn-merged b level) in
           let size : length c.if-eq.buffer.items ≤ length b.items = rw w.buffer-is w.merge_graphemes.ensures.no_longer in
           record {
-            made = c.turn_graphemes.ensures.made ∙ ap turned merged ∙ turns;
+            made = c.turn_graphemes.ensures.made ∙ ap graphemes_turned merged ∙ turns;
             no_longer = omega (arith, c.turn_graphemes.ensures.no_longer);
             same_limit = c.turn_graphemes.ensures.same_limit ∙ ap limit_of w.buffer-is ∙ w.merge_graphemes.ensures.same_limit;
           }
@@ -35,7 +35,7 @@ returns g c =
           let level : b.cluster_level ≢ MonotoneCharacters = search rules in
           let size : length c.if-eq.buffer.items ≡ length b.items = ap (λ (b : Buffer). length b.items) w.buffer-is in
           record {
-            made = c.turn_graphemes.ensures.made ∙ ap turned (w.buffer-is ∙ sym (merged_to_turn-kept b level)) ∙ turns;
+            made = c.turn_graphemes.ensures.made ∙ ap graphemes_turned (w.buffer-is ∙ sym (merged_to_turn-kept b level)) ∙ turns;
             no_longer = omega (arith, c.turn_graphemes.ensures.no_longer);
             same_limit = c.turn_graphemes.ensures.same_limit ∙ ap limit_of w.buffer-is;
           }
