@@ -6,7 +6,7 @@ use Rattle.shape_buffer.specs.Unicode.{UnicodeMeaning, is_mark}
 use Rattle.shape_buffer.specs.declared.buffer.flags.ScratchFlags.{ScratchFlags}
 use Rattle.shape_buffer.specs.FlagNames.{HAS_NON_ASCII, HAS_DEFAULT_IGNORABLES, HAS_CGJ}
 
--- U+180B to U+180D, U+180F, U+E0020 to U+E007F and U+034F stay unseen
+-- lookups see U+180B to U+180D, U+180F, U+E0020 to U+E007F and U+034F, though these are ignorable
 abbrev pub is_hidden_char : ℕ → Bool
 is_hidden_char c = (nat_le 0x180B c && nat_le c 0x180D) || c == 0x180F || (nat_le 0xE0020 c && nat_le c 0xE007F) || c == 0x34F
 

@@ -12,15 +12,15 @@ use Rattle.shape_plan.specs.Reorder.{IsRunInOrder}
 use Rattle.shape_plan.specs.Rules.{Rules, has_glyph}
 use Rattle.shape_normalize.specs.RoundOne.{round_one, item_glyph, sequences, sequence_items, is_selector_sequence, variation_sequences_merged}
 use Rattle.shape_normalize.specs.RoundThree.{recomposed_by_all, round_three}
-use Rattle.shape_normalize.specs.RoundTwo.{max_run, has_mark_past_first, marks_ordered, cgj_shown_where_seen, OrdersMarks}
+use Rattle.shape_normalize.specs.RoundTwo.{max_run, has_mark_past_first, marks_ordered, cgj_unhidden_where_seen, OrdersMarks}
 use Rattle.shape_buffer.specs.FlagNames.{HAS_CGJ}
 
 -- the buffer with its expanded list, with its marks in order where a mark stood past the first item as normalising began, and with each CGJ
--- shown that keeps nothing apart
+-- unhidden that keeps nothing apart
 abbrev pub ordered : Rules → Buffer → Buffer
 ordered rules b =
     let expanded = round_one rules b in
-    cgj_shown_where_seen (if has_mark_past_first b.items then marks_ordered rules.reorder expanded else expanded)
+    cgj_unhidden_where_seen (if has_mark_past_first b.items then marks_ordered rules.reorder expanded else expanded)
 
 -- the buffer with its normalised list: the ordered one, recomposed in the modes that compose, where a mark stood past the first item
 abbrev pub normalized : Rules → Buffer → Buffer

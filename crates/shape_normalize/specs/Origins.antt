@@ -13,7 +13,7 @@ use Rattle.shape_plan.specs.Rules.{Rules, has_glyph}
 use Rattle.shape_normalize.specs.Normalized.{ordered, features_of, has_seen_cgj, hidden_char}
 use Rattle.shape_normalize.specs.Reordered.{unmerged, unclassed}
 use Rattle.shape_normalize.specs.RoundOne.{item_glyph, part_item, expanded_item, variants, sequences, is_with_marks, is_selector_sequence, variation_sequences_merged, round_one}
-use Rattle.shape_normalize.specs.RoundTwo.{max_run, has_mark_past_first, shown}
+use Rattle.shape_normalize.specs.RoundTwo.{max_run, has_mark_past_first, unhidden}
 use Rattle.shape_normalize.specs.RoundThree.{Absorbed, Placed, recomposed_items}
 
 -- the item at a place of a list; the item that stands for none past its end is of no account
@@ -69,12 +69,12 @@ origins rules text = origins_of_parts (sequence_origins rules text.invisible_gly
 
 -- what an item has of the text's item at the place that it came from: the feature bits; outside sequences with a selector the glyph of
 -- its own character, or what stands in for that; and the hidden bit with the character, or else that of its own character, but for a CGJ
--- that may have been shown since
-pub record HasOfOrigin (rules : Rules) (text : Buffer) (shows : Bool) (origin : Origin) (item : Item) : Type 0 where
+-- that may have been unhidden since
+pub record HasOfOrigin (rules : Rules) (text : Buffer) (unhides : Bool) (origin : Origin) (item : Item) : Type 0 where
   pub features : features_of item ≡ features_of (item_at text.items origin.place)
   pub glyph : origin.selects ≡ false → item.glyph_index ≡ item_glyph rules text.invisible_glyph item
   pub hidden : (hidden_char item ≡ hidden_char (item_at text.items origin.place))
-      ⊎ (item.properties.hidden ≡ is_hidden_char item.codepoint) ⊎ ((shows ≡ true) × (item.codepoint ≡ 0x34F))
+      ⊎ (item.properties.hidden ≡ is_hidden_char item.codepoint) ⊎ ((unhides ≡ true) × (item.codepoint ≡ 0x34F))
 
 -- ---- round two
 
@@ -118,12 +118,12 @@ IsOrderOf rules items places =
 abbrev pub lasting : Rules → Item → Item
 lasting rules item = if is_some rules.reorder then unclassed item else unmerged item
 
--- an item is the one of the expanded list that stood at this place; a CGJ may be shown, where one was seen
+-- an item is the one of the expanded list that stood at this place; a CGJ may be unhidden, where one was seen
 abbrev pub IsFromPlace : Rules → Buffer → ℕ → Item → Type 0
 IsFromPlace rules expanded place item =
     let from = item_at expanded.items place in
     (lasting rules item ≡ lasting rules from)
-    ⊎ ((has_seen_cgj expanded ≡ true) × (from.codepoint ≡ 0x34F) × (lasting rules item ≡ lasting rules (shown from)))
+    ⊎ ((has_seen_cgj expanded ≡ true) × (from.codepoint ≡ 0x34F) × (lasting rules item ≡ lasting rules (unhidden from)))
 
 -- ---- round three
 

@@ -64,8 +64,8 @@ abbrev pub hidden_item : Item → Item
 hidden_item plain = record plain { properties = record plain.properties { hidden = true } }
 
 -- an item that is not
-abbrev pub shown_item : Item → Item
-shown_item plain = record plain { properties = record plain.properties { hidden = false } }
+abbrev pub unhidden_item : Item → Item
+unhidden_item plain = record plain { properties = record plain.properties { hidden = false } }
 
 -- U+00E1 and a U+0062 that is hidden, each with feature bits of its own
 abbrev pub text : Buffer
@@ -85,10 +85,10 @@ pub record OfOriginWorked : Type 0 where
   -- nor hidden where neither it nor its character is
   pub other_hidden : Has (origin_at false 0) (masked 256 0x61 (hidden_item (item 0x61 0))) → ⊥
   pub neighbour_hidden : Has (origin_at false 1) (masked 512 0x61 (hidden_item (item 0x61 0))) → ⊥
-  -- but for a CGJ, once these were shown, and for nothing else
-  pub once_shown : HasOfOrigin (rules_in 1 (0x34F ∷ [])) text true (origin_at false 1) (masked 512 0x34F (shown_item (item 0x34F 0)))
-  pub none_shown : HasOfOrigin (rules_in 1 (0x34F ∷ [])) text false (origin_at false 1) (masked 512 0x34F (shown_item (item 0x34F 0))) → ⊥
-  pub other_shown : HasOfOrigin (rules_in 1 (0x61 ∷ [])) text true (origin_at false 1) (masked 512 0x61 (hidden_item (item 0x61 0))) → ⊥
+  -- but for a CGJ, once these were unhidden, and for nothing else
+  pub once_unhidden : HasOfOrigin (rules_in 1 (0x34F ∷ [])) text true (origin_at false 1) (masked 512 0x34F (unhidden_item (item 0x34F 0)))
+  pub none_unhidden : HasOfOrigin (rules_in 1 (0x34F ∷ [])) text false (origin_at false 1) (masked 512 0x34F (unhidden_item (item 0x34F 0))) → ⊥
+  pub other_unhidden : HasOfOrigin (rules_in 1 (0x61 ∷ [])) text true (origin_at false 1) (masked 512 0x61 (hidden_item (item 0x61 0))) → ⊥
 
 -- ---- the order that round two leaves
 
@@ -129,14 +129,14 @@ pub record OrderWorked : Type 0 where
 abbrev pub with_cgj : ℕ → Buffer
 with_cgj flags = record (buffer_of (item 0x61 0 ∷ masked 256 0 (item 0x34F 1) ∷ [])) { scratch_flags = record { 0 = flags } }
 
-abbrev pub shown_cgj : Item
-shown_cgj = masked 256 0 (shown_item (item 0x34F 7))
+abbrev pub unhidden_cgj : Item
+unhidden_cgj = masked 256 0 (unhidden_item (item 0x34F 7))
 
 pub record FromPlaceWorked : Type 0 where
   pub stays : IsFromPlace (rules_in 1 []) (with_cgj 0) 1 (masked 259 0 (item 0x34F 7))
-  pub seen : IsFromPlace (rules_in 1 []) (with_cgj 8) 1 shown_cgj
-  pub unseen : IsFromPlace (rules_in 1 []) (with_cgj 0) 1 shown_cgj → ⊥
-  pub other_place : IsFromPlace (rules_in 1 []) (with_cgj 8) 0 shown_cgj → ⊥
+  pub seen : IsFromPlace (rules_in 1 []) (with_cgj 8) 1 unhidden_cgj
+  pub unseen : IsFromPlace (rules_in 1 []) (with_cgj 0) 1 unhidden_cgj → ⊥
+  pub other_place : IsFromPlace (rules_in 1 []) (with_cgj 8) 0 unhidden_cgj → ⊥
   pub other_features : IsFromPlace (rules_in 1 []) (with_cgj 8) 1 (masked 512 0 (item 0x34F 7)) → ⊥
 
 -- ---- composed items

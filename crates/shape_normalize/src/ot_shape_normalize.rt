@@ -29,7 +29,7 @@ mod round_one;
 mod round_three;
 mod round_two;
 
-use crate::ot_shape_normalize::cgj::show_cgj;
+use crate::ot_shape_normalize::cgj::unhide_cgj;
 use crate::ot_shape_normalize::mode::recomposes;
 use crate::ot_shape_normalize::round_one::expand;
 use crate::ot_shape_normalize::round_three::recompose;
@@ -58,7 +58,7 @@ use std::alloc::Global;
 /// variation selector isn't expanded. Where a mark stood past the first item as normalising began, each
 /// run of at most 32 marks is put in the order of their ccc, the clusters of the spans that this
 /// moves are merged, the shaper may reorder the run, and in the modes that compose, marks are composed
-/// with their starters again, whose clusters are merged. Each CGJ that keeps nothing apart is shown.
+/// with their starters again, whose clusters are merged. Each CGJ that keeps nothing apart is unhidden.
 ///
 /// Refuses with `Length` where the expanded list is longer than the buffer's limit, and with `Memory`
 /// where a growth was refused; after a refusal the buffer is cleared. An empty buffer is left as it is,
@@ -142,7 +142,7 @@ where
     run_rounds::<U, F, M, S>(alloc, &mut ctx)
 }
 
-/// Expands the items and shows CGJ; where there are marks past the first item, puts them in order, and
+/// Expands the items and unhides CGJ; where there are marks past the first item, puts them in order, and
 /// composes them in the modes that do.
 fn run_rounds<U, F, M, S>(
     alloc: Global,
@@ -170,7 +170,7 @@ where
     if has_marks {
         order_runs::<U, F, M, S>(alloc, ctx.plan, ctx.face, ctx.buffer)?;
     }
-    show_cgj(ctx.buffer);
+    unhide_cgj(ctx.buffer);
     if has_marks && recomposes::<U, F, M, S>(ctx.plan) {
         recompose::<U, F, M, S>(alloc, ctx.plan, ctx.buffer, ctx.face)?;
     }

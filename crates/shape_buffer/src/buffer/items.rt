@@ -194,8 +194,9 @@ impl hb_glyph_info_t {
         self.properties.ignorable = ignorable;
     }
 
-    /// Reads the hidden bit, of items that are to stay unseen: `init_unicode_props` sets it for U+180B to
-    /// U+180D, U+180F, U+E0020 to U+E007F and U+034F, and unsets it for all others.
+    /// Reads the hidden bit. A lookup that skips ignorable characters doesn't skip one that is hidden:
+    /// `init_unicode_props` sets it for U+180B to U+180D, U+180F, U+E0020 to U+E007F and U+034F, and
+    /// unsets it for all others.
     pub fn _hb_glyph_info_get_hidden(&self) -> bool
         ensures { result ≡ self.now.properties.hidden }
     {
@@ -297,7 +298,7 @@ impl hb_glyph_info_t {
     }
 }
 
-/// Whether a character is to stay unseen: Mongolian variation selectors, tags, and the grapheme joiner.
+/// Whether lookups see a character though it is ignorable: Mongolian variation selectors, tags, and CGJ.
 fn is_hidden(c: char) -> bool
     ensures { result ≡ is_hidden_char c }
 {

@@ -17,11 +17,11 @@ use Rattle.shape_normalize.specs.Normalized.{ordered, normalized}
 use Rattle.shape_buffer.specs.Prepared.{IsPrepared, IsPreparedItem}
 use Rattle.shape_normalize.specs.RoundOne.{round_one}
 use Rattle.shape_normalize.specs.RoundThree.{round_three}
-use Rattle.shape_normalize.specs.RoundTwo.{max_run, has_mark_past_first, marks_ordered, cgj_shown_where_seen}
+use Rattle.shape_normalize.specs.RoundTwo.{max_run, has_mark_past_first, marks_ordered, cgj_unhidden_where_seen}
 use Rattle.shape_plan.specs.Rules.{Rules, decompositions, has_glyph}
-use Rattle.shape_normalize.proofs.RoundTwo.CgjLemmas.{chars-cgj_shown_where_seen}
+use Rattle.shape_normalize.proofs.RoundTwo.CgjLemmas.{chars-cgj_unhidden_where_seen}
 use Rattle.shape_normalize.proofs.RoundTwo.OrderedLemmas.{marks_ordered_settles}
-use Rattle.shape_normalize.proofs.Form.PreparedLemmas.{ArePrepared, PreparedKey, prepared_key, IsKey-prepared_key, IsPreparedKey, chars_of_keys, prepared_keys, prepared_from_keys, prepared-round_one, prepared-cgj_shown_where_seen}
+use Rattle.shape_normalize.proofs.Form.PreparedLemmas.{ArePrepared, PreparedKey, prepared_key, IsKey-prepared_key, IsPreparedKey, chars_of_keys, prepared_keys, prepared_from_keys, prepared-round_one, prepared-cgj_unhidden_where_seen}
 use Rattle.shape_normalize.proofs.RoundThree.RecomposedCharsLemmas.{chars-round_three}
 use Rattle.shape_normalize.proofs.RoundOne.RoundOneLemmas.{HasNoSelectorItem, chars-round_one}
 use Rattle.shape_normalize.proofs.RoundOne.SequenceLemmas.{each_of_values}
@@ -95,13 +95,13 @@ module _ (rules : Rules) where
       (compose_with_glyph rules.compose (has_glyph rules.face.nominal_glyph)) text
 
   abbrev ordered_if : Bool → Option (Buffer → ℕ → ℕ → Buffer) → Buffer → Buffer
-  ordered_if test reorder one = cgj_shown_where_seen (if test then marks_ordered reorder one else one)
+  ordered_if test reorder one = cgj_unhidden_where_seen (if test then marks_ordered reorder one else one)
 
   ordered-marked : (b : Buffer) → IsPlain rules b → has_mark_past_first b.items ≡ true
-      → ordered rules b ≡ cgj_shown_where_seen (marks_ordered None (round_one rules b))
+      → ordered rules b ≡ cgj_unhidden_where_seen (marks_ordered None (round_one rules b))
   ordered-marked b plain marked = ap₂ (λ test reorder. ordered_if test reorder (round_one rules b)) marked plain.no_reordering
 
-  ordered-unmarked : (b : Buffer) → has_mark_past_first b.items ≡ false → ordered rules b ≡ cgj_shown_where_seen (round_one rules b)
+  ordered-unmarked : (b : Buffer) → has_mark_past_first b.items ≡ false → ordered rules b ≡ cgj_unhidden_where_seen (round_one rules b)
   ordered-unmarked b unmarked = ap (λ test. ordered_if test rules.reorder (round_one rules b)) unmarked
 
   -- without recomposing the normalised list is the ordered one
@@ -117,7 +117,7 @@ module _ (rules : Rules) where
       → text_of (normalized rules b) ≡ choices (text_of b)
   normalized_is_choices b plain unmarked =
       normalized-ordered b (and_left (has_mark_past_first b.items) rules.recomposes unmarked)
-      ∙ ap text_of (ordered-unmarked b unmarked) ∙ chars-cgj_shown_where_seen (round_one rules b)
+      ∙ ap text_of (ordered-unmarked b unmarked) ∙ chars-cgj_unhidden_where_seen (round_one rules b)
       ∙ chars-round_one rules b plain.prepared plain.no_selector
 
   module _ (lawful : LawfulUnicode rules.unicode) where
@@ -127,7 +127,7 @@ module _ (rules : Rules) where
     ordered_settles b plain marked =
         let one : Buffer = round_one rules b in
         subst (AreRunsSettled rules.unicode.ccc max_run [] (choices (text_of b)))
-        (sym (ap text_of (ordered-marked b plain marked) ∙ chars-cgj_shown_where_seen (marks_ordered None one)))
+        (sym (ap text_of (ordered-marked b plain marked) ∙ chars-cgj_unhidden_where_seen (marks_ordered None one)))
         (subst (λ l. AreRunsSettled rules.unicode.ccc max_run [] l (text_of (marks_ordered None one)))
         (chars-round_one rules b plain.prepared plain.no_selector)
         (ordered_chars rules.unicode one (prepared-round_one rules lawful b plain.prepared)))
@@ -137,7 +137,7 @@ module _ (rules : Rules) where
     prepared-ordered_list b plain marked =
         let one : Buffer = round_one rules b in
         subst (λ (c : Buffer). ArePrepared rules.unicode c.items) (sym (ordered-marked b plain marked))
-        (prepared-cgj_shown_where_seen rules.unicode (marks_ordered None one)
+        (prepared-cgj_unhidden_where_seen rules.unicode (marks_ordered None one)
         (prepared-ordered rules.unicode one (prepared-round_one rules lawful b plain.prepared)))
 
     -- and in the modes that compose that list is recomposed

@@ -1,4 +1,4 @@
--- Prepared lists stay prepared in round one and where CGJ are shown.
+-- Prepared lists stay prepared in round one and where CGJ are unhidden.
 use Rattle.std.proofs.Common.{ℕ, List, [], ◌∷◌, map, Option, None, Some, refl}
 use Rattle.std.specs.Option.{option_map_or}
 use Rattle.shape_buffer.specs.Buffer.{Buffer}
@@ -9,13 +9,13 @@ use Rattle.shape_buffer.specs.Prepared.{IsPreparedItem}
 pub use Rattle.shape_buffer.proofs.PreparedLemmas.{ArePrepared, unmarked_ccc, ccc_with_props, prepared-with_props, PreparedKey, prepared_key, IsKey-prepared_key, IsPreparedKey, chars_of_keys, prepared_keys, prepared_from_keys, prepared_by_keys}
 use Rattle.shape_plan.specs.Rules.{Rules}
 use Rattle.shape_normalize.specs.RoundOne.{part_item, whole_item, expansion_of, variation_sequences_merged, round_one}
-use Rattle.shape_normalize.specs.RoundTwo.{cgj_shown_where_seen}
-use Rattle.shape_normalize.proofs.RoundTwo.CgjLemmas.{keys-cgj_shown_where_seen}
+use Rattle.shape_normalize.specs.RoundTwo.{cgj_unhidden_where_seen}
+use Rattle.shape_normalize.proofs.RoundTwo.CgjLemmas.{keys-cgj_unhidden_where_seen}
 use Rattle.shape_normalize.proofs.RoundOne.RoundOneLemmas.{whole_item_is, expanded_all, keys-variation_sequences_merged}
 
--- showing CGJ keeps a list prepared
-pub prepared-cgj_shown_where_seen : (unicode : UnicodeMeaning) (b : Buffer) → ArePrepared unicode b.items → ArePrepared unicode (cgj_shown_where_seen b).items
-prepared-cgj_shown_where_seen unicode b h = prepared_by_keys unicode b.items (cgj_shown_where_seen b).items (keys-cgj_shown_where_seen prepared_key (λ item. refl) b) h
+-- unhiding CGJ keeps a list prepared
+pub prepared-cgj_unhidden_where_seen : (unicode : UnicodeMeaning) (b : Buffer) → ArePrepared unicode b.items → ArePrepared unicode (cgj_unhidden_where_seen b).items
+prepared-cgj_unhidden_where_seen unicode b h = prepared_by_keys unicode b.items (cgj_unhidden_where_seen b).items (keys-cgj_unhidden_where_seen prepared_key (λ item. refl) b) h
 
 module _ (rules : Rules) (lawful : LawfulUnicode rules.unicode) where
   -- an item of an expansion is prepared, and so is one that is recomposed

@@ -19,10 +19,10 @@ use Rattle.shape_plan.specs.Rules.{Rules}
 use Rattle.shape_normalize.proofs.RoundOne.SelectorLemmas.{variation_sequences_within}
 use Rattle.std.proofs.lemmas.List.Elements.{recursion_from_All}
 use Rattle.shape_normalize.specs.RoundOne.{part_item, whole_item, expansion_of, expanded_item, passed_item, marked_selector, variant_items, variants, is_selector_item, is_selector_sequence, is_with_marks, variation_sequences_from, merged_at, variation_sequences_merged, sequences, sequence_items, expanded, round_one}
-use Rattle.shape_normalize.specs.RoundTwo.{cgj_shown_where_seen}
+use Rattle.shape_normalize.specs.RoundTwo.{cgj_unhidden_where_seen}
 use Rattle.shape_normalize.specs.Normalized.{normalized, HookKeepsClusters}
 use Rattle.shape_normalize.proofs.RoundOne.DrawnLemmas.{DrawsBefore, DrawsBefore-same, draws_whole, draws_pieces}
-use Rattle.shape_normalize.proofs.RoundTwo.CgjLemmas.{keys-cgj_shown_where_seen}
+use Rattle.shape_normalize.proofs.RoundTwo.CgjLemmas.{keys-cgj_unhidden_where_seen}
 use Rattle.shape_normalize.proofs.Normalized.NormalizedLemmas.{kept_by_rounds}
 use Rattle.shape_normalize.proofs.RoundTwo.OrderedClusterLemmas.{marks_ordered_keeps}
 use Rattle.shape_normalize.proofs.RoundThree.RecomposedClusterLemmas.{round_three_keeps}
@@ -128,9 +128,9 @@ module _ (rules : Rules) where
 
 -- ---- the rounds together
 
--- showing CGJ changes no cluster
-pub cgj_shown_where_seen_clusters : (b : Buffer) → clusters (cgj_shown_where_seen b).items ≡ clusters b.items
-cgj_shown_where_seen_clusters b = keys-cgj_shown_where_seen (λ item. item.cluster) (λ item. refl) b
+-- unhiding CGJ changes no cluster
+pub cgj_unhidden_where_seen_clusters : (b : Buffer) → clusters (cgj_unhidden_where_seen b).items ≡ clusters b.items
+cgj_unhidden_where_seen_clusters b = keys-cgj_unhidden_where_seen (λ item. item.cluster) (λ item. refl) b
 
 module _ (rules : Rules) (lawful : LawfulReorder rules.reorder) where
   -- normalising keeps the order of clusters at the monotone levels, and brings no new one, where the reorder hook does
@@ -141,7 +141,7 @@ module _ (rules : Rules) (lawful : LawfulReorder rules.reorder) where
       rw is (kept_by_rounds rules (λ c. KeepsClusters (clusters b.items) (clusters c.items)) b
       (λ so_far. KeepsClusters-then _ _ _ so_far (marks_ordered_keeps rules.reorder lawful hook one
       (subst IsMonotoneLevel (sym (level-round_one rules b)) monotone)))
-      (λ c so_far. rw (cgj_shown_where_seen_clusters c) so_far)
+      (λ c so_far. rw (cgj_unhidden_where_seen_clusters c) so_far)
       (λ c so_far. KeepsClusters-then _ _ _ so_far (round_three_keeps rules c))
       (round_one_keeps rules b))
 

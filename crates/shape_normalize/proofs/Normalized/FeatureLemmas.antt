@@ -13,9 +13,9 @@ use Rattle.shape_normalize.specs.Normalized.{normalized, features_of, KeepsFeatu
 use Rattle.shape_normalize.specs.RoundOne.{part_item, whole_item, expansion_of, variation_sequences_merged, round_one}
 use Rattle.shape_buffer.specs.Spans.{spans_merged_out}
 use Rattle.shape_normalize.specs.RoundThree.{Placed, recomposed_items, absorbed_spans, with_cluster_at, round_three}
-use Rattle.shape_normalize.specs.RoundTwo.{marks_ordered, cgj_shown_where_seen}
+use Rattle.shape_normalize.specs.RoundTwo.{marks_ordered, cgj_unhidden_where_seen}
 use Rattle.shape_plan.specs.Rules.{Rules}
-use Rattle.shape_normalize.proofs.RoundTwo.CgjLemmas.{keys-cgj_shown_where_seen}
+use Rattle.shape_normalize.proofs.RoundTwo.CgjLemmas.{keys-cgj_unhidden_where_seen}
 use Rattle.shape_normalize.proofs.Normalized.NormalizedLemmas.{kept_by_rounds}
 use Rattle.shape_normalize.proofs.RoundThree.RecomposedItemLemmas.{each_recomposed}
 use Rattle.shape_normalize.proofs.Hooks.ReorderLemmas.{LawfulReorder}
@@ -95,7 +95,7 @@ module _ (rules : Rules) (P : ℕ → Type 0) where
       (λ of. each_of_values features_of P (marks_ordered rules.reorder one).items
       (keys-marks_ordered rules.reorder lawful features_of IsKey-features (λ f is item ccc. refl) P one
       (each_value features_of P one.items of)))
-      (λ c of. has_same c.items (cgj_shown_where_seen c).items (keys-cgj_shown_where_seen features_of (λ item. refl) c) of)
+      (λ c of. has_same c.items (cgj_unhidden_where_seen c).items (keys-cgj_unhidden_where_seen features_of (λ item. refl) c) of)
       round_three_has (round_one_has b each)
 
 -- each item of the normalised list has the feature bits of an item of the text

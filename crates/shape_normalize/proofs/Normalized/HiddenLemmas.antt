@@ -1,4 +1,4 @@
--- Where no CGJ was seen by the end of round one, none is shown: hidden bits are those of characters, or of the text.
+-- Where no CGJ was seen by the end of round one, none is unhidden: hidden bits are those of characters, or of the text.
 use Rattle.std.proofs.Common.{◌≡◌, ℕ, ◌+◌, ◌≤◌, ◌==◌, ◌&&◌, bit_and, Bool, true, false, if◌then◌else◌, ◌⊎◌, inl, inr, List, [], ◌∷◌, map, fold, length, slice_range, Option, None, Some, refl, sym, ap, subst, ◌∙◌}
 use Rattle.std.specs.List.{AllByRecursion, Contains}
 use Rattle.std.specs.Option.{option_map_or}
@@ -15,7 +15,7 @@ use Rattle.shape_buffer.proofs.Merging.KeyLemmas.{IsKey}
 use Rattle.shape_normalize.specs.Normalized.{ordered, normalized, has_seen_cgj, hidden_char, KeepsHidden}
 use Rattle.shape_normalize.specs.RoundOne.{part_item, whole_item, expansion_of, variation_sequences_merged, round_one}
 use Rattle.shape_normalize.specs.RoundThree.{round_three}
-use Rattle.shape_normalize.specs.RoundTwo.{spans, run_cccs, run_settled, marks_ordered, has_mark_past_first, cgj_shown, cgj_shown_where_seen}
+use Rattle.shape_normalize.specs.RoundTwo.{spans, run_cccs, run_settled, marks_ordered, has_mark_past_first, cgj_unhidden, cgj_unhidden_where_seen}
 use Rattle.shape_plan.specs.Rules.{Rules}
 use Rattle.shape_normalize.proofs.RoundThree.RecomposedItemLemmas.{round_three_all}
 use Rattle.shape_normalize.proofs.Hooks.ReorderLemmas.{LawfulReorder, kept_by_steps}
@@ -60,9 +60,9 @@ module _ (reorder : Option (Buffer → ℕ → ℕ → Buffer)) (lawful : Lawful
       kept_by_marks_ordered reorder lawful (λ c. cgj_flag c ≡ cgj_flag b)
       (λ start end c rising within marks so_far. flag-run_settled start end c rising within marks ∙ so_far) b refl
 
--- where no CGJ was seen, none is shown
-pub cgj_unseen : (b : Buffer) → has_seen_cgj b ≡ false → cgj_shown_where_seen b ≡ b
-cgj_unseen b unseen = cond-false _ (record b { items = cgj_shown b.items }) b unseen
+-- where no CGJ was seen, none is unhidden
+pub cgj_unseen : (b : Buffer) → has_seen_cgj b ≡ false → cgj_unhidden_where_seen b ≡ b
+cgj_unseen b unseen = cond-false _ (record b { items = cgj_unhidden b.items }) b unseen
 
 -- ---- hidden bits
 
@@ -98,7 +98,7 @@ module _ (rules : Rules) (those : List (ℕ × Bool)) where
 
   module _ (lawful : LawfulReorder rules.reorder) where
     ordered_hides : (one : Buffer) (test : Bool) → has_seen_cgj one ≡ false → EachHides one.items
-        → EachHides (cgj_shown_where_seen (if test then marks_ordered rules.reorder one else one)).items
+        → EachHides (cgj_unhidden_where_seen (if test then marks_ordered rules.reorder one else one)).items
     ordered_hides one true unseen each =
         let marked : Buffer = marks_ordered rules.reorder one in
         subst (λ (c : Buffer). EachHides c.items)

@@ -24,9 +24,9 @@ use Rattle.shape_plan.specs.Reorder.{exchanged, ccc_set, Reorders}
 use Rattle.shape_normalize.specs.RoundOne.{part_item, whole_item, expansion_of, variation_sequences_merged, variation_sequences_from, merged_at, sequences, round_one, remembers_space, seen_chars, seen_expanded, seen_variant, seen_sequence, variants, is_selector_sequence, is_with_marks, with_space_fallback, with_selector_fallback}
 use Rattle.shape_buffer.specs.Spans.{spans_merged_out}
 use Rattle.shape_normalize.specs.RoundThree.{Placed, recomposed_items, absorbed_spans, with_cluster_at, round_three, composed_chars}
-use Rattle.shape_normalize.specs.RoundTwo.{spans, run_cccs, spans_merged, run_in_order, run_reordered, run_settled, marks_ordered, cgj_shown_where_seen, cgj_shown}
+use Rattle.shape_normalize.specs.RoundTwo.{spans, run_cccs, spans_merged, run_in_order, run_reordered, run_settled, marks_ordered, cgj_unhidden_where_seen, cgj_unhidden}
 use Rattle.shape_plan.specs.Rules.{Rules}
-use Rattle.shape_normalize.proofs.RoundTwo.CgjLemmas.{keys-cgj_shown_where_seen}
+use Rattle.shape_normalize.proofs.RoundTwo.CgjLemmas.{keys-cgj_unhidden_where_seen}
 use Rattle.shape_normalize.proofs.Normalized.NormalizedLemmas.{kept_by_rounds}
 use Rattle.shape_normalize.proofs.RoundThree.RecomposedItemLemmas.{each_recomposed}
 use Rattle.shape_normalize.proofs.Hooks.ReorderLemmas.{LawfulReorder, kept_by_steps, keys-ccc_set}
@@ -240,17 +240,17 @@ module _ (reorder : Option (Buffer → ℕ → ℕ → Buffer)) (lawful : Lawful
       (flags-run_settled start end c ordered within marks))
       b (KeepsFlags-same b)
 
-flags-cgj : (b : Buffer) → KeepsFlags b (cgj_shown_where_seen b)
+flags-cgj : (b : Buffer) → KeepsFlags b (cgj_unhidden_where_seen b)
 flags-cgj b =
-    KeepsFlags-bare b (cgj_shown_where_seen b) (by_flags (bit_and b.scratch_flags.0 8 == 8)) (by_seen (bit_and b.scratch_flags.0 8 == 8))
-    (λ flag. bare_same flag b.items (cgj_shown_where_seen b).items (keys-cgj_shown_where_seen (λ (item : Item). item.mask) (λ item. refl) b))
+    KeepsFlags-bare b (cgj_unhidden_where_seen b) (by_flags (bit_and b.scratch_flags.0 8 == 8)) (by_seen (bit_and b.scratch_flags.0 8 == 8))
+    (λ flag. bare_same flag b.items (cgj_unhidden_where_seen b).items (keys-cgj_unhidden_where_seen (λ (item : Item). item.mask) (λ item. refl) b))
   where
-    by_flags : (test : Bool) → (if test then record b { items = cgj_shown b.items } else b).flags ≡ b.flags
+    by_flags : (test : Bool) → (if test then record b { items = cgj_unhidden b.items } else b).flags ≡ b.flags
     by_flags true = refl
     by_flags false = refl
 
     by_seen : (test : Bool)
-        → bit_and (if test then record b { items = cgj_shown b.items } else b).scratch_flags.0 32 ≡ bit_and b.scratch_flags.0 32
+        → bit_and (if test then record b { items = cgj_unhidden b.items } else b).scratch_flags.0 32 ≡ bit_and b.scratch_flags.0 32
     by_seen true = refl
     by_seen false = refl
 
@@ -304,6 +304,6 @@ KeepsFlags-normalized rules lawful b =
     let one : Buffer = round_one rules b in
     kept_by_rounds rules (λ c. KeepsFlags b c) b
     (λ so_far. KeepsFlags-then b one (marks_ordered rules.reorder one) so_far (flags-marks_ordered rules.reorder lawful one))
-    (λ c so_far. KeepsFlags-then b c (cgj_shown_where_seen c) so_far (flags-cgj c))
+    (λ c so_far. KeepsFlags-then b c (cgj_unhidden_where_seen c) so_far (flags-cgj c))
     (λ c so_far. KeepsFlags-then b c (round_three rules c) so_far (flags-round_three rules c))
     (flags-round_one rules b)

@@ -10,10 +10,10 @@ use Rattle.shape_buffer.specs.declared.buffer.positions.GlyphPosition.{GlyphPosi
 use Rattle.shape_buffer.proofs.Merging.KeyLemmas.{IsKey, IsKey-unflagged}
 use Rattle.shape_plan.specs.Rules.{Rules, has_glyph}
 use Rattle.shape_normalize.specs.RoundOne.{round_one, part_item}
-use Rattle.shape_normalize.specs.RoundTwo.{has_mark_past_first, marks_ordered, shown, cgj_shown_where_seen, without_place, OrdersMarks}
+use Rattle.shape_normalize.specs.RoundTwo.{has_mark_past_first, marks_ordered, unhidden, cgj_unhidden_where_seen, without_place, OrdersMarks}
 use Rattle.shape_normalize.specs.RoundThree.{round_three}
 use Rattle.shape_normalize.specs.Normalized.{ordered, normalized, content, BroughtInHaveGlyphs, OrdersExpanded}
-use Rattle.shape_normalize.proofs.RoundTwo.CgjLemmas.{keys-cgj_shown_where_seen, chars-cgj_shown_where_seen}
+use Rattle.shape_normalize.proofs.RoundTwo.CgjLemmas.{keys-cgj_unhidden_where_seen, chars-cgj_unhidden_where_seen}
 use Rattle.shape_normalize.proofs.RoundTwo.OrderedLemmas.{marks_ordered_settles}
 use Rattle.shape_normalize.proofs.RoundThree.RecomposedItemLemmas.{round_three_all, length-round_three}
 use Rattle.shape_normalize.proofs.Hooks.ReorderLemmas.{LawfulReorder, GoesByNoCcc}
@@ -31,13 +31,13 @@ module _ (rules : Rules) where
   abbrev recomposed_where : Bool → Buffer → Buffer
   recomposed_where test b = if test then round_three rules b else b
 
-  -- what holds after round one, and what ordering, showing CGJ and recomposing keep, holds of the normalised list
+  -- what holds after round one, and what ordering, unhiding CGJ and recomposing keep, holds of the normalised list
   pub kept_by_rounds : (P : Buffer → Type 0) (b : Buffer) → (P (round_one rules b) → P (marks_ordered rules.reorder (round_one rules b)))
-      → ((c : Buffer) → P c → P (cgj_shown_where_seen c)) → ((c : Buffer) → P c → P (round_three rules c))
+      → ((c : Buffer) → P c → P (cgj_unhidden_where_seen c)) → ((c : Buffer) → P c → P (round_three rules c))
       → P (round_one rules b) → P (normalized rules b)
-  kept_by_rounds P b orders shows recomposes of_one =
+  kept_by_rounds P b orders unhides recomposes of_one =
       let test = has_mark_past_first b.items in
-      recomposed_cases (test && rules.recomposes) (ordered rules b) (shows (ordered_where test (round_one rules b)) (ordered_cases test))
+      recomposed_cases (test && rules.recomposes) (ordered rules b) (unhides (ordered_where test (round_one rules b)) (ordered_cases test))
     where
       ordered_cases : (test : Bool) → P (ordered_where test (round_one rules b))
       ordered_cases true = orders of_one
@@ -49,15 +49,15 @@ module _ (rules : Rules) where
 
 -- ---- the number of items
 
-length-cgj_shown_where_seen : (b : Buffer) → length (cgj_shown_where_seen b).items ≡ length b.items
-length-cgj_shown_where_seen b =
-    sym (length-map (cgj_shown_where_seen b).items char_of) ∙ ap length (chars-cgj_shown_where_seen b) ∙ length-map b.items char_of
+length-cgj_unhidden_where_seen : (b : Buffer) → length (cgj_unhidden_where_seen b).items ≡ length b.items
+length-cgj_unhidden_where_seen b =
+    sym (length-map (cgj_unhidden_where_seen b).items char_of) ∙ ap length (chars-cgj_unhidden_where_seen b) ∙ length-map b.items char_of
 
 module _ (rules : Rules) (lawful : LawfulReorder rules.reorder) where
   -- ordering keeps the number of items
   pub length-ordered : (b : Buffer) → length (ordered rules b).items ≡ length (round_one rules b).items
   length-ordered b =
-      length-cgj_shown_where_seen (ordered_where rules (has_mark_past_first b.items) (round_one rules b)) ∙ by_test (has_mark_past_first b.items)
+      length-cgj_unhidden_where_seen (ordered_where rules (has_mark_past_first b.items) (round_one rules b)) ∙ by_test (has_mark_past_first b.items)
     where
       by_test : (test : Bool) → length (ordered_where rules test (round_one rules b)).items ≡ length (round_one rules b).items
       by_test true = length-marks_ordered rules.reorder lawful (round_one rules b)
@@ -68,7 +68,7 @@ module _ (rules : Rules) (lawful : LawfulReorder rules.reorder) where
   length-normalized b =
       kept_by_rounds rules (λ c. length c.items ≤ length (round_one rules b).items) b
       (λ below. omega (arith, length-marks_ordered rules.reorder lawful (round_one rules b)))
-      (λ c below. omega (arith, length-cgj_shown_where_seen c)) (λ c below. omega (arith, length-round_three rules c)) (omega arith)
+      (λ c below. omega (arith, length-cgj_unhidden_where_seen c)) (λ c below. omega (arith, length-round_three rules c)) (omega arith)
 
   -- so the list is within a limit that the expanded one is within
   pub within_normalized : {E : Type 0} (b new : Buffer) (result : Result (Unit {0}) E) (limit : ℕ) → OnOk result (new ≡ normalized rules b)
@@ -98,8 +98,8 @@ module _ (rules : Rules) (lawful : LawfulReorder rules.reorder) (P : Item → Ty
       (λ of. each_of_values (content rules) P (marks_ordered rules.reorder one).items
       (keys-marks_ordered rules.reorder lawful (content rules) (IsKey-content rules) (content-without_ccc rules) P one
       (each_value (content rules) P one.items of)))
-      (λ c of. each_of_values (content rules) P (cgj_shown_where_seen c).items
-      (subst (AllByRecursion P) (sym (keys-cgj_shown_where_seen (content rules) (λ item. refl) c)) (each_value (content rules) P c.items of)))
+      (λ c of. each_of_values (content rules) P (cgj_unhidden_where_seen c).items
+      (subst (AllByRecursion P) (sym (keys-cgj_unhidden_where_seen (content rules) (λ item. refl) c)) (each_value (content rules) P c.items of)))
       (λ c of. round_three_all rules (λ item. P (content rules item)) (λ item cluster mask h. h) (λ item c has h. composes item c has) c of)
       each
 
@@ -118,8 +118,8 @@ normalized_brings_in rules lawful b new is =
 
 pub IsKey-without_place : IsKey without_place
 IsKey-without_place = record {
-  by_cluster = λ item cluster. ap shown (IsKey-unflagged.by_cluster item cluster);
-  by_break = λ item. ap shown (IsKey-unflagged.by_break item);
+  by_cluster = λ item cluster. ap unhidden (IsKey-unflagged.by_cluster item cluster);
+  by_break = λ item. ap unhidden (IsKey-unflagged.by_break item);
 }
 
 -- with a mark past the first item, and with no hook, the ordered list is the expanded one with its runs settled
@@ -127,13 +127,13 @@ orders_ordered : (rules : Rules) (b : Buffer) → has_mark_past_first b.items �
     → OrdersMarks (round_one rules b).items (ordered rules b).items
 orders_ordered rules b marked none =
     let one : Buffer = round_one rules b in
-    let by_none : OrdersMarks one.items (cgj_shown_where_seen (marks_ordered None one)).items =
-    rw (keys-cgj_shown_where_seen without_place (λ item. refl) (marks_ordered None one))
+    let by_none : OrdersMarks one.items (cgj_unhidden_where_seen (marks_ordered None one)).items =
+    rw (keys-cgj_unhidden_where_seen without_place (λ item. refl) (marks_ordered None one))
     (marks_ordered_settles without_place IsKey-without_place ccc_of_item (λ item. refl) one) in
-    let by_hook : OrdersMarks one.items (cgj_shown_where_seen (marks_ordered rules.reorder one)).items = subst
-    (λ (hook : Option (Buffer → ℕ → ℕ → Buffer)). OrdersMarks one.items (cgj_shown_where_seen (marks_ordered hook one)).items)
+    let by_hook : OrdersMarks one.items (cgj_unhidden_where_seen (marks_ordered rules.reorder one)).items = subst
+    (λ (hook : Option (Buffer → ℕ → ℕ → Buffer)). OrdersMarks one.items (cgj_unhidden_where_seen (marks_ordered hook one)).items)
     (sym none) by_none in
-    subst (λ (c : Buffer). OrdersMarks one.items (cgj_shown_where_seen c).items)
+    subst (λ (c : Buffer). OrdersMarks one.items (cgj_unhidden_where_seen c).items)
     (sym (cond-true _ (marks_ordered rules.reorder one) one marked)) by_hook
 
 pub normalized_orders : (rules : Rules) (b new : Buffer) → new ≡ normalized rules b → OrdersExpanded rules b new

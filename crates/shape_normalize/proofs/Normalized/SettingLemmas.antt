@@ -4,7 +4,7 @@ use Rattle.shape_buffer.specs.Buffer.{Buffer, limit_of}
 use Rattle.shape_plan.specs.Rules.{Rules}
 use Rattle.shape_normalize.specs.RoundOne.{sequences, variation_sequences_from, round_one}
 use Rattle.shape_normalize.specs.RoundThree.{absorbed_spans, recomposed_items}
-use Rattle.shape_normalize.specs.RoundTwo.{marks_ordered, cgj_shown_where_seen, cgj_shown, has_mark_past_first}
+use Rattle.shape_normalize.specs.RoundTwo.{marks_ordered, cgj_unhidden_where_seen, cgj_unhidden, has_mark_past_first}
 use Rattle.shape_normalize.specs.Normalized.{normalized, ordered}
 use Rattle.shape_normalize.proofs.Normalized.NormalizedLemmas.{length-ordered, kept_by_rounds}
 use Rattle.shape_normalize.proofs.Hooks.ReorderLemmas.{LawfulReorder}
@@ -25,14 +25,14 @@ module _ (rules : Rules) (b : Buffer) where
 
 -- ---- the ordered list
 
-limit-cgj_shown_where_seen : (b : Buffer) → (cgj_shown_where_seen b).length_limit ≡ b.length_limit
-limit-cgj_shown_where_seen b =
-    elim (bit_and b.scratch_flags.0 8 == 8) as (λ t. (if t then record b { items = cgj_shown b.items } else b).length_limit
+limit-cgj_unhidden_where_seen : (b : Buffer) → (cgj_unhidden_where_seen b).length_limit ≡ b.length_limit
+limit-cgj_unhidden_where_seen b =
+    elim (bit_and b.scratch_flags.0 8 == 8) as (λ t. (if t then record b { items = cgj_unhidden b.items } else b).length_limit
     ≡ b.length_limit) [ true ↦ refl | false ↦ refl ]
 
 module _ (rules : Rules) (lawful : LawfulReorder rules.reorder) where
   limit-ordered : (b : Buffer) → (ordered rules b).length_limit ≡ b.length_limit
-  limit-ordered b = limit-cgj_shown_where_seen _ ∙ by_test (has_mark_past_first b.items) ∙ limit-round_one rules b
+  limit-ordered b = limit-cgj_unhidden_where_seen _ ∙ by_test (has_mark_past_first b.items) ∙ limit-round_one rules b
     where
       by_test : (test : Bool)
           → (if test then marks_ordered rules.reorder (round_one rules b) else round_one rules b).length_limit
@@ -54,9 +54,9 @@ module _ (rules : Rules) (lawful : LawfulReorder rules.reorder) where
 abbrev pub settings_of : Buffer → Buffer
 settings_of b = record b { items = []; positions = []; scratch_flags = record { 0 = 0 } }
 
-settings-cgj : (b : Buffer) → settings_of (cgj_shown_where_seen b) ≡ settings_of b
+settings-cgj : (b : Buffer) → settings_of (cgj_unhidden_where_seen b) ≡ settings_of b
 settings-cgj b = elim (bit_and b.scratch_flags.0 8 == 8)
-    as (λ t. settings_of (if t then record b { items = cgj_shown b.items } else b) ≡ settings_of b) [ true ↦ refl | false ↦ refl ]
+    as (λ t. settings_of (if t then record b { items = cgj_unhidden b.items } else b) ≡ settings_of b) [ true ↦ refl | false ↦ refl ]
 
 pub settings-normalized : (rules : Rules) → LawfulReorder rules.reorder → (b : Buffer) → settings_of (normalized rules b) ≡ settings_of b
 settings-normalized rules lawful b =

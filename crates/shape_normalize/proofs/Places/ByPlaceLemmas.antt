@@ -12,7 +12,7 @@ use Rattle.shape_normalize.specs.Normalized.{ordered, normalized, has_seen_cgj}
 use Rattle.shape_normalize.specs.Origins.{item_at, all_places, PermutesRuns, IsOrderOf, lasting, IsFromPlace, IsFromStarter, is_recomposed, ComesByPlace}
 use Rattle.shape_normalize.specs.Reordered.{unmerged, unclassed}
 use Rattle.shape_normalize.specs.RoundOne.{round_one}
-use Rattle.shape_normalize.specs.RoundTwo.{max_run, has_mark_past_first, marks_ordered, keeps_nothing_apart, shown, one_cgj_shown, cgj_shown_after, cgj_shown, cgj_shown_where_seen}
+use Rattle.shape_normalize.specs.RoundTwo.{max_run, has_mark_past_first, marks_ordered, keeps_nothing_apart, unhidden, one_cgj_unhidden, cgj_unhidden_after, cgj_unhidden, cgj_unhidden_where_seen}
 use Rattle.shape_normalize.specs.RoundThree.{recomposed_items, round_three}
 use Rattle.shape_normalize.proofs.Places.FromTextLemmas.{order_below, all_places_below, new_has}
 use Rattle.shape_normalize.proofs.Normalized.HiddenLemmas.{flag-marks_ordered, cgj_unseen}
@@ -45,27 +45,27 @@ zip_then R S T both (x ∷ xs) (y ∷ ys) (z ∷ zs) first second = (both x y z 
 
 -- ---- CGJ
 
--- an item stays, or is a CGJ that is shown
-abbrev MayShow : Item → Item → Type 0
-MayShow item new = (new ≡ item) ⊎ ((item.codepoint ≡ 0x34F) × (new ≡ shown item))
+-- an item stays, or is a CGJ that is unhidden
+abbrev MayUnhide : Item → Item → Type 0
+MayUnhide item new = (new ≡ item) ⊎ ((item.codepoint ≡ 0x34F) × (new ≡ unhidden item))
 
-may_show : (before item after : Item) → MayShow item (one_cgj_shown before item after)
-may_show before item after =
+may_unhide : (before item after : Item) → MayUnhide item (one_cgj_unhidden before item after)
+may_unhide before item after =
     elim (cases_Bool (item.codepoint == 0x34F && keeps_nothing_apart before after)) [
-      | inl shows ↦
-          let cgj = (and_parts (item.codepoint == 0x34F) (keeps_nothing_apart before after) shows).0 in
-          inr (grind (arith, nat_tests), cond-true _ (shown item) item shows)
-      | inr stays ↦ inl (cond-false _ (shown item) item stays)
+      | inl unhides ↦
+          let cgj = (and_parts (item.codepoint == 0x34F) (keeps_nothing_apart before after) unhides).0 in
+          inr (grind (arith, nat_tests), cond-true _ (unhidden item) item unhides)
+      | inr stays ↦ inl (cond-false _ (unhidden item) item stays)
     ]
 
-may_show_after : (before : Item) (items : List Item) → AllZip MayShow items (cgj_shown_after before items)
-may_show_after before [] = tt
-may_show_after before (item ∷ []) = (inl refl, tt)
-may_show_after before (item ∷ after ∷ rest) = (may_show before item after, may_show_after item (after ∷ rest))
+may_unhide_after : (before : Item) (items : List Item) → AllZip MayUnhide items (cgj_unhidden_after before items)
+may_unhide_after before [] = tt
+may_unhide_after before (item ∷ []) = (inl refl, tt)
+may_unhide_after before (item ∷ after ∷ rest) = (may_unhide before item after, may_unhide_after item (after ∷ rest))
 
-may_show_all : (items : List Item) → AllZip MayShow items (cgj_shown items)
-may_show_all [] = tt
-may_show_all (first ∷ rest) = (inl refl, may_show_after first rest)
+may_unhide_all : (items : List Item) → AllZip MayUnhide items (cgj_unhidden items)
+may_unhide_all [] = tt
+may_unhide_all (first ∷ rest) = (inl refl, may_unhide_after first rest)
 
 -- ---- the ordered list
 
@@ -85,23 +85,23 @@ module _ (rules : Rules) (one : Buffer) where
   lasting_char true x y same = ap (λ (item : Item). item.codepoint) same
   lasting_char false x y same = ap (λ (item : Item). item.codepoint) same
 
-  lasting_shown : (hook : Bool) (x y : Item) → (if hook then unclassed x else unmerged x) ≡ (if hook then unclassed y else unmerged y)
-      → (if hook then unclassed (shown x) else unmerged (shown x)) ≡ (if hook then unclassed (shown y) else unmerged (shown y))
-  lasting_shown true x y same = ap shown same
-  lasting_shown false x y same = ap shown same
+  lasting_unhidden : (hook : Bool) (x y : Item) → (if hook then unclassed x else unmerged x) ≡ (if hook then unclassed y else unmerged y)
+      → (if hook then unclassed (unhidden x) else unmerged (unhidden x)) ≡ (if hook then unclassed (unhidden y) else unmerged (unhidden y))
+  lasting_unhidden true x y same = ap unhidden same
+  lasting_unhidden false x y same = ap unhidden same
 
-  shown_by_place : has_seen_cgj one ≡ true → (place : ℕ) (item new : Item)
-      → lasting rules item ≡ lasting rules (item_at one.items place) → MayShow item new → IsFromPlace rules one place new
-  shown_by_place seen place item new same (inl stays) = inl (ap (lasting rules) stays ∙ same)
-  shown_by_place seen place item new same (inr shows) =
+  unhidden_by_place : has_seen_cgj one ≡ true → (place : ℕ) (item new : Item)
+      → lasting rules item ≡ lasting rules (item_at one.items place) → MayUnhide item new → IsFromPlace rules one place new
+  unhidden_by_place seen place item new same (inl stays) = inl (ap (lasting rules) stays ∙ same)
+  unhidden_by_place seen place item new same (inr unhides) =
       let from = item_at one.items place in
       let hook = is_some rules.reorder in
-      inr (seen, sym (lasting_char hook item from same) ∙ shows.0, ap (lasting rules) shows.1 ∙ lasting_shown hook item from same)
+      inr (seen, sym (lasting_char hook item from same) ∙ unhides.0, ap (lasting rules) unhides.1 ∙ lasting_unhidden hook item from same)
 
-  -- with CGJ shown, where one was seen
+  -- with CGJ unhidden, where one was seen
   settled_by_place : (c : Buffer) (places : List ℕ) → bit_and c.scratch_flags.0 8 ≡ bit_and one.scratch_flags.0 8
       → map (lasting rules) c.items ≡ map (λ place. lasting rules (item_at one.items place)) places
-      → AllZip (IsFromPlace rules one) places (cgj_shown_where_seen c).items
+      → AllZip (IsFromPlace rules one) places (cgj_unhidden_where_seen c).items
   settled_by_place c places flag same =
       let Same : ℕ → Item → Type 0 = λ place item. lasting rules item ≡ lasting rules (item_at one.items place) in
       let each : AllZip Same places c.items =
@@ -109,9 +109,9 @@ module _ (rules : Rules) (one : Buffer) where
       elim (cases_Bool (has_seen_cgj c)) [
         | inl seen ↦
             subst (λ (d : Buffer). AllZip (IsFromPlace rules one) places d.items)
-            (sym (cond-true _ (record c { items = cgj_shown c.items }) c seen))
-            (zip_then Same MayShow (IsFromPlace rules one) (shown_by_place (ap (λ n. n == 8) (sym flag) ∙ seen)) places c.items
-            (cgj_shown c.items) each (may_show_all c.items))
+            (sym (cond-true _ (record c { items = cgj_unhidden c.items }) c seen))
+            (zip_then Same MayUnhide (IsFromPlace rules one) (unhidden_by_place (ap (λ n. n == 8) (sym flag) ∙ seen)) places c.items
+            (cgj_unhidden c.items) each (may_unhide_all c.items))
         | inr unseen ↦
             subst (λ (d : Buffer). AllZip (IsFromPlace rules one) places d.items) (sym (cgj_unseen c unseen))
             (zip_then Same (λ item new. new ≡ item) (IsFromPlace rules one)
@@ -122,7 +122,7 @@ module _ (rules : Rules) (one : Buffer) where
   ordered_by_place : LawfulReorder rules.reorder → (test : Bool) → (places : List ℕ)
       × (test ≡ false → places ≡ all_places one.items)
       × (test ≡ true → IsOrderOf rules one.items places)
-      × AllZip (IsFromPlace rules one) places (cgj_shown_where_seen (if test then marks_ordered rules.reorder one else one)).items
+      × AllZip (IsFromPlace rules one) places (cgj_unhidden_where_seen (if test then marks_ordered rules.reorder one else one)).items
   ordered_by_place lawful true =
       let marks = marks_by_place rules.reorder lawful one in (
         marks.0,

@@ -18,7 +18,7 @@ use Rattle.shape_normalize.specs.Normalized.{ordered, hidden_char, has_seen_cgj}
 use Rattle.shape_normalize.specs.Origins.{item_at, Origin, origin_at, origins, HasOfOrigin, all_places, PermutesRuns, IsFromPlace, IsOnceComposed, IsFromStarter, is_recomposed, new_origins}
 use Rattle.shape_normalize.specs.Reordered.{unmerged, unclassed}
 use Rattle.shape_normalize.specs.RoundOne.{item_glyph, part_item, round_one}
-use Rattle.shape_normalize.specs.RoundTwo.{max_run, shown}
+use Rattle.shape_normalize.specs.RoundTwo.{max_run, unhidden}
 use Rattle.shape_normalize.specs.RoundThree.{Absorbed, Placed, recomposed_items}
 use Rattle.shape_normalize.proofs.Normalized.ItemGlyphLemmas.{part_has_glyph}
 use Rattle.shape_normalize.proofs.RoundThree.RoundThreePlaceLemmas.{AreRising, AreRising-fit, recomposed_placed}
@@ -122,11 +122,11 @@ module _ (rules : Rules) (text : Buffer) where
                 | inr (inr cgj) ↦ absurd (let no : false ≡ true = cgj.0 in cc)
               ];
             })
-        | inr showing ↦
-            let seen : has_seen_cgj one ≡ true = showing.0 in
-            let once_shown : Has origin (shown from) =
-            record { features = had.features; glyph = had.glyph; hidden = inr (inr (seen, showing.1)) } in
-            has_same origin item (shown from) (unclassed_of hook item (shown from) showing.2) once_shown
+        | inr unhides ↦
+            let seen : has_seen_cgj one ≡ true = unhides.0 in
+            let once_unhidden : Has origin (unhidden from) =
+            record { features = had.features; glyph = had.glyph; hidden = inr (inr (seen, unhides.1)) } in
+            has_same origin item (unhidden from) (unclassed_of hook item (unhidden from) unhides.2) once_unhidden
       ]
 
   module _ (places : List ℕ) (below : AllByRecursion (λ place. place < length one.items) places)

@@ -51,13 +51,13 @@ of_origin_worked = record {
     | inr (inl own) ↦ cc
     | inr (inr cgj) ↦ let no : 0x61 ≡ 0x34F = cgj.1 in omega (arith, no)
   ];
-  once_shown = record { features = refl; glyph = λ outside. refl; hidden = inr (inr (refl, refl)) };
-  none_shown = λ h. elim h.hidden [
+  once_unhidden = record { features = refl; glyph = λ outside. refl; hidden = inr (inr (refl, refl)) };
+  none_unhidden = λ h. elim h.hidden [
     | inl same ↦ let no : 0x34F ≡ 0x62 = ap (λ k. k.0) same in omega (arith, no)
     | inr (inl own) ↦ let no : false ≡ true = own in cc
     | inr (inr cgj) ↦ let no : false ≡ true = cgj.0 in cc
   ];
-  other_shown = λ h. elim h.hidden [
+  other_unhidden = λ h. elim h.hidden [
     | inl same ↦ let no : 0x61 ≡ 0x62 = ap (λ k. k.0) same in omega (arith, no)
     | inr (inl own) ↦ cc
     | inr (inr cgj) ↦ let no : 0x61 ≡ 0x34F = cgj.1 in omega (arith, no)
@@ -213,18 +213,18 @@ from_place_worked = record {
   seen = inr (refl, refl, refl);
   unseen = λ h. elim h [
     | inl same ↦ let no : false ≡ true = ap (λ (one : Item). one.properties.hidden) same in cc
-    | inr showing ↦
-        let no : false ≡ true = showing.0 in cc
+    | inr unhides ↦
+        let no : false ≡ true = unhides.0 in cc
   ];
   other_place = λ h. elim h [
     | inl same ↦ let no : 0x34F ≡ 0x61 = ap (λ (one : Item). one.codepoint) same in
         omega (arith, no)
-    | inr showing ↦ let no : 0x61 ≡ 0x34F = showing.1 in omega (arith, no)
+    | inr unhides ↦ let no : 0x61 ≡ 0x34F = unhides.1 in omega (arith, no)
   ];
   other_features = λ h. elim h [
     | inl same ↦ let no : 512 ≡ 256 = ap (λ (one : Item). one.mask) same in omega (arith, no)
-    | inr showing ↦
-        let no : 512 ≡ 256 = ap (λ (one : Item). one.mask) showing.2 in omega (arith, no)
+    | inr unhides ↦
+        let no : 512 ≡ 256 = ap (λ (one : Item). one.mask) unhides.2 in omega (arith, no)
   ];
 }
 

@@ -13,8 +13,8 @@ use Rattle.shape_normalize.specs.Normalized.{ordered, normalized, without_cluste
 use Rattle.shape_normalize.specs.RoundOne.{round_one}
 use Rattle.shape_buffer.specs.Spans.{spans_merged_out}
 use Rattle.shape_normalize.specs.RoundThree.{Placed, placed, ccc_of_placed, is_mark_placed, compose_placed, recomposed_items, recomposed_by_all, absorbed_spans, with_cluster_at, round_three}
-use Rattle.shape_normalize.specs.RoundTwo.{max_run, has_mark_past_first, marks_ordered, cgj_shown_where_seen}
-use Rattle.shape_normalize.proofs.RoundTwo.CgjLemmas.{keys-cgj_shown_where_seen}
+use Rattle.shape_normalize.specs.RoundTwo.{max_run, has_mark_past_first, marks_ordered, cgj_unhidden_where_seen}
+use Rattle.shape_normalize.proofs.RoundTwo.CgjLemmas.{keys-cgj_unhidden_where_seen}
 use Rattle.shape_normalize.proofs.RoundTwo.OrderedLemmas.{marks_ordered_settles}
 
 -- ordered ccc are those of ordered items
@@ -31,9 +31,9 @@ put_out items (p ∷ out) = ap (λ rest. without_cluster p.item ∷ rest) (put_o
 
 module _ (rules : Rules) (old : Buffer) (marked : has_mark_past_first old.items ≡ true) (none : rules.reorder ≡ None)
     (short : HasShortRuns (round_one rules old).items) where
-  ordered_is : ordered rules old ≡ cgj_shown_where_seen (marks_ordered None (round_one rules old))
+  ordered_is : ordered rules old ≡ cgj_unhidden_where_seen (marks_ordered None (round_one rules old))
   ordered_is =
-      ap cgj_shown_where_seen (cond-true _ (marks_ordered rules.reorder (round_one rules old)) (round_one rules old) marked
+      ap cgj_unhidden_where_seen (cond-true _ (marks_ordered rules.reorder (round_one rules old)) (round_one rules old) marked
       ∙ ap (λ hook. marks_ordered hook (round_one rules old)) none)
 
   cccs_settled : AreRunsSettled (λ ccc. ccc) max_run [] (map ccc_of_item (round_one rules old).items)
@@ -41,7 +41,7 @@ module _ (rules : Rules) (old : Buffer) (marked : has_mark_past_first old.items 
   cccs_settled =
       subst (AreRunsSettled (λ ccc. ccc) max_run [] (map ccc_of_item (round_one rules old).items))
       (sym (ap (λ (c : Buffer). map ccc_of_item c.items) ordered_is
-      ∙ keys-cgj_shown_where_seen ccc_of_item (λ item. refl) (marks_ordered None (round_one rules old))))
+      ∙ keys-cgj_unhidden_where_seen ccc_of_item (λ item. refl) (marks_ordered None (round_one rules old))))
       (marks_ordered_settles ccc_of_item IsKey-ccc (λ ccc. ccc) (λ item. refl) (round_one rules old))
 
   by_all : recomposed_items rules (ordered rules old).items ≡ recomposed_by_all rules (ordered rules old).items

@@ -1,9 +1,9 @@
 //! Combining grapheme joiners, U+034F, which keep marks apart that would change places or compose.
 //!
-//! One that keeps nothing apart is no longer hidden, so that lookups see it.
+//! One that keeps nothing apart is unhidden: lookups may then skip it as they skip other ignorable characters.
 ghost use Rattle.std.specs.Prelude.{◌≡◌};
 ghost use Rattle.shape_normalize.specs.RoundTwo.{keeps_nothing_apart as keeps_nothing_apart_of};
-ghost use Rattle.shape_normalize.specs.RoundTwo.{one_cgj_shown, cgj_shown_where_seen};
+ghost use Rattle.shape_normalize.specs.RoundTwo.{one_cgj_unhidden, cgj_unhidden_where_seen};
 
 use bitflags::Flags;
 use shape_buffer::buffer::{ScratchFlags, hb_buffer_t, hb_glyph_info_t};
@@ -18,13 +18,13 @@ fn keeps_nothing_apart(before: &hb_glyph_info_t, after: &hb_glyph_info_t) -> boo
     ccc == 0 || before._hb_glyph_info_get_modified_combining_class() <= ccc
 }
 
-/// An item between two others, shown where it is a CGJ that keeps nothing apart.
-fn show_one_cgj(
+/// An item between two others, unhidden where it is a CGJ that keeps nothing apart.
+fn unhide_one_cgj(
     before: &hb_glyph_info_t,
     info: &hb_glyph_info_t,
     after: &hb_glyph_info_t,
 ) -> hb_glyph_info_t
-    ensures { result ≡ one_cgj_shown before.now info.now after.now }
+    ensures { result ≡ one_cgj_unhidden before.now info.now after.now }
 {
     let mut info = *info;
     if info.codepoint == COMBINING_GRAPHEME_JOINER && keeps_nothing_apart(before, after) {
@@ -33,17 +33,17 @@ fn show_one_cgj(
     info
 }
 
-/// Shows each CGJ that keeps nothing apart, where the run has seen one; the first and the last
+/// Unhides each CGJ that keeps nothing apart, where the run has seen one; the first and the last
 /// item stay.
-pub(crate) fn show_cgj(buffer: &mut hb_buffer_t)
-    ensures { buffer.new ≡ cgj_shown_where_seen buffer.old }
+pub(crate) fn unhide_cgj(buffer: &mut hb_buffer_t)
+    ensures { buffer.new ≡ cgj_unhidden_where_seen buffer.old }
 {
     if !buffer.scratch_flags().contains(ScratchFlags::HAS_CGJ) {
         return;
     }
     for i in 1..buffer.len().saturating_sub(1) {
         let infos = buffer.infos();
-        let info = show_one_cgj(&infos[i - 1], &infos[i], &infos[i + 1]);
+        let info = unhide_one_cgj(&infos[i - 1], &infos[i], &infos[i + 1]);
         buffer.set_info(i, info);
     }
 }
