@@ -9,6 +9,7 @@ pub mod ClusterOrder
 pub mod Buffer
 pub mod BufferClusters
 pub mod Spans
+pub mod GraphemeSpans
 pub mod Delete
 pub mod KeepsFlags
 pub mod Unwritten

@@ -32,7 +32,7 @@ least-le_first xs start end lt within =
 -- ---- what is read from a place on
 
 module _ (xs ys : List Item) (start : ℕ) (same : drop start xs ≡ drop start ys) where
-  drop-from : (k : ℕ) → start ≤ k → drop k xs ≡ drop k ys
+  pub drop-from : (k : ℕ) → start ≤ k → drop k xs ≡ drop k ys
   drop-from k le =
       let sum : start + (k - start) ≡ k = omega arith in
       sym (drop-drop (k - start) start xs ∙ ap (λ j. drop j xs) sum)

@@ -3,10 +3,11 @@
 //! Each merge may take in the items before its span, and with them all that was merged before. So the
 //! items before the span at hand stand as runs whose writing is put off: the last run alone takes a
 //! smaller cluster. The items from the span on are as they are.
-ghost use Rattle.std.specs.Prelude.{◌≡◌, ◌≤◌, List, ◌++◌, length, take, drop, slice_range};
+ghost use Rattle.std.specs.Prelude.{◌≡◌, ◌≤◌, List, ◌++◌, length, take, drop, map, slice_range};
 ghost use Rattle.shape_buffer.specs.Items.{Item};
 ghost use Rattle.shape_buffer.specs.Clusters.{merge};
 ghost use Rattle.shape_buffer.specs.Spans.{AreSpansInOrder, grown_left, merge_each as merge_each_of};
+ghost use Rattle.shape_buffer.specs.GraphemeSpans.{is_continuation, ends, grapheme_spans};
 ghost use Rattle.shape_buffer.specs.Unwritten.{StandsFor};
 
 use crate::buffer::clusters::{growth_right, least_cluster, put_all_in};
@@ -104,6 +105,35 @@ pub(crate) fn merge_each(
         runs = open_runs(infos, starts, runs, kept, *start);
         runs = merge_behind(infos, &starts[..runs], *start, *end);
         kept = *start;
+    }
+    write_runs(&mut infos[..kept], &starts[..runs]);
+}
+
+/// Whether a grapheme ends before this place.
+fn ends_grapheme(infos: &[hb_glyph_info_t], end: usize) -> bool
+    requires { end ≤ length infos.now }
+    ensures { result ≡ ends (map is_continuation (drop end infos.now)) }
+{
+    end == infos.len() || !infos[end]._hb_glyph_info_get_continuation()
+}
+
+/// Merges each grapheme, in order. `starts` has room for a number for each item.
+pub(crate) fn merge_graphemes(infos: &mut [hb_glyph_info_t], starts: &mut [usize])
+    requires { length infos.old ≤ length starts.old }
+    ensures merged { infos.new ≡ merge_each_of (grapheme_spans infos.old) infos.old }
+    ensures room { length starts.new ≡ length starts.old }
+{
+    let mut kept = 0;
+    let mut runs = 0;
+    let mut start = 0;
+    for last in 0..infos.len() {
+        let end = last + 1;
+        if ends_grapheme(infos, end) {
+            runs = open_runs(infos, starts, runs, kept, start);
+            runs = merge_behind(infos, &starts[..runs], start, end);
+            kept = start;
+            start = end;
+        }
     }
     write_runs(&mut infos[..kept], &starts[..runs]);
 }

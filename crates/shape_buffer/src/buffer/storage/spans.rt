@@ -8,6 +8,7 @@ ghost use Rattle.shape_buffer.specs.BufferClusters.{unsafe_to_concat as unsafe_t
 ghost use Rattle.shape_buffer.specs.ClusterOrder.{KeepsClusters};
 ghost use Rattle.shape_buffer.specs.Clusters.{clusters};
 ghost use Rattle.shape_buffer.specs.Delete.{deleted};
+ghost use Rattle.shape_buffer.specs.GraphemeSpans.{grapheme_spans};
 ghost use Rattle.shape_buffer.specs.Items.{Item};
 ghost use Rattle.shape_buffer.specs.KeepsFlags.{KeepsFlags};
 ghost use Rattle.shape_buffer.specs.Spans.{AreSpansInOrder, all_merged};
@@ -16,7 +17,7 @@ ghost use Rattle.shape_buffer.specs.Spans.{spans_merged_out as spans_merged_out_
 
 use crate::buffer::clusters::{mark_break, mark_concat, merge_items};
 use crate::buffer::delete::delete_items;
-use crate::buffer::each_span::merge_each;
+use crate::buffer::each_span::{merge_each, merge_graphemes};
 use crate::buffer::flags::{BufferFlags, ScratchFlags};
 use crate::buffer::items::hb_glyph_info_t;
 use crate::buffer::settings::BufferClusterLevel;
@@ -97,6 +98,22 @@ impl hb_buffer_t {
         self.merge_at_once(spans);
     }
 
+    /// Merges the clusters of each grapheme, as one call of `merge_clusters` after the other would; at level
+    /// CHARACTERS nothing changes. A grapheme is an item with the continuations directly behind it. Takes no
+    /// memory; the time is in step with the list, whatever the clusters are (measured, not proved).
+    pub fn merge_graphemes(&mut self)
+        ensures merged { self.new
+            ≡ spans_merged_out_of (grapheme_spans self.old.items) self.old }
+        ensures len { length self.new.items ≡ length self.old.items }
+        ensures keeps { KeepsClusters (clusters self.old.items) (clusters self.new.items)
+            × KeepsFlags self.old self.new }
+    {
+        if self.cluster_level == BufferClusterLevel::Characters {
+            return;
+        }
+        self.merge_graphemes_at_once();
+    }
+
     /// Merges the spans, whatever the level is.
     fn merge_at_once(&mut self, spans: &[(usize, usize)])
         requires { AreSpansInOrder 0 (length self.old.items) spans.now }
@@ -104,6 +121,16 @@ impl hb_buffer_t {
     {
         let starts = self.run_starts.as_mut_slice();
         merge_each(self.infos.as_mut_slice(), starts, spans);
+    }
+
+    /// Merges the graphemes, whatever the level is.
+    fn merge_graphemes_at_once(&mut self)
+        ensures { self.new ≡ record self.old {
+          items = merge_each_of (grapheme_spans self.old.items) self.old.items;
+        } }
+    {
+        let starts = self.run_starts.as_mut_slice();
+        merge_graphemes(self.infos.as_mut_slice(), starts);
     }
 
     /// Merges span by span. At level CHARACTERS each merge marks its span and touches no more.
