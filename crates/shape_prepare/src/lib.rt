@@ -11,6 +11,7 @@
 
 pub mod clusters;
 pub mod dotted_circle;
+mod grapheme_walk;
 pub mod graphemes;
 pub mod laws;
 pub mod masks;
