@@ -19,14 +19,14 @@ use Rattle.shape_position.specs.WorkedPositions.{at, glyph_at, face_of}
 abbrev without_space : FaceMeaning
 without_space = record (face_of 1000) { nominal_glyph = λ _. None }
 
-abbrev ignorable : Item → Item
-ignorable item = record item { properties = record item.properties { ignorable = true } }
+abbrev pub ignored : Item → Item
+ignored item = record item { properties = record item.properties { ignorable = true } }
 
 abbrev substituted : Item → Item
 substituted item = record item { properties = record item.properties { substituted = true } }
 
-abbrev marked : Item → Item
-marked item = record item { properties = record item.properties { selector_mark = true } }
+abbrev pub selecting : Item → Item
+selecting item = record item { properties = record item.properties { selector_mark = true } }
 
 -- items with these flags of the buffer and scratch flags, each at a position of its own
 abbrev text_of : List Item → List GlyphPosition → ℕ → ℕ → Buffer
@@ -34,15 +34,15 @@ text_of items positions flags scratch =
     record new_buffer { items = items; positions = positions; flags = record { 0 = flags }; scratch_flags = record { 0 = scratch } }
 
 -- what is handed out of glyphs: each with its cluster
-abbrev shown : Buffer → List (ℕ × ℕ)
-shown b = map (λ item. (item.glyph_id, item.cluster)) b.items
+abbrev handed_out : Buffer → List (ℕ × ℕ)
+handed_out b = map (λ item. (item.glyph_id, item.cluster)) b.items
 
 abbrev a_at : ℕ → Item
 a_at cluster = glyph_at 1 cluster
 
 -- a joiner, whose glyph is 7 until it is hidden
 abbrev joiner_at : ℕ → Item
-joiner_at cluster = ignorable (glyph_at 7 cluster)
+joiner_at cluster = ignored (glyph_at 7 cluster)
 
 abbrev wide : GlyphPosition
 wide = record (at (pos 1) (pos 2) (pos 3) (pos 4)) { attach_chain = pos 5; attach_type = 6 }
@@ -66,12 +66,12 @@ unfolding ignorables_zeroed positions_mapped
 zeroing_of_ignorables = record { joiner = refl; letter = refl; substituted_joiner = refl; preserved = refl; removed = refl; unseen = refl }
 
 abbrev hidden : FaceMeaning → List Item → ℕ → ℕ → List (ℕ × ℕ)
-hidden face items flags scratch = shown (ignorables_hidden face (text_of items (map (λ _. zero_position) items) flags scratch))
+hidden face items flags scratch = handed_out (ignorables_hidden face (text_of items (map (λ _. zero_position) items) flags scratch))
 
 -- the same with a glyph for what isn't seen
 abbrev hidden_by : GlyphId → List Item → ℕ → List (ℕ × ℕ)
 hidden_by glyph items flags =
-    shown (ignorables_hidden (face_of 1000)
+    handed_out (ignorables_hidden (face_of 1000)
     (record (text_of items (map (λ _. zero_position) items) flags 2) { invisible_glyph = Some glyph }))
 
 pub record HidingOfJoiners : Type 0 where
@@ -108,22 +108,22 @@ hiding_of_joiners = record {
 
 abbrev selected : Option GlyphId → ℕ → Buffer
 selected glyph scratch =
-    selectors_replaced (record (text_of (a_at 0 ∷ marked (glyph_at 8 0) ∷ [])
+    selectors_replaced (record (text_of (a_at 0 ∷ selecting (glyph_at 8 0) ∷ [])
     (wide ∷ wide ∷ []) 0 scratch) { not_found_variation_selector_glyph = glyph })
 
 pub record SelectorsWithoutVariant : Type 0 where
-  pub glyphs : shown (selected (Some (record { 0 = 9 })) 16) ≡ (1, 0) ∷ (9, 0) ∷ []
+  pub glyphs : handed_out (selected (Some (record { 0 = 9 })) 16) ≡ (1, 0) ∷ (9, 0) ∷ []
   pub values : (selected (Some (record { 0 = 9 })) 16).positions ≡ wide ∷ emptied ∷ []
   pub mark_goes : map (λ (item : Item). item.properties.selector_mark) (selected (Some (record { 0 = 9 })) 16).items ≡ false ∷ false ∷ []
-  pub no_glyph : selected None 16 ≡ text_of (a_at 0 ∷ marked (glyph_at 8 0) ∷ []) (wide ∷ wide ∷ []) 0 16
-  pub unseen : shown (selected (Some (record { 0 = 9 })) 47) ≡ (1, 0) ∷ (8, 0) ∷ []
+  pub no_glyph : selected None 16 ≡ text_of (a_at 0 ∷ selecting (glyph_at 8 0) ∷ []) (wide ∷ wide ∷ []) 0 16
+  pub unseen : handed_out (selected (Some (record { 0 = 9 })) 47) ≡ (1, 0) ∷ (8, 0) ∷ []
 
 selectors_without_variant : SelectorsWithoutVariant
 unfolding selectors_replaced
 selectors_without_variant = record { glyphs = refl; values = refl; mark_goes = refl; no_glyph = refl; unseen = refl }
 
-abbrev masked : ℕ → ℕ → Item
-masked mask cluster = record (glyph_at 1 cluster) { mask = mask }
+abbrev flagged : ℕ → ℕ → Item
+flagged mask cluster = record (glyph_at 1 cluster) { mask = mask }
 
 -- the masks of items once flags are shared
 abbrev shared : List Item → ℕ → ℕ → List ℕ
@@ -131,21 +131,21 @@ shared items flags scratch = map (λ (item : Item). item.mask) (flags_propagated
 
 pub record FlagsOfClusters : Type 0 where
   -- united, though unsafe to concat is asked for
-  pub united : shared (masked 1 0 ∷ masked 0 0 ∷ []) 64 32 ≡ 1 ∷ 1 ∷ []
-  pub tatweel : shared (masked 4 0 ∷ masked 0 0 ∷ []) 128 32 ≡ 5 ∷ 5 ∷ []
-  pub tatweel_and_concat : shared (masked 4 0 ∷ masked 0 0 ∷ []) 192 32 ≡ 7 ∷ 7 ∷ []
-  pub tatweel_unsafe : shared (masked 4 0 ∷ masked 1 0 ∷ []) 128 32 ≡ 1 ∷ 1 ∷ []
-  pub tatweel_unasked : shared (masked 4 0 ∷ masked 1 0 ∷ []) 0 32 ≡ 5 ∷ 5 ∷ []
-  pub tatweel_without : shared (masked 2 0 ∷ masked 0 0 ∷ []) 192 32 ≡ 2 ∷ 2 ∷ []
-  pub concat_unasked : shared (masked 3 0 ∷ masked 2 1 ∷ []) 0 32 ≡ 1 ∷ 0 ∷ []
-  pub concat_asked : shared (masked 3 0 ∷ masked 2 1 ∷ []) 64 32 ≡ 3 ∷ 2 ∷ []
+  pub united : shared (flagged 1 0 ∷ flagged 0 0 ∷ []) 64 32 ≡ 1 ∷ 1 ∷ []
+  pub tatweel : shared (flagged 4 0 ∷ flagged 0 0 ∷ []) 128 32 ≡ 5 ∷ 5 ∷ []
+  pub tatweel_and_concat : shared (flagged 4 0 ∷ flagged 0 0 ∷ []) 192 32 ≡ 7 ∷ 7 ∷ []
+  pub tatweel_unsafe : shared (flagged 4 0 ∷ flagged 1 0 ∷ []) 128 32 ≡ 1 ∷ 1 ∷ []
+  pub tatweel_unasked : shared (flagged 4 0 ∷ flagged 1 0 ∷ []) 0 32 ≡ 5 ∷ 5 ∷ []
+  pub tatweel_without : shared (flagged 2 0 ∷ flagged 0 0 ∷ []) 192 32 ≡ 2 ∷ 2 ∷ []
+  pub concat_unasked : shared (flagged 3 0 ∷ flagged 2 1 ∷ []) 0 32 ≡ 1 ∷ 0 ∷ []
+  pub concat_asked : shared (flagged 3 0 ∷ flagged 2 1 ∷ []) 64 32 ≡ 3 ∷ 2 ∷ []
   -- a cluster that comes again is another run
-  pub runs : shared (masked 1 0 ∷ masked 2 1 ∷ masked 4 0 ∷ masked 0 0 ∷ []) 64 32 ≡ 1 ∷ 2 ∷ 4 ∷ 4 ∷ []
+  pub runs : shared (flagged 1 0 ∷ flagged 2 1 ∷ flagged 4 0 ∷ flagged 0 0 ∷ []) 64 32 ≡ 1 ∷ 2 ∷ 4 ∷ 4 ∷ []
   -- nor do clusters beside each other share any: what one asks for or clears is its own
-  pub apart : shared (masked 1 0 ∷ masked 0 1 ∷ masked 2 2 ∷ []) 64 32 ≡ 1 ∷ 0 ∷ 2 ∷ []
-  pub tatweel_apart : shared (masked 1 0 ∷ masked 4 1 ∷ masked 0 2 ∷ []) 128 32 ≡ 1 ∷ 5 ∷ 0 ∷ []
-  pub features_go : shared (masked 0x101 0 ∷ masked 0x200 0 ∷ []) 0 32 ≡ 1 ∷ 1 ∷ []
-  pub unseen : shared (masked 1 0 ∷ masked 0x200 0 ∷ []) 0 31 ≡ 1 ∷ 0x200 ∷ []
+  pub apart : shared (flagged 1 0 ∷ flagged 0 1 ∷ flagged 2 2 ∷ []) 64 32 ≡ 1 ∷ 0 ∷ 2 ∷ []
+  pub tatweel_apart : shared (flagged 1 0 ∷ flagged 4 1 ∷ flagged 0 2 ∷ []) 128 32 ≡ 1 ∷ 5 ∷ 0 ∷ []
+  pub features_go : shared (flagged 0x101 0 ∷ flagged 0x200 0 ∷ []) 0 32 ≡ 1 ∷ 1 ∷ []
+  pub unseen : shared (flagged 1 0 ∷ flagged 0x200 0 ∷ []) 0 31 ≡ 1 ∷ 0x200 ∷ []
 
 flags_of_clusters : FlagsOfClusters
 unfolding flags_propagated

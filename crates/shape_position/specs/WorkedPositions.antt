@@ -12,9 +12,10 @@ use Rattle.shape_buffer.specs.Wrapping.{◌+ʷ◌, ◌-ʷ◌}
 use Rattle.shape_buffer.specs.declared.buffer.positions.GlyphPosition.{GlyphPosition}
 use Rattle.shape_buffer.specs.declared.buffer.settings.Direction.{Direction}
 use Rattle.shape_buffer.specs.declared.buffer.settings.Direction.TheVariants.{Invalid, LeftToRight, RightToLeft, TopToBottom, BottomToTop}
-use Rattle.shape_plan.specs.PlainTexts.{bare_face}
+use Rattle.shape_plan.specs.PlainTexts.{bare_face, plain_unicode}
 use Rattle.shape_plan.specs.WorkedPlans.{constants_of}
 use Rattle.shape_plan.specs.Shaper.{ShaperConstants, HookMeaning}
+use Rattle.shape_plan.specs.Shapers.{no_hooks}
 use Rattle.shape_plan.specs.WorkedDecisions.{no_decisions}
 use Rattle.shape_plan.specs.declared.decisions.Decisions.{Decisions}
 use Rattle.shape_position.specs.Advances.{positions_cleared, advanced, advanced_position}
@@ -113,18 +114,6 @@ decided zero_marks adjust gpos kerx kern morx = record no_decisions {
 abbrev pub shaper_with : ℕ → ShaperConstants
 shaper_with time = record constants_of { is_default = true; zero_width_marks = time; has_create_data = false }
 
-abbrev pub no_hooks : HookMeaning
-no_hooks = record {
-  split = λ _. None;
-  height = λ _. 0;
-  compose = λ _ _. None;
-  reorder = λ b _ _. b;
-  preprocess = λ b. b;
-  setup_masks = λ b. b;
-  postprocess = λ b. b;
-  pause = λ _ b. b;
-}
-
 abbrev zeroed_positions : ℕ → Bool → ℕ → Option HookMeaning → List GlyphPosition
 zeroed_positions time zero_marks shapers_time hooks =
     (zeroed_at time (decided zero_marks false false false false false) (shaper_with shapers_time) hooks (one_mark LeftToRight)).positions
@@ -143,12 +132,12 @@ pub record ZeroingOfMarks : Type 0 where
       ≡ at (pos 0) (pos 0) (pos 2147483647) (pos 0)
 
 pub record TimesOfZeroing : Type 0 where
-  pub early : zeroed_positions 1 true 1 (Some no_hooks) ≡ at (pos 0) (pos 0) (pos 7) (pos 8) ∷ []
-  pub late : zeroed_positions 2 true 2 (Some no_hooks) ≡ at (pos 0) (pos 0) (pos 7) (pos 8) ∷ []
-  pub late_not_early : zeroed_positions 1 true 2 (Some no_hooks) ≡ at (pos 100) (pos 50) (pos 7) (pos 8) ∷ []
-  pub early_not_late : zeroed_positions 2 true 1 (Some no_hooks) ≡ at (pos 100) (pos 50) (pos 7) (pos 8) ∷ []
-  pub never : zeroed_positions 2 true 0 (Some no_hooks) ≡ at (pos 100) (pos 50) (pos 7) (pos 8) ∷ []
-  pub plan_says_no : zeroed_positions 2 false 2 (Some no_hooks) ≡ at (pos 100) (pos 50) (pos 7) (pos 8) ∷ []
+  pub early : zeroed_positions 1 true 1 (Some (no_hooks plain_unicode)) ≡ at (pos 0) (pos 0) (pos 7) (pos 8) ∷ []
+  pub late : zeroed_positions 2 true 2 (Some (no_hooks plain_unicode)) ≡ at (pos 0) (pos 0) (pos 7) (pos 8) ∷ []
+  pub late_not_early : zeroed_positions 1 true 2 (Some (no_hooks plain_unicode)) ≡ at (pos 100) (pos 50) (pos 7) (pos 8) ∷ []
+  pub early_not_late : zeroed_positions 2 true 1 (Some (no_hooks plain_unicode)) ≡ at (pos 100) (pos 50) (pos 7) (pos 8) ∷ []
+  pub never : zeroed_positions 2 true 0 (Some (no_hooks plain_unicode)) ≡ at (pos 100) (pos 50) (pos 7) (pos 8) ∷ []
+  pub plan_says_no : zeroed_positions 2 false 2 (Some (no_hooks plain_unicode)) ≡ at (pos 100) (pos 50) (pos 7) (pos 8) ∷ []
   -- where the plan doesn't keep the shaper, its time says nothing
   pub shaper_not_kept : zeroed_positions 2 true 2 None ≡ at (pos 100) (pos 50) (pos 7) (pos 8) ∷ []
 

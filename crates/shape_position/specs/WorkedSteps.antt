@@ -13,14 +13,17 @@ use Rattle.shape_buffer.specs.Walks.{items_mapped}
 use Rattle.shape_buffer.specs.Wrapping.{◌-ʷ◌}
 use Rattle.shape_buffer.specs.declared.buffer.positions.GlyphPosition.{GlyphPosition}
 use Rattle.shape_buffer.specs.declared.buffer.settings.Direction.TheVariants.{LeftToRight, RightToLeft}
+use Rattle.shape_plan.specs.PlainTexts.{plain_unicode}
 use Rattle.shape_plan.specs.Run.{Run}
+use Rattle.shape_plan.specs.Shapers.{no_hooks}
 use Rattle.shape_plan.specs.declared.decisions.Decisions.{Decisions}
 use Rattle.shape_position.specs.Advances.{advanced}
 use Rattle.shape_position.specs.Ignorables.{ignorables_zeroed, ignorables_hidden}
 use Rattle.shape_position.specs.Selectors.{selectors_replaced}
 use Rattle.shape_position.specs.Steps.{advance_steps, table_steps, show_steps, finish_steps}
 use Rattle.shape_position.specs.Turning.{turned}
-use Rattle.shape_position.specs.WorkedPositions.{at, glyph_at, with_class, face_of, decided, shaper_with, no_hooks}
+use Rattle.shape_position.specs.WorkedGlyphs.{ignored, selecting}
+use Rattle.shape_position.specs.WorkedPositions.{at, glyph_at, with_class, face_of, decided, shaper_with}
 use Rattle.shape_position.specs.Zeroing.{marks_zeroed}
 
 -- one more digit at the end of each horizontal advance
@@ -51,8 +54,8 @@ abbrev pub hooked : Buffer → Buffer
 hooked b = record (with_digit (pos 8) b) { items = map tenfold b.items }
 
 -- the mask of kerning is 3, that of tracking 9
-abbrev pub masked : Decisions → Decisions
-masked decisions = record decisions { kern_mask = 3; trak_mask = 9 }
+abbrev pub with_table_masks : Decisions → Decisions
+with_table_masks decisions = record decisions { kern_mask = 3; trak_mask = 9 }
 
 -- a run of these lookups and that hook, whose shaper zeroes marks at a time
 abbrev pub counted : Run → LookupMeaning → ℕ → Decisions → Run
@@ -60,8 +63,8 @@ counted run lookups time decisions = record run {
   face = face_of 1000;
   lookups = lookups;
   constants = record (shaper_with time) { has_postprocess_glyphs = true };
-  hooks = Some (record no_hooks { postprocess = hooked });
-  decisions = masked decisions;
+  hooks = Some (record (no_hooks plain_unicode) { postprocess = hooked });
+  decisions = with_table_masks decisions;
 }
 
 -- one glyph at a position of zeros, in a buffer in which all was seen, and whose not-found glyph is 9
@@ -73,12 +76,6 @@ seen item = record new_buffer {
   scratch_flags = record { 0 = 63 };
   not_found_variation_selector_glyph = Some (record { 0 = 9 });
 }
-
-abbrev pub ignored : Item → Item
-ignored item = record item { properties = record item.properties { ignorable = true } }
-
-abbrev pub selecting : Item → Item
-selecting item = record item { properties = record item.properties { selector_mark = true } }
 
 abbrev pub advances : Run → Item → List GlyphPosition
 advances run item = (run_steps (table_steps run) (seen item)).positions

@@ -36,18 +36,28 @@ zeroed_mark adjust item position =
 unfoldable pub marks_zeroed : Bool → Buffer → Buffer
 marks_zeroed adjust b = positions_mapped (zeroed_mark (adjust && is_forward b.direction)) b
 
--- when marks lose their advances: by the constant of the shaper that the plan keeps, never (0) where it keeps none
-abbrev pub zero_width_time : ShaperConstants → Option HookMeaning → ℕ
-zero_width_time constants hooks = option_map_or (λ _. constants.zero_width_marks) hooks 0
+-- the times that a shaper may name: never, before tables place the marks, after that
+abbrev pub ZERO_WIDTH_MARKS_NONE : ℕ
+ZERO_WIDTH_MARKS_NONE = 0
 
--- zeroing at a time, early (1) or late (2): where the plan zeroes marks and the shaper's time is this one
+abbrev pub ZERO_WIDTH_MARKS_BY_GDEF_EARLY : ℕ
+ZERO_WIDTH_MARKS_BY_GDEF_EARLY = 1
+
+abbrev pub ZERO_WIDTH_MARKS_BY_GDEF_LATE : ℕ
+ZERO_WIDTH_MARKS_BY_GDEF_LATE = 2
+
+-- when marks lose their advances: by the constant of the shaper that the plan keeps, never where it keeps none
+abbrev pub zero_width_time : ShaperConstants → Option HookMeaning → ℕ
+zero_width_time constants hooks = option_map_or (λ _. constants.zero_width_marks) hooks ZERO_WIDTH_MARKS_NONE
+
+-- zeroing at a time: where the plan zeroes marks and the shaper's time is this one
 abbrev pub zeroed_at : ℕ → Decisions → ShaperConstants → Option HookMeaning → Buffer → Buffer
 zeroed_at time decisions constants hooks =
     step_if (decisions.zero_marks && (zero_width_time constants hooks == time))
     (marks_zeroed decisions.adjust_mark_positioning_when_zeroing)
 
 abbrev pub zeroed_early : Run → Buffer → Buffer
-zeroed_early run = zeroed_at 1 run.decisions run.constants run.hooks
+zeroed_early run = zeroed_at ZERO_WIDTH_MARKS_BY_GDEF_EARLY run.decisions run.constants run.hooks
 
 abbrev pub zeroed_late : Run → Buffer → Buffer
-zeroed_late run = zeroed_at 2 run.decisions run.constants run.hooks
+zeroed_late run = zeroed_at ZERO_WIDTH_MARKS_BY_GDEF_LATE run.decisions run.constants run.hooks

@@ -56,8 +56,9 @@ pub fn clear_positions(buffer: &mut hb_buffer_t)
     update_positions(buffer, |_, _| GlyphPosition::zero());
 }
 
-/// Gives each glyph its advance, and in lines that aren't horizontal its origin, in units of the face.
-/// Takes no memory.
+/// Gives each glyph its advance, and in lines that aren't horizontal its origin, in units of the face. An
+/// offset that doesn't fit wraps; one that fits is the exact difference, by the clauses `exact_x` and
+/// `exact_y` of `advance_position`. Takes no memory.
 #[tactic(auto, unfolding(crate::specs::Advances::advanced))]
 pub fn put_advances<F: hb_font_t>(face: &F, buffer: &mut hb_buffer_t)
     ensures { Made (advanced (F.face face.now)) buffer.old buffer.new }
@@ -70,7 +71,8 @@ pub fn put_advances<F: hb_font_t>(face: &F, buffer: &mut hb_buffer_t)
 }
 
 /// Makes the positions new, by the face alone: the first two steps of positioning, neither of which is
-/// ever refused. Fallback spaces come behind. Takes no memory.
+/// ever refused. Offsets are exact where they fit, as `put_advances` has them. Fallback spaces come behind.
+/// Takes no memory.
 pub fn position_default<U, F, M, S>(
     plan: &hb_ot_shape_plan_t<'_, S, M::Map, S::Data>,
     face: &F,

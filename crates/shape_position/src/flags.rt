@@ -67,12 +67,10 @@ fn mask_after(
 ) -> hb_mask_t
     ensures { result ≡ mask_after_of flags before info.now infos.now }
 {
-    if let Some((cluster, mask)) = before {
-        if info.cluster == cluster {
-            return mask;
-        }
+    match before {
+        Some((cluster, mask)) if info.cluster == cluster => mask,
+        _ => handed_flags(flags, united_flags(infos, info.cluster)),
     }
-    handed_flags(flags, united_flags(infos, info.cluster))
 }
 
 /// Gives the items of each cluster the flags of all, where the run has seen flags.

@@ -19,3 +19,15 @@ pub mod tables;
 mod tests;
 pub mod worked;
 pub mod zeroing;
+
+pub use advances::{clear_positions, position_default, put_advances};
+pub use finishing::{finish_glyphs, postprocess_glyphs, reverse_backward};
+pub use flags::propagate_flags;
+pub use ignorables::{hide_default_ignorables, zero_width_default_ignorables};
+pub use positioning::position_complex;
+pub use selectors::deal_with_variation_selectors;
+pub use tables::{
+    kern_by_plan, position_by_plan, position_finish_advances, position_finish_offsets,
+    position_start, remove_deleted, zero_width_deleted,
+};
+pub use zeroing::{zero_mark_widths_by_gdef, zero_marks_early, zero_marks_late};

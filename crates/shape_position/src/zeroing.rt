@@ -4,9 +4,8 @@
 //! before the tables place it, after, or never. Where no table moves marks, a mark of a forward line is
 //! moved back by the advance that it loses, so that it hangs over the glyph before it; in a backward line
 //! it then hangs over the glyph that comes to stand before it when the line is turned.
-ghost use Rattle.std.specs.Prelude.{◌≡◌, ◌==◌, ◌&&◌, true};
+ghost use Rattle.std.specs.Prelude.{◌≡◌};
 ghost use Rattle.shape_buffer.specs.Outcome.{Made};
-ghost use Rattle.shape_plan.specs.Run.{step_if};
 ghost use Rattle.shape_position.specs.Advances.{IsExactDifference};
 ghost use Rattle.shape_position.specs.Zeroing.{is_mark_glyph as is_mark_glyph_of};
 ghost use Rattle.shape_position.specs.Zeroing.{without_advances as without_advances_of};
@@ -73,7 +72,8 @@ fn zero_mark(adjust: bool, info: &hb_glyph_info_t, position: GlyphPosition) -> G
 }
 
 /// Takes the advances from the marks; where `adjust_offsets` holds and the buffer is forward, they are
-/// first moved back by them. Takes no memory.
+/// first moved back by them. An offset that doesn't fit then wraps; one that fits is exact, by the clauses
+/// `exact_x` and `exact_y` of `move_back`. Takes no memory.
 #[tactic(auto, unfolding(crate::specs::Zeroing::marks_zeroed))]
 pub fn zero_mark_widths_by_gdef(buffer: &mut hb_buffer_t, adjust_offsets: bool)
     ensures { Made (marks_zeroed adjust_offsets) buffer.old buffer.new }
@@ -101,6 +101,26 @@ where
     }
 }
 
+/// Takes the advances from marks, where the plan's shaper says this time and the plan zeroes marks.
+fn zero_marks_at<U, F, M, S>(
+    time: hb_ot_shape_zero_width_marks_type_t,
+    plan: &hb_ot_shape_plan_t<'_, S, M::Map, S::Data>,
+    face: &F,
+    buffer: &mut hb_buffer_t,
+)
+where
+    U: hb_unicode_funcs_t,
+    F: hb_font_t,
+    M: hb_ot_layout_t<F>,
+    S: hb_ot_shaper_t<U, F, M>,
+    ensures { let run = ⟦<S as Runs<U, F, M>>⟧.run plan.now face.now in
+        Made (zeroed_at time run.decisions run.constants run.hooks) buffer.old buffer.new }
+{
+    if plan.zero_marks() && zero_width_time::<U, F, M, S>(plan, face) == time {
+        zero_mark_widths_by_gdef(buffer, plan.adjust_mark_positioning_when_zeroing());
+    }
+}
+
 /// Takes the advances from marks before tables place them, where the plan's shaper says so and the plan
 /// zeroes marks. Takes no memory.
 pub fn zero_marks_early<U, F, M, S>(
@@ -116,10 +136,8 @@ where
     ensures { Made (zeroed_early (⟦<S as Runs<U, F, M>>⟧.run plan.now face.now))
         buffer.old buffer.new }
 {
-    let time = zero_width_time::<U, F, M, S>(plan, face);
-    if plan.zero_marks() && time == HB_OT_SHAPE_ZERO_WIDTH_MARKS_BY_GDEF_EARLY {
-        zero_mark_widths_by_gdef(buffer, plan.adjust_mark_positioning_when_zeroing());
-    }
+    let early = HB_OT_SHAPE_ZERO_WIDTH_MARKS_BY_GDEF_EARLY;
+    zero_marks_at::<U, F, M, S>(early, plan, face, buffer);
 }
 
 /// Takes the advances from marks after tables have placed them, where the plan's shaper says so and the
@@ -137,8 +155,6 @@ where
     ensures { Made (zeroed_late (⟦<S as Runs<U, F, M>>⟧.run plan.now face.now))
         buffer.old buffer.new }
 {
-    let time = zero_width_time::<U, F, M, S>(plan, face);
-    if plan.zero_marks() && time == HB_OT_SHAPE_ZERO_WIDTH_MARKS_BY_GDEF_LATE {
-        zero_mark_widths_by_gdef(buffer, plan.adjust_mark_positioning_when_zeroing());
-    }
+    let late = HB_OT_SHAPE_ZERO_WIDTH_MARKS_BY_GDEF_LATE;
+    zero_marks_at::<U, F, M, S>(late, plan, face, buffer);
 }

@@ -10,15 +10,15 @@ use Rattle.shape_buffer.specs.Unicode.{UnicodeMeaning}
 use Rattle.shape_buffer.specs.UnicodeProps.{with_unicode_props, with_scratch_of}
 use Rattle.shape_buffer.specs.FlagNames.{BEGINNING_OF_TEXT, DO_NOT_INSERT_DOTTED_CIRCLE}
 
-abbrev pub is_none : List ℕ → Bool
-is_none [] = true
-is_none (c ∷ cs) = false
+abbrev pub is_empty : List ℕ → Bool
+is_empty [] = true
+is_empty (c ∷ cs) = false
 
 -- a circle is put in where it isn't forbidden (32), nothing stands before the text, which begins here (2), and the face has U+25CC
 abbrev pub takes_circle : FaceMeaning → Buffer → Bool
 takes_circle face b =
     not (bit_and b.flags.0 DO_NOT_INSERT_DOTTED_CIRCLE == DO_NOT_INSERT_DOTTED_CIRCLE)
-    && bit_and b.flags.0 BEGINNING_OF_TEXT == BEGINNING_OF_TEXT && is_none b.pre_context && is_some (face.nominal_glyph 0x25CC)
+    && bit_and b.flags.0 BEGINNING_OF_TEXT == BEGINNING_OF_TEXT && is_empty b.pre_context && is_some (face.nominal_glyph 0x25CC)
 
 -- U+25CC with its own properties, and mask and cluster of the item that it goes before
 abbrev pub circle_before : UnicodeMeaning → Item → Item

@@ -24,16 +24,17 @@ is_letter_category ModifierLetter = true
 is_letter_category OtherLetter = true
 is_letter_category _ = false
 
-abbrev pub is_decimal_number : hb_unicode_general_category_t → Bool
-is_decimal_number DecimalNumber = true
-is_decimal_number _ = false
+-- the category of decimal digits
+abbrev pub is_digit_category : hb_unicode_general_category_t → Bool
+is_digit_category DecimalNumber = true
+is_digit_category _ = false
 
 abbrev pub is_letter : Item → Bool
 is_letter item = is_letter_category item.properties.general_category
 
 -- a digit, or a regional indicator, which runs to the right too
 abbrev pub is_number : Item → Bool
-is_number item = is_decimal_number item.properties.general_category || is_regional_indicator item.codepoint
+is_number item = is_digit_category item.properties.general_category || is_regional_indicator item.codepoint
 
 -- numbers and no letter
 abbrev pub has_numbers_alone : List Item → Bool

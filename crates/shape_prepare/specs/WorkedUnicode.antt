@@ -12,7 +12,7 @@ use Rattle.shape_buffer.specs.declared.buffer.settings.Direction.TheVariants.{Le
 use Rattle.shape_buffer.specs.declared.buffer.settings.Script.{Script}
 use Rattle.shape_plan.specs.PlainTexts.{bare_face, plain_unicode}
 
--- the categories (UAX 44)
+-- categories, near enough to those of UAX 44 for these cases
 abbrev pub category_of : ℕ → hb_unicode_general_category_t
 category_of c =
     if c == 0x61 || c == 0x62 then LowercaseLetter
@@ -26,7 +26,7 @@ category_of c =
     else if c == 0x28 || c == 0x29 then OpenPunctuation
     else OtherSymbol
 
--- Hebr is written right to left, Mong from the top, and of Zyyy nothing is known
+-- Hebr is written right to left, Mong from the top, Latn left to right, and of Zyyy nothing is known
 abbrev pub direction_of : Script → Option Direction
 direction_of script =
     if script.0.0 == 0x48656272 then Some RightToLeft

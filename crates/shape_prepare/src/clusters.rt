@@ -3,15 +3,14 @@
 //! A caller who asks for graphemes gets one cluster for each. Any other is told that a line can't be
 //! broken inside one without shaping anew. Text of ASCII characters alone has graphemes of one item, so
 //! nothing is done for it.
-ghost use Rattle.std.specs.Prelude.{◌≡◌, ◌≤◌, map, drop, length};
+ghost use Rattle.std.specs.Prelude.{◌≡◌};
 ghost use Rattle.shape_buffer.specs.BufferClusters.{merge_clusters, unsafe_to_break};
 ghost use Rattle.shape_buffer.specs.Outcome.{Made};
 ghost use Rattle.shape_prepare.specs.ClustersFormed.{clusters_formed, over_graphemes};
-ghost use Rattle.shape_prepare.specs.Graphemes.{is_continuation};
-ghost use Rattle.shape_prepare.specs.GraphemeWalk.{ends};
 
+use crate::grapheme_walk::{GraphemeChange, each_grapheme};
 use bitflags::Flags;
-use shape_buffer::buffer::{BufferClusterLevel, ScratchFlags, hb_buffer_t, hb_glyph_info_t};
+use shape_buffer::buffer::{BufferClusterLevel, ScratchFlags, hb_buffer_t};
 
 /// Where a character past ASCII was seen, merges each grapheme at level MONOTONE_GRAPHEMES, and marks each
 /// unsafe to break at the other levels. Takes no memory.
@@ -32,34 +31,12 @@ pub fn form_clusters(buffer: &mut hb_buffer_t)
 pub(crate) fn merge_graphemes(buffer: &mut hb_buffer_t)
     ensures { Made (over_graphemes merge_clusters) buffer.old buffer.new }
 {
-    let mut start = 0;
-    for last in 0..buffer.len() {
-        let end = last + 1;
-        if ends_grapheme(buffer.infos(), end) {
-            buffer.merge_clusters(start, end);
-            start = end;
-        }
-    }
+    each_grapheme(buffer, GraphemeChange::Merge);
 }
 
 /// Marks each grapheme unsafe to break.
 fn mark_graphemes(buffer: &mut hb_buffer_t)
     ensures { Made (over_graphemes unsafe_to_break) buffer.old buffer.new }
 {
-    let mut start = 0;
-    for last in 0..buffer.len() {
-        let end = last + 1;
-        if ends_grapheme(buffer.infos(), end) {
-            buffer.unsafe_to_break(start, end);
-            start = end;
-        }
-    }
-}
-
-/// Whether a grapheme ends before this place.
-pub(crate) fn ends_grapheme(infos: &[hb_glyph_info_t], end: usize) -> bool
-    requires { end ≤ length infos.now }
-    ensures { result ≡ ends (map is_continuation (drop end infos.now)) }
-{
-    end == infos.len() || !infos[end]._hb_glyph_info_get_continuation()
+    each_grapheme(buffer, GraphemeChange::Mark);
 }

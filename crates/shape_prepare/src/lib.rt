@@ -11,6 +11,7 @@
 
 pub mod clusters;
 pub mod dotted_circle;
+mod grapheme_walk;
 pub mod graphemes;
 pub mod laws;
 pub mod masks;
@@ -19,3 +20,11 @@ pub mod prepare;
 pub mod preprocess;
 pub mod rotation;
 pub mod worked;
+
+pub use clusters::form_clusters;
+pub use dotted_circle::insert_dotted_circle;
+pub use graphemes::set_unicode_props;
+pub use masks::initialize_masks;
+pub use native_direction::ensure_native_direction;
+pub use preprocess::preprocess_text;
+pub use rotation::rotate_chars;

@@ -10,15 +10,14 @@ ghost use Rattle.shape_prepare.specs.GraphemeWalk.{reverse_span};
 ghost use Rattle.shape_prepare.specs.ClustersFormed.{over_graphemes};
 ghost use Rattle.shape_prepare.specs.NativeOrder.{natively_ordered};
 ghost use Rattle.shape_prepare.specs.NativeOrder.{native_direction as native_direction_of};
-ghost use Rattle.shape_prepare.specs.NativeOrder.{native_for as native_for_of};
 ghost use Rattle.shape_prepare.specs.NativeOrder.{direction_of_script as direction_of_script_of};
 ghost use Rattle.shape_prepare.specs.NativeOrder.{is_against as is_against_of};
 ghost use Rattle.shape_prepare.specs.NativeOrder.{has_numbers_alone as has_numbers_alone_of};
 ghost use Rattle.shape_prepare.specs.NativeOrder.{is_letter as is_letter_of};
-ghost use Rattle.shape_prepare.specs.NativeOrder.{is_number as is_number_of, is_letter_category};
-ghost use Rattle.shape_prepare.specs.NativeOrder.{is_decimal_number, graphemes_turned};
+ghost use Rattle.shape_prepare.specs.NativeOrder.{is_number as is_number_of, graphemes_turned};
 
-use crate::clusters::{ends_grapheme, merge_graphemes};
+use crate::clusters::merge_graphemes;
+use crate::grapheme_walk::{GraphemeChange, each_grapheme};
 use crate::graphemes::is_regional_indicator;
 use shape_buffer::buffer::{
     BufferClusterLevel, Direction, Script, hb_buffer_t, hb_glyph_info_t,
@@ -28,8 +27,8 @@ use shape_buffer::interfaces::hb_unicode_funcs_t;
 
 /// Turns a text that runs against its native direction, and its direction with it: horizontal text unlike
 /// the direction of its script, where that is known, and vertical text that runs to the top. Graphemes
-/// stay as they are; at level MONOTONE_CHARACTERS each is merged first. Numbers without a letter are native
-/// from left to right in every script. Takes no memory.
+/// stay as they are; at level MONOTONE_CHARACTERS each is merged first. Text from left to right that has
+/// numbers and no letter stays so under a script that is written from right to left. Takes no memory.
 pub fn ensure_native_direction<U: hb_unicode_funcs_t>(buffer: &mut hb_buffer_t)
     ensures { Made (natively_ordered U.unicode) buffer.old buffer.new }
 {
@@ -137,12 +136,5 @@ fn reverse_graphemes(buffer: &mut hb_buffer_t)
     ensures reversed { Made (over_graphemes reverse_span) buffer.old buffer.new }
     ensures as_many { length buffer.old.positions ≡ length buffer.old.items }
 {
-    let mut start = 0;
-    for last in 0..buffer.len() {
-        let end = last + 1;
-        if ends_grapheme(buffer.infos(), end) {
-            buffer.reverse_range(start, end);
-            start = end;
-        }
-    }
+    each_grapheme(buffer, GraphemeChange::Turn);
 }

@@ -22,7 +22,7 @@ use std::alloc::Global;
 /// before a mark that begins the text, clusters, the native order, the shaper's `preprocess_text`, and the
 /// forms for the target direction, which is the one that the text was handed over in. Refuses with
 /// `Length` where a step would make the list longer than the buffer's limit, and with `Memory` where a
-/// growth was refused; the list is then as the steps before have left it.
+/// growth was refused; nothing is said of the buffer then.
 pub fn prepare<U, F, M, S>(
     alloc: Global,
     plan: &hb_ot_shape_plan_t<'_, S, M::Map, S::Data>,

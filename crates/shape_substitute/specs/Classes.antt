@@ -1,10 +1,11 @@
 -- Glyphs and their classes as substitution begins; syllables.
-use Rattle.std.specs.Prelude.{◌&&◌, not, Bool, true, false, if◌then◌else◌}
+use Rattle.std.specs.Prelude.{◌&&◌, not, false, if◌then◌else◌}
 use Rattle.shape_buffer.specs.Buffer.{Buffer}
 use Rattle.shape_buffer.specs.Category.{is_nonspacing_category}
 use Rattle.shape_buffer.specs.Items.{Item, is_ignorable_item}
 use Rattle.shape_buffer.specs.Walks.{items_mapped}
 use Rattle.shape_buffer.specs.declared.buffer.flags.GlyphPropsFlags.{GlyphPropsFlags}
+use Rattle.shape_buffer.specs.FlagNames.{MARK, BASE_GLYPH}
 
 -- the glyph of an item becomes the one that the face answered for its character
 abbrev pub with_nominal_glyph : Item → Item
@@ -13,10 +14,11 @@ with_nominal_glyph item = record item { glyph_id = item.glyph_index }
 unfoldable pub glyphs_mapped : Buffer → Buffer
 glyphs_mapped b = items_mapped with_nominal_glyph b
 
--- MARK (8) for a nonspacing mark that isn't ignorable, else BASE_GLYPH (2)
+-- MARK for a nonspacing mark that isn't ignorable, else BASE_GLYPH
 abbrev pub class_of_glyph : Item → GlyphPropsFlags
 class_of_glyph item =
-    if is_nonspacing_category item.properties.general_category && not (is_ignorable_item item) then record { 0 = 8 } else record { 0 = 2 }
+    if is_nonspacing_category item.properties.general_category && not (is_ignorable_item item) then record { 0 = MARK }
+    else record { 0 = BASE_GLYPH }
 
 -- the item with that class, as a glyph that no lookup has made
 abbrev pub with_class : Item → Item

@@ -32,7 +32,7 @@ abbrev pub text : Direction → ℕ → ℕ → List Item → Buffer
 text direction flags scratch items =
     record new_buffer { items = items; direction = direction; flags = record { 0 = flags }; scratch_flags = record { 0 = scratch } }
 
-abbrev masks_of : Buffer → List ℕ
+abbrev pub masks_of : Buffer → List ℕ
 masks_of b = map (λ item. item.mask) b.items
 
 -- the masks of a text in which a character past ASCII was seen

@@ -13,7 +13,7 @@ use Rattle.shape_buffer.specs.declared.buffer.settings.BufferClusterLevel.{Buffe
 use Rattle.shape_buffer.specs.declared.buffer.settings.BufferClusterLevel.TheVariants.{MonotoneGraphemes, MonotoneCharacters, Characters}
 use Rattle.shape_plan.specs.Run.{Run}
 use Rattle.shape_substitute.specs.Substitution.{stage_steps, substitute_steps}
-use Rattle.shape_substitute.specs.WorkedSteps.{with_stages, constants, by_tables}
+use Rattle.shape_substitute.specs.WorkedSteps.{with_stages, constants, by_tables, glyphs}
 
 abbrev with_glyph : ℕ → Item → Item
 with_glyph g item = record item { glyph_id = g }
@@ -62,14 +62,11 @@ with_engine n run =
 abbrev glyph_at : ℕ → ℕ → Item
 glyph_at g cluster = with_glyph g (new_item 0x61 cluster)
 
-abbrev text : BufferClusterLevel → List Item → Buffer
-text level items = record new_buffer { items = items; cluster_level = level }
+abbrev at_level : BufferClusterLevel → List Item → Buffer
+at_level level items = record new_buffer { items = items; cluster_level = level }
 
 abbrev after_stages : Run → ℕ → Buffer → Buffer
 after_stages run n b = run_steps (substitute_steps (with_engine n run)) b
-
-abbrev glyphs : Buffer → List ℕ
-glyphs b = map (λ item. item.glyph_id) b.items
 
 -- glyphs 1 5 6 7 of clusters 0 1 2 3
 abbrev plain : List Item
@@ -80,23 +77,23 @@ abbrev shared : List Item
 shared = glyph_at 1 0 ∷ glyph_at 5 1 ∷ glyph_at 6 2 ∷ glyph_at 7 2 ∷ []
 
 pub record SubstitutedTexts (run : Run) : Type 0 where
-  pub ligature : glyphs (after_stages run 1 (text MonotoneCharacters plain)) ≡ 1 ∷ 10 ∷ 7 ∷ []
-  pub ligature_merges : clusters (after_stages run 1 (text MonotoneCharacters plain)).items ≡ 0 ∷ 1 ∷ 3 ∷ []
-  pub merge_grows : clusters (after_stages run 1 (text MonotoneGraphemes shared)).items ≡ 0 ∷ 1 ∷ 1 ∷ []
-  pub not_merged : clusters (after_stages run 1 (text Characters shared)).items ≡ 0 ∷ 1 ∷ 2 ∷ []
-  pub two_of_one : glyphs (after_stages run 2 (text MonotoneCharacters plain)) ≡ 1 ∷ 11 ∷ 12 ∷ 7 ∷ []
-  pub both_in_its_cluster : clusters (after_stages run 2 (text MonotoneCharacters plain)).items ≡ 0 ∷ 1 ∷ 1 ∷ 3 ∷ []
-  pub single_last : glyphs (after_stages run 3 (text MonotoneCharacters plain)) ≡ 1 ∷ 11 ∷ 9 ∷ 7 ∷ []
-  pub one_again : glyphs (after_stages run 4 (text MonotoneCharacters plain)) ≡ 1 ∷ 10 ∷ 7 ∷ []
-  pub ligature_of_none : glyphs (after_stages run 4 (text MonotoneCharacters (glyph_at 6 0 ∷ glyph_at 5 1 ∷ []))) ≡ 6 ∷ 5 ∷ []
+  pub ligature : glyphs (after_stages run 1 (at_level MonotoneCharacters plain)) ≡ 1 ∷ 10 ∷ 7 ∷ []
+  pub ligature_merges : clusters (after_stages run 1 (at_level MonotoneCharacters plain)).items ≡ 0 ∷ 1 ∷ 3 ∷ []
+  pub merge_grows : clusters (after_stages run 1 (at_level MonotoneGraphemes shared)).items ≡ 0 ∷ 1 ∷ 1 ∷ []
+  pub not_merged : clusters (after_stages run 1 (at_level Characters shared)).items ≡ 0 ∷ 1 ∷ 2 ∷ []
+  pub two_of_one : glyphs (after_stages run 2 (at_level MonotoneCharacters plain)) ≡ 1 ∷ 11 ∷ 12 ∷ 7 ∷ []
+  pub both_in_its_cluster : clusters (after_stages run 2 (at_level MonotoneCharacters plain)).items ≡ 0 ∷ 1 ∷ 1 ∷ 3 ∷ []
+  pub single_last : glyphs (after_stages run 3 (at_level MonotoneCharacters plain)) ≡ 1 ∷ 11 ∷ 9 ∷ 7 ∷ []
+  pub one_again : glyphs (after_stages run 4 (at_level MonotoneCharacters plain)) ≡ 1 ∷ 10 ∷ 7 ∷ []
+  pub ligature_of_none : glyphs (after_stages run 4 (at_level MonotoneCharacters (glyph_at 6 0 ∷ glyph_at 5 1 ∷ []))) ≡ 6 ∷ 5 ∷ []
 
 -- two glyphs become four in stage 1, and two again in stage 3: the list is longest on the way
 pub record LongestOnTheWay (run : Run) : Type 0 where
-  pub before : length (run_steps (stage_steps (with_engine 4 run) 1) (text MonotoneCharacters (glyph_at 10 0 ∷ glyph_at 10 1 ∷ []))).items
+  pub before : length (run_steps (stage_steps (with_engine 4 run) 1) (at_level MonotoneCharacters (glyph_at 10 0 ∷ glyph_at 10 1 ∷ []))).items
       ≡ 2
-  pub longest : length (run_steps (stage_steps (with_engine 4 run) 2) (text MonotoneCharacters (glyph_at 10 0 ∷ glyph_at 10 1 ∷ []))).items
+  pub longest : length (run_steps (stage_steps (with_engine 4 run) 2) (at_level MonotoneCharacters (glyph_at 10 0 ∷ glyph_at 10 1 ∷ []))).items
       ≡ 4
-  pub after : glyphs (after_stages run 4 (text MonotoneCharacters (glyph_at 10 0 ∷ glyph_at 10 1 ∷ []))) ≡ 10 ∷ 10 ∷ []
+  pub after : glyphs (after_stages run 4 (at_level MonotoneCharacters (glyph_at 10 0 ∷ glyph_at 10 1 ∷ []))) ≡ 10 ∷ 10 ∷ []
 
 pub record WorkedLookups : Type 0 where
   pub texts : (run : Run) → SubstitutedTexts run

@@ -10,6 +10,7 @@ use Rattle.shape_buffer.specs.declared.buffer.settings.Feature.{Feature}
 use Rattle.shape_substitute.specs.Classes.{class_of_glyph, with_class, with_nominal_glyph, without_syllable, glyphs_mapped, classes_synthesised, syllables_cleared}
 use Rattle.shape_plan.specs.Requests.{is_global}
 use Rattle.shape_substitute.specs.Ranges.{shifted, with_value, ranges_masked}
+use Rattle.shape_substitute.specs.WorkedFractions.{masks_of}
 
 -- feature 1 has the bits 0x300, feature 2 the two highest, every other one none
 abbrev two_features : MapMeaning
@@ -29,28 +30,28 @@ abbrev masked_item : ℕ → ℕ → Item
 masked_item mask cluster = record (new_item 0x61 cluster) { mask = mask }
 
 -- the masks of items, once some features are set
-abbrev masked : List Feature → List Item → List ℕ
-masked features items = map (λ item. item.mask) (ranges_masked two_features features (record new_buffer { items = items })).items
+abbrev masks_with : List Feature → List Item → List ℕ
+masks_with features items = masks_of (ranges_masked two_features features (record new_buffer { items = items }))
 
 -- four items of clusters 0 to 3, with one mask
 abbrev four : ℕ → List Item
 four mask = masked_item mask 0 ∷ masked_item mask 1 ∷ masked_item mask 2 ∷ masked_item mask 3 ∷ []
 
 pub record UserFeatures : Type 0 where
-  pub in_the_middle : masked (feature 1 3 1 3 ∷ []) (four 0) ≡ 0 ∷ 0x300 ∷ 0x300 ∷ 0 ∷ []
-  pub clusters_and_not_places : masked (feature 1 3 1 3 ∷ []) (masked_item 0 7 ∷ masked_item 0 7 ∷ masked_item 0 1 ∷ masked_item 0 1 ∷ [])
+  pub in_the_middle : masks_with (feature 1 3 1 3 ∷ []) (four 0) ≡ 0 ∷ 0x300 ∷ 0x300 ∷ 0 ∷ []
+  pub clusters_and_not_places : masks_with (feature 1 3 1 3 ∷ []) (masked_item 0 7 ∷ masked_item 0 7 ∷ masked_item 0 1 ∷ masked_item 0 1 ∷ [])
       ≡ 0 ∷ 0 ∷ 0x300 ∷ 0x300 ∷ []
-  pub empty_range : masked (feature 1 3 2 2 ∷ []) (four 0) ≡ 0 ∷ 0 ∷ 0 ∷ 0 ∷ []
-  pub from_the_start : masked (feature 1 1 0 1 ∷ []) (four 0) ≡ 0x100 ∷ 0 ∷ 0 ∷ 0 ∷ []
-  pub to_the_end : masked (feature 1 1 2 4294967295 ∷ []) (four 0) ≡ 0 ∷ 0 ∷ 0x100 ∷ 0x100 ∷ []
-  pub over_the_whole : masked (feature 1 3 0 4294967295 ∷ []) (four 0) ≡ 0 ∷ 0 ∷ 0 ∷ 0 ∷ []
-  pub other_bits_stay : masked (feature 1 2 1 2 ∷ []) (four 0xFFFF) ≡ 0xFFFF ∷ 0xFEFF ∷ 0xFFFF ∷ 0xFFFF ∷ []
-  pub off : masked (feature 1 0 0 4 ∷ []) (four 0x301) ≡ 1 ∷ 1 ∷ 1 ∷ 1 ∷ []
-  pub later_wins : masked (feature 1 3 0 3 ∷ feature 1 1 1 4 ∷ []) (four 0) ≡ 0x300 ∷ 0x100 ∷ 0x100 ∷ 0x100 ∷ []
-  pub both_stand : masked (feature 2 1 1 2 ∷ feature 1 1 1 2 ∷ []) (four 0) ≡ 0 ∷ 0x80000100 ∷ 0 ∷ 0 ∷ []
-  pub past_the_bits : masked (feature 1 13 1 2 ∷ []) (four 0) ≡ 0 ∷ 0x100 ∷ 0 ∷ 0 ∷ []
-  pub past_the_word : masked (feature 2 3 1 2 ∷ []) (four 0) ≡ 0 ∷ 0x80000000 ∷ 0 ∷ 0 ∷ []
-  pub without_bits : masked (feature 3 1 0 4 ∷ []) (four 6) ≡ 6 ∷ 6 ∷ 6 ∷ 6 ∷ []
+  pub empty_range : masks_with (feature 1 3 2 2 ∷ []) (four 0) ≡ 0 ∷ 0 ∷ 0 ∷ 0 ∷ []
+  pub from_the_start : masks_with (feature 1 1 0 1 ∷ []) (four 0) ≡ 0x100 ∷ 0 ∷ 0 ∷ 0 ∷ []
+  pub to_the_end : masks_with (feature 1 1 2 4294967295 ∷ []) (four 0) ≡ 0 ∷ 0 ∷ 0x100 ∷ 0x100 ∷ []
+  pub over_the_whole : masks_with (feature 1 3 0 4294967295 ∷ []) (four 0) ≡ 0 ∷ 0 ∷ 0 ∷ 0 ∷ []
+  pub other_bits_stay : masks_with (feature 1 2 1 2 ∷ []) (four 0xFFFF) ≡ 0xFFFF ∷ 0xFEFF ∷ 0xFFFF ∷ 0xFFFF ∷ []
+  pub off : masks_with (feature 1 0 0 4 ∷ []) (four 0x301) ≡ 1 ∷ 1 ∷ 1 ∷ 1 ∷ []
+  pub later_wins : masks_with (feature 1 3 0 3 ∷ feature 1 1 1 4 ∷ []) (four 0) ≡ 0x300 ∷ 0x100 ∷ 0x100 ∷ 0x100 ∷ []
+  pub both_stand : masks_with (feature 2 1 1 2 ∷ feature 1 1 1 2 ∷ []) (four 0) ≡ 0 ∷ 0x80000100 ∷ 0 ∷ 0 ∷ []
+  pub past_the_bits : masks_with (feature 1 13 1 2 ∷ []) (four 0) ≡ 0 ∷ 0x100 ∷ 0 ∷ 0 ∷ []
+  pub past_the_word : masks_with (feature 2 3 1 2 ∷ []) (four 0) ≡ 0 ∷ 0x80000000 ∷ 0 ∷ 0 ∷ []
+  pub without_bits : masks_with (feature 3 1 0 4 ∷ []) (four 6) ≡ 6 ∷ 6 ∷ 6 ∷ 6 ∷ []
 
 user_features : UserFeatures
 unfolding ranges_masked items_mapped

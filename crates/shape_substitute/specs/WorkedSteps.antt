@@ -18,7 +18,7 @@ use Rattle.shape_substitute.specs.Classes.{glyphs_mapped, classes_synthesised}
 use Rattle.shape_substitute.specs.Fractions.{fractions_masked, slash_masked, features_added}
 use Rattle.shape_substitute.specs.Ranges.{ranges_masked}
 use Rattle.shape_substitute.specs.Substitution.{mask_steps, glyph_steps, substitute_steps}
-use Rattle.shape_substitute.specs.WorkedFractions.{with_fractions, text, half}
+use Rattle.shape_substitute.specs.WorkedFractions.{with_fractions, text, half, masks_of}
 
 -- what is done to each glyph
 abbrev each_glyph : (ℕ → ℕ) → Buffer → Buffer
@@ -79,7 +79,7 @@ by_tables morx gpos = record (with_fractions true) { apply_morx = morx; apply_gp
 abbrev glyph_5 : Buffer
 glyph_5 = record new_buffer { items = record (new_item 0x61 0) { glyph_index = 6; glyph_id = 5 } ∷ [] }
 
-abbrev glyphs : Buffer → List ℕ
+abbrev pub glyphs : Buffer → List ℕ
 glyphs b = map (λ item. item.glyph_id) b.items
 
 abbrev whole_feature : Feature
@@ -88,51 +88,35 @@ whole_feature = record { tag = record { 0 = 1 }; value = 1; start = 0; end = 429
 abbrev first_feature : Feature
 first_feature = record { tag = record { 0 = 1 }; value = 2; start = 0; end = 1 }
 
+-- the run with the shaper, and with none
+abbrev hooked : Run → Run
+hooked run = record run { hooks = Some (doubling run.unicode) }
+
+abbrev unhooked : Run → Run
+unhooked run = record run { hooks = None }
+
+-- the run over so many stages, or over the tables of a plan
+abbrev staged : Run → ShaperConstants → ℕ → Decisions → Run
+staged run of_shaper n decisions = record run { constants = of_shaper; map = with_stages n; decisions = decisions }
+
+-- what substitution makes of glyph 5
+abbrev glyphs_after : Run → List ℕ
+glyphs_after run = glyphs (run_steps (substitute_steps run) glyph_5)
+
 pub record RunsOfLookups (run : Run) : Type 0 where
   -- 5 and 1, twice, and 3
-  pub pause_between : glyphs (run_steps (substitute_steps (record run {
-    hooks = Some
-        (doubling run.unicode);
-    constants = constants true false;
-    map = with_stages 2;
-    decisions = by_tables false true;
-  })) glyph_5) ≡ 15 ∷ []
-  pub without_shaper : glyphs (run_steps (substitute_steps (record run { hooks = None; constants = constants true false; map = with_stages 2; decisions = by_tables false true })) glyph_5) ≡ 9 ∷ []
-  pub pause_not_given : glyphs (run_steps (substitute_steps (record run {
-    hooks = Some
-        (doubling run.unicode);
-    constants = constants false false;
-    map = with_stages 2;
-    decisions = by_tables false false;
-  })) glyph_5)
-      ≡ 9 ∷ []
-  pub no_stage : glyphs (run_steps (substitute_steps (record run {
-    hooks = Some
-        (doubling run.unicode);
-    constants = constants true false;
-    map = with_stages 0;
-    decisions = by_tables false false;
-  })) glyph_5) ≡ 5 ∷ []
-  pub one_stage : glyphs (run_steps (substitute_steps (record run {
-    hooks = Some
-        (doubling run.unicode);
-    constants = constants true false;
-    map = with_stages 1;
-    decisions = by_tables false false;
-  })) glyph_5)
-      ≡ 12 ∷ []
-  pub three_stages : glyphs (run_steps (substitute_steps (record run {
-    hooks = Some
-        (doubling run.unicode);
-    constants = constants true false;
-    map = with_stages 3;
-    decisions = by_tables false false;
-  })) glyph_5)
-      ≡ 1015 ∷ []
+  pub pause_between : glyphs_after (hooked (staged run (constants true false) 2 (by_tables false true))) ≡ 15 ∷ []
+  pub without_shaper : glyphs_after (unhooked (staged run (constants true false) 2 (by_tables false true))) ≡ 9 ∷ []
+  pub pause_not_given : glyphs_after (hooked (staged run (constants false false) 2 (by_tables false false))) ≡ 9 ∷ []
+  pub no_stage : glyphs_after (hooked (staged run (constants true false) 0 (by_tables false false))) ≡ 5 ∷ []
+  pub one_stage : glyphs_after (hooked (staged run (constants true false) 1 (by_tables false false))) ≡ 12 ∷ []
+  pub three_stages : glyphs_after (hooked (staged run (constants true false) 3 (by_tables false false))) ≡ 1015 ∷ []
   -- 5, two features and 100
-  pub by_morx : glyphs (run_steps (substitute_steps (record run { hooks = Some (doubling run.unicode); constants = constants true false; map = with_stages 2; decisions = by_tables true false; user_features = whole_feature ∷ whole_feature ∷ [] })) glyph_5) ≡ 107 ∷ []
+  pub by_morx : glyphs_after (record (hooked (staged run (constants true false) 2 (by_tables true false)))
+      { user_features = whole_feature ∷ whole_feature ∷ [] }) ≡ 107 ∷ []
   -- 5 and 100, three times
-  pub morx_and_gpos : glyphs (run_steps (substitute_steps (record run { hooks = None; constants = constants true false; map = with_stages 2; decisions = by_tables true true; user_features = [] })) glyph_5) ≡ 315 ∷ []
+  pub morx_and_gpos : glyphs_after (record (unhooked (staged run (constants true false) 2 (by_tables true true)))
+      { user_features = [] }) ≡ 315 ∷ []
 
 -- before the lookups: the glyph of the index, doubled by `substitute_start`, in class 4; another class in its place where the plan says so
 pub record RunsOfGlyphs (run : Run) : Type 0 where
@@ -143,34 +127,20 @@ pub record RunsOfGlyphs (run : Run) : Type 0 where
       (run_steps (glyph_steps (record run { decisions = record (with_fractions true) { fallback_glyph_classes = true } })) glyph_5).items
       ≡ 2 ∷ []
 
+-- the run that sets masks of fractions, of the shaper and of these features
+abbrev masking : Run → ShaperConstants → List Feature → Run
+masking run of_shaper features = record (staged run of_shaper 0 (with_fractions true)) { user_features = features }
+
+abbrev masks_after : Run → Buffer → List ℕ
+masks_after run b = masks_of (run_steps (mask_steps run) b)
+
 -- a fraction adds 0x300, 0x103 and 0x503, the hook adds 0x110, and then the user sets 2 in 0x300 of the first cluster
 pub record RunsOfMasks (run : Run) : Type 0 where
-  pub hook_then_user : map (λ item. item.mask) (run_steps (mask_steps (record run {
-    hooks = Some
-        (doubling run.unicode);
-    constants = constants false true;
-    map = with_stages 0;
-    decisions = with_fractions true;
-    user_features = first_feature ∷ [];
-  })) glyph_5).items ≡ 0x210 ∷ []
-  pub fraction_then_hook : map (λ item. item.mask) (run_steps (mask_steps (record run {
-    hooks = Some
-        (doubling run.unicode);
-    constants = constants false true;
-    map = with_stages 0;
-    decisions = with_fractions true;
-    user_features = [];
-  }))
-      (text LeftToRight 0 1 half)).items ≡ 0x410 ∷ 0x213 ∷ 0x613 ∷ []
-  pub hook_not_given : map (λ item. item.mask) (run_steps (mask_steps (record run {
-    hooks = Some
-        (doubling run.unicode);
-    constants = constants true false;
-    map = with_stages 0;
-    decisions = with_fractions true;
-    user_features = first_feature ∷ [];
-  })) glyph_5).items ≡ 0x200 ∷ []
-  pub without_shaper : map (λ item. item.mask) (run_steps (mask_steps (record run { hooks = None; constants = constants true true; map = with_stages 0; decisions = with_fractions true; user_features = [] })) glyph_5).items ≡ 0 ∷ []
+  pub hook_then_user : masks_after (hooked (masking run (constants false true) (first_feature ∷ []))) glyph_5 ≡ 0x210 ∷ []
+  pub fraction_then_hook : masks_after (hooked (masking run (constants false true) [])) (text LeftToRight 0 1 half)
+      ≡ 0x410 ∷ 0x213 ∷ 0x613 ∷ []
+  pub hook_not_given : masks_after (hooked (masking run (constants true false) (first_feature ∷ []))) glyph_5 ≡ 0x200 ∷ []
+  pub without_shaper : masks_after (unhooked (masking run (constants true true) [])) glyph_5 ≡ 0 ∷ []
 
 -- whatever else a run goes by
 pub record WorkedSteps : Type 0 where

@@ -13,3 +13,13 @@ pub mod ranges;
 pub mod substitution;
 pub mod syllables;
 pub mod worked;
+
+pub use fractions::setup_masks_fraction;
+pub use glyphs::{
+    hb_synthesize_glyph_classes, map_glyphs_fast, setup_glyphs, substitute_start,
+    synthesize_classes,
+};
+pub use masks::{setup_masks, setup_masks_shaper};
+pub use ranges::setup_masks_user;
+pub use substitution::substitute;
+pub use syllables::syllabic_clear_var;

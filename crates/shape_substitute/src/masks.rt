@@ -3,7 +3,6 @@
 //! Each later one sees what the earlier ones have set, so the user's wish stands over the shaper's.
 ghost use Rattle.std.specs.Prelude.{◌≡◌};
 ghost use Rattle.shape_buffer.specs.Outcome.{IsWithinLimit, Made, Ran};
-ghost use Rattle.shape_plan.specs.Plan.{hooks_of};
 ghost use Rattle.shape_plan.specs.Run.{hook_if};
 ghost use Rattle.shape_substitute.specs.Substitution.{mask_steps};
 

@@ -6,7 +6,7 @@
 ghost use Rattle.std.specs.Prelude.{◌≡◌, ◌<◌};
 ghost use Rattle.shape_buffer.specs.Outcome.{Made};
 ghost use Rattle.shape_buffer.specs.Walks.{items_mapped};
-ghost use Rattle.shape_substitute.specs.Ranges.{with_value as with_value_of, shifted};
+ghost use Rattle.shape_substitute.specs.Ranges.{with_value as with_value_of};
 ghost use Rattle.shape_substitute.specs.Ranges.{with_feature as with_feature_of, range_masked};
 ghost use Rattle.shape_substitute.specs.Ranges.{ranges_masked};
 

@@ -150,7 +150,7 @@ where
 }
 
 /// Takes out the glyphs that `morx` has deleted, where the table `GPOS` is to see the rest.
-fn remove_deleted<F, M, S, D>(
+fn remove_deleted_before_gpos<F, M, S, D>(
     plan: &hb_ot_shape_plan_t<'_, S, M::Map, D>,
     face: &F,
     buffer: &mut hb_buffer_t,
@@ -184,6 +184,6 @@ where
         buffer.old buffer.new result }
 {
     substitute_complex::<U, F, M, S>(alloc, plan, face, buffer)?;
-    remove_deleted::<F, M, S, S::Data>(plan, face, buffer);
+    remove_deleted_before_gpos::<F, M, S, S::Data>(plan, face, buffer);
     Ok(())
 }

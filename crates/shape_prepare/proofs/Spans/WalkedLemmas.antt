@@ -7,7 +7,9 @@ use Rattle.shape_buffer.specs.Outcome.{Made}
 use Rattle.shape_buffer.proofs.Merging.KeyLemmas.{keys-merge_clusters, keys-unsafe_to_break, length-merge_clusters, length-unsafe_to_break, without_items-merge_clusters, without_items-unsafe_to_break}
 use Rattle.shape_prepare.specs.ClustersFormed.{over_graphemes}
 use Rattle.shape_prepare.specs.Graphemes.{is_continuation}
-use Rattle.shape_prepare.specs.GraphemeWalk.{ends, reverse_span}
+use Rattle.shape_prepare.specs.GraphemeWalk.{ends, reverse_span, changed}
+use Rattle.shape_prepare.specs.declared.grapheme_walk.GraphemeChange.{GraphemeChange}
+use Rattle.shape_prepare.specs.declared.grapheme_walk.GraphemeChange.TheVariants.{Merge, Mark, Turn}
 use Rattle.shape_prepare.proofs.Spans.GraphemeWalkLemmas.{walk-spans, walk_ends, walk_goes_on, left_to_do, IsKey-continuation}
 use Rattle.shape_prepare.proofs.Spans.TurnLemmas.{behind-reversed, length-reversed_range}
 
@@ -83,23 +85,28 @@ module _ (f : ℕ → ℕ → Buffer → Buffer) (text : Buffer) where
 
 -- ---- what the code does with a span
 
-pub merging_leaves : LeavesRest merge_clusters
+merging_leaves : LeavesRest merge_clusters
 merging_leaves = record {
   bits = λ start end b ordered within. ap (drop end) (keys-merge_clusters is_continuation IsKey-continuation start end b);
   as_many = λ start end b ordered within. length-merge_clusters start end b;
   limit = λ start end b. ap limit_of (without_items-merge_clusters start end b);
 }
 
-pub marking_leaves : LeavesRest unsafe_to_break
+marking_leaves : LeavesRest unsafe_to_break
 marking_leaves = record {
   bits = λ start end b ordered within. ap (drop end) (keys-unsafe_to_break is_continuation IsKey-continuation.by_break start end b);
   as_many = λ start end b ordered within. length-unsafe_to_break start end b;
   limit = λ start end b. ap limit_of (without_items-unsafe_to_break start end b);
 }
 
-pub turning_leaves : LeavesRest reverse_span
+turning_leaves : LeavesRest reverse_span
 turning_leaves = record {
   bits = λ start end b ordered within. behind-reversed is_continuation start end b.items ordered within;
   as_many = λ start end b ordered within. length-reversed_range start end b.items ordered within;
   limit = λ start end b. refl;
 }
+
+pub change_leaves : (change : GraphemeChange) → LeavesRest (changed change)
+change_leaves Merge = merging_leaves
+change_leaves Mark = marking_leaves
+change_leaves Turn = turning_leaves

@@ -8,4 +8,4 @@ returns-in_err-substitute_complex g c =
     rw (p.1, p.2) (Refused-before _ c.in_err-substitute_complex.ensures)
 
 pub returns : goal.returns
-returns g c = Ran-then c.in_ok-substitute_complex.ensures (Ran-made c.in_ok-substitute_complex.ensures.within c.remove_deleted.ensures)
+returns g c = Ran-then c.in_ok-substitute_complex.ensures (Ran-made c.in_ok-substitute_complex.ensures.within c.remove_deleted_before_gpos.ensures)

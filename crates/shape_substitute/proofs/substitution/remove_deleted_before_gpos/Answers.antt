@@ -1,4 +1,4 @@
-use Rattle.shape_substitute.proofs.substitution.remove_deleted.Goals as goal
+use Rattle.shape_substitute.proofs.substitution.remove_deleted_before_gpos.Goals as goal
 
 pub returns-then-apply_gpos : goal.returns-then-apply_gpos
 returns-then-apply_gpos g c =
