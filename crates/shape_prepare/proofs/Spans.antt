@@ -1,5 +1,4 @@
 -- The spans of graphemes, and the walk over them.
-mod GraphemeWalkLemmas
 pub mod TurnLemmas
 pub mod WalkedLemmas
 pub mod RisingMergeLemmas

@@ -20,7 +20,8 @@ use Rattle.shape_buffer.specs.declared.buffer.settings.BufferClusterLevel.TheVar
 use Rattle.shape_buffer.specs.declared.buffer.settings.Direction.{Direction}
 use Rattle.shape_plan.specs.declared.decisions.Decisions.{Decisions}
 use Rattle.shape_prepare.specs.Begun.{begun}
-use Rattle.shape_prepare.specs.ClustersFormed.{clusters_formed, over_graphemes, grapheme_spans}
+use Rattle.shape_buffer.specs.GraphemeSpans.{grapheme_spans}
+use Rattle.shape_prepare.specs.ClustersFormed.{clusters_formed, over_graphemes}
 use Rattle.shape_prepare.specs.NativeOrder.{natively_ordered, native_direction, is_against, merged_to_turn, graphemes_turned}
 use Rattle.shape_prepare.specs.Rotated.{rotated, rotated_item, in_forms}
 use Rattle.shape_buffer.specs.Direction.{is_backward, is_vertical}

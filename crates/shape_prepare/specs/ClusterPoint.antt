@@ -4,7 +4,8 @@ use Rattle.std.specs.List.{flat_map}
 use Rattle.shape_buffer.specs.Items.{Item}
 use Rattle.shape_buffer.specs.declared.buffer.settings.BufferClusterLevel.TheVariants.{MonotoneGraphemes}
 use Rattle.shape_prepare.specs.Begun.{begun}
-use Rattle.shape_prepare.specs.Graphemes.{graphemes, graphemes_marked}
+use Rattle.shape_buffer.specs.GraphemeSpans.{graphemes}
+use Rattle.shape_prepare.specs.Graphemes.{graphemes_marked}
 use Rattle.std.specs.List.Sorted.{IsNonDecreasing}
 use Rattle.shape_buffer.specs.Buffer.{Buffer}
 use Rattle.shape_buffer.specs.Clusters.{clusters}

@@ -1,21 +1,11 @@
 -- The clusters of graphemes.
-use Rattle.std.specs.Prelude.{ℕ, ◌+◌, ◌==◌, if◌then◌else◌, List, [], ◌∷◌, map, fold, length}
+use Rattle.std.specs.Prelude.{ℕ, ◌==◌, if◌then◌else◌, fold}
 use Rattle.std.specs.Int.RustNames.{bit_and}
 use Rattle.shape_buffer.specs.Buffer.{Buffer}
 use Rattle.shape_buffer.specs.BufferClusters.{merge_clusters, unsafe_to_break}
-use Rattle.shape_buffer.specs.Items.{Item}
 use Rattle.shape_buffer.specs.declared.buffer.settings.BufferClusterLevel.TheVariants.{MonotoneGraphemes, MonotoneCharacters, Characters}
-use Rattle.shape_prepare.specs.Graphemes.{graphemes}
+use Rattle.shape_buffer.specs.GraphemeSpans.{grapheme_spans}
 use Rattle.shape_buffer.specs.FlagNames.{HAS_NON_ASCII}
-
--- where parts of these sizes begin and end, the first of them at `start`
-abbrev pub spans_from : ℕ → List ℕ → List (ℕ × ℕ)
-spans_from start [] = []
-spans_from start (size ∷ sizes) = (start, start + size) ∷ spans_from (start + size) sizes
-
--- the spans of a list's graphemes
-abbrev pub grapheme_spans : List Item → List (ℕ × ℕ)
-grapheme_spans items = spans_from 0 (map length (graphemes items))
 
 -- f over the span of each grapheme, from left to right
 abbrev pub over_graphemes : (ℕ → ℕ → Buffer → Buffer) → Buffer → Buffer

@@ -1,6 +1,5 @@
 -- The properties of a text's items, and which of them continue a grapheme.
 use Rattle.std.specs.Prelude.{ℕ, Bool, true, false, ◌&&◌, ◌||◌, not, nat_le, if◌then◌else◌, List, [], ◌∷◌, map, fold}
-use Rattle.canonical_form.specs.Divided.{divided}
 use Rattle.shape_buffer.specs.Buffer.{Buffer}
 use Rattle.shape_buffer.specs.Items.{Item}
 use Rattle.shape_buffer.specs.Unicode.{UnicodeMeaning}
@@ -86,10 +85,3 @@ graphemes_marked unicode b = record b {
   items = continuations_marked unicode Plain (map (with_unicode_props unicode) b.items);
   scratch_flags = fold (seen_item unicode) b.scratch_flags b.items;
 }
-
-abbrev pub is_continuation : Item → Bool
-is_continuation item = item.properties.continuation
-
--- the graphemes of a list: it is divided before each item after the first that is no continuation
-abbrev pub graphemes : List Item → List (List Item)
-graphemes items = divided is_continuation items

@@ -12,7 +12,8 @@ use Rattle.shape_buffer.specs.declared.buffer.settings.BufferClusterLevel.TheVar
 use Rattle.shape_buffer.specs.declared.buffer.settings.Direction.{Direction}
 use Rattle.shape_buffer.specs.declared.buffer.settings.Direction.TheVariants.{Invalid, LeftToRight, RightToLeft, TopToBottom, BottomToTop}
 use Rattle.shape_buffer.specs.declared.buffer.settings.Script.{Script}
-use Rattle.shape_prepare.specs.Graphemes.{graphemes, is_regional_indicator}
+use Rattle.shape_buffer.specs.GraphemeSpans.{graphemes}
+use Rattle.shape_prepare.specs.Graphemes.{is_regional_indicator}
 use Rattle.shape_prepare.specs.ClustersFormed.{over_graphemes}
 
 -- the five categories of letters

@@ -3,9 +3,10 @@
 //! A caller who asks for graphemes gets one cluster for each. Any other is told that a line can't be
 //! broken inside one without shaping anew. Text of ASCII characters alone has graphemes of one item, so
 //! nothing is done for it.
-ghost use Rattle.std.specs.Prelude.{◌≡◌};
+ghost use Rattle.std.specs.Prelude.{◌≡◌, ◌≢◌};
 ghost use Rattle.shape_buffer.specs.BufferClusters.{merge_clusters, unsafe_to_break};
 ghost use Rattle.shape_buffer.specs.Outcome.{Made};
+ghost use Rattle.shape_buffer.specs.declared.buffer.settings.BufferClusterLevel.TheVariants.{Characters};
 ghost use Rattle.shape_prepare.specs.ClustersFormed.{clusters_formed, over_graphemes};
 
 use crate::grapheme_walk::{GraphemeChange, each_grapheme};
@@ -27,11 +28,12 @@ pub fn form_clusters(buffer: &mut hb_buffer_t)
     }
 }
 
-/// Merges the clusters of each grapheme.
+/// Merges the clusters of each grapheme, at a level that merges.
 pub(crate) fn merge_graphemes(buffer: &mut hb_buffer_t)
+    requires { buffer.old.cluster_level ≢ Characters }
     ensures { Made (over_graphemes merge_clusters) buffer.old buffer.new }
 {
-    each_grapheme(buffer, GraphemeChange::Merge);
+    buffer.merge_graphemes();
 }
 
 /// Marks each grapheme unsafe to break.

@@ -2,16 +2,14 @@
 ghost use Rattle.std.specs.Prelude.{◌≡◌, ◌≤◌, map, drop, length};
 ghost use Rattle.shape_buffer.specs.Outcome.{Made};
 ghost use Rattle.shape_prepare.specs.ClustersFormed.{over_graphemes};
-ghost use Rattle.shape_prepare.specs.Graphemes.{is_continuation};
-ghost use Rattle.shape_prepare.specs.GraphemeWalk.{changed, ends};
+ghost use Rattle.shape_buffer.specs.GraphemeSpans.{is_continuation, ends};
+ghost use Rattle.shape_prepare.specs.GraphemeWalk.{changed};
 
 use shape_buffer::buffer::{hb_buffer_t, hb_glyph_info_t};
 
 /// What is done with each grapheme.
 #[derive(Clone, Copy, Debug)]
 pub(crate) enum GraphemeChange {
-    /// Its clusters are merged.
-    Merge,
     /// It is marked unsafe to break.
     Mark,
     /// The order of its items is turned.
@@ -26,7 +24,6 @@ impl GraphemeChange {
         ensures { buffer.new ≡ changed self start end buffer.old }
     {
         match self {
-            GraphemeChange::Merge => buffer.merge_clusters(start, end),
             GraphemeChange::Mark => buffer.unsafe_to_break(start, end),
             GraphemeChange::Turn => buffer.reverse_range(start, end),
         }

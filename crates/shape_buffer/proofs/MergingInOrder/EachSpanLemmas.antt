@@ -142,6 +142,14 @@ merged_out_at_once spans b new merges e = elim (level_cases b.cluster_level) [
   | inr is ↦ absurd (merges is)
 ]
 
+-- at a level that merges, merging out is merging
+pub spans_merged_out-merged : (spans : List (ℕ × ℕ)) (b : Buffer) → b.cluster_level ≢ Characters
+    → spans_merged_out spans b ≡ all_merged spans b
+spans_merged_out-merged spans b merges = merged_at_once spans b (spans_merged_out spans b) merges (elim (level_cases b.cluster_level) [
+  | inl monotone ↦ spans_merged_out-monotone spans b monotone
+  | inr is ↦ absurd (merges is)
+])
+
 -- spans that make the same of the items make the same of the buffer
 pub spans_merged_out-equal : (spans others : List (ℕ × ℕ)) (b : Buffer) → merge_each spans b.items ≡ merge_each others b.items
     → spans_merged_out spans b ≡ spans_merged_out others b

@@ -17,7 +17,8 @@ use Rattle.shape_buffer.specs.Unicode.{UnicodeMeaning}
 use Rattle.shape_buffer.proofs.Merging.JoinLemmas.{cluster_at}
 use Rattle.shape_prepare.specs.ClusterPoint.{first_clusters, PreparingKeepsFirsts}
 use Rattle.shape_prepare.specs.Begun.{begun}
-use Rattle.shape_prepare.specs.ClustersFormed.{clusters_formed, grapheme_spans}
+use Rattle.shape_buffer.specs.GraphemeSpans.{grapheme_spans, graphemes, is_continuation}
+use Rattle.shape_prepare.specs.ClustersFormed.{clusters_formed}
 use Rattle.shape_prepare.specs.NativeOrder.{natively_ordered}
 use Rattle.shape_plan.specs.Run.{hook_if}
 use Rattle.shape_buffer.specs.Keepers.{IsClusterKeeper}
@@ -26,7 +27,7 @@ use Rattle.shape_buffer.proofs.Steps.KeeperLemmas.{KeepsOrder-same, KeepsOrder-t
 use Rattle.shape_prepare.proofs.Keeping.OrderKeeperLemmas.{begun-keeps_order, graphemes_marked-keeps_order, dotted_circled-keeps_order, rotated-keeps_order, natively-in_order, formed-ready, circled-unseen, marked-unseen, seen_past}
 use Rattle.shape_prepare.proofs.StepLemmas.{clusters_formed-unseen, clusters_formed-merged}
 use Rattle.shape_prepare.specs.DottedCircle.{dotted_circled, with_circle, circle_before, takes_circle}
-use Rattle.shape_prepare.specs.Graphemes.{graphemes, graphemes_marked, is_continuation}
+use Rattle.shape_prepare.specs.Graphemes.{graphemes_marked}
 use Rattle.shape_prepare.proofs.Spans.RisingMergeLemmas.{Firsts, all-firsts, SomeEach}
 use Rattle.shape_prepare.proofs.Spans.GraphemeClusterLemmas.{some-graphemes, total-graphemes, merged-parts, graphemes_merged, spans-merged, NoneContinues}
 use Rattle.shape_plan.proofs.KeeperLemmas.{keeper-hook}

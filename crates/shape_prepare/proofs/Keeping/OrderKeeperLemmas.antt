@@ -34,9 +34,10 @@ use Rattle.shape_prepare.specs.Begun.{begun}
 use Rattle.shape_prepare.specs.ClusterPoint.{direction_for, InOrderFor, PreparingKeepsOrder}
 use Rattle.shape_plan.specs.Run.{hook_if}
 use Rattle.shape_plan.proofs.KeeperLemmas.{keeper-hook}
-use Rattle.shape_prepare.specs.ClustersFormed.{clusters_formed, over_graphemes, grapheme_spans, spans_from}
+use Rattle.shape_buffer.specs.GraphemeSpans.{grapheme_spans, spans_from, graphemes, is_continuation}
+use Rattle.shape_prepare.specs.ClustersFormed.{clusters_formed, over_graphemes}
 use Rattle.shape_prepare.specs.DottedCircle.{dotted_circled, with_circle, takes_circle}
-use Rattle.shape_prepare.specs.Graphemes.{graphemes, graphemes_marked, continuations_marked, continues, seen_item, is_continuation, is_to_next, is_skin_tone, is_regional_indicator, is_extender, is_passed, is_modifier_symbol}
+use Rattle.shape_prepare.specs.Graphemes.{graphemes_marked, continuations_marked, continues, seen_item, is_to_next, is_skin_tone, is_regional_indicator, is_extender, is_passed, is_modifier_symbol}
 use Rattle.shape_prepare.specs.NativeOrder.{natively_ordered, native_direction, is_against, graphemes_turned, merged_to_turn, from_last}
 use Rattle.shape_prepare.specs.Rotated.{rotated, rotated_item, in_forms, mirrored_or_masked, form_in}
 use Rattle.shape_prepare.specs.declared.graphemes.Before.{Before}

@@ -21,7 +21,8 @@ use Rattle.shape_plan.specs.declared.decisions.Decisions.{Decisions}
 use Rattle.shape_prepare.specs.Begun.{begun}
 use Rattle.shape_prepare.specs.ClustersFormed.{clusters_formed, over_graphemes}
 use Rattle.shape_prepare.specs.DottedCircle.{dotted_circled, with_circle, takes_circle}
-use Rattle.shape_prepare.specs.Graphemes.{graphemes, graphemes_marked, continuations_marked, is_continuation, is_to_next}
+use Rattle.shape_buffer.specs.GraphemeSpans.{graphemes, is_continuation}
+use Rattle.shape_prepare.specs.Graphemes.{graphemes_marked, continuations_marked, is_to_next}
 use Rattle.shape_prepare.specs.NativeOrder.{natively_ordered, native_direction, is_against, merged_to_turn, from_last}
 use Rattle.shape_prepare.specs.PreparedPoint.{KeepsPrepared, PreparingPrepares}
 use Rattle.shape_prepare.specs.Rotated.{rotated, rotated_item, in_forms, mirrored_or_masked, mirrored_item, form_in}

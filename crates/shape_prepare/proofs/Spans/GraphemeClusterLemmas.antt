@@ -13,10 +13,9 @@ use Rattle.shape_buffer.specs.Items.{Item}
 use Rattle.shape_buffer.proofs.Merging.ClusterLemmas.{merge_clusters-monotone}
 use Rattle.shape_buffer.proofs.Order.GraphemeOrderLemmas.{AreOneCluster}
 use Rattle.shape_buffer.proofs.Merging.KeyLemmas.{keys-merge}
-use Rattle.shape_prepare.specs.ClustersFormed.{grapheme_spans}
-use Rattle.shape_prepare.specs.Graphemes.{graphemes, is_continuation}
+use Rattle.shape_buffer.specs.GraphemeSpans.{grapheme_spans, graphemes, is_continuation}
 use Rattle.shape_prepare.specs.NativeOrder.{parted}
-use Rattle.shape_prepare.proofs.Spans.GraphemeWalkLemmas.{IsKey-continuation}
+use Rattle.shape_buffer.proofs.MergingInOrder.GraphemeWalkLemmas.{IsKey-continuation}
 use Rattle.shape_prepare.proofs.Spans.RisingMergeLemmas.{all_merged, parts-merged, parts-one_cluster, SomeEach, Merged}
 use Rattle.shape_prepare.proofs.Spans.TurnLemmas.{total, total-lengths}
 

@@ -11,7 +11,7 @@ use Rattle.shape_buffer.proofs.Order.GraphemeOrderLemmas.{AreOneCluster}
 use Rattle.shape_buffer.proofs.Merging.JoinLemmas.{cluster_at}
 use Rattle.shape_buffer.proofs.Merging.KeyLemmas.{length-merge}
 use Rattle.shape_buffer.proofs.Merging.MergeOrder.{least_of_span_reached, put_range_below, put_range_inside, put_range_above, growth_right-within, place_cases, merge_keeps}
-use Rattle.shape_prepare.specs.ClustersFormed.{spans_from}
+use Rattle.shape_buffer.specs.GraphemeSpans.{spans_from}
 use Rattle.shape_prepare.specs.NativeOrder.{parted}
 use Rattle.shape_prepare.proofs.Spans.TurnLemmas.{total}
 

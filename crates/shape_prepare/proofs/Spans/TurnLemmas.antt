@@ -8,8 +8,8 @@ use Rattle.shape_buffer.specs.Ranges.{reversed_range}
 use Rattle.shape_buffer.specs.Direction.{reverse_of}
 use Rattle.shape_buffer.specs.Items.{Item}
 use Rattle.shape_buffer.specs.declared.buffer.positions.GlyphPosition.{GlyphPosition}
-use Rattle.shape_prepare.specs.Graphemes.{graphemes, is_continuation}
-use Rattle.shape_prepare.specs.ClustersFormed.{spans_from, over_graphemes}
+use Rattle.shape_buffer.specs.GraphemeSpans.{graphemes, is_continuation, spans_from}
+use Rattle.shape_prepare.specs.ClustersFormed.{over_graphemes}
 use Rattle.shape_prepare.specs.GraphemeWalk.{reverse_span}
 use Rattle.shape_prepare.specs.NativeOrder.{parted, from_last, graphemes_turned}
 

@@ -2,15 +2,15 @@
 use Rattle.std.proofs.Common.{◌≡◌, ℕ, ◌+◌, ◌<◌, ◌≤◌, true, false, Bool, List, length, drop, map, refl, sym, ap, ◌∙◌, arith}
 use Rattle.std.proofs.lemmas.List.{length-map, drop_all, drop-drop, drop-map}
 use Rattle.shape_buffer.specs.Buffer.{Buffer, limit_of}
-use Rattle.shape_buffer.specs.BufferClusters.{merge_clusters, unsafe_to_break}
+use Rattle.shape_buffer.specs.BufferClusters.{unsafe_to_break}
 use Rattle.shape_buffer.specs.Outcome.{Made}
-use Rattle.shape_buffer.proofs.Merging.KeyLemmas.{keys-merge_clusters, keys-unsafe_to_break, length-merge_clusters, length-unsafe_to_break, without_items-merge_clusters, without_items-unsafe_to_break}
+use Rattle.shape_buffer.proofs.Merging.KeyLemmas.{keys-unsafe_to_break, length-unsafe_to_break, without_items-unsafe_to_break}
 use Rattle.shape_prepare.specs.ClustersFormed.{over_graphemes}
-use Rattle.shape_prepare.specs.Graphemes.{is_continuation}
-use Rattle.shape_prepare.specs.GraphemeWalk.{ends, reverse_span, changed}
+use Rattle.shape_buffer.specs.GraphemeSpans.{is_continuation, ends}
+use Rattle.shape_prepare.specs.GraphemeWalk.{reverse_span, changed}
 use Rattle.shape_prepare.specs.declared.grapheme_walk.GraphemeChange.{GraphemeChange}
-use Rattle.shape_prepare.specs.declared.grapheme_walk.GraphemeChange.TheVariants.{Merge, Mark, Turn}
-use Rattle.shape_prepare.proofs.Spans.GraphemeWalkLemmas.{walk-spans, walk_ends, walk_goes_on, left_to_do, IsKey-continuation}
+use Rattle.shape_prepare.specs.declared.grapheme_walk.GraphemeChange.TheVariants.{Mark, Turn}
+use Rattle.shape_buffer.proofs.MergingInOrder.GraphemeWalkLemmas.{walk-spans, walk_ends, walk_goes_on, left_to_do, IsKey-continuation}
 use Rattle.shape_prepare.proofs.Spans.TurnLemmas.{behind-reversed, length-reversed_range}
 
 -- what is done with a span changes no bit behind it, nor how many items there are, nor the limit
@@ -85,13 +85,6 @@ module _ (f : ℕ → ℕ → Buffer → Buffer) (text : Buffer) where
 
 -- ---- what the code does with a span
 
-merging_leaves : LeavesRest merge_clusters
-merging_leaves = record {
-  bits = λ start end b ordered within. ap (drop end) (keys-merge_clusters is_continuation IsKey-continuation start end b);
-  as_many = λ start end b ordered within. length-merge_clusters start end b;
-  limit = λ start end b. ap limit_of (without_items-merge_clusters start end b);
-}
-
 marking_leaves : LeavesRest unsafe_to_break
 marking_leaves = record {
   bits = λ start end b ordered within. ap (drop end) (keys-unsafe_to_break is_continuation IsKey-continuation.by_break start end b);
@@ -107,6 +100,5 @@ turning_leaves = record {
 }
 
 pub change_leaves : (change : GraphemeChange) → LeavesRest (changed change)
-change_leaves Merge = merging_leaves
 change_leaves Mark = marking_leaves
 change_leaves Turn = turning_leaves

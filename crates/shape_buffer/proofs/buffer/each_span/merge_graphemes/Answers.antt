@@ -1,4 +1,4 @@
-use Rattle.std.proofs.Common.{◌≡◌, ◌<◌, ◌≤◌, ◌+◌, ◌++◌, [], length, map, take, drop, slice_range, arith, refl, ap, sym, subst, ◌∙◌}
+use Rattle.std.proofs.Common.{◌≡◌, ◌<◌, ◌+◌, ◌++◌, [], length, map, take, drop, slice_range, arith, refl, ap, sym, subst, ◌∙◌}
 use Rattle.std.proofs.lemmas.List.{take-take, length-take-le, length-map, drop_all, drop-drop, drop-map}
 use Rattle.shape_buffer.specs.Clusters.{merge}
 use Rattle.shape_buffer.specs.GraphemeSpans.{is_continuation, ends}
