@@ -204,6 +204,11 @@ fn items_are_exchanged_with_their_positions(rt: HostRuntime) -> Result<(), Fail>
         .map(|position| position.x_advance)
         .collect(rt.alloc())?;
     assert_eq!(rt; advances.as_slice(), [0, 0, 7].as_slice());
+    buffer.swap_infos(1, 2);
+    let found = rows(rt.alloc(), &buffer)?;
+    assert_eq!(rt; found.as_slice(), [(2, 4), (0, 1), (1, 2)].as_slice());
+    buffer.swap_infos(2, 1);
+    assert!(rt; buffer.positions().last().is_some_and(|last| last.x_advance == 7));
     let flags: Vec<(bool, bool, bool)> = buffer
         .infos()
         .iter()
