@@ -172,9 +172,13 @@ fn modified_combining_classes(rt: HostRuntime) {
     ];
     assert_eq!(rt;
         hebrew,
-        [22, 15, 16, 17, 23, 18, 19, 20, 21, 14, 24, 12, 25, 13, 10, 11, 26]
+        [
+            22, 15, 16, 17, 23, 18, 19, 20, 21, 14, 24, 12, 25, 13, 10, 11, 26
+        ]
     );
-    let arabic = [CCC27, CCC28, CCC29, CCC30, CCC31, CCC32, CCC33, CCC34, CCC35];
+    let arabic = [
+        CCC27, CCC28, CCC29, CCC30, CCC31, CCC32, CCC33, CCC34, CCC35,
+    ];
     assert_eq!(rt; arabic, [28, 29, 30, 31, 32, 33, 27, 34, 35]);
     assert_eq!(rt; [CCC36, CCC84, CCC91], [36, 4, 5]);
     assert_eq!(rt; [CCC103, CCC107, CCC118, CCC122], [3, 107, 118, 122]);
