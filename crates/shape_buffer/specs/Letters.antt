@@ -1,6 +1,5 @@
 -- What the tests of the buffer bring: functions of Unicode by which every character is a letter of the Latin script.
 use Rattle.std.specs.Prelude.{false, Some, None, refl}
-use Rattle.std.proofs.Common.{rules}
 use Rattle.shape_buffer.specs.Unicode.{UnicodeMeaning, LawfulUnicode}
 use Rattle.shape_buffer.specs.declared.buffer.general_category.hb_unicode_general_category_t.TheVariants.{OtherLetter}
 use Rattle.shape_buffer.specs.declared.buffer.settings.Direction.TheVariants.{LeftToRight}

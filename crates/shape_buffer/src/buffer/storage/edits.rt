@@ -134,7 +134,9 @@ impl hb_buffer_t {
             outcome = make_room(&mut self.run_starts, self.infos.len());
         }
         if outcome.is_ok() {
-            outcome = append_zeros(&mut self.positions, self.infos.len() - before);
+            outcome = self
+                .positions
+                .resize(self.infos.len(), GlyphPosition::zero());
         }
         if outcome.is_err() {
             self.infos.truncate(before);
@@ -151,19 +153,6 @@ pub(super) fn zero_positions(positions: &mut [GlyphPosition])
     for position in positions.iter_mut() {
         *position = GlyphPosition::zero();
     }
-}
-
-/// Appends so many positions of zeros; where memory runs out nothing changes.
-fn append_zeros(positions: &mut Vec<GlyphPosition>, count: usize) -> Result<(), AllocError>
-    ensures ok { OnOk result (positions.new.items
-        ≡ positions.old.items ++ replicate count zero_position) }
-    ensures err { OnErr result (positions.new.items ≡ positions.old.items) }
-{
-    positions.reserve(count)?;
-    for _ in 0..count {
-        positions.push(GlyphPosition::zero())?;
-    }
-    Ok(())
 }
 
 /// Makes a list at least so long. It gets no shorter, also where memory is refused.
