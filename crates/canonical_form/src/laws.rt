@@ -43,7 +43,7 @@ pub fn choice_is_extremal()
     ensures stays { ChoiceStays }
 {}
 
-/// Each character of a choice is the chosen-for character or has a glyph.
+/// Each character of a choice is the character itself or has a glyph.
 pub fn choice_brings_glyphs()
     ensures { ChoiceBringsGlyphs }
 {}
@@ -79,8 +79,8 @@ pub fn canonical_is_unique()
     ensures { CanonicalIsUnique }
 {}
 
-/// The greatest choices of a text, settled run by run, are canonical; two texts are equivalent
-/// exactly where these lists are equal. Each character of Full has a glyph, and no run is too long.
+/// Where each character of Full has a glyph and no run is too long: the greatest choices, settled run by
+/// run, are canonical, and two texts are equivalent exactly where these lists are equal.
 pub fn decomposed_is_canonical()
     ensures canonical { DecomposedIsCanonical }
     ensures decides { DecomposedDecides }
@@ -116,8 +116,8 @@ pub fn normalised_is_equivalent()
     ensures recomposed { NormalisedIsEquivalent }
 {}
 
-/// Before an item that is no mark, and whose choice begins with none, a list may be cut: the parts,
-/// normalised each by itself, joined, are the whole one normalised.
+/// A list may be cut: for expanding before an item that is no mark, for settling and recomposing before one
+/// of ccc 0 that is no mark. What the two parts become, each by itself, is together what the whole becomes.
 pub fn cuts_apart<T>()
     ensures expanded { ExpandedCutsApart T }
     ensures settled { SettledCutsApart T }

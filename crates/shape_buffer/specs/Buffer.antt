@@ -59,10 +59,22 @@ cleared b = record b {
   post_context = [];
 }
 
+-- the greatest number that can be counted
+abbrev pub most_countable : ℕ
+most_countable = 18446744073709551615
+
+-- a run may make so many items of each that it began with
+abbrev pub MAX_LEN_FACTOR : ℕ
+MAX_LEN_FACTOR = 64
+
+-- and so many, however few it began with
+abbrev pub MAX_LEN_MIN : ℕ
+MAX_LEN_MIN = 16384
+
 -- the most items that a buffer takes: all that can be counted where there is no limit
 abbrev pub limit_of : Buffer → ℕ
-limit_of b = unwrap_or b.length_limit 18446744073709551615
+limit_of b = unwrap_or b.length_limit most_countable
 
 -- the limit of a run that begins with n items; the product stays at the greatest number that can be counted
 abbrev pub run_limit : ℕ → ℕ
-run_limit n = max (min (n * 64) 18446744073709551615) 16384
+run_limit n = max (min (n * MAX_LEN_FACTOR) most_countable) MAX_LEN_MIN

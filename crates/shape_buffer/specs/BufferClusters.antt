@@ -6,7 +6,7 @@ use Rattle.shape_buffer.specs.Buffer.{Buffer}
 use Rattle.shape_buffer.specs.declared.buffer.settings.BufferClusterLevel.TheVariants.{MonotoneGraphemes, MonotoneCharacters, Characters}
 use Rattle.shape_buffer.specs.FlagNames.{PRODUCE_UNSAFE_TO_CONCAT, HAS_GLYPH_FLAGS}
 
--- the buffer with the has-flags bit set
+-- the buffer with the scratch flag HAS_GLYPH_FLAGS set
 abbrev pub with_glyph_flags : Buffer → Buffer
 with_glyph_flags b = record b { scratch_flags = record { 0 = bit_or b.scratch_flags.0 HAS_GLYPH_FLAGS } }
 

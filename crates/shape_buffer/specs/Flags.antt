@@ -43,7 +43,7 @@ with_mask mask item = record item { mask = mask }
 abbrev pub run_flagged : BufferFlags → List Item → List Item
 run_flagged flags run = map (with_mask (handed_flags flags (united_flags run))) run
 
--- where the run has seen flags (scratch flag 32), each cluster gets one set of them
+-- where the run has seen flags (HAS_GLYPH_FLAGS), each cluster gets one set of them
 unfoldable pub flags_propagated : Buffer → Buffer
 flags_propagated b =
     if has_glyph_flags b then record b { items = flat_map (run_flagged b.flags) (cluster_runs b.items) } else b

@@ -9,7 +9,7 @@ use Rattle.shape_buffer.specs.declared.buffer.settings.Direction.TheVariants.{In
 
 -- a script other than Common (Zyyy), Inherited (Zinh) and Unknown (Zzzz)
 abbrev pub is_specific : Script → Bool
-is_specific script = not (script.0.0 == 1517910393 || script.0.0 == 1516858984 || script.0.0 == 1517976186)
+is_specific script = not (script.0.0 == 0x5A797979 || script.0.0 == 0x5A696E68 || script.0.0 == 0x5A7A7A7A)
 
 -- the first specific script of the characters
 abbrev pub first_script : UnicodeMeaning → List Item → Option Script

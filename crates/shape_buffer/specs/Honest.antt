@@ -3,6 +3,6 @@ use Rattle.std.specs.Prelude.{◌≡◌, ℕ, false}
 use Rattle.shape_buffer.specs.Buffer.{Buffer}
 use Rattle.shape_buffer.specs.KeepsFlags.{IsDefinedFlag, some_has, has_glyph_flags}
 
--- where the scratch flag "has glyph flags" is off, no item has a defined flag
+-- where the scratch flag HAS_GLYPH_FLAGS is off, no item has a defined flag
 pub record IsHonest (b : Buffer) : Type 0 where
   pub honest : has_glyph_flags b ≡ false → (flag : ℕ) → IsDefinedFlag flag → some_has flag b.items ≡ false

@@ -57,7 +57,7 @@ char_of item = item.codepoint
 
 -- a mask without the three defined flags
 abbrev pub feature_bits : ℕ → ℕ
-feature_bits mask = bit_and mask 4294967288
+feature_bits mask = bit_and mask 0xFFFFFFF8
 
 -- whether an item stands in the cluster
 abbrev pub has_cluster : ℕ → Item → Bool

@@ -45,7 +45,7 @@ pub record LookupMeaning : Type 0 where
   pub aat_position : ℕ → Buffer → Buffer
   pub kern : ℕ → Buffer → Buffer
 
--- a mask without a defined flag bit
+-- a mask without a defined flag
 abbrev pub HasNoDefinedFlag : ℕ → Type 0
 HasNoDefinedFlag mask = bit_and mask DEFINED ≡ 0
 

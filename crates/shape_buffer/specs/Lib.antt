@@ -31,3 +31,4 @@ pub mod Prepared
 pub mod Ranges
 pub mod PositionWalks
 pub mod Honest
+pub mod Letters

@@ -6,6 +6,7 @@ use Rattle.shape_buffer.specs.declared.interfaces.map_request.MapRequest.{MapReq
 use Rattle.shape_buffer.specs.declared.interfaces.map_request.MapRequest.TheVariants.{Feature, Pause}
 use Rattle.shape_buffer.specs.declared.interfaces.map_request.TableIndex.{TableIndex}
 use Rattle.shape_buffer.specs.declared.interfaces.map_request.TableIndex.TheVariants.{GSUB, GPOS}
+use Rattle.shape_buffer.specs.FlagNames.{F_GLOBAL}
 
 -- the requests in order, and the scripts that the engine chose; is_simple begins true, and is false where a collect hook is given or user
 -- features are passed
@@ -36,13 +37,13 @@ with_request builder request = with_requests builder (request ∷ [])
 abbrev pub feature : hb_tag_t → ℕ → ℕ → MapRequest
 feature tag flags value = Feature tag flags value
 
--- a feature over the whole text: with the flag F_GLOBAL (1)
+-- a feature over the whole text: F_GLOBAL is among its flags
 abbrev pub feature_on : hb_tag_t → ℕ → ℕ → MapRequest
-feature_on tag flags value = feature tag (bit_or 1 flags) value
+feature_on tag flags value = feature tag (bit_or F_GLOBAL flags) value
 
 -- a feature turned off over the whole text
 abbrev pub feature_off : hb_tag_t → MapRequest
-feature_off tag = feature tag 1 0
+feature_off tag = feature tag F_GLOBAL 0
 
 -- a pause of substitution, which may have a number
 abbrev pub pause : Option ℕ → MapRequest

@@ -10,8 +10,5 @@ pub(crate) fn exchange(buffer: &mut hb_buffer_t, i: usize, j: usize)
     requires second { j < length buffer.old.items }
     ensures { buffer.new ≡ exchanged i j buffer.old }
 {
-    let first = buffer.infos()[i];
-    let second = buffer.infos()[j];
-    buffer.set_info(i, second);
-    buffer.set_info(j, first);
+    buffer.swap_infos(i, j);
 }

@@ -14,7 +14,7 @@ use Rattle.shape_buffer.specs.BufferClusters.{with_glyph_flags, merge_at, unsafe
 use Rattle.shape_buffer.specs.KeepsFlags.{IsDefinedFlag, has_flag, some_has, has_glyph_flags, KeepsFlags}
 use Rattle.shape_buffer.proofs.Merging.ClusterLemmas.{grown_start, grown_end, merge-cases, unsafe_to_break-cases, merge_clusters-cases, merge_out-cases}
 
--- the has-flags bit is set
+-- HAS_GLYPH_FLAGS is set
 pub glyph_flags_set : (b : Buffer) → has_glyph_flags (with_glyph_flags b) ≡ true
 glyph_flags_set b = rw (and_or_self 32 b.scratch_flags.0) refl
 
@@ -101,7 +101,7 @@ pub KeepsFlags-items : (b : Buffer) (ys : List Item)
     → KeepsFlags b (record b { items = ys })
 KeepsFlags-items b ys h = record { flags = refl; stays_set = λ e. e; none_new = λ flag d some. inl (h flag d some) }
 
--- one that has the has-flags bit may have any flag
+-- one with HAS_GLYPH_FLAGS may have any flag
 KeepsFlags-set : (b : Buffer) (ys : List Item) → KeepsFlags b (record (with_glyph_flags b) { items = ys })
 KeepsFlags-set b ys = record { flags = refl; stays_set = λ e. glyph_flags_set b; none_new = λ flag d some. inr (glyph_flags_set b) }
 

@@ -30,7 +30,7 @@ pub honest-run : (steps : List Step) (b : Buffer) → EachStep IsFlagKeeper step
 honest-run [] b keep honest = honest
 honest-run (step ∷ steps) b keep honest = honest-run steps (step.makes b) keep.1 (honest-kept (keep.0 b) honest)
 
--- without any of the three flags the defined bits are 0
+-- without any of the three flags the defined ones are 0
 no_flags : (m : ℕ) → bit_and m 1 ≡ 0 → bit_and m 2 ≡ 0 → bit_and m 4 ≡ 0 → bit_and m 7 ≡ 0
 no_flags m one two four = small (bit_and m 7) (and_le_r m 7) (and_assoc 1 m 7 ∙ one) (and_assoc 2 m 7 ∙ two) (and_assoc 4 m 7 ∙ four)
   where

@@ -4,7 +4,7 @@ ghost use Rattle.shape_buffer.specs.Text.{context_before, context_after};
 
 use std::marker::Model;
 
-/// The characters of a context that are kept.
+/// How many characters of a context are kept.
 pub const CONTEXT_LENGTH: usize = 5;
 
 /// Up to five characters beside a text.

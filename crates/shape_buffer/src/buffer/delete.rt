@@ -42,8 +42,8 @@ fn merge_first_two(
     }
 }
 
-/// Hands the cluster of the picked glyph at `i` on, where the first `kept` items are kept in `count`
-/// runs; gives how many runs there are.
+/// Hands the cluster of the picked glyph at `i` on, where the first `kept` items stand as runs that begin
+/// at `starts`; gives how many runs there are.
 fn hand_on(
     infos: &mut [hb_glyph_info_t],
     starts: &[usize],

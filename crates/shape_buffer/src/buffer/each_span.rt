@@ -62,6 +62,7 @@ fn grow_left(kept: &mut [hb_glyph_info_t], starts: &[usize], first: u32, least: 
         return starts.len();
     }
     taken.cluster = least;
+    // a merge hands on no flag
     taken.mask = 0;
     give_to_last(kept, starts, &taken)
 }

@@ -53,7 +53,8 @@ impl hb_glyph_info_t {
     ghost use Rattle.shape_buffer.specs.Category.{is_mark_category};
     ghost use Rattle.shape_buffer.specs.UnicodeProps.{with_unicode_props, with_scratch_of};
 
-    /// An item for a character of a text: no glyph, no mask, no properties, one ligature component.
+    /// An item for a character of a text: no glyph, no mask, category UppercaseLetter, no other properties, one
+    /// ligature component.
     pub fn new(c: char, cluster: u32) -> Self
         ensures { result ≡ new_item c cluster }
     {
@@ -145,7 +146,7 @@ impl hb_glyph_info_t {
         self.properties.general_category
     }
 
-    /// Sets the general category of the character, and nothing else.
+    /// Sets the general category of the item, and nothing else.
     pub fn _hb_glyph_info_set_general_category(
         &mut self,
         general_category: hb_unicode_general_category_t,

@@ -30,8 +30,11 @@ pub enum Direction {
 /// How far clusters are merged: the first two levels keep them in order.
 #[derive(Clone, Copy, PartialEq, Eq, Debug)]
 pub enum BufferClusterLevel {
+    /// Each grapheme is one cluster; clusters stay in order.
     MonotoneGraphemes = 0,
+    /// Each character has its own cluster until items mix; clusters stay in order.
     MonotoneCharacters = 1,
+    /// Clusters are never merged; spans are marked unsafe to break instead.
     Characters = 2,
 }
 

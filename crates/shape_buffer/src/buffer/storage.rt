@@ -22,7 +22,8 @@ const MAX_LEN_FACTOR: usize = 64;
 const MAX_LEN_MIN: usize = 16384;
 
 /// The items of a text with their positions, and its settings. There are always as many positions as
-/// items; an index counts either of them, from 0.
+/// items; an index counts either of them, from 0. A span goes from its start up to its end, which it
+/// doesn't hold.
 #[derive(Drop, Debug)]
 pub struct hb_buffer_t {
     infos: Vec<hb_glyph_info_t>,

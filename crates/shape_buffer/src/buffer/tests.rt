@@ -1,11 +1,15 @@
 //! Lists that were worked out by hand from the rules, and every call once.
-use super::{BufferClusterLevel, hb_buffer_t, hb_glyph_info_t};
+use super::{
+    BufferClusterLevel, GlyphPropsFlags, hb_buffer_t, hb_glyph_info_t,
+    hb_unicode_general_category_t,
+};
 use std::alloc::Global;
 use std::test::Fail;
 
 mod calls;
 mod clusters;
 mod deletion;
+mod latin_letters;
 mod no_memory;
 mod numbers;
 mod refusals;
@@ -37,4 +41,28 @@ fn rows(alloc: Global, buffer: &hb_buffer_t) -> Result<Vec<(u32, u32)>, Fail> {
         .map(|info| (info.cluster, info.mask))
         .collect(alloc)?;
     Ok(rows)
+}
+
+/// An item with every property set.
+fn with_every_property() -> hb_glyph_info_t {
+    let mut item = hb_glyph_info_t::new('a', 3);
+    item._hb_glyph_info_set_general_category(hb_unicode_general_category_t::NonspacingMark);
+    item._hb_glyph_info_set_modified_combining_class(230);
+    item._hb_glyph_info_set_ignorable(true);
+    item._hb_glyph_info_set_hidden(true);
+    item._hb_glyph_info_set_continuation(true);
+    item._hb_glyph_info_set_zwj(true);
+    item._hb_glyph_info_set_zwnj(true);
+    item._hb_glyph_info_set_space_type(16);
+    item._hb_glyph_info_set_selector_mark(true);
+    item._hb_glyph_info_set_glyph_class(GlyphPropsFlags::MARK);
+    item._hb_glyph_info_set_substituted(true);
+    item._hb_glyph_info_set_ligated(true);
+    item._hb_glyph_info_set_ligature_id(7);
+    item._hb_glyph_info_set_ligature_component(2);
+    item._hb_glyph_info_set_number_of_components(3);
+    item._hb_glyph_info_set_syllable(200);
+    item._hb_glyph_info_set_shaper_category(11);
+    item._hb_glyph_info_set_shaper_auxiliary(12);
+    item
 }

@@ -87,8 +87,9 @@ impl UnicodeBuffer {
         self.buffer.push(c, cluster)
     }
 
-    /// Appends the characters of a text, whose clusters are the offsets of their first bytes in it.
-    /// Refuses with `Memory` where a growth was refused; a refused call changes nothing.
+    /// Appends the characters of a text, whose clusters are the offsets of their first bytes in it. The text
+    /// has fewer than 2^32 bytes, since clusters are 32 bits. Refuses with `Memory` where a growth was
+    /// refused; a refused call changes nothing.
     pub fn push_str(&mut self, text: &str) -> Result<(), ShapeError>
         requires { length text.now < 2 ^ 32 }
         ensures ok { OnOk result (self.new ≡ record self.old {

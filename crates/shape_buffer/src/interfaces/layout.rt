@@ -175,7 +175,7 @@ pub trait hb_ot_layout_t<F> {
         ensures { (map : Self.Map)
             → Outcome (step ((lookups map face.now).kern kern_mask)) buffer.old buffer.new result };
 
-    /// No mask has a defined flag bit, and shifts are below 32.
+    /// No mask has a defined flag, and shifts are below 32.
     ghost lawful_masks: { (map : Self.Map) → LawfulMasks (masks map) };
 
     /// What is positioned keeps its number of items.

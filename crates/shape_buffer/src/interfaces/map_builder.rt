@@ -81,8 +81,8 @@ impl hb_ot_map_builder_t {
         self.is_simple = is_simple;
     }
 
-    /// Asks for a feature. `value` is what it is set to: 1 for a feature that is on or off, else the
-    /// number of the alternative. Refuses with `Memory` where a growth was refused; a refused call changes
+    /// Asks for a feature. `value` is what it is set to: 0 turns a feature off, 1 turns it on; a greater
+    /// value picks an alternate. Refuses with `Memory` where a growth was refused; a refused call changes
     /// nothing.
     pub fn add_feature(
         &mut self,
@@ -99,7 +99,8 @@ impl hb_ot_map_builder_t {
         Ok(())
     }
 
-    /// Asks for a feature over the whole text: `add_feature` with `F_GLOBAL` among the flags.
+    /// Asks for a feature over the whole text: `add_feature` with `F_GLOBAL` among the flags. Refuses as
+    /// `add_feature` does.
     pub fn enable_feature(
         &mut self,
         tag: hb_tag_t,
@@ -113,7 +114,8 @@ impl hb_ot_map_builder_t {
         self.add_feature(tag, F_GLOBAL | flags, value)
     }
 
-    /// Turns a feature off over the whole text: `add_feature` with value 0 and `F_GLOBAL`.
+    /// Turns a feature off over the whole text: `add_feature` with value 0 and `F_GLOBAL`. Refuses as
+    /// `add_feature` does.
     pub fn disable_feature(&mut self, tag: hb_tag_t) -> Result<(), ShapeError>
         ensures ok { OnOk result (self.new ≡ with_request self.old (feature_off tag)) }
         ensures same { OnErr result (self.new ≡ self.old) }

@@ -1,5 +1,5 @@
 //! A face that is given glyph by glyph.
-ghost use Rattle.std.specs.Prelude.{◌≡◌, [], OnOk, OnErr};
+ghost use Rattle.std.specs.Prelude.{◌≡◌, ◌⊎◌, [], OnOk, OnErr};
 ghost use Rattle.std.specs.Ordering.{nat_cmp};
 ghost use Rattle.std.specs.BTreeMap.{insert_entry};
 ghost use Rattle.shape_buffer.specs.MapFace.{map_face, advance_of, extents_of};
@@ -44,8 +44,9 @@ impl MapFace {
         }
     }
 
-    /// Gives a character a glyph, and the glyph its metrics. This replaces what was said of either
-    /// before. Refuses where a growth was refused; then the character keeps the glyph that it had.
+    /// Gives a character a glyph, and the glyph its metrics. This replaces what was said of either before.
+    /// Refuses where a growth was refused: the character then keeps the glyph that it had, and the glyph has
+    /// either its old metrics or the new ones.
     pub fn set_glyph(&mut self, c: char, glyph: GlyphId, metrics: Metrics) -> Result<(), AllocError>
         ensures units_per_em { self.new.units_per_em ≡ self.old.units_per_em }
         ensures glyphs { OnOk result (self.new.glyphs.entries
@@ -53,6 +54,9 @@ impl MapFace {
         ensures metrics { OnOk result (self.new.metrics.entries
             ≡ insert_entry nat_cmp self.old.metrics.entries glyph.0 metrics) }
         ensures err { OnErr result (self.new.glyphs.entries ≡ self.old.glyphs.entries) }
+        ensures err_metrics { OnErr result ((self.new.metrics.entries ≡ self.old.metrics.entries)
+            ⊎ (self.new.metrics.entries
+            ≡ insert_entry nat_cmp self.old.metrics.entries glyph.0 metrics)) }
     {
         self.metrics.insert(glyph.0, metrics)?;
         self.glyphs.insert(c, glyph)?;

@@ -11,16 +11,16 @@ pub const F_NONE: hb_ot_map_feature_flags_t = 0;
 /// The feature is on over the whole text.
 pub const F_GLOBAL: hb_ot_map_feature_flags_t = 1;
 
-/// Something stands in for the feature where the face lacks it.
+/// Something stands in for the feature: it gets a mask even where the face lacks it.
 pub const F_HAS_FALLBACK: hb_ot_map_feature_flags_t = 2;
 
-/// Lookups see U+200C.
+/// Lookups don't skip U+200C when they match context.
 pub const F_MANUAL_ZWNJ: hb_ot_map_feature_flags_t = 4;
 
-/// Lookups see U+200D.
+/// Lookups don't skip U+200D when they match input.
 pub const F_MANUAL_ZWJ: hb_ot_map_feature_flags_t = 8;
 
-/// Lookups see both joiners.
+/// Both of these: lookups don't skip the joiners.
 pub const F_MANUAL_JOINERS: hb_ot_map_feature_flags_t = 12;
 
 /// The feature is taken from any script of the table where the chosen one lacks it.
@@ -32,7 +32,7 @@ pub const F_RANDOM: hb_ot_map_feature_flags_t = 32;
 /// Lookups stay inside one syllable.
 pub const F_PER_SYLLABLE: hb_ot_map_feature_flags_t = 64;
 
-/// On over the whole text, and lookups see both joiners.
+/// On over the whole text, and lookups don't skip the joiners.
 pub const F_GLOBAL_MANUAL_JOINERS: hb_ot_map_feature_flags_t = 13;
 
 /// On over the whole text, and something stands in for it.

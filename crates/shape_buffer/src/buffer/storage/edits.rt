@@ -39,6 +39,14 @@ impl hb_buffer_t {
         self.positions.swap(i, j);
     }
 
+    /// Exchanges two items; positions stay, as where a hook reorders marks.
+    pub fn swap_infos(&mut self, i: usize, j: usize)
+        requires { (i < length self.old.items) × (j < length self.old.items) }
+        ensures { self.new ≡ record self.old { items = swap self.old.items i j } }
+    {
+        self.infos.swap(i, j);
+    }
+
     /// Takes an item and its position out.
     pub fn remove(&mut self, i: usize)
         requires { i < length self.old.items }
@@ -51,9 +59,9 @@ impl hb_buffer_t {
         self.positions.remove(i);
     }
 
-    /// Puts an item in before the one at `i`, at a position of zeros. Refuses with `Length` where the
-    /// list has reached its limit, and with `Memory` where a growth was refused; a refused call changes
-    /// nothing.
+    /// Puts an item in before the one at `i`, at the end where `i` is the length, at a position of zeros.
+    /// Refuses with `Length` where the list has reached its limit, and with `Memory` where a growth was
+    /// refused; a refused call changes nothing.
     pub fn insert(&mut self, i: usize, item: hb_glyph_info_t) -> Result<(), ShapeError>
         requires { i ≤ length self.old.items }
         ensures ok { OnOk result (self.new ≡ record self.old {
@@ -126,7 +134,9 @@ impl hb_buffer_t {
             outcome = make_room(&mut self.run_starts, self.infos.len());
         }
         if outcome.is_ok() {
-            outcome = append_zeros(&mut self.positions, self.infos.len() - before);
+            outcome = self
+                .positions
+                .resize(self.infos.len(), GlyphPosition::zero());
         }
         if outcome.is_err() {
             self.infos.truncate(before);
@@ -143,19 +153,6 @@ pub(super) fn zero_positions(positions: &mut [GlyphPosition])
     for position in positions.iter_mut() {
         *position = GlyphPosition::zero();
     }
-}
-
-/// Appends so many positions of zeros; where memory runs out nothing changes.
-fn append_zeros(positions: &mut Vec<GlyphPosition>, count: usize) -> Result<(), AllocError>
-    ensures ok { OnOk result (positions.new.items
-        ≡ positions.old.items ++ replicate count zero_position) }
-    ensures err { OnErr result (positions.new.items ≡ positions.old.items) }
-{
-    positions.reserve(count)?;
-    for _ in 0..count {
-        positions.push(GlyphPosition::zero())?;
-    }
-    Ok(())
 }
 
 /// Makes a list at least so long. It gets no shorter, also where memory is refused.

@@ -14,10 +14,8 @@ impl hb_buffer_t {
     pub fn guessed_script<U: hb_unicode_funcs_t>(&self) -> Option<Script>
         ensures { result ≡ guessed_script U.unicode self.now }
     {
-        match self.script {
-            Some(script) => Some(script),
-            None => first_script::<U>(self.infos.as_slice()),
-        }
+        self.script
+            .or_else(|| first_script::<U>(self.infos.as_slice()))
     }
 
     /// The direction of the text as guessing would set it: the one that is set, else that of the guessed

@@ -178,7 +178,7 @@ impl hb_buffer_t {
     /// asked of an item as it stands when it is reached. Before a glyph of cluster `c` goes, the first
     /// case that holds decides: the next item, picked or not, has cluster `c`, and nothing is done; items
     /// were kept, and where `c` is below the last kept one's cluster, the last kept items with that
-    /// cluster get the picked item's cluster and its defined bits in place of theirs; there is a next
+    /// cluster get the picked item's cluster and its defined flags in place of theirs; there is a next
     /// item, and the two are merged as `merge_clusters` does. Takes no memory; the time is in step with
     /// the list, whatever the clusters are (measured, not proved).
     pub fn delete_glyphs_inplace<F: Fn(&hb_glyph_info_t) -> bool>(&mut self, test: F)

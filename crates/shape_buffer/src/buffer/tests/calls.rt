@@ -1,4 +1,4 @@
-use super::{filled, rows};
+use super::{filled, rows, with_every_property};
 use crate::buffer::{
     BufferClusterLevel, BufferFlags, Direction, GlyphId, GlyphPosition, GlyphPropsFlags, Language,
     ScratchFlags, Script, ShapeError, UnicodeBuffer, hb_buffer_t, hb_glyph_info_t, hb_tag_t,
@@ -135,30 +135,6 @@ fn limits(rt: HostRuntime) -> Result<(), Fail> {
     Ok(())
 }
 
-/// An item with every property set.
-fn with_every_property() -> hb_glyph_info_t {
-    let mut item = hb_glyph_info_t::new('a', 3);
-    item._hb_glyph_info_set_general_category(hb_unicode_general_category_t::NonspacingMark);
-    item._hb_glyph_info_set_modified_combining_class(230);
-    item._hb_glyph_info_set_ignorable(true);
-    item._hb_glyph_info_set_hidden(true);
-    item._hb_glyph_info_set_continuation(true);
-    item._hb_glyph_info_set_zwj(true);
-    item._hb_glyph_info_set_zwnj(true);
-    item._hb_glyph_info_set_space_type(16);
-    item._hb_glyph_info_set_selector_mark(true);
-    item._hb_glyph_info_set_glyph_class(GlyphPropsFlags::MARK);
-    item._hb_glyph_info_set_substituted(true);
-    item._hb_glyph_info_set_ligated(true);
-    item._hb_glyph_info_set_ligature_id(7);
-    item._hb_glyph_info_set_ligature_component(2);
-    item._hb_glyph_info_set_number_of_components(3);
-    item._hb_glyph_info_set_syllable(200);
-    item._hb_glyph_info_set_shaper_category(11);
-    item._hb_glyph_info_set_shaper_auxiliary(12);
-    item
-}
-
 #[test]
 fn properties(rt: HostRuntime) -> Result<(), Fail> {
     let item = with_every_property();
@@ -204,6 +180,16 @@ fn items_are_exchanged_with_their_positions(rt: HostRuntime) -> Result<(), Fail>
         .map(|position| position.x_advance)
         .collect(rt.alloc())?;
     assert_eq!(rt; advances.as_slice(), [0, 0, 7].as_slice());
+    buffer.swap_infos(1, 2);
+    let found = rows(rt.alloc(), &buffer)?;
+    assert_eq!(rt; found.as_slice(), [(2, 4), (0, 1), (1, 2)].as_slice());
+    buffer.swap_infos(2, 1);
+    assert!(rt;
+        buffer
+            .positions()
+            .last()
+            .is_some_and(|last| last.x_advance == 7)
+    );
     let flags: Vec<(bool, bool, bool)> = buffer
         .infos()
         .iter()

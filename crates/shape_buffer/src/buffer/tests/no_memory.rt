@@ -1,36 +1,80 @@
-//! Calls that can't be refused take no memory. Two tests fill the same buffer, and the second one makes each
-//! such call on it besides; the gate's script counts the growths of both, which must be as many.
+//! Calls of `hb_buffer_t` and of its items that can't be refused take no memory. Two tests fill the same buffer,
+//! and the second one makes each such call besides; the gate's script counts the growths of both, which must be
+//! as many.
 
+use super::latin_letters::LatinLetters;
+use super::with_every_property;
 use crate::buffer::{
-    BufferClusterLevel, BufferFlags, Direction, GlyphId, ScratchFlags, Script, UnicodeBuffer,
-    hb_buffer_t, hb_glyph_info_t, hb_tag_t,
+    BufferClusterLevel, BufferFlags, Direction, GlyphId, GlyphPosition, GlyphPropsFlags, Language,
+    ScratchFlags, Script, UnicodeBuffer, hb_buffer_t, hb_glyph_info_t, hb_tag_t,
+    hb_unicode_general_category_t,
 };
+use crate::position_walks::update_positions;
+use crate::walks::update_items;
 use std::alloc::Global;
+use std::process::Abort;
 use std::test::Fail;
 
-/// A buffer of sixteen items in a run. Its lists have room for so many and no more, so that a growth by one
-/// is seen.
-fn begun(alloc: Global) -> Result<hb_buffer_t, Fail> {
+/// A buffer of sixteen items, and a language to be set. The lists have room for so many items and no
+/// more, so that a growth by one is seen.
+fn begun(alloc: Global) -> Result<(hb_buffer_t, Language), Fail> {
     let mut infos: Vec<hb_glyph_info_t> = Vec::new(alloc);
     for cluster in 0..16 {
         infos.push(hb_glyph_info_t::new('g', cluster))?;
     }
     let mut buffer = UnicodeBuffer::new(alloc).into_inner();
     buffer.replace_infos(infos)?;
-    buffer.enter();
-    Ok(buffer)
+    Ok((buffer, Language(String::from_str(alloc, "de")?)))
 }
 
 /// Sets all that a run asks.
-fn set_all(buffer: &mut hb_buffer_t) {
+fn set_all(buffer: &mut hb_buffer_t, language: Language) {
     buffer.set_direction(Direction::RightToLeft);
-    buffer.set_script(Some(Script(hb_tag_t::from_bytes(b"Latn"))));
+    buffer.set_script(Some(Script(hb_tag_t::from_bytes(b"Hebr"))));
+    buffer.set_language(Some(language));
     buffer.set_flags(BufferFlags::PRODUCE_UNSAFE_TO_CONCAT);
+    buffer.set_cluster_level(BufferClusterLevel::Characters);
     buffer.set_scratch_flags(ScratchFlags::HAS_CGJ);
     buffer.set_invisible_glyph(Some(GlyphId(3)));
-    buffer.set_not_found_variation_selector_glyph(None);
+    buffer.set_not_found_variation_selector_glyph(Some(GlyphId(4)));
     buffer.set_pre_context("before");
     buffer.set_post_context("behind");
+}
+
+/// How many settings aren't those of a new buffer.
+fn count_settings(buffer: &hb_buffer_t) -> usize {
+    [
+        buffer.direction() != Direction::Invalid,
+        buffer.script().is_some(),
+        buffer.language().is_some(),
+        buffer.flags() != BufferFlags(0),
+        buffer.cluster_level() != BufferClusterLevel::MonotoneGraphemes,
+        buffer.scratch_flags() != ScratchFlags(0),
+        buffer.invisible_glyph().is_some(),
+        buffer.not_found_variation_selector_glyph().is_some(),
+        !buffer.pre_context().is_empty(),
+        !buffer.post_context().is_empty(),
+        buffer.length_limit() != usize::MAX,
+    ]
+    .iter()
+    .filter(|is_set| **is_set)
+    .count()
+}
+
+/// Guesses script and direction, which are set, and then those of the text.
+fn guess(rt: &impl Abort, buffer: &mut hb_buffer_t) {
+    buffer.guess_segment_properties::<LatinLetters>();
+    assert_eq!(rt; buffer.direction(), Direction::RightToLeft);
+    buffer.set_direction(Direction::Invalid);
+    buffer.set_script(None);
+    let latin = Script(hb_tag_t::from_bytes(b"Latn"));
+    assert_eq!(rt; buffer.guessed_script::<LatinLetters>(), Some(latin));
+    assert_eq!(rt;
+        buffer.guessed_direction::<LatinLetters>(),
+        Direction::LeftToRight
+    );
+    buffer.guess_segment_properties::<LatinLetters>();
+    assert_eq!(rt; buffer.script(), Some(latin));
 }
 
 /// Merges clusters and marks spans, at a level.
@@ -56,10 +100,44 @@ fn merge_and_mark(buffer: &mut hb_buffer_t, level: BufferClusterLevel) {
     }
 }
 
+/// Merges more spans than are merged one by one.
+fn merge_many(buffer: &mut hb_buffer_t, level: BufferClusterLevel) {
+    buffer.set_cluster_level(level);
+    let first = (0, 2);
+    let spans = [
+        first,
+        first,
+        first,
+        first,
+        first,
+        first,
+        first,
+        first,
+        first,
+        first,
+        first,
+        first,
+        first,
+        first,
+        (1, 3),
+        (1, 3),
+        (1, 3),
+    ];
+    if 3 <= buffer.len() {
+        buffer.merge_spans(&spans);
+    }
+}
+
 /// Puts items in other places, and takes one out.
 fn move_items(buffer: &mut hb_buffer_t) {
     if 3 <= buffer.len() {
         buffer.swap(0, 1);
+    }
+    if 3 <= buffer.len() {
+        buffer.swap_infos(0, 2);
+    }
+    if 3 <= buffer.len() {
+        buffer.reverse_range(0, 3);
     }
     buffer.reverse();
     if 3 <= buffer.len() {
@@ -67,24 +145,102 @@ fn move_items(buffer: &mut hb_buffer_t) {
     }
 }
 
+/// Replaces items and positions, one and then each.
+fn write_items(buffer: &mut hb_buffer_t) {
+    if 3 <= buffer.len() {
+        buffer.set_info(1, with_every_property());
+    }
+    if 3 <= buffer.len() {
+        buffer.set_position(1, GlyphPosition::zero());
+    }
+    update_items(buffer, |info| unmarked(info));
+    update_positions(buffer, |_info, position| position);
+    buffer.clear_positions();
+}
+
+/// The item with the properties of its character.
+fn unmarked(info: &hb_glyph_info_t) -> hb_glyph_info_t {
+    let mut info = *info;
+    let mut seen = ScratchFlags(0);
+    info.init_unicode_props::<LatinLetters>(&mut seen);
+    info
+}
+
+/// How many properties of an item aren't those of a new one, and how many flags it has.
+fn count_properties(item: &hb_glyph_info_t) -> usize {
+    let letter = hb_unicode_general_category_t::UppercaseLetter;
+    [
+        item._hb_glyph_info_get_general_category() != letter,
+        item._hb_glyph_info_is_unicode_mark(),
+        item._hb_glyph_info_get_modified_combining_class() != 0,
+        item._hb_glyph_info_get_ignorable(),
+        item._hb_glyph_info_get_hidden(),
+        item._hb_glyph_info_get_continuation(),
+        item._hb_glyph_info_get_zwj(),
+        item._hb_glyph_info_get_zwnj(),
+        item._hb_glyph_info_get_space_type() != 0,
+        item._hb_glyph_info_get_selector_mark(),
+        item._hb_glyph_info_get_glyph_class() != GlyphPropsFlags(0),
+        item._hb_glyph_info_get_substituted(),
+        item._hb_glyph_info_get_ligated(),
+        item._hb_glyph_info_get_ligature_id() != 0,
+        item._hb_glyph_info_get_ligature_component() != 0,
+        item._hb_glyph_info_get_number_of_components() != 1,
+        item._hb_glyph_info_get_syllable() != 0,
+        item._hb_glyph_info_get_shaper_category() != 0,
+        item._hb_glyph_info_get_shaper_auxiliary() != 0,
+        item.unsafe_to_break(),
+        item.unsafe_to_concat(),
+        item.safe_to_insert_tatweel(),
+    ]
+    .iter()
+    .filter(|is_set| **is_set)
+    .count()
+}
+
+/// Hands the items out as glyphs, and gives the buffer back for new text.
+fn hand_out(rt: &impl Abort, buffer: hb_buffer_t) -> UnicodeBuffer {
+    let glyphs = buffer.into_glyphs();
+    assert_eq!(rt; glyphs.len(), glyphs.glyph_infos().len());
+    assert_eq!(rt; glyphs.len(), glyphs.glyph_positions().len());
+    assert_eq!(rt; glyphs.direction(), Direction::LeftToRight);
+    let text = glyphs.clear();
+    assert!(rt; text.is_empty() && text.len() == 0);
+    text
+}
+
 #[test]
 fn filled_is_begun(rt: HostRuntime) -> Result<(), Fail> {
-    let buffer = begun(rt.alloc())?;
+    let (buffer, language) = begun(rt.alloc())?;
     assert_eq!(rt; buffer.len(), 16);
+    assert!(rt; language.0.as_str() == "de");
     Ok(())
 }
 
 #[test]
 fn filled_and_used(rt: HostRuntime) -> Result<(), Fail> {
-    let mut buffer = begun(rt.alloc())?;
-    set_all(&mut buffer);
+    let (mut buffer, language) = begun(rt.alloc())?;
+    buffer.enter();
+    set_all(&mut buffer, language);
+    assert_eq!(rt; count_settings(&buffer), 11);
+    assert_eq!(rt; count_properties(&with_every_property()), 19);
+    guess(&rt, &mut buffer);
     merge_and_mark(&mut buffer, BufferClusterLevel::Characters);
     merge_and_mark(&mut buffer, BufferClusterLevel::MonotoneCharacters);
     merge_and_mark(&mut buffer, BufferClusterLevel::MonotoneGraphemes);
+    merge_many(&mut buffer, BufferClusterLevel::Characters);
+    merge_many(&mut buffer, BufferClusterLevel::MonotoneGraphemes);
     move_items(&mut buffer);
-    assert_eq!(rt; buffer.len(), 15);
+    write_items(&mut buffer);
+    assert_eq!(rt; (buffer.infos().len(), buffer.positions().len()), (15, 15));
     buffer.delete_glyphs_inplace(|info| info.cluster == 9);
+    assert!(rt; !buffer.is_empty());
     buffer.leave();
-    assert!(rt; buffer.into_glyphs().clear().is_empty());
+    let mut text = hand_out(&rt, buffer);
+    text.set_language(None);
+    let mut buffer = text.into_inner();
+    buffer.reset();
+    assert!(rt; buffer.clear().as_inner().is_empty());
+    assert!(rt; hb_buffer_t::new(rt.alloc()).is_empty());
     Ok(())
 }

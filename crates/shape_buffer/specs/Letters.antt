@@ -1,0 +1,37 @@
+-- What the tests of the buffer bring: functions of Unicode by which every character is a letter of the Latin script.
+use Rattle.std.specs.Prelude.{false, Some, None, refl}
+use Rattle.shape_buffer.specs.Unicode.{UnicodeMeaning, LawfulUnicode}
+use Rattle.shape_buffer.specs.declared.buffer.general_category.hb_unicode_general_category_t.TheVariants.{OtherLetter}
+use Rattle.shape_buffer.specs.declared.buffer.settings.Direction.TheVariants.{LeftToRight}
+
+abbrev pub latin_letters : UnicodeMeaning
+latin_letters = record {
+  category = λ _. OtherLetter;
+  ccc = λ _. 0;
+  split = λ _. None;
+  height = λ _. 0;
+  compose = λ _ _. None;
+  mirrored = λ _. None;
+  vertical = λ _. None;
+  space_fallback = λ _. 0;
+  ignorable = λ _. false;
+  pictographic = λ _. false;
+  selector = λ _. false;
+  script = λ _. record { 0 = record { 0 = 0x4C61746E } };
+  script_direction = λ _. Some LeftToRight;
+}
+
+pub latin_letters-lawful : LawfulUnicode latin_letters
+latin_letters-lawful = record {
+  marks_have_ccc = λ c marked. absurd (marked refl);
+  ascii_is_no_mark = λ c _. refl;
+  mirrors_are_plain = λ c d e. cc;
+  verticals_are_plain = λ c d e. cc;
+  splits_fall = record {
+    height_falls = record { falls = λ c a b splits. cc };
+    second_is_last = λ c a b splits. cc;
+    first_ccc = λ c a b marked. absurd (marked refl);
+    second_ccc = λ c a b marked. absurd (marked refl);
+  };
+  composes_soundly = record { equivalent = λ a b c joins. cc };
+}
