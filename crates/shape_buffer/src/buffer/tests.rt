@@ -9,6 +9,7 @@ use std::test::Fail;
 mod calls;
 mod clusters;
 mod deletion;
+mod graphemes;
 mod latin_letters;
 mod no_memory;
 mod numbers;

@@ -92,6 +92,7 @@ fn merge_and_mark(buffer: &mut hb_buffer_t, level: BufferClusterLevel) {
     if 3 <= buffer.len() {
         buffer.merge_spans_out(&[(0, 2), (1, 3)]);
     }
+    buffer.merge_graphemes();
     if 3 <= buffer.len() {
         buffer.unsafe_to_break(0, 3);
     }
