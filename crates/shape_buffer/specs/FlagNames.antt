@@ -29,6 +29,9 @@ DEFINED = 7
 abbrev pub BEGINNING_OF_TEXT : ℕ
 BEGINNING_OF_TEXT = 2
 
+abbrev pub END_OF_TEXT : ℕ
+END_OF_TEXT = 4
+
 abbrev pub PRESERVE_DEFAULT_IGNORABLES : ℕ
 PRESERVE_DEFAULT_IGNORABLES = 8
 
@@ -66,5 +69,49 @@ HAS_GLYPH_FLAGS = 32
 
 -- ---- of the class of a glyph
 
+abbrev pub BASE_GLYPH : ℕ
+BASE_GLYPH = 2
+
+abbrev pub LIGATURE : ℕ
+LIGATURE = 4
+
 abbrev pub MARK : ℕ
 MARK = 8
+
+-- ---- of a feature that a plan asks for
+
+abbrev pub F_NONE : ℕ
+F_NONE = 0
+
+abbrev pub F_GLOBAL : ℕ
+F_GLOBAL = 1
+
+abbrev pub F_HAS_FALLBACK : ℕ
+F_HAS_FALLBACK = 2
+
+abbrev pub F_MANUAL_ZWNJ : ℕ
+F_MANUAL_ZWNJ = 4
+
+abbrev pub F_MANUAL_ZWJ : ℕ
+F_MANUAL_ZWJ = 8
+
+-- both of these
+abbrev pub F_MANUAL_JOINERS : ℕ
+F_MANUAL_JOINERS = 12
+
+abbrev pub F_GLOBAL_SEARCH : ℕ
+F_GLOBAL_SEARCH = 16
+
+abbrev pub F_RANDOM : ℕ
+F_RANDOM = 32
+
+abbrev pub F_PER_SYLLABLE : ℕ
+F_PER_SYLLABLE = 64
+
+-- F_GLOBAL and F_MANUAL_JOINERS
+abbrev pub F_GLOBAL_MANUAL_JOINERS : ℕ
+F_GLOBAL_MANUAL_JOINERS = 13
+
+-- F_GLOBAL and F_HAS_FALLBACK
+abbrev pub F_GLOBAL_HAS_FALLBACK : ℕ
+F_GLOBAL_HAS_FALLBACK = 3
