@@ -1,5 +1,5 @@
 -- Planners and plans, computed on small cases whose answers are worked out by hand.
-use Rattle.std.specs.Prelude.{◌≡◌, ◌*◌, ℕ, pos, Bool, true, false, List, [], ◌∷◌, length, Option, Some, None, is_some, refl}
+use Rattle.std.specs.Prelude.{◌≡◌, ◌*◌, ℕ, pos, Bool, true, false, List, [], ◌∷◌, length, Some, None, is_some, refl}
 use Rattle.shape_buffer.specs.Face.{FaceMeaning}
 use Rattle.shape_buffer.specs.Layout.{LayoutMeaning, MapMeaning}
 use Rattle.shape_buffer.specs.MapBuilder.{Builder}
