@@ -170,7 +170,7 @@ impl<'a, S, P, D> hb_ot_shape_plan_t<'a, S, P, D> {
     pub fn masks_are_features(&self)
         ensures { MasksAreFeatures self.now.decisions }
     {
-        // Who reads a field knows what the type keeps of it.
+        // The read of a field tells the prover the invariant of the type.
         let _ = &self.decisions;
     }
 
@@ -180,7 +180,7 @@ impl<'a, S, P, D> hb_ot_shape_plan_t<'a, S, P, D> {
     pub fn positions_by_one_table(&self)
         ensures { PositionsByOneTable self.now.decisions }
     {
-        // Who reads a field knows what the type keeps of it.
+        // The read of a field tells the prover the invariant of the type.
         let _ = &self.decisions;
     }
 
