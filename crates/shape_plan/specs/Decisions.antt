@@ -98,14 +98,15 @@ pub record MasksAreFeatures (d : Decisions) : Type 0 where
   pub kern : HasNoDefinedFlag d.kern_mask
   pub trak : HasNoDefinedFlag d.trak_mask
 
--- which of GPOS and kerx runs: GPOS where both are applied
+-- which of GPOS and kerx is to run, the rule of the steps that position: GPOS alone where both are applied
 abbrev pub runs_gpos : Decisions → Bool
 runs_gpos d = d.apply_gpos
 
 abbrev pub runs_kerx : Decisions → Bool
 runs_kerx d = not d.apply_gpos && d.apply_kerx
 
--- kerning falls back exactly where no table positions; kern and kerx are never both applied; GPOS and kerx never both run
+-- kerning falls back exactly where no table positions; kern and kerx are never both applied. `one_table` holds of any decisions, by the two
+-- definitions above; that the steps call at most one of GPOS and kerx is the law `one_table_runs` of shape_position
 pub record PositionsByOneTable (d : Decisions) : Type 0 where
   pub fallback : IsTrue d.apply_fallback_kern ↔ ((d.apply_gpos ≡ false) × (d.apply_kerx ≡ false) × (d.apply_kern ≡ false))
   pub one_kerning : (d.apply_kern && d.apply_kerx) ≡ false

@@ -1,3 +1,4 @@
+pub mod ModeNames
 pub mod Shaper
 pub mod Plan
 pub mod Reorder

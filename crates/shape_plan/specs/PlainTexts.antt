@@ -4,8 +4,7 @@ use Rattle.std.specs.Prelude.{◌==◌, ℕ, pos, Bool, true, false, Some, None,
 use Rattle.std.specs.Int.RustNames.{bit_and}
 use Rattle.std.proofs.Common.{rules}
 use Rattle.shape_buffer.specs.Face.{FaceMeaning}
-use Rattle.shape_buffer.specs.Layout.{LayoutMeaning, MapMeaning, LawfulMasks, LawfulLookups, HasNoDefinedFlag}
-use Rattle.shape_buffer.specs.NoLookups.{no_lookups}
+use Rattle.shape_buffer.specs.Layout.{LayoutMeaning, MapMeaning, LawfulMasks, HasNoDefinedFlag}
 use Rattle.shape_buffer.specs.Unicode.{UnicodeMeaning, LawfulUnicode}
 use Rattle.shape_buffer.specs.declared.buffer.general_category.hb_unicode_general_category_t.TheVariants.{OtherLetter}
 use Rattle.shape_buffer.specs.declared.interfaces.map_request.TableIndex.TheVariants.{GSUB, GPOS}
@@ -23,7 +22,7 @@ plain_unicode = record {
   ignorable = λ _. false;
   pictographic = λ _. false;
   selector = λ _. false;
-  script = λ _. record { 0 = record { 0 = 1517976186 } };
+  script = λ _. record { 0 = record { 0 = 0x5A7A7A7A } };
   script_direction = λ _. None;
 }
 
@@ -66,8 +65,8 @@ answers_of number = record bare_face {
   tables = record { gsub = has number 1; gpos = has number 2; morx = has number 4; kerx = has number 8; trak = has number 16 };
 }
 
--- what the engine answers: 32 kerning, 64 machine kerning, 128 cross kerning, 256 the script 2 chosen for GPOS in place of 1; requests are
--- compiled to the number
+-- what the engine answers: 32 kerning, 64 machine kerning, 128 cross kerning, 256 the script 2 chosen for GPOS in place of 1, 1024 classes
+-- of glyphs; requests are compiled to the number
 abbrev pub layouts_of : ℕ → LayoutMeaning ℕ
 layouts_of number = record {
   chosen_script = λ _ _ table. elim table [

@@ -32,7 +32,7 @@ hooks_of hooks plan face = option_map (λ shaper. hooks shaper plan face) plan.s
 
 -- no script counts as Unknown (Zzzz)
 abbrev pub known_script : Option Script → Script
-known_script script = unwrap_or script (record { 0 = record { 0 = 1517976186 } })
+known_script script = unwrap_or script (record { 0 = record { 0 = 0x5A7A7A7A } })
 
 -- the plan's direction and script are those of the text, as guessing would set them
 pub record Fits {S P D : Type 0} (unicode : UnicodeMeaning) (plan : Plan S P D) (text : Buffer) : Type 0 where

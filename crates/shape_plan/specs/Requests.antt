@@ -2,6 +2,8 @@
 use Rattle.std.specs.Prelude.{◌==◌, ℕ, Bool, true, false, ◌&&◌, not, List, [], ◌∷◌, ◌++◌, map, length, Option, None, is_some, if◌then◌else◌}
 use Rattle.std.specs.Option.{option_map, option_map_or}
 use Rattle.shape_buffer.specs.Direction.{is_horizontal}
+use Rattle.shape_buffer.specs.FlagNames.{F_NONE, F_GLOBAL, F_HAS_FALLBACK, F_GLOBAL_SEARCH, F_RANDOM}
+use Rattle.shape_buffer.specs.FlagNames.{F_GLOBAL_MANUAL_JOINERS, F_GLOBAL_HAS_FALLBACK}
 use Rattle.shape_buffer.specs.MapBuilder.{Builder, with_requests, feature, feature_on, pause}
 use Rattle.shape_buffer.specs.declared.buffer.settings.Direction.{Direction}
 use Rattle.shape_buffer.specs.declared.buffer.settings.Direction.TheVariants.{LeftToRight, RightToLeft}
@@ -11,7 +13,7 @@ use Rattle.shape_buffer.specs.declared.buffer.settings.hb_tag_t.{hb_tag_t}
 use Rattle.shape_buffer.specs.declared.interfaces.map_request.MapRequest.{MapRequest}
 use Rattle.shape_plan.specs.Tags as tag
 
--- a feature of value 1, with its flags: on over the whole text, or only asked for
+-- a feature of value 1: `on` takes F_GLOBAL to its flags, so that it is on over the whole text, and `add` takes its flags as they are
 abbrev pub on : hb_tag_t → ℕ → MapRequest
 on tag flags = feature_on tag flags 1
 
@@ -20,25 +22,25 @@ add tag flags = feature tag flags 1
 
 -- variations come first, and substitution pauses behind them
 abbrev pub variations : List MapRequest
-variations = on tag.rvrn 0 ∷ pause None ∷ []
+variations = on tag.rvrn F_NONE ∷ pause None ∷ []
 
 -- the forms of a direction of horizontal text; mirrored ones right to left are asked for, not on
 abbrev pub forms : Direction → List MapRequest
-forms LeftToRight = on tag.ltra 0 ∷ on tag.ltrm 0 ∷ []
-forms RightToLeft = on tag.rtla 0 ∷ add tag.rtlm 0 ∷ []
+forms LeftToRight = on tag.ltra F_NONE ∷ on tag.ltrm F_NONE ∷ []
+forms RightToLeft = on tag.rtla F_NONE ∷ add tag.rtlm F_NONE ∷ []
 forms _ = []
 
 -- fractions, which masks turn on where digits stand round a slash
 abbrev pub fractions : List MapRequest
-fractions = add tag.frac 0 ∷ add tag.numr 0 ∷ add tag.dnom 0 ∷ []
+fractions = add tag.frac F_NONE ∷ add tag.numr F_NONE ∷ add tag.dnom F_NONE ∷ []
 
--- alternates at random (F_RANDOM 32), up to the greatest value (255)
+-- alternates at random, up to the greatest value (255)
 abbrev pub random : List MapRequest
-random = feature_on tag.rand 32 255 ∷ []
+random = feature_on tag.rand F_RANDOM 255 ∷ []
 
--- tracking, which a table of its own may stand in for (F_HAS_FALLBACK 2), and two features of faces that come before those of a script
+-- tracking, which a table of its own may stand in for, and two features of faces that come before those of a script
 abbrev pub tracking : List MapRequest
-tracking = on tag.trak 2 ∷ on tag.harf 0 ∷ on tag.harf_discretionary 0 ∷ []
+tracking = on tag.trak F_HAS_FALLBACK ∷ on tag.harf F_NONE ∷ on tag.harf_discretionary F_NONE ∷ []
 
 -- all that is asked for before the shaper's hook
 abbrev pub first_requests : Direction → List MapRequest
@@ -46,35 +48,35 @@ first_requests direction = variations ++ forms direction ++ fractions ++ random 
 
 -- two features of faces that come behind those of a script
 abbrev pub behind_script : List MapRequest
-behind_script = on tag.buzz 0 ∷ on tag.buzz_discretionary 0 ∷ []
+behind_script = on tag.buzz F_NONE ∷ on tag.buzz_discretionary F_NONE ∷ []
 
--- the features of every text (F_GLOBAL 1, F_GLOBAL_MANUAL_JOINERS 13)
+-- the features of every text
 abbrev pub common : List MapRequest
 common =
-    add tag.abvm 1 ∷ add tag.blwm 1 ∷ add tag.ccmp 1 ∷ add tag.locl 1
-    ∷ add tag.mark 13 ∷ add tag.mkmk 13 ∷ add tag.rlig 1 ∷ []
+    add tag.abvm F_GLOBAL ∷ add tag.blwm F_GLOBAL ∷ add tag.ccmp F_GLOBAL ∷ add tag.locl F_GLOBAL
+    ∷ add tag.mark F_GLOBAL_MANUAL_JOINERS ∷ add tag.mkmk F_GLOBAL_MANUAL_JOINERS ∷ add tag.rlig F_GLOBAL ∷ []
 
--- those of horizontal texts (F_GLOBAL_HAS_FALLBACK 3)
+-- those of horizontal texts
 abbrev pub horizontal : List MapRequest
 horizontal =
-    add tag.calt 1 ∷ add tag.clig 1 ∷ add tag.curs 1 ∷ add tag.dist 1
-    ∷ add tag.kern 3 ∷ add tag.liga 1 ∷ add tag.rclt 1 ∷ []
+    add tag.calt F_GLOBAL ∷ add tag.clig F_GLOBAL ∷ add tag.curs F_GLOBAL ∷ add tag.dist F_GLOBAL
+    ∷ add tag.kern F_GLOBAL_HAS_FALLBACK ∷ add tag.liga F_GLOBAL ∷ add tag.rclt F_GLOBAL ∷ []
 
--- those of others: vertical forms, of any script of the table (F_GLOBAL_SEARCH 16)
+-- those of others: vertical forms, of any script of the table
 abbrev pub vertical : List MapRequest
-vertical = on tag.vert 16 ∷ []
+vertical = on tag.vert F_GLOBAL_SEARCH ∷ []
 
 -- those of a direction
 abbrev pub directed : Direction → List MapRequest
 directed direction = if is_horizontal direction then horizontal else vertical
 
--- a feature is global where its range is the whole text
+-- a feature is global where its range is the whole text: from 0 to the greatest number of 32 bits
 abbrev pub is_global : Feature → Bool
-is_global f = f.start == 0 && f.end == 4294967295
+is_global f = f.start == 0 && f.end == 0xFFFFFFFF
 
--- what the user asks for: on over the whole text where it is global (F_GLOBAL 1), else only where masks say so
+-- what the user asks for: on over the whole text where it is global, else only where masks say so
 abbrev pub user_request : Feature → MapRequest
-user_request f = feature f.tag (if is_global f then 1 else 0) f.value
+user_request f = feature f.tag (if is_global f then F_GLOBAL else F_NONE) f.value
 
 -- all that is asked for between the shaper's two hooks
 abbrev pub later_requests : Direction → List Feature → List MapRequest

@@ -1,5 +1,5 @@
 -- What normalising goes by, as functions on characters.
-use Rattle.std.specs.Prelude.{ℕ, ℤ, pos, Bool, true, false, ◌||◌, not, Option, None, is_some, if◌then◌else◌}
+use Rattle.std.specs.Prelude.{ℕ, ℤ, Bool, true, false, ◌||◌, not, Option, None, is_some, if◌then◌else◌}
 use Rattle.std.specs.Option.{option_map, option_map_or}
 use Rattle.std.specs.Ordering.{int_eq}
 use Rattle.canonical_form.specs.Decompositions.{Decompositions}
@@ -7,6 +7,7 @@ use Rattle.shape_buffer.specs.Buffer.{Buffer}
 use Rattle.shape_buffer.specs.Unicode.{UnicodeMeaning}
 use Rattle.shape_buffer.specs.Face.{FaceMeaning}
 use Rattle.shape_buffer.specs.declared.buffer.settings.GlyphId.{GlyphId}
+use Rattle.shape_plan.specs.ModeNames.{MODE_NONE, MODE_COMPOSED_DIACRITICS, MODE_COMPOSED_DIACRITICS_NO_SHORT_CIRCUIT, MODE_AUTO}
 use Rattle.shape_plan.specs.Plan.{Plan, hooks_of}
 use Rattle.shape_plan.specs.Shaper.{ShaperConstants, HookMeaning}
 
@@ -49,19 +50,20 @@ used_reorder given hooks = if given then option_map (λ h. h.reorder) hooks else
 
 -- the mode of normalising: the shaper's preference where it is kept, else AUTO
 abbrev pub used_mode : {S P D : Type 0} → ℤ → Plan S P D → ℤ
-used_mode preference plan = option_map_or (λ shaper. preference) plan.shaper (pos 4)
+used_mode preference plan = option_map_or (λ shaper. preference) plan.shaper MODE_AUTO
 
 -- in mode NONE each character goes short, in COMPOSED_DIACRITICS those by themselves, in the other two none; AUTO acts as
 -- COMPOSED_DIACRITICS
 abbrev pub goes_short : ℤ → Bool → Bool
 goes_short mode in_sequence =
-    if int_eq mode (pos 0) then true
-    else if int_eq mode (pos 2) || int_eq mode (pos 4) then not in_sequence
+    if int_eq mode MODE_NONE then true
+    else if int_eq mode MODE_COMPOSED_DIACRITICS || int_eq mode MODE_AUTO then not in_sequence
     else false
 
--- the modes that compose: COMPOSED_DIACRITICS, COMPOSED_DIACRITICS_NO_SHORT_CIRCUIT and AUTO
+-- the modes that compose
 abbrev pub mode_recomposes : ℤ → Bool
-mode_recomposes mode = int_eq mode (pos 2) || int_eq mode (pos 3) || int_eq mode (pos 4)
+mode_recomposes mode =
+    int_eq mode MODE_COMPOSED_DIACRITICS || int_eq mode MODE_COMPOSED_DIACRITICS_NO_SHORT_CIRCUIT || int_eq mode MODE_AUTO
 
 -- by Unicode, the constants and meanings of a shaper, the meaning of faces, a plan and a face
 abbrev pub rules_of : {S P D F : Type 0} → UnicodeMeaning → ShaperConstants → (S → Plan S P D → F → HookMeaning) → (F → FaceMeaning)
@@ -86,8 +88,8 @@ rules_without_shaper unicode face = record {
   compose = unicode.compose;
   face = face;
   reorder = None;
-  short = goes_short (pos 4);
-  recomposes = mode_recomposes (pos 4);
+  short = goes_short MODE_AUTO;
+  recomposes = mode_recomposes MODE_AUTO;
 }
 
 -- the splits in use, with their heights and Unicode's combining classes

@@ -1,10 +1,11 @@
 -- What the constants and hooks of a shaper mean, and what every shaper owes.
-use Rattle.std.specs.Prelude.{◌≡◌, ℕ, ℤ, pos, ◌⊎◌, Bool, true, ◌&&◌, nat_le, int_le, Option, map}
+use Rattle.std.specs.Prelude.{◌≡◌, ℕ, ℤ, ◌⊎◌, Bool, true, ◌&&◌, nat_le, int_le, Option, map}
 use Rattle.std.specs.Int.RustNames.{bit_or}
 use Rattle.shape_buffer.specs.Buffer.{Buffer}
 use Rattle.shape_buffer.specs.Items.{Item}
 use Rattle.canonical_form.specs.Chain.{FallsAlong}
 use Rattle.shape_buffer.specs.declared.buffer.settings.hb_tag_t.{hb_tag_t}
+use Rattle.shape_plan.specs.ModeNames.{MODE_NONE, MODE_AUTO}
 use Rattle.shape_plan.specs.Reorder.{ReordersRanges}
 use Rattle.shape_buffer.specs.FlagNames.{HAS_GLYPH_FLAGS}
 
@@ -42,7 +43,7 @@ pub record HookMeaning : Type 0 where
 
 -- a mode of normalising, 0 to 4
 abbrev pub is_preference : ℤ → Bool
-is_preference preference = int_le (pos 0) preference && int_le preference (pos 4)
+is_preference preference = int_le MODE_NONE preference && int_le preference MODE_AUTO
 
 -- a time when marks lose their advances, 0 to 2
 abbrev pub is_zero_width_type : ℕ → Bool

@@ -1,17 +1,17 @@
 -- Planners and plans, computed on small cases whose answers are worked out by hand.
-use Rattle.std.specs.Prelude.{◌≡◌, ◌*◌, ℕ, pos, Bool, true, false, List, [], ◌∷◌, length, Option, Some, None, is_some, refl}
+use Rattle.std.specs.Prelude.{◌≡◌, ◌*◌, ℕ, pos, Bool, true, false, List, [], ◌∷◌, length, Some, None, is_some, refl}
 use Rattle.shape_buffer.specs.Face.{FaceMeaning}
 use Rattle.shape_buffer.specs.Layout.{LayoutMeaning, MapMeaning}
 use Rattle.shape_buffer.specs.MapBuilder.{Builder}
 use Rattle.shape_buffer.specs.declared.buffer.settings.Direction.{Direction}
 use Rattle.shape_buffer.specs.declared.buffer.settings.Direction.TheVariants.{LeftToRight, RightToLeft, TopToBottom}
 use Rattle.shape_buffer.specs.declared.buffer.settings.Feature.{Feature}
-use Rattle.shape_buffer.specs.declared.buffer.settings.hb_tag_t.{hb_tag_t}
 use Rattle.shape_buffer.specs.declared.interfaces.face.hb_tables_t.{hb_tables_t}
 use Rattle.shape_buffer.specs.declared.interfaces.map_request.TableIndex.TheVariants.{GSUB, GPOS}
 use Rattle.shape_plan.specs.PlainTexts.{bare_face}
 use Rattle.shape_plan.specs.Plan.{Plan}
-use Rattle.shape_plan.specs.Planner.{Planning, Planner, begun_planner, collected_planner, facts_of, compiled_plan, planned, is_gpos_disabled}
+use Rattle.shape_plan.specs.Planner.{Planning, Planner, begun_planner, collected_planner, facts_of, compiled_plan, planned}
+use Rattle.shape_plan.specs.Planner.{is_gpos_disabled}
 use Rattle.shape_plan.specs.Requests.{requested}
 use Rattle.shape_plan.specs.Decisions.{decided}
 use Rattle.shape_plan.specs.Shaper.{ShaperConstants}
@@ -142,11 +142,13 @@ pub record PlansOfFaces : Type 0 where
   pub dumber_zeroes : (planned_on constants_of only_morx LeftToRight []).decisions.zero_marks ≡ true
   pub dumber_places : (planned_on constants_of only_morx LeftToRight []).decisions.fallback_mark_positioning ≡ true
   pub dumber_moves_not : (planned_on constants_of only_morx LeftToRight []).decisions.adjust_mark_positioning_when_zeroing ≡ false
-  pub dumber_asks_nothing : length (planned_on (record constants_of { has_collect_features = true; has_override_features = true }) only_morx LeftToRight []).ot_map.requests ≡ 27
+  pub dumber_asks_nothing : length (planned_on (record constants_of { has_collect_features = true; has_override_features = true })
+      only_morx LeftToRight []).ot_map.requests ≡ 27
   -- vertical text of a face with GSUB keeps it
   pub stays : (planned_on constants_of morx_and_gsub TopToBottom []).shaper ≡ Some 5
   pub stays_data : (planned_on constants_of morx_and_gsub TopToBottom []).shaper_data ≡ Some (5, false)
-  pub asks : length (planned_on (record constants_of { has_collect_features = true; has_override_features = true }) no_tables LeftToRight []).ot_map.requests ≡ 29
+  pub asks : length (planned_on (record constants_of { has_collect_features = true; has_override_features = true })
+      no_tables LeftToRight []).ot_map.requests ≡ 29
   pub no_data : (planned_on (record constants_of { has_create_data = false }) no_tables LeftToRight []).shaper_data ≡ None
   pub features : (planned_on constants_of no_tables LeftToRight (kern_off ∷ [])).user_features ≡ kern_off ∷ []
 
@@ -195,16 +197,13 @@ masks_of_plans = record {
   classes = refl;
 }
 
--- GPOS is left out where the shaper that is kept is made for another script
-abbrev pub disabled : Option hb_tag_t → Option ℕ → Option hb_tag_t → Bool
-disabled gpos_tag shaper chosen = is_gpos_disabled gpos_tag shaper chosen
-
 pub record ScriptsOfShapers : Type 0 where
-  pub same : disabled (Some (tag 2)) (Some 5) (Some (tag 2)) ≡ false
-  pub another : disabled (Some (tag 3)) (Some 5) (Some (tag 2)) ≡ true
-  pub none_chosen : disabled (Some (tag 3)) (Some 5) None ≡ true
-  pub no_tag : disabled None (Some 5) (Some (tag 2)) ≡ false
-  pub gave_way : disabled (Some (tag 3)) None (Some (tag 2)) ≡ false
+  -- GPOS is left out where the shaper that is kept is made for another script
+  pub same : is_gpos_disabled {S = ℕ} (Some (tag 2)) (Some 5) (Some (tag 2)) ≡ false
+  pub another : is_gpos_disabled {S = ℕ} (Some (tag 3)) (Some 5) (Some (tag 2)) ≡ true
+  pub none_chosen : is_gpos_disabled {S = ℕ} (Some (tag 3)) (Some 5) None ≡ true
+  pub no_tag : is_gpos_disabled {S = ℕ} None (Some 5) (Some (tag 2)) ≡ false
+  pub gave_way : is_gpos_disabled {S = ℕ} (Some (tag 3)) None (Some (tag 2)) ≡ false
   -- the script chosen for GPOS counts, not that of GSUB
   pub of_gpos : (planned_on (record constants_of { gpos_tag = Some (tag 2) })
       (record no_tables { gpos = true }) LeftToRight []).decisions.apply_gpos ≡ true

@@ -2,7 +2,7 @@
 //!
 //! A plan is made once, by its planner, and serves every text that it fits. What holds of every plan's
 //! decisions is kept with the type: no mask has a flag bit, and of `kern` and `kerx` one alone kerns.
-ghost use Rattle.std.specs.Prelude.{◌≡◌, ◌≢◌, ◌↔◌, IsTrue, None, IfOk, IfErr, IsOkUnless, OnOk};
+ghost use Rattle.std.specs.Prelude.{◌≡◌, ◌≢◌, ◌↔◌, IsTrue, None, IfOk, IfErr};
 ghost use Rattle.std.specs.Prelude.{MatchResult, Option, option_copied, string_bytes};
 ghost use Rattle.std.specs.Option.{option_map};
 ghost use Rattle.shape_plan.specs.Decisions.{AreLawful, MasksAreFeatures, PositionsByOneTable};
@@ -131,10 +131,10 @@ impl<'a, S, P, D> hb_ot_shape_plan_t<'a, S, P, D> {
         Ok(plan)
     }
 
-    #[tactic(auto, unfolding(crate::specs::Planner::planned))]
     /// A plan for texts of a direction and a script, a face and a shaper, with the features that the user
     /// asks for; `language` helps the engine to choose the scripts of its tables. It serves every text that
-    /// it fits. Refuses with `Memory` alone.
+    /// it fits. The direction must not be Invalid. Refuses with `Memory` alone.
+    #[tactic(auto, unfolding(crate::specs::Planner::planned))]
     pub fn new<U, F, M>(
         alloc: Global,
         face: &'a F,
@@ -170,14 +170,17 @@ impl<'a, S, P, D> hb_ot_shape_plan_t<'a, S, P, D> {
     pub fn masks_are_features(&self)
         ensures { MasksAreFeatures self.now.decisions }
     {
+        // The read of a field tells the prover the invariant of the type.
         let _ = &self.decisions;
     }
 
-    /// Kerning falls back exactly where no table positions; `kern` and `kerx` are never both applied, and
-    /// `GPOS` and `kerx` never both run. Does nothing.
+    /// Kerning falls back exactly where no table positions, and `kern` and `kerx` are never both applied.
+    /// Where `GPOS` and `kerx` both are, the steps of positioning are to run `GPOS` alone; that they do is a
+    /// law of theirs. Does nothing.
     pub fn positions_by_one_table(&self)
         ensures { PositionsByOneTable self.now.decisions }
     {
+        // The read of a field tells the prover the invariant of the type.
         let _ = &self.decisions;
     }
 
@@ -335,7 +338,7 @@ impl<'a, S, P, D> hb_ot_shape_plan_t<'a, S, P, D> {
         self.decisions.apply_fallback_kern
     }
 
-    /// Whether glyphs are positioned by the table `kerx`.
+    /// Whether the table `kerx` is applied. Where `apply_gpos` holds too, `GPOS` alone runs.
     pub fn apply_kerx(&self) -> bool
         ensures { result ≡ self.now.decisions.apply_kerx }
     {

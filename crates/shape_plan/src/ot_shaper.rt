@@ -98,7 +98,8 @@ pub trait hb_ot_shaper_t<U: hb_unicode_funcs_t, F: hb_font_t, M: hb_ot_layout_t<
 
     ghost FALLBACK_POSITION: { Bool };
 
-    /// Whether marks that no lookup places are placed by their extents.
+    /// Whether marks are placed by their extents where neither `GPOS` nor `kerx` nor a `kern` across the
+    /// line is applied.
     const FALLBACK_POSITION: bool;
 
     ghost HAS_COLLECT_FEATURES: { Bool };
@@ -170,7 +171,7 @@ pub trait hb_ot_shaper_t<U: hb_unicode_funcs_t, F: hb_font_t, M: hb_ot_layout_t<
       has_reorder_marks = HAS_REORDER_MARKS;
     } };
 
-    /// Requests features of the script before those of the user.
+    /// Requests features of the script before those of the user. Refuses with `Memory` alone.
     fn collect_features(
         &self,
         alloc: Global,
@@ -182,7 +183,7 @@ pub trait hb_ot_shaper_t<U: hb_unicode_funcs_t, F: hb_font_t, M: hb_ot_layout_t<
             ≡ with_requests builder.old (collected self.now builder.old direction script)) }
         ensures memory { IfErr result (λ e. e ≡ ShapeError.Memory) };
 
-    /// Requests features after those of the user.
+    /// Requests features after those of the user. Refuses with `Memory` alone.
     fn override_features(
         &self,
         alloc: Global,
@@ -194,7 +195,7 @@ pub trait hb_ot_shaper_t<U: hb_unicode_funcs_t, F: hb_font_t, M: hb_ot_layout_t<
             ≡ with_requests builder.old (overriding self.now builder.old direction script)) }
         ensures memory { IfErr result (λ e. e ≡ ShapeError.Memory) };
 
-    /// Makes what the shaper keeps in a plan.
+    /// Makes what the shaper keeps in a plan. Refuses with `Memory` alone.
     fn create_data(
         &self,
         alloc: Global,
@@ -203,7 +204,8 @@ pub trait hb_ot_shaper_t<U: hb_unicode_funcs_t, F: hb_font_t, M: hb_ot_layout_t<
         ensures { MatchResult result (λ «data». «data» ≡ made_data self.now plan.now)
             (λ e. e ≡ ShapeError.Memory) };
 
-    /// Changes the text before it is normalised.
+    /// Changes the text before it is normalised. Refuses with `Length` where the list would pass the limit,
+    /// with `Memory` where a growth was refused.
     fn preprocess_text(
         &self,
         alloc: Global,
@@ -215,7 +217,8 @@ pub trait hb_ot_shaper_t<U: hb_unicode_funcs_t, F: hb_font_t, M: hb_ot_layout_t<
         ensures { Outcome (step (hooks self.now plan.now face.now).preprocess)
             buffer.old buffer.new result };
 
-    /// Changes the glyphs after they were positioned.
+    /// Changes the glyphs after they were positioned. Refuses with `Length` where the list would pass the
+    /// limit, with `Memory` where a growth was refused.
     fn postprocess_glyphs(
         &self,
         alloc: Global,
@@ -227,7 +230,8 @@ pub trait hb_ot_shaper_t<U: hb_unicode_funcs_t, F: hb_font_t, M: hb_ot_layout_t<
         ensures { Outcome (step (hooks self.now plan.now face.now).postprocess)
             buffer.old buffer.new result };
 
-    /// Runs the pause of number `n` between two stages of substitution.
+    /// Runs the pause of number `n` between two stages of substitution. Refuses with `Length` where the list
+    /// would pass the limit, with `Memory` where a growth was refused.
     fn pause(
         &self,
         alloc: Global,
@@ -240,7 +244,8 @@ pub trait hb_ot_shaper_t<U: hb_unicode_funcs_t, F: hb_font_t, M: hb_ot_layout_t<
         ensures { Outcome (step ((hooks self.now plan.now face.now).pause n))
             buffer.old buffer.new result };
 
-    /// The two parts that a character splits into in one step, in place of Unicode's.
+    /// The two parts that a character splits into in one step, in place of Unicode's; the second one is
+    /// U+0000 where it has one part alone.
     fn decompose(
         &self,
         plan: &hb_ot_shape_plan_t<'_, Self, M::Map, Self::Data>,

@@ -2,18 +2,17 @@
 //!
 //! A plan is made in three steps. `new` asks what is known of the face and the shaper, and whether the
 //! shaper is kept: where `morx` substitutes, the face does a script's work itself. `collect_features` asks
-//! for features in the order in which their lookups are to run, so that a shaper's stand between those
-//! that come early and late in every text, and the user's behind all, where they win. `compile` has the
-//! engine compile the requests, and then decides who positions, kerns and places marks. All that depends
-//! on no text is decided here, once for every text that the plan fits.
-ghost use Rattle.std.specs.Prelude.{◌≡◌, OnOk, IsOkUnless, IfOk, IfErr, MatchResult, string_bytes};
-ghost use Rattle.std.specs.Prelude.{List, Option};
+//! for features in the order in which their lookups are to run: a shaper's stand between those that come
+//! early and late in every text, the user's behind these, where they win, and what a shaper overrides
+//! behind all, where it wins over the user's. `compile` has the engine compile the requests, and then
+//! decides who positions, kerns and places marks. All that depends on no text is decided here, once for
+//! every text that the plan fits.
+ghost use Rattle.std.specs.Prelude.{◌≡◌, Option, OnOk, IsOkUnless, IfOk, IfErr, string_bytes};
 ghost use Rattle.std.specs.Option.{option_map};
 ghost use Rattle.shape_plan.specs.Planner.{begun_planner, collected_planner, compiled_plan};
-ghost use Rattle.shape_plan.specs.Planner.{facts_of, kept_shaper, kern_tag as kern_tag_of};
-ghost use Rattle.shape_plan.specs.Planner.{is_gpos_disabled, uses_morx as uses_morx_of};
+ghost use Rattle.shape_plan.specs.Planner.{kept_shaper, uses_morx as uses_morx_of};
 ghost use Rattle.shape_plan.specs.Plan.{given_shaper};
-ghost use Rattle.shape_plan.specs.Decisions.{decided, MasksAreFeatures, PositionsByOneTable};
+ghost use Rattle.shape_plan.specs.Decisions.{MasksAreFeatures, PositionsByOneTable};
 
 mod decide;
 mod requests;
@@ -114,9 +113,9 @@ fn kept<'a, S>(apply_morx: bool, is_default: bool, shaper: &'a S) -> ChosenShape
 }
 
 impl<'a, F, S> hb_ot_shape_planner_t<'a, F, S> {
-    #[tactic(auto, unfolding(crate::specs::Planner::begun_planner))]
     /// A planner without requests. Takes what the given shaper wishes of marks, before the shaper may give
     /// way to the one that knows no script.
+    #[tactic(auto, unfolding(crate::specs::Planner::begun_planner))]
     pub fn new<U, M>(
         alloc: Global,
         face: &'a F,
@@ -147,9 +146,9 @@ impl<'a, F, S> hb_ot_shape_planner_t<'a, F, S> {
         }
     }
 
-    #[tactic(auto, unfolding(crate::specs::Planner::collected_planner, crate::specs::Requests::requested))]
     /// Makes all requests, the user's among them: see the module's own words for their order. Refuses with
     /// `Memory` alone; nothing is said of the planner then.
+    #[tactic(auto, unfolding(crate::specs::Planner::collected_planner, crate::specs::Requests::requested))]
     pub fn collect_features<U, M>(
         &mut self,
         alloc: Global,
@@ -172,11 +171,11 @@ impl<'a, F, S> hb_ot_shape_planner_t<'a, F, S> {
         requests::override_features::<U, F, M, S>(alloc, shaper, builder, direction, script)
     }
 
-    #[tactic(auto, unfolding(crate::specs::Planner::compiled_plan))]
     /// The plan: has the engine compile the requests, decides all that depends on no text, copies the
     /// user's features and, last, has a kept shaper make its data. Refuses with `Memory` alone, and hands
-    /// nothing back then. The masks and the three laws of the decisions hold of every plan; they stand here
-    /// for the reader.
+    /// nothing back then. What is said of the masks and of who positions holds of every plan; it stands
+    /// here for the reader. That `GPOS` alone runs where `kerx` is applied too is the rule of the steps.
+    #[tactic(auto, unfolding(crate::specs::Planner::compiled_plan))]
     pub fn compile<U, M>(
         self,
         alloc: Global,

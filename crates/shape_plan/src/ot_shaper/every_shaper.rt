@@ -1,5 +1,5 @@
 //! Every author's shaper is a shaper of a run: each hook goes to the type that gives it.
-ghost use Rattle.std.specs.Prelude.{◌≡◌, refl};
+ghost use Rattle.std.specs.Prelude.{refl};
 
 use crate::ot_shape_plan::hb_ot_shape_plan_t;
 use crate::ot_shaper::hooks::{

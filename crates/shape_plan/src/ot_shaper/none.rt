@@ -1,5 +1,5 @@
 //! The hook that a shaper does not give.
-ghost use Rattle.std.specs.Prelude.{◌≡◌, [], false, refl};
+ghost use Rattle.std.specs.Prelude.{[], false};
 ghost use Rattle.shape_plan.specs.Shapers.{no_reordering-reorders, no_masks-alone};
 
 use crate::ot_shape_plan::hb_ot_shape_plan_t;

@@ -77,7 +77,9 @@ pub struct Preferring<T> {
 
 impl<T> Preferring<T> {
     /// The one value of the type.
-    pub fn new() -> Preferring<T> {
+    pub fn new() -> Preferring<T>
+        ensures { (other : Preferring T) → result ≡ other }
+    {
         Preferring {
             preference: PhantomData,
         }

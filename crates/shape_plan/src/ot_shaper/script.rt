@@ -73,7 +73,8 @@ pub trait script_shaper<U: hb_unicode_funcs_t, F: hb_font_t, M: hb_ot_layout_t<F
 
     ghost FALLBACK_POSITION: { Bool };
 
-    /// Whether marks that no lookup places are placed by their extents.
+    /// Whether marks are placed by their extents where neither `GPOS` nor `kerx` nor a `kern` across the
+    /// line is applied.
     const FALLBACK_POSITION: bool;
 
     /// The preference is a mode of normalising.

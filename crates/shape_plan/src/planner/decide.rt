@@ -52,14 +52,14 @@ fn disables_gpos<S>(
     ensures { result ≡ is_gpos_disabled gpos_tag (given_shaper shaper.entry) chosen }
 {
     match (shaper, gpos_tag) {
-        (ChosenShaper::Given(_), Some(tag)) => !matches!(chosen, Some(script) if script.0 == tag.0),
+        (ChosenShaper::Given(_), Some(tag)) => chosen != Some(tag),
         _ => false,
     }
 }
 
 impl<'a, F, S> hb_ot_shape_planner_t<'a, F, S> {
-    #[tactic(auto, unfolding(crate::specs::Planner::facts_of))]
     /// All that the decisions go by, with the compiled requests.
+    #[tactic(auto, unfolding(crate::specs::Planner::facts_of))]
     pub(crate) fn facts<U, M>(&self, map: &M::Map) -> PlanFacts
     where
         U: hb_unicode_funcs_t,
@@ -198,8 +198,8 @@ impl PlanFacts {
         self.adjusts() && !self.apply_morx
     }
 
-    #[tactic(auto, unfolding(crate::specs::Decisions::decided))]
     /// All decisions.
+    #[tactic(auto, unfolding(crate::specs::Decisions::decided))]
     pub(crate) fn decide(&self) -> Decisions
         ensures { result ≡ decided self.now }
     {

@@ -2,9 +2,10 @@
 //!
 //! An engine is to run lookups in the order of the features that asked for them, so the order of the
 //! requests is their meaning: variations of the face come before everything, a direction's forms and
-//! fractions before a script's features, those of every text behind them, and the user's last. Each
-//! function here appends one row of the order to a builder; what it appends stands in its contract.
-ghost use Rattle.std.specs.Prelude.{◌≡◌, OnOk, IsOkUnless, IfErr, map, is_some};
+//! fractions before a script's features, those of every text and of a direction behind them, the user's
+//! behind these, and what a shaper overrides last, where it wins. Each function here appends one row of
+//! the order to a builder; what it appends stands in its contract.
+ghost use Rattle.std.specs.Prelude.{◌≡◌, OnOk, IsOkUnless, map};
 ghost use Rattle.shape_buffer.specs.MapBuilder.{with_requests};
 ghost use Rattle.shape_plan.specs.Requests.{
   variations,
@@ -12,18 +13,13 @@ ghost use Rattle.shape_plan.specs.Requests.{
   fractions,
   random,
   tracking,
-  first_requests,
   behind_script,
   add as asked,
   common,
-  horizontal,
-  vertical,
   directed,
   user_request,
-  later_requests,
   hook_of,
   hooked,
-  not_simple_if,
   begun_requests,
   collected as collected_of,
   widened,

@@ -1,12 +1,16 @@
 //! Every combination of the questions that a plan asks, against a table of who positions.
+ghost use Rattle.std.specs.Prelude.{◌≢◌};
+
 use super::shapers::{ScriptShaper, WishingShaper};
 use super::support::{
     BitLayout, Bits, CROSS_KERNING, GLYPH_CLASSES, GPOS, GPOS_KERNS, GSUB, KERNING, KERX,
     MACHINE_KERNING, MASKS, MORX, PlainUnicode, SCRIPT_TWO, TRAK,
 };
 use crate::ot_shape_plan::hb_ot_shape_plan_t;
-use crate::ot_shaper::DEFAULT_SHAPER;
+use crate::ot_shaper::{DEFAULT_SHAPER, hb_ot_shaper_t};
 use shape_buffer::buffer::{Direction, Feature, Script, UnicodeBuffer, hb_tag_t};
+use std::alloc::Global;
+use std::process::Abort;
 use std::test::Fail;
 
 /// Who positions and kerns.
@@ -40,30 +44,39 @@ struct Brings {
     needs_script_two: bool,
     zeroes: bool,
     places: bool,
+    makes_data: bool,
 }
 
-/// What a plan decided, in one row: who positions; whether marks are zeroed, placed by extents, moved back.
-fn decided<S, D>(
-    plan: &hb_ot_shape_plan_t<'_, S, u32, D>,
-) -> (bool, bool, bool, bool, bool, bool, bool, bool) {
-    (
-        plan.apply_gpos(),
-        plan.apply_kerx(),
-        plan.apply_kern(),
-        plan.apply_fallback_kern(),
-        plan.zero_marks(),
-        plan.fallback_mark_positioning(),
-        plan.adjust_mark_positioning_when_zeroing(),
-        plan.apply_morx(),
-    )
+/// What a plan decided: who positions; whether marks are zeroed, placed by extents and moved back; and
+/// whether `morx` substitutes.
+#[derive(Clone, Copy, PartialEq, Eq, Debug)]
+struct Row {
+    gpos: bool,
+    kerx: bool,
+    kern: bool,
+    nobody: bool,
+    zeroes: bool,
+    places: bool,
+    moves_back: bool,
+    morx: bool,
+}
+
+/// The row of a plan.
+fn decided<S, D>(plan: &hb_ot_shape_plan_t<'_, S, u32, D>) -> Row {
+    Row {
+        gpos: plan.apply_gpos(),
+        kerx: plan.apply_kerx(),
+        kern: plan.apply_kern(),
+        nobody: plan.apply_fallback_kern(),
+        zeroes: plan.zero_marks(),
+        places: plan.fallback_mark_positioning(),
+        moves_back: plan.adjust_mark_positioning_when_zeroing(),
+        morx: plan.apply_morx(),
+    }
 }
 
 /// The same by the table, for a number whose bits are the answers of face and engine.
-fn expected(
-    bits: u32,
-    horizontal: bool,
-    brings: Brings,
-) -> (bool, bool, bool, bool, bool, bool, bool, bool) {
+fn expected(bits: u32, horizontal: bool, brings: Brings) -> Row {
     let has = |bit: u32| bits & bit != 0;
     let morx = has(MORX) && (horizontal || !has(GSUB));
     let kept = brings.is_default || !morx;
@@ -93,16 +106,16 @@ fn expected(
         Positioner::Kern => !has(CROSS_KERNING),
         _ => false,
     };
-    (
+    Row {
         gpos,
         kerx,
         kern,
         nobody,
-        zeroes && brings.zeroes,
-        unplaced && brings.places,
-        unplaced && !morx,
+        zeroes: zeroes && brings.zeroes,
+        places: unplaced && brings.places,
+        moves_back: unplaced && !morx,
         morx,
-    )
+    }
 }
 
 const DEFAULT_BRINGS: Brings = Brings {
@@ -110,6 +123,7 @@ const DEFAULT_BRINGS: Brings = Brings {
     needs_script_two: false,
     zeroes: true,
     places: true,
+    makes_data: false,
 };
 
 const WISHING_BRINGS: Brings = Brings {
@@ -117,6 +131,7 @@ const WISHING_BRINGS: Brings = Brings {
     needs_script_two: false,
     zeroes: true,
     places: true,
+    makes_data: false,
 };
 
 const SCRIPT_BRINGS: Brings = Brings {
@@ -124,6 +139,7 @@ const SCRIPT_BRINGS: Brings = Brings {
     needs_script_two: true,
     zeroes: false,
     places: false,
+    makes_data: true,
 };
 
 /// The ten questions: tables (without `trak`), kerning, machine, cross, script, feature of kerning.
@@ -131,77 +147,58 @@ fn spread(i: u32) -> u32 {
     (i & 15) | ((i & 1008) << 1)
 }
 
-#[test]
-fn by_the_default_shaper(rt: HostRuntime) -> Result<(), Fail> {
+/// Compares the plans of a shaper in one direction with the table, for every answer of face and engine.
+fn assert_by_table<S>(
+    rt: &impl Abort,
+    alloc: Global,
+    shaper: &S,
+    direction: Direction,
+    brings: Brings,
+) -> Result<(), Fail>
+where
+    S: hb_ot_shaper_t<PlainUnicode, Bits, BitLayout>,
+    requires { direction ≢ Direction.Invalid }
+{
+    let horizontal = matches!(direction, Direction::LeftToRight | Direction::RightToLeft);
     for i in 0..1024 {
         let face = Bits(spread(i));
-        for direction in [Direction::LeftToRight, Direction::BottomToTop] {
-            let plan = hb_ot_shape_plan_t::new::<PlainUnicode, Bits, BitLayout>(
-                rt.alloc(),
-                &face,
-                &DEFAULT_SHAPER,
-                direction,
-                None,
-                None,
-                &[],
-            )?;
-            let horizontal = direction == Direction::LeftToRight;
-            assert_eq!(rt;
-                decided(&plan),
-                expected(face.0, horizontal, DEFAULT_BRINGS)
-            );
-            assert_eq!(rt; plan.fallback_glyph_classes(), face.0 & GLYPH_CLASSES == 0);
-            assert!(rt; plan.shaper().is_some());
-        }
+        let plan = hb_ot_shape_plan_t::new::<PlainUnicode, Bits, BitLayout>(
+            alloc,
+            &face,
+            shaper,
+            direction,
+            None,
+            None,
+            &[],
+        )?;
+        let kept = brings.is_default || !plan.apply_morx();
+        assert_eq!(rt; decided(&plan), expected(face.0, horizontal, brings));
+        assert_eq!(rt; plan.fallback_glyph_classes(), face.0 & GLYPH_CLASSES == 0);
+        assert_eq!(rt; plan.shaper().is_some(), kept);
+        assert_eq!(rt; plan.data().is_some(), kept && brings.makes_data);
     }
     Ok(())
+}
+
+#[test]
+fn by_the_default_shaper(rt: HostRuntime) -> Result<(), Fail> {
+    let (alloc, shaper) = (rt.alloc(), &DEFAULT_SHAPER);
+    assert_by_table(&rt, alloc, shaper, Direction::LeftToRight, DEFAULT_BRINGS)?;
+    assert_by_table(&rt, alloc, shaper, Direction::BottomToTop, DEFAULT_BRINGS)
 }
 
 #[test]
 fn by_a_shaper_with_wishes(rt: HostRuntime) -> Result<(), Fail> {
-    for i in 0..1024 {
-        let face = Bits(spread(i));
-        for direction in [Direction::RightToLeft, Direction::TopToBottom] {
-            let plan = hb_ot_shape_plan_t::new::<PlainUnicode, Bits, BitLayout>(
-                rt.alloc(),
-                &face,
-                &WishingShaper,
-                direction,
-                None,
-                None,
-                &[],
-            )?;
-            let horizontal = direction == Direction::RightToLeft;
-            assert_eq!(rt;
-                decided(&plan),
-                expected(face.0, horizontal, WISHING_BRINGS)
-            );
-            assert_eq!(rt; plan.shaper().is_some(), !plan.apply_morx());
-        }
-    }
-    Ok(())
+    let (alloc, shaper) = (rt.alloc(), &WishingShaper);
+    assert_by_table(&rt, alloc, shaper, Direction::RightToLeft, WISHING_BRINGS)?;
+    assert_by_table(&rt, alloc, shaper, Direction::TopToBottom, WISHING_BRINGS)
 }
 
 #[test]
 fn by_a_shaper_of_a_script(rt: HostRuntime) -> Result<(), Fail> {
-    for i in 0..1024 {
-        let face = Bits(spread(i));
-        for direction in [Direction::LeftToRight, Direction::TopToBottom] {
-            let plan = hb_ot_shape_plan_t::new::<PlainUnicode, Bits, BitLayout>(
-                rt.alloc(),
-                &face,
-                &ScriptShaper,
-                direction,
-                None,
-                None,
-                &[],
-            )?;
-            let horizontal = direction == Direction::LeftToRight;
-            assert_eq!(rt; decided(&plan), expected(face.0, horizontal, SCRIPT_BRINGS));
-            assert_eq!(rt; plan.data().is_some(), !plan.apply_morx());
-        }
-    }
-    Ok(())
+    let (alloc, shaper) = (rt.alloc(), &ScriptShaper);
+    assert_by_table(&rt, alloc, shaper, Direction::LeftToRight, SCRIPT_BRINGS)?;
+    assert_by_table(&rt, alloc, shaper, Direction::TopToBottom, SCRIPT_BRINGS)
 }
 
 #[test]
