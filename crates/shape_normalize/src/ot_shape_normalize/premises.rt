@@ -86,13 +86,16 @@ where
     ensures { let rules = ⟦<S as Runs<U, F, M>>⟧.rules plan.now face.now in
         result ≡ is_supported_text rules infos.now }
 {
-    let mut row = Some(0);
+    let mut row = 0;
     let mut left = infos;
     'items: while let Some((info, before)) = left.split_last() {
-        row = with_full::<U, F, M, S>(plan, face, row, info.codepoint);
+        let Some(next) = with_full::<U, F, M, S>(plan, face, Some(row), info.codepoint) else {
+            return false;
+        };
+        row = next;
         left = before;
     }
-    row.is_some()
+    true
 }
 
 /// Whether an item's mark and ccc are those of its character, which is no variation selector.
