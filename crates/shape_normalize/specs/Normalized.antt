@@ -1,6 +1,5 @@
 -- The normalised list.
-use Rattle.std.specs.Prelude.{◌≡◌, ◌⊎◌, ◌&&◌, ◌==◌, ℕ, Bool, true, false, if◌then◌else◌, List, map, filter, flat_map, All, Contains, Option, None, Some, is_some}
-use Rattle.std.specs.Int.RustNames.{bit_and}
+use Rattle.std.specs.Prelude.{◌≡◌, ◌⊎◌, ◌&&◌, ℕ, Bool, true, false, if◌then◌else◌, List, map, filter, flat_map, All, Contains, Option, None, Some, is_some}
 use Rattle.shape_buffer.specs.Buffer.{Buffer}
 use Rattle.shape_buffer.specs.Clusters.{clusters}
 use Rattle.shape_buffer.specs.ClusterOrder.{KeepsClusters, IsMonotoneLevel}
@@ -12,8 +11,7 @@ use Rattle.shape_plan.specs.Reorder.{IsRunInOrder}
 use Rattle.shape_plan.specs.Rules.{Rules, has_glyph}
 use Rattle.shape_normalize.specs.RoundOne.{round_one, item_glyph, sequences, sequence_items, is_selector_sequence, variation_sequences_merged}
 use Rattle.shape_normalize.specs.RoundThree.{recomposed_by_all, round_three}
-use Rattle.shape_normalize.specs.RoundTwo.{max_run, has_mark_past_first, marks_ordered, cgj_unhidden_where_seen, OrdersMarks}
-use Rattle.shape_buffer.specs.FlagNames.{HAS_CGJ}
+use Rattle.shape_normalize.specs.RoundTwo.{max_run, has_mark_past_first, has_seen_cgj, marks_ordered, cgj_unhidden_where_seen, OrdersMarks}
 
 -- the buffer with its expanded list, with its marks in order where a mark stood past the first item as normalising began, and with each CGJ
 -- unhidden that keeps nothing apart
@@ -90,10 +88,6 @@ features_of item = feature_bits item.mask
 -- each item has the feature bits of an item of the text
 abbrev pub KeepsFeatures : Buffer → Buffer → Type 0
 KeepsFeatures old new = All (λ item. Contains (map features_of old.items) (features_of item)) new.items
-
--- whether the run has seen a CGJ
-abbrev pub has_seen_cgj : Buffer → Bool
-has_seen_cgj b = bit_and b.scratch_flags.0 HAS_CGJ == HAS_CGJ
 
 -- an item's character and whether it is hidden
 abbrev pub hidden_char : Item → ℕ × Bool

@@ -10,10 +10,10 @@ use Rattle.shape_buffer.specs.UnicodeProps.{is_hidden_char}
 use Rattle.shape_buffer.specs.declared.buffer.settings.GlyphId.{GlyphId}
 use Rattle.canonical_form.specs.Runs.{AreRunsSettled}
 use Rattle.shape_plan.specs.Rules.{Rules, has_glyph}
-use Rattle.shape_normalize.specs.Normalized.{ordered, features_of, has_seen_cgj, hidden_char}
-use Rattle.shape_normalize.specs.Reordered.{unmerged, unclassed}
+use Rattle.shape_normalize.specs.Normalized.{ordered, features_of, hidden_char}
+use Rattle.shape_normalize.specs.Reordered.{unmerged, without_ccc}
 use Rattle.shape_normalize.specs.RoundOne.{item_glyph, part_item, expanded_item, variants, sequences, is_with_marks, is_selector_sequence, variation_sequences_merged, round_one}
-use Rattle.shape_normalize.specs.RoundTwo.{max_run, has_mark_past_first, unhidden}
+use Rattle.shape_normalize.specs.RoundTwo.{max_run, has_mark_past_first, unhidden, has_seen_cgj}
 use Rattle.shape_normalize.specs.RoundThree.{Absorbed, Placed, recomposed_items}
 
 -- the item at a place of a list; the item that stands for none past its end is of no account
@@ -116,7 +116,7 @@ IsOrderOf rules items places =
 -- an item but for its cluster and its defined flags, which merging changes, and for its ccc where a reorder hook is given, which may
 -- set that
 abbrev pub lasting : Rules → Item → Item
-lasting rules item = if is_some rules.reorder then unclassed item else unmerged item
+lasting rules item = if is_some rules.reorder then without_ccc item else unmerged item
 
 -- an item is the one of the expanded list that stood at this place; a CGJ may be unhidden, where one was seen
 abbrev pub IsFromPlace : Rules → Buffer → ℕ → Item → Type 0

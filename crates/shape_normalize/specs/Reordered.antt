@@ -14,14 +14,14 @@ abbrev pub unmerged : Item → Item
 unmerged item = record item { cluster = 0; mask = feature_bits item.mask }
 
 -- and but for its ccc, which the hook may set
-abbrev pub unclassed : Item → Item
-unclassed item = with_ccc 0 (unmerged item)
+abbrev pub without_ccc : Item → Item
+without_ccc item = with_ccc 0 (unmerged item)
 
 -- a run in another order: its items are permuted, but for clusters, defined flags and ccc, which stay nonzero; before and behind it all
--- stays but clusters and defined flags; and of the buffer nothing else changes but the scratch flag "has glyph flags" (32), which may come
--- at level CHARACTERS
+-- stays but clusters and defined flags; and of the buffer nothing else changes but the scratch flag HAS_GLYPH_FLAGS, which may come at
+-- level CHARACTERS
 pub record ReordersRun (start end : ℕ) (old new : Buffer) : Type 0 where
-  pub run : IsPermutation (map unclassed (slice_range old.items start end)) (map unclassed (slice_range new.items start end))
+  pub run : IsPermutation (map without_ccc (slice_range old.items start end)) (map without_ccc (slice_range new.items start end))
   pub marks : All (λ item. 0 < ccc_of_item item) (slice_range new.items start end)
   pub before : map unmerged (take start new.items) ≡ map unmerged (take start old.items)
   pub behind : map unmerged (drop end new.items) ≡ map unmerged (drop end old.items)

@@ -6,7 +6,7 @@ use Rattle.shape_buffer.specs.Clusters.{merge}
 use Rattle.shape_buffer.specs.Items.{Item, new_item, ccc_of_item}
 use Rattle.shape_plan.specs.Reorder.{exchanged, ccc_set}
 use Rattle.shape_plan.specs.Rules.{Rules}
-use Rattle.shape_normalize.specs.Normalized.{normalized}
+use Rattle.shape_normalize.specs.Normalized.{normalized, hidden_char}
 use Rattle.shape_normalize.specs.RoundTwo.{run_settled}
 use Rattle.shape_normalize.specs.WorkedWorld.{rules_in, item, buffer_of}
 
@@ -15,11 +15,12 @@ abbrev pub marks_and_letters : List ℕ
 marks_and_letters = 0x61 ∷ 0x62 ∷ 0xE1 ∷ 0x301 ∷ 0x308 ∷ 0x323 ∷ 0x344 ∷ 0x34F ∷ []
 
 -- an item's character and ccc
-abbrev pub classed : Item → ℕ × ℕ
-classed one = (one.codepoint, ccc_of_item one)
+abbrev pub char_and_ccc : Item → ℕ × ℕ
+char_and_ccc one = (one.codepoint, ccc_of_item one)
 
-abbrev pub classes : Rules → List Item → List (ℕ × ℕ)
-classes rules items = map classed (normalized rules (buffer_of items)).items
+-- the normalised items, by characters and ccc
+abbrev pub cccs_by : Rules → List Item → List (ℕ × ℕ)
+cccs_by rules items = map char_and_ccc (normalized rules (buffer_of items)).items
 
 -- ---- compose and decompose hooks
 
@@ -36,11 +37,11 @@ splitting = record (rules_in 1 marks_and_letters) {
 }
 
 pub record CccOfHookCharacters : Type 0 where
-  pub composed_below : classes (composing_to 0x323) (item 0x308 0 ∷ item 0x301 0 ∷ []) ≡ (0x323, 220) ∷ []
-  pub composed_letter : classes (composing_to 0x62) (item 0x308 0 ∷ item 0x301 0 ∷ []) ≡ (0x62, 0) ∷ []
-  pub split_parts : classes splitting (item 0x61 0 ∷ item 0x308 0 ∷ []) ≡ (0x61, 0) ∷ (0x62, 0) ∷ (0x323, 220) ∷ []
+  pub composed_below : cccs_by (composing_to 0x323) (item 0x308 0 ∷ item 0x301 0 ∷ []) ≡ (0x323, 220) ∷ []
+  pub composed_letter : cccs_by (composing_to 0x62) (item 0x308 0 ∷ item 0x301 0 ∷ []) ≡ (0x62, 0) ∷ []
+  pub split_parts : cccs_by splitting (item 0x61 0 ∷ item 0x308 0 ∷ []) ≡ (0x61, 0) ∷ (0x62, 0) ∷ (0x323, 220) ∷ []
   -- and round two orders by it
-  pub split_in_order : classes splitting (item 0x61 0 ∷ item 0x308 0 ∷ item 0x301 0 ∷ item 0x323 0 ∷ [])
+  pub split_in_order : cccs_by splitting (item 0x61 0 ∷ item 0x308 0 ∷ item 0x301 0 ∷ item 0x323 0 ∷ [])
       ≡ (0x61, 0) ∷ (0x62, 0) ∷ (0x323, 220) ∷ (0x323, 220) ∷ (0x301, 230) ∷ []
 
 ccc_of_hook_characters : CccOfHookCharacters
@@ -64,19 +65,18 @@ reordering mode reorder = record (rules_in mode marks_and_letters) { reorder = S
 -- the same where a CGJ was seen, by characters and whether they are hidden
 abbrev pub hidden_by : Rules → List Item → List (ℕ × Bool)
 hidden_by rules items =
-    map (λ (one : Item). (one.codepoint, one.properties.hidden))
-    (normalized rules (record (buffer_of items) { scratch_flags = record { 0 = 8 } })).items
+    map hidden_char (normalized rules (record (buffer_of items) { scratch_flags = record { 0 = 8 } })).items
 
 pub record CccOfReorderedMarks : Type 0 where
   -- the hook is handed the run in its order, and has the last word on it
-  pub after_the_order : classes (reordering 1 first_two_turned) (item 0x61 0 ∷ item 0x301 0 ∷ item 0x323 0 ∷ [])
+  pub after_the_order : cccs_by (reordering 1 first_two_turned) (item 0x61 0 ∷ item 0x301 0 ∷ item 0x323 0 ∷ [])
       ≡ (0x61, 0) ∷ (0x301, 230) ∷ (0x323, 220) ∷ []
-  pub keeps_what_it_set : classes (reordering 1 (first_of_ccc 10)) (item 0x61 0 ∷ item 0x301 0 ∷ item 0x323 0 ∷ [])
+  pub keeps_what_it_set : cccs_by (reordering 1 (first_of_ccc 10)) (item 0x61 0 ∷ item 0x301 0 ∷ item 0x323 0 ∷ [])
       ≡ (0x61, 0) ∷ (0x323, 10) ∷ (0x301, 230) ∷ []
   -- round three: U+0323 lets U+0301 pass, but not once it is of the same ccc; and U+0308 does once it is of a smaller one
-  pub blocks : classes (reordering 3 (first_of_ccc 230)) (item 0x61 0 ∷ item 0x323 0 ∷ item 0x301 0 ∷ [])
+  pub blocks : cccs_by (reordering 3 (first_of_ccc 230)) (item 0x61 0 ∷ item 0x323 0 ∷ item 0x301 0 ∷ [])
       ≡ (0x61, 0) ∷ (0x323, 230) ∷ (0x301, 230) ∷ []
-  pub lets_pass : classes (reordering 3 (first_of_ccc 220)) (item 0x61 0 ∷ item 0x308 0 ∷ item 0x301 0 ∷ [])
+  pub lets_pass : cccs_by (reordering 3 (first_of_ccc 220)) (item 0x61 0 ∷ item 0x308 0 ∷ item 0x301 0 ∷ [])
       ≡ (0xE1, 0) ∷ (0x308, 220) ∷ []
   -- CGJ: what stands before it is of a greater ccc than what stands behind, or of a smaller one, once the hook has set it
   pub keeps_apart : hidden_by (reordering 1 (first_of_ccc 240)) (item 0x61 0 ∷ item 0x323 0 ∷ item 0x34F 0 ∷ item 0x301 0 ∷ [])

@@ -96,8 +96,8 @@ odd_item c =
     let plain : Item = new_item c 3 in record plain { mask = 256; properties = record plain.properties { modified_ccc = 7; continuation = true; shaper_category = 5 } }
 
 -- an item's character, ccc and the shaper's category byte
-abbrev pub classed : Item → ℕ × (ℕ × ℕ)
-classed one = (one.codepoint, (one.properties.modified_ccc, one.properties.shaper_category))
+abbrev pub char_ccc_and_category : Item → ℕ × (ℕ × ℕ)
+char_ccc_and_category one = (one.codepoint, (one.properties.modified_ccc, one.properties.shaper_category))
 
 -- what an item becomes
 pub record ItemsWorked : Type 0 where
@@ -108,7 +108,7 @@ pub record ItemsWorked : Type 0 where
   pub with_glyph_forgotten : map (λ (one : Item). one.properties.space_type)
       (expanded_item (rules_in 1 (0x2002 ∷ 0x20 ∷ [])) None false (item 0x2002 0)) ≡ 0 ∷ []
   -- the items of an expansion have their characters' properties, and keep the shaper's two bytes
-  pub parts : map classed (expanded_item (rules_in 1 (0x61 ∷ 0x301 ∷ [])) None false (odd_item 0xE1))
+  pub parts : map char_ccc_and_category (expanded_item (rules_in 1 (0x61 ∷ 0x301 ∷ [])) None false (odd_item 0xE1))
       ≡ (0x61, (0, 5)) ∷ (0x301, (230, 5)) ∷ []
   pub parts_place : map marked (expanded_item (rules_in 1 (0x61 ∷ 0x301 ∷ [])) None false (odd_item 0xE1))
       ≡ (0x61, (3, 256)) ∷ (0x301, (3, 256)) ∷ []

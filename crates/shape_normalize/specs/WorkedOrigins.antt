@@ -7,6 +7,7 @@ use Rattle.shape_plan.specs.Rules.{Rules}
 use Rattle.shape_normalize.specs.Normalized.{KeepsFeatures}
 use Rattle.shape_normalize.specs.Origins.{Origin, origin_at, origins, new_origins, HasOfOrigin, all_places, AreInOneRun, IsOrderOf, IsFromPlace, IsFromStarter, ComesByPlace}
 use Rattle.shape_normalize.specs.RoundThree.{Placed}
+use Rattle.shape_normalize.specs.RoundTwo.{unhidden}
 use Rattle.shape_normalize.specs.WorkedWorld.{rules_in, item, buffer_of}
 
 -- where the items that round one makes of these came from
@@ -63,10 +64,6 @@ masked mask index plain = record plain { mask = mask; glyph_index = index }
 abbrev pub hidden_item : Item → Item
 hidden_item plain = record plain { properties = record plain.properties { hidden = true } }
 
--- an item that is not
-abbrev pub unhidden_item : Item → Item
-unhidden_item plain = record plain { properties = record plain.properties { hidden = false } }
-
 -- U+00E1 and a U+0062 that is hidden, each with feature bits of its own
 abbrev pub text : Buffer
 text = buffer_of (masked 256 0 (item 0xE1 0) ∷ masked 512 0 (hidden_item (item 0x62 1)) ∷ [])
@@ -86,8 +83,8 @@ pub record OfOriginWorked : Type 0 where
   pub other_hidden : Has (origin_at false 0) (masked 256 0x61 (hidden_item (item 0x61 0))) → ⊥
   pub neighbour_hidden : Has (origin_at false 1) (masked 512 0x61 (hidden_item (item 0x61 0))) → ⊥
   -- but for a CGJ, once these were unhidden, and for nothing else
-  pub once_unhidden : HasOfOrigin (rules_in 1 (0x34F ∷ [])) text true (origin_at false 1) (masked 512 0x34F (unhidden_item (item 0x34F 0)))
-  pub none_unhidden : HasOfOrigin (rules_in 1 (0x34F ∷ [])) text false (origin_at false 1) (masked 512 0x34F (unhidden_item (item 0x34F 0))) → ⊥
+  pub once_unhidden : HasOfOrigin (rules_in 1 (0x34F ∷ [])) text true (origin_at false 1) (masked 512 0x34F (unhidden (item 0x34F 0)))
+  pub none_unhidden : HasOfOrigin (rules_in 1 (0x34F ∷ [])) text false (origin_at false 1) (masked 512 0x34F (unhidden (item 0x34F 0))) → ⊥
   pub other_unhidden : HasOfOrigin (rules_in 1 (0x61 ∷ [])) text true (origin_at false 1) (masked 512 0x61 (hidden_item (item 0x61 0))) → ⊥
 
 -- ---- the order that round two leaves
@@ -130,7 +127,7 @@ abbrev pub with_cgj : ℕ → Buffer
 with_cgj flags = record (buffer_of (item 0x61 0 ∷ masked 256 0 (item 0x34F 1) ∷ [])) { scratch_flags = record { 0 = flags } }
 
 abbrev pub unhidden_cgj : Item
-unhidden_cgj = masked 256 0 (unhidden_item (item 0x34F 7))
+unhidden_cgj = masked 256 0 (unhidden (item 0x34F 7))
 
 pub record FromPlaceWorked : Type 0 where
   pub stays : IsFromPlace (rules_in 1 []) (with_cgj 0) 1 (masked 259 0 (item 0x34F 7))

@@ -4,7 +4,6 @@ ghost use Rattle.shape_buffer.specs.Buffer.{Buffer};
 ghost use Rattle.shape_normalize.specs.CanonicalForm.{HasLawfulHooks};
 ghost use Rattle.shape_normalize.specs.Reordered.{ReordersRun};
 ghost use Rattle.shape_plan.specs.Reorder.{IsRunInOrder};
-ghost use Rattle.shape_plan.specs.Rules.{rules_of, used_reorder};
 
 use shape_buffer::interfaces::{hb_font_t, hb_ot_layout_t, hb_unicode_funcs_t};
 use shape_plan::ot_shape_plan::hb_ot_shape_plan_t;

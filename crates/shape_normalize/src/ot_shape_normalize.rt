@@ -10,7 +10,6 @@ ghost use Rattle.shape_buffer.specs.Buffer.{cleared, limit_of};
 ghost use Rattle.shape_buffer.specs.Clusters.{clusters};
 ghost use Rattle.shape_buffer.specs.ClusterOrder.{KeepsClusters, IsMonotoneLevel};
 ghost use Rattle.shape_buffer.specs.Items.{char_of};
-ghost use Rattle.shape_plan.specs.Rules.{rules_of};
 ghost use Rattle.shape_normalize.specs.RoundOne.{round_one};
 ghost use Rattle.shape_normalize.specs.RoundTwo.{has_mark_past_first as has_mark_past_first_of};
 ghost use Rattle.shape_normalize.specs.CanonicalForm.{NormalizesCanonically};

@@ -30,6 +30,11 @@ module _ (ccc : ℕ → ℕ) (glyph : ℕ → Bool) where
   row_before-append [] ys row = refl
   row_before-append (x ∷ xs) ys row = ap (row_with ccc glyph x) (row_before-append xs ys row)
 
+  -- what is refused stays refused, whatever comes in front
+  row_before-refused : (xs : List ℕ) → row_before ccc glyph xs None ≡ None
+  row_before-refused [] = refl
+  row_before-refused (x ∷ xs) = ap (row_with ccc glyph x) (row_before-refused xs)
+
   abbrev AreMarks : List ℕ → Type 0
   AreMarks xs = AllByRecursion (λ c. 0 < ccc c) xs
 
@@ -211,6 +216,13 @@ module _ (D : Decompositions) (glyph : ℕ → Bool) where
       ap parts chars ∙ flat_map-append (full D) (map char_of before) (item.codepoint ∷ [])
       ∙ ap (λ cs. parts (map char_of before) ++ cs) (append-nil last) in
       ap (λ cs. row_before D.ccc glyph cs row) full_of ∙ row_before-append D.ccc glyph (parts (map char_of before)) last row
+
+  -- where the last item is refused, so are all
+  pub row_before-last_refused : (items before : List Item) (item : Item) (row : Option ℕ) → items ≡ before ++ item ∷ []
+      → row_before D.ccc glyph (full D item.codepoint) row ≡ None → row_before_items items row ≡ None
+  row_before-last_refused items before item row is refused =
+      row_before-last items before item row is
+      ∙ ap (row_before_items before) refused ∙ row_before-refused D.ccc glyph (full_text D (map char_of before))
 
   pub row_before-none : (items : List Item) (row : Option ℕ) → length items ≡ 0 → row_before_items items row ≡ row
   unfolding full_text

@@ -13,14 +13,14 @@ use Rattle.shape_buffer.specs.declared.buffer.settings.BufferClusterLevel.TheVar
 use Rattle.shape_buffer.proofs.Merging.ClusterLemmas.{unsafe_to_break-cases, merge_clusters-cases}
 use Rattle.shape_buffer.proofs.Merging.KeyLemmas.{IsKey, IsKey-ccc, IsKey-unflagged, keys-merge_clusters, without_items-merge_clusters}
 use Rattle.shape_plan.specs.Reorder.{IsRunInOrder, with_ccc, ccc_set, exchanged, Reorders}
-use Rattle.shape_normalize.specs.Reordered.{unmerged, unclassed, ReordersRun}
+use Rattle.shape_normalize.specs.Reordered.{unmerged, without_ccc, ReordersRun}
 use Rattle.shape_normalize.proofs.Normalized.NormalFlagLemmas.{flags-Reorders}
 use Rattle.shape_normalize.proofs.Hooks.ReorderLemmas.{PermutesRange-map, swap_permutes, kept_by_steps, without_items-Reorders, Reorders-before, Reorders-behind, Reorders-permutes, range_set}
 use Rattle.shape_normalize.proofs.RoundTwo.RunMarkLemmas.{All_unmapped}
 use Rattle.shape_normalize.proofs.RoundTwo.SpanLemmas.{map-slice_range}
 
-pub IsKey-unclassed : IsKey unclassed
-IsKey-unclassed = record {
+pub IsKey-without_ccc : IsKey without_ccc
+IsKey-without_ccc = record {
   by_cluster = λ item cluster. ap (with_ccc 0) (IsKey-unflagged.by_cluster item cluster);
   by_break = λ item. ap (with_ccc 0) (IsKey-unflagged.by_break item);
 }
@@ -103,8 +103,8 @@ ReordersRun-steps start end b c run steps =
     let ordered : start ≤ end = omega (arith, run.some) in
     let marks = All-map (λ ccc. 0 < ccc) ccc_of_item (slice_range b.items start end) run.marks in
     record {
-      run = rw (map-slice_range unclassed b.items start end, map-slice_range unclassed c.items start end)
-          (Reorders-permutes start end b run.within unclassed IsKey-unclassed (λ item ccc. refl) steps).range;
+      run = rw (map-slice_range without_ccc b.items start end, map-slice_range without_ccc c.items start end)
+          (Reorders-permutes start end b run.within without_ccc IsKey-without_ccc (λ item ccc. refl) steps).range;
       marks = All_unmapped ccc_of_item (λ ccc. 0 < ccc) (slice_range c.items start end)
           (rw (map-slice_range ccc_of_item c.items start end)
           (marks-steps start end b ordered run.within steps (rw (← map-slice_range ccc_of_item b.items start end) marks)));

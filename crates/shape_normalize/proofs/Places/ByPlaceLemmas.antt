@@ -8,11 +8,11 @@ use Rattle.canonical_form.specs.Runs.{AreRunsSettled}
 use Rattle.shape_buffer.specs.Buffer.{Buffer}
 use Rattle.shape_buffer.specs.Items.{Item, ccc_of_item}
 use Rattle.shape_plan.specs.Rules.{Rules}
-use Rattle.shape_normalize.specs.Normalized.{ordered, normalized, has_seen_cgj}
+use Rattle.shape_normalize.specs.Normalized.{ordered, normalized}
 use Rattle.shape_normalize.specs.Origins.{item_at, all_places, PermutesRuns, IsOrderOf, lasting, IsFromPlace, IsFromStarter, is_recomposed, ComesByPlace}
-use Rattle.shape_normalize.specs.Reordered.{unmerged, unclassed}
+use Rattle.shape_normalize.specs.Reordered.{unmerged, without_ccc}
 use Rattle.shape_normalize.specs.RoundOne.{round_one}
-use Rattle.shape_normalize.specs.RoundTwo.{max_run, has_mark_past_first, marks_ordered, keeps_nothing_apart, unhidden, one_cgj_unhidden, cgj_unhidden_after, cgj_unhidden, cgj_unhidden_where_seen}
+use Rattle.shape_normalize.specs.RoundTwo.{max_run, has_mark_past_first, marks_ordered, keeps_nothing_apart, unhidden, one_cgj_unhidden, cgj_unhidden_after, cgj_unhidden, has_seen_cgj, cgj_unhidden_where_seen}
 use Rattle.shape_normalize.specs.RoundThree.{recomposed_items, round_three}
 use Rattle.shape_normalize.proofs.Places.FromTextLemmas.{order_below, all_places_below, new_has}
 use Rattle.shape_normalize.proofs.Normalized.HiddenLemmas.{flag-marks_ordered, cgj_unseen}
@@ -74,19 +74,19 @@ marks_by_place : (reorder : Option (Buffer → ℕ → ℕ → Buffer)) → Lawf
     (places : List ℕ)
     × MatchOption reorder (AreRunsSettled (λ place. ccc_of_item (item_at one.items place)) max_run [] (all_places one.items) places)
     (λ f. PermutesRuns one.items places)
-    × (map (λ item. if is_some reorder then unclassed item else unmerged item) (marks_ordered reorder one).items
-    ≡ map (λ place. if is_some reorder then unclassed (item_at one.items place) else unmerged (item_at one.items place)) places)
+    × (map (λ item. if is_some reorder then without_ccc item else unmerged item) (marks_ordered reorder one).items
+    ≡ map (λ place. if is_some reorder then without_ccc (item_at one.items place) else unmerged (item_at one.items place)) places)
 marks_by_place None lawful one = (settled_places one, settled_places-settled one, settled_places-items one)
 marks_by_place (Some f) lawful one = let placed = marks_placed f lawful one in (placed.places, placed.order, placed.same)
 
 module _ (rules : Rules) (one : Buffer) where
-  lasting_char : (hook : Bool) (x y : Item) → (if hook then unclassed x else unmerged x) ≡ (if hook then unclassed y else unmerged y)
+  lasting_char : (hook : Bool) (x y : Item) → (if hook then without_ccc x else unmerged x) ≡ (if hook then without_ccc y else unmerged y)
       → x.codepoint ≡ y.codepoint
   lasting_char true x y same = ap (λ (item : Item). item.codepoint) same
   lasting_char false x y same = ap (λ (item : Item). item.codepoint) same
 
-  lasting_unhidden : (hook : Bool) (x y : Item) → (if hook then unclassed x else unmerged x) ≡ (if hook then unclassed y else unmerged y)
-      → (if hook then unclassed (unhidden x) else unmerged (unhidden x)) ≡ (if hook then unclassed (unhidden y) else unmerged (unhidden y))
+  lasting_unhidden : (hook : Bool) (x y : Item) → (if hook then without_ccc x else unmerged x) ≡ (if hook then without_ccc y else unmerged y)
+      → (if hook then without_ccc (unhidden x) else unmerged (unhidden x)) ≡ (if hook then without_ccc (unhidden y) else unmerged (unhidden y))
   lasting_unhidden true x y same = ap unhidden same
   lasting_unhidden false x y same = ap unhidden same
 

@@ -14,11 +14,11 @@ use Rattle.shape_buffer.specs.Items.{Item, new_item, ccc_of_item}
 use Rattle.shape_buffer.specs.UnicodeProps.{is_hidden_char}
 use Rattle.shape_plan.specs.Reorder.{with_ccc}
 use Rattle.shape_plan.specs.Rules.{Rules}
-use Rattle.shape_normalize.specs.Normalized.{ordered, hidden_char, has_seen_cgj}
+use Rattle.shape_normalize.specs.Normalized.{ordered, hidden_char}
 use Rattle.shape_normalize.specs.Origins.{item_at, Origin, origin_at, origins, HasOfOrigin, all_places, PermutesRuns, IsFromPlace, IsOnceComposed, IsFromStarter, is_recomposed, new_origins}
-use Rattle.shape_normalize.specs.Reordered.{unmerged, unclassed}
+use Rattle.shape_normalize.specs.Reordered.{unmerged, without_ccc}
 use Rattle.shape_normalize.specs.RoundOne.{item_glyph, part_item, round_one}
-use Rattle.shape_normalize.specs.RoundTwo.{max_run, unhidden}
+use Rattle.shape_normalize.specs.RoundTwo.{max_run, unhidden, has_seen_cgj}
 use Rattle.shape_normalize.specs.RoundThree.{Absorbed, Placed, recomposed_items}
 use Rattle.shape_normalize.proofs.Normalized.ItemGlyphLemmas.{part_has_glyph}
 use Rattle.shape_normalize.proofs.RoundThree.RoundThreePlaceLemmas.{AreRising, AreRising-fit, recomposed_placed}
@@ -81,7 +81,7 @@ module _ (rules : Rules) (text : Buffer) where
   none = origin_at false 0
 
   -- it goes neither by clusters nor by defined flags nor by ccc
-  has_same : (origin : Origin) (x y : Item) → unclassed x ≡ unclassed y → Has origin y → Has origin x
+  has_same : (origin : Origin) (x y : Item) → without_ccc x ≡ without_ccc y → Has origin y → Has origin x
   has_same origin x y same has =
       let hidden : hidden_char x ≡ hidden_char y = ap hidden_char same in
       record {
@@ -95,10 +95,10 @@ module _ (rules : Rules) (text : Buffer) where
         ];
       }
 
-  unclassed_of : (hook : Bool) (x y : Item) → (if hook then unclassed x else unmerged x) ≡ (if hook then unclassed y else unmerged y)
-      → unclassed x ≡ unclassed y
-  unclassed_of true x y same = same
-  unclassed_of false x y same = ap (with_ccc 0) same
+  without_ccc_of : (hook : Bool) (x y : Item) → (if hook then without_ccc x else unmerged x) ≡ (if hook then without_ccc y else unmerged y)
+      → without_ccc x ≡ without_ccc y
+  without_ccc_of true x y same = same
+  without_ccc_of false x y same = ap (with_ccc 0) same
 
   -- ---- round two
 
@@ -113,7 +113,7 @@ module _ (rules : Rules) (text : Buffer) where
       let hook = is_some rules.reorder in
       elim is [
         | inl same ↦
-            has_same origin item from (unclassed_of hook item from same) (record {
+            has_same origin item from (without_ccc_of hook item from same) (record {
               features = had.features;
               glyph = had.glyph;
               hidden = elim had.hidden [
@@ -126,7 +126,7 @@ module _ (rules : Rules) (text : Buffer) where
             let seen : has_seen_cgj one ≡ true = unhides.0 in
             let once_unhidden : Has origin (unhidden from) =
             record { features = had.features; glyph = had.glyph; hidden = inr (inr (seen, unhides.1)) } in
-            has_same origin item (unhidden from) (unclassed_of hook item (unhidden from) unhides.2) once_unhidden
+            has_same origin item (unhidden from) (without_ccc_of hook item (unhidden from) unhides.2) once_unhidden
       ]
 
   module _ (places : List ℕ) (below : AllByRecursion (λ place. place < length one.items) places)

@@ -14,12 +14,12 @@ use Rattle.shape_buffer.specs.Buffer.{Buffer}
 use Rattle.shape_buffer.specs.Items.{Item, ccc_of_item}
 use Rattle.shape_buffer.proofs.Merging.KeyLemmas.{IsKey}
 use Rattle.shape_normalize.specs.Origins.{item_at, all_places, IsShortRun, AreInOneRun, PermutesRuns}
-use Rattle.shape_normalize.specs.Reordered.{unclassed}
+use Rattle.shape_normalize.specs.Reordered.{without_ccc}
 use Rattle.shape_normalize.specs.RoundTwo.{max_run, spans_merged, run_reordered, run_settled, marks_ordered}
 use Rattle.shape_normalize.proofs.Places.PlaceLemmas.{by_places}
 use Rattle.shape_normalize.proofs.Places.WholeRunLemmas.{kept_by_whole_runs}
 use Rattle.shape_normalize.proofs.Hooks.ReorderLemmas.{LawfulReorder, PermutesRange, PermutesRange-trans, PermutesRange-map, IsPermutation-range, Reorders-permutes, range_get}
-use Rattle.shape_normalize.proofs.Hooks.ReorderedLemmas.{IsKey-unclassed}
+use Rattle.shape_normalize.proofs.Hooks.ReorderedLemmas.{IsKey-without_ccc}
 use Rattle.shape_normalize.proofs.RoundTwo.RunMarkLemmas.{AreMarks, written_part}
 use Rattle.shape_normalize.proofs.RoundTwo.SettleLemmas.{drop_behind, run_placed, merged_length, length-run_placed, settled_cases, Reorders-run_reordered, run_placed-in_order}
 use Rattle.shape_normalize.proofs.RoundTwo.SpanLemmas.{keys-spans_merged, map-slice_range}
@@ -177,14 +177,14 @@ module _ (f : Buffer → ℕ → ℕ → Buffer) (lawful : LawfulReorder (Some f
   pub record IsPlaced (c : Buffer) : Type 0 where
     pub places : List ℕ
     pub order : PermutesRuns one.items places
-    pub same : map unclassed c.items ≡ map (λ place. unclassed (item_at one.items place)) places
+    pub same : map without_ccc c.items ≡ map (λ place. without_ccc (item_at one.items place)) places
 
   module _ (start end : ℕ) (c : Buffer) (ordered : start ≤ end) (within : end ≤ length c.items)
       (marks : AreMarks (slice_range c.items start end)) (run : end - start ≤ max_run → IsShortRun one.items start end)
       (so_far : IsPlaced c) where
     long : length so_far.places ≡ length c.items
-    long = sym (length-map so_far.places (λ place. unclassed (item_at one.items place))) ∙ ap length (sym so_far.same)
-        ∙ length-map c.items unclassed
+    long = sym (length-map so_far.places (λ place. without_ccc (item_at one.items place))) ∙ ap length (sym so_far.same)
+        ∙ length-map c.items without_ccc
 
     as_long : length so_far.places ≡ length one.items
     as_long = length_permutation (all_places one.items) so_far.places so_far.order.all ∙ length-range_with_len 0 (length one.items)
@@ -195,12 +195,12 @@ module _ (f : Buffer → ℕ → ℕ → Buffer) (lawful : LawfulReorder (Some f
         let new = run_reordered (Some f) start end placed in
         let inside : end ≤ length placed.items = rw (length-run_placed start end c ordered) within in
         let steps = Reorders-run_reordered (Some f) lawful start end placed (run_placed-in_order start end c ordered within marks few) in
-        let moved = PermutesRange-trans start end (map unclassed c.items) (map unclassed placed.items) (map unclassed new.items)
-        (placed_permutes unclassed IsKey-unclassed start end c ordered within)
-        (Reorders-permutes start end placed inside unclassed IsKey-unclassed (λ item ccc. refl) steps) in
+        let moved = PermutesRange-trans start end (map without_ccc c.items) (map without_ccc placed.items) (map without_ccc new.items)
+        (placed_permutes without_ccc IsKey-without_ccc start end c ordered within)
+        (Reorders-permutes start end placed inside without_ccc IsKey-without_ccc (λ item ccc. refl) steps) in
         let fits : end ≤ length so_far.places = rw long within in
-        let lifted = things_permuted (λ place. unclassed (item_at one.items place)) so_far.places
-        (map unclassed new.items) start end ordered fits (rw (← so_far.same) moved) in
+        let lifted = things_permuted (λ place. without_ccc (item_at one.items place)) so_far.places
+        (map without_ccc new.items) start end ordered fits (rw (← so_far.same) moved) in
         record {
           places = lifted.0;
           order = record {
@@ -225,5 +225,5 @@ module _ (f : Buffer → ℕ → ℕ → Buffer) (lawful : LawfulReorder (Some f
           runs = λ i d lt. let at : get_or (all_places one.items) i d ≡ 0 + i = get_or-range_with_len 0 (length one.items) i d lt in
               inl (omega arith);
         };
-        same = by_places unclassed one.items;
+        same = by_places without_ccc one.items;
       })

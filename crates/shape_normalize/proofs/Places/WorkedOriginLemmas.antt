@@ -9,10 +9,10 @@ use Rattle.canonical_form.specs.Order.{IsSwap, Swaps}
 use Rattle.canonical_form.proofs.Ordering.OrderLemmas.{in_order_from_reached}
 use Rattle.shape_buffer.specs.Clusters.{merge}
 use Rattle.shape_buffer.specs.Items.{Item, new_item, ccc_of_item}
-use Rattle.shape_normalize.specs.Normalized.{features_of, has_seen_cgj}
+use Rattle.shape_normalize.specs.Normalized.{features_of}
 use Rattle.shape_normalize.specs.Origins.{item_at, HasOfOrigin, all_places, AreInOneRun, PermutesRuns, IsOrderOf, new_origins, ComesByPlace}
 use Rattle.shape_normalize.specs.RoundOne.{round_one}
-use Rattle.shape_normalize.specs.RoundTwo.{run_settled}
+use Rattle.shape_normalize.specs.RoundTwo.{run_settled, has_seen_cgj}
 use Rattle.shape_normalize.specs.WorkedWorld.{rules_in, item}
 use Rattle.shape_normalize.specs.WorkedOrigins.{letters, PlacesWorked, NewPlacesWorked, WholeWorked, OfOriginWorked, runs_of_marks, with_marks, OrderWorked, FromPlaceWorked, FromStarterWorked, OriginsWorked}
 

@@ -1,5 +1,5 @@
 -- Round three: what the walk that recomposes has put out, and what it leaves.
-use Rattle.std.proofs.Common.{◌≡◌, ℕ, ◌+◌, ◌<◌, ◌≤◌, List, [], ◌∷◌, length, map, replicate, get_or, drop, Result, Ok, Err, IsErrAnd, IsOkUnless, refl, ap, ap₂, ◌∙◌, arith, add-one, drop-cons}
+use Rattle.std.proofs.Common.{◌≡◌, ℕ, ◌≤◌, List, [], ◌∷◌, length, map, replicate, Result, Ok, Err, IsErrAnd, IsOkUnless, refl, ap, ap₂, ◌∙◌, arith}
 use Rattle.std.proofs.lemmas.List.{length-map}
 use Rattle.shape_buffer.specs.Buffer.{Buffer, cleared, limit_of}
 use Rattle.shape_buffer.specs.Items.{Item}

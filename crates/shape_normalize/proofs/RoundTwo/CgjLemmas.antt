@@ -1,4 +1,4 @@
--- What unhiding CGJ keeps, and a walk over the items between the first and the last that shows them.
+-- What unhiding CGJ keeps, and a walk over the items between the first and the last that unhides them.
 use Rattle.std.proofs.Common.{◌≡◌, ℕ, zero, suc, ◌+◌, ◌<◌, ◌≤◌, ◌==◌, ◌&&◌, bit_and, if◌then◌else◌, true, false, List, [], ◌∷◌, ◌++◌, map, take, drop, length, get_or, set, refl, ap, ap₂, arith, add-one}
 use Rattle.shape_buffer.specs.Items.{Item, ccc_of_item, char_of}
 use Rattle.shape_buffer.specs.Buffer.{Buffer}
@@ -53,7 +53,7 @@ unhidden_step zero (x ∷ y ∷ z ∷ rest) a b c within at_a at_b at_c =
 unhidden_step (suc k) (x ∷ y ∷ z ∷ rest) a b c within at_a at_b at_c =
     ap (λ zs. x ∷ zs) (unhidden_step k (y ∷ z ∷ rest) a b c (omega arith) at_a at_b at_c)
 
--- a walk shows the item behind place k, whose neighbours are a and c
+-- a walk unhides the item behind place k, whose neighbours are a and c, where that is to be
 pub unhidden_more : (k : ℕ) (items : List Item) (a b c : Item) → k + 2 < length items → a ≡ get_or items k a → b ≡ get_or items (k + 1) b
     → c ≡ get_or items (k + 2) c
     → take (k + 1) (set items (k + 1) (one_cgj_unhidden a b c)) ++ cgj_unhidden (drop (k + 1) (set items (k + 1) (one_cgj_unhidden a b c)))

@@ -8,7 +8,6 @@ ghost use Rattle.shape_normalize.specs.CanonicalForm.{text_of, AreEquivalent};
 ghost use Rattle.shape_normalize.specs.CanonicalForm.{CanonicalFormPremises};
 ghost use Rattle.shape_normalize.specs.Normalized.{normalized};
 ghost use Rattle.shape_normalize.specs.RoundOne.{round_one};
-ghost use Rattle.shape_plan.specs.Rules.{rules_of};
 
 use crate::ot_shape_normalize::_hb_ot_shape_normalize;
 use shape_buffer::buffer::{ShapeError, hb_buffer_t, hb_glyph_info_t};

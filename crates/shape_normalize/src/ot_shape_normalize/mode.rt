@@ -40,13 +40,12 @@ where
     S: hb_ot_shaper_t<U, F, M>,
     ensures { result ≡ goes_short_in (used_mode S.constants.preference plan.now) with_marks }
 {
-    let mode = mode_of::<U, F, M, S>(plan);
-    if mode == HB_OT_SHAPE_NORMALIZATION_MODE_NONE {
-        return true;
+    match mode_of::<U, F, M, S>(plan) {
+        HB_OT_SHAPE_NORMALIZATION_MODE_NONE => true,
+        HB_OT_SHAPE_NORMALIZATION_MODE_COMPOSED_DIACRITICS | HB_OT_SHAPE_NORMALIZATION_MODE_AUTO =>
+            !with_marks,
+        _ => false,
     }
-    let by_themselves = mode == HB_OT_SHAPE_NORMALIZATION_MODE_COMPOSED_DIACRITICS
-        || mode == HB_OT_SHAPE_NORMALIZATION_MODE_AUTO;
-    by_themselves && !with_marks
 }
 
 /// Whether marks are composed with their starters again.
@@ -58,8 +57,10 @@ where
     S: hb_ot_shaper_t<U, F, M>,
     ensures { result ≡ mode_recomposes (used_mode S.constants.preference plan.now) }
 {
-    let mode = mode_of::<U, F, M, S>(plan);
-    mode == HB_OT_SHAPE_NORMALIZATION_MODE_COMPOSED_DIACRITICS
-        || mode == HB_OT_SHAPE_NORMALIZATION_MODE_COMPOSED_DIACRITICS_NO_SHORT_CIRCUIT
-        || mode == HB_OT_SHAPE_NORMALIZATION_MODE_AUTO
+    matches!(
+        mode_of::<U, F, M, S>(plan),
+        HB_OT_SHAPE_NORMALIZATION_MODE_COMPOSED_DIACRITICS
+            | HB_OT_SHAPE_NORMALIZATION_MODE_COMPOSED_DIACRITICS_NO_SHORT_CIRCUIT
+            | HB_OT_SHAPE_NORMALIZATION_MODE_AUTO
+    )
 }

@@ -11,7 +11,7 @@ ghost use Rattle.shape_normalize.specs.CanonicalForm.{CanonicalFormPremises, Has
 ghost use Rattle.shape_normalize.specs.PremiseTest.{row_with, row_before as row_before_of};
 ghost use Rattle.shape_normalize.specs.PremiseTest.{is_plain_item, is_full_mode, is_supported_text};
 ghost use Rattle.shape_normalize.specs.PremiseTest.{meets_premises};
-ghost use Rattle.shape_plan.specs.Rules.{rules_of, decompositions, has_glyph};
+ghost use Rattle.shape_plan.specs.Rules.{decompositions, has_glyph};
 
 use crate::ot_shape_normalize::decompose::split_of;
 use crate::ot_shape_normalize::has_mark_past_first;
@@ -24,7 +24,7 @@ use shape_plan::ot_shaper::{MAX_COMBINING_MARKS, Runs, hb_ot_shaper_t};
 
 /// How many marks a text begins with once `c` came in front of it, where it began with `row` of them.
 /// `None` where these are more than 32, or where the face has no glyph for `c`.
-fn with_mark<U: hb_unicode_funcs_t, F: hb_font_t>(
+fn with_char<U: hb_unicode_funcs_t, F: hb_font_t>(
     face: &F,
     row: Option<usize>,
     c: char,
@@ -65,11 +65,11 @@ where
     let mut point = c;
     'chain: while let Some((a, b)) = split_of::<U, F, M, S>(plan, face, point) {
         if b != '\0' {
-            row = with_mark::<U, F>(face, row, b);
+            row = with_char::<U, F>(face, row, b);
         }
         point = a;
     }
-    with_mark::<U, F>(face, row, point)
+    with_char::<U, F>(face, row, point)
 }
 
 /// Whether each character of Full has a glyph, and no run of marks in it is longer than 32.
@@ -86,26 +86,23 @@ where
     ensures { let rules = ⟦<S as Runs<U, F, M>>⟧.rules plan.now face.now in
         result ≡ is_supported_text rules infos.now }
 {
-    let mut row = Some(0);
+    let mut row = 0;
     let mut left = infos;
     'items: while let Some((info, before)) = left.split_last() {
-        row = with_full::<U, F, M, S>(plan, face, row, info.codepoint);
+        let Some(next) = with_full::<U, F, M, S>(plan, face, Some(row), info.codepoint) else {
+            return false;
+        };
+        row = next;
         left = before;
     }
-    row.is_some()
+    true
 }
 
 /// Whether an item's mark and ccc are those of its character, which is no variation selector.
 fn is_plain<U: hb_unicode_funcs_t>(info: &hb_glyph_info_t) -> bool
     ensures { result ≡ is_plain_item U.unicode info.now }
 {
-    let is_mark = info._hb_glyph_info_is_unicode_mark();
-    let same_mark = if U::general_category(info.codepoint).is_mark() {
-        is_mark
-    } else {
-        !is_mark
-    };
-    same_mark
+    info._hb_glyph_info_is_unicode_mark() == U::general_category(info.codepoint).is_mark()
         && info._hb_glyph_info_get_modified_combining_class()
             == U::modified_combining_class(info.codepoint)
         && !U::is_variation_selector(info.codepoint)

@@ -3,11 +3,10 @@
 //!
 //! Whether the shortest or the longest expansion is taken goes by the mode, and whether the item stands in
 //! a sequence with marks. A sequence with marks that holds a variation selector isn't expanded.
-ghost use Rattle.std.specs.Prelude.{◌≡◌, ◌<◌, ◌≤◌, ◌++◌, length, fold, vec_len, OnOk, OnErr, IfOk};
+ghost use Rattle.std.specs.Prelude.{◌≡◌, ◌<◌, ◌≤◌, ◌++◌, length, fold, vec_len, OnOk, IfOk};
 ghost use Rattle.std.specs.Prelude.{Err};
 ghost use Rattle.std.specs.List.{flat_map};
 ghost use Rattle.shape_buffer.specs.Buffer.{cleared, limit_of};
-ghost use Rattle.shape_plan.specs.Rules.{rules_of};
 ghost use Rattle.shape_normalize.specs.RoundOne.{expanded, expanded_item, round_one, seen_expanded};
 ghost use Rattle.shape_normalize.specs.RoundOne.{seen_sequence, sequence_items, sequences};
 

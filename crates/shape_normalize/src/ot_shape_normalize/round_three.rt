@@ -8,13 +8,12 @@ ghost use Rattle.std.specs.Prelude.{◌≡◌, ◌≤◌, map, length, IfOk, IsO
 ghost use Rattle.shape_buffer.specs.Buffer.{cleared, limit_of};
 ghost use Rattle.canonical_form.specs.Recompose.{is_blocked_by_last, compose_with_glyph};
 ghost use Rattle.shape_buffer.specs.UnicodeProps.{with_scratch_of};
-ghost use Rattle.shape_plan.specs.Plan.{hooks_of};
 ghost use Rattle.shape_normalize.specs.RoundOne.{part_item, seen_chars};
 ghost use Rattle.shape_normalize.specs.RoundThree.{recomposed_items, chained_spans, composed_chars};
 ghost use Rattle.shape_normalize.specs.RoundThree.{placed_info};
 ghost use Rattle.shape_normalize.specs.RoundThree.{ccc_of_placed_info, composed_char, info_at_its_place};
 ghost use Rattle.shape_normalize.specs.RoundThree.{round_three};
-ghost use Rattle.shape_plan.specs.Rules.{used_compose, has_glyph, rules_of};
+ghost use Rattle.shape_plan.specs.Rules.{has_glyph};
 
 use crate::ot_shape_normalize::round_one::part_of;
 use shape_buffer::buffer::{ScratchFlags, ShapeError, hb_buffer_t, hb_glyph_info_t};
@@ -79,8 +78,7 @@ where
         (⟦<S as Runs<U, F, M>>⟧.rules plan.now face.now).compose
         (has_glyph (F.face face.now).nominal_glyph) a b }
 {
-    let c = compose_of::<U, F, M, S>(plan, face, a, b)?;
-    if face.has_glyph(c) { Some(c) } else { None }
+    compose_of::<U, F, M, S>(plan, face, a, b).filter(|&c| face.has_glyph(c))
 }
 
 /// Whether the last of these marks keeps an item behind them from their starter.
@@ -217,11 +215,9 @@ fn all_at_their_places(
     ensures { IfOk result (λ placed_back. placed_back.items
         ≡ map (info_at_its_place infos.now) out.now) }
 {
-    let mut placed_back = Vec::new(alloc);
-    for placed in out {
-        placed_back.push(placed.at_its_place(infos))?;
-    }
-    Ok(placed_back)
+    out.iter()
+        .map(|placed| placed.at_its_place(infos))
+        .collect(alloc)
 }
 
 /// Composes marks with their starters. Refuses with `Memory` where a growth was refused; the settings that

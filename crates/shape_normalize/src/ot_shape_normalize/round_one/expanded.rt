@@ -5,9 +5,8 @@
 //! say in that, so the functions for one item that stays whole state it by the rules without a shaper.
 ghost use Rattle.std.specs.Prelude.{◌≡◌, ◌<◌, ◌≤◌, [], ◌∷◌, ◌++◌, length, map, reverse, vec_len};
 ghost use Rattle.std.specs.Prelude.{if◌then◌else◌, OnOk, Err};
-ghost use Rattle.std.specs.Option.{option_or};
 ghost use Rattle.shape_buffer.specs.UnicodeProps.{with_scratch_of};
-ghost use Rattle.shape_plan.specs.Rules.{rules_of, rules_without_shaper};
+ghost use Rattle.shape_plan.specs.Rules.{rules_without_shaper};
 ghost use Rattle.shape_normalize.specs.RoundOne.{part_item, remembers_space as remembers_space_of};
 ghost use Rattle.shape_normalize.specs.RoundOne.{whole_item, expanded_item, seen_chars};
 ghost use Rattle.shape_normalize.specs.RoundOne.{with_space_fallback, seen_expanded};
@@ -163,7 +162,7 @@ impl Expanded {
     }
 
     /// Puts out items of an expansion, from the last of these characters to the first.
-    fn put_back<U: hb_unicode_funcs_t, F: hb_font_t>(
+    fn put_seconds<U: hb_unicode_funcs_t, F: hb_font_t>(
         &mut self,
         face: &F,
         info: &hb_glyph_info_t,
@@ -248,7 +247,7 @@ impl Expanded {
                     return Err(ShapeError::Length);
                 }
                 self.put_part::<U, F>(face, info, first)?;
-                self.put_back::<U, F>(face, info, seconds)?;
+                self.put_seconds::<U, F>(face, info, seconds)?;
                 Ok(())
             }
         }

@@ -40,7 +40,8 @@ fn push_passed<F: hb_font_t>(
     Ok(())
 }
 
-/// Marks a selector that no glyph came of; where there is a glyph for such it is to be seen.
+/// Marks a selector that made no glyph with its item; where the buffer has a not-found glyph for
+/// selectors, it is no longer ignorable.
 fn mark_selector(info: &mut hb_glyph_info_t, not_found: Option<GlyphId>)
     ensures { info.new ≡ marked_selector not_found info.old }
 {

@@ -74,7 +74,7 @@ pub(super) fn merge_variation_sequences<U: hb_unicode_funcs_t, F: hb_font_t>(
     ensures merged { OnOk result (buffer.new
         ≡ merged_at buffer.old (variation_sequences_from U.unicode (F.face face.now) 0
         (sequences buffer.old.items))) }
-    ensures unchanged { OnErr result (buffer.new ≡ buffer.old) }
+    ensures err { OnErr result (buffer.new ≡ buffer.old) }
 {
     let places = variation_sequences::<U, F>(alloc, face, buffer.infos())?;
     'merges: for place in &places {

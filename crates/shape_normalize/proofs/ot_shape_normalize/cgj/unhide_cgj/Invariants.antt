@@ -2,7 +2,7 @@ use Rattle.std.proofs.Common.{◌≡◌, ◌-◌, ◌++◌, take, drop, length}
 use Rattle.shape_normalize.specs.RoundTwo.{cgj_unhidden}
 use Rattle.shape_normalize.proofs.ot_shape_normalize.cgj.unhide_cgj.Given as goal
 
--- the items before place i - 1 are done, and what is left shows those that the whole walk does
+-- the items before place i - 1 are done, and a walk over what is left gives what the whole walk gives
 abbrev pub invariant-loop-i : goal.invariant-loop-i
 invariant-loop-i l = record {
   items : l.buffer ≡ record l.fn.buffer { items = l.buffer.items };

@@ -12,7 +12,7 @@ invariant-items g l =
     let rules = rules_of g.U.hb_unicode_funcs_t.unicode shaper.constants shaper.hooks g.F.hb_font_t.face l.plan l.face in
     let glyph = has_glyph rules.face.nominal_glyph in
     row_before rules.unicode.ccc glyph (full_text (decompositions rules) (map char_of l.infos)) (Some 0)
-    ≡ row_before rules.unicode.ccc glyph (full_text (decompositions rules) (map char_of l.left)) l.row
+    ≡ row_before rules.unicode.ccc glyph (full_text (decompositions rules) (map char_of l.left)) (Some l.row)
 
 abbrev pub decreases-items : goal.decreases-items
 decreases-items g l = length l.left

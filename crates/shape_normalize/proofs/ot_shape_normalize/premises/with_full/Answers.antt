@@ -13,7 +13,7 @@ chain-preserved-then-b-ne0 g c =
     c.chain.invariant
     ∙ row_before-kept (decompositions rules) (has_glyph rules.face.nominal_glyph) falls
     c.chain.point c.in-Some.a c.in-Some.b
-    c.chain.row c.with_mark-row.result (sym c.split_of.ensures ∙ c.in-Some.is) c.if-b-ne0.true c.with_mark-row.ensures
+    c.chain.row c.with_char-row.result (sym c.split_of.ensures ∙ c.in-Some.is) c.if-b-ne0.true c.with_char-row.ensures
 
 pub chain-preserved : goal.chain-preserved
 chain-preserved g c =
@@ -32,7 +32,7 @@ returns g c =
     let rules = rules_of g.U.hb_unicode_funcs_t.unicode shaper.constants shaper.hooks g.F.hb_font_t.face c.args.plan.now c.args.face.now in
     let falls = FallsAlong-planned g.met.U.hb_unicode_funcs_t.lawful shaper.constants.has_decompose shaper.hooks
     g.met.S.hb_ot_shaper_t.lawful_hooks c.args.plan.now c.args.face.now in
-    c.with_mark.ensures
+    c.with_char.ensures
     ∙ sym (c.chain.invariant
     ∙ row_before-whole (decompositions rules) (has_glyph rules.face.nominal_glyph) falls
     c.chain.point c.chain.row (sym c.split_of.ensures ∙ c.in_default.is))

@@ -1,6 +1,6 @@
 use Rattle.std.proofs.Common.{◌≡◌, ◌++◌, reverse, map, vec_len}
 use Rattle.shape_normalize.specs.RoundOne.{part_item, seen_chars}
-use Rattle.shape_normalize.proofs.ot_shape_normalize.round_one.expanded.Expanded.put_back.Given as goal
+use Rattle.shape_normalize.proofs.ot_shape_normalize.round_one.expanded.Expanded.put_seconds.Given as goal
 
 abbrev pub invariant-loop-c : goal.invariant-loop-c
 invariant-loop-c g l =
