@@ -6,6 +6,7 @@ use Rattle.std.specs.Int.RustNames.{bit_and}
 use Rattle.bitflags.specs.Sets.{Row, known_bits}
 use Rattle.bitflags.proofs.OnLiterals.{bitflags_on_literals}
 use Rattle.shape_buffer.specs.declared.buffer.flags.BufferFlags.{BufferFlags}
+use Rattle.shapeline.specs.Settings.{ALL_FLAGS}
 
 -- the flags that there are
 abbrev pub flag_rows : List Row
@@ -13,14 +14,14 @@ flag_rows = (codes "BEGINNING_OF_TEXT", 2) ∷ (codes "END_OF_TEXT", 4) ∷ (cod
     ∷ (codes "REMOVE_DEFAULT_IGNORABLES", 16) ∷ (codes "DO_NOT_INSERT_DOTTED_CIRCLE", 32)
     ∷ (codes "PRODUCE_UNSAFE_TO_CONCAT", 64) ∷ (codes "PRODUCE_SAFE_TO_INSERT_TATWEEL", 128) ∷ []
 
-all_bits : known_bits flag_rows ≡ 254
+all_bits : known_bits flag_rows ≡ ALL_FLAGS
 unfolding bitflags_on_literals
 all_bits = refl
 
 -- what `from_bits` answers for the number that was read
 pub flags_read : {Good : Type 0} (flags : Option BufferFlags) (bits number : ℕ) → Good → bits ≡ number → IfSome flags (λ f. f.0 ≡ bits)
     → IsSome flags ↔ (bit_and bits (known_bits flag_rows) ≡ bits)
-    → SomeIff flags (Good × (bit_and number 254 ≡ number)) (record { 0 = number })
+    → SomeIff flags (Good × (bit_and number ALL_FLAGS ≡ number)) (record { 0 = number })
 flags_read None bits number good same value test = λ both.
     let at : bit_and bits (known_bits flag_rows)
     ≡ bits = subst (λ n. bit_and n (known_bits flag_rows) ≡ n) (sym same) (ap (bit_and number) all_bits ∙ both.1) in
@@ -28,4 +29,4 @@ flags_read None bits number good same value test = λ both.
     absurd cc
 flags_read (Some f) bits number good same value test =
     let at : bit_and bits (known_bits flag_rows) ≡ bits = test.0 refl in
-    ((good, subst (λ n. bit_and n 254 ≡ n) same (sym (ap (bit_and bits) all_bits) ∙ at)), ap (λ n. record { 0 = n }) (value ∙ same))
+    ((good, subst (λ n. bit_and n ALL_FLAGS ≡ n) same (sym (ap (bit_and bits) all_bits) ∙ at)), ap (λ n. record { 0 = n }) (value ∙ same))

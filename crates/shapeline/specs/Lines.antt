@@ -5,6 +5,7 @@ use Rattle.shapeline.specs.Commands.{command_of}
 use Rattle.shapeline.specs.State.{State, set_by, IsMeant}
 use Rattle.shapeline.specs.Words.{words}
 use Rattle.shapeline.specs.declared.engine.command.Command.{Command}
+use Rattle.shapeline.specs.declared.engine.command.Command.TheVariants.{Glyph, Text, Same}
 use Rattle.shapeline.specs.declared.engine.outcome.Outcome.{Outcome}
 use Rattle.shapeline.specs.declared.engine.outcome.Outcome.TheVariants.{Done, Malformed, OutOfMemory, WriteFailed}
 
@@ -33,6 +34,22 @@ abbrev pub IsMeantByCommand : Option Command → List (List ℕ) → Type 0
 IsMeantByCommand None rest = ⊥
 IsMeantByCommand (Some command) rest = IsMeant command rest
 
+-- what the words of a line are about; no words and comments are about nothing
+abbrev pub command_of_words : List (List ℕ) → Option Command
+command_of_words [] = None
+command_of_words (word ∷ rest) = if is_comment word then None else command_of word
+
+-- whether a line about this takes memory for what it sets
+abbrev pub takes_memory : Option Command → Bool
+takes_memory (Some Glyph) = true
+takes_memory _ = false
+
+-- whether it asks for an answer
+abbrev pub asks_for_answer : Option Command → Bool
+asks_for_answer (Some Text) = true
+asks_for_answer (Some Same) = true
+asks_for_answer _ = false
+
 -- what the words of a line make of a state; no words and comments leave it
 abbrev pub obeyed : List (List ℕ) → State → State
 obeyed [] state = state
@@ -47,13 +64,15 @@ IsWellFormed (word ∷ rest) = (is_comment word ≡ true) ⊎ IsMeantByCommand (
 abbrev pub IsLine : List ℕ → Type 0
 IsLine line = IsUtf8 line × IsWellFormed (line_words line)
 
--- what has been done of a line: malformed exactly where it isn't as it should be, and then the state stays; else the state is the
--- one that it asks for, unless memory was refused
-abbrev pub IsObeyed : Type 0 → State → State → Outcome → State → Type 0
-IsObeyed Good old asked Malformed new = (¬ Good) × (new ≡ old)
-IsObeyed Good old asked OutOfMemory new = Good
-IsObeyed Good old asked Done new = Good × (new ≡ asked)
-IsObeyed Good old asked WriteFailed new = Good × (new ≡ asked)
+-- what has been done of a line about a command: malformed exactly where it isn't as it should be, and then the state stays; else the
+-- state is the one that it asks for. Only a line that takes memory is refused it, and then all stays but the metrics of glyphs; only
+-- where a line asks for an answer a write fails
+abbrev pub IsObeyed : Option Command → Type 0 → State → State → Outcome → State → Type 0
+IsObeyed command Good old asked Malformed new = (¬ Good) × (new ≡ old)
+IsObeyed command Good old asked OutOfMemory new =
+    Good × (takes_memory command ≡ true) × (record new { metrics = old.metrics } ≡ old)
+IsObeyed command Good old asked Done new = Good × (new ≡ asked)
+IsObeyed command Good old asked WriteFailed new = Good × (asks_for_answer command ≡ true) × (new ≡ asked)
 
 -- of a line that asks for an answer alone: malformed exactly where it isn't as it should be, and never out of memory, which is an answer
 abbrev pub IsAnswered : Type 0 → Outcome → Type 0

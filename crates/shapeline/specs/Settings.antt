@@ -41,9 +41,13 @@ level_of number =
     if number == 0 then MonotoneGraphemes
     else (if number == 1 then MonotoneCharacters else Characters)
 
+-- all flags that there are: 2 + 4 + 8 + 16 + 32 + 64 + 128
+abbrev pub ALL_FLAGS : ℕ
+ALL_FLAGS = 254
+
 -- bits of the flags that there are, and no other
 abbrev pub IsFlags : List (List ℕ) → Type 0
-IsFlags words = IsNumber (2 ^ 32 - 1) words × (bit_and (number words) 254 ≡ number words)
+IsFlags words = IsNumber (2 ^ 32 - 1) words × (bit_and (number words) ALL_FLAGS ≡ number words)
 
 -- one word for a direction
 abbrev pub IsDirection : List (List ℕ) → Type 0

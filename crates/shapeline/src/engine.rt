@@ -39,6 +39,7 @@ pub fn run<R: BufRead + Drop, W: Write + Drop>(alloc: Global, mut reader: R, mut
     let mut session = Session::new(alloc);
     let mut line: Vec<u8> = Vec::new(alloc);
     let mut number: u64 = 0;
+    // A loop must be seen to end, and no input has so many lines.
     for _ in 0..u128::MAX {
         line.clear();
         match reader.read_until(b'\n', &mut line) {

@@ -25,8 +25,8 @@ pub fn guess(text: &mut UnicodeBuffer)
     text.guess_segment_properties::<UnicodeTables>();
 }
 
+/// Guesses what a text leaves open, and plans for it. Refuses with `Memory` where a growth was refused.
 #[tactic(auto, using(crate::proofs::PlanLemmas::planned_direction, crate::proofs::PlanLemmas::planned_script, crate::proofs::PlanLemmas::script_guessed_again, crate::proofs::PlanLemmas::direction_guessed_again))]
-/// Guesses what a text leaves open, and plans for it.
 pub fn planned<'a, S>(
     alloc: Global,
     face: &'a MapFace,
@@ -52,7 +52,8 @@ where
     )
 }
 
-/// Makes of a text, for which there is a plan, what a run begins to normalise with.
+/// Makes of a text, for which there is a plan, what a run begins to normalise with. Refuses as `prepare_text`
+/// does.
 pub fn prepare<S>(
     alloc: Global,
     plan: &hb_ot_shape_plan_t<'_, S, (), S::Data>,
@@ -73,7 +74,7 @@ where
     prepare_text::<UnicodeTables, MapFace, NoLookups, S>(alloc, &mut ctx)
 }
 
-/// Normalises a prepared text.
+/// Normalises a prepared text. Refuses as `_hb_ot_shape_normalize` does.
 pub fn normalize<S>(
     alloc: Global,
     plan: &hb_ot_shape_plan_t<'_, S, (), S::Data>,
@@ -86,7 +87,8 @@ where
     _hb_ot_shape_normalize::<UnicodeTables, MapFace, NoLookups, S>(alloc, plan, buffer, face)
 }
 
-/// Whether two prepared texts have the same characters once they are normalised.
+/// Whether two prepared texts have the same characters once they are normalised. Refuses as
+/// `normalized_equal` does.
 pub fn are_same<S>(
     alloc: Global,
     plan: &hb_ot_shape_plan_t<'_, S, (), S::Data>,
@@ -100,7 +102,7 @@ where
     normalized_equal::<UnicodeTables, MapFace, NoLookups, S>(alloc, plan, face, a, b)
 }
 
-/// Shapes a text that the plan fits.
+/// Shapes a text that the plan fits. Refuses as `shape_with_plan` does.
 pub fn shape<S>(
     alloc: Global,
     plan: &hb_ot_shape_plan_t<'_, S, (), S::Data>,

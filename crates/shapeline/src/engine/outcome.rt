@@ -6,8 +6,8 @@ pub enum Outcome {
     Done,
     /// It can't be read, and nothing is done.
     Malformed,
-    /// Memory for what it sets was refused.
+    /// Memory for the glyph that it sets was refused; all but the metrics of glyphs is as it was.
     OutOfMemory,
-    /// Its answer couldn't be written.
+    /// The answer that it asks for couldn't be written.
     WriteFailed,
 }

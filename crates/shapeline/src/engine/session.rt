@@ -2,9 +2,10 @@
 //!
 //! The state after a line is a function of the state before it and of the line's words: each command sets
 //! one thing, a malformed line nothing, and lines that ask for an answer leave the state.
-ghost use Rattle.std.specs.Prelude.{◌≡◌, MatchOption};
+ghost use Rattle.std.specs.Prelude.{◌≡◌, Some, MatchOption};
 ghost use Rattle.std.specs.Str.{IsUtf8};
 ghost use Rattle.shapeline.specs.Lines.{IsLine, IsObeyed, line_words, obeyed};
+ghost use Rattle.shapeline.specs.Lines.{command_of_words};
 ghost use Rattle.shapeline.specs.State.{IsMeant, set_by, start};
 ghost use Rattle.shapeline.specs.Words.{words as words_of};
 
@@ -85,9 +86,10 @@ impl Session {
         }
     }
 
-    /// Does what one line says, and writes what it asks for. A malformed line changes nothing.
+    /// Does what one line says, and writes what it asks for. A malformed line changes nothing. A `glyph` line is
+    /// out of memory where a growth was refused, and then changes at most the metrics of glyphs.
     pub fn obey<W: Write>(&mut self, alloc: Global, line: &[u8], writer: &mut W) -> Outcome
-        ensures { IsObeyed (IsLine line.now) self.old
+        ensures { IsObeyed (command_of_words (line_words line.now)) (IsLine line.now) self.old
             (obeyed (line_words line.now) self.old) result self.new }
     {
         let Some(mut words) = words_of_line(line) else {
@@ -113,7 +115,7 @@ impl Session {
         words: Words,
         writer: &mut W,
     ) -> Outcome
-        ensures { IsObeyed (IsMeant command (words_of words.entry.rest.now)) self.old
+        ensures { IsObeyed (Some command) (IsMeant command (words_of words.entry.rest.now)) self.old
             (set_by command (words_of words.entry.rest.now) self.old) result self.new }
     {
         match command {
@@ -130,7 +132,8 @@ impl Session {
 
     /// `face U`: an empty face of U units per em.
     fn set_face(&mut self, alloc: Global, words: Words) -> Outcome
-        ensures { IsObeyed (IsMeant Command.Face (words_of words.entry.rest.now)) self.old
+        ensures { IsObeyed (Some Command.Face)
+            (IsMeant Command.Face (words_of words.entry.rest.now)) self.old
             (set_by Command.Face (words_of words.entry.rest.now) self.old) result self.new }
     {
         let Some(units_per_em) = settings::units_per_em(words) else {
@@ -140,9 +143,11 @@ impl Session {
         Outcome::Done
     }
 
-    /// `glyph C I A ..`: the character C has glyph I, whose advance is A, and perhaps its extents.
+    /// `glyph C I A ..`: the character C has glyph I, whose advance is A, and perhaps its extents. Out of memory
+    /// where a growth was refused; then the character keeps the glyph that it had.
     fn set_glyph(&mut self, words: Words) -> Outcome
-        ensures { IsObeyed (IsMeant Command.Glyph (words_of words.entry.rest.now)) self.old
+        ensures { IsObeyed (Some Command.Glyph)
+            (IsMeant Command.Glyph (words_of words.entry.rest.now)) self.old
             (set_by Command.Glyph (words_of words.entry.rest.now) self.old) result self.new }
     {
         let Some(said) = settings::glyph(words) else {
@@ -156,7 +161,8 @@ impl Session {
 
     /// `mode M`: how texts are normalised.
     fn set_mode(&mut self, words: Words) -> Outcome
-        ensures { IsObeyed (IsMeant Command.Mode (words_of words.entry.rest.now)) self.old
+        ensures { IsObeyed (Some Command.Mode)
+            (IsMeant Command.Mode (words_of words.entry.rest.now)) self.old
             (set_by Command.Mode (words_of words.entry.rest.now) self.old) result self.new }
     {
         let Some(mode) = settings::mode(words) else {
@@ -168,7 +174,8 @@ impl Session {
 
     /// `level N`: how far clusters are merged.
     fn set_level(&mut self, words: Words) -> Outcome
-        ensures { IsObeyed (IsMeant Command.Level (words_of words.entry.rest.now)) self.old
+        ensures { IsObeyed (Some Command.Level)
+            (IsMeant Command.Level (words_of words.entry.rest.now)) self.old
             (set_by Command.Level (words_of words.entry.rest.now) self.old) result self.new }
     {
         let Some(level) = settings::level(words) else {
@@ -180,7 +187,8 @@ impl Session {
 
     /// `dir D`: the direction that texts run in.
     fn set_direction(&mut self, words: Words) -> Outcome
-        ensures { IsObeyed (IsMeant Command.Dir (words_of words.entry.rest.now)) self.old
+        ensures { IsObeyed (Some Command.Dir)
+            (IsMeant Command.Dir (words_of words.entry.rest.now)) self.old
             (set_by Command.Dir (words_of words.entry.rest.now) self.old) result self.new }
     {
         let Some(direction) = settings::direction(words) else {
@@ -192,7 +200,8 @@ impl Session {
 
     /// `flags N`: what is asked of a run.
     fn set_flags(&mut self, words: Words) -> Outcome
-        ensures { IsObeyed (IsMeant Command.Flags (words_of words.entry.rest.now)) self.old
+        ensures { IsObeyed (Some Command.Flags)
+            (IsMeant Command.Flags (words_of words.entry.rest.now)) self.old
             (set_by Command.Flags (words_of words.entry.rest.now) self.old) result self.new }
     {
         let Some(flags) = settings::flags(words) else {

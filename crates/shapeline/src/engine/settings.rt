@@ -73,10 +73,7 @@ pub fn flags(words: Words) -> Option<BufferFlags>
     ensures { SomeIff result (IsFlags (words_of words.entry.rest.now))
         (record { 0 = number_of (words_of words.entry.rest.now) }) }
 {
-    let Some(bits) = number(words, u32::MAX) else {
-        return None;
-    };
-    BufferFlags::from_bits(bits)
+    BufferFlags::from_bits(number(words, u32::MAX)?)
 }
 
 /// The direction that texts are to run in; Invalid where it is to be guessed.

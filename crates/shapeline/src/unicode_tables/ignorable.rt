@@ -1,4 +1,4 @@
-//! Default ignorables: what is unseen where a face has no glyph for it.
+//! Default ignorables: characters that are hidden unless a run is asked to show them (UAX 44).
 ghost use Rattle.std.specs.Prelude.{◌≡◌};
 ghost use Rattle.shapeline.specs.Ignorable.{is_ignorable};
 
