@@ -154,7 +154,10 @@ scratch_flags_of_characters = record {
 -- mask 0, no glyph, no property set, and one ligature component
 pub record NewItems : Type 0 where
   pub whole : record (new_item 0x61 7) { properties = (all_set 0x61).properties } ≡ record (all_set 0x61) {
-    glyph_index = 0; glyph_id = 0; mask = 0; cluster = 7;
+    glyph_index = 0;
+    glyph_id = 0;
+    mask = 0;
+    cluster = 7;
   }
   pub components : (new_item 0x61 7).properties.number_of_components ≡ 1
   pub numbers : (λ (item : Item). let p = item.properties in
