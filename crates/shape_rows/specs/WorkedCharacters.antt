@@ -1,5 +1,5 @@
 -- What a character says of its item and of a text, worked by hand, beside general categories and directions.
-use Rattle.std.specs.Prelude.{◌≡◌, ℕ, Bool, true, false, [], ◌∷◌, map, refl}
+use Rattle.std.specs.Prelude.{◌≡◌, ℕ, Bool, true, false, List, [], ◌∷◌, map, refl}
 use Rattle.shape_buffer.specs.Category.{is_mark_category, is_nonspacing_category, is_space_category}
 use Rattle.shape_buffer.specs.Direction.{is_horizontal, is_vertical, is_forward, is_backward, reverse_of}
 use Rattle.shape_buffer.specs.Items.{Item, new_item}
@@ -7,7 +7,7 @@ use Rattle.shape_buffer.specs.Unicode.{UnicodeMeaning}
 use Rattle.shape_buffer.specs.UnicodeProps.{is_hidden_char, with_unicode_props, with_scratch_of}
 use Rattle.shape_buffer.specs.declared.buffer.flags.ScratchFlags.{ScratchFlags}
 use Rattle.shape_buffer.specs.declared.buffer.general_category.hb_unicode_general_category_t.{hb_unicode_general_category_t}
-use Rattle.shape_buffer.specs.declared.buffer.general_category.hb_unicode_general_category_t.TheVariants.{LowercaseLetter, OtherLetter, NonspacingMark, SpacingMark, EnclosingMark, DecimalNumber, OtherSymbol, SpaceSeparator, LineSeparator}
+use Rattle.shape_buffer.specs.declared.buffer.general_category.hb_unicode_general_category_t.TheVariants.{UppercaseLetter, LowercaseLetter, OtherLetter, NonspacingMark, SpacingMark, EnclosingMark, DecimalNumber, OtherSymbol, SpaceSeparator, LineSeparator}
 use Rattle.shape_buffer.specs.declared.buffer.settings.Direction.TheVariants.{Invalid, LeftToRight, RightToLeft, TopToBottom, BottomToTop}
 use Rattle.shape_plan.specs.PlainTexts.{plain_unicode}
 
@@ -151,6 +151,18 @@ scratch_flags_of_characters = record {
 
 -- ---- new items
 
+-- the properties of an item that are numbers, and those that hold or don't
+abbrev numbers_in : Item → List ℕ
+numbers_in item =
+    let p = item.properties in
+    p.modified_ccc ∷ p.space_type ∷ p.glyph_class.0 ∷ p.ligature_id ∷ p.ligature_component ∷ p.syllable ∷ p.shaper_category
+    ∷ p.shaper_auxiliary ∷ []
+
+abbrev tests_in : Item → List Bool
+tests_in item =
+    let p = item.properties in
+    p.ignorable ∷ p.hidden ∷ p.continuation ∷ p.zwj ∷ p.zwnj ∷ p.selector_mark ∷ p.substituted ∷ p.ligated ∷ []
+
 -- mask 0, no glyph, no property set, and one ligature component
 pub record NewItems : Type 0 where
   pub whole : record (new_item 0x61 7) { properties = (all_set 0x61).properties } ≡ record (all_set 0x61) {
@@ -160,15 +172,13 @@ pub record NewItems : Type 0 where
     cluster = 7;
   }
   pub components : (new_item 0x61 7).properties.number_of_components ≡ 1
-  pub numbers : (λ (item : Item). let p = item.properties in
-      p.modified_ccc ∷ p.space_type ∷ p.glyph_class.0 ∷ p.ligature_id ∷ p.ligature_component ∷ p.syllable ∷ p.shaper_category ∷ p.shaper_auxiliary ∷ [])
-      (new_item 0x61 7) ≡ 0 ∷ 0 ∷ 0 ∷ 0 ∷ 0 ∷ 0 ∷ 0 ∷ 0 ∷ []
-  pub tests : (λ (item : Item). let p = item.properties in
-      p.ignorable ∷ p.hidden ∷ p.continuation ∷ p.zwj ∷ p.zwnj ∷ p.selector_mark ∷ p.substituted ∷ p.ligated ∷ [])
-      (new_item 0x61 7) ≡ false ∷ false ∷ false ∷ false ∷ false ∷ false ∷ false ∷ false ∷ []
+  -- the first category, until the character is looked at
+  pub category : (new_item 0x301 7).properties.general_category ≡ UppercaseLetter
+  pub numbers : numbers_in (new_item 0x61 7) ≡ 0 ∷ 0 ∷ 0 ∷ 0 ∷ 0 ∷ 0 ∷ 0 ∷ 0 ∷ []
+  pub tests : tests_in (new_item 0x61 7) ≡ false ∷ false ∷ false ∷ false ∷ false ∷ false ∷ false ∷ false ∷ []
 
 new_items : NewItems
-new_items = record { whole = refl; components = refl; numbers = refl; tests = refl }
+new_items = record { whole = refl; components = refl; category = refl; numbers = refl; tests = refl }
 
 -- ---- categories and directions
 

@@ -118,8 +118,8 @@ text chars = record new_buffer { items = map (λ c. new_item c 0) chars }
 pub record GuessedScripts : Type 0 where
   pub specific : map is_specific (common ∷ inherited ∷ unknown ∷ latin ∷ []) ≡ false ∷ false ∷ false ∷ true ∷ []
   -- tags beside the three
-  pub beside : map is_specific (script 0x5A797978 ∷ script 0x5A79797A ∷ script 0x5A696E67 ∷ script 0x5A696E69 ∷ script 0x5A7A7A79 ∷ script 0x5A7A7A7B ∷ [])
-      ≡ true ∷ true ∷ true ∷ true ∷ true ∷ true ∷ []
+  pub before_them : map is_specific (script 0x5A797978 ∷ script 0x5A696E67 ∷ script 0x5A7A7A79 ∷ []) ≡ true ∷ true ∷ true ∷ []
+  pub behind_them : map is_specific (script 0x5A79797A ∷ script 0x5A696E69 ∷ script 0x5A7A7A7B ∷ []) ≡ true ∷ true ∷ true ∷ []
   pub first_specific : guessed_script scripts (text (0x20 ∷ 0x301 ∷ 0xE000 ∷ 0x61 ∷ 0x5D0 ∷ [])) ≡ Some latin
   pub first_of_two : guessed_script scripts (text (0x5D0 ∷ 0x61 ∷ 0x61 ∷ [])) ≡ Some hebrew
   pub none_specific : guessed_script scripts (text (0x20 ∷ 0x301 ∷ 0xE000 ∷ [])) ≡ None
@@ -130,7 +130,8 @@ pub record GuessedScripts : Type 0 where
 guessed_scripts : GuessedScripts
 guessed_scripts = record {
   specific = refl;
-  beside = refl;
+  before_them = refl;
+  behind_them = refl;
   first_specific = refl;
   first_of_two = refl;
   none_specific = refl;
@@ -198,7 +199,7 @@ with_all direction script = record {
   post_context = 0x62 ∷ [];
 }
 
--- a buffer without text and limit, by its flags, its level and its two glyphs
+-- guessing sets script and direction alone; clearing leaves flags, level and the two glyphs, as making a buffer leaves nothing set
 pub record Settings : Type 0 where
   pub guessed_alone : guessed scripts (with_all Invalid None) ≡ with_all RightToLeft (Some hebrew)
   pub nothing_to_guess : guessed scripts (with_all BottomToTop (Some latin)) ≡ with_all BottomToTop (Some latin)
