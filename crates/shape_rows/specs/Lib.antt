@@ -5,4 +5,6 @@ pub mod Reversing
 pub mod Worked
 pub mod WorkedClusters
 pub mod WorkedPremises
+pub mod WorkedCharacters
+pub mod WorkedTexts
 pub mod Tabled

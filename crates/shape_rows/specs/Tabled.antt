@@ -1,10 +1,11 @@
--- A face with tables, one that goes down the line by given numbers, and an engine whose tables add to advances.
-use Rattle.std.specs.Prelude.{◌==◌, ℤ, pos, Some, None, refl, if◌then◌else◌}
+-- A face with tables, one that goes down the line by given numbers, and an engine that has masks for fractions and whose tables add to
+-- advances.
+use Rattle.std.specs.Prelude.{◌==◌, ℕ, ℤ, pos, Bool, true, false, Some, None, refl, if◌then◌else◌}
 use Rattle.shape_buffer.specs.Face.{FaceMeaning}
 use Rattle.shape_buffer.specs.Items.{Item}
-use Rattle.shape_buffer.specs.Layout.{LayoutMeaning, LookupMeaning, LawfulLookups}
+use Rattle.shape_buffer.specs.Layout.{LayoutMeaning, MapMeaning, LookupMeaning, HasNoDefinedFlag, LawfulMasks, LawfulLookups}
 use Rattle.shape_buffer.specs.MapFace.{map_face}
-use Rattle.shape_buffer.specs.NoLookups.{no_layout, no_lookups}
+use Rattle.shape_buffer.specs.NoLookups.{no_layout, no_masks, no_masks-lawful, no_lookups}
 use Rattle.shape_buffer.specs.PositionWalks.{positions_mapped}
 use Rattle.shape_buffer.specs.Wrapping.{◌+ʷ◌}
 use Rattle.shape_buffer.specs.declared.buffer.positions.GlyphPosition.{GlyphPosition}
@@ -30,6 +31,27 @@ deep_face face = record bare_face {
 -- it kerns where the face says so
 abbrev pub adding_layout : TabledFace → LayoutMeaning Unit
 adding_layout face = record no_layout { has_kerning = face.kerning }
+
+-- `frac` has 8, `numr` 16 and `dnom` 32
+abbrev pub fraction_mask : ℕ → ℕ
+fraction_mask tag = if tag == 0x66726163 then 8 else (if tag == 0x6E756D72 then 16 else (if tag == 0x646E6F6D then 32 else 0))
+
+abbrev pub fraction_masks : MapMeaning
+fraction_masks = record no_masks { one_mask = λ tag. fraction_mask tag.0 }
+
+no_flag : (frac numr dnom : Bool) → HasNoDefinedFlag (if frac then 8 else (if numr then 16 else (if dnom then 32 else 0)))
+no_flag true _ _ = refl
+no_flag false true _ = refl
+no_flag false false true = refl
+no_flag false false false = refl
+
+pub fraction_masks-lawful : LawfulMasks fraction_masks
+fraction_masks-lawful = record {
+  global_mask = no_masks-lawful.global_mask;
+  one_mask = λ tag. no_flag (tag.0 == 0x66726163) (tag.0 == 0x6E756D72) (tag.0 == 0x646E6F6D);
+  mask = no_masks-lawful.mask;
+  shift = no_masks-lawful.shift;
+}
 
 abbrev pub wider_by : ℤ → Item → GlyphPosition → GlyphPosition
 wider_by n item position = record position { x_advance = position.x_advance +ʷ n }

@@ -61,11 +61,15 @@ choices_of_U1EA4 = record { shortest = refl; greatest = refl; half_supported = r
 -- the limit of a run is 64 for each item, and at least 16384
 pub record LimitsOfRuns : Type 0 where
   pub of_one : run_limit 1 ≡ 16384
+  pub of_256 : run_limit 256 ≡ 16384
   pub of_many : run_limit 257 ≡ 16448
+  -- the greatest product that can be counted, the one past it, and the greatest of all
+  pub of_most : run_limit 288230376151711743 ≡ 18446744073709551552
+  pub of_one_more : run_limit 288230376151711744 ≡ 18446744073709551615
   pub of_too_many : run_limit 18446744073709551615 ≡ 18446744073709551615
 
 limits_of_runs : LimitsOfRuns
-limits_of_runs = record { of_one = refl; of_many = refl; of_too_many = refl }
+limits_of_runs = record { of_one = refl; of_256 = refl; of_many = refl; of_most = refl; of_one_more = refl; of_too_many = refl }
 
 -- the ccc of a mark, which is written beside it
 abbrev pub ccc_of_mark : ℕ × ℕ → ℕ

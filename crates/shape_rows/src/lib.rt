@@ -24,6 +24,8 @@ mod premises;
 #[cfg(test)]
 mod preparing;
 #[cfg(test)]
+mod refusals;
+#[cfg(test)]
 mod rows;
 mod support;
 #[cfg(test)]

@@ -2,21 +2,27 @@
 //! tests that begin alike the second one makes such calls besides; the gate's script counts the growths of
 //! both, which must be as many.
 
+use crate::support::{AddingLayout, TabledFace};
 use crate::texts::face_of;
 use shape_buffer::buffer::{
     BufferFlags, Direction, GlyphId, ScratchFlags, Script, UnicodeBuffer, hb_buffer_t,
     hb_glyph_info_t, hb_tag_t,
 };
-use shape_buffer::interfaces::{MapFace, NoLookups};
+use shape_buffer::interfaces::{MapFace, NoLookups, TableIndex, hb_font_t, hb_ot_map_builder_t};
 use shape_buffer::walks::update_items;
-use shape_fallback::ot_shape_fallback::position_marks;
+use shape_fallback::ot_shape_fallback::{
+    _hb_ot_shape_fallback_kern, _hb_ot_shape_fallback_mark_position_recategorize_marks,
+    _hb_ot_shape_fallback_spaces, position_marks,
+};
 use shape_fallback::steps::{place_marks, place_spaces, recategorize_marks};
-use shape_pipeline::ot_shape::{hb_ot_shape_context_t, prepare_text, shape_internal};
+use shape_pipeline::ot_shape::{
+    hb_ot_shape_context_t, prepare_text, shape_internal, syllabic_clear_var,
+};
 use shape_pipeline::ot_shape_normalize::{_hb_ot_shape_normalize, meets_canonical_premises};
 use shape_pipeline::ot_shape_plan::hb_ot_shape_plan_t;
-use shape_pipeline::ot_shaper::{DEFAULT_SHAPER, hb_default_shaper_t};
+use shape_pipeline::ot_shaper::{DEFAULT_SHAPER, Decomposed, Preferring, hb_default_shaper_t};
 use shape_pipeline::shape::shape_with_plan;
-use shape_position::advances::{clear_positions, put_advances};
+use shape_position::advances::{clear_positions, position_default, put_advances};
 use shape_position::finishing::reverse_backward;
 use shape_position::flags::propagate_flags;
 use shape_position::ignorables::{hide_default_ignorables, zero_width_default_ignorables};
@@ -33,16 +39,33 @@ use shape_prepare::native_direction::ensure_native_direction;
 use shape_prepare::rotation::rotate_chars;
 use shape_substitute::fractions::setup_masks_fraction;
 use shape_substitute::glyphs::{
-    hb_synthesize_glyph_classes, map_glyphs_fast, substitute_start, synthesize_classes,
+    hb_synthesize_glyph_classes, map_glyphs_fast, setup_glyphs, substitute_start,
+    synthesize_classes,
 };
-use shape_substitute::masks::setup_masks_shaper;
+use shape_substitute::masks::{setup_masks, setup_masks_shaper};
 use shape_substitute::ranges::setup_masks_user;
 use shape_unicode::UnicodeDatabase;
 use std::alloc::Global;
+use std::process::Abort;
 use std::test::Fail;
 
-/// A plan of the default shaper, without lookups.
+/// A plan of the default shaper.
 type Plan<'a> = hb_ot_shape_plan_t<'a, hb_default_shaper_t, (), ()>;
+
+/// A plan of the shaper that decomposes fully.
+type FullPlan<'a> = hb_ot_shape_plan_t<'a, Preferring<Decomposed>, (), ()>;
+
+/// The plans and texts that each test begins with.
+#[derive(Drop)]
+struct Begun<'a> {
+    /// Without lookups.
+    plain: Plan<'a>,
+    /// With masks for fractions.
+    dividing: Plan<'a>,
+    full: FullPlan<'a>,
+    text: hb_buffer_t,
+    spelled: hb_buffer_t,
+}
 
 /// Letters with marks above and below, digits about a slash, a bracket, Hebrew with a point, joiners, a variation
 /// selector, a soft hyphen, and a space without a glyph.
@@ -50,6 +73,9 @@ const TEXT: [char; 16] = [
     'a', '\u{301}', '\u{323}', '1', '\u{2044}', '2', '(', '\u{5D0}', '\u{5B8}', '\u{200D}',
     '\u{FE00}', '\u{AD}', '\u{2003}', '\u{34F}', 'b', '\u{301}',
 ];
+
+/// A text that splits, with two marks in an order of their own, all of whose characters the face has.
+const SPELLED: [char; 4] = ['\u{E1}', '\u{323}', 'a', '\u{301}'];
 
 /// A face with boxes for a letter and two marks.
 fn face(alloc: Global) -> Result<MapFace, Fail> {
@@ -64,25 +90,23 @@ fn face(alloc: Global) -> Result<MapFace, Fail> {
     )
 }
 
-fn planned(alloc: Global, face: &MapFace) -> Result<Plan<'_>, Fail> {
-    let plan = hb_ot_shape_plan_t::new::<UnicodeDatabase, MapFace, NoLookups>(
-        alloc,
-        face,
-        &DEFAULT_SHAPER,
-        Direction::LeftToRight,
-        None,
-        None,
-        &[],
-    )?;
-    Ok(plan)
+/// The same face for the engine that has masks.
+fn tabled(alloc: Global) -> Result<TabledFace, Fail> {
+    let glyphs = face(alloc)?;
+    let tables = glyphs.tables();
+    Ok(TabledFace {
+        glyphs,
+        tables,
+        kerning: false,
+    })
 }
 
-/// The text in a run. Its lists have room for so many items and
+/// The characters in a run, each in a cluster of its own. The lists have room for so many items and
 /// no more, so that a growth by one is seen.
-fn begun(alloc: Global) -> Result<hb_buffer_t, Fail> {
+fn entered(alloc: Global, text: &[char]) -> Result<hb_buffer_t, Fail> {
     let mut infos: Vec<hb_glyph_info_t> = Vec::new(alloc);
     let mut cluster: u32 = 0;
-    for c in TEXT.iter() {
+    for c in text.iter() {
         infos.push(hb_glyph_info_t::new(*c, cluster))?;
         cluster = cluster.saturating_add(1);
     }
@@ -94,6 +118,89 @@ fn begun(alloc: Global) -> Result<hb_buffer_t, Fail> {
     buffer.set_not_found_variation_selector_glyph(Some(GlyphId(4)));
     buffer.enter();
     Ok(buffer)
+}
+
+fn begin<'a>(
+    alloc: Global,
+    face: &'a MapFace,
+    tabled: &'a TabledFace,
+    decomposing: &'a Preferring<Decomposed>,
+) -> Result<Begun<'a>, Fail> {
+    let rightward = Direction::LeftToRight;
+    let plain = hb_ot_shape_plan_t::new::<UnicodeDatabase, MapFace, NoLookups>(
+        alloc,
+        face,
+        &DEFAULT_SHAPER,
+        rightward,
+        None,
+        None,
+        &[],
+    )?;
+    let dividing = hb_ot_shape_plan_t::new::<UnicodeDatabase, TabledFace, AddingLayout>(
+        alloc,
+        tabled,
+        &DEFAULT_SHAPER,
+        rightward,
+        None,
+        None,
+        &[],
+    )?;
+    let full = hb_ot_shape_plan_t::new::<UnicodeDatabase, MapFace, NoLookups>(
+        alloc,
+        face,
+        decomposing,
+        rightward,
+        None,
+        None,
+        &[],
+    )?;
+    Ok(Begun {
+        plain,
+        dividing,
+        full,
+        text: entered(alloc, &TEXT)?,
+        spelled: entered(alloc, &SPELLED)?,
+    })
+}
+
+/// The answers of a plan by a face without tables, an engine without masks, and a shaper with both wishes for
+/// marks.
+fn assert_plain(rt: &impl Abort, plan: &Plan<'_>) {
+    plan.masks_are_features();
+    plan.positions_by_one_table();
+    assert!(rt; plan.direction() == Direction::LeftToRight && plan.script().is_none());
+    assert!(rt; plan.shaper().is_some() && plan.data().is_none());
+    assert!(rt; plan.user_features().is_empty());
+    let () = *plan.ot_map();
+    let fractions = [plan.frac_mask(), plan.numr_mask(), plan.dnom_mask()];
+    let others = [plan.rtlm_mask(), plan.kern_mask(), plan.trak_mask()];
+    assert_eq!(rt; (fractions, others), ([0; 3], [0; 3]));
+    let applied = [
+        plan.apply_morx(),
+        plan.apply_gpos(),
+        plan.apply_kerx(),
+        plan.apply_kern(),
+        plan.apply_trak(),
+    ];
+    assert_eq!(rt; applied, [false; 5]);
+    let found = [plan.has_frac(), plan.has_vert(), plan.has_gpos_mark()];
+    assert_eq!(rt; (found, plan.requested_kerning()), ([false; 3], false));
+    let in_their_place = [
+        plan.fallback_glyph_classes(),
+        plan.apply_fallback_kern(),
+        plan.zero_marks(),
+        plan.fallback_mark_positioning(),
+        plan.adjust_mark_positioning_when_zeroing(),
+    ];
+    assert_eq!(rt; in_their_place, [true; 5]);
+}
+
+/// A builder of requests, asked and set before there are any.
+fn assert_no_requests(rt: &impl Abort, alloc: Global, face: &MapFace) {
+    let mut builder = hb_ot_map_builder_t::new::<MapFace, NoLookups>(alloc, face, None, None);
+    builder.set_simple(false);
+    assert!(rt; builder.requests().is_empty() && !builder.is_simple());
+    assert!(rt; builder.chosen_script(TableIndex::GSUB).is_none());
 }
 
 /// An item as normalising may leave it: with a glyph and a flag, and marked where it is a selector.
@@ -152,6 +259,48 @@ fn place_glyphs(plan: &Plan<'_>, face: &MapFace, buffer: &mut hb_buffer_t) {
     position_marks::<UnicodeDatabase, _, _, _, _>(plan, face, buffer, true);
 }
 
+/// Prepares a text, and asks for the premises in a mode that misses the first of them and in one in which the
+/// text meets all.
+fn assert_premises(
+    rt: &impl Abort,
+    plain: &Plan<'_>,
+    full: &FullPlan<'_>,
+    face: &MapFace,
+    text: &mut hb_buffer_t,
+) {
+    set_unicode_props::<UnicodeDatabase>(text);
+    assert!(rt;
+        !meets_canonical_premises::<UnicodeDatabase, MapFace, NoLookups, _>(plain, face, text)
+    );
+    assert!(rt;
+        meets_canonical_premises::<UnicodeDatabase, MapFace, NoLookups, _>(full, face, text)
+    );
+}
+
+/// Digits and the slash between them get the features of fractions.
+fn divide(rt: &impl Abort, plan: &Plan<'_>, buffer: &mut hb_buffer_t) {
+    setup_masks_fraction(plan, buffer);
+    for info in buffer.infos().iter() {
+        let is_part = matches!(info.codepoint, '1' | '2' | '\u{2044}');
+        assert_eq!(rt; info.mask & plan.frac_mask() != 0, is_part);
+    }
+}
+
+/// The steps that are made of several, and those that stand under a name of their own.
+fn make_whole_steps(plan: &Plan<'_>, face: &MapFace, buffer: &mut hb_buffer_t) -> Result<(), Fail> {
+    if buffer.length_limit() < buffer.len() {
+        return Err(Fail::from("past the limit"));
+    }
+    setup_masks::<UnicodeDatabase, MapFace, NoLookups, _>(plan, face, buffer);
+    setup_glyphs::<UnicodeDatabase, MapFace, NoLookups, _>(plan, face, buffer);
+    position_default::<UnicodeDatabase, MapFace, NoLookups, _>(plan, face, buffer);
+    syllabic_clear_var(buffer);
+    _hb_ot_shape_fallback_mark_position_recategorize_marks(plan, face, buffer);
+    _hb_ot_shape_fallback_spaces(plan, face, buffer);
+    _hb_ot_shape_fallback_kern(plan, face, buffer);
+    Ok(())
+}
+
 fn finish(plan: &Plan<'_>, face: &MapFace, buffer: &mut hb_buffer_t) {
     propagate_flags(buffer);
     reverse_backward(buffer);
@@ -164,10 +313,10 @@ fn finish(plan: &Plan<'_>, face: &MapFace, buffer: &mut hb_buffer_t) {
 fn text_is_begun(rt: HostRuntime) -> Result<(), Fail> {
     let alloc = rt.alloc();
     let face = face(alloc)?;
-    let plan = planned(alloc, &face)?;
-    let buffer = begun(alloc)?;
-    assert_eq!(rt; buffer.len(), 16);
-    assert!(rt; plan.data().is_none());
+    let tabled = tabled(alloc)?;
+    let decomposing = Preferring::<Decomposed>::new();
+    let begun = begin(alloc, &face, &tabled, &decomposing)?;
+    assert_eq!(rt; (begun.text.len(), begun.spelled.len()), (16, 4));
     Ok(())
 }
 
@@ -175,23 +324,44 @@ fn text_is_begun(rt: HostRuntime) -> Result<(), Fail> {
 fn steps_are_made(rt: HostRuntime) -> Result<(), Fail> {
     let alloc = rt.alloc();
     let face = face(alloc)?;
-    let plan = planned(alloc, &face)?;
-    let mut buffer = begun(alloc)?;
+    let tabled = tabled(alloc)?;
+    let decomposing = Preferring::<Decomposed>::new();
+    let mut begun = begin(alloc, &face, &tabled, &decomposing)?;
     let mut empty = UnicodeBuffer::new(alloc);
     empty.guess_segment_properties::<UnicodeDatabase>();
-    assert!(rt; plan.fits::<UnicodeDatabase>(&empty));
-    plan.masks_are_features();
-    plan.positions_by_one_table();
-    prepare(&plan, &face, &mut buffer);
-    assert!(rt;
-        !meets_canonical_premises::<UnicodeDatabase, MapFace, NoLookups, _>(&plan, &face, &buffer)
-    );
-    set_items(&mut buffer);
-    make_glyphs(&plan, &face, &mut buffer);
-    place_glyphs(&plan, &face, &mut buffer);
-    assert_eq!(rt; buffer.len(), 16);
-    finish(&plan, &face, &mut buffer);
-    assert_eq!(rt; buffer.len(), 12);
+    assert!(rt; begun.plain.fits::<UnicodeDatabase>(&empty));
+    assert_plain(&rt, &begun.plain);
+    assert_no_requests(&rt, alloc, &face);
+    assert_premises(&rt, &begun.plain, &begun.full, &face, &mut begun.spelled);
+    prepare(&begun.plain, &face, &mut begun.text);
+    set_items(&mut begun.text);
+    divide(&rt, &begun.dividing, &mut begun.text);
+    make_glyphs(&begun.plain, &face, &mut begun.text);
+    make_whole_steps(&begun.plain, &face, &mut begun.text)?;
+    place_glyphs(&begun.plain, &face, &mut begun.text);
+    assert_eq!(rt; begun.text.len(), 16);
+    finish(&begun.plain, &face, &mut begun.text);
+    assert_eq!(rt; begun.text.len(), 12);
+    Ok(())
+}
+
+/// Prepares and shapes a buffer without items.
+fn shape_in_place(alloc: Global, plan: &Plan<'_>, face: &MapFace) -> Result<(), Fail> {
+    let mut buffer = UnicodeBuffer::new(alloc).into_inner();
+    buffer.set_direction(Direction::LeftToRight);
+    _hb_ot_shape_normalize::<UnicodeDatabase, _, NoLookups, _>(alloc, plan, &mut buffer, face)?;
+    let target_direction = buffer.direction();
+    if target_direction != Direction::LeftToRight {
+        return Err(Fail::from("another direction"));
+    }
+    let mut ctx = hb_ot_shape_context_t {
+        plan,
+        face,
+        buffer: &mut buffer,
+        target_direction,
+    };
+    shape_internal::<UnicodeDatabase, MapFace, NoLookups, _>(alloc, &mut ctx)?;
+    prepare_text::<UnicodeDatabase, MapFace, NoLookups, _>(alloc, &mut ctx)?;
     Ok(())
 }
 
@@ -199,28 +369,17 @@ fn steps_are_made(rt: HostRuntime) -> Result<(), Fail> {
 fn empty_text_is_shaped(rt: HostRuntime) -> Result<(), Fail> {
     let alloc = rt.alloc();
     let face = face(alloc)?;
-    let plan = planned(alloc, &face)?;
-    let begun = begun(alloc)?;
-    assert_eq!(rt; begun.len(), 16);
-    let mut buffer = UnicodeBuffer::new(alloc).into_inner();
-    buffer.set_direction(Direction::LeftToRight);
-    _hb_ot_shape_normalize::<UnicodeDatabase, _, NoLookups, _>(alloc, &plan, &mut buffer, &face)?;
-    let target_direction = buffer.direction();
-    if target_direction != Direction::LeftToRight {
-        return Err(Fail::from("another direction"));
-    }
-    let mut ctx = hb_ot_shape_context_t {
-        plan: &plan,
-        face: &face,
-        buffer: &mut buffer,
-        target_direction,
-    };
-    prepare_text::<UnicodeDatabase, MapFace, NoLookups, _>(alloc, &mut ctx)?;
+    let tabled = tabled(alloc)?;
+    let decomposing = Preferring::<Decomposed>::new();
+    let begun = begin(alloc, &face, &tabled, &decomposing)?;
+    assert_eq!(rt; begun.text.len(), 16);
+    let plan = &begun.plain;
+    shape_in_place(alloc, plan, &face)?;
     let text = UnicodeBuffer::new(alloc);
     if !plan.fits::<UnicodeDatabase>(&text) {
         return Err(Fail::from("the plan doesn't fit"));
     }
-    match shape_with_plan::<UnicodeDatabase, MapFace, NoLookups, _>(alloc, &face, &plan, text) {
+    match shape_with_plan::<UnicodeDatabase, MapFace, NoLookups, _>(alloc, &face, plan, text) {
         Ok(glyphs) => assert_eq!(rt; glyphs.len(), 0),
         Err(_) => return Err(Fail::from("refused")),
     }

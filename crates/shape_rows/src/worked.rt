@@ -1,7 +1,9 @@
 //! The definitions, computed on small cases whose answers are worked out by hand.
 ghost use Rattle.shape_rows.specs.Worked.{WorkedCases};
+ghost use Rattle.shape_rows.specs.WorkedCharacters.{WorkedCharacters};
 ghost use Rattle.shape_rows.specs.WorkedClusters.{WorkedPromises};
 ghost use Rattle.shape_rows.specs.WorkedPremises.{WorkedPremises};
+ghost use Rattle.shape_rows.specs.WorkedTexts.{WorkedTexts};
 
 /// The chain of U+1EA4 with its expansions and choices, limits of runs, and the order of some marks, as
 /// the definitions have them.
@@ -18,4 +20,16 @@ pub fn promises_meet_worked_cases()
 /// What a run asks of its lookups: of those that its plan calls, and of no other.
 pub fn premises_meet_worked_cases()
     ensures { WorkedPremises }
+{}
+
+/// What a character says of its item and of a text: which are hidden, all properties and scratch flags that go by
+/// it; beside that new items, the categories of marks and spaces, and directions.
+pub fn characters_meet_worked_cases()
+    ensures { WorkedCharacters }
+{}
+
+/// The items and contexts that texts bring in, scripts and directions that are guessed, and what clearing
+/// leaves of a buffer.
+pub fn texts_meet_worked_cases()
+    ensures { WorkedTexts }
 {}

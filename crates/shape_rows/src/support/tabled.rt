@@ -1,8 +1,9 @@
 //! Faces with tables and with numbers of one's own, and an engine whose tables add to advances.
 ghost use Rattle.std.specs.Prelude.{◌≡◌};
-ghost use Rattle.shape_buffer.specs.NoLookups.{no_masks, no_masks-lawful};
 ghost use Rattle.shape_rows.specs.Tabled.{tabled_face, deep_face, adding_layout, adding_lookups};
 ghost use Rattle.shape_rows.specs.Tabled.{adding_lookups-lawful, wider_by};
+ghost use Rattle.shape_rows.specs.Tabled.{fraction_mask as fraction_mask_of};
+ghost use Rattle.shape_rows.specs.Tabled.{fraction_masks, fraction_masks-lawful};
 
 use shape_buffer::buffer::{
     Feature, GlyphId, GlyphPosition, Language, Script, ShapeError, hb_buffer_t, hb_glyph_info_t,
@@ -145,7 +146,26 @@ fn wider(n: i32, info: &hb_glyph_info_t, position: GlyphPosition) -> GlyphPositi
     }
 }
 
-/// The engine that adds to each horizontal advance: 1 by `GPOS`, 10 by `kerx` and 100 by `kern`.
+const FRAC: u32 = 0x66726163;
+
+const NUMR: u32 = 0x6E756D72;
+
+const DNOM: u32 = 0x646E6F6D;
+
+/// The mask of a feature of fractions, 0 of every other.
+fn fraction_mask(tag: u32) -> hb_mask_t
+    ensures { result ≡ fraction_mask_of tag }
+{
+    match tag {
+        FRAC => 8,
+        NUMR => 16,
+        DNOM => 32,
+        _ => 0,
+    }
+}
+
+/// The engine that adds to each horizontal advance: 1 by `GPOS`, 10 by `kerx` and 100 by `kern`. It has
+/// masks for the features of fractions alone.
 pub struct AddingLayout;
 
 impl hb_ot_layout_t<TabledFace> for AddingLayout {
@@ -153,7 +173,7 @@ impl hb_ot_layout_t<TabledFace> for AddingLayout {
 
     ghost layout = { adding_layout };
 
-    ghost masks = { λ _. no_masks };
+    ghost masks = { λ _. fraction_masks };
 
     ghost lookups = { λ _ _. adding_lookups };
 
@@ -194,8 +214,8 @@ impl hb_ot_layout_t<TabledFace> for AddingLayout {
         0
     }
 
-    fn get_1_mask(_map: &(), _tag: hb_tag_t) -> hb_mask_t {
-        0
+    fn get_1_mask(_map: &(), tag: hb_tag_t) -> hb_mask_t {
+        fraction_mask(tag.0)
     }
 
     fn get_mask(_map: &(), _tag: hb_tag_t) -> (hb_mask_t, u32) {
@@ -277,7 +297,7 @@ impl hb_ot_layout_t<TabledFace> for AddingLayout {
         Ok(())
     }
 
-    ghost lawful_masks = { λ _. no_masks-lawful };
+    ghost lawful_masks = { λ _. fraction_masks-lawful };
 
     ghost lawful_lookups = { λ _ _. adding_lookups-lawful };
 }
