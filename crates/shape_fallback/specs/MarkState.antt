@@ -10,6 +10,7 @@ use Rattle.shape_fallback.specs.OneMark.{mark_placed}
 use Rattle.shape_fallback.specs.declared.ot_shape_fallback.mark_state.Base.{Base}
 use Rattle.shape_fallback.specs.declared.ot_shape_fallback.mark_state.MarkState.{MarkState}
 use Rattle.shape_fallback.specs.declared.ot_shape_fallback.mark_state.MarkStep.{MarkStep}
+use Rattle.shape_fallback.specs.declared.ot_shape_fallback.mark_state.TheConstants.{NO_LAST_CCC}
 
 -- the component of the base that a mark belongs to: the last one where it isn't one of this ligature's
 unfoldable pub component_of : Base → Item → ℤ
@@ -41,7 +42,7 @@ unfoldable pub at_component : Base → Item → MarkState → MarkState
 at_component base item s =
     let component = component_of base item in
     if is_same component s.component then s
-    else record s { component = component; component_extents = component_extents base component; ccc = 255 }
+    else record s { component = component; component_extents = component_extents base component; ccc = NO_LAST_CCC }
 
 -- the same, where the base has several components
 unfoldable pub with_component : Base → Item → MarkState → MarkState
