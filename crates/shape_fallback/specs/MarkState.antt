@@ -33,15 +33,11 @@ component_extents base component = record base.extents {
   width = int_div base.extents.width (pos base.number_of_components);
 }
 
--- the numbers are equal
-unfoldable pub is_same : ℤ → ℤ → Bool
-is_same a b = int_eq a b
-
 -- the state at the component of a mark: a new one begins with its own extents, and the ccc rule starts anew
 unfoldable pub at_component : Base → Item → MarkState → MarkState
 at_component base item s =
     let component = component_of base item in
-    if is_same component s.component then s
+    if int_eq component s.component then s
     else record s { component = component; component_extents = component_extents base component; ccc = NO_LAST_CCC }
 
 -- the same, where the base has several components

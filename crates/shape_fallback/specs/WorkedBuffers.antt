@@ -15,7 +15,7 @@ use Rattle.shape_plan.specs.WorkedDecisions.{no_decisions}
 use Rattle.shape_plan.specs.declared.decisions.Decisions.{Decisions}
 use Rattle.shape_fallback.specs.Bases.{position_span, base_at, bases, bases_positioned, bases_marked, runs_to_right, setting_of, marks_positioned}
 use Rattle.shape_fallback.specs.Extents.{Extents}
-use Rattle.shape_fallback.specs.MarkState.{component_of, place_of, component_extents, is_same, at_component, with_component, at_ccc, passed, moved, place_in, place_mark}
+use Rattle.shape_fallback.specs.MarkState.{component_of, place_of, component_extents, at_component, with_component, at_ccc, passed, moved, place_in, place_mark}
 use Rattle.shape_fallback.specs.Marks.{marks_placed, zeroed_position, zeroed, base_of, first_state, around_base}
 use Rattle.shape_fallback.specs.OneMark.{is_double, is_left, is_right, is_below, is_above, is_attached, agree, lowered, raised, mark_placed}
 use Rattle.shape_fallback.specs.Recategorized.{is_nonspacing, recategorized_item}
@@ -129,7 +129,7 @@ pub record OnLigatures : Type 0 where
 
 on_ligatures : OnLigatures
 unfolding marks_positioned setting_of runs_to_right bases_positioned bases base_at position_span around_base base_of first_state
-    marks_placed place_mark place_in at_ccc with_component at_component component_of place_of component_extents is_same moved
+    marks_placed place_mark place_in at_ccc with_component at_component component_of place_of component_extents moved
     mark_placed is_double is_left is_right is_below is_above is_attached agree lowered raised ◌+ʷ◌ ◌-ʷ◌ ◌*ʷ◌ neg_w int_wrap
 on_ligatures = record { second = refl; first = refl; none = refl; first_from_the_right = refl; downwards = refl; two_components = refl }
 

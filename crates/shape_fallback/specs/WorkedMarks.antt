@@ -13,7 +13,7 @@ use Rattle.shape_buffer.specs.declared.buffer.settings.Script.{Script}
 use Rattle.shape_plan.specs.PlainTexts.{plain_unicode}
 use Rattle.shape_fallback.specs.Bases.{base_at, bases, runs_to_right}
 use Rattle.shape_fallback.specs.Extents.{Extents}
-use Rattle.shape_fallback.specs.MarkState.{component_of, place_of, component_extents, is_same, at_component, with_component, at_ccc, passed, moved}
+use Rattle.shape_fallback.specs.MarkState.{component_of, place_of, component_extents, at_component, with_component, at_ccc, passed, moved}
 use Rattle.shape_fallback.specs.Marks.{zeroed_position, first_state}
 use Rattle.shape_fallback.specs.WorkedOneMark.{extents}
 use Rattle.shape_fallback.specs.declared.ot_shape_fallback.mark_state.Base.{Base}
@@ -85,7 +85,7 @@ pub record States : Type 0 where
       ≡ worked_state (pos 0) 230 (extents (pos 0) (pos 700) (pos 300) (negsuc 699)) (extents (pos 0) (pos 912) (pos 300) (negsuc 911))
 
 states : States
-unfolding at_component with_component at_ccc component_of place_of component_extents is_same ◌+ʷ◌ ◌-ʷ◌ ◌*ʷ◌ int_wrap
+unfolding at_component with_component at_ccc component_of place_of component_extents ◌+ʷ◌ ◌-ʷ◌ ◌*ʷ◌ int_wrap
 states =
     record { another_component = refl; same_component = refl; one_component = refl; two_components = refl; another_ccc = refl; same_ccc = refl }
 

@@ -7,7 +7,6 @@
 ghost use Rattle.std.specs.Prelude.{◌≡◌, pos, ◌<◌};
 ghost use Rattle.shape_fallback.specs.MarkState.{component_of, place_of};
 ghost use Rattle.shape_fallback.specs.MarkState.{component_extents as component_extents_of};
-ghost use Rattle.shape_fallback.specs.MarkState.{is_same as is_same_of};
 ghost use Rattle.shape_fallback.specs.MarkState.{at_component as at_component_of};
 ghost use Rattle.shape_fallback.specs.MarkState.{with_component as with_component_of};
 ghost use Rattle.shape_fallback.specs.MarkState.{at_ccc as at_ccc_of, passed as passed_of};
@@ -100,14 +99,6 @@ fn component_extents(base: Base, component: i32) -> hb_glyph_extents_t
     extents
 }
 
-/// Whether the numbers are equal.
-#[tactic(auto, using(shape_buffer::proofs::WrappingLemmas::kept_bits), unfolding(crate::specs::MarkState::is_same))]
-fn is_same(a: i32, b: i32) -> bool
-    ensures { result ≡ is_same_of a b }
-{
-    a == b
-}
-
 /// Goes to the component of a mark.
 #[tactic(auto, using(shape_buffer::proofs::WrappingLemmas::kept_bits), unfolding(crate::specs::MarkState::at_component))]
 fn at_component(base: Base, info: &hb_glyph_info_t, mut state: MarkState) -> MarkState
@@ -115,7 +106,7 @@ fn at_component(base: Base, info: &hb_glyph_info_t, mut state: MarkState) -> Mar
     ensures { result ≡ at_component_of base info.now state }
 {
     let component = mark_component(base, info);
-    if is_same(component, state.component) {
+    if component == state.component {
         return state;
     }
     state.component_extents = component_extents(base, component);
