@@ -9,6 +9,7 @@ use Rattle.shape_buffer.specs.Face.{FaceMeaning}
 use Rattle.shape_buffer.specs.Items.{Item}
 use Rattle.shape_buffer.specs.Keepers.{KeepsOrder, IsClusterKeeper, IsFlagKeeper}
 use Rattle.shape_buffer.specs.KeepsFlags.{KeepsFlags, has_flag, some_has}
+use Rattle.shape_buffer.specs.PositionWalks.{positions_mapped}
 use Rattle.shape_buffer.specs.Unicode.{UnicodeMeaning}
 use Rattle.shape_buffer.specs.Walks.{items_mapped}
 use Rattle.shape_buffer.specs.declared.buffer.settings.Direction.{Direction}
@@ -118,11 +119,11 @@ marks-keep_flags unicode face direction script adjust b = flags-spans face _ (ba
 -- ---- spaces move along their line alone
 
 pub spaces-keep_clusters : (face : FaceMeaning) → IsClusterKeeper (spaces_placed face)
-unfolding spaces_placed
+unfolding spaces_placed positions_mapped
 spaces-keep_clusters face b monotone = KeepsOrder-left b _ (record { same_clusters = refl; direction = refl; flags = refl; level = refl })
 
 pub spaces-keep_flags : (face : FaceMeaning) → IsFlagKeeper (spaces_placed face)
-unfolding spaces_placed
+unfolding spaces_placed positions_mapped
 spaces-keep_flags face b = record { flags = refl; stays_set = λ e. e; none_new = λ flag d some. inl some }
 
 -- ---- ccc are neither clusters nor masks

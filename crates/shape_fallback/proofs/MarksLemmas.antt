@@ -6,12 +6,13 @@ use Rattle.std.proofs.lemmas.List.{take-append-drop, take_more, drop-set-lt}
 use Rattle.shape_buffer.specs.Items.{Item}
 use Rattle.shape_buffer.specs.Buffer.{Buffer}
 use Rattle.shape_buffer.specs.declared.buffer.positions.GlyphPosition.{GlyphPosition}
+use Rattle.shape_buffer.specs.PositionWalks.{positions_over}
 use Rattle.shape_buffer.specs.Positions.{zero_position}
 use Rattle.shape_buffer.specs.Face.{FaceMeaning}
 use Rattle.shape_fallback.specs.MarkState.{place_mark}
 use Rattle.shape_fallback.specs.declared.ot_shape_fallback.marks.Setting.{Setting}
 use Rattle.shape_fallback.specs.Marks.{marks_placed, zeroed, around_base, behind_base, base_of, first_state}
-use Rattle.shape_fallback.specs.Positions.{each_placed, with_positions}
+use Rattle.shape_fallback.specs.Positions.{with_positions}
 use Rattle.shape_fallback.proofs.PositionsLemmas.{slice_range-cons, placed_step}
 use Rattle.shape_fallback.specs.declared.ot_shape_fallback.mark_state.Base.{Base}
 use Rattle.shape_fallback.specs.declared.ot_shape_fallback.mark_state.MarkState.{MarkState}
@@ -74,7 +75,7 @@ span_some face s i to b x p E lt items positions is_x is_p e =
 pub span_none : (face : FaceMeaning) (s : Setting) (i to : ℕ) (b : Buffer) (x : Item) (p : GlyphPosition)
     → i < to → i < length b.items → i < length b.positions → x ≡ get_or b.items i x → p ≡ get_or b.positions i zero_position
     → face.extents (record { 0 = x.glyph_id }) ≡ None
-    → with_positions (around_base face s) i to b ≡ with_positions (each_placed (zeroed s.adjust)) (i + 1) to b
+    → with_positions (around_base face s) i to b ≡ with_positions (positions_over (zeroed s.adjust)) (i + 1) to b
 span_none face s i to b x p lt items positions is_x is_p e =
     span_start face s i to b x p lt items positions is_x is_p
     ∙ ap (λ (o : Option Extents). with_positions (behind_base face s x p o) (i + 1) to b) e

@@ -1,12 +1,13 @@
 -- Lemmas on loops that write the positions of a buffer.
-use Rattle.std.proofs.Common.{◌≡◌, ℕ, suc, ◌+◌, ◌-◌, ◌<◌, ◌≤◌, List, [], ◌∷◌, ◌++◌, length, get_or, take, drop, set, refl, ap, arith, slice_range, append_assoc}
-use Rattle.std.proofs.lemmas.List.{take-append-drop, take_more_set, drop-set-lt, take_all, drop_all, append-nil}
+use Rattle.std.proofs.Common.{◌≡◌, ℕ, suc, ◌+◌, ◌-◌, ◌<◌, ◌≤◌, List, ◌∷◌, ◌++◌, length, get_or, take, drop, set, refl, ap, arith, slice_range, append_assoc}
+use Rattle.std.proofs.lemmas.List.{take-append-drop, take_more_set, drop-set-lt}
 use Rattle.std.proofs.Math.Seq.{drop-cons}
 use Rattle.shape_buffer.specs.Buffer.{Buffer}
 use Rattle.shape_buffer.specs.Items.{Item}
+use Rattle.shape_buffer.specs.PositionWalks.{positions_over}
 use Rattle.shape_buffer.specs.Positions.{zero_position}
 use Rattle.shape_buffer.specs.declared.buffer.positions.GlyphPosition.{GlyphPosition}
-use Rattle.shape_fallback.specs.Positions.{each_placed, with_positions}
+use Rattle.shape_fallback.specs.Positions.{with_positions}
 
 -- the part of a list from i on, at its first element
 pub slice_range-cons : {X : Type 0} (xs : List X) (i to : ℕ) (x d : X) → i < to → i < length xs → x ≡ get_or xs i d
@@ -25,9 +26,8 @@ placed_step f ps i to p lt within =
 -- one more position made
 pub each_step : (f : Item → GlyphPosition → GlyphPosition) (i to : ℕ) (b : Buffer) (x : Item) (p : GlyphPosition)
     → i < to → i < length b.items → i < length b.positions → x ≡ get_or b.items i x → p ≡ get_or b.positions i zero_position
-    → with_positions (each_placed f) i to b
-    ≡ with_positions (each_placed f) (i + 1) to (record b { positions = set b.positions i (f x p) })
-unfolding each_placed
+    → with_positions (positions_over f) i to b
+    ≡ with_positions (positions_over f) (i + 1) to (record b { positions = set b.positions i (f x p) })
 each_step f i to b x p lt items positions is_x is_p =
     let q = f x p in
     let xs = slice_range-cons b.items i to x x lt items is_x in
@@ -39,27 +39,14 @@ each_step f i to b x p lt items positions is_x is_p =
       xs,
       ps,
       after,
-      placed_step (each_placed f (slice_range b.items (i + 1) to)
+      placed_step (positions_over f (slice_range b.items (i + 1) to)
           (slice_range b.positions (i + 1) to)) b.positions i to q lt positions,
     ) refl)
 
 -- none is left to make
 pub each_end : (f : Item → GlyphPosition → GlyphPosition) (i to : ℕ) (b : Buffer) → to ≤ i → i ≤ to
-    → with_positions (each_placed f) i to b ≡ b
-unfolding each_placed
+    → with_positions (positions_over f) i to b ≡ b
 each_end f i to b over within =
     let none : to - i ≡ 0 = omega arith in
     let same : to ≡ i = omega arith in
     ap (λ (list : List GlyphPosition). record b { positions = list }) (rw (none, same) (take-append-drop i b.positions))
-
--- all positions made
-pub all_placed : (f : Item → GlyphPosition → GlyphPosition) (b : Buffer) → length b.positions ≡ length b.items
-    → with_positions (each_placed f) 0 (length b.items) b ≡ record b { positions = each_placed f b.items b.positions }
-all_placed f b many =
-    let all : length b.items - 0 ≡ length b.items = omega arith in
-    let items : slice_range b.items 0 (length b.items) ≡ b.items = rw all (take_all (length b.items) b.items (omega arith)) in
-    let positions : slice_range b.positions 0 (length b.items)
-    ≡ b.positions = rw all (take_all (length b.items) b.positions (omega arith)) in
-    let none : drop (length b.items) b.positions ≡ [] = drop_all (length b.items) b.positions (omega arith) in
-    ap (λ (list : List GlyphPosition). record b { positions = list })
-    (rw (items, positions, none) (append-nil (each_placed f b.items b.positions)))

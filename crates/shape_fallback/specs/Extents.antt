@@ -1,4 +1,4 @@
--- The box round a glyph's ink.
+-- The extents of a glyph: how its ink lies.
 use Rattle.shape_buffer.specs.declared.interfaces.face.hb_glyph_extents_t.{hb_glyph_extents_t}
 
 abbrev pub Extents : Type 0

@@ -10,6 +10,7 @@ use Rattle.shape_fallback.specs.OneMark.{mark_placed}
 use Rattle.shape_fallback.specs.declared.ot_shape_fallback.mark_state.Base.{Base}
 use Rattle.shape_fallback.specs.declared.ot_shape_fallback.mark_state.MarkState.{MarkState}
 use Rattle.shape_fallback.specs.declared.ot_shape_fallback.mark_state.MarkStep.{MarkStep}
+use Rattle.shape_fallback.specs.declared.ot_shape_fallback.mark_state.TheConstants.{NO_LAST_CCC}
 
 -- the component of the base that a mark belongs to: the last one where it isn't one of this ligature's
 unfoldable pub component_of : Base → Item → ℤ
@@ -32,16 +33,12 @@ component_extents base component = record base.extents {
   width = int_div base.extents.width (pos base.number_of_components);
 }
 
--- the numbers are equal
-unfoldable pub is_same : ℤ → ℤ → Bool
-is_same a b = int_eq a b
-
 -- the state at the component of a mark: a new one begins with its own extents, and the ccc rule starts anew
 unfoldable pub at_component : Base → Item → MarkState → MarkState
 at_component base item s =
     let component = component_of base item in
-    if is_same component s.component then s
-    else record s { component = component; component_extents = component_extents base component; ccc = 255 }
+    if int_eq component s.component then s
+    else record s { component = component; component_extents = component_extents base component; ccc = NO_LAST_CCC }
 
 -- the same, where the base has several components
 unfoldable pub with_component : Base → Item → MarkState → MarkState

@@ -2,14 +2,15 @@
 use Rattle.std.specs.Prelude.{pos, negsuc, Bool, List, [], ◌∷◌, Option, Some, None, if◌then◌else◌}
 use Rattle.shape_buffer.specs.Face.{FaceMeaning}
 use Rattle.shape_buffer.specs.Items.{Item}
+use Rattle.shape_buffer.specs.PositionWalks.{positions_over}
 use Rattle.shape_buffer.specs.Wrapping.{◌-ʷ◌, ◌+ʷ◌, neg_w}
 use Rattle.shape_buffer.specs.declared.buffer.positions.GlyphPosition.{GlyphPosition}
 use Rattle.shape_fallback.specs.Extents.{Extents}
 use Rattle.shape_fallback.specs.MarkState.{place_mark}
 use Rattle.shape_fallback.specs.Recategorized.{is_nonspacing}
-use Rattle.shape_fallback.specs.Positions.{each_placed}
 use Rattle.shape_fallback.specs.declared.ot_shape_fallback.mark_state.Base.{Base}
 use Rattle.shape_fallback.specs.declared.ot_shape_fallback.mark_state.MarkState.{MarkState}
+use Rattle.shape_fallback.specs.declared.ot_shape_fallback.mark_state.TheConstants.{NO_LAST_CCC}
 use Rattle.shape_fallback.specs.declared.ot_shape_fallback.marks.Setting.{Setting}
 
 -- the positions of the marks of a base: each is placed in the state that the one before it leaves
@@ -49,7 +50,7 @@ unfoldable pub first_state : Base → GlyphPosition → MarkState
 first_state base p = record {
   component = negsuc 0;
   component_extents = base.extents;
-  ccc = 255;
+  ccc = NO_LAST_CCC;
   extents = base.extents;
   x_offset = if base.surroundings.forward then neg_w p.x_advance else pos 0;
   y_offset = if base.surroundings.forward then neg_w p.y_advance else pos 0;
@@ -57,7 +58,7 @@ first_state base p = record {
 
 -- the positions of the marks behind a base, where the face has these extents for its glyph
 abbrev pub behind_base : FaceMeaning → Setting → Item → GlyphPosition → Option Extents → List Item → List GlyphPosition → List GlyphPosition
-behind_base face s x p None xs ps = each_placed (zeroed s.adjust) xs ps
+behind_base face s x p None xs ps = positions_over (zeroed s.adjust) xs ps
 behind_base face s x p (Some E) xs ps =
     let base = base_of face s x p E in
     marks_placed face base (first_state base p) xs ps

@@ -1,14 +1,8 @@
 -- Positions that are made from those before and from the items that they belong to.
-use Rattle.std.specs.Prelude.{ℕ, List, [], ◌∷◌, ◌++◌, take, drop, slice_range}
+use Rattle.std.specs.Prelude.{ℕ, List, ◌++◌, take, drop, slice_range}
 use Rattle.shape_buffer.specs.Buffer.{Buffer}
 use Rattle.shape_buffer.specs.Items.{Item}
 use Rattle.shape_buffer.specs.declared.buffer.positions.GlyphPosition.{GlyphPosition}
-
--- in place of each position what f makes of its item and of it
-unfoldable pub each_placed : (Item → GlyphPosition → GlyphPosition) → List Item → List GlyphPosition → List GlyphPosition
-each_placed f [] ps = ps
-each_placed f (x ∷ xs) [] = []
-each_placed f (x ∷ xs) (p ∷ ps) = f x p ∷ each_placed f xs ps
 
 -- the buffer with what f makes of the items and positions from place `from` up to place `to`
 abbrev pub with_positions : (List Item → List GlyphPosition → List GlyphPosition) → ℕ → ℕ → Buffer → Buffer

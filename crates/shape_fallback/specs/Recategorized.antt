@@ -1,5 +1,5 @@
 -- The ccc that the marks of a buffer are placed by.
-use Rattle.std.specs.Prelude.{Bool, true, false, if◌then◌else◌}
+use Rattle.std.specs.Prelude.{Bool, if◌then◌else◌}
 use Rattle.shape_buffer.specs.Buffer.{Buffer}
 use Rattle.shape_buffer.specs.Category.{is_nonspacing_category}
 use Rattle.shape_buffer.specs.Items.{Item}

@@ -6,18 +6,19 @@ use Rattle.shape_buffer.specs.Category.{is_space_category}
 use Rattle.shape_buffer.specs.Direction.{is_horizontal}
 use Rattle.shape_buffer.specs.Face.{FaceMeaning}
 use Rattle.shape_buffer.specs.Items.{Item}
+use Rattle.shape_buffer.specs.PositionWalks.{positions_mapped}
 use Rattle.shape_buffer.specs.Wrapping.{neg_w}
 use Rattle.shape_buffer.specs.declared.buffer.positions.GlyphPosition.{GlyphPosition}
 use Rattle.shape_buffer.specs.declared.buffer.settings.GlyphId.{GlyphId}
-use Rattle.shape_fallback.specs.Positions.{each_placed}
+use Rattle.shape_buffer.specs.declared.interfaces.space_types.TheConstants.{SPACE_EM, SPACE_EM_6, SPACE_EM_16, SPACE_4_EM_18, SPACE_FIGURE, SPACE_PUNCTUATION, SPACE_NARROW}
 
--- the types that are a part of the em square: EM to EM_6, EM_16 and 4_EM_18
+-- the types that are a part of the em square
 unfoldable pub is_em_part : ℕ → Bool
-is_em_part t = (nat_le 1 t && nat_le t 6) || t == 16 || t == 17
+is_em_part t = (nat_le SPACE_EM t && nat_le t SPACE_EM_6) || t == SPACE_EM_16 || t == SPACE_4_EM_18
 
--- how much of an em square of side u: four eighteenths at type 17, else the part that the type names, rounded
+-- how much of an em square of side u: four eighteenths, or the part that the type names, rounded
 unfoldable pub em_part : ℕ → ℕ → ℕ
-em_part u t = if t == 17 then u * 4 / 18 else (u + t / 2) / t
+em_part u t = if t == SPACE_4_EM_18 then u * 4 / 18 else (u + t / 2) / t
 
 -- vertical lines go down, so an advance along them is negative
 unfoldable pub em_advance : Bool → ℕ → ℤ
@@ -43,13 +44,13 @@ advance_along face horizontal glyph = if horizontal then face.h_advance glyph el
 unfoldable pub as_wide_as : FaceMeaning → Bool → List ℕ → ℤ → ℤ
 as_wide_as face horizontal cs before = option_map_or (advance_along face horizontal) (first_glyph face cs) before
 
--- the advance of a space of a type: FIGURE 19, PUNCTUATION 20, NARROW 21 half of what it was; other types keep theirs
+-- the advance of a space of a type: a narrow one takes half of what it was, and other types keep theirs
 unfoldable pub space_advance : FaceMeaning → Bool → ℕ → ℤ → ℤ
 space_advance face horizontal t before =
     if is_em_part t then em_advance horizontal (em_part face.units_per_em t)
-    else if t == 19 then as_wide_as face horizontal figures before
-    else if t == 20 then as_wide_as face horizontal stops before
-    else if t == 21 then int_div before (pos 2)
+    else if t == SPACE_FIGURE then as_wide_as face horizontal figures before
+    else if t == SPACE_PUNCTUATION then as_wide_as face horizontal stops before
+    else if t == SPACE_NARROW then int_div before (pos 2)
     else before
 
 -- along the line alone
@@ -68,6 +69,4 @@ item_spaced face horizontal item p =
 
 -- every space of the buffer
 unfoldable pub spaces_placed : FaceMeaning → Buffer → Buffer
-spaces_placed face b = record b {
-  positions = each_placed (item_spaced face (is_horizontal b.direction)) b.items b.positions;
-}
+spaces_placed face b = positions_mapped (item_spaced face (is_horizontal b.direction)) b

@@ -15,32 +15,31 @@ use Rattle.shape_plan.specs.WorkedDecisions.{no_decisions}
 use Rattle.shape_plan.specs.declared.decisions.Decisions.{Decisions}
 use Rattle.shape_fallback.specs.Bases.{position_span, base_at, bases, bases_positioned, bases_marked, runs_to_right, setting_of, marks_positioned}
 use Rattle.shape_fallback.specs.Extents.{Extents}
-use Rattle.shape_fallback.specs.MarkState.{component_of, place_of, component_extents, is_same, at_component, with_component, at_ccc, passed, moved, place_in, place_mark}
+use Rattle.shape_fallback.specs.MarkState.{component_of, place_of, component_extents, at_component, with_component, at_ccc, passed, moved, place_in, place_mark}
 use Rattle.shape_fallback.specs.Marks.{marks_placed, zeroed_position, zeroed, base_of, first_state, around_base}
 use Rattle.shape_fallback.specs.OneMark.{is_double, is_left, is_right, is_below, is_above, is_attached, agree, lowered, raised, mark_placed}
-use Rattle.shape_fallback.specs.Positions.{each_placed}
 use Rattle.shape_fallback.specs.Recategorized.{is_nonspacing, recategorized_item}
 use Rattle.shape_fallback.specs.Steps.{recategorize_step, marks_step, marks_adjusted}
 use Rattle.shape_fallback.specs.WorkedCcc.{worked_mark}
 use Rattle.shape_fallback.specs.WorkedMarks.{at, component_mark, some_script, worked_unicode}
-use Rattle.shape_fallback.specs.WorkedOneMark.{box}
+use Rattle.shape_fallback.specs.WorkedOneMark.{extents}
 use Rattle.shape_fallback.specs.WorkedSpaces.{worked_face}
 
--- a face of u units where glyph 1 is a base of this advance, with a box or none, glyph 2 an acute above, glyph 3 a dot below
+-- a face of u units where glyph 1 is a base of this advance, with extents or none, glyph 2 an acute above, glyph 3 a dot below
 abbrev pub base_face : ℕ → ℤ → Option Extents → FaceMeaning
-base_face u advance extents = record (worked_face (λ c. false)) {
+base_face u advance own = record (worked_face (λ c. false)) {
   h_advance = λ g. if g.0 == 1 then advance else pos 0;
   extents = λ g.
-      if g.0 == 1 then extents
-      else if g.0 == 2 then Some (box (pos 50) (pos 800) (pos 200) (negsuc 149))
-      else if g.0 == 3 then Some (box (pos 50) (negsuc 49) (pos 200) (negsuc 99))
+      if g.0 == 1 then own
+      else if g.0 == 2 then Some (extents (pos 50) (pos 800) (pos 200) (negsuc 149))
+      else if g.0 == 3 then Some (extents (pos 50) (negsuc 49) (pos 200) (negsuc 99))
       else None;
   units_per_em = u;
 }
 
 -- of 1000 units, the base from 700 down to 0
 abbrev pub latin_face : ℤ → FaceMeaning
-latin_face advance = base_face 1000 advance (Some (box (pos 30) (pos 700) advance (negsuc 699)))
+latin_face advance = base_face 1000 advance (Some (extents (pos 30) (pos 700) advance (negsuc 699)))
 
 -- a letter of glyph 1 with n components
 abbrev pub letter : ℕ → Item
@@ -73,7 +72,7 @@ pub record AboveAndBelow : Type 0 where
       (letter 1 ∷ mark_of 2 230 NonspacingMark 0 ∷ mark_of 2 230 NonspacingMark 0 ∷ [])
       (at (pos 600) (pos 0) (pos 0) (pos 0) ∷ at (pos 0) (pos 0) (pos 0) (pos 0) ∷ at (pos 0) (pos 0) (pos 0) (pos 0) ∷ [])
       ≡ at (pos 600) (pos 0) (pos 0) (pos 0) ∷ at (pos 0) (pos 0) (negsuc 449) (pos 112) ∷ at (pos 0) (pos 0) (negsuc 449) (pos 324) ∷ []
-  -- another ccc begins at the base's own box
+  -- another ccc begins at the base's own extents
   pub above_then_below : positions_after (latin_face (pos 600)) true LeftToRight
       (letter 1 ∷ mark_of 2 230 NonspacingMark 0 ∷ mark_of 3 220 NonspacingMark 0 ∷ [])
       (at (pos 600) (pos 0) (pos 0) (pos 0) ∷ at (pos 0) (pos 0) (pos 0) (pos 0) ∷ at (pos 0) (pos 0) (pos 0) (pos 0) ∷ [])
@@ -83,10 +82,10 @@ pub record AboveAndBelow : Type 0 where
       (at (pos 600) (pos 0) (pos 9) (pos 100) ∷ at (pos 0) (pos 0) (pos 0) (pos 0) ∷ [])
       ≡ at (pos 600) (pos 0) (pos 9) (pos 100) ∷ at (pos 0) (pos 0) (negsuc 449) (pos 212) ∷ []
   -- below 16 units there is no gap, and a mark above comes half of the way down
-  pub no_gap : positions_after (base_face 15 (pos 600) (Some (box (pos 30) (pos 700) (pos 600) (negsuc 699)))) true LeftToRight
+  pub no_gap : positions_after (base_face 15 (pos 600) (Some (extents (pos 30) (pos 700) (pos 600) (negsuc 699)))) true LeftToRight
       (letter 1 ∷ mark_of 2 230 NonspacingMark 0 ∷ []) (at (pos 600) (pos 0) (pos 0) (pos 0) ∷ at (pos 0) (pos 0) (pos 0) (pos 0) ∷ [])
       ≡ at (pos 600) (pos 0) (pos 0) (pos 0) ∷ at (pos 0) (pos 0) (negsuc 449) (pos 25) ∷ []
-  pub gap_of_one : positions_after (base_face 16 (pos 600) (Some (box (pos 30) (pos 700) (pos 600) (negsuc 699)))) true LeftToRight
+  pub gap_of_one : positions_after (base_face 16 (pos 600) (Some (extents (pos 30) (pos 700) (pos 600) (negsuc 699)))) true LeftToRight
       (letter 1 ∷ mark_of 2 230 NonspacingMark 0 ∷ []) (at (pos 600) (pos 0) (pos 0) (pos 0) ∷ at (pos 0) (pos 0) (pos 0) (pos 0) ∷ [])
       ≡ at (pos 600) (pos 0) (pos 0) (pos 0) ∷ at (pos 0) (pos 0) (negsuc 449) (pos 51) ∷ []
   pub right_to_left : positions_after (latin_face (pos 600)) true RightToLeft (letter 1 ∷ mark_of 2 230 NonspacingMark 0 ∷ [])
@@ -98,7 +97,9 @@ pub record AboveAndBelow : Type 0 where
       ≡ at (pos 0) (negsuc 999) (negsuc 299) (negsuc 999) ∷ at (pos 0) (pos 0) (pos 150) (pos 556) ∷ []
 
 above_and_below : AboveAndBelow
-unfolding marks_positioned setting_of runs_to_right bases_positioned bases base_at position_span around_base base_of first_state marks_placed place_mark place_in at_ccc with_component moved mark_placed is_double is_left is_right is_below is_above is_attached agree lowered raised ◌+ʷ◌ ◌-ʷ◌ neg_w int_wrap
+unfolding marks_positioned setting_of runs_to_right bases_positioned bases base_at position_span around_base base_of first_state
+    marks_placed place_mark place_in at_ccc with_component moved mark_placed is_double is_left is_right is_below is_above is_attached
+    agree lowered raised ◌+ʷ◌ ◌-ʷ◌ neg_w int_wrap
 above_and_below =
     record { above = refl; below = refl; two_acutes = refl; above_then_below = refl; moved_base = refl; no_gap = refl; gap_of_one = refl; right_to_left = refl; downwards = refl }
 
@@ -127,7 +128,9 @@ pub record OnLigatures : Type 0 where
       ∷ at (pos 0) (pos 0) (negsuc 599) (pos 324) ∷ []
 
 on_ligatures : OnLigatures
-unfolding marks_positioned setting_of runs_to_right bases_positioned bases base_at position_span around_base base_of first_state marks_placed place_mark place_in at_ccc with_component at_component component_of place_of component_extents is_same moved mark_placed is_double is_left is_right is_below is_above is_attached agree lowered raised ◌+ʷ◌ ◌-ʷ◌ ◌*ʷ◌ neg_w int_wrap
+unfolding marks_positioned setting_of runs_to_right bases_positioned bases base_at position_span around_base base_of first_state
+    marks_placed place_mark place_in at_ccc with_component at_component component_of place_of component_extents moved
+    mark_placed is_double is_left is_right is_below is_above is_attached agree lowered raised ◌+ʷ◌ ◌-ʷ◌ ◌*ʷ◌ neg_w int_wrap
 on_ligatures = record { second = refl; first = refl; none = refl; first_from_the_right = refl; downwards = refl; two_components = refl }
 
 pub record MarksOfCcc0 : Type 0 where
@@ -140,16 +143,18 @@ pub record MarksOfCcc0 : Type 0 where
       (letter 1 ∷ mark_of 2 0 NonspacingMark 0 ∷ mark_of 2 230 NonspacingMark 0 ∷ [])
       (at (pos 600) (pos 0) (pos 0) (pos 0) ∷ at (pos 40) (pos 3) (pos 1) (pos 2) ∷ at (pos 0) (pos 0) (pos 0) (pos 0) ∷ [])
       ≡ at (pos 600) (pos 0) (pos 0) (pos 0) ∷ at (pos 40) (pos 3) (pos 1) (pos 2) ∷ at (pos 0) (pos 0) (pos 190) (pos 115) ∷ []
-  -- a mark without a box keeps its offsets and loses its advances
-  pub without_a_box : positions_after (latin_face (pos 600)) true LeftToRight (letter 1 ∷ mark_of 9 230 NonspacingMark 0 ∷ [])
+  -- a mark without extents keeps its offsets and loses its advances
+  pub without_extents : positions_after (latin_face (pos 600)) true LeftToRight (letter 1 ∷ mark_of 9 230 NonspacingMark 0 ∷ [])
       (at (pos 600) (pos 0) (pos 0) (pos 0) ∷ at (pos 40) (pos 3) (pos 1) (pos 2) ∷ [])
       ≡ at (pos 600) (pos 0) (pos 0) (pos 0) ∷ at (pos 0) (pos 0) (negsuc 598) (pos 2) ∷ []
 
 marks_of_ccc_0 : MarksOfCcc0
-unfolding marks_positioned setting_of runs_to_right bases_positioned bases base_at position_span around_base base_of first_state marks_placed place_mark place_in at_ccc with_component passed moved mark_placed is_double is_left is_right is_below is_above is_attached agree lowered raised ◌+ʷ◌ ◌-ʷ◌ neg_w int_wrap
-marks_of_ccc_0 = record { forward = refl; backward = refl; without_a_box = refl }
+unfolding marks_positioned setting_of runs_to_right bases_positioned bases base_at position_span around_base base_of first_state
+    marks_placed place_mark place_in at_ccc with_component passed moved mark_placed is_double is_left is_right is_below is_above
+    is_attached agree lowered raised ◌+ʷ◌ ◌-ʷ◌ neg_w int_wrap
+marks_of_ccc_0 = record { forward = refl; backward = refl; without_extents = refl }
 
-pub record BasesWithoutABox : Type 0 where
+pub record BasesWithoutExtents : Type 0 where
   pub adjusted : positions_after (base_face 1000 (pos 600) None) true LeftToRight
       (letter 1 ∷ mark_of 2 230 NonspacingMark 0 ∷ mark_of 2 0 SpacingMark 0 ∷ [])
       (at (pos 600) (pos 0) (pos 0) (pos 0) ∷ at (pos 100) (pos 3) (pos 0) (pos 0) ∷ at (pos 50) (pos 4) (pos 1) (pos 2) ∷ [])
@@ -161,15 +166,18 @@ pub record BasesWithoutABox : Type 0 where
       (at (pos 600) (pos 0) (pos 0) (pos 0) ∷ at (negsuc 2147483647) (pos 0) (pos 0) (pos 0) ∷ [])
       ≡ at (pos 600) (pos 0) (pos 0) (pos 0) ∷ at (pos 0) (pos 0) (negsuc 2147483647) (pos 0) ∷ []
 
-bases_without_a_box : BasesWithoutABox
-unfolding marks_positioned setting_of runs_to_right bases_positioned bases base_at position_span around_base each_placed zeroed is_nonspacing zeroed_position ◌-ʷ◌ int_wrap
-bases_without_a_box = record { adjusted = refl; not_adjusted = refl; least_advance = refl }
+bases_without_extents : BasesWithoutExtents
+unfolding marks_positioned setting_of runs_to_right bases_positioned bases base_at position_span around_base zeroed is_nonspacing
+    zeroed_position ◌-ʷ◌ int_wrap
+bases_without_extents = record { adjusted = refl; not_adjusted = refl; least_advance = refl }
 
 -- a face whose base and mark are as wide as numbers go
 abbrev pub wide_face : FaceMeaning
 wide_face = record (worked_face (λ c. false)) {
   h_advance = λ g. if g.0 == 1 then pos 2147483647 else pos 0;
-  extents = λ g. if g.0 == 1 then Some (box (pos 0) (pos 0) (pos 0) (pos 0)) else Some (box (pos 0) (pos 0) (negsuc 2147483647) (pos 0));
+  extents = λ g.
+      if g.0 == 1 then Some (extents (pos 0) (pos 0) (pos 0) (pos 0))
+      else Some (extents (pos 0) (pos 0) (negsuc 2147483647) (pos 0));
 }
 
 pub record WidestMark : Type 0 where
@@ -178,7 +186,9 @@ pub record WidestMark : Type 0 where
       ≡ at (pos 2147483647) (pos 0) (pos 0) (pos 0) ∷ at (pos 0) (pos 0) (negsuc 2147483646) (pos 62) ∷ []
 
 widest_mark : WidestMark
-unfolding marks_positioned setting_of runs_to_right bases_positioned bases base_at position_span around_base base_of first_state marks_placed place_mark place_in at_ccc with_component moved mark_placed is_double is_left is_right is_below is_above is_attached agree lowered raised ◌+ʷ◌ ◌-ʷ◌ neg_w int_wrap
+unfolding marks_positioned setting_of runs_to_right bases_positioned bases base_at position_span around_base base_of first_state
+    marks_placed place_mark place_in at_ccc with_component moved mark_placed is_double is_left is_right is_below is_above is_attached
+    agree lowered raised ◌+ʷ◌ ◌-ʷ◌ neg_w int_wrap
 widest_mark = record { widest = refl }
 
 -- the decisions of a plan, where marks are placed by their extents or not, and offsets adjusted or not
@@ -189,7 +199,7 @@ worked_decisions fallback adjust = record no_decisions {
   adjust_mark_positioning_when_zeroing = adjust;
 }
 
--- a base without a box, and an acute of advance 100
+-- a base without extents, and an acute of advance 100
 abbrev pub bare_base : Direction → Buffer
 bare_base direction =
     marked direction (letter 1 ∷ mark_of 2 230 NonspacingMark 0 ∷ [])
@@ -214,7 +224,8 @@ pub record DueSteps : Type 0 where
       (record new_buffer { items = worked_mark 0xE34 NonspacingMark 0 ∷ [] })).items ≡ worked_mark 0xE34 NonspacingMark 0 ∷ []
 
 due_steps : DueSteps
-unfolding marks_adjusted marks_positioned setting_of runs_to_right bases_positioned bases base_at position_span around_base each_placed zeroed is_nonspacing zeroed_position recategorized_item items_mapped ◌-ʷ◌ int_wrap
+unfolding marks_adjusted marks_positioned setting_of runs_to_right bases_positioned bases base_at position_span around_base zeroed
+    is_nonspacing zeroed_position recategorized_item items_mapped ◌-ʷ◌ int_wrap
 due_steps = record { to_the_right = refl; to_the_left = refl; not_adjusted = refl; not_due = refl; cccs_due = refl; cccs_not_due = refl }
 
 -- spans are marked: a mark of a later cluster than its base's, and the bit of the run; no item outside
@@ -238,11 +249,11 @@ pub record WorkedBuffers : Type 0 where
   pub latin : AboveAndBelow
   pub ligatures : OnLigatures
   pub ccc_0 : MarksOfCcc0
-  pub bare_bases : BasesWithoutABox
+  pub bare_bases : BasesWithoutExtents
   pub widest : WidestMark
   pub steps : DueSteps
   pub spans : MarkedSpans
 
 pub worked_buffers : WorkedBuffers
 worked_buffers =
-    record { latin = above_and_below; ligatures = on_ligatures; ccc_0 = marks_of_ccc_0; bare_bases = bases_without_a_box; widest = widest_mark; steps = due_steps; spans = marked_spans }
+    record { latin = above_and_below; ligatures = on_ligatures; ccc_0 = marks_of_ccc_0; bare_bases = bases_without_extents; widest = widest_mark; steps = due_steps; spans = marked_spans }

@@ -13,22 +13,22 @@ use Rattle.shape_buffer.specs.declared.buffer.settings.Script.{Script}
 use Rattle.shape_plan.specs.PlainTexts.{plain_unicode}
 use Rattle.shape_fallback.specs.Bases.{base_at, bases, runs_to_right}
 use Rattle.shape_fallback.specs.Extents.{Extents}
-use Rattle.shape_fallback.specs.MarkState.{component_of, place_of, component_extents, is_same, at_component, with_component, at_ccc, passed, moved}
+use Rattle.shape_fallback.specs.MarkState.{component_of, place_of, component_extents, at_component, with_component, at_ccc, passed, moved}
 use Rattle.shape_fallback.specs.Marks.{zeroed_position, first_state}
-use Rattle.shape_fallback.specs.WorkedOneMark.{box}
+use Rattle.shape_fallback.specs.WorkedOneMark.{extents}
 use Rattle.shape_fallback.specs.declared.ot_shape_fallback.mark_state.Base.{Base}
 use Rattle.shape_fallback.specs.declared.ot_shape_fallback.mark_state.MarkState.{MarkState}
 
 -- ---- components
 
--- a base with an id and n components, of width 900
+-- a base with an id and n components, of this width
 abbrev pub worked_base : Bool → ℕ → ℕ → ℤ → Base
 worked_base left_to_right id n width = record {
   surroundings = record { horizontal = true; forward = true; gap = pos 62 };
   left_to_right = left_to_right;
   ligature_id = id;
   number_of_components = n;
-  extents = box (pos 0) (pos 700) width (negsuc 699);
+  extents = extents (pos 0) (pos 700) width (negsuc 699);
 }
 
 -- a mark of a glyph and a ccc, of a component of the ligature with an id
@@ -45,11 +45,12 @@ pub record Components : Type 0 where
   pub places : map (place_of (worked_base true 1 3 (pos 900))) (negsuc 0 ∷ pos 0 ∷ pos 2 ∷ []) ≡ negsuc 0 ∷ pos 0 ∷ pos 2 ∷ []
   pub places_from_the_right : map (place_of (worked_base false 1 3 (pos 900))) (negsuc 0 ∷ pos 0 ∷ pos 2 ∷ []) ≡ pos 3 ∷ pos 2 ∷ pos 0 ∷ []
   pub thirds : map (component_extents (worked_base true 1 3 (pos 1000))) (pos 0 ∷ pos 1 ∷ pos 2 ∷ [])
-      ≡ box (pos 0) (pos 700) (pos 333) (negsuc 699) ∷ box (pos 333) (pos 700) (pos 333) (negsuc 699)
-      ∷ box (pos 666) (pos 700) (pos 333) (negsuc 699) ∷ []
-  pub thirds_from_the_right : component_extents (worked_base false 1 3 (pos 1000)) (pos 0) ≡ box (pos 666) (pos 700) (pos 333) (negsuc 699)
-  pub turned : component_extents (worked_base true 1 3 (negsuc 999)) (pos 1) ≡ box (negsuc 332) (pos 700) (negsuc 332) (negsuc 699)
-  pub widest : component_extents (worked_base true 1 3 (pos 2147483647)) (pos 2) ≡ box (pos 0) (pos 700) (pos 715827882) (negsuc 699)
+      ≡ extents (pos 0) (pos 700) (pos 333) (negsuc 699) ∷ extents (pos 333) (pos 700) (pos 333) (negsuc 699)
+      ∷ extents (pos 666) (pos 700) (pos 333) (negsuc 699) ∷ []
+  pub thirds_from_the_right : component_extents (worked_base false 1 3 (pos 1000)) (pos 0)
+      ≡ extents (pos 666) (pos 700) (pos 333) (negsuc 699)
+  pub turned : component_extents (worked_base true 1 3 (negsuc 999)) (pos 1) ≡ extents (negsuc 332) (pos 700) (negsuc 332) (negsuc 699)
+  pub widest : component_extents (worked_base true 1 3 (pos 2147483647)) (pos 2) ≡ extents (pos 0) (pos 700) (pos 715827882) (negsuc 699)
 
 components : Components
 unfolding component_of place_of component_extents ◌+ʷ◌ ◌-ʷ◌ ◌*ʷ◌ int_wrap
@@ -65,26 +66,26 @@ worked_state component ccc whole left =
 
 pub record States : Type 0 where
   pub another_component : at_component (worked_base true 1 3 (pos 900)) (component_mark 2 230 1 2)
-      (worked_state (pos 0) 230 (box (pos 0) (pos 700) (pos 300) (negsuc 699)) (box (pos 0) (pos 912) (pos 300) (negsuc 911)))
-      ≡ worked_state (pos 1) 255 (box (pos 300) (pos 700) (pos 300) (negsuc 699)) (box (pos 0) (pos 912) (pos 300) (negsuc 911))
+      (worked_state (pos 0) 230 (extents (pos 0) (pos 700) (pos 300) (negsuc 699)) (extents (pos 0) (pos 912) (pos 300) (negsuc 911)))
+      ≡ worked_state (pos 1) 255 (extents (pos 300) (pos 700) (pos 300) (negsuc 699)) (extents (pos 0) (pos 912) (pos 300) (negsuc 911))
   pub same_component : at_component (worked_base true 1 3 (pos 900)) (component_mark 2 230 1 1)
-      (worked_state (pos 0) 230 (box (pos 0) (pos 700) (pos 300) (negsuc 699)) (box (pos 0) (pos 912) (pos 300) (negsuc 911)))
-      ≡ worked_state (pos 0) 230 (box (pos 0) (pos 700) (pos 300) (negsuc 699)) (box (pos 0) (pos 912) (pos 300) (negsuc 911))
+      (worked_state (pos 0) 230 (extents (pos 0) (pos 700) (pos 300) (negsuc 699)) (extents (pos 0) (pos 912) (pos 300) (negsuc 911)))
+      ≡ worked_state (pos 0) 230 (extents (pos 0) (pos 700) (pos 300) (negsuc 699)) (extents (pos 0) (pos 912) (pos 300) (negsuc 911))
   pub one_component : with_component (worked_base true 1 1 (pos 900)) (component_mark 2 230 1 1)
-      (worked_state (negsuc 0) 230 (box (pos 0) (pos 700) (pos 900) (negsuc 699)) (box (pos 0) (pos 912) (pos 900) (negsuc 911)))
-      ≡ worked_state (negsuc 0) 230 (box (pos 0) (pos 700) (pos 900) (negsuc 699)) (box (pos 0) (pos 912) (pos 900) (negsuc 911))
+      (worked_state (negsuc 0) 230 (extents (pos 0) (pos 700) (pos 900) (negsuc 699)) (extents (pos 0) (pos 912) (pos 900) (negsuc 911)))
+      ≡ worked_state (negsuc 0) 230 (extents (pos 0) (pos 700) (pos 900) (negsuc 699)) (extents (pos 0) (pos 912) (pos 900) (negsuc 911))
   pub two_components : with_component (worked_base true 1 2 (pos 900)) (component_mark 2 230 1 2)
-      (worked_state (negsuc 0) 230 (box (pos 0) (pos 700) (pos 900) (negsuc 699)) (box (pos 0) (pos 912) (pos 900) (negsuc 911)))
-      ≡ worked_state (pos 1) 255 (box (pos 450) (pos 700) (pos 450) (negsuc 699)) (box (pos 0) (pos 912) (pos 900) (negsuc 911))
-  pub another_ccc : at_ccc 220 (worked_state (pos 0) 230 (box (pos 0) (pos 700) (pos 300) (negsuc 699))
-      (box (pos 0) (pos 912) (pos 300) (negsuc 911)))
-      ≡ worked_state (pos 0) 220 (box (pos 0) (pos 700) (pos 300) (negsuc 699)) (box (pos 0) (pos 700) (pos 300) (negsuc 699))
-  pub same_ccc : at_ccc 230 (worked_state (pos 0) 230 (box (pos 0) (pos 700) (pos 300) (negsuc 699))
-      (box (pos 0) (pos 912) (pos 300) (negsuc 911)))
-      ≡ worked_state (pos 0) 230 (box (pos 0) (pos 700) (pos 300) (negsuc 699)) (box (pos 0) (pos 912) (pos 300) (negsuc 911))
+      (worked_state (negsuc 0) 230 (extents (pos 0) (pos 700) (pos 900) (negsuc 699)) (extents (pos 0) (pos 912) (pos 900) (negsuc 911)))
+      ≡ worked_state (pos 1) 255 (extents (pos 450) (pos 700) (pos 450) (negsuc 699)) (extents (pos 0) (pos 912) (pos 900) (negsuc 911))
+  pub another_ccc : at_ccc 220 (worked_state (pos 0) 230 (extents (pos 0) (pos 700) (pos 300) (negsuc 699))
+      (extents (pos 0) (pos 912) (pos 300) (negsuc 911)))
+      ≡ worked_state (pos 0) 220 (extents (pos 0) (pos 700) (pos 300) (negsuc 699)) (extents (pos 0) (pos 700) (pos 300) (negsuc 699))
+  pub same_ccc : at_ccc 230 (worked_state (pos 0) 230 (extents (pos 0) (pos 700) (pos 300) (negsuc 699))
+      (extents (pos 0) (pos 912) (pos 300) (negsuc 911)))
+      ≡ worked_state (pos 0) 230 (extents (pos 0) (pos 700) (pos 300) (negsuc 699)) (extents (pos 0) (pos 912) (pos 300) (negsuc 911))
 
 states : States
-unfolding at_component with_component at_ccc component_of place_of component_extents is_same ◌+ʷ◌ ◌-ʷ◌ ◌*ʷ◌ int_wrap
+unfolding at_component with_component at_ccc component_of place_of component_extents ◌+ʷ◌ ◌-ʷ◌ ◌*ʷ◌ int_wrap
 states =
     record { another_component = refl; same_component = refl; one_component = refl; two_components = refl; another_ccc = refl; same_ccc = refl }
 
@@ -95,20 +96,20 @@ at x y right up = record zero_position { x_advance = x; y_advance = y; x_offset 
 -- a running offset
 abbrev pub running : ℤ → ℤ → MarkState
 running x y =
-    record (worked_state (negsuc 0) 255 (box (pos 0) (pos 0) (pos 0) (pos 0))
-    (box (pos 0) (pos 0) (pos 0) (pos 0))) { x_offset = x; y_offset = y }
+    record (worked_state (negsuc 0) 255 (extents (pos 0) (pos 0) (pos 0) (pos 0))
+    (extents (pos 0) (pos 0) (pos 0) (pos 0))) { x_offset = x; y_offset = y }
 
 pub record RunningOffsets : Type 0 where
   pub passed_forward : passed true (at (pos 30) (pos 4) (pos 1) (pos 2)) (running (negsuc 599) (pos 0)) ≡ running (negsuc 629) (negsuc 3)
   pub passed_backward : passed false (at (pos 30) (pos 4) (pos 1) (pos 2)) (running (pos 0) (pos 0)) ≡ running (pos 30) (pos 4)
   pub added : moved (at (pos 30) (pos 4) (pos 150) (pos 112)) (running (negsuc 599) (pos 5)) ≡ at (pos 0) (pos 0) (negsuc 449) (pos 117)
   pub first_forward : first_state (worked_base true 1 3 (pos 900)) (at (pos 600) (negsuc 6) (pos 1) (pos 2))
-      ≡ record (worked_state (negsuc 0) 255 (box (pos 0) (pos 700) (pos 900) (negsuc 699))
-      (box (pos 0) (pos 700) (pos 900) (negsuc 699))) { x_offset = negsuc 599; y_offset = pos 7 }
+      ≡ record (worked_state (negsuc 0) 255 (extents (pos 0) (pos 700) (pos 900) (negsuc 699))
+      (extents (pos 0) (pos 700) (pos 900) (negsuc 699))) { x_offset = negsuc 599; y_offset = pos 7 }
   pub first_backward : first_state (record (worked_base true 1 3
       (pos 900)) { surroundings = record { horizontal = true; forward = false; gap = pos 62 } }) (at (pos 600) (negsuc 6) (pos 1) (pos 2))
-      ≡ record (worked_state (negsuc 0) 255 (box (pos 0) (pos 700) (pos 900) (negsuc 699))
-      (box (pos 0) (pos 700) (pos 900) (negsuc 699))) { x_offset = pos 0; y_offset = pos 0 }
+      ≡ record (worked_state (negsuc 0) 255 (extents (pos 0) (pos 700) (pos 900) (negsuc 699))
+      (extents (pos 0) (pos 700) (pos 900) (negsuc 699))) { x_offset = pos 0; y_offset = pos 0 }
   pub adjusted : zeroed_position true (at (pos 30) (pos 4) (pos 1) (pos 2)) ≡ at (pos 0) (pos 0) (negsuc 28) (negsuc 1)
   pub not_adjusted : zeroed_position false (at (pos 30) (pos 4) (pos 1) (pos 2)) ≡ at (pos 0) (pos 0) (pos 1) (pos 2)
   pub least_advance : zeroed_position true (at (negsuc 2147483647) (pos 0) (pos 0) (pos 0))

@@ -4,6 +4,7 @@ use Rattle.std.specs.Int.{int_wrap}
 use Rattle.shape_buffer.specs.Buffer.{Buffer, new_buffer}
 use Rattle.shape_buffer.specs.Face.{FaceMeaning}
 use Rattle.shape_buffer.specs.Items.{Item, new_item}
+use Rattle.shape_buffer.specs.PositionWalks.{positions_mapped}
 use Rattle.shape_buffer.specs.Positions.{zero_position}
 use Rattle.shape_buffer.specs.Wrapping.{neg_w}
 use Rattle.shape_buffer.specs.declared.buffer.general_category.hb_unicode_general_category_t.{hb_unicode_general_category_t}
@@ -12,7 +13,6 @@ use Rattle.shape_buffer.specs.declared.buffer.positions.GlyphPosition.{GlyphPosi
 use Rattle.shape_buffer.specs.declared.buffer.settings.Direction.{Direction}
 use Rattle.shape_buffer.specs.declared.buffer.settings.Direction.TheVariants.{Invalid, LeftToRight, RightToLeft, TopToBottom}
 use Rattle.shape_plan.specs.PlainTexts.{bare_face}
-use Rattle.shape_fallback.specs.Positions.{each_placed}
 use Rattle.shape_fallback.specs.Spaces.{is_em_part, em_part, em_advance, first_glyph, figures, stops, as_wide_as, space_advance, space_positioned, is_lone_space, item_spaced, spaces_placed}
 use Rattle.shape_fallback.specs.Steps.{spaces_step}
 
@@ -29,7 +29,7 @@ em_parts : EmParts
 unfolding em_part is_em_part
 em_parts = record { of_1000 = refl; of_1 = refl; of_8 = refl; of_65535 = refl; named = refl }
 
--- a face of 1000 units where some characters have the glyph of their own number, as wide as that and as high as twice that
+-- a face of 1000 units where some characters have the glyph of their own number, as wide as that
 abbrev pub worked_face : (ℕ → Bool) → FaceMeaning
 worked_face has = record bare_face { nominal_glyph = λ c. if has c then Some (record { 0 = c }) else None; h_advance = λ g. pos g.0 }
 
@@ -114,7 +114,8 @@ pub record SpacesOfBuffers : Type 0 where
       ≡ worked_spaces LeftToRight 59 (worked_position (pos 251) (pos 7) ∷ worked_position (pos 251) (pos 7) ∷ [])
 
 spaces_of_buffers : SpacesOfBuffers
-unfolding spaces_step spaces_placed each_placed item_spaced is_lone_space space_positioned space_advance is_em_part em_part em_advance neg_w int_wrap
+unfolding spaces_step spaces_placed positions_mapped item_spaced is_lone_space space_positioned space_advance is_em_part em_part
+    em_advance neg_w int_wrap
 spaces_of_buffers =
     record { line_separator = refl; ligated = refl; to_the_left = refl; down = refl; no_direction = refl; due = refl; not_due = refl }
 

@@ -5,6 +5,7 @@ use Rattle.std.specs.Int.{int_wrap}
 use Rattle.shape_buffer.specs.Buffer.{Buffer, new_buffer}
 use Rattle.shape_buffer.specs.Face.{FaceMeaning}
 use Rattle.shape_buffer.specs.Items.{new_item}
+use Rattle.shape_buffer.specs.PositionWalks.{positions_mapped}
 use Rattle.shape_buffer.specs.Positions.{zero_position}
 use Rattle.shape_buffer.specs.Unicode.{UnicodeMeaning}
 use Rattle.shape_buffer.specs.Wrapping.{◌+ʷ◌, ◌-ʷ◌}
@@ -13,7 +14,6 @@ use Rattle.shape_buffer.specs.declared.buffer.settings.Direction.{Direction}
 use Rattle.shape_buffer.specs.declared.buffer.settings.Direction.TheVariants.{LeftToRight, RightToLeft, TopToBottom, BottomToTop}
 use Rattle.shape_fallback.specs.Bases.{setting_of}
 use Rattle.shape_fallback.specs.MarkState.{place_mark, passed}
-use Rattle.shape_fallback.specs.Positions.{each_placed}
 use Rattle.shape_fallback.specs.Spaces.{spaces_placed, item_spaced, is_lone_space, space_positioned, space_advance, is_em_part, em_part, em_advance}
 use Rattle.shape_fallback.specs.Steps.{spaces_step}
 use Rattle.shape_fallback.specs.WorkedMarks.{worked_base, component_mark, at, running}
@@ -74,7 +74,7 @@ pub record FlagOfSpaces : Type 0 where
   pub unseen : (face : FaceMeaning) → (spaces_step (record face { units_per_em = 1000 }) (em_space 59)).positions ≡ zero_position ∷ []
 
 flag_of_spaces : FlagOfSpaces
-unfolding spaces_step spaces_placed each_placed item_spaced is_lone_space space_positioned space_advance is_em_part em_part em_advance
+unfolding spaces_step spaces_placed positions_mapped item_spaced is_lone_space space_positioned space_advance is_em_part em_part em_advance
 flag_of_spaces = record { seen = λ face. refl; unseen = λ face. refl }
 
 pub record WorkedTurns : Type 0 where

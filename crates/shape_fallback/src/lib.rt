@@ -9,3 +9,9 @@ pub mod laws;
 pub mod ot_shape_fallback;
 pub mod steps;
 pub mod worked;
+
+pub use ot_shape_fallback::{
+    _hb_ot_shape_fallback_kern, _hb_ot_shape_fallback_mark_position_recategorize_marks,
+    _hb_ot_shape_fallback_spaces, position_marks,
+};
+pub use steps::{place_marks, place_spaces, recategorize_marks};

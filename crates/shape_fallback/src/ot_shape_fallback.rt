@@ -2,10 +2,10 @@
 //!
 //! A font without positioning lookups leaves its marks beside their bases, and may have no glyph for
 //! most of the spaces. So each mark goes by its ccc to a side of its base: below, above, at the left or at
-//! the right of the base's box, which is as wide as its advance and as high as its ink, a gap apart, each
+//! the right of the base's extents, taken as wide as its advance and as high as its ink, a gap apart, each
 //! next mark of the ccc beyond the one before. A ccc that only tells marks of one script apart is first
-//! made one that names a side. A mark of a ligature goes to its own component, an equal part of the ligature's advance. A
-//! space takes its part of the em square, or the advance of a digit or a full stop.
+//! made one that names a side. A mark of a ligature goes to its own component, an equal part of the
+//! ligature's advance. A space takes its part of the em square, or the advance of a digit or a full stop.
 //!
 //! Contracts say every number, each sum, difference and product taken modulo 2^32; where all of them fit
 //! they are the exact ones.
@@ -27,7 +27,7 @@ mod spaces;
 use crate::ot_shape_fallback::bases::position_bases;
 use crate::ot_shape_fallback::recategorize::recategorize_items;
 use crate::ot_shape_fallback::setting::make_setting;
-use crate::ot_shape_fallback::spaces::place_spaces;
+use crate::ot_shape_fallback::spaces::put_space_advances;
 use shape_buffer::buffer::hb_buffer_t;
 use shape_buffer::interfaces::{hb_font_t, hb_unicode_funcs_t};
 use shape_plan::ot_shape_plan::hb_ot_shape_plan_t;
@@ -45,15 +45,15 @@ pub fn _hb_ot_shape_fallback_mark_position_recategorize_marks<F: hb_font_t, S, P
     recategorize_items(buffer);
 }
 
-/// Places each mark by its ccc, its own box and the box round its base, in units of the face.
+/// Places each mark by its ccc, its own extents and those of its base, in units of the face.
 ///
 /// A base is an item that isn't a mark and has marks directly after it. The base and its marks are
 /// marked unsafe to break, since they must be placed together. Marks of ccc 0 keep their positions;
 /// each other mark loses its advances and is moved from the place behind the base to the base. Where the
-/// face has no box for the base, nonspacing marks lose their advances and nothing else is placed; their
-/// offsets lose the advances first where `adjust_offsets_when_zeroing` says so. Lines run as the buffer
-/// says; the components of a ligature run as the plan does, or as its script where the plan is vertical.
-/// Sums wrap modulo 2^32. Takes no memory.
+/// face has no extents for the base, nonspacing marks lose their advances and nothing else is placed;
+/// their offsets lose the advances first where `adjust_offsets_when_zeroing` says so. Lines run as the
+/// buffer says; the components of a ligature run as the plan does, or as its script where the plan is
+/// vertical. Sums wrap modulo 2^32. Takes no memory.
 #[tactic(auto, unfolding(crate::specs::Bases::marks_positioned))]
 pub fn position_marks<U: hb_unicode_funcs_t, F: hb_font_t, S, P, D>(
     plan: &hb_ot_shape_plan_t<'_, S, P, D>,
@@ -82,7 +82,7 @@ pub fn _hb_ot_shape_fallback_spaces<F: hb_font_t, S, P, D>(
 )
     ensures { Made (spaces_placed (F.face face.now)) buffer.old buffer.new }
 {
-    place_spaces(face, buffer);
+    put_space_advances(face, buffer);
 }
 
 /// Changes nothing: kerning without lookups was given up. It stands for callers of the name.

@@ -29,7 +29,7 @@ pub fn marks_meet_worked_cases()
     ensures { WorkedMarks }
 {}
 
-/// Whole buffers: marks above and below, on ligatures, of ccc 0, on bases without a box, at the limits
+/// Whole buffers: marks above and below, on ligatures, of ccc 0, on bases without extents, at the limits
 /// of numbers; whether the steps are due; and the spans that are marked unsafe to break.
 pub fn buffers_meet_worked_cases()
     ensures { WorkedBuffers }

@@ -45,8 +45,8 @@ record IsSplitOf (c a b : ℕ) : Type 0 where
   first : is_syllable a ≡ false
   second : (b ≡ 0) ⊎ ((canonical_mapping b ≡ []) × (is_syllable b ≡ false))
 
-by_database : (c a b : ℕ) → parts_of (canonical_mapping c) ≡ Some (a, b) → IsSplitOf c a b
-by_database c a b splits =
+splits_by_mapping : (c a b : ℕ) → parts_of (canonical_mapping c) ≡ Some (a, b) → IsSplitOf c a b
+splits_by_mapping c a b splits =
     let ok = and_parts _ _ (mappings_ok c (has_mapping c a b splits)) in
     let fall : parts_fall by_rows c (Some (a, b)) ≡ true = ap (parts_fall by_rows c) (sym splits) ∙ (and_parts _ _ ok.1).1 in
     let both = and_parts _ _ fall in
@@ -121,7 +121,7 @@ split_of-falls c a b splits =
     elim (split_cases c a b splits) [
       | inl h ↦ (by_syllable c a b h.0 h.1).falls
       | inr h ↦
-          let ok = by_database c a b h.1 in
+          let ok = splits_by_mapping c a b h.1 in
           let of_a : height_of a ≡ depth_within canonical_mapping 4 a = cond-false (is_syllable a) _ _ ok.first in
           let of_c : height_of c ≡ depth_within canonical_mapping 4 c = cond-false (is_syllable c) _ _ h.0 in
           let falls = ok.falls in
@@ -135,5 +135,5 @@ second_is_whole c a b splits =
           let ok = by_syllable c a b h.0 h.1 in
           let low = ok.second_low in
           inr (jamo_whole b (omega arith) ok.second_high).0
-      | inr h ↦ elim (by_database c a b h.1).second [ inl z ↦ inl z | inr w ↦ inr (whole b w.0 w.1).0 ]
+      | inr h ↦ elim (splits_by_mapping c a b h.1).second [ inl z ↦ inl z | inr w ↦ inr (whole b w.0 w.1).0 ]
     ]

@@ -29,12 +29,8 @@ fn last_step(c: char, first: char, second: char) -> (char, char)
     ensures { result ≡ last_step composite c first second }
 {
     match composite(first, second) {
-        Some(d) => if d == c {
-            (first, second)
-        } else {
-            (d, '\u{0}')
-        },
-        None => (first, second),
+        Some(d) if d != c => (d, '\u{0}'),
+        _ => (first, second),
     }
 }
 

@@ -10,7 +10,9 @@ ghost use Rattle.shape_buffer.specs.Outcome.{Made};
 ghost use Rattle.shape_fallback.specs.Bases.{bases_positioned, position_span as position_span_of};
 ghost use Rattle.shape_fallback.specs.Bases.{positioned_at};
 
-use crate::ot_shape_fallback::marks::{Setting, first_state, make_base, place_marks, zero_marks};
+use crate::ot_shape_fallback::marks::{
+    Setting, first_state, make_base, place_marks_of_base, zero_marks,
+};
 use shape_buffer::buffer::{GlyphId, hb_buffer_t, hb_glyph_info_t};
 use shape_buffer::interfaces::hb_font_t;
 
@@ -35,7 +37,7 @@ fn position_span<F: hb_font_t>(
         Some(extents) => {
             let base = make_base(face, setting, &info, position, extents);
             let first = first_state(base, position);
-            place_marks(face, base, first, buffer, start + 1, end);
+            place_marks_of_base(face, base, first, buffer, start + 1, end);
         }
     }
 }

@@ -1,13 +1,12 @@
 //! Placing the marks of a base, one after the other.
 //!
-//! A mark stands beyond the marks of its ccc before it, so each hands on the box that it leaves. A mark
-//! of another ccc begins at the base's own box again, and one of another component of a ligature at that
-//! component's. The pen has passed the base when it comes to the marks, so in forward text each is moved
-//! back by the advances since.
+//! A mark stands beyond the marks of its ccc before it, so each hands on the base's extents, grown by it.
+//! A mark of another ccc begins at the base's own extents again, and one of another component of a ligature
+//! at that component's. The pen has passed the base when it comes to the marks, so in forward text each is
+//! moved back by the advances since.
 ghost use Rattle.std.specs.Prelude.{◌≡◌, pos, ◌<◌};
 ghost use Rattle.shape_fallback.specs.MarkState.{component_of, place_of};
 ghost use Rattle.shape_fallback.specs.MarkState.{component_extents as component_extents_of};
-ghost use Rattle.shape_fallback.specs.MarkState.{is_same as is_same_of};
 ghost use Rattle.shape_fallback.specs.MarkState.{at_component as at_component_of};
 ghost use Rattle.shape_fallback.specs.MarkState.{with_component as with_component_of};
 ghost use Rattle.shape_fallback.specs.MarkState.{at_ccc as at_ccc_of, passed as passed_of};
@@ -18,6 +17,9 @@ use crate::ot_shape_fallback::one_mark::{PlacedMark, Surroundings, position_mark
 use shape_buffer::buffer::{GlyphId, GlyphPosition, hb_glyph_info_t};
 use shape_buffer::interfaces::{hb_font_t, hb_glyph_extents_t};
 use shape_buffer::wrapping::{difference, product, quotient, sum};
+
+/// Stands for the last ccc where no mark of the component has been placed yet.
+pub const NO_LAST_CCC: u8 = 255;
 
 /// What the marks of a base are placed by.
 #[derive(Clone, Copy, Debug)]
@@ -36,7 +38,7 @@ pub struct MarkState {
     /// The last component, at first -1.
     pub component: i32,
     pub component_extents: hb_glyph_extents_t,
-    /// The last ccc, at first 255.
+    /// The last ccc, at first [`NO_LAST_CCC`].
     pub ccc: u8,
     pub extents: hb_glyph_extents_t,
     /// The running offset.
@@ -97,14 +99,6 @@ fn component_extents(base: Base, component: i32) -> hb_glyph_extents_t
     extents
 }
 
-/// Whether the numbers are equal.
-#[tactic(auto, using(shape_buffer::proofs::WrappingLemmas::kept_bits), unfolding(crate::specs::MarkState::is_same))]
-fn is_same(a: i32, b: i32) -> bool
-    ensures { result ≡ is_same_of a b }
-{
-    a == b
-}
-
 /// Goes to the component of a mark.
 #[tactic(auto, using(shape_buffer::proofs::WrappingLemmas::kept_bits), unfolding(crate::specs::MarkState::at_component))]
 fn at_component(base: Base, info: &hb_glyph_info_t, mut state: MarkState) -> MarkState
@@ -112,12 +106,12 @@ fn at_component(base: Base, info: &hb_glyph_info_t, mut state: MarkState) -> Mar
     ensures { result ≡ at_component_of base info.now state }
 {
     let component = mark_component(base, info);
-    if is_same(component, state.component) {
+    if component == state.component {
         return state;
     }
     state.component_extents = component_extents(base, component);
     state.component = component;
-    state.ccc = 255;
+    state.ccc = NO_LAST_CCC;
     state
 }
 

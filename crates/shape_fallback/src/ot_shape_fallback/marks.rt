@@ -1,14 +1,15 @@
 //! The marks of one base, one after the other.
 //!
-//! A base with a box of its own hands each mark the state that the marks before it have left; one
-//! without a box only takes the advances of its nonspacing marks.
+//! A base with extents hands each mark the state that the marks before it have left; one without only
+//! takes the advances of its nonspacing marks.
 ghost use Rattle.std.specs.Prelude.{◌≡◌, ◌≤◌, length};
+ghost use Rattle.shape_buffer.specs.PositionWalks.{positions_over};
 ghost use Rattle.shape_fallback.specs.Marks.{base_of, first_state as first_state_of, marks_placed};
 ghost use Rattle.shape_fallback.specs.Marks.{zeroed_position as zeroed_position_of};
 ghost use Rattle.shape_fallback.specs.Marks.{zeroed as zeroed_of};
-ghost use Rattle.shape_fallback.specs.Positions.{each_placed, with_positions};
+ghost use Rattle.shape_fallback.specs.Positions.{with_positions};
 
-use crate::ot_shape_fallback::mark_state::{Base, MarkState, place_mark};
+use crate::ot_shape_fallback::mark_state::{Base, MarkState, NO_LAST_CCC, place_mark};
 use crate::ot_shape_fallback::one_mark::Surroundings;
 use crate::ot_shape_fallback::recategorize::is_nonspacing;
 use shape_buffer::buffer::{GlyphId, GlyphPosition, hb_buffer_t, hb_glyph_info_t};
@@ -41,7 +42,7 @@ pub(crate) fn zeroed_position(adjust: bool, mut position: GlyphPosition) -> Glyp
 }
 
 /// Places the marks of a base from a place up to another.
-pub(crate) fn place_marks<F: hb_font_t>(
+pub(crate) fn place_marks_of_base<F: hb_font_t>(
     face: &F,
     base: Base,
     first: MarkState,
@@ -79,7 +80,7 @@ fn zeroed(adjust: bool, info: &hb_glyph_info_t, position: GlyphPosition) -> Glyp
 pub(crate) fn zero_marks(adjust: bool, buffer: &mut hb_buffer_t, from: usize, to: usize)
     requires ordered { from ≤ to }
     requires within { to ≤ length buffer.old.items }
-    ensures { buffer.new ≡ with_positions (each_placed (zeroed_of adjust)) from to buffer.old }
+    ensures { buffer.new ≡ with_positions (positions_over (zeroed_of adjust)) from to buffer.old }
 {
     for i in from..to {
         let info = buffer.infos()[i];
@@ -120,7 +121,7 @@ pub(crate) fn first_state(base: Base, position: GlyphPosition) -> MarkState
     let mut state = MarkState {
         component: -1,
         component_extents: base.extents,
-        ccc: 255,
+        ccc: NO_LAST_CCC,
         extents: base.extents,
         x_offset: 0,
         y_offset: 0,

@@ -1,10 +1,10 @@
 //! Placing one mark.
 //!
-//! The ccc says at which side of the base the mark stands. Across, its box is put against the left or
-//! the right of the base's, or to the middle. Up and down, it comes a gap below or above the base, or
+//! The ccc says at which side of the base the mark stands. Across, its extents are put against the left
+//! or the right of the base's, or to the middle. Up and down, it comes a gap below or above the base, or
 //! touches it; a mark drawn for a lower base is never moved up to this one, and a mark drawn for a higher
-//! base only half of the way down. The base's box then grows by the mark, so that the next one of the ccc
-//! stands beyond.
+//! base only half of the way down. The base's extents then grow by the mark, so that the next one of the
+//! ccc stands beyond.
 ghost use Rattle.std.specs.Prelude.{◌≡◌, if◌then◌else◌, neg_ℤ, pos};
 ghost use Rattle.shape_fallback.specs.Exact.{Fits32, StackedFits, XOffsetFits, exact_hung};
 ghost use Rattle.shape_fallback.specs.Exact.{exact_piled, exact_x_offset, hung_at, piled_at};
@@ -53,7 +53,7 @@ fn forward_width(forward: bool, base: hb_glyph_extents_t) -> i32
     if forward { base.width } else { 0 }
 }
 
-/// How far a mark with this box is moved to the right from the place of a base with that box.
+/// How far a mark of such extents is moved to the right from the place of a base of such extents.
 #[tactic(auto, using(shape_buffer::proofs::WrappingLemmas::kept_bits))]
 pub(crate) fn mark_x_offset(
     horizontal: bool,

@@ -21,6 +21,7 @@ use shape_buffer::interfaces::space_types::{
     SPACE_4_EM_18, SPACE_EM, SPACE_EM_2, SPACE_EM_3, SPACE_EM_4, SPACE_EM_5, SPACE_EM_6,
     SPACE_EM_16, SPACE_FIGURE, SPACE_NARROW, SPACE_PUNCTUATION, space_t,
 };
+use shape_buffer::position_walks::update_positions;
 use shape_buffer::wrapping::{half, negative};
 
 /// The characters that a figure space may be as wide as.
@@ -169,14 +170,13 @@ fn space_item<F: hb_font_t>(
 }
 
 /// Gives every lone space of the buffer its advance.
-pub(crate) fn place_spaces<F: hb_font_t>(face: &F, buffer: &mut hb_buffer_t)
+#[tactic(auto, unfolding(crate::specs::Spaces::spaces_placed))]
+pub(crate) fn put_space_advances<F: hb_font_t>(face: &F, buffer: &mut hb_buffer_t)
     ensures { Made (spaces_placed (F.face face.now)) buffer.old buffer.new }
 {
     let horizontal = buffer.direction().is_horizontal();
-    for i in 0..buffer.len() {
-        let info = buffer.infos()[i];
-        let position = buffer.positions()[i];
-        let spaced = space_item(face, horizontal, &info, position);
-        buffer.set_position(i, spaced);
-    }
+    update_positions(
+        buffer,
+        |info, position| space_item(face, horizontal, info, position),
+    );
 }

@@ -2,7 +2,7 @@ use Rattle.std.proofs.Common.{◌≡◌, ◌<◌, ◌∙◌, sym, get_or, length
 use Rattle.std.proofs.lemmas.Grind.{common_steps}
 use Rattle.shape_buffer.specs.Positions.{zero_position}
 use Rattle.shape_fallback.proofs.MarksLemmas.{marks_step, marks_end}
-use Rattle.shape_fallback.proofs.ot_shape_fallback.marks.place_marks.Goals as goal
+use Rattle.shape_fallback.proofs.ot_shape_fallback.marks.place_marks_of_base.Goals as goal
 
 pub loop-i-preserved : goal.loop-i-preserved
 loop-i-preserved g c =

@@ -1,7 +1,7 @@
 use Rattle.std.proofs.Common.{◌≡◌, length}
 use Rattle.shape_fallback.specs.Marks.{marks_placed}
 use Rattle.shape_fallback.specs.Positions.{with_positions}
-use Rattle.shape_fallback.proofs.ot_shape_fallback.marks.place_marks.Given as goal
+use Rattle.shape_fallback.proofs.ot_shape_fallback.marks.place_marks_of_base.Given as goal
 
 abbrev pub invariant-loop-i : goal.invariant-loop-i
 invariant-loop-i g l = record {
