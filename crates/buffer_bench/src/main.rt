@@ -7,7 +7,8 @@
 ghost use Rattle.std.specs.Prelude.{IfOk};
 ghost use Rattle.shape_buffer.specs.Spans.{AreSpansInOrder};
 
-use shape_buffer::buffer::{ShapeError, UnicodeBuffer, hb_buffer_t};
+use shape_buffer::buffer::{ShapeError, UnicodeBuffer, hb_buffer_t, hb_glyph_info_t};
+use shape_buffer::walks::update_items;
 use std::alloc::{AllocError, Global};
 use std::time::Instant;
 use std::{env, io};
@@ -60,6 +61,26 @@ fn falling_each(alloc: Global, count: u32) -> Result<hb_buffer_t, ShapeError> {
         text.add('a', count - i)?;
     }
     Ok(text.into_inner())
+}
+
+/// The item, a continuation where its character is 'x', which stands for a mark.
+fn marked(info: &hb_glyph_info_t) -> hb_glyph_info_t {
+    let mut info = *info;
+    info._hb_glyph_info_set_continuation(info.codepoint == 'x');
+    info
+}
+
+/// Graphemes of two items each, of which the second one is in the cluster that the next one begins in:
+/// each takes in all those before it.
+fn chained(alloc: Global, count: u32) -> Result<hb_buffer_t, ShapeError> {
+    let mut text = UnicodeBuffer::new(alloc);
+    for i in 0..count {
+        let left = (count - i) / 2;
+        text.add(if i % 2 == 0 { 'a' } else { 'x' }, left)?;
+    }
+    let mut buffer = text.into_inner();
+    update_items(&mut buffer, |info| marked(info));
+    Ok(buffer)
 }
 
 /// The spans of two neighbours each, of so many items.
@@ -123,6 +144,16 @@ fn time_spans(rt: &HostRuntime, count: u32, text: &mut hb_buffer_t) -> io::Resul
     )
 }
 
+/// Prints what merging the graphemes of a text costs.
+fn time_graphemes(rt: &HostRuntime, count: u32, text: &mut hb_buffer_t) -> io::Result<()> {
+    let start = Instant::now(rt)?;
+    text.merge_graphemes();
+    println!(rt;
+        "{count} items: merge graphemes, chained {}",
+        start.elapsed(rt)?.as_micros()
+    )
+}
+
 fn main(rt: HostRuntime) -> io::Result<()> {
     if env::args(&rt)?.count() < 2 {
         return Ok(());
@@ -137,6 +168,9 @@ fn main(rt: HostRuntime) -> io::Result<()> {
         }
         if let Ok(mut text) = falling_each(rt.alloc(), count) {
             time_spans(&rt, count, &mut text)?;
+        }
+        if let Ok(mut text) = chained(rt.alloc(), count) {
+            time_graphemes(&rt, count, &mut text)?;
         }
     }
     Ok(())
