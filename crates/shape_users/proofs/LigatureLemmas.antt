@@ -17,7 +17,8 @@ use Rattle.shape_buffer.proofs.Deletion.DeleteKeeps.{merged_keeps}
 use Rattle.shape_buffer.proofs.Order.DrawsInOrder.{DrawsInOrder, DrawsInOrder-same, DrawsInOrder-behind, DrawsInOrder-again, KeepsClusters-from_draws}
 use Rattle.shape_buffer.proofs.Flags.FlagLemmas.{KeepsFlags-same, KeepsFlags-then}
 use Rattle.shape_buffer.proofs.Steps.KeeperLemmas.{KeepsClusters-equal, KeepsClusters-then, KeepsOrder-same, KeepsOrder-then, clusters-map}
-use Rattle.shape_users.specs.Ligatures.{with_glyph, single, singled, item_at, is_pair, glyph_put, taken_out, ligated_at, ligated, substituted, ligature_lookups}
+use Rattle.shape_users.specs.Ligatures.{with_glyph, single, singled, nth_item, is_pair, glyph_put, taken_out, ligated_at, ligated, substituted, ligature_lookups}
+use Rattle.shape_users.specs.declared.ligatures.substitution.TheConstants.{SINGLE, LIGATURE}
 
 -- ---- an item taken out
 
@@ -63,10 +64,10 @@ masks-kept b ys same =
 -- ---- single glyphs
 
 single-mask : (x : Item) → (single x).mask ≡ x.mask
-single-mask x = elim (x.glyph_id == 1) as (λ t. (if t then with_glyph 11 x else x).mask ≡ x.mask) [ true ↦ refl | false ↦ refl ]
+single-mask x = elim (x.glyph_id == SINGLE.0) as (λ t. (if t then with_glyph SINGLE.1 x else x).mask ≡ x.mask) [ true ↦ refl | false ↦ refl ]
 
 single-cluster : (x : Item) → (single x).cluster ≡ x.cluster
-single-cluster x = elim (x.glyph_id == 1) as (λ t. (if t then with_glyph 11 x else x).cluster ≡ x.cluster) [ true ↦ refl | false ↦ refl ]
+single-cluster x = elim (x.glyph_id == SINGLE.0) as (λ t. (if t then with_glyph SINGLE.1 x else x).cluster ≡ x.cluster) [ true ↦ refl | false ↦ refl ]
 
 masks-singled : (xs : List Item) → map (λ (x : Item). x.mask) (map single xs) ≡ map (λ (x : Item). x.mask) xs
 masks-singled [] = refl
@@ -85,13 +86,13 @@ singled-flags b = masks-kept b (map single b.items) (masks-singled b.items)
 -- the two places are in the list
 pair-within : (xs : List Item) (i : ℕ) → is_pair xs i ≡ true → i + 2 ≤ length xs
 pair-within xs i pair =
-    let third : (item_at xs (i + 1)).glyph_id ≡ 3 = grind (arith, nat_tests, pair) in
+    let third : (nth_item xs (i + 1)).glyph_id ≡ LIGATURE.1 = grind (arith, nat_tests, pair) in
     let P : Bool → Type 0 = λ t. nat_lt (i + 1) (length xs) ≡ t → i + 2 ≤ length xs in
     let cases : P (nat_lt (i + 1) (length xs)) = elim (nat_lt (i + 1) (length xs)) as P [
       | true ↦ λ e. grind (arith, nat_tests, e)
       | false ↦ λ e.
           let past : length xs ≤ i + 1 = grind (arith, nat_tests, e) in
-          let none : (item_at xs (i + 1)).glyph_id ≡ 0 = ap (λ (x : Item). x.glyph_id) (get_or-eq_default xs (new_item 0 0) past) in
+          let none : (nth_item xs (i + 1)).glyph_id ≡ 0 = ap (λ (x : Item). x.glyph_id) (get_or-eq_default xs (new_item 0 0) past) in
           absurd (omega (arith, third, none))
     ] in
     cases refl
@@ -99,13 +100,13 @@ pair-within xs i pair =
 ligated_at-order : (i : ℕ) → IsClusterKeeper (ligated_at i)
 ligated_at-order i b monotone =
     let merged = merge_clusters i (i + 2) b in
-    let P : Bool → Type 0 = λ t. is_pair b.items i ≡ t → KeepsOrder b (if t then taken_out (i + 1) (glyph_put i 23 merged) else b) in
+    let P : Bool → Type 0 = λ t. is_pair b.items i ≡ t → KeepsOrder b (if t then taken_out (i + 1) (glyph_put i LIGATURE.2 merged) else b) in
     let cases : P (is_pair b.items i) = elim (is_pair b.items i) as P [
       | true ↦ λ e.
-          let put = glyph_put i 23 merged in
+          let put = glyph_put i LIGATURE.2 merged in
           let first = (merged_keeps i (i + 2) b merged (pair-within b.items i e) refl).0 in
           let second : clusters put.items
-          ≡ clusters merged.items = map-set_same (λ (x : Item). x.cluster) merged.items i (with_glyph 23 (item_at merged.items i))
+          ≡ clusters merged.items = map-set_same (λ (x : Item). x.cluster) merged.items i (with_glyph LIGATURE.2 (nth_item merged.items i))
           (new_item 0 0) refl in
           let third = KeepsClusters-from_draws (clusters put.items) (clusters (remove put.items (i + 1)))
           (taken_out-draws put.items (i + 1)) in
@@ -124,12 +125,12 @@ ligated_at-order i b monotone =
 ligated_at-flags : (i : ℕ) → IsFlagKeeper (ligated_at i)
 ligated_at-flags i b =
     let merged = merge_clusters i (i + 2) b in
-    let P : Bool → Type 0 = λ t. is_pair b.items i ≡ t → KeepsFlags b (if t then taken_out (i + 1) (glyph_put i 23 merged) else b) in
+    let P : Bool → Type 0 = λ t. is_pair b.items i ≡ t → KeepsFlags b (if t then taken_out (i + 1) (glyph_put i LIGATURE.2 merged) else b) in
     let cases : P (is_pair b.items i) = elim (is_pair b.items i) as P [
       | true ↦ λ e.
-          let put = glyph_put i 23 merged in
+          let put = glyph_put i LIGATURE.2 merged in
           let first = (merged_keeps i (i + 2) b merged (pair-within b.items i e) refl).1 in
-          let same = map-set_same (λ (x : Item). x.mask) merged.items i (with_glyph 23 (item_at merged.items i)) (new_item 0 0) refl in
+          let same = map-set_same (λ (x : Item). x.mask) merged.items i (with_glyph LIGATURE.2 (nth_item merged.items i)) (new_item 0 0) refl in
           let second : KeepsFlags merged put = masks-kept merged put.items same in
           let third : KeepsFlags put (taken_out (i + 1) put) = record {
             flags = refl;

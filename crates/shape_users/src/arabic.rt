@@ -1,5 +1,6 @@
-//! A script shaper for Arabic: modifier combining marks, such as a hamza above, stand before every other
-//! mark of their letter and in one cluster with them, since they are read as a part of it (UTR 53).
+//! A script shaper for Arabic. Modifier combining marks that come first among the marks of their ccc, such as
+//! a hamza above, are put before every other mark of their letter, since they are read as a part of it
+//! (UTR 53); at the levels that merge, in one cluster with those that they pass.
 //!
 //! The shaper gives one of the ten hooks; `no_hook` stands for the others. What a run by it owes is what its
 //! engine's lookups owe, and no more: [`arabic_runs_keep`]. It asks for no features of joining letters: these
@@ -21,6 +22,7 @@ use modifiers::reorder_modifiers;
 use shape_buffer::buffer::{hb_buffer_t, hb_tag_t};
 use shape_buffer::interfaces::{hb_font_t, hb_ot_layout_t, hb_unicode_funcs_t};
 use shape_pipeline::laws::hooks_not_given_keep;
+use shape_pipeline::ot_shape_normalize::HB_OT_SHAPE_NORMALIZATION_MODE_AUTO;
 use shape_pipeline::ot_shape_plan::hb_ot_shape_plan_t;
 use shape_pipeline::ot_shaper::hooks::reorder_marks_hook;
 use shape_pipeline::ot_shaper::{
@@ -61,7 +63,7 @@ impl<U: hb_unicode_funcs_t, F: hb_font_t, M: hb_ot_layout_t<F>> script_shaper<U,
 
     ghost NORMALIZATION_PREFERENCE = { pos 4 };
 
-    const NORMALIZATION_PREFERENCE: i32 = 4;
+    const NORMALIZATION_PREFERENCE: i32 = HB_OT_SHAPE_NORMALIZATION_MODE_AUTO;
 
     ghost GPOS_TAG = { None };
 

@@ -1,5 +1,5 @@
-//! A script shaper for Hebrew: points join their letters where the face has a glyph for both, and a mark
-//! below steps before the point that it stands beside.
+//! A script shaper for Hebrew: points are composed with their letters where the face has a glyph for the two
+//! as one character, and a mark below steps before the point that it stands beside.
 //!
 //! The shaper gives two of the ten hooks; `no_hook` stands for the others. What a run by it owes is what
 //! its engine's lookups owe, and no more: [`hebrew_runs_keep`].
@@ -23,6 +23,7 @@ use points::reorder_points;
 use shape_buffer::buffer::{hb_buffer_t, hb_tag_t};
 use shape_buffer::interfaces::{hb_font_t, hb_ot_layout_t, hb_unicode_funcs_t};
 use shape_pipeline::laws::hooks_not_given_keep;
+use shape_pipeline::ot_shape_normalize::HB_OT_SHAPE_NORMALIZATION_MODE_AUTO;
 use shape_pipeline::ot_shape_plan::hb_ot_shape_plan_t;
 use shape_pipeline::ot_shaper::hooks::{compose_hook, reorder_marks_hook};
 use shape_pipeline::ot_shaper::{
@@ -63,7 +64,7 @@ impl<U: hb_unicode_funcs_t, F: hb_font_t, M: hb_ot_layout_t<F>> script_shaper<U,
 
     ghost NORMALIZATION_PREFERENCE = { pos 4 };
 
-    const NORMALIZATION_PREFERENCE: i32 = 4;
+    const NORMALIZATION_PREFERENCE: i32 = HB_OT_SHAPE_NORMALIZATION_MODE_AUTO;
 
     ghost GPOS_TAG = { None };
 

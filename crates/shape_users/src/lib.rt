@@ -3,7 +3,8 @@
 //! [`arabic`] and [`hebrew`] are script shapers with hooks, which owe no more than their engine does.
 //! [`ligatures`] is a small engine with single and ligature substitutions, which keeps clusters and flags.
 //! [`lines`] answers a line breaker: may the text be cut here? [`paragraph`] leads from glyphs to the text
-//! that they show, and back. [`words`] keeps shaped words, and finds each under its equivalent spellings.
+//! that they show, and back. [`words`] keeps shaped words, and finds each under each spelling with the same
+//! normalised characters.
 #![tactic(auto)]
 #![allow(non_camel_case_types)]
 

@@ -26,7 +26,7 @@ use shape_pipeline::ot_shaper::{Runs, hb_default_shaper_t};
 use std::alloc::Global;
 pub use substitution::{LIGATURE, SINGLE, substitute};
 
-/// The engine.
+/// A layout engine with one single and one ligature substitution.
 pub struct Ligatures;
 
 impl<F> hb_ot_layout_t<F> for Ligatures {

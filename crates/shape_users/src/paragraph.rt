@@ -31,6 +31,7 @@ pub struct GlyphSpan {
 /// The text that the glyphs from place `start` up to `end` show: from the least of their clusters up to the
 /// next cluster behind the greatest, or to `text_len` where there is none. Where the clusters stand in the
 /// order of the text's direction, and each is below `text_len`, the clusters in it are those of the range.
+/// The range must hold a glyph.
 pub fn text_of_glyphs(glyphs: &GlyphBuffer, start: usize, end: usize, text_len: u32) -> TextSpan
     requires some { start < end }
     requires within { end ≤ length glyphs.now.items }

@@ -2,8 +2,8 @@
 //!
 //! A plan serves every text that it fits, so plans are kept and found by `fits`. A word is found by its
 //! normalised characters; where `equivalent_spellings` can tell, these are the equivalent spellings, so that
-//! U+0071 U+0301 U+00E9 and U+0071 U+0301 U+0065 U+0301 are kept once. A cache that must never show one word for
-//! another needs no more than that; it may use any mode.
+//! U+0071 U+0301 U+00E9 and U+0071 U+0301 U+0065 U+0301 are kept once. A cache that must never show one word
+//! for another needs no more than that; it may use any mode.
 ghost use Rattle.std.specs.Prelude.{◌≡◌, ◌↔◌, length, IsTrue, IfOk, OnErr, IfSome, IfNone};
 ghost use Rattle.shape_plan.specs.Plan.{Fits};
 ghost use Rattle.shape_users.specs.Words.{spelled as text_spelled, FitsAt, IsPlaceOf, IsNowhere};
@@ -45,7 +45,8 @@ pub fn find_plan<U: hb_unicode_funcs_t, S, P, D>(
     None
 }
 
-/// The place of a word that was shaped under a spelling with the same normalised characters.
+/// The place of a word that was shaped under a spelling with the same normalised characters. Refuses as
+/// `same_word` does for the spelling and one of the words.
 pub fn find_word<U, F, M, S>(
     alloc: Global,
     face: &F,
@@ -73,9 +74,10 @@ where
     Ok(None)
 }
 
-/// The place of a word under a spelling with the same normalised characters; it is shaped, and kept behind the others,
-/// where there is none yet. The words that were there stay as they were, at their places. Refuses as `find_word` and
-/// `shape_with_plan` do, and then keeps nothing.
+/// The place of a word under a spelling with the same normalised characters; it is shaped, and kept behind
+/// the others, where there is none yet. The words that were there stay as they were, at their places. `words`
+/// must hold words of this plan and face alone. The plan must fit the spelling's text. Refuses as `find_word`
+/// and `shape_with_plan` do, and then keeps nothing.
 pub fn keep_word<U, F, M, S>(
     alloc: Global,
     face: &F,

@@ -39,7 +39,7 @@ fn count_below(run: &[hb_glyph_info_t], ccc: u8) -> usize
 }
 
 /// How many modifier marks of a ccc a list begins with.
-fn count_modifiers(rest: &[hb_glyph_info_t], ccc: u8) -> usize
+fn leading_modifiers(rest: &[hb_glyph_info_t], ccc: u8) -> usize
     ensures value { result ≡ prefix_len (is_modifier_of ccc) rest.now }
     ensures within { result ≤ length rest.now }
 {
@@ -93,7 +93,7 @@ fn move_modifiers(buffer: &mut hb_buffer_t, ccc: u8, other: u8, start: usize, en
 {
     let run = &buffer.infos()[start..end];
     let passed = count_below(run, ccc);
-    let count = count_modifiers(&run[passed..], ccc);
+    let count = leading_modifiers(&run[passed..], ccc);
     if count != 0 {
         let from = start + passed;
         buffer.merge_clusters(start, from + count);

@@ -1,5 +1,6 @@
 //! Spellings of words, and whether two of them are one word.
-ghost use Rattle.std.specs.Prelude.{◌≡◌, ◌↔◌, IsTrue, IsSome, IfOk, IfSome};
+ghost use Rattle.std.specs.Prelude.{◌≡◌, ◌≤◌, ◌^◌, ◌↔◌, Err, length};
+ghost use Rattle.std.specs.Prelude.{IsTrue, IsSome, IfOk, IfSome};
 ghost use Rattle.shape_normalize.specs.CanonicalForm.{text_of, AreEquivalent};
 ghost use Rattle.shape_normalize.specs.CanonicalForm.{CanonicalFormPremises, HasLawfulHooks};
 ghost use Rattle.shape_users.specs.Words.{spelled as text_spelled, ready_text, AreSpelledAlike};
@@ -13,9 +14,10 @@ use shape_pipeline::ot_shaper::{Runs, hb_ot_shaper_t};
 use std::alloc::Global;
 
 /// The text of a spelling, with nothing else set. Refuses with `Memory` where a growth was refused, and with
-/// `Length` where the spelling has 4 GiB.
+/// `Length` where the spelling has 4 GiB or more.
 pub fn spelled(alloc: Global, spelling: &str) -> Result<UnicodeBuffer, ShapeError>
-    ensures { IfOk result (λ text. text ≡ text_spelled spelling.now) }
+    ensures ok { IfOk result (λ text. text ≡ text_spelled spelling.now) }
+    ensures length { (result ≡ Err ShapeError.Length) ↔ (2 ^ 32 ≤ length spelling.now) }
 {
     if spelling.len() > u32::MAX as usize {
         return Err(ShapeError::Length);
@@ -55,8 +57,8 @@ where
 }
 
 /// Whether two spellings have the same normalised characters. Under the premises of canonical form, in the
-/// modes that decompose fully, this says whether they are canonically equivalent. Refuses as
-/// `normalized_equal` does, and with `Length` where a text has 4 GiB.
+/// modes that decompose fully, this says whether they are canonically equivalent. Refuses as `spelled`,
+/// `prepare_text` and `normalized_equal` do.
 pub fn same_word<U, F, M, S>(
     alloc: Global,
     face: &F,
@@ -85,8 +87,8 @@ where
 
 /// Whether two spellings are canonically equivalent. Answers `None` where this can't be told by their
 /// normalised characters: for one of them a premise of canonical form doesn't hold, as for a text without a
-/// mark past its first character (so most words without accents), with a variation selector, with a character that the face has no glyph for, or with too many marks in a row.
-/// Refuses as `same_word` does.
+/// mark past its first character (so most words without accents), with a variation selector, with a
+/// character that the face has no glyph for, or with too many marks in a row. Refuses as `same_word` does.
 pub fn equivalent_spellings<U, F, M, S>(
     alloc: Global,
     face: &F,

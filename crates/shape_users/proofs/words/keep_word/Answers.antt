@@ -43,6 +43,6 @@ returns-clause-kept g c =
         word = _;
         behind = c.in_ok-push.ensures.items;
         spelling_is = c.in_ok-spelling.ensures.ok;
-        glyphs_are = c.in-Ok.ensures.glyphs ∙ ap (λ (text : Buffer). shaped run text) c.in_ok-text.ensures;
+        glyphs_are = c.in-Ok.ensures.glyphs ∙ ap (λ (text : Buffer). shaped run text) c.in_ok-text.ensures.ok;
       },
     )
