@@ -54,10 +54,6 @@ finished target b = record b { direction = target; length_limit = None }
 abbrev pub prepared : Run → Direction → Buffer → Buffer
 prepared run target b = run_steps (prepare_steps run target) b
 
--- the text as it is normalised
-abbrev pub normalised : Run → Direction → Buffer → Buffer
-normalised run target b = normalized run.rules (prepared run target b)
-
 -- the text of a buffer prepared: no step is done for an empty one
 abbrev pub text_made : Run → Direction → Buffer → Buffer
 text_made run target b = elim b.items [

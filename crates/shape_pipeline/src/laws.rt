@@ -34,9 +34,9 @@ pub fn no_lookups_keep()
     ensures flags { LookupsKeepFlags no_lookups }
 {}
 
-/// A run owes nothing of hooks that aren't given, for they are never called, nor of hooks that leave buffers as
-/// they are: where a shaper gives no other hook, the one that reorders marks aside, it owes no more than that
-/// its engine's lookups keep clusters, or flags, and that the hook which reorders marks keeps clusters.
+/// Hooks that aren't given are never called, and hooks that leave buffers as they are change nothing. So a
+/// run by a shaper without other hooks keeps clusters, or flags, where its engine's lookups do. For clusters
+/// its hook that reorders marks must keep them too. Of hooks that split and compose nothing is asked.
 pub fn hooks_not_given_keep<U, F, M, S>()
 where
     U: hb_unicode_funcs_t,

@@ -11,8 +11,12 @@ pub mod ot_shape;
 pub mod shape;
 pub mod worked;
 
+pub use ot_shape_normalize::{meets_canonical_premises, normalized_equal};
 pub use ot_shape_plan::hb_ot_shape_plan_t;
-pub use ot_shaper::{DEFAULT_SHAPER, hb_ot_shaper_t};
+pub use ot_shaper::{
+    DEFAULT_SHAPER, Preferring, hb_default_shaper_t, hb_ot_shaper_t, no_hook, script_shaper,
+};
+pub use shape::shape_with_plan;
 pub use shape_buffer::{
     BufferClusterLevel, BufferFlags, Direction, Feature, GlyphBuffer, GlyphId, GlyphPosition,
     Language, MapFace, Metrics, NoLookups, SAFE_TO_INSERT_TATWEEL, Script, ShapeError, ShapeFault,

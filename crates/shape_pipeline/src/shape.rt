@@ -21,7 +21,8 @@ use std::alloc::Global;
 /// back to the text. Script and direction are guessed where they aren't set. Refuses with `Length` where a
 /// step would leave a list past the run's limit (in normalising the expanded list counts), and with
 /// `Memory` where a growth was refused; the fault holds the cleared buffer. An empty text gives an empty
-/// result and takes no memory.
+/// result and takes no memory. `form` is a law of the list that the run normalises, and says nothing of the
+/// result by itself.
 pub fn shape_with_plan<U, F, M, S>(
     alloc: Global,
     face: &F,
@@ -78,7 +79,8 @@ where
 /// The glyphs of a text: script and direction are guessed where they aren't set, a plan is made for them with
 /// the features that the user asks for, and the text is shaped by it; see [`shape_with_plan`]. A plan is made
 /// for an empty text too. Refuses with `Length` where a step would leave a list past the run's limit, and
-/// with `Memory` where a growth was refused, planning included; the fault holds the cleared buffer.
+/// with `Memory` where a growth was refused, planning included; the fault holds the cleared buffer. `form` is
+/// a law of the list that the run normalises, and says nothing of the result by itself.
 pub fn shape<U, F, M, S>(
     alloc: Global,
     face: &F,
