@@ -1,7 +1,7 @@
 -- General categories (The Unicode Standard, section 4.5).
 use Rattle.std.specs.Prelude.{Bool, true, false}
 use Rattle.shape_buffer.specs.declared.buffer.general_category.hb_unicode_general_category_t.{hb_unicode_general_category_t}
-use Rattle.shape_buffer.specs.declared.buffer.general_category.hb_unicode_general_category_t.TheVariants.{NonspacingMark, SpacingMark, EnclosingMark, SpaceSeparator}
+use Rattle.shape_buffer.specs.declared.buffer.general_category.hb_unicode_general_category_t.TheVariants.{NonspacingMark, SpacingMark, EnclosingMark, SpaceSeparator, DecimalNumber}
 
 -- the categories of marks
 abbrev pub is_mark_category : hb_unicode_general_category_t → Bool
@@ -19,3 +19,8 @@ is_nonspacing_category _ = false
 abbrev pub is_space_category : hb_unicode_general_category_t → Bool
 is_space_category SpaceSeparator = true
 is_space_category _ = false
+
+-- the category of decimal digits
+abbrev pub is_digit_category : hb_unicode_general_category_t → Bool
+is_digit_category DecimalNumber = true
+is_digit_category _ = false

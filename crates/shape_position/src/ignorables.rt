@@ -23,13 +23,6 @@ use shape_buffer::interfaces::hb_font_t;
 use shape_buffer::position_walks::update_positions;
 use shape_buffer::walks::update_items;
 
-/// Whether a glyph stands for a default ignorable: its bit is set, and no lookup has put the glyph in.
-fn is_ignorable(info: &hb_glyph_info_t) -> bool
-    ensures { result ≡ is_ignorable_item info.now }
-{
-    info._hb_glyph_info_get_ignorable() && !info._hb_glyph_info_get_substituted()
-}
-
 /// Whether default ignorables are hidden: the run has seen some, and the flags don't preserve them.
 fn hides_ignorables(buffer: &hb_buffer_t) -> bool
     ensures { result ≡ hides_ignorables_of buffer.now }
@@ -68,7 +61,7 @@ pub(crate) fn without_values(position: GlyphPosition) -> GlyphPosition
 fn zero_ignorable(info: &hb_glyph_info_t, position: GlyphPosition) -> GlyphPosition
     ensures { result ≡ zeroed_ignorable info.now position }
 {
-    if is_ignorable(info) {
+    if info._hb_glyph_info_is_default_ignorable() {
         without_values(position)
     } else {
         position
@@ -102,7 +95,7 @@ fn show_as(glyph: GlyphId, info: &hb_glyph_info_t) -> hb_glyph_info_t
     ensures { result ≡ shown_as_of glyph info.now }
 {
     let mut info = *info;
-    if is_ignorable(&info) {
+    if info._hb_glyph_info_is_default_ignorable() {
         info.glyph_id = glyph.0;
     }
     info
@@ -114,7 +107,7 @@ fn replace_or_delete(buffer: &mut hb_buffer_t, glyph: Option<GlyphId>)
 {
     match glyph {
         Some(glyph) => update_items(buffer, |info| show_as(glyph, info)),
-        None => buffer.delete_glyphs_inplace(is_ignorable),
+        None => buffer.delete_glyphs_inplace(|info| info._hb_glyph_info_is_default_ignorable()),
     }
 }
 

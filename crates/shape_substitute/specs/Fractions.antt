@@ -4,11 +4,10 @@ use Rattle.std.specs.Int.RustNames.{bit_and, bit_or}
 use Rattle.std.specs.List.{prefix_len, suffix_len}
 use Rattle.shape_buffer.specs.Buffer.{Buffer}
 use Rattle.shape_buffer.specs.BufferClusters.{unsafe_to_break, unsafe_to_concat}
+use Rattle.shape_buffer.specs.Category.{is_digit_category}
 use Rattle.shape_buffer.specs.Clusters.{map_range}
 use Rattle.shape_buffer.specs.Direction.{is_forward}
 use Rattle.shape_buffer.specs.Items.{Item}
-use Rattle.shape_buffer.specs.declared.buffer.general_category.hb_unicode_general_category_t.{hb_unicode_general_category_t}
-use Rattle.shape_buffer.specs.declared.buffer.general_category.hb_unicode_general_category_t.TheVariants.{DecimalNumber}
 use Rattle.shape_buffer.specs.declared.buffer.settings.Direction.{Direction}
 use Rattle.shape_plan.specs.declared.decisions.Decisions.{Decisions}
 use Rattle.shape_substitute.specs.declared.fractions.FractionMasks.{FractionMasks}
@@ -25,11 +24,6 @@ fraction_masks decisions direction =
 -- U+2044, the fraction slash
 abbrev pub is_slash : Item → Bool
 is_slash item = item.codepoint == 0x2044
-
--- the category of decimal digits
-abbrev pub is_digit_category : hb_unicode_general_category_t → Bool
-is_digit_category DecimalNumber = true
-is_digit_category _ = false
 
 -- a digit, by its category alone
 abbrev pub is_digit : Item → Bool

@@ -5,7 +5,6 @@
 ghost use Rattle.std.specs.Prelude.{◌≡◌};
 ghost use Rattle.shape_buffer.specs.Outcome.{IsWithinLimit, Made, Ran};
 ghost use Rattle.shape_plan.specs.Run.{step_if};
-ghost use Rattle.shape_buffer.specs.Items.{is_ignorable_item};
 ghost use Rattle.shape_substitute.specs.Classes.{class_of_glyph as class_of_glyph_of};
 ghost use Rattle.shape_substitute.specs.Classes.{with_nominal_glyph as with_nominal_glyph_of};
 ghost use Rattle.shape_substitute.specs.Classes.{with_class as with_class_of, glyphs_mapped};
@@ -36,13 +35,6 @@ pub fn map_glyphs_fast(buffer: &mut hb_buffer_t)
     update_items(buffer, |info| with_nominal_glyph(info));
 }
 
-/// Whether an item is a default ignorable that no lookup has replaced.
-fn is_ignorable(info: &hb_glyph_info_t) -> bool
-    ensures { result ≡ is_ignorable_item info.now }
-{
-    info._hb_glyph_info_get_ignorable() && !info._hb_glyph_info_get_substituted()
-}
-
 /// The class of a glyph by its character.
 fn class_of_glyph(info: &hb_glyph_info_t) -> GlyphPropsFlags
     ensures { result ≡ class_of_glyph_of info.now }
@@ -51,7 +43,7 @@ fn class_of_glyph(info: &hb_glyph_info_t) -> GlyphPropsFlags
         info._hb_glyph_info_get_general_category(),
         hb_unicode_general_category_t::NonspacingMark
     );
-    if nonspacing && !is_ignorable(info) {
+    if nonspacing && !info._hb_glyph_info_is_default_ignorable() {
         GlyphPropsFlags::MARK
     } else {
         GlyphPropsFlags::BASE_GLYPH

@@ -22,7 +22,7 @@ module _ {A B : Type 0} (ccc : A → ℕ) (ccc' : B → ℕ) (f : A → B) (same
       ∙ ap₂ (λ a b. if (nat_lt 0 b && nat_lt b a) then f y ∷ map f (sink ccc x ys) else f x ∷ f y ∷ map f ys) (sym (same x)) (sym (same y))
       ∙ ap (λ l. if falls ccc' (f x) (f y) then f y ∷ l else f x ∷ f y ∷ map f ys) (sink-map x ys)
 
-  -- the order goes by the classes alone
+  -- the order goes by the ccc alone
   pub in_order-map : (xs : List A) → map f (in_order ccc xs) ≡ in_order ccc' (map f xs)
   in_order-map [] = refl
   in_order-map (x ∷ xs) = sink-map x (in_order ccc xs) ∙ ap (sink ccc' (f x)) (in_order-map xs)

@@ -1,6 +1,7 @@
 //! What substitution notes of a glyph: its class, and whether and of what a lookup made it.
 ghost use Rattle.std.specs.Prelude.{◌≡◌};
 ghost use Rattle.std.specs.Int.RustNames.{bit_and};
+ghost use Rattle.shape_buffer.specs.Items.{is_ignorable_item};
 
 use crate::buffer::flags::GlyphPropsFlags;
 use crate::buffer::items::hb_glyph_info_t;
@@ -42,6 +43,13 @@ impl hb_glyph_info_t {
             } }
     {
         self.properties.substituted = substituted;
+    }
+
+    /// Whether a glyph stands for a default ignorable: its bit is set, and no lookup has put the glyph in.
+    pub fn _hb_glyph_info_is_default_ignorable(&self) -> bool
+        ensures { result ≡ is_ignorable_item self.now }
+    {
+        self.properties.ignorable && !self.properties.substituted
     }
 
     /// Reads the ligated bit, of ligatures that a lookup made. That of a new item is unset.
