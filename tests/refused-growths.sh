@@ -48,6 +48,7 @@ refuse_test() {
 }
 
 refuse_test shape_buffer buffer::tests::refusals::growths "the buffer's calls" || exit 1
+refuse_test shape_rows refusals::growths_in_a_run "the run of a letter with its accent" || exit 1
 refuse_test substitute_rows refusals::growths_in_a_stage "the stages that grow" || exit 1
 refuse_test substitute_rows refusals::growths_in_a_run "the runs with such stages" || exit 1
 
