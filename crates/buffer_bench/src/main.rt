@@ -65,9 +65,9 @@ fn falling_each(alloc: Global, count: u32) -> Result<hb_buffer_t, ShapeError> {
 
 /// The item, a continuation where its character is 'x', which stands for a mark.
 fn marked(info: &hb_glyph_info_t) -> hb_glyph_info_t {
-    let mut info = *info;
-    info._hb_glyph_info_set_continuation(info.codepoint == 'x');
-    info
+    let mut item = *info;
+    item._hb_glyph_info_set_continuation(info.codepoint == 'x');
+    item
 }
 
 /// Graphemes of two items each, of which the second one is in the cluster that the next one begins in:
