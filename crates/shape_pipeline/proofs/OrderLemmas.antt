@@ -32,7 +32,7 @@ use Rattle.shape_prepare.proofs.Keeping.OrderKeeperLemmas.{preparing_keeps_order
 use Rattle.shape_substitute.proofs.ListKeepers.{substitution-keeps_clusters}
 use Rattle.shape_pipeline.specs.Headline.{target_of}
 use Rattle.shape_pipeline.specs.Order.{RunKeepsClusters, ComesInOrder, ClustersComeInOrder, grapheme_clusters}
-use Rattle.shape_pipeline.specs.Shaped.{normalising, glyph_part, place_part, shaped_steps, all_steps, entered, finished, shaped, run_made}
+use Rattle.shape_pipeline.specs.Shaped.{normalising, glyph_part, place_part, shaped_steps, all_steps, entered, finished, run_made}
 use Rattle.shape_pipeline.proofs.PartLemmas.{Leads, Leads-then, EachStep-glyph_part, EachStep-place_part}
 
 -- ---- states of a run, where each cluster is one of `From`
