@@ -326,22 +326,28 @@ fn steps_are_made(rt: HostRuntime) -> Result<(), Fail> {
     let face = face(alloc)?;
     let tabled = tabled(alloc)?;
     let decomposing = Preferring::<Decomposed>::new();
-    let mut begun = begin(alloc, &face, &tabled, &decomposing)?;
+    let Begun {
+        plain,
+        full,
+        dividing,
+        mut text,
+        mut spelled,
+    } = begin(alloc, &face, &tabled, &decomposing)?;
     let mut empty = UnicodeBuffer::new(alloc);
     empty.guess_segment_properties::<UnicodeDatabase>();
-    assert!(rt; begun.plain.fits::<UnicodeDatabase>(&empty));
-    assert_plain(&rt, &begun.plain);
+    assert!(rt; plain.fits::<UnicodeDatabase>(&empty));
+    assert_plain(&rt, &plain);
     assert_no_requests(&rt, alloc, &face);
-    assert_premises(&rt, &begun.plain, &begun.full, &face, &mut begun.spelled);
-    prepare(&begun.plain, &face, &mut begun.text);
-    set_items(&mut begun.text);
-    divide(&rt, &begun.dividing, &mut begun.text);
-    make_glyphs(&begun.plain, &face, &mut begun.text);
-    make_whole_steps(&begun.plain, &face, &mut begun.text)?;
-    place_glyphs(&begun.plain, &face, &mut begun.text);
-    assert_eq!(rt; begun.text.len(), 16);
-    finish(&begun.plain, &face, &mut begun.text);
-    assert_eq!(rt; begun.text.len(), 12);
+    assert_premises(&rt, &plain, &full, &face, &mut spelled);
+    prepare(&plain, &face, &mut text);
+    set_items(&mut text);
+    divide(&rt, &dividing, &mut text);
+    make_glyphs(&plain, &face, &mut text);
+    make_whole_steps(&plain, &face, &mut text)?;
+    place_glyphs(&plain, &face, &mut text);
+    assert_eq!(rt; text.len(), 16);
+    finish(&plain, &face, &mut text);
+    assert_eq!(rt; text.len(), 12);
     Ok(())
 }
 
