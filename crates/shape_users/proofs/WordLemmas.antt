@@ -1,11 +1,23 @@
 -- One word more is looked at.
-use Rattle.std.proofs.Common.{◌≡◌, ℕ, ◌+◌, ◌<◌, List, [], ◌∷◌, ◌++◌, length, get_or, Option, Some, None, refl, inl, inr, ap, sym, ◌∙◌, subst, arith}
+use Rattle.std.proofs.Common.{◌≡◌, ℕ, ◌+◌, ◌<◌, ◌≤◌, ◌^◌, ◌⊎◌, List, [], ◌∷◌, ◌++◌, length, get_or, Option, Some, None, Result, Ok, Err, IsErrAnd, refl, inl, inr, ap, sym, ◌∙◌, subst, arith}
 use Rattle.std.proofs.lemmas.List.{get_or_default, get_or_push, length-append}
 use Rattle.std.specs.Prelude.{IfSome, IfNone, string_bytes}
+use Rattle.shape_buffer.specs.Buffer.{Buffer}
+use Rattle.shape_buffer.specs.Outcome.{Step, EachWithin, SomePast}
+use Rattle.shape_buffer.specs.declared.buffer.error.ShapeError.{ShapeError}
+use Rattle.shape_buffer.specs.declared.buffer.error.ShapeError.TheVariants.{Length}
 use Rattle.shape_plan.specs.Run.{Run}
-use Rattle.shape_users.specs.Words.{AreSpelledAlike, IsNowhere, IsPlaceOf}
+use Rattle.shape_pipeline.specs.Headline.{target_of}
+use Rattle.shape_pipeline.specs.Shaped.{Shapes, all_steps, entered}
+use Rattle.shape_buffer.specs.Guess.{guessed}
+use Rattle.shape_users.specs.Words.{spelled, AreSpelledAlike, IsNowhere, IsPlaceOf, IsTooLong, IsTooLongToShape, FindsTooLong, KeepsTooLong}
 use Rattle.shape_users.specs.declared.words.Word.{Word}
 use Rattle.shape_users.proofs.ParagraphLemmas.{split}
+
+-- none of the first words is too long to be compared with a spelling, nor is that
+abbrev pub NoneTooLong : Run → List Word → ℕ → List ℕ → Type 0
+NoneTooLong run words count spelling =
+    (k : ℕ) (d : Word) → k < count → IsTooLong run (string_bytes (get_or words k d).spelling) ⊎ IsTooLong run spelling → ⊥
 
 module _ (run : Run) (words : List Word) (place : ℕ) (x : Word) (known spelling : List ℕ) (within : place < length words)
     (value : known ≡ string_bytes (get_or words place x).spelling) where
@@ -27,6 +39,57 @@ module _ (run : Run) (words : List Word) (place : ℕ) (x : Word) (known spellin
         (ap (λ (i : ℕ). string_bytes (get_or words i d).spelling) same ∙ sym (read_at d)) alike)
   ]
 
+  -- where it is compared, it is too long or the spelling is
+  pub too_long_at : IsNowhere run words place spelling → IsTooLong run known ⊎ IsTooLong run spelling
+      → FindsTooLong run words spelling
+  too_long_at nowhere long = (
+    place,
+    within,
+    (nowhere, λ d. subst (λ (s : List ℕ). IsTooLong run s ⊎ IsTooLong run spelling) (read_at d) long),
+  )
+
+  pub none_long_more : NoneTooLong run words place spelling → (IsTooLong run known ⊎ IsTooLong run spelling → ⊥)
+      → NoneTooLong run words (place + 1) spelling
+  none_long_more none here = λ k d below long. elim (split k place) [
+    | inl before ↦ none k d before long
+    | inr from ↦
+        let same : k ≡ place = omega arith in
+        here (subst (λ (s : List ℕ). IsTooLong run s ⊎ IsTooLong run spelling)
+        (ap (λ (i : ℕ). string_bytes (get_or words i d).spelling) same ∙ sym (read_at d)) long)
+  ]
+
+  -- a word was found before anything was too long
+  pub found_first : NoneTooLong run words place spelling → (IsTooLong run known ⊎ IsTooLong run spelling → ⊥)
+      → AreSpelledAlike run known spelling → FindsTooLong run words spelling → ⊥
+  found_first none here alike finds = elim (split place finds.0) [
+    | inl before ↦ finds.2.0 place x before (alike_at alike x)
+    | inr from ↦
+        let looked : finds.0 < place + 1 = omega (arith, from) in
+        none_long_more none here finds.0 x looked (finds.2.1 x)
+  ]
+
+-- nothing was too long in the whole list
+pub none_found : (run : Run) (words : List Word) (spelling : List ℕ) → NoneTooLong run words (length words) spelling
+    → FindsTooLong run words spelling → ⊥
+none_found run [] spelling none finds = omega (arith, finds.1)
+none_found run (word ∷ words) spelling none finds = none finds.0 word finds.1 (finds.2.1 word)
+
+-- an error that is handed on is the one that came
+pub refused_for : {T : Type 0} (result : Result T ShapeError) (error : ShapeError) → IsErrAnd result (λ e. e ≡ error)
+    → result ≡ Err Length → error ≡ Length
+refused_for (Ok value) error gave is = cc
+refused_for (Err other) error gave is =
+    let same : other ≡ Length = cc in
+    sym gave ∙ same
+
+-- where each step is within the limit none passes it
+pub none_past : (steps : List Step) (b : Buffer) → EachWithin steps b → SomePast steps b → ⊥
+none_past [] b within past = past
+none_past (step ∷ steps) b within past = elim past [
+  | inl here ↦ omega (arith, within.0, here)
+  | inr later ↦ none_past steps (step.makes b) within.1 later
+]
+
 -- a word that was found is there, in the list that was looked at
 pub place_of : (run : Run) (xs ys : List Word) → xs ≡ ys → (o : Option ℕ) (place : ℕ) (spelling : List ℕ) → o ≡ Some place
     → IfSome o (λ k. IsPlaceOf run xs k spelling) → IsPlaceOf run ys place spelling
@@ -40,6 +103,41 @@ pub none_of : (run : Run) (xs ys : List Word) → xs ≡ ys → (o : Option ℕ)
     → IfNone o (IsNowhere run xs (length xs) spelling) → IsNowhere run ys (length ys) spelling
 none_of run xs ys same None spelling is nowhere = subst (λ (words : List Word). IsNowhere run words (length words) spelling) same nowhere
 none_of run xs ys same (Some k) spelling is nowhere = cc
+
+-- a word that is at a place is not nowhere
+not_nowhere : (run : Run) (words : List Word) (spelling : List ℕ) (place : ℕ) → IsPlaceOf run words place spelling
+    → IsNowhere run words (length words) spelling → ⊥
+not_nowhere run [] spelling place here nowhere = omega (arith, here.0)
+not_nowhere run (word ∷ words) spelling place here nowhere = nowhere place word here.0 (here.1 word)
+
+-- what was found, or not, in the list that was looked at says that keeping a word comes to nothing too long before that
+pub found_fine : (run : Run) (xs ys : List Word) → xs ≡ ys → (spelling : List ℕ) → (FindsTooLong run xs spelling → ⊥)
+    → (o : Option ℕ) (place : ℕ) → o ≡ Some place → IfSome o (λ k. IsPlaceOf run xs k spelling) → KeepsTooLong run ys spelling → ⊥
+found_fine run xs ys same spelling none o place is found keeps = elim keeps [
+  | inl finds ↦ none (subst (λ (words : List Word). FindsTooLong run words spelling) (sym same) finds)
+  | inr shaping ↦
+      let here = place_of run xs ys same o place spelling is found in
+      not_nowhere run ys spelling place here shaping.0
+]
+
+pub none_fine : (run : Run) (xs ys : List Word) → xs ≡ ys → (spelling : List ℕ) → (FindsTooLong run xs spelling → ⊥)
+    → (IsTooLongToShape run spelling → ⊥) → KeepsTooLong run ys spelling → ⊥
+none_fine run xs ys same spelling none fits keeps = elim keeps [
+  | inl finds ↦ none (subst (λ (words : List Word). FindsTooLong run words spelling) (sym same) finds)
+  | inr shaping ↦ fits shaping.1
+]
+
+-- a spelling that was shaped is not too long for that
+pub shaped_fine : (run : Run) (spelling : List ℕ) (glyphs : Buffer) → (2 ^ 32 ≤ length spelling → ⊥)
+    → Shapes run (target_of run (spelled spelling)) (guessed run.unicode (spelled spelling)) glyphs
+    → IsTooLongToShape run spelling → ⊥
+shaped_fine run spelling glyphs counts shapes long = elim long [
+  | inl bytes ↦ counts bytes
+  | inr passes ↦
+      let target = target_of run (spelled spelling) in
+      let text = guessed run.unicode (spelled spelling) in
+      none_past (all_steps run target) (entered text) (shapes.counted passes.0) passes.1.past
+]
 
 -- and so is one that was put behind the others
 pub place_pushed : (run : Run) (words more : List Word) (word : Word) (place : ℕ) (spelling : List ℕ) → more ≡ words ++ word ∷ []

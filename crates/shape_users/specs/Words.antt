@@ -1,16 +1,17 @@
 -- Words that are found under each equivalent spelling.
-use Rattle.std.specs.Prelude.{◌≡◌, ◌⊎◌, ℕ, ◌<◌, List, [], ◌∷◌, ◌++◌, length, replicate, slice_index_or, string_bytes}
-use Rattle.shape_buffer.specs.Buffer.{Buffer, new_buffer}
+use Rattle.std.specs.Prelude.{◌≡◌, ◌⊎◌, ℕ, ◌<◌, ◌≤◌, ◌^◌, SomeIndex, List, [], ◌∷◌, ◌++◌, length, replicate, slice_index_or, string_bytes}
+use Rattle.shape_buffer.specs.Buffer.{Buffer, new_buffer, limit_of}
 use Rattle.shape_buffer.specs.Guess.{guessed}
 use Rattle.shape_buffer.specs.Positions.{zero_position}
 use Rattle.shape_buffer.specs.Text.{text_items}
 use Rattle.shape_normalize.specs.CanonicalForm.{text_of}
 use Rattle.shape_normalize.specs.Normalized.{normalized}
+use Rattle.shape_normalize.specs.RoundOne.{round_one}
 use Rattle.shape_buffer.specs.Unicode.{UnicodeMeaning}
 use Rattle.shape_plan.specs.Plan.{Plan, Fits}
 use Rattle.shape_plan.specs.Run.{Run}
 use Rattle.shape_pipeline.specs.Headline.{target_of}
-use Rattle.shape_pipeline.specs.Shaped.{text_made, shaped}
+use Rattle.shape_pipeline.specs.Shaped.{HasItems, PreparingPasses, ShapingPasses, text_made, shaped}
 use Rattle.shape_users.specs.declared.words.Word.{Word}
 
 -- the text of a spelling, nothing else set
@@ -20,6 +21,24 @@ spelled spelling = record new_buffer { items = text_items spelling; positions = 
 -- a text as normalising begins, with script and direction guessed; an empty one stays as it is
 abbrev pub ready_text : Run → Buffer → Buffer
 ready_text run text = text_made run (target_of run text) (guessed run.unicode text)
+
+-- 32 bits can't count the bytes of a spelling, or it has characters and a step of preparing them would pass the run's limit
+abbrev pub IsTooLongToPrepare : Run → List ℕ → Type 0
+IsTooLongToPrepare run spelling =
+    let text = spelled spelling in
+    (2 ^ 32 ≤ length spelling) ⊎ (HasItems text × PreparingPasses run (target_of run text) (guessed run.unicode text))
+
+-- the same, or the prepared text would pass its limit in normalising
+abbrev pub IsTooLong : Run → List ℕ → Type 0
+IsTooLong run spelling =
+    let text = ready_text run (spelled spelling) in
+    IsTooLongToPrepare run spelling ⊎ (limit_of text < length (round_one run.rules text).items)
+
+-- the same for a run to its end
+abbrev pub IsTooLongToShape : Run → List ℕ → Type 0
+IsTooLongToShape run spelling =
+    let text = spelled spelling in
+    (2 ^ 32 ≤ length spelling) ⊎ (HasItems text × ShapingPasses run (target_of run text) (guessed run.unicode text))
 
 -- two spellings have the same normalised characters
 abbrev pub AreSpelledAlike : Run → List ℕ → List ℕ → Type 0
@@ -36,6 +55,12 @@ abbrev pub IsNowhere : Run → List Word → ℕ → List ℕ → Type 0
 IsNowhere run words count spelling =
     (k : ℕ) (d : Word) → k < count → AreSpelledAlike run (string_bytes (slice_index_or words k d).spelling) spelling → ⊥
 
+-- a spelling is compared with each word in turn until it is found: this comes to a word where that or the spelling is too long
+abbrev pub FindsTooLong : Run → List Word → List ℕ → Type 0
+FindsTooLong run words spelling =
+    SomeIndex words (λ k. IsNowhere run words k spelling
+    × ((d : Word) → IsTooLong run (string_bytes (slice_index_or words k d).spelling) ⊎ IsTooLong run spelling))
+
 -- one word more: none of the old ones is spelled like this, and behind them all stands a word with this spelling and its glyphs
 pub record IsOneWordMore (run : Run) (old new : List Word) (spelling : List ℕ) : Type 0 where
   pub nowhere : IsNowhere run old (length old) spelling
@@ -48,6 +73,11 @@ pub record IsOneWordMore (run : Run) (old new : List Word) (spelling : List ℕ)
 abbrev pub KeepsWords : Run → List Word → List Word → ℕ → List ℕ → Type 0
 KeepsWords run old new place spelling =
     ((place < length old) × (new ≡ old)) ⊎ ((place ≡ length old) × IsOneWordMore run old new spelling)
+
+-- keeping a word compares something too long, or the word is nowhere yet and too long to shape
+abbrev pub KeepsTooLong : Run → List Word → List ℕ → Type 0
+KeepsTooLong run words spelling =
+    FindsTooLong run words spelling ⊎ (IsNowhere run words (length words) spelling × IsTooLongToShape run spelling)
 
 -- the plan at a place serves a text
 abbrev pub FitsAt : {S P D : Type 0} → UnicodeMeaning → List (Plan S P D) → ℕ → Buffer → Type 0

@@ -4,10 +4,10 @@
 //! normalised characters; where `equivalent_spellings` can tell, these are the equivalent spellings, so that
 //! U+0071 U+0301 U+00E9 and U+0071 U+0301 U+0065 U+0301 are kept once. A cache that must never show one word
 //! for another needs no more than that; it may use any mode.
-ghost use Rattle.std.specs.Prelude.{◌≡◌, ◌↔◌, length, IsTrue, IfOk, OnErr, IfSome, IfNone};
+ghost use Rattle.std.specs.Prelude.{◌≡◌, length, Err, IsErr, IfOk, OnErr, IfSome, IfNone};
 ghost use Rattle.shape_plan.specs.Plan.{Fits};
 ghost use Rattle.shape_users.specs.Words.{spelled as text_spelled, FitsAt, IsPlaceOf, IsNowhere};
-ghost use Rattle.shape_users.specs.Words.{NoneFits, KeepsWords};
+ghost use Rattle.shape_users.specs.Words.{NoneFits, KeepsWords, FindsTooLong, KeepsTooLong};
 ghost use Rattle.shape_users.specs.WorkedWords.{WorkedWords};
 
 mod spellings;
@@ -45,8 +45,9 @@ pub fn find_plan<U: hb_unicode_funcs_t, S, P, D>(
     None
 }
 
-/// The place of a word that was shaped under a spelling with the same normalised characters. Refuses as
-/// `same_word` does for the spelling and one of the words.
+/// The place of a word that was shaped under a spelling with the same normalised characters: the first such.
+/// Refuses as `same_word` does for the spelling and one of the words, in turn up to that place: with `Length`
+/// where one of the two is too long, and always then.
 pub fn find_word<U, F, M, S>(
     alloc: Global,
     face: &F,
@@ -64,6 +65,10 @@ where
     ensures nowhere { let run = ⟦<S as Runs<U, F, M>>⟧.run plan.now face.now in
         IfOk result (λ place. IfNone place
         (IsNowhere run words.now (length words.now) spelling.now)) }
+    ensures length { let run = ⟦<S as Runs<U, F, M>>⟧.run plan.now face.now in
+        result ≡ Err ShapeError.Length → FindsTooLong run words.now spelling.now }
+    ensures too_long { let run = ⟦<S as Runs<U, F, M>>⟧.run plan.now face.now in
+        FindsTooLong run words.now spelling.now → IsErr result }
 {
     for place in 0..words.len() {
         let known = words[place].spelling.as_str();
@@ -77,7 +82,8 @@ where
 /// The place of a word under a spelling with the same normalised characters; it is shaped, and kept behind
 /// the others, where there is none yet. The words that were there stay as they were, at their places. `words`
 /// must hold words of this plan and face alone. The plan must fit the spelling's text. Refuses as `find_word`
-/// and `shape_with_plan` do, and then keeps nothing.
+/// does and, where there is none yet, as `spelled` and `shape_with_plan` do, or with `Memory` where a growth
+/// was refused; then keeps nothing.
 pub fn keep_word<U, F, M, S>(
     alloc: Global,
     face: &F,
@@ -96,6 +102,10 @@ where
     ensures kept { let run = ⟦<S as Runs<U, F, M>>⟧.run plan.now face.now in
         IfOk result (λ place. KeepsWords run words.old.items words.new.items place spelling.now) }
     ensures refused { OnErr result (words.new.items ≡ words.old.items) }
+    ensures length { let run = ⟦<S as Runs<U, F, M>>⟧.run plan.now face.now in
+        result ≡ Err ShapeError.Length → KeepsTooLong run words.old.items spelling.now }
+    ensures too_long { let run = ⟦<S as Runs<U, F, M>>⟧.run plan.now face.now in
+        KeepsTooLong run words.old.items spelling.now → IsErr result }
 {
     if let Some(place) = find_word::<U, F, M, S>(alloc, face, plan, words.as_slice(), spelling)? {
         return Ok(place);

@@ -1,9 +1,10 @@
 //! Spellings of words, and whether two of them are one word.
-ghost use Rattle.std.specs.Prelude.{◌≡◌, ◌≤◌, ◌^◌, ◌↔◌, Err, length};
-ghost use Rattle.std.specs.Prelude.{IsTrue, IsSome, IfOk, IfSome};
+ghost use Rattle.std.specs.Prelude.{◌≡◌, ◌≤◌, ◌^◌, ◌⊎◌, ◌↔◌, Err, length};
+ghost use Rattle.std.specs.Prelude.{IsTrue, IsSome, IsErr, IfOk, IfSome};
 ghost use Rattle.shape_normalize.specs.CanonicalForm.{text_of, AreEquivalent};
 ghost use Rattle.shape_normalize.specs.CanonicalForm.{CanonicalFormPremises, HasLawfulHooks};
 ghost use Rattle.shape_users.specs.Words.{spelled as text_spelled, ready_text, AreSpelledAlike};
+ghost use Rattle.shape_users.specs.Words.{IsTooLongToPrepare, IsTooLong};
 
 use shape_buffer::buffer::{ShapeError, UnicodeBuffer, hb_buffer_t};
 use shape_buffer::interfaces::{hb_font_t, hb_ot_layout_t, hb_unicode_funcs_t};
@@ -27,7 +28,9 @@ pub fn spelled(alloc: Global, spelling: &str) -> Result<UnicodeBuffer, ShapeErro
     Ok(text)
 }
 
-/// A text as a run prepares it for normalising. Refuses as `spelled` and `prepare_text` do.
+/// A text as a run prepares it for normalising. Refuses with `Length` where the spelling has 4 GiB or more,
+/// or a step of preparing would leave its list past the run's limit, and with `Memory` where a growth was
+/// refused. A spelling that is too long is always refused; with `Length` where that is for its bytes.
 fn prepared<U, F, M, S>(
     alloc: Global,
     face: &F,
@@ -39,8 +42,13 @@ where
     F: hb_font_t,
     M: hb_ot_layout_t<F>,
     S: hb_ot_shaper_t<U, F, M>,
-    ensures { IfOk result (λ buffer. buffer
+    ensures ok { IfOk result (λ buffer. buffer
         ≡ ready_text (⟦<S as Runs<U, F, M>>⟧.run plan.now face.now) (text_spelled spelling.now)) }
+    ensures length { result ≡ Err ShapeError.Length
+        → IsTooLongToPrepare (⟦<S as Runs<U, F, M>>⟧.run plan.now face.now) spelling.now }
+    ensures too_long { IsTooLongToPrepare (⟦<S as Runs<U, F, M>>⟧.run plan.now face.now) spelling.now
+        → IsErr result }
+    ensures bytes { 2 ^ 32 ≤ length spelling.now → result ≡ Err ShapeError.Length }
 {
     let mut text = spelled(alloc, spelling)?;
     text.guess_segment_properties::<U>();
@@ -57,8 +65,10 @@ where
 }
 
 /// Whether two spellings have the same normalised characters. Under the premises of canonical form, in the
-/// modes that decompose fully, this says whether they are canonically equivalent. Refuses as `spelled`,
-/// `prepare_text` and `normalized_equal` do.
+/// modes that decompose fully, this says whether they are canonically equivalent. Refuses with `Length` where
+/// one of them has 4 GiB or more, or preparing or normalising it would leave a list past the run's limit (in
+/// normalising the expanded list counts), and with `Memory` where a growth was refused. Where one is too long
+/// the two are always refused; with `Length` where the first has 4 GiB or more.
 pub fn same_word<U, F, M, S>(
     alloc: Global,
     face: &F,
@@ -78,6 +88,11 @@ where
         let b = ready_text run (text_spelled second.now) in
         IfOk result (λ same. CanonicalFormPremises run.rules a → CanonicalFormPremises run.rules b
         → IsTrue same ↔ AreEquivalent run.rules (text_of a) (text_of b)) }
+    ensures length { let run = ⟦<S as Runs<U, F, M>>⟧.run plan.now face.now in
+        result ≡ Err ShapeError.Length → IsTooLong run first.now ⊎ IsTooLong run second.now }
+    ensures too_long { let run = ⟦<S as Runs<U, F, M>>⟧.run plan.now face.now in
+        IsTooLong run first.now ⊎ IsTooLong run second.now → IsErr result }
+    ensures bytes { 2 ^ 32 ≤ length first.now → result ≡ Err ShapeError.Length }
 {
     let mut a = prepared::<U, F, M, S>(alloc, face, plan, first)?;
     let mut b = prepared::<U, F, M, S>(alloc, face, plan, second)?;
@@ -88,7 +103,8 @@ where
 /// Whether two spellings are canonically equivalent. Answers `None` where this can't be told by their
 /// normalised characters: for one of them a premise of canonical form doesn't hold, as for a text without a
 /// mark past its first character (so most words without accents), with a variation selector, with a
-/// character that the face has no glyph for, or with too many marks in a row. Refuses as `same_word` does.
+/// character that the face has no glyph for, or with too many marks in a row. Refuses as `same_word` does,
+/// but spellings that are too long to normalise only where this can be told.
 pub fn equivalent_spellings<U, F, M, S>(
     alloc: Global,
     face: &F,
@@ -111,6 +127,13 @@ where
         let b = text_of (ready_text run (text_spelled second.now)) in
         HasLawfulHooks run.rules → IfOk result (λ told.
         IfSome told (λ same. IsTrue same ↔ AreEquivalent run.rules a b)) }
+    ensures length { let run = ⟦<S as Runs<U, F, M>>⟧.run plan.now face.now in
+        result ≡ Err ShapeError.Length → IsTooLong run first.now ⊎ IsTooLong run second.now }
+    ensures too_long { let run = ⟦<S as Runs<U, F, M>>⟧.run plan.now face.now in
+        IsTooLongToPrepare run first.now ⊎ IsTooLongToPrepare run second.now → IsErr result }
+    ensures counted { let run = ⟦<S as Runs<U, F, M>>⟧.run plan.now face.now in
+        IfOk result (λ told. IsSome told → IsTooLong run first.now ⊎ IsTooLong run second.now → ⊥) }
+    ensures bytes { 2 ^ 32 ≤ length first.now → result ≡ Err ShapeError.Length }
 {
     let mut a = prepared::<U, F, M, S>(alloc, face, plan, first)?;
     let mut b = prepared::<U, F, M, S>(alloc, face, plan, second)?;
