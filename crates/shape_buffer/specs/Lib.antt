@@ -25,10 +25,10 @@ pub mod Flags
 pub mod Wrapping
 pub mod Walks
 pub mod Keepers
+pub mod PlainUnicode
 pub mod NoLookups
 pub mod MapFace
 pub mod Prepared
 pub mod Ranges
 pub mod PositionWalks
 pub mod Honest
-pub mod Letters

@@ -10,6 +10,7 @@ mod map_face;
 mod map_request;
 pub mod modified_combining_class;
 mod no_lookups;
+mod plain_unicode;
 pub mod space_types;
 mod unicode_funcs;
 
@@ -24,4 +25,5 @@ pub use map_request::{
     MapRequest, TableIndex, hb_ot_map_feature_flags_t,
 };
 pub use no_lookups::NoLookups;
+pub use plain_unicode::PlainUnicode;
 pub use unicode_funcs::hb_unicode_funcs_t;

@@ -20,6 +20,6 @@ pub use buffer::{
 };
 pub use canonical_form::laws;
 pub use interfaces::{
-    MapFace, Metrics, NoLookups, hb_font_t, hb_glyph_extents_t, hb_ot_layout_t,
+    MapFace, Metrics, NoLookups, PlainUnicode, hb_font_t, hb_glyph_extents_t, hb_ot_layout_t,
     hb_ot_map_builder_t, hb_tables_t, hb_unicode_funcs_t,
 };

@@ -10,7 +10,7 @@ use Rattle.shape_buffer.specs.declared.buffer.positions.GlyphPosition.{GlyphPosi
 use Rattle.shape_buffer.specs.declared.buffer.settings.Direction.{Direction}
 use Rattle.shape_buffer.specs.declared.buffer.settings.Direction.TheVariants.{Invalid, LeftToRight, RightToLeft, TopToBottom, BottomToTop}
 use Rattle.shape_buffer.specs.declared.buffer.settings.Script.{Script}
-use Rattle.shape_plan.specs.PlainTexts.{plain_unicode}
+use Rattle.shape_buffer.specs.PlainUnicode.{plain_unicode}
 use Rattle.shape_fallback.specs.Bases.{base_at, bases, runs_to_right}
 use Rattle.shape_fallback.specs.Extents.{Extents}
 use Rattle.shape_fallback.specs.MarkState.{component_of, place_of, component_extents, at_component, with_component, at_ccc, passed, moved}

@@ -12,7 +12,7 @@ use Rattle.shape_buffer.specs.declared.buffer.general_category.hb_unicode_genera
 use Rattle.shape_buffer.specs.declared.buffer.positions.GlyphPosition.{GlyphPosition}
 use Rattle.shape_buffer.specs.declared.buffer.settings.Direction.{Direction}
 use Rattle.shape_buffer.specs.declared.buffer.settings.Direction.TheVariants.{Invalid, LeftToRight, RightToLeft, TopToBottom}
-use Rattle.shape_plan.specs.PlainTexts.{bare_face}
+use Rattle.shape_plan.specs.WorkedFaces.{bare_face}
 use Rattle.shape_fallback.specs.Spaces.{is_em_part, em_part, em_advance, first_glyph, figures, stops, as_wide_as, space_advance, space_positioned, is_lone_space, item_spaced, spaces_placed}
 use Rattle.shape_fallback.specs.Steps.{spaces_step}
 

@@ -8,8 +8,8 @@ use Rattle.shape_buffer.specs.Category.{is_space_category}
 use Rattle.canonical_form.specs.Divided.{divided}
 use Rattle.shape_buffer.specs.Items.{Item, is_mark_item}
 use Rattle.shape_buffer.specs.Positions.{zero_position}
+use Rattle.shape_buffer.specs.Spans.{all_merged}
 use Rattle.shape_buffer.specs.Buffer.{Buffer}
-use Rattle.shape_buffer.specs.BufferClusters.{merge_clusters}
 use Rattle.canonical_form.specs.Expansion.{chosen_expansion}
 use Rattle.shape_buffer.specs.Face.{FaceMeaning}
 use Rattle.shape_buffer.specs.Unicode.{UnicodeMeaning}
@@ -137,12 +137,12 @@ variation_sequence_glyph face [] = None
 variation_sequence_glyph face (x ∷ []) = None
 variation_sequence_glyph face (x ∷ v ∷ rest) = face.variation_glyph x.codepoint v.codepoint
 
--- the places of the items that become one with the selector behind them, in parts that begin at this place
-abbrev pub variation_sequence_places : FaceMeaning → ℕ → List (List Item) → List ℕ
-variation_sequence_places face place [] = []
-variation_sequence_places face place (part ∷ parts) =
-    let later = variation_sequence_places face (place + length part) parts in
-    if is_some (variation_sequence_glyph face part) then place ∷ later else later
+-- the spans of the items that become one with the selector behind them, each of these two, in parts that begin at this place
+abbrev pub variation_sequence_spans : FaceMeaning → ℕ → List (List Item) → List (ℕ × ℕ)
+variation_sequence_spans face place [] = []
+variation_sequence_spans face place (part ∷ parts) =
+    let later = variation_sequence_spans face (place + length part) parts in
+    if is_some (variation_sequence_glyph face part) then (place, place + 2) ∷ later else later
 
 -- ---- combining sequences (as those of The Unicode Standard, D56, but of marks alone; one item may be a sequence too)
 
@@ -160,16 +160,12 @@ is_with_marks (x ∷ y ∷ rest) = true
 abbrev pub is_selector_sequence : UnicodeMeaning → List Item → Bool
 is_selector_sequence unicode sequence = is_with_marks sequence && list_any (is_selector_item unicode) sequence
 
--- the places of the items that become one with the selector behind them, in sequences that begin at this place
-abbrev pub variation_sequences_from : UnicodeMeaning → FaceMeaning → ℕ → List (List Item) → List ℕ
+-- the spans of the items that become one with the selector behind them, in sequences that begin at this place
+abbrev pub variation_sequences_from : UnicodeMeaning → FaceMeaning → ℕ → List (List Item) → List (ℕ × ℕ)
 variation_sequences_from unicode face place [] = []
 variation_sequences_from unicode face place (sequence ∷ rest) =
     let later = variation_sequences_from unicode face (place + length sequence) rest in
-    if is_selector_sequence unicode sequence then variation_sequence_places face place (variants unicode sequence) ++ later else later
-
--- the buffer with the clusters of such items merged, each with its selector, from left to right
-abbrev pub merged_at : Buffer → List ℕ → Buffer
-merged_at b places = fold (λ b place. merge_clusters place (place + 2) b) b places
+    if is_selector_sequence unicode sequence then variation_sequence_spans face place (variants unicode sequence) ++ later else later
 
 -- ---- round one
 
@@ -187,7 +183,7 @@ seen_sequence rules invisible flags sequence =
 -- two items that become one are merged first, from left to right; that this is done before the walk changes nothing, since the selector
 -- that goes is next to its item and in one cluster with it, so that a merge grows over both or neither
 abbrev pub variation_sequences_merged : Rules → Buffer → Buffer
-variation_sequences_merged rules b = merged_at b (variation_sequences_from rules.unicode rules.face 0 (sequences b.items))
+variation_sequences_merged rules b = all_merged (variation_sequences_from rules.unicode rules.face 0 (sequences b.items)) b
 
 -- what the items of a list become
 abbrev pub expanded : Rules → Option GlyphId → Option GlyphId → List Item → List Item

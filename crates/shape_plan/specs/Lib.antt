@@ -13,4 +13,4 @@ pub mod Planner
 pub mod WorkedRequests
 pub mod WorkedDecisions
 pub mod WorkedPlans
-pub mod PlainTexts
+pub mod WorkedFaces

@@ -8,7 +8,7 @@ use Rattle.shape_buffer.specs.declared.buffer.settings.Direction.TheVariants.{Le
 use Rattle.shape_buffer.specs.declared.buffer.settings.Feature.{Feature}
 use Rattle.shape_buffer.specs.declared.interfaces.face.hb_tables_t.{hb_tables_t}
 use Rattle.shape_buffer.specs.declared.interfaces.map_request.TableIndex.TheVariants.{GSUB, GPOS}
-use Rattle.shape_plan.specs.PlainTexts.{bare_face}
+use Rattle.shape_plan.specs.WorkedFaces.{bare_face}
 use Rattle.shape_plan.specs.Plan.{Plan}
 use Rattle.shape_plan.specs.Planner.{Planning, Planner, begun_planner, collected_planner, facts_of, compiled_plan, planned}
 use Rattle.shape_plan.specs.Planner.{is_gpos_disabled}
@@ -35,8 +35,8 @@ layout_of = record {
 }
 
 -- masks that tell their tags: the 1-mask of a feature is its tag, the mask twice that
-abbrev pub masks_of : Builder → MapMeaning
-masks_of builder = record {
+abbrev pub tag_masks : Builder → MapMeaning
+tag_masks builder = record {
   global_mask = 0;
   one_mask = λ tag. tag.0;
   mask = λ tag. (2 * tag.0, 0);
@@ -70,7 +70,7 @@ abbrev pub planning_with : ShaperConstants → Planning hb_tables_t ℕ Builder 
 planning_with constants = record {
   faces = face_of;
   layouts = λ _. layout_of;
-  masks = masks_of;
+  masks = tag_masks;
   constants = constants;
   collected = λ shaper _ _ _. ask shaper 0 0 ∷ [];
   overriding = λ shaper _ _ _. ask shaper 1 1 ∷ [];

@@ -12,7 +12,8 @@ use Rattle.shape_buffer.specs.Wrapping.{◌+ʷ◌, ◌-ʷ◌}
 use Rattle.shape_buffer.specs.declared.buffer.positions.GlyphPosition.{GlyphPosition}
 use Rattle.shape_buffer.specs.declared.buffer.settings.Direction.{Direction}
 use Rattle.shape_buffer.specs.declared.buffer.settings.Direction.TheVariants.{Invalid, LeftToRight, RightToLeft, TopToBottom, BottomToTop}
-use Rattle.shape_plan.specs.PlainTexts.{bare_face, plain_unicode}
+use Rattle.shape_buffer.specs.PlainUnicode.{plain_unicode}
+use Rattle.shape_plan.specs.WorkedFaces.{bare_face}
 use Rattle.shape_plan.specs.WorkedPlans.{constants_of}
 use Rattle.shape_plan.specs.Shaper.{ShaperConstants, HookMeaning}
 use Rattle.shape_plan.specs.Shapers.{no_hooks}

@@ -13,7 +13,7 @@ use Rattle.shape_buffer.specs.Walks.{items_mapped}
 use Rattle.shape_buffer.specs.Wrapping.{◌-ʷ◌}
 use Rattle.shape_buffer.specs.declared.buffer.positions.GlyphPosition.{GlyphPosition}
 use Rattle.shape_buffer.specs.declared.buffer.settings.Direction.TheVariants.{LeftToRight, RightToLeft}
-use Rattle.shape_plan.specs.PlainTexts.{plain_unicode}
+use Rattle.shape_buffer.specs.PlainUnicode.{plain_unicode}
 use Rattle.shape_plan.specs.Run.{Run}
 use Rattle.shape_plan.specs.Shapers.{no_hooks}
 use Rattle.shape_plan.specs.declared.decisions.Decisions.{Decisions}

@@ -8,7 +8,7 @@ use Rattle.shape_buffer.specs.declared.buffer.flags.ScratchFlags.{ScratchFlags}
 use Rattle.shape_buffer.specs.declared.buffer.general_category.hb_unicode_general_category_t.{hb_unicode_general_category_t}
 use Rattle.shape_buffer.specs.declared.buffer.general_category.hb_unicode_general_category_t.TheVariants.{UppercaseLetter, LowercaseLetter, TitlecaseLetter, OtherLetter, SpaceSeparator, ModifierSymbol}
 use Rattle.shape_prepare.specs.declared.graphemes.Before.{Before}
-use Rattle.shape_prepare.specs.declared.graphemes.Before.TheVariants.{Plain, OpenIndicator, Joiner}
+use Rattle.shape_prepare.specs.declared.graphemes.Before.TheVariants.{Plain, OpenIndicator, Zwj}
 
 -- the categories that no rule on continuations asks about: letters but modifier letters, and space separators
 abbrev pub is_passed : hb_unicode_general_category_t → Bool
@@ -35,9 +35,9 @@ is_regional_indicator c = nat_le 0x1F1E6 c && nat_le c 0x1F1FF
 abbrev pub is_extender : ℕ → Bool
 is_extender c = (nat_le 0xFF9E c && nat_le c 0xFF9F) || (nat_le 0xE0020 c && nat_le c 0xE007F)
 
--- a pictograph right behind a joiner
+-- a pictograph right behind a ZWJ
 abbrev pub is_joined : UnicodeMeaning → Before → ℕ → Bool
-is_joined unicode Joiner c = unicode.pictographic c
+is_joined unicode Zwj c = unicode.pictographic c
 is_joined unicode _ c = false
 
 -- behind a regional indicator that continues nothing
@@ -45,7 +45,7 @@ abbrev pub is_open : Before → Bool
 is_open OpenIndicator = true
 is_open _ = false
 
--- the rules on an item by itself and the one before: a skin tone, the second of two regional indicators, a joiner, an extender
+-- the rules on an item by itself and the one before: a skin tone, the second of two regional indicators, a ZWJ, an extender
 abbrev pub continues_by_rule : Before → Item → Bool
 continues_by_rule before item =
     let c = item.codepoint in
@@ -53,17 +53,17 @@ continues_by_rule before item =
     && ((is_modifier_symbol item.properties.general_category && is_skin_tone c) || (is_regional_indicator c && is_open before)
     || item.properties.zwj || is_extender c)
 
--- an item that continues the grapheme before it: a mark, a pictograph behind a joiner, or one by rule
+-- an item that continues the grapheme before it: a mark, a pictograph behind a ZWJ, or one by rule
 abbrev pub continues : UnicodeMeaning → Before → Item → Bool
 continues unicode before item = item.properties.continuation || is_joined unicode before item.codepoint || continues_by_rule before item
 
--- what an item is to the next one: a regional indicator is open unless it continues, and a joiner joins unless it was itself joined or
+-- what an item is to the next one: a regional indicator is open unless it continues, and a ZWJ joins unless it was itself joined or
 -- passed
 abbrev pub is_to_next : UnicodeMeaning → Before → Item → Before
 is_to_next unicode before item =
     if is_regional_indicator item.codepoint && not (continues unicode before item) then OpenIndicator
     else if item.properties.zwj && not (is_joined unicode before item.codepoint)
-    && not (is_passed item.properties.general_category) then Joiner
+    && not (is_passed item.properties.general_category) then Zwj
     else Plain
 
 abbrev pub with_continuation : Bool → Item → Item

@@ -22,16 +22,16 @@ unfolding graphemes_marked
 flags =
     record { four = refl; third_pairs_with_fourth = refl; mark_parts_them = refl; beside_the_range = refl; sub_region_tags = refl; beside_the_tags = refl }
 
--- sequences of emoji (UAX 29, GB9 and GB11); the joiner joins pictographs alone, and a pictograph without one begins anew
+-- sequences of emoji (UAX 29, GB9 and GB11); ZWJ joins pictographs alone, and a pictograph without one begins anew
 pub record Emoji : Type 0 where
   pub skin_tone : continuations_of (0x1F44B ∷ 0x1F3FB ∷ 0x1F44B ∷ 0x1F3FF ∷ []) ≡ false ∷ true ∷ false ∷ true ∷ []
   pub family : continuations_of (0x1F468 ∷ 0x200D ∷ 0x1F469 ∷ 0x200D ∷ 0x1F467 ∷ []) ≡ false ∷ true ∷ true ∷ true ∷ true ∷ []
   pub two_pictographs : continuations_of (0x1F468 ∷ 0x1F469 ∷ []) ≡ false ∷ false ∷ []
-  pub joiner_before_letter : continuations_of (0x61 ∷ 0x200D ∷ 0x61 ∷ []) ≡ false ∷ true ∷ false ∷ []
+  pub zwj_before_letter : continuations_of (0x61 ∷ 0x200D ∷ 0x61 ∷ []) ≡ false ∷ true ∷ false ∷ []
   pub joined_with_selector : continuations_of (0x2764 ∷ 0xFE0F ∷ 0x200D ∷ 0x1F525 ∷ []) ≡ false ∷ true ∷ true ∷ true ∷ []
   pub keycap : continuations_of (0x31 ∷ 0xFE0F ∷ 0x20E3 ∷ 0x32 ∷ []) ≡ false ∷ true ∷ true ∷ false ∷ []
-  pub two_joiners : continuations_of (0x1F468 ∷ 0x200D ∷ 0x200D ∷ 0x1F469 ∷ []) ≡ false ∷ true ∷ true ∷ true ∷ []
-  pub flag_behind_joiner : continuations_of (0x1F468 ∷ 0x200D ∷ 0x1F1E6 ∷ 0x1F1E6 ∷ []) ≡ false ∷ true ∷ false ∷ true ∷ []
+  pub two_zwjs : continuations_of (0x1F468 ∷ 0x200D ∷ 0x200D ∷ 0x1F469 ∷ []) ≡ false ∷ true ∷ true ∷ true ∷ []
+  pub flag_behind_zwj : continuations_of (0x1F468 ∷ 0x200D ∷ 0x1F1E6 ∷ 0x1F1E6 ∷ []) ≡ false ∷ true ∷ false ∷ true ∷ []
 
 emoji : Emoji
 unfolding graphemes_marked
@@ -39,11 +39,11 @@ emoji = record {
   skin_tone = refl;
   family = refl;
   two_pictographs = refl;
-  joiner_before_letter = refl;
+  zwj_before_letter = refl;
   joined_with_selector = refl;
   keycap = refl;
-  two_joiners = refl;
-  flag_behind_joiner = refl;
+  two_zwjs = refl;
+  flag_behind_zwj = refl;
 }
 
 -- marks continue, voice marks of halfwidth katakana too; letters, spaces and digits begin

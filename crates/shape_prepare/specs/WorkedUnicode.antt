@@ -10,7 +10,8 @@ use Rattle.shape_buffer.specs.declared.buffer.general_category.hb_unicode_genera
 use Rattle.shape_buffer.specs.declared.buffer.settings.Direction.{Direction}
 use Rattle.shape_buffer.specs.declared.buffer.settings.Direction.TheVariants.{LeftToRight, RightToLeft, TopToBottom}
 use Rattle.shape_buffer.specs.declared.buffer.settings.Script.{Script}
-use Rattle.shape_plan.specs.PlainTexts.{bare_face, plain_unicode}
+use Rattle.shape_buffer.specs.PlainUnicode.{plain_unicode}
+use Rattle.shape_plan.specs.WorkedFaces.{bare_face}
 
 -- categories, near enough to those of UAX 44 for these cases
 abbrev pub category_of : ℕ → hb_unicode_general_category_t

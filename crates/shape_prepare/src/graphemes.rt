@@ -3,7 +3,7 @@
 //! A grapheme is what a reader takes for one character: a letter with its marks, a flag of two regional
 //! indicators, an emoji with its skin tone, or several emoji joined by ZERO WIDTH JOINER. Turning a text must
 //! not part one, so each item that belongs to what stands before it is marked as a continuation. The rules
-//! are those of UAX 29 that shaping needs: marks and extenders (GB9), emoji behind a joiner (GB11), pairs
+//! are those of UAX 29 that shaping needs: marks and extenders (GB9), emoji behind a ZWJ (GB11), pairs
 //! of regional indicators (GB12, GB13).
 //!
 //! What the rules ask of the item before fits three cases, so one walk sets properties and continuations.
@@ -27,8 +27,8 @@ pub(crate) enum Before {
     Plain,
     /// A regional indicator that continues nothing, so that the next one belongs to it.
     OpenIndicator,
-    /// A joiner, so that a pictograph belongs to it.
-    Joiner,
+    /// A ZWJ, so that a pictograph belongs to it.
+    Zwj,
 }
 
 /// Sets the properties of each item that go by its character, marks the items that continue a grapheme, and
@@ -63,24 +63,24 @@ fn mark_continuation<U: hb_unicode_funcs_t>(before: Before, info: &mut hb_glyph_
     if is_regional_indicator(info.codepoint) && !continuation {
         Before::OpenIndicator
     } else if joins {
-        Before::Joiner
+        Before::Zwj
     } else {
         Before::Plain
     }
 }
 
-/// Whether a character is a pictograph right behind a joiner. Only behind a joiner is Unicode asked.
+/// Whether a character is a pictograph right behind a ZWJ. Only behind a ZWJ is Unicode asked.
 fn is_joined<U: hb_unicode_funcs_t>(before: Before, c: char) -> bool
     ensures { result ≡ is_joined_of U.unicode before c }
 {
     match before {
-        Before::Joiner => U::is_emoji_extended_pictographic(c),
+        Before::Zwj => U::is_emoji_extended_pictographic(c),
         Before::Plain | Before::OpenIndicator => false,
     }
 }
 
 /// Whether an item that is no mark continues the grapheme before it: a skin tone, the second of two regional
-/// indicators, a joiner, a voice mark of halfwidth katakana, or a tag.
+/// indicators, a ZWJ, a voice mark of halfwidth katakana, or a tag.
 fn continues_by_rule(before: Before, info: &hb_glyph_info_t) -> bool
     ensures { result ≡ continues_by_rule_of before info.now }
 {

@@ -3,7 +3,7 @@ use Rattle.std.specs.Prelude.{ℕ, List, ◌==◌, ◌&&◌, Option, Some, None,
 use Rattle.std.specs.Option.{option_map}
 use Rattle.shape_buffer.specs.Face.{FaceMeaning}
 use Rattle.shape_buffer.specs.declared.buffer.settings.GlyphId.{GlyphId}
-use Rattle.shape_plan.specs.PlainTexts.{bare_face}
+use Rattle.shape_plan.specs.WorkedFaces.{bare_face}
 use Rattle.shape_rows.specs.declared.support.faces.RowFace.{RowFace}
 
 -- the glyph of its own number, for those of the list

@@ -9,7 +9,7 @@ use Rattle.shape_buffer.specs.NoLookups.{no_layout, no_masks, no_masks-lawful, n
 use Rattle.shape_buffer.specs.PositionWalks.{positions_mapped}
 use Rattle.shape_buffer.specs.Wrapping.{◌+ʷ◌}
 use Rattle.shape_buffer.specs.declared.buffer.positions.GlyphPosition.{GlyphPosition}
-use Rattle.shape_plan.specs.PlainTexts.{bare_face}
+use Rattle.shape_plan.specs.WorkedFaces.{bare_face}
 use Rattle.shape_rows.specs.declared.support.tabled.TabledFace.{TabledFace}
 use Rattle.shape_rows.specs.declared.support.tabled.DeepFace.{DeepFace}
 

@@ -9,7 +9,7 @@ use Rattle.shape_buffer.specs.declared.buffer.flags.ScratchFlags.{ScratchFlags}
 use Rattle.shape_buffer.specs.declared.buffer.general_category.hb_unicode_general_category_t.{hb_unicode_general_category_t}
 use Rattle.shape_buffer.specs.declared.buffer.general_category.hb_unicode_general_category_t.TheVariants.{UppercaseLetter, LowercaseLetter, OtherLetter, NonspacingMark, SpacingMark, EnclosingMark, DecimalNumber, OtherSymbol, SpaceSeparator, LineSeparator}
 use Rattle.shape_buffer.specs.declared.buffer.settings.Direction.TheVariants.{Invalid, LeftToRight, RightToLeft, TopToBottom, BottomToTop}
-use Rattle.shape_plan.specs.PlainTexts.{plain_unicode}
+use Rattle.shape_buffer.specs.PlainUnicode.{plain_unicode}
 
 -- ---- hidden characters
 

@@ -1,16 +1,17 @@
--- What a text brings into a buffer, what is guessed of it, and what clearing leaves, worked by hand.
-use Rattle.std.specs.Prelude.{◌≡◌, ℕ, ◌==◌, true, false, if◌then◌else◌, List, [], ◌∷◌, map, Option, Some, None, pos, refl}
+-- What a text brings into a buffer, where its graphemes stand, what is guessed of it, and what clearing leaves, worked by hand.
+use Rattle.std.specs.Prelude.{◌≡◌, ℕ, ◌==◌, Bool, true, false, if◌then◌else◌, List, [], ◌∷◌, map, Option, Some, None, pos, refl}
 use Rattle.std.specs.Str.{chars}
 use Rattle.shape_buffer.specs.Buffer.{Buffer, new_buffer, cleared, limit_of}
+use Rattle.shape_buffer.specs.GraphemeSpans.{grapheme_spans}
 use Rattle.shape_buffer.specs.Guess.{is_specific, guessed_script, guessed_direction, guessed}
-use Rattle.shape_buffer.specs.Items.{new_item}
+use Rattle.shape_buffer.specs.Items.{Item, new_item}
 use Rattle.shape_buffer.specs.Text.{text_items, context_before, context_after}
 use Rattle.shape_buffer.specs.Unicode.{UnicodeMeaning}
 use Rattle.shape_buffer.specs.declared.buffer.settings.BufferClusterLevel.TheVariants.{MonotoneGraphemes, Characters}
 use Rattle.shape_buffer.specs.declared.buffer.settings.Direction.{Direction}
 use Rattle.shape_buffer.specs.declared.buffer.settings.Direction.TheVariants.{Invalid, LeftToRight, RightToLeft, TopToBottom, BottomToTop}
 use Rattle.shape_buffer.specs.declared.buffer.settings.Script.{Script}
-use Rattle.shape_plan.specs.PlainTexts.{plain_unicode}
+use Rattle.shape_buffer.specs.PlainUnicode.{plain_unicode}
 
 -- ---- characters of a text
 
@@ -50,6 +51,28 @@ characters_of_texts = record {
   none_before = refl;
   none_behind = refl;
 }
+
+-- ---- graphemes
+
+abbrev continuing : Bool → Item
+continuing continues =
+    let item = new_item 0x61 0 in
+    record item { properties = record item.properties { continuation = continues } }
+
+-- the spans of the graphemes of items of which these continue the one before
+abbrev spans_of : List Bool → List (ℕ × ℕ)
+spans_of each = grapheme_spans (map continuing each)
+
+pub record GraphemesOfTexts : Type 0 where
+  pub none : spans_of [] ≡ []
+  pub one : spans_of (false ∷ []) ≡ (0, 1) ∷ []
+  -- there is none before the first item
+  pub first_continues : spans_of (true ∷ false ∷ []) ≡ (0, 1) ∷ (1, 2) ∷ []
+  pub all_continue : spans_of (true ∷ true ∷ true ∷ []) ≡ (0, 3) ∷ []
+  pub long_and_short : spans_of (false ∷ false ∷ true ∷ true ∷ false ∷ true ∷ []) ≡ (0, 1) ∷ (1, 4) ∷ (4, 6) ∷ []
+
+graphemes_of_texts : GraphemesOfTexts
+graphemes_of_texts = record { none = refl; one = refl; first_continues = refl; all_continue = refl; long_and_short = refl }
 
 -- ---- guessing
 
@@ -248,6 +271,7 @@ settings = record {
 
 pub record WorkedTexts : Type 0 where
   pub characters : CharactersOfTexts
+  pub graphemes : GraphemesOfTexts
   pub scripts : GuessedScripts
   pub directions : GuessedDirections
   pub settings : Settings
@@ -255,6 +279,7 @@ pub record WorkedTexts : Type 0 where
 pub worked_texts : WorkedTexts
 worked_texts = record {
   characters = characters_of_texts;
+  graphemes = graphemes_of_texts;
   scripts = guessed_scripts;
   directions = guessed_directions;
   settings = settings;

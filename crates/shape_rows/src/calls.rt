@@ -1,8 +1,13 @@
 //! Calls on their happy path whose answers no clause of another test shows.
 
-use crate::support::{PlainUnicode, RowFace};
-use shape_buffer::buffer::{Direction, Feature, Language, Script, UnicodeBuffer, hb_tag_t};
-use shape_buffer::interfaces::{NoLookups, TableIndex, hb_ot_map_builder_t};
+use crate::support::RowFace;
+use shape_buffer::buffer::{
+    Direction, Feature, Language, ScratchFlags, Script, UnicodeBuffer, hb_glyph_info_t, hb_tag_t,
+    hb_unicode_general_category_t,
+};
+use shape_buffer::interfaces::{
+    NoLookups, PlainUnicode, TableIndex, hb_ot_map_builder_t, hb_unicode_funcs_t,
+};
 use shape_pipeline::ot_shape::{hb_ot_shape_context_t, shape_internal};
 use shape_pipeline::ot_shape_normalize::_hb_ot_shape_normalize;
 use shape_pipeline::ot_shape_plan::hb_ot_shape_plan_t;
@@ -66,6 +71,23 @@ fn a_plan_fits_what_is_guessed(rt: HostRuntime) -> Result<(), Fail> {
     text.set_direction(Direction::RightToLeft);
     assert!(rt; !plan.fits::<UnicodeDatabase>(&text));
     Ok(())
+}
+
+/// A bracket, a soft hyphen, an accent, an emoji and a variation selector, which Unicode's own functions tell apart.
+#[test]
+fn plain_characters_are_letters(rt: HostRuntime) {
+    for c in ['(', '\u{ad}', '\u{301}', '\u{1f600}', '\u{fe0f}'] {
+        let mut seen = ScratchFlags(0);
+        let mut info = hb_glyph_info_t::new(c, 0);
+        info.init_unicode_props::<PlainUnicode>(&mut seen);
+        let letter = hb_unicode_general_category_t::OtherLetter;
+        assert_eq!(rt; info._hb_glyph_info_get_general_category(), letter);
+        assert!(rt; !info._hb_glyph_info_get_ignorable());
+        assert_eq!(rt; PlainUnicode::mirrored(c), None);
+        assert_eq!(rt; PlainUnicode::script(c), Script::UNKNOWN);
+        assert!(rt; !PlainUnicode::is_emoji_extended_pictographic(c));
+        assert!(rt; !PlainUnicode::is_variation_selector(c));
+    }
 }
 
 #[test]

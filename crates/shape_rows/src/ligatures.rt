@@ -1,12 +1,11 @@
 //! Marks round a base, through the two calls for them: the components of ligatures, and the ccc that
 //! marks are placed by. The em square has 1000 units, so that the gap is 62.
 
-use crate::support::PlainUnicode;
 use crate::texts::face_of;
 use shape_buffer::buffer::{
     Direction, GlyphPosition, hb_buffer_t, hb_glyph_info_t, hb_unicode_general_category_t,
 };
-use shape_buffer::interfaces::{MapFace, NoLookups};
+use shape_buffer::interfaces::{MapFace, NoLookups, PlainUnicode};
 use shape_fallback::ot_shape_fallback::{
     _hb_ot_shape_fallback_mark_position_recategorize_marks, position_marks,
 };

@@ -1,8 +1,8 @@
 //! Whole runs with the answers that the rules give.
 
-use crate::support::{DeepShaper, EVERY_GLYPH, PlainUnicode, RowFace, StackedShaper};
+use crate::support::{DeepShaper, EVERY_GLYPH, RowFace, StackedShaper};
 use shape_buffer::buffer::{Direction, GlyphBuffer, ShapeError, ShapeFault, UnicodeBuffer};
-use shape_buffer::interfaces::{NoLookups, hb_font_t};
+use shape_buffer::interfaces::{NoLookups, PlainUnicode, hb_font_t};
 use shape_pipeline::ot_shape_plan::hb_ot_shape_plan_t;
 use shape_pipeline::ot_shaper::hb_ot_shaper_t;
 use shape_pipeline::shape::shape_with_plan;

@@ -4,7 +4,6 @@
 mod absorbing;
 mod faces;
 mod marked_unicode;
-mod plain_unicode;
 mod reversing;
 mod splitting;
 mod tabled;
@@ -13,7 +12,6 @@ mod wishing;
 pub use absorbing::AbsorbingShaper;
 pub use faces::{EVERY_GLYPH, RowFace};
 pub use marked_unicode::MarkedUnicode;
-pub use plain_unicode::PlainUnicode;
 pub use reversing::ReversingShaper;
 pub use splitting::{DeepShaper, StackedShaper};
 pub use tabled::{AddingLayout, DeepFace, TabledFace};

@@ -28,8 +28,8 @@ pub fn characters_meet_worked_cases()
     ensures { WorkedCharacters }
 {}
 
-/// The items and contexts that texts bring in, scripts and directions that are guessed, and what clearing
-/// leaves of a buffer.
+/// The items and contexts that texts bring in, the spans of graphemes, scripts and directions that are guessed,
+/// and what clearing leaves of a buffer.
 pub fn texts_meet_worked_cases()
     ensures { WorkedTexts }
 {}

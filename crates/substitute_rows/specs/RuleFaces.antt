@@ -1,7 +1,7 @@
 -- Faces that list the rules of their lookups.
 use Rattle.std.specs.Prelude.{Some}
 use Rattle.shape_buffer.specs.Face.{FaceMeaning}
-use Rattle.shape_plan.specs.PlainTexts.{bare_face}
+use Rattle.shape_plan.specs.WorkedFaces.{bare_face}
 use Rattle.substitute_rows.specs.declared.support.rule_face.RuleFace.{RuleFace}
 
 -- every character has the glyph of its own number, without width or extents; the em square has 1000 units

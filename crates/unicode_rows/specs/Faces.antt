@@ -1,7 +1,7 @@
 -- A face that has a glyph for every character.
 use Rattle.std.specs.Prelude.{pos, Some}
 use Rattle.shape_buffer.specs.Face.{FaceMeaning}
-use Rattle.shape_plan.specs.PlainTexts.{bare_face}
+use Rattle.shape_plan.specs.WorkedFaces.{bare_face}
 use Rattle.unicode_rows.specs.declared.every_glyph.EveryGlyph.{EveryGlyph}
 
 -- the glyph of a character has its number and is 600 of 1000 units wide; there are no variants, extents and tables

@@ -1,5 +1,5 @@
 -- What merging one span after the other keeps.
-use Rattle.std.proofs.Common.{◌≡◌, ◌≢◌, ℕ, ◌+◌, ◌<◌, ◌≤◌, List, [], ◌∷◌, length, get_or, drop, refl, ap, sym, subst, ◌∙◌, arith, add-one, drop-cons, inl, inr}
+use Rattle.std.proofs.Common.{◌≡◌, ◌≢◌, ℕ, ◌+◌, ◌<◌, ◌≤◌, List, [], ◌∷◌, ◌++◌, map, length, get_or, drop, refl, ap, sym, subst, ◌∙◌, arith, add-one, drop-cons, inl, inr}
 use Rattle.shape_buffer.specs.Items.{Item}
 use Rattle.shape_buffer.specs.Buffer.{Buffer}
 use Rattle.shape_buffer.specs.BufferClusters.{merge_at, merge_clusters, merge_out_clusters}
@@ -11,7 +11,7 @@ use Rattle.shape_buffer.specs.declared.buffer.settings.BufferClusterLevel.TheVar
 use Rattle.shape_buffer.proofs.Deletion.DeleteKeeps.{merged_keeps, merged_out_keeps}
 use Rattle.shape_buffer.proofs.Flags.FlagLemmas.{KeepsFlags-same, KeepsFlags-then}
 use Rattle.shape_buffer.proofs.Merging.ClusterLemmas.{merge_out-cases, merge_clusters-monotone, merge_out-monotone, level_cases}
-use Rattle.shape_buffer.proofs.Merging.KeyLemmas.{length-merge, length-merge_clusters, length-merge_out}
+use Rattle.shape_buffer.proofs.Merging.KeyLemmas.{IsKey, keys-merge_clusters, without_items, without_items-merge_clusters, length-merge, length-merge_clusters, length-merge_out}
 use Rattle.shape_buffer.proofs.Steps.KeeperLemmas.{KeepsClusters-same, KeepsClusters-then}
 
 -- ---- spans in order
@@ -21,6 +21,17 @@ pub AreSpansInOrder-lower : (low from size : ℕ) (spans : List (ℕ × ℕ)) �
     → AreSpansInOrder low size spans
 AreSpansInOrder-lower low from size [] le h = tt
 AreSpansInOrder-lower low from size (span ∷ spans) le h = (omega (arith, h.0), h.1, h.2, h.3)
+
+-- spans up to a place, and then those that begin at it or behind it
+pub AreSpansInOrder-append : (from middle size : ℕ) (before behind : List (ℕ × ℕ)) → from ≤ middle → middle ≤ size
+    → AreSpansInOrder from middle before → AreSpansInOrder middle size behind → AreSpansInOrder from size (before ++ behind)
+AreSpansInOrder-append from middle size [] behind le within h later = AreSpansInOrder-lower from middle size behind le later
+AreSpansInOrder-append from middle size (span ∷ before) behind le within h later = (
+  h.0,
+  h.1,
+  omega (arith, h.2),
+  AreSpansInOrder-append span.0 middle size before behind (omega (arith, h.1, h.2)) within h.3 later,
+)
 
 -- the spans from the one at a place on: that one, and those after it
 pub AreSpansInOrder-next : (from size : ℕ) (spans : List (ℕ × ℕ)) (i : ℕ) (d : ℕ × ℕ) → i < length spans
@@ -57,6 +68,18 @@ length-spans_merged_out (span ∷ spans) b =
     length-spans_merged_out spans (merge_out_clusters span.0 span.1 b) ∙ length-merge_out span.0 span.1 b
 
 -- ---- the rest of the buffer
+
+-- what goes by neither clusters nor the defined flags stays
+pub keys-all_merged : {B : Type 0} (key : Item → B) → IsKey key → (spans : List (ℕ × ℕ)) (b : Buffer)
+    → map key (all_merged spans b).items ≡ map key b.items
+keys-all_merged key is_key [] b = refl
+keys-all_merged key is_key (span ∷ spans) b =
+    keys-all_merged key is_key spans (merge_clusters span.0 span.1 b) ∙ keys-merge_clusters key is_key span.0 span.1 b
+
+pub without_items-all_merged : (spans : List (ℕ × ℕ)) (b : Buffer) → without_items (all_merged spans b) ≡ without_items b
+without_items-all_merged [] b = refl
+without_items-all_merged (span ∷ spans) b =
+    without_items-all_merged spans (merge_clusters span.0 span.1 b) ∙ without_items-merge_clusters span.0 span.1 b
 
 merge_out_is : (start end : ℕ) (b : Buffer) → merge_out_clusters start end b ≡ record b { items = (merge_out_clusters start end b).items }
 merge_out_is start end b = merge_out-cases (λ c. c ≡ record b { items = c.items }) start end b refl refl

@@ -10,7 +10,6 @@ mod calls;
 mod clusters;
 mod deletion;
 mod graphemes;
-mod latin_letters;
 mod no_memory;
 mod numbers;
 mod refusals;

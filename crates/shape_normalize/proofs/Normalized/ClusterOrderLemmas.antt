@@ -4,21 +4,18 @@ use Rattle.std.proofs.lemmas.List.Concat.{flat_map_single}
 use Rattle.std.specs.List.{AllByRecursion, flat_map}
 use Rattle.std.specs.Option.{option_map_or}
 use Rattle.shape_buffer.specs.Buffer.{Buffer}
-use Rattle.shape_buffer.specs.BufferClusters.{merge_clusters}
 use Rattle.shape_buffer.specs.Clusters.{clusters}
 use Rattle.shape_buffer.specs.ClusterOrder.{KeepsClusters, IsMonotoneLevel}
 use Rattle.shape_buffer.specs.Keepers.{IsClusterKeeper}
 use Rattle.shape_buffer.specs.Items.{Item, is_mark_item}
 use Rattle.shape_buffer.specs.declared.buffer.settings.GlyphId.{GlyphId}
-use Rattle.shape_buffer.proofs.Deletion.DeleteKeeps.{merged_keeps}
 use Rattle.canonical_form.proofs.Lists.DividedLemmas.{values-divided}
 use Rattle.shape_buffer.proofs.Order.DrawsInOrder.{DrawsInOrder, DrawsInOrder-behind, DrawsInOrder-again, KeepsClusters-from_draws}
 use Rattle.shape_buffer.proofs.Steps.KeeperLemmas.{KeepsClusters-same, KeepsClusters-then}
-use Rattle.shape_buffer.proofs.Merging.KeyLemmas.{length-merge_clusters}
+use Rattle.shape_buffer.proofs.MergingInOrder.EachSpanLemmas.{all_merged_keep}
 use Rattle.shape_plan.specs.Rules.{Rules}
-use Rattle.shape_normalize.proofs.RoundOne.SelectorLemmas.{variation_sequences_within}
-use Rattle.std.proofs.lemmas.List.Elements.{recursion_from_All}
-use Rattle.shape_normalize.specs.RoundOne.{part_item, whole_item, expansion_of, expanded_item, passed_item, marked_selector, variant_items, variants, is_selector_item, is_selector_sequence, is_with_marks, variation_sequences_from, merged_at, variation_sequences_merged, sequences, sequence_items, expanded, round_one}
+use Rattle.shape_normalize.proofs.RoundOne.SelectorLemmas.{variation_sequences_in_order}
+use Rattle.shape_normalize.specs.RoundOne.{part_item, whole_item, expansion_of, expanded_item, passed_item, marked_selector, variant_items, variants, is_selector_item, is_selector_sequence, is_with_marks, variation_sequences_from, variation_sequences_merged, sequences, sequence_items, expanded, round_one}
 use Rattle.shape_normalize.specs.RoundTwo.{cgj_unhidden_where_seen}
 use Rattle.shape_normalize.specs.Normalized.{normalized, HookKeepsClusters}
 use Rattle.shape_normalize.proofs.RoundOne.DrawnLemmas.{DrawsBefore, DrawsBefore-same, draws_whole, draws_pieces}
@@ -107,18 +104,10 @@ module _ (rules : Rules) where
 -- ---- round one: the variation sequences that are merged
 
 module _ (rules : Rules) where
-  merged_at_keeps : (n : ℕ) (places : List ℕ) (b : Buffer) → length b.items ≡ n → AllByRecursion (λ place. place + 2 ≤ n) places
-      → KeepsClusters (clusters b.items) (clusters (merged_at b places).items)
-  merged_at_keeps n [] b as_many within = KeepsClusters-same (clusters b.items)
-  merged_at_keeps n (place ∷ places) b as_many within =
-      let merged = merge_clusters place (place + 2) b in
-      let first = merged_keeps place (place + 2) b merged (omega (arith, within.0)) refl in
-      KeepsClusters-then _ _ _ first.0 (merged_at_keeps n places merged (length-merge_clusters place (place + 2) b ∙ as_many) within.1)
-
   variation_sequences_merged_keeps : (b : Buffer) → KeepsClusters (clusters b.items) (clusters (variation_sequences_merged rules b).items)
   variation_sequences_merged_keeps b =
-      merged_at_keeps (length b.items) (variation_sequences_from rules.unicode rules.face 0 (sequences b.items)) b refl
-      (recursion_from_All (λ place. place + 2 ≤ length b.items) _ (variation_sequences_within rules.unicode rules.face b.items))
+      (all_merged_keep 0 (variation_sequences_from rules.unicode rules.face 0 (sequences b.items)) b _
+      (variation_sequences_in_order rules.unicode rules.face b.items) refl).0
 
   -- expanding keeps the order of clusters
   pub round_one_keeps : (b : Buffer) → KeepsClusters (clusters b.items) (clusters (round_one rules b).items)

@@ -21,7 +21,7 @@ use Rattle.canonical_form.proofs.Ordering.OrderLemmas.{Swaps-in_order}
 use Rattle.canonical_form.proofs.Ordering.SwapLemmas.{all-swaps}
 use Rattle.shape_normalize.specs.Normalized.{normalized}
 use Rattle.shape_plan.specs.Reorder.{exchanged, ccc_set, Reorders}
-use Rattle.shape_normalize.specs.RoundOne.{part_item, whole_item, expansion_of, variation_sequences_merged, variation_sequences_from, merged_at, sequences, round_one, remembers_space, seen_chars, seen_expanded, seen_variant, seen_sequence, variants, is_selector_sequence, is_with_marks, with_space_fallback, with_selector_fallback}
+use Rattle.shape_normalize.specs.RoundOne.{part_item, whole_item, expansion_of, variation_sequences_merged, variation_sequences_from, sequences, round_one, remembers_space, seen_chars, seen_expanded, seen_variant, seen_sequence, variants, is_selector_sequence, is_with_marks, with_space_fallback, with_selector_fallback}
 use Rattle.shape_buffer.specs.Spans.{spans_merged_out}
 use Rattle.shape_normalize.specs.RoundThree.{Placed, recomposed_items, absorbed_spans, with_cluster_at, round_three, composed_chars}
 use Rattle.shape_normalize.specs.RoundTwo.{spans, run_cccs, spans_merged, run_in_order, run_reordered, run_settled, marks_ordered, cgj_unhidden_where_seen, cgj_unhidden}
@@ -31,7 +31,8 @@ use Rattle.shape_normalize.proofs.Normalized.NormalizedLemmas.{kept_by_rounds}
 use Rattle.shape_normalize.proofs.RoundThree.RecomposedItemLemmas.{each_recomposed}
 use Rattle.shape_normalize.proofs.Hooks.ReorderLemmas.{LawfulReorder, kept_by_steps, keys-ccc_set}
 use Rattle.shape_normalize.proofs.RoundOne.RoundOneLemmas.{whole_item_is, expanded_all}
-use Rattle.shape_buffer.proofs.MergingInOrder.EachSpanLemmas.{spans_merged_out_is}
+use Rattle.shape_normalize.proofs.RoundOne.SelectorLemmas.{variation_sequences_in_order}
+use Rattle.shape_buffer.proofs.MergingInOrder.EachSpanLemmas.{all_merged_keep, spans_merged_out_is}
 use Rattle.shape_normalize.proofs.RoundTwo.RunMarkLemmas.{AreMarks}
 use Rattle.shape_normalize.proofs.RoundOne.SequenceLemmas.{each_of_values, each_value}
 use Rattle.shape_normalize.proofs.RoundTwo.SettleLemmas.{run_placed, run_placed-in_order, length-run_placed, settled_cases, kept_by_marks_ordered, Reorders-run_reordered}
@@ -135,13 +136,7 @@ module _ (rules : Rules) (invisible : Option GlyphId) where
           seen-fold (seen_expanded rules invisible (rules.short (is_with_marks sequence)))
           (seen-expanded (rules.short (is_with_marks sequence))) sequence flags
 
--- ---- merging at many places
-
-flags-merged_at : (places : List ℕ) (b : Buffer) → KeepsFlags b (merged_at b places)
-flags-merged_at [] b = KeepsFlags-same b
-flags-merged_at (place ∷ places) b =
-    KeepsFlags-then b (merge_clusters place (place + 2) b) (merged_at (merge_clusters place (place + 2) b) places)
-    (merge_clusters_keeps place (place + 2) b) (flags-merged_at places (merge_clusters place (place + 2) b))
+-- ---- merging many spans
 
 flags-spans : (start : ℕ) (parts : List (ℕ × ℕ)) (b : Buffer)
     → KeepsFlags b (fold (λ b span. merge_clusters (start + span.0) (start + span.1) b) b parts)
@@ -173,7 +168,9 @@ module _ (rules : Rules) (flag : ℕ) where
 flags-round_one : (rules : Rules) (b : Buffer) → KeepsFlags b (round_one rules b)
 flags-round_one rules b =
     let merged = variation_sequences_merged rules b in
-    KeepsFlags-then b merged (round_one rules b) (flags-merged_at (variation_sequences_from rules.unicode rules.face 0 (sequences b.items)) b)
+    let spans = variation_sequences_from rules.unicode rules.face 0 (sequences b.items) in
+    KeepsFlags-then b merged (round_one rules b)
+    (all_merged_keep 0 spans b merged (variation_sequences_in_order rules.unicode rules.face b.items) refl).1
     (KeepsFlags-bare merged (round_one rules b) refl
     (seen-fold (seen_sequence rules b.invisible_glyph) (seen-sequence rules b.invisible_glyph)
     (sequences merged.items) merged.scratch_flags)

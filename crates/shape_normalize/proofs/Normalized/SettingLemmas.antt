@@ -8,8 +8,7 @@ use Rattle.shape_normalize.specs.RoundTwo.{marks_ordered, cgj_unhidden_where_see
 use Rattle.shape_normalize.specs.Normalized.{normalized, ordered}
 use Rattle.shape_normalize.proofs.Normalized.NormalizedLemmas.{length-ordered, kept_by_rounds}
 use Rattle.shape_normalize.proofs.Hooks.ReorderLemmas.{LawfulReorder}
-use Rattle.shape_buffer.proofs.MergingInOrder.EachSpanLemmas.{spans_merged_out_is}
-use Rattle.shape_normalize.proofs.RoundOne.SelectorLemmas.{without_items-merged_at}
+use Rattle.shape_buffer.proofs.MergingInOrder.EachSpanLemmas.{spans_merged_out_is, without_items-all_merged}
 use Rattle.shape_normalize.proofs.RoundTwo.SettleLemmas.{without_items-marks_ordered}
 
 -- ---- round one
@@ -17,11 +16,11 @@ use Rattle.shape_normalize.proofs.RoundTwo.SettleLemmas.{without_items-marks_ord
 module _ (rules : Rules) (b : Buffer) where
   pub level-round_one : (round_one rules b).cluster_level ≡ b.cluster_level
   level-round_one =
-      ap (λ (c : Buffer). c.cluster_level) (without_items-merged_at b (variation_sequences_from rules.unicode rules.face 0 (sequences b.items)))
+      ap (λ (c : Buffer). c.cluster_level) (without_items-all_merged (variation_sequences_from rules.unicode rules.face 0 (sequences b.items)) b)
 
   limit-round_one : (round_one rules b).length_limit ≡ b.length_limit
   limit-round_one =
-      ap (λ (c : Buffer). c.length_limit) (without_items-merged_at b (variation_sequences_from rules.unicode rules.face 0 (sequences b.items)))
+      ap (λ (c : Buffer). c.length_limit) (without_items-all_merged (variation_sequences_from rules.unicode rules.face 0 (sequences b.items)) b)
 
 -- ---- the ordered list
 
@@ -65,4 +64,4 @@ settings-normalized rules lawful b =
     (λ so_far. ap settings_of (without_items-marks_ordered rules.reorder lawful one) ∙ so_far)
     (λ c so_far. settings-cgj c ∙ so_far)
     (λ c so_far. ap settings_of (spans_merged_out_is (absorbed_spans (recomposed_items rules c.items)) c) ∙ so_far)
-    (ap settings_of (without_items-merged_at b (variation_sequences_from rules.unicode rules.face 0 (sequences b.items))))
+    (ap settings_of (without_items-all_merged (variation_sequences_from rules.unicode rules.face 0 (sequences b.items)) b))

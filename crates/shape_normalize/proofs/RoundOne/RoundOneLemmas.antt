@@ -8,6 +8,7 @@ use Rattle.std.proofs.lemmas.List.Folds.{list_any_none}
 use Rattle.canonical_form.proofs.Expanding.ChoiceLemmas.{choice_glyphs}
 use Rattle.canonical_form.proofs.Expanding.ExpandedLemmas.{expanded-map}
 use Rattle.shape_buffer.proofs.Merging.KeyLemmas.{IsKey}
+use Rattle.shape_buffer.proofs.MergingInOrder.EachSpanLemmas.{keys-all_merged}
 use Rattle.shape_buffer.specs.Buffer.{Buffer}
 use Rattle.canonical_form.specs.Choice.{HasGlyphOrIs}
 use Rattle.canonical_form.specs.Expanded.{expanded_in_sequences, expanded_text}
@@ -17,9 +18,9 @@ use Rattle.shape_buffer.specs.Unicode.{is_mark}
 use Rattle.shape_buffer.specs.declared.buffer.settings.GlyphId.{GlyphId}
 use Rattle.shape_normalize.specs.Normalized.{BroughtInHaveGlyphs}
 use Rattle.shape_buffer.specs.Prepared.{IsPreparedItem}
-use Rattle.shape_normalize.specs.RoundOne.{item_glyph, passed_item, part_item, whole_item, remembers_space, expanded_item, expanded, expansion_of, is_selector_item, is_selector_sequence, is_with_marks, marked_selector, variant_items, variants, sequences, sequence_items, variation_sequences_from, merged_at, variation_sequences_merged, round_one}
+use Rattle.shape_buffer.specs.Spans.{all_merged}
+use Rattle.shape_normalize.specs.RoundOne.{item_glyph, passed_item, part_item, whole_item, remembers_space, expanded_item, expanded, expansion_of, is_selector_item, is_selector_sequence, is_with_marks, marked_selector, variant_items, variants, sequences, sequence_items, variation_sequences_from, variation_sequences_merged, round_one}
 use Rattle.shape_plan.specs.Rules.{Rules, decompositions, has_glyph}
-use Rattle.shape_normalize.proofs.RoundOne.SelectorLemmas.{keys-merged_at}
 use Rattle.shape_normalize.proofs.RoundOne.SequenceLemmas.{each_part, each_of_values, each_value, each_weaker, flat_map_all, flat_map_same, flat_map_parts_all, sequence_becomes, sequences-expanded}
 
 -- ---- merging variation sequences
@@ -27,7 +28,7 @@ use Rattle.shape_normalize.proofs.RoundOne.SequenceLemmas.{each_part, each_of_va
 module _ (rules : Rules) where
   -- what goes by neither clusters nor the defined flags stays
   pub keys-variation_sequences_merged : {B : Type 0} (key : Item → B) → IsKey key → (b : Buffer) → map key (variation_sequences_merged rules b).items ≡ map key b.items
-  keys-variation_sequences_merged key is_key b = keys-merged_at key is_key b (variation_sequences_from rules.unicode rules.face 0 (sequences b.items))
+  keys-variation_sequences_merged key is_key b = keys-all_merged key is_key (variation_sequences_from rules.unicode rules.face 0 (sequences b.items)) b
 
 -- ---- what an item becomes
 
@@ -165,7 +166,8 @@ module _ (rules : Rules) where
 
   -- nothing is merged
   pub variation_sequences_merged-none : (b : Buffer) → HasNoSelectorItem b.items → variation_sequences_merged rules b ≡ b
-  variation_sequences_merged-none b none = ap (merged_at b) (variation_sequences_from-none 0 (sequences b.items) (none_by_sequences b.items none))
+  variation_sequences_merged-none b none =
+      ap (λ spans. all_merged spans b) (variation_sequences_from-none 0 (sequences b.items) (none_by_sequences b.items none))
 
   -- what an item becomes by whether it stands in a sequence with marks
   abbrev pub item_becomes : Option GlyphId → Bool → Item → List Item

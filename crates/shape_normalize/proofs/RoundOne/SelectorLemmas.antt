@@ -1,20 +1,18 @@
 -- Sequences that hold a variation selector, and the items that become one with it.
-use Rattle.std.proofs.Common.{◌≡◌, ℕ, ◌+◌, ◌≤◌, nat_lt, true, false, if◌then◌else◌, is_some, List, [], ◌∷◌, ◌++◌, map, length, sum_by, fold, replicate, refl, sym, ap, ap₂, ◌∙◌, arith, rules}
-use Rattle.std.specs.List.{All}
-use Rattle.std.proofs.lemmas.List.{length-map}
-use Rattle.std.proofs.lemmas.List.Elements.{All-nil, All-cons, All-append, All-weaker}
+use Rattle.std.proofs.Common.{◌≡◌, ℕ, ◌+◌, ◌≤◌, nat_lt, Bool, true, false, if◌then◌else◌, is_some, List, [], ◌∷◌, ◌++◌, length, sum_by, fold, replicate, refl, ap, ap₂, ◌∙◌, arith, rules}
 use Rattle.std.proofs.lemmas.List.Sums.{sum_by-cons}
 use Rattle.shape_buffer.specs.Buffer.{Buffer, cleared, limit_of}
-use Rattle.shape_buffer.specs.BufferClusters.{merge_clusters}
 use Rattle.shape_buffer.specs.Face.{FaceMeaning}
 use Rattle.shape_buffer.specs.Items.{Item, is_mark_item}
 use Rattle.shape_buffer.specs.Positions.{zero_position}
+use Rattle.shape_buffer.specs.Spans.{AreSpansInOrder}
 use Rattle.shape_buffer.specs.Unicode.{UnicodeMeaning}
 use Rattle.shape_buffer.specs.declared.buffer.flags.ScratchFlags.{ScratchFlags}
 use Rattle.canonical_form.proofs.Lists.DividedLemmas.{lengths-divided}
-use Rattle.shape_buffer.proofs.Merging.KeyLemmas.{IsKey, keys-merge_clusters, without_items, without_items-merge_clusters}
+use Rattle.shape_buffer.proofs.Merging.KeyLemmas.{without_items}
+use Rattle.shape_buffer.proofs.MergingInOrder.EachSpanLemmas.{AreSpansInOrder-lower, AreSpansInOrder-append, without_items-all_merged}
 use Rattle.shape_plan.specs.Rules.{Rules}
-use Rattle.shape_normalize.specs.RoundOne.{is_with_marks, is_selector_item, is_selector_sequence, variants, sequences, variation_sequence_glyph, variation_sequence_places, variation_sequences_from, merged_at, variation_sequences_merged, expanded, seen_sequence, round_one}
+use Rattle.shape_normalize.specs.RoundOne.{is_with_marks, is_selector_item, is_selector_sequence, variants, sequences, variation_sequence_glyph, variation_sequence_spans, variation_sequences_from, variation_sequences_merged, expanded, seen_sequence, round_one}
 
 -- a sequence has marks where it has more than one item
 pub is_with_marks-length : (sequence : List Item) → is_with_marks sequence ≡ nat_lt 1 (length sequence)
@@ -22,85 +20,70 @@ is_with_marks-length [] = refl
 is_with_marks-length (x ∷ []) = refl
 is_with_marks-length (x ∷ y ∷ rest) = search rules
 
--- ---- the places of the items that become one with the selector behind them
+-- ---- the spans of the items that become one with the selector behind them
 
--- of a place that it and the one behind it lie below this one
-abbrev IsPairBelow : ℕ → ℕ → Type 0
-IsPairBelow end place = place + 2 ≤ end
+-- a variation sequence has two items
+pub variation_sequence-two : (face : FaceMeaning) (part : List Item) → is_some (variation_sequence_glyph face part) ≡ true
+    → 2 ≤ length part
+variation_sequence-two face [] some = cc
+variation_sequence-two face (x ∷ []) some = cc
+variation_sequence-two face (x ∷ v ∷ rest) some = omega arith
 
-variation_sequences_below_further : (end further : ℕ) → end ≤ further → (places : List ℕ) → All (IsPairBelow end) places
-    → All (IsPairBelow further) places
-variation_sequences_below_further end further le places = All-weaker (IsPairBelow end) (IsPairBelow further) (λ place below. omega arith) places
+one_more_in_order : (face : FaceMeaning) (place size : ℕ) (part : List Item) (more : List (ℕ × ℕ)) → place + length part ≤ size
+    → AreSpansInOrder (place + length part) size more
+    → AreSpansInOrder place size (if is_some (variation_sequence_glyph face part) then (place, place + 2) ∷ more else more)
+one_more_in_order face place size part more within later =
+    let behind : AreSpansInOrder place size more = AreSpansInOrder-lower place (place + length part) size more (omega arith) later in
+    let P : Bool → Type 0 = λ t. is_some (variation_sequence_glyph face part) ≡ t
+    → AreSpansInOrder place size (if t then (place, place + 2) ∷ more else more) in
+    let cases : P (is_some (variation_sequence_glyph face part)) = elim (is_some (variation_sequence_glyph face part)) as P [
+      | true ↦ λ some. (omega arith, omega arith, omega (arith, within, variation_sequence-two face part some), behind)
+      | false ↦ λ none. behind
+    ] in
+    cases refl
 
-one_more_below : (face : FaceMeaning) (place end : ℕ) (part : List Item) (more : List ℕ) → place + length part ≤ end
-    → All (IsPairBelow end) more → All (IsPairBelow end) (if is_some (variation_sequence_glyph face part) then place ∷ more else more)
-one_more_below face place end [] more le below = below
-one_more_below face place end (x ∷ []) more le below = below
-one_more_below face place end (x ∷ v ∷ rest) more le below =
-    elim (is_some (face.variation_glyph x.codepoint v.codepoint)) as (λ t. All (IsPairBelow end) (if t then place ∷ more else more)) [
-      | true ↦ All-cons (IsPairBelow end) place more (omega arith) below
-      | false ↦ below
-    ]
-
-variation_sequence_places-within : (face : FaceMeaning) (place : ℕ) (parts : List (List Item))
-    → All (IsPairBelow (place + sum_by length parts)) (variation_sequence_places face place parts)
-variation_sequence_places-within face place [] = All-nil (IsPairBelow (place + 0))
-variation_sequence_places-within face place (part ∷ parts) =
+variation_sequence_spans-in_order : (face : FaceMeaning) (place size : ℕ) (parts : List (List Item)) → place + sum_by length parts ≤ size
+    → AreSpansInOrder place size (variation_sequence_spans face place parts)
+variation_sequence_spans-in_order face place size [] within = tt
+variation_sequence_spans-in_order face place size (part ∷ parts) within =
     let all = sum_by-cons length part parts in
-    let end = place + sum_by length (part ∷ parts) in
-    let more = variation_sequence_places face (place + length part) parts in
-    one_more_below face place end part more (omega (arith, all))
-    (variation_sequences_below_further _ end (omega (arith, all)) more (variation_sequence_places-within face (place + length part) parts))
+    let behind = place + length part in
+    one_more_in_order face place size part (variation_sequence_spans face behind parts) (omega (arith, all, within))
+    (variation_sequence_spans-in_order face behind size parts (omega (arith, all, within)))
 
-variation_sequences_from-within : (unicode : UnicodeMeaning) (face : FaceMeaning) (place : ℕ) (parts : List (List Item))
-    → All (IsPairBelow (place + sum_by length parts)) (variation_sequences_from unicode face place parts)
-variation_sequences_from-within unicode face place [] = All-nil (IsPairBelow (place + 0))
-variation_sequences_from-within unicode face place (sequence ∷ rest) =
+variation_sequences_from-in_order : (unicode : UnicodeMeaning) (face : FaceMeaning) (place size : ℕ) (parts : List (List Item))
+    → place + sum_by length parts ≤ size → AreSpansInOrder place size (variation_sequences_from unicode face place parts)
+variation_sequences_from-in_order unicode face place size [] within = tt
+variation_sequences_from-in_order unicode face place size (sequence ∷ rest) within =
     let all = sum_by-cons length sequence rest in
-    let more = variation_sequences_from unicode face (place + length sequence) rest in
-    let here = variation_sequence_places face place (variants unicode sequence) in
-    let end = place + sum_by length (sequence ∷ rest) in
+    let behind = place + length sequence in
+    let here = variation_sequence_spans face place (variants unicode sequence) in
+    let more = variation_sequences_from unicode face behind rest in
     let as_long : sum_by length (variants unicode sequence) ≡ length sequence = lengths-divided (is_selector_item unicode) sequence in
-    let later : All (IsPairBelow end) more = variation_sequences_below_further _ end (omega (arith, all)) more
-    (variation_sequences_from-within unicode face (place + length sequence) rest) in
-    elim (is_selector_sequence unicode sequence) as (λ t. All (IsPairBelow end) (if t then here ++ more else more)) [
-      | true ↦ All-append (IsPairBelow end) here more (variation_sequences_below_further _ end (omega (arith, all, as_long)) here
-          (variation_sequence_places-within face place (variants unicode sequence))) later
-      | false ↦ later
+    let later = variation_sequences_from-in_order unicode face behind size rest (omega (arith, all, within)) in
+    elim (is_selector_sequence unicode sequence) as (λ t. AreSpansInOrder place size (if t then here ++ more else more)) [
+      | true ↦ AreSpansInOrder-append place behind size here more (omega arith) (omega (arith, all, within))
+          (variation_sequence_spans-in_order face place behind (variants unicode sequence) (omega (arith, as_long))) later
+      | false ↦ AreSpansInOrder-lower place behind size more (omega arith) later
     ]
 
--- each variation sequence lies in the list
-pub variation_sequences_within : (unicode : UnicodeMeaning) (face : FaceMeaning) (items : List Item)
-    → All (λ place. place + 2 ≤ length items) (variation_sequences_from unicode face 0 (sequences items))
-variation_sequences_within unicode face items =
-    variation_sequences_below_further _ (length items) (omega (arith, lengths-divided is_mark_item items)) _
-    (variation_sequences_from-within unicode face 0 (sequences items))
+-- variation sequences stand in order, and lie in the list
+pub variation_sequences_in_order : (unicode : UnicodeMeaning) (face : FaceMeaning) (items : List Item)
+    → AreSpansInOrder 0 (length items) (variation_sequences_from unicode face 0 (sequences items))
+variation_sequences_in_order unicode face items =
+    variation_sequences_from-in_order unicode face 0 (length items) (sequences items) (omega (arith, lengths-divided is_mark_item items))
 
--- ---- merging them
-
-pub without_items-merged_at : (b : Buffer) (places : List ℕ) → without_items (merged_at b places) ≡ without_items b
-without_items-merged_at b [] = refl
-without_items-merged_at b (place ∷ places) =
-    without_items-merged_at (merge_clusters place (place + 2) b) places ∙ without_items-merge_clusters place (place + 2) b
-
-pub keys-merged_at : {B : Type 0} (key : Item → B) → IsKey key → (b : Buffer) (places : List ℕ)
-    → map key (merged_at b places).items ≡ map key b.items
-keys-merged_at key is_key b [] = refl
-keys-merged_at key is_key b (place ∷ places) =
-    keys-merged_at key is_key (merge_clusters place (place + 2) b) places ∙ keys-merge_clusters key is_key place (place + 2) b
-
-pub length-merged_at : (b : Buffer) (places : List ℕ) → length (merged_at b places).items ≡ length b.items
-length-merged_at b places =
-    let key : Item → ℕ = λ item. 0 in
-    sym (length-map (merged_at b places).items key)
-    ∙ ap length (keys-merged_at key (record { by_cluster = λ item cluster. refl; by_break = λ item. refl }) b places)
-    ∙ length-map b.items key
+-- those found in a list that is the buffer's
+pub found_in_order : (unicode : UnicodeMeaning) (face : FaceMeaning) (items infos : List Item) (spans : List (ℕ × ℕ)) → infos ≡ items
+    → spans ≡ variation_sequences_from unicode face 0 (sequences infos) → AreSpansInOrder 0 (length items) spans
+found_in_order unicode face items infos spans same found =
+    rw (found, same) (variation_sequences_in_order unicode face items)
 
 -- ---- round one
 
 module _ (rules : Rules) (b merged : Buffer) (is_merged : merged ≡ variation_sequences_merged rules b) where
   settings : without_items merged ≡ without_items b
-  settings = ap without_items is_merged ∙ without_items-merged_at b (variation_sequences_from rules.unicode rules.face 0 (sequences b.items))
+  settings = ap without_items is_merged ∙ without_items-all_merged (variation_sequences_from rules.unicode rules.face 0 (sequences b.items)) b
 
   -- merging keeps the limit, and what clearing keeps
   pub limit-merged : limit_of merged ≡ limit_of b

@@ -178,12 +178,12 @@ all-stay-seen unicode [] flags seen = seen
 all-stay-seen unicode (item ∷ items) flags seen =
     all-stay-seen unicode items (seen_item unicode flags item) (stays-seen unicode item.codepoint flags seen)
 
-no_rule : (passed symbol mark skin regional joiner extender : Bool) (t : Bool) → mark ≡ false → skin ≡ false → regional ≡ false
-    → joiner ≡ false → extender ≡ false
-    → (mark && t || false || (not passed && ((symbol && skin) || (regional && false) || joiner || extender))) ≡ false
-no_rule true symbol mark skin regional joiner extender t m s r j e = rw m refl
-no_rule false true mark skin regional joiner extender t m s r j e = rw (m, s, r, j, e) refl
-no_rule false false mark skin regional joiner extender t m s r j e = rw (m, r, j, e) refl
+no_rule : (passed symbol mark skin regional zwj extender : Bool) (t : Bool) → mark ≡ false → skin ≡ false → regional ≡ false
+    → zwj ≡ false → extender ≡ false
+    → (mark && t || false || (not passed && ((symbol && skin) || (regional && false) || zwj || extender))) ≡ false
+no_rule true symbol mark skin regional zwj extender t m s r j e = rw m refl
+no_rule false true mark skin regional zwj extender t m s r j e = rw (m, s, r, j, e) refl
+no_rule false false mark skin regional zwj extender t m s r j e = rw (m, r, j, e) refl
 
 ascii-continues : (unicode : UnicodeMeaning) (item : Item) → beyond_ascii item.codepoint ≡ false
     → continues unicode Plain (with_unicode_props unicode item) ≡ false
@@ -206,8 +206,8 @@ none-marked unicode (item ∷ items) flags unseen = elim (cases_Bool (beyond_asc
       let stays = ascii-continues unicode item within in
       let small : item.codepoint < 128 = grind (arith, nat_tests) in
       let no_indicator : is_regional_indicator item.codepoint ≡ false = grind (arith, nat_tests) in
-      let no_joiner : (item.codepoint == 0x200D) ≡ false = grind (arith, nat_tests) in
-      let plain : is_to_next unicode Plain (with_unicode_props unicode item) ≡ Plain = rw (no_indicator, no_joiner) refl in
+      let no_zwj : (item.codepoint == 0x200D) ≡ false = grind (arith, nat_tests) in
+      let plain : is_to_next unicode Plain (with_unicode_props unicode item) ≡ Plain = rw (no_indicator, no_zwj) refl in
       (stays, rw plain (none-marked unicode items (seen_item unicode flags item) unseen))
 ]
 

@@ -35,7 +35,7 @@ impl hb_buffer_t {
           positions = swap self.old.positions i j;
         } }
     {
-        self.infos.swap(i, j);
+        self.swap_infos(i, j);
         self.positions.swap(i, j);
     }
 

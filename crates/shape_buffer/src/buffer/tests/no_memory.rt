@@ -2,13 +2,13 @@
 //! and the second one makes each such call besides; the gate's script counts the growths of both, which must be
 //! as many.
 
-use super::latin_letters::LatinLetters;
 use super::with_every_property;
 use crate::buffer::{
     BufferClusterLevel, BufferFlags, Direction, GlyphId, GlyphPosition, GlyphPropsFlags, Language,
     ScratchFlags, Script, UnicodeBuffer, hb_buffer_t, hb_glyph_info_t, hb_tag_t,
     hb_unicode_general_category_t,
 };
+use crate::interfaces::PlainUnicode;
 use crate::position_walks::update_positions;
 use crate::walks::update_items;
 use std::alloc::Global;
@@ -63,18 +63,17 @@ fn count_settings(buffer: &hb_buffer_t) -> usize {
 
 /// Guesses script and direction, which are set, and then those of the text.
 fn guess(rt: &impl Abort, buffer: &mut hb_buffer_t) {
-    buffer.guess_segment_properties::<LatinLetters>();
+    buffer.guess_segment_properties::<PlainUnicode>();
     assert_eq!(rt; buffer.direction(), Direction::RightToLeft);
     buffer.set_direction(Direction::Invalid);
     buffer.set_script(None);
-    let latin = Script(hb_tag_t::from_bytes(b"Latn"));
-    assert_eq!(rt; buffer.guessed_script::<LatinLetters>(), Some(latin));
+    assert_eq!(rt; buffer.guessed_script::<PlainUnicode>(), None);
     assert_eq!(rt;
-        buffer.guessed_direction::<LatinLetters>(),
+        buffer.guessed_direction::<PlainUnicode>(),
         Direction::LeftToRight
     );
-    buffer.guess_segment_properties::<LatinLetters>();
-    assert_eq!(rt; buffer.script(), Some(latin));
+    buffer.guess_segment_properties::<PlainUnicode>();
+    assert_eq!(rt; buffer.direction(), Direction::LeftToRight);
 }
 
 /// Merges clusters and marks spans, at a level.
@@ -163,7 +162,7 @@ fn write_items(buffer: &mut hb_buffer_t) {
 fn unmarked(info: &hb_glyph_info_t) -> hb_glyph_info_t {
     let mut info = *info;
     let mut seen = ScratchFlags(0);
-    info.init_unicode_props::<LatinLetters>(&mut seen);
+    info.init_unicode_props::<PlainUnicode>(&mut seen);
     info
 }
 

@@ -1,7 +1,9 @@
 //! Items that become one with the variation selector behind them: their clusters are merged first.
 ghost use Rattle.std.specs.Prelude.{◌≡◌, ◌+◌, ◌<◌, ◌^◌, ◌++◌, length, IfOk, OnOk, OnErr};
-ghost use Rattle.shape_normalize.specs.RoundOne.{merged_at, variation_sequence_glyph as variation_sequence_glyph_of};
-ghost use Rattle.shape_normalize.specs.RoundOne.{variation_sequence_places, variation_sequences_from, sequences, variants};
+ghost use Rattle.shape_buffer.specs.Spans.{all_merged};
+ghost use Rattle.shape_normalize.specs.RoundOne.{sequences, variants, variation_sequences_from};
+ghost use Rattle.shape_normalize.specs.RoundOne.{variation_sequence_spans};
+ghost use Rattle.shape_normalize.specs.RoundOne.{variation_sequence_glyph as variation_sequence_glyph_of};
 
 use crate::ot_shape_normalize::round_one::sequences::{
     first_sequence, first_variant, is_selector_sequence,
@@ -19,22 +21,22 @@ fn variation_sequence_glyph<F: hb_font_t>(face: &F, part: &[hb_glyph_info_t]) ->
     face.glyph_variation_index(info.codepoint, selector.codepoint)
 }
 
-/// Adds the places of the items of a sequence that become one with the selector behind them.
+/// Adds the spans of the items of a sequence that become one with the selector behind them.
 fn push_variation_sequences<U: hb_unicode_funcs_t, F: hb_font_t>(
     face: &F,
     start: usize,
     sequence: &[hb_glyph_info_t],
-    places: &mut Vec<usize>,
+    spans: &mut Vec<(usize, usize)>,
 ) -> Result<(), AllocError>
     requires { start + length sequence.now < 2 ^ 64 }
-    ensures { OnOk result (places.new.items ≡ places.old.items
-        ++ variation_sequence_places (F.face face.now) start (variants U.unicode sequence.now)) }
+    ensures { OnOk result (spans.new.items ≡ spans.old.items
+        ++ variation_sequence_spans (F.face face.now) start (variants U.unicode sequence.now)) }
 {
     let mut place = start;
     let mut rest = sequence;
     'parts: while let Some((part, behind)) = first_variant::<U>(rest) {
         if variation_sequence_glyph(face, part).is_some() {
-            places.push(place)?;
+            spans.push((place, place + 2))?;
         }
         place += part.len();
         rest = behind;
@@ -42,27 +44,27 @@ fn push_variation_sequences<U: hb_unicode_funcs_t, F: hb_font_t>(
     Ok(())
 }
 
-/// The places of all items that become one with the selector behind them. Takes no memory where there are
+/// The spans of all items that become one with the selector behind them. Takes no memory where there are
 /// none.
 fn variation_sequences<U: hb_unicode_funcs_t, F: hb_font_t>(
     alloc: Global,
     face: &F,
     infos: &[hb_glyph_info_t],
-) -> Result<Vec<usize>, AllocError>
-    ensures { IfOk result (λ places. places.items
+) -> Result<Vec<(usize, usize)>, AllocError>
+    ensures { IfOk result (λ spans. spans.items
         ≡ variation_sequences_from U.unicode (F.face face.now) 0 (sequences infos.now)) }
 {
-    let mut places = Vec::new(alloc);
+    let mut spans = Vec::new(alloc);
     let mut place = 0;
     let mut rest = infos;
     'sequences: while let Some((sequence, behind)) = first_sequence(rest) {
         if is_selector_sequence::<U>(sequence) {
-            push_variation_sequences::<U, F>(face, place, sequence, &mut places)?;
+            push_variation_sequences::<U, F>(face, place, sequence, &mut spans)?;
         }
         place += sequence.len();
         rest = behind;
     }
-    Ok(places)
+    Ok(spans)
 }
 
 /// Merges the clusters of each item that becomes one with the selector behind it, and of that selector.
@@ -72,13 +74,11 @@ pub(super) fn merge_variation_sequences<U: hb_unicode_funcs_t, F: hb_font_t>(
     buffer: &mut hb_buffer_t,
 ) -> Result<(), AllocError>
     ensures merged { OnOk result (buffer.new
-        ≡ merged_at buffer.old (variation_sequences_from U.unicode (F.face face.now) 0
-        (sequences buffer.old.items))) }
+        ≡ all_merged (variation_sequences_from U.unicode (F.face face.now) 0
+        (sequences buffer.old.items)) buffer.old) }
     ensures err { OnErr result (buffer.new ≡ buffer.old) }
 {
-    let places = variation_sequences::<U, F>(alloc, face, buffer.infos())?;
-    'merges: for place in &places {
-        buffer.merge_clusters(*place, *place + 2);
-    }
+    let spans = variation_sequences::<U, F>(alloc, face, buffer.infos())?;
+    buffer.merge_spans(&spans);
     Ok(())
 }

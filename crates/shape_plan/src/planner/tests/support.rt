@@ -1,18 +1,14 @@
-//! What the tests of planning bring: functions of Unicode by which every character is a letter, and faces
-//! and an engine whose answers are the bits of a number.
+//! What the tests of planning bring: faces and an engine whose answers are the bits of a number.
 ghost use Rattle.std.specs.Prelude.{◌≡◌};
 ghost use Rattle.shape_buffer.specs.NoLookups.{no_lookups, no_lookups-lawful};
-ghost use Rattle.shape_plan.specs.PlainTexts.{plain_unicode, plain_unicode-lawful, answers_of};
-ghost use Rattle.shape_plan.specs.PlainTexts.{layouts_of, masks_of, masks_of-lawful};
-ghost use Rattle.shape_plan.specs.PlainTexts.{has as answer};
+ghost use Rattle.shape_plan.specs.WorkedFaces.{answers_of, layouts_of, masks_of, masks_of-lawful};
+ghost use Rattle.shape_plan.specs.WorkedFaces.{has as answer};
 
 use shape_buffer::buffer::{
-    Direction, Feature, GlyphId, Language, Script, ShapeError, hb_buffer_t, hb_mask_t, hb_tag_t,
+    Feature, GlyphId, Language, Script, ShapeError, hb_buffer_t, hb_mask_t, hb_tag_t,
 };
-use shape_buffer::interfaces::space_types::{NOT_SPACE, space_t};
 use shape_buffer::interfaces::{
     TableIndex, hb_font_t, hb_glyph_extents_t, hb_ot_layout_t, hb_ot_map_builder_t, hb_tables_t,
-    hb_unicode_funcs_t, hb_unicode_general_category_t,
 };
 use std::alloc::Global;
 
@@ -39,62 +35,6 @@ pub const GPOS_KERNS: u32 = 512;
 pub const GLYPH_CLASSES: u32 = 1024;
 /// Every mask is 8.
 pub const MASKS: u32 = 2048;
-
-pub struct PlainUnicode;
-
-impl hb_unicode_funcs_t for PlainUnicode {
-    ghost unicode = { plain_unicode };
-
-    ghost lawful = { plain_unicode-lawful };
-
-    fn general_category(_c: char) -> hb_unicode_general_category_t {
-        hb_unicode_general_category_t::OtherLetter
-    }
-
-    fn modified_combining_class(_c: char) -> u8 {
-        0
-    }
-
-    fn decompose(_c: char) -> Option<(char, char)> {
-        None
-    }
-
-    fn compose(_a: char, _b: char) -> Option<char> {
-        None
-    }
-
-    fn mirrored(_c: char) -> Option<char> {
-        None
-    }
-
-    fn vertical(_c: char) -> Option<char> {
-        None
-    }
-
-    fn space_fallback(_c: char) -> space_t {
-        NOT_SPACE
-    }
-
-    fn is_default_ignorable(_c: char) -> bool {
-        false
-    }
-
-    fn is_emoji_extended_pictographic(_c: char) -> bool {
-        false
-    }
-
-    fn is_variation_selector(_c: char) -> bool {
-        false
-    }
-
-    fn script(_c: char) -> Script {
-        Script::UNKNOWN
-    }
-
-    fn script_direction(_s: Script) -> Option<Direction> {
-        None
-    }
-}
 
 /// A face whose tables are bits of a number, and that has no glyphs.
 #[derive(Clone, Copy, Debug)]

@@ -1,10 +1,13 @@
-//! Functions of Unicode by which every character is a letter that neither splits nor composes.
-ghost use Rattle.shape_plan.specs.PlainTexts.{plain_unicode, plain_unicode-lawful};
+//! Functions of Unicode that need no data.
+ghost use Rattle.shape_buffer.specs.PlainUnicode.{plain_unicode, plain_unicode-lawful};
 
-use shape_buffer::buffer::{Direction, Script};
-use shape_buffer::interfaces::space_types::{NOT_SPACE, space_t};
-use shape_buffer::interfaces::{hb_unicode_funcs_t, hb_unicode_general_category_t};
+use crate::buffer::{Direction, Script, hb_unicode_general_category_t};
+use crate::interfaces::space_types::{NOT_SPACE, space_t};
+use crate::interfaces::unicode_funcs::hb_unicode_funcs_t;
 
+/// The functions of Unicode by which every character is a letter of an unknown script: none is a mark,
+/// ignorable or a selector, and none splits, composes or has another form. Start from it where glyphs and
+/// lookups are tested, or where there is no data yet.
 pub struct PlainUnicode;
 
 impl hb_unicode_funcs_t for PlainUnicode {

@@ -1,45 +1,10 @@
--- What the tests of planning bring: functions of Unicode by which every character is a letter of an unknown script, and faces and an engine
--- that are a number.
+-- What the tests of planning bring: faces and an engine that are a number.
 use Rattle.std.specs.Prelude.{◌==◌, ℕ, pos, Bool, true, false, Some, None, refl, if◌then◌else◌}
 use Rattle.std.specs.Int.RustNames.{bit_and}
 use Rattle.std.proofs.Common.{rules}
 use Rattle.shape_buffer.specs.Face.{FaceMeaning}
 use Rattle.shape_buffer.specs.Layout.{LayoutMeaning, MapMeaning, LawfulMasks, HasNoDefinedFlag}
-use Rattle.shape_buffer.specs.Unicode.{UnicodeMeaning, LawfulUnicode}
-use Rattle.shape_buffer.specs.declared.buffer.general_category.hb_unicode_general_category_t.TheVariants.{OtherLetter}
 use Rattle.shape_buffer.specs.declared.interfaces.map_request.TableIndex.TheVariants.{GSUB, GPOS}
-
-abbrev pub plain_unicode : UnicodeMeaning
-plain_unicode = record {
-  category = λ _. OtherLetter;
-  ccc = λ _. 0;
-  split = λ _. None;
-  height = λ _. 0;
-  compose = λ _ _. None;
-  mirrored = λ _. None;
-  vertical = λ _. None;
-  space_fallback = λ _. 0;
-  ignorable = λ _. false;
-  pictographic = λ _. false;
-  selector = λ _. false;
-  script = λ _. record { 0 = record { 0 = 0x5A7A7A7A } };
-  script_direction = λ _. None;
-}
-
-pub plain_unicode-lawful : LawfulUnicode plain_unicode
-plain_unicode-lawful = record {
-  marks_have_ccc = λ c marked. absurd (marked refl);
-  ascii_is_no_mark = λ c _. refl;
-  mirrors_are_plain = λ c d e. cc;
-  verticals_are_plain = λ c d e. cc;
-  splits_fall = record {
-    height_falls = record { falls = λ c a b splits. cc };
-    second_is_last = λ c a b splits. cc;
-    first_ccc = λ c a b marked. absurd (marked refl);
-    second_ccc = λ c a b marked. absurd (marked refl);
-  };
-  composes_soundly = record { equivalent = λ a b c joins. cc };
-}
 
 -- a face without glyphs and tables, of 1000 units per em, for rows to begin with
 abbrev pub bare_face : FaceMeaning

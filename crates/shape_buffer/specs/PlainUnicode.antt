@@ -1,11 +1,10 @@
--- What the tests of the buffer bring: functions of Unicode by which every character is a letter of the Latin script.
+-- Functions of Unicode by which every character is a letter of an unknown script, which neither splits nor composes.
 use Rattle.std.specs.Prelude.{false, Some, None, refl}
 use Rattle.shape_buffer.specs.Unicode.{UnicodeMeaning, LawfulUnicode}
 use Rattle.shape_buffer.specs.declared.buffer.general_category.hb_unicode_general_category_t.TheVariants.{OtherLetter}
-use Rattle.shape_buffer.specs.declared.buffer.settings.Direction.TheVariants.{LeftToRight}
 
-abbrev pub latin_letters : UnicodeMeaning
-latin_letters = record {
+abbrev pub plain_unicode : UnicodeMeaning
+plain_unicode = record {
   category = λ _. OtherLetter;
   ccc = λ _. 0;
   split = λ _. None;
@@ -17,12 +16,12 @@ latin_letters = record {
   ignorable = λ _. false;
   pictographic = λ _. false;
   selector = λ _. false;
-  script = λ _. record { 0 = record { 0 = 0x4C61746E } };
-  script_direction = λ _. Some LeftToRight;
+  script = λ _. record { 0 = record { 0 = 0x5A7A7A7A } };
+  script_direction = λ _. None;
 }
 
-pub latin_letters-lawful : LawfulUnicode latin_letters
-latin_letters-lawful = record {
+pub plain_unicode-lawful : LawfulUnicode plain_unicode
+plain_unicode-lawful = record {
   marks_have_ccc = λ c marked. absurd (marked refl);
   ascii_is_no_mark = λ c _. refl;
   mirrors_are_plain = λ c d e. cc;
