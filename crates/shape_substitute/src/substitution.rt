@@ -149,6 +149,15 @@ where
     }
 }
 
+/// Whether the plan substitutes by `morx` and has the rest positioned by the table `GPOS`.
+fn deletes_before_gpos<F, M, S, D>(plan: &hb_ot_shape_plan_t<'_, S, M::Map, D>) -> bool
+where
+    M: hb_ot_layout_t<F>,
+    ensures { result ≡ plan.now.decisions.apply_morx && plan.now.decisions.apply_gpos }
+{
+    plan.apply_morx() && plan.apply_gpos()
+}
+
 /// Takes out the glyphs that `morx` has deleted, where the table `GPOS` is to see the rest.
 fn remove_deleted_before_gpos<F, M, S, D>(
     plan: &hb_ot_shape_plan_t<'_, S, M::Map, D>,
@@ -160,7 +169,7 @@ where
     ensures { Made (step_if (plan.now.decisions.apply_morx && plan.now.decisions.apply_gpos)
         (M.lookups plan.now.ot_map face.now).aat_remove_deleted) buffer.old buffer.new }
 {
-    if plan.apply_morx() && plan.apply_gpos() {
+    if deletes_before_gpos::<F, M, S, D>(plan) {
         M::aat_remove_deleted(buffer);
     }
 }
