@@ -21,8 +21,8 @@ pub use shape_buffer::{
     BufferClusterLevel, BufferFlags, Direction, Feature, GlyphBuffer, GlyphId, GlyphPosition,
     Language, MapFace, Metrics, NoLookups, PlainUnicode, SAFE_TO_INSERT_TATWEEL, Script,
     ShapeError, ShapeFault, UNSAFE_TO_BREAK, UNSAFE_TO_CONCAT, UnicodeBuffer, hb_buffer_t,
-    hb_font_t, hb_glyph_extents_t, hb_glyph_info_t, hb_mask_t, hb_ot_layout_t,
-    hb_ot_map_builder_t, hb_tables_t, hb_tag_t, hb_unicode_funcs_t,
+    hb_font_t, hb_glyph_extents_t, hb_glyph_info_t, hb_mask_t, hb_ot_layout_t, hb_ot_map_builder_t,
+    hb_tables_t, hb_tag_t, hb_unicode_funcs_t,
 };
 pub use shape_fallback::ot_shape_fallback;
 pub use shape_normalize::ot_shape_normalize;
