@@ -6,7 +6,7 @@ use Rattle.shape_buffer.specs.declared.buffer.general_category.hb_unicode_genera
 use Rattle.shape_buffer.specs.declared.buffer.settings.BufferClusterLevel.TheVariants.{Characters}
 use Rattle.shape_plan.specs.Plan.{Plan}
 use Rattle.shape_plan.specs.Rules.{goes_short, mode_recomposes, used_mode}
-use Rattle.shape_normalize.specs.RoundOne.{is_fallback_space, item_glyph, expanded_item, passed_item, variant_items, sequences, is_selector_sequence, variation_sequences_merged, round_one}
+use Rattle.shape_normalize.specs.RoundOne.{is_fallback_space, item_glyph, expanded_item, passed_item, variant_items, sequences, is_selector_sequence, variation_sequence_spans, variation_sequences_from, variation_sequences_merged, round_one}
 use Rattle.shape_normalize.specs.WorkedWorld.{world, face_of, rules_in, item, buffer_of, at, glyph, marked}
 
 -- which modes go short, by themselves and in a sequence, and which compose
@@ -171,6 +171,14 @@ pub record VariantsWorked : Type 0 where
       ≡ (false, false) ∷ (true, true) ∷ (false, true) ∷ []
   pub ignorable_goes : map selects (variant_items (face_of []) (Some (record { 0 = 4 })) (item 0x62 0 ∷ item 0xFE00 1 ∷ []))
       ≡ (false, false) ∷ (true, false) ∷ []
+  -- where they stand: in parts from a place on, and in sequences
+  pub spans_of_parts : variation_sequence_spans (face_of (0xFE00 ∷ [])) 2
+      (map (map (λ c. item c 0)) ((0x62 ∷ []) ∷ (0x61 ∷ 0xFE00 ∷ 0xFE00 ∷ []) ∷ (0x62 ∷ 0xFE00 ∷ []) ∷ (0x61 ∷ []) ∷ (0x61 ∷ 0xFE00 ∷ []) ∷ []))
+      ≡ (3, 5) ∷ (9, 11) ∷ []
+  pub spans_of_sequences : variation_sequences_from world (face_of (0xFE00 ∷ [])) 0 (sequences (map (λ c. item c 0)
+      (0x62 ∷ 0x61 ∷ 0xFE00 ∷ 0xFE00 ∷ 0x62 ∷ 0xFE00 ∷ 0x61 ∷ 0x301 ∷ 0xFE00 ∷ 0x61 ∷ 0x61 ∷ 0xFE00 ∷ []))) ≡ (1, 3) ∷ (10, 12) ∷ []
+  pub spans_from_a_place : variation_sequences_from world (face_of (0xFE00 ∷ [])) 5 (sequences (item 0x61 0 ∷ item 0xFE00 0 ∷ [])) ≡ (5, 7) ∷ []
+  pub no_spans : variation_sequences_from world (face_of (0xFE00 ∷ [])) 0 (sequences []) ≡ []
   -- two items that become one are merged first
   pub variation_sequence_merged : map at (round_one (rules_in 1 (0x61 ∷ 0xFE00 ∷ [])) (buffer_of (item 0x61 1 ∷ item 0xFE00 0 ∷ []))).items
       ≡ (0x61, 0) ∷ []
@@ -191,6 +199,10 @@ variants_worked = record {
   no_variation_sequence = refl;
   marks_selector = refl;
   ignorable_goes = refl;
+  spans_of_parts = refl;
+  spans_of_sequences = refl;
+  spans_from_a_place = refl;
+  no_spans = refl;
   variation_sequence_merged = refl;
   variation_sequence_merged_left = refl;
   apart = refl;

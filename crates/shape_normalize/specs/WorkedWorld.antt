@@ -11,6 +11,7 @@ use Rattle.shape_buffer.specs.UnicodeProps.{with_unicode_props}
 use Rattle.shape_buffer.specs.declared.buffer.general_category.hb_unicode_general_category_t.{hb_unicode_general_category_t}
 use Rattle.shape_buffer.specs.declared.buffer.general_category.hb_unicode_general_category_t.TheVariants.{LowercaseLetter, OtherLetter, OtherSymbol, NonspacingMark, EnclosingMark, SpaceSeparator}
 use Rattle.shape_plan.specs.Rules.{Rules, goes_short, mode_recomposes}
+use Rattle.shape_plan.specs.WorkedFaces.{bare_face}
 
 -- U+20DD encloses and has ccc 0, and so has the selector U+FE00; U+E001 is U+0061 enclosed, a symbol that is ignorable; the rest are
 -- letters
@@ -67,16 +68,9 @@ world = record {
 -- a face in which each of these characters has the glyph of its own number; U+0061 with U+FE00 behind it has glyph 7 where the face has
 -- U+FE00
 abbrev pub face_of : List ℕ → FaceMeaning
-face_of chars = record {
+face_of chars = record bare_face {
   nominal_glyph = λ c. option_map (λ known. record { 0 = known }) (find (λ known. known == c) chars);
   variation_glyph = λ c v. if c == 0x61 then option_map (λ known. record { 0 = 7 }) (find (λ known. known == v) chars) else None;
-  h_advance = λ g. pos 0;
-  v_advance = λ g. pos 0;
-  h_origin = λ g. pos 0;
-  v_origin = λ g. pos 0;
-  extents = λ g. None;
-  units_per_em = 1000;
-  tables = record { gsub = false; gpos = false; morx = false; kerx = false; trak = false };
 }
 
 -- the rules in a mode over such a face, without a reorder hook

@@ -23,7 +23,7 @@ is_with_marks-length (x ∷ y ∷ rest) = search rules
 -- ---- the spans of the items that become one with the selector behind them
 
 -- a variation sequence has two items
-pub variation_sequence-two : (face : FaceMeaning) (part : List Item) → is_some (variation_sequence_glyph face part) ≡ true
+variation_sequence-two : (face : FaceMeaning) (part : List Item) → is_some (variation_sequence_glyph face part) ≡ true
     → 2 ≤ length part
 variation_sequence-two face [] some = cc
 variation_sequence-two face (x ∷ []) some = cc
