@@ -1,7 +1,8 @@
 #!/bin/sh
 # Wrong bodies are edits of code: one that changes a contract, a definition or a proof shows nothing. Refuses a
 # must-fail edit that brings in a clause, one whose old text stands in a clause (on whichever line of it), and one
-# of a file that isn't code.
+# of a file that isn't code. A planted rule is an edit of a definition: refuses one whose old text
+# doesn't stand on one line of its file alone.
 cd "$(dirname "$0")/.." || exit 1
 
 # Whether TEXT stands in a clause of the file: from the clause's word to the brace that closes it.
@@ -38,5 +39,17 @@ for edit in crates/*/must-fail/*.edit; do
                 fi ;;
         esac
     done < "$edit"
+done
+for plant in tests/rules/*.plant; do
+    while IFS= read -r line; do
+        case $line in
+            "file: "*) file=${line#file: } ;;
+            "old: "*)
+                if [ "$(grep -cF -- "${line#old: }" "$file")" -ne 1 ]; then
+                    echo "$plant: its old text doesn't stand on one line of $file: ${line#old: }"
+                    exit 1
+                fi ;;
+        esac
+    done < "$plant"
 done
 echo "must-fail edits: $(ls crates/*/must-fail/*.edit | wc -l) quote code alone"
