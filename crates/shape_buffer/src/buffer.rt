@@ -19,12 +19,11 @@ mod positions;
 mod properties;
 mod settings;
 mod storage;
-#[cfg(test)]
-mod tests;
 mod text;
 mod unicode_buffer;
 mod unwritten;
 
+pub use context::CONTEXT_LENGTH;
 pub use error::{ShapeError, ShapeFault};
 pub use flags::{BufferFlags, GlyphPropsFlags, ScratchFlags};
 pub use general_category::hb_unicode_general_category_t;

@@ -6,8 +6,6 @@
 
 pub mod decisions;
 pub mod normalization_mode;
-#[cfg(test)]
-mod numbers;
 pub mod ot_shape_plan;
 pub mod ot_shaper;
 pub mod planner;

@@ -17,8 +17,6 @@ ghost use Rattle.shape_plan.specs.Decisions.{MasksAreFeatures, PositionsByOneTab
 mod decide;
 mod requests;
 mod tags;
-#[cfg(test)]
-mod tests;
 
 use crate::decisions::PlanFacts;
 use crate::ot_shape_plan::{ChosenShaper, hb_ot_shape_plan_t};

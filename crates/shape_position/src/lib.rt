@@ -15,8 +15,6 @@ pub mod laws;
 pub mod positioning;
 pub mod selectors;
 pub mod tables;
-#[cfg(test)]
-mod tests;
 pub mod worked;
 pub mod zeroing;
 

@@ -1,7 +1,7 @@
 //! The calls that take memory: each does what it is asked for, or is refused and changes nothing. With memory
 //! at hand the test passes; the gate's script refuses one growth after the other, and reads that it was so.
 
-use crate::buffer::{ShapeError, UnicodeBuffer, hb_glyph_info_t};
+use shape_buffer::buffer::{ShapeError, UnicodeBuffer, hb_glyph_info_t};
 use std::process::Abort;
 use std::test::Fail;
 

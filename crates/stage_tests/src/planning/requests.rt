@@ -1,11 +1,11 @@
 //! The requests, as the builder of a planner shows them, against lists spelled by letters.
 use super::shapers::ScriptShaper;
 use super::support::{BitLayout, Bits, MORX};
-use crate::ot_shape_plan::ChosenShaper;
-use crate::ot_shaper::{DEFAULT_SHAPER, DUMBER_SHAPER, hb_default_shaper_t};
-use crate::planner::hb_ot_shape_planner_t;
 use shape_buffer::buffer::{Direction, Feature, hb_tag_t};
 use shape_buffer::interfaces::{MapRequest, PlainUnicode, hb_ot_map_builder_t};
+use shape_plan::ot_shape_plan::ChosenShaper;
+use shape_plan::ot_shaper::{DEFAULT_SHAPER, DUMBER_SHAPER, hb_default_shaper_t};
+use shape_plan::planner::hb_ot_shape_planner_t;
 use std::alloc::Global;
 use std::test::Fail;
 

@@ -1,5 +1,5 @@
-use super::{filled, rows};
-use crate::buffer::{
+use crate::support::{filled, rows};
+use shape_buffer::buffer::{
     BufferClusterLevel, GlyphPosition, ScratchFlags, hb_buffer_t, hb_glyph_info_t,
 };
 use std::alloc::Global;

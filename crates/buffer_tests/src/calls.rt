@@ -1,5 +1,5 @@
-use super::{filled, rows, with_every_property};
-use crate::buffer::{
+use crate::support::{filled, rows, with_every_property};
+use shape_buffer::buffer::{
     BufferClusterLevel, BufferFlags, Direction, GlyphId, GlyphPosition, GlyphPropsFlags, Language,
     ScratchFlags, Script, ShapeError, UnicodeBuffer, hb_buffer_t, hb_glyph_info_t, hb_tag_t,
     hb_unicode_general_category_t,

@@ -1,5 +1,5 @@
-use super::{filled, rows};
-use crate::buffer::{BufferClusterLevel, BufferFlags, ScratchFlags};
+use crate::support::{filled, rows};
+use shape_buffer::buffer::{BufferClusterLevel, BufferFlags, ScratchFlags};
 use std::alloc::Global;
 use std::process::Abort;
 use std::test::Fail;

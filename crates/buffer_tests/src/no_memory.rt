@@ -2,15 +2,15 @@
 //! and the second one makes each such call besides; the gate's script counts the growths of both, which must be
 //! as many.
 
-use super::with_every_property;
-use crate::buffer::{
+use crate::support::with_every_property;
+use shape_buffer::buffer::{
     BufferClusterLevel, BufferFlags, Direction, GlyphId, GlyphPosition, GlyphPropsFlags, Language,
     ScratchFlags, Script, UnicodeBuffer, hb_buffer_t, hb_glyph_info_t, hb_tag_t,
     hb_unicode_general_category_t,
 };
-use crate::interfaces::PlainUnicode;
-use crate::position_walks::update_positions;
-use crate::walks::update_items;
+use shape_buffer::interfaces::PlainUnicode;
+use shape_buffer::position_walks::update_positions;
+use shape_buffer::walks::update_items;
 use std::alloc::Global;
 use std::process::Abort;
 use std::test::Fail;

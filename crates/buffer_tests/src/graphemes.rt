@@ -1,6 +1,6 @@
 //! Graphemes that are merged in one walk.
-use super::rows;
-use crate::buffer::{BufferClusterLevel, hb_buffer_t, hb_glyph_info_t};
+use crate::support::rows;
+use shape_buffer::buffer::{BufferClusterLevel, hb_buffer_t, hb_glyph_info_t};
 use std::alloc::Global;
 use std::process::Abort;
 use std::test::Fail;

@@ -1,14 +1,14 @@
 //! Glyphs through public calls, with a face of one advance; expected values are worked out by hand.
-use crate::advances::{clear_positions, put_advances};
-use crate::finishing::reverse_backward;
-use crate::flags::propagate_flags;
-use crate::ignorables::{hide_default_ignorables, zero_width_default_ignorables};
-use crate::selectors::deal_with_variation_selectors;
-use crate::zeroing::zero_mark_widths_by_gdef;
 use shape_buffer::buffer::{
     BufferFlags, Direction, GlyphId, GlyphPropsFlags, ScratchFlags, hb_buffer_t, hb_glyph_info_t,
 };
 use shape_buffer::interfaces::{hb_font_t, hb_glyph_extents_t, hb_tables_t};
+use shape_position::advances::{clear_positions, put_advances};
+use shape_position::finishing::reverse_backward;
+use shape_position::flags::propagate_flags;
+use shape_position::ignorables::{hide_default_ignorables, zero_width_default_ignorables};
+use shape_position::selectors::deal_with_variation_selectors;
+use shape_position::zeroing::zero_mark_widths_by_gdef;
 use std::alloc::Global;
 use std::test::Fail;
 

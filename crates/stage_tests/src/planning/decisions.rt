@@ -6,10 +6,10 @@ use super::support::{
     BitLayout, Bits, CROSS_KERNING, GLYPH_CLASSES, GPOS, GPOS_KERNS, GSUB, KERNING, KERX,
     MACHINE_KERNING, MASKS, MORX, SCRIPT_TWO, TRAK,
 };
-use crate::ot_shape_plan::hb_ot_shape_plan_t;
-use crate::ot_shaper::{DEFAULT_SHAPER, hb_ot_shaper_t};
 use shape_buffer::buffer::{Direction, Feature, Script, UnicodeBuffer, hb_tag_t};
 use shape_buffer::interfaces::PlainUnicode;
+use shape_plan::ot_shape_plan::hb_ot_shape_plan_t;
+use shape_plan::ot_shaper::{DEFAULT_SHAPER, hb_ot_shaper_t};
 use std::alloc::Global;
 use std::process::Abort;
 use std::test::Fail;

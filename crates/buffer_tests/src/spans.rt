@@ -1,8 +1,8 @@
 ghost use Rattle.std.specs.Prelude.{length};
 ghost use Rattle.shape_buffer.specs.Spans.{AreSpansInOrder};
 
-use super::{filled, rows};
-use crate::buffer::{BufferClusterLevel, ScratchFlags};
+use crate::support::{filled, rows};
+use shape_buffer::buffer::{BufferClusterLevel, ScratchFlags};
 use std::alloc::Global;
 use std::process::Abort;
 use std::test::Fail;

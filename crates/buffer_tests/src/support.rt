@@ -1,22 +1,14 @@
-//! Lists that were worked out by hand from the rules, and every call once.
-use super::{
+//! Small buffers for the tests, and what they show.
+
+use shape_buffer::buffer::{
     BufferClusterLevel, GlyphPropsFlags, hb_buffer_t, hb_glyph_info_t,
     hb_unicode_general_category_t,
 };
 use std::alloc::Global;
 use std::test::Fail;
 
-mod calls;
-mod clusters;
-mod deletion;
-mod graphemes;
-mod no_memory;
-mod numbers;
-mod refusals;
-mod spans;
-
 /// A buffer of these clusters and masks.
-fn filled(
+pub fn filled(
     alloc: Global,
     level: BufferClusterLevel,
     rows: &[(u32, u32)],
@@ -34,7 +26,7 @@ fn filled(
 }
 
 /// The clusters and masks of a buffer.
-fn rows(alloc: Global, buffer: &hb_buffer_t) -> Result<Vec<(u32, u32)>, Fail> {
+pub fn rows(alloc: Global, buffer: &hb_buffer_t) -> Result<Vec<(u32, u32)>, Fail> {
     let rows: Vec<(u32, u32)> = buffer
         .infos()
         .iter()
@@ -44,7 +36,7 @@ fn rows(alloc: Global, buffer: &hb_buffer_t) -> Result<Vec<(u32, u32)>, Fail> {
 }
 
 /// An item with every property set.
-fn with_every_property() -> hb_glyph_info_t {
+pub fn with_every_property() -> hb_glyph_info_t {
     let mut item = hb_glyph_info_t::new('a', 3);
     item._hb_glyph_info_set_general_category(hb_unicode_general_category_t::NonspacingMark);
     item._hb_glyph_info_set_modified_combining_class(230);

@@ -1,22 +1,21 @@
 //! The numbers by which callers of other languages and stored data name things, as the rules have them. No
 //! body computes with most of them, so no clause would notice another one.
 
-use crate::buffer::context::CONTEXT_LENGTH;
-use crate::buffer::{
-    BufferClusterLevel, BufferFlags, DEFINED, GlyphPropsFlags, SAFE_TO_INSERT_TATWEEL,
-    ScratchFlags, Script, ShapeError, UNSAFE_TO_BREAK, UNSAFE_TO_CONCAT, hb_tag_t,
-    hb_unicode_general_category_t as Category,
+use shape_buffer::buffer::{
+    BufferClusterLevel, BufferFlags, CONTEXT_LENGTH, DEFINED, GlyphPropsFlags,
+    SAFE_TO_INSERT_TATWEEL, ScratchFlags, Script, ShapeError, UNSAFE_TO_BREAK, UNSAFE_TO_CONCAT,
+    hb_tag_t, hb_unicode_general_category_t as Category,
 };
-use crate::interfaces::modified_combining_class::{
+use shape_buffer::interfaces::modified_combining_class::{
     CCC10, CCC11, CCC12, CCC13, CCC14, CCC15, CCC16, CCC17, CCC18, CCC19, CCC20, CCC21, CCC22,
     CCC23, CCC24, CCC25, CCC26, CCC27, CCC28, CCC29, CCC30, CCC31, CCC32, CCC33, CCC34, CCC35,
     CCC36, CCC84, CCC91, CCC103, CCC107, CCC118, CCC122, CCC129, CCC130, CCC132,
 };
-use crate::interfaces::space_types::{
+use shape_buffer::interfaces::space_types::{
     NOT_SPACE, SPACE, SPACE_4_EM_18, SPACE_EM, SPACE_EM_2, SPACE_EM_3, SPACE_EM_4, SPACE_EM_5,
     SPACE_EM_6, SPACE_EM_16, SPACE_FIGURE, SPACE_NARROW, SPACE_PUNCTUATION,
 };
-use crate::interfaces::{
+use shape_buffer::interfaces::{
     F_GLOBAL, F_GLOBAL_HAS_FALLBACK, F_GLOBAL_MANUAL_JOINERS, F_GLOBAL_SEARCH, F_HAS_FALLBACK,
     F_MANUAL_JOINERS, F_MANUAL_ZWJ, F_MANUAL_ZWNJ, F_NONE, F_PER_SYLLABLE, F_RANDOM, MAX_VALUE,
 };

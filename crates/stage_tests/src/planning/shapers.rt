@@ -3,16 +3,18 @@ ghost use Rattle.std.specs.Prelude.{◌≡◌, [], ◌∷◌, true, false, Some,
 ghost use Rattle.shape_buffer.specs.MapBuilder.{feature, feature_on, pause};
 ghost use Rattle.shape_plan.specs.Tags.{tag};
 
-use crate::normalization_mode::HB_OT_SHAPE_NORMALIZATION_MODE_DEFAULT;
-use crate::ot_shape_plan::hb_ot_shape_plan_t;
-use crate::ot_shaper::hooks::{collect_features_hook, create_data_hook, override_features_hook};
-use crate::ot_shaper::{
-    HB_OT_SHAPE_ZERO_WIDTH_MARKS_BY_GDEF_EARLY, HB_OT_SHAPE_ZERO_WIDTH_MARKS_NONE, no_hook,
-    script_shaper,
-};
 use shape_buffer::buffer::{Direction, Script, ShapeError, hb_tag_t};
 use shape_buffer::interfaces::{
     F_NONE, F_PER_SYLLABLE, hb_font_t, hb_ot_layout_t, hb_ot_map_builder_t, hb_unicode_funcs_t,
+};
+use shape_plan::normalization_mode::HB_OT_SHAPE_NORMALIZATION_MODE_DEFAULT;
+use shape_plan::ot_shape_plan::hb_ot_shape_plan_t;
+use shape_plan::ot_shaper::hooks::{
+    collect_features_hook, create_data_hook, override_features_hook,
+};
+use shape_plan::ot_shaper::{
+    HB_OT_SHAPE_ZERO_WIDTH_MARKS_BY_GDEF_EARLY, HB_OT_SHAPE_ZERO_WIDTH_MARKS_NONE, no_hook,
+    script_shaper,
 };
 use std::alloc::Global;
 

@@ -1,0 +1,22 @@
+//! Tests of the buffer through its public calls: lists that were worked out by hand from the rules, and
+//! every call once.
+#![tactic(auto)]
+#![allow(non_camel_case_types)]
+
+#[cfg(test)]
+mod calls;
+#[cfg(test)]
+mod clusters;
+#[cfg(test)]
+mod deletion;
+#[cfg(test)]
+mod graphemes;
+#[cfg(test)]
+mod no_memory;
+#[cfg(test)]
+mod numbers;
+#[cfg(test)]
+mod refusals;
+#[cfg(test)]
+mod spans;
+mod support;

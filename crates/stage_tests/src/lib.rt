@@ -1,0 +1,9 @@
+//! Tests of single stages through their public calls: planning and positioning.
+#![tactic(auto)]
+#![allow(non_camel_case_types)]
+
+#[cfg(test)]
+mod numbers;
+mod planning;
+#[cfg(test)]
+mod positioning;
