@@ -47,7 +47,7 @@ refuse_test() {
     return 1
 }
 
-refuse_test shape_buffer buffer::tests::refusals::growths "the buffer's calls" || exit 1
+refuse_test buffer_tests refusals::growths "the buffer's calls" || exit 1
 refuse_test shape_rows refusals::growths_in_a_run "the run of a letter with its accent" || exit 1
 refuse_test substitute_rows refusals::growths_in_a_stage "the stages that grow" || exit 1
 refuse_test substitute_rows refusals::growths_in_a_run "the runs with such stages" || exit 1
@@ -70,8 +70,8 @@ take_none() {
     echo "growths: $begun, and none for $4"
 }
 
-filled=buffer::tests::no_memory::filled
-take_none shape_buffer "${filled}_is_begun" "${filled}_and_used" "the buffer's calls that can't be refused" || exit 1
+filled=no_memory::filled
+take_none buffer_tests "${filled}_is_begun" "${filled}_and_used" "the buffer's calls that can't be refused" || exit 1
 take_none shape_rows no_memory::text_is_begun no_memory::steps_are_made "the steps that can't be refused" || exit 1
 take_none shape_rows no_memory::text_is_begun no_memory::empty_text_is_shaped "runs over an empty text" || exit 1
 
