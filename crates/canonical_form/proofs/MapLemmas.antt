@@ -1,10 +1,10 @@
 -- From items to their characters: where each item has the ccc and mark of its character, both are settled and recomposed alike.
-use Rattle.std.proofs.Common.{◌≡◌, ℕ, Bool, true, false, not, ◌==◌, ◌&&◌, nat_le, cond, List, [], ◌∷◌, ◌++◌, length, map, Option, Some, None, option_map, refl, sym, ap, ap₂, subst, ◌∙◌, arith, inl, inr}
+use Rattle.std.proofs.Common.{◌≡◌, ℕ, Bool, true, false, not, ◌==◌, ◌&&◌, ◌||◌, nat_le, cond, List, [], ◌∷◌, ◌++◌, length, map, Option, Some, None, option_map, refl, sym, ap, ap₂, subst, ◌∙◌, arith, inl, inr}
 use Rattle.std.proofs.lemmas.Bool.{cases_Bool, MatchBool-at_true, MatchBool-at_false}
 use Rattle.std.proofs.lemmas.List.{map-append, length-map}
 use Rattle.std.specs.List.{AllByRecursion}
 use Rattle.canonical_form.specs.Order.{IsSwap, here, behind, Swaps, done, then, IsOrdered, IsPutInOrder}
-use Rattle.canonical_form.specs.Recompose.{last_ccc, is_blocked_by_last, composed, recomposed_from, recomposed}
+use Rattle.canonical_form.specs.Recompose.{is_blocked, composed, recomposed_from, recomposed}
 use Rattle.canonical_form.specs.Runs.{IsSettled, AreRunsSettled}
 use Rattle.canonical_form.proofs.Ordering.SwapLemmas.{all-swap, all-swaps}
 use Rattle.canonical_form.proofs.Lists.EveryLemmas.{push_all}
@@ -66,15 +66,11 @@ module _ {A B : Type 0} (IsItem : A → Type 0) (f : A → B) (ccc : A → ℕ) 
             rw is_mark (subst (λ l. AreRunsSettled ccc' limit l (map f xs) (map f new)) (map-append f pending (x ∷ [])) inner)
       ]
 
-  last_ccc-map : (ms : List A) → AllByRecursion IsItem ms → last_ccc ccc' (map f ms) ≡ last_ccc ccc ms
-  last_ccc-map [] items = refl
-  last_ccc-map (m ∷ []) items = same m items.0
-  last_ccc-map (m ∷ n ∷ ms) items = last_ccc-map (n ∷ ms) items.1
-
-  pub is_blocked_by_last-map : (ms : List A) (c : A) → AllByRecursion IsItem ms → IsItem c
-      → is_blocked_by_last ccc' (map f ms) (f c) ≡ is_blocked_by_last ccc ms c
-  is_blocked_by_last-map [] c items item = refl
-  is_blocked_by_last-map (m ∷ ms) c items item = ap₂ nat_le (same c item) (last_ccc-map (m ∷ ms) items)
+  pub is_blocked-map : (ms : List A) (c : A) → AllByRecursion IsItem ms → IsItem c
+      → is_blocked ccc' (map f ms) (f c) ≡ is_blocked ccc ms c
+  is_blocked-map [] c items item = refl
+  is_blocked-map (m ∷ ms) c items item =
+      ap₂ (λ b rest. b || rest) (ap₂ (λ n k. n == 0 || nat_le k n) (same m items.0) (same c item)) (is_blocked-map ms c items.1 item)
 
   module _ (blocks : List A → A → Bool) (blocks' : List B → B → Bool)
       (block : (ms : List A) (c : A) → AllByRecursion IsItem ms → IsItem c → blocks' (map f ms) (f c) ≡ blocks ms c)

@@ -8,11 +8,10 @@ use Rattle.canonical_form.specs.Chain.{full, full_text}
 use Rattle.canonical_form.specs.Decompositions.{Decompositions}
 use Rattle.canonical_form.specs.Laws.{IsWhollySupported, IsDecomposed}
 use Rattle.canonical_form.specs.Equivalent.{IsEquivalent, IsCanonical, ComposesSoundly}
-use Rattle.canonical_form.specs.Order.{Swaps, IsOrdered}
-use Rattle.canonical_form.specs.Recompose.{is_blocked, is_blocked_by_last, compose_with_glyph, recomposed}
-use Rattle.canonical_form.specs.Runs.{AreRunsSettled, HasNoLongerRun}
+use Rattle.canonical_form.specs.Order.{Swaps}
+use Rattle.canonical_form.specs.Recompose.{is_blocked, compose_with_glyph, recomposed}
+use Rattle.canonical_form.specs.Runs.{AreRunsSettled}
 use Rattle.canonical_form.specs.SplitsFall.{SplitsFall}
-use Rattle.canonical_form.proofs.Recomposing.BlockLemmas.{recomposed_by_last}
 use Rattle.canonical_form.proofs.Expanding.ChainLemmas.{full-ccc, full-whole}
 use Rattle.canonical_form.proofs.Expanding.ChoiceLemmas.{full_text-expanded, expanded-full}
 use Rattle.canonical_form.proofs.Lists.EveryLemmas.{append_all}
@@ -63,12 +62,6 @@ module _ (D : Decompositions) (lawful : SplitsFall D) where
   equivalent_recomposed is_mark compose sound xs =
       recomposed-keeps IsAny D.ccc D.ccc (full D) is_mark compose (composes_lawfully compose sound) xs (all_any xs)
 
-  -- by the ccc put out last too, where the list is ordered
-  pub equivalent_recomposed_by_last : (is_mark : ℕ → Bool) (compose : ℕ → ℕ → Option ℕ) → ComposesSoundly D compose → (xs : List ℕ)
-      → IsOrdered D.ccc xs → IsEquivalent D xs (recomposed D.ccc (is_blocked_by_last D.ccc) is_mark compose xs)
-  equivalent_recomposed_by_last is_mark compose sound xs up =
-      subst (IsEquivalent D xs) (recomposed_by_last D.ccc is_mark compose xs up) (equivalent_recomposed is_mark compose sound xs)
-
   -- a starter and a mark past others that don't block it, and what the two compose to
   pub equivalent_composed : (compose : ℕ → ℕ → Option ℕ) → ComposesSoundly D compose → (s c d : ℕ) (ms rest : List ℕ)
       → is_blocked D.ccc ms c ≡ false → compose s c ≡ Some d → IsEquivalent D (s ∷ ms ++ c ∷ rest) (d ∷ ms ++ rest)
@@ -88,16 +81,6 @@ module _ (D : Decompositions) (lawful : SplitsFall D) where
       → IsEquivalent D text (recomposed D.ccc (is_blocked D.ccc) is_mark compose new)
   equivalent_normalised is_mark compose sound limit text ready new same settled =
       equivalent_settled limit text ready new same settled ⟫ equivalent_recomposed is_mark compose sound new
-
-  -- by the ccc put out last, where no run is too long
-  pub equivalent_normalised_by_last : (is_mark : ℕ → Bool) (compose : ℕ → ℕ → Option ℕ) → ComposesSoundly D compose
-      → (limit : ℕ) (text ready new : List ℕ) → full_text D ready ≡ full_text D text → HasNoLongerRun D.ccc limit ready
-      → AreRunsSettled D.ccc limit [] ready new
-      → IsEquivalent D text (recomposed D.ccc (is_blocked_by_last D.ccc) is_mark compose new)
-  equivalent_normalised_by_last is_mark compose sound limit text ready new same fits settled =
-      equivalent_settled limit text ready new same settled
-      ⟫ equivalent_recomposed_by_last is_mark compose sound new
-      (AreRunsSettled-ordered D.ccc limit [] ready new (All-nil (λ x. 0 < D.ccc x)) fits settled)
 
   full_text-splits_nowhere : (text : List ℕ) → AllByRecursion (λ d. D.split d ≡ None) (full_text D text)
   unfolding full_text
@@ -152,17 +135,4 @@ module _ (D : Decompositions) (lawful : SplitsFall D) where
         let canonical = settled_equal_iff s new t new' of_s of_t settled_s settled_t in (
           λ e. left ⟫ no_swap (ap (full_text D) e) ⟫ Swaps-sym right,
           λ swaps. ap (recomposed D.ccc (is_blocked D.ccc) is_mark compose) (canonical.1 swaps),
-        )
-
-    -- by the ccc put out last too
-    pub recomposed_by_last_equal_iff : (compose : ℕ → ℕ → Option ℕ) → ComposesSoundly D compose → (s new t new' : List ℕ) → Supported s
-        → Supported t → Settles s new → Settles t new'
-        → (recomposed D.ccc (is_blocked_by_last D.ccc) is_mark compose new
-        ≡ recomposed D.ccc (is_blocked_by_last D.ccc) is_mark compose new') ↔ IsEquivalent D s t
-    recomposed_by_last_equal_iff compose sound s new t new' of_s of_t settled_s settled_t =
-        let by_last_s = recomposed_by_last D.ccc is_mark compose new (canonical_settled s new of_s settled_s).ordered in
-        let by_last_t = recomposed_by_last D.ccc is_mark compose new' (canonical_settled t new' of_t settled_t).ordered in
-        let all = recomposed_equal_iff compose sound s new t new' of_s of_t settled_s settled_t in (
-          λ e. all.0 (by_last_s ∙ e ∙ sym by_last_t),
-          λ swaps. sym by_last_s ∙ all.1 swaps ∙ by_last_t,
         )

@@ -7,7 +7,6 @@ use Rattle.canonical_form.specs.Expanded.{begins_with_mark}
 use Rattle.shape_buffer.specs.Items.{char_of, is_mark_item}
 use Rattle.canonical_form.specs.Laws.{IsWhollySupported}
 use Rattle.canonical_form.specs.Recompose.{is_blocked, compose_with_glyph, recomposed}
-use Rattle.canonical_form.specs.Runs.{HasNoLongerRun}
 use Rattle.shape_buffer.specs.Unicode.{is_mark}
 use Rattle.canonical_form.specs.SplitsFall.{SplitsFall}
 use Rattle.shape_normalize.specs.Normalized.{normalized}
@@ -52,11 +51,7 @@ pub record EquivalencePremises (rules : Rules) (b : Buffer) : Type 0 where
   pub text : TextPremises rules (text_of b)
   pub prepared : IsPrepared rules.unicode b.items
 
--- what it asks of the expanded list: no run of more than 32 marks, in the modes that compose
-abbrev pub ComposesShortRuns : Rules → Buffer → Type 0
-ComposesShortRuns rules expanded = rules.recomposes ≡ true → HasNoLongerRun rules.unicode.ccc max_run (text_of expanded)
-
--- what canonical form asks of a text in place of the last: a mode that decomposes fully, glyphs for all of Full, runs that are short
+-- what canonical form asks of a text besides: a mode that decomposes fully, glyphs for all of Full, runs that are short
 -- enough, and a mark past the first character
 pub record CanonicalTextPremises (rules : Rules) (text : List ℕ) : Type 0 where
   pub decomposes_fully : (with_marks : Bool) → rules.short with_marks ≡ false
@@ -102,8 +97,7 @@ pub record CutPremises (rules : Rules) (old front back : Buffer) : Type 0 where
 -- normalising leads from the one text to an equivalent one, which is canonical or recomposed of a canonical one, and the same for
 -- equivalent texts alone; it goes by characters alone, and may be done part by part
 pub record NormalizesCanonically (rules : Rules) (old new : Buffer) : Type 0 where
-  pub equivalent : EquivalencePremises rules old → ComposesShortRuns rules (round_one rules old)
-      → AreEquivalent rules (text_of old) (text_of new)
+  pub equivalent : EquivalencePremises rules old → AreEquivalent rules (text_of old) (text_of new)
   pub canonical : rules.recomposes ≡ false → CanonicalFormPremises rules old → HasCanonicalForm rules (text_of new)
   pub recomposed : rules.recomposes ≡ true → CanonicalFormPremises rules old → IsRecomposedForm rules (text_of old) (text_of new)
   pub decides : (other : Buffer) → CanonicalFormPremises rules old → CanonicalFormPremises rules other

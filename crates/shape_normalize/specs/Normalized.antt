@@ -10,7 +10,7 @@ use Rattle.canonical_form.specs.Runs.{HasNoLongerRun}
 use Rattle.shape_plan.specs.Reorder.{IsRunInOrder}
 use Rattle.shape_plan.specs.Rules.{Rules, has_glyph}
 use Rattle.shape_normalize.specs.RoundOne.{round_one, item_glyph, sequences, sequence_items, is_selector_sequence, variation_sequences_merged}
-use Rattle.shape_normalize.specs.RoundThree.{recomposed_by_all, round_three}
+use Rattle.shape_normalize.specs.RoundThree.{recomposed_items, recomposed_by_last, with_put_out, round_three}
 use Rattle.shape_normalize.specs.RoundTwo.{max_run, has_mark_past_first, has_seen_cgj, marks_ordered, cgj_unhidden_where_seen, OrdersMarks}
 
 -- the buffer with its expanded list, with its marks in order where a mark stood past the first item as normalising began, and with each CGJ
@@ -74,12 +74,14 @@ without_cluster item = record item { cluster = 0; mask = 0 }
 abbrev pub HasShortRuns : List Item → Type 0
 HasShortRuns items = HasNoLongerRun (λ ccc. ccc) max_run (map ccc_of_item items)
 
--- in the modes that compose, without a reorder hook and without a run of more than 32, the new list is the ordered one, recomposed by the
--- rule of the standard
-abbrev pub RecomposesByAll : Rules → Buffer → Buffer → Type 0
-RecomposesByAll rules old new =
-    has_mark_past_first old.items ≡ true → rules.recomposes ≡ true → rules.reorder ≡ None → HasShortRuns (round_one rules old).items
-    → map without_cluster new.items ≡ map (λ p. without_cluster p.item) (recomposed_by_all rules (ordered rules old).items)
+-- in the modes that compose, the new list is the ordered one, recomposed by the rule of the standard (D115 to D117); without a reorder
+-- hook and without a run of more than 32 marks, the new buffer is the one that the mark put out last alone would decide
+pub record Recomposes (rules : Rules) (old new : Buffer) : Type 0 where
+  pub by_all : has_mark_past_first old.items ≡ true → rules.recomposes ≡ true
+      → map without_cluster new.items ≡ map (λ p. without_cluster p.item) (recomposed_items rules (ordered rules old).items)
+  pub by_last : has_mark_past_first old.items ≡ true → rules.recomposes ≡ true → rules.reorder ≡ None
+      → HasShortRuns (round_one rules old).items
+      → new ≡ with_put_out rules (ordered rules old) (recomposed_by_last rules (ordered rules old).items)
 
 -- the feature bits of an item: its mask without the three defined flags
 abbrev pub features_of : Item → ℕ

@@ -1,5 +1,5 @@
 -- Round three of normalising: marks are composed with their starters again (The Unicode Standard, D115 to D117).
-use Rattle.std.specs.Prelude.{ℕ, suc, ◌+◌, ◌&&◌, not, if◌then◌else◌, Bool, List, [], ◌∷◌, ◌++◌, map, replicate, length, get_or, Option, None}
+use Rattle.std.specs.Prelude.{ℕ, suc, ◌+◌, ◌&&◌, not, nat_lt, nat_le, if◌then◌else◌, Bool, List, [], ◌∷◌, ◌++◌, map, replicate, length, get_or, Option, None}
 use Rattle.std.specs.Option.{option_map}
 use Rattle.std.specs.List.{flat_map}
 use Rattle.shape_buffer.specs.Items.{Item, ccc_of_item, is_mark_item}
@@ -42,15 +42,15 @@ compose_placed rules starter mark =
       absorbed = starter.absorbed ++ record { place = mark.place; char = c } ∷ [];
     }) (compose_with_glyph rules.compose (has_glyph rules.face.nominal_glyph) starter.item.codepoint mark.item.codepoint)
 
--- the items that are put out
+-- the items that are put out: a mark is blocked by any mark between it and its starter that has ccc 0 or a ccc not less than its own
+-- (D115), in runs of any length
 abbrev pub recomposed_items : Rules → List Item → List Placed
-recomposed_items rules items =
-    recomposed ccc_of_placed (is_blocked_by_last ccc_of_placed) is_mark_placed (compose_placed rules) (placed 0 items)
+recomposed_items rules items = recomposed ccc_of_placed (is_blocked ccc_of_placed) is_mark_placed (compose_placed rules) (placed 0 items)
 
--- the items that are put out by the rule of the standard (D115): a mark is blocked by any mark between it and its starter that has ccc 0 or
--- a ccc not less than its own
-abbrev pub recomposed_by_all : Rules → List Item → List Placed
-recomposed_by_all rules items = recomposed ccc_of_placed (is_blocked ccc_of_placed) is_mark_placed (compose_placed rules) (placed 0 items)
+-- the items that would be put out if the mark put out last alone were asked, as HarfBuzz asks
+abbrev pub recomposed_by_last : Rules → List Item → List Placed
+recomposed_by_last rules items =
+    recomposed ccc_of_placed (is_blocked_by_last ccc_of_placed) is_mark_placed (compose_placed rules) (placed 0 items)
 
 -- the spans from each starter to each mark that was composed with it, in order
 abbrev pub absorbed_spans : List Placed → List (ℕ × ℕ)
@@ -64,18 +64,21 @@ composed_chars out = flat_map (λ p. map (λ mark. mark.char) p.absorbed) out
 abbrev pub with_cluster_at : List Item → Placed → Item
 with_cluster_at items p = let at = get_or items p.place p.item in record p.item { cluster = at.cluster; mask = at.mask }
 
--- round three of normalising: the buffer with its recomposed list, each span of a composition merged, at positions of zeros
+-- the buffer with these items put out of its list, each span of a composition merged, at positions of zeros
 -- the spans are merged while the marks that go still stand: each is in one cluster with the item before it from then on, so that a later
 -- merge grows over both or neither
-abbrev pub round_three : Rules → Buffer → Buffer
-round_three rules b =
-    let out = recomposed_items rules b.items in
+abbrev pub with_put_out : Rules → Buffer → List Placed → Buffer
+with_put_out rules b out =
     let merged = spans_merged_out (absorbed_spans out) b in
     record merged {
       items = map (with_cluster_at merged.items) out;
       positions = replicate (length out) zero_position;
       scratch_flags = seen_chars rules.unicode b.scratch_flags (composed_chars out);
     }
+
+-- round three of normalising
+abbrev pub round_three : Rules → Buffer → Buffer
+round_three rules b = with_put_out rules b (recomposed_items rules b.items)
 
 -- ---- the walk of the code, which keeps the spans and the flags beside what it puts out
 
@@ -93,13 +96,14 @@ chained_spans out = flat_map (λ p. spans_between p.place p.absorbed) out
 abbrev pub placed_info : Placed → PlacedInfo
 placed_info p = record { info = p.item; place = p.place }
 
-abbrev pub ccc_of_placed_info : PlacedInfo → ℕ
-ccc_of_placed_info p = ccc_of_item p.info
+-- behind marks of this greatest ccc, 0 where there are none, a mark of such a ccc is blocked from their starter
+abbrev pub is_blocked_behind : ℕ → ℕ → Bool
+is_blocked_behind greatest ccc = nat_lt 0 greatest && nat_le ccc greatest
 
--- the character that a starter makes with an item behind it and these marks, where the two compose
-abbrev pub composed_char : Rules → PlacedInfo → List PlacedInfo → PlacedInfo → Option ℕ
-composed_char rules starter marks next =
-    if is_mark_item next.info && not (is_blocked_by_last ccc_of_placed_info marks next)
+-- the character that a starter makes with an item behind it and behind marks of this greatest ccc, where the two compose
+abbrev pub composed_char : Rules → PlacedInfo → ℕ → PlacedInfo → Option ℕ
+composed_char rules starter greatest next =
+    if is_mark_item next.info && not (is_blocked_behind greatest (ccc_of_item next.info))
     then compose_with_glyph rules.compose (has_glyph rules.face.nominal_glyph) starter.info.codepoint next.info.codepoint
     else None
 

@@ -78,6 +78,9 @@ pub record CccOfReorderedMarks : Type 0 where
       ≡ (0x61, 0) ∷ (0x323, 230) ∷ (0x301, 230) ∷ []
   pub lets_pass : cccs_by (reordering 3 (first_of_ccc 220)) (item 0x61 0 ∷ item 0x308 0 ∷ item 0x301 0 ∷ [])
       ≡ (0xE1, 0) ∷ (0x308, 220) ∷ []
+  -- U+0308 comes to stand before U+0323, and keeps U+0301 from the letter
+  pub blocks_before_smaller : cccs_by (reordering 3 first_two_turned) (item 0x61 0 ∷ item 0x323 0 ∷ item 0x308 0 ∷ item 0x301 0 ∷ [])
+      ≡ (0x61, 0) ∷ (0x308, 230) ∷ (0x323, 220) ∷ (0x301, 230) ∷ []
   -- CGJ: what stands before it is of a greater ccc than what stands behind, or of a smaller one, once the hook has set it
   pub keeps_apart : hidden_by (reordering 1 (first_of_ccc 240)) (item 0x61 0 ∷ item 0x323 0 ∷ item 0x34F 0 ∷ item 0x301 0 ∷ [])
       ≡ (0x61, false) ∷ (0x323, false) ∷ (0x34F, true) ∷ (0x301, false) ∷ []
@@ -91,6 +94,7 @@ ccc_of_reordered_marks = record {
   keeps_what_it_set = refl;
   blocks = refl;
   lets_pass = refl;
+  blocks_before_smaller = refl;
   keeps_apart = refl;
   keeps_nothing_apart = refl;
 }

@@ -1,10 +1,12 @@
 -- Round three, computed on small cases whose answers are worked out by hand.
-use Rattle.std.specs.Prelude.{◌≡◌, ℕ, true, List, [], ◌∷◌, map, refl}
+use Rattle.std.specs.Prelude.{◌≡◌, ℕ, true, List, [], ◌∷◌, ◌++◌, map, replicate, refl}
 use Rattle.shape_buffer.specs.Clusters.{merge}
 use Rattle.shape_buffer.specs.Items.{Item}
 use Rattle.shape_buffer.specs.declared.buffer.general_category.hb_unicode_general_category_t.TheVariants.{OtherSymbol}
 use Rattle.shape_buffer.specs.declared.buffer.settings.BufferClusterLevel.TheVariants.{Characters}
-use Rattle.shape_normalize.specs.RoundThree.{Placed, recomposed_items, absorbed_spans, round_three}
+use Rattle.shape_normalize.specs.RoundThree.{Placed, recomposed_items, recomposed_by_last, absorbed_spans, round_three}
+use Rattle.shape_normalize.specs.Normalized.{normalized}
+use Rattle.shape_normalize.specs.RoundTwo.{run_settled}
 use Rattle.shape_normalize.specs.WorkedWorld.{rules_in, item, buffer_of, at, marked}
 
 -- every character of the small world
@@ -23,6 +25,9 @@ pub record ComposedWorked : Type 0 where
   -- not past one of the same ccc
   pub past_same : recomposed_chars (0x61 ∷ 0xE1 ∷ 0x301 ∷ 0x308 ∷ []) (item 0x61 0 ∷ item 0x308 1 ∷ item 0x301 2 ∷ [])
       ≡ 0x61 ∷ 0x308 ∷ 0x301 ∷ []
+  -- nor where marks of a smaller ccc come after that one
+  pub past_same_and_smaller : recomposed_chars (0x61 ∷ 0xE1 ∷ 0x301 ∷ 0x308 ∷ 0x323 ∷ [])
+      (item 0x61 0 ∷ item 0x308 1 ∷ item 0x323 2 ∷ item 0x301 3 ∷ []) ≡ 0x61 ∷ 0x308 ∷ 0x323 ∷ 0x301 ∷ []
   -- the first item is a starter, whatever its ccc
   pub first_mark : recomposed_chars all_chars (item 0x308 0 ∷ item 0x301 1 ∷ []) ≡ 0x344 ∷ []
   -- a mark of ccc 0 right behind its starter composes, and one behind a mark of ccc 0 doesn't
@@ -31,10 +36,52 @@ pub record ComposedWorked : Type 0 where
       ≡ 0x61 ∷ 0x20DD ∷ 0x301 ∷ []
   -- a letter is no mark, and is the starter from then on
   pub new_starter : recomposed_chars all_chars (item 0x62 0 ∷ item 0x61 1 ∷ item 0x301 2 ∷ []) ≡ 0x62 ∷ 0xE1 ∷ []
+  -- and what was put out before it blocks nothing behind it
+  pub new_starter_forgets : recomposed_chars (0x61 ∷ 0xE1 ∷ 0x301 ∷ 0x308 ∷ [])
+      (item 0x61 0 ∷ item 0x308 1 ∷ item 0x61 2 ∷ item 0x301 3 ∷ []) ≡ 0x61 ∷ 0x308 ∷ 0xE1 ∷ []
 
 composed_worked : ComposedWorked
-composed_worked =
-    record { next = refl; without_glyph = refl; past_smaller = refl; past_same = refl; first_mark = refl; ccc_0 = refl; ccc_0_begins_anew = refl; new_starter = refl }
+composed_worked = record {
+  next = refl;
+  without_glyph = refl;
+  past_smaller = refl;
+  past_same = refl;
+  past_same_and_smaller = refl;
+  first_mark = refl;
+  ccc_0 = refl;
+  ccc_0_begins_anew = refl;
+  new_starter = refl;
+  new_starter_forgets = refl;
+}
+
+-- U+00E1 and its parts with two other marks, and no letter that has one of those in it
+abbrev few_chars : List ℕ
+few_chars = 0x61 ∷ 0xE1 ∷ 0x301 ∷ 0x308 ∷ 0x323 ∷ []
+
+-- U+0061, this mark, so many U+0323 and U+0301
+abbrev around : ℕ → ℕ → List Item
+around mark count = item 0x61 0 ∷ item mark 0 ∷ replicate count (item 0x323 0) ++ item 0x301 0 ∷ []
+
+abbrev normalized_chars : List Item → List ℕ
+normalized_chars items = map (λ (one : Item). one.codepoint) (normalized (rules_in 3 few_chars) (buffer_of items)).items
+
+-- the characters that would be put out if the mark put out last alone were asked
+abbrev chars_by_last : List Item → List ℕ
+chars_by_last items = map (λ (p : Placed). p.item.codepoint) (recomposed_by_last (rules_in 3 few_chars) items)
+
+pub record LongRunsWorked : Type 0 where
+  -- U+0308 has the ccc of U+0301: a run of 33 stays, and one of 32 is put in order
+  pub thirty_three : normalized_chars (around 0x308 31) ≡ 0x61 ∷ 0x308 ∷ replicate 31 0x323 ++ 0x301 ∷ []
+  pub thirty_two : normalized_chars (around 0x308 30) ≡ 0x61 ∷ replicate 30 0x323 ++ 0x308 ∷ 0x301 ∷ []
+  -- past any number of marks of a smaller ccc
+  pub past_many : normalized_chars (around 0x323 32) ≡ 0xE1 ∷ replicate 33 0x323
+  -- the other rule composes past U+0308
+  pub by_last : chars_by_last (around 0x308 31) ≡ 0xE1 ∷ 0x308 ∷ replicate 31 0x323
+  pub by_last_same : chars_by_last (item 0x61 0 ∷ item 0x308 0 ∷ item 0x301 0 ∷ []) ≡ 0x61 ∷ 0x308 ∷ 0x301 ∷ []
+
+long_runs_worked : LongRunsWorked
+unfolding run_settled merge
+long_runs_worked = record { thirty_three = refl; thirty_two = refl; past_many = refl; by_last = refl; by_last_same = refl }
 
 -- a composed item has the properties of its character and its glyph, and keeps the mask of its starter
 pub record ComposedItemWorked : Type 0 where
@@ -79,8 +126,9 @@ merged_out_worked =
 
 pub record RoundThreeWorked : Type 0 where
   pub composed : ComposedWorked
+  pub long_runs : LongRunsWorked
   pub items : ComposedItemWorked
   pub merged : MergedOutWorked
 
 pub round_three_worked : RoundThreeWorked
-round_three_worked = record { composed = composed_worked; items = composed_item_worked; merged = merged_out_worked }
+round_three_worked = record { composed = composed_worked; long_runs = long_runs_worked; items = composed_item_worked; merged = merged_out_worked }

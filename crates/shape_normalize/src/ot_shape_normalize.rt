@@ -16,7 +16,7 @@ ghost use Rattle.shape_normalize.specs.CanonicalForm.{NormalizesCanonically};
 ghost use Rattle.shape_normalize.specs.Origins.{ComesByPlace};
 ghost use Rattle.shape_normalize.specs.Normalized.{normalized, BroughtInHaveGlyphs, HasItemGlyph};
 ghost use Rattle.shape_normalize.specs.Normalized.{HookKeepsClusters, KeepsFeatures, KeepsHidden};
-ghost use Rattle.shape_normalize.specs.Normalized.{OrdersExpanded, RecomposesByAll};
+ghost use Rattle.shape_normalize.specs.Normalized.{OrdersExpanded, Recomposes};
 
 mod cgj;
 mod compare;
@@ -88,7 +88,7 @@ where
         (⟦<S as Runs<U, F, M>>⟧.rules plan.now face.now) buffer.old buffer.new) }
     ensures ordered { OnOk result (OrdersExpanded
         (⟦<S as Runs<U, F, M>>⟧.rules plan.now face.now) buffer.old buffer.new) }
-    ensures recomposed_by_all { OnOk result (RecomposesByAll
+    ensures recomposed { OnOk result (Recomposes
         (⟦<S as Runs<U, F, M>>⟧.rules plan.now face.now) buffer.old buffer.new) }
     ensures clusters { OnOk result (IsMonotoneLevel buffer.old.cluster_level
         → HookKeepsClusters (⟦<S as Runs<U, F, M>>⟧.rules plan.now face.now)

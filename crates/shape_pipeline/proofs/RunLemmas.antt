@@ -12,6 +12,7 @@ use Rattle.shape_normalize.specs.RoundOne.{round_one}
 use Rattle.shape_normalize.specs.RoundThree.{round_three, absorbed_spans, recomposed_items}
 use Rattle.shape_normalize.specs.RoundTwo.{has_mark_past_first}
 use Rattle.shape_normalize.proofs.Hooks.ReorderLemmas.{LawfulReorder}
+use Rattle.shape_normalize.proofs.RoundThree.ByAllLemmas.{normalized_recomposes}
 use Rattle.shape_normalize.proofs.RoundThree.RoundThreeLemmas.{limit-spans_merged_out}
 use Rattle.shape_normalize.proofs.Normalized.SettingLemmas.{limit_of-ordered}
 use Rattle.shape_plan.specs.Rules.{Rules}
@@ -140,6 +141,7 @@ normal_form rules lawful unicode b = record {
   by_place = normalized_by_place rules lawful b (normalized rules b) refl;
   clusters = normalized_keeps rules lawful b (normalized rules b) refl;
   canonical_form = NormalizesCanonically-normalized rules unicode b (normalized rules b) refl;
+  recomposed = normalized_recomposes rules b (normalized rules b) refl;
 }
 
 -- what holds always holds of an answer

@@ -9,7 +9,7 @@ use Rattle.shape_buffer.specs.Guess.{guessed, guessed_direction}
 use Rattle.shape_buffer.specs.KeepsFlags.{some_has}
 use Rattle.shape_buffer.specs.declared.buffer.settings.Direction.{Direction}
 use Rattle.shape_normalize.specs.CanonicalForm.{text_of, NormalizesCanonically}
-use Rattle.shape_normalize.specs.Normalized.{normalized, BroughtInHaveGlyphs, HasItemGlyph, HookKeepsClusters, KeepsFeatures}
+use Rattle.shape_normalize.specs.Normalized.{normalized, BroughtInHaveGlyphs, HasItemGlyph, HookKeepsClusters, KeepsFeatures, Recomposes}
 use Rattle.shape_normalize.specs.Origins.{ComesByPlace}
 use Rattle.shape_plan.specs.Keepers.{RunKeepsFlags}
 use Rattle.shape_plan.specs.Rules.{Rules}
@@ -30,8 +30,8 @@ abbrev pub normalised_list : Run → Buffer → Buffer
 normalised_list run text = normalized run.rules (prepared_text run text)
 
 -- what is promised of the normalised list of a prepared text: what is brought in has a glyph, each item has the glyph of its character
--- or what stands in for it, features are those of the text's items, each item comes by its place, clusters keep their order, and
--- canonical form
+-- or what stands in for it, features are those of the text's items, each item comes by its place, clusters keep their order,
+-- canonical form, and what recomposing leaves
 pub record NormalForm (rules : Rules) (text list : Buffer) : Type 0 where
   pub brought_in : BroughtInHaveGlyphs rules.face.nominal_glyph (text_of text) (text_of list)
   pub item_glyphs : All (HasItemGlyph rules text) list.items
@@ -39,6 +39,7 @@ pub record NormalForm (rules : Rules) (text list : Buffer) : Type 0 where
   pub by_place : ComesByPlace rules text list
   pub clusters : IsMonotoneLevel text.cluster_level → HookKeepsClusters rules → KeepsClusters (clusters text.items) (clusters list.items)
   pub canonical_form : NormalizesCanonically rules text list
+  pub recomposed : Recomposes rules text list
 
 -- ---- flags
 

@@ -1,9 +1,9 @@
 -- The tests of blocking agree: the greatest ccc always, and the last one where the marks rise.
-use Rattle.std.proofs.Common.{◌≡◌, ℕ, ◌<◌, ◌≤◌, Bool, true, false, not, ◌==◌, ◌&&◌, ◌||◌, nat_le, cond, List, [], ◌∷◌, ◌++◌, Option, None, refl, sym, ap, subst, ◌∙◌, arith}
+use Rattle.std.proofs.Common.{◌≡◌, ℕ, ◌<◌, ◌≤◌, Bool, true, false, not, ◌==◌, ◌&&◌, ◌||◌, nat_lt, nat_le, max, cond, List, [], ◌∷◌, ◌++◌, Option, None, refl, sym, ap, subst, ◌∙◌, arith}
 use Rattle.std.proofs.lemmas.Bool.Decides.{nat_tests}
 use Rattle.std.specs.List.{AllByRecursion}
 use Rattle.canonical_form.specs.Order.{IsOrdered}
-use Rattle.canonical_form.specs.Recompose.{is_blocked, is_blocked_by_last, last_ccc, is_blocked_by_greatest, composed, recomposed_from, recomposed}
+use Rattle.canonical_form.specs.Recompose.{is_blocked, is_blocked_by_last, last_ccc, is_blocked_by_greatest, greatest_ccc, composed, recomposed_from, recomposed}
 use Rattle.canonical_form.proofs.Lists.EveryLemmas.{push_all}
 use Rattle.canonical_form.proofs.Recomposing.RecomposeLemmas.{by_steps, recomposed_from-some, recomposed_from-starter, recomposed_from-mark}
 
@@ -16,6 +16,18 @@ module _ {A : Type 0} (ccc : A → ℕ) where
       let mark = marks.0 in
       let rest = greatest_blocks (n ∷ ms) c marks.1 in
       ap (λ b. (ccc m == 0 || nat_le (ccc c) (ccc m)) || b) rest ∙ grind (arith, nat_tests)
+
+  -- so one number is enough to know of them, 0 where there are none
+  pub blocked_by_number : (ms : List A) (c : A) → AllByRecursion (λ m. 0 < ccc m) ms
+      → is_blocked ccc ms c ≡ (nat_lt 0 (greatest_ccc ccc ms) && nat_le (ccc c) (greatest_ccc ccc ms))
+  blocked_by_number [] c marks = refl
+  blocked_by_number (m ∷ ms) c marks =
+      let mark = marks.0 in
+      greatest_blocks (m ∷ ms) c marks ∙ grind (arith, nat_tests)
+
+  pub greatest_ccc-push : (ms : List A) (c : A) → greatest_ccc ccc (ms ++ c ∷ []) ≡ max (greatest_ccc ccc ms) (ccc c)
+  greatest_ccc-push [] c = omega arith
+  greatest_ccc-push (m ∷ ms) c = let rest = greatest_ccc-push ms c in omega arith
 
   -- marks whose ccc do not fall
   abbrev pub MarksRise : List A → Type 0

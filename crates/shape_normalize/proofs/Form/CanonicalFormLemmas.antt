@@ -5,23 +5,20 @@ use Rattle.std.proofs.lemmas.Bool.{cases_Bool}
 use Rattle.canonical_form.proofs.Expanding.ChoiceLemmas.{full_text-expanded}
 use Rattle.canonical_form.proofs.Expanding.ExpandedLemmas.{expanded-plain}
 use Rattle.canonical_form.proofs.LawLemmas.{choices_are_equivalent, ordered_is_equivalent, decomposed_is_canonical, decomposed_decides}
-use Rattle.canonical_form.proofs.Recomposing.BlockLemmas.{recomposed_by_last}
-use Rattle.canonical_form.proofs.NormaliseLemmas.{sound_with_glyph, equivalent_normalised_by_last, recomposed_by_last_equal_iff}
+use Rattle.canonical_form.proofs.NormaliseLemmas.{sound_with_glyph, equivalent_normalised, recomposed_equal_iff}
 use Rattle.shape_buffer.specs.Buffer.{Buffer}
 use Rattle.canonical_form.specs.Expanded.{expanded_text}
 use Rattle.canonical_form.specs.Expansion.{choice}
 use Rattle.canonical_form.specs.Laws.{IsDecomposed}
 use Rattle.canonical_form.specs.Recompose.{compose_with_glyph}
-use Rattle.canonical_form.specs.Runs.{AreRunsSettled, HasNoLongerRun}
+use Rattle.canonical_form.specs.Runs.{AreRunsSettled}
 use Rattle.shape_buffer.specs.Unicode.{LawfulUnicode, is_mark}
-use Rattle.shape_normalize.specs.CanonicalForm.{text_of, AreEquivalent, HasCanonicalForm, IsRecomposedForm, EquivalencePremises, ComposesShortRuns, CanonicalFormPremises, NormalizesCanonically}
+use Rattle.shape_normalize.specs.CanonicalForm.{text_of, AreEquivalent, HasCanonicalForm, IsRecomposedForm, EquivalencePremises, CanonicalFormPremises, NormalizesCanonically, recomposed_text}
 use Rattle.shape_normalize.specs.Normalized.{ordered, normalized}
-use Rattle.shape_normalize.specs.RoundOne.{round_one}
 use Rattle.shape_normalize.specs.RoundTwo.{max_run, has_mark_past_first}
 use Rattle.shape_plan.specs.Rules.{Rules, decompositions, has_glyph}
 use Rattle.shape_normalize.proofs.Form.CutFormLemmas.{normalized_cuts}
-use Rattle.shape_normalize.proofs.Form.NormalFormLemmas.{IsPlain, IsPlain-from, choices, recomposed_by_last_text, mark_past_first_char, normalized_is_ordered, normalized_is_choices, normalized_by_characters, IsPlain-premises, ordered_settles, normalized_is_recomposed}
-use Rattle.shape_normalize.proofs.RoundOne.RoundOneLemmas.{chars-round_one}
+use Rattle.shape_normalize.proofs.Form.NormalFormLemmas.{IsPlain, IsPlain-from, choices, mark_past_first_char, normalized_is_ordered, normalized_is_choices, normalized_by_characters, IsPlain-premises, ordered_settles, normalized_is_recomposed}
 
 module _ (rules : Rules) where
   -- where no mode goes short each character is asked for its longest expansion
@@ -54,31 +51,28 @@ module _ (rules : Rules) where
         (is_mark rules.unicode) rules.short max_run
         (text_of b) (text_of (ordered rules b)) (ordered_settles rules lawful b (plain_of b premises) marked)
 
-    recomposed_is_equivalent_to_text : (b : Buffer) → EquivalencePremises rules b → ComposesShortRuns rules (round_one rules b)
-        → has_mark_past_first b.items ≡ true → rules.recomposes ≡ true
-        → AreEquivalent rules (text_of b) (text_of (normalized rules b))
-    recomposed_is_equivalent_to_text b premises short marked composes =
+    recomposed_is_equivalent_to_text : (b : Buffer) → EquivalencePremises rules b → has_mark_past_first b.items ≡ true
+        → rules.recomposes ≡ true → AreEquivalent rules (text_of b) (text_of (normalized rules b))
+    recomposed_is_equivalent_to_text b premises marked composes =
         let plain = plain_of b premises in
         let hooks = premises.text.lawful_hooks in
         subst (AreEquivalent rules (text_of b)) (sym (normalized_is_recomposed rules lawful b plain marked composes))
-        (equivalent_normalised_by_last (decompositions rules) hooks.splits (is_mark rules.unicode)
+        (equivalent_normalised (decompositions rules) hooks.splits (is_mark rules.unicode)
         (compose_with_glyph rules.compose (has_glyph rules.face.nominal_glyph))
         (sound_with_glyph (decompositions rules) rules.compose (has_glyph rules.face.nominal_glyph) (hooks.composes composes)) max_run
         (text_of b) (choices rules (text_of b)) (text_of (ordered rules b))
         (full_text-expanded (decompositions rules) hooks.splits (has_glyph rules.face.nominal_glyph)
         (is_mark rules.unicode) rules.short (text_of b))
-        (subst (HasNoLongerRun rules.unicode.ccc max_run) (chars-round_one rules b plain.prepared plain.no_selector)
-        (short composes))
         (ordered_settles rules lawful b plain marked))
 
-    pub normalized_is_equivalent : (b : Buffer) → EquivalencePremises rules b → ComposesShortRuns rules (round_one rules b)
+    pub normalized_is_equivalent : (b : Buffer) → EquivalencePremises rules b
         → AreEquivalent rules (text_of b) (text_of (normalized rules b))
-    normalized_is_equivalent b premises short =
+    normalized_is_equivalent b premises =
         elim (cases_Bool (has_mark_past_first b.items)) [
           | inr unmarked ↦ unmarked_is_equivalent b premises unmarked
           | inl marked ↦
               elim (cases_Bool rules.recomposes) [
-                | inl composes ↦ recomposed_is_equivalent_to_text b premises short marked composes
+                | inl composes ↦ recomposed_is_equivalent_to_text b premises marked composes
                 | inr leaves ↦
                     subst (AreEquivalent rules (text_of b)) (sym (normalized_is_ordered rules b leaves))
                     (ordered_is_equivalent_to_text b premises marked)
@@ -108,7 +102,7 @@ module _ (rules : Rules) where
         (text_of b) (text_of (ordered rules b)) premises.canonical.supported (ordered_is_decomposed b premises)
 
     text_of-composed : (b : Buffer) → CanonicalFormPremises rules b → rules.recomposes ≡ true
-        → text_of (normalized rules b) ≡ recomposed_by_last_text rules (text_of (ordered rules b))
+        → text_of (normalized rules b) ≡ recomposed_text rules (text_of (ordered rules b))
     text_of-composed b premises composes =
         normalized_is_recomposed rules lawful b (plain_of b premises.equivalence) (marked_items b premises) composes
 
@@ -125,10 +119,7 @@ module _ (rules : Rules) where
           canonical = text_of (ordered rules b);
           is_canonical = canonical;
           equivalent = ordered_is_equivalent_to_text b premises.equivalence (marked_items b premises);
-          is = text_of-composed b premises composes
-              ∙ sym (recomposed_by_last rules.unicode.ccc (is_mark rules.unicode)
-              (compose_with_glyph rules.compose (has_glyph rules.face.nominal_glyph))
-              (text_of (ordered rules b)) canonical.ordered);
+          is = text_of-composed b premises composes;
         }
 
     -- ---- comparing texts
@@ -146,7 +137,7 @@ module _ (rules : Rules) where
               of_b.canonical.supported of_c.canonical.supported (ordered_is_decomposed b of_b) (ordered_is_decomposed c of_c))
           | inl composes ↦
               rw (text_of-composed b of_b composes, text_of-composed c of_c composes)
-              (recomposed_by_last_equal_iff (decompositions rules) hooks.splits (has_glyph rules.face.nominal_glyph)
+              (recomposed_equal_iff (decompositions rules) hooks.splits (has_glyph rules.face.nominal_glyph)
               (is_mark rules.unicode) max_run
               (compose_with_glyph rules.compose (has_glyph rules.face.nominal_glyph))
               (sound_with_glyph (decompositions rules) rules.compose (has_glyph rules.face.nominal_glyph) (hooks.composes composes))

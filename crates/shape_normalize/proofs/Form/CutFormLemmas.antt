@@ -10,14 +10,14 @@ use Rattle.shape_buffer.specs.Buffer.{Buffer}
 use Rattle.canonical_form.specs.Expanded.{begins_with_mark}
 use Rattle.canonical_form.specs.Expansion.{choice}
 use Rattle.shape_buffer.specs.Items.{Item, char_of, is_mark_item}
-use Rattle.canonical_form.specs.Recompose.{is_blocked_by_last, compose_with_glyph}
+use Rattle.canonical_form.specs.Recompose.{is_blocked, compose_with_glyph}
 use Rattle.canonical_form.specs.Runs.{AreRunsSettled}
 use Rattle.shape_buffer.specs.Unicode.{UnicodeMeaning, LawfulUnicode, is_mark}
-use Rattle.shape_normalize.specs.CanonicalForm.{text_of, CutPremises}
+use Rattle.shape_normalize.specs.CanonicalForm.{text_of, CutPremises, recomposed_text}
 use Rattle.shape_normalize.specs.Normalized.{ordered, normalized}
 use Rattle.shape_normalize.specs.RoundTwo.{max_run, has_mark_past_first}
 use Rattle.shape_plan.specs.Rules.{Rules, decompositions, has_glyph}
-use Rattle.shape_normalize.proofs.Form.NormalFormLemmas.{IsPlain, IsPlain-premises, mark_past_first_char, choices, recomposed_by_last_text, normalized_is_ordered, ordered_settles, normalized_is_recomposed}
+use Rattle.shape_normalize.proofs.Form.NormalFormLemmas.{IsPlain, IsPlain-premises, mark_past_first_char, choices, normalized_is_ordered, ordered_settles, normalized_is_recomposed}
 use Rattle.shape_normalize.proofs.Form.PreparedLemmas.{ArePrepared, unmarked_ccc}
 use Rattle.shape_normalize.proofs.RoundOne.RoundOneLemmas.{chars-round_one}
 
@@ -42,14 +42,14 @@ module _ (rules : Rules) where
     cut_text : (front back new other : List ℕ) → begins_with_mark (is_mark rules.unicode) back ≡ false → Settles front new
         → Settles back other
         → Settles (front ++ back) (new ++ other)
-        × (recomposed_by_last_text rules (new ++ other) ≡ recomposed_by_last_text rules new ++ recomposed_by_last_text rules other)
+        × (recomposed_text rules (new ++ other) ≡ recomposed_text rules new ++ recomposed_text rules other)
     cut_text front [] new other unmarked settled_front settled_back =
         let none : other ≡ [] = Swaps-nil rules.unicode.ccc max_run (IsSettled-swaps rules.unicode.ccc max_run [] other settled_back) in (
           rw (none, append-nil front, append-nil new) settled_front,
-          rw (none, append-nil new) (sym (append-nil (recomposed_by_last_text rules new))),
+          rw (none, append-nil new) (sym (append-nil (recomposed_text rules new))),
         )
     cut_text front (c ∷ rest) new other unmarked settled_front settled_back =
-        cut rules.unicode.ccc max_run (is_blocked_by_last rules.unicode.ccc) (is_mark rules.unicode)
+        cut rules.unicode.ccc max_run (is_blocked rules.unicode.ccc) (is_mark rules.unicode)
         (compose_with_glyph rules.compose (has_glyph rules.face.nominal_glyph))
         front (c ∷ rest) c rest new other refl unmarked
         (eq-eqb (rules.unicode.ccc c) 0 (unmarked_ccc rules.unicode lawful c unmarked)) settled_front settled_back
@@ -85,9 +85,9 @@ module _ (rules : Rules) where
 
       both : Settles (choices rules (text_of front) ++ choices rules (text_of back))
           (text_of (ordered rules front) ++ text_of (ordered rules back))
-          × (recomposed_by_last_text rules (text_of (ordered rules front) ++ text_of (ordered rules back))
-          ≡ recomposed_by_last_text rules (text_of (ordered rules front))
-          ++ recomposed_by_last_text rules (text_of (ordered rules back)))
+          × (recomposed_text rules (text_of (ordered rules front) ++ text_of (ordered rules back))
+          ≡ recomposed_text rules (text_of (ordered rules front))
+          ++ recomposed_text rules (text_of (ordered rules back)))
       both =
           cut_text (choices rules (text_of front)) (choices rules (text_of back)) (text_of (ordered rules front))
           (text_of (ordered rules back)) unmarked_choices
@@ -107,7 +107,7 @@ module _ (rules : Rules) where
             | inr leaves ↦ normalized_is_ordered rules old leaves ∙ ordered_cuts
                 ∙ sym (ap₂ ◌++◌ (normalized_is_ordered rules front leaves) (normalized_is_ordered rules back leaves))
             | inl composes ↦
-                normalized_is_recomposed rules lawful old whole marked composes ∙ ap (recomposed_by_last_text rules) ordered_cuts ∙ both.1
+                normalized_is_recomposed rules lawful old whole marked composes ∙ ap (recomposed_text rules) ordered_cuts ∙ both.1
                 ∙ sym (ap₂ ◌++◌ (normalized_is_recomposed rules lawful front of_front premises.front_marked composes)
                 (normalized_is_recomposed rules lawful back of_back premises.back_marked composes))
           ]

@@ -9,10 +9,9 @@ use Rattle.canonical_form.proofs.Ordering.SwapLemmas.{all-swaps}
 use Rattle.shape_buffer.specs.Buffer.{Buffer}
 use Rattle.canonical_form.specs.Expanded.{expanded_text}
 use Rattle.shape_buffer.specs.Items.{Item, char_of, is_mark_item}
-use Rattle.canonical_form.specs.Recompose.{is_blocked_by_last, compose_with_glyph, recomposed}
 use Rattle.canonical_form.specs.Runs.{AreRunsSettled}
 use Rattle.shape_buffer.specs.Unicode.{UnicodeMeaning, LawfulUnicode, is_mark}
-use Rattle.shape_normalize.specs.CanonicalForm.{text_of, HasNoSelector, PlainPremises}
+use Rattle.shape_normalize.specs.CanonicalForm.{text_of, HasNoSelector, PlainPremises, recomposed_text}
 use Rattle.shape_normalize.specs.Normalized.{ordered, normalized}
 use Rattle.shape_buffer.specs.Prepared.{IsPrepared, IsPreparedItem}
 use Rattle.shape_normalize.specs.RoundOne.{round_one}
@@ -88,12 +87,6 @@ module _ (rules : Rules) where
   abbrev pub choices : List ℕ → List ℕ
   choices text = expanded_text (decompositions rules) (has_glyph rules.face.nominal_glyph) (is_mark rules.unicode) rules.short text
 
-  -- a text recomposed by the ccc put out last
-  abbrev pub recomposed_by_last_text : List ℕ → List ℕ
-  recomposed_by_last_text text =
-      recomposed rules.unicode.ccc (is_blocked_by_last rules.unicode.ccc) (is_mark rules.unicode)
-      (compose_with_glyph rules.compose (has_glyph rules.face.nominal_glyph)) text
-
   abbrev ordered_if : Bool → Option (Buffer → ℕ → ℕ → Buffer) → Buffer → Buffer
   ordered_if test reorder one = cgj_unhidden_where_seen (if test then marks_ordered reorder one else one)
 
@@ -142,7 +135,7 @@ module _ (rules : Rules) where
 
     -- and in the modes that compose that list is recomposed
     pub normalized_is_recomposed : (b : Buffer) → IsPlain rules b → has_mark_past_first b.items ≡ true → rules.recomposes ≡ true
-        → text_of (normalized rules b) ≡ recomposed_by_last_text (text_of (ordered rules b))
+        → text_of (normalized rules b) ≡ recomposed_text rules (text_of (ordered rules b))
     normalized_is_recomposed b plain marked composes =
         let both = and_from (has_mark_past_first b.items) rules.recomposes marked composes in
         ap text_of (cond-true _ (round_three rules (ordered rules b)) (ordered rules b) both)
@@ -178,7 +171,7 @@ module _ (rules : Rules) where
                     ∙ sym (normalized_is_ordered c leaves)
                 | inl composes ↦
                     normalized_is_recomposed b of_b marked composes
-                    ∙ ap recomposed_by_last_text (ordered_by_characters b c of_b of_c marked same)
+                    ∙ ap (recomposed_text rules) (ordered_by_characters b c of_b of_c marked same)
                     ∙ sym (normalized_is_recomposed c of_c (alike ∙ marked) composes)
               ]
         ]

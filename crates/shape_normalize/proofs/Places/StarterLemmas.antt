@@ -3,7 +3,7 @@ use Rattle.std.proofs.Common.{◌≡◌, ℕ, zero, suc, true, List, [], ◌∷�
 use Rattle.std.specs.List.{AllByRecursion, AllZip}
 use Rattle.shape_buffer.specs.Buffer.{Buffer}
 use Rattle.shape_buffer.specs.Items.{Item}
-use Rattle.canonical_form.specs.Recompose.{is_blocked_by_last}
+use Rattle.canonical_form.specs.Recompose.{is_blocked}
 use Rattle.canonical_form.proofs.Recomposing.RecomposeLemmas.{recomposed-all}
 use Rattle.shape_plan.specs.Rules.{Rules, has_glyph}
 use Rattle.shape_normalize.specs.Normalized.{features_of}
@@ -92,7 +92,7 @@ module _ (rules : Rules) where
 
     each_once : AllByRecursion IsPutOut (recomposed_items rules items)
     each_once =
-        recomposed-all ccc_of_placed (is_blocked_by_last ccc_of_placed) is_mark_placed (compose_placed rules) IsPutOut composes_once
+        recomposed-all ccc_of_placed (is_blocked ccc_of_placed) is_mark_placed (compose_placed rules) IsPutOut composes_once
         (placed 0 items)
         (placed_once 0 items (same_at (λ item. item) items items refl))
 

@@ -7,7 +7,7 @@ use Rattle.shape_buffer.specs.Clusters.{clusters, merge}
 use Rattle.shape_buffer.specs.ClusterOrder.{KeepsClusters}
 use Rattle.shape_buffer.specs.Items.{Item}
 use Rattle.shape_buffer.specs.Spans.{AreSpansInOrder, merge_each, spans_merged_out}
-use Rattle.canonical_form.specs.Recompose.{is_blocked_by_last}
+use Rattle.canonical_form.specs.Recompose.{is_blocked}
 use Rattle.canonical_form.proofs.Lists.EveryLemmas.{push_all}
 use Rattle.canonical_form.proofs.Recomposing.RecomposeLemmas.{by_steps}
 use Rattle.shape_buffer.proofs.Merging.KeyLemmas.{length-merge}
@@ -79,7 +79,7 @@ module _ (rules : Rules) (n : ℕ) where
 
   chained_after : (s : Placed) (ms rest : List Placed) → IsChained n s ms rest (after rules s ms rest)
   chained_after =
-      by_steps ccc_of_placed (is_blocked_by_last ccc_of_placed) is_mark_placed (compose_placed rules) (IsChained n) (record {
+      by_steps ccc_of_placed (is_blocked ccc_of_placed) is_mark_placed (compose_placed rules) (IsChained n) (record {
         ends = chained_ends;
         composes = λ s ms c d rest out found free made later. chained_absorbs s c d ms rest out made later;
         starts = λ s ms c rest out none start later. chained_starts s c ms rest out later;

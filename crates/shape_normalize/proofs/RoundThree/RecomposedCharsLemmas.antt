@@ -1,10 +1,10 @@
 -- The characters of the recomposed list of prepared items are those of the list, recomposed.
 use Rattle.std.proofs.Common.{◌≡◌, ℕ, suc, List, [], ◌∷◌, map, Option, Some, None, option_map, refl, sym, ap, subst, ◌∙◌}
 use Rattle.std.specs.List.{AllByRecursion}
-use Rattle.canonical_form.proofs.MapLemmas.{is_blocked_by_last-map, recomposed-map}
+use Rattle.canonical_form.proofs.MapLemmas.{is_blocked-map, recomposed-map}
 use Rattle.shape_buffer.specs.Buffer.{Buffer}
 use Rattle.shape_buffer.specs.Items.{Item, char_of}
-use Rattle.canonical_form.specs.Recompose.{is_blocked_by_last, compose_with_glyph, recomposed}
+use Rattle.canonical_form.specs.Recompose.{is_blocked, compose_with_glyph, recomposed}
 use Rattle.shape_buffer.specs.Unicode.{LawfulUnicode, is_mark}
 use Rattle.shape_buffer.specs.Prepared.{IsPreparedItem}
 use Rattle.shape_buffer.specs.Spans.{spans_merged_out}
@@ -49,23 +49,23 @@ module _ (rules : Rules) (lawful : LawfulUnicode rules.unicode) where
 
   chars-recomposed : (items : List Item) → ArePrepared rules.unicode items
       → map char_of_placed (recomposed_items rules items)
-      ≡ recomposed rules.unicode.ccc (is_blocked_by_last rules.unicode.ccc) (is_mark rules.unicode) compose_chars (map char_of items)
+      ≡ recomposed rules.unicode.ccc (is_blocked rules.unicode.ccc) (is_mark rules.unicode) compose_chars (map char_of items)
   chars-recomposed items h =
       let ccc = rules.unicode.ccc in
       let cccs : (p : Placed) → IsPreparedPlaced p → ccc (char_of_placed p) ≡ ccc_of_placed p = λ p prepared. sym prepared.ccc in
       recomposed-map IsPreparedPlaced char_of_placed ccc_of_placed ccc cccs
-      (is_blocked_by_last ccc_of_placed) (is_blocked_by_last ccc)
-      (is_blocked_by_last-map IsPreparedPlaced char_of_placed ccc_of_placed ccc cccs)
+      (is_blocked ccc_of_placed) (is_blocked ccc)
+      (is_blocked-map IsPreparedPlaced char_of_placed ccc_of_placed ccc cccs)
       is_mark_placed (is_mark rules.unicode) (compose_placed rules) compose_chars (λ p prepared. sym prepared.mark)
       (λ starter mark d of_starter of_mark made. prepared-composed starter mark d made)
       (λ starter mark of_starter of_mark. same_char starter mark (compose_chars starter.item.codepoint mark.item.codepoint))
       (placed 0 items) (prepared-placed 0 items h)
-      ∙ ap (recomposed ccc (is_blocked_by_last ccc) (is_mark rules.unicode) compose_chars) (chars-placed 0 items)
+      ∙ ap (recomposed ccc (is_blocked ccc) (is_mark rules.unicode) compose_chars) (chars-placed 0 items)
 
   -- the characters of the recomposed list are those of the list, recomposed by the ccc put out last
   pub chars-round_three : (b : Buffer) → ArePrepared rules.unicode b.items
       → map char_of (round_three rules b).items
-      ≡ recomposed rules.unicode.ccc (is_blocked_by_last rules.unicode.ccc) (is_mark rules.unicode) compose_chars (map char_of b.items)
+      ≡ recomposed rules.unicode.ccc (is_blocked rules.unicode.ccc) (is_mark rules.unicode) compose_chars (map char_of b.items)
   chars-round_three b h =
       let out : List Placed = recomposed_items rules b.items in
       chars-with_clusters (spans_merged_out (absorbed_spans out) b).items out ∙ chars-recomposed b.items h

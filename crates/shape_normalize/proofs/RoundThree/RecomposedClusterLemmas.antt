@@ -6,7 +6,7 @@ use Rattle.shape_buffer.specs.Buffer.{Buffer}
 use Rattle.shape_buffer.specs.Clusters.{clusters}
 use Rattle.shape_buffer.specs.ClusterOrder.{KeepsClusters}
 use Rattle.shape_buffer.specs.Items.{Item}
-use Rattle.canonical_form.specs.Recompose.{recomposed_from, recomposed, is_blocked_by_last}
+use Rattle.canonical_form.specs.Recompose.{recomposed_from, recomposed, is_blocked}
 use Rattle.shape_buffer.proofs.Order.DrawsInOrder.{DrawsInOrder, DrawsInOrder-same, DrawsInOrder-then, KeepsClusters-from_draws}
 use Rattle.shape_buffer.proofs.Steps.KeeperLemmas.{KeepsClusters-then}
 use Rattle.shape_buffer.proofs.MergingInOrder.EachSpanLemmas.{length-spans_merged_out}
@@ -72,7 +72,7 @@ module _ (rules : Rules) where
       ≡ cs = clusters-placed cs 0 items (omega (arith, length-map merged (λ (item : Item). item.cluster))) in
       rw (clusters-put_out merged (recomposed_items rules items))
       (subst (λ l. DrawsInOrder l (map (cluster_at_place cs) (recomposed_items rules items))) begins
-      (recomposed_draws ccc_of_placed (is_blocked_by_last ccc_of_placed) is_mark_placed (compose_placed rules)
+      (recomposed_draws ccc_of_placed (is_blocked ccc_of_placed) is_mark_placed (compose_placed rules)
       (cluster_at_place cs)
       (λ starter mark made is. ap (cluster_at_place cs) (absorbed_is rules starter mark made is).2) (placed 0 items)))
 

@@ -6,7 +6,7 @@ use Rattle.std.proofs.lemmas.Bool.{cases_Bool, cond-true, cond-false}
 use Rattle.std.proofs.lemmas.List.{length-map}
 use Rattle.shape_buffer.specs.Buffer.{Buffer}
 use Rattle.shape_buffer.specs.Items.{Item}
-use Rattle.canonical_form.specs.Recompose.{is_blocked_by_last}
+use Rattle.canonical_form.specs.Recompose.{is_blocked}
 use Rattle.canonical_form.proofs.Recomposing.RecomposeLemmas.{recomposed-all}
 use Rattle.shape_plan.specs.Rules.{Rules, has_glyph}
 use Rattle.shape_normalize.specs.RoundOne.{part_item}
@@ -42,7 +42,7 @@ module _ (rules : Rules) (P : Item → Type 0) (composes : (item : Item) (c : �
   pub each_recomposed : (items : List Item) → AllByRecursion P items
       → AllByRecursion (λ (p : Placed). P p.item) (recomposed_items rules items)
   each_recomposed items each =
-      recomposed-all ccc_of_placed (is_blocked_by_last ccc_of_placed) is_mark_placed (compose_placed rules)
+      recomposed-all ccc_of_placed (is_blocked ccc_of_placed) is_mark_placed (compose_placed rules)
       (λ (p : Placed). P p.item) each_composed (placed 0 items) (each_placed 0 items each)
 
 -- what holds of an item whatever its cluster and its mask, and of what a starter becomes that has it, holds of each item that is put out

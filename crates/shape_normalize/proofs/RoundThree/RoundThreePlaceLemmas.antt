@@ -3,7 +3,7 @@ use Rattle.std.proofs.Common.{◌≡◌, ℕ, suc, ◌+◌, ◌<◌, ◌≤◌, 
 use Rattle.std.specs.Option.{option_map}
 use Rattle.std.specs.List.{AllByRecursion}
 use Rattle.shape_buffer.specs.Items.{Item}
-use Rattle.canonical_form.specs.Recompose.{is_blocked_by_last, compose_with_glyph}
+use Rattle.canonical_form.specs.Recompose.{is_blocked, compose_with_glyph}
 use Rattle.canonical_form.proofs.Lists.EveryLemmas.{append_all}
 use Rattle.canonical_form.proofs.Recomposing.RecomposeLemmas.{by_steps}
 use Rattle.shape_normalize.specs.RoundThree.{Absorbed, Placed, placed, ccc_of_placed, is_mark_placed, compose_placed, recomposed_items}
@@ -115,7 +115,7 @@ module _ (rules : Rules) where
   after_placed : (n : ℕ) (s : Placed) (ms rest : List Placed) → (low k : ℕ) → ArePlaced low k (s ∷ ms) → AreFrom n k rest
       → ArePlaced low n (after rules s ms rest)
   after_placed n =
-      by_steps ccc_of_placed (is_blocked_by_last ccc_of_placed) is_mark_placed (compose_placed rules)
+      by_steps ccc_of_placed (is_blocked ccc_of_placed) is_mark_placed (compose_placed rules)
       (λ s ms rest out. (low k : ℕ) → ArePlaced low k (s ∷ ms) → AreFrom n k rest → ArePlaced low n out) (record {
         ends = λ s ms low k h from. subst (λ m. ArePlaced low m (s ∷ ms)) from h;
         composes = λ s ms c d rest out found free made later low k h from.

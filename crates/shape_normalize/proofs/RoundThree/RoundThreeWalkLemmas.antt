@@ -1,32 +1,22 @@
 -- The walk of round three: what it puts out, step by step.
-use Rattle.std.proofs.Common.{◌≡◌, ℕ, suc, ◌+◌, ◌<◌, ◌≤◌, Bool, true, false, ◌&&◌, not, if◌then◌else◌, List, [], ◌∷◌, ◌++◌, length, map, get_or, set, drop, Option, None, Some, refl, sym, ap, ap₂, ◌∙◌, add-one, append_assoc, append-nil, drop-cons, eq-eqb, ne_eqb}
+use Rattle.std.proofs.Common.{◌≡◌, ℕ, suc, ◌+◌, ◌<◌, ◌≤◌, Bool, true, false, ◌&&◌, not, max, if◌then◌else◌, List, [], ◌∷◌, ◌++◌, length, map, get_or, set, drop, Option, None, Some, refl, sym, ap, ap₂, ◌∙◌, add-one, append_assoc, append-nil, drop-cons, eq-eqb, ne_eqb, arith}
 use Rattle.std.specs.Option.{option_map}
 use Rattle.std.specs.List.{AllByRecursion, flat_map, slice_get}
 use Rattle.std.proofs.lemmas.List.{map-append, drop_all}
 use Rattle.std.proofs.lemmas.Grind.{flat_map-append}
 use Rattle.std.proofs.lemmas.List.Sums.{fold-append}
 use Rattle.shape_buffer.specs.Items.{Item, ccc_of_item, is_mark_item}
-use Rattle.canonical_form.specs.Recompose.{composed, recomposed_from, is_blocked_by_last, compose_with_glyph}
+use Rattle.canonical_form.specs.Recompose.{composed, recomposed_from, is_blocked, greatest_ccc, compose_with_glyph}
 use Rattle.shape_buffer.specs.UnicodeProps.{with_scratch_of}
 use Rattle.shape_buffer.specs.declared.buffer.flags.ScratchFlags.{ScratchFlags}
-use Rattle.canonical_form.proofs.MapLemmas.{is_blocked_by_last-map}
+use Rattle.canonical_form.proofs.Lists.EveryLemmas.{push_all}
+use Rattle.canonical_form.proofs.Recomposing.BlockLemmas.{blocked_by_number, greatest_ccc-push}
 use Rattle.canonical_form.proofs.Recomposing.RecomposeLemmas.{recomposed_from-some, recomposed_from-starter, recomposed_from-mark}
-use Rattle.canonical_form.proofs.Recomposing.RecomposeWalkLemmas.{at_split, drop_split, set_split}
+use Rattle.canonical_form.proofs.Recomposing.RecomposeWalkLemmas.{at_split, set_split}
 use Rattle.shape_normalize.specs.RoundOne.{part_item, seen_chars}
-use Rattle.shape_normalize.specs.RoundThree.{Absorbed, Placed, placed, ccc_of_placed, is_mark_placed, compose_placed, recomposed_items, spans_between, chained_spans, composed_chars, placed_info, ccc_of_placed_info, composed_char}
+use Rattle.shape_normalize.specs.RoundThree.{Absorbed, Placed, placed, ccc_of_placed, is_mark_placed, compose_placed, recomposed_items, spans_between, chained_spans, composed_chars, placed_info, composed_char}
 use Rattle.shape_plan.specs.Rules.{Rules, has_glyph}
 use Rattle.shape_normalize.specs.declared.ot_shape_normalize.round_three.PlacedInfo.{PlacedInfo}
-
--- ---- the test of blocking goes by the items alone
-
-each_placed : (ms : List Placed) → AllByRecursion (λ (p : Placed). Unit {0}) ms
-each_placed [] = tt
-each_placed (m ∷ ms) = (tt, each_placed ms)
-
-blocked_infos : (ms : List Placed) (c : Placed)
-    → is_blocked_by_last ccc_of_placed_info (map placed_info ms) (placed_info c) ≡ is_blocked_by_last ccc_of_placed ms c
-blocked_infos ms c =
-    is_blocked_by_last-map (λ (p : Placed). Unit {0}) placed_info ccc_of_placed ccc_of_placed_info (λ p h. refl) ms c (each_placed ms) tt
 
 option_map-if : {A B : Type 0} (f : A → B) (t : Bool) (o : Option A)
     → (if t then option_map f o else None) ≡ option_map f (if t then o else None)
@@ -82,7 +72,7 @@ spans_between-push from (m ∷ absorbed) mark = ap (λ l. (from, m.place + 1) �
 module _ (rules : Rules) where
   -- what is still to come of a starter, its marks and the rest
   abbrev pub after : Placed → List Placed → List Placed → List Placed
-  after = recomposed_from ccc_of_placed (is_blocked_by_last ccc_of_placed) is_mark_placed (compose_placed rules)
+  after = recomposed_from ccc_of_placed (is_blocked ccc_of_placed) is_mark_placed (compose_placed rules)
 
   -- the item that stood at a place
   abbrev pub item_at : ℕ → Item → Placed
@@ -96,22 +86,22 @@ module _ (rules : Rules) where
     absorbed = starter.absorbed ++ record { place = mark.place; char = c } ∷ [];
   }
 
-  composed_info : (s : Placed) (ms : List Placed) (c : Placed)
-      → composed ccc_of_placed (is_blocked_by_last ccc_of_placed) is_mark_placed (compose_placed rules) s ms c
-      ≡ option_map (made_with s c) (composed_char rules (placed_info s) (map placed_info ms) (placed_info c))
-  composed_info s ms c =
+  composed_info : (s : Placed) (ms : List Placed) (c : Placed) → AllByRecursion (λ m. 0 < ccc_of_placed m) ms
+      → composed ccc_of_placed (is_blocked ccc_of_placed) is_mark_placed (compose_placed rules) s ms c
+      ≡ option_map (made_with s c) (composed_char rules (placed_info s) (greatest_ccc ccc_of_placed ms) (placed_info c))
+  composed_info s ms c nonzero =
       let compose = compose_with_glyph rules.compose (has_glyph rules.face.nominal_glyph) s.item.codepoint c.item.codepoint in
-      option_map-if (made_with s c) (is_mark_item c.item && not (is_blocked_by_last ccc_of_placed ms c)) compose
-      ∙ ap (λ b. option_map (made_with s c) (if is_mark_item c.item && not b then compose else None)) (sym (blocked_infos ms c))
+      option_map-if (made_with s c) (is_mark_item c.item && not (is_blocked ccc_of_placed ms c)) compose
+      ∙ ap (λ b. option_map (made_with s c) (if is_mark_item c.item && not b then compose else None)) (blocked_by_number ccc_of_placed ms c nonzero)
 
   placed-next : (i : ℕ) (items : List Item) (x : Item) → i < length items → x ≡ get_or items i x
       → placed i (drop i items) ≡ item_at i x ∷ placed (i + 1) (drop (i + 1) items)
   placed-next i items x lt is = rw (add-one, drop-cons items i x) (ap (λ y. item_at i y ∷ placed (suc i) (drop (suc i) items)) (sym is))
 
   -- the items before place i were walked over: out is put out, with the starter at its place, these are the spans and the flags, and the
-  -- next span begins at `from`
+  -- next span begins at `from`; the marks behind the starter have this greatest ccc
   pub record IsRecomposedTo (items : List Item) (flags : ScratchFlags) (i : ℕ) (out : List PlacedInfo) (spans : List (ℕ × ℕ))
-      (seen : ScratchFlags) (starter from : ℕ) : Type 0 where
+      (seen : ScratchFlags) (starter from greatest : ℕ) : Type 0 where
     pub before : List Placed
     pub at : Placed
     pub marks : List Placed
@@ -123,9 +113,11 @@ module _ (rules : Rules) where
     pub seen_is : seen ≡ seen_chars rules.unicode flags (composed_chars (before ++ at ∷ []))
     pub none_spanned : chained_spans marks ≡ []
     pub none_seen : composed_chars marks ≡ []
+    pub nonzero : AllByRecursion (λ m. 0 < ccc_of_placed m) marks
+    pub greatest_is : greatest ≡ greatest_ccc ccc_of_placed marks
 
   pub IsRecomposedTo-first : (items : List Item) (flags : ScratchFlags) (x : Item) → Some x ≡ slice_get items 0
-      → IsRecomposedTo items flags 1 (record { info = x; place = 0 } ∷ []) [] flags 0 0
+      → IsRecomposedTo items flags 1 (record { info = x; place = 0 } ∷ []) [] flags 0 0 0
   IsRecomposedTo-first [] flags x first = cc
   IsRecomposedTo-first (y ∷ items) flags x first =
       let same : x ≡ y = cc in
@@ -141,14 +133,16 @@ module _ (rules : Rules) where
         seen_is = refl;
         none_spanned = refl;
         none_seen = refl;
+        nonzero = tt;
+        greatest_is = refl;
       }
 
   -- the whole list was walked over
   pub walked_all : (items : List Item) (flags : ScratchFlags) (i : ℕ) (out : List PlacedInfo) (spans : List (ℕ × ℕ)) (seen : ScratchFlags)
-      (starter from : ℕ) → length items ≤ i → IsRecomposedTo items flags i out spans seen starter from
+      (starter from greatest : ℕ) → length items ≤ i → IsRecomposedTo items flags i out spans seen starter from greatest
       → (out ≡ map placed_info (recomposed_items rules items)) × (spans ≡ chained_spans (recomposed_items rules items))
       × (seen ≡ seen_chars rules.unicode flags (composed_chars (recomposed_items rules items)))
-  walked_all items flags i out spans seen starter from le h =
+  walked_all items flags i out spans seen starter from greatest le h =
       let none : placed i (drop i items) ≡ [] = ap (placed i) (drop_all i items le) in
       let all : recomposed_items rules items ≡ h.before ++ h.at ∷ h.marks = h.whole
       ∙ ap (λ rest. h.before ++ after h.at h.marks rest) none in (
@@ -159,9 +153,9 @@ module _ (rules : Rules) where
       )
 
   module _ (items : List Item) (flags : ScratchFlags) (i : ℕ) (out : List PlacedInfo) (spans : List (ℕ × ℕ)) (seen : ScratchFlags)
-      (starter from : ℕ) (x : Item) (s : PlacedInfo) (marks : List PlacedInfo) (lt : i < length items) (is_x : x ≡ get_or items i x)
-      (is_s : s ≡ get_or out starter s) (are_marks : marks ≡ drop (starter + 1) out)
-      (h : IsRecomposedTo items flags i out spans seen starter from) where
+      (starter from greatest : ℕ) (x : Item) (s : PlacedInfo) (lt : i < length items) (is_x : x ≡ get_or items i x)
+      (is_s : s ≡ get_or out starter s)
+      (h : IsRecomposedTo items flags i out spans seen starter from greatest) where
     abbrev next : Placed
     next = item_at i x
 
@@ -173,25 +167,20 @@ module _ (rules : Rules) where
         is_s ∙ ap₂ (λ l n. get_or l n s) h.out_is h.starter_is
         ∙ at_split (map placed_info h.before) (map placed_info h.marks) (placed_info h.at) s
 
-    marks_at : marks ≡ map placed_info h.marks
-    marks_at =
-        are_marks ∙ rw add-one (ap₂ (λ l n. drop (suc n) l) h.out_is h.starter_is
-        ∙ drop_split (map placed_info h.before) (map placed_info h.marks) (placed_info h.at))
-
-    composed_at : (o : Option ℕ) → o ≡ composed_char rules s marks (placed_info next)
-        → composed ccc_of_placed (is_blocked_by_last ccc_of_placed) is_mark_placed (compose_placed rules) h.at h.marks next
+    composed_at : (o : Option ℕ) → o ≡ composed_char rules s greatest (placed_info next)
+        → composed ccc_of_placed (is_blocked ccc_of_placed) is_mark_placed (compose_placed rules) h.at h.marks next
         ≡ option_map (made_with h.at next) o
     composed_at o was =
-        composed_info h.at h.marks next
+        composed_info h.at h.marks next h.nonzero
         ∙ ap (option_map (made_with h.at next))
-        (ap₂ (λ p ms. composed_char rules p ms (placed_info next)) (sym starter_at) (sym marks_at) ∙ sym was)
+        (ap₂ (λ p n. composed_char rules p n (placed_info next)) (sym starter_at) (sym h.greatest_is) ∙ sym was)
 
     whole_next : recomposed_items rules items ≡ h.before ++ after h.at h.marks (next ∷ rest)
     whole_next = h.whole ∙ ap (λ l. h.before ++ after h.at h.marks l) (placed-next i items x lt is_x)
 
     -- the next item goes into the starter
-    pub IsRecomposedTo-absorbed : (c : ℕ) → Some c ≡ composed_char rules s marks (placed_info next)
-        → IsRecomposedTo items flags (i + 1) (set out starter (record s { info = part_item rules.unicode rules.face.nominal_glyph s.info c })) (spans ++ (from, i + 1) ∷ []) (with_scratch_of rules.unicode c seen) starter i
+    pub IsRecomposedTo-absorbed : (c : ℕ) → Some c ≡ composed_char rules s greatest (placed_info next)
+        → IsRecomposedTo items flags (i + 1) (set out starter (record s { info = part_item rules.unicode rules.face.nominal_glyph s.info c })) (spans ++ (from, i + 1) ∷ []) (with_scratch_of rules.unicode c seen) starter i greatest
     IsRecomposedTo-absorbed c was =
         let d : Placed = made_with h.at next c in
         let set_is : set out starter (record s { info = part_item rules.unicode rules.face.nominal_glyph s.info c })
@@ -208,7 +197,7 @@ module _ (rules : Rules) where
           from_is = sym (last_absorbed-push h.at.place h.at.absorbed (record { place = i; char = c }));
           whole = whole_next
               ∙ ap (λ l. h.before
-              ++ l) (recomposed_from-some ccc_of_placed (is_blocked_by_last ccc_of_placed) is_mark_placed
+              ++ l) (recomposed_from-some ccc_of_placed (is_blocked ccc_of_placed) is_mark_placed
               (compose_placed rules) h.at h.marks next rest d (composed_at (Some c) was));
           spans_are =
               ap₂ (λ l n. l ++ (n, i + 1) ∷ []) h.spans_are h.from_is
@@ -221,6 +210,8 @@ module _ (rules : Rules) where
               (sym (adds_one chars_of h.before h.at d c (map-append (λ (mark : Absorbed). mark.char) h.at.absorbed _)));
           none_spanned = h.none_spanned;
           none_seen = h.none_seen;
+          nonzero = h.nonzero;
+          greatest_is = h.greatest_is;
         }
 
     put_behind : out ++ placed_info next ∷ [] ≡ map placed_info h.before ++ placed_info h.at ∷ map placed_info (h.marks ++ next ∷ [])
@@ -233,8 +224,8 @@ module _ (rules : Rules) where
     whole_out = h.out_is ∙ sym (map-append placed_info h.before (h.at ∷ h.marks))
 
     -- the next item is put out, and is the starter from then on
-    pub IsRecomposedTo-starter : None ≡ composed_char rules s marks (placed_info next) → ccc_of_item x ≡ 0
-        → IsRecomposedTo items flags (i + 1) (out ++ placed_info next ∷ []) spans seen (length out) i
+    pub IsRecomposedTo-starter : None ≡ composed_char rules s greatest (placed_info next) → ccc_of_item x ≡ 0
+        → IsRecomposedTo items flags (i + 1) (out ++ placed_info next ∷ []) spans seen (length out) i 0
     IsRecomposedTo-starter was zero_ccc =
         let done = h.before ++ h.at ∷ h.marks in
         record {
@@ -247,7 +238,7 @@ module _ (rules : Rules) where
           whole =
               whole_next
               ∙ ap (λ l. h.before
-              ++ l) (recomposed_from-starter ccc_of_placed (is_blocked_by_last ccc_of_placed) is_mark_placed
+              ++ l) (recomposed_from-starter ccc_of_placed (is_blocked ccc_of_placed) is_mark_placed
               (compose_placed rules) h.at h.marks next rest (composed_at None was) (eq-eqb _ 0 zero_ccc))
               ∙ sym (append_assoc h.before (h.at ∷ h.marks) (after next [] rest));
           spans_are = h.spans_are ∙ sym (adds_none spans_of done next refl ∙ adds_to_starter spans_of h.before h.at h.marks h.none_spanned);
@@ -256,11 +247,13 @@ module _ (rules : Rules) where
               (sym (adds_none chars_of done next refl ∙ adds_to_starter chars_of h.before h.at h.marks h.none_seen));
           none_spanned = refl;
           none_seen = refl;
+          nonzero = tt;
+          greatest_is = refl;
         }
 
     -- the next item is put out behind the starter
-    pub IsRecomposedTo-mark : None ≡ composed_char rules s marks (placed_info next) → (ccc_of_item x ≡ 0 → ⊥)
-        → IsRecomposedTo items flags (i + 1) (out ++ placed_info next ∷ []) spans seen starter from
+    pub IsRecomposedTo-mark : None ≡ composed_char rules s greatest (placed_info next) → (ccc_of_item x ≡ 0 → ⊥)
+        → IsRecomposedTo items flags (i + 1) (out ++ placed_info next ∷ []) spans seen starter from (max greatest (ccc_of_item x))
     IsRecomposedTo-mark was some_ccc =
         record {
           before = h.before;
@@ -272,10 +265,12 @@ module _ (rules : Rules) where
           whole =
               whole_next
               ∙ ap (λ l. h.before
-              ++ l) (recomposed_from-mark ccc_of_placed (is_blocked_by_last ccc_of_placed) is_mark_placed
+              ++ l) (recomposed_from-mark ccc_of_placed (is_blocked ccc_of_placed) is_mark_placed
               (compose_placed rules) h.at h.marks next rest (composed_at None was) (ne_eqb _ 0 some_ccc));
           spans_are = h.spans_are;
           seen_is = h.seen_is;
           none_spanned = adds_none spans_of h.marks next refl ∙ h.none_spanned;
           none_seen = adds_none chars_of h.marks next refl ∙ h.none_seen;
+          nonzero = push_all (λ m. 0 < ccc_of_placed m) h.marks next h.nonzero (omega (arith, some_ccc));
+          greatest_is = ap (λ n. max n (ccc_of_item x)) h.greatest_is ∙ sym (greatest_ccc-push ccc_of_placed h.marks next);
         }

@@ -2,16 +2,19 @@
 //!
 //! A face may have one glyph for what was split into a starter and its marks, so each mark that nothing
 //! keeps from its starter makes one character with it, where there is one with a glyph (The Unicode
-//! Standard, D115 to D117). The walk puts out items and remembers what was composed; the clusters of each
-//! starter and the marks that went into it are merged afterwards, as they stand in the list.
+//! Standard, D115 to D117). Marks may stand out of order, in a run too long to be put in order or where a
+//! hook has turned them. So the greatest ccc since the starter decides, and not that of the last mark.
+//!
+//! The walk puts out items and remembers what was composed; the clusters of each starter and the marks that
+//! went into it are merged afterwards, as they stand in the list.
 ghost use Rattle.std.specs.Prelude.{◌≡◌, ◌≤◌, map, length, IfOk, IsOkUnless, OnOk};
 ghost use Rattle.shape_buffer.specs.Buffer.{cleared, limit_of};
-ghost use Rattle.canonical_form.specs.Recompose.{is_blocked_by_last, compose_with_glyph};
+ghost use Rattle.canonical_form.specs.Recompose.{compose_with_glyph};
 ghost use Rattle.shape_buffer.specs.UnicodeProps.{with_scratch_of};
 ghost use Rattle.shape_normalize.specs.RoundOne.{part_item, seen_chars};
 ghost use Rattle.shape_normalize.specs.RoundThree.{recomposed_items, chained_spans, composed_chars};
 ghost use Rattle.shape_normalize.specs.RoundThree.{placed_info};
-ghost use Rattle.shape_normalize.specs.RoundThree.{ccc_of_placed_info, composed_char, info_at_its_place};
+ghost use Rattle.shape_normalize.specs.RoundThree.{is_blocked_behind, composed_char, info_at_its_place};
 ghost use Rattle.shape_normalize.specs.RoundThree.{round_three};
 ghost use Rattle.shape_plan.specs.Rules.{has_glyph};
 
@@ -81,25 +84,21 @@ where
     compose_of::<U, F, M, S>(plan, face, a, b).filter(|&c| face.has_glyph(c))
 }
 
-/// Whether the last of these marks keeps an item behind them from their starter.
-fn is_blocked(marks: &[PlacedInfo], next: &PlacedInfo) -> bool
-    ensures { result ≡ is_blocked_by_last ccc_of_placed_info marks.now next.now }
+/// Whether an item of this ccc is blocked from its starter by marks between them of this greatest ccc, 0
+/// where there are none.
+fn is_blocked(greatest: u8, ccc: u8) -> bool
+    ensures { result ≡ is_blocked_behind greatest ccc }
 {
-    match marks.last() {
-        Some(last) => {
-            next.info._hb_glyph_info_get_modified_combining_class()
-                <= last.info._hb_glyph_info_get_modified_combining_class()
-        }
-        None => false,
-    }
+    greatest > 0 && ccc <= greatest
 }
 
-/// The character that a starter makes with an item behind it and these marks, where the two compose.
+/// The character that a starter makes with an item behind it, past marks of this greatest ccc, where the two
+/// compose.
 fn composed_of<U, F, M, S>(
     plan: &hb_ot_shape_plan_t<'_, S, M::Map, S::Data>,
     face: &F,
     starter: &PlacedInfo,
-    marks: &[PlacedInfo],
+    greatest: u8,
     next: &PlacedInfo,
 ) -> Option<char>
 where
@@ -108,9 +107,10 @@ where
     M: hb_ot_layout_t<F>,
     S: hb_ot_shaper_t<U, F, M>,
     ensures { result ≡ composed_char (⟦<S as Runs<U, F, M>>⟧.rules plan.now face.now)
-        starter.now marks.now next.now }
+        starter.now greatest next.now }
 {
-    if next.info._hb_glyph_info_is_unicode_mark() && !is_blocked(marks, next) {
+    let ccc = next.info._hb_glyph_info_get_modified_combining_class();
+    if next.info._hb_glyph_info_is_unicode_mark() && !is_blocked(greatest, ccc) {
         compose_with_glyph_of::<U, F, M, S>(plan, face, starter.info.codepoint, next.info.codepoint)
     } else {
         None
@@ -184,29 +184,34 @@ where
     })?;
     let mut starter = 0;
     let mut from = 0;
+    let mut greatest = 0;
     for place in 1..infos.len() {
         let next = PlacedInfo {
             info: infos[place],
             place,
         };
         let at = walk.out[starter];
-        let marks = &walk.out[starter + 1..];
-        if let Some(c) = composed_of::<U, F, M, S>(plan, face, &at, marks, &next) {
+        if let Some(c) = composed_of::<U, F, M, S>(plan, face, &at, greatest, &next) {
             walk.spans.push((from, place + 1))?;
             walk.out[starter] = at.with_char::<U, F>(face, c, &mut walk.scratch_flags);
             from = place;
             continue;
         }
-        if next.info._hb_glyph_info_get_modified_combining_class() == 0 {
+        let ccc = next.info._hb_glyph_info_get_modified_combining_class();
+        if ccc == 0 {
             starter = walk.out.len();
             from = place;
+            greatest = 0;
+        } else {
+            greatest = greatest.max(ccc);
         }
         walk.out.push(next)?;
     }
     Ok(walk)
 }
 
-/// The items that were put out, each with the cluster and the mask that stand at its place.
+/// The items that were put out, each with the cluster and the mask that stand at its place. Room for all of
+/// them is asked for at once: `collect` would go on where its first request is refused.
 fn all_at_their_places(
     alloc: Global,
     out: &[PlacedInfo],
@@ -215,9 +220,11 @@ fn all_at_their_places(
     ensures { IfOk result (λ placed_back. placed_back.items
         ≡ map (info_at_its_place infos.now) out.now) }
 {
-    out.iter()
-        .map(|placed| placed.at_its_place(infos))
-        .collect(alloc)
+    let mut placed_back = Vec::with_capacity(alloc, out.len())?;
+    for placed in out {
+        placed_back.push(placed.at_its_place(infos))?;
+    }
+    Ok(placed_back)
 }
 
 /// Composes marks with their starters. Refuses with `Memory` where a growth was refused; the settings that

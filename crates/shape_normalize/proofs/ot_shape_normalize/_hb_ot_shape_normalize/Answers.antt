@@ -5,7 +5,7 @@ use Rattle.shape_buffer.specs.Items.{Item}
 use Rattle.shape_buffer.specs.UnicodeProps.{is_hidden_char}
 use Rattle.shape_normalize.specs.Normalized.{HasItemGlyph, features_of, hidden_char}
 use Rattle.shape_plan.specs.Rules.{rules_of}
-use Rattle.shape_normalize.proofs.RoundThree.ByAllLemmas.{normalized_by_all}
+use Rattle.shape_normalize.proofs.RoundThree.ByAllLemmas.{normalized_recomposes}
 use Rattle.shape_normalize.proofs.Places.ByPlaceLemmas.{normalized_by_place}
 use Rattle.shape_normalize.proofs.Form.CanonicalFormLemmas.{NormalizesCanonically-normalized}
 use Rattle.shape_normalize.proofs.Normalized.ClusterOrderLemmas.{normalized_keeps}
@@ -109,17 +109,17 @@ returns-then-len-eq0-clause-cgj g c = λ unseen.
     all_of_none (λ (item : Item). (item.properties.hidden ≡ is_hidden_char item.codepoint)
     ⊎ Contains (map hidden_char c.args.buffer.now.items) (hidden_char item)) c.args.buffer.now.items (omega arith)
 
-pub returns-then-len-eq0-clause-recomposed_by_all : goal.returns-then-len-eq0-clause-recomposed_by_all
-returns-then-len-eq0-clause-recomposed_by_all g c =
+pub returns-then-len-eq0-clause-recomposed : goal.returns-then-len-eq0-clause-recomposed
+returns-then-len-eq0-clause-recomposed g c =
     let shaper = g.S.hb_ot_shaper_t in
     let rules = rules_of g.U.hb_unicode_funcs_t.unicode shaper.constants shaper.hooks g.F.hb_font_t.face c.args.plan.now c.args.face.now in
-    normalized_by_all rules c.args.buffer.now c.args.buffer.now (empty_is_normalized rules c.args.buffer.now (omega arith) (omega arith))
+    normalized_recomposes rules c.args.buffer.now c.args.buffer.now (empty_is_normalized rules c.args.buffer.now (omega arith) (omega arith))
 
-pub returns-else-is_err-clause-recomposed_by_all : goal.returns-else-is_err-clause-recomposed_by_all
-returns-else-is_err-clause-recomposed_by_all g c =
+pub returns-else-is_err-clause-recomposed : goal.returns-else-is_err-clause-recomposed
+returns-else-is_err-clause-recomposed g c =
     let shaper = g.S.hb_ot_shaper_t in
     let rules = rules_of g.U.hb_unicode_funcs_t.unicode shaper.constants shaper.hooks g.F.hb_font_t.face c.args.plan.now c.args.face.now in
-    on_ok_weaker c.normalize-outcome.result (normalized_by_all rules c.args.buffer.now c.normalize-outcome.new.buffer) c.normalize-outcome.ensures.ok
+    on_ok_weaker c.normalize-outcome.result (normalized_recomposes rules c.args.buffer.now c.normalize-outcome.new.buffer) c.normalize-outcome.ensures.ok
 
 pub returns-then-len-eq0-clause-by_place : goal.returns-then-len-eq0-clause-by_place
 returns-then-len-eq0-clause-by_place g c =

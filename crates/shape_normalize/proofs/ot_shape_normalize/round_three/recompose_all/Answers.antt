@@ -1,9 +1,8 @@
-use Rattle.std.proofs.Common.{◌+◌, drop, length, sym, ap, ◌∙◌, arith}
-use Rattle.std.proofs.lemmas.List.{take_rest}
+use Rattle.std.proofs.Common.{◌≡◌, max, length, sym, ◌∙◌, arith}
 use Rattle.shape_plan.specs.Rules.{rules_of}
 use Rattle.shape_normalize.proofs.RoundThree.RoundThreeWalkLemmas.{IsRecomposedTo-first, IsRecomposedTo-absorbed, IsRecomposedTo-starter, IsRecomposedTo-mark, walked_all}
 use Rattle.shape_normalize.proofs.ot_shape_normalize.round_three.recompose_all.Goals as goal
-use Rattle.shape_normalize.proofs.ot_shape_normalize.round_three.recompose_all.Goals.{then-hb_glyph_info_get_modified_combining_class-eq0, else-hb_glyph_info_get_modified_combining_class-eq0}
+use Rattle.shape_normalize.proofs.ot_shape_normalize.round_three.recompose_all.Goals.{then-ccc-eq0, else-ccc-eq0}
 
 pub loop-place-init : goal.loop-place-init
 loop-place-init g c =
@@ -21,38 +20,38 @@ pub loop-place-preserved-in-Some-composed_of : goal.loop-place-preserved-in-Some
 loop-place-preserved-in-Some-composed_of g c =
     let shaper = g.S.hb_ot_shaper_t in
     let rules = rules_of g.U.hb_unicode_funcs_t.unicode shaper.constants shaper.hooks g.F.hb_font_t.face c.args.plan.now c.args.face.now in
-    let marks = take_rest c.deref.result.now (c.loop-place.starter + 1) ∙ ap (drop (c.loop-place.starter + 1)) c.deref.ensures.value in
     record {
       within = c.loop-place.invariant.within;
       walked = rw (c.with_char.ensures.item, c.with_char.ensures.flags, c.in_ok-push-2.ensures.items)
-          (IsRecomposedTo-absorbed rules _ _ _ _ _ _ _ _ _ _ _ (omega arith) c.index-infos-place.is c.index.ensures marks c.loop-place.invariant.walked c.in-Some-composed_of.c c.in-Some-composed_of.ensures);
+          (IsRecomposedTo-absorbed rules _ _ _ _ _ _ _ _ _ _ _ (omega arith) c.index-infos-place.is c.index.ensures c.loop-place.invariant.walked c.in-Some-composed_of.c c.in-Some-composed_of.ensures);
     }
 
 pub loop-place-preserved : goal.loop-place-preserved
 loop-place-preserved g c =
     let shaper = g.S.hb_ot_shaper_t in
     let rules = rules_of g.U.hb_unicode_funcs_t.unicode shaper.constants shaper.hooks g.F.hb_font_t.face c.args.plan.now c.args.face.now in
-    let marks = take_rest c.deref.result.now (c.loop-place.starter + 1) ∙ ap (drop (c.loop-place.starter + 1)) c.deref.ensures.value in
     let none = c.in_default-composed_of.ensures in
     let items = c.in_ok-push-3.ensures.items in
     let len = c.in_ok-push-3.ensures.len in
     let bound = c.loop-place.invariant.within in
-    elim c.if-hb_glyph_info_get_modified_combining_class-eq0.branch [
-      | then-hb_glyph_info_get_modified_combining_class-eq0 w ↦
-          let starter = w.starter-is ∙ w.len-starter.ensures ∙ sym c.deref.ensures.len ∙ ap length c.deref.ensures.value in
-          let ccc = sym c._hb_glyph_info_get_modified_combining_class.ensures ∙ w.if-hb_glyph_info_get_modified_combining_class-eq0.true in
+    elim c.if-ccc-eq0.branch [
+      | then-ccc-eq0 w ↦
+          let starter : c.if-ccc-eq0.starter ≡ length c.loop-place.walk.out.items =
+          omega (arith, w.starter-is, w.len-starter.ensures, c.loop-place.walk.out.ok.0) in
+          let ccc = sym c._hb_glyph_info_get_modified_combining_class-ccc.ensures ∙ w.if-ccc-eq0.true in
           record {
             within = omega (arith, w.starter-is, w.len-starter.ensures);
-            walked = rw (starter, w.from-is, items) (IsRecomposedTo-starter rules _ _ _ _ _ _ _ _ _ _ _
-                (omega arith) c.index-infos-place.is c.index.ensures marks c.loop-place.invariant.walked none ccc);
+            walked = rw (starter, w.from-is, w.greatest-is, items) (IsRecomposedTo-starter rules _ _ _ _ _ _ _ _ _ _ _
+                (omega arith) c.index-infos-place.is c.index.ensures c.loop-place.invariant.walked none ccc);
           }
-      | else-hb_glyph_info_get_modified_combining_class-eq0 w ↦
+      | else-ccc-eq0 w ↦
+          let greatest : c.if-ccc-eq0.greatest ≡ max c.loop-place.greatest c._hb_glyph_info_get_modified_combining_class-ccc.result = w.greatest-is ∙ w.max-greatest.ensures in
           record {
             within = omega (arith, w.starter-is);
-            walked = rw (w.starter-is, w.from-is, items) (IsRecomposedTo-mark rules _ _ _ _ _ _ _ _ _ _ _
-                (omega arith) c.index-infos-place.is c.index.ensures marks c.loop-place.invariant.walked none
-                (λ e. w.if-hb_glyph_info_get_modified_combining_class-eq0.false
-                (c._hb_glyph_info_get_modified_combining_class.ensures ∙ e)));
+            walked = rw (w.starter-is, w.from-is, greatest, c._hb_glyph_info_get_modified_combining_class-ccc.ensures, items)
+                (IsRecomposedTo-mark rules _ _ _ _ _ _ _ _ _ _ _
+                (omega arith) c.index-infos-place.is c.index.ensures c.loop-place.invariant.walked none
+                (λ e. w.if-ccc-eq0.false (c._hb_glyph_info_get_modified_combining_class-ccc.ensures ∙ e)));
           }
     ]
 
@@ -60,5 +59,5 @@ pub returns : goal.returns
 returns g c =
     let shaper = g.S.hb_ot_shaper_t in
     let rules = rules_of g.U.hb_unicode_funcs_t.unicode shaper.constants shaper.hooks g.F.hb_font_t.face c.args.plan.now c.args.face.now in
-    let all = walked_all rules c.args.infos.now c.args.scratch_flags c.loop-place.place c.loop-place.walk.out.items c.loop-place.walk.spans.items c.loop-place.walk.scratch_flags c.loop-place.starter c.loop-place.from c.loop-place-test.false c.loop-place.invariant.walked in
+    let all = walked_all rules c.args.infos.now c.args.scratch_flags c.loop-place.place c.loop-place.walk.out.items c.loop-place.walk.spans.items c.loop-place.walk.scratch_flags c.loop-place.starter c.loop-place.from c.loop-place.greatest c.loop-place-test.false c.loop-place.invariant.walked in
     record { out = all.0; spans = all.1; flags = all.2 }

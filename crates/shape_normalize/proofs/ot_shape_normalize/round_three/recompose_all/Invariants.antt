@@ -9,5 +9,5 @@ invariant-loop-place g l =
     let rules = rules_of g.U.hb_unicode_funcs_t.unicode shaper.constants shaper.hooks g.F.hb_font_t.face l.plan l.face in
     record {
       within : l.starter < vec_len l.walk.out;
-      walked : IsRecomposedTo rules l.infos l.fn.scratch_flags l.place l.walk.out.items l.walk.spans.items l.walk.scratch_flags l.starter l.from;
+      walked : IsRecomposedTo rules l.infos l.fn.scratch_flags l.place l.walk.out.items l.walk.spans.items l.walk.scratch_flags l.starter l.from l.greatest;
     }
