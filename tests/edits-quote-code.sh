@@ -1,40 +1,49 @@
 #!/bin/sh
-# Wrong bodies are edits of code: one that changes a contract, a definition or a proof shows nothing. Refuses a
-# must-fail edit that brings in a clause, one whose old text stands in a clause (on whichever line of it), and one
-# of a file that isn't code. A planted rule is an edit of a definition: refuses one whose old text
-# doesn't stand on one line of its file alone.
+# Wrong bodies are edits of code: one that changes a contract, a definition or a proof shows nothing. An attribute
+# isn't code either: it names lemmas. Refuses a wrong body that brings in a word of contracts or an attribute, one
+# whose old text stands in a clause or an attribute (on whichever line of it), and one of a file that isn't code.
+# A planted rule is an edit of a definition: refuses one whose old text doesn't stand on one line of its file alone.
 cd "$(dirname "$0")/.." || exit 1
 
-# Whether TEXT stands in a clause of the file: from the clause's word to the brace that closes it.
-stands_in_clause() {
+# Whether TEXT stands in a clause of the file, from the clause's word to the brace that closes it, or in an
+# attribute, from `#[` to the bracket that closes it.
+stands_beside_code() {
     awk '
-        !inside && /^[[:space:]]*(pub )?(ensures|requires|invariant|decreases|ghost)[[:space:]]/ { inside = 1 }
-        inside {
+        !open && /^[[:space:]]*(pub )?(ensures|requires|invariant|decreases|ghost)[*[:space:]]/ { open = "{"; close_by = "}" }
+        !open && /^[[:space:]]*#!?[[]/ { open = "["; close_by = "]" }
+        open {
             if (index($0, ENVIRON["TEXT"])) found = 1
-            line = $0
-            opened += gsub(/[{]/, "", line)
-            closed += gsub(/[}]/, "", line)
-            if (opened == closed && (opened || /;$/)) inside = opened = closed = 0
+            opened += split($0, parts, open == "{" ? "[{]" : "[[]") - 1
+            closed += split($0, parts, close_by == "}" ? "[}]" : "[]]") - 1
+            if (opened == closed && (opened || /;$/)) open = opened = closed = ""
         }
         END { exit !found }' "$1"
 }
 
-if grep -nE '^new:.*\b(ensures|requires|ghost)\b' crates/*/must-fail/*.edit; then
-    echo "a must-fail edit brings in a clause"
+edits=$(ls crates/*/must-fail/*.edit tests/bodies/*/*.edit)
+if grep -nE '^new:.*\b(ensures|requires|ghost|invariant|decreases|unfolding|using)\b' $edits; then
+    echo "a wrong body brings in a clause"
     exit 1
 fi
-if grep -nE '^file:' crates/*/must-fail/*.edit | grep -v 'file: src/.*\.rt$'; then
-    echo "a must-fail edit changes a file that is no code"
+if grep -nE '^new:.*#!?\[' $edits; then
+    echo "a wrong body brings in an attribute"
     exit 1
 fi
-for edit in crates/*/must-fail/*.edit; do
-    crate=${edit%/must-fail/*}
+if grep -nE '^file:' $edits | grep -v 'file: src/.*\.rt$'; then
+    echo "a wrong body changes a file that is no code"
+    exit 1
+fi
+for edit in $edits; do
+    case $edit in
+        crates/*) crate=${edit%/must-fail/*} ;;
+        *) crate=crates/$(basename "${edit%/*}") ;;
+    esac
     while IFS= read -r line; do
         case $line in
             "file: "*) file=$crate/${line#file: } ;;
             "old: "*)
-                if TEXT=${line#old: } stands_in_clause "$file"; then
-                    echo "$edit: its old text stands in a clause: ${line#old: }"
+                if TEXT=${line#old: } stands_beside_code "$file"; then
+                    echo "$edit: its old text stands in a clause or an attribute: ${line#old: }"
                     exit 1
                 fi ;;
         esac
@@ -52,4 +61,4 @@ for plant in tests/rules/*.plant; do
         esac
     done < "$plant"
 done
-echo "must-fail edits: $(ls crates/*/must-fail/*.edit | wc -l) quote code alone"
+echo "wrong bodies: $(echo "$edits" | wc -l) quote code alone"

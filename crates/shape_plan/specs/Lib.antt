@@ -14,3 +14,4 @@ pub mod WorkedRequests
 pub mod WorkedDecisions
 pub mod WorkedPlans
 pub mod WorkedFaces
+pub mod WorkedTexts

@@ -1,9 +1,11 @@
 -- The requests of planners, computed on small cases whose answers are worked out by hand.
-use Rattle.std.specs.Prelude.{◌≡◌, ℕ, true, false, List, [], ◌∷◌, length, Some, None, refl, slice_get, if◌then◌else◌}
+use Rattle.std.specs.Prelude.{◌≡◌, ℕ, true, false, List, [], ◌∷◌, length, Option, Some, None, refl, slice_get, if◌then◌else◌}
+use Rattle.std.specs.Option.{option_map_or}
 use Rattle.shape_buffer.specs.MapBuilder.{Builder, new_builder, feature, pause}
 use Rattle.shape_buffer.specs.declared.buffer.settings.Direction.{Direction}
 use Rattle.shape_buffer.specs.declared.buffer.settings.Direction.TheVariants.{Invalid, LeftToRight, RightToLeft, TopToBottom, BottomToTop}
 use Rattle.shape_buffer.specs.declared.buffer.settings.Feature.{Feature}
+use Rattle.shape_buffer.specs.declared.buffer.settings.Script.{Script}
 use Rattle.shape_buffer.specs.declared.interfaces.map_request.MapRequest.{MapRequest}
 use Rattle.shape_plan.specs.Requests.{Collector, requested}
 use Rattle.shape_plan.specs.Tags.{tag}
@@ -104,6 +106,37 @@ telling = Some (λ builder direction script. ask (length builder.requests) (if b
 -- what is asked for right to left with hooks
 abbrev pub hooked_texts : Collector → Collector → List Feature → Builder
 hooked_texts collects overrides features = requested RightToLeft None collects overrides features (new_builder (λ _. None))
+
+abbrev pub script_of : ℕ → Option Script
+script_of number = Some (record { 0 = tag number })
+
+abbrev pub number_of_script : Option Script → ℕ
+number_of_script script = option_map_or (λ s. s.0.0) script 0
+
+abbrev pub number_of_direction : Direction → ℕ
+number_of_direction Invalid = 0
+number_of_direction LeftToRight = 1
+number_of_direction RightToLeft = 2
+number_of_direction TopToBottom = 3
+number_of_direction BottomToTop = 4
+
+-- a hook that tells what it is handed: the direction and the script
+abbrev pub telling_text : Collector
+telling_text = Some (λ builder direction script. ask (number_of_direction direction) (number_of_script script) 7 ∷ [])
+
+-- what is asked for of script 100 with hooks
+abbrev pub asked_by : Direction → Collector → Collector → Builder
+asked_by direction collects overrides = requested direction (script_of 100) collects overrides [] (new_builder (λ _. None))
+
+pub record TextsOfHooks : Type 0 where
+  pub collects : slice_get (asked_by RightToLeft telling_text None).requests 11 ≡ Some (ask 2 100 7)
+  pub overrides : slice_get (asked_by RightToLeft None telling_text).requests 27 ≡ Some (ask 2 100 7)
+  pub collects_down : slice_get (asked_by TopToBottom telling_text None).requests 9 ≡ Some (ask 3 100 7)
+  pub overrides_down : slice_get (asked_by TopToBottom None telling_text).requests 19 ≡ Some (ask 3 100 7)
+
+pub texts_of_hooks : TextsOfHooks
+unfolding requested
+texts_of_hooks = record { collects = refl; overrides = refl; collects_down = refl; overrides_down = refl }
 
 pub record RequestsOfHooks : Type 0 where
   pub before_buzz : slice_get (hooked_texts telling None []).requests 11 ≡ Some (ask 11 0 7)

@@ -1,16 +1,18 @@
 //! The definitions of planning, computed on small cases whose answers are worked out by hand.
 ghost use Rattle.shape_plan.specs.WorkedRequests.{RequestsOfDirections, RequestsOfUsers};
-ghost use Rattle.shape_plan.specs.WorkedRequests.{RequestsOfHooks};
+ghost use Rattle.shape_plan.specs.WorkedRequests.{RequestsOfHooks, TextsOfHooks};
 ghost use Rattle.shape_plan.specs.WorkedDecisions.{ChoicesOfFaces, ChoicesForMarks};
 ghost use Rattle.shape_plan.specs.WorkedDecisions.{DecisionsOfMasks};
 ghost use Rattle.shape_plan.specs.WorkedPlans.{KeptShapers, PlansOfFaces, MasksOfPlans};
 ghost use Rattle.shape_plan.specs.WorkedPlans.{ScriptsOfShapers};
+ghost use Rattle.shape_plan.specs.WorkedTexts.{ScriptsOfTexts, TagsOfFacts, ScriptsThatFit};
 
-/// What is asked for in each direction, for the user and by hooks.
+/// What is asked for in each direction, for the user and by hooks, and what hooks are told of the text.
 pub fn requests_meet_worked_cases()
     ensures directions { RequestsOfDirections }
     ensures users { RequestsOfUsers }
     ensures hooks { RequestsOfHooks }
+    ensures texts { TextsOfHooks }
 {}
 
 /// Who positions and what is done for marks, by tables and answers of faces.
@@ -26,4 +28,11 @@ pub fn plans_meet_worked_cases()
     ensures faces { PlansOfFaces }
     ensures masks { MasksOfPlans }
     ensures scripts { ScriptsOfShapers }
+{}
+
+/// What engine and map are asked with: script and language of the text, and the tag of each feature.
+pub fn texts_meet_worked_cases()
+    ensures scripts { ScriptsOfTexts }
+    ensures tags { TagsOfFacts }
+    ensures fit { ScriptsThatFit }
 {}

@@ -7,6 +7,7 @@ pub mod NativeOrder
 pub mod Rotated
 pub mod PrepareSteps
 pub mod WorkedUnicode
+pub mod WorkedBegun
 pub mod WorkedGraphemes
 pub mod WorkedOrder
 pub mod Keeping

@@ -1,8 +1,13 @@
 -- Graphemes and dotted circles on cases whose answers are worked out by hand.
 use Rattle.std.specs.Prelude.{◌≡◌, ℕ, ◌==◌, Bool, true, false, List, [], ◌∷◌, map, refl}
 use Rattle.shape_buffer.specs.Buffer.{Buffer}
-use Rattle.shape_prepare.specs.Graphemes.{graphemes_marked}
-use Rattle.shape_prepare.specs.DottedCircle.{dotted_circled}
+use Rattle.shape_buffer.specs.Items.{Item, new_item}
+use Rattle.shape_buffer.specs.Unicode.{UnicodeMeaning}
+use Rattle.shape_buffer.specs.declared.buffer.general_category.hb_unicode_general_category_t.{hb_unicode_general_category_t}
+use Rattle.shape_buffer.specs.declared.buffer.general_category.hb_unicode_general_category_t.TheVariants.{UppercaseLetter, LowercaseLetter, TitlecaseLetter, ModifierLetter, OtherLetter, SpaceSeparator, LineSeparator, ModifierSymbol, OtherSymbol, Format}
+use Rattle.shape_prepare.specs.Graphemes.{graphemes_marked, is_passed, is_skin_tone, is_extender, continues_by_rule, is_to_next}
+use Rattle.shape_prepare.specs.DottedCircle.{circle_before, dotted_circled}
+use Rattle.shape_prepare.specs.declared.graphemes.Before.TheVariants.{Plain, Zwj}
 use Rattle.shape_prepare.specs.WorkedUnicode.{worked_unicode, face_with, text_of, shown, continued}
 
 abbrev pub continuations_of : List ℕ → List Bool
@@ -56,12 +61,51 @@ others : Others
 unfolding graphemes_marked
 others = record { marks_of_a_letter = refl; first_mark = refl; voice_mark = refl }
 
+abbrev pub of_category : hb_unicode_general_category_t → ℕ → Item
+of_category category c = let plain : Item = new_item c 0 in record plain { properties = record plain.properties { general_category = category } }
+
+abbrev pub joiner_of : hb_unicode_general_category_t → Item
+joiner_of category = let plain : Item = of_category category 0x200D in record plain { properties = record plain.properties { zwj = true } }
+
+-- every character a pictograph
+abbrev pub pictures : UnicodeMeaning
+pictures = record worked_unicode { pictographic = λ c. true }
+
+-- each rule with the characters and categories beside it
+pub record RulesByThemselves : Type 0 where
+  pub passed : map is_passed (UppercaseLetter ∷ LowercaseLetter ∷ TitlecaseLetter ∷ ModifierLetter ∷ OtherLetter
+      ∷ SpaceSeparator ∷ LineSeparator ∷ ModifierSymbol ∷ Format ∷ [])
+      ≡ true ∷ true ∷ true ∷ false ∷ true ∷ true ∷ false ∷ false ∷ false ∷ []
+  pub skin_tones : map is_skin_tone (0x1F3FA ∷ 0x1F3FB ∷ 0x1F3FF ∷ 0x1F400 ∷ []) ≡ false ∷ true ∷ true ∷ false ∷ []
+  pub extenders : map is_extender (0xFF9D ∷ 0xFF9E ∷ 0xFF9F ∷ 0xFFA0 ∷ []) ≡ false ∷ true ∷ true ∷ false ∷ []
+  pub circumflex : continues_by_rule Plain (of_category ModifierSymbol 0x5E) ≡ false
+  pub tone_of_no_modifier : continues_by_rule Plain (of_category OtherSymbol 0x1F3FB) ≡ false
+  pub joiner : is_to_next worked_unicode Plain (joiner_of Format) ≡ Zwj
+  pub joined_joiner : is_to_next pictures Zwj (joiner_of Format) ≡ Plain
+  pub passed_joiner : is_to_next worked_unicode Plain (joiner_of OtherLetter) ≡ Plain
+
+rules_by_themselves : RulesByThemselves
+rules_by_themselves = record {
+  passed = refl;
+  skin_tones = refl;
+  extenders = refl;
+  circumflex = refl;
+  tone_of_no_modifier = refl;
+  joiner = refl;
+  joined_joiner = refl;
+  passed_joiner = refl;
+}
+
 -- a text that begins here with a mark
 abbrev pub accent_first : Buffer
 accent_first = record (text_of ((0x301, 7) ∷ (0x61, 9) ∷ [])) { flags = record { 0 = 2 } }
 
 abbrev pub circled : (ℕ → Bool) → Buffer → Buffer
 circled has b = dotted_circled worked_unicode (face_with has) (graphemes_marked worked_unicode b)
+
+-- a mark that already has a mask
+abbrev pub masked_accent : Item
+masked_accent = record (new_item 0x301 7) { mask = 16 }
 
 pub record Circles : Type 0 where
   pub put_in : shown (circled (λ c. c == 0x25CC) accent_first) ≡ (0x25CC, 7) ∷ (0x301, 7) ∷ (0x61, 9) ∷ []
@@ -73,6 +117,9 @@ pub record Circles : Type 0 where
   pub letter_first : shown (circled (λ c. true) (record (text_of ((0x61, 0) ∷ (0x301, 1) ∷ [])) { flags = record { 0 = 2 } }))
       ≡ (0x61, 0) ∷ (0x301, 1) ∷ []
   pub of_nothing : shown (circled (λ c. true) (record (text_of []) { flags = record { 0 = 2 } })) ≡ []
+  pub joiner_first : shown (circled (λ c. true) (record (text_of ((0x200D, 0) ∷ [])) { flags = record { 0 = 2 } })) ≡ (0x200D, 0) ∷ []
+  pub mask_of_mark : (circle_before worked_unicode masked_accent).mask ≡ 16
+  pub category_of_symbols : (circle_before worked_unicode masked_accent).properties.general_category ≡ OtherSymbol
 
 circles : Circles
 unfolding graphemes_marked dotted_circled
@@ -85,10 +132,13 @@ circles = record {
   in_context = refl;
   letter_first = refl;
   of_nothing = refl;
+  joiner_first = refl;
+  mask_of_mark = refl;
+  category_of_symbols = refl;
 }
 
 abbrev pub WorkedGraphemes : Type 0
-WorkedGraphemes = Flags × Emoji × Others × Circles
+WorkedGraphemes = Flags × Emoji × Others × RulesByThemselves × Circles
 
 pub worked_graphemes : WorkedGraphemes
-worked_graphemes = (flags, emoji, others, circles)
+worked_graphemes = (flags, emoji, others, rules_by_themselves, circles)

@@ -1,6 +1,10 @@
 -- Clusters, native order and rotation on cases whose answers are worked out by hand.
-use Rattle.std.specs.Prelude.{◌≡◌, ℕ, ◌==◌, ◌||◌, Bool, true, false, List, [], ◌∷◌, refl, Option, None}
+use Rattle.std.specs.Prelude.{◌≡◌, ℕ, ◌==◌, ◌||◌, Bool, true, false, List, [], ◌∷◌, map, refl, Option, Some, None, pos}
 use Rattle.shape_buffer.specs.Buffer.{Buffer}
+use Rattle.shape_buffer.specs.Items.{Item, new_item}
+use Rattle.shape_buffer.specs.Positions.{zero_position}
+use Rattle.shape_buffer.specs.declared.buffer.positions.GlyphPosition.{GlyphPosition}
+use Rattle.shape_buffer.specs.declared.buffer.general_category.hb_unicode_general_category_t.TheVariants.{UppercaseLetter, LowercaseLetter, TitlecaseLetter, ModifierLetter, OtherLetter, OtherSymbol, NonspacingMark, DecimalNumber, LetterNumber}
 use Rattle.shape_buffer.specs.declared.buffer.settings.BufferClusterLevel.{BufferClusterLevel}
 use Rattle.shape_buffer.specs.declared.buffer.settings.BufferClusterLevel.TheVariants.{MonotoneGraphemes, MonotoneCharacters, Characters}
 use Rattle.shape_buffer.specs.declared.buffer.settings.Direction.{Direction}
@@ -12,8 +16,8 @@ use Rattle.shape_plan.specs.WorkedDecisions.{no_decisions}
 use Rattle.shape_plan.specs.declared.decisions.Decisions.{Decisions}
 use Rattle.shape_prepare.specs.Graphemes.{graphemes_marked}
 use Rattle.shape_prepare.specs.ClustersFormed.{clusters_formed}
-use Rattle.shape_prepare.specs.NativeOrder.{natively_ordered}
-use Rattle.shape_prepare.specs.Rotated.{rotated}
+use Rattle.shape_prepare.specs.NativeOrder.{is_letter_category, is_against, natively_ordered, graphemes_turned}
+use Rattle.shape_prepare.specs.Rotated.{rotated, mirrored_or_masked}
 use Rattle.shape_prepare.specs.WorkedUnicode.{worked_unicode, face_with, text_of, shown, masks, hebrew, latin, mongolian, common}
 
 abbrev pub at_level : BufferClusterLevel → List (ℕ × ℕ) → Buffer
@@ -54,6 +58,28 @@ alef_one = (0x5D0, 0) ∷ (0x31, 2) ∷ []
 abbrev pub one_two : List (ℕ × ℕ)
 one_two = (0x31, 0) ∷ (0x32, 1) ∷ []
 
+-- a text whose three items have the advances 1, 2 and 3
+abbrev pub advanced_by : ℕ → GlyphPosition
+advanced_by n = record zero_position { x_advance = pos n }
+
+abbrev pub three_placed : Buffer
+three_placed = record (graphemes_marked worked_unicode (text_of accented))
+    { positions = advanced_by 1 ∷ advanced_by 2 ∷ advanced_by 3 ∷ [] }
+
+pub record RulesOfOrder : Type 0 where
+  pub letters : map is_letter_category (UppercaseLetter ∷ LowercaseLetter ∷ TitlecaseLetter ∷ ModifierLetter ∷ OtherLetter
+      ∷ NonspacingMark ∷ DecimalNumber ∷ LetterNumber ∷ [])
+      ≡ true ∷ true ∷ true ∷ true ∷ true ∷ false ∷ false ∷ false ∷ []
+  pub against_down : map (is_against (Some TopToBottom)) (LeftToRight ∷ RightToLeft ∷ TopToBottom ∷ BottomToTop ∷ [])
+      ≡ true ∷ true ∷ false ∷ true ∷ []
+  pub against_up : map (is_against (Some BottomToTop)) (LeftToRight ∷ RightToLeft ∷ TopToBottom ∷ BottomToTop ∷ [])
+      ≡ true ∷ true ∷ false ∷ true ∷ []
+  pub positions_too : (graphemes_turned three_placed).positions ≡ advanced_by 3 ∷ advanced_by 1 ∷ advanced_by 2 ∷ []
+
+rules_of_order : RulesOfOrder
+unfolding graphemes_marked
+rules_of_order = record { letters = refl; against_down = refl; against_up = refl; positions_too = refl }
+
 pub record NativeOrders : Type 0 where
   pub bottom_to_top : shown (ordered BottomToTop None (at_level MonotoneCharacters accented)) ≡ (0x62, 3) ∷ (0x61, 0) ∷ (0x301, 0) ∷ []
   pub turned_down : (ordered BottomToTop None (at_level MonotoneCharacters accented)).direction ≡ TopToBottom
@@ -73,6 +99,7 @@ pub record NativeOrders : Type 0 where
   pub no_script : shown (ordered RightToLeft None (at_level MonotoneGraphemes one_two)) ≡ one_two
   pub no_known_direction : shown (ordered RightToLeft common (at_level MonotoneGraphemes one_two)) ≡ one_two
   pub vertical_script : shown (ordered RightToLeft mongolian (at_level MonotoneGraphemes one_two)) ≡ (0x32, 1) ∷ (0x31, 0) ∷ []
+  pub rightward_vertical : shown (ordered LeftToRight mongolian (at_level MonotoneGraphemes one_two)) ≡ (0x32, 1) ∷ (0x31, 0) ∷ []
   pub mark_first : shown (ordered RightToLeft latin (at_level MonotoneCharacters ((0x323, 0) ∷ (0x61, 2) ∷ (0x301, 3) ∷ [])))
       ≡ (0x61, 2) ∷ (0x301, 2) ∷ (0x323, 0) ∷ []
   pub to_invalid : shown (ordered Invalid hebrew (at_level MonotoneGraphemes alef_one)) ≡ alef_one
@@ -96,6 +123,7 @@ native_orders = record {
   no_script = refl;
   no_known_direction = refl;
   vertical_script = refl;
+  rightward_vertical = refl;
   mark_first = refl;
   to_invalid = refl;
 }
@@ -148,8 +176,23 @@ rotations = record {
   mirrored_with_vert = refl;
 }
 
+-- an item on which nothing is as in a new one
+abbrev pub odd_bracket : Item
+odd_bracket = let plain : Item = new_item 0x28 3 in record plain {
+  mask = 9;
+  properties =
+      record plain.properties { general_category = OtherSymbol; hidden = true; continuation = true; zwj = true; space_type = 3; shaper_category = 4 };
+}
+
+pub record RotatedItems : Type 0 where
+  pub character_alone : mirrored_or_masked 16 odd_bracket (Some 0x29) ≡ record odd_bracket { codepoint = 0x29 }
+  pub mask_alone : mirrored_or_masked 16 odd_bracket None ≡ record odd_bracket { mask = 25 }
+
+rotated_items : RotatedItems
+rotated_items = record { character_alone = refl; mask_alone = refl }
+
 abbrev pub WorkedOrder : Type 0
-WorkedOrder = FormedClusters × NativeOrders × Rotations
+WorkedOrder = FormedClusters × RulesOfOrder × NativeOrders × Rotations × RotatedItems
 
 pub worked_order : WorkedOrder
-worked_order = (formed_clusters, native_orders, rotations)
+worked_order = (formed_clusters, rules_of_order, native_orders, rotations, rotated_items)

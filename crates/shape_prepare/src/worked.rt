@@ -1,15 +1,22 @@
 //! The definitions, computed on small cases whose answers are worked out by hand.
+ghost use Rattle.shape_prepare.specs.WorkedBegun.{WorkedBegun};
 ghost use Rattle.shape_prepare.specs.WorkedGraphemes.{WorkedGraphemes};
 ghost use Rattle.shape_prepare.specs.WorkedOrder.{WorkedOrder};
 
+/// The masks and positions that a run begins with, as the definition has them.
+pub fn beginnings_meet_worked_cases()
+    ensures { WorkedBegun }
+{}
+
 /// Which items continue a grapheme (flags of two regional indicators, emoji with skin tones, ZWJ, tags
-/// and keycaps, marks), and where a dotted circle is put in, as the definitions have them.
+/// and keycaps, marks), each rule with what stands beside it, and where a dotted circle is put in, as the
+/// definitions have them.
 pub fn graphemes_meet_worked_cases()
     ensures { WorkedGraphemes }
 {}
 
-/// The clusters of graphemes by level, the native order and the forms for a direction, as the definitions
-/// have them.
+/// The clusters of graphemes by level, the native order, the forms for a direction and what else an item
+/// keeps, as the definitions have them.
 pub fn orders_meet_worked_cases()
     ensures { WorkedOrder }
 {}
