@@ -1,11 +1,12 @@
 -- Where the hooks do nothing of their own and the lookups keep clusters and flags, a run's premises hold.
-use Rattle.std.proofs.Common.{◌≡◌, ◌⊎◌, inl, inr, ℕ, Bool, true, false, ◌||◌, List, Option, Some, None, refl, sym, subst, ◌∙◌}
+use Rattle.std.proofs.Common.{◌≡◌, ◌⊎◌, inl, inr, ℕ, Bool, true, false, ◌||◌, List, Option, Some, None, refl, sym, subst, ◌∙◌, arith}
 use Rattle.std.specs.Option.{option_map}
 use Rattle.canonical_form.specs.Equivalent.{ComposesSoundly}
 use Rattle.canonical_form.specs.SplitsFall.{SplitsFall}
 use Rattle.shape_buffer.specs.Buffer.{Buffer}
 use Rattle.shape_buffer.specs.Face.{FaceMeaning}
 use Rattle.shape_buffer.specs.Guess.{guessed}
+use Rattle.shape_buffer.specs.Items.{Item}
 use Rattle.shape_buffer.specs.Keepers.{EachLookup, IsClusterKeeper, IsFlagKeeper, LookupsKeepClusters, LookupsKeepFlags}
 use Rattle.shape_buffer.specs.Layout.{LookupMeaning, MapMeaning}
 use Rattle.shape_buffer.specs.NoLookups.{no_lookups}
@@ -17,7 +18,7 @@ use Rattle.shape_buffer.specs.Prepared.{IsPrepared}
 use Rattle.shape_plan.specs.Keepers.{EachHook, EachCall, RunKeepsFlags, has_steps}
 use Rattle.shape_plan.specs.Plan.{Plan}
 use Rattle.shape_plan.specs.Rules.{Rules, rules_of, used_decompositions, used_compose}
-use Rattle.shape_plan.specs.Run.{run_of}
+use Rattle.shape_plan.specs.Run.{Run, run_of}
 use Rattle.shape_plan.specs.Shaper.{HookMeaning, ShaperConstants}
 use Rattle.shape_plan.specs.Shapers.{no_hooks}
 use Rattle.shape_plan.proofs.KeeperLemmas.{called}
@@ -26,6 +27,7 @@ use Rattle.shape_pipeline.specs.Headline.{target_of}
 use Rattle.shape_pipeline.specs.Order.{RunKeepsClusters}
 use Rattle.shape_pipeline.specs.Premises.{LeavesBuffers, OwesNothing}
 use Rattle.shape_pipeline.specs.Shaped.{entered}
+use Rattle.shape_pipeline.proofs.RunLemmas.{prepared_text-cases}
 use Rattle.shape_normalize.proofs.Hooks.LawfulLemmas.{reorder-unasked}
 use Rattle.shape_prepare.specs.PreparedPoint.{KeepsPrepared}
 use Rattle.shape_buffer.proofs.Steps.KeeperLemmas.{KeepsOrder-same}
@@ -133,6 +135,17 @@ module _ {S : Type 0} (unicode : UnicodeMeaning) (lawful : LawfulUnicode unicode
       ComposesSoundly (used_decompositions unicode splits (Some h)) (used_compose unicode composes (Some h)) in
       subst P (sym (none s)) (composes-none unicode lawful splits composes)
 
+-- each item's mark and ccc are those of its character as normalising begins, where the shaper's hook leaves them so
+prepared_text-prepared : (run : Run) (text : Buffer) → LawfulUnicode run.unicode
+    → ((hooks : HookMeaning) → run.hooks ≡ Some hooks → run.constants.has_preprocess_text ≡ true
+    → KeepsPrepared run.unicode hooks.preprocess)
+    → IsPrepared run.unicode (prepared_text run text).items
+prepared_text-prepared run text lawful keeps =
+    let begun = guessed run.unicode text in
+    prepared_text-cases (λ b. IsPrepared run.unicode b.items) run (target_of run text) begun begun.items
+    (λ none. subst (λ (items : List Item). IsPrepared run.unicode items) (sym none) (λ k d within. absurd (omega (arith, within))))
+    (preparing_prepares run (target_of run text) (entered begun) lawful keeps)
+
 -- a hook that reorders marks is none where it isn't given
 no_reorder-keeps : (rules : Rules) → rules.reorder ≡ None → HookKeepsClusters rules
 no_reorder-keeps rules no_reorder reorder is = absurd (let e : None ≡ Some reorder = sym no_reorder ∙ is in cc)
@@ -189,7 +202,7 @@ module _ {S P D F : Type 0} (unicode : UnicodeMeaning) (masks : P → MapMeaning
         → IsPrepared unicode (prepared_text (run_of unicode masks lookups constants hooks faces plan face) text).items
     prepared-none text =
         let run = run_of unicode masks lookups constants hooks faces plan face in
-        preparing_prepares run (target_of run text) (entered (guessed unicode text)) lawful
+        prepared_text-prepared run text lawful
         (λ h is given. of_kept (λ s. hooks s plan face) (λ h. KeepsPrepared unicode h.preprocess)
         (λ s. subst (λ (h : HookMeaning). KeepsPrepared unicode h.preprocess) (sym (none s)) (λ b all. all)) plan.shaper h is)
 

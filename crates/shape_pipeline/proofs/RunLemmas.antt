@@ -2,11 +2,13 @@
 use Rattle.std.proofs.Common.{◌≡◌, ◌≢◌, ◌<◌, ◌≤◌, ◌&&◌, Bool, true, false, List, [], ◌∷◌, length, inl, refl, ap, sym, subst, ◌∙◌, arith, if◌then◌else◌, Result, Ok, Err}
 use Rattle.std.specs.Prelude.{OnOk, IfOk}
 use Rattle.shape_buffer.specs.Buffer.{Buffer, limit_of, run_limit}
+use Rattle.shape_buffer.specs.Guess.{guessed}
 use Rattle.shape_buffer.specs.Items.{Item}
 use Rattle.shape_buffer.specs.declared.buffer.settings.Direction.{Direction}
 use Rattle.shape_buffer.specs.Outcome.{Step, Ran, Refused, for_length, for_memory, RunOutcome, SomePast, run_steps}
 use Rattle.shape_buffer.specs.declared.buffer.error.ShapeError.{ShapeError}
 use Rattle.shape_buffer.specs.declared.buffer.error.ShapeError.TheVariants.{Memory, Length}
+use Rattle.shape_buffer.proofs.Steps.Runs.{run_steps-append}
 use Rattle.shape_normalize.specs.Normalized.{normalized, ordered}
 use Rattle.shape_normalize.specs.RoundOne.{round_one}
 use Rattle.shape_normalize.specs.RoundThree.{round_three, absorbed_spans, recomposed_items}
@@ -23,10 +25,10 @@ use Rattle.shape_normalize.proofs.Places.ByPlaceLemmas.{normalized_by_place}
 use Rattle.shape_normalize.proofs.Normalized.FeatureLemmas.{normalized_keeps_features}
 use Rattle.shape_normalize.proofs.Normalized.ItemGlyphLemmas.{normalized_has_glyphs}
 use Rattle.shape_normalize.proofs.Normalized.NormalizedLemmas.{normalized_brings_in}
-use Rattle.shape_pipeline.specs.Headline.{NormalForm}
+use Rattle.shape_pipeline.specs.Headline.{IsMadeOfNormalisedList, NormalForm, target_of}
 use Rattle.shape_plan.specs.Run.{Run}
 use Rattle.shape_prepare.specs.PrepareSteps.{prepare_steps}
-use Rattle.shape_pipeline.specs.Shaped.{normalising, entered, finished, prepared, all_steps, run_made, Prepares, Shapes}
+use Rattle.shape_pipeline.specs.Shaped.{normalising, entered, finished, prepared, shaped_steps, all_steps, run_made, shaped, Prepares, Shapes}
 
 -- a run that is refused for its length has a step that would pass the limit
 pub refused-length : {steps : List Step} {b : Buffer} {error : ShapeError} → Refused steps b error → error ≡ Length → SomePast steps b
@@ -118,6 +120,24 @@ Shapes-some run target b mid new some ran finishes = record {
       (subst (λ n. length mid.items ≤ n) ran.same_limit ran.within);
   counted = λ _. ran.each_within;
 }
+
+-- ---- what is made of the normalised list
+
+pub prepared_text-cases : (P : Buffer → Type 0) (run : Run) (target : Direction) (b : Buffer) (items : List Item)
+    → (items ≡ [] → P b) → P (prepared run target (entered b))
+    → P (elim items [ [] ↦ b | _ ∷ _ ↦ prepared run target (entered b) ])
+prepared_text-cases P run target b [] none some = none refl
+prepared_text-cases P run target b (x ∷ xs) none some = some
+
+-- a whole run is its preparing, normalising, and the steps behind these
+pub made_of_list : (run : Run) (text : Buffer) → IsMadeOfNormalisedList run text (shaped run text)
+made_of_list run text some =
+    let target = target_of run text in
+    let begun = guessed run.unicode text in
+    sym (run_from run target begun begun.items some)
+    ∙ ap (finished target) (run_steps-append (prepare_steps run target) (normalising run.rules ∷ shaped_steps run) (entered begun))
+    ∙ ap (λ (b : Buffer). finished target (run_steps (shaped_steps run) (normalized run.rules b)))
+    (text_from run target begun begun.items some)
 
 -- ---- what is handed out
 

@@ -7,6 +7,7 @@ use Rattle.shape_buffer.specs.Clusters.{clusters}
 use Rattle.shape_buffer.specs.Flags.{HasOneSetOfFlags}
 use Rattle.shape_buffer.specs.Guess.{guessed, guessed_direction}
 use Rattle.shape_buffer.specs.KeepsFlags.{some_has}
+use Rattle.shape_buffer.specs.Outcome.{run_steps}
 use Rattle.shape_buffer.specs.declared.buffer.settings.Direction.{Direction}
 use Rattle.shape_normalize.specs.CanonicalForm.{text_of, NormalizesCanonically}
 use Rattle.shape_normalize.specs.Normalized.{normalized, BroughtInHaveGlyphs, HasItemGlyph, HookKeepsClusters, KeepsFeatures, Recomposes}
@@ -14,20 +15,25 @@ use Rattle.shape_normalize.specs.Origins.{ComesByPlace}
 use Rattle.shape_plan.specs.Keepers.{RunKeepsFlags}
 use Rattle.shape_plan.specs.Rules.{Rules}
 use Rattle.shape_plan.specs.Run.{Run}
-use Rattle.shape_pipeline.specs.Shaped.{entered, prepared}
+use Rattle.shape_pipeline.specs.Shaped.{HasItems, text_made, shaped_steps, finished}
 use Rattle.shape_buffer.specs.FlagNames.{UNSAFE_TO_CONCAT, PRODUCE_UNSAFE_TO_CONCAT}
 
 -- the direction that a text is shaped for
 abbrev pub target_of : Run → Buffer → Direction
 target_of run text = guessed_direction run.unicode text
 
--- the text as normalising begins
+-- the text as normalising begins, with script and direction guessed; an empty one stays as it is
 abbrev pub prepared_text : Run → Buffer → Buffer
-prepared_text run text = prepared run (target_of run text) (entered (guessed run.unicode text))
+prepared_text run text = text_made run (target_of run text) (guessed run.unicode text)
 
 -- and normalised
 abbrev pub normalised_list : Run → Buffer → Buffer
 normalised_list run text = normalized run.rules (prepared_text run text)
+
+-- the glyphs of a text with items are what masks, lookups, metrics and hooks make of its normalised list
+abbrev pub IsMadeOfNormalisedList : Run → Buffer → Buffer → Type 0
+IsMadeOfNormalisedList run text glyphs =
+    HasItems text → glyphs ≡ finished (target_of run text) (run_steps (shaped_steps run) (normalised_list run text))
 
 -- what is promised of the normalised list of a prepared text: what is brought in has a glyph, each item has the glyph of its character
 -- or what stands in for it, features are those of the text's items, each item comes by its place, clusters keep their order,

@@ -3,7 +3,8 @@ ghost use Rattle.std.specs.Prelude.{◌≡◌, ◌≤◌, [], length, IsOk, IfOk
 ghost use Rattle.shape_buffer.specs.Buffer.{cleared, run_limit};
 ghost use Rattle.shape_buffer.specs.Guess.{guessed, guessed_direction};
 ghost use Rattle.shape_pipeline.specs.Headline.{target_of, prepared_text, normalised_list};
-ghost use Rattle.shape_pipeline.specs.Headline.{NormalForm, FlagsAreByCluster};
+ghost use Rattle.shape_pipeline.specs.Headline.{IsMadeOfNormalisedList, NormalForm};
+ghost use Rattle.shape_pipeline.specs.Headline.{FlagsAreByCluster};
 ghost use Rattle.shape_pipeline.specs.Order.{ClustersComeInOrder};
 ghost use Rattle.shape_pipeline.specs.Shaped.{shaped, Shapes, ShapingPasses};
 ghost use Rattle.shape_pipeline.specs.Planned.{planned_for};
@@ -21,8 +22,8 @@ use std::alloc::Global;
 /// back to the text. Script and direction are guessed where they aren't set. Refuses with `Length` where a
 /// step would leave a list past the run's limit (in normalising the expanded list counts), and with
 /// `Memory` where a growth was refused; the fault holds the cleared buffer. An empty text gives an empty
-/// result and takes no memory. `form` is a law of the list that the run normalises, and says nothing of the
-/// result by itself.
+/// result and takes no memory. `form` is a law of the list that the run normalises, and `made` says that the
+/// glyphs are made of that list.
 pub fn shape_with_plan<U, F, M, S>(
     alloc: Global,
     face: &F,
@@ -39,6 +40,8 @@ where
         ≡ shaped (⟦<S as Runs<U, F, M>>⟧.run plan.now face.now) buffer) }
     ensures direction { IfOk result (λ glyphs. glyphs.direction
         ≡ guessed_direction U.unicode buffer) }
+    ensures made { let run = ⟦<S as Runs<U, F, M>>⟧.run plan.now face.now in
+        IfOk result (λ glyphs. IsMadeOfNormalisedList run buffer glyphs) }
     ensures form { let run = ⟦<S as Runs<U, F, M>>⟧.run plan.now face.now in
         IfOk result (λ _. NormalForm run.rules (prepared_text run buffer)
         (normalised_list run buffer)) }
@@ -80,7 +83,7 @@ where
 /// the features that the user asks for, and the text is shaped by it; see [`shape_with_plan`]. A plan is made
 /// for an empty text too. Refuses with `Length` where a step would leave a list past the run's limit, and
 /// with `Memory` where a growth was refused, planning included; the fault holds the cleared buffer. `form` is
-/// a law of the list that the run normalises, and says nothing of the result by itself.
+/// a law of the list that the run normalises, and `made` says that the glyphs are made of that list.
 pub fn shape<U, F, M, S>(
     alloc: Global,
     face: &F,
@@ -98,6 +101,10 @@ where
         face.now shaper.now features.now buffer) face.now) buffer) }
     ensures direction { IfOk result (λ glyphs. glyphs.direction
         ≡ guessed_direction U.unicode buffer) }
+    ensures made { let run = ⟦<S as Runs<U, F, M>>⟧.run
+        (planned_for U.unicode ⟦<S as Plans<U, F, M>>⟧.planning
+        face.now shaper.now features.now buffer) face.now in
+        IfOk result (λ glyphs. IsMadeOfNormalisedList run buffer glyphs) }
     ensures form { let run = ⟦<S as Runs<U, F, M>>⟧.run
         (planned_for U.unicode ⟦<S as Plans<U, F, M>>⟧.planning
         face.now shaper.now features.now buffer) face.now in

@@ -5,22 +5,17 @@ use Rattle.shape_buffer.specs.Guess.{guessed}
 use Rattle.shape_buffer.specs.Positions.{zero_position}
 use Rattle.shape_buffer.specs.Text.{text_items}
 use Rattle.shape_normalize.specs.CanonicalForm.{text_of}
-use Rattle.shape_normalize.specs.Normalized.{normalized}
 use Rattle.shape_normalize.specs.RoundOne.{round_one}
 use Rattle.shape_buffer.specs.Unicode.{UnicodeMeaning}
 use Rattle.shape_plan.specs.Plan.{Plan, Fits}
 use Rattle.shape_plan.specs.Run.{Run}
-use Rattle.shape_pipeline.specs.Headline.{target_of}
-use Rattle.shape_pipeline.specs.Shaped.{HasItems, PreparingPasses, ShapingPasses, text_made, shaped}
+use Rattle.shape_pipeline.specs.Headline.{target_of, prepared_text, normalised_list}
+use Rattle.shape_pipeline.specs.Shaped.{HasItems, PreparingPasses, ShapingPasses, shaped}
 use Rattle.shape_users.specs.declared.words.Word.{Word}
 
 -- the text of a spelling, nothing else set
 abbrev pub spelled : List ℕ → Buffer
 spelled spelling = record new_buffer { items = text_items spelling; positions = replicate (length (text_items spelling)) zero_position }
-
--- a text as normalising begins, with script and direction guessed; an empty one stays as it is
-abbrev pub ready_text : Run → Buffer → Buffer
-ready_text run text = text_made run (target_of run text) (guessed run.unicode text)
 
 -- 32 bits can't count the bytes of a spelling, or it has characters and a step of preparing them would pass the run's limit
 abbrev pub IsTooLongToPrepare : Run → List ℕ → Type 0
@@ -31,7 +26,7 @@ IsTooLongToPrepare run spelling =
 -- the same, or the prepared text would pass its limit in normalising
 abbrev pub IsTooLong : Run → List ℕ → Type 0
 IsTooLong run spelling =
-    let text = ready_text run (spelled spelling) in
+    let text = prepared_text run (spelled spelling) in
     IsTooLongToPrepare run spelling ⊎ (limit_of text < length (round_one run.rules text).items)
 
 -- the same for a run to its end
@@ -43,7 +38,7 @@ IsTooLongToShape run spelling =
 -- two spellings have the same normalised characters
 abbrev pub AreSpelledAlike : Run → List ℕ → List ℕ → Type 0
 AreSpelledAlike run first second =
-    text_of (normalized run.rules (ready_text run (spelled first))) ≡ text_of (normalized run.rules (ready_text run (spelled second)))
+    text_of (normalised_list run (spelled first)) ≡ text_of (normalised_list run (spelled second))
 
 -- the word at a place is spelled like this
 abbrev pub IsPlaceOf : Run → List Word → ℕ → List ℕ → Type 0

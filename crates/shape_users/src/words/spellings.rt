@@ -3,7 +3,8 @@ ghost use Rattle.std.specs.Prelude.{◌≡◌, ◌≤◌, ◌^◌, ◌⊎◌, �
 ghost use Rattle.std.specs.Prelude.{IsTrue, IsSome, IsErr, IfOk, IfSome};
 ghost use Rattle.shape_normalize.specs.CanonicalForm.{text_of, AreEquivalent};
 ghost use Rattle.shape_normalize.specs.CanonicalForm.{CanonicalFormPremises, HasLawfulHooks};
-ghost use Rattle.shape_users.specs.Words.{spelled as text_spelled, ready_text, AreSpelledAlike};
+ghost use Rattle.shape_pipeline.specs.Headline.{prepared_text};
+ghost use Rattle.shape_users.specs.Words.{spelled as text_spelled, AreSpelledAlike};
 ghost use Rattle.shape_users.specs.Words.{IsTooLongToPrepare, IsTooLong};
 
 use shape_buffer::buffer::{ShapeError, UnicodeBuffer, hb_buffer_t};
@@ -43,7 +44,7 @@ where
     M: hb_ot_layout_t<F>,
     S: hb_ot_shaper_t<U, F, M>,
     ensures ok { IfOk result (λ buffer. buffer
-        ≡ ready_text (⟦<S as Runs<U, F, M>>⟧.run plan.now face.now) (text_spelled spelling.now)) }
+        ≡ prepared_text (⟦<S as Runs<U, F, M>>⟧.run plan.now face.now) (text_spelled spelling.now)) }
     ensures length { result ≡ Err ShapeError.Length
         → IsTooLongToPrepare (⟦<S as Runs<U, F, M>>⟧.run plan.now face.now) spelling.now }
     ensures too_long { IsTooLongToPrepare (⟦<S as Runs<U, F, M>>⟧.run plan.now face.now) spelling.now
@@ -84,8 +85,8 @@ where
     ensures alike { let run = ⟦<S as Runs<U, F, M>>⟧.run plan.now face.now in
         IfOk result (λ same. IsTrue same ↔ AreSpelledAlike run first.now second.now) }
     ensures equivalent { let run = ⟦<S as Runs<U, F, M>>⟧.run plan.now face.now in
-        let a = ready_text run (text_spelled first.now) in
-        let b = ready_text run (text_spelled second.now) in
+        let a = prepared_text run (text_spelled first.now) in
+        let b = prepared_text run (text_spelled second.now) in
         IfOk result (λ same. CanonicalFormPremises run.rules a → CanonicalFormPremises run.rules b
         → IsTrue same ↔ AreEquivalent run.rules (text_of a) (text_of b)) }
     ensures length { let run = ⟦<S as Runs<U, F, M>>⟧.run plan.now face.now in
@@ -118,13 +119,13 @@ where
     M: hb_ot_layout_t<F>,
     S: hb_ot_shaper_t<U, F, M>,
     ensures told { let run = ⟦<S as Runs<U, F, M>>⟧.run plan.now face.now in
-        let a = ready_text run (text_spelled first.now) in
-        let b = ready_text run (text_spelled second.now) in
+        let a = prepared_text run (text_spelled first.now) in
+        let b = prepared_text run (text_spelled second.now) in
         HasLawfulHooks run.rules → IfOk result (λ told. IsSome told
         ↔ (CanonicalFormPremises run.rules a × CanonicalFormPremises run.rules b)) }
     ensures equivalent { let run = ⟦<S as Runs<U, F, M>>⟧.run plan.now face.now in
-        let a = text_of (ready_text run (text_spelled first.now)) in
-        let b = text_of (ready_text run (text_spelled second.now)) in
+        let a = text_of (prepared_text run (text_spelled first.now)) in
+        let b = text_of (prepared_text run (text_spelled second.now)) in
         HasLawfulHooks run.rules → IfOk result (λ told.
         IfSome told (λ same. IsTrue same ↔ AreEquivalent run.rules a b)) }
     ensures length { let run = ⟦<S as Runs<U, F, M>>⟧.run plan.now face.now in

@@ -4,11 +4,11 @@ use Rattle.shape_buffer.specs.Guess.{guessed, guessed_direction}
 use Rattle.shape_buffer.specs.declared.buffer.settings.Direction.{Direction}
 use Rattle.shape_normalize.proofs.Hooks.RulesLemmas.{used_reorder-lawful}
 use Rattle.shape_plan.specs.Run.{run_of}
-use Rattle.shape_pipeline.specs.Headline.{prepared_text, HasFlagsByCluster}
+use Rattle.shape_pipeline.specs.Headline.{prepared_text, IsMadeOfNormalisedList, HasFlagsByCluster}
 use Rattle.shape_pipeline.specs.Order.{ClustersComeInOrder}
 use Rattle.shape_pipeline.proofs.FlagRunLemmas.{flags-run_made}
 use Rattle.shape_pipeline.proofs.OrderLemmas.{clusters-run_made, target_of-known}
-use Rattle.shape_pipeline.proofs.RunLemmas.{normal_form, direction-made}
+use Rattle.shape_pipeline.proofs.RunLemmas.{made_of_list, normal_form, direction-made}
 use Rattle.shape_pipeline.specs.Shaped.{shaped, ShapingPasses}
 use Rattle.shape_pipeline.proofs.shape.shape_with_plan.Goals as goal
 
@@ -18,6 +18,12 @@ returns-in-Ok-clause-form g c =
     let run = run_of g.U.hb_unicode_funcs_t.unicode g.M.hb_ot_layout_t.masks g.M.hb_ot_layout_t.lookups g.S.hb_ot_shaper_t.constants g.S.hb_ot_shaper_t.hooks g.F.hb_font_t.face c.args.plan.now c.args.face.now in
     let lawful = used_reorder-lawful shaper.hooks g.met.S.hb_ot_shaper_t.lawful_hooks shaper.constants.has_reorder_marks c.args.plan.now c.args.face.now in
     normal_form run.rules lawful g.met.U.hb_unicode_funcs_t.lawful (prepared_text run c.args.buffer)
+
+pub returns-in-Ok-clause-made : goal.returns-in-Ok-clause-made
+returns-in-Ok-clause-made g c =
+    let run = run_of g.U.hb_unicode_funcs_t.unicode g.M.hb_ot_layout_t.masks g.M.hb_ot_layout_t.lookups g.S.hb_ot_shaper_t.constants g.S.hb_ot_shaper_t.hooks g.F.hb_font_t.face c.args.plan.now c.args.face.now in
+    let made : c.into_glyphs.result ≡ shaped run c.args.buffer = search rules in
+    subst (λ (glyphs : Buffer). IsMadeOfNormalisedList run c.args.buffer glyphs) (sym made) (made_of_list run c.args.buffer)
 
 pub returns-in-Ok-clause-direction : goal.returns-in-Ok-clause-direction
 returns-in-Ok-clause-direction g c =
