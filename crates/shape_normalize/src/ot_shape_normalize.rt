@@ -58,6 +58,8 @@ use std::alloc::Global;
 /// run of at most 32 marks is put in the order of their ccc, the clusters of the spans that this
 /// moves are merged, the shaper may reorder the run, and in the modes that compose, marks are composed
 /// with their starters again, whose clusters are merged. Each CGJ that keeps nothing apart is unhidden.
+/// A mark is composed only where its ccc is greater than that of every mark between it and its starter,
+/// so that the list stays equivalent to the text however many marks stand in a row.
 ///
 /// Refuses with `Length` where the expanded list is longer than the buffer's limit, and with `Memory`
 /// where a growth was refused; after a refusal the buffer is cleared. An empty buffer is left as it is,
