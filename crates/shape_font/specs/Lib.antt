@@ -1,0 +1,9 @@
+pub mod Bytes
+pub mod Search
+pub mod Directory
+pub mod Subtables
+pub mod Cmap
+pub mod Metrics
+pub mod Face
+pub mod WorkedTables
+pub mod WorkedGlyphs

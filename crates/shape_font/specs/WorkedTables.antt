@@ -1,0 +1,98 @@
+-- Numbers and tables, on bytes that were read by hand.
+use Rattle.std.specs.Prelude.{◌≡◌, ℕ, pos, negsuc, List, [], ◌∷◌, ◌++◌, Some, None, refl}
+use Rattle.shape_font.specs.Bytes.{u16_of, u32_of, i16_of}
+use Rattle.shape_font.specs.Directory.{part_of, table_of}
+use Rattle.shape_font.specs.Subtables.{subtable_of, chosen_subtable}
+
+pub record WorkedNumbers : Type 0 where
+  pub two_bytes : u16_of (7 ∷ 1 ∷ 2 ∷ []) 1 ≡ 258
+  pub half_past_the_end : u16_of (7 ∷ 1 ∷ []) 1 ≡ 256
+  pub past_the_end : u16_of (7 ∷ 1 ∷ []) 2 ≡ 0
+  pub four_bytes : u32_of (1 ∷ 2 ∷ 3 ∷ 4 ∷ []) 0 ≡ 16909060
+  pub greatest : i16_of (127 ∷ 255 ∷ []) 0 ≡ pos 32767
+  pub least : i16_of (128 ∷ 0 ∷ []) 0 ≡ negsuc 32767
+  pub minus_two : i16_of (255 ∷ 254 ∷ []) 0 ≡ negsuc 1
+
+pub worked_numbers : WorkedNumbers
+unfolding i16_of
+worked_numbers = record {
+  two_bytes = refl;
+  half_past_the_end = refl;
+  past_the_end = refl;
+  four_bytes = refl;
+  greatest = refl;
+  least = refl;
+  minus_two = refl;
+}
+
+-- the directory's count says two: "AA" of 2 bytes at 44, "BB" of 3 bytes at 45, each tag with two spaces
+abbrev pub header : ℕ → List ℕ
+header count = 0 ∷ 1 ∷ 0 ∷ 0 ∷ 0 ∷ count ∷ 0 ∷ 0 ∷ 0 ∷ 0 ∷ 0 ∷ 0 ∷ []
+
+abbrev pub entry : ℕ → ℕ → ℕ → List ℕ
+entry letter at len = letter ∷ letter ∷ 32 ∷ 32 ∷ 9 ∷ 9 ∷ 9 ∷ 9 ∷ 0 ∷ 0 ∷ 0 ∷ at ∷ 0 ∷ 0 ∷ 0 ∷ len ∷ []
+
+abbrev pub two_tables : ℕ → List ℕ
+two_tables count = header count ++ entry 65 44 2 ++ entry 66 45 3 ++ 11 ∷ 12 ∷ 13 ∷ 14 ∷ []
+
+pub record WorkedDirectory : Type 0 where
+  pub first : table_of (two_tables 2) 0x41412020 ≡ Some (11 ∷ 12 ∷ [])
+  pub second : table_of (two_tables 2) 0x42422020 ≡ Some (12 ∷ 13 ∷ 14 ∷ [])
+  pub past_the_count : table_of (two_tables 1) 0x42422020 ≡ None
+  pub other_tag : table_of (two_tables 2) 0x43432020 ≡ None
+  pub longer_than_the_file : table_of (header 1 ++ entry 65 28 3 ++ 11 ∷ 12 ∷ []) 0x41412020 ≡ None
+  pub first_of_two : table_of (header 2 ++ entry 65 44 1 ++ entry 65 45 1 ++ 11 ∷ 12 ∷ []) 0x41412020 ≡ Some (11 ∷ [])
+  pub whole : part_of (11 ∷ 12 ∷ []) 0 2 ≡ Some (11 ∷ 12 ∷ [])
+
+pub worked_directory : WorkedDirectory
+worked_directory = record {
+  first = refl;
+  second = refl;
+  past_the_count = refl;
+  other_tag = refl;
+  longer_than_the_file = refl;
+  first_of_two = refl;
+  whole = refl;
+}
+
+-- a table `cmap` of one subtable or two, each one byte long and at the end
+abbrev pub one_subtable : ℕ → ℕ → List ℕ
+one_subtable platform encoding = 0 ∷ 0 ∷ 0 ∷ 1 ∷ 0 ∷ platform ∷ 0 ∷ encoding ∷ 0 ∷ 0 ∷ 0 ∷ 12 ∷ 77 ∷ []
+
+abbrev pub two_subtables : ℕ → ℕ → ℕ → ℕ → List ℕ
+two_subtables platform encoding second_platform second_encoding =
+    0 ∷ 0 ∷ 0 ∷ 2 ∷ 0 ∷ platform ∷ 0 ∷ encoding ∷ 0 ∷ 0 ∷ 0 ∷ 20 ∷ 0 ∷ second_platform ∷ 0 ∷ second_encoding ∷ 0 ∷ 0 ∷ 0 ∷ 21 ∷ 77 ∷ 78 ∷ []
+
+pub record WorkedSubtables : Type 0 where
+  pub found : subtable_of (one_subtable 3 1) 0x30001 ≡ Some (77 ∷ [])
+  pub other : subtable_of (one_subtable 3 1) 0x3000A ≡ None
+  pub symbols_first : chosen_subtable (two_subtables 3 10 3 0) ≡ 78 ∷ []
+  pub whole_before_plane_0 : chosen_subtable (two_subtables 3 1 3 10) ≡ 78 ∷ []
+  pub windows_before_unicode_whole : chosen_subtable (two_subtables 0 6 3 10) ≡ 78 ∷ []
+  pub unicode_6_before_4 : chosen_subtable (two_subtables 0 4 0 6) ≡ 78 ∷ []
+  pub unicode_4_before_windows_plane_0 : chosen_subtable (two_subtables 0 4 3 1) ≡ 77 ∷ 78 ∷ []
+  pub windows_before_unicode : chosen_subtable (two_subtables 0 3 3 1) ≡ 78 ∷ []
+  pub unicode_3_before_2 : chosen_subtable (two_subtables 0 2 0 3) ≡ 78 ∷ []
+  pub unicode_2_before_1 : chosen_subtable (two_subtables 0 1 0 2) ≡ 78 ∷ []
+  pub unicode_1_before_0 : chosen_subtable (two_subtables 0 0 0 1) ≡ 78 ∷ []
+  pub unicode_0_last : chosen_subtable (one_subtable 0 0) ≡ 77 ∷ []
+  pub variations_are_none : chosen_subtable (one_subtable 0 5) ≡ []
+  pub macintosh_is_none : chosen_subtable (one_subtable 1 0) ≡ []
+
+pub worked_subtables : WorkedSubtables
+worked_subtables = record {
+  found = refl;
+  other = refl;
+  symbols_first = refl;
+  whole_before_plane_0 = refl;
+  windows_before_unicode_whole = refl;
+  unicode_6_before_4 = refl;
+  unicode_4_before_windows_plane_0 = refl;
+  windows_before_unicode = refl;
+  unicode_3_before_2 = refl;
+  unicode_2_before_1 = refl;
+  unicode_1_before_0 = refl;
+  unicode_0_last = refl;
+  variations_are_none = refl;
+  macintosh_is_none = refl;
+}

@@ -1,0 +1,19 @@
+//! A face over the bytes of a font file (OpenType, TrueType): [`FontFace`] is an `hb_font_t` whose answers are
+//! functions of the bytes.
+//!
+//! Any bytes are taken. What lies past the end of a table reads as 0, so that no answer is refused and each one has
+//! a meaning of a line; no table is copied, and no memory is taken. [`bytes`] reads numbers, [`directory`] finds
+//! tables, [`cmap`] glyphs of characters, [`metrics`] advances and boxes, and [`face`] puts them together.
+//! [`worked`] has the definitions computed on bytes that were read by hand.
+#![tactic(auto)]
+#![allow(non_camel_case_types)]
+
+pub mod bytes;
+pub mod cmap;
+pub mod directory;
+pub mod face;
+pub mod metrics;
+pub mod subtables;
+pub mod worked;
+
+pub use face::FontFace;
