@@ -5,5 +5,6 @@ pub mod Lines
 pub mod Paragraph
 pub mod Points
 pub mod WorkedArabic
+pub mod WorkedForms
 pub mod Words
 pub mod WorkedWords

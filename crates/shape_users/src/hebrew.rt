@@ -11,6 +11,7 @@ ghost use Rattle.shape_plan.specs.Plan.{Plan};
 ghost use Rattle.shape_users.specs.declared.hebrew.HebrewShaper.{HebrewShaper as AnyShaper};
 ghost use Rattle.shape_pipeline.specs.Order.{RunKeepsClusters};
 ghost use Rattle.shape_users.specs.Forms.{form_of};
+ghost use Rattle.shape_users.specs.WorkedForms.{WorkedForms};
 ghost use Rattle.shape_users.specs.Points.{points_reordered, points_reordered-reorders};
 
 mod forms;
@@ -135,3 +136,8 @@ pub fn hebrew_runs_keep<U: hb_unicode_funcs_t, F: hb_font_t, M: hb_ot_layout_t<F
 {
     hooks_not_given_keep::<U, F, M, HebrewShaper>();
 }
+
+/// What letters and points make, on pairs worked out by hand.
+pub fn forms_meet_worked_cases()
+    ensures { WorkedForms }
+{}

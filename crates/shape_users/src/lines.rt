@@ -1,8 +1,10 @@
 //! Where a line may end: the question that a line breaker asks of a shaped text.
 //!
 //! A line breaker shapes a paragraph once and cuts it where lines end. Where a glyph lacks
-//! `UNSAFE_TO_BREAK`, the part before it and the part from it on look alone as they do together; elsewhere
-//! they are to be shaped again. The caller speaks of the text by clusters, which lead back to it.
+//! `UNSAFE_TO_BREAK`, the part before it and the part from it on are meant to look alone as they do together;
+//! elsewhere they are to be shaped again. That they do is not proved. At level CHARACTERS it is not always
+//! so: U+05B4 U+05E9 U+200D, in Hebrew and left to right, look different cut behind the first character. The
+//! caller speaks of the text by clusters, which lead back to it.
 ghost use Rattle.std.specs.Prelude.{◌≡◌, All};
 ghost use Rattle.std.specs.List.{find};
 ghost use Rattle.std.specs.Option.{option_map};

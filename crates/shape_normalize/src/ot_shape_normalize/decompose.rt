@@ -1,5 +1,14 @@
 //! The expansion of one character along its chain.
 //!
+//! In the modes for composed diacritics a character without marks takes the shortest expansion that the face
+//! has glyphs for, so itself where it can: who drew a glyph for the whole drew it as it should look, and most
+//! text then stays as it is. With marks beside it the longest is taken, since each part that is a mark has a
+//! place among them.
+//!
+//! A syllable of Hangul splits like any other character: LVT into LV and T, LV into L and V (The Unicode
+//! Standard, section 3.12). So a face that lacks it shows its jamo, and those are never composed again: they
+//! aren't marks, and faces don't mix them with whole syllables.
+//!
 //! The chain is walked in a loop that keeps the second parts in a list, so its depth is bounded by
 //! memory alone and the length of the expansion is known before any of it is put out.
 ghost use Rattle.std.specs.Prelude.{◌≡◌, [], ◌∷◌, ◌++◌, reverse, take, IfOk, Ok, true, false};

@@ -2,8 +2,9 @@
 ghost use Rattle.std.specs.Prelude.{◌≡◌};
 ghost use Rattle.shape_users.specs.Forms.{form_of};
 
-/// A letter, a point, and the character that they make.
-const FORMS: [(char, char, char); 34] = [
+/// A letter, a point, and the character that they make. A shin with both its dagesh and its dot is one
+/// character whichever of the two comes first: shaping puts the dot first, whose ccc is lower.
+pub const FORMS: [(char, char, char); 36] = [
     ('\u{05D9}', '\u{05B4}', '\u{FB1D}'),
     ('\u{05F2}', '\u{05B7}', '\u{FB1F}'),
     ('\u{05D0}', '\u{05B7}', '\u{FB2E}'),
@@ -38,6 +39,8 @@ const FORMS: [(char, char, char); 34] = [
     ('\u{05E9}', '\u{05C2}', '\u{FB2B}'),
     ('\u{FB49}', '\u{05C1}', '\u{FB2C}'),
     ('\u{FB49}', '\u{05C2}', '\u{FB2D}'),
+    ('\u{FB2A}', '\u{05BC}', '\u{FB2C}'),
+    ('\u{FB2B}', '\u{05BC}', '\u{FB2D}'),
 ];
 
 /// The character that a letter and a point make.
