@@ -1,29 +1,30 @@
 #!/bin/sh
-# Plants wrong rules of normalising in its definitions, one at a time, and counts those that a worked case
-# refuses. The worked cases are of the definitions alone, so that no body can make a wrong rule pass: not even
-# one that does what the wrong rule says.
+# Plants wrong rules in the definitions, one at a time, and counts those that a worked case refuses. The worked
+# cases are of the definitions alone, so that no body can make a wrong rule pass: not even one that does what the
+# wrong rule says.
 #
-# A plant is a file of tests/rules: the round whose worked cases must refuse it, or `origins` (`row:`), and edits (`file:`, `old:`,
-# `new:`), each old text standing once in its file. Names of plants may be given. All is done on a copy.
+# A plant is a file of tests/rules: the worked cases that must refuse it, as CRATE/FUNCTION, a function of the
+# crate's module `worked` (`row:`), and edits (`file:`, `old:`, `new:`), each old text standing once in its file.
+# Names of plants may be given, or of crates, whose rows are then tried. All is done on a copy.
 #
-# It takes some 20 seconds a plant. Status 0 says that each was refused, for a case that no longer holds.
+# Status 0 says that each was refused, for a case that no longer holds.
 cd "$(dirname "$0")/.." || exit 1
 work=$(mktemp -d) || exit 1
 trap 'rm -rf "$work"' EXIT
 mkdir "$work/crates" "$work/tests" && cp -r HANDLES "$work" && cp -r tests/rules "$work/tests" || exit 1
-for crate in canonical_form shape_buffer shape_plan shape_normalize; do
-    cp -r "crates/$crate" "$work/crates" && grep "^$crate:" crates.txt >> "$work/crates.txt" || exit 1
-done
-cd "$work" || exit 1
-exec python3 - "$@" << 'PYTHON'
-import pathlib, re, subprocess, sys
+exec python3 - "$work" "$@" << 'PYTHON'
+import os, pathlib, re, shutil, subprocess, sys
+
+work = pathlib.Path(sys.argv[1])
+asked = set(sys.argv[2:])
+here = pathlib.Path.cwd()
 
 def parts(plant):
     row, edits, file = None, [], None
     for line in plant.read_text().splitlines():
         key, _, value = line.partition(": ")
         if key == "row":
-            row = value
+            row = tuple(value.split("/"))
         elif key == "file":
             file = pathlib.Path(value)
         elif key == "old":
@@ -32,9 +33,19 @@ def parts(plant):
             edits.append((file, old, value))
     return row, edits
 
+def below(crate):
+    """The crate and those of this repository that it stands on."""
+    for line in (here / "crates.txt").read_text().splitlines():
+        name, _, rest = line.partition(":")
+        if name == crate:
+            stands_on = [c for c in rest.split() if (here / "crates" / c).is_dir()]
+            return {name}.union(*map(below, stands_on))
+    sys.exit(f"no such crate: {crate}")
+
 def check(row):
-    name = "shape_normalize::worked::" + ("origins_meet" if row == "origins" else f"round_{row}_meets") + "_worked_cases"
-    run = subprocess.run(["rt", "check", "--jobs", "1", "--only", name], cwd="crates/shape_normalize",
+    crate, function = row
+    only = f"{crate}::worked::{function}"
+    run = subprocess.run(["rt", "check", "--jobs", "1", "--only", only], cwd=f"crates/{crate}",
                          capture_output=True, text=True)
     said = run.stdout + run.stderr
     if "only=1 proved=1" in said:
@@ -47,29 +58,36 @@ def check(row):
         return "refused", ", ".join(sorted(set(cases)))
     return "broken", said[-2000:]
 
-plants = sorted(pathlib.Path("tests/rules").glob("*.plant"))
-if sys.argv[1:]:
-    unknown = set(sys.argv[1:]) - {p.stem for p in plants}
-    if unknown:
-        sys.exit(f"no such plant: {', '.join(sorted(unknown))}")
-    plants = [p for p in plants if p.stem in sys.argv[1:]]
-for row in ("one", "two", "three", "origins"):
-    if check(row)[0] != "proved":
-        sys.exit(f"the worked cases of {row} don't hold before any plant")
+plants = {p.stem: parts(p) for p in sorted((here / "tests/rules").glob("*.plant"))}
+unknown = asked - set(plants) - {row[0] for row, _ in plants.values()}
+if unknown:
+    sys.exit(f"no such plant or crate: {', '.join(sorted(unknown))}")
+if asked:
+    plants = {name: (row, edits) for name, (row, edits) in plants.items() if name in asked or row[0] in asked}
+rows = sorted({row for row, _ in plants.values()})
+crates = {c for crate, _ in rows for c in below(crate)}
+for crate in sorted(crates):
+    shutil.copytree(here / "crates" / crate, work / "crates" / crate)
+lines = (here / "crates.txt").read_text().splitlines(keepends=True)
+(work / "crates.txt").write_text("".join(line for line in lines if line.partition(":")[0] in crates))
+os.chdir(work)
+for row in rows:
+    verdict, why = check(row)
+    if verdict != "proved":
+        sys.exit(f"{'/'.join(row)} doesn't hold before any plant: {why}")
 refused = 0
-for plant in plants:
-    row, edits = parts(plant)
+for name, (row, edits) in plants.items():
     before = {file: file.read_text() for file, _, _ in edits}
     for file, old, new in edits:
         text = file.read_text()
         if text.count(old) != 1:
-            sys.exit(f"{plant.stem}: {text.count(old)} times in {file}: {old}")
+            sys.exit(f"{name}: {text.count(old)} times in {file}: {old}")
         file.write_text(text.replace(old, new))
     verdict, why = check(row)
     for file, text in before.items():
         file.write_text(text)
     refused += verdict == "refused"
-    print(f"{plant.stem}: {verdict} {why}", flush=True)
+    print(f"{name}: {verdict} {why}", flush=True)
 print(f"{refused} of {len(plants)} wrong rules refused")
 sys.exit(refused != len(plants))
 PYTHON

@@ -1,10 +1,10 @@
 #!/bin/sh
 # Runs the test of the buffer's calls, those of stages of substitution which take memory, and then the built
 # program on its stored input and on those of `growths`, with the first growth of memory refused, then the
-# second, and so on until a run is whole. Between them it counts the growths of calls that take no memory: the
+# second, and so on until a run has no such growth. Between them it counts the growths of calls that take no memory: the
 # buffer's, the steps of a run that can't be refused, and runs over an empty text.
 #
-# A run of a test must pass, or say that a call was `refused` (behind its own comparisons of what that call
+# A run of a test must pass, or say that a call was `refused` (after its own comparisons of what that call
 # left), or that a list or a text of the test's own could not grow (`AllocError`, `Memory`). A run of the program
 # must end in one of three ways:
 #
@@ -19,17 +19,26 @@ work=$(mktemp -d) || exit 1
 trap 'rm -rf "$work"' EXIT
 gcc -O1 -Wall -Werror -shared -fPIC -o "$work/refuse.so" tests/refuse.c -ldl || exit 1
 
-# Runs one test of a crate with each growth refused in turn, until a run passes.
+# Whether a whole run was so because it had fewer growths than the one that was to be refused.
+is_past_the_last() {
+    asked=$(cat "$work/count")
+    [ "$asked" -lt "$1" ] && return
+    echo "$2: growth $1 of $asked was refused, and the run was whole"
+    return 1
+}
+
+# Runs one test of a crate with each growth refused in turn, until a run passes that has no such growth.
 refuse_test() {
     tests=crates/$1/out/$1_tests
     [ -x "$tests" ] || (cd "crates/$1" && rt test > /dev/null) || return 1
     n=1 refused=0
     while [ "$n" -le 1000 ]; do
-        answer=$(REFUSED_GROWTH=$n LD_PRELOAD="$work/refuse.so" "$tests" "$2" 2>&1)
+        answer=$(COUNTED_GROWTHS="$work/count" REFUSED_GROWTH=$n LD_PRELOAD="$work/refuse.so" "$tests" "$2" 2>&1)
         status=$?
         case "$status $answer" in
             "0 "*)
-                echo "refused growths: $refused of $3 refused, run $n was whole"
+                is_past_the_last "$n" "$3" || return 1
+                echo "refused growths: $refused of $3 refused, growth $n isn't reached"
                 [ "$refused" -gt 0 ]
                 return
                 ;;
@@ -48,9 +57,12 @@ refuse_test() {
 }
 
 refuse_test buffer_tests refusals::growths "the buffer's calls" || exit 1
-refuse_test shape_rows refusals::growths_in_a_run "the run of a letter with its accent" || exit 1
+for row in e_acute shortest_expansion ordering_merges three_spellings dotted_circle mark_above_and_below; do
+    refuse_test shape_rows "refusals::$row" "the run $row" || exit 1
+done
 refuse_test substitute_rows refusals::growths_in_a_stage "the stages that grow" || exit 1
 refuse_test substitute_rows refusals::growths_in_a_run "the runs with such stages" || exit 1
+refuse_test substitute_rows refusals::growths_with_two_features "the run with two user features" || exit 1
 
 # How many growths a test of a crate asks for.
 growths_of() {
@@ -77,10 +89,10 @@ take_none shape_rows no_memory::text_is_begun no_memory::empty_text_is_shaped "r
 
 # Whether an answer is the expected one with `refused 1` in place of what answers one line.
 is_refused() {
-    answered=$(grep -cE '^(prepared|same)' "$2")
+    answered=$(grep -cE '^(prepared|same|uncut|line 0-)' "$2")
     line=1
     while [ "$line" -le "$answered" ]; do
-        awk -v line="$line" '/^(prepared|same)/ { n++; if (n == line) print "refused 1" } n != line' "$2" > "$work/refused"
+        awk -v line="$line" '/^(prepared|same|uncut|line 0-)/ { n++; if (n == line) print "refused 1" } n != line' "$2" > "$work/refused"
         cmp -s "$1" "$work/refused" && return 0
         line=$((line + 1))
     done
@@ -94,14 +106,15 @@ is_input_error() {
     cmp -s "$1" "$work/input"
 }
 
-# Runs the program on an input with each growth refused in turn, until a run gives the whole answer.
+# Runs the program on an input with each growth refused in turn, until a run is whole that has no such growth.
 refuse_all() {
     n=1 answers=0 inputs=0
     while [ "$n" -le 1000 ]; do
-        REFUSED_GROWTH=$n LD_PRELOAD="$work/refuse.so" "$program" < "$1" > "$work/answer"
+        COUNTED_GROWTHS="$work/count" REFUSED_GROWTH=$n LD_PRELOAD="$work/refuse.so" "$program" < "$1" > "$work/answer"
         status=$?
         if [ "$status" -eq 0 ] && cmp -s "$work/answer" "$2"; then
-            echo "refused growths: $inputs gave 'error: input', $answers gave 'refused 1', run $n was whole"
+            is_past_the_last "$n" "$1" || return 1
+            echo "refused growths: $inputs gave 'error: input', $answers gave 'refused 1', growth $n isn't reached"
             [ "$inputs" -gt 0 ] && [ "$answers" -gt 0 ]
             return
         elif [ "$status" -eq 0 ] && is_refused "$work/answer" "$2"; then

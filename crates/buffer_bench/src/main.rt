@@ -1,8 +1,11 @@
-//! Times of the buffer's calls on texts of 1,000, 10,000 and 100,000 items, in microseconds.
+//! Times of the buffer's calls on texts of 1,000, 10,000 and 100,000 items, and of cutting glyphs into lines, in
+//! microseconds.
 //!
 //! Each call should take about ten times as long on ten times as many items, on hostile texts too. It is
 //! run by hand, with any argument; without one it does nothing, so that the gate may run it.
 #![tactic(auto)]
+
+mod lines;
 
 ghost use Rattle.std.specs.Prelude.{IfOk};
 ghost use Rattle.shape_buffer.specs.Spans.{AreSpansInOrder};
@@ -172,6 +175,9 @@ fn main(rt: HostRuntime) -> io::Result<()> {
         if let Ok(mut text) = chained(rt.alloc(), count) {
             time_graphemes(&rt, count, &mut text)?;
         }
+    }
+    for count in [100000, 1000000] {
+        lines::time_lines(&rt, count)?;
     }
     Ok(())
 }

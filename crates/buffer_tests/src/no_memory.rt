@@ -72,6 +72,10 @@ fn guess(rt: &impl Abort, buffer: &mut hb_buffer_t) {
         buffer.guessed_direction::<PlainUnicode>(),
         Direction::LeftToRight
     );
+    assert_eq!(rt;
+        buffer.direction_by::<PlainUnicode>(None),
+        Direction::LeftToRight
+    );
     buffer.guess_segment_properties::<PlainUnicode>();
     assert_eq!(rt; buffer.direction(), Direction::LeftToRight);
 }

@@ -5,7 +5,7 @@ use shape_buffer::buffer::{ShapeError, UnicodeBuffer, hb_glyph_info_t};
 use std::process::Abort;
 use std::test::Fail;
 
-/// Whether a call on an empty buffer was refused. Compares how many items there are behind it.
+/// Whether a call on an empty buffer was refused. Compares how many items there are after it.
 fn is_refused(rt: &impl Abort, answer: Result<(), ShapeError>, len: usize, asked: usize) -> bool {
     match answer {
         Ok(()) => {
@@ -27,6 +27,9 @@ fn growths(rt: HostRuntime) -> Result<(), Fail> {
     let mut text = UnicodeBuffer::new(rt.alloc());
     let pushed = text.push_str("b\u{301}");
     refused |= is_refused(&rt, pushed, text.len(), 2);
+    let mut text = UnicodeBuffer::new(rt.alloc());
+    let reserved = text.reserve(2);
+    refused |= is_refused(&rt, reserved, text.len(), 0);
     let mut buffer = UnicodeBuffer::new(rt.alloc()).into_inner();
     let inserted = buffer.insert(0, hb_glyph_info_t::new('c', 0));
     refused |= is_refused(&rt, inserted, buffer.len(), 1);

@@ -31,7 +31,7 @@ full_within split (suc steps) c = option_map_or (λ parts. full_within split ste
 unfoldable pub full : Decompositions → ℕ → List ℕ
 full D c = full_within D.split (D.height c) c
 
--- Full of a text: that of each character, one behind the other
+-- Full of a text: that of each character, one after the other
 unfoldable pub full_text : Decompositions → List ℕ → List ℕ
 full_text D text = flat_map (full D) text
 

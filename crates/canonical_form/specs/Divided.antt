@@ -17,7 +17,7 @@ divided_between together (x ∷ y ∷ rest) =
 abbrev pub divided : {A : Type 0} → (A → Bool) → List A → List (List A)
 divided belongs xs = divided_between (λ before x. belongs x) xs
 
--- the first part of a list, and what stands behind it
+-- the first part of a list, and what stands after it
 pub record IsFirstPart {A : Type 0} (belongs : A → Bool) (xs part behind : List A) : Type 0 where
   pub first : divided belongs xs ≡ part ∷ divided belongs behind
   pub some : 0 < length part

@@ -1,18 +1,18 @@
-//! A program of one's own on the libraries: shapes a letter with an accent, and prints each glyph with its
-//! cluster and its advance.
+//! A program of one's own on the libraries: shapes a letter with an accent, and prints each
+//! glyph with its cluster and its advance.
 #![tactic(auto)]
 
-use shape_pipeline::shape::shape;
 use shape_pipeline::{
     DEFAULT_SHAPER, GlyphBuffer, GlyphId, MapFace, Metrics, NoLookups, ShapeError, UnicodeBuffer,
+    shape,
 };
 use shape_unicode::UnicodeDatabase;
 use std::alloc::Global;
 use std::io;
 use std::process::ExitCode;
 
-/// The glyphs of U+0065 U+0301 in a face that has one glyph for the two, 500 units wide. Refuses as `shape`
-/// does, and with `Memory` where a growth of the face or of the text was refused.
+/// The glyphs of U+0065 U+0301 in a face that has one glyph for the two, 500 units wide. Refuses
+/// as `shape` does, and with `Memory` if a growth of the face or of the text was refused.
 fn shaped(alloc: Global) -> Result<GlyphBuffer, ShapeError> {
     let mut face = MapFace::new(alloc, 1000);
     let metrics = Metrics {

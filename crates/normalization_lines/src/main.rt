@@ -1,7 +1,7 @@
 //! Normalises the columns of lines of Unicode's NormalizationTest.txt.
 //!
 //! Each line of its standard input that has columns is answered by a line of lists: each of the five columns
-//! normalised in mode 1, then in mode 3, behind a base with a mark and under a face that has every glyph.
+//! normalised in mode 1, then in mode 3, after a base with a mark and under a face that has every glyph.
 //! `tests/normalization-file.sh` compares the lists.
 #![tactic(auto)]
 

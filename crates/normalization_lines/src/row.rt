@@ -38,7 +38,7 @@ fn append_list(answer: &mut String, list: &[char]) -> Result<(), AllocError> {
 }
 
 /// The lists of the first five columns, by the two modes that split fully: 1, which composes nothing, and 3,
-/// which composes again. They stand in one line, each with a semicolon behind it. None where there are
+/// which composes again. They stand in one line, each with a semicolon after it. None where there are
 /// fewer columns or one names no character. Refuses where memory is refused.
 pub fn answer(alloc: Global, columns: &str) -> Result<Option<String>, ShapeError> {
     let splitting = Preferring::<Decomposed>::new();

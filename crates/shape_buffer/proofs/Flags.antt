@@ -2,3 +2,5 @@
 pub mod FlagLemmas
 pub mod HonestLemmas
 pub mod ClusterRunLemmas
+pub mod ClusterFlagLemmas
+pub mod GlyphClusterLemmas

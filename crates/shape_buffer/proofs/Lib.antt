@@ -7,6 +7,7 @@ pub mod Flags
 pub mod Steps
 pub mod Loops
 pub mod PreparedLemmas
+mod PropertyLemmas
 pub mod WrappingLemmas
 mod FillLemmas
 mod TextLemmas

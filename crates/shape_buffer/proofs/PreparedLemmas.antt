@@ -27,7 +27,7 @@ module _ (unicode : UnicodeMeaning) (lawful : LawfulUnicode unicode) where
   unmarked_ccc c no_mark =
       elim (cases_eq (unicode.ccc c) 0) [
         | inl none ↦ none
-        | inr some ↦ absurd (both_ways _ no_mark (lawful.marks_have_ccc c some))
+        | inr some ↦ absurd (both_ways _ no_mark (lawful.only_marks_have_ccc c some))
       ]
 
   -- an item that takes the properties of its character has its class

@@ -44,7 +44,7 @@ merge start end xs =
     put_range (start - growth_left xs start least) (end + growth_right xs (end - 1) least) least xs
     else xs
 
--- the item marked unsafe to break and to concat, but for one in that least cluster
+-- the item marked unsafe to break and to concat, except for one in that least cluster
 abbrev pub mark_break : ℕ → Item → Item
 mark_break least item =
     if item.cluster == least then item else record item { mask = bit_or item.mask UNSAFE }

@@ -6,7 +6,7 @@ use Rattle.shape_buffer.specs.declared.interfaces.face.hb_tables_t.{hb_tables_t}
 
 pub record FaceMeaning : Type 0 where
   pub nominal_glyph : ℕ → Option GlyphId
-  -- of a character and the variation selector behind it
+  -- of a character and the variation selector after it
   pub variation_glyph : ℕ → ℕ → Option GlyphId
   pub h_advance : GlyphId → ℤ
   pub v_advance : GlyphId → ℤ

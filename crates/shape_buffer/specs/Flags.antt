@@ -1,5 +1,5 @@
 -- The flags of glyphs at the end of a run: one set for each cluster.
-use Rattle.std.specs.Prelude.{◌≡◌, ◌==◌, ℕ, List, [], ◌∷◌, map, fold, take, Option, Some, None, if◌then◌else◌}
+use Rattle.std.specs.Prelude.{◌≡◌, ◌==◌, ℕ, ◌<◌, List, [], ◌∷◌, length, map, fold, take, slice_index_or, Option, Some, None, if◌then◌else◌}
 use Rattle.std.specs.Int.RustNames.{bit_and, bit_or}
 use Rattle.std.specs.List.{flat_map, prefix_len}
 use Rattle.shape_buffer.specs.Buffer.{Buffer}
@@ -53,6 +53,12 @@ abbrev pub HasOneSetOfFlags : List Item → Type 0
 HasOneSetOfFlags [] = Unit {0}
 HasOneSetOfFlags (item ∷ []) = Unit {0}
 HasOneSetOfFlags (item ∷ next ∷ items) = (item.cluster ≡ next.cluster → flags_of item ≡ flags_of next) × HasOneSetOfFlags (next ∷ items)
+
+-- any two items of one cluster have the same defined flags, wherever they stand
+abbrev pub ClustersHaveOneSetOfFlags : List Item → Type 0
+ClustersHaveOneSetOfFlags items = (i j : ℕ) (d : Item) → i < length items → j < length items
+    → (slice_index_or items i d).cluster ≡ (slice_index_or items j d).cluster
+    → flags_of (slice_index_or items i d) ≡ flags_of (slice_index_or items j d)
 
 -- ---- the walk of the code, which keeps the cluster of the item before and the mask that it got
 

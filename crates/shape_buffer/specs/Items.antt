@@ -2,6 +2,7 @@
 use Rattle.std.specs.Prelude.{◌&&◌, not, ℕ, Bool, false, ◌==◌, if◌then◌else◌}
 use Rattle.std.specs.Int.RustNames.{bit_and}
 use Rattle.shape_buffer.specs.Category.{is_mark_category}
+use Rattle.shape_buffer.specs.Properties.{Properties}
 use Rattle.shape_buffer.specs.declared.buffer.general_category.hb_unicode_general_category_t.TheVariants.{UppercaseLetter}
 use Rattle.shape_buffer.specs.declared.buffer.items.hb_glyph_info_t.{hb_glyph_info_t}
 
@@ -38,6 +39,10 @@ new_item c cluster = record {
     shaper_auxiliary = 0;
   };
 }
+
+-- its properties, which are the same for every character
+abbrev pub new_properties : Properties
+new_properties = (new_item 0 0).properties
 
 -- whether an item is a mark, by its category
 abbrev pub is_mark_item : Item → Bool

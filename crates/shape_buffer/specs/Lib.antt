@@ -1,6 +1,9 @@
 pub mod Direction
 pub mod Category
+pub mod CategoryNumber
 pub mod Properties
+pub mod Words
+pub mod WordLaws
 pub mod Positions
 pub mod FlagNames
 pub mod Items
@@ -32,3 +35,6 @@ pub mod Prepared
 pub mod Ranges
 pub mod PositionWalks
 pub mod Honest
+pub mod GlyphClusters
+pub mod ScriptTags
+pub mod WorkedWords

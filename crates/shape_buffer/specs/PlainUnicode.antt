@@ -1,5 +1,5 @@
 -- Functions of Unicode by which every character is a letter of an unknown script, which neither splits nor composes.
-use Rattle.std.specs.Prelude.{false, Some, None, refl}
+use Rattle.std.specs.Prelude.{false, None, refl}
 use Rattle.shape_buffer.specs.Unicode.{UnicodeMeaning, LawfulUnicode}
 use Rattle.shape_buffer.specs.declared.buffer.general_category.hb_unicode_general_category_t.TheVariants.{OtherLetter}
 
@@ -22,7 +22,7 @@ plain_unicode = record {
 
 pub plain_unicode-lawful : LawfulUnicode plain_unicode
 plain_unicode-lawful = record {
-  marks_have_ccc = λ c marked. absurd (marked refl);
+  only_marks_have_ccc = λ c marked. absurd (marked refl);
   ascii_is_no_mark = λ c _. refl;
   mirrors_are_plain = λ c d e. cc;
   verticals_are_plain = λ c d e. cc;

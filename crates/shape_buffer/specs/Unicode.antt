@@ -43,7 +43,7 @@ FormsArePlain unicode form = (c d : ℕ) → form c ≡ Some d → IsPlain unico
 
 -- the laws, over all numbers: past the characters a meaning may be chosen freely
 pub record LawfulUnicode (unicode : UnicodeMeaning) : Type 0 where
-  pub marks_have_ccc : (c : ℕ) → unicode.ccc c ≢ 0 → is_mark unicode c ≡ true
+  pub only_marks_have_ccc : (c : ℕ) → unicode.ccc c ≢ 0 → is_mark unicode c ≡ true
   pub ascii_is_no_mark : (c : ℕ) → c < 128 → is_mark unicode c ≡ false
   pub mirrors_are_plain : FormsArePlain unicode unicode.mirrored
   pub verticals_are_plain : FormsArePlain unicode unicode.vertical

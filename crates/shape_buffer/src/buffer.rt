@@ -13,10 +13,12 @@ mod error;
 mod flags;
 mod general_category;
 mod glyph_buffer;
+mod glyph_clusters;
 mod item_flags;
 mod items;
 mod positions;
 mod properties;
+mod scripts;
 mod settings;
 mod storage;
 mod text;
@@ -28,8 +30,10 @@ pub use error::{ShapeError, ShapeFault};
 pub use flags::{BufferFlags, GlyphPropsFlags, ScratchFlags};
 pub use general_category::hb_unicode_general_category_t;
 pub use glyph_buffer::GlyphBuffer;
+pub use glyph_clusters::GlyphCluster;
 pub use items::{
-    DEFINED, SAFE_TO_INSERT_TATWEEL, UNSAFE_TO_BREAK, UNSAFE_TO_CONCAT, hb_glyph_info_t, hb_mask_t,
+    DEFINED, SAFE_TO_INSERT_TATWEEL, UNSAFE_TO_BREAK, UNSAFE_TO_CONCAT, hb_glyph_info_t,
+    hb_glyph_info_t as GlyphInfo, hb_mask_t,
 };
 pub use positions::GlyphPosition;
 pub use settings::{BufferClusterLevel, Direction, Feature, GlyphId, Language, Script, hb_tag_t};

@@ -3,20 +3,23 @@
 //! [`buffer`] has the items, positions and settings of a text; each of its calls is a function on
 //! lists and settings, and its contract says which. [`interfaces`] has the traits that shaping is
 //! generic over: the functions of Unicode, the face and the layout engine, with the laws that every
-//! implementation proves. [`laws`] has what follows for canonical form.
+//! implementation proves. [`laws`] has what follows for canonical form, [`cluster_laws`] for clusters.
 #![tactic(auto)]
 #![allow(non_camel_case_types)]
 
 pub mod buffer;
+pub mod cluster_laws;
 pub mod interfaces;
 pub mod position_walks;
 pub mod walks;
+pub mod worked;
 pub mod wrapping;
 
 pub use buffer::{
-    BufferClusterLevel, BufferFlags, Direction, Feature, GlyphBuffer, GlyphId, GlyphPosition,
-    Language, SAFE_TO_INSERT_TATWEEL, Script, ShapeError, ShapeFault, UNSAFE_TO_BREAK,
-    UNSAFE_TO_CONCAT, UnicodeBuffer, hb_buffer_t, hb_glyph_info_t, hb_mask_t, hb_tag_t,
+    BufferClusterLevel, BufferFlags, Direction, Feature, GlyphBuffer, GlyphCluster, GlyphId,
+    GlyphInfo, GlyphPosition, Language, SAFE_TO_INSERT_TATWEEL, Script, ShapeError, ShapeFault,
+    UNSAFE_TO_BREAK, UNSAFE_TO_CONCAT, UnicodeBuffer, hb_buffer_t, hb_glyph_info_t, hb_mask_t,
+    hb_tag_t,
 };
 pub use canonical_form::laws;
 pub use interfaces::{

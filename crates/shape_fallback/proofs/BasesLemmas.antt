@@ -2,15 +2,15 @@
 use Rattle.std.proofs.Common.{◌≡◌, ℕ, zero, suc, ◌+◌, ◌<◌, ◌≤◌, Bool, true, false, List, [], ◌∷◌, ◌++◌, length, get_or, drop, map, refl, ap, sym, ◌∙◌, arith, cond}
 use Rattle.std.specs.Prelude.{fold}
 use Rattle.std.specs.List.{prefix_len}
-use Rattle.std.proofs.lemmas.List.{drop_all, length-map, drop-map}
+use Rattle.std.proofs.lemmas.List.{drop_all, length-map, drop-map, get_or_default}
 use Rattle.std.proofs.lemmas.List.Sums.{fold-append}
 use Rattle.std.proofs.Math.Seq.{drop-cons}
-use Rattle.shape_buffer.specs.Items.{Item, is_mark_item}
+use Rattle.shape_buffer.specs.Items.{Item, is_mark_item, new_item}
 use Rattle.shape_buffer.specs.Buffer.{Buffer}
 use Rattle.shape_buffer.specs.Face.{FaceMeaning}
 use Rattle.shape_buffer.proofs.Merging.KeyLemmas.{keys-unsafe_to_break, without_items-unsafe_to_break}
 use Rattle.shape_fallback.specs.declared.ot_shape_fallback.marks.Setting.{Setting}
-use Rattle.shape_fallback.specs.Bases.{Span, marks_of, position_span, base_at, bases, with_marks, positioned_at}
+use Rattle.shape_fallback.specs.Bases.{begins_with_mark, Span, marks_of, position_span, base_at, bases, with_marks, positioned_at}
 
 -- placing the marks of a span leaves which items are marks
 marks_of-span : (face : FaceMeaning) (s : Setting) (b : Buffer) (span : Span) → marks_of (position_span face s b span) ≡ marks_of b
@@ -105,7 +105,7 @@ pub at_mark : (face : FaceMeaning) (s : Setting) (i : ℕ) (b : Buffer) (x : Ite
 unfolding positioned_at base_at
 at_mark face s i b x within is mark = rw (marks_at i b x within is, mark) refl
 
--- another item with n marks behind it
+-- another item with n marks after it
 at_other : (face : FaceMeaning) (s : Setting) (i n : ℕ) (b : Buffer) (x : Item) → i < length b.items → x ≡ get_or b.items i x
     → is_mark_item x ≡ false → n ≡ prefix_len is_mark_item (drop (i + 1) b.items)
     → positioned_at face s i b ≡ fold (position_span face s) b (with_marks i n)
@@ -127,3 +127,25 @@ pub at_base : (face : FaceMeaning) (s : Setting) (i n : ℕ) (b : Buffer) (x : I
     → is_mark_item x ≡ false → n ≡ prefix_len is_mark_item (drop (i + 1) b.items) → 0 < n
     → positioned_at face s i b ≡ position_span face s b (record { start = i; end = i + 1 + n })
 at_base face s i n b x within is mark count some = at_other face s i n b x within is mark count ∙ with_some face s i n b some
+
+-- no mark first, no marks
+pub none_by_first : (xs : List Item) → begins_with_mark xs ≡ false → prefix_len is_mark_item xs ≡ 0
+none_by_first [] first = refl
+none_by_first (x ∷ xs) first = rw first refl
+
+pub some_by_first : (xs : List Item) → begins_with_mark xs ≡ true → 0 < prefix_len is_mark_item xs
+some_by_first [] first = absurd (let e : false ≡ true = first in cc)
+some_by_first (x ∷ xs) first = rw first (omega arith)
+
+-- an item without a mark after it, whatever it is
+unfollowed : (face : FaceMeaning) (s : Setting) (i : ℕ) (b : Buffer) (x : Item) → i < length b.items → x ≡ get_or b.items i x
+    → 0 ≡ prefix_len is_mark_item (drop (i + 1) b.items) → (mark : Bool) → is_mark_item x ≡ mark → positioned_at face s i b ≡ b
+unfollowed face s i b x within is none true mark = at_mark face s i b x within is mark
+unfollowed face s i b x within is none false mark = at_bare face s i 0 b x within is mark none refl
+
+pub at_unfollowed : (face : FaceMeaning) (s : Setting) (i : ℕ) (b : Buffer) → i < length b.items
+    → begins_with_mark (drop (i + 1) b.items) ≡ false → positioned_at face s i b ≡ b
+at_unfollowed face s i b within first =
+    let x : Item = get_or b.items i (new_item 0 0) in
+    unfollowed face s i b x within (get_or_default b.items i (new_item 0 0) x within)
+    (sym (none_by_first (drop (i + 1) b.items) first)) (is_mark_item x) refl

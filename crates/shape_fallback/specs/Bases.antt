@@ -6,6 +6,7 @@ use Rattle.shape_buffer.specs.BufferClusters.{unsafe_to_break}
 use Rattle.shape_buffer.specs.Direction.{is_horizontal, is_forward}
 use Rattle.shape_buffer.specs.Face.{FaceMeaning}
 use Rattle.shape_buffer.specs.Guess.{script_or_ltr}
+use Rattle.shape_buffer.specs.Items.{Item}
 use Rattle.shape_buffer.specs.Items.{is_mark_item}
 use Rattle.shape_buffer.specs.Unicode.{UnicodeMeaning}
 use Rattle.shape_buffer.specs.declared.buffer.settings.Direction.{Direction}
@@ -40,6 +41,11 @@ unfoldable pub bases : ℕ → List Bool → List Span
 bases i [] = []
 bases i (mark ∷ marks) = base_at i (mark ∷ marks) ++ bases (i + 1) marks
 
+-- whether some items begin with a mark
+abbrev pub begins_with_mark : List Item → Bool
+begins_with_mark [] = false
+begins_with_mark (item ∷ items) = is_mark_item item
+
 -- which items are marks
 abbrev pub marks_of : Buffer → List Bool
 marks_of b = map is_mark_item b.items
@@ -56,7 +62,7 @@ bases_positioned face s b = fold (position_span face s) b (bases 0 (marks_of b))
 unfoldable pub bases_marked : Buffer → Buffer
 bases_marked b = fold (λ c span. unsafe_to_break span.start span.end c) b (bases 0 (marks_of b))
 
--- a buffer but for its positions
+-- a buffer except for its positions
 abbrev pub without_positions : Buffer → Buffer
 without_positions b = record b { positions = [] }
 

@@ -56,7 +56,7 @@ first_state base p = record {
   y_offset = if base.surroundings.forward then neg_w p.y_advance else pos 0;
 }
 
--- the positions of the marks behind a base, where the face has these extents for its glyph
+-- the positions of the marks after a base, where the face has these extents for its glyph
 abbrev pub behind_base : FaceMeaning → Setting → Item → GlyphPosition → Option Extents → List Item → List GlyphPosition → List GlyphPosition
 behind_base face s x p None xs ps = positions_over (zeroed s.adjust) xs ps
 behind_base face s x p (Some E) xs ps =

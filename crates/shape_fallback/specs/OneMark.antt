@@ -61,11 +61,11 @@ piled gap E B =
       base = record B { y_bearing = B.y_bearing +ʷ k -ʷ E.height; height = B.height -ʷ k +ʷ E.height };
     }
 
--- the base with a gap below it, but for marks that touch it
+-- the base with a gap below it, except for marks that touch it
 unfoldable pub lowered : ℤ → ℕ → Extents → Extents
 lowered gap ccc B = if is_attached ccc then B else record B { height = B.height -ʷ gap }
 
--- the base with a gap above it, but for marks that touch it
+-- the base with a gap above it, except for marks that touch it
 unfoldable pub raised : ℤ → ℕ → Extents → Extents
 raised gap ccc B =
     if is_attached ccc then B else record B { y_bearing = B.y_bearing +ʷ gap; height = B.height -ʷ gap }

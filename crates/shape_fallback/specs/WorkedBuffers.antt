@@ -134,7 +134,7 @@ unfolding marks_positioned setting_of runs_to_right bases_positioned bases base_
 on_ligatures = record { second = refl; first = refl; none = refl; first_from_the_right = refl; downwards = refl; two_components = refl }
 
 pub record MarksOfCcc0 : Type 0 where
-  -- its advance goes into the running offset of the marks behind it
+  -- its advance goes into the running offset of the marks after it
   pub forward : positions_after (latin_face (pos 600)) true LeftToRight
       (letter 1 ∷ mark_of 2 0 NonspacingMark 0 ∷ mark_of 2 230 NonspacingMark 0 ∷ [])
       (at (pos 600) (pos 0) (pos 0) (pos 0) ∷ at (pos 40) (pos 3) (pos 1) (pos 2) ∷ at (pos 0) (pos 0) (pos 0) (pos 0) ∷ [])

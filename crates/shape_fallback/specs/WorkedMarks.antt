@@ -1,20 +1,22 @@
 -- Marks round their bases, worked out by hand.
 use Rattle.std.specs.Prelude.{◌≡◌, ℕ, ℤ, pos, negsuc, Bool, true, false, [], ◌∷◌, map, Option, Some, None, refl}
 use Rattle.std.specs.Int.{int_wrap}
+use Rattle.shape_buffer.specs.Buffer.{new_buffer}
 use Rattle.shape_buffer.specs.Items.{Item, new_item}
 use Rattle.shape_buffer.specs.Positions.{zero_position}
 use Rattle.shape_buffer.specs.Unicode.{UnicodeMeaning}
 use Rattle.shape_buffer.specs.Wrapping.{◌+ʷ◌, ◌-ʷ◌, ◌*ʷ◌, neg_w}
-use Rattle.shape_buffer.specs.declared.buffer.general_category.hb_unicode_general_category_t.TheVariants.{LowercaseLetter, NonspacingMark}
+use Rattle.shape_buffer.specs.declared.buffer.general_category.hb_unicode_general_category_t.TheVariants.{LowercaseLetter, OtherLetter, NonspacingMark, SpacingMark, EnclosingMark, Format}
 use Rattle.shape_buffer.specs.declared.buffer.positions.GlyphPosition.{GlyphPosition}
 use Rattle.shape_buffer.specs.declared.buffer.settings.Direction.{Direction}
 use Rattle.shape_buffer.specs.declared.buffer.settings.Direction.TheVariants.{Invalid, LeftToRight, RightToLeft, TopToBottom, BottomToTop}
 use Rattle.shape_buffer.specs.declared.buffer.settings.Script.{Script}
 use Rattle.shape_buffer.specs.PlainUnicode.{plain_unicode}
-use Rattle.shape_fallback.specs.Bases.{base_at, bases, runs_to_right}
+use Rattle.shape_fallback.specs.Bases.{base_at, bases, marks_of, runs_to_right}
 use Rattle.shape_fallback.specs.Extents.{Extents}
 use Rattle.shape_fallback.specs.MarkState.{component_of, place_of, component_extents, at_component, with_component, at_ccc, passed, moved}
 use Rattle.shape_fallback.specs.Marks.{zeroed_position, first_state}
+use Rattle.shape_fallback.specs.WorkedCcc.{worked_mark}
 use Rattle.shape_fallback.specs.WorkedOneMark.{extents}
 use Rattle.shape_fallback.specs.declared.ot_shape_fallback.mark_state.Base.{Base}
 use Rattle.shape_fallback.specs.declared.ot_shape_fallback.mark_state.MarkState.{MarkState}
@@ -59,7 +61,7 @@ components =
 
 -- ---- the state from mark to mark
 
--- a state behind a mark of a component and a ccc
+-- a state after a mark of a component and a ccc
 abbrev pub worked_state : ℤ → ℕ → Extents → Extents → MarkState
 worked_state component ccc whole left =
     record { component = component; component_extents = whole; ccc = ccc; extents = left; x_offset = negsuc 599; y_offset = pos 0 }
@@ -129,10 +131,15 @@ pub record WorkedBases : Type 0 where
   pub two : bases 0 (false ∷ true ∷ false ∷ false ∷ true ∷ true ∷ false ∷ [])
       ≡ record { start = 0; end = 2 } ∷ record { start = 3; end = 6 } ∷ []
   pub no_item : bases 0 [] ≡ []
+  -- marks are the nonspacing, the spacing and the enclosing ones
+  pub marks : marks_of (record new_buffer {
+    items = worked_mark 0x915 OtherLetter 0 ∷ worked_mark 0x93E SpacingMark 0 ∷ worked_mark 0x901 NonspacingMark 0
+        ∷ worked_mark 0x20DD EnclosingMark 0 ∷ worked_mark 0x200D Format 0 ∷ [];
+  }) ≡ false ∷ true ∷ true ∷ true ∷ false ∷ []
 
 worked_bases : WorkedBases
 unfolding bases base_at
-worked_bases = record { one = refl; bare = refl; marks_first = refl; two = refl; no_item = refl }
+worked_bases = record { one = refl; bare = refl; marks_first = refl; two = refl; no_item = refl; marks = refl }
 
 -- ---- directions and gaps
 

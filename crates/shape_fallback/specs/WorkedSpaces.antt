@@ -62,6 +62,7 @@ pub record SpaceAdvances : Type 0 where
   pub no_figure : space_advance (worked_face (λ c. c == 0x2E)) true 19 (pos 251) ≡ pos 251
   pub punctuation : space_advance (worked_face (λ c. true)) true 20 (pos 251) ≡ pos 0x2E
   pub comma : space_advance (worked_face (λ c. c == 0x2C)) true 20 (pos 251) ≡ pos 0x2C
+  pub punctuation_down : space_advance (tall_face (λ c. c == 0x2E)) false 20 (negsuc 250) ≡ negsuc 6
   pub no_punctuation : space_advance (worked_face (λ c. c == 0x37)) true 20 (pos 251) ≡ pos 251
   pub narrow : space_advance (worked_face (λ c. true)) true 21 (pos 251) ≡ pos 125
   pub narrow_down : space_advance (worked_face (λ c. true)) false 21 (negsuc 250) ≡ negsuc 124
@@ -71,7 +72,7 @@ pub record SpaceAdvances : Type 0 where
 space_advances : SpaceAdvances
 unfolding space_advance is_em_part em_part em_advance as_wide_as first_glyph neg_w int_wrap
 space_advances =
-    record { em_spaces = refl; em_spaces_down = refl; figure = refl; figure_down = refl; no_figure = refl; punctuation = refl; comma = refl; no_punctuation = refl; narrow = refl; narrow_down = refl; others = refl }
+    record { em_spaces = refl; em_spaces_down = refl; figure = refl; figure_down = refl; no_figure = refl; punctuation = refl; comma = refl; punctuation_down = refl; no_punctuation = refl; narrow = refl; narrow_down = refl; others = refl }
 
 -- a position of these advances, moved by 5 and 6
 abbrev pub worked_position : ℤ → ℤ → GlyphPosition

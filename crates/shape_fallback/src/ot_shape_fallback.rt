@@ -49,7 +49,7 @@ pub fn _hb_ot_shape_fallback_mark_position_recategorize_marks<F: hb_font_t, S, P
 ///
 /// A base is an item that isn't a mark and has marks directly after it. The base and its marks are
 /// marked unsafe to break, since they must be placed together. Marks of ccc 0 keep their positions;
-/// each other mark loses its advances and is moved from the place behind the base to the base. Where the
+/// each other mark loses its advances and is moved from the place after the base to the base. Where the
 /// face has no extents for the base, nonspacing marks lose their advances and nothing else is placed;
 /// their offsets lose the advances first where `adjust_offsets_when_zeroing` says so. Lines run as the
 /// buffer says; the components of a ligature run as the plan does, or as its script where the plan is

@@ -11,12 +11,12 @@ use crate::ot_shape_fallback::{
 use bitflags::Flags;
 use shape_buffer::buffer::{ScratchFlags, hb_buffer_t};
 use shape_buffer::interfaces::{hb_font_t, hb_unicode_funcs_t};
-use shape_plan::ot_shape_plan::hb_ot_shape_plan_t;
+use shape_plan::shaping_types::{PlanOf, ShapingTypes};
 
 /// Gives marks the ccc that they are placed by, where the plan places marks by their extents.
-pub fn recategorize_marks<F: hb_font_t, S, P, D>(
-    plan: &hb_ot_shape_plan_t<'_, S, P, D>,
-    face: &F,
+pub fn recategorize_marks<T: ShapingTypes>(
+    plan: &PlanOf<'_, T>,
+    face: &T::Face,
     buffer: &mut hb_buffer_t,
 )
     ensures { Made (recategorize_step plan.now.decisions) buffer.old buffer.new }
@@ -28,12 +28,8 @@ pub fn recategorize_marks<F: hb_font_t, S, P, D>(
 
 /// Places spaces, where one without a glyph was seen.
 #[tactic(auto, unfolding(crate::specs::Steps::spaces_step))]
-pub fn place_spaces<F: hb_font_t, S, P, D>(
-    plan: &hb_ot_shape_plan_t<'_, S, P, D>,
-    face: &F,
-    buffer: &mut hb_buffer_t,
-)
-    ensures { Made (spaces_step (F.face face.now)) buffer.old buffer.new }
+pub fn place_spaces<T: ShapingTypes>(plan: &PlanOf<'_, T>, face: &T::Face, buffer: &mut hb_buffer_t)
+    ensures { Made (spaces_step (T.Face.face face.now)) buffer.old buffer.new }
 {
     if buffer
         .scratch_flags()
@@ -45,29 +41,21 @@ pub fn place_spaces<F: hb_font_t, S, P, D>(
 
 /// Places marks, where the plan places marks by their extents. Offsets lose the advances of marks whose
 /// base has no extents where the plan adjusts them, and in forward text alone.
-pub fn place_marks<U: hb_unicode_funcs_t, F: hb_font_t, S, P, D>(
-    plan: &hb_ot_shape_plan_t<'_, S, P, D>,
-    face: &F,
-    buffer: &mut hb_buffer_t,
-)
-    ensures { Made (marks_step U.unicode (F.face face.now) plan.now.direction plan.now.script
-        plan.now.decisions) buffer.old buffer.new }
+pub fn place_marks<T: ShapingTypes>(plan: &PlanOf<'_, T>, face: &T::Face, buffer: &mut hb_buffer_t)
+    ensures { Made (marks_step T.Unicode.unicode (T.Face.face face.now) plan.now.direction
+        plan.now.script plan.now.decisions) buffer.old buffer.new }
 {
     if plan.fallback_mark_positioning() {
-        place_adjusted::<U, F, S, P, D>(plan, face, buffer);
+        place_adjusted::<T>(plan, face, buffer);
     }
 }
 
 /// Places marks, as the plan and the buffer's direction adjust offsets.
 #[tactic(auto, unfolding(crate::specs::Steps::marks_adjusted))]
-fn place_adjusted<U: hb_unicode_funcs_t, F: hb_font_t, S, P, D>(
-    plan: &hb_ot_shape_plan_t<'_, S, P, D>,
-    face: &F,
-    buffer: &mut hb_buffer_t,
-)
-    ensures { Made (marks_adjusted U.unicode (F.face face.now) plan.now.direction plan.now.script
-        plan.now.decisions) buffer.old buffer.new }
+fn place_adjusted<T: ShapingTypes>(plan: &PlanOf<'_, T>, face: &T::Face, buffer: &mut hb_buffer_t)
+    ensures { Made (marks_adjusted T.Unicode.unicode (T.Face.face face.now) plan.now.direction
+        plan.now.script plan.now.decisions) buffer.old buffer.new }
 {
     let adjust = plan.adjust_mark_positioning_when_zeroing() && buffer.direction().is_forward();
-    position_marks::<U, F, S, P, D>(plan, face, buffer, adjust);
+    position_marks::<T::Unicode, _, _, _, _>(plan, face, buffer, adjust);
 }

@@ -1,14 +1,31 @@
 -- where the tables of a font file stand
-use Rattle.std.specs.Prelude.{ℕ, List, Option, Some, None, ◌+◌, ◌*◌, nat_le, nat_eq, length, if◌then◌else◌, slice_range}
-use Rattle.std.specs.Option.{option_and_then}
-use Rattle.shape_font.specs.Bytes.{u16_of, u32_of}
+use Rattle.std.specs.Prelude.{ℕ, List, [], Bool, Option, Some, None, is_some, ◌+◌, ◌*◌, nat_le, nat_lt, nat_eq, length, if◌then◌else◌, slice_range}
+use Rattle.std.specs.Option.{option_and_then, unwrap_or}
+use Rattle.shape_font.specs.Bytes.{u16_of, u32_of, fitting}
 use Rattle.shape_font.specs.Search.{first_at}
+
+-- where the font with this number begins: a collection (`ttcf`) lists its fonts, another file is one font
+abbrev pub font_start : List ℕ → ℕ → Option ℕ
+font_start bytes index = if nat_eq (u32_of bytes 0) 0x74746366
+    then (if nat_lt index (u32_of bytes 8) then Some (u32_of bytes (12 + 4 * index)) else None)
+    else (if nat_eq index 0 then Some 0 else None)
 
 -- the bytes from `at` on, `len` of them, where there are so many
 abbrev pub part_of : List ℕ → ℕ → ℕ → Option (List ℕ)
 part_of bytes at len = if nat_le (at + len) (length bytes) then Some (slice_range bytes at (at + len)) else None
 
--- the table of the first record with this tag
-abbrev pub table_of : List ℕ → ℕ → Option (List ℕ)
-table_of bytes tag = option_and_then (λ i. part_of bytes (u32_of bytes (20 + 16 * i)) (u32_of bytes (24 + 16 * i)))
-    (first_at (λ i. nat_eq (u32_of bytes (12 + 16 * i)) tag) (u16_of bytes 4) 0)
+-- the table of the first record with this tag, of the font that begins at `start`
+abbrev pub table_at : List ℕ → ℕ → ℕ → Option (List ℕ)
+table_at bytes start tag = option_and_then (λ i. part_of bytes (u32_of bytes (start + 20 + 16 * i)) (u32_of bytes (start + 24 + 16 * i)))
+    (first_at (λ i. nat_eq (u32_of bytes (start + 12 + 16 * i)) tag) (fitting bytes (u16_of bytes (start + 4)) (start + 12) 16) 0)
+
+-- the table with this tag, of the font with this number
+abbrev pub table_of : List ℕ → ℕ → ℕ → Option (List ℕ)
+table_of bytes index tag = option_and_then (λ start. table_at bytes start tag) (font_start bytes index)
+
+abbrev pub has_table : List ℕ → ℕ → ℕ → Bool
+has_table bytes index tag = is_some (table_of bytes index tag)
+
+-- a table that isn't there reads as an empty one
+abbrev pub bytes_of : List ℕ → ℕ → ℕ → List ℕ
+bytes_of bytes index tag = unwrap_or (table_of bytes index tag) []

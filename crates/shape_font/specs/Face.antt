@@ -1,39 +1,83 @@
 -- what the bytes of a font say as a face
-use Rattle.std.specs.Prelude.{ℕ, ℤ, pos, neg_ℤ, int_div, Option, Some, None, false, ◌+◌, ◌&&◌, nat_lt, if◌then◌else◌}
+use Rattle.std.specs.Prelude.{ℕ, ℤ, pos, neg_ℤ, ◌+ℤ◌, int_div, Option, Some, None, ◌+◌, ◌&&◌, ◌/◌, nat_lt, nat_eq, if◌then◌else◌}
+use Rattle.std.specs.Option.{option_map_or}
 use Rattle.shape_buffer.specs.Face.{FaceMeaning}
+use Rattle.shape_buffer.specs.Wrapping.{◌+ʷ◌}
 use Rattle.shape_buffer.specs.declared.buffer.settings.GlyphId.{GlyphId}
 use Rattle.shape_buffer.specs.declared.interfaces.face.hb_glyph_extents_t.{hb_glyph_extents_t}
-use Rattle.shape_font.specs.Cmap.{cmap_glyph}
-use Rattle.shape_font.specs.Metrics.{advance_of, bearing_of, place_of, box_of}
+use Rattle.shape_font.specs.Bytes.{u32_of}
+use Rattle.shape_font.specs.Cmap.{mapped_glyph}
+use Rattle.shape_font.specs.Metrics.{advance_of, bearing_of, listed_origin, ascender_of, descender_of, place_of, box_of, half_down}
+use Rattle.shape_font.specs.Variations.{variation_of}
 use Rattle.shape_font.specs.declared.face.FontFace.{FontFace}
+use Rattle.shape_font.specs.declared.variations.GlyphVariant.{GlyphVariant}
+use Rattle.shape_font.specs.declared.variations.GlyphVariant.TheVariants.{Missing, Default, Own}
+
+-- the glyph with this number, where the font has it; 0 is none
+abbrev pub own_glyph_of : FontFace → ℕ → Option GlyphId
+own_glyph_of f g = if nat_lt 0 g && nat_lt g f.glyph_count then Some (record { 0 = g }) else None
 
 -- the glyph of a character, where `cmap` names one that the font has
 abbrev pub glyph_of : FontFace → ℕ → Option GlyphId
-glyph_of f c = let g = cmap_glyph f.cmap.now c in
-    (if nat_lt 0 g && nat_lt g f.glyph_count then Some (record { 0 = g }) else None)
+glyph_of f c = own_glyph_of f (mapped_glyph f.cmap.now f.symbols c)
 
--- its advance, 0 past the last glyph
+-- its glyph before a selector, where it looks as alone or has one of its own
+abbrev pub varied : FontFace → ℕ → GlyphVariant → Option GlyphId
+varied f c Missing = None
+varied f c Default = glyph_of f c
+varied f c (Own g) = own_glyph_of f g
+
+abbrev pub variant_of : FontFace → ℕ → ℕ → Option GlyphId
+variant_of f c selector = varied f c (variation_of f.sequences.now c selector)
+
+-- its advance, half of the em square in a font without advances, 0 past the last glyph
 abbrev pub h_advance_of : FontFace → GlyphId → ℤ
-h_advance_of f glyph = if nat_lt glyph.0 f.glyph_count then pos (advance_of f.hmtx.now f.metric_count glyph.0) else pos 0
+h_advance_of f glyph = if nat_lt glyph.0 f.glyph_count
+    then (if nat_eq f.h_count 0 then pos (f.units_per_em / 2) else pos (advance_of f.hmtx.now f.h_count glyph.0))
+    else pos 0
+
+-- how high a line is
+abbrev pub line_height : FontFace → ℕ
+line_height f = ascender_of f.os2.now f.hhea.now + descender_of f.os2.now f.hhea.now
+
+-- its advance downwards, the height of a line in a font without such advances
+abbrev pub v_advance_of : FontFace → GlyphId → ℤ
+v_advance_of f glyph = if nat_eq f.v_count 0 then neg_ℤ (pos (line_height f))
+    else (if nat_lt glyph.0 f.glyph_count then neg_ℤ (pos (advance_of f.vmtx.now f.v_count glyph.0)) else pos 0)
 
 -- the box of its outline
 unfoldable pub inked_of : FontFace → ℕ → hb_glyph_extents_t
 inked_of f glyph = box_of f.glyf.now (place_of f.loca.now f.long_places glyph) (place_of f.loca.now f.long_places (glyph + 1))
-    (bearing_of f.hmtx.now f.metric_count glyph)
+    (bearing_of f.hmtx.now f.h_count glyph)
 
--- none past the last glyph
+-- none in a font without `glyf`, and none past the last glyph
 abbrev pub extents_of : FontFace → GlyphId → Option hb_glyph_extents_t
-extents_of f glyph = if nat_lt glyph.0 f.glyph_count then Some (inked_of f glyph.0) else None
+extents_of f glyph = if f.outlines && nat_lt glyph.0 f.glyph_count then Some (inked_of f glyph.0) else None
+
+-- half of the room that a box leaves in a line; its height is negative as a rule
+abbrev pub half_room : FontFace → ℤ → ℤ
+half_room f height = half_down (pos (line_height f) +ℤ height)
+
+-- the height of the origin over a box: above its upper side by the bearing of `vmtx`, or by what puts the box into the
+-- middle of a line
+abbrev pub origin_over : FontFace → ℕ → hb_glyph_extents_t → ℤ
+origin_over f glyph box = box.y_bearing +ʷ option_map_or (λ bearing. bearing) (bearing_of f.vmtx.now f.v_count glyph)
+    (half_room f box.height)
+
+-- the height of the origin of vertical lines: by `VORG`, by the box, or at the top of a line
+abbrev pub v_origin_of : FontFace → GlyphId → ℤ
+v_origin_of f glyph = if nat_lt 0 (u32_of f.vorg.now 0) then listed_origin f.vorg.now glyph.0
+    else option_map_or (origin_over f glyph.0) (extents_of f glyph) (pos (ascender_of f.os2.now f.hhea.now))
 
 abbrev pub font_face : FontFace → FaceMeaning
 font_face f = record {
   nominal_glyph = glyph_of f;
-  variation_glyph = λ _ _. None;
+  variation_glyph = variant_of f;
   h_advance = h_advance_of f;
-  v_advance = λ _. neg_ℤ (pos f.units_per_em);
+  v_advance = v_advance_of f;
   h_origin = λ glyph. int_div (h_advance_of f glyph) (pos 2);
-  v_origin = λ _. pos f.units_per_em;
+  v_origin = v_origin_of f;
   extents = extents_of f;
   units_per_em = f.units_per_em;
-  tables = record { gsub = false; gpos = false; morx = false; kerx = false; trak = false };
+  tables = f.tables;
 }

@@ -3,7 +3,13 @@ pub mod Search
 pub mod Directory
 pub mod Subtables
 pub mod Cmap
+pub mod Variations
 pub mod Metrics
+pub mod Names
 pub mod Face
 pub mod WorkedTables
 pub mod WorkedGlyphs
+pub mod WorkedLines
+pub mod WorkedSearches
+pub mod WorkedNames
+pub mod WorkedFace

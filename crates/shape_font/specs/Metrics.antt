@@ -1,16 +1,43 @@
--- advances and boxes of glyphs, by `hmtx`, `loca` and `glyf`
-use Rattle.std.specs.Prelude.{ℕ, ℤ, pos, List, Bool, ◌+◌, ◌-◌, ◌*◌, ◌-ℤ◌, nat_lt, length, if◌then◌else◌, cond}
+-- advances, bearings, origins and boxes of glyphs, by `hmtx`, `vmtx`, `VORG`, `loca` and `glyf`
+use Rattle.std.specs.Prelude.{ℕ, ℤ, pos, List, Bool, Option, Some, None, ◌+◌, ◌-◌, ◌*◌, ◌/◌, ◌%◌, ◌-ℤ◌, ◌||◌, nat_lt, nat_eq, length, if◌then◌else◌, cond, int_lt, int_div, unsigned_abs}
+use Rattle.std.specs.Option.{option_map_or, unwrap_or}
 use Rattle.shape_buffer.specs.declared.interfaces.face.hb_glyph_extents_t.{hb_glyph_extents_t}
-use Rattle.shape_font.specs.Bytes.{u16_of, u32_of, i16_of}
+use Rattle.shape_font.specs.Bytes.{u16_of, u32_of, i16_of, fitting}
+use Rattle.shape_font.specs.Search.{first_at}
+
+-- `hmtx`, `vmtx`: how many long metrics the table has room for, at most as many as are said
+abbrev pub long_metrics : List ℕ → ℕ → ℕ
+long_metrics table said = fitting table said 0 4
 
 -- the glyphs from the last long metric on share its advance
 abbrev pub advance_of : List ℕ → ℕ → ℕ → ℕ
-advance_of hmtx count glyph = u16_of hmtx (4 * (if nat_lt glyph count then glyph else count - 1))
+advance_of table count glyph = u16_of table (4 * (if nat_lt glyph count then glyph else count - 1))
 
--- behind the long metrics stand bearings alone
-abbrev pub bearing_of : List ℕ → ℕ → ℕ → ℤ
-bearing_of hmtx count glyph = if nat_lt glyph count then i16_of hmtx (4 * glyph + 2)
-    else i16_of hmtx (4 * count + 2 * (glyph - count))
+-- where the bearing of a glyph stands: after the long metrics stand bearings alone
+abbrev pub bearing_place : ℕ → ℕ → ℕ
+bearing_place count glyph = if nat_lt glyph count then 4 * glyph + 2 else 4 * count + 2 * (glyph - count)
+
+-- none without long metrics, and none past the end
+abbrev pub bearing_of : List ℕ → ℕ → ℕ → Option ℤ
+bearing_of table count glyph = let at = bearing_place count glyph in
+    (if nat_eq count 0 || nat_lt (length table) (at + 2) then None else Some (i16_of table at))
+
+-- `VORG`: the height of a glyph's origin, by the first record for it, or the one for all others
+abbrev pub listed_origin : List ℕ → ℕ → ℤ
+listed_origin vorg glyph = option_map_or (λ i. i16_of vorg (10 + 4 * i))
+    (first_at (λ i. nat_eq (u16_of vorg (8 + 4 * i)) glyph) (fitting vorg (u16_of vorg 6) 8 4) 0) (i16_of vorg 4)
+
+-- whether the measures of lines are those that the designer wrote in `OS/2` (bit 7 of `fsSelection`)
+abbrev pub typographic : List ℕ → Bool
+typographic os2 = nat_eq (u16_of os2 62 / 128 % 2) 1
+
+-- how far a line reaches up, whatever its sign
+abbrev pub ascender_of : List ℕ → List ℕ → ℕ
+ascender_of os2 hhea = unsigned_abs (cond (typographic os2) (i16_of os2 68) (i16_of hhea 4))
+
+-- how far it reaches down
+abbrev pub descender_of : List ℕ → List ℕ → ℕ
+descender_of os2 hhea = unsigned_abs (cond (typographic os2) (i16_of os2 70) (i16_of hhea 6))
 
 -- where the outline of a glyph begins
 abbrev pub place_of : List ℕ → Bool → ℕ → ℕ
@@ -19,16 +46,20 @@ place_of loca long glyph = cond long (u32_of loca (4 * glyph)) (2 * u16_of loca 
 abbrev pub no_box : hb_glyph_extents_t
 no_box = record { x_bearing = pos 0; y_bearing = pos 0; width = pos 0; height = pos 0 }
 
--- the box in the header of an outline, moved to the bearing
-unfoldable pub framed_of : List ℕ → ℕ → ℤ → hb_glyph_extents_t
+-- the box in the header of an outline, moved to the bearing where there is one
+unfoldable pub framed_of : List ℕ → ℕ → Option ℤ → hb_glyph_extents_t
 framed_of glyf start bearing = record {
-  x_bearing = bearing;
+  x_bearing = unwrap_or bearing (i16_of glyf (start + 2));
   y_bearing = i16_of glyf (start + 8);
   width = i16_of glyf (start + 6) -ℤ i16_of glyf (start + 2);
   height = i16_of glyf (start + 4) -ℤ i16_of glyf (start + 8);
 }
 
 -- an empty one where there is no outline
-abbrev pub box_of : List ℕ → ℕ → ℕ → ℤ → hb_glyph_extents_t
+abbrev pub box_of : List ℕ → ℕ → ℕ → Option ℤ → hb_glyph_extents_t
 box_of glyf start end bearing = if nat_lt end (start + 10) then no_box
     else (if nat_lt (length glyf) end then no_box else framed_of glyf start bearing)
+
+-- half of a number, downwards
+abbrev pub half_down : ℤ → ℤ
+half_down n = if int_lt n (pos 0) then int_div (n -ℤ pos 1) (pos 2) else int_div n (pos 2)

@@ -1,8 +1,8 @@
 -- Glyphs, advances and boxes, on tables that were read by hand.
-use Rattle.std.specs.Prelude.{◌≡◌, ℕ, pos, negsuc, List, [], ◌∷◌, ◌++◌, ◌/◌, ◌%◌, true, false, refl}
+use Rattle.std.specs.Prelude.{◌≡◌, ℕ, pos, negsuc, List, [], ◌∷◌, ◌++◌, ◌/◌, ◌%◌, Some, None, true, false, replicate, refl}
 use Rattle.shape_font.specs.Bytes.{i16_of}
-use Rattle.shape_font.specs.Cmap.{cmap_glyph, groups_of}
-use Rattle.shape_font.specs.Metrics.{advance_of, bearing_of, place_of, box_of, no_box, framed_of}
+use Rattle.shape_font.specs.Cmap.{cmap_glyph, mapped_glyph, groups_of}
+use Rattle.shape_font.specs.Metrics.{long_metrics, advance_of, bearing_of, place_of, box_of, no_box, framed_of}
 
 -- numbers of two bytes each
 abbrev pub words : List ℕ → List ℕ
@@ -38,9 +38,82 @@ worked_segments = record {
   other_format = refl;
 }
 
--- format 12 that says so many groups, with room for two: U+0041..0042 from glyph 7, U+1F600 glyph 9
+-- format 0: glyphs 5, 6 and 7 for U+0000..0002, and no more bytes
+abbrev pub three_bytes : List ℕ
+three_bytes = 0 ∷ 0 ∷ 0 ∷ 9 ∷ 0 ∷ 0 ∷ 5 ∷ 6 ∷ 7 ∷ []
+
+-- formats 6 and 10: glyphs 7 and 9 from U+0041 and U+1F600 on, and 11 after the two
+abbrev pub short_list : List ℕ
+short_list = words (6 ∷ 16 ∷ 0 ∷ 0x41 ∷ 2 ∷ 7 ∷ 9 ∷ 11 ∷ [])
+
+abbrev pub long_list : List ℕ
+long_list = words (10 ∷ 0 ∷ 0 ∷ 26 ∷ 0 ∷ 0 ∷ 1 ∷ 0xF600 ∷ 0 ∷ 2 ∷ 7 ∷ 9 ∷ 11 ∷ [])
+
+pub record WorkedLists : Type 0 where
+  pub first_byte : cmap_glyph three_bytes 0 ≡ 5
+  pub last_byte : cmap_glyph three_bytes 2 ≡ 7
+  pub past_the_bytes : cmap_glyph three_bytes 3 ≡ 0
+  pub byte_255 : cmap_glyph (0 ∷ 0 ∷ replicate 270 9) 255 ≡ 9
+  pub no_byte_256 : cmap_glyph (0 ∷ 0 ∷ replicate 270 9) 256 ≡ 0
+  pub no_table : cmap_glyph [] 0x41 ≡ 0
+  pub before_the_list : cmap_glyph short_list 0x40 ≡ 0
+  pub first_listed : cmap_glyph short_list 0x41 ≡ 7
+  pub last_listed : cmap_glyph short_list 0x42 ≡ 9
+  pub past_the_list : cmap_glyph short_list 0x43 ≡ 0
+  pub same_low_half : cmap_glyph short_list 0x10041 ≡ 0
+  pub before_the_long_list : cmap_glyph long_list 0xF600 ≡ 0
+  pub first_of_the_long_list : cmap_glyph long_list 0x1F600 ≡ 7
+  pub last_of_the_long_list : cmap_glyph long_list 0x1F601 ≡ 9
+  pub past_the_long_list : cmap_glyph long_list 0x1F602 ≡ 0
+
+pub worked_lists : WorkedLists
+worked_lists = record {
+  first_byte = refl;
+  last_byte = refl;
+  past_the_bytes = refl;
+  byte_255 = refl;
+  no_byte_256 = refl;
+  no_table = refl;
+  before_the_list = refl;
+  first_listed = refl;
+  last_listed = refl;
+  past_the_list = refl;
+  same_low_half = refl;
+  before_the_long_list = refl;
+  first_of_the_long_list = refl;
+  last_of_the_long_list = refl;
+  past_the_long_list = refl;
+}
+
+-- format 6 of symbols: glyphs 3 and 4 at U+F0FF and U+F100; and format 12: glyph 5 at U+0020, 9 at U+F020
+abbrev pub symbols_listed : List ℕ
+symbols_listed = words (6 ∷ 14 ∷ 0 ∷ 0xF0FF ∷ 2 ∷ 3 ∷ 4 ∷ [])
+
+abbrev pub symbols_in_groups : List ℕ
+symbols_in_groups = words (12 ∷ 0 ∷ 0 ∷ 40 ∷ 0 ∷ 0 ∷ 0 ∷ 2 ∷ 0 ∷ 0x20 ∷ 0 ∷ 0x20 ∷ 0 ∷ 5 ∷ 0 ∷ 0xF020 ∷ 0 ∷ 0xF020 ∷ 0 ∷ 9 ∷ [])
+
+pub record WorkedSymbols : Type 0 where
+  pub moved : mapped_glyph symbols_listed true 0xFF ≡ 3
+  pub not_moved_without_symbols : mapped_glyph symbols_listed false 0xFF ≡ 0
+  pub not_moved_from_256 : mapped_glyph symbols_listed true 0x100 ≡ 0
+  pub in_its_place : mapped_glyph symbols_listed true 0xF100 ≡ 4
+  pub own_glyph_first : mapped_glyph symbols_in_groups true 0x20 ≡ 5
+
+pub worked_symbols : WorkedSymbols
+worked_symbols = record {
+  moved = refl;
+  not_moved_without_symbols = refl;
+  not_moved_from_256 = refl;
+  in_its_place = refl;
+  own_glyph_first = refl;
+}
+
+-- formats 12 and 13 that say so many groups, with room for two: U+0041..0042 glyph 7, U+1F600 glyph 9
+abbrev pub groups_in : ℕ → ℕ → List ℕ
+groups_in format said = words (format ∷ 0 ∷ 0 ∷ 40 ∷ 0 ∷ 0 ∷ 0 ∷ said ∷ 0 ∷ 0x41 ∷ 0 ∷ 0x42 ∷ 0 ∷ 7 ∷ 1 ∷ 0xF600 ∷ 1 ∷ 0xF600 ∷ 0 ∷ 9 ∷ [])
+
 abbrev pub two_groups : ℕ → List ℕ
-two_groups said = words (12 ∷ 0 ∷ 0 ∷ 40 ∷ 0 ∷ 0 ∷ 0 ∷ said ∷ 0 ∷ 0x41 ∷ 0 ∷ 0x42 ∷ 0 ∷ 7 ∷ 1 ∷ 0xF600 ∷ 1 ∷ 0xF600 ∷ 0 ∷ 9 ∷ [])
+two_groups said = groups_in 12 said
 
 pub record WorkedGroups : Type 0 where
   pub first : cmap_glyph (two_groups 2) 0x41 ≡ 7
@@ -49,6 +122,9 @@ pub record WorkedGroups : Type 0 where
   pub last : cmap_glyph (two_groups 2) 0x1F600 ≡ 9
   pub past_the_last : cmap_glyph (two_groups 2) 0x1F601 ≡ 0
   pub fewer_are_said : cmap_glyph (two_groups 1) 0x1F600 ≡ 0
+  pub same_for_all : cmap_glyph (groups_in 13 2) 0x42 ≡ 7
+  pub other_group_for_all : cmap_glyph (groups_in 13 2) 0x1F600 ≡ 9
+  pub past_the_groups_for_all : cmap_glyph (groups_in 13 2) 0x43 ≡ 0
   pub no_more_than_there_is_room_for : groups_of (two_groups 65535) ≡ 2
 
 pub worked_groups : WorkedGroups
@@ -59,6 +135,9 @@ worked_groups = record {
   last = refl;
   past_the_last = refl;
   fewer_are_said = refl;
+  same_for_all = refl;
+  other_group_for_all = refl;
+  past_the_groups_for_all = refl;
   no_more_than_there_is_room_for = refl;
 }
 
@@ -74,16 +153,23 @@ pub record WorkedMetrics : Type 0 where
   pub first : advance_of four_metrics 2 0 ≡ 500
   pub last_long : advance_of four_metrics 2 1 ≡ 600
   pub shared : advance_of four_metrics 2 3 ≡ 600
-  pub long_bearing : bearing_of four_metrics 2 1 ≡ negsuc 9
-  pub short_bearing : bearing_of four_metrics 2 2 ≡ pos 7
-  pub last_bearing : bearing_of four_metrics 2 3 ≡ negsuc 0
+  pub long_bearing : bearing_of four_metrics 2 1 ≡ Some (negsuc 9)
+  pub short_bearing : bearing_of four_metrics 2 2 ≡ Some (pos 7)
+  pub last_bearing : bearing_of four_metrics 2 3 ≡ Some (negsuc 0)
+  pub as_many_as_said : long_metrics four_metrics 2 ≡ 2
+  pub no_more_than_room : long_metrics four_metrics 9 ≡ 3
+  pub past_the_bearings : bearing_of four_metrics 2 4 ≡ None
+  pub half_a_bearing : bearing_of (words (500 ∷ 50 ∷ []) ++ 7 ∷ []) 1 1 ≡ None
+  pub no_long_metric : bearing_of four_metrics 0 0 ≡ None
   pub short_place : place_of (words (0 ∷ 5 ∷ 9 ∷ [])) false 1 ≡ 10
   pub long_place : place_of (words (0 ∷ 0 ∷ 0 ∷ 14 ∷ [])) true 1 ≡ 14
-  pub box : box_of (words (9 ∷ []) ++ header) 2 12 (pos 30)
+  pub box : box_of (words (9 ∷ []) ++ header) 2 12 (Some (pos 30))
       ≡ record { x_bearing = pos 30; y_bearing = pos 700; width = pos 290; height = negsuc 719 }
-  pub no_outline : box_of header 10 10 (pos 30) ≡ no_box
-  pub short_outline : box_of header 0 9 (pos 30) ≡ no_box
-  pub past_the_table : box_of header 0 12 (pos 30) ≡ no_box
+  pub without_bearing : box_of header 0 10 None
+      ≡ record { x_bearing = pos 10; y_bearing = pos 700; width = pos 290; height = negsuc 719 }
+  pub no_outline : box_of header 10 10 (Some (pos 30)) ≡ no_box
+  pub short_outline : box_of header 0 9 (Some (pos 30)) ≡ no_box
+  pub past_the_table : box_of header 0 12 (Some (pos 30)) ≡ no_box
 
 pub worked_metrics : WorkedMetrics
 unfolding i16_of framed_of
@@ -94,9 +180,15 @@ worked_metrics = record {
   long_bearing = refl;
   short_bearing = refl;
   last_bearing = refl;
+  as_many_as_said = refl;
+  no_more_than_room = refl;
+  past_the_bearings = refl;
+  half_a_bearing = refl;
+  no_long_metric = refl;
   short_place = refl;
   long_place = refl;
   box = refl;
+  without_bearing = refl;
   no_outline = refl;
   short_outline = refl;
   past_the_table = refl;

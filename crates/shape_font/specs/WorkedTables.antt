@@ -1,14 +1,17 @@
 -- Numbers and tables, on bytes that were read by hand.
-use Rattle.std.specs.Prelude.{◌≡◌, ℕ, pos, negsuc, List, [], ◌∷◌, ◌++◌, Some, None, refl}
-use Rattle.shape_font.specs.Bytes.{u16_of, u32_of, i16_of}
-use Rattle.shape_font.specs.Directory.{part_of, table_of}
-use Rattle.shape_font.specs.Subtables.{subtable_of, chosen_subtable}
+use Rattle.std.specs.Prelude.{◌≡◌, ℕ, pos, negsuc, List, [], ◌∷◌, ◌++◌, Some, None, true, false, refl}
+use Rattle.shape_font.specs.Bytes.{u16_of, u32_of, i16_of, fitting}
+use Rattle.shape_font.specs.Directory.{font_start, part_of, table_at, table_of, has_table, bytes_of}
+use Rattle.shape_font.specs.Subtables.{subtable_of, chosen_subtable, symbols_of}
 
 pub record WorkedNumbers : Type 0 where
   pub two_bytes : u16_of (7 ∷ 1 ∷ 2 ∷ []) 1 ≡ 258
   pub half_past_the_end : u16_of (7 ∷ 1 ∷ []) 1 ≡ 256
   pub past_the_end : u16_of (7 ∷ 1 ∷ []) 2 ≡ 0
   pub four_bytes : u32_of (1 ∷ 2 ∷ 3 ∷ 4 ∷ []) 0 ≡ 16909060
+  pub as_many_as_said : fitting (1 ∷ 2 ∷ 3 ∷ 4 ∷ 5 ∷ []) 1 1 2 ≡ 1
+  pub whole_ones_alone : fitting (1 ∷ 2 ∷ 3 ∷ 4 ∷ []) 9 1 2 ≡ 1
+  pub no_room : fitting (1 ∷ []) 9 4 2 ≡ 0
   pub greatest : i16_of (127 ∷ 255 ∷ []) 0 ≡ pos 32767
   pub least : i16_of (128 ∷ 0 ∷ []) 0 ≡ negsuc 32767
   pub minus_two : i16_of (255 ∷ 254 ∷ []) 0 ≡ negsuc 1
@@ -20,6 +23,9 @@ worked_numbers = record {
   half_past_the_end = refl;
   past_the_end = refl;
   four_bytes = refl;
+  as_many_as_said = refl;
+  whole_ones_alone = refl;
+  no_room = refl;
   greatest = refl;
   least = refl;
   minus_two = refl;
@@ -36,12 +42,17 @@ abbrev pub two_tables : ℕ → List ℕ
 two_tables count = header count ++ entry 65 44 2 ++ entry 66 45 3 ++ 11 ∷ 12 ∷ 13 ∷ 14 ∷ []
 
 pub record WorkedDirectory : Type 0 where
-  pub first : table_of (two_tables 2) 0x41412020 ≡ Some (11 ∷ 12 ∷ [])
-  pub second : table_of (two_tables 2) 0x42422020 ≡ Some (12 ∷ 13 ∷ 14 ∷ [])
-  pub past_the_count : table_of (two_tables 1) 0x42422020 ≡ None
-  pub other_tag : table_of (two_tables 2) 0x43432020 ≡ None
-  pub longer_than_the_file : table_of (header 1 ++ entry 65 28 3 ++ 11 ∷ 12 ∷ []) 0x41412020 ≡ None
-  pub first_of_two : table_of (header 2 ++ entry 65 44 1 ++ entry 65 45 1 ++ 11 ∷ 12 ∷ []) 0x41412020 ≡ Some (11 ∷ [])
+  pub first : table_of (two_tables 2) 0 0x41412020 ≡ Some (11 ∷ 12 ∷ [])
+  pub second : table_of (two_tables 2) 0 0x42422020 ≡ Some (12 ∷ 13 ∷ 14 ∷ [])
+  pub past_the_count : table_of (two_tables 1) 0 0x42422020 ≡ None
+  pub other_tag : table_of (two_tables 2) 0 0x43432020 ≡ None
+  pub longer_than_the_file : table_of (header 1 ++ entry 65 28 3 ++ 11 ∷ 12 ∷ []) 0 0x41412020 ≡ None
+  pub first_of_two : table_of (header 2 ++ entry 65 44 1 ++ entry 65 45 1 ++ 11 ∷ 12 ∷ []) 0 0x41412020 ≡ Some (11 ∷ [])
+  pub other_font : table_of (two_tables 2) 1 0x41412020 ≡ None
+  pub there : has_table (two_tables 2) 0 0x41412020 ≡ true
+  pub not_there : has_table (two_tables 2) 0 0x43432020 ≡ false
+  pub as_it_is : bytes_of (two_tables 2) 0 0x41412020 ≡ 11 ∷ 12 ∷ []
+  pub empty : bytes_of (two_tables 2) 0 0x43432020 ≡ []
   pub whole : part_of (11 ∷ 12 ∷ []) 0 2 ≡ Some (11 ∷ 12 ∷ [])
 
 pub worked_directory : WorkedDirectory
@@ -52,7 +63,35 @@ worked_directory = record {
   other_tag = refl;
   longer_than_the_file = refl;
   first_of_two = refl;
+  other_font = refl;
+  there = refl;
+  not_there = refl;
+  as_it_is = refl;
+  empty = refl;
   whole = refl;
+}
+
+-- a collection of two fonts, at 300 and 65536
+abbrev pub two_fonts : List ℕ
+two_fonts = 0x74 ∷ 0x74 ∷ 0x63 ∷ 0x66 ∷ 0 ∷ 1 ∷ 0 ∷ 0 ∷ 0 ∷ 0 ∷ 0 ∷ 2 ∷ 0 ∷ 0 ∷ 1 ∷ 44 ∷ 0 ∷ 1 ∷ 0 ∷ 0 ∷ 9 ∷ 9 ∷ 9 ∷ 9 ∷ []
+
+pub record WorkedCollections : Type 0 where
+  pub first : font_start two_fonts 0 ≡ Some 300
+  pub second : font_start two_fonts 1 ≡ Some 65536
+  pub past_the_last : font_start two_fonts 2 ≡ None
+  pub one_font : font_start (two_tables 2) 0 ≡ Some 0
+  pub one_font_only : font_start (two_tables 2) 1 ≡ None
+  -- records are found from the font's begin, tables from the file's
+  pub behind_a_byte : table_at (99 ∷ header 1 ++ entry 65 29 1 ++ 11 ∷ []) 1 0x41412020 ≡ Some (11 ∷ [])
+
+pub worked_collections : WorkedCollections
+worked_collections = record {
+  first = refl;
+  second = refl;
+  past_the_last = refl;
+  one_font = refl;
+  one_font_only = refl;
+  behind_a_byte = refl;
 }
 
 -- a table `cmap` of one subtable or two, each one byte long and at the end
@@ -78,6 +117,10 @@ pub record WorkedSubtables : Type 0 where
   pub unicode_0_last : chosen_subtable (one_subtable 0 0) ≡ 77 ∷ []
   pub variations_are_none : chosen_subtable (one_subtable 0 5) ≡ []
   pub macintosh_is_none : chosen_subtable (one_subtable 1 0) ≡ []
+  pub offset_0 : subtable_of (0 ∷ 0 ∷ 0 ∷ 1 ∷ 0 ∷ 3 ∷ 0 ∷ 1 ∷ 0 ∷ 0 ∷ 0 ∷ 0 ∷ 77 ∷ []) 0x30001 ≡ None
+  pub offset_past_the_end : subtable_of (0 ∷ 0 ∷ 0 ∷ 1 ∷ 0 ∷ 3 ∷ 0 ∷ 1 ∷ 0 ∷ 0 ∷ 0 ∷ 99 ∷ 77 ∷ []) 0x30001 ≡ Some []
+  pub symbols : symbols_of (two_subtables 3 1 3 0) ≡ true
+  pub no_symbols : symbols_of (two_subtables 3 1 3 10) ≡ false
 
 pub worked_subtables : WorkedSubtables
 worked_subtables = record {
@@ -95,4 +138,8 @@ worked_subtables = record {
   unicode_0_last = refl;
   variations_are_none = refl;
   macintosh_is_none = refl;
+  offset_0 = refl;
+  offset_past_the_end = refl;
+  symbols = refl;
+  no_symbols = refl;
 }

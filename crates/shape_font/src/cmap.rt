@@ -1,41 +1,55 @@
-//! Glyphs of characters: formats 4 and 12 of the table `cmap`.
-ghost use Rattle.std.specs.Prelude.{◌≡◌, ◌+◌, ◌-◌, ◌*◌, ◌/◌, ◌<◌, ◌≤◌, ◌^◌, nat_le};
-ghost use Rattle.std.specs.Option.{IfSome};
-ghost use Rattle.shape_font.specs.Bytes.{u16_of, u32_of};
-ghost use Rattle.shape_font.specs.Search.{first_at};
-ghost use Rattle.shape_font.specs.Cmap.{segment_glyph, glyph_4, group_glyph, groups_of, glyph_12, cmap_glyph};
+//! Glyphs of characters: formats 0, 4, 6, 10, 12 and 13 of the table `cmap`.
+ghost use Rattle.std.specs.Prelude.{◌≡◌, ◌<◌, ◌^◌};
+ghost use Rattle.shape_font.specs.Cmap.{glyph_0, side_of_segment, segment_of, segment_glyph, glyph_of_segments, listed_glyph, side_of_group, group_of, group_glyph, groups_of, glyph_of_groups, cmap_glyph, mapped_glyph};
 
-use crate::bytes::{u16_at, u32_at};
+use crate::bytes::{records, u8_at, u16_at, u32_at};
+use crate::search::{found, side, side_by_end};
+use std::cmp::Ordering;
 
-/// The first of `count` segments that ends at the character or behind it.
-#[tactic(auto, using(crate::proofs::SearchLemmas::first_at_next, crate::proofs::SearchLemmas::first_at_found, crate::proofs::SearchLemmas::first_at_end))]
-fn segment(table: &[u8], c: u32, count: u16) -> Option<u16>
-    ensures { result ≡ first_at (λ i. nat_le c (u16_of table.now (14 + 2 * i))) count 0 }
+/// The glyph of a character by a table of format 0, or 0.
+fn by_bytes(table: &[u8], c: u32) -> u64
+    ensures { result ≡ glyph_0 table.now c }
 {
-    for i in 0..count {
-        if c <= u32::from(u16_at(table, 14 + 2 * usize::from(i))) {
-            return Some(i);
-        }
+    if c < 256 {
+        u64::from(u8_at(table, 6 + c as usize))
+    } else {
+        0
     }
-    None
 }
 
-/// The glyph that segment `i` of `count` gives a character, or 0.
-fn in_segment(table: &[u8], count: u16, c: u32, i: u16) -> u32
+/// Where a character stands to segment `i` of `count`.
+fn segment_side(table: &[u8], count: u32, c: u32, i: u32) -> Ordering
+    ensures { result ≡ side_of_segment table.now count c i }
+{
+    let (n, k) = (count as usize, i as usize);
+    let start = u32::from(u16_at(table, 16 + 2 * n + 2 * k));
+    side_by_end(c, start, u32::from(u16_at(table, 14 + 2 * k)))
+}
+
+/// The segment that holds the character.
+fn segment(table: &[u8], count: u32, c: u32) -> Option<u32>
+    ensures { result ≡ segment_of table.now count c }
+{
+    let room = records(table, count, 14, 2);
+    found(room, |i| segment_side(table, count, c, i))
+}
+
+/// The glyph that segment `i` of `count` gives a character of its own, or 0.
+fn in_segment(table: &[u8], count: u32, c: u32, i: u32) -> u32
     ensures { result ≡ segment_glyph table.now count c i }
 {
-    let (n, k) = (usize::from(count), usize::from(i));
+    let (n, k) = (count as usize, i as usize);
     let start = u32::from(u16_at(table, 16 + 2 * n + 2 * k));
     let delta = u64::from(u16_at(table, 16 + 4 * n + 2 * k));
     let at = 16 + 6 * n + 2 * k;
     let range = u16_at(table, at);
-    if c < start {
-        return 0;
-    }
     if range == 0 {
         return ((u64::from(c) + delta) % 65536) as u32;
     }
-    let glyph = u16_at(table, at + usize::from(range) + 2 * (c - start) as usize);
+    let glyph = u16_at(
+        table,
+        at + usize::from(range) + 2 * c.saturating_sub(start) as usize,
+    );
     if glyph == 0 {
         0
     } else {
@@ -43,75 +57,101 @@ fn in_segment(table: &[u8], count: u16, c: u32, i: u16) -> u32
     }
 }
 
-/// The glyph of a character by a table of format 4, or 0.
-fn by_segments(table: &[u8], c: u32) -> u32
-    ensures { result ≡ glyph_4 table.now c }
+/// The glyph of a character by `count` segments, or 0.
+fn by_segments(table: &[u8], count: u32, c: u32) -> u32
+    ensures { result ≡ glyph_of_segments table.now count c }
 {
-    let count = u16_at(table, 6) / 2;
-    match segment(table, c, count) {
+    match segment(table, count, c) {
         Some(i) => in_segment(table, count, c, i),
         None => 0,
     }
 }
 
-/// How many groups a table of format 12 has room for, at most as many as it says.
-fn groups(table: &[u8]) -> usize
-    ensures value { result ≡ groups_of table.now }
-    ensures small { result < 2 ^ 32 }
+/// The glyph of a character where `count` characters in a row from `start` on have theirs listed at `at`, or 0.
+fn by_list(table: &[u8], start: u32, count: u32, at: usize, c: u32) -> u64
+    requires { at < 2 ^ 32 }
+    ensures { result ≡ listed_glyph table.now start count at c }
 {
-    let room = if table.len() < 16 {
-        0
-    } else {
-        (table.len() - 16) / 12
-    };
-    room.min(u32_at(table, 12) as usize)
-}
-
-/// The first of `count` groups that ends at the character or behind it.
-#[tactic(auto, using(crate::proofs::SearchLemmas::first_at_next, crate::proofs::SearchLemmas::first_at_found, crate::proofs::SearchLemmas::first_at_end))]
-fn group(table: &[u8], c: u32, count: usize) -> Option<usize>
-    requires { count < 2 ^ 32 }
-    ensures within { IfSome result (λ i. i < 2 ^ 32) }
-    ensures value { result ≡ first_at (λ i. nat_le c (u32_of table.now (20 + 12 * i))) count 0 }
-{
-    for i in 0..count {
-        if c <= u32_at(table, 20 + 12 * i) {
-            return Some(i);
-        }
+    if c < start || count <= c - start {
+        return 0;
     }
-    None
+    u64::from(u16_at(table, at + 2 * (c - start) as usize))
 }
 
-/// The glyph that group `i` gives a character, or 0.
-fn in_group(table: &[u8], c: u32, i: usize) -> u64
-    requires { i < 2 ^ 32 }
-    ensures { result ≡ group_glyph table.now c i }
+/// How many groups a table of format 12 or 13 has room for, at most as many as it says.
+fn groups(table: &[u8]) -> u32
+    ensures { result ≡ groups_of table.now }
 {
-    let start = u32_at(table, 16 + 12 * i);
-    if c < start {
-        0
+    records(table, u32_at(table, 12), 16, 12)
+}
+
+/// Where a character stands to group `i`.
+fn group_side(table: &[u8], c: u32, i: u32) -> Ordering
+    ensures { result ≡ side_of_group table.now c i }
+{
+    let at = 16 + 12 * i as usize;
+    side(c, u32_at(table, at), u32_at(table, at + 4))
+}
+
+/// The group that holds the character.
+fn group(table: &[u8], c: u32) -> Option<u32>
+    ensures { result ≡ group_of table.now c }
+{
+    found(groups(table), |i| group_side(table, c, i))
+}
+
+/// The glyph that group `i` gives a character of its own; `one` where a group has one glyph for all.
+fn in_group(table: &[u8], one: bool, c: u32, i: u32) -> u64
+    ensures { result ≡ group_glyph table.now one c i }
+{
+    let start = u32_at(table, 16 + 12 * i as usize);
+    let first = u64::from(u32_at(table, 24 + 12 * i as usize));
+    if one {
+        first
     } else {
-        u64::from(u32_at(table, 24 + 12 * i)) + u64::from(c - start)
+        first + u64::from(c.saturating_sub(start))
     }
 }
 
-/// The glyph of a character by a table of format 12, or 0.
-fn by_groups(table: &[u8], c: u32) -> u64
-    ensures { result ≡ glyph_12 table.now c }
+/// The glyph of a character by a table of format 12, or 13 where groups have one glyph for all; or 0.
+fn by_groups(table: &[u8], one: bool, c: u32) -> u64
+    ensures { result ≡ glyph_of_groups table.now one c }
 {
-    match group(table, c, groups(table)) {
-        Some(i) => in_group(table, c, i),
+    match group(table, c) {
+        Some(i) => in_group(table, one, c, i),
         None => 0,
     }
 }
 
-/// The glyph of a character, or 0; which may be more than the face has.
+/// The glyph of a character by the table's format, or 0; which may be more than the face has.
 pub fn glyph(table: &[u8], c: u32) -> u64
     ensures { result ≡ cmap_glyph table.now c }
 {
     match u16_at(table, 0) {
-        12 => by_groups(table, c),
-        4 => u64::from(by_segments(table, c)),
+        0 => by_bytes(table, c),
+        4 => u64::from(by_segments(table, u32::from(u16_at(table, 6) / 2), c)),
+        6 => by_list(
+            table,
+            u32::from(u16_at(table, 6)),
+            u32::from(u16_at(table, 8)),
+            10,
+            c,
+        ),
+        10 => by_list(table, u32_at(table, 12), u32_at(table, 16), 20, c),
+        12 => by_groups(table, false, c),
+        13 => by_groups(table, true, c),
         _ => 0,
+    }
+}
+
+/// The glyph of a character, that of U+F000 and more where a table of symbols has none for one below 256; or 0.
+pub fn mapped(table: &[u8], symbols: bool, c: u32) -> u64
+    ensures { result ≡ mapped_glyph table.now symbols c }
+{
+    let found = glyph(table, c);
+    if symbols && found == 0 && c < 256 {
+        glyph(table, 0xF000 + c)
+    } else {
+        found
     }
 }

@@ -1,15 +1,21 @@
 //! The face that shaping asks.
-ghost use Rattle.std.specs.Prelude.{◌≡◌};
+ghost use Rattle.std.specs.Prelude.{◌≡◌, ◌≤ℤ◌, ◌&&◌, pos, negsuc, is_some, nat_lt};
 ghost use Rattle.std.specs.Option.{IfSome, option_map};
-ghost use Rattle.shape_font.specs.Subtables.{chosen_subtable};
-ghost use Rattle.shape_font.specs.Directory.{table_of};
-ghost use Rattle.shape_font.specs.Face.{font_face, glyph_of, h_advance_of, inked_of, extents_of};
+ghost use Rattle.shape_font.specs.Bytes.{u16_of};
+ghost use Rattle.shape_font.specs.Subtables.{chosen_subtable, symbols_of};
+ghost use Rattle.shape_font.specs.Variations.{sequences_of};
+ghost use Rattle.shape_font.specs.Directory.{bytes_of, has_table};
+ghost use Rattle.shape_font.specs.Metrics.{long_metrics};
+ghost use Rattle.shape_font.specs.Names.{glyph_name as glyph_name_of};
+ghost use Rattle.shape_font.specs.declared.names.TheConstants.{STANDARD};
+ghost use Rattle.shape_font.specs.Face.{font_face, own_glyph_of, glyph_of, variant_of, h_advance_of, line_height, v_advance_of, inked_of, extents_of, half_room, origin_over, v_origin_of};
 
-use crate::bytes::u16_at;
-use crate::directory::table;
-use crate::subtables::chosen;
-use crate::{cmap, metrics};
-use shape_buffer::wrapping::half;
+use crate::bytes::{u16_at, u32_at};
+use crate::directory::{has, table_or_empty};
+use crate::subtables::{chosen, symbols};
+use crate::variations::{GlyphVariant, variation};
+use crate::{cmap, metrics, names, variations};
+use shape_buffer::wrapping::{half, sum};
 use shape_buffer::{GlyphId, hb_font_t, hb_glyph_extents_t, hb_tables_t};
 
 const HEAD: u32 = 0x6865_6164;
@@ -20,58 +26,170 @@ const MAXP: u32 = 0x6d61_7870;
 
 const HMTX: u32 = 0x686d_7478;
 
+const VHEA: u32 = 0x7668_6561;
+
+const VMTX: u32 = 0x766d_7478;
+
+const VORG: u32 = 0x564f_5247;
+
+const OS2: u32 = 0x4f53_2f32;
+
 const CMAP: u32 = 0x636d_6170;
 
 const LOCA: u32 = 0x6c6f_6361;
 
 const GLYF: u32 = 0x676c_7966;
 
-/// A face over the bytes of a TrueType font file, in its units. It tells of no tables of lookups and has no glyphs
-/// of variation sequences. In vertical lines each glyph moves the pen down by the em square, and stands with its
-/// middle on the line and its origin at the top of the square.
+const GSUB: u32 = 0x4753_5542;
+
+const GPOS: u32 = 0x4750_4f53;
+
+const MORX: u32 = 0x6d6f_7278;
+
+const KERX: u32 = 0x6b65_7278;
+
+const TRAK: u32 = 0x7472_616b;
+
+const KERN: u32 = 0x6b65_726e;
+
+const POST: u32 = 0x706f_7374;
+
+/// A face over the bytes of an OpenType or TrueType file, in its units. A table that the file lacks reads as an empty
+/// one. A font whose outlines stand in another table than `glyf` (`CFF`) has
+/// no boxes.
 #[derive(Clone, Copy)]
 pub struct FontFace<'a> {
     units_per_em: u16,
     glyph_count: u16,
-    metric_count: u16,
+    h_count: u16,
+    v_count: u16,
     long_places: bool,
+    outlines: bool,
+    symbols: bool,
+    tables: hb_tables_t,
     cmap: &'a [u8],
+    sequences: &'a [u8],
     hmtx: &'a [u8],
+    vmtx: &'a [u8],
+    vorg: &'a [u8],
     loca: &'a [u8],
     glyf: &'a [u8],
+    hhea: &'a [u8],
+    os2: &'a [u8],
+    kern: &'a [u8],
+    post: &'a [u8],
+}
+
+/// Which tables of lookups the font has.
+fn lookups(bytes: &[u8], index: u32) -> hb_tables_t
+    ensures gsub { result.gsub ≡ has_table bytes.now index GSUB }
+    ensures gpos { result.gpos ≡ has_table bytes.now index GPOS }
+    ensures morx { result.morx ≡ has_table bytes.now index MORX }
+    ensures kerx { result.kerx ≡ has_table bytes.now index KERX }
+    ensures trak { result.trak ≡ has_table bytes.now index TRAK }
+{
+    hb_tables_t {
+        gsub: has(bytes, index, GSUB),
+        gpos: has(bytes, index, GPOS),
+        morx: has(bytes, index, MORX),
+        kerx: has(bytes, index, KERX),
+        trak: has(bytes, index, TRAK),
+    }
 }
 
 impl<'a> FontFace<'a> {
-    /// The face of a font file; none where a table that is needed isn't there, or the em square is empty.
-    pub fn new(bytes: &'a [u8]) -> Option<FontFace<'a>>
-        ensures cmap { IfSome result (λ f. option_map chosen_subtable (table_of bytes.now CMAP)
-            ≡ Some f.cmap.now) }
-        ensures hmtx { IfSome result (λ f. table_of bytes.now HMTX ≡ Some f.hmtx.now) }
-        ensures loca { IfSome result (λ f. table_of bytes.now LOCA ≡ Some f.loca.now) }
-        ensures glyf { IfSome result (λ f. table_of bytes.now GLYF ≡ Some f.glyf.now) }
+    /// The font with this number in a collection, or number 0, the one of a file of one font. None where the file
+    /// has no such font, or its em square is empty.
+    pub fn from_slice(bytes: &'a [u8], index: u32) -> Option<FontFace<'a>>
+        ensures found { is_some result ≡ nat_lt 0 (u16_of (bytes_of bytes.now index HEAD) 18) }
+        ensures units_per_em { IfSome result (λ f. f.units_per_em ≡ u16_of (bytes_of bytes.now index HEAD) 18) }
+        ensures glyph_count { IfSome result (λ f. f.glyph_count ≡ u16_of (bytes_of bytes.now index MAXP) 4) }
+        ensures h_count { IfSome result (λ f. f.h_count
+            ≡ long_metrics (bytes_of bytes.now index HMTX) (u16_of (bytes_of bytes.now index HHEA) 34)) }
+        ensures v_count { IfSome result (λ f. f.v_count
+            ≡ long_metrics (bytes_of bytes.now index VMTX) (u16_of (bytes_of bytes.now index VHEA) 34)) }
+        ensures long_places { IfSome result (λ f. f.long_places ≡ nat_lt 0 (u16_of (bytes_of bytes.now index HEAD) 50)) }
+        ensures outlines { IfSome result (λ f. f.outlines ≡ has_table bytes.now index GLYF) }
+        ensures symbols { IfSome result (λ f. f.symbols ≡ symbols_of (bytes_of bytes.now index CMAP)) }
+        ensures gsub { IfSome result (λ f. f.tables.gsub ≡ has_table bytes.now index GSUB) }
+        ensures gpos { IfSome result (λ f. f.tables.gpos ≡ has_table bytes.now index GPOS) }
+        ensures morx { IfSome result (λ f. f.tables.morx ≡ has_table bytes.now index MORX) }
+        ensures kerx { IfSome result (λ f. f.tables.kerx ≡ has_table bytes.now index KERX) }
+        ensures trak { IfSome result (λ f. f.tables.trak ≡ has_table bytes.now index TRAK) }
+        ensures cmap { IfSome result (λ f. f.cmap.now ≡ chosen_subtable (bytes_of bytes.now index CMAP)) }
+        ensures sequences { IfSome result (λ f. f.sequences.now ≡ sequences_of (bytes_of bytes.now index CMAP)) }
+        ensures hmtx { IfSome result (λ f. f.hmtx.now ≡ bytes_of bytes.now index HMTX) }
+        ensures vmtx { IfSome result (λ f. f.vmtx.now ≡ bytes_of bytes.now index VMTX) }
+        ensures vorg { IfSome result (λ f. f.vorg.now ≡ bytes_of bytes.now index VORG) }
+        ensures loca { IfSome result (λ f. f.loca.now ≡ bytes_of bytes.now index LOCA) }
+        ensures glyf { IfSome result (λ f. f.glyf.now ≡ bytes_of bytes.now index GLYF) }
+        ensures hhea { IfSome result (λ f. f.hhea.now ≡ bytes_of bytes.now index HHEA) }
+        ensures os2 { IfSome result (λ f. f.os2.now ≡ bytes_of bytes.now index OS2) }
+        ensures kern { IfSome result (λ f. f.kern.now ≡ bytes_of bytes.now index KERN) }
+        ensures post { IfSome result (λ f. f.post.now ≡ bytes_of bytes.now index POST) }
     {
-        let head = table(bytes, HEAD)?;
+        let head = table_or_empty(bytes, index, HEAD);
         let units_per_em = u16_at(head, 18);
         if units_per_em == 0 {
             return None;
         }
+        let (hhea, vhea) = (
+            table_or_empty(bytes, index, HHEA),
+            table_or_empty(bytes, index, VHEA),
+        );
+        let (hmtx, vmtx) = (
+            table_or_empty(bytes, index, HMTX),
+            table_or_empty(bytes, index, VMTX),
+        );
+        let cmap = table_or_empty(bytes, index, CMAP);
         Some(FontFace {
             units_per_em,
-            glyph_count: u16_at(table(bytes, MAXP)?, 4),
-            metric_count: u16_at(table(bytes, HHEA)?, 34),
+            glyph_count: u16_at(table_or_empty(bytes, index, MAXP), 4),
+            h_count: metrics::metrics_in(hmtx, u16_at(hhea, 34)),
+            v_count: metrics::metrics_in(vmtx, u16_at(vhea, 34)),
             long_places: u16_at(head, 50) != 0,
-            cmap: chosen(table(bytes, CMAP)?),
-            hmtx: table(bytes, HMTX)?,
-            loca: table(bytes, LOCA)?,
-            glyf: table(bytes, GLYF)?,
+            outlines: has(bytes, index, GLYF),
+            symbols: symbols(cmap),
+            tables: lookups(bytes, index),
+            cmap: chosen(cmap),
+            sequences: variations::sequences(cmap),
+            hmtx,
+            vmtx,
+            vorg: table_or_empty(bytes, index, VORG),
+            loca: table_or_empty(bytes, index, LOCA),
+            glyf: table_or_empty(bytes, index, GLYF),
+            hhea,
+            os2: table_or_empty(bytes, index, OS2),
+            kern: table_or_empty(bytes, index, KERN),
+            post: table_or_empty(bytes, index, POST),
         })
     }
 
-    /// The glyph of a character, where `cmap` names one that the font has.
-    fn glyph(&self, c: char) -> Option<GlyphId>
-        ensures { result ≡ glyph_of self.now c }
+    /// How many glyphs the font has.
+    pub fn glyph_count(&self) -> u16
+        ensures { result ≡ self.now.glyph_count }
     {
-        let glyph = cmap::glyph(self.cmap, u32::from(c));
+        self.glyph_count
+    }
+
+    /// The table `kern`, for an engine that reads it; an empty one where the font has none.
+    pub fn kern_table(&self) -> &'a [u8]
+        ensures { result.now ≡ self.now.kern.now }
+    {
+        self.kern
+    }
+
+    /// The glyph's name by `post`; none where the table has none for it, or an empty one.
+    pub fn glyph_name(&self, glyph: GlyphId) -> Option<&'a [u8]>
+        ensures { option_map (λ s. s.now) result ≡ glyph_name_of STANDARD.now self.now.post.now glyph.0 }
+    {
+        names::glyph_name(self.post, glyph.0)
+    }
+
+    /// The glyph with this number, where the font has it; 0 is none.
+    fn own(&self, glyph: u64) -> Option<GlyphId>
+        ensures { result ≡ own_glyph_of self.now glyph }
+    {
         if 0 < glyph && glyph < u64::from(self.glyph_count) {
             Some(GlyphId(glyph as u32))
         } else {
@@ -79,12 +197,53 @@ impl<'a> FontFace<'a> {
         }
     }
 
-    /// The advance of a glyph, 0 past the last one.
+    /// The glyph of a character, where `cmap` names one that the font has.
+    fn glyph(&self, c: char) -> Option<GlyphId>
+        ensures { result ≡ glyph_of self.now c }
+    {
+        self.own(cmap::mapped(self.cmap, self.symbols, u32::from(c)))
+    }
+
+    /// The glyph of a character before a selector: its own, or the character's where it looks as it does alone.
+    fn variant(&self, c: char, selector: char) -> Option<GlyphId>
+        ensures { result ≡ variant_of self.now c selector }
+    {
+        match variation(self.sequences, u32::from(c), u32::from(selector)) {
+            GlyphVariant::Missing => None,
+            GlyphVariant::Default => self.glyph(c),
+            GlyphVariant::Own(glyph) => self.own(u64::from(glyph)),
+        }
+    }
+
+    /// The advance of a glyph, half of the em square in a font without advances, 0 past the last glyph.
     fn advance(&self, glyph: GlyphId) -> i32
         ensures { result ≡ h_advance_of self.now glyph }
     {
-        if glyph.0 < u32::from(self.glyph_count) {
-            i32::from(metrics::advance(self.hmtx, self.metric_count, glyph.0))
+        if u32::from(self.glyph_count) <= glyph.0 {
+            0
+        } else if self.h_count == 0 {
+            i32::from(self.units_per_em / 2)
+        } else {
+            i32::from(metrics::advance(self.hmtx, self.h_count, glyph.0))
+        }
+    }
+
+    /// How high a line is.
+    fn height(&self) -> i32
+        ensures value { result ≡ pos (line_height self.now) }
+        ensures high { result ≤ℤ pos 65536 }
+    {
+        (metrics::ascender(self.os2, self.hhea) + metrics::descender(self.os2, self.hhea)) as i32
+    }
+
+    /// The advance downwards, the height of a line in a font without such advances, 0 past the last glyph.
+    fn advance_down(&self, glyph: GlyphId) -> i32
+        ensures { result ≡ v_advance_of self.now glyph }
+    {
+        if self.v_count == 0 {
+            -self.height()
+        } else if glyph.0 < u32::from(self.glyph_count) {
+            -i32::from(metrics::advance(self.vmtx, self.v_count, glyph.0))
         } else {
             0
         }
@@ -93,22 +252,64 @@ impl<'a> FontFace<'a> {
     /// The box of a glyph's outline.
     #[tactic(auto, unfolding(crate::specs::Face::inked_of))]
     fn inked(&self, glyph: u32) -> hb_glyph_extents_t
-        ensures { result ≡ inked_of self.now glyph }
+        ensures value { result ≡ inked_of self.now glyph }
+        ensures long { negsuc 65535 ≤ℤ result.height }
+        ensures short { result.height ≤ℤ pos 65535 }
     {
         let start = metrics::place(self.loca, self.long_places, glyph as usize);
         let end = metrics::place(self.loca, self.long_places, glyph as usize + 1);
-        let bearing = metrics::bearing(self.hmtx, self.metric_count, glyph);
+        let bearing = metrics::bearing(self.hmtx, self.h_count, glyph);
         metrics::outline_box(self.glyf, start, end, bearing)
     }
 
-    /// The box of a glyph, none past the last one.
+    /// Whether the glyph has a box.
+    fn has_box(&self, glyph: GlyphId) -> bool
+        ensures { result ≡ (self.now.outlines && nat_lt glyph.0 self.now.glyph_count) }
+    {
+        self.outlines && glyph.0 < u32::from(self.glyph_count)
+    }
+
+    /// The box of a glyph, none in a font without `glyf` and none past the last glyph.
     fn extents(&self, glyph: GlyphId) -> Option<hb_glyph_extents_t>
         ensures { result ≡ extents_of self.now glyph }
     {
-        if glyph.0 < u32::from(self.glyph_count) {
+        if self.has_box(glyph) {
             Some(self.inked(glyph.0))
         } else {
             None
+        }
+    }
+
+    /// Half of the room that a box of this height leaves in a line.
+    fn half_room(&self, height: i32) -> i32
+        requires long { negsuc 65535 ≤ℤ height }
+        requires short { height ≤ℤ pos 65535 }
+        ensures { result ≡ half_room self.now height }
+    {
+        metrics::half_below(self.height() + height)
+    }
+
+    /// The height of the origin over a glyph's box.
+    fn over(&self, glyph: u32) -> i32
+        ensures { result ≡ origin_over self.now glyph (inked_of self.now glyph) }
+    {
+        let inked = self.inked(glyph);
+        match metrics::bearing(self.vmtx, self.v_count, glyph) {
+            Some(bearing) => sum(inked.y_bearing, bearing),
+            None => sum(inked.y_bearing, self.half_room(inked.height)),
+        }
+    }
+
+    /// The height of the origin of vertical lines: by `VORG`, by the box, or at the top of a line.
+    fn origin(&self, glyph: GlyphId) -> i32
+        ensures { result ≡ v_origin_of self.now glyph }
+    {
+        if u32_at(self.vorg, 0) != 0 {
+            metrics::origin(self.vorg, glyph.0)
+        } else if self.has_box(glyph) {
+            self.over(glyph.0)
+        } else {
+            metrics::ascender(self.os2, self.hhea) as i32
         }
     }
 }
@@ -124,24 +325,24 @@ impl<'a> hb_font_t for FontFace<'a> {
         self.glyph(c).is_some()
     }
 
-    fn glyph_variation_index(&self, _c: char, _selector: char) -> Option<GlyphId> {
-        None
+    fn glyph_variation_index(&self, c: char, selector: char) -> Option<GlyphId> {
+        self.variant(c, selector)
     }
 
     fn glyph_h_advance(&self, glyph: GlyphId) -> i32 {
         self.advance(glyph)
     }
 
-    fn glyph_v_advance(&self, _glyph: GlyphId) -> i32 {
-        -i32::from(self.units_per_em)
+    fn glyph_v_advance(&self, glyph: GlyphId) -> i32 {
+        self.advance_down(glyph)
     }
 
     fn glyph_h_origin(&self, glyph: GlyphId) -> i32 {
         half(self.advance(glyph))
     }
 
-    fn glyph_v_origin(&self, _glyph: GlyphId) -> i32 {
-        i32::from(self.units_per_em)
+    fn glyph_v_origin(&self, glyph: GlyphId) -> i32 {
+        self.origin(glyph)
     }
 
     fn glyph_extents(&self, glyph: GlyphId) -> Option<hb_glyph_extents_t> {
@@ -153,12 +354,6 @@ impl<'a> hb_font_t for FontFace<'a> {
     }
 
     fn tables(&self) -> hb_tables_t {
-        hb_tables_t {
-            gsub: false,
-            gpos: false,
-            morx: false,
-            kerx: false,
-            trak: false,
-        }
+        self.tables
     }
 }

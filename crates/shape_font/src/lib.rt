@@ -12,8 +12,12 @@ pub mod bytes;
 pub mod cmap;
 pub mod directory;
 pub mod face;
+pub mod laws;
 pub mod metrics;
+pub mod names;
+pub mod search;
 pub mod subtables;
+pub mod variations;
 pub mod worked;
 
 pub use face::FontFace;

@@ -4,3 +4,5 @@ pub mod SequenceLemmas
 pub mod DrawnLemmas
 pub mod SelectorLemmas
 pub mod RoundOneLemmas
+pub mod ChainPartLemmas
+pub mod OneWalkLemmas

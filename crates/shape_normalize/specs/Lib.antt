@@ -1,4 +1,5 @@
 pub mod RoundOne
+pub mod OneWalk
 pub mod RoundTwo
 pub mod Reordered
 pub mod RoundThree
@@ -9,6 +10,7 @@ pub mod PremiseTest
 pub mod WorkedWorld
 pub mod WorkedOne
 pub mod WorkedTwo
+pub mod WorkedOneWalk
 pub mod WorkedThree
 pub mod WorkedHooks
 pub mod WorkedOrigins

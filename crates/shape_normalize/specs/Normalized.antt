@@ -42,7 +42,7 @@ selector_items rules b =
     flat_map (sequence_items rules b.invisible_glyph b.not_found_variation_selector_glyph)
     (filter (is_selector_sequence rules.unicode) (sequences (variation_sequences_merged rules b).items))
 
--- an item but for its cluster, its mask, its hidden bit and the glyph that its index becomes, which later steps change, and its ccc where a
+-- an item except for its cluster, its mask, its hidden bit and the glyph that its index becomes, which later steps change, and its ccc where a
 -- reorder hook is given, which may set that
 abbrev pub content : Rules → Item → Item
 content rules item = record item {
@@ -52,7 +52,7 @@ content rules item = record item {
   properties = record item.properties { hidden = false; modified_ccc = if is_some rules.reorder then 0 else ccc_of_item item };
 }
 
--- each item has the glyph of its character, or what stands in for it, but for those that come of sequences with a variation selector
+-- each item has the glyph of its character, or what stands in for it, except for those that come of sequences with a variation selector
 abbrev pub HasItemGlyph : Rules → Buffer → Item → Type 0
 HasItemGlyph rules old item =
     (item.glyph_index ≡ item_glyph rules old.invisible_glyph item)
@@ -66,7 +66,7 @@ pub record OrdersExpanded (rules : Rules) (old new : Buffer) : Type 0 where
   pub new_list : has_mark_past_first old.items ≡ true → rules.reorder ≡ None → rules.recomposes ≡ false
       → OrdersMarks (round_one rules old).items new.items
 
--- an item but for its cluster and its mask
+-- an item except for its cluster and its mask
 abbrev pub without_cluster : Item → Item
 without_cluster item = record item { cluster = 0; mask = 0 }
 

@@ -52,7 +52,7 @@ expansion_origins rules invisible short place (item ∷ items) =
     replicate (length (expanded_item rules invisible short item)) (origin_at false place)
     ++ expansion_origins rules invisible short (suc place) items
 
--- the origins of what parts of a list become, which stand one behind the other from this place on
+-- the origins of what parts of a list become, which stand one after the other from this place on
 abbrev pub origins_of_parts : (ℕ → List Item → List Origin) → ℕ → List (List Item) → List Origin
 origins_of_parts become place [] = []
 origins_of_parts become place (part ∷ parts) = become place part ++ origins_of_parts become (place + length part) parts
@@ -68,7 +68,7 @@ abbrev pub origins : Rules → Buffer → List Origin
 origins rules text = origins_of_parts (sequence_origins rules text.invisible_glyph) 0 (sequences (variation_sequences_merged rules text).items)
 
 -- what an item has of the text's item at the place that it came from: the feature bits; outside sequences with a selector the glyph of
--- its own character, or what stands in for that; and the hidden bit with the character, or else that of its own character, but for a CGJ
+-- its own character, or what stands in for that; and the hidden bit with the character, or else that of its own character, except for a CGJ
 -- that may have been unhidden since
 pub record HasOfOrigin (rules : Rules) (text : Buffer) (unhides : Bool) (origin : Origin) (item : Item) : Type 0 where
   pub features : features_of item ≡ features_of (item_at text.items origin.place)
@@ -113,7 +113,7 @@ IsOrderOf rules items places =
     MatchOption rules.reorder (AreRunsSettled (λ place. ccc_of_item (item_at items place)) max_run [] (all_places items) places)
     (λ reorder. PermutesRuns items places)
 
--- an item but for its cluster and its defined flags, which merging changes, and for its ccc where a reorder hook is given, which may
+-- an item except for its cluster and its defined flags, which merging changes, and for its ccc where a reorder hook is given, which may
 -- set that
 abbrev pub lasting : Rules → Item → Item
 lasting rules item = if is_some rules.reorder then without_ccc item else unmerged item

@@ -35,7 +35,7 @@ is_supported_text rules items =
     let parts = full_text (decompositions rules) (map char_of items) in
     is_some (row_before rules.unicode.ccc (has_glyph rules.face.nominal_glyph) parts (Some 0))
 
--- what canonical form asks of a text, a shaper and a face, but for lawful hooks
+-- what canonical form asks of a text, a shaper and a face, except for lawful hooks
 abbrev pub meets_premises : Rules → List Item → Bool
 meets_premises rules items =
     is_full_mode rules.short && not (is_some rules.reorder) && list_all (is_plain_item rules.unicode) items

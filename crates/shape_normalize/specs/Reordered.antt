@@ -9,15 +9,15 @@ use Rattle.shape_buffer.specs.declared.buffer.settings.BufferClusterLevel.TheVar
 use Rattle.shape_plan.specs.Reorder.{with_ccc}
 use Rattle.shape_buffer.specs.FlagNames.{HAS_GLYPH_FLAGS}
 
--- an item but for its cluster and its defined flags, which merging changes
+-- an item except for its cluster and its defined flags, which merging changes
 abbrev pub unmerged : Item → Item
 unmerged item = record item { cluster = 0; mask = feature_bits item.mask }
 
--- and but for its ccc, which the hook may set
+-- and except for its ccc, which the hook may set
 abbrev pub without_ccc : Item → Item
 without_ccc item = with_ccc 0 (unmerged item)
 
--- a run in another order: its items are permuted, but for clusters, defined flags and ccc, which stay nonzero; before and behind it all
+-- a run in another order: its items are permuted, except for clusters, defined flags and ccc, which stay nonzero; before and after it all
 -- stays but clusters and defined flags; and of the buffer nothing else changes but the scratch flag HAS_GLYPH_FLAGS, which may come at
 -- level CHARACTERS
 pub record ReordersRun (start end : ℕ) (old new : Buffer) : Type 0 where

@@ -1,4 +1,4 @@
--- Round one of normalising: each item becomes the items of its character's expansion, or takes a glyph with the variation selector behind
+-- Round one of normalising: each item becomes the items of its character's expansion, or takes a glyph with the variation selector after
 -- it.
 use Rattle.std.specs.Prelude.{ℕ, ◌+◌, ◌==◌, ◌&&◌, not, Bool, true, false, if◌then◌else◌, List, [], ◌∷◌, ◌++◌, map, fold, replicate, length, Option, None, Some, is_some, unwrap_or}
 use Rattle.std.specs.Option.{option_map, option_map_or, option_or}
@@ -137,7 +137,7 @@ variation_sequence_glyph face [] = None
 variation_sequence_glyph face (x ∷ []) = None
 variation_sequence_glyph face (x ∷ v ∷ rest) = face.variation_glyph x.codepoint v.codepoint
 
--- the spans of the items that become one with the selector behind them, each of these two, in parts that begin at this place
+-- the spans of the items that become one with the selector after them, each of these two, in parts that begin at this place
 abbrev pub variation_sequence_spans : FaceMeaning → ℕ → List (List Item) → List (ℕ × ℕ)
 variation_sequence_spans face place [] = []
 variation_sequence_spans face place (part ∷ parts) =
@@ -160,7 +160,7 @@ is_with_marks (x ∷ y ∷ rest) = true
 abbrev pub is_selector_sequence : UnicodeMeaning → List Item → Bool
 is_selector_sequence unicode sequence = is_with_marks sequence && list_any (is_selector_item unicode) sequence
 
--- the spans of the items that become one with the selector behind them, in sequences that begin at this place
+-- the spans of the items that become one with the selector after them, in sequences that begin at this place
 abbrev pub variation_sequences_from : UnicodeMeaning → FaceMeaning → ℕ → List (List Item) → List (ℕ × ℕ)
 variation_sequences_from unicode face place [] = []
 variation_sequences_from unicode face place (sequence ∷ rest) =

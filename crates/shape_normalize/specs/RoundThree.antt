@@ -96,11 +96,11 @@ chained_spans out = flat_map (λ p. spans_between p.place p.absorbed) out
 abbrev pub placed_info : Placed → PlacedInfo
 placed_info p = record { info = p.item; place = p.place }
 
--- behind marks of this greatest ccc, 0 where there are none, a mark of such a ccc is blocked from their starter
+-- after marks of this greatest ccc, 0 where there are none, a mark of such a ccc is blocked from their starter
 abbrev pub is_blocked_behind : ℕ → ℕ → Bool
 is_blocked_behind greatest ccc = nat_lt 0 greatest && nat_le ccc greatest
 
--- the character that a starter makes with an item behind it and behind marks of this greatest ccc, where the two compose
+-- the character that a starter makes with an item after it and after marks of this greatest ccc, where the two compose
 abbrev pub composed_char : Rules → PlacedInfo → ℕ → PlacedInfo → Option ℕ
 composed_char rules starter greatest next =
     if is_mark_item next.info && not (is_blocked_behind greatest (ccc_of_item next.info))

@@ -50,7 +50,7 @@ ccc_of_hook_characters = record { composed_below = refl; composed_letter = refl;
 
 -- ---- reorder hooks
 
--- the first item of the run behind the first letter gets another ccc
+-- the first item of the run after the first letter gets another ccc
 abbrev pub first_of_ccc : ℕ → Buffer → ℕ → ℕ → Buffer
 first_of_ccc ccc b start end = if start == 1 then ccc_set 1 (get_or b.items 1 (new_item 0 0)) ccc b else b
 
@@ -81,7 +81,7 @@ pub record CccOfReorderedMarks : Type 0 where
   -- U+0308 comes to stand before U+0323, and keeps U+0301 from the letter
   pub blocks_before_smaller : cccs_by (reordering 3 first_two_turned) (item 0x61 0 ∷ item 0x323 0 ∷ item 0x308 0 ∷ item 0x301 0 ∷ [])
       ≡ (0x61, 0) ∷ (0x308, 230) ∷ (0x323, 220) ∷ (0x301, 230) ∷ []
-  -- CGJ: what stands before it is of a greater ccc than what stands behind, or of a smaller one, once the hook has set it
+  -- CGJ: what stands before it is of a greater ccc than what stands after, or of a smaller one, once the hook has set it
   pub keeps_apart : hidden_by (reordering 1 (first_of_ccc 240)) (item 0x61 0 ∷ item 0x323 0 ∷ item 0x34F 0 ∷ item 0x301 0 ∷ [])
       ≡ (0x61, false) ∷ (0x323, false) ∷ (0x34F, true) ∷ (0x301, false) ∷ []
   pub keeps_nothing_apart : hidden_by (reordering 1 (first_of_ccc 10)) (item 0x61 0 ∷ item 0x301 0 ∷ item 0x34F 0 ∷ item 0x323 0 ∷ [])

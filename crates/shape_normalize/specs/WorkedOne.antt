@@ -101,7 +101,7 @@ char_ccc_and_category one = (one.codepoint, (one.properties.modified_ccc, one.pr
 
 -- what an item becomes
 pub record ItemsWorked : Type 0 where
-  -- an item that keeps its character keeps its properties, but for its glyph and a remembered type
+  -- an item that keeps its character keeps its properties, except for its glyph and a remembered type
   pub kept : expanded_item (rules_in 1 (0x62 ∷ [])) None false (odd_item 0x62) ≡ record (odd_item 0x62) { glyph_index = 0x62 } ∷ []
   pub remembered : map (λ (one : Item). one.properties.space_type) (expanded_item (rules_in 1 (0x20 ∷ [])) None false (item 0x2002 0))
       ≡ 2 ∷ []

@@ -28,7 +28,7 @@ pub record PlacesWorked : Type 0 where
       ≡ origin_at true 0 ∷ origin_at true 1 ∷ origin_at true 2 ∷ []
   pub second_selector : origins_of (0x61 ∷ 0xFE00 ∷ []) (item 0x61 0 ∷ item 0xFE00 1 ∷ item 0xFE00 2 ∷ [])
       ≡ origin_at true 0 ∷ origin_at true 2 ∷ []
-  -- behind and before such a sequence
+  -- after and before such a sequence
   pub behind_variation_sequence : origins_of (0x61 ∷ 0xFE00 ∷ 0x301 ∷ []) (item 0x61 0 ∷ item 0xFE00 1 ∷ item 0xE1 2 ∷ [])
       ≡ origin_at true 0 ∷ origin_at false 2 ∷ origin_at false 2 ∷ []
   pub before_variation_sequence : origins_of (0x61 ∷ 0xFE00 ∷ 0x301 ∷ []) (item 0xE1 0 ∷ item 0x61 1 ∷ item 0xFE00 2 ∷ [])
@@ -76,13 +76,13 @@ pub record OfOriginWorked : Type 0 where
   pub kept : Has (origin_at false 1) (masked 512 0x62 (hidden_item (item 0x62 1)))
   -- not with the feature bits of its neighbour
   pub other_features : Has (origin_at false 0) (masked 512 0x61 (item 0x61 0)) → ⊥
-  -- nor with another glyph than its character's, but for sequences with a selector
+  -- nor with another glyph than its character's, except for sequences with a selector
   pub other_glyph : Has (origin_at false 0) (masked 256 7 (item 0x61 0)) → ⊥
   pub variant_glyph : Has (origin_at true 0) (masked 256 7 (item 0x61 0))
   -- nor hidden where neither it nor its character is
   pub other_hidden : Has (origin_at false 0) (masked 256 0x61 (hidden_item (item 0x61 0))) → ⊥
   pub neighbour_hidden : Has (origin_at false 1) (masked 512 0x61 (hidden_item (item 0x61 0))) → ⊥
-  -- but for a CGJ, once these were unhidden, and for nothing else
+  -- except for a CGJ, once these were unhidden, and for nothing else
   pub once_unhidden : HasOfOrigin (rules_in 1 (0x34F ∷ [])) text true (origin_at false 1) (masked 512 0x34F (unhidden (item 0x34F 0)))
   pub none_unhidden : HasOfOrigin (rules_in 1 (0x34F ∷ [])) text false (origin_at false 1) (masked 512 0x34F (unhidden (item 0x34F 0))) → ⊥
   pub other_unhidden : HasOfOrigin (rules_in 1 (0x61 ∷ [])) text true (origin_at false 1) (masked 512 0x61 (hidden_item (item 0x61 0))) → ⊥

@@ -30,13 +30,16 @@ pub record ComposedWorked : Type 0 where
       (item 0x61 0 ∷ item 0x308 1 ∷ item 0x323 2 ∷ item 0x301 3 ∷ []) ≡ 0x61 ∷ 0x308 ∷ 0x323 ∷ 0x301 ∷ []
   -- the first item is a starter, whatever its ccc
   pub first_mark : recomposed_chars all_chars (item 0x308 0 ∷ item 0x301 1 ∷ []) ≡ 0x344 ∷ []
-  -- a mark of ccc 0 right behind its starter composes, and one behind a mark of ccc 0 doesn't
+  -- a mark of ccc 0 right after its starter composes, and one after a mark of ccc 0 doesn't
   pub ccc_0 : recomposed_chars all_chars (item 0x61 0 ∷ item 0x20DD 1 ∷ []) ≡ 0xE001 ∷ []
   pub ccc_0_begins_anew : recomposed_chars (0x61 ∷ 0xE1 ∷ 0x301 ∷ 0x20DD ∷ []) (item 0x61 0 ∷ item 0x20DD 1 ∷ item 0x301 2 ∷ [])
       ≡ 0x61 ∷ 0x20DD ∷ 0x301 ∷ []
   -- a letter is no mark, and is the starter from then on
   pub new_starter : recomposed_chars all_chars (item 0x62 0 ∷ item 0x61 1 ∷ item 0x301 2 ∷ []) ≡ 0x62 ∷ 0xE1 ∷ []
-  -- and what was put out before it blocks nothing behind it
+  -- so that a mark after it doesn't compose with the starter before
+  pub starter_between : recomposed_chars (0x61 ∷ 0xE1 ∷ 0x301 ∷ 0x323 ∷ [])
+      (item 0x61 0 ∷ item 0x323 1 ∷ item 0x62 2 ∷ item 0x301 3 ∷ []) ≡ 0x61 ∷ 0x323 ∷ 0x62 ∷ 0x301 ∷ []
+  -- and what was put out before it blocks nothing after it
   pub new_starter_forgets : recomposed_chars (0x61 ∷ 0xE1 ∷ 0x301 ∷ 0x308 ∷ [])
       (item 0x61 0 ∷ item 0x308 1 ∷ item 0x61 2 ∷ item 0x301 3 ∷ []) ≡ 0x61 ∷ 0x308 ∷ 0xE1 ∷ []
 
@@ -51,6 +54,7 @@ composed_worked = record {
   ccc_0 = refl;
   ccc_0_begins_anew = refl;
   new_starter = refl;
+  starter_between = refl;
   new_starter_forgets = refl;
 }
 
@@ -78,10 +82,23 @@ pub record LongRunsWorked : Type 0 where
   -- the other rule composes past U+0308
   pub by_last : chars_by_last (around 0x308 31) ≡ 0xE1 ∷ 0x308 ∷ replicate 31 0x323
   pub by_last_same : chars_by_last (item 0x61 0 ∷ item 0x308 0 ∷ item 0x301 0 ∷ []) ≡ 0x61 ∷ 0x308 ∷ 0x301 ∷ []
+  -- and past one that a hook has brought before a smaller ccc
+  pub by_last_swapped : chars_by_last (item 0x61 0 ∷ item 0x308 0 ∷ item 0x323 0 ∷ item 0x301 0 ∷ []) ≡ 0xE1 ∷ 0x308 ∷ 0x323 ∷ []
+  -- in order, it answers the same
+  pub by_last_thirty_two : chars_by_last (item 0x61 0 ∷ replicate 30 (item 0x323 0) ++ item 0x308 0 ∷ item 0x301 0 ∷ [])
+      ≡ 0x61 ∷ replicate 30 0x323 ++ 0x308 ∷ 0x301 ∷ []
 
 long_runs_worked : LongRunsWorked
 unfolding run_settled merge
-long_runs_worked = record { thirty_three = refl; thirty_two = refl; past_many = refl; by_last = refl; by_last_same = refl }
+long_runs_worked = record {
+  thirty_three = refl;
+  thirty_two = refl;
+  past_many = refl;
+  by_last = refl;
+  by_last_same = refl;
+  by_last_swapped = refl;
+  by_last_thirty_two = refl;
+}
 
 -- a composed item has the properties of its character and its glyph, and keeps the mask of its starter
 pub record ComposedItemWorked : Type 0 where

@@ -3,7 +3,7 @@
 //! A character may be spelled in several ways, and a face rarely has glyphs for all of them. So each
 //! character is expanded along the chain of its splits, where its first part may split again, and so on;
 //! the characters of some point of the chain are put in its place, if the face has glyphs for all of
-//! them. A shaper may bring splits of its own. The marks behind a character are then put in one order,
+//! them. A shaper may bring splits of its own. The marks after a character are then put in one order,
 //! so that spellings of one text become one list (UAX 15; The Unicode Standard, D68 and D107 to D109).
 ghost use Rattle.std.specs.Prelude.{◌≡◌, ◌<◌, ◌≤◌, [], length, map, All, IsOk, OnOk, OnErr, Err};
 ghost use Rattle.shape_buffer.specs.Buffer.{cleared, limit_of};
@@ -22,17 +22,19 @@ mod cgj;
 mod compare;
 mod context;
 mod decompose;
+mod expand_and_order;
 mod mode;
+mod one_walk;
 mod premises;
 mod round_one;
 mod round_three;
 mod round_two;
 
 use crate::ot_shape_normalize::cgj::unhide_cgj;
+use crate::ot_shape_normalize::context::ContextOf;
+use crate::ot_shape_normalize::expand_and_order::expand_and_order;
 use crate::ot_shape_normalize::mode::recomposes;
-use crate::ot_shape_normalize::round_one::expand;
 use crate::ot_shape_normalize::round_three::recompose;
-use crate::ot_shape_normalize::round_two::order_runs;
 pub use compare::normalized_equal;
 pub use context::hb_ot_shape_normalize_context_t;
 pub use premises::meets_canonical_premises;
@@ -46,6 +48,7 @@ pub use shape_plan::normalization_mode::{
 };
 use shape_plan::ot_shape_plan::hb_ot_shape_plan_t;
 use shape_plan::ot_shaper::{Runs, hb_ot_shaper_t};
+use shape_plan::shaping_types::{Meaning, PlanOf, ShapingTypes, TypesOf};
 use std::alloc::Global;
 
 /// Makes the list of a buffer the normalised one, at positions of zeros, by the mode that the plan's shaper
@@ -58,8 +61,9 @@ use std::alloc::Global;
 /// run of at most 32 marks is put in the order of their ccc, the clusters of the spans that this
 /// moves are merged, the shaper may reorder the run, and in the modes that compose, marks are composed
 /// with their starters again, whose clusters are merged. Each CGJ that keeps nothing apart is unhidden.
-/// A mark is composed only where its ccc is greater than that of every mark between it and its starter,
-/// so that the list stays equivalent to the text however many marks stand in a row.
+/// A mark is composed only where its ccc is greater than that of every mark between it and its starter.
+/// So under the first premises of `canonical_form` the list is equivalent to the text, however many marks
+/// stand in a row; canonical form itself asks for runs of at most 32.
 ///
 /// Refuses with `Length` where the expanded list is longer than the buffer's limit, and with `Memory`
 /// where a growth was refused; after a refusal the buffer is cleared. An empty buffer is left as it is,
@@ -105,10 +109,7 @@ where
     ensures cleared { OnErr result (buffer.new ≡ cleared buffer.old) }
     ensures empty { buffer.old.items ≡ [] → IsOk result }
 {
-    if buffer.len() == 0 {
-        return Ok(());
-    }
-    let outcome = normalize::<U, F, M, S>(alloc, plan, buffer, face);
+    let outcome = normalize::<TypesOf<U, F, M, S>>(alloc, plan, buffer, face);
     if outcome.is_err() {
         buffer.reset();
     }
@@ -116,64 +117,53 @@ where
 }
 
 /// Runs the rounds over a context of their own.
-fn normalize<U, F, M, S>(
+fn normalize<T: ShapingTypes>(
     alloc: Global,
-    plan: &hb_ot_shape_plan_t<'_, S, M::Map, S::Data>,
+    plan: &PlanOf<'_, T>,
     buffer: &mut hb_buffer_t,
-    face: &F,
+    face: &T::Face,
 ) -> Result<(), ShapeError>
-where
-    U: hb_unicode_funcs_t,
-    F: hb_font_t,
-    M: hb_ot_layout_t<F>,
-    S: hb_ot_shaper_t<U, F, M>,
     ensures ok { OnOk result (buffer.new
-        ≡ normalized (⟦<S as Runs<U, F, M>>⟧.rules plan.now face.now) buffer.old) }
+        ≡ normalized (⟦<T as Meaning>⟧.rules plan.now face.now) buffer.old) }
     ensures counted { OnOk result (length (round_one
-        (⟦<S as Runs<U, F, M>>⟧.rules plan.now face.now) buffer.old).items ≤ limit_of buffer.old) }
+        (⟦<T as Meaning>⟧.rules plan.now face.now) buffer.old).items ≤ limit_of buffer.old) }
     ensures length { result ≡ Err ShapeError.Length → limit_of buffer.old < length (round_one
-        (⟦<S as Runs<U, F, M>>⟧.rules plan.now face.now) buffer.old).items }
+        (⟦<T as Meaning>⟧.rules plan.now face.now) buffer.old).items }
     ensures settings { cleared buffer.new ≡ cleared buffer.old }
+    ensures empty { buffer.old.items ≡ [] → IsOk result }
 {
     let mut ctx = hb_ot_shape_normalize_context_t {
         plan,
         buffer: &mut *buffer,
         face,
     };
-    run_rounds::<U, F, M, S>(alloc, &mut ctx)
+    run_rounds::<T>(alloc, &mut ctx)
 }
 
 /// Expands the items and unhides CGJ; where there are marks past the first item, puts them in order, and
-/// composes them in the modes that do.
-fn run_rounds<U, F, M, S>(
-    alloc: Global,
-    ctx: &mut hb_ot_shape_normalize_context_t<'_, F, S, M::Map, S::Data>,
-) -> Result<(), ShapeError>
-where
-    U: hb_unicode_funcs_t,
-    F: hb_font_t,
-    M: hb_ot_layout_t<F>,
-    S: hb_ot_shaper_t<U, F, M>,
+/// composes them in the modes that do. Leaves an empty list as it is.
+fn run_rounds<T: ShapingTypes>(alloc: Global, ctx: &mut ContextOf<'_, T>) -> Result<(), ShapeError>
     ensures same_reference { ctx.new.buffer.ghost_name ≡ ctx.old.buffer.ghost_name }
     ensures ok { OnOk result (ctx.new.buffer.now
-        ≡ normalized (⟦<S as Runs<U, F, M>>⟧.rules ctx.old.plan.now ctx.old.face.now)
+        ≡ normalized (⟦<T as Meaning>⟧.rules ctx.old.plan.now ctx.old.face.now)
         ctx.old.buffer.now) }
     ensures counted { OnOk result (length (round_one
-        (⟦<S as Runs<U, F, M>>⟧.rules ctx.old.plan.now ctx.old.face.now)
+        (⟦<T as Meaning>⟧.rules ctx.old.plan.now ctx.old.face.now)
         ctx.old.buffer.now).items ≤ limit_of ctx.old.buffer.now) }
     ensures length { result ≡ Err ShapeError.Length
         → limit_of ctx.old.buffer.now < length (round_one
-        (⟦<S as Runs<U, F, M>>⟧.rules ctx.old.plan.now ctx.old.face.now) ctx.old.buffer.now).items }
+        (⟦<T as Meaning>⟧.rules ctx.old.plan.now ctx.old.face.now) ctx.old.buffer.now).items }
     ensures settings { cleared ctx.new.buffer.now ≡ cleared ctx.old.buffer.now }
+    ensures empty { ctx.old.buffer.now.items ≡ [] → IsOk result }
 {
-    let has_marks = has_mark_past_first(ctx.buffer.infos());
-    expand::<U, F, M, S>(alloc, ctx.plan, ctx.buffer, ctx.face)?;
-    if has_marks {
-        order_runs::<U, F, M, S>(alloc, ctx.plan, ctx.face, ctx.buffer)?;
+    if ctx.buffer.len() == 0 {
+        return Ok(());
     }
+    let has_marks = has_mark_past_first(ctx.buffer.infos());
+    expand_and_order::<T>(alloc, ctx.plan, ctx.buffer, ctx.face, has_marks)?;
     unhide_cgj(ctx.buffer);
-    if has_marks && recomposes::<U, F, M, S>(ctx.plan) {
-        recompose::<U, F, M, S>(alloc, ctx.plan, ctx.buffer, ctx.face)?;
+    if has_marks && recomposes::<T>(ctx.plan) {
+        recompose::<T>(alloc, ctx.plan, ctx.buffer, ctx.face)?;
     }
     Ok(())
 }

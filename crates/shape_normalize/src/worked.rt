@@ -1,6 +1,7 @@
 //! The definitions of normalising, computed on small cases whose answers are worked out by hand.
 ghost use Rattle.shape_normalize.specs.WorkedHooks.{HooksWorked};
 ghost use Rattle.shape_normalize.specs.WorkedOne.{RoundOneWorked};
+ghost use Rattle.shape_normalize.specs.WorkedOneWalk.{OneWalkWorked};
 ghost use Rattle.shape_normalize.specs.WorkedOrigins.{OriginsWorked};
 ghost use Rattle.shape_normalize.specs.WorkedThree.{RoundThreeWorked};
 ghost use Rattle.shape_normalize.specs.WorkedTwo.{RoundTwoWorked};
@@ -13,6 +14,11 @@ pub fn round_one_meets_worked_cases()
 /// Runs of marks and their spans, the shaper's hook, and CGJ.
 pub fn round_two_meets_worked_cases()
     ensures { RoundTwoWorked }
+{}
+
+/// Marks that come of expansions: which stand by themselves, which runs are put in order.
+pub fn one_walk_meets_worked_cases()
+    ensures { OneWalkWorked }
 {}
 
 /// What composes, what the composed item has, and what is merged.

@@ -52,7 +52,7 @@ seen-run flags steps keep = record { leads = along steps keep }
 
 module _ (run : Run) (target : Direction) (flags : BufferFlags) (lawful : LawfulReorder run.rules.reorder)
     (masks : LawfulMasks run.map) (features : MasksAreFeatures run.decisions) (keeps : RunKeepsFlags run) where
-  -- the steps of preparing behind the first, which takes every flag away
+  -- the steps of preparing after the first, which takes every flag away
   abbrev behind_first : List Step
   behind_first =
       (step (graphemes_marked run.unicode) ∷ step (dotted_circled run.unicode run.face) ∷ step clusters_formed ∷ [])

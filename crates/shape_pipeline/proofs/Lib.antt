@@ -1,5 +1,7 @@
+mod CanonicalLemmas
 mod FlagRunLemmas
 mod OrderLemmas
 mod PartLemmas
 mod PremiseLemmas
 mod RunLemmas
+mod WorkedOwedLemmas

@@ -16,19 +16,20 @@ use Rattle.shape_normalize.specs.CanonicalForm.{HasLawfulHooks, TextPremises, Ha
 use Rattle.shape_normalize.specs.Normalized.{HookKeepsClusters}
 use Rattle.shape_buffer.specs.Prepared.{IsPrepared}
 use Rattle.shape_plan.specs.Keepers.{EachHook, EachCall, RunKeepsFlags, has_steps}
-use Rattle.shape_plan.specs.Plan.{Plan}
+use Rattle.shape_plan.specs.Plan.{Plan, hooks_of}
 use Rattle.shape_plan.specs.Rules.{Rules, rules_of, used_decompositions, used_compose}
 use Rattle.shape_plan.specs.Run.{Run, run_of}
 use Rattle.shape_plan.specs.Shaper.{HookMeaning, ShaperConstants}
 use Rattle.shape_plan.specs.Shapers.{no_hooks}
 use Rattle.shape_plan.proofs.KeeperLemmas.{called}
+use Rattle.shape_pipeline.specs.Canonical.{RunKeepsEquivalence}
 use Rattle.shape_pipeline.specs.Headline.{prepared_text}
 use Rattle.shape_pipeline.specs.Headline.{target_of}
 use Rattle.shape_pipeline.specs.Order.{RunKeepsClusters}
-use Rattle.shape_pipeline.specs.Premises.{LeavesBuffers, OwesNothing}
+use Rattle.shape_pipeline.specs.Premises.{LeavesBuffers, HookByHook, OwesNothing}
 use Rattle.shape_pipeline.specs.Shaped.{entered}
 use Rattle.shape_pipeline.proofs.RunLemmas.{prepared_text-cases}
-use Rattle.shape_normalize.proofs.Hooks.LawfulLemmas.{reorder-unasked}
+use Rattle.shape_normalize.proofs.Hooks.LawfulLemmas.{lawful-unasked, reorder-unasked}
 use Rattle.shape_prepare.specs.PreparedPoint.{KeepsPrepared}
 use Rattle.shape_buffer.proofs.Steps.KeeperLemmas.{KeepsOrder-same}
 use Rattle.shape_prepare.proofs.Keeping.PreparedLemmas.{preparing_prepares}
@@ -61,13 +62,13 @@ clusters-no_lookups = EachLookup-none IsClusterKeeper clusters-left
 pub flags-no_lookups : LookupsKeepFlags no_lookups
 flags-no_lookups = EachLookup-none IsFlagKeeper flags-left
 
-EachHook-none : (Keeps : (Buffer → Buffer) → Type 0) → Keeps (λ b. b) → (unicode : UnicodeMeaning) (constants : ShaperConstants)
-    → EachHook Keeps constants (no_hooks unicode)
-EachHook-none Keeps left unicode constants = record {
+EachHook-none : (Keeps : (Buffer → Buffer) → Type 0) → Keeps (λ b. b) → (unicode : UnicodeMeaning) (run : Run)
+    → EachHook Keeps run (no_hooks unicode)
+EachHook-none Keeps left unicode run = record {
   preprocess = λ given. left;
   setup_masks = λ given. left;
   postprocess = λ given. left;
-  pause = λ given n. left;
+  pause = λ given staged i n within asked. left;
 }
 
 none_given : (preprocess setup_masks postprocess pause : Bool) → (preprocess || setup_masks || postprocess || pause) ≡ false
@@ -78,11 +79,11 @@ none_given false false true pause none = cc
 none_given false true postprocess pause none = cc
 none_given true setup_masks postprocess pause none = cc
 
-EachHook-not_given : (Keeps : (Buffer → Buffer) → Type 0) (constants : ShaperConstants) → has_steps constants ≡ false
-    → (hooks : HookMeaning) → EachHook Keeps constants hooks
-EachHook-not_given Keeps constants none hooks =
-    let each = none_given constants.has_preprocess_text constants.has_setup_masks constants.has_postprocess_glyphs
-    constants.has_pause none in
+EachHook-not_given : (Keeps : (Buffer → Buffer) → Type 0) (run : Run) → has_steps run.constants ≡ false
+    → (hooks : HookMeaning) → EachHook Keeps run hooks
+EachHook-not_given Keeps run none hooks =
+    let each = none_given run.constants.has_preprocess_text run.constants.has_setup_masks run.constants.has_postprocess_glyphs
+    run.constants.has_pause none in
     record {
       preprocess = λ given. absurd (let e : true ≡ false = sym given ∙ each.0 in cc);
       setup_masks = λ given. absurd (let e : true ≡ false = sym given ∙ each.1 in cc);
@@ -90,13 +91,27 @@ EachHook-not_given Keeps constants none hooks =
       pause = λ given. absurd (let e : true ≡ false = sym given ∙ each.3 in cc);
     }
 
-EachHook-left : (Keeps : (Buffer → Buffer) → Type 0) → Keeps (λ b. b) → (constants : ShaperConstants) (hooks : HookMeaning)
-    → LeavesBuffers hooks → EachHook Keeps constants hooks
-EachHook-left Keeps left constants hooks leaves = record {
+EachHook-left : (Keeps : (Buffer → Buffer) → Type 0) → Keeps (λ b. b) → (run : Run) (hooks : HookMeaning)
+    → LeavesBuffers hooks → EachHook Keeps run hooks
+EachHook-left Keeps left run hooks leaves = record {
   preprocess = λ given. subst Keeps (sym leaves.preprocess) left;
   setup_masks = λ given. subst Keeps (sym leaves.setup_masks) left;
   postprocess = λ given. subst Keeps (sym leaves.postprocess) left;
-  pause = λ given n. subst (λ pause. Keeps (pause n)) (sym leaves.pause) left;
+  pause = λ given staged i n within asked. subst (λ pause. Keeps (pause n)) (sym leaves.pause) left;
+}
+
+-- a hook that is given is one that keeps
+given-keeps : {Owed : Type 0} (given : Bool) → (given ≡ false) ⊎ Owed → given ≡ true → Owed
+given-keeps given (inl not_given) is = absurd (let e : true ≡ false = sym is ∙ not_given in cc)
+given-keeps given (inr keeps) is = keeps
+
+EachHook-by_hook : (Keeps : (Buffer → Buffer) → Type 0) (run : Run) (hooks : HookMeaning)
+    → HookByHook Keeps run hooks → EachHook Keeps run hooks
+EachHook-by_hook Keeps run hooks each = record {
+  preprocess = given-keeps run.constants.has_preprocess_text each.preprocess;
+  setup_masks = given-keeps run.constants.has_setup_masks each.setup_masks;
+  postprocess = given-keeps run.constants.has_postprocess_glyphs each.postprocess;
+  pause = given-keeps run.constants.has_pause each.pause;
 }
 
 -- what holds of the shaper's hooks holds of those that the plan keeps
@@ -136,7 +151,7 @@ module _ {S : Type 0} (unicode : UnicodeMeaning) (lawful : LawfulUnicode unicode
       subst P (sym (none s)) (composes-none unicode lawful splits composes)
 
 -- each item's mark and ccc are those of its character as normalising begins, where the shaper's hook leaves them so
-prepared_text-prepared : (run : Run) (text : Buffer) → LawfulUnicode run.unicode
+pub prepared_text-prepared : (run : Run) (text : Buffer) → LawfulUnicode run.unicode
     → ((hooks : HookMeaning) → run.hooks ≡ Some hooks → run.constants.has_preprocess_text ≡ true
     → KeepsPrepared run.unicode hooks.preprocess)
     → IsPrepared run.unicode (prepared_text run text).items
@@ -153,29 +168,61 @@ no_reorder-keeps rules no_reorder reorder is = absurd (let e : None ≡ Some reo
 module _ {S P D F : Type 0} (unicode : UnicodeMeaning) (masks : P → MapMeaning) (lookups : P → F → LookupMeaning)
     (constants : ShaperConstants)
     (hooks : S → Plan S P D → F → HookMeaning) (faces : F → FaceMeaning) (plan : Plan S P D) (face : F) where
+  -- the run by this plan and face
+  abbrev this_run : Run
+  this_run = run_of unicode masks lookups constants hooks faces plan face
+
   -- no hook is given, or each leaves buffers as they are
   abbrev LeavesAll : Type 0
   LeavesAll = (has_steps constants ≡ false) ⊎ ((s : S) → LeavesBuffers (hooks s plan face))
 
   calls-not_given : (Keeps : (Buffer → Buffer) → Type 0) → Keeps (λ b. b) → LeavesAll → EachLookup Keeps (lookups plan.ot_map face)
-      → EachCall Keeps (run_of unicode masks lookups constants hooks faces plan face)
+      → EachCall Keeps this_run
   calls-not_given Keeps left (inl none) keep = record {
-    lookups = called Keeps (run_of unicode masks lookups constants hooks faces plan face) keep;
-    hooks = λ h is. EachHook-not_given Keeps constants none h;
+    lookups = called Keeps this_run keep;
+    hooks = λ h is. EachHook-not_given Keeps this_run none h;
   }
   calls-not_given Keeps left (inr leaves) keep = record {
-    lookups = called Keeps (run_of unicode masks lookups constants hooks faces plan face) keep;
-    hooks = of_kept (λ s. hooks s plan face) (EachHook Keeps constants)
-        (λ s. EachHook-left Keeps left constants (hooks s plan face) (leaves s)) plan.shaper;
+    lookups = called Keeps this_run keep;
+    hooks = of_kept (λ s. hooks s plan face) (EachHook Keeps this_run)
+        (λ s. EachHook-left Keeps left this_run (hooks s plan face) (leaves s)) plan.shaper;
+  }
+
+  calls-by_hook : (Keeps : (Buffer → Buffer) → Type 0) → ((s : S) → HookByHook Keeps this_run (hooks s plan face))
+      → EachLookup Keeps (lookups plan.ot_map face) → EachCall Keeps this_run
+  calls-by_hook Keeps each keep = record {
+    lookups = called Keeps this_run keep;
+    hooks = of_kept (λ s. hooks s plan face) (EachHook Keeps this_run)
+        (λ s. EachHook-by_hook Keeps this_run (hooks s plan face) (each s)) plan.shaper;
+  }
+
+  pub flags-by_hook : ((s : S) → HookByHook IsFlagKeeper this_run (hooks s plan face)) → LookupsKeepFlags (lookups plan.ot_map face)
+      → RunKeepsFlags this_run
+  flags-by_hook = calls-by_hook IsFlagKeeper
+
+  pub clusters-by_hook : ((s : S) → HookByHook IsClusterKeeper this_run (hooks s plan face))
+      → LookupsKeepClusters (lookups plan.ot_map face) → HookKeepsClusters (rules_of unicode constants hooks faces plan face)
+      → RunKeepsClusters this_run
+  clusters-by_hook each keep reordering = record { calls = calls-by_hook IsClusterKeeper each keep; reordering = reordering }
+
+  pub equivalence-by_hook : LawfulUnicode unicode → constants.has_decompose ≡ false → constants.has_compose ≡ false
+      → constants.has_reorder_marks ≡ false
+      → (constants.has_preprocess_text ≡ false) ⊎ ((s : S) → KeepsPrepared unicode (hooks s plan face).preprocess)
+      → RunKeepsEquivalence this_run
+  equivalence-by_hook lawful no_split no_compose no_reorder preprocess = record {
+    lawful_hooks = lawful-unasked unicode constants hooks faces plan face lawful no_split no_compose;
+    no_reordering = reorder-unasked unicode constants hooks faces plan face no_reorder;
+    preprocess = λ h is given. of_kept (λ s. hooks s plan face) (λ h. KeepsPrepared unicode h.preprocess)
+        (given-keeps constants.has_preprocess_text preprocess given) plan.shaper h is;
   }
 
   pub flags-not_given : LeavesAll → LookupsKeepFlags (lookups plan.ot_map face)
-      → RunKeepsFlags (run_of unicode masks lookups constants hooks faces plan face)
+      → RunKeepsFlags this_run
   flags-not_given = calls-not_given IsFlagKeeper flags-left
 
   pub clusters-not_given : LeavesAll → LookupsKeepClusters (lookups plan.ot_map face)
       → HookKeepsClusters (rules_of unicode constants hooks faces plan face)
-      → RunKeepsClusters (run_of unicode masks lookups constants hooks faces plan face)
+      → RunKeepsClusters this_run
   clusters-not_given not_given keep reordering = record {
     calls = calls-not_given IsClusterKeeper clusters-left not_given keep;
     reordering = reordering;
@@ -184,11 +231,11 @@ module _ {S P D F : Type 0} (unicode : UnicodeMeaning) (masks : P → MapMeaning
   module _ (lawful : LawfulUnicode unicode) (no_reorder : constants.has_reorder_marks ≡ false)
       (none : (s : S) → hooks s plan face ≡ no_hooks unicode) where
     calls-none : (Keeps : (Buffer → Buffer) → Type 0) → Keeps (λ b. b) → EachLookup Keeps (lookups plan.ot_map face)
-        → EachCall Keeps (run_of unicode masks lookups constants hooks faces plan face)
+        → EachCall Keeps this_run
     calls-none Keeps left keep = record {
-      lookups = called Keeps (run_of unicode masks lookups constants hooks faces plan face) keep;
-      hooks = of_kept (λ s. hooks s plan face) (EachHook Keeps constants)
-          (λ s. subst (EachHook Keeps constants) (sym (none s)) (EachHook-none Keeps left unicode constants)) plan.shaper;
+      lookups = called Keeps this_run keep;
+      hooks = of_kept (λ s. hooks s plan face) (EachHook Keeps this_run)
+          (λ s. subst (EachHook Keeps this_run) (sym (none s)) (EachHook-none Keeps left unicode this_run)) plan.shaper;
     }
 
     lawful-none : HasLawfulHooks (rules_of unicode constants hooks faces plan face)
@@ -198,16 +245,20 @@ module _ {S P D F : Type 0} (unicode : UnicodeMeaning) (masks : P → MapMeaning
           (λ s. hooks s plan face) none constants.has_decompose constants.has_compose plan.shaper;
     }
 
+    preprocess-none : (h : HookMeaning) → hooks_of hooks plan face ≡ Some h → constants.has_preprocess_text ≡ true
+        → KeepsPrepared unicode h.preprocess
+    preprocess-none h is given =
+        of_kept (λ s. hooks s plan face) (λ h. KeepsPrepared unicode h.preprocess)
+        (λ s. subst (λ (h : HookMeaning). KeepsPrepared unicode h.preprocess) (sym (none s)) (λ b all. all)) plan.shaper h is
+
     prepared-none : (text : Buffer)
-        → IsPrepared unicode (prepared_text (run_of unicode masks lookups constants hooks faces plan face) text).items
+        → IsPrepared unicode (prepared_text this_run text).items
     prepared-none text =
         let run = run_of unicode masks lookups constants hooks faces plan face in
-        prepared_text-prepared run text lawful
-        (λ h is given. of_kept (λ s. hooks s plan face) (λ h. KeepsPrepared unicode h.preprocess)
-        (λ s. subst (λ (h : HookMeaning). KeepsPrepared unicode h.preprocess) (sym (none s)) (λ b all. all)) plan.shaper h is)
+        prepared_text-prepared run text lawful preprocess-none
 
     pub owes_nothing : LookupsKeepClusters (lookups plan.ot_map face) → LookupsKeepFlags (lookups plan.ot_map face)
-        → OwesNothing (run_of unicode masks lookups constants hooks faces plan face)
+        → OwesNothing this_run
     owes_nothing clusters flags =
         let unordered = reorder-unasked unicode constants hooks faces plan face no_reorder in
         let asked : (text : List ℕ) → HasNoSelector (rules_of unicode constants hooks faces plan face) text
@@ -218,6 +269,7 @@ module _ {S P D F : Type 0} (unicode : UnicodeMeaning) (masks : P → MapMeaning
             reordering = no_reorder-keeps (rules_of unicode constants hooks faces plan face) unordered;
           };
           flags = calls-none IsFlagKeeper flags-left flags;
+          canonical = record { lawful_hooks = lawful-none; no_reordering = unordered; preprocess = preprocess-none };
           hooks = lawful-none;
           no_reordering = unordered;
           prepared = prepared-none;

@@ -129,7 +129,7 @@ pub prepared_text-cases : (P : Buffer → Type 0) (run : Run) (target : Directio
 prepared_text-cases P run target b [] none some = none refl
 prepared_text-cases P run target b (x ∷ xs) none some = some
 
--- a whole run is its preparing, normalising, and the steps behind these
+-- a whole run is its preparing, normalising, and the steps after these
 pub made_of_list : (run : Run) (text : Buffer) → IsMadeOfNormalisedList run text (shaped run text)
 made_of_list run text some =
     let target = target_of run text in

@@ -2,6 +2,9 @@ pub mod Kept
 pub mod Shaped
 pub mod Order
 pub mod Headline
+pub mod Canonical
 pub mod Planned
 pub mod Premises
 pub mod WorkedRun
+pub mod WorkedBeginnings
+pub mod WorkedOwed

@@ -1,5 +1,5 @@
 -- A run: the list of its steps, and what it makes of a text.
-use Rattle.std.specs.Prelude.{◌≡◌, ◌≢◌, ◌≤◌, List, [], ◌∷◌, ◌++◌, Some, None, length}
+use Rattle.std.specs.Prelude.{◌≡◌, ◌≢◌, ◌<◌, ◌≤◌, ◌⊎◌, List, [], ◌∷◌, ◌++◌, Some, None, length}
 use Rattle.shape_buffer.specs.Buffer.{Buffer, limit_of, run_limit}
 use Rattle.shape_buffer.specs.Guess.{guessed, guessed_direction}
 use Rattle.shape_buffer.specs.Outcome.{Step, step, run_steps, EachWithin, SomePast}
@@ -95,3 +95,9 @@ pub record PreparingPasses (run : Run) (target : Direction) (b : Buffer) : Type 
 
 pub record ShapingPasses (run : Run) (target : Direction) (b : Buffer) : Type 0 where
   pub past : SomePast (all_steps run target) (entered b)
+
+-- preparing a text would make such a list, or its normalised list would be made over one
+abbrev pub NormalisingPasses : Run → Direction → Buffer → Type 0
+NormalisingPasses run target b =
+    let text = text_made run target b in
+    (HasItems b × PreparingPasses run target b) ⊎ (limit_of text < length (round_one run.rules text).items)

@@ -1,31 +1,43 @@
 //! Laws that spare callers a proof: each function has laws as its contract, and nothing to do.
 //!
 //! A run owes what its shaper's hooks and its engine's lookups do: that they keep clusters, that they keep
-//! flags, and for canonical form that they split and compose lawfully. A caller with
+//! flags, and for canonical form that hooks keep equivalence. A caller with
 //! the default shaper and the engine that changes nothing has all of it by [`plain_runs_owe_nothing`], one
 //! with another shaper without hooks by [`runs_without_hooks_owe_nothing`]; one with hooks or lookups of its
 //! own proves those alone, and takes the rest from here.
-ghost use Rattle.std.specs.Prelude.{◌≡◌, ◌≢◌, ◌⊎◌, false};
+ghost use Rattle.std.specs.Prelude.{◌≡◌, ◌≢◌, ◌⊎◌, ◌<◌, ℕ, false, All};
+ghost use Rattle.std.specs.List.Sorted.{IsNonDecreasing};
 ghost use Rattle.shape_buffer.specs.Buffer.{Buffer};
+ghost use Rattle.shape_buffer.specs.ClusterOrder.{IsMonotoneLevel};
+ghost use Rattle.shape_buffer.specs.Clusters.{clusters};
+ghost use Rattle.shape_buffer.specs.Guess.{guessed};
+ghost use Rattle.shape_buffer.specs.Keepers.{IsClusterKeeper, IsFlagKeeper};
 ghost use Rattle.shape_buffer.specs.Keepers.{LookupsKeepClusters, LookupsKeepFlags};
 ghost use Rattle.shape_buffer.specs.NoLookups.{no_lookups};
 ghost use Rattle.shape_buffer.specs.declared.buffer.settings.Direction.{Direction};
+ghost use Rattle.shape_normalize.specs.CanonicalForm.{text_of};
+ghost use Rattle.shape_lines.specs.CanCut.{CanCut};
 ghost use Rattle.shape_normalize.specs.Normalized.{normalized, HookKeepsClusters};
 ghost use Rattle.shape_plan.specs.Keepers.{RunKeepsFlags, has_steps};
 ghost use Rattle.shape_plan.specs.Plan.{Plan};
+ghost use Rattle.shape_plan.specs.Run.{Run};
 ghost use Rattle.shape_plan.specs.Shapers.{no_hooks};
+ghost use Rattle.shape_prepare.specs.PreparedPoint.{KeepsPrepared};
 ghost use Rattle.shape_plan.specs.declared.ot_shaper.shapers.hb_default_shaper_t.{hb_default_shaper_t as DefaultShaper};
 ghost use Rattle.shape_pipeline.specs.Headline.{NormalForm, FlagsAreByCluster};
+ghost use Rattle.shape_pipeline.specs.Canonical.{ListIsCanonical, RunKeepsEquivalence};
+ghost use Rattle.shape_pipeline.specs.Canonical.{LeavesText, SpellingsMeet, prepared_characters};
 ghost use Rattle.shape_pipeline.specs.Order.{RunKeepsClusters, ClustersComeInOrder};
 ghost use Rattle.shape_pipeline.specs.Shaped.{run_made};
-ghost use Rattle.shape_pipeline.specs.Premises.{LeavesBuffers, OwesNothing};
+ghost use Rattle.shape_pipeline.specs.Premises.{LeavesBuffers, HookByHook, OwesNothing};
 
 use shape_buffer::interfaces::{NoLookups, hb_font_t, hb_ot_layout_t, hb_unicode_funcs_t};
 pub use shape_normalize::laws::{hooks_not_given_are_lawful, reordering_permutes_the_run};
 use shape_plan::ot_shape_plan::hb_ot_shape_plan_t;
 use shape_plan::ot_shaper::{Runs, hb_default_shaper_t, hb_ot_shaper_t};
 pub use shape_prepare::laws::{
-    preparing_keeps_firsts, preparing_keeps_flags, preparing_keeps_order, preparing_prepares,
+    preparing_keeps_characters, preparing_keeps_firsts, preparing_keeps_flags,
+    preparing_keeps_order, preparing_prepares,
 };
 
 /// The engine that changes nothing keeps clusters and flags, whatever was compiled and whatever the face.
@@ -53,8 +65,35 @@ where
         → LookupsKeepFlags run.lookups → RunKeepsFlags run }
 {}
 
+/// Hook by hook: a shaper that gives one hook owes what that one does, and nothing of the others. A run keeps
+/// clusters, or flags, where each of its hooks that is given does and its engine's lookups do; of the hook
+/// that reorders marks the first asks its own. It keeps equivalence where none splits, composes or reorders,
+/// and a given `preprocess_text` leaves prepared items prepared.
+pub fn given_hooks_keep<U, F, M, S>()
+where
+    U: hb_unicode_funcs_t,
+    F: hb_font_t,
+    M: hb_ot_layout_t<F>,
+    S: hb_ot_shaper_t<U, F, M>,
+    ensures clusters { (plan : Plan S M.Map S.Data) (face : F)
+        → let run = ⟦<S as Runs<U, F, M>>⟧.run plan face in
+        ((shaper : S) → HookByHook IsClusterKeeper run (S.hooks shaper plan face))
+        → LookupsKeepClusters run.lookups → HookKeepsClusters run.rules → RunKeepsClusters run }
+    ensures flags { (plan : Plan S M.Map S.Data) (face : F)
+        → let run = ⟦<S as Runs<U, F, M>>⟧.run plan face in
+        ((shaper : S) → HookByHook IsFlagKeeper run (S.hooks shaper plan face))
+        → LookupsKeepFlags run.lookups → RunKeepsFlags run }
+    ensures equivalence { (plan : Plan S M.Map S.Data) (face : F)
+        → let run = ⟦<S as Runs<U, F, M>>⟧.run plan face in
+        S.constants.has_decompose ≡ false → S.constants.has_compose ≡ false
+        → S.constants.has_reorder_marks ≡ false
+        → (S.constants.has_preprocess_text ≡ false)
+        ⊎ ((shaper : S) → KeepsPrepared U.unicode (S.hooks shaper plan face).preprocess)
+        → RunKeepsEquivalence run }
+{}
+
 /// A run owes nothing where its shaper's hooks do what is done without them, whichever of them are given
-/// but for the one that reorders marks, and its lookups keep clusters and flags: then it does so too, and
+/// except for the one that reorders marks, and its lookups keep clusters and flags: then it does so too, and
 /// what canonical form asks of a shaper holds of every text.
 pub fn runs_without_hooks_owe_nothing<U, F, M, S>()
 where
@@ -76,9 +115,41 @@ pub fn plain_runs_owe_nothing<U: hb_unicode_funcs_t, F: hb_font_t>()
         → OwesNothing (⟦<hb_default_shaper_t as Runs<U, F, NoLookups>>⟧.run plan face) }
 {}
 
+/// Where preparing leaves the characters of a text (no dotted circle goes in, nothing is turned, mirrored or
+/// taken in its vertical form, and a given hook leaves characters), they are those of the prepared text. So
+/// two such texts are led to the same normalised characters exactly where they are equivalent, where hooks
+/// keep equivalence and canonical form can be asked of both.
+pub fn equivalent_spellings_meet<U, F, M, S>()
+where
+    U: hb_unicode_funcs_t,
+    F: hb_font_t,
+    M: hb_ot_layout_t<F>,
+    S: hb_ot_shaper_t<U, F, M>,
+    ensures prepared { (plan : Plan S M.Map S.Data) (face : F)
+        → let run = ⟦<S as Runs<U, F, M>>⟧.run plan face in
+        (text : Buffer) → LeavesText run text → prepared_characters run text ≡ text_of text }
+    ensures meet { (plan : Plan S M.Map S.Data) (face : F)
+        → let run = ⟦<S as Runs<U, F, M>>⟧.run plan face in
+        RunKeepsEquivalence run → SpellingsMeet run }
+{}
+
+/// What `shape` and `shape_with_plan` answer can be cut into lines, by their clauses `clusters` and `flags`: at a
+/// monotone level, where the text's clusters never fall, lookups and hooks keep clusters and flags, and each
+/// cluster of the text is below its end. Where `push_str` brought the text in, that is its length in bytes:
+/// the clauses `clusters` of `push_str` say both.
+pub fn glyphs_can_be_cut()
+    ensures { (run : Run) (target : Direction) (text glyphs : Buffer) (text_end : ℕ)
+        → ClustersComeInOrder run target (guessed run.unicode text) glyphs
+        → FlagsAreByCluster run text glyphs
+        → RunKeepsClusters run → RunKeepsFlags run
+        → IsMonotoneLevel text.cluster_level → IsNonDecreasing (clusters text.items)
+        → All (λ item. item.cluster < text_end) text.items → CanCut glyphs text_end }
+{}
+
 /// What is promised of whole runs, for callers of `shape_internal`, whose `ok` says what a run makes: over any
-/// text in a known direction its clusters come in order and its flags by cluster, under their premises; and
-/// the normalised list of any buffer has its form. Does nothing.
+/// text in a known direction its clusters come in order and its flags by cluster, under their premises; the
+/// normalised list of any buffer has its form, and that of any text is canonical, under its premise. Does
+/// nothing.
 pub fn whole_runs_keep_promises<U, F, M, S>(
     plan: &hb_ot_shape_plan_t<'_, S, M::Map, S::Data>,
     face: &F,
@@ -96,6 +167,8 @@ where
         → FlagsAreByCluster run text (run_made run target text) }
     ensures form { let run = ⟦<S as Runs<U, F, M>>⟧.run plan.now face.now in
         (text : Buffer) → NormalForm run.rules text (normalized run.rules text) }
+    ensures canonical { let run = ⟦<S as Runs<U, F, M>>⟧.run plan.now face.now in
+        (text : Buffer) → ListIsCanonical run text }
 {
     plan.masks_are_features();
 }

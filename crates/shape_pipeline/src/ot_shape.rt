@@ -11,7 +11,7 @@ ghost use Rattle.shape_pipeline.specs.Shaped.{all_steps, entered, Prepares, Shap
 ghost use Rattle.shape_pipeline.specs.Shaped.{PreparingPasses, ShapingPasses};
 ghost use Rattle.shape_prepare.specs.PrepareSteps.{prepare_steps};
 
-mod kept;
+pub(crate) mod kept;
 mod run;
 
 use crate::ot_shape::kept::KeptSettings;
@@ -21,6 +21,7 @@ use shape_buffer::interfaces::{hb_font_t, hb_ot_layout_t, hb_unicode_funcs_t};
 use shape_plan::ot_shape_plan::hb_ot_shape_plan_t;
 use shape_plan::ot_shaper::{Runs, hb_ot_shaper_t};
 pub use shape_plan::planner::hb_ot_shape_planner_t;
+use shape_plan::shaping_types::{Meaning, PlanOf, ShapingTypes, TypesOf};
 use shape_prepare::prepare::prepare;
 pub use shape_substitute::syllables::syllabic_clear_var;
 use std::alloc::Global;
@@ -65,26 +66,21 @@ where
     ensures empty { ctx.old.buffer.now.items ≡ [] → IsOk result }
 {
     let direction = ctx.target_direction;
-    prepare_whole::<U, F, M, S>(alloc, ctx.plan, ctx.face, ctx.buffer, direction)
+    prepare_whole::<TypesOf<U, F, M, S>>(alloc, ctx.plan, ctx.face, ctx.buffer, direction)
 }
 
 /// Prepares the text of a buffer.
-fn prepare_whole<U, F, M, S>(
+pub(crate) fn prepare_whole<T: ShapingTypes>(
     alloc: Global,
-    plan: &hb_ot_shape_plan_t<'_, S, M::Map, S::Data>,
-    face: &F,
+    plan: &PlanOf<'_, T>,
+    face: &T::Face,
     buffer: &mut hb_buffer_t,
     target: Direction,
 ) -> Result<(), ShapeError>
-where
-    U: hb_unicode_funcs_t,
-    F: hb_font_t,
-    M: hb_ot_layout_t<F>,
-    S: hb_ot_shaper_t<U, F, M>,
     ensures ok { OnOk result (Prepares
-        (⟦<S as Runs<U, F, M>>⟧.run plan.now face.now) target buffer.old buffer.new) }
+        (⟦<T as Meaning>⟧.run plan.now face.now) target buffer.old buffer.new) }
     ensures length { result ≡ Err ShapeError.Length
-        → PreparingPasses (⟦<S as Runs<U, F, M>>⟧.run plan.now face.now) target buffer.old }
+        → PreparingPasses (⟦<T as Meaning>⟧.run plan.now face.now) target buffer.old }
     ensures cleared { OnErr result (buffer.new ≡ cleared buffer.old) }
     ensures empty { buffer.old.items ≡ [] → IsOk result }
 {
@@ -92,7 +88,7 @@ where
         return Ok(());
     }
     let kept = KeptSettings::of(buffer);
-    match enter_and_prepare::<U, F, M, S>(alloc, plan, face, buffer, target) {
+    match enter_and_prepare::<T>(alloc, plan, face, buffer, target) {
         Ok(()) => Ok(()),
         Err(cause) => {
             kept.clear(buffer);
@@ -102,24 +98,19 @@ where
 }
 
 /// Begins a run and prepares its text.
-fn enter_and_prepare<U, F, M, S>(
+fn enter_and_prepare<T: ShapingTypes>(
     alloc: Global,
-    plan: &hb_ot_shape_plan_t<'_, S, M::Map, S::Data>,
-    face: &F,
+    plan: &PlanOf<'_, T>,
+    face: &T::Face,
     buffer: &mut hb_buffer_t,
     target: Direction,
 ) -> Result<(), ShapeError>
-where
-    U: hb_unicode_funcs_t,
-    F: hb_font_t,
-    M: hb_ot_layout_t<F>,
-    S: hb_ot_shaper_t<U, F, M>,
     requires { IsWithinLimit (entered buffer.old) }
-    ensures { RunOutcome (prepare_steps (⟦<S as Runs<U, F, M>>⟧.run plan.now face.now) target)
+    ensures { RunOutcome (prepare_steps (⟦<T as Meaning>⟧.run plan.now face.now) target)
         (entered buffer.old) buffer.new result }
 {
     buffer.enter();
-    prepare::<U, F, M, S>(alloc, plan, face, buffer, target)
+    prepare::<T>(alloc, plan, face, buffer, target)
 }
 
 /// Shapes the text of a buffer: every step of a run, from entering to leaving. Does nothing for an empty
@@ -148,26 +139,21 @@ where
     ensures empty { ctx.old.buffer.now.items ≡ [] → IsOk result }
 {
     let direction = ctx.target_direction;
-    shape_whole::<U, F, M, S>(alloc, ctx.plan, ctx.face, ctx.buffer, direction)
+    shape_whole::<TypesOf<U, F, M, S>>(alloc, ctx.plan, ctx.face, ctx.buffer, direction)
 }
 
 /// Shapes the text of a buffer.
-fn shape_whole<U, F, M, S>(
+fn shape_whole<T: ShapingTypes>(
     alloc: Global,
-    plan: &hb_ot_shape_plan_t<'_, S, M::Map, S::Data>,
-    face: &F,
+    plan: &PlanOf<'_, T>,
+    face: &T::Face,
     buffer: &mut hb_buffer_t,
     target: Direction,
 ) -> Result<(), ShapeError>
-where
-    U: hb_unicode_funcs_t,
-    F: hb_font_t,
-    M: hb_ot_layout_t<F>,
-    S: hb_ot_shaper_t<U, F, M>,
     ensures ok { OnOk result (Shapes
-        (⟦<S as Runs<U, F, M>>⟧.run plan.now face.now) target buffer.old buffer.new) }
+        (⟦<T as Meaning>⟧.run plan.now face.now) target buffer.old buffer.new) }
     ensures length { result ≡ Err ShapeError.Length
-        → ShapingPasses (⟦<S as Runs<U, F, M>>⟧.run plan.now face.now) target buffer.old }
+        → ShapingPasses (⟦<T as Meaning>⟧.run plan.now face.now) target buffer.old }
     ensures cleared { OnErr result (buffer.new ≡ cleared buffer.old) }
     ensures empty { buffer.old.items ≡ [] → IsOk result }
 {
@@ -175,7 +161,7 @@ where
         return Ok(());
     }
     let kept = KeptSettings::of(buffer);
-    match enter_and_shape::<U, F, M, S>(alloc, plan, face, buffer, target) {
+    match enter_and_shape::<T>(alloc, plan, face, buffer, target) {
         Ok(()) => {
             buffer.set_direction(target);
             buffer.leave();
@@ -189,22 +175,17 @@ where
 }
 
 /// Begins a run and makes all its steps but its end.
-fn enter_and_shape<U, F, M, S>(
+fn enter_and_shape<T: ShapingTypes>(
     alloc: Global,
-    plan: &hb_ot_shape_plan_t<'_, S, M::Map, S::Data>,
-    face: &F,
+    plan: &PlanOf<'_, T>,
+    face: &T::Face,
     buffer: &mut hb_buffer_t,
     target: Direction,
 ) -> Result<(), ShapeError>
-where
-    U: hb_unicode_funcs_t,
-    F: hb_font_t,
-    M: hb_ot_layout_t<F>,
-    S: hb_ot_shaper_t<U, F, M>,
     requires { IsWithinLimit (entered buffer.old) }
-    ensures { RunOutcome (all_steps (⟦<S as Runs<U, F, M>>⟧.run plan.now face.now) target)
+    ensures { RunOutcome (all_steps (⟦<T as Meaning>⟧.run plan.now face.now) target)
         (entered buffer.old) buffer.new result }
 {
     buffer.enter();
-    shape_entered::<U, F, M, S>(alloc, plan, face, buffer, target)
+    shape_entered::<T>(alloc, plan, face, buffer, target)
 }

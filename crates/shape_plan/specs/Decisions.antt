@@ -58,7 +58,7 @@ adjusts f = not (apply_gpos f) && (not (apply_kerx f) && (not (apply_kern f) || 
 abbrev pub fallback_mark_positioning : PlanFacts → Bool
 fallback_mark_positioning f = adjusts f && f.script_fallback_mark_positioning
 
--- where nothing places them, but for faces with morx, which count on it
+-- where nothing places them, except for faces with morx, which count on it
 abbrev pub adjust_when_zeroing : PlanFacts → Bool
 adjust_when_zeroing f = adjusts f && not f.apply_morx
 

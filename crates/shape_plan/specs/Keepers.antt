@@ -5,12 +5,18 @@ use Rattle.shape_buffer.specs.Keepers.{IsClusterKeeper, IsFlagKeeper}
 use Rattle.shape_plan.specs.Run.{Run}
 use Rattle.shape_plan.specs.Shaper.{ShaperConstants, HookMeaning}
 
--- a property of each hook that is given and changes a buffer, but for the one that reorders marks; a hook that isn't given is never called
-pub record EachHook (Keeps : (Buffer → Buffer) → Type 0) (constants : ShaperConstants) (hooks : HookMeaning) : Type 0 where
-  pub preprocess : constants.has_preprocess_text ≡ true → Keeps hooks.preprocess
-  pub setup_masks : constants.has_setup_masks ≡ true → Keeps hooks.setup_masks
-  pub postprocess : constants.has_postprocess_glyphs ≡ true → Keeps hooks.postprocess
-  pub pause : constants.has_pause ≡ true → (n : ℕ) → Keeps (hooks.pause n)
+-- a property of each pause that a run calls: of the numbers that its stages answer, where `morx` doesn't stand in their place
+abbrev pub EachCalledPause : ((Buffer → Buffer) → Type 0) → Run → HookMeaning → Type 0
+EachCalledPause Keeps run hooks =
+    run.decisions.apply_morx ≡ false → (i n : ℕ) → i < run.map.stages → run.map.pause_after i ≡ Some n → Keeps (hooks.pause n)
+
+-- a property of each hook that is given and changes a buffer, except for the one that reorders marks; a hook that isn't given is never
+-- called
+pub record EachHook (Keeps : (Buffer → Buffer) → Type 0) (run : Run) (hooks : HookMeaning) : Type 0 where
+  pub preprocess : run.constants.has_preprocess_text ≡ true → Keeps hooks.preprocess
+  pub setup_masks : run.constants.has_setup_masks ≡ true → Keeps hooks.setup_masks
+  pub postprocess : run.constants.has_postprocess_glyphs ≡ true → Keeps hooks.postprocess
+  pub pause : run.constants.has_pause ≡ true → EachCalledPause Keeps run hooks
 
 -- whether any of these is given
 abbrev pub has_steps : ShaperConstants → Bool
@@ -34,12 +40,12 @@ pub record EachCalledLookup (Keeps : (Buffer → Buffer) → Type 0) (run : Run)
 -- a property of each lookup that is called and of each hook of the shaper, where the plan keeps it
 pub record EachCall (Keeps : (Buffer → Buffer) → Type 0) (run : Run) : Type 0 where
   pub lookups : EachCalledLookup Keeps run
-  pub hooks : (hooks : HookMeaning) → run.hooks ≡ Some hooks → EachHook Keeps run.constants hooks
+  pub hooks : (hooks : HookMeaning) → run.hooks ≡ Some hooks → EachHook Keeps run hooks
 
 -- the flag premises
 abbrev pub RunKeepsFlags : Run → Type 0
 RunKeepsFlags run = EachCall IsFlagKeeper run
 
--- the cluster premises but for the hook that reorders marks, of which normalising asks its own
+-- the cluster premises except for the hook that reorders marks, of which normalising asks its own
 abbrev pub CallsKeepClusters : Run → Type 0
 CallsKeepClusters run = EachCall IsClusterKeeper run

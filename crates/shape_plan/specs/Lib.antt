@@ -15,3 +15,4 @@ pub mod WorkedDecisions
 pub mod WorkedPlans
 pub mod WorkedFaces
 pub mod WorkedTexts
+pub mod WorkedRuns

@@ -108,9 +108,21 @@ facts_of planning planner map =
       has_cross_kerning = layout.has_cross_kerning;
     }
 
--- a plan with what the shaper makes for it, where it is kept and gives the hook
+-- what the shaper makes for a plan, where it is kept and gives the hook
+abbrev pub data_for : {S P D : Type 0} → Bool → (S → Plan S P D → D) → Plan S P D → Option D
+data_for given made plan = option_map (λ make. make plan) (hook_of given made plan.shaper)
+
+-- a plan with that
 abbrev pub with_data : {S P D : Type 0} → Bool → (S → Plan S P D → D) → Plan S P D → Plan S P D
-with_data given made plan = record plan { shaper_data = option_map (λ make. make plan) (hook_of given made plan.shaper) }
+with_data given made plan = record plan { shaper_data = data_for given made plan }
+
+-- a plan as its shaper sees it when it makes its data: the same, without
+abbrev pub without_data : {S P D : Type 0} → Plan S P D → Plan S P D
+without_data plan = record plan { shaper_data = None }
+
+-- what a plan's shaper made for it
+abbrev pub own_data : {F S P D : Type 0} → Planning F S P D → Plan S P D → Option D
+own_data planning plan = data_for planning.constants.has_create_data planning.made_data (without_data plan)
 
 -- the plan that a planner makes, with a copy of the user's features
 unfoldable pub compiled_plan : {F S P D : Type 0} → Planning F S P D → List Feature → Planner F S → Plan S P D

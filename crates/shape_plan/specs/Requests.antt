@@ -20,7 +20,7 @@ on tag flags = feature_on tag flags 1
 abbrev pub add : hb_tag_t → ℕ → MapRequest
 add tag flags = feature tag flags 1
 
--- variations come first, and substitution pauses behind them
+-- variations come first, and substitution pauses after them
 abbrev pub variations : List MapRequest
 variations = on tag.rvrn F_NONE ∷ pause None ∷ []
 
@@ -46,7 +46,7 @@ tracking = on tag.trak F_HAS_FALLBACK ∷ on tag.harf F_NONE ∷ on tag.harf_dis
 abbrev pub first_requests : Direction → List MapRequest
 first_requests direction = variations ++ forms direction ++ fractions ++ random ++ tracking
 
--- two features of faces that come behind those of a script
+-- two features of faces that come after those of a script
 abbrev pub behind_script : List MapRequest
 behind_script = on tag.buzz F_NONE ∷ on tag.buzz_discretionary F_NONE ∷ []
 

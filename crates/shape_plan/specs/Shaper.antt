@@ -54,7 +54,7 @@ pub record LawfulConstants (constants : ShaperConstants) : Type 0 where
   pub preference : is_preference constants.preference ≡ true
   pub zero_width : is_zero_width_type constants.zero_width_marks ≡ true
 
--- an item but for its mask
+-- an item except for its mask
 abbrev pub without_mask : Item → Item
 without_mask item = record item { mask = 0 }
 

@@ -1,5 +1,5 @@
 -- Planners and plans, computed on small cases whose answers are worked out by hand.
-use Rattle.std.specs.Prelude.{◌≡◌, ◌*◌, ℕ, pos, Bool, true, false, List, [], ◌∷◌, length, Some, None, is_some, refl}
+use Rattle.std.specs.Prelude.{◌≡◌, ◌+◌, ◌*◌, ℕ, pos, Bool, true, false, List, [], ◌∷◌, length, Some, None, is_some, refl}
 use Rattle.shape_buffer.specs.Face.{FaceMeaning}
 use Rattle.shape_buffer.specs.Layout.{LayoutMeaning, MapMeaning}
 use Rattle.shape_buffer.specs.MapBuilder.{Builder}
@@ -11,7 +11,7 @@ use Rattle.shape_buffer.specs.declared.interfaces.map_request.TableIndex.TheVari
 use Rattle.shape_plan.specs.WorkedFaces.{bare_face}
 use Rattle.shape_plan.specs.Plan.{Plan}
 use Rattle.shape_plan.specs.Planner.{Planning, Planner, begun_planner, collected_planner, facts_of, compiled_plan, planned}
-use Rattle.shape_plan.specs.Planner.{is_gpos_disabled}
+use Rattle.shape_plan.specs.Planner.{is_gpos_disabled, own_data}
 use Rattle.shape_plan.specs.Requests.{requested}
 use Rattle.shape_plan.specs.Decisions.{decided}
 use Rattle.shape_plan.specs.Shaper.{ShaperConstants}
@@ -65,7 +65,7 @@ constants_of = record {
   has_reorder_marks = false;
 }
 
--- the data tells the shaper and whether there was data before
+-- the data tells the shaper with the number of the user's features, and whether there was data before
 abbrev pub planning_with : ShaperConstants → Planning hb_tables_t ℕ Builder (ℕ × Bool)
 planning_with constants = record {
   faces = face_of;
@@ -74,7 +74,7 @@ planning_with constants = record {
   constants = constants;
   collected = λ shaper _ _ _. ask shaper 0 0 ∷ [];
   overriding = λ shaper _ _ _. ask shaper 1 1 ∷ [];
-  made_data = λ shaper plan. (shaper, is_some plan.shaper_data);
+  made_data = λ shaper plan. (shaper + length plan.user_features, is_some plan.shaper_data);
 }
 
 abbrev pub only_morx : hb_tables_t
@@ -149,6 +149,10 @@ pub record PlansOfFaces : Type 0 where
   pub stays_data : (planned_on constants_of morx_and_gsub TopToBottom []).shaper_data ≡ Some (5, false)
   pub asks : length (planned_on (record constants_of { has_collect_features = true; has_override_features = true })
       no_tables LeftToRight []).ot_map.requests ≡ 29
+  pub data_of_features : (planned_on constants_of no_tables LeftToRight (kern_off ∷ [])).shaper_data ≡ Some (6, false)
+  -- what its shaper made for a plan is told of the plan as it is, which has it by then
+  pub own : own_data (planning_with constants_of) (planned_on constants_of no_tables LeftToRight (kern_off ∷ [])) ≡ Some (6, false)
+  pub none_of_dumber : own_data (planning_with constants_of) (planned_on constants_of only_morx LeftToRight []) ≡ None
   pub no_data : (planned_on (record constants_of { has_create_data = false }) no_tables LeftToRight []).shaper_data ≡ None
   pub features : (planned_on constants_of no_tables LeftToRight (kern_off ∷ [])).user_features ≡ kern_off ∷ []
 
@@ -165,6 +169,9 @@ plans_of_faces = record {
   dumber_asks_nothing = refl;
   stays = refl;
   stays_data = refl;
+  data_of_features = refl;
+  own = refl;
+  none_of_dumber = refl;
   asks = refl;
   no_data = refl;
   features = refl;

@@ -9,6 +9,7 @@ pub mod normalization_mode;
 pub mod ot_shape_plan;
 pub mod ot_shaper;
 pub mod planner;
+pub mod shaping_types;
 pub mod worked;
 
 pub use normalization_mode::{

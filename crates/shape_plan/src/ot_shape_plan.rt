@@ -6,8 +6,7 @@ ghost use Rattle.std.specs.Prelude.{◌≡◌, ◌≢◌, ◌↔◌, IsTrue, Non
 ghost use Rattle.std.specs.Prelude.{MatchResult, Option, option_copied, string_bytes};
 ghost use Rattle.std.specs.Option.{option_map};
 ghost use Rattle.shape_plan.specs.Decisions.{AreLawful, MasksAreFeatures, PositionsByOneTable};
-ghost use Rattle.shape_plan.specs.Planner.{planned, with_data};
-ghost use Rattle.shape_plan.specs.Requests.{hook_of};
+ghost use Rattle.shape_plan.specs.Planner.{planned, data_for, with_data, own_data};
 ghost use Rattle.shape_plan.specs.Plan.{given_shaper};
 
 use crate::decisions::Decisions;
@@ -71,9 +70,7 @@ where
     M: hb_ot_layout_t<F>,
     S: hb_ot_shaper_t<U, F, M>,
     ensures { MatchResult result
-        (λ made. made
-        ≡ option_map (λ make. make plan.now)
-        (hook_of S.constants.has_create_data S.made_data plan.now.shaper))
+        (λ made. made ≡ data_for S.constants.has_create_data S.made_data plan.now)
         (λ e. e ≡ ShapeError.Memory) }
 {
     match plan.shaper {
@@ -133,7 +130,8 @@ impl<'a, S, P, D> hb_ot_shape_plan_t<'a, S, P, D> {
 
     /// A plan for texts of a direction and a script, a face and a shaper, with the features that the user
     /// asks for; `language` helps the engine to choose the scripts of its tables. It serves every text that
-    /// it fits. The direction must not be Invalid. Refuses with `Memory` alone.
+    /// it fits. What its shaper made for it is made of the plan as it is without. The direction must not be
+    /// Invalid. Refuses with `Memory` alone.
     #[tactic(auto, unfolding(crate::specs::Planner::planned))]
     pub fn new<U, F, M>(
         alloc: Global,
@@ -156,6 +154,8 @@ impl<'a, S, P, D> hb_ot_shape_plan_t<'a, S, P, D> {
             ≡ planned ⟦<S as Plans<U, F, M>>⟧.planning face.now shaper.now
             direction script (option_map (λ l. string_bytes l.now.0) language.entry)
             user_features.now) }
+        ensures data { IfOk result (λ plan. plan.shaper_data
+            ≡ own_data ⟦<S as Plans<U, F, M>>⟧.planning plan) }
         ensures memory { IfErr result (λ e. e ≡ ShapeError.Memory) }
     {
         let mut planner = hb_ot_shape_planner_t::new::<U, M>(
@@ -190,9 +190,9 @@ impl<'a, S, P, D> hb_ot_shape_plan_t<'a, S, P, D> {
         ensures { IsTrue result ↔ Fits U.unicode self.now buffer.now }
     {
         let text = buffer.as_inner();
-        let script = text.guessed_script::<U>().unwrap_or(Script::UNKNOWN);
-        text.guessed_direction::<U>() == self.direction
-            && script == self.script.unwrap_or(Script::UNKNOWN)
+        let script = text.guessed_script::<U>();
+        text.direction_by::<U>(script) == self.direction
+            && script.unwrap_or(Script::UNKNOWN) == self.script.unwrap_or(Script::UNKNOWN)
     }
 
     /// The direction that is planned for.

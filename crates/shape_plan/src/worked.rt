@@ -1,10 +1,13 @@
 //! The definitions of planning, computed on small cases whose answers are worked out by hand.
+ghost use Rattle.std.specs.Prelude.{ℕ};
+ghost use Rattle.shape_plan.specs.Plan.{Plan};
 ghost use Rattle.shape_plan.specs.WorkedRequests.{RequestsOfDirections, RequestsOfUsers};
 ghost use Rattle.shape_plan.specs.WorkedRequests.{RequestsOfHooks, TextsOfHooks};
 ghost use Rattle.shape_plan.specs.WorkedDecisions.{ChoicesOfFaces, ChoicesForMarks};
 ghost use Rattle.shape_plan.specs.WorkedDecisions.{DecisionsOfMasks};
 ghost use Rattle.shape_plan.specs.WorkedPlans.{KeptShapers, PlansOfFaces, MasksOfPlans};
 ghost use Rattle.shape_plan.specs.WorkedPlans.{ScriptsOfShapers};
+ghost use Rattle.shape_plan.specs.WorkedRuns.{RulesOfShapers, RunsOfPlans, ConstantsOfShapers};
 ghost use Rattle.shape_plan.specs.WorkedTexts.{ScriptsOfTexts, TagsOfFacts, ScriptsThatFit};
 
 /// What is asked for in each direction, for the user and by hooks, and what hooks are told of the text.
@@ -35,4 +38,11 @@ pub fn texts_meet_worked_cases()
     ensures scripts { ScriptsOfTexts }
     ensures tags { TagsOfFacts }
     ensures fit { ScriptsThatFit }
+{}
+
+/// What a run goes by: which hooks count, and what is told of plan and face.
+pub fn runs_meet_worked_cases()
+    ensures rules { (plan : Plan ℕ ℕ ℕ) → RulesOfShapers plan }
+    ensures runs { (plan : Plan ℕ ℕ ℕ) → RunsOfPlans plan }
+    ensures constants { ConstantsOfShapers }
 {}

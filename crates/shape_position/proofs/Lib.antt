@@ -2,6 +2,7 @@ mod StepLemmas
 mod KeeperLemmas
 mod DeletionLemmas
 mod CountLemmas
+mod ExactLemmas
 mod TurnLemmas
 pub mod StepKeepers
 mod OneTableLemmas

@@ -1,5 +1,6 @@
 pub mod Advances
 pub mod Zeroing
+pub mod Exact
 pub mod Tables
 pub mod Ignorables
 pub mod Selectors

@@ -10,7 +10,7 @@ use Rattle.shape_position.specs.Tables.{table_positioned, kerned, deleted_narrow
 use Rattle.shape_position.specs.Turning.{turned}
 use Rattle.shape_position.specs.Zeroing.{zeroed_early, zeroed_late}
 
--- what the face says of each glyph; fallback spaces come behind
+-- what the face says of each glyph; fallback spaces come after
 abbrev pub advance_steps : Run → List Step
 advance_steps run = step positions_cleared ∷ step (advanced run.face) ∷ []
 
@@ -33,7 +33,7 @@ close_steps run =
     ∷ step run.lookups.position_finish_offsets
     ∷ []
 
--- positions by tables; fallback marks come behind
+-- positions by tables; fallback marks come after
 abbrev pub table_steps : Run → List Step
 table_steps run = place_steps run ++ close_steps run
 

@@ -1,5 +1,5 @@
 -- Positions, computed on small cases whose answers are worked out by hand.
-use Rattle.std.specs.Prelude.{◌≡◌, ◌==◌, ℕ, ℤ, pos, neg_ℤ, Bool, true, false, Option, Some, None, List, [], ◌∷◌, map, if◌then◌else◌, refl}
+use Rattle.std.specs.Prelude.{◌≡◌, ◌==◌, ◌+◌, ℕ, ℤ, pos, neg_ℤ, Bool, true, false, Option, Some, None, List, [], ◌∷◌, map, if◌then◌else◌, refl}
 use Rattle.std.specs.Int.{int_wrap}
 use Rattle.shape_buffer.specs.Buffer.{Buffer, new_buffer}
 use Rattle.shape_buffer.specs.Face.{FaceMeaning}
@@ -241,13 +241,44 @@ turning_of_two : TurningOfTwo
 unfolding turned
 turning_of_two = record { rightward = refl; leftward = refl; downward = refl; upward = refl; directionless = refl }
 
+-- ---- glyphs that lookups left
+
+-- each glyph's numbers are its own
+abbrev numbered_face : FaceMeaning
+numbered_face = record bare_face {
+  h_advance = λ g. pos g.0;
+  v_advance = λ g. neg_ℤ (pos (g.0 + 10));
+  h_origin = λ g. pos (g.0 + 20);
+  v_origin = λ g. pos (g.0 + 30);
+}
+
+-- glyph 7 in place of glyph 5, which is the character's
+abbrev replaced : Item
+replaced = record (glyph_at 7 0) { glyph_index = 5 }
+
+pub record AdvancesOfReplacedGlyphs : Type 0 where
+  pub across : advanced_position numbered_face true replaced zero_position ≡ at (pos 7) (pos 0) (pos 0) (pos 0)
+  pub down : advanced_position numbered_face false replaced zero_position
+      ≡ at (pos 0) (neg_ℤ (pos 17)) (neg_ℤ (pos 27)) (neg_ℤ (pos 37))
+
+advances_of_replaced_glyphs : AdvancesOfReplacedGlyphs
+unfolding ◌-ʷ◌ int_wrap
+advances_of_replaced_glyphs = record { across = refl; down = refl }
+
 pub record WorkedPositions : Type 0 where
   pub advances : AdvancesOfOneGlyph
+  pub replaced : AdvancesOfReplacedGlyphs
   pub marks : ZeroingOfMarks
   pub times : TimesOfZeroing
   pub tables : TablesOfAPlan
   pub turning : TurningOfTwo
 
 pub worked_positions : WorkedPositions
-worked_positions =
-    record { advances = advances_of_one_glyph; marks = zeroing_of_marks; times = times_of_zeroing; tables = tables_of_a_plan; turning = turning_of_two }
+worked_positions = record {
+  advances = advances_of_one_glyph;
+  replaced = advances_of_replaced_glyphs;
+  marks = zeroing_of_marks;
+  times = times_of_zeroing;
+  tables = tables_of_a_plan;
+  turning = turning_of_two;
+}

@@ -145,7 +145,7 @@ pub record OrderOfTheEnd : Type 0 where
       ≡ at (pos 8) (pos 0) (pos 0) (pos 0) ∷ []
   pub hook_after_selector : (run : Run)
       → glyphs (shown (counted run counting 0 (decided false false false false false false)) (selecting (glyph_at 1 0))) ≡ 90 ∷ []
-  -- a selector that is ignorable too is hidden behind the glyph that it took
+  -- a selector that is ignorable too is hidden after the glyph that it took
   pub hiding_after_selector : (run : Run)
       → glyphs (shown (counted run counting 0 (decided false false false false false false)) (ignored (selecting (glyph_at 1 0)))) ≡ 30 ∷ []
   pub turned_first : (run : Run)

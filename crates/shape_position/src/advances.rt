@@ -14,8 +14,8 @@ use shape_buffer::buffer::{GlyphId, GlyphPosition, hb_buffer_t, hb_glyph_info_t}
 use shape_buffer::interfaces::{hb_font_t, hb_ot_layout_t, hb_unicode_funcs_t};
 use shape_buffer::position_walks::update_positions;
 use shape_buffer::wrapping::difference;
-use shape_plan::ot_shape_plan::hb_ot_shape_plan_t;
-use shape_plan::ot_shaper::{Runs, hb_ot_shaper_t};
+use shape_plan::ot_shaper::hb_ot_shaper_t;
+use shape_plan::shaping_types::{Meaning, PlanOf, ShapingTypes};
 
 /// The position of a glyph, in units of the face, moved on by what the face says of it: its advance along
 /// a horizontal line, else its advance along a vertical one and the origin of vertical lines. A
@@ -71,20 +71,15 @@ pub fn put_advances<F: hb_font_t>(face: &F, buffer: &mut hb_buffer_t)
 }
 
 /// Makes the positions new, by the face alone: the first two steps of positioning, neither of which is
-/// ever refused. Offsets are exact where they fit, as `put_advances` has them. Fallback spaces come behind.
+/// ever refused. Offsets are exact where they fit, as `put_advances` has them. Fallback spaces come after.
 /// Takes no memory.
-pub fn position_default<U, F, M, S>(
-    plan: &hb_ot_shape_plan_t<'_, S, M::Map, S::Data>,
-    face: &F,
+pub fn position_default<T: ShapingTypes>(
+    plan: &PlanOf<'_, T>,
+    face: &T::Face,
     buffer: &mut hb_buffer_t,
 )
-where
-    U: hb_unicode_funcs_t,
-    F: hb_font_t,
-    M: hb_ot_layout_t<F>,
-    S: hb_ot_shaper_t<U, F, M>,
     requires { IsWithinLimit buffer.old }
-    ensures { Ran (advance_steps (⟦<S as Runs<U, F, M>>⟧.run plan.now face.now))
+    ensures { Ran (advance_steps (⟦<T as Meaning>⟧.run plan.now face.now))
         buffer.old buffer.new }
 {
     clear_positions(buffer);

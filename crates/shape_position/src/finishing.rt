@@ -14,8 +14,8 @@ use crate::selectors::deal_with_variation_selectors;
 use crate::tables::remove_deleted;
 use shape_buffer::buffer::{ShapeError, hb_buffer_t};
 use shape_buffer::interfaces::{hb_font_t, hb_ot_layout_t, hb_unicode_funcs_t};
-use shape_plan::ot_shape_plan::hb_ot_shape_plan_t;
-use shape_plan::ot_shaper::{Runs, hb_ot_shaper_t};
+use shape_plan::ot_shaper::hb_ot_shaper_t;
+use shape_plan::shaping_types::{Meaning, PlanOf, ShapingTypes};
 use std::alloc::Global;
 
 /// Turns glyphs and positions, where the buffer's direction is backward. Takes no memory.
@@ -30,24 +30,19 @@ pub fn reverse_backward(buffer: &mut hb_buffer_t)
 
 /// Runs the hook on the glyphs that are handed out, where the plan keeps a shaper that gives it. Refuses as
 /// the hook does.
-pub fn postprocess_glyphs<U, F, M, S>(
+pub fn postprocess_glyphs<T: ShapingTypes>(
     alloc: Global,
-    plan: &hb_ot_shape_plan_t<'_, S, M::Map, S::Data>,
-    face: &F,
+    plan: &PlanOf<'_, T>,
+    face: &T::Face,
     buffer: &mut hb_buffer_t,
 ) -> Result<(), ShapeError>
-where
-    U: hb_unicode_funcs_t,
-    F: hb_font_t,
-    M: hb_ot_layout_t<F>,
-    S: hb_ot_shaper_t<U, F, M>,
     requires { IsWithinLimit buffer.old }
-    ensures { let run = ⟦<S as Runs<U, F, M>>⟧.run plan.now face.now in
+    ensures { let run = ⟦<T as Meaning>⟧.run plan.now face.now in
         Outcome (step (hook_if run.constants.has_postprocess_glyphs run.hooks
         (λ hooks. hooks.postprocess))) buffer.old buffer.new result }
 {
     match plan.shaper() {
-        Some(shaper) if S::HAS_POSTPROCESS_GLYPHS => {
+        Some(shaper) if T::Shaper::HAS_POSTPROCESS_GLYPHS => {
             shaper.postprocess_glyphs(alloc, plan, face, buffer)
         }
         _ => Ok(()),
@@ -55,48 +50,38 @@ where
 }
 
 /// Takes out what is not to be seen, and runs the hook on the rest. Refuses as the hook does.
-fn substitute_post<U, F, M, S>(
+fn substitute_post<T: ShapingTypes>(
     alloc: Global,
-    plan: &hb_ot_shape_plan_t<'_, S, M::Map, S::Data>,
-    face: &F,
+    plan: &PlanOf<'_, T>,
+    face: &T::Face,
     buffer: &mut hb_buffer_t,
 ) -> Result<(), ShapeError>
-where
-    U: hb_unicode_funcs_t,
-    F: hb_font_t,
-    M: hb_ot_layout_t<F>,
-    S: hb_ot_shaper_t<U, F, M>,
     requires { IsWithinLimit buffer.old }
-    ensures { RunOutcome (show_steps (⟦<S as Runs<U, F, M>>⟧.run plan.now face.now))
+    ensures { RunOutcome (show_steps (⟦<T as Meaning>⟧.run plan.now face.now))
         buffer.old buffer.new result }
 {
-    remove_deleted::<F, M, S, S::Data>(plan, face, buffer);
+    remove_deleted::<T>(plan, face, buffer);
     deal_with_variation_selectors(buffer);
     hide_default_ignorables(face, buffer);
-    postprocess_glyphs::<U, F, M, S>(alloc, plan, face, buffer)
+    postprocess_glyphs::<T>(alloc, plan, face, buffer)
 }
 
 /// Makes of placed glyphs those that are handed out: in the order of their direction, without what is to
 /// stay unseen, each cluster with one set of flags. Refuses with `Length` where the shaper's hook would
 /// leave a list past the buffer's limit, and with `Memory` where a growth was refused; nothing is said of
 /// the buffer then.
-pub fn finish_glyphs<U, F, M, S>(
+pub fn finish_glyphs<T: ShapingTypes>(
     alloc: Global,
-    plan: &hb_ot_shape_plan_t<'_, S, M::Map, S::Data>,
-    face: &F,
+    plan: &PlanOf<'_, T>,
+    face: &T::Face,
     buffer: &mut hb_buffer_t,
 ) -> Result<(), ShapeError>
-where
-    U: hb_unicode_funcs_t,
-    F: hb_font_t,
-    M: hb_ot_layout_t<F>,
-    S: hb_ot_shaper_t<U, F, M>,
     requires { IsWithinLimit buffer.old }
-    ensures { RunOutcome (finish_steps (⟦<S as Runs<U, F, M>>⟧.run plan.now face.now))
+    ensures { RunOutcome (finish_steps (⟦<T as Meaning>⟧.run plan.now face.now))
         buffer.old buffer.new result }
 {
     reverse_backward(buffer);
-    substitute_post::<U, F, M, S>(alloc, plan, face, buffer)?;
+    substitute_post::<T>(alloc, plan, face, buffer)?;
     propagate_flags(buffer);
     Ok(())
 }

@@ -3,7 +3,8 @@
 //! Shaping marks single glyphs as unsafe to break or to concat before, but a line can only be cut between
 //! clusters. So the flags of a cluster's glyphs are united and each of them gets all: a caller may then ask
 //! any one of them. The masks hold flags alone from here on.
-ghost use Rattle.std.specs.Prelude.{◌≡◌, ◌==◌, false};
+ghost use Rattle.std.specs.Prelude.{◌≡◌, ◌==◌, false, IsTrue};
+ghost use Rattle.std.specs.List.{prefix_len};
 ghost use Rattle.std.specs.Int.RustNames.{bit_and};
 ghost use Rattle.shape_buffer.specs.Flags.{first_united, handed_flags as handed_flags_of};
 ghost use Rattle.shape_buffer.specs.Flags.{with_tatweel as with_tatweel_of};
@@ -11,6 +12,7 @@ ghost use Rattle.shape_buffer.specs.Flags.{mask_after as mask_after_of, flags_pr
 ghost use Rattle.shape_buffer.specs.FlagNames.{PRODUCE_UNSAFE_TO_CONCAT, UNSAFE_TO_CONCAT};
 ghost use Rattle.shape_buffer.specs.Flags.{HasOneSetOfFlags};
 ghost use Rattle.shape_buffer.specs.KeepsFlags.{some_has};
+ghost use Rattle.shape_buffer.specs.Items.{has_cluster};
 ghost use Rattle.shape_buffer.specs.Outcome.{Made};
 ghost use Rattle.shape_buffer.specs.Honest.{IsHonest};
 
@@ -20,10 +22,20 @@ use shape_buffer::buffer::{
     hb_buffer_t, hb_glyph_info_t, hb_mask_t,
 };
 
+/// Whether the first of these items is of the cluster and the next one of another.
+fn is_alone(infos: &[hb_glyph_info_t], cluster: u32) -> bool
+    ensures { IsTrue result → prefix_len (has_cluster cluster) infos.now ≡ 1 }
+{
+    infos.len() > 1 && infos[0].cluster == cluster && infos[1].cluster != cluster
+}
+
 /// The defined flags of the first items, as long as they are in the cluster, united.
 fn united_flags(infos: &[hb_glyph_info_t], cluster: u32) -> hb_mask_t
     ensures { result ≡ first_united cluster infos.now }
 {
+    if is_alone(infos, cluster) {
+        return infos[0].mask & DEFINED;
+    }
     infos
         .iter()
         .take_while(|info| info.cluster == cluster)

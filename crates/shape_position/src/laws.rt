@@ -1,4 +1,5 @@
 //! What the steps keep of a buffer, as laws that spare callers proofs.
+ghost use Rattle.shape_position.specs.Exact.{ExactAdvances, ExactMarkWidths};
 ghost use Rattle.shape_position.specs.Keepers.{StepsKeep};
 ghost use Rattle.shape_position.specs.OneTable.{EachRunsOneTable};
 
@@ -14,4 +15,16 @@ pub fn steps_keep_clusters_and_flags()
 /// they are the same whatever the other table does. So the two never both run. Does nothing.
 pub fn one_table_runs()
     ensures { EachRunsOneTable }
+{}
+
+/// Advances are those that the face answers, and along a line down each offset is the exact difference to
+/// the origin of vertical lines where that fits an i32. Does nothing.
+pub fn advances_are_exact_where_they_fit()
+    ensures { ExactAdvances }
+{}
+
+/// A mark that loses its advances has none, and one that is adjusted is moved back by exactly these, where
+/// the difference fits an i32. Does nothing.
+pub fn mark_widths_are_exact_where_they_fit()
+    ensures { ExactMarkWidths }
 {}

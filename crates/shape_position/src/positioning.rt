@@ -14,74 +14,55 @@ use crate::tables::{
 use crate::zeroing::{zero_marks_early, zero_marks_late};
 use shape_buffer::buffer::{ShapeError, hb_buffer_t};
 use shape_buffer::interfaces::{hb_font_t, hb_ot_layout_t, hb_unicode_funcs_t};
-use shape_plan::ot_shape_plan::hb_ot_shape_plan_t;
-use shape_plan::ot_shaper::{Runs, hb_ot_shaper_t};
+use shape_plan::ot_shaper::hb_ot_shaper_t;
+use shape_plan::shaping_types::{Meaning, PlanOf, ShapingTypes};
 use std::alloc::Global;
 
 /// Places the glyphs by tables, and zeroes marks before or after that. Refuses as the engine does.
-fn place_by_tables<U, F, M, S>(
+fn place_by_tables<T: ShapingTypes>(
     alloc: Global,
-    plan: &hb_ot_shape_plan_t<'_, S, M::Map, S::Data>,
-    face: &F,
+    plan: &PlanOf<'_, T>,
+    face: &T::Face,
     buffer: &mut hb_buffer_t,
 ) -> Result<(), ShapeError>
-where
-    U: hb_unicode_funcs_t,
-    F: hb_font_t,
-    M: hb_ot_layout_t<F>,
-    S: hb_ot_shaper_t<U, F, M>,
     requires { IsWithinLimit buffer.old }
-    ensures { RunOutcome (place_steps (⟦<S as Runs<U, F, M>>⟧.run plan.now face.now))
+    ensures { RunOutcome (place_steps (⟦<T as Meaning>⟧.run plan.now face.now))
         buffer.old buffer.new result }
 {
-    position_start::<F, M, S, S::Data>(plan, face, buffer);
-    zero_marks_early::<U, F, M, S>(plan, face, buffer);
-    position_by_plan::<F, M, S, S::Data>(alloc, plan, face, buffer)?;
-    kern_by_plan::<F, M, S, S::Data>(alloc, plan, face, buffer)?;
-    zero_marks_late::<U, F, M, S>(plan, face, buffer);
+    position_start::<T>(plan, face, buffer);
+    zero_marks_early::<T>(plan, face, buffer);
+    position_by_plan::<T>(alloc, plan, face, buffer)?;
+    kern_by_plan::<T>(alloc, plan, face, buffer)?;
+    zero_marks_late::<T>(plan, face, buffer);
     Ok(())
 }
 
 /// Finishes what tables have begun. Takes no memory.
-fn close_positions<U, F, M, S>(
-    plan: &hb_ot_shape_plan_t<'_, S, M::Map, S::Data>,
-    face: &F,
-    buffer: &mut hb_buffer_t,
-)
-where
-    U: hb_unicode_funcs_t,
-    F: hb_font_t,
-    M: hb_ot_layout_t<F>,
-    S: hb_ot_shaper_t<U, F, M>,
+fn close_positions<T: ShapingTypes>(plan: &PlanOf<'_, T>, face: &T::Face, buffer: &mut hb_buffer_t)
     requires { IsWithinLimit buffer.old }
-    ensures { Ran (close_steps (⟦<S as Runs<U, F, M>>⟧.run plan.now face.now))
+    ensures { Ran (close_steps (⟦<T as Meaning>⟧.run plan.now face.now))
         buffer.old buffer.new }
 {
-    position_finish_advances::<F, M, S, S::Data>(plan, face, buffer);
+    position_finish_advances::<T>(plan, face, buffer);
     zero_width_default_ignorables(buffer);
-    zero_width_deleted::<F, M, S, S::Data>(plan, face, buffer);
-    position_finish_offsets::<F, M, S, S::Data>(plan, face, buffer);
+    zero_width_deleted::<T>(plan, face, buffer);
+    position_finish_offsets::<T>(plan, face, buffer);
 }
 
-/// Positions the glyphs by the tables of the plan, in units of the face; fallback marks come behind.
+/// Positions the glyphs by the tables of the plan, in units of the face; fallback marks come after.
 /// Refuses with `Length` where a table would leave a list past the buffer's limit, and with `Memory` where a
 /// growth was refused; nothing is said of the buffer then.
-pub fn position_complex<U, F, M, S>(
+pub fn position_complex<T: ShapingTypes>(
     alloc: Global,
-    plan: &hb_ot_shape_plan_t<'_, S, M::Map, S::Data>,
-    face: &F,
+    plan: &PlanOf<'_, T>,
+    face: &T::Face,
     buffer: &mut hb_buffer_t,
 ) -> Result<(), ShapeError>
-where
-    U: hb_unicode_funcs_t,
-    F: hb_font_t,
-    M: hb_ot_layout_t<F>,
-    S: hb_ot_shaper_t<U, F, M>,
     requires { IsWithinLimit buffer.old }
-    ensures { RunOutcome (table_steps (⟦<S as Runs<U, F, M>>⟧.run plan.now face.now))
+    ensures { RunOutcome (table_steps (⟦<T as Meaning>⟧.run plan.now face.now))
         buffer.old buffer.new result }
 {
-    place_by_tables::<U, F, M, S>(alloc, plan, face, buffer)?;
-    close_positions::<U, F, M, S>(plan, face, buffer);
+    place_by_tables::<T>(alloc, plan, face, buffer)?;
+    close_positions::<T>(plan, face, buffer);
     Ok(())
 }

@@ -4,8 +4,11 @@
 //! before the tables place it, after, or never. Where no table moves marks, a mark of a forward line is
 //! moved back by the advance that it loses, so that it hangs over the glyph before it; in a backward line
 //! it then hangs over the glyph that comes to stand before it when the line is turned.
-ghost use Rattle.std.specs.Prelude.{◌≡◌};
+ghost use Rattle.std.specs.Prelude.{◌≡◌, ◌<◌, length, slice_index_or, slice_set};
+ghost use Rattle.shape_buffer.specs.Items.{Item};
 ghost use Rattle.shape_buffer.specs.Outcome.{Made};
+ghost use Rattle.shape_buffer.specs.PositionWalks.{positions_mapped};
+ghost use Rattle.shape_buffer.specs.declared.buffer.positions.GlyphPosition.{GlyphPosition as Position};
 ghost use Rattle.shape_position.specs.Advances.{IsExactDifference};
 ghost use Rattle.shape_position.specs.Zeroing.{is_mark_glyph as is_mark_glyph_of};
 ghost use Rattle.shape_position.specs.Zeroing.{without_advances as without_advances_of};
@@ -16,13 +19,12 @@ ghost use Rattle.shape_position.specs.Zeroing.{zeroed_at, zeroed_early, zeroed_l
 use bitflags::Flags;
 use shape_buffer::buffer::{GlyphPosition, GlyphPropsFlags, hb_buffer_t, hb_glyph_info_t};
 use shape_buffer::interfaces::{hb_font_t, hb_ot_layout_t, hb_unicode_funcs_t};
-use shape_buffer::position_walks::update_positions;
 use shape_buffer::wrapping::difference;
-use shape_plan::ot_shape_plan::hb_ot_shape_plan_t;
 use shape_plan::ot_shaper::{
     HB_OT_SHAPE_ZERO_WIDTH_MARKS_BY_GDEF_EARLY, HB_OT_SHAPE_ZERO_WIDTH_MARKS_BY_GDEF_LATE,
-    HB_OT_SHAPE_ZERO_WIDTH_MARKS_NONE, Runs, hb_ot_shape_zero_width_marks_type_t, hb_ot_shaper_t,
+    HB_OT_SHAPE_ZERO_WIDTH_MARKS_NONE, hb_ot_shape_zero_width_marks_type_t, hb_ot_shaper_t,
 };
+use shape_plan::shaping_types::{Meaning, PlanOf, ShapingTypes};
 
 /// Whether the class of a glyph has the bit of marks.
 fn is_mark_glyph(info: &hb_glyph_info_t) -> bool
@@ -56,18 +58,35 @@ fn without_advances(position: GlyphPosition) -> GlyphPosition
     }
 }
 
-/// The position of a glyph, without advances where it is a mark, which is first moved back where it is to
-/// be adjusted.
-fn zero_mark(adjust: bool, info: &hb_glyph_info_t, position: GlyphPosition) -> GlyphPosition
-    ensures { result ≡ zeroed_mark adjust info.now position }
+/// Takes the advances from the glyph at a place where it is a mark, which is first moved back where it is
+/// to be adjusted. No other is written.
+fn zero_mark_at(buffer: &mut hb_buffer_t, place: usize, adjust: bool)
+    requires { place < length buffer.old.items }
+    ensures { (x : Item) (p : Position) → x ≡ slice_index_or buffer.old.items place x
+        → p ≡ slice_index_or buffer.old.positions place p
+        → buffer.new ≡ record buffer.old {
+          positions = slice_set buffer.old.positions place (zeroed_mark adjust x p);
+        } }
 {
+    let info = &buffer.infos()[place];
     if !is_mark_glyph(info) {
-        return position;
+        return;
     }
-    if adjust {
+    let position = buffer.positions()[place];
+    let zeroed = if adjust {
         without_advances(move_back(position))
     } else {
         without_advances(position)
+    };
+    buffer.set_position(place, zeroed);
+}
+
+/// Takes the advances from the marks, which are first moved back where they are to be adjusted.
+fn zero_marks(adjust: bool, buffer: &mut hb_buffer_t)
+    ensures { Made (positions_mapped (zeroed_mark adjust)) buffer.old buffer.new }
+{
+    for i in 0..buffer.len() {
+        zero_mark_at(buffer, i, adjust);
     }
 }
 
@@ -79,82 +98,62 @@ pub fn zero_mark_widths_by_gdef(buffer: &mut hb_buffer_t, adjust_offsets: bool)
     ensures { Made (marks_zeroed adjust_offsets) buffer.old buffer.new }
 {
     let adjust = adjust_offsets && buffer.direction().is_forward();
-    update_positions(buffer, |info, position| zero_mark(adjust, info, position));
+    zero_marks(adjust, buffer);
 }
 
 /// When marks lose their advances: by the shaper that the plan keeps, never where it keeps none.
-fn zero_width_time<U, F, M, S>(
-    plan: &hb_ot_shape_plan_t<'_, S, M::Map, S::Data>,
-    face: &F,
+fn zero_width_time<T: ShapingTypes>(
+    plan: &PlanOf<'_, T>,
+    face: &T::Face,
 ) -> hb_ot_shape_zero_width_marks_type_t
-where
-    U: hb_unicode_funcs_t,
-    F: hb_font_t,
-    M: hb_ot_layout_t<F>,
-    S: hb_ot_shaper_t<U, F, M>,
-    ensures { let run = ⟦<S as Runs<U, F, M>>⟧.run plan.now face.now in
+    ensures { let run = ⟦<T as Meaning>⟧.run plan.now face.now in
         result ≡ zero_width_time_of run.constants run.hooks }
 {
     match plan.shaper() {
-        Some(_) => S::ZERO_WIDTH_MARKS,
+        Some(_) => T::Shaper::ZERO_WIDTH_MARKS,
         None => HB_OT_SHAPE_ZERO_WIDTH_MARKS_NONE,
     }
 }
 
 /// Takes the advances from marks, where the plan's shaper says this time and the plan zeroes marks.
-fn zero_marks_at<U, F, M, S>(
+fn zero_marks_at<T: ShapingTypes>(
     time: hb_ot_shape_zero_width_marks_type_t,
-    plan: &hb_ot_shape_plan_t<'_, S, M::Map, S::Data>,
-    face: &F,
+    plan: &PlanOf<'_, T>,
+    face: &T::Face,
     buffer: &mut hb_buffer_t,
 )
-where
-    U: hb_unicode_funcs_t,
-    F: hb_font_t,
-    M: hb_ot_layout_t<F>,
-    S: hb_ot_shaper_t<U, F, M>,
-    ensures { let run = ⟦<S as Runs<U, F, M>>⟧.run plan.now face.now in
+    ensures { let run = ⟦<T as Meaning>⟧.run plan.now face.now in
         Made (zeroed_at time run.decisions run.constants run.hooks) buffer.old buffer.new }
 {
-    if plan.zero_marks() && zero_width_time::<U, F, M, S>(plan, face) == time {
+    if plan.zero_marks() && zero_width_time::<T>(plan, face) == time {
         zero_mark_widths_by_gdef(buffer, plan.adjust_mark_positioning_when_zeroing());
     }
 }
 
 /// Takes the advances from marks before tables place them, where the plan's shaper says so and the plan
 /// zeroes marks. Takes no memory.
-pub fn zero_marks_early<U, F, M, S>(
-    plan: &hb_ot_shape_plan_t<'_, S, M::Map, S::Data>,
-    face: &F,
+pub fn zero_marks_early<T: ShapingTypes>(
+    plan: &PlanOf<'_, T>,
+    face: &T::Face,
     buffer: &mut hb_buffer_t,
 )
-where
-    U: hb_unicode_funcs_t,
-    F: hb_font_t,
-    M: hb_ot_layout_t<F>,
-    S: hb_ot_shaper_t<U, F, M>,
-    ensures { Made (zeroed_early (⟦<S as Runs<U, F, M>>⟧.run plan.now face.now))
+    ensures { Made (zeroed_early (⟦<T as Meaning>⟧.run plan.now face.now))
         buffer.old buffer.new }
 {
     let early = HB_OT_SHAPE_ZERO_WIDTH_MARKS_BY_GDEF_EARLY;
-    zero_marks_at::<U, F, M, S>(early, plan, face, buffer);
+    zero_marks_at::<T>(early, plan, face, buffer);
 }
 
 /// Takes the advances from marks after tables have placed them, where the plan's shaper says so and the
 /// plan zeroes marks. Takes no memory.
-pub fn zero_marks_late<U, F, M, S>(
-    plan: &hb_ot_shape_plan_t<'_, S, M::Map, S::Data>,
-    face: &F,
+pub fn zero_marks_late<T: ShapingTypes>(
+    plan: &PlanOf<'_, T>,
+    face: &T::Face,
     buffer: &mut hb_buffer_t,
 )
-where
-    U: hb_unicode_funcs_t,
-    F: hb_font_t,
-    M: hb_ot_layout_t<F>,
-    S: hb_ot_shaper_t<U, F, M>,
-    ensures { Made (zeroed_late (⟦<S as Runs<U, F, M>>⟧.run plan.now face.now))
+    ensures { Made (zeroed_late (⟦<T as Meaning>⟧.run plan.now face.now))
         buffer.old buffer.new }
 {
     let late = HB_OT_SHAPE_ZERO_WIDTH_MARKS_BY_GDEF_LATE;
-    zero_marks_at::<U, F, M, S>(late, plan, face, buffer);
+    zero_marks_at::<T>(late, plan, face, buffer);
 }

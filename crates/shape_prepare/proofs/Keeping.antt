@@ -3,3 +3,4 @@ pub mod OrderKeeperLemmas
 pub mod FirstLemmas
 pub mod FlagKeeperLemmas
 pub mod PreparedLemmas
+pub mod CharacterLemmas

@@ -35,15 +35,20 @@ is_regional_indicator c = nat_le 0x1F1E6 c && nat_le c 0x1F1FF
 abbrev pub is_extender : ℕ → Bool
 is_extender c = (nat_le 0xFF9E c && nat_le c 0xFF9F) || (nat_le 0xE0020 c && nat_le c 0xE007F)
 
--- a pictograph right behind a ZWJ
+-- a pictograph right after a ZWJ
 abbrev pub is_joined : UnicodeMeaning → Before → ℕ → Bool
 is_joined unicode Zwj c = unicode.pictographic c
 is_joined unicode _ c = false
 
--- behind a regional indicator that continues nothing
+-- after a regional indicator that continues nothing
 abbrev pub is_open : Before → Bool
 is_open OpenIndicator = true
 is_open _ = false
+
+-- after a ZWJ
+abbrev pub is_joining : Before → Bool
+is_joining Zwj = true
+is_joining _ = false
 
 -- the rules on an item by itself and the one before: a skin tone, the second of two regional indicators, a ZWJ, an extender
 abbrev pub continues_by_rule : Before → Item → Bool
@@ -53,7 +58,7 @@ continues_by_rule before item =
     && ((is_modifier_symbol item.properties.general_category && is_skin_tone c) || (is_regional_indicator c && is_open before)
     || item.properties.zwj || is_extender c)
 
--- an item that continues the grapheme before it: a mark, a pictograph behind a ZWJ, or one by rule
+-- an item that continues the grapheme before it: a mark, a pictograph after a ZWJ, or one by rule
 abbrev pub continues : UnicodeMeaning → Before → Item → Bool
 continues unicode before item = item.properties.continuation || is_joined unicode before item.codepoint || continues_by_rule before item
 

@@ -13,3 +13,4 @@ pub mod WorkedOrder
 pub mod Keeping
 pub mod ClusterPoint
 pub mod PreparedPoint
+pub mod KeptCharacters

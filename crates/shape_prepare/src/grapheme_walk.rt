@@ -1,5 +1,6 @@
 //! The walk over the graphemes of a buffer.
 ghost use Rattle.std.specs.Prelude.{◌≡◌, ◌≤◌, map, drop, length};
+ghost use Rattle.shape_buffer.specs.BufferClusters.{unsafe_to_break};
 ghost use Rattle.shape_buffer.specs.Outcome.{Made};
 ghost use Rattle.shape_prepare.specs.ClustersFormed.{over_graphemes};
 ghost use Rattle.shape_buffer.specs.GraphemeSpans.{is_continuation, ends};
@@ -24,10 +25,23 @@ impl GraphemeChange {
         ensures { buffer.new ≡ changed self start end buffer.old }
     {
         match self {
-            GraphemeChange::Mark => buffer.unsafe_to_break(start, end),
+            GraphemeChange::Mark => mark_unsafe(buffer, start, end),
             GraphemeChange::Turn => buffer.reverse_range(start, end),
         }
     }
+}
+
+/// Marks the items from place `start` up to `end` unsafe to break. One item has no place inside it where a
+/// line could be broken, and is left before the call.
+fn mark_unsafe(buffer: &mut hb_buffer_t, start: usize, end: usize)
+    requires ordered { start ≤ end }
+    requires within { end ≤ length buffer.old.items }
+    ensures { buffer.new ≡ unsafe_to_break start end buffer.old }
+{
+    if end - start < 2 {
+        return;
+    }
+    buffer.unsafe_to_break(start, end);
 }
 
 /// Makes the change to each grapheme, from left to right.

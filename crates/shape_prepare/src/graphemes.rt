@@ -3,7 +3,7 @@
 //! A grapheme is what a reader takes for one character: a letter with its marks, a flag of two regional
 //! indicators, an emoji with its skin tone, or several emoji joined by ZERO WIDTH JOINER. Turning a text must
 //! not part one, so each item that belongs to what stands before it is marked as a continuation. The rules
-//! are those of UAX 29 that shaping needs: marks and extenders (GB9), emoji behind a ZWJ (GB11), pairs
+//! are those of UAX 29 that shaping needs: marks and extenders (GB9), emoji after a ZWJ (GB11), pairs
 //! of regional indicators (GB12, GB13).
 //!
 //! What the rules ask of the item before fits three cases, so one walk sets properties and continuations.
@@ -16,9 +16,12 @@ ghost use Rattle.shape_prepare.specs.Graphemes.{is_passed as is_passed_of};
 ghost use Rattle.shape_prepare.specs.Graphemes.{is_modifier_symbol as is_modifier_symbol_of};
 ghost use Rattle.shape_prepare.specs.Graphemes.{is_skin_tone as is_skin_tone_of};
 ghost use Rattle.shape_prepare.specs.Graphemes.{is_regional_indicator as is_regional_indicator_of};
-ghost use Rattle.shape_prepare.specs.Graphemes.{is_extender as is_extender_of, is_open};
+ghost use Rattle.shape_prepare.specs.Graphemes.{is_extender as is_extender_of, is_open, is_joining};
+ghost use Rattle.shape_buffer.specs.UnicodeProps.{with_unicode_props, with_scratch_of};
 
-use shape_buffer::buffer::{hb_buffer_t, hb_glyph_info_t, hb_unicode_general_category_t};
+use shape_buffer::buffer::{
+    ScratchFlags, hb_buffer_t, hb_glyph_info_t, hb_unicode_general_category_t,
+};
 use shape_buffer::interfaces::hb_unicode_funcs_t;
 
 /// What an item is to the next one.
@@ -40,11 +43,30 @@ pub fn set_unicode_props<U: hb_unicode_funcs_t>(buffer: &mut hb_buffer_t)
     let mut before = Before::Plain;
     for i in 0..buffer.len() {
         let mut info = buffer.infos()[i];
-        info.init_unicode_props::<U>(&mut scratch_flags);
-        before = mark_continuation::<U>(before, &mut info);
+        before = mark_item::<U>(before, &mut info, &mut scratch_flags);
         buffer.set_info(i, info);
     }
     buffer.set_scratch_flags(scratch_flags);
+}
+
+/// Sets an item's properties that go by its character, marks it as a continuation if it is one, and says what
+/// it is to the next one. No rule is asked about an ASCII character that doesn't follow a ZWJ.
+fn mark_item<U: hb_unicode_funcs_t>(
+    before: Before,
+    info: &mut hb_glyph_info_t,
+    scratch_flags: &mut ScratchFlags,
+) -> Before
+    ensures item { let item = with_unicode_props U.unicode info.old in
+        info.new ≡ with_continuation (continues U.unicode before item) item }
+    ensures next { result ≡ is_to_next U.unicode before (with_unicode_props U.unicode info.old) }
+    ensures flags { scratch_flags.new
+        ≡ with_scratch_of U.unicode info.old.codepoint scratch_flags.old }
+{
+    info.init_unicode_props::<U>(scratch_flags);
+    if info.codepoint < '\u{80}' && !before.is_zwj() {
+        return Before::Plain;
+    }
+    mark_continuation::<U>(before, info)
 }
 
 /// Marks an item as a continuation if it is one, and says what it is to the next one.
@@ -69,7 +91,7 @@ fn mark_continuation<U: hb_unicode_funcs_t>(before: Before, info: &mut hb_glyph_
     }
 }
 
-/// Whether a character is a pictograph right behind a ZWJ. Only behind a ZWJ is Unicode asked.
+/// Whether a character is a pictograph right after a ZWJ. Only after a ZWJ is Unicode asked.
 fn is_joined<U: hb_unicode_funcs_t>(before: Before, c: char) -> bool
     ensures { result ≡ is_joined_of U.unicode before c }
 {
@@ -96,6 +118,13 @@ fn continues_by_rule(before: Before, info: &hb_glyph_info_t) -> bool
 }
 
 impl Before {
+    /// Whether a pictograph that comes next belongs to this item.
+    fn is_zwj(self) -> bool
+        ensures { result ≡ is_joining self }
+    {
+        matches!(self, Before::Zwj)
+    }
+
     /// Whether the next regional indicator makes a pair with this item.
     fn is_open(self) -> bool
         ensures { result ≡ is_open self }

@@ -1,5 +1,6 @@
 //! What preparing keeps, as laws over all runs.
 ghost use Rattle.shape_prepare.specs.ClusterPoint.{PreparingKeepsOrder, PreparingKeepsFirsts};
+ghost use Rattle.shape_prepare.specs.KeptCharacters.{PreparingKeepsCharacters};
 ghost use Rattle.shape_prepare.specs.PreparedPoint.{PreparingPrepares};
 ghost use Rattle.shape_prepare.specs.Keeping.{PreparingKeepsFlags};
 
@@ -25,4 +26,10 @@ pub fn preparing_keeps_firsts()
 /// the shaper's hook leaves them so.
 pub fn preparing_prepares()
     ensures { PreparingPrepares }
+{}
+
+/// The prepared text has the characters of the text, where no dotted circle goes in, the list isn't turned,
+/// each character is its own form for the direction, and a given hook leaves characters.
+pub fn preparing_keeps_characters()
+    ensures { PreparingKeepsCharacters }
 {}

@@ -8,20 +8,14 @@ ghost use Rattle.shape_prepare.specs.Begun.{begun};
 use shape_buffer::buffer::hb_buffer_t;
 use shape_buffer::interfaces::{hb_font_t, hb_ot_layout_t};
 use shape_buffer::walks::update_items;
-use shape_plan::ot_shape_plan::hb_ot_shape_plan_t;
+use shape_plan::shaping_types::{PlanOf, ShapingTypes};
 
 /// Makes each mask the plan's global one, and each position zeros. Takes no memory.
 #[tactic(auto, unfolding(crate::specs::Begun::begun))]
-pub fn initialize_masks<F, M, S, D>(
-    plan: &hb_ot_shape_plan_t<'_, S, M::Map, D>,
-    buffer: &mut hb_buffer_t,
-)
-where
-    F: hb_font_t,
-    M: hb_ot_layout_t<F>,
-    ensures { Made (begun (M.masks plan.now.ot_map).global_mask) buffer.old buffer.new }
+pub fn initialize_masks<T: ShapingTypes>(plan: &PlanOf<'_, T>, buffer: &mut hb_buffer_t)
+    ensures { Made (begun (T.Engine.masks plan.now.ot_map).global_mask) buffer.old buffer.new }
 {
-    let mask = M::global_mask(plan.ot_map());
+    let mask = T::Engine::global_mask(plan.ot_map());
     update_items(buffer, |info| {
         let mut info = *info;
         info.mask = mask;

@@ -1,7 +1,7 @@
 //! The fifth step: the native order.
 //!
 //! Lookups are made for text in the direction in which its script is written, so a text that was handed
-//! over against it is turned. Each grapheme stays as it was: its marks must stand behind their base. The
+//! over against it is turned. Each grapheme stays as it was: its marks must stand after their base. The
 //! reversal goes in place: first each grapheme is turned, then the whole list.
 ghost use Rattle.std.specs.Prelude.{◌≡◌, length};
 ghost use Rattle.std.specs.List.{list_any};

@@ -1,4 +1,4 @@
-//! The seventh step: characters that look otherwise in the direction of the text.
+//! The seventh step: characters that have another form in the direction of the text.
 //!
 //! A parenthesis that opens a text from right to left is drawn as the mirror image of the one that opens a
 //! text from left to right (UAX 9, rule L4), and a dash that stands in a vertical line is drawn upright.
@@ -13,25 +13,29 @@ use shape_buffer::buffer::{Direction, hb_buffer_t, hb_glyph_info_t, hb_mask_t};
 use shape_buffer::interfaces::{hb_font_t, hb_unicode_funcs_t};
 use shape_buffer::walks::update_items;
 use shape_plan::ot_shape_plan::hb_ot_shape_plan_t;
+use shape_plan::shaping_types::{PlanOf, ShapingTypes};
 
 /// With a backward target direction, makes each character the mirrored one, where the face has that, and adds
 /// the mask of the feature `rtlm` to every other item. With a vertical target direction, where no lookup makes
 /// vertical forms, makes each character its vertical form, where the face has that. Properties stay. Takes
 /// no memory.
-pub fn rotate_chars<U: hb_unicode_funcs_t, F: hb_font_t, S, P, D>(
-    plan: &hb_ot_shape_plan_t<'_, S, P, D>,
-    face: &F,
+pub fn rotate_chars<T: ShapingTypes>(
+    plan: &PlanOf<'_, T>,
+    face: &T::Face,
     buffer: &mut hb_buffer_t,
     target: Direction,
 )
-    ensures { Made (rotated U.unicode (F.face face.now) plan.now.decisions target)
+    ensures { Made (rotated T.Unicode.unicode (T.Face.face face.now) plan.now.decisions target)
         buffer.old buffer.new }
 {
     let forms = Forms::of(plan, target);
     if forms.is_idle() {
         return;
     }
-    update_items(buffer, |info| forms.rotated::<U, F>(face, info));
+    update_items(
+        buffer,
+        |info| forms.rotated::<T::Unicode, T::Face>(face, info),
+    );
 }
 
 /// Which forms the characters of a text take.

@@ -1,6 +1,5 @@
 //! Calls on their happy path whose answers no clause of another test shows.
 
-use crate::support::RowFace;
 use shape_buffer::buffer::{
     Direction, Feature, Language, ScratchFlags, Script, UnicodeBuffer, hb_glyph_info_t, hb_tag_t,
     hb_unicode_general_category_t,
@@ -14,6 +13,7 @@ use shape_pipeline::ot_shape_plan::hb_ot_shape_plan_t;
 use shape_pipeline::ot_shaper::{DEFAULT_SHAPER, hb_default_shaper_t};
 use shape_unicode::UnicodeDatabase;
 use std::test::Fail;
+use test_worlds::RowFace;
 
 #[test]
 fn a_plan_fits_by_direction_and_script(rt: HostRuntime) -> Result<(), Fail> {

@@ -1,16 +1,16 @@
-//! Graphemes of emoji over the whole database of Unicode, against the rules of UAX 29: pictographs behind a
+//! Graphemes of emoji over the whole database of Unicode, against the rules of UAX 29: pictographs after a
 //! joiner (GB11), pairs of regional indicators (GB12, GB13), and what extends the character before (GB9).
 //!
 //! Shaping differs in one place: a joiner joins a pictograph to whatever stands before it, where GB11 asks for
 //! a pictograph there too.
 
-use crate::support::RowFace;
 use crate::texts::{BY_CHARACTER, Manner, PLAINLY, assert_items, prepared, text_of};
 use shape_buffer::buffer::Direction;
 use shape_pipeline::ot_shaper::DEFAULT_SHAPER;
 use std::alloc::Global;
 use std::process::Abort;
 use std::test::Fail;
+use test_worlds::RowFace;
 
 /// Compares what a text is prepared as, by a face without glyphs.
 fn assert_prepared(
@@ -73,7 +73,7 @@ fn joined_pictographs(rt: HostRuntime) -> Result<(), Fail> {
         let others = [(MAN, 0), (JOINER, 0), (c, 7), (MAN, behind)];
         assert_graphemes(&rt, alloc, &others)?;
     }
-    // Behind a letter, where UAX 29 has a boundary.
+    // After a letter, where UAX 29 has a boundary.
     let behind_letter = [('a', 0), (JOINER, 0), (WOMAN, 0), (WOMAN, 8)];
     assert_graphemes(&rt, alloc, &behind_letter)
 }
@@ -90,7 +90,7 @@ fn skin_tones_and_flags(rt: HostRuntime) -> Result<(), Fail> {
         (tone, 12),
     ];
     assert_graphemes(&rt, alloc, &tones)?;
-    // Germany, France, half a flag, and half a one with an accent, which pairs with nothing behind it.
+    // Germany, France, half a flag, and half a one with an accent, which pairs with nothing after it.
     let (d, e, f, r) = ('\u{1F1E9}', '\u{1F1EA}', '\u{1F1EB}', '\u{1F1F7}');
     let flags = [
         (d, 0),

@@ -12,6 +12,8 @@ mod ligatures;
 #[cfg(test)]
 mod limits;
 #[cfg(test)]
+mod long_runs;
+#[cfg(test)]
 mod modes;
 #[cfg(test)]
 mod no_memory;
@@ -27,9 +29,9 @@ mod preparing;
 mod refusals;
 #[cfg(test)]
 mod rows;
-mod support;
 #[cfg(test)]
 mod texts;
 #[cfg(test)]
+mod unlawful;
+#[cfg(test)]
 mod wishes;
-pub mod worked;

@@ -57,7 +57,7 @@ fn ligated(c: char, glyph: u32, component: Component) -> hb_glyph_info_t {
     info
 }
 
-/// A base of a ligature with as many components, and behind it marks of ccc 230.
+/// A base of a ligature with as many components, and after it marks of ccc 230.
 fn with_marks(
     alloc: Global,
     direction: Direction,
@@ -178,7 +178,7 @@ fn marks_of_a_component_pile_up(rt: HostRuntime) -> Result<(), Fail> {
     assert_eq!(rt; next, Some((-300, 112)));
     let back = last_offsets(alloc, RIGHTWARD, &[(1, 2), (1, 3), (1, 2)])?;
     assert_eq!(rt; back, Some((-600, 112)));
-    // component -1, behind another one, is a part of its own: it begins at -300
+    // component -1, after another one, is a part of its own: it begins at -300
     let none = last_offsets(alloc, RIGHTWARD, &[(1, 2), (1, 0)])?;
     assert_eq!(rt; none, Some((-1200, 112)));
     Ok(())

@@ -1,7 +1,6 @@
 //! Positions where the em square is as small or as large as it can be, and where numbers are at their
 //! limits.
 
-use crate::support::DeepFace;
 use crate::texts::{Manner, PLAINLY, PlacedGlyph, assert_glyphs, shaped, text_of};
 use shape_buffer::buffer::{Direction, GlyphId};
 use shape_buffer::interfaces::{MapFace, Metrics, hb_glyph_extents_t};
@@ -10,6 +9,7 @@ use shape_pipeline::ot_shaper::DEFAULT_SHAPER;
 use std::alloc::Global;
 use std::process::Abort;
 use std::test::Fail;
+use test_worlds::DeepFace;
 
 const DOWNWARD: Manner = Manner {
     direction: Direction::TopToBottom,

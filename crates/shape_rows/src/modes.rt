@@ -1,8 +1,5 @@
 //! Normalised lists of texts with marks, selectors and spaces, over hooks and faces of the tests' own.
 
-use crate::support::{
-    AbsorbingShaper, DeepShaper, EVERY_GLYPH, MarkedUnicode, ReversingShaper, RowFace,
-};
 use shape_buffer::buffer::{
     Direction, GlyphId, ScratchFlags, ShapeError, UnicodeBuffer, hb_buffer_t, hb_glyph_info_t,
 };
@@ -15,6 +12,9 @@ use shape_prepare::graphemes::set_unicode_props;
 use std::alloc::Global;
 use std::process::Abort;
 use std::test::Fail;
+use test_worlds::{
+    AbsorbingShaper, DeepShaper, EVERY_GLYPH, MarkedUnicode, ReversingShaper, RowFace,
+};
 
 /// A text whose items have the properties of their characters, each in the cluster of its place.
 fn prepared(alloc: Global, text: &[char]) -> Result<hb_buffer_t, Fail> {
@@ -272,7 +272,10 @@ fn two_texts_are_compared(rt: HostRuntime) -> Result<(), Fail> {
 #[test]
 fn a_text_past_its_limit_clears_both(rt: HostRuntime) -> Result<(), Fail> {
     let alloc = rt.alloc();
-    let shaper = DeepShaper { depth: 16384 };
+    let shaper = DeepShaper {
+        depth: 16384,
+        second: 'a',
+    };
     let plan = hb_ot_shape_plan_t::new::<MarkedUnicode, RowFace<'_>, NoLookups>(
         alloc,
         &EVERY_GLYPH,

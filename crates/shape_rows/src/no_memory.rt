@@ -2,7 +2,6 @@
 //! tests that begin alike the second one makes such calls besides; the gate's script counts the growths of
 //! both, which must be as many.
 
-use crate::support::{AddingLayout, TabledFace};
 use crate::texts::face_of;
 use shape_buffer::buffer::{
     BufferFlags, Direction, GlyphId, ScratchFlags, Script, UnicodeBuffer, hb_buffer_t,
@@ -21,7 +20,8 @@ use shape_pipeline::ot_shape::{
 use shape_pipeline::ot_shape_normalize::{_hb_ot_shape_normalize, meets_canonical_premises};
 use shape_pipeline::ot_shape_plan::hb_ot_shape_plan_t;
 use shape_pipeline::ot_shaper::{DEFAULT_SHAPER, Decomposed, Preferring, hb_default_shaper_t};
-use shape_pipeline::shape::shape_with_plan;
+use shape_pipeline::shape_with_plan;
+use shape_plan::shaping_types::TypesOf;
 use shape_position::advances::{clear_positions, position_default, put_advances};
 use shape_position::finishing::reverse_backward;
 use shape_position::flags::propagate_flags;
@@ -48,6 +48,10 @@ use shape_unicode::UnicodeDatabase;
 use std::alloc::Global;
 use std::process::Abort;
 use std::test::Fail;
+use test_worlds::{AddingLayout, TabledFace};
+
+/// The types of a run with the default shaper.
+type Types = TypesOf<UnicodeDatabase, MapFace, NoLookups, hb_default_shaper_t>;
 
 /// A plan of the default shaper.
 type Plan<'a> = hb_ot_shape_plan_t<'a, hb_default_shaper_t, (), ()>;
@@ -225,20 +229,20 @@ fn set_items(buffer: &mut hb_buffer_t) {
 }
 
 fn prepare(plan: &Plan<'_>, face: &MapFace, buffer: &mut hb_buffer_t) {
-    initialize_masks::<MapFace, NoLookups, hb_default_shaper_t, ()>(plan, buffer);
+    initialize_masks::<Types>(plan, buffer);
     set_unicode_props::<UnicodeDatabase>(buffer);
     form_clusters(buffer);
     ensure_native_direction::<UnicodeDatabase>(buffer);
-    rotate_chars::<UnicodeDatabase, _, _, _, _>(plan, face, buffer, Direction::RightToLeft);
+    rotate_chars::<Types>(plan, face, buffer, Direction::RightToLeft);
 }
 
 fn make_glyphs(plan: &Plan<'_>, face: &MapFace, buffer: &mut hb_buffer_t) {
     setup_masks_fraction(plan, buffer);
-    setup_masks_shaper::<UnicodeDatabase, MapFace, NoLookups, _>(plan, face, buffer);
-    setup_masks_user::<MapFace, NoLookups, hb_default_shaper_t, ()>(plan, buffer);
-    recategorize_marks(plan, face, buffer);
+    setup_masks_shaper::<Types>(plan, face, buffer);
+    setup_masks_user::<Types>(plan, buffer);
+    recategorize_marks::<Types>(plan, face, buffer);
     map_glyphs_fast(buffer);
-    substitute_start::<MapFace, NoLookups, hb_default_shaper_t, ()>(plan, face, buffer);
+    substitute_start::<Types>(plan, face, buffer);
     hb_synthesize_glyph_classes(buffer);
     synthesize_classes(plan, buffer);
 }
@@ -246,16 +250,16 @@ fn make_glyphs(plan: &Plan<'_>, face: &MapFace, buffer: &mut hb_buffer_t) {
 fn place_glyphs(plan: &Plan<'_>, face: &MapFace, buffer: &mut hb_buffer_t) {
     clear_positions(buffer);
     put_advances(face, buffer);
-    place_spaces(plan, face, buffer);
-    position_start::<MapFace, NoLookups, hb_default_shaper_t, ()>(plan, face, buffer);
-    zero_marks_early::<UnicodeDatabase, MapFace, NoLookups, _>(plan, face, buffer);
-    zero_marks_late::<UnicodeDatabase, MapFace, NoLookups, _>(plan, face, buffer);
+    place_spaces::<Types>(plan, face, buffer);
+    position_start::<Types>(plan, face, buffer);
+    zero_marks_early::<Types>(plan, face, buffer);
+    zero_marks_late::<Types>(plan, face, buffer);
     zero_mark_widths_by_gdef(buffer, true);
-    position_finish_advances::<MapFace, NoLookups, hb_default_shaper_t, ()>(plan, face, buffer);
+    position_finish_advances::<Types>(plan, face, buffer);
     zero_width_default_ignorables(buffer);
-    zero_width_deleted::<MapFace, NoLookups, hb_default_shaper_t, ()>(plan, face, buffer);
-    position_finish_offsets::<MapFace, NoLookups, hb_default_shaper_t, ()>(plan, face, buffer);
-    place_marks::<UnicodeDatabase, _, _, _, _>(plan, face, buffer);
+    zero_width_deleted::<Types>(plan, face, buffer);
+    position_finish_offsets::<Types>(plan, face, buffer);
+    place_marks::<Types>(plan, face, buffer);
     position_marks::<UnicodeDatabase, _, _, _, _>(plan, face, buffer, true);
 }
 
@@ -291,9 +295,9 @@ fn make_whole_steps(plan: &Plan<'_>, face: &MapFace, buffer: &mut hb_buffer_t) -
     if buffer.length_limit() < buffer.len() {
         return Err(Fail::from("past the limit"));
     }
-    setup_masks::<UnicodeDatabase, MapFace, NoLookups, _>(plan, face, buffer);
-    setup_glyphs::<UnicodeDatabase, MapFace, NoLookups, _>(plan, face, buffer);
-    position_default::<UnicodeDatabase, MapFace, NoLookups, _>(plan, face, buffer);
+    setup_masks::<Types>(plan, face, buffer);
+    setup_glyphs::<Types>(plan, face, buffer);
+    position_default::<Types>(plan, face, buffer);
     syllabic_clear_var(buffer);
     _hb_ot_shape_fallback_mark_position_recategorize_marks(plan, face, buffer);
     _hb_ot_shape_fallback_spaces(plan, face, buffer);
@@ -304,7 +308,7 @@ fn make_whole_steps(plan: &Plan<'_>, face: &MapFace, buffer: &mut hb_buffer_t) -
 fn finish(plan: &Plan<'_>, face: &MapFace, buffer: &mut hb_buffer_t) {
     propagate_flags(buffer);
     reverse_backward(buffer);
-    remove_deleted::<MapFace, NoLookups, hb_default_shaper_t, ()>(plan, face, buffer);
+    remove_deleted::<Types>(plan, face, buffer);
     deal_with_variation_selectors(buffer);
     hide_default_ignorables(face, buffer);
 }

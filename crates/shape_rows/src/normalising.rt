@@ -1,6 +1,5 @@
 //! Normalised lists of texts over the whole database of Unicode.
 
-use crate::support::{EVERY_GLYPH, RowFace};
 use crate::texts::{
     BY_CHARACTER, Manner, PLAINLY, assert_characters, assert_items, normalised, planned, prepared,
     text_of,
@@ -14,6 +13,7 @@ use shape_pipeline::ot_shaper::{
 };
 use shape_unicode::UnicodeDatabase;
 use std::test::Fail;
+use test_worlds::{EVERY_GLYPH, RowFace};
 
 #[test]
 fn e_acute(rt: HostRuntime) -> Result<(), Fail> {

@@ -1,6 +1,5 @@
 //! Texts that meet the premises of canonical form, and texts that miss one of them.
 
-use crate::support::{EVERY_GLYPH, RowFace};
 use crate::texts::{PLAINLY, planned, prepared, text_of};
 use shape_buffer::interfaces::{NoLookups, hb_font_t};
 use shape_pipeline::ot_shape_normalize::meets_canonical_premises;
@@ -11,6 +10,7 @@ use shape_pipeline::ot_shaper::{
 use shape_unicode::UnicodeDatabase;
 use std::alloc::Global;
 use std::test::Fail;
+use test_worlds::{EVERY_GLYPH, RowFace};
 
 /// Whether a text, once prepared, meets them under a plan of its own.
 fn meets<F, S>(alloc: Global, face: &F, shaper: &S, text: &[char]) -> Result<bool, Fail>
@@ -24,7 +24,7 @@ where
     Ok(meets_canonical_premises::<UnicodeDatabase, F, NoLookups, S>(&plan, face, &buffer))
 }
 
-/// A letter with so many marks behind it.
+/// A letter with so many marks after it.
 fn stacked(alloc: Global, letter: char, mark: char, marks: usize) -> Result<Vec<char>, Fail> {
     let mut text = Vec::new(alloc);
     text.push(letter)?;

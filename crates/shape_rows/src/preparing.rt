@@ -1,12 +1,12 @@
 //! Prepared texts over the whole database of Unicode.
 
-use crate::support::RowFace;
 use crate::texts::{
     BY_CHARACTER, Manner, PLAINLY, assert_items, normalised, prepared, shaped, text_of,
 };
 use shape_buffer::buffer::{BufferFlags, Direction, Script, hb_tag_t};
 use shape_pipeline::ot_shaper::DEFAULT_SHAPER;
 use std::test::Fail;
+use test_worlds::RowFace;
 
 #[test]
 fn empty_text(rt: HostRuntime) -> Result<(), Fail> {

@@ -1,14 +1,14 @@
 //! Whole runs with the answers that the rules give.
 
-use crate::support::{DeepShaper, EVERY_GLYPH, RowFace, StackedShaper};
 use shape_buffer::buffer::{Direction, GlyphBuffer, ShapeError, ShapeFault, UnicodeBuffer};
 use shape_buffer::interfaces::{NoLookups, PlainUnicode, hb_font_t};
 use shape_pipeline::ot_shape_plan::hb_ot_shape_plan_t;
 use shape_pipeline::ot_shaper::hb_ot_shaper_t;
-use shape_pipeline::shape::shape_with_plan;
+use shape_pipeline::shape_with_plan;
 use std::alloc::Global;
 use std::process::Abort;
 use std::test::Fail;
+use test_worlds::{DeepShaper, EVERY_GLYPH, RowFace, StackedShaper};
 
 /// Shapes one character, in cluster 7.
 fn shaped<F, S>(
@@ -74,33 +74,53 @@ fn greatest_expansion(rt: HostRuntime) -> Result<(), Fail> {
     Ok(())
 }
 
+/// Splits as deep as this, each into the next character and U+0061.
+fn splitting(depth: u16) -> DeepShaper {
+    DeepShaper { depth, second: 'a' }
+}
+
 #[test]
 fn length_limit(rt: HostRuntime) -> Result<(), Fail> {
     let alloc = rt.alloc();
-    match shaped(
-        alloc,
-        &EVERY_GLYPH,
-        &DeepShaper { depth: 16383 },
-        '\u{F0000}',
-    )? {
+    match shaped(alloc, &EVERY_GLYPH, &splitting(16383), '\u{F0000}')? {
         Ok(glyphs) => {
             assert_eq!(rt; glyphs.len(), 16384);
             assert!(rt; glyphs.glyph_infos().iter().all(|info| info.cluster == 7));
         }
         Err(_) => return Err(Fail::from("refused")),
     }
-    match shaped(
-        alloc,
-        &EVERY_GLYPH,
-        &DeepShaper { depth: 16384 },
-        '\u{F0000}',
-    )? {
+    match shaped(alloc, &EVERY_GLYPH, &splitting(16384), '\u{F0000}')? {
         Ok(_) => return Err(Fail::from("not refused")),
         Err(fault) => {
             assert_eq!(rt; fault.cause, ShapeError::Length);
             assert!(rt; fault.buffer.is_empty());
             assert_eq!(rt; fault.buffer.direction(), Direction::Invalid);
         }
+    }
+    Ok(())
+}
+
+/// Splits that go deeper than a run's limit, of which only the last first part is left over.
+const DEEPEST: DeepShaper = DeepShaper {
+    depth: 65000,
+    second: '\0',
+};
+
+#[test]
+fn a_deep_chain_is_walked(rt: HostRuntime) -> Result<(), Fail> {
+    let answer = shaped(rt.alloc(), &EVERY_GLYPH, &DEEPEST, '\u{F0000}')?;
+    assert_glyphs(&rt, answer, &['\u{FFDE8}']);
+    Ok(())
+}
+
+/// An expansion that the face can't show doesn't count, however long it is.
+#[test]
+fn a_deep_chain_without_glyphs_is_left(rt: HostRuntime) -> Result<(), Fail> {
+    let alloc = rt.alloc();
+    let face = RowFace::of(&['\u{F0000}', 'a']);
+    for shaper in [DEEPEST, splitting(16384)] {
+        let answer = shaped(alloc, &face, &shaper, '\u{F0000}')?;
+        assert_glyphs(&rt, answer, &['\u{F0000}']);
     }
     Ok(())
 }

@@ -1,16 +1,16 @@
 //! Shapers with wishes for marks, by themselves and beside tables that position.
 
-use crate::support::{AddingLayout, EarlyShaper, HangingShaper, LateShaper, TabledFace};
 use crate::texts::{GlyphOf, Manner, PLAINLY, PlacedGlyph, assert_glyphs, face_of, text_of};
 use shape_buffer::buffer::{Direction, GlyphBuffer, UnicodeBuffer};
 use shape_buffer::interfaces::hb_tables_t;
 use shape_pipeline::ot_shape_plan::hb_ot_shape_plan_t;
 use shape_pipeline::ot_shaper::{DEFAULT_SHAPER, hb_ot_shaper_t};
-use shape_pipeline::shape::shape_with_plan;
+use shape_pipeline::shape_with_plan;
 use shape_unicode::UnicodeDatabase;
 use std::alloc::Global;
 use std::process::Abort;
 use std::test::Fail;
+use test_worlds::{AddingLayout, EarlyShaper, HangingShaper, LateShaper, TabledFace};
 
 const NO_TABLES: hb_tables_t = hb_tables_t {
     gsub: false,

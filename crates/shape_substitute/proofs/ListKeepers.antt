@@ -1,5 +1,5 @@
 -- What the lists of steps of masks and substitution keep.
-use Rattle.std.proofs.Common.{◌≡◌, ◌&&◌, ◌≤◌, ℕ, zero, suc, Bool, true, false, [], ◌∷◌, Option, Some, None, refl, arith}
+use Rattle.std.proofs.Common.{◌≡◌, ◌&&◌, ◌≤◌, ◌<◌, ℕ, zero, suc, Bool, true, false, [], ◌∷◌, Option, Some, None, refl, arith}
 use Rattle.std.specs.Prelude.{if◌then◌else◌}
 use Rattle.std.proofs.lemmas.Bool.{and_parts}
 use Rattle.std.specs.Option.{option_map_or}
@@ -16,17 +16,18 @@ use Rattle.shape_plan.proofs.KeeperLemmas.{flags-hook_if, flags-step_if, flags-s
 
 -- ---- clusters
 
-order-pause : (run : Run) → CallsKeepClusters run → (number : Option ℕ)
+order-pause : (run : Run) → CallsKeepClusters run → run.decisions.apply_morx ≡ false → (i : ℕ) → i < run.map.stages
+    → (number : Option ℕ) → run.map.pause_after i ≡ number
     → IsClusterKeeper (option_map_or (λ n. hook_if run.constants.has_pause run.hooks (λ h. h.pause n)) number (λ b. b))
-order-pause run keep None = λ b monotone. KeepsOrder-same b
-order-pause run keep (Some n) =
-    order-hook_if run.constants.has_pause run.hooks (λ h. h.pause n) (λ h is given. (keep.hooks h is).pause given n)
+order-pause run keep staged i within None asked = λ b monotone. KeepsOrder-same b
+order-pause run keep staged i within (Some n) asked =
+    order-hook_if run.constants.has_pause run.hooks (λ h. h.pause n) (λ h is given. (keep.hooks h is).pause given staged i n within asked)
 
 order-stages : (run : Run) → CallsKeepClusters run → run.decisions.apply_morx ≡ false → (n : ℕ) → n ≤ run.map.stages
     → EachStep IsClusterKeeper (stage_steps run n)
 order-stages run keep staged zero within = tt
 order-stages run keep staged (suc n) within = EachStep-append IsClusterKeeper (stage_steps run n) _ (order-stages run keep staged n (omega arith))
-    (keep.lookups.stage staged n (omega arith), (order-pause run keep (run.map.pause_after n), tt))
+    (keep.lookups.stage staged n (omega arith), (order-pause run keep staged n (omega arith) (run.map.pause_after n) refl, tt))
 
 order-lookups : (run : Run) → CallsKeepClusters run → (morx : Bool) → run.decisions.apply_morx ≡ morx
     → EachStep IsClusterKeeper (if morx then step (run.lookups.aat_substitute run.user_features) ∷ [] else stage_steps run run.map.stages)
@@ -58,17 +59,18 @@ substitution-keeps_clusters run keep = record {
 
 -- ---- flags
 
-flags-pause : (run : Run) → RunKeepsFlags run → (number : Option ℕ)
+flags-pause : (run : Run) → RunKeepsFlags run → run.decisions.apply_morx ≡ false → (i : ℕ) → i < run.map.stages
+    → (number : Option ℕ) → run.map.pause_after i ≡ number
     → IsFlagKeeper (option_map_or (λ n. hook_if run.constants.has_pause run.hooks (λ h. h.pause n)) number (λ b. b))
-flags-pause run keep None = λ b. KeepsFlags-same b
-flags-pause run keep (Some n) =
-    flags-hook_if run.constants.has_pause run.hooks (λ h. h.pause n) (λ h is given. (keep.hooks h is).pause given n)
+flags-pause run keep staged i within None asked = λ b. KeepsFlags-same b
+flags-pause run keep staged i within (Some n) asked =
+    flags-hook_if run.constants.has_pause run.hooks (λ h. h.pause n) (λ h is given. (keep.hooks h is).pause given staged i n within asked)
 
 flags-stages : (run : Run) → RunKeepsFlags run → run.decisions.apply_morx ≡ false → (n : ℕ) → n ≤ run.map.stages
     → EachStep IsFlagKeeper (stage_steps run n)
 flags-stages run keep staged zero within = tt
 flags-stages run keep staged (suc n) within = EachStep-append IsFlagKeeper (stage_steps run n) _ (flags-stages run keep staged n (omega arith))
-    (keep.lookups.stage staged n (omega arith), (flags-pause run keep (run.map.pause_after n), tt))
+    (keep.lookups.stage staged n (omega arith), (flags-pause run keep staged n (omega arith) (run.map.pause_after n) refl, tt))
 
 flags-lookups : (run : Run) → RunKeepsFlags run → (morx : Bool) → run.decisions.apply_morx ≡ morx
     → EachStep IsFlagKeeper (if morx then step (run.lookups.aat_substitute run.user_features) ∷ [] else stage_steps run run.map.stages)

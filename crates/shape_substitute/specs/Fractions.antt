@@ -66,11 +66,11 @@ slash_masked masks slash b =
     (features_added masks.before start slash (unsafe_to_break start end b)))
     else unsafe_to_concat slash (slash + 1) b
 
--- where the walk goes on: behind the whole, or behind a slash that has none
+-- where the walk goes on: after the whole, or after a slash that has none
 abbrev pub next_place : List Item → ℕ → ℕ
 next_place items slash = if has_whole items slash then whole_end items slash else slash + 1
 
--- the slashes at some places one after another, but for those that stand before place `next`, in the whole of an earlier one
+-- the slashes at some places one after another, except for those that stand before place `next`, in the whole of an earlier one
 abbrev pub slashes_masked : FractionMasks → ℕ → List ℕ → Buffer → Buffer
 slashes_masked masks next [] b = b
 slashes_masked masks next (slash ∷ slashes) b =

@@ -24,11 +24,11 @@ glyph_steps run =
     ∷ step (step_if run.decisions.fallback_glyph_classes classes_synthesised)
     ∷ []
 
--- the pause behind stage i, where it has one, the plan keeps the shaper, and the shaper gives pauses
+-- the pause after stage i, where it has one, the plan keeps the shaper, and the shaper gives pauses
 abbrev pub paused : Run → ℕ → Buffer → Buffer
 paused run i = option_map_or (λ n. hook_if run.constants.has_pause run.hooks (λ hooks. hooks.pause n)) (run.map.pause_after i) (λ b. b)
 
--- the first n stages in order, each with its pause behind it
+-- the first n stages in order, each with its pause after it
 abbrev pub stage_steps : Run → ℕ → List Step
 stage_steps run zero = []
 stage_steps run (suc n) = stage_steps run n ++ (step (run.lookups.stage n) ∷ step (paused run n) ∷ [])

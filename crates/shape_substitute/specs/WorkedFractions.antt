@@ -10,7 +10,7 @@ use Rattle.shape_plan.specs.WorkedDecisions.{no_decisions}
 use Rattle.shape_plan.specs.declared.decisions.Decisions.{Decisions}
 use Rattle.shape_substitute.specs.Fractions.{features_added, slash_masked, slash_places, whole_start, whole_end, next_place, fractions_masked}
 
--- a plan that does nothing but for its masks of fractions: frac 0x100, numr 0x200, dnom 0x400
+-- a plan that does nothing except for its masks of fractions: frac 0x100, numr 0x200, dnom 0x400
 abbrev pub with_fractions : Bool → Decisions
 with_fractions has_frac = record no_decisions { frac_mask = 0x100; numr_mask = 0x200; dnom_mask = 0x400; has_frac = has_frac }
 
@@ -110,7 +110,7 @@ pub record WalkOverSlashes : Type 0 where
   pub end : whole_end (digit 0 ∷ slash 1 ∷ digit 4 ∷ digit 5 ∷ []) 1 ≡ 4
   pub behind_whole : next_place (digit 0 ∷ slash 1 ∷ digit 4 ∷ digit 5 ∷ []) 1 ≡ 4
   pub behind_slash : next_place (letter 0 ∷ slash 1 ∷ digit 4 ∷ digit 5 ∷ []) 1 ≡ 2
-  -- the first slash has nothing before it; the second has the first and the third as digits, and the walk goes on behind the third
+  -- the first slash has nothing before it; the second has the first and the third as digits, and the walk goes on after the third
   pub passed_by : masked_for_concat (digit_slash ∷ digit_slash ∷ digit_slash ∷ []) ≡ 0x302 ∷ 0x100 ∷ 0x500 ∷ []
 
 walk_over_slashes : WalkOverSlashes

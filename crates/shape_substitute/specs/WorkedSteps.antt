@@ -44,7 +44,7 @@ adding = record no_lookups {
   aat_remove_deleted = each_glyph (λ g. g * 3);
 }
 
--- so many stages, with pause 7 behind the first one and no other; feature 1 has the bits 0x300
+-- so many stages, with pause 7 after the first one and no other; feature 1 has the bits 0x300
 abbrev pub with_stages : ℕ → MapMeaning
 with_stages n = record {
   global_mask = 0;
@@ -118,6 +118,18 @@ pub record RunsOfLookups (run : Run) : Type 0 where
   pub morx_and_gpos : glyphs_after (record (unhooked (staged run (constants true false) 2 (by_tables true true)))
       { user_features = [] }) ≡ 315 ∷ []
 
+-- three stages, with pause 7 after this one alone
+abbrev glyphs_paused : Run → ℕ → List ℕ
+glyphs_paused run stage =
+    glyphs_after (record (hooked (staged run (constants true false) 3 (by_tables false false)))
+    { map = record (with_stages 3) { pause_after = λ i. if i == stage then Some 7 else None } })
+
+-- 5, and 1, 3 and 1000 by the stages, doubled after one of them
+pub record RunsOfPauses (run : Run) : Type 0 where
+  pub behind_first : glyphs_paused run 0 ≡ 1015 ∷ []
+  pub behind_second : glyphs_paused run 1 ≡ 1018 ∷ []
+  pub behind_last : glyphs_paused run 2 ≡ 2018 ∷ []
+
 -- before the lookups: the glyph of the index, doubled by `substitute_start`, in class 4; another class in its place where the plan says so
 pub record RunsOfGlyphs (run : Run) : Type 0 where
   pub mapped_first : glyphs (run_steps (glyph_steps (record run { decisions = with_fractions true })) glyph_5) ≡ 12 ∷ []
@@ -145,6 +157,7 @@ pub record RunsOfMasks (run : Run) : Type 0 where
 -- whatever else a run goes by
 pub record WorkedSteps : Type 0 where
   pub lookups : (run : Run) → RunsOfLookups (record run { lookups = adding })
+  pub pauses : (run : Run) → RunsOfPauses (record run { lookups = adding })
   pub glyphs : (run : Run) → RunsOfGlyphs (record run { lookups = adding })
   pub masks : (run : Run) → RunsOfMasks run
 
@@ -160,6 +173,9 @@ runs_of_lookups run = record {
   morx_and_gpos = refl;
 }
 
+runs_of_pauses : (run : Run) → RunsOfPauses (record run { lookups = adding })
+runs_of_pauses run = record { behind_first = refl; behind_second = refl; behind_last = refl }
+
 runs_of_glyphs : (run : Run) → RunsOfGlyphs (record run { lookups = adding })
 unfolding glyphs_mapped classes_synthesised items_mapped
 runs_of_glyphs run = record { mapped_first = refl; classes_of_face = refl; classes_made_up = refl }
@@ -169,4 +185,4 @@ unfolding fractions_masked slash_masked features_added ranges_masked items_mappe
 runs_of_masks run = record { hook_then_user = refl; fraction_then_hook = refl; hook_not_given = refl; without_shaper = refl }
 
 pub worked_steps : WorkedSteps
-worked_steps = record { lookups = runs_of_lookups; glyphs = runs_of_glyphs; masks = runs_of_masks }
+worked_steps = record { lookups = runs_of_lookups; pauses = runs_of_pauses; glyphs = runs_of_glyphs; masks = runs_of_masks }

@@ -98,7 +98,7 @@ fn whole_start(infos: &[hb_glyph_info_t], slash: usize) -> usize
     slash - digits_at_end(&infos[..slash])
 }
 
-/// Where the digits directly after a slash end: right behind the slash where there are none.
+/// Where the digits directly after a slash end: right after the slash where there are none.
 fn whole_end(infos: &[hb_glyph_info_t], slash: usize) -> usize
     requires { slash < length infos.now }
     ensures value { result ≡ whole_end_of infos.now slash }

@@ -1,7 +1,7 @@
 //! Glyphs, as substitution finds them: the ones that the face answered, with a class each.
 //!
 //! Lookups may pass by glyphs of a class. Where a face doesn't say which glyphs are marks, the characters
-//! do: a nonspacing mark is one, but for default ignorables, which lookups shall see.
+//! do: a nonspacing mark is one, except for default ignorables, which lookups are to see.
 ghost use Rattle.std.specs.Prelude.{◌≡◌};
 ghost use Rattle.shape_buffer.specs.Outcome.{IsWithinLimit, Made, Ran};
 ghost use Rattle.shape_plan.specs.Run.{step_if};
@@ -17,7 +17,8 @@ use shape_buffer::buffer::{
 use shape_buffer::interfaces::{hb_font_t, hb_ot_layout_t, hb_unicode_funcs_t};
 use shape_buffer::walks::update_items;
 use shape_plan::ot_shape_plan::hb_ot_shape_plan_t;
-use shape_plan::ot_shaper::{Runs, hb_ot_shaper_t};
+use shape_plan::ot_shaper::hb_ot_shaper_t;
+use shape_plan::shaping_types::{Meaning, PlanOf, ShapingTypes};
 
 /// An item with the glyph that the face answered for its character.
 fn with_nominal_glyph(info: &hb_glyph_info_t) -> hb_glyph_info_t
@@ -61,7 +62,7 @@ fn with_class(info: &hb_glyph_info_t) -> hb_glyph_info_t
     info
 }
 
-/// Makes up the class of each glyph, and takes back that lookups have made it. Takes no memory.
+/// Makes up the class of each glyph, as one that no lookup has made. Takes no memory.
 pub fn hb_synthesize_glyph_classes(buffer: &mut hb_buffer_t)
     ensures { Made classes_synthesised buffer.old buffer.new }
 {
@@ -79,35 +80,24 @@ pub fn synthesize_classes<S, P, D>(plan: &hb_ot_shape_plan_t<'_, S, P, D>, buffe
 }
 
 /// Has the engine prepare the buffer for substitution.
-pub fn substitute_start<F, M, S, D>(
-    plan: &hb_ot_shape_plan_t<'_, S, M::Map, D>,
-    face: &F,
+pub fn substitute_start<T: ShapingTypes>(
+    plan: &PlanOf<'_, T>,
+    face: &T::Face,
     buffer: &mut hb_buffer_t,
 )
-where
-    M: hb_ot_layout_t<F>,
-    ensures { Made (M.lookups plan.now.ot_map face.now).substitute_start buffer.old buffer.new }
+    ensures { Made (T.Engine.lookups plan.now.ot_map face.now).substitute_start buffer.old buffer.new }
 {
-    M::substitute_start(face, buffer);
+    T::Engine::substitute_start(face, buffer);
 }
 
 /// Makes glyphs of the items, prepares the buffer for substitution, and makes up the classes where the
 /// face has none. Takes no memory.
-pub fn setup_glyphs<U, F, M, S>(
-    plan: &hb_ot_shape_plan_t<'_, S, M::Map, S::Data>,
-    face: &F,
-    buffer: &mut hb_buffer_t,
-)
-where
-    U: hb_unicode_funcs_t,
-    F: hb_font_t,
-    M: hb_ot_layout_t<F>,
-    S: hb_ot_shaper_t<U, F, M>,
+pub fn setup_glyphs<T: ShapingTypes>(plan: &PlanOf<'_, T>, face: &T::Face, buffer: &mut hb_buffer_t)
     requires { IsWithinLimit buffer.old }
-    ensures { Ran (glyph_steps (⟦<S as Runs<U, F, M>>⟧.run plan.now face.now))
+    ensures { Ran (glyph_steps (⟦<T as Meaning>⟧.run plan.now face.now))
         buffer.old buffer.new }
 {
     map_glyphs_fast(buffer);
-    substitute_start::<F, M, S, S::Data>(plan, face, buffer);
+    substitute_start::<T>(plan, face, buffer);
     synthesize_classes(plan, buffer);
 }

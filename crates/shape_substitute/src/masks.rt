@@ -10,46 +10,32 @@ use crate::fractions::setup_masks_fraction;
 use crate::ranges::setup_masks_user;
 use shape_buffer::buffer::hb_buffer_t;
 use shape_buffer::interfaces::{hb_font_t, hb_ot_layout_t, hb_unicode_funcs_t};
-use shape_plan::ot_shape_plan::hb_ot_shape_plan_t;
-use shape_plan::ot_shaper::{Runs, hb_ot_shaper_t};
+use shape_plan::ot_shaper::hb_ot_shaper_t;
+use shape_plan::shaping_types::{Meaning, PlanOf, ShapingTypes};
 
 /// Calls the hook `setup_masks`, where the plan keeps the shaper and it is given.
-pub fn setup_masks_shaper<U, F, M, S>(
-    plan: &hb_ot_shape_plan_t<'_, S, M::Map, S::Data>,
-    face: &F,
+pub fn setup_masks_shaper<T: ShapingTypes>(
+    plan: &PlanOf<'_, T>,
+    face: &T::Face,
     buffer: &mut hb_buffer_t,
 )
-where
-    U: hb_unicode_funcs_t,
-    F: hb_font_t,
-    M: hb_ot_layout_t<F>,
-    S: hb_ot_shaper_t<U, F, M>,
-    ensures { let run = ⟦<S as Runs<U, F, M>>⟧.run plan.now face.now in
+    ensures { let run = ⟦<T as Meaning>⟧.run plan.now face.now in
         Made (hook_if run.constants.has_setup_masks run.hooks (λ hooks. hooks.setup_masks))
         buffer.old buffer.new }
 {
     match plan.shaper() {
-        Some(shaper) if S::HAS_SETUP_MASKS => shaper.setup_masks(plan, face, buffer),
+        Some(shaper) if T::Shaper::HAS_SETUP_MASKS => shaper.setup_masks(plan, face, buffer),
         _ => (),
     }
 }
 
 /// Sets the masks: fractions, what the shaper sets, and the user's features. Takes no memory.
-pub fn setup_masks<U, F, M, S>(
-    plan: &hb_ot_shape_plan_t<'_, S, M::Map, S::Data>,
-    face: &F,
-    buffer: &mut hb_buffer_t,
-)
-where
-    U: hb_unicode_funcs_t,
-    F: hb_font_t,
-    M: hb_ot_layout_t<F>,
-    S: hb_ot_shaper_t<U, F, M>,
+pub fn setup_masks<T: ShapingTypes>(plan: &PlanOf<'_, T>, face: &T::Face, buffer: &mut hb_buffer_t)
     requires { IsWithinLimit buffer.old }
-    ensures { Ran (mask_steps (⟦<S as Runs<U, F, M>>⟧.run plan.now face.now))
+    ensures { Ran (mask_steps (⟦<T as Meaning>⟧.run plan.now face.now))
         buffer.old buffer.new }
 {
     setup_masks_fraction(plan, buffer);
-    setup_masks_shaper::<U, F, M, S>(plan, face, buffer);
-    setup_masks_user::<F, M, S, S::Data>(plan, buffer);
+    setup_masks_shaper::<T>(plan, face, buffer);
+    setup_masks_user::<T>(plan, buffer);
 }

@@ -13,7 +13,7 @@ ghost use Rattle.shape_substitute.specs.Ranges.{ranges_masked};
 use shape_buffer::buffer::{Feature, hb_buffer_t, hb_glyph_info_t, hb_mask_t};
 use shape_buffer::interfaces::hb_ot_layout_t;
 use shape_buffer::walks::update_items;
-use shape_plan::ot_shape_plan::hb_ot_shape_plan_t;
+use shape_plan::shaping_types::{PlanOf, ShapingTypes};
 
 /// A mask whose bits in `bits` become those of a value that stands at its place.
 fn with_value(bits: hb_mask_t, value: u32, mask: hb_mask_t) -> hb_mask_t
@@ -49,34 +49,23 @@ fn set_masks(buffer: &mut hb_buffer_t, feature: &Feature, bits: hb_mask_t, shift
 }
 
 /// Sets one of the user's features, where it isn't asked for over the whole text.
-fn set_feature<F, M, S, D>(
-    plan: &hb_ot_shape_plan_t<'_, S, M::Map, D>,
-    buffer: &mut hb_buffer_t,
-    feature: &Feature,
-)
-where
-    M: hb_ot_layout_t<F>,
-    ensures { Made (λ b. range_masked (M.masks plan.now.ot_map) b feature.now)
+fn set_feature<T: ShapingTypes>(plan: &PlanOf<'_, T>, buffer: &mut hb_buffer_t, feature: &Feature)
+    ensures { Made (λ b. range_masked (T.Engine.masks plan.now.ot_map) b feature.now)
         buffer.old buffer.new }
 {
     if !feature.is_global() {
-        let (bits, shift) = M::get_mask(plan.ot_map(), feature.tag);
+        let (bits, shift) = T::Engine::get_mask(plan.ot_map(), feature.tag);
         set_masks(buffer, feature, bits, shift);
     }
 }
 
 /// Sets the features that the user asked for over a part of the text, in their order, over the items whose
 /// clusters are in their ranges: the bits of the feature become those of its value. Takes no memory.
-pub fn setup_masks_user<F, M, S, D>(
-    plan: &hb_ot_shape_plan_t<'_, S, M::Map, D>,
-    buffer: &mut hb_buffer_t,
-)
-where
-    M: hb_ot_layout_t<F>,
-    ensures { Made (ranges_masked (M.masks plan.now.ot_map) plan.now.user_features)
+pub fn setup_masks_user<T: ShapingTypes>(plan: &PlanOf<'_, T>, buffer: &mut hb_buffer_t)
+    ensures { Made (ranges_masked (T.Engine.masks plan.now.ot_map) plan.now.user_features)
         buffer.old buffer.new }
 {
     for feature in plan.user_features() {
-        set_feature::<F, M, S, D>(plan, buffer, feature);
+        set_feature::<T>(plan, buffer, feature);
     }
 }

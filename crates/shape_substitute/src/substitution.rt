@@ -9,56 +9,47 @@ ghost use Rattle.shape_substitute.specs.Substitution.{substitute_steps};
 
 use shape_buffer::buffer::{ShapeError, hb_buffer_t};
 use shape_buffer::interfaces::{hb_font_t, hb_ot_layout_t, hb_unicode_funcs_t};
-use shape_plan::ot_shape_plan::hb_ot_shape_plan_t;
-use shape_plan::ot_shaper::{Runs, hb_ot_shaper_t};
+use shape_plan::ot_shaper::hb_ot_shaper_t;
+use shape_plan::shaping_types::{Meaning, PlanOf, ShapingTypes};
 use std::alloc::Global;
 
 /// How many stages the plan's lookups have.
-fn stage_count<F, M, S, D>(plan: &hb_ot_shape_plan_t<'_, S, M::Map, D>) -> usize
-where
-    M: hb_ot_layout_t<F>,
-    ensures { result ≡ (M.masks plan.now.ot_map).stages }
+fn stage_count<T: ShapingTypes>(plan: &PlanOf<'_, T>) -> usize
+    ensures { result ≡ (T.Engine.masks plan.now.ot_map).stages }
 {
-    M::stages(plan.ot_map())
+    T::Engine::stages(plan.ot_map())
 }
 
 /// Runs the lookups of stage `i`.
-fn run_lookups<F, M, S, D>(
+fn run_lookups<T: ShapingTypes>(
     alloc: Global,
     i: usize,
-    plan: &hb_ot_shape_plan_t<'_, S, M::Map, D>,
-    face: &F,
+    plan: &PlanOf<'_, T>,
+    face: &T::Face,
     buffer: &mut hb_buffer_t,
 ) -> Result<(), ShapeError>
-where
-    M: hb_ot_layout_t<F>,
     requires { IsWithinLimit buffer.old }
-    ensures { Outcome (step ((M.lookups plan.now.ot_map face.now).stage i))
+    ensures { Outcome (step ((T.Engine.lookups plan.now.ot_map face.now).stage i))
         buffer.old buffer.new result }
 {
-    M::substitute_stage(alloc, plan.ot_map(), i, face, buffer)
+    T::Engine::substitute_stage(alloc, plan.ot_map(), i, face, buffer)
 }
 
-/// Runs the pause behind stage `i`, where it has one, the plan keeps the shaper, and the shaper gives
+/// Runs the pause after stage `i`, where it has one, the plan keeps the shaper, and the shaper gives
 /// pauses.
-fn pause_after<U, F, M, S>(
+fn pause_after<T: ShapingTypes>(
     alloc: Global,
     i: usize,
-    plan: &hb_ot_shape_plan_t<'_, S, M::Map, S::Data>,
-    face: &F,
+    plan: &PlanOf<'_, T>,
+    face: &T::Face,
     buffer: &mut hb_buffer_t,
 ) -> Result<(), ShapeError>
-where
-    U: hb_unicode_funcs_t,
-    F: hb_font_t,
-    M: hb_ot_layout_t<F>,
-    S: hb_ot_shaper_t<U, F, M>,
     requires { IsWithinLimit buffer.old }
-    ensures { Outcome (step (paused (⟦<S as Runs<U, F, M>>⟧.run plan.now face.now) i))
+    ensures { Outcome (step (paused (⟦<T as Meaning>⟧.run plan.now face.now) i))
         buffer.old buffer.new result }
 {
-    match (M::pause_after(plan.ot_map(), i), plan.shaper()) {
-        (Some(number), Some(shaper)) if S::HAS_PAUSE => {
+    match (T::Engine::pause_after(plan.ot_map(), i), plan.shaper()) {
+        (Some(number), Some(shaper)) if T::Shaper::HAS_PAUSE => {
             shaper.pause(alloc, number, plan, face, buffer)
         }
         _ => Ok(()),
@@ -66,133 +57,107 @@ where
 }
 
 /// Runs stage `i`, and then its pause.
-fn substitute_stage<U, F, M, S>(
+fn substitute_stage<T: ShapingTypes>(
     alloc: Global,
     i: usize,
-    plan: &hb_ot_shape_plan_t<'_, S, M::Map, S::Data>,
-    face: &F,
+    plan: &PlanOf<'_, T>,
+    face: &T::Face,
     buffer: &mut hb_buffer_t,
 ) -> Result<(), ShapeError>
-where
-    U: hb_unicode_funcs_t,
-    F: hb_font_t,
-    M: hb_ot_layout_t<F>,
-    S: hb_ot_shaper_t<U, F, M>,
     requires { IsWithinLimit buffer.old }
-    ensures { let run = ⟦<S as Runs<U, F, M>>⟧.run plan.now face.now in
+    ensures { let run = ⟦<T as Meaning>⟧.run plan.now face.now in
         RunOutcome (step (run.lookups.stage i) ∷ step (paused run i) ∷ [])
         buffer.old buffer.new result }
 {
-    run_lookups::<F, M, S, S::Data>(alloc, i, plan, face, buffer)?;
-    pause_after::<U, F, M, S>(alloc, i, plan, face, buffer)
+    run_lookups::<T>(alloc, i, plan, face, buffer)?;
+    pause_after::<T>(alloc, i, plan, face, buffer)
 }
 
 /// Runs every stage in order, each with its pause.
-fn substitute_stages<U, F, M, S>(
+fn substitute_stages<T: ShapingTypes>(
     alloc: Global,
-    plan: &hb_ot_shape_plan_t<'_, S, M::Map, S::Data>,
-    face: &F,
+    plan: &PlanOf<'_, T>,
+    face: &T::Face,
     buffer: &mut hb_buffer_t,
 ) -> Result<(), ShapeError>
-where
-    U: hb_unicode_funcs_t,
-    F: hb_font_t,
-    M: hb_ot_layout_t<F>,
-    S: hb_ot_shaper_t<U, F, M>,
     requires { IsWithinLimit buffer.old }
-    ensures { let run = ⟦<S as Runs<U, F, M>>⟧.run plan.now face.now in
+    ensures { let run = ⟦<T as Meaning>⟧.run plan.now face.now in
         RunOutcome (stage_steps run run.map.stages) buffer.old buffer.new result }
 {
-    'stages: for i in 0..stage_count::<F, M, S, S::Data>(plan) {
-        substitute_stage::<U, F, M, S>(alloc, i, plan, face, buffer)?;
+    'stages: for i in 0..stage_count::<T>(plan) {
+        substitute_stage::<T>(alloc, i, plan, face, buffer)?;
     }
     Ok(())
 }
 
 /// Substitutes by the table `morx`.
-fn substitute_aat<F, M, S, D>(
+fn substitute_aat<T: ShapingTypes>(
     alloc: Global,
-    plan: &hb_ot_shape_plan_t<'_, S, M::Map, D>,
-    face: &F,
+    plan: &PlanOf<'_, T>,
+    face: &T::Face,
     buffer: &mut hb_buffer_t,
 ) -> Result<(), ShapeError>
-where
-    M: hb_ot_layout_t<F>,
     requires { IsWithinLimit buffer.old }
     ensures { Outcome
-        (step ((M.lookups plan.now.ot_map face.now).aat_substitute plan.now.user_features))
+        (step ((T.Engine.lookups plan.now.ot_map face.now).aat_substitute plan.now.user_features))
         buffer.old buffer.new result }
 {
-    M::aat_substitute(alloc, plan.ot_map(), plan.user_features(), face, buffer)
+    T::Engine::aat_substitute(alloc, plan.ot_map(), plan.user_features(), face, buffer)
 }
 
 /// Runs the lookups: by the table `morx` where the plan says so, else the stages.
-fn substitute_complex<U, F, M, S>(
+fn substitute_complex<T: ShapingTypes>(
     alloc: Global,
-    plan: &hb_ot_shape_plan_t<'_, S, M::Map, S::Data>,
-    face: &F,
+    plan: &PlanOf<'_, T>,
+    face: &T::Face,
     buffer: &mut hb_buffer_t,
 ) -> Result<(), ShapeError>
-where
-    U: hb_unicode_funcs_t,
-    F: hb_font_t,
-    M: hb_ot_layout_t<F>,
-    S: hb_ot_shaper_t<U, F, M>,
     requires { IsWithinLimit buffer.old }
-    ensures { RunOutcome (lookup_steps (⟦<S as Runs<U, F, M>>⟧.run plan.now face.now))
+    ensures { RunOutcome (lookup_steps (⟦<T as Meaning>⟧.run plan.now face.now))
         buffer.old buffer.new result }
 {
     if plan.apply_morx() {
-        substitute_aat::<F, M, S, S::Data>(alloc, plan, face, buffer)
+        substitute_aat::<T>(alloc, plan, face, buffer)
     } else {
-        substitute_stages::<U, F, M, S>(alloc, plan, face, buffer)
+        substitute_stages::<T>(alloc, plan, face, buffer)
     }
 }
 
 /// Whether the plan substitutes by `morx` and has the rest positioned by the table `GPOS`.
-fn deletes_before_gpos<F, M, S, D>(plan: &hb_ot_shape_plan_t<'_, S, M::Map, D>) -> bool
-where
-    M: hb_ot_layout_t<F>,
+fn deletes_before_gpos<T: ShapingTypes>(plan: &PlanOf<'_, T>) -> bool
     ensures { result ≡ plan.now.decisions.apply_morx && plan.now.decisions.apply_gpos }
 {
     plan.apply_morx() && plan.apply_gpos()
 }
 
 /// Takes out the glyphs that `morx` has deleted, where the table `GPOS` is to see the rest.
-fn remove_deleted_before_gpos<F, M, S, D>(
-    plan: &hb_ot_shape_plan_t<'_, S, M::Map, D>,
-    face: &F,
+fn remove_deleted_before_gpos<T: ShapingTypes>(
+    plan: &PlanOf<'_, T>,
+    face: &T::Face,
     buffer: &mut hb_buffer_t,
 )
-where
-    M: hb_ot_layout_t<F>,
     ensures { Made (step_if (plan.now.decisions.apply_morx && plan.now.decisions.apply_gpos)
-        (M.lookups plan.now.ot_map face.now).aat_remove_deleted) buffer.old buffer.new }
+        (T.Engine.lookups plan.now.ot_map face.now).aat_remove_deleted) buffer.old buffer.new }
 {
-    if deletes_before_gpos::<F, M, S, D>(plan) {
-        M::aat_remove_deleted(buffer);
+    if deletes_before_gpos::<T>(plan) {
+        T::Engine::aat_remove_deleted(buffer);
     }
 }
 
 /// Substitutes glyphs: the lookups, and the deletion that follows those of `morx` where the table `GPOS`
 /// is to position the rest. Refuses with `Length` where a stage, a pause or `morx` would leave a list past
 /// the buffer's limit, and with `Memory` where a growth was refused; nothing is said of the buffer then.
-pub fn substitute<U, F, M, S>(
+pub fn substitute<T: ShapingTypes>(
     alloc: Global,
-    plan: &hb_ot_shape_plan_t<'_, S, M::Map, S::Data>,
-    face: &F,
+    plan: &PlanOf<'_, T>,
+    face: &T::Face,
     buffer: &mut hb_buffer_t,
 ) -> Result<(), ShapeError>
-where
-    U: hb_unicode_funcs_t,
-    F: hb_font_t,
-    M: hb_ot_layout_t<F>,
-    S: hb_ot_shaper_t<U, F, M>,
     requires { IsWithinLimit buffer.old }
-    ensures { RunOutcome (substitute_steps (⟦<S as Runs<U, F, M>>⟧.run plan.now face.now))
+    ensures { RunOutcome (substitute_steps (⟦<T as Meaning>⟧.run plan.now face.now))
         buffer.old buffer.new result }
 {
-    substitute_complex::<U, F, M, S>(alloc, plan, face, buffer)?;
-    remove_deleted_before_gpos::<F, M, S, S::Data>(plan, face, buffer);
+    substitute_complex::<T>(alloc, plan, face, buffer)?;
+    remove_deleted_before_gpos::<T>(plan, face, buffer);
     Ok(())
 }

@@ -2,4 +2,5 @@ mod BracketLemmas
 mod CanonicalLemmas
 mod LastStepLemmas
 mod OrderLemmas
+mod RangeLemmas
 mod TableLemmas

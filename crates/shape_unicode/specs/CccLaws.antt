@@ -15,8 +15,8 @@ has_ccc : (c : ℕ) → modified_ccc_of c ≢ 0 → (ccc c == 0) ≡ false
 has_ccc c nonzero =
     elim (cases_Bool (ccc c == 0)) [ inl h ↦ absurd (nonzero (cond-true (ccc c == 0) 0 _ h)) | inr h ↦ h ]
 
-pub marks_have_ccc : CccPass → (c : ℕ) → modified_ccc_of c ≢ 0 → is_mark unicode_database c ≡ true
-marks_have_ccc pass c nonzero =
+pub only_marks_have_ccc : CccPass → (c : ℕ) → modified_ccc_of c ≢ 0 → is_mark unicode_database c ≡ true
+only_marks_have_ccc pass c nonzero =
     let parts = and_parts _ _ (pass c (has_ccc c nonzero)) in (and_parts _ _ parts.0).0
 
 -- the parts of a character with a ccc

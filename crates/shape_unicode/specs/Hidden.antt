@@ -1,5 +1,5 @@
 -- Characters that are unseen, and those that pick a variant of the one before them.
-use Rattle.std.specs.Prelude.{ℕ, ◌==◌, ◌&&◌, ◌||◌, not, nat_le, Bool}
+use Rattle.std.specs.Prelude.{ℕ, ◌==◌, ◌&&◌, ◌||◌, not, nat_le, nat_lt, Bool}
 use Rattle.ucd_derived.specs.Binary.{is_default_ignorable_code_point}
 use Rattle.ucd_props.specs.Binary.{is_variation_selector}
 
@@ -7,6 +7,10 @@ use Rattle.ucd_props.specs.Binary.{is_variation_selector}
 abbrev pub is_seen_though_ignorable : ℕ → Bool
 is_seen_though_ignorable c =
     c == 0x115F || c == 0x1160 || c == 0x180F || c == 0x3164 || c == 0xFFA0 || (nat_le 0x1BCA0 c && nat_le c 0x1BCA3)
+
+-- before U+061C there are two ignorables alone
+abbrev pub is_seen_early : ℕ → Bool
+is_seen_early c = nat_lt c 0x61C && (not (c == 0xAD) && not (c == 0x34F))
 
 -- Default_Ignorable_Code_Point, without those that are shown
 abbrev pub is_ignorable : ℕ → Bool

@@ -5,7 +5,7 @@ use Rattle.shape_unicode.specs.Canonical.{by_shaping}
 use Rattle.shape_unicode.specs.Meaning.{unicode_database}
 use Rattle.shape_unicode.specs.TableFacts.{CccPass, MirrorsPass, VerticalsPass, ascii_ok}
 use Rattle.shape_unicode.specs.SplitLaws.{not_true, split_of-falls, second_is_whole}
-use Rattle.shape_unicode.specs.CccLaws.{marks_have_ccc, ccc_of_parts}
+use Rattle.shape_unicode.specs.CccLaws.{only_marks_have_ccc, ccc_of_parts}
 use Rattle.shape_unicode.specs.ComposeLaws.{composes_soundly}
 use Rattle.shape_unicode.specs.FormLaws.{mirrors_are_plain, verticals_are_plain}
 
@@ -19,7 +19,7 @@ splits_fall pass = record {
 
 pub unicode_database-lawful : CccPass → MirrorsPass → VerticalsPass → LawfulUnicode unicode_database
 unicode_database-lawful cccs mirrors verticals = record {
-  marks_have_ccc = marks_have_ccc cccs;
+  only_marks_have_ccc = only_marks_have_ccc cccs;
   ascii_is_no_mark = λ c ascii. not_true _ (ascii_ok c ascii);
   mirrors_are_plain = mirrors_are_plain mirrors;
   verticals_are_plain = verticals_are_plain verticals;

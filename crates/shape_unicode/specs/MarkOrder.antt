@@ -29,7 +29,7 @@ thai_marks = 0xE38 ∷ 0xE3A ∷ []
 abbrev pub tibetan_marks : List ℕ
 tibetan_marks = 0xF39 ∷ 0xF71 ∷ 0xF74 ∷ 0xF72 ∷ []
 
--- the marks of each script have ccc, in that order; U+0FC6 and U+1A60 come behind every other mark
+-- the marks of each script have ccc, in that order; U+0FC6 and U+1A60 come after every other mark
 pub record MarksAreInOrder : Type 0 where
   pub hebrew : rises_above modified_ccc_of 0 hebrew_marks ≡ true
   pub arabic : rises_above modified_ccc_of 0 arabic_marks ≡ true

@@ -1,5 +1,5 @@
 -- Mirror images (UAX 9, Bidi_Mirroring_Glyph).
-use Rattle.std.specs.Prelude.{ℕ, ◌==◌, ◌||◌, Bool, Option, None, option_map, if◌then◌else◌}
+use Rattle.std.specs.Prelude.{ℕ, ◌==◌, ◌&&◌, ◌||◌, nat_lt, Bool, Option, None, option_map, if◌then◌else◌}
 use Rattle.std.specs.List.{find}
 use Rattle.ucd_bidi.specs.Binary.{is_bidi_mirrored}
 use Rattle.shape_unicode.specs.declared.mirror_pairs.TheConstants.{MIRROR_PAIRS}
@@ -15,6 +15,10 @@ is_one_of c pair = pair.0 == c || pair.1 == c
 -- the other one of the pair that c belongs to
 abbrev pub other_of_pair : ℕ → Option ℕ
 other_of_pair c = option_map (other_one c) (find (is_one_of c) MIRROR_PAIRS)
+
+-- after the last of Latin-1 and before the first of Tibetan, where nothing is mirrored
+abbrev pub is_between_brackets : ℕ → Bool
+is_between_brackets c = nat_lt 0xBB c && nat_lt c 0xF3A
 
 -- Bidi_Mirroring_Glyph
 abbrev pub mirrored_of : ℕ → Option ℕ

@@ -24,7 +24,7 @@ VerticalsAreMapped =
 abbrev pub VerticalsAreAll : Type 0
 VerticalsAreAll = (d x : ℕ) → decomposition d ≡ (vertical, x ∷ []) → (c : ℕ) × (vertical_of c ≡ Some d)
 
--- the space separators have a width, but for U+1680, and nothing else has
+-- the space separators have a width, except for U+1680, and nothing else has
 pub record SpacesAreSeparators : Type 0 where
   pub separators : (c : ℕ) → is_space_category (category_of c) ≡ true → (c ≡ 0x1680) ⊎ (space_of c ≢ NOT_SPACE)
   pub nothing_else : (c : ℕ) → space_of c ≢ NOT_SPACE → is_space_category (category_of c) ≡ true

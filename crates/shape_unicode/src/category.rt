@@ -5,8 +5,8 @@ ghost use Rattle.shape_unicode.specs.Category.{category_from};
 use shape_buffer::interfaces::hb_unicode_general_category_t;
 use ucd_category::GeneralCategory;
 
-/// The category of the same name.
-pub(crate) fn category_from(category: GeneralCategory) -> hb_unicode_general_category_t
+/// The category of the same name. Total.
+pub fn category_from(category: GeneralCategory) -> hb_unicode_general_category_t
     ensures { result ≡ category_from category }
 {
     match category {

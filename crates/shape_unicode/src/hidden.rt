@@ -1,7 +1,6 @@
 //! Characters that are unseen, and those that pick a variant of the one before them.
 ghost use Rattle.std.specs.Prelude.{◌≡◌};
-ghost use Rattle.shape_unicode.specs.Hidden.{is_seen_though_ignorable, is_ignorable, is_mongolian};
-ghost use Rattle.shape_unicode.specs.Hidden.{is_selector};
+ghost use Rattle.shape_unicode.specs.Hidden.{is_seen_though_ignorable, is_seen_early, is_ignorable, is_selector};
 
 /// Whether `c` is shown though the database has it as ignorable (HarfBuzz, `hb-unicode.hh`): the four
 /// fillers of Hangul take the place of a jamo, U+180F is left to the shaper of Mongolian, and the
@@ -15,24 +14,31 @@ fn is_seen_though_ignorable(c: char) -> bool
     )
 }
 
+/// Whether `c` stands before U+061C and is neither U+00AD nor U+034F: no such character is ignorable. Most
+/// letters of Europe, their marks and all of Hebrew are so told without the table.
+fn is_seen_early(c: char) -> bool
+    ensures { result ≡ is_seen_early c }
+{
+    c < '\u{61C}' && c != '\u{AD}' && c != '\u{34F}'
+}
+
 /// Whether `c` is unseen: the database has it as ignorable, and shaping doesn't show it.
 pub(crate) fn is_ignorable(c: char) -> bool
     ensures { result ≡ is_ignorable c }
 {
+    if is_seen_early(c) {
+        return false;
+    }
     ucd_derived::is_default_ignorable_code_point(c) && !is_seen_though_ignorable(c)
 }
 
-/// Whether `c` stands in the block Mongolian, whose variation selectors are its script shaper's: these
-/// shape as letters do, by features of the font.
-fn is_mongolian(c: char) -> bool
-    ensures { result ≡ is_mongolian c }
-{
-    matches!(c, '\u{1800}'..='\u{18AF}')
-}
-
-/// Whether `c` is a variation selector of all scripts: U+FE00 to U+FE0F or U+E0100 to U+E01EF.
+/// Whether `c` is a variation selector of all scripts: U+FE00 to U+FE0F or U+E0100 to U+E01EF. Those before
+/// are Mongolian's, whose script shaper takes them as letters, which shape by features of the font.
 pub(crate) fn is_selector(c: char) -> bool
     ensures { result ≡ is_selector c }
 {
-    ucd_props::is_variation_selector(c) && !is_mongolian(c)
+    if c < '\u{FE00}' {
+        return false;
+    }
+    ucd_props::is_variation_selector(c)
 }

@@ -17,7 +17,7 @@ pub fn equivalence_is_canonical()
 {}
 
 /// Marks of Hebrew, Arabic, Telugu, Thai and Tibetan have ccc in the order that fonts of these scripts
-/// expect (HarfBuzz, `hb-unicode.hh`), said by the marks; U+0FC6 and U+1A60 come behind every other mark.
+/// expect (HarfBuzz, `hb-unicode.hh`), said by the marks; U+0FC6 and U+1A60 come after every other mark.
 pub fn marks_are_in_order()
     ensures { MarksAreInOrder }
 {}
@@ -41,7 +41,7 @@ pub fn verticals_are_of_the_database()
     ensures all { VerticalsAreAll }
 {}
 
-/// The space separators have a width, but for U+1680, which is drawn, and nothing else has.
+/// The space separators have a width, except for U+1680, which is drawn, and nothing else has.
 pub fn spaces_are_separators()
     ensures { SpacesAreSeparators }
 {}

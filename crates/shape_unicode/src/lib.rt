@@ -22,9 +22,9 @@ mod script;
 mod script_direction;
 mod space;
 mod split;
-#[cfg(test)]
-mod tests;
 mod unicode_database;
 mod vertical;
 
+pub use category::category_from;
+pub use space::space_of;
 pub use unicode_database::UnicodeDatabase;

@@ -1,6 +1,6 @@
 //! Mirror images, for text that runs from right to left (UAX 9, Bidi_Mirroring_Glyph).
 ghost use Rattle.std.specs.Prelude.{◌≡◌};
-ghost use Rattle.shape_unicode.specs.Mirror.{other_one, other_of_pair, mirrored_of};
+ghost use Rattle.shape_unicode.specs.Mirror.{other_one, other_of_pair, is_between_brackets, mirrored_of};
 
 use crate::mirror_pairs::MIRROR_PAIRS;
 
@@ -21,11 +21,22 @@ fn other_of_pair(c: char) -> Option<char>
         .map(|pair| other_one(c, *pair))
 }
 
+/// Whether `c` stands between the brackets of Latin and those of Tibetan: among these, which most letters that
+/// run from right to left are, nothing is mirrored.
+fn is_between_brackets(c: char) -> bool
+    ensures { result ≡ is_between_brackets c }
+{
+    '\u{BB}' < c && c < '\u{F3A}'
+}
+
 /// The mirror image of `c`, where one is encoded. Few characters have the property Bidi_Mirrored, and the
 /// pairs are walked through for these alone.
 pub(crate) fn mirrored_of(c: char) -> Option<char>
     ensures { result ≡ mirrored_of c }
 {
+    if is_between_brackets(c) {
+        return None;
+    }
     if ucd_bidi::is_bidi_mirrored(c) {
         other_of_pair(c)
     } else {

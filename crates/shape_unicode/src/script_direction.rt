@@ -6,7 +6,7 @@ ghost use Rattle.shape_unicode.specs.ScriptDirection.{direction_of};
 use shape_buffer::buffer::{Direction, Script, hb_tag_t};
 
 /// The scripts that are written from right to left: those with letters of Bidi_Class R or AL
-/// (DerivedBidiClass.txt), but for Old Hungarian (see [`EITHER_WAY`]), as in HarfBuzz,
+/// (DerivedBidiClass.txt), except for Old Hungarian (see [`EITHER_WAY`]), as in HarfBuzz,
 /// `hb_script_get_horizontal_direction`.
 pub const RIGHT_TO_LEFT: [[u8; 4]; 36] = [
     *b"Arab", *b"Hebr", *b"Syrc", *b"Thaa", *b"Cprt", *b"Khar", *b"Phnx", *b"Nkoo", *b"Lydi",

@@ -3,6 +3,7 @@ mod LigatureLemmas
 mod LineLemmas
 mod ModifierLemmas
 mod ParagraphLemmas
+mod PlainLemmas
 mod PointLemmas
 mod WordLemmas
 mod WordRows

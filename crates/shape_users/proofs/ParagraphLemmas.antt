@@ -59,7 +59,7 @@ split i j =
     ] in
     cases refl
 
--- the span from the least cluster of a range up to the next one behind its greatest
+-- the span from the least cluster of a range up to the next one after its greatest
 module _ (xs : List Item) (start end to : ℕ) (some : start < end) (within : end ≤ length xs)
     (above : max (cluster_at xs start) (cluster_at xs (end - 1)) < to)
     (least : (k : ℕ) → k < length xs

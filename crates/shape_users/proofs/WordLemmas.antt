@@ -139,7 +139,7 @@ shaped_fine run spelling glyphs counts shapes long = elim long [
       none_past (all_steps run target) (entered text) (shapes.counted passes.0) passes.1.past
 ]
 
--- and so is one that was put behind the others
+-- and so is one that was put after the others
 pub place_pushed : (run : Run) (words more : List Word) (word : Word) (place : ℕ) (spelling : List ℕ) → more ≡ words ++ word ∷ []
     → place ≡ length words → string_bytes word.spelling ≡ spelling → IsPlaceOf run more place spelling
 place_pushed run words more word place spelling pushed last spells =

@@ -28,7 +28,7 @@ count_below ccc run = prefix_len (λ item. nat_lt (ccc_of_item item) ccc) run
 abbrev pub count_modifiers : ℕ → List Item → ℕ
 count_modifiers ccc run = prefix_len (is_modifier_of ccc) (drop (count_below ccc run) run)
 
--- the item n places behind a place steps before those between
+-- the item n places after a place steps before those between
 abbrev pub stepped_before : (place n : ℕ) → Buffer → Buffer
 stepped_before place zero b = b
 stepped_before place (suc n) b = stepped_before place n (exchanged (place + n) (place + suc n) b)
@@ -37,7 +37,7 @@ stepped_before place (suc n) b = stepped_before place n (exchanged (place + n) (
 abbrev pub reclassed : (ccc place : ℕ) → Buffer → Buffer
 reclassed ccc place b = ccc_set place (get_or b.items place (new_item 0 0)) ccc b
 
--- so many items, the first of them n places behind a place, step before those between in their order, and get another ccc
+-- so many items, the first of them n places after a place, step before those between in their order, and get another ccc
 abbrev pub brought_before : (ccc count n place : ℕ) → Buffer → Buffer
 brought_before ccc zero n place b = b
 brought_before ccc (suc count) n place b = brought_before ccc count n (place + 1) (reclassed ccc place (stepped_before place n b))
@@ -51,7 +51,7 @@ modifiers_moved ccc other b start end =
     let count = count_modifiers ccc run in
     if count == 0 then b else brought_before other count n start (merge_clusters start (start + n + count) b)
 
--- those below the letter (220) step to the front, then those above it (230) behind them
+-- those below the letter (220) step to the front, then those above it (230) after them
 abbrev pub modifiers_reordered : Buffer → ℕ → ℕ → Buffer
 modifiers_reordered b start end =
     let count = count_modifiers 220 (slice_range b.items start end) in

@@ -3,6 +3,7 @@ pub mod Forms
 pub mod Ligatures
 pub mod Lines
 pub mod Paragraph
+pub mod PlainGlyphs
 pub mod Points
 pub mod WorkedArabic
 pub mod WorkedForms

@@ -56,7 +56,7 @@ FindsTooLong run words spelling =
     SomeIndex words (λ k. IsNowhere run words k spelling
     × ((d : Word) → IsTooLong run (string_bytes (slice_index_or words k d).spelling) ⊎ IsTooLong run spelling))
 
--- one word more: none of the old ones is spelled like this, and behind them all stands a word with this spelling and its glyphs
+-- one word more: none of the old ones is spelled like this, and after them all stands a word with this spelling and its glyphs
 pub record IsOneWordMore (run : Run) (old new : List Word) (spelling : List ℕ) : Type 0 where
   pub nowhere : IsNowhere run old (length old) spelling
   pub word : Word

@@ -21,7 +21,7 @@ mod tests;
 use modifiers::reorder_modifiers;
 use shape_buffer::buffer::{hb_buffer_t, hb_tag_t};
 use shape_buffer::interfaces::{hb_font_t, hb_ot_layout_t, hb_unicode_funcs_t};
-use shape_pipeline::laws::hooks_not_given_keep;
+use shape_pipeline::laws::given_hooks_keep;
 use shape_pipeline::ot_shape_normalize::HB_OT_SHAPE_NORMALIZATION_MODE_AUTO;
 use shape_pipeline::ot_shape_plan::hb_ot_shape_plan_t;
 use shape_pipeline::ot_shaper::hooks::reorder_marks_hook;
@@ -113,7 +113,7 @@ pub fn arabic_runs_keep<U: hb_unicode_funcs_t, F: hb_font_t, M: hb_ot_layout_t<F
         → let run = ⟦<ArabicShaper as Runs<U, F, M>>⟧.run plan face in
         LookupsKeepFlags run.lookups → RunKeepsFlags run }
 {
-    hooks_not_given_keep::<U, F, M, ArabicShaper>();
+    given_hooks_keep::<U, F, M, ArabicShaper>();
 }
 
 /// Which marks step to the front of a run, which don't, and their clusters, on runs worked out by hand.

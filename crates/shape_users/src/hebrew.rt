@@ -14,6 +14,8 @@ ghost use Rattle.shape_users.specs.Forms.{form_of};
 ghost use Rattle.shape_users.specs.WorkedForms.{WorkedForms};
 ghost use Rattle.shape_users.specs.Points.{points_reordered, points_reordered-reorders};
 
+#[cfg(test)]
+mod every_form;
 mod forms;
 mod points;
 #[cfg(test)]

@@ -2,18 +2,23 @@
 //!
 //! [`arabic`] and [`hebrew`] are script shapers with hooks, which owe no more than their engine does.
 //! [`ligatures`] is a small engine with single and ligature substitutions, which keeps clusters and flags.
-//! [`lines`] answers a line breaker: may the text be cut here? [`paragraph`] leads from glyphs to the text
-//! that they show, and back. [`words`] keeps shaped words, and finds each under each spelling with the same
-//! normalised characters.
+//! [`breaking`] goes from a string to its lines, and [`lines`] answers a line breaker: may the text be
+//! cut here? [`paragraph`] leads from glyphs to the text that they show, and back. [`plain_glyphs`] says
+//! what is known of glyphs without hooks and lookups.
+//! [`words`] keeps shaped words, and finds each under each spelling with the same normalised characters.
 #![tactic(auto)]
 #![allow(non_camel_case_types)]
 
 pub mod arabic;
+pub mod breaking;
+#[cfg(test)]
+mod cuts;
 pub mod hebrew;
 pub mod ligatures;
 pub mod lines;
 mod marks;
 pub mod paragraph;
+pub mod plain_glyphs;
 #[cfg(test)]
 mod shaping;
 pub mod words;

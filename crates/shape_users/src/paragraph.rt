@@ -29,7 +29,7 @@ pub struct GlyphSpan {
 }
 
 /// The text that the glyphs from place `start` up to `end` show: from the least of their clusters up to the
-/// next cluster behind the greatest, or to `text_len` where there is none. Where the clusters stand in the
+/// next cluster after the greatest, or to `text_len` where there is none. Where the clusters stand in the
 /// order of the text's direction, and each is below `text_len`, the clusters in it are those of the range.
 /// The range must hold a glyph.
 pub fn text_of_glyphs(glyphs: &GlyphBuffer, start: usize, end: usize, text_len: u32) -> TextSpan
@@ -81,7 +81,7 @@ pub fn glyphs_of_text(glyphs: &GlyphBuffer, text: TextSpan) -> GlyphSpan
     first_to_last(glyphs.glyph_infos(), text)
 }
 
-/// From the first glyph whose cluster lies in a span of text up to behind the last one.
+/// From the first glyph whose cluster lies in a span of text up to after the last one.
 fn first_to_last(glyphs: &[hb_glyph_info_t], text: TextSpan) -> GlyphSpan
     ensures { FirstToLast glyphs.now text.start text.end
         (length glyphs.now) result.start result.end }

@@ -1,7 +1,6 @@
 //! What the tests of this crate shape with: faces of a few characters, and the whole database of Unicode.
-use shape_pipeline::shape::shape;
 use shape_pipeline::{
-    GlyphBuffer, GlyphId, MapFace, Metrics, UnicodeBuffer, hb_ot_layout_t, hb_ot_shaper_t,
+    GlyphBuffer, GlyphId, MapFace, Metrics, UnicodeBuffer, hb_ot_layout_t, hb_ot_shaper_t, shape,
 };
 use shape_unicode::UnicodeDatabase;
 use std::alloc::Global;

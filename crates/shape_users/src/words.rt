@@ -18,7 +18,7 @@ use shape_buffer::buffer::{GlyphBuffer, ShapeError, UnicodeBuffer};
 use shape_buffer::interfaces::{hb_font_t, hb_ot_layout_t, hb_unicode_funcs_t};
 use shape_pipeline::ot_shape_plan::hb_ot_shape_plan_t;
 use shape_pipeline::ot_shaper::{Runs, hb_ot_shaper_t};
-use shape_pipeline::shape::shape_with_plan;
+use shape_pipeline::shape_with_plan;
 pub use spellings::{equivalent_spellings, same_word, spelled};
 use std::alloc::Global;
 
@@ -79,7 +79,7 @@ where
     Ok(None)
 }
 
-/// The place of a word under a spelling with the same normalised characters; it is shaped, and kept behind
+/// The place of a word under a spelling with the same normalised characters; it is shaped, and kept after
 /// the others, where there is none yet. The words that were there stay as they were, at their places. `words`
 /// must hold words of this plan and face alone. The plan must fit the spelling's text. Refuses as `find_word`
 /// does and, where there is none yet, as `spelled` and `shape_with_plan` do, or with `Memory` where a growth

@@ -1,4 +1,5 @@
 mod WordLemmas
+mod WidthLemmas
 mod PairLemmas
 mod LineLemmas
 mod FlagLemmas

@@ -57,7 +57,7 @@ parted_once (x ∷ xs) (u ∷ us) ys vs left right same =
     let rest = parted_once xs us ys vs (All-tail NoSlash x xs left) (All-tail NoSlash u us right) cc in
     (cc, rest.1)
 
--- without a word `/` behind words that have none a line is no pair
+-- without a word `/` after words that have none a line is no pair
 pub no_slash-no_pair : (line : List ℕ) → LacksSlash line → ¬ IsPair (words line)
 no_slash-no_pair line lacks pair = lacks pair.0 pair.1 (text-lacks pair.0 pair.3.0) pair.2
 

@@ -51,7 +51,7 @@ words-none (b ∷ bs) empty = absurd (omega arith)
 letters_of : (word : List ℕ) → ((i : ℕ) → i < length word → get_or word i 0 ≢ 32) → All (λ b. (b == 32) ≡ false) word
 letters_of word unlike = All-from_get_or (λ b. (b == 32) ≡ false) word 0 (λ i h. let other = unlike i h in grind (arith, nat_tests))
 
--- the first word and the words behind it, as `split_once` gives them
+-- the first word and the words after it, as `split_once` gives them
 pub words-split : (line : List ℕ) (cut : Option (Bor (List ℕ) × Bor (List ℕ))) (whole : Bor (List ℕ) × Bor (List ℕ))
     → IsSplitOnceResult 32 line cut → BeginsAWord line → 0 < length line → whole.0.now ≡ line → whole.1.now ≡ []
     → words line ≡ (unwrap_or cut whole).0.now ∷ words (unwrap_or cut whole).1.now
@@ -110,7 +110,7 @@ words-slash (b ∷ bs) begins =
     let space : b ≡ 32 = begins (omega arith) in
     ap (λ s. words (47 ∷ s ∷ bs)) space ∙ ap (λ s. (47 ∷ []) ∷ words (s ∷ bs)) (sym space)
 
--- the word `/` behind a text that ends clear
+-- the word `/` after a text that ends clear
 words-slash_behind : (front second : List ℕ) → BeginsClear second
     → words ((front ++ 32 ∷ []) ++ 47 ∷ second) ≡ words (front ++ 32 ∷ []) ++ (47 ∷ []) ∷ words second
 words-slash_behind front second begins =
@@ -159,7 +159,7 @@ parted_behind b bs first second (is, none, ends, begins) unlike clear =
 abbrev Parts : List ℕ → Type 0
 Parts line = (first : List ℕ) × (second : List ℕ) × IsPartedAt line first second
 
--- where a word `/` stands behind words without one, the line is parted there
+-- where a word `/` stands after words without one, the line is parted there
 abbrev FindsSlash : List ℕ → Type 0
 FindsSlash line = (before behind : List (List ℕ)) → All NoSlash before → words line ≡ before ++ (47 ∷ []) ∷ behind → Parts line
 
@@ -243,7 +243,7 @@ finds_slash (b ∷ bs) before behind none is = ⊎_elim
     (λ letter. finds-letter b bs letter (finds_slash bs) before behind none is)
     (cases_Bool (b == 32))
 
--- no word `/` stands behind words without one
+-- no word `/` stands after words without one
 abbrev pub LacksSlash : List ℕ → Type 0
 LacksSlash line = (before behind : List (List ℕ)) → All NoSlash before → words line ≢ before ++ (47 ∷ []) ∷ behind
 

@@ -16,7 +16,8 @@ command_of word =
     else (if bytes_eq word (codes "dir") then Some command.Dir
     else (if bytes_eq word (codes "flags") then Some command.Flags
     else (if bytes_eq word (codes "text") then Some command.Text
-    else (if bytes_eq word (codes "same") then Some command.Same else None)))))))
+    else (if bytes_eq word (codes "same") then Some command.Same
+    else (if bytes_eq word (codes "lines") then Some command.Lines else None))))))))
 
 -- the direction of a word; `auto`, which leaves it to be guessed, is Invalid
 abbrev pub direction_of : List ℕ → Option Direction

@@ -16,7 +16,8 @@ use Rattle.shape_buffer.specs.Unicode.{FormsArePlain, IsPlain, LawfulUnicode, de
 use Rattle.canonical_form.specs.SplitsFall.{SplitsFall}
 use Rattle.shape_buffer.specs.declared.buffer.general_category.hb_unicode_general_category_t.{hb_unicode_general_category_t}
 use Rattle.shape_buffer.specs.declared.buffer.general_category.hb_unicode_general_category_t.TheVariants.{Unassigned}
-use Rattle.shapeline.specs.Category.{category_from, category_of, is_marked}
+use Rattle.shape_unicode.specs.Category.{category_from}
+use Rattle.shapeline.specs.Category.{category_of, is_marked}
 use Rattle.shapeline.specs.Ccc.{ccc_in_table, ccc_of}
 use Rattle.shapeline.specs.Split.{split_in_table, split_of, height_of, keeps_marks}
 use Rattle.shapeline.specs.Plain.{is_plain, plain_form}
@@ -278,7 +279,7 @@ forms_are_plain form c d found =
 -- here the tests compute
 pub unicode_tables-lawful : LawfulUnicode unicode_tables
 unicode_tables-lawful = record {
-  marks_have_ccc = λ c h. (cond_nonzero (is_marked c) (ccc_in_table c) h).0;
+  only_marks_have_ccc = λ c h. (cond_nonzero (is_marked c) (ccc_in_table c) h).0;
   ascii_is_no_mark = λ c h. ascii_is_no_mark (nat_lt c 128) (category_from (general_category c)) (grind (arith, nat_tests, h));
   mirrors_are_plain = forms_are_plain mirror_in_table;
   verticals_are_plain = forms_are_plain vertical_in_table;

@@ -5,7 +5,6 @@ pub mod Compose
 pub mod Plain
 pub mod Mirror
 pub mod Vertical
-pub mod Spaces
 pub mod Ignorable
 pub mod Pictograph
 pub mod Selector

@@ -5,7 +5,7 @@ use Rattle.shapeline.specs.Commands.{command_of}
 use Rattle.shapeline.specs.State.{State, set_by, IsMeant}
 use Rattle.shapeline.specs.Words.{words}
 use Rattle.shapeline.specs.declared.engine.command.Command.{Command}
-use Rattle.shapeline.specs.declared.engine.command.Command.TheVariants.{Glyph, Text, Same}
+use Rattle.shapeline.specs.declared.engine.command.Command.TheVariants.{Glyph, Text, Same, Lines}
 use Rattle.shapeline.specs.declared.engine.outcome.Outcome.{Outcome}
 use Rattle.shapeline.specs.declared.engine.outcome.Outcome.TheVariants.{Done, Malformed, OutOfMemory, WriteFailed}
 
@@ -48,6 +48,7 @@ takes_memory _ = false
 abbrev pub asks_for_answer : Option Command → Bool
 asks_for_answer (Some Text) = true
 asks_for_answer (Some Same) = true
+asks_for_answer (Some Lines) = true
 asks_for_answer _ = false
 
 -- what the words of a line make of a state; no words and comments leave it

@@ -7,10 +7,10 @@ use Rattle.shapeline.specs.Compose.{compose_of}
 use Rattle.shapeline.specs.Mirror.{mirror_of}
 use Rattle.shapeline.specs.Vertical.{vertical_of}
 use Rattle.shapeline.specs.Pictograph.{is_pictograph}
-use Rattle.shapeline.specs.Spaces.{space_type_of}
 use Rattle.shapeline.specs.Ignorable.{is_ignorable}
 use Rattle.shapeline.specs.Selector.{is_selector}
 use Rattle.shapeline.specs.Scripts.{script_of, direction_of_script}
+use Rattle.shape_unicode.specs.Space.{space_of}
 
 abbrev pub unicode_tables : UnicodeMeaning
 unicode_tables = record {
@@ -21,7 +21,7 @@ unicode_tables = record {
   compose = compose_of;
   mirrored = mirror_of;
   vertical = vertical_of;
-  space_fallback = space_type_of;
+  space_fallback = space_of;
   ignorable = is_ignorable;
   pictographic = is_pictograph;
   selector = is_selector;

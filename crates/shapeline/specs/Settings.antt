@@ -1,4 +1,4 @@
--- What the words behind the first one set: which words are meant, and what they say.
+-- What the words after the first one set: which words are meant, and what they say.
 use Rattle.std.specs.Prelude.{◌≡◌, ◌≢◌, ◌==◌, ℕ, ◌≤◌, ◌^◌, ◌-◌, ⊤, true, List, [], ◌∷◌, Option, Some, None, is_some, unwrap_or, slice_index, if◌then◌else◌}
 use Rattle.std.specs.Int.RustNames.{bit_and}
 use Rattle.std.specs.Str.Parse.{IsNumeral, digits_value, signed_digits_value, without_leading_sign}
@@ -17,7 +17,7 @@ use mir.Val.{SFits}
 abbrev pub IsNatural : ℕ → List ℕ → Type 0
 IsNatural most word = IsNumeral 10 word × (digits_value 10 word ≤ most)
 
--- decimal digits, behind one minus at most, that write a number of 32 bits
+-- decimal digits, after one minus at most, that write a number of 32 bits
 abbrev pub IsSigned : List ℕ → Type 0
 IsSigned word = (slice_index word 0 ≢ 43) × IsNumeral 10 (without_leading_sign word) × SFits w32 (signed_digits_value 10 word)
 

@@ -12,9 +12,9 @@ use Rattle.shape_buffer.specs.declared.buffer.settings.GlyphId.{GlyphId}
 use Rattle.shape_buffer.specs.declared.interfaces.map_face.Metrics.{Metrics}
 use Rattle.shapeline.specs.Modes.{mode_of}
 use Rattle.shapeline.specs.Settings.{IsNumber, IsUnits, IsGlyph, IsDirection, IsFlags, number, direction_said, extents_of, level_of}
-use Rattle.shapeline.specs.Text.{IsText, IsPair}
+use Rattle.shapeline.specs.Text.{IsText, IsPair, IsWidthAndText}
 use Rattle.shapeline.specs.declared.engine.command.Command.{Command}
-use Rattle.shapeline.specs.declared.engine.command.Command.TheVariants.{Face, Glyph, Mode, Level, Dir, Flags, Text, Same}
+use Rattle.shapeline.specs.declared.engine.command.Command.TheVariants.{Face, Glyph, Mode, Level, Dir, Flags, Text, Same, Lines}
 use Rattle.shapeline.specs.declared.engine.mode.Mode.{Mode as AnyMode}
 use Rattle.shapeline.specs.declared.engine.mode.Mode.TheVariants.{Auto}
 
@@ -64,8 +64,9 @@ set_by Dir words state = record state { direction = direction_said words }
 set_by Flags words state = record state { flags = record { 0 = number words } }
 set_by Text words state = state
 set_by Same words state = state
+set_by Lines words state = state
 
--- which words may stand behind the first one
+-- which words may stand after the first one
 abbrev pub IsMeant : Command → List (List ℕ) → Type 0
 IsMeant Face words = IsUnits words
 IsMeant Glyph words = IsGlyph words
@@ -75,3 +76,4 @@ IsMeant Dir words = IsDirection words
 IsMeant Flags words = IsFlags words
 IsMeant Text words = IsText words
 IsMeant Same words = IsPair words
+IsMeant Lines words = IsWidthAndText words

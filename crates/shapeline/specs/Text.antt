@@ -23,3 +23,8 @@ IsText words = AllByRecursion IsCharacterWord words × (utf8_len words < 2 ^ 32)
 -- two texts with a word `/` (47) between them, which writes no character
 abbrev pub IsPair : List (List ℕ) → Type 0
 IsPair words = (first : List (List ℕ)) × (second : List (List ℕ)) × (words ≡ first ++ (47 ∷ []) ∷ second) × IsText first × IsText second
+
+-- a width from 0 to 4294967295, and a text
+abbrev pub IsWidthAndText : List (List ℕ) → Type 0
+IsWidthAndText [] = ⊥
+IsWidthAndText (width ∷ text) = IsNumeral 10 width × (digits_value 10 width ≤ 4294967295) × IsText text

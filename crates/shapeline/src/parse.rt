@@ -27,7 +27,7 @@ impl<'a> Words<'a> {
         Words { rest: line }
     }
 
-    /// The words before and behind the first `/`, where that is a word by itself.
+    /// The words before and after the first `/`, where that is a word by itself.
     pub fn parted(self) -> Option<(Words<'a>, Words<'a>)>
         ensures { MatchOption result
             ((before behind : List (List ℕ)) → All (All (λ b. b ≢ 47)) before
@@ -100,7 +100,7 @@ pub fn natural(word: &str, most: u32) -> Option<u32>
     if number <= most { Some(number) } else { None }
 }
 
-/// The number of 32 bits that decimal digits write, behind one minus at most. Refuses every other word.
+/// The number of 32 bits that decimal digits write, after one minus at most. Refuses every other word.
 pub fn integer(word: &str) -> Option<i32>
     ensures { SomeIff result ((slice_index word.now 0 ≢ 43)
         × IsNumeral 10 (without_leading_sign word.now)

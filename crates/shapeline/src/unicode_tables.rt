@@ -1,5 +1,5 @@
-//! The program's functions of Unicode: categories and scripts of the Unicode Character Database, and
-//! small tables for everything else.
+//! The program's functions of Unicode: categories and scripts of the Unicode Character Database, widths of
+//! spaces as `shape_unicode` has them, and small tables for everything else.
 //!
 //! A file for each property. No proof of this program knows the value of a category, so the laws may not rest
 //! on one: where a law speaks of marks, the function asks for the category as it runs. A ccc counts only for
@@ -16,7 +16,6 @@ mod pictograph;
 mod plain;
 mod script;
 mod selector;
-mod space;
 mod split;
 #[cfg(test)]
 mod tests;
@@ -25,6 +24,7 @@ mod vertical;
 use shape_buffer::buffer::{Direction, Script};
 use shape_buffer::interfaces::space_types::space_t;
 use shape_buffer::interfaces::{hb_unicode_funcs_t, hb_unicode_general_category_t};
+use shape_unicode::space_of;
 
 /// The program's functions of Unicode.
 pub struct UnicodeTables;
@@ -62,7 +62,7 @@ impl hb_unicode_funcs_t for UnicodeTables {
     }
 
     fn space_fallback(c: char) -> space_t {
-        space::space_fallback(c)
+        space_of(c)
     }
 
     fn is_default_ignorable(c: char) -> bool {

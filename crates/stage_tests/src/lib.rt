@@ -4,6 +4,7 @@
 
 #[cfg(test)]
 mod numbers;
+#[cfg(test)]
 mod planning;
 #[cfg(test)]
 mod positioning;

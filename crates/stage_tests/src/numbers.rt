@@ -1,4 +1,4 @@
-//! The numbers that stand for the ways and times of this crate, as the rules have them.
+//! The numbers of the modes of normalising and of the times of zeroing marks, as the rules have them.
 
 use shape_plan::normalization_mode::{
     HB_OT_SHAPE_NORMALIZATION_MODE_AUTO, HB_OT_SHAPE_NORMALIZATION_MODE_COMPOSED_DIACRITICS,

@@ -2,14 +2,15 @@
 //! syllables.
 
 use crate::runs::{FORWARD, planned, shaped, text_of};
-use crate::support::{DigitUnicode, RuleFace, RuleLayout};
 use shape_buffer::buffer::{hb_buffer_t, hb_glyph_info_t, hb_unicode_general_category_t};
 use shape_pipeline::ot_shape::syllabic_clear_var;
 use shape_pipeline::ot_shaper::{DEFAULT_SHAPER, hb_default_shaper_t};
+use shape_plan::shaping_types::TypesOf;
 use shape_substitute::glyphs::setup_glyphs;
 use std::alloc::Global;
 use std::process::Abort;
 use std::test::Fail;
+use test_worlds::{DigitUnicode, RuleFace, RuleLayout};
 
 fn assert_classes(rt: &impl Abort, infos: &[hb_glyph_info_t], classes: &[u32]) {
     assert_eq!(rt; infos.len(), classes.len());
@@ -65,7 +66,7 @@ fn made_up_glyphs_are_as_no_lookup_made_them(rt: HostRuntime) -> Result<(), Fail
         if buffer.length_limit() < buffer.len() {
             return Err(Fail::from("past the limit"));
         }
-        setup_glyphs::<DigitUnicode, RuleFace, RuleLayout, hb_default_shaper_t>(
+        setup_glyphs::<TypesOf<DigitUnicode, RuleFace, RuleLayout, hb_default_shaper_t>>(
             &plan,
             &face,
             &mut buffer,

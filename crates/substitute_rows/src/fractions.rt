@@ -4,11 +4,11 @@
 use crate::runs::{
     BACKWARD, FORWARD, Manner, assert_glyphs, assert_masks, masked, shaped, text_of,
 };
-use crate::support::{RuleFace, Single, Stage};
 use bitflags::Flags;
 use shape_buffer::buffer::{BufferFlags, Direction, ScratchFlags};
 use shape_pipeline::ot_shaper::DEFAULT_SHAPER;
 use std::test::Fail;
+use test_worlds::{RuleFace, Single, Stage};
 
 /// A face with lookups for fractions.
 fn with_fractions(stages: &'static [Stage]) -> RuleFace {

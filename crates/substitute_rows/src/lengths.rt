@@ -1,13 +1,13 @@
 //! Stages that reach the limit of a run: 64 glyphs for each character of the text, at least 16384.
 
 use crate::runs::{FORWARD, text_of};
-use crate::support::{DigitUnicode, Multiple, RuleFace, RuleLayout, Single, Stage};
 use shape_buffer::buffer::{Direction, ShapeError, UnicodeBuffer};
 use shape_pipeline::ot_shaper::{DEFAULT_SHAPER, hb_default_shaper_t};
-use shape_pipeline::shape::shape;
+use shape_pipeline::shape;
 use std::alloc::Global;
 use std::process::Abort;
 use std::test::Fail;
+use test_worlds::{DigitUnicode, Multiple, RuleFace, RuleLayout, Single, Stage};
 
 /// Two of a in place of one.
 const DOUBLED: Stage = Stage::Multiple(Multiple {

@@ -19,4 +19,3 @@ mod refusals;
 mod runs;
 #[cfg(test)]
 mod stages;
-mod support;

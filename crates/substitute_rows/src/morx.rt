@@ -2,11 +2,11 @@
 //! user's first feature names.
 
 use crate::runs::{FORWARD, Manner, assert_glyphs, shaped, ss01, substituted, text_of};
-use crate::support::{DoublingShaper, RuleFace, Stage};
 use shape_buffer::buffer::Direction;
 use shape_buffer::interfaces::hb_tables_t;
 use shape_pipeline::ot_shaper::DEFAULT_SHAPER;
 use std::test::Fail;
+use test_worlds::{DoublingShaper, RuleFace, Stage};
 
 /// A face with both tables of substitution, and stages that are seen where they run.
 fn with_morx(gpos: bool) -> RuleFace {

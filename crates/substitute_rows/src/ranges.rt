@@ -3,12 +3,13 @@
 use crate::runs::{
     FORWARD, assert_glyphs, assert_masks, masked, planned, shaped, ss01, text_in_clusters, text_of,
 };
-use crate::support::{DigitUnicode, DoublingShaper, RuleFace, RuleLayout, Single, Stage};
 use shape_buffer::buffer::{Feature, UnicodeBuffer, hb_buffer_t};
 use shape_pipeline::ot_shaper::{DEFAULT_SHAPER, hb_default_shaper_t};
+use shape_plan::shaping_types::TypesOf;
 use shape_substitute::masks::setup_masks;
 use std::alloc::Global;
 use std::test::Fail;
+use test_worlds::{DigitUnicode, DoublingShaper, RuleFace, RuleLayout, Single, Stage};
 
 /// Sets masks in a text whose masks are 0.
 fn set_from_0(
@@ -22,7 +23,7 @@ fn set_from_0(
     if buffer.length_limit() < buffer.len() {
         return Err(Fail::from("past the limit"));
     }
-    setup_masks::<DigitUnicode, RuleFace, RuleLayout, hb_default_shaper_t>(
+    setup_masks::<TypesOf<DigitUnicode, RuleFace, RuleLayout, hb_default_shaper_t>>(
         &plan,
         &face,
         &mut buffer,

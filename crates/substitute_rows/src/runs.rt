@@ -1,6 +1,5 @@
 //! What the tests share: texts, runs of them as a whole and in part, and comparisons.
 
-use crate::support::{DigitUnicode, RuleFace, RuleLayout, RuleMap};
 use shape_buffer::buffer::{
     BufferClusterLevel, BufferFlags, Direction, Feature, GlyphBuffer, UnicodeBuffer, hb_buffer_t,
     hb_glyph_info_t, hb_tag_t,
@@ -9,13 +8,15 @@ use shape_pipeline::ot_shape::{hb_ot_shape_context_t, prepare_text};
 use shape_pipeline::ot_shape_normalize::_hb_ot_shape_normalize;
 use shape_pipeline::ot_shape_plan::hb_ot_shape_plan_t;
 use shape_pipeline::ot_shaper::hb_ot_shaper_t;
-use shape_pipeline::shape::shape;
+use shape_pipeline::shape;
+use shape_plan::shaping_types::TypesOf;
 use shape_substitute::glyphs::setup_glyphs;
 use shape_substitute::masks::setup_masks;
 use shape_substitute::substitution::substitute;
 use std::alloc::Global;
 use std::process::Abort;
 use std::test::Fail;
+use test_worlds::{DigitUnicode, RuleFace, RuleLayout, RuleMap};
 
 /// What is set of a text before it is shaped.
 #[derive(Clone, Copy)]
@@ -148,7 +149,7 @@ where
     if buffer.length_limit() < buffer.len() {
         return Err(Fail::from("past the limit"));
     }
-    setup_masks::<DigitUnicode, RuleFace, RuleLayout, S>(&plan, face, &mut buffer);
+    setup_masks::<TypesOf<DigitUnicode, RuleFace, RuleLayout, S>>(&plan, face, &mut buffer);
     Ok(buffer)
 }
 
@@ -168,8 +169,8 @@ where
     if buffer.length_limit() < buffer.len() {
         return Err(Fail::from("past the limit"));
     }
-    setup_glyphs::<DigitUnicode, RuleFace, RuleLayout, S>(&plan, face, &mut buffer);
-    substitute::<DigitUnicode, RuleFace, RuleLayout, S>(alloc, &plan, face, &mut buffer)?;
+    setup_glyphs::<TypesOf<DigitUnicode, RuleFace, RuleLayout, S>>(&plan, face, &mut buffer);
+    substitute::<TypesOf<DigitUnicode, RuleFace, RuleLayout, S>>(alloc, &plan, face, &mut buffer)?;
     Ok(buffer)
 }
 

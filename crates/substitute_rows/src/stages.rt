@@ -1,10 +1,10 @@
 //! Stages of substitution with a pause, ligatures and two glyphs for one.
 
 use crate::runs::{BACKWARD, FORWARD, Manner, assert_glyphs, shaped, text_in_clusters, text_of};
-use crate::support::{DoublingShaper, Ligature, Multiple, RuleFace, Single, Stage};
 use shape_buffer::buffer::BufferClusterLevel;
 use shape_pipeline::ot_shaper::DEFAULT_SHAPER;
 use std::test::Fail;
+use test_worlds::{DoublingShaper, Ligature, Multiple, RuleFace, Single, Stage};
 
 #[test]
 fn pause_stands_between_two_stages(rt: HostRuntime) -> Result<(), Fail> {

@@ -15,7 +15,7 @@ use std::alloc::Global;
 /// ccc.
 pub const BASE_WITH_MARK: [char; 2] = ['q', '\u{334}'];
 
-/// The characters of a text, behind a base with a mark, once it is prepared and normalised by a shaper.
+/// The characters of a text, after a base with a mark, once it is prepared and normalised by a shaper.
 /// Refuses as these two do: memory, or a text that grows too long.
 pub fn normalised<S>(alloc: Global, shaper: &S, text: &[char]) -> Result<Vec<char>, ShapeError>
 where

@@ -2,7 +2,7 @@ use Rattle.std.proofs.Common.{ℕ, ◌-◌, ◌++◌, List}
 use Rattle.shape_buffer.specs.Spans.{AreSpansInOrder}
 use Rattle.buffer_bench.proofs.neighbours.Given as goal
 
--- whatever comes behind the spans may begin where the next one does
+-- whatever comes after the spans may begin where the next one does
 abbrev pub invariant-loop-i : goal.invariant-loop-i
 invariant-loop-i l =
     (later : List (ℕ × ℕ)) → AreSpansInOrder (l.i - 1) l.len later → AreSpansInOrder 0 l.len (l.spans.items ++ later)

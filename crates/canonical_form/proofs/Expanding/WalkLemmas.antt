@@ -9,7 +9,7 @@ use Rattle.canonical_form.specs.Expansion.{supported, greatest_supported}
 use Rattle.canonical_form.proofs.Expanding.ExpansionLemmas.{put_behind, greatest-split, greatest-end}
 
 -- what a walk has found that keeps second parts from the first to the last: nothing,
--- or a point with so many second parts behind it
+-- or a point with so many second parts after it
 abbrev pub found_parts : Option (ℕ × ℕ) → List ℕ → Option (List ℕ)
 found_parts found kept_parts = option_map (λ f. f.0 ∷ reverse (take f.1 kept_parts)) found
 

@@ -43,7 +43,7 @@ module _ {A : Type 0} (belongs : A → Bool) where
   divided-begins x rest =
       let n = prefix_len belongs rest in (take n rest, divided belongs (drop n rest), divided-first x rest)
 
-  -- a list that is cut behind its first item and what directly after that belongs
+  -- a list that is cut after its first item and what directly after that belongs
   pub IsFirstPart-at : (xs : List A) (x : A) (rest part behind : List A) (n : ℕ) → xs ≡ x ∷ rest → n ≡ prefix_len belongs rest
       → part ≡ take (1 + n) xs → behind ≡ drop (1 + n) xs → IsFirstPart belongs xs part behind
   IsFirstPart-at xs x rest part behind n begins counted front back =

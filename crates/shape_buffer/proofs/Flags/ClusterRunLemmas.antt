@@ -59,7 +59,7 @@ spread-apart : (flags : BufferFlags) (mask : ℕ) (runs : List (List Item)) → 
 spread-apart flags mask [] = refl
 spread-apart flags mask (run ∷ runs) = refl
 
--- one more item, whose run goes on behind it or not, and with what is before it or not
+-- one more item, whose run goes on after it or not, and with what is before it or not
 spread-more : (flags : BufferFlags) (mask fresh : ℕ) (x : Item) (goes_on same : Bool) (runs : List (List Item))
     → fresh ≡ handed_flags flags (united_flags (first_of (if goes_on then put_first x runs else (x ∷ []) ∷ runs)))
     → with_mask (if same then mask else fresh) x ∷ spread flags (if same then mask else fresh) goes_on runs

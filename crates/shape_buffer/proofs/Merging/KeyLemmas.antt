@@ -133,7 +133,7 @@ IsKey-unflagged = record {
 
 -- ---- the settings
 
--- a buffer but for its items and its scratch flags
+-- a buffer except for its items and its scratch flags
 abbrev pub without_items : Buffer → Buffer
 without_items b = record b { items = []; scratch_flags = record { 0 = 0 } }
 

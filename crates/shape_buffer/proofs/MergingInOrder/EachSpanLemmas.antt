@@ -16,13 +16,13 @@ use Rattle.shape_buffer.proofs.Steps.KeeperLemmas.{KeepsClusters-same, KeepsClus
 
 -- ---- spans in order
 
--- they may begin behind an earlier place
+-- they may begin after an earlier place
 pub AreSpansInOrder-lower : (low from size : ℕ) (spans : List (ℕ × ℕ)) → low ≤ from → AreSpansInOrder from size spans
     → AreSpansInOrder low size spans
 AreSpansInOrder-lower low from size [] le h = tt
 AreSpansInOrder-lower low from size (span ∷ spans) le h = (omega (arith, h.0), h.1, h.2, h.3)
 
--- spans up to a place, and then those that begin at it or behind it
+-- spans up to a place, and then those that begin at it or after it
 pub AreSpansInOrder-append : (from middle size : ℕ) (before behind : List (ℕ × ℕ)) → from ≤ middle → middle ≤ size
     → AreSpansInOrder from middle before → AreSpansInOrder middle size behind → AreSpansInOrder from size (before ++ behind)
 AreSpansInOrder-append from middle size [] behind le within h later = AreSpansInOrder-lower from middle size behind le later

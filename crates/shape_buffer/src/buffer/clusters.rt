@@ -28,7 +28,7 @@ pub(super) fn least_cluster(infos: &[hb_glyph_info_t]) -> u32
 }
 
 /// How many items at the beginning have the cluster.
-fn count_at_start(infos: &[hb_glyph_info_t], cluster: u32) -> usize
+pub(super) fn count_at_start(infos: &[hb_glyph_info_t], cluster: u32) -> usize
     ensures { result ≡ prefix_len (has_cluster cluster) infos.now }
 {
     infos
@@ -100,7 +100,7 @@ pub(crate) fn merge_items(infos: &mut [hb_glyph_info_t], start: usize, end: usiz
     put_all_in(&mut infos[from..to], least);
 }
 
-/// Marks the items of a span unsafe to break, but for those of its least cluster.
+/// Marks the items of a span unsafe to break, except for those of its least cluster.
 pub(crate) fn mark_break(infos: &mut [hb_glyph_info_t], start: usize, end: usize)
     requires ordered { start ≤ end }
     requires within { end ≤ length infos.old }

@@ -3,12 +3,13 @@
 //! The five fields are open to everybody; the named properties are read by `_hb_glyph_info_get_` and
 //! set by `_hb_glyph_info_set_`, each followed by the property's name.
 ghost use Rattle.std.specs.Prelude.{◌≡◌};
+ghost use Rattle.bit_fields.specs.Fields.{fields};
 ghost use Rattle.shape_buffer.specs.UnicodeProps.{is_hidden_char};
 
 mod glyph_properties;
 mod shaper_properties;
 
-use crate::buffer::flags::{GlyphPropsFlags, ScratchFlags};
+use crate::buffer::flags::ScratchFlags;
 use crate::buffer::general_category::hb_unicode_general_category_t;
 use crate::buffer::properties::ItemProperties;
 use crate::interfaces::hb_unicode_funcs_t;
@@ -48,10 +49,14 @@ pub struct hb_glyph_info_t {
     properties: ItemProperties,
 }
 
+const _: () = prove!(size_of::<hb_glyph_info_t>() == 32);
+
 impl hb_glyph_info_t {
     ghost use Rattle.shape_buffer.specs.Items.{new_item, put_in};
     ghost use Rattle.shape_buffer.specs.Category.{is_mark_category};
     ghost use Rattle.shape_buffer.specs.UnicodeProps.{with_unicode_props, with_scratch_of};
+    ghost use Rattle.shape_buffer.specs.Words.{first_widths, first_values};
+    ghost use Rattle.shape_buffer.specs.Words.{second_widths, second_values};
 
     /// An item for a character of a text: no glyph, no mask, category UppercaseLetter, no other properties, one
     /// ligature component.
@@ -64,27 +69,23 @@ impl hb_glyph_info_t {
             glyph_id: 0,
             mask: 0,
             cluster,
-            properties: ItemProperties {
-                general_category: hb_unicode_general_category_t::UppercaseLetter,
-                modified_ccc: 0,
-                ignorable: false,
-                hidden: false,
-                continuation: false,
-                zwj: false,
-                zwnj: false,
-                space_type: 0,
-                selector_mark: false,
-                glyph_class: GlyphPropsFlags(0),
-                substituted: false,
-                ligated: false,
-                ligature_id: 0,
-                ligature_component: 0,
-                number_of_components: 1,
-                syllable: 0,
-                shaper_category: 0,
-                shaper_auxiliary: 0,
-            },
+            properties: ItemProperties::new(),
         }
+    }
+
+    /// The named properties in two words, as they are stored.
+    ///
+    /// | word | bits |
+    /// |---|---|
+    /// | first | 0 to 7 category, 8 to 15 ccc, 16 to 23 space type, 24 ignorable, 25 hidden, 26 continuation, 27 ZWJ, 28 ZWNJ, 29 selector mark; 30 and 31 are 0 |
+    /// | second | 0 to 3 glyph class, 4 substituted, 5 ligated; 6 to 15 are 0; 16 to 23 ligature id, 24 to 31 component, 32 to 39 number of components, 40 to 47 syllable, 48 to 55 the shaper's category, 56 to 63 its auxiliary byte |
+    ///
+    /// A category's number is its place among the variants, from 0.
+    pub fn words(&self) -> (u32, u64)
+        ensures first { fields first_widths result.0 ≡ first_values self.now.properties }
+        ensures second { fields second_widths result.1 ≡ second_values self.now.properties }
+    {
+        self.properties.words()
     }
 
     /// Sets the eight properties that go by the character alone; the others stay. Adds to
@@ -95,25 +96,27 @@ impl hb_glyph_info_t {
             ≡ with_scratch_of U.unicode self.old.codepoint scratch_flags.old }
     {
         let c = self.codepoint;
-        let beyond_ascii = c >= '\u{80}';
         let category = U::general_category(c);
-        let mark = beyond_ascii && category.is_mark();
-        let ignorable = beyond_ascii && U::is_default_ignorable(c);
-        self.properties.general_category = category;
-        self.properties.modified_ccc = if mark {
+        if c < '\u{80}' {
+            self.properties.set_for_ascii(category);
+            return;
+        }
+        let mark = category.is_mark();
+        let modified_ccc = if mark {
             U::modified_combining_class(c)
         } else {
             0
         };
-        self.properties.ignorable = ignorable;
-        self.properties.hidden = is_hidden(c);
-        self.properties.continuation = mark;
-        self.properties.zwj = c == ZERO_WIDTH_JOINER;
-        self.properties.zwnj = c == ZERO_WIDTH_NON_JOINER;
-        self.properties.space_type = 0;
-        if beyond_ascii {
-            scratch_flags.insert(ScratchFlags::HAS_NON_ASCII);
-        }
+        let ignorable = U::is_default_ignorable(c);
+        self.properties.set_general_category(category);
+        self.properties.set_modified_ccc(modified_ccc);
+        self.properties.set_ignorable(ignorable);
+        self.properties.set_hidden(is_hidden(c));
+        self.properties.set_continuation(mark);
+        self.properties.set_zwj(c == ZERO_WIDTH_JOINER);
+        self.properties.set_zwnj(c == ZERO_WIDTH_NON_JOINER);
+        self.properties.set_space_type(0);
+        scratch_flags.insert(ScratchFlags::HAS_NON_ASCII);
         if ignorable {
             scratch_flags.insert(ScratchFlags::HAS_DEFAULT_IGNORABLES);
         }
@@ -136,14 +139,14 @@ impl hb_glyph_info_t {
     pub fn _hb_glyph_info_is_unicode_mark(&self) -> bool
         ensures { result ≡ is_mark_category self.now.properties.general_category }
     {
-        self.properties.general_category.is_mark()
+        self.properties.general_category().is_mark()
     }
 
     /// Reads the general category: `init_unicode_props` sets it to the character's.
     pub fn _hb_glyph_info_get_general_category(&self) -> hb_unicode_general_category_t
         ensures { result ≡ self.now.properties.general_category }
     {
-        self.properties.general_category
+        self.properties.general_category()
     }
 
     /// Sets the general category of the item, and nothing else.
@@ -156,7 +159,7 @@ impl hb_glyph_info_t {
               properties = record self.old.properties { general_category = general_category };
             } }
     {
-        self.properties.general_category = general_category;
+        self.properties.set_general_category(general_category);
     }
 
     /// Reads the modified combining class: `init_unicode_props` sets it to the character's for marks of
@@ -164,7 +167,7 @@ impl hb_glyph_info_t {
     pub fn _hb_glyph_info_get_modified_combining_class(&self) -> u8
         ensures { result ≡ self.now.properties.modified_ccc }
     {
-        self.properties.modified_ccc
+        self.properties.modified_ccc()
     }
 
     /// Sets the modified combining class, and nothing else.
@@ -174,7 +177,7 @@ impl hb_glyph_info_t {
               properties = record self.old.properties { modified_ccc = modified_ccc };
             } }
     {
-        self.properties.modified_ccc = modified_ccc;
+        self.properties.set_modified_ccc(modified_ccc);
     }
 
     /// Reads the ignorable bit: `init_unicode_props` sets it for default ignorables of U+0080 and more, and
@@ -182,7 +185,7 @@ impl hb_glyph_info_t {
     pub fn _hb_glyph_info_get_ignorable(&self) -> bool
         ensures { result ≡ self.now.properties.ignorable }
     {
-        self.properties.ignorable
+        self.properties.ignorable()
     }
 
     /// Sets or unsets the ignorable bit, and nothing else.
@@ -192,7 +195,7 @@ impl hb_glyph_info_t {
               properties = record self.old.properties { ignorable = ignorable };
             } }
     {
-        self.properties.ignorable = ignorable;
+        self.properties.set_ignorable(ignorable);
     }
 
     /// Reads the hidden bit. A lookup that skips ignorable characters doesn't skip one that is hidden:
@@ -201,7 +204,7 @@ impl hb_glyph_info_t {
     pub fn _hb_glyph_info_get_hidden(&self) -> bool
         ensures { result ≡ self.now.properties.hidden }
     {
-        self.properties.hidden
+        self.properties.hidden()
     }
 
     /// Sets or unsets the hidden bit, and nothing else.
@@ -209,7 +212,7 @@ impl hb_glyph_info_t {
         ensures { self.new
             ≡ record self.old { properties = record self.old.properties { hidden = hidden } } }
     {
-        self.properties.hidden = hidden;
+        self.properties.set_hidden(hidden);
     }
 
     /// Reads the continuation bit, of items that go on with the grapheme of the one before them:
@@ -217,7 +220,7 @@ impl hb_glyph_info_t {
     pub fn _hb_glyph_info_get_continuation(&self) -> bool
         ensures { result ≡ self.now.properties.continuation }
     {
-        self.properties.continuation
+        self.properties.continuation()
     }
 
     /// Sets or unsets the continuation bit, and nothing else.
@@ -227,7 +230,7 @@ impl hb_glyph_info_t {
               properties = record self.old.properties { continuation = continuation };
             } }
     {
-        self.properties.continuation = continuation;
+        self.properties.set_continuation(continuation);
     }
 
     /// Reads the bit of zero width joiners: `init_unicode_props` sets it for U+200D, and unsets it for all
@@ -235,7 +238,7 @@ impl hb_glyph_info_t {
     pub fn _hb_glyph_info_get_zwj(&self) -> bool
         ensures { result ≡ self.now.properties.zwj }
     {
-        self.properties.zwj
+        self.properties.zwj()
     }
 
     /// Sets or unsets the bit of zero width joiners, and nothing else.
@@ -243,7 +246,7 @@ impl hb_glyph_info_t {
         ensures { self.new
             ≡ record self.old { properties = record self.old.properties { zwj = zwj } } }
     {
-        self.properties.zwj = zwj;
+        self.properties.set_zwj(zwj);
     }
 
     /// Reads the bit of zero width non-joiners: `init_unicode_props` sets it for U+200C, and unsets it for
@@ -251,7 +254,7 @@ impl hb_glyph_info_t {
     pub fn _hb_glyph_info_get_zwnj(&self) -> bool
         ensures { result ≡ self.now.properties.zwnj }
     {
-        self.properties.zwnj
+        self.properties.zwnj()
     }
 
     /// Sets or unsets the bit of zero width non-joiners, and nothing else.
@@ -259,14 +262,14 @@ impl hb_glyph_info_t {
         ensures { self.new
             ≡ record self.old { properties = record self.old.properties { zwnj = zwnj } } }
     {
-        self.properties.zwnj = zwnj;
+        self.properties.set_zwnj(zwnj);
     }
 
     /// Reads the remembered type of a space without a glyph: `init_unicode_props` sets it to 0, for none.
     pub fn _hb_glyph_info_get_space_type(&self) -> u8
         ensures { result ≡ self.now.properties.space_type }
     {
-        self.properties.space_type
+        self.properties.space_type()
     }
 
     /// Sets the remembered type of a space without a glyph, and nothing else.
@@ -276,7 +279,7 @@ impl hb_glyph_info_t {
               properties = record self.old.properties { space_type = space_type };
             } }
     {
-        self.properties.space_type = space_type;
+        self.properties.set_space_type(space_type);
     }
 
     /// Reads the selector mark, of a variation selector for which the face has no variation glyph with the
@@ -284,7 +287,7 @@ impl hb_glyph_info_t {
     pub fn _hb_glyph_info_get_selector_mark(&self) -> bool
         ensures { result ≡ self.now.properties.selector_mark }
     {
-        self.properties.selector_mark
+        self.properties.selector_mark()
     }
 
     /// Sets or unsets the selector mark, of a variation selector for which the face has no variation glyph
@@ -295,7 +298,7 @@ impl hb_glyph_info_t {
               properties = record self.old.properties { selector_mark = selector_mark };
             } }
     {
-        self.properties.selector_mark = selector_mark;
+        self.properties.set_selector_mark(selector_mark);
     }
 }
 

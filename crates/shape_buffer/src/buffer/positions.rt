@@ -30,3 +30,13 @@ impl GlyphPosition {
         }
     }
 }
+
+impl Default for GlyphPosition {
+    ghost use Rattle.shape_buffer.specs.Positions.{zero_position};
+
+    ghost is_default = { λ position. position ≡ zero_position };
+
+    fn default() -> GlyphPosition {
+        GlyphPosition::zero()
+    }
+}

@@ -1,6 +1,8 @@
 //! What a caller sets of a text: tags, scripts, languages, directions, levels, features.
 ghost use Rattle.std.specs.Prelude.{◌≡◌, ◌+◌, ◌*◌, ◌↔◌, IsTrue, slice_index};
 
+use std::ops::Range;
+
 /// A glyph of a face, by its number.
 #[derive(Clone, Copy, PartialEq, Eq, Debug)]
 pub struct GlyphId(pub u32);
@@ -47,6 +49,26 @@ pub struct Feature {
     pub end: u32,
 }
 
+impl Default for Direction {
+    ghost use Rattle.shape_buffer.specs.declared.buffer.settings.Direction.TheVariants.{Invalid};
+
+    ghost is_default = { λ direction. direction ≡ Invalid };
+
+    fn default() -> Direction {
+        Direction::Invalid
+    }
+}
+
+impl Default for BufferClusterLevel {
+    ghost use Rattle.shape_buffer.specs.declared.buffer.settings.BufferClusterLevel.TheVariants.{MonotoneGraphemes};
+
+    ghost is_default = { λ level. level ≡ MonotoneGraphemes };
+
+    fn default() -> BufferClusterLevel {
+        BufferClusterLevel::MonotoneGraphemes
+    }
+}
+
 impl hb_tag_t {
     /// The tag of four bytes, the first one highest.
     pub fn from_bytes(bytes: &[u8; 4]) -> Self
@@ -58,6 +80,35 @@ impl hb_tag_t {
 }
 
 impl Feature {
+    /// The feature over the items whose cluster is in the range.
+    pub fn new(tag: hb_tag_t, value: u32, range: Range<u32>) -> Self
+        ensures { result ≡ record {
+          tag = tag;
+          value = value;
+          start = range.start;
+          end = range.end;
+        } }
+    {
+        Feature {
+            tag,
+            value,
+            start: range.start,
+            end: range.end,
+        }
+    }
+
+    /// The feature over the whole text.
+    pub fn global(tag: hb_tag_t, value: u32) -> Self
+        ensures { result ≡ record { tag = tag; value = value; start = 0; end = u32.MAX } }
+    {
+        Feature {
+            tag,
+            value,
+            start: 0,
+            end: u32::MAX,
+        }
+    }
+
     /// Whether the feature is asked for over the whole text.
     pub fn is_global(&self) -> bool
         ensures { IsTrue result ↔ ((self.now.start ≡ 0) × (self.now.end ≡ u32.MAX)) }
@@ -109,25 +160,5 @@ impl Direction {
             Direction::TopToBottom => Direction::BottomToTop,
             Direction::BottomToTop => Direction::TopToBottom,
         }
-    }
-}
-
-impl Script {
-    ghost use Rattle.shape_buffer.specs.Guess.{is_specific};
-
-    /// Zyyy: characters of many scripts.
-    pub const COMMON: Script = Script(hb_tag_t(0x5A79_7979));
-
-    /// Zinh: characters that take the script of the one before.
-    pub const INHERITED: Script = Script(hb_tag_t(0x5A69_6E68));
-
-    /// Zzzz: characters without a known script.
-    pub const UNKNOWN: Script = Script(hb_tag_t(0x5A7A_7A7A));
-
-    /// Whether the script is neither Common nor Inherited nor Unknown.
-    pub fn is_specific(self) -> bool
-        ensures { result ≡ is_specific self }
-    {
-        self != Script::COMMON && self != Script::INHERITED && self != Script::UNKNOWN
     }
 }

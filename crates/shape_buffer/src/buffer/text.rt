@@ -1,6 +1,8 @@
 //! The characters of a text as items.
-ghost use Rattle.std.specs.Prelude.{◌≡◌, ◌++◌, ◌<◌, ◌^◌, length, take, OnOk};
-ghost use Rattle.shape_buffer.specs.Text.{text_items};
+ghost use Rattle.std.specs.Prelude.{◌≡◌, ◌++◌, ◌<◌, ◌^◌, length, take, All, OnOk};
+ghost use Rattle.std.specs.List.Sorted.{IsNonDecreasing};
+ghost use Rattle.shape_buffer.specs.Clusters.{clusters};
+ghost use Rattle.shape_buffer.specs.Text.{text_items, numbered_from, IsFirstByte};
 
 use crate::buffer::items::hb_glyph_info_t;
 use std::alloc::AllocError;
@@ -10,6 +12,9 @@ pub(crate) fn append_text(infos: &mut Vec<hb_glyph_info_t>, text: &str) -> Resul
     requires { length text.now < 2 ^ 32 }
     ensures ok { OnOk result (infos.new.items ≡ infos.old.items ++ text_items text.now) }
     ensures before { take (length infos.old.items) infos.new.items ≡ infos.old.items }
+    ensures clusters { IsNonDecreasing (clusters (text_items text.now))
+        × All (λ item. item.cluster < length text.now) (text_items text.now) }
+    ensures first { All (IsFirstByte text.now) (text_items text.now) }
 {
     let mut offset: u32 = 0;
     for c in text.chars() {
@@ -17,4 +22,15 @@ pub(crate) fn append_text(infos: &mut Vec<hb_glyph_info_t>, text: &str) -> Resul
         offset += c.len_utf8() as u32;
     }
     Ok(())
+}
+
+/// Puts each item in the cluster of its place. What lies beyond 32 bits is in the greatest cluster.
+pub(crate) fn number_clusters(infos: &mut [hb_glyph_info_t])
+    ensures { infos.new ≡ numbered_from 0 infos.old }
+{
+    let mut cluster: u32 = 0;
+    for info in infos.iter_mut() {
+        info.cluster = cluster;
+        cluster = cluster.saturating_add(1);
+    }
 }

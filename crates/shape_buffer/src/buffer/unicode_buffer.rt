@@ -1,6 +1,8 @@
 //! Text that waits to be shaped.
 ghost use Rattle.std.specs.Prelude.{◌≡◌, ◌<◌, ◌≤◌, ◌^◌, ◌↔◌, [], ◌∷◌, ◌++◌, length, replicate};
+ghost use Rattle.std.specs.Prelude.{All};
 ghost use Rattle.std.specs.Prelude.{string_bytes, IsTrue, IsOkUnless, OnOk, OnErr};
+ghost use Rattle.std.specs.List.Sorted.{IsNonDecreasing};
 ghost use Rattle.std.specs.Option.{option_map};
 
 use crate::buffer::error::ShapeError;
@@ -40,9 +42,11 @@ impl Model for UnicodeBuffer {
 
 impl UnicodeBuffer {
     ghost use Rattle.shape_buffer.specs.Buffer.{new_buffer};
+    ghost use Rattle.shape_buffer.specs.Clusters.{clusters};
     ghost use Rattle.shape_buffer.specs.Guess.{guessed};
     ghost use Rattle.shape_buffer.specs.Items.{new_item};
     ghost use Rattle.shape_buffer.specs.Text.{text_items, context_before, context_after};
+    ghost use Rattle.shape_buffer.specs.Text.{numbered_from, IsFirstByte};
     ghost use Rattle.shape_buffer.specs.Positions.{zero_position};
 
     /// A buffer without text, at level MONOTONE_GRAPHEMES and without flags. It keeps the allocator.
@@ -87,9 +91,10 @@ impl UnicodeBuffer {
         self.buffer.push(c, cluster)
     }
 
-    /// Appends the characters of a text, whose clusters are the offsets of their first bytes in it. The text
-    /// has fewer than 2^32 bytes, since clusters are 32 bits. Refuses with `Memory` where a growth was
-    /// refused; a refused call changes nothing.
+    /// Appends the characters of a text, whose clusters are the offsets of their first bytes in it: there the
+    /// text may be cut, they never fall, and each is below the text's length. The text has fewer than 2^32
+    /// bytes, since clusters are 32 bits. Refuses with `Memory` where a growth was refused; a refused call
+    /// changes nothing.
     pub fn push_str(&mut self, text: &str) -> Result<(), ShapeError>
         requires { length text.now < 2 ^ 32 }
         ensures ok { OnOk result (self.new ≡ record self.old {
@@ -98,8 +103,30 @@ impl UnicodeBuffer {
         }) }
         ensures memory { IsOkUnless result ShapeError.Memory }
         ensures err { OnErr result (self.new ≡ self.old) }
+        ensures clusters { IsNonDecreasing (clusters (text_items text.now))
+            × All (λ item. item.cluster < length text.now) (text_items text.now) }
+        ensures first { All (IsFirstByte text.now) (text_items text.now) }
     {
         self.buffer.push_str(text)
+    }
+
+    /// Makes room for so many more characters, so that appending them isn't refused. Changes nothing that is
+    /// seen. Refuses with `Memory` where a growth was refused.
+    pub fn reserve(&mut self, additional: usize) -> Result<(), ShapeError>
+        ensures same { self.new ≡ self.old }
+        ensures memory { IsOkUnless result ShapeError.Memory }
+    {
+        self.buffer.reserve(additional)
+    }
+
+    /// Puts the characters in clusters 0, 1, 2 and so on, in their order, whatever clusters they had. From
+    /// 2^32 - 1 on, all are in that cluster. Takes no memory.
+    pub fn reset_clusters(&mut self)
+        ensures numbered { self.new
+            ≡ record self.old { items = numbered_from 0 self.old.items } }
+        ensures clusters { IsNonDecreasing (clusters self.new.items) }
+    {
+        self.buffer.reset_clusters();
     }
 
     /// Reads the direction that the text runs in.

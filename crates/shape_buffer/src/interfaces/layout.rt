@@ -85,7 +85,7 @@ pub trait hb_ot_layout_t<F> {
         ensures { (map : Self.Map)
             → Made (lookups map face.now).substitute_start buffer.old buffer.new };
 
-    /// How many stages substitution has, with a pause behind each.
+    /// How many stages substitution has, with a pause after each.
     fn stages(map: &Self::Map) -> usize
         ensures { result ≡ (masks map.now).stages };
 
@@ -101,7 +101,7 @@ pub trait hb_ot_layout_t<F> {
         ensures { Outcome (step ((lookups map.now face.now).stage i))
             buffer.old buffer.new result };
 
-    /// The number of the pause behind stage `i`, where it has one.
+    /// The number of the pause after stage `i`, where it has one.
     fn pause_after(map: &Self::Map, i: usize) -> Option<u32>
         ensures { result ≡ (masks map.now).pause_after i };
 

@@ -81,6 +81,16 @@ impl hb_ot_map_builder_t {
         self.is_simple = is_simple;
     }
 
+    /// Makes room for so many more requests, so that making them isn't refused. Changes nothing that is seen.
+    /// Refuses with `Memory` where a growth was refused.
+    pub fn reserve(&mut self, additional: usize) -> Result<(), ShapeError>
+        ensures same { self.new ≡ self.old }
+        ensures memory { IsOkUnless result ShapeError.Memory }
+    {
+        self.requests.reserve(additional)?;
+        Ok(())
+    }
+
     /// Asks for a feature. `value` is what it is set to: 0 turns a feature off, 1 turns it on; a greater
     /// value picks an alternate. Refuses with `Memory` where a growth was refused; a refused call changes
     /// nothing.
@@ -124,7 +134,7 @@ impl hb_ot_map_builder_t {
         self.add_feature(tag, F_GLOBAL, 0)
     }
 
-    /// Asks for a pause of substitution between the features before and those behind. Where it has a
+    /// Asks for a pause of substitution between the features before and those after. Where it has a
     /// number, the shaper's hook `pause` is called with it there. Refuses with `Memory` where a growth was
     /// refused; a refused call changes nothing.
     pub fn add_gsub_pause(&mut self, number: Option<u32>) -> Result<(), ShapeError>

@@ -1,14 +1,13 @@
 //! All bases of a buffer, each with its marks.
 //!
-//! One walk finds the items that aren't marks and counts the marks directly after each. Where there is
-//! one at least, the span is marked unsafe to break, since it can't be shaped in parts, and its marks are
-//! placed.
-ghost use Rattle.std.specs.Prelude.{◌≡◌, ◌+◌, ◌<◌, ◌≤◌, length};
+//! One walk finds the items that aren't marks and have a mark directly after them, and counts these. The
+//! span is marked unsafe to break, since it can't be shaped in parts, and its marks are placed.
+ghost use Rattle.std.specs.Prelude.{◌≡◌, ◌+◌, ◌<◌, ◌≤◌, length, drop};
 ghost use Rattle.std.specs.List.{prefix_len};
 ghost use Rattle.shape_buffer.specs.Items.{is_mark_item};
 ghost use Rattle.shape_buffer.specs.Outcome.{Made};
 ghost use Rattle.shape_fallback.specs.Bases.{bases_positioned, position_span as position_span_of};
-ghost use Rattle.shape_fallback.specs.Bases.{positioned_at};
+ghost use Rattle.shape_fallback.specs.Bases.{positioned_at, begins_with_mark};
 
 use crate::ot_shape_fallback::marks::{
     Setting, first_state, make_base, place_marks_of_base, zero_marks,
@@ -53,18 +52,26 @@ fn marks_at_start(infos: &[hb_glyph_info_t]) -> usize
         .count()
 }
 
-/// Places the marks of the base at a place, if there is one with marks.
+/// Whether a mark stands at a place.
+fn has_mark_at(infos: &[hb_glyph_info_t], i: usize) -> bool
+    ensures { result ≡ begins_with_mark (drop i infos.now) }
+{
+    i < infos.len() && infos[i]._hb_glyph_info_is_unicode_mark()
+}
+
+/// Places the marks of the base at a place, if there is one with marks. Where no mark follows nothing else is
+/// asked.
 fn position_at<F: hb_font_t>(face: &F, setting: Setting, buffer: &mut hb_buffer_t, i: usize)
     requires { i < length buffer.old.items }
     ensures { buffer.new ≡ positioned_at (F.face face.now) setting i buffer.old }
 {
+    if !has_mark_at(buffer.infos(), i + 1) {
+        return;
+    }
     if buffer.infos()[i]._hb_glyph_info_is_unicode_mark() {
         return;
     }
     let marks = marks_at_start(&buffer.infos()[i + 1..]);
-    if marks == 0 {
-        return;
-    }
     position_span(face, setting, buffer, i, i + 1 + marks);
 }
 

@@ -32,7 +32,7 @@ pub struct Base {
     pub extents: hb_glyph_extents_t,
 }
 
-/// How far the marks of a base are placed.
+/// Where the walk over the marks of a base stands.
 #[derive(Clone, Copy, Debug)]
 pub struct MarkState {
     /// The last component, at first -1.
@@ -127,7 +127,7 @@ fn with_component(base: Base, info: &hb_glyph_info_t, state: MarkState) -> MarkS
     }
 }
 
-/// Goes to a ccc.
+/// The state at a mark of this ccc: another ccc than the last begins at the box of the component again.
 #[tactic(auto, using(shape_buffer::proofs::WrappingLemmas::kept_bits), unfolding(crate::specs::MarkState::at_ccc))]
 fn at_ccc(ccc: u8, mut state: MarkState) -> MarkState
     ensures { result ≡ at_ccc_of ccc state }

@@ -158,7 +158,7 @@ fn piled(gap: i32, mark: hb_glyph_extents_t, mut base: hb_glyph_extents_t) -> St
     }
 }
 
-/// A base with a gap below it, but for marks that touch it.
+/// A base with a gap below it, except for marks that touch it.
 #[tactic(auto, using(shape_buffer::proofs::WrappingLemmas::kept_bits), unfolding(crate::specs::OneMark::lowered))]
 fn lowered(gap: i32, ccc: u8, mut base: hb_glyph_extents_t) -> hb_glyph_extents_t
     ensures { result ≡ lowered_of gap ccc base }
@@ -170,7 +170,7 @@ fn lowered(gap: i32, ccc: u8, mut base: hb_glyph_extents_t) -> hb_glyph_extents_
     base
 }
 
-/// A base with a gap above it, but for marks that touch it.
+/// A base with a gap above it, except for marks that touch it.
 #[tactic(auto, using(shape_buffer::proofs::WrappingLemmas::kept_bits), unfolding(crate::specs::OneMark::raised))]
 fn raised(gap: i32, ccc: u8, mut base: hb_glyph_extents_t) -> hb_glyph_extents_t
     ensures { result ≡ raised_of gap ccc base }

@@ -1,12 +1,12 @@
 //! The ccc that the marks of a buffer are placed by.
-ghost use Rattle.std.specs.Prelude.{◌≡◌};
+ghost use Rattle.std.specs.Prelude.{◌≡◌, ◌<◌, length, slice_index_or, slice_set};
+ghost use Rattle.shape_buffer.specs.Items.{Item};
 ghost use Rattle.shape_buffer.specs.Outcome.{Made};
 ghost use Rattle.shape_fallback.specs.Recategorized.{is_nonspacing as is_nonspacing_of};
 ghost use Rattle.shape_fallback.specs.Recategorized.{recategorized, recategorized_item};
 
 use crate::ot_shape_fallback::ccc::fallback_ccc;
 use shape_buffer::buffer::{hb_buffer_t, hb_glyph_info_t, hb_unicode_general_category_t};
-use shape_buffer::walks::update_items;
 
 /// Whether an item is a nonspacing mark.
 #[tactic(auto, unfolding(crate::specs::Recategorized::is_nonspacing))]
@@ -19,25 +19,30 @@ pub(crate) fn is_nonspacing(info: &hb_glyph_info_t) -> bool
     )
 }
 
-/// An item with the ccc that it is placed by.
+/// Gives the item at a place the ccc that it is placed by, where it is a nonspacing mark; no other is written.
 #[tactic(auto, unfolding(crate::specs::Recategorized::recategorized_item))]
-fn recategorize(mut info: hb_glyph_info_t) -> hb_glyph_info_t
-    ensures { result ≡ recategorized_item info }
+fn recategorize_at(buffer: &mut hb_buffer_t, i: usize)
+    requires { i < length buffer.old.items }
+    ensures { (x : Item) → x ≡ slice_index_or buffer.old.items i x → buffer.new
+        ≡ record buffer.old { items = slice_set buffer.old.items i (recategorized_item x) } }
 {
-    if is_nonspacing(&info) {
-        let ccc = fallback_ccc(
-            info.codepoint,
-            info._hb_glyph_info_get_modified_combining_class(),
-        );
-        info._hb_glyph_info_set_modified_combining_class(ccc);
-        return info;
+    let mut info = buffer.infos()[i];
+    if !is_nonspacing(&info) {
+        return;
     }
-    info
+    let ccc = fallback_ccc(
+        info.codepoint,
+        info._hb_glyph_info_get_modified_combining_class(),
+    );
+    info._hb_glyph_info_set_modified_combining_class(ccc);
+    buffer.set_info(i, info);
 }
 
 /// Gives every nonspacing mark the ccc that it is placed by.
 pub(crate) fn recategorize_items(buffer: &mut hb_buffer_t)
     ensures { Made recategorized buffer.old buffer.new }
 {
-    update_items(buffer, |info| recategorize(*info));
+    for i in 0..buffer.len() {
+        recategorize_at(buffer, i);
+    }
 }

@@ -54,7 +54,7 @@ module _ (ccc : ℕ → ℕ) (glyph : ℕ → Bool) where
   RowTells xs (Some row) = BeginsWith xs row
   RowTells xs None = list_all glyph xs ≡ true → HasNoLongerRun ccc max_run xs → ⊥
 
-  -- a run that is found in a list with one more character begins with it, or lies behind it
+  -- a run that is found in a list with one more character begins with it, or lies after it
   fits-more : (x : ℕ) (xs : List ℕ) (row : ℕ)
       → ((run after : List ℕ) → x ∷ xs ≡ run ++ after → AreMarks run → length run ≤ row) → row ≤ max_run
       → HasNoLongerRun ccc max_run xs → HasNoLongerRun ccc max_run (x ∷ xs)

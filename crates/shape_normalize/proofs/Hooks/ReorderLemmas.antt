@@ -153,7 +153,7 @@ module _ (start end : ℕ) (b : Buffer) (within : end ≤ length b.items) where
       (λ x from to low ordered high inside so_far. without_items-merge_clusters from to x ∙ so_far)
       (λ x i item ccc low high inside is mark so_far. so_far) steps within refl
 
-  -- what goes by neither clusters nor the defined flags stays behind the range
+  -- what goes by neither clusters nor the defined flags stays after the range
   pub Reorders-behind : {B : Type 0} (key : Item → B) → IsKey key → {c : Buffer} → Reorders start end b c
       → drop end (map key c.items) ≡ drop end (map key b.items)
   Reorders-behind key is_key steps =

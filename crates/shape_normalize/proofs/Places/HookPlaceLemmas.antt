@@ -173,7 +173,7 @@ placed_permutes key is_key start end b ordered within =
     (permutes_swaps (Swaps-in_order ccc_of_item run))))
 
 module _ (f : Buffer → ℕ → ℕ → Buffer) (lawful : LawfulReorder (Some f)) (one : Buffer) where
-  -- a buffer's items are those of the expanded list, each short run in another order, but for clusters, defined flags and ccc
+  -- a buffer's items are those of the expanded list, each short run in another order, except for clusters, defined flags and ccc
   pub record IsPlaced (c : Buffer) : Type 0 where
     pub places : List ℕ
     pub order : PermutesRuns one.items places

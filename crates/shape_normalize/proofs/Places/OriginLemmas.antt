@@ -26,7 +26,7 @@ module _ {A : Type 0} (P : ℕ → A → Type 0) where
   AllAt place [] = Unit {0}
   AllAt place (x ∷ xs) = P place x × AllAt (suc place) xs
 
-  -- and so along parts that stand one behind the other
+  -- and so along parts that stand one after the other
   abbrev AllAtParts : ℕ → List (List A) → Type 0
   AllAtParts place [] = Unit {0}
   AllAtParts place (part ∷ parts) = AllAt place part × AllAtParts (place + length part) parts
@@ -92,7 +92,7 @@ parts_zip P R from become keeps place (part ∷ parts) each =
 -- ---- what each item becomes
 
 module _ (rules : Rules) (text : Buffer) where
-  -- an item is that of the text at a place, but for what merging changes
+  -- an item is that of the text at a place, except for what merging changes
   abbrev Stood : ℕ → Item → Type 0
   Stood place item = unmerged item ≡ unmerged (item_at text.items place)
 

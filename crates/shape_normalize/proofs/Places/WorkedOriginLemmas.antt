@@ -108,7 +108,7 @@ turned_runs (suc (suc (suc (suc zero)))) d lt = inl refl
 turned_runs (suc (suc (suc (suc (suc zero))))) d lt = inl refl
 turned_runs (suc (suc (suc (suc (suc (suc i)))))) d lt = absurd (omega arith)
 
--- so many marks behind the first item
+-- so many marks after the first item
 mark_of : (n k : ℕ) → k < n → 0 < ccc_of_item (get_or (replicate n (item 0x301 1)) k (new_item 0 0))
 mark_of zero k lt = absurd (omega arith)
 mark_of (suc n) zero lt = omega arith

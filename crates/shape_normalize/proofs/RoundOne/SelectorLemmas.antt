@@ -20,7 +20,7 @@ is_with_marks-length [] = refl
 is_with_marks-length (x ∷ []) = refl
 is_with_marks-length (x ∷ y ∷ rest) = search rules
 
--- ---- the spans of the items that become one with the selector behind them
+-- ---- the spans of the items that become one with the selector after them
 
 -- a variation sequence has two items
 variation_sequence-two : (face : FaceMeaning) (part : List Item) → is_some (variation_sequence_glyph face part) ≡ true

@@ -72,7 +72,7 @@ module _ {B : Type 0} (become : Bool → Item → List B) where
   abbrev pub sequence_becomes : List Item → List B
   sequence_becomes sequence = flat_map (become (is_with_marks sequence)) sequence
 
-  -- the same behind an item that stands before the first of these sequences, in one with it
+  -- the same after an item that stands before the first of these sequences, in one with it
   abbrev behind_becomes : List (List Item) → List B
   behind_becomes [] = []
   behind_becomes (part ∷ parts) = flat_map (become true) part ++ flat_map sequence_becomes parts

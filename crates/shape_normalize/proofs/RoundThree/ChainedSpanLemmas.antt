@@ -21,7 +21,7 @@ use Rattle.shape_normalize.proofs.RoundThree.RoundThreeWalkLemmas.{after, item_a
 
 -- ---- the spans are in order
 
--- the spans of one starter, and then those that begin behind its marks
+-- the spans of one starter, and then those that begin after its marks
 chained_then : (from k n : ℕ) (absorbed : List Absorbed) (spans : List (ℕ × ℕ)) → from ≤ k → k ≤ n → AreAbsorbedInOrder from k absorbed
     → AreSpansInOrder k n spans → AreSpansInOrder from n (spans_between from absorbed ++ spans)
 chained_then from k n [] spans le within h later = AreSpansInOrder-lower from k n spans le later

@@ -17,12 +17,12 @@ abbrev pub AreRising : ℕ → ℕ → List Placed → Type 0
 AreRising low high [] = low ≤ high
 AreRising low high (p ∷ ps) = (low ≤ p.place) × AreRising (p.place + 1) high ps
 
--- marks stood one behind the other, from behind this place on, and before place `high`
+-- marks stood one after the other, from after this place on, and before place `high`
 abbrev pub AreAbsorbedInOrder : ℕ → ℕ → List Absorbed → Type 0
 AreAbsorbedInOrder low high [] = Unit {0}
 AreAbsorbedInOrder low high (mark ∷ absorbed) = (low < mark.place) × (mark.place < high) × AreAbsorbedInOrder mark.place high absorbed
 
--- the marks that were composed with an item stood behind it
+-- the marks that were composed with an item stood after it
 abbrev pub InOrder : ℕ → Placed → Type 0
 InOrder high p = AreAbsorbedInOrder p.place high p.absorbed
 

@@ -99,7 +99,7 @@ module _ (rules : Rules) where
   placed-next i items x lt is = rw (add-one, drop-cons items i x) (ap (λ y. item_at i y ∷ placed (suc i) (drop (suc i) items)) (sym is))
 
   -- the items before place i were walked over: out is put out, with the starter at its place, these are the spans and the flags, and the
-  -- next span begins at `from`; the marks behind the starter have this greatest ccc
+  -- next span begins at `from`; the marks after the starter have this greatest ccc
   pub record IsRecomposedTo (items : List Item) (flags : ScratchFlags) (i : ℕ) (out : List PlacedInfo) (spans : List (ℕ × ℕ))
       (seen : ScratchFlags) (starter from greatest : ℕ) : Type 0 where
     pub before : List Placed
@@ -251,7 +251,7 @@ module _ (rules : Rules) where
           greatest_is = refl;
         }
 
-    -- the next item is put out behind the starter
+    -- the next item is put out after the starter
     pub IsRecomposedTo-mark : None ≡ composed_char rules s greatest (placed_info next) → (ccc_of_item x ≡ 0 → ⊥)
         → IsRecomposedTo items flags (i + 1) (out ++ placed_info next ∷ []) spans seen starter from (max greatest (ccc_of_item x))
     IsRecomposedTo-mark was some_ccc =

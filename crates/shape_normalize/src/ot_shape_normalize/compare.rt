@@ -14,6 +14,7 @@ use shape_buffer::buffer::{ShapeError, hb_buffer_t, hb_glyph_info_t};
 use shape_buffer::interfaces::{hb_font_t, hb_ot_layout_t, hb_unicode_funcs_t};
 use shape_plan::ot_shape_plan::hb_ot_shape_plan_t;
 use shape_plan::ot_shaper::{Runs, hb_ot_shaper_t};
+use shape_plan::shaping_types::{Meaning, PlanOf, ShapingTypes, TypesOf};
 use std::alloc::Global;
 
 /// Normalises two buffers and says whether they have the same characters then.
@@ -62,7 +63,7 @@ where
     ensures cleared_first { OnErr result (a.new ≡ cleared a.old) }
     ensures cleared_second { OnErr result (b.new ≡ cleared b.old) }
 {
-    let outcome = normalize_both::<U, F, M, S>(alloc, plan, face, a, b);
+    let outcome = normalize_both::<TypesOf<U, F, M, S>>(alloc, plan, face, a, b);
     if outcome.is_err() {
         a.reset();
         b.reset();
@@ -72,37 +73,32 @@ where
 }
 
 /// Normalises the first buffer, then the second.
-fn normalize_both<U, F, M, S>(
+fn normalize_both<T: ShapingTypes>(
     alloc: Global,
-    plan: &hb_ot_shape_plan_t<'_, S, M::Map, S::Data>,
-    face: &F,
+    plan: &PlanOf<'_, T>,
+    face: &T::Face,
     a: &mut hb_buffer_t,
     b: &mut hb_buffer_t,
 ) -> Result<(), ShapeError>
-where
-    U: hb_unicode_funcs_t,
-    F: hb_font_t,
-    M: hb_ot_layout_t<F>,
-    S: hb_ot_shaper_t<U, F, M>,
     ensures first { OnOk result (a.new
-        ≡ normalized (⟦<S as Runs<U, F, M>>⟧.rules plan.now face.now) a.old) }
+        ≡ normalized (⟦<T as Meaning>⟧.rules plan.now face.now) a.old) }
     ensures second { OnOk result (b.new
-        ≡ normalized (⟦<S as Runs<U, F, M>>⟧.rules plan.now face.now) b.old) }
+        ≡ normalized (⟦<T as Meaning>⟧.rules plan.now face.now) b.old) }
     ensures length { result ≡ Err ShapeError.Length → (limit_of a.old < length (round_one
-        (⟦<S as Runs<U, F, M>>⟧.rules plan.now face.now) a.old).items)
+        (⟦<T as Meaning>⟧.rules plan.now face.now) a.old).items)
         ⊎ (limit_of b.old < length (round_one
-        (⟦<S as Runs<U, F, M>>⟧.rules plan.now face.now) b.old).items) }
+        (⟦<T as Meaning>⟧.rules plan.now face.now) b.old).items) }
     ensures within_first { OnOk result (length a.new.items ≤ limit_of a.old) }
     ensures within_second { OnOk result (length b.new.items ≤ limit_of b.old) }
     ensures counted_first { OnOk result (length (round_one
-        (⟦<S as Runs<U, F, M>>⟧.rules plan.now face.now) a.old).items ≤ limit_of a.old) }
+        (⟦<T as Meaning>⟧.rules plan.now face.now) a.old).items ≤ limit_of a.old) }
     ensures counted_second { OnOk result (length (round_one
-        (⟦<S as Runs<U, F, M>>⟧.rules plan.now face.now) b.old).items ≤ limit_of b.old) }
+        (⟦<T as Meaning>⟧.rules plan.now face.now) b.old).items ≤ limit_of b.old) }
     ensures settings_first { cleared a.new ≡ cleared a.old }
     ensures settings_second { cleared b.new ≡ cleared b.old }
 {
-    _hb_ot_shape_normalize::<U, F, M, S>(alloc, plan, a, face)?;
-    _hb_ot_shape_normalize::<U, F, M, S>(alloc, plan, b, face)
+    _hb_ot_shape_normalize::<T::Unicode, T::Face, T::Engine, T::Shaper>(alloc, plan, a, face)?;
+    _hb_ot_shape_normalize::<T::Unicode, T::Face, T::Engine, T::Shaper>(alloc, plan, b, face)
 }
 
 /// Whether two lists have the same characters.

@@ -10,96 +10,109 @@
 //! aren't marks, and faces don't mix them with whole syllables.
 //!
 //! The chain is walked in a loop that keeps the second parts in a list, so its depth is bounded by
-//! memory alone and the length of the expansion is known before any of it is put out.
-ghost use Rattle.std.specs.Prelude.{◌≡◌, [], ◌∷◌, ◌++◌, reverse, take, IfOk, Ok, true, false};
+//! memory alone and the length of the expansion is known before any of it is put out. Each part is kept with
+//! its glyph, so that the face is asked once about it.
+ghost use Rattle.std.specs.Prelude.{◌≡◌, [], ◌∷◌, ◌++◌, reverse, take, map, IfOk, IsTrue, Ok};
+ghost use Rattle.std.specs.Prelude.{if◌then◌else◌, Some, None, true, false};
 ghost use Rattle.std.specs.List.{list_all};
 ghost use Rattle.std.specs.Option.{option_map};
 ghost use Rattle.canonical_form.specs.Chain.{kept_part};
 ghost use Rattle.canonical_form.specs.Expansion.{chosen_expansion};
 ghost use Rattle.shape_plan.specs.Plan.{hooks_of};
 ghost use Rattle.shape_plan.specs.Rules.{decompositions, has_glyph};
+ghost use Rattle.shape_normalize.specs.OneWalk.{part_of_char};
 
+use shape_buffer::buffer::GlyphId;
 use shape_buffer::interfaces::{hb_font_t, hb_ot_layout_t, hb_unicode_funcs_t};
-use shape_plan::ot_shape_plan::hb_ot_shape_plan_t;
-use shape_plan::ot_shaper::{Runs, hb_ot_shaper_t};
+use shape_plan::ot_shaper::hb_ot_shaper_t;
+use shape_plan::shaping_types::{Meaning, PlanOf, ShapingTypes};
 use std::alloc::{AllocError, Global};
 
-/// What a character becomes: `first`, and after it `seconds` from the last to the first.
+/// A character of an expansion, with the index of its glyph.
+#[derive(Clone, Copy)]
+pub(crate) struct Part {
+    pub(crate) c: char,
+    pub(crate) glyph: u32,
+}
+
+/// What a character becomes: `first`, and after it `seconds` from the last to the first. One of these serves
+/// the whole text, so that the second parts of all its characters take memory once.
 #[derive(Drop)]
 pub(crate) struct Expansion {
-    pub(crate) first: char,
-    pub(crate) seconds: Vec<char>,
+    pub(crate) first: Part,
+    pub(crate) seconds: Vec<Part>,
 }
 
 /// The split of a character: the hook's where it is given and the plan keeps the shaper, else Unicode's.
-pub(crate) fn split_of<U, F, M, S>(
-    plan: &hb_ot_shape_plan_t<'_, S, M::Map, S::Data>,
-    face: &F,
+pub(crate) fn split_of<T: ShapingTypes>(
+    plan: &PlanOf<'_, T>,
+    face: &T::Face,
     c: char,
 ) -> Option<(char, char)>
-where
-    U: hb_unicode_funcs_t,
-    F: hb_font_t,
-    M: hb_ot_layout_t<F>,
-    S: hb_ot_shaper_t<U, F, M>,
-    ensures { result ≡ (⟦<S as Runs<U, F, M>>⟧.rules plan.now face.now).split c }
+    ensures { result ≡ (⟦<T as Meaning>⟧.rules plan.now face.now).split c }
 {
     match plan.shaper() {
-        Some(shaper) if S::HAS_DECOMPOSE => shaper.decompose(plan, face, c),
-        _ => U::decompose(c),
+        Some(shaper) if T::Shaper::HAS_DECOMPOSE => shaper.decompose(plan, face, c),
+        _ => T::Unicode::decompose(c),
+    }
+}
+
+/// The character with its glyph, where the face has one.
+fn part_with_glyph<F: hb_font_t>(face: &F, c: char) -> Option<Part>
+    ensures { result ≡ (if has_glyph (F.face face.now).nominal_glyph c
+        then Some (part_of_char (F.face face.now).nominal_glyph c) else None) }
+{
+    match face.get_nominal_glyph(c) {
+        Some(GlyphId(glyph)) => Some(Part { c, glyph }),
+        None => None,
     }
 }
 
 /// Keeps a second part, unless it is U+0000, and says whether the face has a glyph for it.
-fn keep_second<F: hb_font_t>(face: &F, b: char, seconds: &mut Vec<char>) -> Result<bool, AllocError>
+fn keep_second<F: hb_font_t>(face: &F, b: char, seconds: &mut Vec<Part>) -> Result<bool, AllocError>
     ensures test { IfOk result (λ t. t
         ≡ list_all (has_glyph (F.face face.now).nominal_glyph) (kept_part b)) }
-    ensures kept { result ≡ Ok true → seconds.new.items ≡ seconds.old.items ++ kept_part b }
+    ensures kept { result ≡ Ok true → seconds.new.items
+        ≡ seconds.old.items ++ map (part_of_char (F.face face.now).nominal_glyph) (kept_part b) }
     ensures same { result ≡ Ok false → seconds.new.items ≡ seconds.old.items }
 {
     if b == '\0' {
         return Ok(true);
     }
-    if !face.has_glyph(b) {
+    let Some(part) = part_with_glyph(face, b) else {
         return Ok(false);
-    }
-    seconds.push(b)?;
+    };
+    seconds.push(part)?;
     Ok(true)
 }
 
 /// Walks along the chain of a character and keeps its second parts. Answers the last point that has a
-/// glyph behind which all second parts have, and how many second parts these are; where the shortest
-/// expansion is asked, the first such point, and none for a character that has a glyph itself.
-fn walk_chain<U, F, M, S>(
-    plan: &hb_ot_shape_plan_t<'_, S, M::Map, S::Data>,
-    face: &F,
+/// glyph and after which every second part has one, and how many these are; where the shortest expansion
+/// is asked, of a character without a glyph, the first such point.
+fn walk_chain<T: ShapingTypes>(
+    plan: &PlanOf<'_, T>,
+    face: &T::Face,
     c: char,
     shortest: bool,
-    seconds: &mut Vec<char>,
-) -> Result<Option<(char, usize)>, AllocError>
-where
-    U: hb_unicode_funcs_t,
-    F: hb_font_t,
-    M: hb_ot_layout_t<F>,
-    S: hb_ot_shaper_t<U, F, M>,
-    requires { seconds.old.items ≡ [] }
+    seconds: &mut Vec<Part>,
+) -> Result<Option<(Part, usize)>, AllocError>
+    requires empty { seconds.old.items ≡ [] }
+    requires lacking { IsTrue shortest → has_glyph (T.Face.face face.now).nominal_glyph c ≡ false }
     ensures { IfOk result (λ found. option_map
         (λ f. f.0 ∷ reverse (take f.1 seconds.new.items)) found
-        ≡ chosen_expansion (decompositions (⟦<S as Runs<U, F, M>>⟧.rules plan.now face.now))
-        (has_glyph (F.face face.now).nominal_glyph) shortest c) }
+        ≡ option_map (map (part_of_char (T.Face.face face.now).nominal_glyph))
+        (chosen_expansion (decompositions (⟦<T as Meaning>⟧.rules plan.now face.now))
+        (has_glyph (T.Face.face face.now).nominal_glyph) shortest c)) }
 {
-    if shortest && face.has_glyph(c) {
-        return Ok(None);
-    }
     let mut found = None;
     let mut point = c;
-    'chain: while let Some((a, b)) = split_of::<U, F, M, S>(plan, face, point) {
+    'chain: while let Some((a, b)) = split_of::<T>(plan, face, point) {
         if !keep_second(face, b, seconds)? {
             return Ok(found);
         }
         point = a;
-        if face.has_glyph(a) {
-            found = Some((a, seconds.len()));
+        if let Some(part) = part_with_glyph(face, a) {
+            found = Some((part, seconds.len()));
             if shortest {
                 return Ok(found);
             }
@@ -108,29 +121,38 @@ where
     Ok(found)
 }
 
-/// The supported expansion of greatest length, `None` where none is supported. Where the shortest is
-/// asked, the one of least length, `None` for a character that has a glyph too.
-pub(crate) fn decompose<U, F, M, S>(
-    alloc: Global,
-    plan: &hb_ot_shape_plan_t<'_, S, M::Map, S::Data>,
-    face: &F,
+impl Expansion {
+    /// Room for expansions. Takes no memory.
+    pub(crate) fn new(alloc: Global) -> Self {
+        Expansion {
+            first: Part { c: '\0', glyph: 0 },
+            seconds: Vec::new(alloc),
+        }
+    }
+}
+
+/// Keeps the supported expansion of greatest length and says whether one is supported. Where the shortest is
+/// asked, of a character without a glyph, the one of least length.
+pub(crate) fn decompose<T: ShapingTypes>(
+    plan: &PlanOf<'_, T>,
+    face: &T::Face,
     c: char,
     shortest: bool,
-) -> Result<Option<Expansion>, AllocError>
-where
-    U: hb_unicode_funcs_t,
-    F: hb_font_t,
-    M: hb_ot_layout_t<F>,
-    S: hb_ot_shaper_t<U, F, M>,
-    ensures { IfOk result (λ found. option_map (λ x. x.first ∷ reverse x.seconds.items) found
-        ≡ chosen_expansion (decompositions (⟦<S as Runs<U, F, M>>⟧.rules plan.now face.now))
-        (has_glyph (F.face face.now).nominal_glyph) shortest c) }
+    expansion: &mut Expansion,
+) -> Result<bool, AllocError>
+    requires { IsTrue shortest → has_glyph (T.Face.face face.now).nominal_glyph c ≡ false }
+    ensures { IfOk result (λ found. (if found
+        then Some (expansion.new.first ∷ reverse expansion.new.seconds.items) else None)
+        ≡ option_map (map (part_of_char (T.Face.face face.now).nominal_glyph))
+        (chosen_expansion (decompositions (⟦<T as Meaning>⟧.rules plan.now face.now))
+        (has_glyph (T.Face.face face.now).nominal_glyph) shortest c)) }
 {
-    let mut seconds = Vec::new(alloc);
-    let walked = walk_chain::<U, F, M, S>(plan, face, c, shortest, &mut seconds)?;
+    expansion.seconds.clear();
+    let walked = walk_chain::<T>(plan, face, c, shortest, &mut expansion.seconds)?;
     let Some((first, depth)) = walked else {
-        return Ok(None);
+        return Ok(false);
     };
-    seconds.truncate(depth);
-    Ok(Some(Expansion { first, seconds }))
+    expansion.seconds.truncate(depth);
+    expansion.first = first;
+    Ok(true)
 }

@@ -2,8 +2,9 @@
 //!
 //! AUTO leaves the choice to this layer, which may go by what the plan can place; today that is the mode with
 //! composed diacritics in every case. A plan that keeps no shaper has no preference to ask, so it takes AUTO.
-ghost use Rattle.std.specs.Prelude.{◌≡◌};
+ghost use Rattle.std.specs.Prelude.{◌≡◌, Bool};
 ghost use Rattle.shape_plan.specs.Rules.{used_mode, goes_short as goes_short_in, mode_recomposes};
+ghost use Rattle.shape_normalize.specs.OneWalk.{shortest_of};
 
 use shape_buffer::interfaces::{hb_font_t, hb_ot_layout_t, hb_unicode_funcs_t};
 use shape_plan::normalization_mode::{
@@ -11,39 +12,24 @@ use shape_plan::normalization_mode::{
     HB_OT_SHAPE_NORMALIZATION_MODE_COMPOSED_DIACRITICS_NO_SHORT_CIRCUIT,
     HB_OT_SHAPE_NORMALIZATION_MODE_NONE, hb_ot_shape_normalization_mode_t,
 };
-use shape_plan::ot_shape_plan::hb_ot_shape_plan_t;
 use shape_plan::ot_shaper::hb_ot_shaper_t;
+use shape_plan::shaping_types::{PlanOf, ShapingTypes};
 
 /// The mode of a plan: the shaper's preference where the plan keeps it, else AUTO.
-fn mode_of<U, F, M, S>(
-    plan: &hb_ot_shape_plan_t<'_, S, M::Map, S::Data>,
-) -> hb_ot_shape_normalization_mode_t
-where
-    U: hb_unicode_funcs_t,
-    F: hb_font_t,
-    M: hb_ot_layout_t<F>,
-    S: hb_ot_shaper_t<U, F, M>,
-    ensures { result ≡ used_mode S.constants.preference plan.now }
+fn mode_of<T: ShapingTypes>(plan: &PlanOf<'_, T>) -> hb_ot_shape_normalization_mode_t
+    ensures { result ≡ used_mode T.Shaper.constants.preference plan.now }
 {
     match plan.shaper() {
-        Some(_) => S::NORMALIZATION_PREFERENCE,
+        Some(_) => T::Shaper::NORMALIZATION_PREFERENCE,
         None => HB_OT_SHAPE_NORMALIZATION_MODE_AUTO,
     }
 }
 
 /// Whether the shortest expansion is asked of a character, by whether it stands in a sequence with marks.
-pub(crate) fn goes_short<U, F, M, S>(
-    plan: &hb_ot_shape_plan_t<'_, S, M::Map, S::Data>,
-    with_marks: bool,
-) -> bool
-where
-    U: hb_unicode_funcs_t,
-    F: hb_font_t,
-    M: hb_ot_layout_t<F>,
-    S: hb_ot_shaper_t<U, F, M>,
-    ensures { result ≡ goes_short_in (used_mode S.constants.preference plan.now) with_marks }
+pub(crate) fn goes_short<T: ShapingTypes>(plan: &PlanOf<'_, T>, with_marks: bool) -> bool
+    ensures { result ≡ goes_short_in (used_mode T.Shaper.constants.preference plan.now) with_marks }
 {
-    match mode_of::<U, F, M, S>(plan) {
+    match mode_of::<T>(plan) {
         HB_OT_SHAPE_NORMALIZATION_MODE_NONE => true,
         HB_OT_SHAPE_NORMALIZATION_MODE_COMPOSED_DIACRITICS | HB_OT_SHAPE_NORMALIZATION_MODE_AUTO =>
             !with_marks,
@@ -51,17 +37,44 @@ where
     }
 }
 
+/// Whether the shortest expansion is asked of items by themselves, and of those that stand in sequences with
+/// marks; the mode is asked once for a whole text.
+#[derive(Clone, Copy)]
+pub(crate) struct Shortest {
+    alone: bool,
+    with_marks: bool,
+}
+
+impl Shortest {
+    pub(crate) fn of<T: ShapingTypes>(plan: &PlanOf<'_, T>) -> Self
+        ensures { result
+            ≡ shortest_of (goes_short_in (used_mode T.Shaper.constants.preference plan.now)) }
+    {
+        Shortest {
+            alone: goes_short::<T>(plan, false),
+            with_marks: goes_short::<T>(plan, true),
+        }
+    }
+
+    /// Whether it is asked of an item, by whether that stands in a sequence with marks.
+    pub(crate) fn is_asked(&self, with_marks: bool) -> bool
+        ensures { (short : Bool → Bool) → self.now ≡ shortest_of short
+            → result ≡ short with_marks }
+    {
+        if with_marks {
+            self.with_marks
+        } else {
+            self.alone
+        }
+    }
+}
+
 /// Whether marks are composed with their starters again.
-pub(crate) fn recomposes<U, F, M, S>(plan: &hb_ot_shape_plan_t<'_, S, M::Map, S::Data>) -> bool
-where
-    U: hb_unicode_funcs_t,
-    F: hb_font_t,
-    M: hb_ot_layout_t<F>,
-    S: hb_ot_shaper_t<U, F, M>,
-    ensures { result ≡ mode_recomposes (used_mode S.constants.preference plan.now) }
+pub(crate) fn recomposes<T: ShapingTypes>(plan: &PlanOf<'_, T>) -> bool
+    ensures { result ≡ mode_recomposes (used_mode T.Shaper.constants.preference plan.now) }
 {
     matches!(
-        mode_of::<U, F, M, S>(plan),
+        mode_of::<T>(plan),
         HB_OT_SHAPE_NORMALIZATION_MODE_COMPOSED_DIACRITICS
             | HB_OT_SHAPE_NORMALIZATION_MODE_COMPOSED_DIACRITICS_NO_SHORT_CIRCUIT
             | HB_OT_SHAPE_NORMALIZATION_MODE_AUTO

@@ -21,6 +21,7 @@ use shape_buffer::buffer::{hb_buffer_t, hb_glyph_info_t};
 use shape_buffer::interfaces::{hb_font_t, hb_ot_layout_t, hb_unicode_funcs_t};
 use shape_plan::ot_shape_plan::hb_ot_shape_plan_t;
 use shape_plan::ot_shaper::{MAX_COMBINING_MARKS, Runs, hb_ot_shaper_t};
+use shape_plan::shaping_types::{Meaning, PlanOf, ShapingTypes, TypesOf};
 
 /// How many marks a text begins with once `c` came in front of it, where it began with `row` of them.
 /// `None` where these are more than 32, or where the face has no glyph for `c`.
@@ -46,50 +47,40 @@ fn with_char<U: hb_unicode_funcs_t, F: hb_font_t>(
 }
 
 /// The same for Full of a character: its chain gives the last part first.
-fn with_full<U, F, M, S>(
-    plan: &hb_ot_shape_plan_t<'_, S, M::Map, S::Data>,
-    face: &F,
+fn with_full<T: ShapingTypes>(
+    plan: &PlanOf<'_, T>,
+    face: &T::Face,
     before: Option<usize>,
     c: char,
 ) -> Option<usize>
-where
-    U: hb_unicode_funcs_t,
-    F: hb_font_t,
-    M: hb_ot_layout_t<F>,
-    S: hb_ot_shaper_t<U, F, M>,
-    ensures { let rules = ⟦<S as Runs<U, F, M>>⟧.rules plan.now face.now in
-        result ≡ row_before_of U.unicode.ccc (has_glyph (F.face face.now).nominal_glyph)
-        (full (decompositions rules) c) before }
+    ensures { let rules = ⟦<T as Meaning>⟧.rules plan.now face.now in
+        result ≡ row_before_of T.Unicode.unicode.ccc
+        (has_glyph (T.Face.face face.now).nominal_glyph) (full (decompositions rules) c) before }
 {
     let mut row = before;
     let mut point = c;
-    'chain: while let Some((a, b)) = split_of::<U, F, M, S>(plan, face, point) {
+    'chain: while let Some((a, b)) = split_of::<T>(plan, face, point) {
         if b != '\0' {
-            row = with_char::<U, F>(face, row, b);
+            row = with_char::<T::Unicode, T::Face>(face, row, b);
         }
         point = a;
     }
-    with_char::<U, F>(face, row, point)
+    with_char::<T::Unicode, T::Face>(face, row, point)
 }
 
 /// Whether each character of Full has a glyph, and no run of marks in it is longer than 32.
-fn is_supported<U, F, M, S>(
-    plan: &hb_ot_shape_plan_t<'_, S, M::Map, S::Data>,
-    face: &F,
+fn is_supported<T: ShapingTypes>(
+    plan: &PlanOf<'_, T>,
+    face: &T::Face,
     infos: &[hb_glyph_info_t],
 ) -> bool
-where
-    U: hb_unicode_funcs_t,
-    F: hb_font_t,
-    M: hb_ot_layout_t<F>,
-    S: hb_ot_shaper_t<U, F, M>,
-    ensures { let rules = ⟦<S as Runs<U, F, M>>⟧.rules plan.now face.now in
+    ensures { let rules = ⟦<T as Meaning>⟧.rules plan.now face.now in
         result ≡ is_supported_text rules infos.now }
 {
     let mut row = 0;
     let mut left = infos;
     'items: while let Some((info, before)) = left.split_last() {
-        let Some(next) = with_full::<U, F, M, S>(plan, face, Some(row), info.codepoint) else {
+        let Some(next) = with_full::<T>(plan, face, Some(row), info.codepoint) else {
             return false;
         };
         row = next;
@@ -116,21 +107,16 @@ fn are_plain<U: hb_unicode_funcs_t>(infos: &[hb_glyph_info_t]) -> bool
 }
 
 /// Whether the mode decomposes fully, and no hook reorders marks.
-fn is_full<U, F, M, S>(plan: &hb_ot_shape_plan_t<'_, S, M::Map, S::Data>) -> bool
-where
-    U: hb_unicode_funcs_t,
-    F: hb_font_t,
-    M: hb_ot_layout_t<F>,
-    S: hb_ot_shaper_t<U, F, M>,
-    ensures { (face : F) → let rules = ⟦<S as Runs<U, F, M>>⟧.rules plan.now face in
+fn is_full<T: ShapingTypes>(plan: &PlanOf<'_, T>) -> bool
+    ensures { (face : T.Face) → let rules = ⟦<T as Meaning>⟧.rules plan.now face in
         result ≡ is_full_mode rules.short && not (is_some rules.reorder) }
 {
-    let short = goes_short::<U, F, M, S>(plan, true) || goes_short::<U, F, M, S>(plan, false);
-    let reorders = reorders_marks::<U, F, M, S>(plan);
+    let short = goes_short::<T>(plan, true) || goes_short::<T>(plan, false);
+    let reorders = reorders_marks::<T>(plan);
     !short && !reorders
 }
 
-/// Whether a text, prepared for normalising, meets the premises of canonical form, but for those that a
+/// Whether a text, prepared for normalising, meets the premises of canonical form, except for those that a
 /// shaper's hooks owe ([`crate::laws::hooks_not_given_are_lawful`] has them of hooks that aren't given):
 /// the mode decomposes fully, no hook reorders marks, items are as they were prepared, there is no
 /// variation selector, a mark stands past the first character, and in the full decomposition each
@@ -152,24 +138,19 @@ where
     ensures { let rules = ⟦<S as Runs<U, F, M>>⟧.rules plan.now face.now in
         HasLawfulHooks rules → IsTrue result ↔ CanonicalFormPremises rules buffer.now }
 {
-    have_premises::<U, F, M, S>(plan, face, buffer.infos())
+    have_premises::<TypesOf<U, F, M, S>>(plan, face, buffer.infos())
 }
 
 /// Whether the items of a text meet them.
-fn have_premises<U, F, M, S>(
-    plan: &hb_ot_shape_plan_t<'_, S, M::Map, S::Data>,
-    face: &F,
+fn have_premises<T: ShapingTypes>(
+    plan: &PlanOf<'_, T>,
+    face: &T::Face,
     infos: &[hb_glyph_info_t],
 ) -> bool
-where
-    U: hb_unicode_funcs_t,
-    F: hb_font_t,
-    M: hb_ot_layout_t<F>,
-    S: hb_ot_shaper_t<U, F, M>,
-    ensures { result ≡ meets_premises (⟦<S as Runs<U, F, M>>⟧.rules plan.now face.now) infos.now }
+    ensures { result ≡ meets_premises (⟦<T as Meaning>⟧.rules plan.now face.now) infos.now }
 {
-    is_full::<U, F, M, S>(plan)
-        && are_plain::<U>(infos)
+    is_full::<T>(plan)
+        && are_plain::<T::Unicode>(infos)
         && has_mark_past_first(infos)
-        && is_supported::<U, F, M, S>(plan, face, infos)
+        && is_supported::<T>(plan, face, infos)
 }

@@ -21,8 +21,8 @@ ghost use Rattle.shape_plan.specs.Rules.{has_glyph};
 use crate::ot_shape_normalize::round_one::part_of;
 use shape_buffer::buffer::{ScratchFlags, ShapeError, hb_buffer_t, hb_glyph_info_t};
 use shape_buffer::interfaces::{hb_font_t, hb_ot_layout_t, hb_unicode_funcs_t};
-use shape_plan::ot_shape_plan::hb_ot_shape_plan_t;
-use shape_plan::ot_shaper::{Runs, hb_ot_shaper_t};
+use shape_plan::ot_shaper::hb_ot_shaper_t;
+use shape_plan::shaping_types::{Meaning, PlanOf, ShapingTypes};
 use std::alloc::{AllocError, Global};
 
 /// An item that was put out, and the place where it stood.
@@ -46,42 +46,32 @@ struct Recomposed {
 }
 
 /// What two characters compose to: the hook's where it is given and the plan keeps the shaper, else Unicode's.
-fn compose_of<U, F, M, S>(
-    plan: &hb_ot_shape_plan_t<'_, S, M::Map, S::Data>,
-    face: &F,
+fn compose_of<T: ShapingTypes>(
+    plan: &PlanOf<'_, T>,
+    face: &T::Face,
     a: char,
     b: char,
 ) -> Option<char>
-where
-    U: hb_unicode_funcs_t,
-    F: hb_font_t,
-    M: hb_ot_layout_t<F>,
-    S: hb_ot_shaper_t<U, F, M>,
-    ensures { result ≡ (⟦<S as Runs<U, F, M>>⟧.rules plan.now face.now).compose a b }
+    ensures { result ≡ (⟦<T as Meaning>⟧.rules plan.now face.now).compose a b }
 {
     match plan.shaper() {
-        Some(shaper) if S::HAS_COMPOSE => shaper.compose(plan, face, a, b),
-        _ => U::compose(a, b),
+        Some(shaper) if T::Shaper::HAS_COMPOSE => shaper.compose(plan, face, a, b),
+        _ => T::Unicode::compose(a, b),
     }
 }
 
 /// What two characters compose to, where the face has a glyph for it.
-fn compose_with_glyph_of<U, F, M, S>(
-    plan: &hb_ot_shape_plan_t<'_, S, M::Map, S::Data>,
-    face: &F,
+fn compose_with_glyph_of<T: ShapingTypes>(
+    plan: &PlanOf<'_, T>,
+    face: &T::Face,
     a: char,
     b: char,
 ) -> Option<char>
-where
-    U: hb_unicode_funcs_t,
-    F: hb_font_t,
-    M: hb_ot_layout_t<F>,
-    S: hb_ot_shaper_t<U, F, M>,
     ensures { result ≡ compose_with_glyph
-        (⟦<S as Runs<U, F, M>>⟧.rules plan.now face.now).compose
-        (has_glyph (F.face face.now).nominal_glyph) a b }
+        (⟦<T as Meaning>⟧.rules plan.now face.now).compose
+        (has_glyph (T.Face.face face.now).nominal_glyph) a b }
 {
-    compose_of::<U, F, M, S>(plan, face, a, b).filter(|&c| face.has_glyph(c))
+    compose_of::<T>(plan, face, a, b).filter(|&c| face.has_glyph(c))
 }
 
 /// Whether an item of this ccc is blocked from its starter by marks between them of this greatest ccc, 0
@@ -92,26 +82,21 @@ fn is_blocked(greatest: u8, ccc: u8) -> bool
     greatest > 0 && ccc <= greatest
 }
 
-/// The character that a starter makes with an item behind it, past marks of this greatest ccc, where the two
+/// The character that a starter makes with an item after it, past marks of this greatest ccc, where the two
 /// compose.
-fn composed_of<U, F, M, S>(
-    plan: &hb_ot_shape_plan_t<'_, S, M::Map, S::Data>,
-    face: &F,
+fn composed_of<T: ShapingTypes>(
+    plan: &PlanOf<'_, T>,
+    face: &T::Face,
     starter: &PlacedInfo,
     greatest: u8,
     next: &PlacedInfo,
 ) -> Option<char>
-where
-    U: hb_unicode_funcs_t,
-    F: hb_font_t,
-    M: hb_ot_layout_t<F>,
-    S: hb_ot_shaper_t<U, F, M>,
-    ensures { result ≡ composed_char (⟦<S as Runs<U, F, M>>⟧.rules plan.now face.now)
+    ensures { result ≡ composed_char (⟦<T as Meaning>⟧.rules plan.now face.now)
         starter.now greatest next.now }
 {
     let ccc = next.info._hb_glyph_info_get_modified_combining_class();
     if next.info._hb_glyph_info_is_unicode_mark() && !is_blocked(greatest, ccc) {
-        compose_with_glyph_of::<U, F, M, S>(plan, face, starter.info.codepoint, next.info.codepoint)
+        compose_with_glyph_of::<T>(plan, face, starter.info.codepoint, next.info.codepoint)
     } else {
         None
     }
@@ -150,28 +135,23 @@ impl PlacedInfo {
 }
 
 /// Walks over the items: each mark that composes goes into its starter, and all else is put out.
-fn recompose_all<U, F, M, S>(
+fn recompose_all<T: ShapingTypes>(
     alloc: Global,
-    plan: &hb_ot_shape_plan_t<'_, S, M::Map, S::Data>,
-    face: &F,
+    plan: &PlanOf<'_, T>,
+    face: &T::Face,
     infos: &[hb_glyph_info_t],
     scratch_flags: ScratchFlags,
 ) -> Result<Recomposed, AllocError>
-where
-    U: hb_unicode_funcs_t,
-    F: hb_font_t,
-    M: hb_ot_layout_t<F>,
-    S: hb_ot_shaper_t<U, F, M>,
     ensures out { IfOk result (λ r. r.out.items ≡ map placed_info (recomposed_items
-        (⟦<S as Runs<U, F, M>>⟧.rules plan.now face.now) infos.now)) }
+        (⟦<T as Meaning>⟧.rules plan.now face.now) infos.now)) }
     ensures spans { IfOk result (λ r. r.spans.items ≡ chained_spans (recomposed_items
-        (⟦<S as Runs<U, F, M>>⟧.rules plan.now face.now) infos.now)) }
+        (⟦<T as Meaning>⟧.rules plan.now face.now) infos.now)) }
     ensures flags { IfOk result (λ r. r.scratch_flags
-        ≡ seen_chars U.unicode scratch_flags (composed_chars (recomposed_items
-        (⟦<S as Runs<U, F, M>>⟧.rules plan.now face.now) infos.now))) }
+        ≡ seen_chars T.Unicode.unicode scratch_flags (composed_chars (recomposed_items
+        (⟦<T as Meaning>⟧.rules plan.now face.now) infos.now))) }
 {
     let mut walk = Recomposed {
-        out: Vec::new(alloc),
+        out: Vec::with_capacity(alloc, infos.len())?,
         spans: Vec::new(alloc),
         scratch_flags,
     };
@@ -191,9 +171,13 @@ where
             place,
         };
         let at = walk.out[starter];
-        if let Some(c) = composed_of::<U, F, M, S>(plan, face, &at, greatest, &next) {
+        if let Some(c) = composed_of::<T>(plan, face, &at, greatest, &next) {
             walk.spans.push((from, place + 1))?;
-            walk.out[starter] = at.with_char::<U, F>(face, c, &mut walk.scratch_flags);
+            walk.out[starter] = at.with_char::<T::Unicode, T::Face>(
+                face,
+                c,
+                &mut walk.scratch_flags,
+            );
             from = place;
             continue;
         }
@@ -229,30 +213,19 @@ fn all_at_their_places(
 
 /// Composes marks with their starters. Refuses with `Memory` where a growth was refused; the settings that
 /// clearing keeps are then as they were.
-pub(crate) fn recompose<U, F, M, S>(
+pub(crate) fn recompose<T: ShapingTypes>(
     alloc: Global,
-    plan: &hb_ot_shape_plan_t<'_, S, M::Map, S::Data>,
+    plan: &PlanOf<'_, T>,
     buffer: &mut hb_buffer_t,
-    face: &F,
+    face: &T::Face,
 ) -> Result<(), ShapeError>
-where
-    U: hb_unicode_funcs_t,
-    F: hb_font_t,
-    M: hb_ot_layout_t<F>,
-    S: hb_ot_shaper_t<U, F, M>,
     requires { length buffer.old.items ≤ limit_of buffer.old }
     ensures ok { OnOk result (buffer.new
-        ≡ round_three (⟦<S as Runs<U, F, M>>⟧.rules plan.now face.now) buffer.old) }
+        ≡ round_three (⟦<T as Meaning>⟧.rules plan.now face.now) buffer.old) }
     ensures memory { IsOkUnless result ShapeError.Memory }
     ensures settings { cleared buffer.new ≡ cleared buffer.old }
 {
-    let recomposed = recompose_all::<U, F, M, S>(
-        alloc,
-        plan,
-        face,
-        buffer.infos(),
-        buffer.scratch_flags(),
-    )?;
+    let recomposed = recompose_all::<T>(alloc, plan, face, buffer.infos(), buffer.scratch_flags())?;
     buffer.merge_spans_out(&recomposed.spans);
     let infos = all_at_their_places(alloc, &recomposed.out, buffer.infos())?;
     buffer.replace_infos(infos)?;

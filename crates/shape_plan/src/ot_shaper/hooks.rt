@@ -196,7 +196,7 @@ pub trait pause_hook<S, D, U: hb_unicode_funcs_t, F, M: hb_ot_layout_t<F>> {
             buffer.old buffer.new result };
 }
 
-/// Requests the features of a script: behind variations, the forms of a direction, fractions, alternates
+/// Requests the features of a script: after variations, the forms of a direction, fractions, alternates
 /// at random and tracking, and before the features of every text, those of a direction and the user's.
 pub trait collect_features_hook<S> {
     /// What is requested, by the builder as it stands, the direction and the script.

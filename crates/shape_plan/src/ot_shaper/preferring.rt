@@ -46,7 +46,7 @@ impl Preference for Decomposed {
     ghost lawful = { refl };
 }
 
-/// A character with marks behind it is split as far as the face allows, and composed with them again;
+/// A character with marks after it is split as far as the face allows, and composed with them again;
 /// every other one is split only where the face lacks it.
 pub struct ComposedDiacritics;
 
@@ -58,7 +58,7 @@ impl Preference for ComposedDiacritics {
     ghost lawful = { refl };
 }
 
-/// Every character is split as far as the face allows, and composed again with the marks behind it.
+/// Every character is split as far as the face allows, and composed again with the marks after it.
 pub struct ComposedDiacriticsNoShortCircuit;
 
 impl Preference for ComposedDiacriticsNoShortCircuit {

@@ -2,8 +2,8 @@
 //!
 //! An engine is to run lookups in the order of the features that asked for them, so the order of the
 //! requests is their meaning: variations of the face come before everything, a direction's forms and
-//! fractions before a script's features, those of every text and of a direction behind them, the user's
-//! behind these, and what a shaper overrides last, where it wins. Each function here appends one row of
+//! fractions before a script's features, those of every text and of a direction after them, the user's
+//! after these, and what a shaper overrides last, where it wins. Each function here appends one row of
 //! the order to a builder; what it appends stands in its contract.
 ghost use Rattle.std.specs.Prelude.{◌≡◌, OnOk, IsOkUnless, map};
 ghost use Rattle.shape_buffer.specs.MapBuilder.{with_requests};
@@ -37,6 +37,9 @@ use shape_buffer::interfaces::{
 };
 use std::alloc::Global;
 
+/// As many requests as a planner makes for a text of any direction, without those of hooks and of the user.
+pub(crate) const MOST_WITHOUT_HOOKS: usize = 27;
+
 /// The features of every text.
 const COMMON_FEATURES: [(hb_tag_t, hb_ot_map_feature_flags_t); 7] = [
     (tags::ABVM, F_GLOBAL),
@@ -59,7 +62,7 @@ const HORIZONTAL_FEATURES: [(hb_tag_t, hb_ot_map_feature_flags_t); 7] = [
     (tags::RCLT, F_GLOBAL),
 ];
 
-/// Variations, and a pause behind them.
+/// Variations, and a pause after them.
 fn add_variations(builder: &mut hb_ot_map_builder_t) -> Result<(), ShapeError>
     ensures ok { OnOk result (builder.new ≡ with_requests builder.old variations) }
     ensures memory { IsOkUnless result ShapeError.Memory }
@@ -159,7 +162,7 @@ where
     }
 }
 
-/// Two features of faces that come behind a script's own.
+/// Two features of faces that come after a script's own.
 fn add_behind_script(builder: &mut hb_ot_map_builder_t) -> Result<(), ShapeError>
     ensures ok { OnOk result (builder.new ≡ with_requests builder.old behind_script) }
     ensures memory { IsOkUnless result ShapeError.Memory }
@@ -224,7 +227,7 @@ fn add_user_features(
     Ok(())
 }
 
-/// All that comes behind a script's own features. Where the user asks for some the builder is no longer
+/// All that comes after a script's own features. Where the user asks for some the builder is no longer
 /// simple.
 pub(crate) fn widen(
     builder: &mut hb_ot_map_builder_t,

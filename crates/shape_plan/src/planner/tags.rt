@@ -37,10 +37,10 @@ pub const HARF: hb_tag_t = hb_tag_t(0x4861_7266);
 /// Before a script's own features, as a rule at choice. The letters are `HARF`.
 pub const HARF_DISCRETIONARY: hb_tag_t = hb_tag_t(0x4841_5246);
 
-/// Behind a script's own features, as a rule on. The letters are `Buzz`.
+/// After a script's own features, as a rule on. The letters are `Buzz`.
 pub const BUZZ: hb_tag_t = hb_tag_t(0x4275_7A7A);
 
-/// Behind a script's own features, as a rule at choice. The letters are `BUZZ`.
+/// After a script's own features, as a rule at choice. The letters are `BUZZ`.
 pub const BUZZ_DISCRETIONARY: hb_tag_t = hb_tag_t(0x4255_5A5A);
 
 /// Marks above bases. The letters are `abvm`.

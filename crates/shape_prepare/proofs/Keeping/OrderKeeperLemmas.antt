@@ -1,4 +1,4 @@
--- Each step of preparing keeps the order of clusters, but for the native order, which may turn it.
+-- Each step of preparing keeps the order of clusters, except for the native order, which may turn it.
 use Rattle.std.proofs.Common.{◌≡◌, ℕ, ◌+◌, ◌-◌, ◌<◌, ◌≤◌, ◌==◌, ◌&&◌, ◌||◌, Bool, true, false, not, List, [], ◌∷◌, Option, Some, None, length, map, fold, reverse, refl, sym, ap, ◌∙◌, arith, inl, inr, subst, bit_and}
 use Rattle.std.proofs.lemmas.Bool.{cases_Bool}
 use Rattle.std.proofs.lemmas.Bool.Decides.{nat_tests}

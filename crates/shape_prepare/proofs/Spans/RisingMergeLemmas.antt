@@ -15,7 +15,7 @@ use Rattle.shape_buffer.specs.GraphemeSpans.{spans_from}
 use Rattle.shape_prepare.specs.NativeOrder.{parted}
 use Rattle.shape_prepare.proofs.Spans.TurnLemmas.{total}
 
--- what a merge leaves: the span in the cluster of its first item, what stands before it as it was, and behind it that cluster or the old
+-- what a merge leaves: the span in the cluster of its first item, what stands before it as it was, and after it that cluster or the old
 -- one
 pub record Spread (start end : ℕ) (xs ys : List Item) : Type 0 where
   pub below : (k : ℕ) → k < start → cluster_at ys k ≡ cluster_at xs k

@@ -101,7 +101,7 @@ pub reverse_spans : (spans : List (ℕ × ℕ)) (b : Buffer)
 reverse_spans [] b = refl
 reverse_spans (span ∷ spans) b = reverse_spans spans (reverse_span span.0 span.1 b)
 
--- a part that was turned in place changes nothing behind it
+-- a part that was turned in place changes nothing after it
 pub behind-reversed : {A B : Type 0} (f : A → B) (start end : ℕ) (xs : List A) → start ≤ end → end ≤ length xs
     → drop end (map f (reversed_range start end xs)) ≡ drop end (map f xs)
 behind-reversed {A} f start end xs le within =

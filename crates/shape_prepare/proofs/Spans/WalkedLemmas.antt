@@ -13,7 +13,7 @@ use Rattle.shape_prepare.specs.declared.grapheme_walk.GraphemeChange.TheVariants
 use Rattle.shape_buffer.proofs.MergingInOrder.GraphemeWalkLemmas.{walk-spans, walk_ends, walk_goes_on, left_to_do, IsKey-continuation}
 use Rattle.shape_prepare.proofs.Spans.TurnLemmas.{behind-reversed, length-reversed_range}
 
--- what is done with a span changes no bit behind it, nor how many items there are, nor the limit
+-- what is done with a span changes no bit after it, nor how many items there are, nor the limit
 pub record LeavesRest (f : ℕ → ℕ → Buffer → Buffer) : Type 0 where
   pub bits : (start end : ℕ) (b : Buffer) → start ≤ end → end ≤ length b.items
       → drop end (map is_continuation (f start end b).items) ≡ drop end (map is_continuation b.items)

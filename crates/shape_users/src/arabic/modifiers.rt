@@ -102,7 +102,7 @@ fn move_modifiers(buffer: &mut hb_buffer_t, ccc: u8, other: u8, start: usize, en
     count
 }
 
-/// The modifier marks below the letter step to the front, then those above it behind them.
+/// The modifier marks below the letter step to the front, then those above it after them.
 pub fn reorder_modifiers(buffer: &mut hb_buffer_t, start: usize, end: usize)
     requires ordered { start ≤ end }
     requires within { end ≤ length buffer.old.items }

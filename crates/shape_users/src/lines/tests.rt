@@ -1,4 +1,4 @@
-//! Places of a cut in a letter with its accent and a letter behind it.
+//! Places of a cut in a letter with its accent and a letter after it.
 use crate::lines::may_cut;
 use crate::shaping::{face_of, shaped};
 use shape_buffer::buffer::{BufferClusterLevel, UnicodeBuffer};

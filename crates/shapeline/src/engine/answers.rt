@@ -14,7 +14,7 @@ use shape_pipeline::ot_shape::{hb_ot_shape_context_t, prepare_text};
 use shape_pipeline::ot_shape_normalize::{_hb_ot_shape_normalize, normalized_equal};
 use shape_pipeline::ot_shape_plan::hb_ot_shape_plan_t;
 use shape_pipeline::ot_shaper::hb_ot_shaper_t;
-use shape_pipeline::shape::shape_with_plan;
+use shape_pipeline::shape_with_plan;
 use std::alloc::Global;
 
 /// Sets a text's direction and script by guessing, where they aren't set.

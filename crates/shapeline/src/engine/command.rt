@@ -15,6 +15,7 @@ pub enum Command {
     Flags,
     Text,
     Same,
+    Lines,
 }
 
 impl Command {
@@ -31,6 +32,7 @@ impl Command {
             "flags" => Some(Command::Flags),
             "text" => Some(Command::Text),
             "same" => Some(Command::Same),
+            "lines" => Some(Command::Lines),
             _ => None,
         }
     }

@@ -31,7 +31,23 @@ pub fn append_glyphs(
     lines.push('\n')
 }
 
-/// Appends one glyph, behind a space.
+/// Appends a line of a text's line, which shows the text from one cluster up to another: its glyphs, each with
+/// its cluster.
+pub fn append_line(
+    lines: &mut String,
+    text_start: u32,
+    text_end: u32,
+    items: &[hb_glyph_info_t],
+) -> Result<(), AllocError> {
+    write!(lines, "line {text_start}-{text_end}")?;
+    for item in items {
+        let (glyph, cluster) = (item.glyph_id, item.cluster);
+        write!(lines, " {glyph}@{cluster}")?;
+    }
+    lines.push('\n')
+}
+
+/// Appends one glyph, after a space.
 fn append_glyph(
     lines: &mut String,
     item: &hb_glyph_info_t,

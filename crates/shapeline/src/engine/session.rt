@@ -12,7 +12,7 @@ ghost use Rattle.shapeline.specs.Words.{words as words_of};
 use crate::engine::command::Command;
 use crate::engine::mode::Mode;
 use crate::engine::outcome::Outcome;
-use crate::engine::{same, settings, text};
+use crate::engine::{lines, same, settings, text};
 use crate::parse::Words;
 use shape_buffer::buffer::{BufferClusterLevel, BufferFlags, Direction};
 use shape_buffer::interfaces::MapFace;
@@ -127,6 +127,7 @@ impl Session {
             Command::Flags => self.set_flags(words),
             Command::Text => text::answer(alloc, &self.face, self.manner, words, writer),
             Command::Same => same::answer(alloc, &self.face, self.manner, words, writer),
+            Command::Lines => lines::answer(alloc, &self.face, self.manner, words, writer),
         }
     }
 

@@ -1,4 +1,4 @@
-//! What the words behind the first one of a line set.
+//! What the words after the first one of a line set.
 //!
 //! Each function reads all words of its line and refuses a line that has others; none takes memory.
 ghost use Rattle.std.specs.Prelude.{MatchOption};

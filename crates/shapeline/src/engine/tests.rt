@@ -1,6 +1,8 @@
 //! Lines with what they answer, and runs whose reader or writer fails at one of its calls.
 
+mod cuts;
 mod lines;
+mod long_runs;
 mod modes;
 mod orders;
 mod printed;
@@ -40,7 +42,7 @@ pub(super) fn expect_run(
     assert_eq!(rt; answer, status, "for {rest:?}");
 }
 
-/// Runs the program on two inputs in a row, and compares its output but for the lines that begin with these.
+/// Runs the program on two inputs in a row, and compares its output except for the lines that begin with these.
 pub(super) fn expect_besides(
     rt: &impl Abort,
     alloc: Global,
@@ -66,7 +68,7 @@ pub(super) fn expect_besides(
     Ok(())
 }
 
-/// Runs the program on two inputs in a row, and compares its output but for prepared texts and glyphs.
+/// Runs the program on two inputs in a row, and compares its output except for prepared texts and glyphs.
 pub(super) fn expect_normal(
     rt: &impl Abort,
     alloc: Global,

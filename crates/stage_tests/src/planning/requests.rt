@@ -232,6 +232,7 @@ fn builder_calls(rt: HostRuntime) -> Result<(), Fail> {
     let mut builder = hb_ot_map_builder_t::new::<Bits, BitLayout>(rt.alloc(), &Bits(0), None, None);
     builder.add_feature(hb_tag_t::from_bytes(b"liga"), 4, 5)?;
     builder.enable_feature(hb_tag_t::from_bytes(b"kern"), 2, 1)?;
+    builder.reserve(1)?;
     builder.disable_feature(hb_tag_t::from_bytes(b"clig"))?;
     builder.add_gsub_pause(Some(7))?;
     let wanted = [

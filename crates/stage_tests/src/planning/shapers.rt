@@ -71,7 +71,7 @@ impl<U: hb_unicode_funcs_t, F: hb_font_t, M: hb_ot_layout_t<F>> script_shaper<U,
     ghost lawful_zero_width = { refl };
 }
 
-/// Is made for script 2, wants nothing for marks, asks for feature 3 and pause 9 behind it, turns feature 4
+/// Is made for script 2, wants nothing for marks, asks for feature 3 and pause 9 after it, turns feature 4
 /// on for each syllable at last, and keeps how many features the user asks for.
 #[derive(Clone, Copy, Debug)]
 pub struct ScriptShaper;

@@ -38,7 +38,7 @@ where
     Ok(lists)
 }
 
-/// Behind a base with a mark, as texts are normalised here.
+/// After a base with a mark, as texts are normalised here.
 fn behind_base(alloc: Global, text: &str) -> Result<String, Fail> {
     let mut whole = String::new(alloc);
     for c in BASE_WITH_MARK {

@@ -6,7 +6,7 @@ use shape_buffer::buffer::{Direction, GlyphBuffer, Script, UnicodeBuffer, hb_tag
 use shape_buffer::interfaces::{NoLookups, hb_unicode_funcs_t, hb_unicode_general_category_t};
 use shape_pipeline::ot_shape_plan::hb_ot_shape_plan_t;
 use shape_pipeline::ot_shaper::DEFAULT_SHAPER;
-use shape_pipeline::shape::shape_with_plan;
+use shape_pipeline::shape_with_plan;
 use shape_unicode::UnicodeDatabase;
 use std::alloc::Global;
 use std::process::Abort;

@@ -11,7 +11,7 @@ impl hb_glyph_info_t {
     pub fn _hb_glyph_info_get_glyph_class(&self) -> GlyphPropsFlags
         ensures { result ≡ self.now.properties.glyph_class }
     {
-        self.properties.glyph_class
+        self.properties.glyph_class()
     }
 
     /// Sets the flags of the glyph's class, and nothing else. Bits that [`GlyphPropsFlags`] doesn't define
@@ -25,14 +25,14 @@ impl hb_glyph_info_t {
                   };
             } }
     {
-        self.properties.glyph_class = GlyphPropsFlags(glyph_class.0 & 14);
+        self.properties.set_glyph_class(glyph_class);
     }
 
     /// Reads the substituted bit, of glyphs that a lookup has put in. That of a new item is unset.
     pub fn _hb_glyph_info_get_substituted(&self) -> bool
         ensures { result ≡ self.now.properties.substituted }
     {
-        self.properties.substituted
+        self.properties.substituted()
     }
 
     /// Sets or unsets the substituted bit, and nothing else.
@@ -42,21 +42,21 @@ impl hb_glyph_info_t {
               properties = record self.old.properties { substituted = substituted };
             } }
     {
-        self.properties.substituted = substituted;
+        self.properties.set_substituted(substituted);
     }
 
     /// Whether a glyph stands for a default ignorable: its bit is set, and no lookup has put the glyph in.
     pub fn _hb_glyph_info_is_default_ignorable(&self) -> bool
         ensures { result ≡ is_ignorable_item self.now }
     {
-        self.properties.ignorable && !self.properties.substituted
+        self.properties.ignorable() && !self.properties.substituted()
     }
 
     /// Reads the ligated bit, of ligatures that a lookup made. That of a new item is unset.
     pub fn _hb_glyph_info_get_ligated(&self) -> bool
         ensures { result ≡ self.now.properties.ligated }
     {
-        self.properties.ligated
+        self.properties.ligated()
     }
 
     /// Sets or unsets the ligated bit, and nothing else.
@@ -64,14 +64,14 @@ impl hb_glyph_info_t {
         ensures { self.new
             ≡ record self.old { properties = record self.old.properties { ligated = ligated } } }
     {
-        self.properties.ligated = ligated;
+        self.properties.set_ligated(ligated);
     }
 
     /// Reads the number of the ligature that the glyph is or belongs to. That of a new item is 0, for none.
     pub fn _hb_glyph_info_get_ligature_id(&self) -> u8
         ensures { result ≡ self.now.properties.ligature_id }
     {
-        self.properties.ligature_id
+        self.properties.ligature_id()
     }
 
     /// Sets the number of the ligature that the glyph is or belongs to, and nothing else.
@@ -81,14 +81,14 @@ impl hb_glyph_info_t {
               properties = record self.old.properties { ligature_id = ligature_id };
             } }
     {
-        self.properties.ligature_id = ligature_id;
+        self.properties.set_ligature_id(ligature_id);
     }
 
     /// Reads the component of the ligature that a mark belongs to. That of a new item is 0, for none.
     pub fn _hb_glyph_info_get_ligature_component(&self) -> u8
         ensures { result ≡ self.now.properties.ligature_component }
     {
-        self.properties.ligature_component
+        self.properties.ligature_component()
     }
 
     /// Sets the component of the ligature that a mark belongs to, and nothing else.
@@ -98,14 +98,14 @@ impl hb_glyph_info_t {
               properties = record self.old.properties { ligature_component = ligature_component };
             } }
     {
-        self.properties.ligature_component = ligature_component;
+        self.properties.set_ligature_component(ligature_component);
     }
 
     /// Reads how many components a ligature has. A new item has 1.
     pub fn _hb_glyph_info_get_number_of_components(&self) -> u8
         ensures { result ≡ self.now.properties.number_of_components }
     {
-        self.properties.number_of_components
+        self.properties.number_of_components()
     }
 
     /// Sets how many components a ligature has, and nothing else.
@@ -116,6 +116,7 @@ impl hb_glyph_info_t {
                   record self.old.properties { number_of_components = number_of_components };
             } }
     {
-        self.properties.number_of_components = number_of_components;
+        self.properties
+            .set_number_of_components(number_of_components);
     }
 }

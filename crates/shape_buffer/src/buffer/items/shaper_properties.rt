@@ -8,7 +8,7 @@ impl hb_glyph_info_t {
     pub fn _hb_glyph_info_get_syllable(&self) -> u8
         ensures { result ≡ self.now.properties.syllable }
     {
-        self.properties.syllable
+        self.properties.syllable()
     }
 
     /// Sets the syllable that a script shaper counts the item to, and nothing else.
@@ -16,14 +16,14 @@ impl hb_glyph_info_t {
         ensures { self.new
             ≡ record self.old { properties = record self.old.properties { syllable = syllable } } }
     {
-        self.properties.syllable = syllable;
+        self.properties.set_syllable(syllable);
     }
 
     /// Reads the script shaper's own category. That of a new item is 0.
     pub fn _hb_glyph_info_get_shaper_category(&self) -> u8
         ensures { result ≡ self.now.properties.shaper_category }
     {
-        self.properties.shaper_category
+        self.properties.shaper_category()
     }
 
     /// Sets the script shaper's own category, and nothing else.
@@ -33,14 +33,14 @@ impl hb_glyph_info_t {
               properties = record self.old.properties { shaper_category = shaper_category };
             } }
     {
-        self.properties.shaper_category = shaper_category;
+        self.properties.set_shaper_category(shaper_category);
     }
 
     /// Reads the script shaper's auxiliary byte. That of a new item is 0.
     pub fn _hb_glyph_info_get_shaper_auxiliary(&self) -> u8
         ensures { result ≡ self.now.properties.shaper_auxiliary }
     {
-        self.properties.shaper_auxiliary
+        self.properties.shaper_auxiliary()
     }
 
     /// Sets the script shaper's auxiliary byte, and nothing else.
@@ -50,6 +50,6 @@ impl hb_glyph_info_t {
               properties = record self.old.properties { shaper_auxiliary = shaper_auxiliary };
             } }
     {
-        self.properties.shaper_auxiliary = shaper_auxiliary;
+        self.properties.set_shaper_auxiliary(shaper_auxiliary);
     }
 }

@@ -1,18 +1,20 @@
 //! Calls that change which items there are, or their order: positions go with their items.
 ghost use Rattle.std.specs.Prelude.{◌≡◌, ◌<◌, ◌≤◌, ◌^◌, ◌↔◌, [], ◌∷◌, ◌++◌, length, insert, remove};
-ghost use Rattle.std.specs.Prelude.{reverse, swap, replicate, vec_len, IsErrOf, IsOkUnless, OnOk};
+ghost use Rattle.std.specs.Prelude.{All, reverse, swap, replicate, vec_len, IsErrOf, IsOkUnless, OnOk};
 ghost use Rattle.std.specs.Prelude.{OnErr};
+ghost use Rattle.std.specs.List.Sorted.{IsNonDecreasing};
 ghost use Rattle.shape_buffer.specs.Buffer.{limit_of};
+ghost use Rattle.shape_buffer.specs.Clusters.{clusters};
 ghost use Rattle.shape_buffer.specs.Items.{new_item};
 ghost use Rattle.shape_buffer.specs.Positions.{zero_position};
-ghost use Rattle.shape_buffer.specs.Text.{text_items};
+ghost use Rattle.shape_buffer.specs.Text.{text_items, numbered_from, IsFirstByte};
 ghost use Rattle.shape_buffer.specs.declared.buffer.error.ShapeError.TheVariants.{Length};
 
 use crate::buffer::error::ShapeError;
 use crate::buffer::items::hb_glyph_info_t;
 use crate::buffer::positions::GlyphPosition;
 use crate::buffer::storage::hb_buffer_t;
-use crate::buffer::text::append_text;
+use crate::buffer::text::{append_text, number_clusters};
 use std::alloc::AllocError;
 
 impl hb_buffer_t {
@@ -127,8 +129,12 @@ impl hb_buffer_t {
         }) }
         ensures memory { IsOkUnless result ShapeError.Memory }
         ensures err { OnErr result (self.new ≡ self.old) }
+        ensures clusters { IsNonDecreasing (clusters (text_items text.now))
+            × All (λ item. item.cluster < length text.now) (text_items text.now) }
+        ensures first { All (IsFirstByte text.now) (text_items text.now) }
     {
         let before = self.infos.len();
+        self.reserve(text.chars().count())?;
         let mut outcome = append_text(&mut self.infos, text);
         if outcome.is_ok() {
             outcome = make_room(&mut self.run_starts, self.infos.len());
@@ -144,9 +150,30 @@ impl hb_buffer_t {
         outcome?;
         Ok(())
     }
+
+    /// Makes room for so many more items.
+    pub(crate) fn reserve(&mut self, additional: usize) -> Result<(), ShapeError>
+        ensures same { self.new ≡ self.old }
+        ensures memory { IsOkUnless result ShapeError.Memory }
+    {
+        let count = self.infos.len().saturating_add(additional);
+        make_room(&mut self.run_starts, count)?;
+        self.positions.reserve(additional)?;
+        self.infos.reserve(additional)?;
+        Ok(())
+    }
+
+    /// Puts each item in the cluster of its place.
+    pub(crate) fn reset_clusters(&mut self)
+        ensures { self.new ≡ record self.old { items = numbered_from 0 self.old.items } }
+    {
+        number_clusters(self.infos.as_mut_slice());
+    }
 }
 
-/// Sets every position to zeros.
+/// Sets every position to zeros. A call of its own: where LLVM inlines it into a large function, the loop does not
+/// become one fill of memory.
+#[inline(never)]
 pub(super) fn zero_positions(positions: &mut [GlyphPosition])
     ensures { positions.new ≡ replicate (length positions.old) zero_position }
 {

@@ -2,6 +2,7 @@
 ghost use Rattle.std.specs.Prelude.{◌≡◌};
 ghost use Rattle.shape_buffer.specs.Guess.{guessed, guessed_script, guessed_direction};
 ghost use Rattle.shape_buffer.specs.Guess.{first_script as first_script_of, script_or_ltr};
+ghost use Rattle.shape_buffer.specs.Guess.{direction_or};
 
 use crate::buffer::items::hb_glyph_info_t;
 use crate::buffer::settings::{Direction, Script};
@@ -26,7 +27,18 @@ impl hb_buffer_t {
         if self.direction != Direction::Invalid {
             return self.direction;
         }
-        native_direction::<U>(self.guessed_script::<U>())
+        self.direction_by::<U>(self.guessed_script::<U>())
+    }
+
+    /// The direction of the text as guessing would set it, where its guessed script is known: the one that is
+    /// set, else that of the script, else left to right. The characters aren't gone over again.
+    pub fn direction_by<U: hb_unicode_funcs_t>(&self, script: Option<Script>) -> Direction
+        ensures { result ≡ direction_or self.now.direction (script_or_ltr U.unicode script) }
+    {
+        if self.direction != Direction::Invalid {
+            return self.direction;
+        }
+        native_direction::<U>(script)
     }
 
     /// Sets script and direction by guessing, where they aren't set.
@@ -34,7 +46,7 @@ impl hb_buffer_t {
         ensures { self.new ≡ guessed U.unicode self.old }
     {
         let script = self.guessed_script::<U>();
-        let direction = self.guessed_direction::<U>();
+        let direction = self.direction_by::<U>(script);
         self.script = script;
         self.direction = direction;
     }

@@ -99,7 +99,7 @@ impl hb_buffer_t {
     }
 
     /// Merges the clusters of each grapheme, as one call of `merge_clusters` after the other would; at level
-    /// CHARACTERS nothing changes. A grapheme is an item with the continuations directly behind it. Takes no
+    /// CHARACTERS nothing changes. A grapheme is an item with the continuations directly after it. Takes no
     /// memory; the time is in step with the list, whatever the clusters are (measured, not proved).
     pub fn merge_graphemes(&mut self)
         ensures merged { self.new
@@ -143,7 +143,7 @@ impl hb_buffer_t {
         }
     }
 
-    /// Marks the items from `start` up to `end` unsafe to break and to concat, but for those of their
+    /// Marks the items from `start` up to `end` unsafe to break and to concat, except for those of their
     /// least cluster, and sets the scratch flag HAS_GLYPH_FLAGS. A span of fewer than two items changes
     /// nothing. The time is in step with the span (measured, not proved).
     pub fn unsafe_to_break(&mut self, start: usize, end: usize)

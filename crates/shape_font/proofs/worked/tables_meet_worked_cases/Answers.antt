@@ -1,4 +1,4 @@
-use Rattle.shape_font.specs.WorkedTables.{worked_numbers, worked_directory, worked_subtables}
+use Rattle.shape_font.specs.WorkedTables.{worked_numbers, worked_directory, worked_collections, worked_subtables}
 use Rattle.shape_font.proofs.worked.tables_meet_worked_cases.Goals as goal
 
 pub returns-clause-numbers : goal.returns-clause-numbers
@@ -6,6 +6,9 @@ returns-clause-numbers c = worked_numbers
 
 pub returns-clause-directory : goal.returns-clause-directory
 returns-clause-directory c = worked_directory
+
+pub returns-clause-collections : goal.returns-clause-collections
+returns-clause-collections c = worked_collections
 
 pub returns-clause-subtables : goal.returns-clause-subtables
 returns-clause-subtables c = worked_subtables

@@ -4,27 +4,27 @@
 //! of U+0020, or the invisible glyph, and remembers how wide it is; U+2011 that of U+2010. No shaper has a
 //! say in that, so the functions for one item that stays whole state it by the rules without a shaper.
 ghost use Rattle.std.specs.Prelude.{◌≡◌, ◌<◌, ◌≤◌, [], ◌∷◌, ◌++◌, length, map, reverse, vec_len};
-ghost use Rattle.std.specs.Prelude.{if◌then◌else◌, OnOk, Err};
+ghost use Rattle.std.specs.Prelude.{if◌then◌else◌, OnOk, IfOk, IfSome, IfNone, Err, None};
 ghost use Rattle.shape_buffer.specs.UnicodeProps.{with_scratch_of};
 ghost use Rattle.shape_plan.specs.Rules.{rules_without_shaper};
 ghost use Rattle.shape_normalize.specs.RoundOne.{part_item, remembers_space as remembers_space_of};
-ghost use Rattle.shape_normalize.specs.RoundOne.{whole_item, expanded_item, seen_chars};
+ghost use Rattle.shape_normalize.specs.RoundOne.{whole_item as whole_item_of, expanded_item};
 ghost use Rattle.shape_normalize.specs.RoundOne.{with_space_fallback, seen_expanded};
 ghost use Rattle.shape_normalize.specs.RoundOne.{glyph_index as glyph_index_of};
 ghost use Rattle.shape_normalize.specs.RoundOne.{space_glyph as space_glyph_of};
 ghost use Rattle.shape_normalize.specs.RoundOne.{is_fallback_space as is_fallback_space_of};
 ghost use Rattle.shape_normalize.specs.RoundOne.{fallback_index as fallback_index_of};
-ghost use Rattle.shape_normalize.specs.RoundOne.{item_glyph as item_glyph_of};
+ghost use Rattle.shape_normalize.specs.OneWalk.{with_part as with_part_of, seen_parts};
 
-use crate::ot_shape_normalize::decompose::{Expansion, decompose};
+use crate::ot_shape_normalize::decompose::{Expansion, Part, decompose};
 use bitflags::Flags;
 use shape_buffer::buffer::{
     GlyphId, ScratchFlags, ShapeError, hb_glyph_info_t, hb_unicode_general_category_t,
 };
 use shape_buffer::interfaces::space_types::NOT_SPACE;
 use shape_buffer::interfaces::{hb_font_t, hb_ot_layout_t, hb_unicode_funcs_t};
-use shape_plan::ot_shape_plan::hb_ot_shape_plan_t;
-use shape_plan::ot_shaper::{Runs, hb_ot_shaper_t};
+use shape_plan::ot_shaper::hb_ot_shaper_t;
+use shape_plan::shaping_types::{Meaning, PlanOf, ShapingTypes};
 use std::alloc::{AllocError, Global};
 
 const SPACE: char = ' ';
@@ -43,6 +43,22 @@ fn glyph_index<F: hb_font_t>(face: &F, c: char) -> u32
     }
 }
 
+/// A copy of an item with the character and the glyph of a part, and the properties of that character.
+fn with_part<U: hb_unicode_funcs_t>(
+    info: &hb_glyph_info_t,
+    part: Part,
+    scratch_flags: &mut ScratchFlags,
+) -> hb_glyph_info_t
+    ensures item { result ≡ with_part_of U.unicode info.now part }
+    ensures flags { scratch_flags.new ≡ with_scratch_of U.unicode part.c scratch_flags.old }
+{
+    let mut copy = *info;
+    copy.codepoint = part.c;
+    copy.glyph_index = part.glyph;
+    copy.init_unicode_props::<U>(scratch_flags);
+    copy
+}
+
 /// A copy of an item with another character, its glyph, and the properties of that character.
 pub(crate) fn part_of<U: hb_unicode_funcs_t, F: hb_font_t>(
     face: &F,
@@ -53,11 +69,8 @@ pub(crate) fn part_of<U: hb_unicode_funcs_t, F: hb_font_t>(
     ensures item { result ≡ part_item U.unicode (F.face face.now).nominal_glyph info.now c }
     ensures flags { scratch_flags.new ≡ with_scratch_of U.unicode c scratch_flags.old }
 {
-    let mut part = *info;
-    part.codepoint = c;
-    part.glyph_index = glyph_index(face, c);
-    part.init_unicode_props::<U>(scratch_flags);
-    part
+    let glyph = glyph_index(face, c);
+    with_part::<U>(info, Part { c, glyph }, scratch_flags)
 }
 
 /// The glyph that stands in for a space: that of U+0020, else the invisible one.
@@ -108,31 +121,92 @@ fn fallback_index<U: hb_unicode_funcs_t, F: hb_font_t>(
     0
 }
 
-/// The index of the glyph of an item: that of its character, else that of what stands in for it.
-fn item_glyph<U: hb_unicode_funcs_t, F: hb_font_t>(
+/// An item that keeps its character, for which the face has no glyph.
+fn lacking_item<U: hb_unicode_funcs_t, F: hb_font_t>(
     face: &F,
     info: &hb_glyph_info_t,
     invisible: Option<GlyphId>,
-) -> u32
-    ensures { result
-        ≡ item_glyph_of (rules_without_shaper U.unicode (F.face face.now)) invisible info.now }
+    scratch_flags: &mut ScratchFlags,
+) -> hb_glyph_info_t
+    requires { (F.face face.now).nominal_glyph info.now.codepoint ≡ None }
+    ensures item { result
+        ≡ whole_item_of (rules_without_shaper U.unicode (F.face face.now)) invisible info.now }
+    ensures flags { scratch_flags.new ≡ (if remembers_space_of
+        (rules_without_shaper U.unicode (F.face face.now)) invisible info.now
+        then with_space_fallback scratch_flags.old else scratch_flags.old) }
 {
-    match face.get_nominal_glyph(info.codepoint) {
-        Some(GlyphId(glyph)) => glyph,
-        None => fallback_index::<U, F>(face, info, invisible),
+    let mut whole = *info;
+    whole.glyph_index = fallback_index::<U, F>(face, info, invisible);
+    let is_space = is_fallback_space::<U, F>(face, info, invisible);
+    if is_space {
+        whole._hb_glyph_info_set_space_type(U::space_fallback(info.codepoint));
+        scratch_flags.insert(ScratchFlags::HAS_SPACE_FALLBACK);
     }
+    whole
 }
 
-/// Whether an item is to remember how wide a space it is, for a glyph that stands in for it.
-fn remembers_space<U: hb_unicode_funcs_t, F: hb_font_t>(
+/// An item that keeps its character, with its glyph, or what stands in for that.
+fn kept_item<U: hb_unicode_funcs_t, F: hb_font_t>(
     face: &F,
     info: &hb_glyph_info_t,
     invisible: Option<GlyphId>,
-) -> bool
-    ensures { result
-        ≡ remembers_space_of (rules_without_shaper U.unicode (F.face face.now)) invisible info.now }
+    scratch_flags: &mut ScratchFlags,
+) -> hb_glyph_info_t
+    ensures item { result
+        ≡ whole_item_of (rules_without_shaper U.unicode (F.face face.now)) invisible info.now }
+    ensures flags { scratch_flags.new ≡ (if remembers_space_of
+        (rules_without_shaper U.unicode (F.face face.now)) invisible info.now
+        then with_space_fallback scratch_flags.old else scratch_flags.old) }
 {
-    !face.has_glyph(info.codepoint) && is_fallback_space::<U, F>(face, info, invisible)
+    if let Some(GlyphId(glyph)) = face.get_nominal_glyph(info.codepoint) {
+        let mut whole = *info;
+        whole.glyph_index = glyph;
+        return whole;
+    }
+    lacking_item::<U, F>(face, info, invisible, scratch_flags)
+}
+
+/// The item with its glyph, where it keeps its character; none where it expands, and then `expansion` is
+/// what it becomes. The face is asked once about an item that has a glyph and keeps it.
+pub(crate) fn unexpanded<T: ShapingTypes>(
+    plan: &PlanOf<'_, T>,
+    face: &T::Face,
+    info: &hb_glyph_info_t,
+    shortest: bool,
+    invisible: Option<GlyphId>,
+    expansion: &mut Expansion,
+    scratch_flags: &mut ScratchFlags,
+) -> Result<Option<hb_glyph_info_t>, AllocError>
+    ensures item { IfOk result (λ found. IfSome found (λ whole. expanded_item
+        (⟦<T as Meaning>⟧.rules plan.now face.now) invisible shortest info.now ≡ whole ∷ [])) }
+    ensures flags { IfOk result (λ found. IfSome found (λ _. scratch_flags.new ≡ seen_expanded
+        (⟦<T as Meaning>⟧.rules plan.now face.now)
+        invisible shortest scratch_flags.old info.now)) }
+    ensures same { IfOk result (λ found. IfNone found (scratch_flags.new ≡ scratch_flags.old)) }
+    ensures parts { IfOk result (λ found. IfNone found (expanded_item
+        (⟦<T as Meaning>⟧.rules plan.now face.now) invisible shortest info.now
+        ≡ map (with_part_of T.Unicode.unicode info.now)
+        (expansion.new.first ∷ reverse expansion.new.seconds.items))) }
+    ensures seen { IfOk result (λ found. IfNone found (seen_expanded
+        (⟦<T as Meaning>⟧.rules plan.now face.now) invisible shortest scratch_flags.old info.now
+        ≡ seen_parts T.Unicode.unicode scratch_flags.old
+        (expansion.new.first ∷ reverse expansion.new.seconds.items))) }
+{
+    if !shortest {
+        if decompose::<T>(plan, face, info.codepoint, false, expansion)? {
+            return Ok(None);
+        }
+        return Ok(Some(kept_item::<T::Unicode, T::Face>(face, info, invisible, scratch_flags)));
+    }
+    if let Some(GlyphId(glyph)) = face.get_nominal_glyph(info.codepoint) {
+        let mut whole = *info;
+        whole.glyph_index = glyph;
+        return Ok(Some(whole));
+    }
+    if decompose::<T>(plan, face, info.codepoint, true, expansion)? {
+        return Ok(None);
+    }
+    Ok(Some(lacking_item::<T::Unicode, T::Face>(face, info, invisible, scratch_flags)))
 }
 
 /// The items that were put out, and the scratch flags that their characters show.
@@ -140,116 +214,86 @@ fn remembers_space<U: hb_unicode_funcs_t, F: hb_font_t>(
 pub(crate) struct Expanded {
     pub(crate) infos: Vec<hb_glyph_info_t>,
     pub(crate) scratch_flags: ScratchFlags,
+    /// Room for what an item becomes.
+    pub(crate) expansion: Expansion,
 }
 
 impl Expanded {
-    /// Puts out an item of an expansion: a copy with another character.
-    fn put_part<U: hb_unicode_funcs_t, F: hb_font_t>(
+    /// Puts out an item of an expansion.
+    fn put_part<U: hb_unicode_funcs_t>(
         &mut self,
-        face: &F,
         info: &hb_glyph_info_t,
-        c: char,
+        part: Part,
     ) -> Result<(), AllocError>
         ensures infos { OnOk result (self.new.infos.items
-            ≡ self.old.infos.items ++ part_item U.unicode (F.face face.now).nominal_glyph info.now c
-            ∷ []) }
+            ≡ self.old.infos.items ++ with_part_of U.unicode info.now part ∷ []) }
         ensures flags { OnOk result (self.new.scratch_flags
-            ≡ with_scratch_of U.unicode c self.old.scratch_flags) }
+            ≡ with_scratch_of U.unicode part.c self.old.scratch_flags) }
+        ensures expansion { self.new.expansion ≡ self.old.expansion }
     {
-        let part = part_of::<U, F>(face, info, c, &mut self.scratch_flags);
-        self.infos.push(part)?;
+        let copy = with_part::<U>(info, part, &mut self.scratch_flags);
+        self.infos.push(copy)?;
         Ok(())
     }
 
-    /// Puts out items of an expansion, from the last of these characters to the first.
-    fn put_seconds<U: hb_unicode_funcs_t, F: hb_font_t>(
-        &mut self,
-        face: &F,
-        info: &hb_glyph_info_t,
-        mut chars: Vec<char>,
-    ) -> Result<(), AllocError>
-        ensures infos { OnOk result (self.new.infos.items
-            ≡ self.old.infos.items
-            ++ map (part_item U.unicode (F.face face.now).nominal_glyph info.now)
-            (reverse chars.items)) }
-        ensures flags { OnOk result (self.new.scratch_flags
-            ≡ seen_chars U.unicode self.old.scratch_flags (reverse chars.items)) }
-    {
-        while let Some(c) = chars.pop() {
-            self.put_part::<U, F>(face, info, c)?;
-        }
-        Ok(())
-    }
-
-    /// Puts out an item that keeps its character.
-    fn put_whole<U: hb_unicode_funcs_t, F: hb_font_t>(
-        &mut self,
-        face: &F,
-        info: &hb_glyph_info_t,
-        invisible: Option<GlyphId>,
-    ) -> Result<(), AllocError>
+    /// Puts out the items of the expansion, which keeps no second part.
+    fn put_parts<U: hb_unicode_funcs_t>(&mut self, info: &hb_glyph_info_t) -> Result<(), AllocError>
         ensures infos { OnOk result (self.new.infos.items ≡ self.old.infos.items
-            ++ whole_item (rules_without_shaper U.unicode (F.face face.now)) invisible info.now
-            ∷ []) }
+            ++ map (with_part_of U.unicode info.now)
+            (self.old.expansion.first ∷ reverse self.old.expansion.seconds.items)) }
         ensures flags { OnOk result (self.new.scratch_flags
-            ≡ (if remembers_space_of
-            (rules_without_shaper U.unicode (F.face face.now)) invisible info.now
-            then with_space_fallback self.old.scratch_flags else self.old.scratch_flags)) }
+            ≡ seen_parts U.unicode self.old.scratch_flags
+            (self.old.expansion.first ∷ reverse self.old.expansion.seconds.items)) }
     {
-        let mut whole = *info;
-        whole.glyph_index = item_glyph::<U, F>(face, info, invisible);
-        if remembers_space::<U, F>(face, info, invisible) {
-            whole._hb_glyph_info_set_space_type(U::space_fallback(info.codepoint));
-            self.scratch_flags.insert(ScratchFlags::HAS_SPACE_FALLBACK);
+        self.put_part::<U>(info, self.expansion.first)?;
+        while let Some(part) = self.expansion.seconds.pop() {
+            self.put_part::<U>(info, part)?;
         }
-        self.infos.push(whole)?;
         Ok(())
     }
 
     /// Puts out what an item becomes. Refuses with `Length` where that passes the limit.
-    pub(crate) fn put_item<U, F, M, S>(
+    pub(crate) fn put_item<T: ShapingTypes>(
         &mut self,
-        alloc: Global,
-        plan: &hb_ot_shape_plan_t<'_, S, M::Map, S::Data>,
-        face: &F,
+        plan: &PlanOf<'_, T>,
+        face: &T::Face,
         info: &hb_glyph_info_t,
         shortest: bool,
         invisible: Option<GlyphId>,
         limit: usize,
     ) -> Result<(), ShapeError>
-    where
-        U: hb_unicode_funcs_t,
-        F: hb_font_t,
-        M: hb_ot_layout_t<F>,
-        S: hb_ot_shaper_t<U, F, M>,
         requires { vec_len self.old.infos ≤ limit }
         ensures infos { OnOk result (self.new.infos.items ≡ self.old.infos.items ++ expanded_item
-            (⟦<S as Runs<U, F, M>>⟧.rules plan.now face.now) invisible shortest info.now) }
+            (⟦<T as Meaning>⟧.rules plan.now face.now) invisible shortest info.now) }
         ensures flags { OnOk result (self.new.scratch_flags ≡ seen_expanded
-            (⟦<S as Runs<U, F, M>>⟧.rules plan.now face.now)
+            (⟦<T as Meaning>⟧.rules plan.now face.now)
             invisible shortest self.old.scratch_flags info.now) }
         ensures within { OnOk result (vec_len self.new.infos ≤ limit) }
         ensures length { result ≡ Err ShapeError.Length
             → limit < length (self.old.infos.items ++ expanded_item
-            (⟦<S as Runs<U, F, M>>⟧.rules plan.now face.now) invisible shortest info.now) }
+            (⟦<T as Meaning>⟧.rules plan.now face.now) invisible shortest info.now) }
     {
         let room = limit - self.infos.len();
-        match decompose::<U, F, M, S>(alloc, plan, face, info.codepoint, shortest)? {
-            None => {
-                if room == 0 {
-                    return Err(ShapeError::Length);
-                }
-                self.put_whole::<U, F>(face, info, invisible)?;
-                Ok(())
+        let found = unexpanded::<T>(
+            plan,
+            face,
+            info,
+            shortest,
+            invisible,
+            &mut self.expansion,
+            &mut self.scratch_flags,
+        )?;
+        let Some(whole) = found else {
+            if room <= self.expansion.seconds.len() {
+                return Err(ShapeError::Length);
             }
-            Some(Expansion { first, seconds }) => {
-                if room <= seconds.len() {
-                    return Err(ShapeError::Length);
-                }
-                self.put_part::<U, F>(face, info, first)?;
-                self.put_seconds::<U, F>(face, info, seconds)?;
-                Ok(())
-            }
+            self.put_parts::<T::Unicode>(info)?;
+            return Ok(());
+        };
+        if room == 0 {
+            return Err(ShapeError::Length);
         }
+        self.infos.push(whole)?;
+        Ok(())
     }
 }

@@ -52,7 +52,7 @@ fn mark_selector(info: &mut hb_glyph_info_t, not_found: Option<GlyphId>)
 }
 
 impl Expanded {
-    /// Puts out an item that became one with its selector, and those behind them.
+    /// Puts out an item that became one with its selector, and those after them.
     fn put_variation_sequence<F: hb_font_t>(
         &mut self,
         face: &F,
@@ -72,7 +72,7 @@ impl Expanded {
         Ok(())
     }
 
-    /// Puts out an item, its selector that no glyph came of, and those behind them.
+    /// Puts out an item, its selector that no glyph came of, and those after them.
     fn put_apart<F: hb_font_t>(
         &mut self,
         face: &F,

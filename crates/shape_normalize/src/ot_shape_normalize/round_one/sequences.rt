@@ -32,7 +32,7 @@ fn count_selectors<U: hb_unicode_funcs_t>(infos: &[hb_glyph_info_t]) -> usize
         .count()
 }
 
-/// The first sequence, and the items behind it; nothing where there is no item. The first item may be a mark
+/// The first sequence, and the items after it; nothing where there is no item. The first item may be a mark
 /// itself.
 pub(super) fn first_sequence(
     infos: &[hb_glyph_info_t],
@@ -44,7 +44,7 @@ pub(super) fn first_sequence(
     Some(infos.split_at(1 + count_marks(behind)))
 }
 
-/// The first item with the variation selectors directly after it, and the items behind them; nothing where
+/// The first item with the variation selectors directly after it, and the items after them; nothing where
 /// there is no item. The first item may be a selector itself.
 pub(super) fn first_variant<U: hb_unicode_funcs_t>(
     infos: &[hb_glyph_info_t],
@@ -64,7 +64,7 @@ pub(super) fn is_with_marks(sequence: &[hb_glyph_info_t]) -> bool
 }
 
 /// Whether one of these items is a variation selector.
-fn holds_selector<U: hb_unicode_funcs_t>(infos: &[hb_glyph_info_t]) -> bool
+pub(crate) fn holds_selector<U: hb_unicode_funcs_t>(infos: &[hb_glyph_info_t]) -> bool
     ensures { result ≡ list_any (is_selector_item U.unicode) infos.now }
 {
     infos

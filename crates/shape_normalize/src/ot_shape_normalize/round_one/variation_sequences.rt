@@ -1,4 +1,4 @@
-//! Items that become one with the variation selector behind them: their clusters are merged first.
+//! Items that become one with the variation selector after them: their clusters are merged first.
 ghost use Rattle.std.specs.Prelude.{◌≡◌, ◌+◌, ◌<◌, ◌^◌, ◌++◌, length, IfOk, OnOk, OnErr};
 ghost use Rattle.shape_buffer.specs.Spans.{all_merged};
 ghost use Rattle.shape_normalize.specs.RoundOne.{sequences, variants, variation_sequences_from};
@@ -21,7 +21,7 @@ fn variation_sequence_glyph<F: hb_font_t>(face: &F, part: &[hb_glyph_info_t]) ->
     face.glyph_variation_index(info.codepoint, selector.codepoint)
 }
 
-/// Adds the spans of the items of a sequence that become one with the selector behind them.
+/// Adds the spans of the items of a sequence that become one with the selector after them.
 fn push_variation_sequences<U: hb_unicode_funcs_t, F: hb_font_t>(
     face: &F,
     start: usize,
@@ -44,7 +44,7 @@ fn push_variation_sequences<U: hb_unicode_funcs_t, F: hb_font_t>(
     Ok(())
 }
 
-/// The spans of all items that become one with the selector behind them. Takes no memory where there are
+/// The spans of all items that become one with the selector after them. Takes no memory where there are
 /// none.
 fn variation_sequences<U: hb_unicode_funcs_t, F: hb_font_t>(
     alloc: Global,
@@ -67,7 +67,7 @@ fn variation_sequences<U: hb_unicode_funcs_t, F: hb_font_t>(
     Ok(spans)
 }
 
-/// Merges the clusters of each item that becomes one with the selector behind it, and of that selector.
+/// Merges the clusters of each item that becomes one with the selector after it, and of that selector.
 pub(super) fn merge_variation_sequences<U: hb_unicode_funcs_t, F: hb_font_t>(
     alloc: Global,
     face: &F,

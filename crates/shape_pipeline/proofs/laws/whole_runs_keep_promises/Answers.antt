@@ -1,6 +1,7 @@
 use Rattle.std.proofs.Common.{refl}
 use Rattle.shape_normalize.proofs.Hooks.RulesLemmas.{used_reorder-lawful}
 use Rattle.shape_plan.specs.Run.{run_of}
+use Rattle.shape_pipeline.proofs.CanonicalLemmas.{list_is_canonical}
 use Rattle.shape_pipeline.proofs.FlagRunLemmas.{flags-run_made}
 use Rattle.shape_pipeline.proofs.OrderLemmas.{clusters-run_made}
 use Rattle.shape_pipeline.proofs.RunLemmas.{normal_form}
@@ -26,3 +27,10 @@ returns-clause-form g c = λ text.
     let shaper = g.S.hb_ot_shaper_t in
     let lawful = used_reorder-lawful shaper.hooks g.met.S.hb_ot_shaper_t.lawful_hooks shaper.constants.has_reorder_marks c.args.plan.now c.args.face.now in
     normal_form _ lawful g.met.U.hb_unicode_funcs_t.lawful text
+
+pub returns-clause-canonical : goal.returns-clause-canonical
+returns-clause-canonical g c = λ text.
+    let shaper = g.S.hb_ot_shaper_t in
+    let layout = g.M.hb_ot_layout_t in
+    list_is_canonical g.U.hb_unicode_funcs_t.unicode layout.masks layout.lookups shaper.constants shaper.hooks g.F.hb_font_t.face
+    c.args.plan.now c.args.face.now g.met.U.hb_unicode_funcs_t.lawful text

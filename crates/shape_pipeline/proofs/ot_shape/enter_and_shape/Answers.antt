@@ -7,5 +7,5 @@ use Rattle.shape_pipeline.proofs.ot_shape.enter_and_shape.Goals as goal
 
 pub returns : goal.returns
 returns g c =
-    let run = run_of g.U.hb_unicode_funcs_t.unicode g.M.hb_ot_layout_t.masks g.M.hb_ot_layout_t.lookups g.S.hb_ot_shaper_t.constants g.S.hb_ot_shaper_t.hooks g.F.hb_font_t.face c.args.plan.now c.args.face.now in
+    let run = run_of g.T.Unicode.hb_unicode_funcs_t.unicode g.T.Engine.hb_ot_layout_t.masks g.T.Engine.hb_ot_layout_t.lookups g.T.Shaper.hb_ot_shaper_t.constants g.T.Shaper.hb_ot_shaper_t.hooks g.T.Face.hb_font_t.face c.args.plan.now c.args.face.now in
     subst (λ (b : Buffer). RunOutcome (all_steps run c.args.target) b c.shape_entered.new.buffer c.shape_entered.result) c.enter.ensures c.shape_entered.ensures

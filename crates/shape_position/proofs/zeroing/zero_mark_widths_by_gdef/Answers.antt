@@ -1,4 +1,4 @@
-use Rattle.std.proofs.Common.{◌≡◌, rules, ap, arith}
+use Rattle.std.proofs.Common.{◌≡◌, ap, arith}
 use Rattle.std.specs.Prelude.{◌&&◌}
 use Rattle.shape_buffer.specs.Direction.{is_forward}
 use Rattle.shape_buffer.specs.PositionWalks.{positions_mapped}
@@ -18,5 +18,5 @@ returns c =
           (arith, w.adjust-is, w.is_forward-adjust.ensures, w.direction.ensures)
       | else-adjust_offsets w ↦ grind (arith, w.adjust-is)
     ] in
-    Made-as (marks_zeroed c.args.adjust_offsets) (c.update_positions.ensures (zeroed_mark adjust) (λ x p q said. search rules))
+    Made-as (marks_zeroed c.args.adjust_offsets) c.zero_marks.ensures
     (ap (λ a. positions_mapped (zeroed_mark a) c.args.buffer.now) is)

@@ -27,28 +27,27 @@ loop-i-preserved g c =
     let i = c.loop-i.i in
     let b = c.loop-i.buffer in
     let x = c.index-infos-i.result in
-    let y = c.mark_continuation-before.new.info in
+    let y = c.mark_item-before.new.info in
     let before = c.loop-i.before in
-    let seen = c.init_unicode_props.new.scratch_flags in
+    let seen = c.mark_item-before.new.scratch_flags in
     let props = with_unicode_props unicode x in
     let size : length b.items ≡ length c.args.buffer.now.items = c.loop-i.invariant.as_many in
     let within : i < length b.items = omega arith in
     let read : x ≡ get_or b.items i x = c.index-infos-i.is ∙ ap (λ xs. get_or xs i x) c.infos.ensures in
     let here : drop i b.items ≡ x ∷ drop (i + 1) b.items = drop_more b.items i x within ∙ ap (λ z. z ∷ drop (i + 1) b.items) (sym read) in
-    let wrote = c.mark_continuation-before.ensures.item
-    ∙ ap (λ (z : Item). with_continuation (continues unicode before z) z) c.init_unicode_props.ensures.item in
-    let next = c.mark_continuation-before.ensures.next ∙ ap (is_to_next unicode before) c.init_unicode_props.ensures.item in
+    let wrote = c.mark_item-before.ensures.item in
+    let next = c.mark_item-before.ensures.next in
     let step = walk_step (marking unicode before) (marking unicode (is_to_next unicode before props)) i b x
     (with_continuation (continues unicode before props) props) within read refl in
     record {
       as_many = grind (arith, common_steps);
-      items = ap (with_rest (marking unicode c.mark_continuation-before.result) (i + 1)) c.set_info.ensures
+      items = ap (with_rest (marking unicode c.mark_item-before.result) (i + 1)) c.set_info.ensures
           ∙ ap₂ (λ (before : Before) (y : Item). with_rest (marking unicode before) (i + 1)
           (record b { items = set b.items i y })) next wrote
           ∙ step ∙ c.loop-i.invariant.items;
       flags = ap (λ (b : Buffer). fold (seen_item unicode) seen (drop (i + 1) b.items)) c.set_info.ensures
           ∙ ap (fold (seen_item unicode) seen) (drop-set-lt (i + 1) b.items i y (omega arith))
-          ∙ ap (λ s. fold (seen_item unicode) s (drop (i + 1) b.items)) c.init_unicode_props.ensures.flags
+          ∙ ap (λ s. fold (seen_item unicode) s (drop (i + 1) b.items)) c.mark_item-before.ensures.flags
           ∙ sym (ap (fold (seen_item unicode) c.loop-i.scratch_flags) here)
           ∙ c.loop-i.invariant.flags;
     }

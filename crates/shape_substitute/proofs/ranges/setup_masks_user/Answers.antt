@@ -13,5 +13,5 @@ returns g c =
     let all : take c.loop-feature.feature-index features ≡ features = take_all c.loop-feature.feature-index features (omega arith) in
     let P : List Feature
     → Type 0 = λ some. Made (λ b. fold (range_masked
-    (g.M.hb_ot_layout_t.masks c.args.plan.now.ot_map)) b some) c.args.buffer.now c.loop-feature.buffer in
+    (g.T.Engine.hb_ot_layout_t.masks c.args.plan.now.ot_map)) b some) c.args.buffer.now c.loop-feature.buffer in
     subst P all c.loop-feature.invariant

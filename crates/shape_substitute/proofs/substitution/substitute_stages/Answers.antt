@@ -11,6 +11,6 @@ stages-preserved g c = rw add-one (Ran-then c.stages.invariant c.in_ok-substitut
 pub returns-in_err-substitute_stage : goal.returns-in_err-substitute_stage
 returns-in_err-substitute_stage g c =
     let p = err_from_is_err_and c.from_residual.result c.from_residual.ensures.1 in
-    let run = run_of g.U.hb_unicode_funcs_t.unicode g.M.hb_ot_layout_t.masks g.M.hb_ot_layout_t.lookups g.S.hb_ot_shaper_t.constants g.S.hb_ot_shaper_t.hooks g.F.hb_font_t.face c.args.plan.now c.args.face.now in
-    rw (p.1, p.2) (Refused-stages run c.stages.i (g.M.hb_ot_layout_t.masks c.args.plan.now.ot_map).stages (omega arith)
+    let run = run_of g.T.Unicode.hb_unicode_funcs_t.unicode g.T.Engine.hb_ot_layout_t.masks g.T.Engine.hb_ot_layout_t.lookups g.T.Shaper.hb_ot_shaper_t.constants g.T.Shaper.hb_ot_shaper_t.hooks g.T.Face.hb_font_t.face c.args.plan.now c.args.face.now in
+    rw (p.1, p.2) (Refused-stages run c.stages.i (g.T.Engine.hb_ot_layout_t.masks c.args.plan.now.ot_map).stages (omega arith)
     (Refused-after c.stages.invariant c.in_err-substitute_stage.ensures))

@@ -6,4 +6,4 @@ use Rattle.shape_substitute.proofs.substitution.substitute_stages.Given as goal
 -- the stages so far have run
 abbrev pub invariant-stages : goal.invariant-stages
 invariant-stages g l =
-    Ran (stage_steps (run_of g.U.hb_unicode_funcs_t.unicode g.M.hb_ot_layout_t.masks g.M.hb_ot_layout_t.lookups g.S.hb_ot_shaper_t.constants g.S.hb_ot_shaper_t.hooks g.F.hb_font_t.face l.plan l.face) l.i) l.fn.buffer l.buffer
+    Ran (stage_steps (run_of g.T.Unicode.hb_unicode_funcs_t.unicode g.T.Engine.hb_ot_layout_t.masks g.T.Engine.hb_ot_layout_t.lookups g.T.Shaper.hb_ot_shaper_t.constants g.T.Shaper.hb_ot_shaper_t.hooks g.T.Face.hb_font_t.face l.plan l.face) l.i) l.fn.buffer l.buffer

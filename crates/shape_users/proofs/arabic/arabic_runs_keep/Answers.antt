@@ -6,9 +6,11 @@ use Rattle.shape_users.proofs.arabic.arabic_runs_keep.Goals as goal
 
 pub returns-clause-clusters : goal.returns-clause-clusters
 returns-clause-clusters g c = λ plan face keep.
-    c.hooks_not_given_keep.ensures.clusters plan face (inl refl) keep
+    c.given_hooks_keep.ensures.clusters plan face
+    (λ shaper. record { preprocess = inl refl; setup_masks = inl refl; postprocess = inl refl; pause = inl refl }) keep
     (shaper-keeps modifiers_reordered modifiers_keep_runs _ (λ shaper. refl) plan.shaper)
 
 pub returns-clause-flags : goal.returns-clause-flags
 returns-clause-flags g c = λ plan face.
-    c.hooks_not_given_keep.ensures.flags plan face (inl refl)
+    c.given_hooks_keep.ensures.flags plan face
+    (λ shaper. record { preprocess = inl refl; setup_masks = inl refl; postprocess = inl refl; pause = inl refl })

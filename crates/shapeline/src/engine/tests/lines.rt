@@ -143,7 +143,7 @@ fn each_line_sets_one_thing(rt: HostRuntime) -> Result<(), Fail> {
             b"text 61 301 323\n",
             b"normal 0061@0 0323@3 0301@1\n",
         ),
-        // A comment behind spaces says nothing.
+        // A comment after spaces says nothing.
         (
             PARTS,
             b"mode 1\n  # mode 0\ntext C2\n",

@@ -258,7 +258,7 @@ fn compositions_through_the_library(rt: HostRuntime) -> Result<(), Fail> {
     ];
     let face = ['e', '\u{301}', '\u{323}', '\u{1eb9}', '\u{e9}'];
     expect_items(&rt, alloc, mode, &face, &rows)?;
-    // The merging that goes with composing reaches the mark behind, which shares a cluster.
+    // The merging that goes with composing reaches the mark after it, which shares a cluster.
     let face = ['e', '\u{301}', '\u{323}', '\u{1eb9}'];
     expect_items(&rt, alloc, mode, &face, &[(parts, dot_first)])?;
     let acute_first: &[(char, u32, u32)] = &[('\u{e9}', 0xe9, 0), ('\u{323}', 0x323, 0)];

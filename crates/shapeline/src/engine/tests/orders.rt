@@ -111,7 +111,7 @@ fn orders_through_the_library(rt: HostRuntime) -> Result<(), Fail> {
     Ok(())
 }
 
-/// The second character after shaping one with so many marks of ccc 230, and one of ccc 220 behind them.
+/// The second character after shaping one with so many marks of ccc 230, and one of ccc 220 after them.
 fn second_of_many(alloc: Global, marks: usize) -> Result<Option<char>, Fail> {
     let mut text = Vec::new(alloc);
     text.resize(marks, '\u{301}')?;

@@ -1,4 +1,4 @@
-//! Classes, splits and composites: every entry, and the characters right before and behind.
+//! Classes, splits and composites: every entry, and the characters right before and after.
 
 use crate::unicode_tables::UnicodeTables;
 use shape_buffer::interfaces::hb_unicode_funcs_t;

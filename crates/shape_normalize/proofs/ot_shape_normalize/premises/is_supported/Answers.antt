@@ -9,8 +9,8 @@ use Rattle.shape_normalize.proofs.ot_shape_normalize.premises.is_supported.Goals
 
 pub returns-in_default-with_full : goal.returns-in_default-with_full
 returns-in_default-with_full g c =
-    let shaper = g.S.hb_ot_shaper_t in
-    let rules = rules_of g.U.hb_unicode_funcs_t.unicode shaper.constants shaper.hooks g.F.hb_font_t.face c.args.plan.now c.args.face.now in
+    let shaper = g.T.Shaper.hb_ot_shaper_t in
+    let rules = rules_of g.T.Unicode.hb_unicode_funcs_t.unicode shaper.constants shaper.hooks g.T.Face.hb_font_t.face c.args.plan.now c.args.face.now in
     let refused = row_before-last_refused (decompositions rules) (has_glyph rules.face.nominal_glyph)
     c.items.left.now c.in-Some.before.now c.in-Some.info.now (Some c.items.row)
     c.in-Some.ensures.cases.0 (sym c.with_full.ensures ∙ c.in_default-with_full.is) in
@@ -18,8 +18,8 @@ returns-in_default-with_full g c =
 
 pub items-preserved : goal.items-preserved
 items-preserved g c =
-    let shaper = g.S.hb_ot_shaper_t in
-    let rules = rules_of g.U.hb_unicode_funcs_t.unicode shaper.constants shaper.hooks g.F.hb_font_t.face c.args.plan.now c.args.face.now in
+    let shaper = g.T.Shaper.hb_ot_shaper_t in
+    let rules = rules_of g.T.Unicode.hb_unicode_funcs_t.unicode shaper.constants shaper.hooks g.T.Face.hb_font_t.face c.args.plan.now c.args.face.now in
     let glyph = has_glyph rules.face.nominal_glyph in
     c.items.invariant
     ∙ row_before-last (decompositions rules) glyph c.items.left.now c.in-Some.before.now c.in-Some.info.now
@@ -29,8 +29,8 @@ items-preserved g c =
 
 pub returns : goal.returns
 returns g c =
-    let shaper = g.S.hb_ot_shaper_t in
-    let rules = rules_of g.U.hb_unicode_funcs_t.unicode shaper.constants shaper.hooks g.F.hb_font_t.face c.args.plan.now c.args.face.now in
+    let shaper = g.T.Shaper.hb_ot_shaper_t in
+    let rules = rules_of g.T.Unicode.hb_unicode_funcs_t.unicode shaper.constants shaper.hooks g.T.Face.hb_font_t.face c.args.plan.now c.args.face.now in
     let none = row_before-none (decompositions rules) (has_glyph rules.face.nominal_glyph) c.items.left.now (Some c.items.row)
     c.in_default.ensures.cases in
     sym (ap is_some (c.items.invariant ∙ none))

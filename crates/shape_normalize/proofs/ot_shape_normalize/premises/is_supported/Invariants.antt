@@ -8,8 +8,8 @@ use Rattle.shape_normalize.proofs.ot_shape_normalize.premises.is_supported.Given
 -- what Full of the items left gives in front of the row is what Full of all gives
 abbrev pub invariant-items : goal.invariant-items
 invariant-items g l =
-    let shaper = g.S.hb_ot_shaper_t in
-    let rules = rules_of g.U.hb_unicode_funcs_t.unicode shaper.constants shaper.hooks g.F.hb_font_t.face l.plan l.face in
+    let shaper = g.T.Shaper.hb_ot_shaper_t in
+    let rules = rules_of g.T.Unicode.hb_unicode_funcs_t.unicode shaper.constants shaper.hooks g.T.Face.hb_font_t.face l.plan l.face in
     let glyph = has_glyph rules.face.nominal_glyph in
     row_before rules.unicode.ccc glyph (full_text (decompositions rules) (map char_of l.infos)) (Some 0)
     ≡ row_before rules.unicode.ccc glyph (full_text (decompositions rules) (map char_of l.left)) (Some l.row)

@@ -6,10 +6,10 @@ use Rattle.shape_normalize.proofs.ot_shape_normalize.premises.with_full.Goals as
 
 pub chain-preserved-then-b-ne0 : goal.chain-preserved-then-b-ne0
 chain-preserved-then-b-ne0 g c =
-    let shaper = g.S.hb_ot_shaper_t in
-    let rules = rules_of g.U.hb_unicode_funcs_t.unicode shaper.constants shaper.hooks g.F.hb_font_t.face c.args.plan.now c.args.face.now in
-    let falls = FallsAlong-planned g.met.U.hb_unicode_funcs_t.lawful shaper.constants.has_decompose shaper.hooks
-    g.met.S.hb_ot_shaper_t.lawful_hooks c.args.plan.now c.args.face.now in
+    let shaper = g.T.Shaper.hb_ot_shaper_t in
+    let rules = rules_of g.T.Unicode.hb_unicode_funcs_t.unicode shaper.constants shaper.hooks g.T.Face.hb_font_t.face c.args.plan.now c.args.face.now in
+    let falls = FallsAlong-planned g.met.T.Unicode.hb_unicode_funcs_t.lawful shaper.constants.has_decompose shaper.hooks
+    g.met.T.Shaper.hb_ot_shaper_t.lawful_hooks c.args.plan.now c.args.face.now in
     c.chain.invariant
     ∙ row_before-kept (decompositions rules) (has_glyph rules.face.nominal_glyph) falls
     c.chain.point c.in-Some.a c.in-Some.b
@@ -17,10 +17,10 @@ chain-preserved-then-b-ne0 g c =
 
 pub chain-preserved : goal.chain-preserved
 chain-preserved g c =
-    let shaper = g.S.hb_ot_shaper_t in
-    let rules = rules_of g.U.hb_unicode_funcs_t.unicode shaper.constants shaper.hooks g.F.hb_font_t.face c.args.plan.now c.args.face.now in
-    let falls = FallsAlong-planned g.met.U.hb_unicode_funcs_t.lawful shaper.constants.has_decompose shaper.hooks
-    g.met.S.hb_ot_shaper_t.lawful_hooks c.args.plan.now c.args.face.now in
+    let shaper = g.T.Shaper.hb_ot_shaper_t in
+    let rules = rules_of g.T.Unicode.hb_unicode_funcs_t.unicode shaper.constants shaper.hooks g.T.Face.hb_font_t.face c.args.plan.now c.args.face.now in
+    let falls = FallsAlong-planned g.met.T.Unicode.hb_unicode_funcs_t.lawful shaper.constants.has_decompose shaper.hooks
+    g.met.T.Shaper.hb_ot_shaper_t.lawful_hooks c.args.plan.now c.args.face.now in
     c.chain.invariant
     ∙ row_before-dropped (decompositions rules) (has_glyph rules.face.nominal_glyph) falls
     c.chain.point c.in-Some.a c.in-Some.b
@@ -28,10 +28,10 @@ chain-preserved g c =
 
 pub returns : goal.returns
 returns g c =
-    let shaper = g.S.hb_ot_shaper_t in
-    let rules = rules_of g.U.hb_unicode_funcs_t.unicode shaper.constants shaper.hooks g.F.hb_font_t.face c.args.plan.now c.args.face.now in
-    let falls = FallsAlong-planned g.met.U.hb_unicode_funcs_t.lawful shaper.constants.has_decompose shaper.hooks
-    g.met.S.hb_ot_shaper_t.lawful_hooks c.args.plan.now c.args.face.now in
+    let shaper = g.T.Shaper.hb_ot_shaper_t in
+    let rules = rules_of g.T.Unicode.hb_unicode_funcs_t.unicode shaper.constants shaper.hooks g.T.Face.hb_font_t.face c.args.plan.now c.args.face.now in
+    let falls = FallsAlong-planned g.met.T.Unicode.hb_unicode_funcs_t.lawful shaper.constants.has_decompose shaper.hooks
+    g.met.T.Shaper.hb_ot_shaper_t.lawful_hooks c.args.plan.now c.args.face.now in
     c.with_char.ensures
     ∙ sym (c.chain.invariant
     ∙ row_before-whole (decompositions rules) (has_glyph rules.face.nominal_glyph) falls

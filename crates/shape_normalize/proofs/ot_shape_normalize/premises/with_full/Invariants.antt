@@ -6,16 +6,16 @@ use Rattle.shape_plan.specs.Rules.{used_height}
 use Rattle.shape_normalize.specs.PremiseTest.{row_before}
 use Rattle.shape_normalize.proofs.ot_shape_normalize.premises.with_full.Given as goal
 
--- what Full of the point gives behind the row is what Full of the character gives
+-- what Full of the point gives after the row is what Full of the character gives
 abbrev pub invariant-chain : goal.invariant-chain
 invariant-chain g l =
-    let shaper = g.S.hb_ot_shaper_t in
-    let rules = rules_of g.U.hb_unicode_funcs_t.unicode shaper.constants shaper.hooks g.F.hb_font_t.face l.plan l.face in
+    let shaper = g.T.Shaper.hb_ot_shaper_t in
+    let rules = rules_of g.T.Unicode.hb_unicode_funcs_t.unicode shaper.constants shaper.hooks g.T.Face.hb_font_t.face l.plan l.face in
     let glyph = has_glyph rules.face.nominal_glyph in
     row_before rules.unicode.ccc glyph (full (decompositions rules) l.fn.c) l.fn.before
     ≡ row_before rules.unicode.ccc glyph (full (decompositions rules) l.point) l.row
 
 abbrev pub decreases-chain : goal.decreases-chain
 decreases-chain g l =
-    let shaper = g.S.hb_ot_shaper_t in
-    used_height g.U.hb_unicode_funcs_t.unicode shaper.constants.has_decompose (hooks_of shaper.hooks l.plan l.face) l.point
+    let shaper = g.T.Shaper.hb_ot_shaper_t in
+    used_height g.T.Unicode.hb_unicode_funcs_t.unicode shaper.constants.has_decompose (hooks_of shaper.hooks l.plan l.face) l.point

@@ -7,8 +7,8 @@ use Rattle.shape_normalize.proofs.ot_shape_normalize.round_one.expand_all.Given 
 -- with what is left of the list comes what the whole list becomes
 abbrev pub invariant-sequences : goal.invariant-sequences
 invariant-sequences g l =
-    let shaper = g.S.hb_ot_shaper_t in
-    let rules = rules_of g.U.hb_unicode_funcs_t.unicode shaper.constants shaper.hooks g.F.hb_font_t.face l.plan l.face in
+    let shaper = g.T.Shaper.hb_ot_shaper_t in
+    let rules = rules_of g.T.Unicode.hb_unicode_funcs_t.unicode shaper.constants shaper.hooks g.T.Face.hb_font_t.face l.plan l.face in
     let invisible = l.buffer.invisible_glyph in
     let not_found = l.buffer.not_found_variation_selector_glyph in
     record {

@@ -7,8 +7,8 @@ use Rattle.shape_normalize.proofs.ot_shape_normalize.round_three.recompose.Goals
 
 pub merge_spans_out-requires : goal.merge_spans_out-requires
 merge_spans_out-requires g c =
-    let shaper = g.S.hb_ot_shaper_t in
-    let rules = rules_of g.U.hb_unicode_funcs_t.unicode shaper.constants shaper.hooks g.F.hb_font_t.face c.args.plan.now c.args.face.now in
+    let shaper = g.T.Shaper.hb_ot_shaper_t in
+    let rules = rules_of g.T.Unicode.hb_unicode_funcs_t.unicode shaper.constants shaper.hooks g.T.Face.hb_font_t.face c.args.plan.now c.args.face.now in
     record {
       in_order = walked_spans_in_order rules c.args.buffer.now.items c.infos.result.now c.deref.result.now c.infos.ensures
           (c.deref.ensures.value ∙ c.in_ok-recomposed.ensures.spans);
@@ -20,8 +20,8 @@ returns-in_err-infos-clause-settings g c =
 
 pub returns-in_err-replace_infos-clause-memory : goal.returns-in_err-replace_infos-clause-memory
 returns-in_err-replace_infos-clause-memory g c =
-    let shaper = g.S.hb_ot_shaper_t in
-    let rules = rules_of g.U.hb_unicode_funcs_t.unicode shaper.constants shaper.hooks g.F.hb_font_t.face c.args.plan.now c.args.face.now in
+    let shaper = g.T.Shaper.hb_ot_shaper_t in
+    let rules = rules_of g.T.Unicode.hb_unicode_funcs_t.unicode shaper.constants shaper.hooks g.T.Face.hb_font_t.face c.args.plan.now c.args.face.now in
     let merged = c.merge_spans_out.new.self in
     let infos = c.in_ok-infos.infos in
     let walked = c.in_ok-recomposed.ensures in
@@ -40,8 +40,8 @@ returns-in_err-replace_infos-clause-settings g c =
 
 pub returns-clause-ok : goal.returns-clause-ok
 returns-clause-ok g c =
-    let shaper = g.S.hb_ot_shaper_t in
-    let rules = rules_of g.U.hb_unicode_funcs_t.unicode shaper.constants shaper.hooks g.F.hb_font_t.face c.args.plan.now c.args.face.now in
+    let shaper = g.T.Shaper.hb_ot_shaper_t in
+    let rules = rules_of g.T.Unicode.hb_unicode_funcs_t.unicode shaper.constants shaper.hooks g.T.Face.hb_font_t.face c.args.plan.now c.args.face.now in
     let seen = c.in_ok-recomposed.recomposed.scratch_flags in
     let walked = c.in_ok-recomposed.ensures in
     let merged_is = walked_spans_merged rules c.args.buffer.now c.merge_spans_out.new.self c.infos.result.now c.deref.result.now c.infos.ensures (c.deref.ensures.value ∙ walked.spans) c.merge_spans_out.ensures.merged in

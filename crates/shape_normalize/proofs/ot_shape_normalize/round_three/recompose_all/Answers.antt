@@ -6,20 +6,20 @@ use Rattle.shape_normalize.proofs.ot_shape_normalize.round_three.recompose_all.G
 
 pub loop-place-init : goal.loop-place-init
 loop-place-init g c =
-    let shaper = g.S.hb_ot_shaper_t in
-    let rules = rules_of g.U.hb_unicode_funcs_t.unicode shaper.constants shaper.hooks g.F.hb_font_t.face c.args.plan.now c.args.face.now in
-    let none = c.new.ensures.items in
+    let shaper = g.T.Shaper.hb_ot_shaper_t in
+    let rules = rules_of g.T.Unicode.hb_unicode_funcs_t.unicode shaper.constants shaper.hooks g.T.Face.hb_font_t.face c.args.plan.now c.args.face.now in
+    let none = c.in_ok-with_capacity.ensures.items in
     let items = c.in_ok-push.ensures.items in
     record {
       within = omega (arith, c.in_ok-push.ensures.len);
-      walked = rw (items, none, c.new-2.ensures.items)
+      walked = rw (items, none, c.new.ensures.items)
           (IsRecomposedTo-first rules c.args.infos.now c.args.scratch_flags c.in-Some.first.now c.in-Some.ensures.value);
     }
 
 pub loop-place-preserved-in-Some-composed_of : goal.loop-place-preserved-in-Some-composed_of
 loop-place-preserved-in-Some-composed_of g c =
-    let shaper = g.S.hb_ot_shaper_t in
-    let rules = rules_of g.U.hb_unicode_funcs_t.unicode shaper.constants shaper.hooks g.F.hb_font_t.face c.args.plan.now c.args.face.now in
+    let shaper = g.T.Shaper.hb_ot_shaper_t in
+    let rules = rules_of g.T.Unicode.hb_unicode_funcs_t.unicode shaper.constants shaper.hooks g.T.Face.hb_font_t.face c.args.plan.now c.args.face.now in
     record {
       within = c.loop-place.invariant.within;
       walked = rw (c.with_char.ensures.item, c.with_char.ensures.flags, c.in_ok-push-2.ensures.items)
@@ -28,8 +28,8 @@ loop-place-preserved-in-Some-composed_of g c =
 
 pub loop-place-preserved : goal.loop-place-preserved
 loop-place-preserved g c =
-    let shaper = g.S.hb_ot_shaper_t in
-    let rules = rules_of g.U.hb_unicode_funcs_t.unicode shaper.constants shaper.hooks g.F.hb_font_t.face c.args.plan.now c.args.face.now in
+    let shaper = g.T.Shaper.hb_ot_shaper_t in
+    let rules = rules_of g.T.Unicode.hb_unicode_funcs_t.unicode shaper.constants shaper.hooks g.T.Face.hb_font_t.face c.args.plan.now c.args.face.now in
     let none = c.in_default-composed_of.ensures in
     let items = c.in_ok-push-3.ensures.items in
     let len = c.in_ok-push-3.ensures.len in
@@ -57,7 +57,7 @@ loop-place-preserved g c =
 
 pub returns : goal.returns
 returns g c =
-    let shaper = g.S.hb_ot_shaper_t in
-    let rules = rules_of g.U.hb_unicode_funcs_t.unicode shaper.constants shaper.hooks g.F.hb_font_t.face c.args.plan.now c.args.face.now in
+    let shaper = g.T.Shaper.hb_ot_shaper_t in
+    let rules = rules_of g.T.Unicode.hb_unicode_funcs_t.unicode shaper.constants shaper.hooks g.T.Face.hb_font_t.face c.args.plan.now c.args.face.now in
     let all = walked_all rules c.args.infos.now c.args.scratch_flags c.loop-place.place c.loop-place.walk.out.items c.loop-place.walk.spans.items c.loop-place.walk.scratch_flags c.loop-place.starter c.loop-place.from c.loop-place.greatest c.loop-place-test.false c.loop-place.invariant.walked in
     record { out = all.0; spans = all.1; flags = all.2 }

@@ -6,8 +6,8 @@ use Rattle.shape_normalize.proofs.ot_shape_normalize.round_one.expanded.Expanded
 
 abbrev pub invariant-items : goal.invariant-items
 invariant-items g l =
-    let shaper = g.S.hb_ot_shaper_t in
-    let rules = rules_of g.U.hb_unicode_funcs_t.unicode shaper.constants shaper.hooks g.F.hb_font_t.face l.plan l.face in
+    let shaper = g.T.Shaper.hb_ot_shaper_t in
+    let rules = rules_of g.T.Unicode.hb_unicode_funcs_t.unicode shaper.constants shaper.hooks g.T.Face.hb_font_t.face l.plan l.face in
     record {
       infos : l.self.infos.items
           ≡ l.initial.self.infos.items ++ flat_map (expanded_item rules l.invisible l.shortest) (take l.info-index l.sequence);

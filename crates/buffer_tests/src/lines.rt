@@ -1,0 +1,231 @@
+//! Lines of glyphs that were put together by hand.
+//!
+//! The gate's script counts growths: a test that cuts a buffer without glyphs has as many as one that does not. It
+//! refuses each of those of `growths` in turn.
+
+use shape_buffer::buffer::{
+    Direction, GlyphBuffer, GlyphPosition, ShapeError, UnicodeBuffer, hb_buffer_t, hb_glyph_info_t,
+};
+use shape_lines::{Line, can_cut, cut_lines};
+use std::alloc::Global;
+use std::test::Fail;
+
+/// A glyph: its cluster, its mask and its advance, to the right and downwards alike.
+type Cell = (u32, u32, i32);
+
+/// A line: its glyphs and its text.
+type Row = (usize, usize, u32, u32);
+
+/// Glyphs that run in a direction.
+fn glyphs(alloc: Global, direction: Direction, cells: &[Cell]) -> Result<GlyphBuffer, Fail> {
+    let mut infos: Vec<hb_glyph_info_t> = Vec::new(alloc);
+    for (cluster, mask, _) in cells {
+        let mut info = hb_glyph_info_t::new('a', *cluster);
+        info.mask = *mask;
+        infos.push(info)?;
+    }
+    let mut buffer = UnicodeBuffer::new(alloc).into_inner();
+    buffer.replace_infos(infos)?;
+    buffer.set_direction(direction);
+    place(&mut buffer, cells);
+    Ok(buffer.into_glyphs())
+}
+
+/// Gives each glyph its advance.
+fn place(buffer: &mut hb_buffer_t, cells: &[Cell]) {
+    let mut at = 0;
+    for (_, _, advance) in cells {
+        let mut position = GlyphPosition::zero();
+        position.x_advance = *advance;
+        position.y_advance = advance.wrapping_neg();
+        if at < buffer.len() {
+            buffer.set_position(at, position);
+            at = at.saturating_add(1);
+        }
+    }
+}
+
+/// The lines of glyphs whose text ends at a cluster.
+fn lines(alloc: Global, glyphs: &GlyphBuffer, text_end: u32, width: u32) -> Result<Vec<Row>, Fail> {
+    if !can_cut(glyphs, text_end) {
+        return Err(Fail::from("uncut"));
+    }
+    let mut rows = Vec::new(alloc);
+    for line in &cut_lines(alloc, glyphs, text_end, width)? {
+        let Line {
+            glyph_start,
+            glyph_end,
+            text_start,
+            text_end,
+        } = *line;
+        rows.push((glyph_start, glyph_end, text_start, text_end))?;
+    }
+    Ok(rows)
+}
+
+/// Two letters, a space and a letter.
+const TEXT: [Cell; 4] = [(0, 0, 600), (1, 0, 500), (2, 0, 250), (3, 0, 600)];
+
+/// The same as it runs to the left.
+const TURNED: [Cell; 4] = [(3, 0, 600), (2, 0, 250), (1, 0, 500), (0, 0, 600)];
+
+#[test]
+fn what_can_be_cut(rt: HostRuntime) -> Result<(), Fail> {
+    let alloc = rt.alloc();
+    let ltr = Direction::LeftToRight;
+    assert!(rt; can_cut(&glyphs(alloc, ltr, &[])?, 0));
+    assert!(rt; can_cut(&glyphs(alloc, ltr, &[(0, 1, 0), (0, 9, 0), (2, 0, 0)])?, 3));
+    assert!(rt; can_cut(&glyphs(alloc, ltr, &[(2, 0, 0), (0, 1, 0)])?, 3));
+    assert!(rt; !can_cut(&glyphs(alloc, ltr, &[(0, 0, 0), (2, 0, 0), (1, 0, 0)])?, 3));
+    assert!(rt; !can_cut(&glyphs(alloc, ltr, &[(0, 1, 0), (0, 0, 0)])?, 3));
+    assert!(rt; !can_cut(&glyphs(alloc, ltr, &[(0, 0, 0), (2, 0, 0)])?, 2));
+    Ok(())
+}
+
+#[test]
+fn longest_part_that_fits(rt: HostRuntime) -> Result<(), Fail> {
+    let alloc = rt.alloc();
+    let text = glyphs(alloc, Direction::LeftToRight, &TEXT)?;
+    assert_eq!(rt;
+        lines(alloc, &text, 4, 1200)?.as_slice(),
+        [(0, 2, 0, 2), (2, 4, 2, 4)].as_slice()
+    );
+    assert_eq!(rt;
+        lines(alloc, &text, 9, 1950)?.as_slice(),
+        [(0, 4, 0, 9)].as_slice()
+    );
+    // none fits: the shortest parts
+    assert_eq!(rt;
+        lines(alloc, &text, 4, 100)?.as_slice(),
+        [(0, 1, 0, 1), (1, 2, 1, 2), (2, 3, 2, 3), (3, 4, 3, 4)].as_slice()
+    );
+    Ok(())
+}
+
+#[test]
+fn in_the_order_of_the_text(rt: HostRuntime) -> Result<(), Fail> {
+    let alloc = rt.alloc();
+    for direction in [Direction::RightToLeft, Direction::BottomToTop] {
+        let text = glyphs(alloc, direction, &TURNED)?;
+        assert_eq!(rt;
+            lines(alloc, &text, 4, 1200)?.as_slice(),
+            [(2, 4, 0, 2), (0, 2, 2, 4)].as_slice()
+        );
+    }
+    // the order of clusters decides, not the direction
+    let text = glyphs(alloc, Direction::RightToLeft, &TEXT)?;
+    assert_eq!(rt;
+        lines(alloc, &text, 4, 1200)?.as_slice(),
+        [(0, 2, 0, 2), (2, 4, 2, 4)].as_slice()
+    );
+    let text = glyphs(alloc, Direction::TopToBottom, &TEXT)?;
+    assert_eq!(rt;
+        lines(alloc, &text, 4, 1100)?.as_slice(),
+        [(0, 2, 0, 2), (2, 4, 2, 4)].as_slice()
+    );
+    Ok(())
+}
+
+#[test]
+fn at_places_of_a_cut_alone(rt: HostRuntime) -> Result<(), Fail> {
+    let alloc = rt.alloc();
+    // not before the cluster that is unsafe to break, and not inside the one of two glyphs
+    let cells = [(0, 0, 10), (1, 1, 10), (4, 0, 10), (4, 0, 10)];
+    let text = glyphs(alloc, Direction::LeftToRight, &cells)?;
+    assert_eq!(rt;
+        lines(alloc, &text, 5, 5)?.as_slice(),
+        [(0, 2, 0, 4), (2, 4, 4, 5)].as_slice()
+    );
+    // the cluster that stands later in the text decides where it runs to the left
+    let cells = [(4, 1, 10), (1, 0, 10), (0, 1, 10)];
+    let text = glyphs(alloc, Direction::RightToLeft, &cells)?;
+    assert_eq!(rt;
+        lines(alloc, &text, 5, 5)?.as_slice(),
+        [(2, 3, 0, 1), (0, 2, 1, 5)].as_slice()
+    );
+    let cells = [(7, 0, 10), (7, 0, 10)];
+    let text = glyphs(alloc, Direction::LeftToRight, &cells)?;
+    assert_eq!(rt;
+        lines(alloc, &text, 8, 0)?.as_slice(),
+        [(0, 2, 7, 8)].as_slice()
+    );
+    Ok(())
+}
+
+#[test]
+fn widths_below_zero(rt: HostRuntime) -> Result<(), Fail> {
+    let alloc = rt.alloc();
+    // wide, then narrow: a longer part fits again
+    let cells = [(0, 0, 600), (1, 0, 600), (2, 0, -700)];
+    let text = glyphs(alloc, Direction::LeftToRight, &cells)?;
+    assert_eq!(rt;
+        lines(alloc, &text, 3, 600)?.as_slice(),
+        [(0, 3, 0, 3)].as_slice()
+    );
+    // beyond 32 bits
+    let cells = [(0, 0, i32::MAX), (1, 0, i32::MAX), (2, 0, 2)];
+    let text = glyphs(alloc, Direction::LeftToRight, &cells)?;
+    assert_eq!(rt; lines(alloc, &text, 3, 0)?.len(), 3);
+    assert_eq!(rt;
+        lines(alloc, &text, 3, u32::MAX)?.as_slice(),
+        [(0, 2, 0, 2), (2, 3, 2, 3)].as_slice()
+    );
+    let cells = [(0, 0, i32::MIN), (1, 0, i32::MIN), (2, 0, 7)];
+    let text = glyphs(alloc, Direction::LeftToRight, &cells)?;
+    assert_eq!(rt;
+        lines(alloc, &text, 3, 0)?.as_slice(),
+        [(0, 3, 0, 3)].as_slice()
+    );
+    // downwards it is the negative of the advance: 2 ^ 31, 2 ^ 31, 7
+    let text = glyphs(alloc, Direction::TopToBottom, &cells)?;
+    assert_eq!(rt;
+        lines(alloc, &text, 3, u32::MAX)?.as_slice(),
+        [(0, 1, 0, 1), (1, 3, 1, 3)].as_slice()
+    );
+    Ok(())
+}
+
+/// Some glyphs, and none.
+fn begun(alloc: Global) -> Result<(GlyphBuffer, GlyphBuffer), Fail> {
+    let text = glyphs(alloc, Direction::LeftToRight, &TEXT)?;
+    let none = UnicodeBuffer::new(alloc).into_inner().into_glyphs();
+    Ok((text, none))
+}
+
+#[test]
+fn glyphs_are_begun(rt: HostRuntime) -> Result<(), Fail> {
+    let (text, none) = begun(rt.alloc())?;
+    assert_eq!(rt; (text.len(), none.len()), (4, 0));
+    Ok(())
+}
+
+#[test]
+fn no_glyphs_make_no_line(rt: HostRuntime) -> Result<(), Fail> {
+    let (text, none) = begun(rt.alloc())?;
+    assert!(rt; can_cut(&text, 4));
+    if !can_cut(&none, 0) {
+        return Err(Fail::from("uncut"));
+    }
+    assert!(rt; cut_lines(rt.alloc(), &none, 0, 100)?.is_empty());
+    Ok(())
+}
+
+#[test]
+fn growths(rt: HostRuntime) -> Result<(), Fail> {
+    let text = glyphs(rt.alloc(), Direction::LeftToRight, &TEXT)?;
+    if !can_cut(&text, 4) {
+        return Err(Fail::from("uncut"));
+    }
+    match cut_lines(rt.alloc(), &text, 4, 100) {
+        Ok(lines) => {
+            assert_eq!(rt; lines.len(), 4);
+            Ok(())
+        }
+        Err(cause) => {
+            assert_eq!(rt; cause, ShapeError::Memory);
+            assert_eq!(rt; text.len(), 4);
+            assert_eq!(rt; lines(rt.alloc(), &text, 4, 100)?.len(), 4);
+            Err(Fail::from("refused"))
+        }
+    }
+}

@@ -1,0 +1,243 @@
+//! What callers reach for beside filling and reading, each call once.
+
+use shape_buffer::buffer::{
+    BufferClusterLevel, BufferFlags, Direction, Feature, GlyphBuffer, GlyphCluster, GlyphPosition,
+    Language, Script, UnicodeBuffer, hb_buffer_t, hb_glyph_info_t, hb_tag_t,
+};
+use shape_buffer::cluster_laws::clusters_have_one_set_of_flags;
+use std::alloc::Global;
+use std::test::Fail;
+
+/// Appends a text. What it holds is told by no contract, so that the proof of a test doesn't compute with it.
+fn append(text: &mut UnicodeBuffer, more: &str) -> Result<(), Fail> {
+    if 100 < more.len() {
+        return Err(Fail::from("long"));
+    }
+    text.push_str(more)?;
+    Ok(())
+}
+
+#[test]
+fn numbered_clusters(rt: HostRuntime) -> Result<(), Fail> {
+    let mut text = UnicodeBuffer::new(rt.alloc());
+    text.reserve(4)?;
+    assert!(rt; text.is_empty());
+    append(&mut text, "a\u{301}")?;
+    append(&mut text, "\u{5d0}b")?;
+    text.reset_clusters();
+    let clusters: Vec<u32> = text
+        .as_inner()
+        .infos()
+        .iter()
+        .map(|info| info.cluster)
+        .collect(rt.alloc())?;
+    assert_eq!(rt; clusters.as_slice(), [0, 1, 2, 3].as_slice());
+    Ok(())
+}
+
+#[test]
+fn no_room_for_too_many(rt: HostRuntime) -> Result<(), Fail> {
+    let mut text = UnicodeBuffer::new(rt.alloc());
+    text.push_str("a")?;
+    assert!(rt; text.reserve(usize::MAX).is_err());
+    assert_eq!(rt; text.len(), 1);
+    Ok(())
+}
+
+#[test]
+fn defaults(rt: HostRuntime) {
+    assert_eq!(rt; Direction::default(), Direction::Invalid);
+    assert_eq!(rt;
+        BufferClusterLevel::default(),
+        BufferClusterLevel::MonotoneGraphemes
+    );
+    assert_eq!(rt; BufferFlags::default(), BufferFlags(0));
+    let position = GlyphPosition::default();
+    assert!(rt; position.x_advance == 0 && position.y_offset == 0 && position.attach_type == 0);
+}
+
+#[test]
+fn features(rt: HostRuntime) {
+    let kern = hb_tag_t::from_bytes(b"kern");
+    let part = Feature::new(kern, 0, 3..5);
+    assert!(rt; part.tag == kern && part.value == 0 && part.start == 3 && part.end == 5);
+    assert!(rt; !part.is_global());
+    let whole = Feature::global(kern, 2);
+    assert!(rt; whole.tag == kern && whole.value == 2 && whole.is_global());
+}
+
+/// The script of a tag, by its tag; 0 for none.
+fn script_of(tag: &[u8; 4]) -> u32 {
+    match Script::from_iso15924_tag(hb_tag_t::from_bytes(tag)) {
+        Some(script) => script.tag().0,
+        None => 0,
+    }
+}
+
+#[test]
+fn scripts_in_any_case(rt: HostRuntime) {
+    let latin = hb_tag_t::from_bytes(b"Latn").0;
+    for tag in [b"Latn", b"latn", b"LATN", b"lATN", b"Latf", b"latg"] {
+        assert_eq!(rt; script_of(tag), latin);
+    }
+    assert_eq!(rt; Script::from_iso15924_tag(hb_tag_t(0)), None);
+    for tag in [b"1234", b"La n", b"zzzz"] {
+        assert_eq!(rt; script_of(tag), Script::UNKNOWN.tag().0);
+    }
+}
+
+#[test]
+fn scripts_by_name(rt: HostRuntime) {
+    for (script, tag) in [
+        (Script::COMMON, b"Zyyy"),
+        (Script::INHERITED, b"Zinh"),
+        (Script::UNKNOWN, b"Zzzz"),
+        (Script::ARABIC, b"Arab"),
+        (Script::ARMENIAN, b"Armn"),
+        (Script::BENGALI, b"Beng"),
+        (Script::COPTIC, b"Copt"),
+        (Script::CYRILLIC, b"Cyrl"),
+        (Script::DEVANAGARI, b"Deva"),
+        (Script::ETHIOPIC, b"Ethi"),
+        (Script::GEORGIAN, b"Geor"),
+        (Script::GREEK, b"Grek"),
+        (Script::HAN, b"Hani"),
+        (Script::HANGUL, b"Hang"),
+        (Script::HEBREW, b"Hebr"),
+        (Script::HIRAGANA, b"Hira"),
+        (Script::KATAKANA, b"Kana"),
+        (Script::LATIN, b"Latn"),
+        (Script::SYRIAC, b"Syrc"),
+        (Script::TAMIL, b"Taml"),
+        (Script::THAI, b"Thai"),
+    ] {
+        assert_eq!(rt; script_of(tag), script.tag().0);
+    }
+}
+
+#[test]
+fn variants_of_scripts(rt: HostRuntime) {
+    for (tag, script) in [
+        (b"Qaai", b"Zinh"),
+        (b"Qaac", b"Copt"),
+        (b"Aran", b"Arab"),
+        (b"Cyrs", b"Cyrl"),
+        (b"Geok", b"Geor"),
+        (b"Hans", b"Hani"),
+        (b"Hant", b"Hani"),
+        (b"Jamo", b"Hang"),
+        (b"Latf", b"Latn"),
+        (b"Latg", b"Latn"),
+        (b"Syre", b"Syrc"),
+        (b"Syrj", b"Syrc"),
+        (b"Syrn", b"Syrc"),
+    ] {
+        assert_eq!(rt; script_of(tag), hb_tag_t::from_bytes(script).0);
+    }
+}
+
+/// Glyphs of these clusters and masks; the glyph at place k moves the pen by 10 ^ k to the right, and twice
+/// as far down.
+fn glyphs_of(
+    alloc: Global,
+    direction: Direction,
+    rows: &[(u32, u32)],
+) -> Result<GlyphBuffer, Fail> {
+    let mut infos: Vec<hb_glyph_info_t> = Vec::new(alloc);
+    for (cluster, mask) in rows.iter() {
+        let mut info = hb_glyph_info_t::new('a', *cluster);
+        info.mask = *mask;
+        infos.push(info)?;
+    }
+    let mut buffer = hb_buffer_t::new(alloc);
+    buffer.replace_infos(infos)?;
+    let mut advance: i32 = 1;
+    for place in 0..buffer.len() {
+        let mut position = GlyphPosition::zero();
+        position.x_advance = advance;
+        position.y_advance = advance.wrapping_mul(-2);
+        if place < buffer.len() {
+            buffer.set_position(place, position);
+        }
+        advance = advance.wrapping_mul(10);
+    }
+    buffer.set_direction(direction);
+    buffer.set_script(Some(Script::HEBREW));
+    buffer.set_language(Some(Language(String::from_str(alloc, "he")?)));
+    Ok(buffer.into_glyphs())
+}
+
+/// A cluster as a row.
+fn row_of(cluster: &GlyphCluster) -> (u32, usize, usize, i32, bool) {
+    (
+        cluster.cluster,
+        cluster.start,
+        cluster.end,
+        cluster.advance,
+        cluster.unsafe_to_break,
+    )
+}
+
+#[test]
+fn clusters_of_glyphs(rt: HostRuntime) -> Result<(), Fail> {
+    let rows = [(0, 0), (3, 1), (3, 1), (4, 2), (9, 8)];
+    let glyphs = glyphs_of(rt.alloc(), Direction::LeftToRight, &rows)?;
+    let clusters = glyphs.clusters(rt.alloc())?;
+    let found: Vec<(u32, usize, usize, i32, bool)> = clusters
+        .iter()
+        .map(row_of)
+        .collect(rt.alloc())?;
+    assert_eq!(rt;
+        found.as_slice(),
+        [
+            (0, 0, 1, 1, false),
+            (3, 1, 3, 110, true),
+            (4, 3, 4, 1000, false),
+            (9, 4, 5, 10000, false)
+        ]
+        .as_slice()
+    );
+    Ok(())
+}
+
+#[test]
+fn clusters_of_glyphs_backward(rt: HostRuntime) -> Result<(), Fail> {
+    let rows = [(9, 0), (4, 4), (4, 1), (0, 0)];
+    let glyphs = glyphs_of(rt.alloc(), Direction::BottomToTop, &rows)?;
+    let clusters = glyphs.clusters(rt.alloc())?;
+    let found: Vec<(u32, usize, usize, i32, bool)> = clusters
+        .iter()
+        .map(row_of)
+        .collect(rt.alloc())?;
+    assert_eq!(rt;
+        found.as_slice(),
+        [
+            (0, 3, 4, -2000, false),
+            (4, 1, 3, -220, true),
+            (9, 0, 1, -2, false)
+        ]
+        .as_slice()
+    );
+    Ok(())
+}
+
+#[test]
+fn glyphs_with_positions(rt: HostRuntime) -> Result<(), Fail> {
+    let glyphs = glyphs_of(rt.alloc(), Direction::RightToLeft, &[(5, 0), (2, 0)])?;
+    let mut found: Vec<(u32, i32)> = Vec::new(rt.alloc());
+    for (info, position) in glyphs.iter() {
+        found.push((info.cluster, position.x_advance))?;
+    }
+    assert_eq!(rt; found.as_slice(), [(5, 1), (2, 10)].as_slice());
+    assert!(rt; !glyphs.is_empty());
+    assert_eq!(rt; glyphs.script(), Some(Script::HEBREW));
+    assert!(rt;
+        glyphs
+            .language()
+            .is_some_and(|language| language.0.as_str() == "he")
+    );
+    clusters_have_one_set_of_flags();
+    let empty = glyphs.clear().into_inner().into_glyphs();
+    assert!(rt; empty.is_empty() && empty.script().is_none());
+    Ok(())
+}

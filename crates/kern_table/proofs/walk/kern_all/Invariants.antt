@@ -1,0 +1,16 @@
+use Rattle.std.proofs.Common.{◌≡◌, ◌<◌, length}
+use Rattle.std.specs.Option.{IfSome}
+use Rattle.shape_buffer.specs.Buffer.{limit_of}
+use Rattle.shape_buffer.specs.BufferClusters.{unsafe_to_concat}
+use Rattle.kern_table.specs.Walk.{kerned_to}
+use Rattle.kern_table.proofs.walk.kern_all.Given as goal
+
+-- the first glyphs are kerned
+abbrev pub invariant-loop-j : goal.invariant-loop-j
+invariant-loop-j l = record {
+  made : l.buffer ≡ (kerned_to l.kern l.start l.mask l.j (unsafe_to_concat 0 (length l.fn.buffer.items) l.fn.buffer)).buffer;
+  waits : l.left ≡ (kerned_to l.kern l.start l.mask l.j (unsafe_to_concat 0 (length l.fn.buffer.items) l.fn.buffer)).left;
+  behind : IfSome l.left (λ i. i < l.j);
+  len : length l.buffer.items ≡ length l.fn.buffer.items;
+  limit : limit_of l.buffer ≡ limit_of l.fn.buffer;
+}

@@ -1,0 +1,11 @@
+use Rattle.kern_table.specs.WorkedKern.{worked_values, worked_lines, worked_maps}
+use Rattle.kern_table.proofs.worked.kerning_meets_worked_cases.Goals as goal
+
+pub returns-clause-values : goal.returns-clause-values
+returns-clause-values c = worked_values
+
+pub returns-clause-lines : goal.returns-clause-lines
+returns-clause-lines c = worked_lines
+
+pub returns-clause-maps : goal.returns-clause-maps
+returns-clause-maps c = worked_maps

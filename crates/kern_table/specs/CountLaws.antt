@@ -1,0 +1,89 @@
+-- kerning keeps the number of items, and the limit
+use Prim.Native.Nat.{zero}
+use Rattle.std.proofs.Common.{◌≡◌, ℕ, suc, ℤ, ◌+◌, ◌==◌, ◌≤◌, Bool, true, false, if◌then◌else◌, List, map, length, reverse, Option, nat_lt, nat_eq, refl, sym, ap, ◌∙◌, arith}
+use Rattle.std.specs.Int.RustNames.{bit_and}
+use Rattle.std.proofs.lemmas.List.{length-map, length-reverse}
+use Rattle.shape_buffer.specs.Buffer.{Buffer, limit_of}
+use Rattle.shape_buffer.specs.BufferClusters.{unsafe_to_break, unsafe_to_concat, with_glyph_flags}
+use Rattle.shape_buffer.specs.Clusters.{clusters, map_range, mark_concat}
+use Rattle.shape_buffer.specs.Direction.{is_horizontal, is_backward}
+use Rattle.shape_buffer.specs.FlagNames.{PRODUCE_UNSAFE_TO_CONCAT}
+use Rattle.shape_buffer.proofs.Merging.KeyLemmas.{keys-map_range, length-map_range, length-unsafe_to_break, without_items-unsafe_to_break}
+use Rattle.shape_font.specs.Bytes.{u16_of}
+use Rattle.kern_table.specs.Walk.{pair_moved, kerned}
+use Rattle.kern_table.specs.StepLaws.{step-pair_moved, step-kerned}
+use Rattle.kern_table.specs.Tables.{parts_of, is_read, turned, part_kerned, kerned_from, table_kerned}
+
+-- ---- unsafe to concat
+
+pub clusters-concat : (end : ℕ) (b : Buffer) → clusters (unsafe_to_concat 0 end b).items ≡ clusters b.items
+clusters-concat end b =
+    elim (bit_and b.flags.0 PRODUCE_UNSAFE_TO_CONCAT == PRODUCE_UNSAFE_TO_CONCAT) as (λ t.
+    clusters (if t then record (with_glyph_flags b) { items = map_range mark_concat 0 end b.items } else b).items ≡ clusters b.items) [
+      | true ↦ keys-map_range (λ item. item.cluster) mark_concat (λ item. refl) 0 end b.items (omega arith)
+      | false ↦ refl
+    ]
+
+-- ---- the number of items
+
+pub length_concat : (end : ℕ) (b : Buffer) → length (unsafe_to_concat 0 end b).items ≡ length b.items
+length_concat end b =
+    elim (bit_and b.flags.0 PRODUCE_UNSAFE_TO_CONCAT == PRODUCE_UNSAFE_TO_CONCAT) as (λ t.
+    length (if t then record (with_glyph_flags b) { items = map_range mark_concat 0 end b.items } else b).items ≡ length b.items) [
+      | true ↦ length-map_range mark_concat 0 end b.items (omega arith)
+      | false ↦ refl
+    ]
+
+pub length_pair_moved : (i j : ℕ) (by : ℤ) (b : Buffer) → length (pair_moved i j by b).items ≡ length b.items
+length_pair_moved = step-pair_moved (λ b c. length c.items ≡ length b.items) (λ b. refl) (λ a b c first later. later ∙ first) length-unsafe_to_break
+    length_concat (λ i p b. refl)
+
+pub length_kerned : (t : List ℕ) (start mask : ℕ) (b : Buffer) → length (kerned t start mask b).items ≡ length b.items
+length_kerned = step-kerned (λ b c. length c.items ≡ length b.items) (λ b. refl) (λ a b c first later. later ∙ first) length-unsafe_to_break
+    length_concat (λ i p b. refl)
+
+pub length-part_kerned : (t : List ℕ) (start mask : ℕ) (b : Buffer) → length (part_kerned t start mask b).items ≡ length b.items
+length-part_kerned t start mask b =
+    elim (is_read t start (is_horizontal b.direction)) as (λ r.
+    length (if r then (if is_backward b.direction then turned (kerned t start mask (turned b)) else kerned t start mask b) else b).items
+    ≡ length b.items) [
+      | true ↦ elim (is_backward b.direction) as (λ r.
+          length (if r then turned (kerned t start mask (turned b)) else kerned t start mask b).items ≡ length b.items) [
+            | true ↦ length-reverse (kerned t start mask (turned b)).items ∙ length_kerned t start mask (turned b) ∙ length-reverse b.items
+            | false ↦ length_kerned t start mask b
+          ]
+      | false ↦ refl
+    ]
+
+length-from : (t : List ℕ) (mask n start : ℕ) (b : Buffer) → length (kerned_from t mask n start b).items ≡ length b.items
+length-from t mask zero start b = refl
+length-from t mask (suc n) start b =
+    elim (nat_lt (u16_of t (start + 2)) 6) as (λ s.
+    length (if s then b else kerned_from t mask n (start + u16_of t (start + 2)) (part_kerned t start mask b)).items ≡ length b.items) [
+      | true ↦ refl
+      | false ↦ length-from t mask n (start + u16_of t (start + 2)) (part_kerned t start mask b) ∙ length-part_kerned t start mask b
+    ]
+
+pub length-table_kerned : (t : List ℕ) (mask : ℕ) (b : Buffer) → length (table_kerned t mask b).items ≡ length b.items
+length-table_kerned t mask b =
+    elim (nat_eq mask 0) as (λ s. length (if s then b else kerned_from t mask (parts_of t) 4 b).items ≡ length b.items) [
+      | true ↦ refl
+      | false ↦ length-from t mask (parts_of t) 4 b
+    ]
+
+-- ---- the limit
+
+limit-break : (start end : ℕ) (b : Buffer) → limit_of (unsafe_to_break start end b) ≡ limit_of b
+limit-break start end b = ap limit_of (without_items-unsafe_to_break start end b)
+
+pub limit_concat : (end : ℕ) (b : Buffer) → limit_of (unsafe_to_concat 0 end b) ≡ limit_of b
+limit_concat end b =
+    elim (bit_and b.flags.0 PRODUCE_UNSAFE_TO_CONCAT == PRODUCE_UNSAFE_TO_CONCAT) as (λ t.
+    limit_of (if t then record (with_glyph_flags b) { items = map_range mark_concat 0 end b.items } else b) ≡ limit_of b) [
+      | true ↦ refl
+      | false ↦ refl
+    ]
+
+pub limit_pair_moved : (i j : ℕ) (by : ℤ) (b : Buffer) → limit_of (pair_moved i j by b) ≡ limit_of b
+limit_pair_moved = step-pair_moved (λ b c. limit_of c ≡ limit_of b) (λ b. refl) (λ a b c first later. later ∙ first) limit-break limit_concat
+    (λ i p b. refl)

@@ -1,0 +1,9 @@
+pub mod Pairs
+pub mod Walk
+pub mod Tables
+pub mod Map
+pub mod MaskLaws
+pub mod StepLaws
+pub mod CountLaws
+pub mod Engine
+pub mod WorkedKern

@@ -1,0 +1,35 @@
+-- kerning of a buffer by a whole table `kern` (OpenType, version 0)
+use Prim.Native.Nat.{zero}
+use Rattle.std.specs.Prelude.{ℕ, suc, List, Bool, ◌+◌, ◌/◌, ◌%◌, ◌&&◌, nat_lt, nat_eq, reverse, slice_index, if◌then◌else◌}
+use Rattle.shape_buffer.specs.Buffer.{Buffer}
+use Rattle.shape_buffer.specs.Direction.{is_horizontal, is_backward}
+use Rattle.shape_font.specs.Bytes.{u16_of}
+use Rattle.kern_table.specs.Walk.{kerned}
+
+-- the parts that the table says that it has; none where its version isn't 0
+abbrev pub parts_of : List ℕ → ℕ
+parts_of t = if nat_eq (u16_of t 0) 0 then u16_of t 2 else 0
+
+-- a part of format 0, for lines of this kind (bit 0), that doesn't move glyphs across the line (bit 2)
+abbrev pub is_read : List ℕ → ℕ → Bool → Bool
+is_read t start horizontal = let coverage = slice_index t (start + 5) in
+    nat_eq (slice_index t (start + 4)) 0 && nat_eq (coverage % 2) (if horizontal then 1 else 0) && nat_eq (coverage / 4 % 2) 0
+
+abbrev pub turned : Buffer → Buffer
+turned b = record b { items = reverse b.items; positions = reverse b.positions }
+
+-- a part kerns from the left of the line to its right
+abbrev pub part_kerned : List ℕ → ℕ → ℕ → Buffer → Buffer
+part_kerned t start mask b = if is_read t start (is_horizontal b.direction)
+    then (if is_backward b.direction then turned (kerned t start mask (turned b)) else kerned t start mask b)
+    else b
+
+-- so many parts from a place on; a part that says that it is shorter than its header ends the table
+abbrev pub kerned_from : List ℕ → ℕ → ℕ → ℕ → Buffer → Buffer
+kerned_from t mask zero start b = b
+kerned_from t mask (suc n) start b = let len = u16_of t (start + 2) in
+    (if nat_lt len 6 then b else kerned_from t mask n (start + len) (part_kerned t start mask b))
+
+-- all parts, where kerning is on somewhere
+abbrev pub table_kerned : List ℕ → ℕ → Buffer → Buffer
+table_kerned t mask b = if nat_eq mask 0 then b else kerned_from t mask (parts_of t) 4 b

@@ -1,0 +1,179 @@
+-- Kerning, on tables and buffers that were read by hand.
+use Rattle.std.specs.Prelude.{◌≡◌, ℕ, ℤ, pos, negsuc, List, [], ◌∷◌, ◌++◌, map, Some, None, true, false, refl}
+use Rattle.shape_buffer.specs.Buffer.{Buffer, new_buffer}
+use Rattle.shape_buffer.specs.Items.{Item, new_item, new_properties}
+use Rattle.shape_buffer.specs.Positions.{zero_position}
+use Rattle.shape_buffer.specs.Wrapping.{◌+ʷ◌, ◌-ʷ◌}
+use Rattle.shape_buffer.specs.declared.buffer.positions.GlyphPosition.{GlyphPosition}
+use Rattle.shape_buffer.specs.declared.buffer.settings.Direction.{Direction}
+use Rattle.shape_buffer.specs.declared.buffer.settings.Direction.TheVariants.{LeftToRight, RightToLeft, TopToBottom}
+use Rattle.shape_buffer.specs.declared.buffer.settings.hb_tag_t.{hb_tag_t}
+use Rattle.shape_buffer.specs.declared.interfaces.map_request.MapRequest.{MapRequest}
+use Rattle.shape_buffer.specs.declared.interfaces.map_request.MapRequest.TheVariants.{Feature, Pause}
+use Rattle.std.specs.Int.{int_wrap}
+use Rattle.shape_font.specs.Bytes.{i16_of}
+use Rattle.kern_table.specs.Map.{map_of, kern_masks}
+use Rattle.kern_table.specs.Pairs.{value_of}
+use Rattle.kern_table.specs.Tables.{parts_of, is_read, part_kerned, table_kerned}
+use Rattle.kern_table.specs.Walk.{is_passed, left_after, kerned}
+
+-- a part of format 0 that says so many pairs, with room for two: glyphs 2 and 3 by -50, 3 and 2 by -35; so long, and of this coverage
+abbrev pub part : ℕ → ℕ → ℕ → List ℕ
+part len coverage said = 0 ∷ 0 ∷ 0 ∷ len ∷ 0 ∷ coverage ∷ 0 ∷ said ∷ 0 ∷ 0 ∷ 0 ∷ 0 ∷ 0 ∷ 0
+    ∷ 0 ∷ 2 ∷ 0 ∷ 3 ∷ 0xFF ∷ 0xCE ∷ 0 ∷ 3 ∷ 0 ∷ 2 ∷ 0xFF ∷ 0xDD ∷ []
+
+abbrev pub table : ℕ → ℕ → List ℕ
+table count coverage = 0 ∷ 0 ∷ 0 ∷ count ∷ part 26 coverage 2
+
+pub record WorkedValues : Type 0 where
+  pub first : value_of (table 1 1) 4 2 3 ≡ negsuc 49
+  pub second : value_of (table 1 1) 4 3 2 ≡ negsuc 34
+  pub other : value_of (table 1 1) 4 2 2 ≡ pos 0
+  pub past_the_count : value_of (0 ∷ 0 ∷ 0 ∷ 1 ∷ part 26 1 1) 4 3 2 ≡ pos 0
+  pub no_more_than_there_is_room_for : value_of (0 ∷ 0 ∷ 0 ∷ 1 ∷ part 26 1 200) 4 3 2 ≡ negsuc 34
+  -- 65538 is 2 past 65536
+  pub past_all_glyphs : value_of (table 1 1) 4 65538 3 ≡ pos 0
+  pub no_part : value_of [] 4 2 3 ≡ pos 0
+  pub read_along_the_line : is_read (table 1 1) 4 true ≡ true
+  pub not_across_it : is_read (table 1 5) 4 true ≡ false
+  pub not_in_the_other_line : is_read (table 1 1) 4 false ≡ false
+  pub vertical : is_read (table 1 0) 4 false ≡ true
+  pub other_format : is_read (0 ∷ 0 ∷ 0 ∷ 1 ∷ 0 ∷ 0 ∷ 0 ∷ 14 ∷ 2 ∷ 1 ∷ []) 4 true ≡ false
+  pub parts : parts_of (table 3 1) ≡ 3
+  pub other_version : parts_of (0 ∷ 1 ∷ 0 ∷ 0 ∷ 0 ∷ 0 ∷ 0 ∷ 1 ∷ []) ≡ 0
+
+pub worked_values : WorkedValues
+unfolding i16_of
+worked_values = record {
+  first = refl;
+  second = refl;
+  other = refl;
+  past_the_count = refl;
+  no_more_than_there_is_room_for = refl;
+  past_all_glyphs = refl;
+  no_part = refl;
+  read_along_the_line = refl;
+  not_across_it = refl;
+  not_in_the_other_line = refl;
+  vertical = refl;
+  other_format = refl;
+  parts = refl;
+  other_version = refl;
+}
+
+-- an item with a glyph, for which kerning is on (bit 4) or off
+abbrev pub on : ℕ → ℕ → Item
+on glyph cluster = record (new_item 0 cluster) { glyph_id = glyph; mask = 16 }
+
+abbrev pub off : ℕ → ℕ → Item
+off glyph cluster = record (new_item 0 cluster) { glyph_id = glyph }
+
+-- a mark, and a default ignorable
+abbrev pub mark : ℕ → Item
+mark cluster = record (on 9 cluster) { properties = record new_properties { glyph_class = record { 0 = 8 } } }
+
+abbrev pub ignorable : ℕ → Item
+ignorable cluster = record (on 9 cluster) { properties = record new_properties { ignorable = true } }
+
+-- a line of these items, each 600 wide
+abbrev pub line : Direction → List Item → Buffer
+line direction items = record new_buffer { items = items; positions = map (λ _. record zero_position { x_advance = pos 600 }) items; direction = direction }
+
+-- advances and offsets along a horizontal line
+abbrev pub along : Buffer → List (ℤ × ℤ)
+along b = map (λ (p : GlyphPosition). (p.x_advance, p.x_offset)) b.positions
+
+abbrev pub masks : Buffer → List ℕ
+masks b = map (λ (x : Item). x.mask) b.items
+
+abbrev pub by_part : List Item → Buffer
+by_part items = kerned (table 1 1) 4 16 (line LeftToRight items)
+
+abbrev pub still : ℤ × ℤ
+still = (pos 600, pos 0)
+
+pub record WorkedLines : Type 0 where
+  pub half_to_each : along (by_part (on 2 0 ∷ on 3 1 ∷ [])) ≡ (pos 575, pos 0) ∷ (pos 575, negsuc 24) ∷ []
+  -- -35 is -18 and -17
+  pub half_downwards : along (by_part (on 3 0 ∷ on 2 1 ∷ [])) ≡ (pos 582, pos 0) ∷ (pos 583, negsuc 16) ∷ []
+  pub each_pair : along (by_part (on 2 0 ∷ on 3 1 ∷ on 2 2 ∷ []))
+      ≡ (pos 575, pos 0) ∷ (pos 557, negsuc 24) ∷ (pos 583, negsuc 16) ∷ []
+  pub over_a_mark : along (by_part (on 2 0 ∷ mark 0 ∷ on 3 1 ∷ [])) ≡ (pos 575, pos 0) ∷ still ∷ (pos 575, negsuc 24) ∷ []
+  pub over_an_ignorable : along (by_part (on 2 0 ∷ ignorable 0 ∷ on 3 1 ∷ [])) ≡ (pos 575, pos 0) ∷ still ∷ (pos 575, negsuc 24) ∷ []
+  pub not_over_a_letter : along (by_part (on 2 0 ∷ on 8 0 ∷ on 3 1 ∷ [])) ≡ still ∷ still ∷ still ∷ []
+  pub off_on_the_right : along (by_part (on 2 0 ∷ off 3 1 ∷ [])) ≡ still ∷ still ∷ []
+  pub off_on_the_left : along (by_part (off 2 0 ∷ on 3 1 ∷ [])) ≡ still ∷ still ∷ []
+  pub off_between : along (by_part (on 2 0 ∷ off 8 1 ∷ on 3 2 ∷ [])) ≡ still ∷ still ∷ still ∷ []
+  pub mark_in_front_waits : left_after 16 0 None (mark 0 ∷ []) ≡ Some 0
+  pub unsafe_between : masks (by_part (on 2 0 ∷ mark 0 ∷ on 3 1 ∷ on 8 2 ∷ [])) ≡ 16 ∷ 16 ∷ 19 ∷ 16 ∷ []
+  -- from the left of the line: 3 stands there, before 2
+  pub backward : along (part_kerned (table 1 1) 4 16 (line RightToLeft (on 2 0 ∷ on 3 1 ∷ [])))
+      ≡ (pos 583, negsuc 16) ∷ (pos 582, pos 0) ∷ []
+  pub other_line : along (part_kerned (table 1 1) 4 16 (line TopToBottom (on 2 0 ∷ on 3 1 ∷ []))) ≡ still ∷ still ∷ []
+  pub whole_table : along (table_kerned (table 1 1) 16 (line LeftToRight (on 2 0 ∷ on 3 1 ∷ []))) ≡ (pos 575, pos 0) ∷ (pos 575, negsuc 24) ∷ []
+  pub two_parts : along (table_kerned (table 2 1 ++ part 26 1 2) 16 (line LeftToRight (on 2 0 ∷ on 3 1 ∷ [])))
+      ≡ (pos 550, pos 0) ∷ (pos 550, negsuc 49) ∷ []
+  pub short_part : along (table_kerned (0 ∷ 0 ∷ 0 ∷ 1 ∷ part 5 1 2) 16 (line LeftToRight (on 2 0 ∷ on 3 1 ∷ []))) ≡ still ∷ still ∷ []
+  pub no_mask : along (table_kerned (table 1 1) 0 (line LeftToRight (on 2 0 ∷ on 3 1 ∷ []))) ≡ still ∷ still ∷ []
+
+pub worked_lines : WorkedLines
+unfolding i16_of ◌+ʷ◌ ◌-ʷ◌ int_wrap
+worked_lines = record {
+  half_to_each = refl;
+  half_downwards = refl;
+  each_pair = refl;
+  over_a_mark = refl;
+  over_an_ignorable = refl;
+  not_over_a_letter = refl;
+  off_on_the_right = refl;
+  off_on_the_left = refl;
+  off_between = refl;
+  mark_in_front_waits = refl;
+  unsafe_between = refl;
+  backward = refl;
+  other_line = refl;
+  whole_table = refl;
+  two_parts = refl;
+  short_part = refl;
+  no_mask = refl;
+}
+
+-- requests for `kern`: for the whole text or for a range, with a table that may stand in or without
+abbrev pub KERN : hb_tag_t
+KERN = record { 0 = 0x6b65726e }
+
+abbrev pub whole : ℕ → MapRequest
+whole value = Feature KERN 3 value
+
+abbrev pub range : ℕ → MapRequest
+range value = Feature KERN 0 value
+
+pub record WorkedMaps : Type 0 where
+  pub everywhere : map_of (whole 1 ∷ []) ≡ record { is_on = true; everywhere = 1 }
+  pub turned_off : map_of (whole 1 ∷ whole 0 ∷ []) ≡ record { is_on = false; everywhere = 0 }
+  pub off_in_a_range : map_of (whole 1 ∷ range 0 ∷ []) ≡ record { is_on = true; everywhere = 1 }
+  pub on_in_a_range : map_of (whole 0 ∷ range 1 ∷ []) ≡ record { is_on = true; everywhere = 0 }
+  pub nothing_stands_in : map_of (range 1 ∷ []) ≡ record { is_on = false; everywhere = 0 }
+  pub other_feature : map_of (Feature (record { 0 = 1 }) 3 1 ∷ Pause None ∷ []) ≡ record { is_on = false; everywhere = 0 }
+  pub bits : (kern_masks (record { is_on = true; everywhere = 1 })).mask KERN ≡ (4080, 4)
+  pub one : (kern_masks (record { is_on = true; everywhere = 1 })).one_mask KERN ≡ 16
+  pub on_for_all : (kern_masks (record { is_on = true; everywhere = 1 })).global_mask ≡ 16
+  pub off_for_all : (kern_masks (record { is_on = true; everywhere = 0 })).global_mask ≡ 0
+  pub no_bits : (kern_masks (record { is_on = false; everywhere = 1 })).mask KERN ≡ (0, 4)
+  pub no_bits_for_others : (kern_masks (record { is_on = true; everywhere = 1 })).mask (record { 0 = 1 }) ≡ (0, 4)
+
+pub worked_maps : WorkedMaps
+worked_maps = record {
+  everywhere = refl;
+  turned_off = refl;
+  off_in_a_range = refl;
+  on_in_a_range = refl;
+  nothing_stands_in = refl;
+  other_feature = refl;
+  bits = refl;
+  one = refl;
+  on_for_all = refl;
+  off_for_all = refl;
+  no_bits = refl;
+  no_bits_for_others = refl;
+}

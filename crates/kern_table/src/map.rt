@@ -1,0 +1,83 @@
+//! Where kerning is on, by the requests of a plan.
+ghost use Rattle.std.specs.Prelude.{◌≡◌};
+ghost use Rattle.std.specs.Int.RustNames.{bit_and};
+ghost use Rattle.kern_table.specs.Map.{asks, wished_by, wishes_of, map_of};
+
+use shape_buffer::buffer::hb_tag_t;
+use shape_buffer::interfaces::{F_GLOBAL, F_HAS_FALLBACK, MapRequest};
+
+/// The feature that kerns.
+pub const KERN: hb_tag_t = hb_tag_t(0x6b65_726e);
+
+/// What the requests so far ask of kerning: its greatest value, its value where no range says another one, and
+/// whether a table of its own stands in for the feature.
+#[derive(Clone, Copy, PartialEq, Eq, Debug)]
+pub struct KernWishes {
+    pub greatest: u32,
+    pub everywhere: u32,
+    pub has_fallback: bool,
+}
+
+/// Where kerning is on: nowhere, or by eight bits of the mask of each item, whose value where no range of the text
+/// says another one is `everywhere`.
+#[derive(Clone, Copy, PartialEq, Eq, Debug)]
+pub struct KernMap {
+    pub is_on: bool,
+    pub everywhere: u32,
+}
+
+/// Whether a flag is among these.
+fn has(flags: u32, flag: u32) -> bool
+    ensures { result ≡ asks flags flag }
+{
+    flags & flag != 0
+}
+
+/// What is asked after one request more. One for the whole text overrides those before it; one for a range keeps what
+/// stands outside of it.
+fn wished(wishes: KernWishes, request: MapRequest) -> KernWishes
+    ensures { result ≡ wished_by wishes request }
+{
+    match request {
+        MapRequest::Feature { tag, flags, value } if tag.0 == KERN.0 => KernWishes {
+            greatest: if has(flags, F_GLOBAL) {
+                value
+            } else {
+                wishes.greatest.max(value)
+            },
+            everywhere: if has(flags, F_GLOBAL) {
+                value
+            } else {
+                wishes.everywhere
+            },
+            has_fallback: wishes.has_fallback || has(flags, F_HAS_FALLBACK),
+        },
+        _ => wishes,
+    }
+}
+
+/// What the requests ask of kerning.
+fn wishes(requests: &[MapRequest]) -> KernWishes
+    ensures { result ≡ wishes_of requests.now }
+{
+    let mut all = KernWishes {
+        greatest: 0,
+        everywhere: 0,
+        has_fallback: false,
+    };
+    for request in requests {
+        all = wished(all, *request);
+    }
+    all
+}
+
+/// Where the requests turn kerning on: where some value but 0 is asked for, and a table may stand in for the feature.
+pub fn map(requests: &[MapRequest]) -> KernMap
+    ensures { result ≡ map_of requests.now }
+{
+    let all = wishes(requests);
+    KernMap {
+        is_on: all.has_fallback && all.greatest != 0,
+        everywhere: all.everywhere % 256,
+    }
+}

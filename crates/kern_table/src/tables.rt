@@ -1,0 +1,72 @@
+//! Kerning by a whole table `kern`: its parts in order, those of format 0 that move glyphs along the line.
+ghost use Rattle.std.specs.Prelude.{◌≡◌, ◌<◌, ◌≤◌, ◌^◌, length};
+ghost use Rattle.shape_buffer.specs.Buffer.{limit_of};
+ghost use Rattle.kern_table.specs.Tables.{parts_of, is_read as is_read_of, part_kerned, table_kerned};
+
+use crate::walk::kern_all;
+use shape_buffer::buffer::{hb_buffer_t, hb_mask_t};
+use shape_font::bytes::{u8_at, u16_at};
+
+/// How many parts the table says that it has; none where its version isn't 0.
+pub fn parts(kern: &[u8]) -> u32
+    ensures value { result ≡ parts_of kern.now }
+    ensures small { result ≤ 65535 }
+{
+    if u16_at(kern, 0) == 0 {
+        u32::from(u16_at(kern, 2))
+    } else {
+        0
+    }
+}
+
+/// Whether the part that begins at `start` kerns lines of this kind: it is of format 0, for lines of this kind, and
+/// doesn't move glyphs across the line.
+fn is_read(kern: &[u8], start: usize, horizontal: bool) -> bool
+    requires { start < 2 ^ 34 }
+    ensures { result ≡ is_read_of kern.now start horizontal }
+{
+    let coverage = u8_at(kern, start + 5);
+    let line = if horizontal { 1 } else { 0 };
+    u8_at(kern, start + 4) == 0 && coverage % 2 == line && coverage / 4 % 2 == 0
+}
+
+/// Kerns a buffer by the part that begins at `start`, from the left of the line to its right.
+fn kern_part(kern: &[u8], start: usize, mask: hb_mask_t, buffer: &mut hb_buffer_t)
+    requires { start < 2 ^ 34 }
+    ensures made { buffer.new ≡ part_kerned kern.now start mask buffer.old }
+    ensures len { length buffer.new.items ≡ length buffer.old.items }
+    ensures limit { limit_of buffer.new ≡ limit_of buffer.old }
+{
+    if !is_read(kern, start, buffer.direction().is_horizontal()) {
+        return;
+    }
+    if buffer.direction().is_backward() {
+        buffer.reverse();
+        kern_all(kern, start, mask, buffer);
+        buffer.reverse();
+    } else {
+        kern_all(kern, start, mask, buffer);
+    }
+}
+
+/// Kerns a buffer by all parts of the table that are read, in order, where the mask is that of some bits. A part that
+/// says that it is shorter than its header ends the table. Takes no memory.
+#[tactic(auto, using(crate::proofs::PartLemmas::kerned_from_next, crate::proofs::PartLemmas::kerned_from_short, crate::proofs::PartLemmas::kerned_from_end))]
+pub fn kern_table(kern: &[u8], mask: hb_mask_t, buffer: &mut hb_buffer_t)
+    ensures made { buffer.new ≡ table_kerned kern.now mask buffer.old }
+    ensures len { length buffer.new.items ≡ length buffer.old.items }
+    ensures limit { limit_of buffer.new ≡ limit_of buffer.old }
+{
+    if mask == 0 {
+        return;
+    }
+    let mut start: usize = 4;
+    for _i in 0..parts(kern) {
+        let len = u16_at(kern, start + 2);
+        if len < 6 {
+            return;
+        }
+        kern_part(kern, start, mask, buffer);
+        start += usize::from(len);
+    }
+}

@@ -1,0 +1,163 @@
+//! Kerning of a buffer by one part of the table.
+ghost use Rattle.std.specs.Prelude.{◌≡◌, ◌+◌, ◌<◌, ◌^◌, ◌≤ℤ◌, pos, negsuc, length, is_some};
+ghost use Rattle.std.specs.Option.{IfSome};
+ghost use Rattle.std.specs.Int.RustNames.{bit_and};
+ghost use Rattle.shape_buffer.specs.Buffer.{limit_of};
+ghost use Rattle.kern_table.specs.Walk.{is_passed as is_passed_of, moved_on as moved_on_of, moved as moved_of, position_at, position_put, pair_moved, pair_kerned, kerned_at, left_after, kerned as kerned_of};
+
+use crate::pairs::value;
+use bitflags::Flags;
+use shape_buffer::buffer::{
+    GlyphPosition, GlyphPropsFlags, hb_buffer_t, hb_glyph_info_t, hb_mask_t,
+};
+use shape_buffer::wrapping::{difference, sum};
+use shape_font::metrics::half_below;
+
+/// Whether a glyph between two others doesn't part them: a mark, or one of a default ignorable.
+fn is_passed(item: &hb_glyph_info_t) -> bool
+    ensures { result ≡ is_passed_of item.now }
+{
+    item._hb_glyph_info_get_glyph_class()
+        .contains(GlyphPropsFlags::MARK)
+        || item._hb_glyph_info_is_default_ignorable()
+}
+
+/// A position with a longer advance along the line.
+fn moved_on(horizontal: bool, by: i32, position: GlyphPosition) -> GlyphPosition
+    ensures { result ≡ moved_on_of horizontal by position }
+{
+    let mut position = position;
+    if horizontal {
+        position.x_advance = sum(position.x_advance, by);
+    } else {
+        position.y_advance = sum(position.y_advance, by);
+    }
+    position
+}
+
+/// A position moved along the line.
+fn moved(horizontal: bool, by: i32, position: GlyphPosition) -> GlyphPosition
+    ensures { result ≡ moved_of horizontal by position }
+{
+    let mut position = position;
+    if horizontal {
+        position.x_offset = sum(position.x_offset, by);
+    } else {
+        position.y_offset = sum(position.y_offset, by);
+    }
+    position
+}
+
+/// Puts a longer advance along the line in place of that of a glyph.
+fn move_on(buffer: &mut hb_buffer_t, i: usize, along: bool, by: i32)
+    requires { i < length buffer.old.items }
+    ensures { buffer.new
+        ≡ position_put i (moved_on_of along by (position_at buffer.old i)) buffer.old }
+{
+    let position = moved_on(along, by, buffer.positions()[i]);
+    buffer.set_position(i, position);
+}
+
+/// The same, and moves the glyph along the line.
+fn move_both(buffer: &mut hb_buffer_t, j: usize, along: bool, by: i32)
+    requires { j < length buffer.old.items }
+    ensures { buffer.new
+        ≡ position_put j (moved_of along by (moved_on_of along by (position_at buffer.old j))) buffer.old }
+{
+    let position = moved_on(along, by, buffer.positions()[j]);
+    buffer.set_position(j, moved(along, by, position));
+}
+
+/// Moves two glyphs apart: half of the value, downwards, goes to the advance of the first, the rest to the advance of
+/// the second, which is moved by the rest too. What lies between them is unsafe to break. 0 changes nothing.
+fn put_pair(buffer: &mut hb_buffer_t, i: usize, j: usize, by: i32)
+    requires behind { i < j }
+    requires inside { j < length buffer.old.items }
+    requires low { negsuc 32767 ≤ℤ by }
+    ensures { buffer.new ≡ pair_moved i j by buffer.old }
+{
+    let count = buffer.len();
+    if by == 0 || count <= j {
+        return;
+    }
+    let along = buffer.direction().is_horizontal();
+    let (first, second) = (half_below(by), difference(by, half_below(by)));
+    move_on(buffer, i, along, first);
+    move_both(buffer, j, along, second);
+    buffer.unsafe_to_break(i, j + 1);
+}
+
+/// The same; as many items stay, and the limit.
+#[tactic(auto, using(crate::specs::CountLaws::length_pair_moved, crate::specs::CountLaws::limit_pair_moved))]
+fn move_pair(buffer: &mut hb_buffer_t, i: usize, j: usize, by: i32)
+    requires behind { i < j }
+    requires inside { j < length buffer.old.items }
+    requires low { negsuc 32767 ≤ℤ by }
+    ensures made { buffer.new ≡ pair_moved i j by buffer.old }
+    ensures len { length buffer.new.items ≡ length buffer.old.items }
+    ensures limit { limit_of buffer.new ≡ limit_of buffer.old }
+{
+    put_pair(buffer, i, j, by);
+}
+
+/// Moves two glyphs apart by their value in the part that begins at `start`.
+fn kern_pair(kern: &[u8], start: usize, buffer: &mut hb_buffer_t, i: usize, j: usize)
+    requires part { start < 2 ^ 34 }
+    requires behind { i < j }
+    requires inside { j < length buffer.old.items }
+    ensures made { buffer.new ≡ pair_kerned kern.now start i j buffer.old }
+    ensures len { length buffer.new.items ≡ length buffer.old.items }
+    ensures limit { limit_of buffer.new ≡ limit_of buffer.old }
+{
+    let (left, right) = (buffer.infos()[i].glyph_id, buffer.infos()[j].glyph_id);
+    move_pair(buffer, i, j, value(kern, start, left, right));
+}
+
+/// Kerns glyph `j` with the one that waits at its left, where kerning is on for it and it isn't passed over.
+/// Answers which one waits after it.
+fn kern_at(
+    kern: &[u8],
+    start: usize,
+    mask: hb_mask_t,
+    buffer: &mut hb_buffer_t,
+    j: usize,
+    left: Option<usize>,
+) -> Option<usize>
+    requires part { start < 2 ^ 34 }
+    requires inside { j < length buffer.old.items }
+    requires behind { IfSome left (λ i. i < j) }
+    ensures made { buffer.new ≡ kerned_at kern.now start mask j left buffer.old }
+    ensures waits { result ≡ left_after mask j left buffer.old.items }
+    ensures before { IfSome result (λ i. i < j + 1) }
+    ensures len { length buffer.new.items ≡ length buffer.old.items }
+    ensures limit { limit_of buffer.new ≡ limit_of buffer.old }
+{
+    let item = buffer.infos()[j];
+    if left.is_some() && is_passed(&item) {
+        return left;
+    }
+    if item.mask & mask == 0 {
+        return None;
+    }
+    if let Some(i) = left {
+        kern_pair(kern, start, buffer, i, j);
+    }
+    Some(j)
+}
+
+/// Kerns a buffer from left to right by the part of the table that begins at `start`: each glyph for which kerning
+/// is on with the next one for which it is, where only glyphs that are passed over stand between them. Takes no
+/// memory, and a step for each glyph.
+#[tactic(auto, using(crate::specs::CountLaws::length_concat, crate::specs::CountLaws::limit_concat, crate::proofs::PartLemmas::kerned_to_next_buffer, crate::proofs::PartLemmas::kerned_to_next_left))]
+pub fn kern_all(kern: &[u8], start: usize, mask: hb_mask_t, buffer: &mut hb_buffer_t)
+    requires { start < 2 ^ 34 }
+    ensures made { buffer.new ≡ kerned_of kern.now start mask buffer.old }
+    ensures len { length buffer.new.items ≡ length buffer.old.items }
+    ensures limit { limit_of buffer.new ≡ limit_of buffer.old }
+{
+    buffer.unsafe_to_concat(0, buffer.len());
+    let mut left = None;
+    for j in 0..buffer.len() {
+        left = kern_at(kern, start, mask, buffer, j, left);
+    }
+}

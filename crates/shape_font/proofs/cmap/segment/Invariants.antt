@@ -1,8 +1,0 @@
-use Rattle.std.proofs.Common.{◌≡◌, ◌+◌, ◌-◌, ◌*◌, nat_le, ℕ, Bool}
-use Rattle.shape_font.specs.Bytes.{u16_of}
-use Rattle.shape_font.specs.Search.{first_at}
-use Rattle.shape_font.proofs.cmap.segment.Given as goal
-
--- what is found from here on is what is found from the start
-abbrev pub invariant-loop-i : goal.invariant-loop-i
-invariant-loop-i l = let p : ℕ → Bool = λ i. nat_le l.c (u16_of l.table (14 + 2 * i)) in first_at p l.count 0 ≡ first_at p (l.count - l.i) l.i

@@ -1,0 +1,16 @@
+use Rattle.shape_font.specs.WorkedSearches.{worked_searches, worked_variations}
+use Rattle.shape_font.specs.WorkedNames.{worked_names}
+use Rattle.shape_font.specs.WorkedFace.{worked_face}
+use Rattle.shape_font.proofs.worked.searches_meet_worked_cases.Goals as goal
+
+pub returns-clause-searches : goal.returns-clause-searches
+returns-clause-searches c = worked_searches
+
+pub returns-clause-variations : goal.returns-clause-variations
+returns-clause-variations c = worked_variations
+
+pub returns-clause-names : goal.returns-clause-names
+returns-clause-names c = worked_names
+
+pub returns-clause-face : goal.returns-clause-face
+returns-clause-face c = worked_face

@@ -1,0 +1,41 @@
+-- Names of glyphs, on tables that were read by hand.
+use Rattle.std.specs.Prelude.{◌≡◌, ℕ, List, [], ◌∷◌, ◌++◌, Some, None, replicate, refl}
+use Rattle.shape_font.specs.Names.{string_of, glyph_name}
+use Rattle.shape_font.specs.declared.names.TheConstants.{STANDARD}
+
+-- two names that a table may leave out, X and YZ
+abbrev pub left_out : List ℕ
+left_out = 1 ∷ 88 ∷ 2 ∷ 89 ∷ 90 ∷ []
+
+-- format 2 of four glyphs: the first name that is left out, then the strings A, bc and an empty one
+abbrev pub four_names : List ℕ
+four_names = 0 ∷ 2 ∷ 0 ∷ 0 ∷ replicate 28 0 ++ 0 ∷ 4 ∷ 0 ∷ 0 ∷ 1 ∷ 2 ∷ 1 ∷ 3 ∷ 1 ∷ 4 ∷ 1 ∷ 65 ∷ 2 ∷ 98 ∷ 99 ∷ 0 ∷ []
+
+pub record WorkedNames : Type 0 where
+  pub one_that_is_left_out : glyph_name left_out four_names 0 ≡ Some (88 ∷ [])
+  pub first_string : glyph_name left_out four_names 1 ≡ Some (65 ∷ [])
+  pub second_string : glyph_name left_out four_names 2 ≡ Some (98 ∷ 99 ∷ [])
+  pub empty_string : glyph_name left_out four_names 3 ≡ None
+  pub past_the_list : glyph_name left_out four_names 4 ≡ None
+  pub by_number : glyph_name left_out (0 ∷ 1 ∷ 0 ∷ 0 ∷ []) 1 ≡ Some (89 ∷ 90 ∷ [])
+  pub past_all_that_are_left_out : glyph_name left_out (0 ∷ 1 ∷ 0 ∷ 0 ∷ []) 258 ≡ None
+  pub other_format : glyph_name left_out (0 ∷ 3 ∷ 0 ∷ 0 ∷ []) 1 ≡ None
+  pub no_table : glyph_name left_out [] 1 ≡ None
+  pub past_the_end : string_of (1 ∷ 65 ∷ 2 ∷ 98 ∷ []) 1 0 ≡ None
+  -- .null
+  pub second_standard_name : string_of STANDARD.now 1 0 ≡ Some (0x2E ∷ 0x6E ∷ 0x75 ∷ 0x6C ∷ 0x6C ∷ [])
+
+pub worked_names : WorkedNames
+worked_names = record {
+  one_that_is_left_out = refl;
+  first_string = refl;
+  second_string = refl;
+  empty_string = refl;
+  past_the_list = refl;
+  by_number = refl;
+  past_all_that_are_left_out = refl;
+  other_format = refl;
+  no_table = refl;
+  past_the_end = refl;
+  second_standard_name = refl;
+}

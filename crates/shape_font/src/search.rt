@@ -1,0 +1,55 @@
+//! Searches among records in order: by midpoints, as HarfBuzz searches, so that records out of order are found or
+//! missed as there.
+ghost use Rattle.std.specs.Prelude.{◌≡◌, ℕ, ◌<◌, Option};
+ghost use Rattle.std.specs.declared.cmp.Ordering.{Ordering};
+ghost use Rattle.shape_font.specs.Search.{found_by, side_of, side_from_end};
+
+use std::cmp::Ordering;
+
+/// Whether a number stands before a range, in it or after it.
+pub fn side(n: u32, start: u32, end: u32) -> Ordering
+    ensures { result ≡ side_of n start end }
+{
+    if n < start {
+        Ordering::Less
+    } else if end < n {
+        Ordering::Greater
+    } else {
+        Ordering::Equal
+    }
+}
+
+/// The same where the end decides first: after the end, whatever the start is.
+pub fn side_by_end(n: u32, start: u32, end: u32) -> Ordering
+    ensures { result ≡ side_from_end n start end }
+{
+    if end < n {
+        Ordering::Greater
+    } else if n < start {
+        Ordering::Less
+    } else {
+        Ordering::Equal
+    }
+}
+
+/// The place of the first `count` that a search by midpoints meets and finds equal. `side` says of a place whether
+/// what is sought stands before it, at it or after it. Takes a step for each bit of `count`.
+pub fn found<F: Fn(u32) -> Ordering>(count: u32, side: F) -> Option<u32>
+where
+    F: Drop,
+    requires { F.IsAlwaysCallable side }
+    ensures { (says : ℕ → Ordering)
+        → ((i : ℕ) (o : Ordering) → i < count → F.post side i o → o ≡ says i)
+        → result ≡ found_by says count }
+{
+    let (mut start, mut end) = (0, count);
+    while start < end {
+        let middle = start + (end - start - 1) / 2;
+        match side(middle) {
+            Ordering::Less => end = middle,
+            Ordering::Equal => return Some(middle),
+            Ordering::Greater => start = middle + 1,
+        }
+    }
+    None
+}

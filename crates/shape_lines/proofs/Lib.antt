@@ -1,0 +1,10 @@
+pub mod NeighbourLemmas
+pub mod TextOrderLemmas
+pub mod PlaceLemmas
+pub mod PartLemmas
+pub mod TotalLemmas
+pub mod LeastLemmas
+pub mod WalkedLemmas
+pub mod RightLineLemmas
+pub mod DecideLemmas
+pub mod UniqueLemmas

@@ -1,0 +1,9 @@
+pub mod CanCut
+pub mod TextOrder
+pub mod Places
+pub mod RightLines
+pub mod Parts
+pub mod Walked
+pub mod WorkedCanCut
+pub mod WorkedPlaces
+pub mod WorkedLines

@@ -1,0 +1,14 @@
+//! Lines of a shaped text.
+//!
+//! A paragraph is shaped once, and then cut where its lines end. [`can_cut`] answers whether the clusters and
+//! flags of the glyphs tell where that may be; [`laws`] has where, glyph by glyph.
+#![tactic(auto)]
+
+pub mod cuttable;
+pub mod cutting;
+pub mod laws;
+mod reading;
+pub mod worked;
+
+pub use cuttable::can_cut;
+pub use cutting::{Line, cut_lines};

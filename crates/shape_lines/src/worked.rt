@@ -1,0 +1,21 @@
+//! The definitions, computed on small cases whose answers are worked out by hand.
+ghost use Rattle.shape_lines.specs.WorkedCanCut.{WorkedCanCut, WorkedCannotCut};
+ghost use Rattle.shape_lines.specs.WorkedLines.{WorkedLines};
+ghost use Rattle.shape_lines.specs.WorkedPlaces.{WorkedTextOrder, WorkedPlaces};
+
+/// What can be cut into lines, and what can't.
+pub fn cuttable_meets_worked_cases()
+    ensures can { WorkedCanCut }
+    ensures cannot { WorkedCannotCut }
+{}
+
+/// The order of the text, and the places of a cut.
+pub fn places_meet_worked_cases()
+    ensures order { WorkedTextOrder }
+    ensures places { WorkedPlaces }
+{}
+
+/// Right lines.
+pub fn lines_meet_worked_cases()
+    ensures { WorkedLines }
+{}

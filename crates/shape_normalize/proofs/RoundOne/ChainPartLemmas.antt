@@ -1,0 +1,98 @@
+-- The parts of an expansion, each with the glyph of its character.
+use Rattle.std.proofs.Common.{◌≡◌, ℕ, ◌≤◌, Bool, true, false, if◌then◌else◌, List, [], ◌∷◌, ◌++◌, map, reverse, take, Option, None, Some, unwrap_or, IfSome, refl, sym, ap, ap₂, ◌∙◌}
+use Rattle.std.proofs.lemmas.List.{take-map, map-append, reverse-append}
+use Rattle.std.specs.Option.{option_map, option_map_or}
+use Rattle.canonical_form.specs.Chain.{kept_part}
+use Rattle.canonical_form.proofs.Expanding.WalkLemmas.{found_parts}
+use Rattle.shape_buffer.specs.Items.{Item}
+use Rattle.shape_buffer.specs.Unicode.{UnicodeMeaning}
+use Rattle.shape_buffer.specs.declared.buffer.flags.ScratchFlags.{ScratchFlags}
+use Rattle.shape_buffer.specs.declared.buffer.settings.GlyphId.{GlyphId}
+use Rattle.shape_normalize.specs.RoundOne.{part_item, seen_chars}
+use Rattle.shape_normalize.specs.OneWalk.{part_of_char, with_part, seen_parts}
+use Rattle.shape_normalize.specs.declared.ot_shape_normalize.decompose.Part.{Part}
+
+-- the characters of parts
+abbrev pub chars_of : List Part → List ℕ
+chars_of parts = map (λ part. part.c) parts
+
+-- what was found, by its character
+abbrev pub found_chars : Option (Part × ℕ) → Option (ℕ × ℕ)
+found_chars found = option_map (λ f. (f.0.c, f.1)) found
+
+reverse-map : {X Y : Type 0} (f : X → Y) (xs : List X) → reverse (map f xs) ≡ map f (reverse xs)
+reverse-map f [] = refl
+reverse-map f (x ∷ xs) =
+    reverse-append (f x ∷ []) (map f xs) ∙ ap (λ l. l ++ f x ∷ []) (reverse-map f xs)
+    ∙ sym (map-append f (reverse xs) (x ∷ [])) ∙ ap (map f) (sym (reverse-append (x ∷ []) xs))
+
+-- what was found is within the second parts, by characters too
+pub found_within : (found : Option (Part × ℕ)) (n : ℕ) → IfSome found (λ f. f.1 ≤ n) → IfSome (found_chars found) (λ f. f.1 ≤ n)
+found_within None n within = tt
+found_within (Some f) n within = within
+
+-- a part that was answered, and none
+pub part_is : (p q : Part) (t : Bool) → Some p ≡ (if t then Some q else None) → (true ≡ t) × (p ≡ q)
+part_is p q true e = (refl, ap (λ o. unwrap_or o q) e)
+part_is p q false e = absurd (cc)
+
+pub none_is : (q : Part) (t : Bool) → None ≡ (if t then Some q else None) → false ≡ t
+none_is q true e = absurd (cc)
+none_is q false e = refl
+
+module _ (glyph : ℕ → Option GlyphId) where
+  pub chars-parts : (cs : List ℕ) → chars_of (map (part_of_char glyph) cs) ≡ cs
+  chars-parts [] = refl
+  chars-parts (c ∷ cs) = ap (λ l. c ∷ l) (chars-parts cs)
+
+  -- a second part that is kept
+  pub grown_chars : (old new : List Part) (b : ℕ) → new ≡ old ++ map (part_of_char glyph) (kept_part b)
+      → chars_of new ≡ chars_of old ++ kept_part b
+  grown_chars old new b grown =
+      ap chars_of grown ∙ map-append (λ (p : Part). p.c) old (map (part_of_char glyph) (kept_part b))
+      ∙ ap (λ l. chars_of old ++ l) (chars-parts (kept_part b))
+
+  pub grown_parts : (old new : List Part) (b : ℕ) → old ≡ map (part_of_char glyph) (chars_of old)
+      → new ≡ old ++ map (part_of_char glyph) (kept_part b) → new ≡ map (part_of_char glyph) (chars_of new)
+  grown_parts old new b each grown =
+      grown ∙ ap (λ l. l ++ map (part_of_char glyph) (kept_part b)) each
+      ∙ sym (map-append (part_of_char glyph) (chars_of old) (kept_part b))
+      ∙ ap (map (part_of_char glyph)) (sym (grown_chars old new b grown))
+
+  -- parts that were found, by their characters
+  pub parts_found : (found : Option (Part × ℕ)) (seconds : List Part) → seconds ≡ map (part_of_char glyph) (chars_of seconds)
+      → IfSome found (λ f. f.0 ≡ part_of_char glyph f.0.c)
+      → option_map (λ f. f.0 ∷ reverse (take f.1 seconds)) found
+      ≡ option_map (map (part_of_char glyph)) (found_parts (found_chars found) (chars_of seconds))
+  parts_found None seconds each first = refl
+  parts_found (Some f) seconds each first =
+      ap₂ (λ x xs. Some (x ∷ reverse (take f.1 xs))) first each
+      ∙ ap (λ xs. Some (part_of_char glyph f.0.c ∷ xs)) (ap reverse (take-map (part_of_char glyph) f.1 (chars_of seconds))
+      ∙ reverse-map (part_of_char glyph) (take f.1 (chars_of seconds)))
+
+  module _ (unicode : UnicodeMeaning) (item : Item) where
+    put_chars : (cs : List ℕ) → map (with_part unicode item) (map (part_of_char glyph) cs) ≡ map (part_item unicode glyph item) cs
+    put_chars [] = refl
+    put_chars (c ∷ cs) = ap (λ l. part_item unicode glyph item c ∷ l) (put_chars cs)
+
+    -- what an item becomes, by the parts that were kept
+    pub parts_put : (chosen : Option (List ℕ)) (whole : List Item) (parts : List Part)
+        → Some parts ≡ option_map (map (part_of_char glyph)) chosen
+        → option_map_or (map (part_item unicode glyph item)) chosen whole ≡ map (with_part unicode item) parts
+    parts_put None whole parts e = absurd (cc)
+    parts_put (Some cs) whole parts e =
+        let are : parts ≡ map (part_of_char glyph) cs = ap (λ o. unwrap_or o []) e in
+        sym (ap (map (with_part unicode item)) are ∙ put_chars cs)
+
+    pub parts_seen : (chosen : Option (List ℕ)) (flags other : ScratchFlags) (parts : List Part)
+        → Some parts ≡ option_map (map (part_of_char glyph)) chosen
+        → option_map_or (seen_chars unicode flags) chosen other ≡ seen_parts unicode flags parts
+    parts_seen None flags other parts e = absurd (cc)
+    parts_seen (Some cs) flags other parts e =
+        let are : parts ≡ map (part_of_char glyph) cs = ap (λ o. unwrap_or o []) e in
+        sym (ap (seen_chars unicode flags) (ap chars_of are ∙ chars-parts cs))
+
+  -- where none is kept, none is chosen
+  pub none_chosen : (chosen : Option (List ℕ)) → None ≡ option_map (map (part_of_char glyph)) chosen → chosen ≡ None
+  none_chosen None e = refl
+  none_chosen (Some cs) e = absurd (cc)

@@ -1,0 +1,50 @@
+use Rattle.std.proofs.Common.{rules, ◌≡◌, ◌<◌, ◌+◌, ◌++◌, ◌==◌, length, get_or, drop, sym, ap, ◌∙◌, arith, append_assoc}
+use Rattle.shape_plan.specs.Rules.{rules_of}
+use Rattle.shape_normalize.specs.RoundOne.{expanded_item, seen_expanded}
+use Rattle.shape_normalize.specs.OneWalk.{stands_with_marks, expanded_behind}
+use Rattle.shape_normalize.proofs.RoundOne.OneWalkLemmas.{behind_here, seen_here, passed_by_more}
+use Rattle.shape_normalize.proofs.ot_shape_normalize.one_walk.expand_on.Goals as goal
+
+pub loop-i-preserved : goal.loop-i-preserved
+loop-i-preserved g c =
+    let shaper = g.T.Shaper.hb_ot_shaper_t in
+    let planned = rules_of g.T.Unicode.hb_unicode_funcs_t.unicode shaper.constants shaper.hooks g.T.Face.hb_font_t.face c.args.plan.now c.args.face.now in
+    let invisible = c.invisible_glyph-invisible.result in
+    let items = c.infos-infos.result.now in
+    let i = c.loop-i.i in
+    let item = c.index-infos-i.result in
+    let out = c.loop-i.out.infos.items in
+    let within : i < length items = omega (arith, c.loop-i-test.true) in
+    let at : item ≡ get_or items i item = c.index-infos-i.is in
+    let short : c.is_asked-shortest.result ≡ planned.short (stands_with_marks (i == 0) (drop i items)) =
+    c.is_asked-shortest.ensures planned.short c.requires.shortest ∙ ap planned.short c.stands_with_marks_at.ensures in
+    let put : c.put_item.new.self.infos.items ≡ out ++ expanded_item planned invisible c.is_asked-shortest.result item =
+    search (rules, c.in_ok-put_item.ensures.infos) in
+    let seen : c.put_item.new.self.scratch_flags ≡ seen_expanded planned invisible c.is_asked-shortest.result c.loop-i.out.scratch_flags item =
+    search (rules, c.in_ok-put_item.ensures.flags) in
+    record {
+      infos = rw (put, short) (append_assoc out _ _
+          ∙ ap (λ xs. out ++ xs) (sym (behind_here planned invisible items i item within at)) ∙ c.loop-i.invariant.infos);
+      flags = rw (seen, short) (sym (seen_here planned invisible items i item c.loop-i.out.scratch_flags within at) ∙ c.loop-i.invariant.flags);
+      within = search (rules, c.in_ok-put_item.ensures.within);
+    }
+
+-- what was put out, and what this item becomes, is a part of the whole
+pub returns-in_err-put_item-clause-length : goal.returns-in_err-put_item-clause-length
+returns-in_err-put_item-clause-length g c is_length =
+    let shaper = g.T.Shaper.hb_ot_shaper_t in
+    let planned = rules_of g.T.Unicode.hb_unicode_funcs_t.unicode shaper.constants shaper.hooks g.T.Face.hb_font_t.face c.args.plan.now c.args.face.now in
+    let invisible = c.invisible_glyph-invisible.result in
+    let items = c.infos-infos.result.now in
+    let i = c.loop-i.i in
+    let item = c.index-infos-i.result in
+    let out = c.loop-i.out.infos.items in
+    let short : c.is_asked-shortest.result ≡ planned.short (stands_with_marks (i == 0) (drop i items)) =
+    c.is_asked-shortest.ensures planned.short c.requires.shortest ∙ ap planned.short c.stands_with_marks_at.ensures in
+    let becomes = expanded_item planned invisible (planned.short (stands_with_marks (i == 0) (drop i items))) item in
+    let later = expanded_behind planned invisible (i + 1 == 0) (drop (i + 1) items) in
+    let passed : c.length_limit-limit.result < length (out ++ becomes) = rw (← short) (c.in_err-put_item.ensures.length (search rules)) in
+    rw (← c.infos-infos.ensures, ← c.length_limit-limit.ensures, ← c.invisible_glyph-invisible.ensures)
+    (passed_by_more (out ++ becomes) later _ c.length_limit-limit.result (append_assoc out becomes later
+    ∙ ap (λ xs. out ++ xs) (sym (behind_here planned invisible items i item (omega (arith, c.loop-i-test.true)) c.index-infos-i.is))
+    ∙ c.loop-i.invariant.infos) passed)

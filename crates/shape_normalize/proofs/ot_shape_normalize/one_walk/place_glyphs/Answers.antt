@@ -1,0 +1,38 @@
+use Rattle.std.proofs.Common.{rules, ◌≡◌, ◌<◌, ◌==◌, length, get_or, List, set, drop, sym, ap, ◌∙◌, arith, ◌∷◌, []}
+use Rattle.std.proofs.lemmas.Grind.{common_steps}
+use Rattle.shape_buffer.specs.Buffer.{Buffer}
+use Rattle.shape_buffer.specs.Items.{Item}
+use Rattle.shape_plan.specs.Rules.{rules_of}
+use Rattle.shape_normalize.specs.RoundOne.{expanded_item, seen_expanded}
+use Rattle.shape_normalize.specs.OneWalk.{stands_with_marks}
+use Rattle.shape_normalize.proofs.RoundOne.OneWalkLemmas.{placed_more, seen_more}
+use Rattle.shape_normalize.proofs.ot_shape_normalize.one_walk.place_glyphs.Goals as goal
+
+pub loop-i-preserved : goal.loop-i-preserved
+loop-i-preserved g c =
+    let shaper = g.T.Shaper.hb_ot_shaper_t in
+    let planned = rules_of g.T.Unicode.hb_unicode_funcs_t.unicode shaper.constants shaper.hooks g.T.Face.hb_font_t.face c.args.plan.now c.args.face.now in
+    let invisible = c.invisible_glyph-invisible.result in
+    let items = c.loop-i.buffer.items in
+    let i = c.loop-i.i in
+    let item = c.index-infos-i.result in
+    let whole = c.in-Some.whole in
+    let infos_are : c.infos-infos.result.now ≡ items = c.infos-infos.ensures in
+    let within : i < length items = omega (arith, c.loop-i-test.true, c.loop-i.invariant.as_many, c.len-i-end.ensures.items) in
+    let at : item ≡ get_or items i item = c.index-infos-i.is ∙ ap (λ xs. get_or xs i item) infos_are in
+    let short : c.is_asked.result ≡ planned.short (stands_with_marks (i == 0) (drop i items)) =
+    c.is_asked.ensures planned.short c.requires
+    ∙ ap planned.short (c.stands_with_marks_at.ensures ∙ ap (λ xs. stands_with_marks (i == 0) (drop i xs)) infos_are) in
+    let becomes : expanded_item planned invisible c.is_asked.result item ≡ whole ∷ [] = search (rules, c.in_ok-found.ensures.item) in
+    let stays : expanded_item planned invisible (planned.short (stands_with_marks (i == 0) (drop i items))) item ≡ whole ∷ [] =
+    rw short at becomes in
+    let flags : c.unexpanded.new.scratch_flags ≡ seen_expanded planned invisible c.is_asked.result c.loop-i.scratch_flags item =
+    search (rules, c.in_ok-found.ensures.flags) in
+    let written : c.set_info.new.self.items ≡ set items i whole = ap (λ (b : Buffer). b.items) c.set_info.ensures in
+    record {
+      placed = rw written (placed_more planned invisible items i item whole within at stays ∙ c.loop-i.invariant.placed);
+      seen = rw (written, flags, short) (seen_more planned invisible items i item whole c.loop-i.scratch_flags within at ∙ c.loop-i.invariant.seen);
+      as_many = grind (arith, common_steps, written);
+      rest = c.set_info.ensures ∙ ap (λ (b : Buffer). record b { items = set items i whole }) c.loop-i.invariant.rest
+          ∙ ap (λ (xs : List Item). record c.args.buffer.now { items = xs }) (sym written);
+    }

@@ -1,0 +1,19 @@
+use Rattle.std.proofs.Common.{◌≡◌, ◌++◌, ◌==◌, true, take, drop, length}
+use Rattle.shape_plan.specs.Rules.{rules_of}
+use Rattle.shape_normalize.specs.OneWalk.{expanded_behind, seen_behind}
+use Rattle.shape_normalize.proofs.ot_shape_normalize.one_walk.place_glyphs.Given as goal
+
+-- what stands at its place, then what is left expanded, is what the list expands to
+abbrev pub invariant-loop-i : goal.invariant-loop-i
+invariant-loop-i g l =
+    let shaper = g.T.Shaper.hb_ot_shaper_t in
+    let rules = rules_of g.T.Unicode.hb_unicode_funcs_t.unicode shaper.constants shaper.hooks g.T.Face.hb_font_t.face l.plan l.face in
+    let old = l.fn.buffer in
+    record {
+      placed : take l.i l.buffer.items ++ expanded_behind rules l.invisible (l.i == 0) (drop l.i l.buffer.items)
+          ≡ expanded_behind rules l.invisible true old.items;
+      seen : seen_behind rules l.invisible (l.i == 0) l.scratch_flags (drop l.i l.buffer.items)
+          ≡ seen_behind rules l.invisible true old.scratch_flags old.items;
+      as_many : length l.buffer.items ≡ length old.items;
+      rest : l.buffer ≡ record old { items = l.buffer.items };
+    }

@@ -1,0 +1,16 @@
+use Rattle.std.proofs.Common.{◌≡◌, ◌++◌, reverse, map, vec_len}
+use Rattle.shape_normalize.specs.OneWalk.{with_part, seen_parts}
+use Rattle.shape_normalize.proofs.ot_shape_normalize.round_one.expanded.Expanded.put_parts.Given as goal
+
+abbrev pub invariant-loop-part : goal.invariant-loop-part
+invariant-loop-part g l =
+    let unicode = g.U.hb_unicode_funcs_t.unicode in
+    record {
+      infos : l.self.infos.items ++ map (with_part unicode l.info) (reverse l.self.expansion.seconds.items)
+          ≡ l.initial.self.infos.items ++ map (with_part unicode l.info) (reverse l.initial.self.expansion.seconds.items);
+      flags : seen_parts unicode l.self.scratch_flags (reverse l.self.expansion.seconds.items)
+          ≡ seen_parts unicode l.initial.self.scratch_flags (reverse l.initial.self.expansion.seconds.items);
+    }
+
+abbrev pub decreases-loop-part : goal.decreases-loop-part
+decreases-loop-part g l = vec_len l.self.expansion.seconds

@@ -1,0 +1,154 @@
+//! Round one in one walk, for a list whose sequences are all expanded: in place, up to the first item that
+//! expands, and from there on into a list of its own.
+//!
+//! Most texts become no longer. So each item takes its glyph where it stands, and no memory is taken, as
+//! long as nothing expands.
+ghost use Rattle.std.specs.Prelude.{◌≡◌, ◌≤◌, ◌<◌, ◌==◌, ◌++◌, drop, take, length, vec_len};
+ghost use Rattle.std.specs.Prelude.{IfOk, OnOk, Err, true};
+ghost use Rattle.shape_buffer.specs.Buffer.{cleared, limit_of};
+ghost use Rattle.shape_normalize.specs.RoundOne.{round_one};
+ghost use Rattle.shape_normalize.specs.OneWalk.{HasNoSelectorSequence, shortest_of};
+ghost use Rattle.shape_normalize.specs.OneWalk.{expanded_behind, seen_behind, stands_with_marks};
+
+use crate::ot_shape_normalize::decompose::Expansion;
+use crate::ot_shape_normalize::mode::Shortest;
+use crate::ot_shape_normalize::round_one::{Expanded, unexpanded};
+use shape_buffer::buffer::{ShapeError, hb_buffer_t, hb_glyph_info_t};
+use shape_buffer::interfaces::{hb_font_t, hb_ot_layout_t, hb_unicode_funcs_t};
+use shape_plan::ot_shaper::hb_ot_shaper_t;
+use shape_plan::shaping_types::{Meaning, PlanOf, ShapingTypes};
+use std::alloc::{AllocError, Global};
+
+/// Whether the item at a place stands in a sequence with marks.
+fn stands_with_marks_at(infos: &[hb_glyph_info_t], i: usize) -> bool
+    requires { i < length infos.now }
+    ensures { result ≡ stands_with_marks (i == 0) (drop i infos.now) }
+{
+    let is_behind = infos[i]._hb_glyph_info_is_unicode_mark() && i != 0;
+    is_behind || i + 1 < infos.len() && infos[i + 1]._hb_glyph_info_is_unicode_mark()
+}
+
+/// Gives each item its glyph, up to the first that expands. Answers the place of that one, or the length.
+fn place_glyphs<T: ShapingTypes>(
+    plan: &PlanOf<'_, T>,
+    face: &T::Face,
+    buffer: &mut hb_buffer_t,
+    shortest: &Shortest,
+    expansion: &mut Expansion,
+) -> Result<usize, AllocError>
+    requires { shortest.now ≡ shortest_of (⟦<T as Meaning>⟧.rules plan.now face.now).short }
+    ensures placed { let rules = ⟦<T as Meaning>⟧.rules plan.now face.now in
+        IfOk result (λ n. take n buffer.new.items
+        ++ expanded_behind rules buffer.old.invisible_glyph (n == 0) (drop n buffer.new.items)
+        ≡ expanded_behind rules buffer.old.invisible_glyph true buffer.old.items) }
+    ensures seen { let rules = ⟦<T as Meaning>⟧.rules plan.now face.now in
+        IfOk result (λ n. seen_behind rules buffer.old.invisible_glyph (n == 0)
+        buffer.new.scratch_flags (drop n buffer.new.items)
+        ≡ seen_behind rules buffer.old.invisible_glyph true
+        buffer.old.scratch_flags buffer.old.items) }
+    ensures within { IfOk result (λ n. n ≤ length buffer.new.items) }
+    ensures rest { buffer.new ≡ record buffer.old {
+      items = buffer.new.items;
+      scratch_flags = buffer.new.scratch_flags;
+    } }
+{
+    let invisible = buffer.invisible_glyph();
+    let mut scratch_flags = buffer.scratch_flags();
+    for i in 0..buffer.len() {
+        let infos = buffer.infos();
+        let found = unexpanded::<T>(
+            plan,
+            face,
+            &infos[i],
+            shortest.is_asked(stands_with_marks_at(infos, i)),
+            invisible,
+            expansion,
+            &mut scratch_flags,
+        )?;
+        let Some(whole) = found else {
+            buffer.set_scratch_flags(scratch_flags);
+            return Ok(i);
+        };
+        buffer.set_info(i, whole);
+    }
+    buffer.set_scratch_flags(scratch_flags);
+    Ok(buffer.len())
+}
+
+/// What the items before `from` are, which have their glyphs, and then what the others become. Refuses with
+/// `Length` where that passes the limit.
+fn expand_on<T: ShapingTypes>(
+    alloc: Global,
+    plan: &PlanOf<'_, T>,
+    face: &T::Face,
+    buffer: &hb_buffer_t,
+    shortest: &Shortest,
+    from: usize,
+    expansion: Expansion,
+) -> Result<Expanded, ShapeError>
+    requires shortest { shortest.now ≡ shortest_of (⟦<T as Meaning>⟧.rules plan.now face.now).short }
+    requires from { from ≤ length buffer.now.items }
+    ensures infos { let rules = ⟦<T as Meaning>⟧.rules plan.now face.now in
+        IfOk result (λ out. out.infos.items ≡ take from buffer.now.items ++ expanded_behind rules
+        buffer.now.invisible_glyph (from == 0) (drop from buffer.now.items)) }
+    ensures flags { let rules = ⟦<T as Meaning>⟧.rules plan.now face.now in
+        IfOk result (λ out. out.scratch_flags ≡ seen_behind rules buffer.now.invisible_glyph
+        (from == 0) buffer.now.scratch_flags (drop from buffer.now.items)) }
+    ensures within { IfOk result (λ out. vec_len out.infos ≤ limit_of buffer.now) }
+    ensures length { let rules = ⟦<T as Meaning>⟧.rules plan.now face.now in
+        result ≡ Err ShapeError.Length → limit_of buffer.now
+        < length (take from buffer.now.items ++ expanded_behind rules
+        buffer.now.invisible_glyph (from == 0) (drop from buffer.now.items)) }
+{
+    let infos = buffer.infos();
+    let invisible = buffer.invisible_glyph();
+    let limit = buffer.length_limit();
+    if limit < from {
+        return Err(ShapeError::Length);
+    }
+    let room = infos.len().saturating_add((infos.len() - from) / 2);
+    let mut out = Expanded {
+        infos: Vec::with_capacity(alloc, room)?,
+        scratch_flags: buffer.scratch_flags(),
+        expansion,
+    };
+    out.infos.extend_from_slice(&infos[..from])?;
+    for i in from..infos.len() {
+        let shortest = shortest.is_asked(stands_with_marks_at(infos, i));
+        out.put_item::<T>(plan, face, &infos[i], shortest, invisible, limit)?;
+    }
+    Ok(out)
+}
+
+/// Puts what the items become in their place, where each sequence is expanded. Refuses with `Length` where
+/// that passes the limit; after a refusal the settings that clearing keeps are as they were.
+pub(crate) fn expand_in_one_walk<T: ShapingTypes>(
+    alloc: Global,
+    plan: &PlanOf<'_, T>,
+    buffer: &mut hb_buffer_t,
+    face: &T::Face,
+) -> Result<(), ShapeError>
+    requires { HasNoSelectorSequence T.Unicode.unicode buffer.old.items }
+    ensures ok { OnOk result (buffer.new
+        ≡ round_one (⟦<T as Meaning>⟧.rules plan.now face.now) buffer.old) }
+    ensures within { OnOk result (length buffer.new.items ≤ limit_of buffer.old) }
+    ensures length { result ≡ Err ShapeError.Length → limit_of buffer.old < length (round_one
+        (⟦<T as Meaning>⟧.rules plan.now face.now) buffer.old).items }
+    ensures settings { cleared buffer.new ≡ cleared buffer.old }
+{
+    let shortest = Shortest::of::<T>(plan);
+    let mut expansion = Expansion::new(alloc);
+    let from = place_glyphs::<T>(plan, face, buffer, &shortest, &mut expansion)?;
+    if from == buffer.len() {
+        if buffer.length_limit() < from {
+            return Err(ShapeError::Length);
+        }
+        buffer.clear_positions();
+        return Ok(());
+    }
+    let out = expand_on::<T>(alloc, plan, face, buffer, &shortest, from, expansion)?;
+    let scratch_flags = out.scratch_flags;
+    buffer.replace_infos(out.infos)?;
+    buffer.set_scratch_flags(scratch_flags);
+    Ok(())
+}

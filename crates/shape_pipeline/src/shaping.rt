@@ -1,0 +1,167 @@
+//! The entries: text goes in, glyphs come out.
+ghost use Rattle.std.specs.Prelude.{◌≡◌, ◌≤◌, [], length, IsOk, IfOk, IfErr};
+ghost use Rattle.shape_buffer.specs.Buffer.{cleared, run_limit};
+ghost use Rattle.shape_buffer.specs.Guess.{guessed, guessed_direction};
+ghost use Rattle.shape_pipeline.specs.Headline.{target_of, prepared_text, normalised_list};
+ghost use Rattle.shape_pipeline.specs.Headline.{IsMadeOfNormalisedList, NormalForm};
+ghost use Rattle.shape_pipeline.specs.Headline.{FlagsAreByCluster};
+ghost use Rattle.shape_pipeline.specs.Canonical.{ListIsCanonical};
+ghost use Rattle.shape_pipeline.specs.Order.{ClustersComeInOrder};
+ghost use Rattle.shape_pipeline.specs.Shaped.{shaped, Shapes, ShapingPasses};
+ghost use Rattle.shape_pipeline.specs.Planned.{planned_for, data_for_text};
+ghost use Rattle.shape_plan.specs.Plan.{Fits};
+
+use crate::ot_shape::{hb_ot_shape_context_t, shape_internal};
+use shape_buffer::buffer::{Feature, GlyphBuffer, ShapeError, ShapeFault, UnicodeBuffer};
+use shape_buffer::interfaces::{hb_font_t, hb_ot_layout_t, hb_unicode_funcs_t};
+use shape_plan::ot_shape_plan::hb_ot_shape_plan_t;
+use shape_plan::ot_shaper::{Runs, hb_ot_shaper_t};
+use shape_plan::planner::Plans;
+use std::alloc::Global;
+
+/// The glyphs of a text by a plan that fits it, with positions in units of the face and clusters that lead
+/// back to the text. Script and direction are guessed where they aren't set. Refuses with `Length` where a
+/// step would leave a list past the run's limit (in normalising the expanded list counts), and with
+/// `Memory` where a growth was refused; the fault holds the cleared buffer. An empty text gives an empty
+/// result and takes no memory. `form` is a law of the list that the run normalises, `canonical` says that it
+/// is equivalent to the text where hooks keep equivalence, and `made` that the glyphs are made of that list.
+pub fn shape_with_plan<U, F, M, S>(
+    alloc: Global,
+    face: &F,
+    plan: &hb_ot_shape_plan_t<'_, S, M::Map, S::Data>,
+    mut buffer: UnicodeBuffer,
+) -> Result<GlyphBuffer, ShapeFault>
+where
+    U: hb_unicode_funcs_t,
+    F: hb_font_t,
+    M: hb_ot_layout_t<F>,
+    S: hb_ot_shaper_t<U, F, M>,
+    requires { Fits U.unicode plan.now buffer }
+    ensures glyphs { IfOk result (λ glyphs. glyphs
+        ≡ shaped (⟦<S as Runs<U, F, M>>⟧.run plan.now face.now) buffer) }
+    ensures direction { IfOk result (λ glyphs. glyphs.direction
+        ≡ guessed_direction U.unicode buffer) }
+    ensures made { let run = ⟦<S as Runs<U, F, M>>⟧.run plan.now face.now in
+        IfOk result (λ glyphs. IsMadeOfNormalisedList run buffer glyphs) }
+    ensures form { let run = ⟦<S as Runs<U, F, M>>⟧.run plan.now face.now in
+        IfOk result (λ _. NormalForm run.rules (prepared_text run buffer)
+        (normalised_list run buffer)) }
+    ensures canonical { let run = ⟦<S as Runs<U, F, M>>⟧.run plan.now face.now in
+        IfOk result (λ _. ListIsCanonical run buffer) }
+    ensures clusters { let run = ⟦<S as Runs<U, F, M>>⟧.run plan.now face.now in
+        IfOk result (λ glyphs. ClustersComeInOrder run (target_of run buffer)
+        (guessed U.unicode buffer) glyphs) }
+    ensures flags { let run = ⟦<S as Runs<U, F, M>>⟧.run plan.now face.now in
+        IfOk result (λ glyphs. FlagsAreByCluster run buffer glyphs) }
+    ensures within { IfOk result (λ glyphs. length glyphs.items ≤ run_limit (length buffer.items)) }
+    ensures counted { let run = ⟦<S as Runs<U, F, M>>⟧.run plan.now face.now in
+        IfOk result (λ glyphs. Shapes run (target_of run buffer)
+        (guessed U.unicode buffer) glyphs) }
+    ensures length { let run = ⟦<S as Runs<U, F, M>>⟧.run plan.now face.now in
+        IfErr result (λ fault. fault.cause ≡ ShapeError.Length
+        → ShapingPasses run (target_of run buffer) (guessed U.unicode buffer)) }
+    ensures cleared { IfErr result (λ fault. fault.buffer ≡ cleared buffer) }
+    ensures empty { buffer.items ≡ [] → IsOk result }
+{
+    plan.masks_are_features();
+    buffer.guess_segment_properties::<U>();
+    let mut inner = buffer.into_inner();
+    let target_direction = inner.direction();
+    let mut ctx = hb_ot_shape_context_t {
+        plan,
+        face,
+        buffer: &mut inner,
+        target_direction,
+    };
+    match shape_internal::<U, F, M, S>(alloc, &mut ctx) {
+        Ok(()) => Ok(inner.into_glyphs()),
+        Err(cause) => Err(ShapeFault {
+            cause,
+            buffer: inner.clear(),
+        }),
+    }
+}
+
+/// The glyphs of a text: script and direction are guessed where they aren't set, a plan is made for them with
+/// the features that the user asks for, and the text is shaped by it; see [`shape_with_plan`]. A plan is made
+/// for an empty text too. Refuses with `Length` where a step would leave a list past the run's limit, and
+/// with `Memory` where a growth was refused, planning included; the fault holds the cleared buffer. `form` is
+/// a law of the list that the run normalises, `canonical` says that it is equivalent to the text where hooks
+/// keep equivalence, `made` that the glyphs are made of that list, and `data` what the shaper's data is
+/// in the plan.
+pub fn shape<U, F, M, S>(
+    alloc: Global,
+    face: &F,
+    shaper: &S,
+    features: &[Feature],
+    buffer: UnicodeBuffer,
+) -> Result<GlyphBuffer, ShapeFault>
+where
+    U: hb_unicode_funcs_t,
+    F: hb_font_t,
+    M: hb_ot_layout_t<F>,
+    S: hb_ot_shaper_t<U, F, M>,
+    ensures data { let planning = ⟦<S as Plans<U, F, M>>⟧.planning in
+        let plan = planned_for U.unicode planning face.now shaper.now features.now buffer in
+        plan.shaper_data
+        ≡ data_for_text U.unicode planning face.now shaper.now features.now buffer }
+    ensures glyphs { IfOk result (λ glyphs. glyphs ≡ shaped (⟦<S as Runs<U, F, M>>⟧.run
+        (planned_for U.unicode ⟦<S as Plans<U, F, M>>⟧.planning
+        face.now shaper.now features.now buffer) face.now) buffer) }
+    ensures direction { IfOk result (λ glyphs. glyphs.direction
+        ≡ guessed_direction U.unicode buffer) }
+    ensures made { let run = ⟦<S as Runs<U, F, M>>⟧.run
+        (planned_for U.unicode ⟦<S as Plans<U, F, M>>⟧.planning
+        face.now shaper.now features.now buffer) face.now in
+        IfOk result (λ glyphs. IsMadeOfNormalisedList run buffer glyphs) }
+    ensures form { let run = ⟦<S as Runs<U, F, M>>⟧.run
+        (planned_for U.unicode ⟦<S as Plans<U, F, M>>⟧.planning
+        face.now shaper.now features.now buffer) face.now in
+        IfOk result (λ _. NormalForm run.rules (prepared_text run buffer)
+        (normalised_list run buffer)) }
+    ensures canonical { let run = ⟦<S as Runs<U, F, M>>⟧.run
+        (planned_for U.unicode ⟦<S as Plans<U, F, M>>⟧.planning
+        face.now shaper.now features.now buffer) face.now in
+        IfOk result (λ _. ListIsCanonical run buffer) }
+    ensures clusters { let run = ⟦<S as Runs<U, F, M>>⟧.run
+        (planned_for U.unicode ⟦<S as Plans<U, F, M>>⟧.planning
+        face.now shaper.now features.now buffer) face.now in
+        IfOk result (λ glyphs. ClustersComeInOrder run (target_of run buffer)
+        (guessed U.unicode buffer) glyphs) }
+    ensures flags { let run = ⟦<S as Runs<U, F, M>>⟧.run
+        (planned_for U.unicode ⟦<S as Plans<U, F, M>>⟧.planning
+        face.now shaper.now features.now buffer) face.now in
+        IfOk result (λ glyphs. FlagsAreByCluster run buffer glyphs) }
+    ensures within { IfOk result (λ glyphs. length glyphs.items ≤ run_limit (length buffer.items)) }
+    ensures counted { let run = ⟦<S as Runs<U, F, M>>⟧.run
+        (planned_for U.unicode ⟦<S as Plans<U, F, M>>⟧.planning
+        face.now shaper.now features.now buffer) face.now in
+        IfOk result (λ glyphs. Shapes run (target_of run buffer)
+        (guessed U.unicode buffer) glyphs) }
+    ensures length { let run = ⟦<S as Runs<U, F, M>>⟧.run
+        (planned_for U.unicode ⟦<S as Plans<U, F, M>>⟧.planning
+        face.now shaper.now features.now buffer) face.now in
+        IfErr result (λ fault. fault.cause ≡ ShapeError.Length
+        → ShapingPasses run (target_of run buffer) (guessed U.unicode buffer)) }
+    ensures cleared { IfErr result (λ fault. fault.buffer ≡ cleared buffer) }
+{
+    let text = buffer.as_inner();
+    let script = text.guessed_script::<U>();
+    let direction = text.direction_by::<U>(script);
+    let planned = hb_ot_shape_plan_t::new::<U, F, M>(
+        alloc,
+        face,
+        shaper,
+        direction,
+        script,
+        text.language(),
+        features,
+    );
+    match planned {
+        Ok(plan) => shape_with_plan::<U, F, M, S>(alloc, face, &plan, buffer),
+        Err(cause) => Err(ShapeFault {
+            cause,
+            buffer: buffer.into_inner().clear(),
+        }),
+    }
+}

@@ -1,2 +1,0 @@
-mod PromiseRows
-mod PremiseRows

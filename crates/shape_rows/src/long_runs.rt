@@ -1,0 +1,157 @@
+//! Marks after others of a greater ccc: in runs too long to be put in order, and where a hook has exchanged
+//! them. All marks since the starter keep a mark from it, and not the last one alone.
+
+use crate::texts::{PLAINLY, assert_characters, normalised, shaped, text_of};
+use shape_buffer::buffer::GlyphBuffer;
+use shape_buffer::interfaces::NoLookups;
+use shape_pipeline::ot_shaper::{ComposedDiacriticsNoShortCircuit, Preferring, hb_ot_shaper_t};
+use shape_unicode::UnicodeDatabase;
+use std::alloc::Global;
+use std::process::Abort;
+use std::test::Fail;
+use test_worlds::{RowFace, SwappingShaper};
+
+/// U+00E1 and its parts, with two marks that no letter of the face has in it.
+const FEW: [char; 5] = ['a', '\u{301}', '\u{308}', '\u{323}', '\u{E1}'];
+
+/// The same with a letter and a mark of ccc 0, which no composed character of the face has in it.
+const WITH_STARTERS: [char; 7] = [
+    'a', 'b', '\u{301}', '\u{308}', '\u{323}', '\u{20DD}', '\u{E1}',
+];
+
+/// A mark so many times, between other characters.
+fn around(
+    alloc: Global,
+    before: &[char],
+    (mark, count): (char, usize),
+    behind: &[char],
+) -> Result<Vec<char>, Fail> {
+    let mut text = Vec::new(alloc);
+    text.extend_from_slice(before)?;
+    for _ in 0..count {
+        text.push(mark)?;
+    }
+    text.extend_from_slice(behind)?;
+    Ok(text)
+}
+
+/// Compares glyphs that have the numbers of their characters.
+fn assert_glyphs_of(rt: &impl Abort, glyphs: &GlyphBuffer, characters: &[char]) {
+    assert_eq!(rt; glyphs.len(), characters.len());
+    for (info, c) in glyphs.glyph_infos().iter().zip(characters) {
+        assert_eq!(rt; info.glyph_id, u32::from(*c));
+    }
+}
+
+/// Compares the normalised list of a text, and the glyphs of its whole run.
+fn assert_list<'a, S>(
+    rt: &impl Abort,
+    alloc: Global,
+    face: RowFace<'a>,
+    shaper: &S,
+    text: &[char],
+    list: &[char],
+) -> Result<(), Fail>
+where
+    S: hb_ot_shaper_t<UnicodeDatabase, RowFace<'a>, NoLookups, Data = ()>,
+{
+    let normal = normalised(alloc, &face, shaper, text_of(alloc, PLAINLY, text)?)?;
+    assert_characters(rt, &normal, list);
+    let glyphs = shaped(alloc, &face, shaper, text_of(alloc, PLAINLY, text)?)?;
+    assert_glyphs_of(rt, &glyphs, list);
+    Ok(())
+}
+
+/// The same in the mode that composes again whatever it has split.
+fn assert_composed(
+    rt: &impl Abort,
+    alloc: Global,
+    face: &[char],
+    text: &[char],
+    list: &[char],
+) -> Result<(), Fail> {
+    let shaper = Preferring::<ComposedDiacriticsNoShortCircuit>::new();
+    assert_list(rt, alloc, RowFace::of(face), &shaper, text, list)
+}
+
+/// U+0308 has the ccc of U+0301 and keeps it from the letter, after any number of marks below.
+#[test]
+fn marks_of_a_long_run_stay(rt: HostRuntime) -> Result<(), Fail> {
+    let alloc = rt.alloc();
+    for count in [31, 32, 1000] {
+        let text = around(alloc, &['a', '\u{308}'], ('\u{323}', count), &['\u{301}'])?;
+        assert_composed(&rt, alloc, &FEW, &text, &text)?;
+    }
+    Ok(())
+}
+
+/// Of 32 marks those below come first, and U+0308 stands right before U+0301.
+#[test]
+fn marks_of_a_shorter_run_are_put_in_order(rt: HostRuntime) -> Result<(), Fail> {
+    let alloc = rt.alloc();
+    let below = ('\u{323}', 30);
+    let text = around(alloc, &['a', '\u{308}'], below, &['\u{301}'])?;
+    let list = around(alloc, &['a'], below, &['\u{308}', '\u{301}'])?;
+    assert_composed(&rt, alloc, &FEW, &text, &list)
+}
+
+/// U+0301 composes past any number of marks below.
+#[test]
+fn marks_below_let_pass(rt: HostRuntime) -> Result<(), Fail> {
+    let alloc = rt.alloc();
+    for count in [1, 31, 32, 1000] {
+        let below = ('\u{323}', count);
+        let text = around(alloc, &['a'], below, &['\u{301}'])?;
+        let list = around(alloc, &['\u{E1}'], below, &[])?;
+        assert_composed(&rt, alloc, &FEW, &text, &list)?;
+    }
+    Ok(())
+}
+
+/// The hook brings U+0308 before U+0323: after the two U+0301 stays. Of U+0323 U+0301 it makes U+0301 U+0323, and
+/// the first of them composes.
+#[test]
+fn a_hook_brings_a_greater_ccc_forward(rt: HostRuntime) -> Result<(), Fail> {
+    let alloc = rt.alloc();
+    let cases: [(&[char], &[char]); 2] = [
+        (
+            &['a', '\u{323}', '\u{308}', '\u{301}'],
+            &['a', '\u{308}', '\u{323}', '\u{301}'],
+        ),
+        (&['a', '\u{323}', '\u{301}'], &['\u{E1}', '\u{323}']),
+    ];
+    for (text, list) in cases {
+        assert_list(&rt, alloc, RowFace::of(&FEW), &SwappingShaper, text, list)?;
+    }
+    Ok(())
+}
+
+/// What stands before a new starter keeps nothing from it.
+#[test]
+fn a_new_starter_forgets(rt: HostRuntime) -> Result<(), Fail> {
+    let alloc = rt.alloc();
+    for count in [1, 33] {
+        let above = ('\u{308}', count);
+        let text = around(alloc, &['a'], above, &['a', '\u{301}'])?;
+        let list = around(alloc, &['a'], above, &['\u{E1}'])?;
+        assert_composed(&rt, alloc, &FEW, &text, &list)?;
+    }
+    Ok(())
+}
+
+/// A letter, or a mark of ccc 0, that stands among the marks keeps those after it from the starter before.
+#[test]
+fn a_starter_between_keeps_apart(rt: HostRuntime) -> Result<(), Fail> {
+    let alloc = rt.alloc();
+    let starters: [[char; 3]; 2] = [
+        ['b', '\u{323}', '\u{301}'],
+        ['\u{20DD}', '\u{323}', '\u{301}'],
+    ];
+    for behind in &starters {
+        for count in [0, 1, 33] {
+            let text = around(alloc, &['a'], ('\u{323}', count), behind)?;
+            assert_composed(&rt, alloc, &WITH_STARTERS, &text, &text)?;
+        }
+    }
+    Ok(())
+}

@@ -1,0 +1,8 @@
+use Rattle.shape_text_forms.specs.WorkedTexts.{worked_names, worked_texts}
+use Rattle.shape_text_forms.proofs.worked.texts_meet_worked_cases.Goals as goal
+
+pub returns-clause-names : goal.returns-clause-names
+returns-clause-names c = worked_names
+
+pub returns-clause-texts : goal.returns-clause-texts
+returns-clause-texts c = worked_texts

@@ -1,0 +1,6 @@
+pub mod Scan
+pub mod Feature
+pub mod Names
+pub mod Serialize
+pub mod WorkedFeatures
+pub mod WorkedTexts

@@ -1,0 +1,18 @@
+//! Features, directions, languages and scripts from text, as HarfBuzz spells them, and glyphs as text, as its program
+//! `hb-shape` writes them.
+//!
+//! Any text is taken: each value is a function of the text's bytes, and what is no feature is none. [`scan`] has what
+//! stands at the front of a text, [`feature`] the grammar of a feature, [`names`] what one word names, [`glyph_text`]
+//! the text of glyphs. [`worked`] has the definitions computed on texts that were read by hand.
+#![tactic(auto)]
+#![allow(non_camel_case_types)]
+
+pub mod feature;
+pub mod glyph_text;
+pub mod names;
+pub mod scan;
+pub mod worked;
+
+pub use feature::feature_from_string;
+pub use glyph_text::{NoNames, SerializeFlags, glyph_names, serialize};
+pub use names::{direction_from_string, language_from_string, script_from_string, tag_from_string};

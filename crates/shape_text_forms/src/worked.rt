@@ -1,0 +1,15 @@
+//! The definitions, computed on texts that were read by hand.
+ghost use Rattle.shape_text_forms.specs.WorkedFeatures.{WorkedFeatures, WorkedRefusals};
+ghost use Rattle.shape_text_forms.specs.WorkedTexts.{WorkedNames, WorkedTexts};
+
+/// Features, and texts that are none.
+pub fn features_meet_worked_cases()
+    ensures features { WorkedFeatures }
+    ensures refusals { WorkedRefusals }
+{}
+
+/// Tags, scripts, directions and languages, and glyphs as text.
+pub fn texts_meet_worked_cases()
+    ensures names { WorkedNames }
+    ensures texts { WorkedTexts }
+{}

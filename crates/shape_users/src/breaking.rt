@@ -1,0 +1,60 @@
+//! From a string to its lines: a paragraph is shaped once, and its glyphs are cut where lines end.
+//!
+//! A line is laid out by the glyphs of the whole text; or its piece of the text is shaped again,
+//! with what stands before and after it as context, told to begin the text where it is the first
+//! and to end it where it is the last. That a piece shaped alone looks as it does in the whole is
+//! tested, not promised: no law speaks of two runs. The tests compare the two over marks, ligatures
+//! and two script shapers, in both directions.
+ghost use Rattle.std.specs.Prelude.{◌<◌, ◌^◌, pos, length, IfOk};
+ghost use Rattle.shape_lines.specs.RightLines.{AreRightLines};
+
+#[cfg(test)]
+mod rows;
+#[cfg(test)]
+mod tests;
+
+use shape_pipeline::laws::{glyphs_can_be_cut, plain_runs_owe_nothing};
+use shape_pipeline::lines::{Line, cut_lines};
+use shape_pipeline::{
+    DEFAULT_SHAPER, GlyphBuffer, NoLookups, ShapeError, UnicodeBuffer, hb_default_shaper_t,
+    hb_font_t, hb_unicode_funcs_t, shape,
+};
+use std::alloc::Global;
+
+/// The glyphs of a text, and the lines that they are cut into.
+#[derive(Drop, Debug)]
+pub struct ShapedLines {
+    pub glyphs: GlyphBuffer,
+    pub lines: Vec<Line>,
+}
+
+/// The lines of a text by the default shaper, without lookups: right ones, of a width in units of
+/// the face. They are in the order of the text, and the last one ends with its last byte. The text
+/// has fewer than 2^32 bytes, since clusters are 32 bits. Refuses with `Length` where a step would
+/// leave a list past the run's limit, and with `Memory` where a growth was refused.
+pub fn lines_of_text<U, F>(
+    alloc: Global,
+    face: &F,
+    text: &str,
+    width: u32,
+) -> Result<ShapedLines, ShapeError>
+where
+    U: hb_unicode_funcs_t,
+    F: hb_font_t,
+    requires { length text.now < 2 ^ 32 }
+    ensures { IfOk result (λ shaped.
+        AreRightLines shaped.glyphs (length text.now) (pos width) shaped.lines.items) }
+{
+    plain_runs_owe_nothing::<U, F>();
+    glyphs_can_be_cut();
+    let text_end = text.len() as u32;
+    let mut buffer = UnicodeBuffer::new(alloc);
+    buffer.push_str(text)?;
+    match shape::<U, F, NoLookups, hb_default_shaper_t>(alloc, face, &DEFAULT_SHAPER, &[], buffer) {
+        Ok(glyphs) => {
+            let lines = cut_lines(alloc, &glyphs, text_end, width)?;
+            Ok(ShapedLines { glyphs, lines })
+        }
+        Err(fault) => Err(fault.cause),
+    }
+}

@@ -1,0 +1,123 @@
+//! The line `lines W C ..`: shapes the characters, and prints the lines that their glyphs are cut into.
+ghost use Rattle.shape_lines.specs.CanCut.{CanCut};
+ghost use Rattle.shapeline.specs.Lines.{IsAnswered};
+ghost use Rattle.shapeline.specs.Text.{IsText, IsWidthAndText};
+ghost use Rattle.shapeline.specs.Words.{words as words_of};
+
+use crate::engine::answers;
+use crate::engine::mode::ShaperTask;
+use crate::engine::outcome::Outcome;
+use crate::engine::printing::append_line;
+use crate::engine::session::Manner;
+use crate::engine::text::{filled, text_len, write_refusal};
+use crate::parse::{Words, natural};
+use crate::unicode_tables::UnicodeTables;
+use shape_buffer::buffer::{GlyphBuffer, ShapeError, UnicodeBuffer};
+use shape_buffer::interfaces::{MapFace, NoLookups};
+use shape_pipeline::lines::{can_cut, cut_lines};
+use shape_pipeline::ot_shaper::hb_ot_shaper_t;
+use std::alloc::Global;
+use std::io::Write;
+
+/// Shapes a text and writes the lines that it is cut into, or the number of the refusal. Malformed where the
+/// first word is no width, where another is no character, and where 32 bits can't count the bytes in UTF-8.
+#[tactic(auto, using(crate::proofs::WidthLemmas::no_width, crate::proofs::WidthLemmas::other_width, crate::proofs::WidthLemmas::other_text, crate::proofs::WidthLemmas::width_and_text))]
+pub fn answer<W: Write>(
+    alloc: Global,
+    face: &MapFace,
+    manner: Manner,
+    mut words: Words,
+    writer: &mut W,
+) -> Outcome
+    ensures { IsAnswered (IsWidthAndText (words_of words.entry.rest.now)) result }
+{
+    let Some(word) = words.next() else {
+        return Outcome::Malformed;
+    };
+    let Some(width) = natural(word, u32::MAX) else {
+        return Outcome::Malformed;
+    };
+    let Some(text_end) = text_len(words) else {
+        return Outcome::Malformed;
+    };
+    let written = match lines(alloc, face, manner, words, text_end, width) {
+        Ok(lines) => writer.write_all(lines.as_bytes()),
+        Err(cause) => write_refusal(cause, writer),
+    };
+    match written {
+        Ok(()) => Outcome::Done,
+        Err(_) => Outcome::WriteFailed,
+    }
+}
+
+/// The lines that answer a text, which ends at this cluster.
+fn lines(
+    alloc: Global,
+    face: &MapFace,
+    manner: Manner,
+    words: Words,
+    text_end: u32,
+    width: u32,
+) -> Result<String, ShapeError>
+    requires { IsText (words_of words.rest.now) }
+{
+    let text = filled(alloc, manner, words)?;
+    manner.mode.with_shaper(Cutting {
+        alloc,
+        face,
+        text,
+        text_end,
+        width,
+    })
+}
+
+/// A text that is to be shaped and cut into lines of some width.
+struct Cutting<'a> {
+    alloc: Global,
+    face: &'a MapFace,
+    text: UnicodeBuffer,
+    text_end: u32,
+    width: u32,
+}
+
+impl ShaperTask for Cutting<'_> {
+    type Answer = Result<String, ShapeError>;
+
+    fn run<S: hb_ot_shaper_t<UnicodeTables, MapFace, NoLookups>>(
+        self,
+        shaper: &S,
+    ) -> Result<String, ShapeError> {
+        let Cutting {
+            alloc,
+            face,
+            mut text,
+            text_end,
+            width,
+        } = self;
+        let plan = answers::planned(alloc, face, shaper, &mut text)?;
+        let glyphs = answers::shape(alloc, &plan, face, text)?;
+        if can_cut(&glyphs, text_end) {
+            printed_lines(alloc, &glyphs, text_end, width)
+        } else {
+            Ok(String::from_str(alloc, "uncut\n")?)
+        }
+    }
+}
+
+/// The lines of some glyphs, printed.
+fn printed_lines(
+    alloc: Global,
+    glyphs: &GlyphBuffer,
+    text_end: u32,
+    width: u32,
+) -> Result<String, ShapeError>
+    requires { CanCut glyphs.now text_end }
+{
+    let mut lines = String::new(alloc);
+    for line in &cut_lines(alloc, glyphs, text_end, width)? {
+        if let Some(infos) = glyphs.glyph_infos().get(line.glyph_start..line.glyph_end) {
+            append_line(&mut lines, line.text_start, line.text_end, infos)?;
+        }
+    }
+    Ok(lines)
+}

@@ -1,8 +1,0 @@
-use Rattle.std.proofs.Common.{◌≡◌, take}
-use Rattle.std.specs.List.{flat_map}
-use Rattle.substitute_rows.specs.Rules.{two_for_one}
-use Rattle.substitute_rows.proofs.support.lookups.multiply.Given as goal
-
--- the items so far are put out
-abbrev pub invariant-loop-info : goal.invariant-loop-info
-invariant-loop-info l = l.infos.items ≡ flat_map (two_for_one l.rule) (take l.info-index l.info-items)

@@ -1,0 +1,3 @@
+mod PromiseRows
+mod PremiseRows
+mod RuleLemmas

@@ -1,0 +1,55 @@
+-- Functions of Unicode with two marks, two variation selectors and three spaces.
+use Rattle.std.specs.Prelude.{◌≡◌, ◌≢◌, ℕ, ◌<◌, ◌==◌, ◌||◌, Bool, true, false, if◌then◌else◌}
+use Rattle.std.proofs.Common.{arith}
+use Rattle.std.proofs.lemmas.Bool.Decides.{nat_tests}
+use Rattle.shape_buffer.specs.Unicode.{UnicodeMeaning, LawfulUnicode, is_mark}
+use Rattle.shape_buffer.specs.declared.buffer.general_category.hb_unicode_general_category_t.{hb_unicode_general_category_t}
+use Rattle.shape_buffer.specs.declared.buffer.general_category.hb_unicode_general_category_t.TheVariants.{OtherLetter, NonspacingMark, SpaceSeparator}
+use Rattle.shape_buffer.specs.PlainUnicode.{plain_unicode}
+
+-- U+FE00 and U+FE01
+abbrev pub is_marked_selector : ℕ → Bool
+is_marked_selector c = c == 0xFE00 || c == 0xFE01
+
+-- U+0301 above, U+0323 below
+abbrev pub marked_ccc : ℕ → ℕ
+marked_ccc c = if c == 0x301 then 230 else (if c == 0x323 then 220 else 0)
+
+-- of U+2003 that of an em, of U+2007 that of a figure
+abbrev pub marked_space : ℕ → ℕ
+marked_space c = if c == 0x2003 then 1 else (if c == 0x2007 then 19 else 0)
+
+abbrev pub marked_category : ℕ → hb_unicode_general_category_t
+marked_category c =
+    if c == 0x301 || c == 0x323 || is_marked_selector c then NonspacingMark
+    else (if c == 0x20 || c == 0x2003 || c == 0x2007 then SpaceSeparator else OtherLetter)
+
+abbrev pub marked_unicode : UnicodeMeaning
+marked_unicode = record plain_unicode {
+  category = marked_category;
+  ccc = marked_ccc;
+  space_fallback = marked_space;
+  ignorable = is_marked_selector;
+  selector = is_marked_selector;
+}
+
+only_marks_have_ccc : (c : ℕ) → marked_ccc c ≢ 0 → is_mark marked_unicode c ≡ true
+only_marks_have_ccc c marked = grind (arith, nat_tests, marked)
+
+ascii_is_no_mark : (c : ℕ) → c < 128 → is_mark marked_unicode c ≡ false
+ascii_is_no_mark c ascii = grind (arith, nat_tests, ascii)
+
+pub marked_unicode-lawful : LawfulUnicode marked_unicode
+marked_unicode-lawful = record {
+  only_marks_have_ccc = only_marks_have_ccc;
+  ascii_is_no_mark = ascii_is_no_mark;
+  mirrors_are_plain = λ c d mirrors. cc;
+  verticals_are_plain = λ c d stands. cc;
+  splits_fall = record {
+    height_falls = record { falls = λ c a b splits. cc };
+    second_is_last = λ c a b splits. cc;
+    first_ccc = λ c a b marked splits. cc;
+    second_ccc = λ c a b marked splits. cc;
+  };
+  composes_soundly = record { equivalent = λ a b c joins. cc };
+}

@@ -1,0 +1,12 @@
+-- The `preprocess_text` hook that turns characters.
+use Rattle.std.specs.Prelude.{◌==◌, if◌then◌else◌}
+use Rattle.shape_buffer.specs.Buffer.{Buffer}
+use Rattle.shape_buffer.specs.Items.{Item}
+use Rattle.shape_buffer.specs.Walks.{items_mapped}
+
+-- U+0061 becomes U+0301, with the properties that it has
+abbrev pub turned : Item → Item
+turned item = if item.codepoint == 0x61 then record item { codepoint = 0x301 } else item
+
+abbrev pub all_turned : Buffer → Buffer
+all_turned b = items_mapped turned b

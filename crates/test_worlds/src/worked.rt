@@ -1,0 +1,41 @@
+//! The definitions, computed on small cases whose answers are worked out by hand.
+ghost use Rattle.test_worlds.specs.Worked.{WorkedCases};
+ghost use Rattle.test_worlds.specs.WorkedCharacters.{WorkedCharacters};
+ghost use Rattle.test_worlds.specs.WorkedClusters.{WorkedPromises};
+ghost use Rattle.test_worlds.specs.WorkedPremises.{WorkedPremises};
+ghost use Rattle.test_worlds.specs.WorkedResults.{WorkedResults};
+ghost use Rattle.test_worlds.specs.WorkedTexts.{WorkedTexts};
+
+/// The chain of U+1EA4 with its expansions and choices, limits of runs, and the order of some marks, as
+/// the definitions have them.
+pub fn definitions_meet_worked_cases()
+    ensures { WorkedCases }
+{}
+
+/// What is promised of clusters and flags, as some lists of glyphs have it and others miss it, at each level
+/// and in each direction.
+pub fn promises_meet_worked_cases()
+    ensures { WorkedPromises }
+{}
+
+/// What a run asks of its lookups: of those that its plan calls, and of no other.
+pub fn premises_meet_worked_cases()
+    ensures { WorkedPremises }
+{}
+
+/// What a character says of its item and of a text: which are hidden, all properties and scratch flags that go by
+/// it; beside that new items, the categories of marks and spaces, and directions.
+pub fn characters_meet_worked_cases()
+    ensures { WorkedCharacters }
+{}
+
+/// The items and contexts that texts bring in, the spans of graphemes, scripts and directions that are guessed,
+/// and what clearing leaves of a buffer.
+pub fn texts_meet_worked_cases()
+    ensures { WorkedTexts }
+{}
+
+/// The clusters of a result in the order of the text, clusters by number, and scripts by their tags.
+pub fn results_meet_worked_cases()
+    ensures { WorkedResults }
+{}

@@ -1,0 +1,5 @@
+pub mod Changes
+pub mod Faces
+pub mod Layouts
+pub mod Hooks
+pub mod KeptCounts

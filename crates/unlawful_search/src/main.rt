@@ -1,0 +1,92 @@
+//! A search for a promise of shaping that hooks, lookups or faces can break.
+//!
+//! It is given a seed and a number of universes. Each has a text, a face, an engine and a shaper, drawn at random; its
+//! hooks and lookups change whatever a buffer has, refuse where they may, and keep one premise or none. The text is
+//! shaped, and what is answered is compared with what is promised. The first promise that is broken is named, with the
+//! number of its universe, and ends the search with status 1.
+#![tactic(auto)]
+#![allow(non_camel_case_types)]
+
+mod change;
+mod face;
+mod layout;
+mod marking;
+mod planning;
+mod promise;
+mod shaper;
+mod universe;
+mod wishes;
+
+use crate::promise::{Verdict, judged};
+use crate::universe::Dice;
+use shape_buffer::buffer::ShapeError;
+use std::alloc::Global;
+use std::process::ExitCode;
+use std::{env, io};
+
+/// What was answered so far, and the first broken promise with the number of its universe.
+#[derive(Clone, Copy)]
+struct Tally {
+    shaped: u64,
+    refused_memory: u64,
+    refused_length: u64,
+    broken: Option<(u64, &'static str)>,
+}
+
+/// The tally with the verdict on one more universe.
+fn counted(tally: Tally, number: u64, verdict: Verdict) -> Tally {
+    let mut tally = tally;
+    match verdict.refusal {
+        None => tally.shaped = tally.shaped.saturating_add(1),
+        Some(ShapeError::Memory) => tally.refused_memory = tally.refused_memory.saturating_add(1),
+        Some(ShapeError::Length) => tally.refused_length = tally.refused_length.saturating_add(1),
+    }
+    tally.broken = verdict.broken.map(|promise| (number, promise));
+    tally
+}
+
+/// Looks at the first universes of a seed, up to one that breaks a promise. Refuses with `Memory` where a growth of
+/// the search's own was refused.
+fn searched(alloc: Global, seed: u64, count: u64) -> Result<Tally, ShapeError> {
+    let mut tally = Tally {
+        shaped: 0,
+        refused_memory: 0,
+        refused_length: 0,
+        broken: None,
+    };
+    for number in 0..count {
+        let universe = Dice::of(seed, number).universe(alloc)?;
+        tally = counted(tally, number, judged(alloc, &universe)?);
+        if tally.broken.is_some() {
+            return Ok(tally);
+        }
+    }
+    Ok(tally)
+}
+
+/// The number that an argument writes.
+fn number_of(argument: Option<String>) -> Option<u64> {
+    u64::from_str_radix(argument?.as_str(), 10).ok()
+}
+
+fn main(rt: HostRuntime) -> io::Result<ExitCode> {
+    let mut arguments = env::args(&rt)?.skip(1);
+    let (Some(seed), Some(count)) = (number_of(arguments.next()), number_of(arguments.next()))
+    else {
+        println!(rt; "unlawful_search SEED UNIVERSES")?;
+        return Ok(ExitCode::from(2));
+    };
+    let Ok(tally) = searched(rt.alloc(), seed, count) else {
+        println!(rt; "out of memory")?;
+        return Ok(ExitCode::from(2));
+    };
+    if let Some((number, promise)) = tally.broken {
+        println!(rt; "seed {seed}: universe {number} breaks: {promise}")?;
+        return Ok(ExitCode::FAILURE);
+    }
+    let (shaped, memory, length) = (tally.shaped, tally.refused_memory, tally.refused_length);
+    println!(rt;
+        "seed {seed}: {shaped} shaped, {memory} refused for memory, {length} for length, none breaks a promise"
+    )?;
+    Ok(ExitCode::SUCCESS)
+}

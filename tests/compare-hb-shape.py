@@ -1,0 +1,231 @@
+#!/usr/bin/env python3
+"""Compares the program `fontshape` with `hb-shape` of HarfBuzz 6.0.0 on random texts, where Debian's packages
+fonts-dejavu-core, libharfbuzz-bin and python3-fonttools are installed, and the program is built or can be; elsewhere it
+says so and ends with status 77.
+
+The texts are of scripts for which HarfBuzz has no shaper of its own, with marks, joiners, spaces and fractions, and of
+Hebrew, whose shaper stands in `shape_users`. The fonts are two copies of DejaVu Sans without tables of lookups: one
+without `kern` and without names of glyphs, one with both. Each line is compared whole: numbers or names, clusters,
+offsets, advances, flags, boxes. `--texts N` asks for N texts a script in one form of lines, `--options LISTS` for so
+many random lists of options (levels, directions, features, forms of lines).
+"""
+import argparse
+import collections
+import importlib.util
+import os
+import random
+import re
+import subprocess
+import sys
+import tempfile
+import unicodedata
+
+FONT = "/usr/share/fonts/truetype/dejavu/DejaVuSans.ttf"
+LOOKUPS = ("GSUB", "GPOS", "GDEF", "BASE", "JSTF", "morx", "mort", "kerx", "trak")
+SCRIPTS = {
+    "ASCII": [(0x41, 0x5B), (0x61, 0x7B), (0x2C, 0x2F)],
+    "Latin": [(0x41, 0x5B), (0x61, 0x7B), (0xC0, 0x250), (0x1E00, 0x1F00)],
+    "Greek": [(0x370, 0x400), (0x1F00, 0x2000)],
+    "Cyrillic": [(0x400, 0x530)],
+    "Armenian": [(0x531, 0x590)],
+    "Georgian": [(0x10A0, 0x1100)],
+    "Canadian": [(0x1400, 0x1680)],
+    "Cherokee": [(0x13A0, 0x13F6)],
+    "Ethiopic": [(0x1200, 0x1380)],
+    "Ogham": [(0x1680, 0x169D)],
+    "Runic": [(0x16A0, 0x16EB)],
+    "Han": [(0x4E00, 0x5000)],
+    "Kana": [(0x3041, 0x3097), (0x30A1, 0x30FB)],
+    "Lisu": [(0xA4D0, 0xA500)],
+    "Hebrew": [(0x591, 0x5F5)],
+}
+TAGS = {"ASCII": "Latn", "Latin": "Latn", "Greek": "Grek", "Cyrillic": "Cyrl", "Armenian": "Armn", "Georgian": "Geor", "Canadian": "Cans", "Cherokee": "Cher",
+        "Ethiopic": "Ethi", "Ogham": "Ogam", "Runic": "Runr", "Han": "Hani", "Kana": "Kana", "Lisu": "Lisu", "Hebrew": "Hebr"}
+# texts in which pairs of letters are kerned, and scripts in which many are
+PAIRS = ["AVAVAVA", "T.o, Yo", "\u0410\u0423\u0422.\u0410"]
+KERNED = ["ASCII"] * 6 + ["Greek", "Cyrillic", "Hebrew"] * 2
+BETWEEN = list("\u200d\u200c\u2019-1/\u20442\u00ad\u2003\u2009\ufe0f()")
+FORMS = [
+    [],
+    ["--show-flags"],
+    ["--no-glyph-names", "--show-flags"],
+    ["--no-glyph-names", "--show-extents"],
+    ["--no-positions"],
+    ["--no-advances"],
+    ["--no-clusters", "--show-flags"],
+    ["--ned"],
+]
+SWITCHES = ["--utf8-clusters", "--bot", "--eot", "--preserve-default-ignorables", "--remove-default-ignorables", "--unsafe-to-concat",
+            "--safe-to-insert-tatweel"]
+FEATURES = ["kern", "+kern", "-kern", "kern=0", "kern[3:5]", "kern[3]=0", "kern[:2]=0", "kern[1:]=0", "kern[1;3]=off", "'kern' 0",
+            "kern=on", " kern=0  liga -mark ", "-kern[2:4]", "kern=-1", "kern=4294967296", "kern[2:4]=0,+liga,-mark", "-kern,kern[1:6]",
+            "kern=0,kern[:3]=1,kern[5:]=2", "vkrn,-vert", "aalt[3:5]=2"]
+LANGUAGES = ["en_US.UTF-8", "fa", "x-hbot", "de-AT"]
+
+
+def characters(spans, known):
+    named = [c for low, high in spans for c in range(low, high) if unicodedata.category(chr(c)) not in ("Cn", "Cc", "Cs")]
+    return named, [c for c in named if c in known] or named
+
+
+def random_text(chance, named, have, marks):
+    text = ""
+    for _ in range(chance.randint(1, 12)):
+        draw = chance.random()
+        if draw < 0.72:
+            text += chr(chance.choice(have))
+        elif draw < 0.82:
+            text += chr(chance.choice(named))
+        elif draw < 0.92:
+            text += chr(chance.choice(marks))
+        elif draw < 0.96:
+            text += " "
+        else:
+            text += chance.choice(BETWEEN)
+    return text.strip(" ") or "a"
+
+
+def lines(command, texts):
+    asked = "".join(text + "\n" for text in texts).encode()
+    done = subprocess.run(command, input=asked, stdout=subprocess.PIPE, stderr=subprocess.PIPE, timeout=600)
+    if done.returncode != 0:
+        sys.exit("%s: status %d: %s" % (" ".join(command), done.returncode, done.stderr.decode(errors="replace")))
+    return done.stdout.decode().split("\n")[:-1]
+
+
+def copies(folder, keep_kern):
+    """A copy of the font without tables of lookups, and the characters that it has: one keeps `kern` and the names of glyphs."""
+    from fontTools.ttLib import TTFont
+    font = TTFont(FONT)
+    for tag in LOOKUPS + (() if keep_kern else ("kern",)):
+        if tag in font:
+            del font[tag]
+    if not keep_kern:
+        font["post"].formatType = 3.0
+    path = os.path.join(folder, "kern.ttf" if keep_kern else "plain.ttf")
+    font.save(path)
+    return path, font.getBestCmap()
+
+
+def random_options(chance, script):
+    """A form of lines, and by chance a level, a direction, features, a language and other options."""
+    options = list(chance.choice(FORMS)) + ["--script=" + TAGS[script]]
+    if chance.random() < 0.6:
+        options.append("--cluster-level=%d" % chance.randrange(3))
+    if chance.random() < 0.6:
+        options.append("--direction=" + chance.choice(["ltr", "rtl", "ttb", "btt"]))
+    if chance.random() < 0.6:
+        options.append("--features=" + chance.choice(FEATURES))
+    if chance.random() < 0.2:
+        options.append("--language=" + chance.choice(LANGUAGES))
+    return options + [switch for switch in SWITCHES if chance.random() < 0.15]
+
+
+def without_concat(line):
+    """A line without the flags that say that a cluster is unsafe to concat. Kerning sets them on all glyphs here, as in
+    HarfBuzz 10; HarfBuzz 6 leaves the first cluster without them."""
+    def cleared(flags):
+        left = int(flags.group(1)) & ~2
+        return "#%d" % left if left else ""
+    return re.sub("#([0-9]+)", cleared, line)
+
+
+class Comparison:
+    """Both programs on texts, counted by kind of font and script."""
+
+    def __init__(self, program, examples):
+        self.program, self.examples = program, examples
+        self.texts, self.differ, self.glyphs = (collections.Counter() for _ in range(3))
+
+    def compare(self, kind, script, font, options, texts):
+        theirs = lines(["hb-shape", "--shaper=ot", font] + options, texts)
+        ours = lines([self.program, font] + options, texts)
+        if len(theirs) != len(texts) or len(ours) != len(texts):
+            sys.exit("%s: not each text has a line: %d, %d of %d" % (options, len(theirs), len(ours), len(texts)))
+        self.glyphs[kind, script] += sum(line.count("|") + 1 for line in theirs)
+        if kind == "kern" and "--unsafe-to-concat" in options:
+            theirs, ours = map(without_concat, theirs), map(without_concat, ours)
+        wrong = [(text, a, b) for text, a, b in zip(texts, theirs, ours) if a != b]
+        self.texts[kind, script] += len(texts)
+        self.differ[kind, script] += len(wrong)
+        for text, a, b in wrong[:1]:
+            if self.examples > 0:
+                self.examples -= 1
+                print("%s %s %s\n  text %s\n  hb-shape  %s\n  fontshape %s" % (kind, script, options, text.encode("unicode_escape").decode(), a, b))
+
+    def tell(self):
+        """A line for each script, with its texts and differences by kind of font."""
+        kinds = sorted({kind for kind, _ in self.texts}, reverse=True)
+        for script in SCRIPTS:
+            parts = ["%s %d texts, %d glyphs, %d differ" % (kind, self.texts[kind, script], self.glyphs[kind, script], self.differ[kind, script])
+                     for kind in kinds if self.texts[kind, script]]
+            if parts:
+                print("%s: %s" % (script, "; ".join(parts)))
+
+
+def compare_font(comparison, chance, kind, font, known, count, lists):
+    """`count` texts a script in one form, then as many lists of options as are asked for, each over 20 texts of some script."""
+    marks = [c for c in range(0x300, 0x370) if c in known]
+    letters = {script: characters(spans, known) for script, spans in SCRIPTS.items()}
+    for script, (named, have) in letters.items():
+        texts = [random_text(chance, named, have, marks) for _ in range(count)]
+        comparison.compare(kind, script, font, ["--show-flags"], texts)
+    for _ in range(lists):
+        script = chance.choice(list(SCRIPTS) + KERNED)
+        named, have = letters[script]
+        options = random_options(chance, script)
+        texts = [random_text(chance, named, have, marks) for _ in range(20)] + PAIRS
+        comparison.compare(kind, script, font, options, texts)
+
+
+def missing(program, crate):
+    """What isn't there to compare, nothing where all is; builds the program where it is not built."""
+    try:
+        import fontTools.ttLib  # noqa: F401
+        version = subprocess.run(["hb-shape", "--version"], stdout=subprocess.PIPE).stdout.decode()
+    except (ImportError, OSError):
+        version = ""
+    if not version or not os.path.exists(FONT):
+        return "fonts-dejavu-core, libharfbuzz-bin or python3-fonttools is not installed (Debian's packages)"
+    if " 6.0.0" not in version.split("\n")[0]:
+        return "hb-shape is of another HarfBuzz than 6.0.0"
+    if not os.path.exists(program):
+        build = "rt run < stdin > /dev/null"
+        subprocess.run(["sh", "-c", build], cwd=crate)
+    return None if os.path.exists(program) else "the program fontshape isn't built, and can't be"
+
+
+def with_packages():
+    """Runs this script by Debian's Python, where another one without Debian's packages runs it."""
+    debian = "/usr/bin/python3"
+    if importlib.util.find_spec("fontTools") is None and os.path.exists(debian) and not os.path.samefile(debian, sys.executable):
+        os.execv(debian, [debian] + sys.argv)
+
+
+def main():
+    with_packages()
+    crate = os.path.join(os.path.dirname(os.path.abspath(__file__)), "../crates/fontshape")
+    asked = argparse.ArgumentParser()
+    asked.add_argument("--texts", type=int, default=1000, help="texts a script in one form of lines")
+    asked.add_argument("--seed", type=int, default=7)
+    asked.add_argument("--options", type=int, default=300, metavar="LISTS", help="random lists of options, each over some 20 texts")
+    asked.add_argument("--examples", type=int, default=20, help="how many differences are shown")
+    asked.add_argument("--program", default=os.path.join(crate, "out/fontshape"))
+    args = asked.parse_args()
+    lack = missing(args.program, crate)
+    if lack:
+        print("skipped: " + lack)
+        sys.exit(77)
+    comparison = Comparison(args.program, args.examples)
+    with tempfile.TemporaryDirectory() as folder:
+        for kind in ("plain", "kern"):
+            font, known = copies(folder, kind == "kern")
+            compare_font(comparison, random.Random(args.seed), kind, font, known, args.texts, args.options)
+    comparison.tell()
+    texts, differ = sum(comparison.texts.values()), sum(comparison.differ.values())
+    print("%d texts compared with hb-shape, %d differ" % (texts, differ))
+    sys.exit(differ != 0)
+
+
+if __name__ == "__main__":
+    main()
