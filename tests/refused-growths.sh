@@ -1,12 +1,12 @@
 #!/bin/sh
-# Runs the test of the buffer's calls, those of stages of substitution which take memory, and then the built
-# program on its stored input and on those of `growths`, with the first growth of memory refused, then the
-# second, and so on until a run has no such growth. Between them it counts the growths of calls that take no memory: the
-# buffer's, the steps of a run that can't be refused, and runs over an empty text.
+# Runs the tests of the buffer's calls, of whole runs, of stages of substitution which take memory and of kerning, then
+# the built program on its stored input and on those of `growths`, with the first growth of memory refused, then the
+# second, and so on until a run has no such growth. Between them it counts the growths of calls that take no memory:
+# the buffer's, the steps of a run that can't be refused, runs over an empty text, and lines of no glyphs.
 #
-# A run of a test must pass, or say that a call was `refused` (after its own comparisons of what that call
-# left), or that a list or a text of the test's own could not grow (`AllocError`, `Memory`). A run of the program
-# must end in one of three ways:
+# A run of a test must pass, or say that a call was `refused` (after its own comparisons of what that call left), or
+# that what the test itself takes could not grow (`AllocError`, `AllocFailed`, `OutOfMemory`, `Memory`). A run of the
+# program must end in one of three ways:
 #
 #   the whole answer, status 0;
 #   the same with `refused 1` in place of what answers one line, status 0;
@@ -43,7 +43,7 @@ refuse_test() {
                 return
                 ;;
             *'error: "refused"'*) refused=$((refused + 1)) ;;
-            *'error: AllocError'* | *'error: Memory'*) ;;
+            *'error: AllocError'* | *'error: AllocFailed'* | *'error: OutOfMemory'* | *'error: Memory'*) ;;
             *)
                 echo "$3: status $status and this answer:"
                 echo "$answer"
@@ -57,12 +57,16 @@ refuse_test() {
 }
 
 refuse_test buffer_tests refusals::growths "the buffer's calls" || exit 1
+refuse_test buffer_tests lines::growths "the lines of some glyphs" || exit 1
 for row in e_acute shortest_expansion ordering_merges three_spellings dotted_circle mark_above_and_below; do
     refuse_test shape_rows "refusals::$row" "the run $row" || exit 1
 done
+refuse_test shape_rows refusals::comparing "two texts that are compared" || exit 1
+refuse_test shape_rows refusals::a_key "the key of a text" || exit 1
 refuse_test substitute_rows refusals::growths_in_a_stage "the stages that grow" || exit 1
 refuse_test substitute_rows refusals::growths_in_a_run "the runs with such stages" || exit 1
 refuse_test substitute_rows refusals::growths_with_two_features "the run with two user features" || exit 1
+refuse_test font_tests kerning::growths "the run that kerns by a font's table, and its plan" || exit 1
 
 # How many growths a test of a crate asks for.
 growths_of() {
@@ -84,6 +88,7 @@ take_none() {
 
 filled=no_memory::filled
 take_none buffer_tests "${filled}_is_begun" "${filled}_and_used" "the buffer's calls that can't be refused" || exit 1
+take_none buffer_tests lines::glyphs_are_begun lines::no_glyphs_make_no_line "lines of no glyphs" || exit 1
 take_none shape_rows no_memory::text_is_begun no_memory::steps_are_made "the steps that can't be refused" || exit 1
 take_none shape_rows no_memory::text_is_begun no_memory::empty_text_is_shaped "runs over an empty text" || exit 1
 
