@@ -145,17 +145,17 @@ pub nothing_recomposed : (rules : Rules) (b : Buffer) → recomposed_items rules
 nothing_recomposed rules b none =
     let out = placed 0 b.items in
     sym (
-      ap (with_put_out rules b) none
-      ∙ ap (λ (spans : List (ℕ × ℕ)). record (spans_merged_out spans b) {
-        items = map (with_cluster_at (spans_merged_out spans b).items) out;
-        positions = replicate (length out) zero_position;
-        scratch_flags = seen_chars rules.unicode b.scratch_flags (composed_chars out);
-      }) (spans-placed 0 b.items)
-      ∙ ap₂ (λ (n : ℕ) (chars : List ℕ). record b {
-        items = map (with_cluster_at b.items) out;
-        positions = replicate n zero_position;
-        scratch_flags = seen_chars rules.unicode b.scratch_flags chars;
-      }) (length-placed 0 b.items) (chars-placed 0 b.items)
-      ∙ ap (λ (items : List Item). record b { items = items; positions = replicate (length b.items) zero_position })
-      (in_their_clusters [] b.items)
+    ap (with_put_out rules b) none
+    ∙ ap (λ (spans : List (ℕ × ℕ)). record (spans_merged_out spans b) {
+      items = map (with_cluster_at (spans_merged_out spans b).items) out;
+      positions = replicate (length out) zero_position;
+      scratch_flags = seen_chars rules.unicode b.scratch_flags (composed_chars out);
+    }) (spans-placed 0 b.items)
+    ∙ ap₂ (λ (n : ℕ) (chars : List ℕ). record b {
+      items = map (with_cluster_at b.items) out;
+      positions = replicate n zero_position;
+      scratch_flags = seen_chars rules.unicode b.scratch_flags chars;
+    }) (length-placed 0 b.items) (chars-placed 0 b.items)
+    ∙ ap (λ (items : List Item). record b { items = items; positions = replicate (length b.items) zero_position })
+    (in_their_clusters [] b.items)
     )
