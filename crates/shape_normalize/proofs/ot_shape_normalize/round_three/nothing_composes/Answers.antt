@@ -1,6 +1,6 @@
 use Rattle.std.proofs.Common.{◌≡◌, max, sym, ◌∙◌, arith}
 use Rattle.shape_plan.specs.Rules.{rules_of}
-use Rattle.shape_normalize.proofs.RoundThree.UncomposedLemmas.{IsUncomposedTo-first, IsUncomposedTo-starter, IsUncomposedTo-mark, uncomposed_all, none_is}
+use Rattle.shape_normalize.proofs.RoundThree.UncomposedLemmas.{IsUncomposedTo-first, IsUncomposedTo-starter, IsUncomposedTo-mark, none_is}
 use Rattle.shape_normalize.proofs.ot_shape_normalize.round_three.nothing_composes.Goals as goal
 use Rattle.shape_normalize.proofs.ot_shape_normalize.round_three.nothing_composes.Goals.{then-ccc-eq0, else-ccc-eq0}
 
