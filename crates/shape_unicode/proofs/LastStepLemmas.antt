@@ -1,12 +1,12 @@
 -- One step is found for every character: computed over the rows of the database.
-use Rattle.std.proofs.Common.{◌≡◌, ℕ, Bool, true, false, ◌&&◌, ◌==◌, [], Option, Some, None, refl, sym, ap, ap₂, ◌∙◌, inl, inr, eqb-true, flat_map}
-use Rattle.std.proofs.lemmas.Bool.{cases_Bool, and_parts}
+use Rattle.std.proofs.Common.{◌≡◌, ℕ, Bool, true, false, ◌&&◌, not, ◌==◌, [], Option, Some, None, refl, sym, ap, ap₂, ◌∙◌, inl, inr, eqb-true, flat_map}
+use Rattle.std.proofs.lemmas.Bool.{cases_Bool, and_parts, both_ways}
 use Rattle.ucd_table.proofs.RangedFacts.{Stepped-at_points}
 use Rattle.ucd_normal.specs.Composition.{composite, paired_with}
 use Rattle.ucd_normal.specs.Decomposition.{decomposition, if_canonical, canonical_mapping, canonical_decomposition, expand, or_itself}
 use Rattle.ucd_normal.proofs.CompositionLemmas.{is_empty, composite-paired_with}
 use Rattle.ucd_normal.proofs.DecompositionLemmas.{decomposition_stepped}
-use Rattle.shape_unicode.specs.Split.{parts_of}
+use Rattle.shape_unicode.specs.Split.{parts_of, is_whole_early}
 use Rattle.shape_unicode.specs.LastStep.{split_by}
 use Rattle.shape_unicode.specs.SplitLaws.{nil_of_empty}
 use Rattle.shape_unicode.specs.Tables.{Entry, Tables, by_rows, by_trees, same_tables, mapping}
@@ -52,4 +52,17 @@ split_by-split c =
       | inr some ↦
           ap (λ compose. split_by compose c (canonical_decomposition c)) (λ i a b. composite-paired_with a b i)
           ∙ same_parts-true _ _ (found_by_rows c some)
+    ]
+
+-- where no character splits there is no mapping
+pub whole_early : (c : ℕ) → is_whole_early c ≡ true → canonical_mapping c ≡ []
+unfolding by_trees
+whole_early c early =
+    elim (cases_Bool (is_empty (canonical_mapping c))) [
+      | inl none ↦ nil_of_empty (canonical_mapping c) none
+      | inr some ↦
+          let elsewhere : not (is_whole_early c) ≡ true =
+          Stepped-at_points decomposition decomposition_stepped (λ e. is_empty (if_canonical e)) (λ d e. not (is_whole_early d)) refl c some in
+          let never : not (is_whole_early c) ≡ false = ap not early in
+          absurd (both_ways (not (is_whole_early c)) never elsewhere)
     ]

@@ -1,6 +1,6 @@
--- Where the ranges of a property have nothing, so that its answer is known without them.
-use Rattle.std.proofs.Common.{◌≡◌, ℕ, ◌<◌, ◌≤◌, Bool, true, false, not, ◌&&◌, ◌||◌, ◌==◌, nat_lt, nat_le, ltb-true, List, [], ◌∷◌, refl, sym, ap, ◌∙◌, arith}
-use Rattle.std.proofs.lemmas.Bool.{and_parts}
+-- Where the ranges of a property have nothing, or everything, so that its answer is known without them.
+use Rattle.std.proofs.Common.{◌≡◌, ℕ, ◌<◌, ◌≤◌, Bool, true, false, not, ◌&&◌, ◌||◌, ◌==◌, nat_lt, nat_le, ltb-true, List, [], ◌∷◌, refl, sym, ap, ap₂, ◌∙◌, inl, inr, arith}
+use Rattle.std.proofs.lemmas.Bool.{and_parts, cases_Bool}
 use Rattle.std.proofs.lemmas.Bool.Decides.{nat_tests}
 use Rattle.ucd_table.specs.Rows.{Range, in_ranges}
 use Rattle.ucd_table.proofs.Computing.{tables}
@@ -10,8 +10,8 @@ use Rattle.ucd_derived.specs.Binary.{is_default_ignorable_code_point}
 use Rattle.ucd_derived.specs.DefaultIgnorableCodePointRanges.{default_ignorable_code_point_ranges}
 use Rattle.ucd_props.specs.Binary.{is_variation_selector}
 use Rattle.ucd_props.specs.Ranges.{variation_selector_ranges}
-use Rattle.shape_unicode.specs.Hidden.{is_seen_early, is_mongolian}
-use Rattle.shape_unicode.specs.Mirror.{is_between_brackets}
+use Rattle.shape_unicode.specs.Hidden.{is_seen_early, is_unseen_early, is_seen_though_ignorable, is_ignorable, is_mongolian}
+use Rattle.shape_unicode.specs.Mirror.{is_between_brackets, is_before_angles}
 
 -- no range has a code point from a to b, except for x and y
 unfoldable none_between : ℕ → ℕ → ℕ → ℕ → List Range → Bool
@@ -27,11 +27,44 @@ in_ranges-none a b x y (r ∷ rs) c none from to no_x no_y =
     let parts = and_parts (nat_lt r.1 a || (nat_lt b r.0 || (r.0 == r.1 && (r.0 == x || r.0 == y)))) (none_between a b x y rs) none in
     rw (in_ranges-none a b x y rs c parts.1 from to no_x no_y) (grind (arith, nat_tests, parts.0, from, to, no_x, no_y))
 
+-- a range has all code points from a to b
+unfoldable has_all : ℕ → ℕ → List Range → Bool
+has_all a b [] = false
+has_all a b (r ∷ rs) = (nat_le r.0 a && nat_le b r.1) || has_all a b rs
+
+in_ranges-all : (a b : ℕ) (rs : List Range) (c : ℕ) → has_all a b rs ≡ true → a ≤ c → c ≤ b → in_ranges rs c ≡ true
+unfolding in_ranges has_all
+in_ranges-all a b [] c all from to = absurd (cc)
+in_ranges-all a b (r ∷ rs) c all from to =
+    elim (cases_Bool (nat_le r.0 a && nat_le b r.1)) [
+      | inl here ↦
+          let ends = and_parts (nat_le r.0 a) (nat_le b r.1) here in
+          grind (arith, nat_tests, ends.0, ends.1, from, to)
+      | inr elsewhere ↦
+          let rest : has_all a b rs ≡ true = ap (λ t. t || has_all a b rs) (sym elsewhere) ∙ all in
+          rw (in_ranges-all a b rs c rest from to) (grind (arith, nat_tests, from, to))
+    ]
+
 pub seen_early : (c : ℕ) → is_seen_early c ≡ true → is_default_ignorable_code_point c ≡ false
 unfolding tables none_between is_default_ignorable_code_point default_ignorable_code_point_ranges
 seen_early c early =
     in_ranges-none 0 0x61B 0xAD 0x34F default_ignorable_code_point_ranges c refl (grind arith)
     (grind (arith, nat_tests, early)) (grind (arith, nat_tests, early)) (grind (arith, nat_tests, early))
+
+pub unseen_early : (c : ℕ) → is_unseen_early c ≡ true → is_ignorable c ≡ true
+unfolding tables has_all is_default_ignorable_code_point default_ignorable_code_point_ranges
+unseen_early c early =
+    let ignorable : is_default_ignorable_code_point c ≡ true =
+    in_ranges-all 0x200B 0x200F default_ignorable_code_point_ranges c refl
+    (grind (arith, nat_tests, early)) (grind (arith, nat_tests, early)) in
+    let unseen : is_seen_though_ignorable c ≡ false = grind (arith, nat_tests, early) in
+    ap₂ (λ t s. t && not s) ignorable unseen
+
+pub not_mirrored_before_angles : (c : ℕ) → is_before_angles c ≡ true → is_bidi_mirrored c ≡ false
+unfolding tables none_between is_bidi_mirrored bidi_mirrored_ranges
+not_mirrored_before_angles c before =
+    in_ranges-none 0x2000 0x2038 0 0 bidi_mirrored_ranges c refl (grind (arith, nat_tests, before)) (grind (arith, nat_tests, before))
+    (grind (arith, nat_tests, before)) (grind (arith, nat_tests, before))
 
 pub not_mirrored : (c : ℕ) → is_between_brackets c ≡ true → is_bidi_mirrored c ≡ false
 unfolding tables none_between is_bidi_mirrored bidi_mirrored_ranges

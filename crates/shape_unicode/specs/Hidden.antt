@@ -12,6 +12,10 @@ is_seen_though_ignorable c =
 abbrev pub is_seen_early : ℕ → Bool
 is_seen_early c = nat_lt c 0x61C && (not (c == 0xAD) && not (c == 0x34F))
 
+-- the spaces and joiners without a width, and the marks of direction
+abbrev pub is_unseen_early : ℕ → Bool
+is_unseen_early c = nat_lt 0x200A c && nat_lt c 0x2010
+
 -- Default_Ignorable_Code_Point, without those that are shown
 abbrev pub is_ignorable : ℕ → Bool
 is_ignorable c = is_default_ignorable_code_point c && not (is_seen_though_ignorable c)

@@ -20,6 +20,10 @@ other_of_pair c = option_map (other_one c) (find (is_one_of c) MIRROR_PAIRS)
 abbrev pub is_between_brackets : ℕ → Bool
 is_between_brackets c = nat_lt 0xBB c && nat_lt c 0xF3A
 
+-- in General Punctuation before the first of its angle quotes, where nothing is mirrored either
+abbrev pub is_before_angles : ℕ → Bool
+is_before_angles c = nat_lt 0x1FFF c && nat_lt c 0x2039
+
 -- Bidi_Mirroring_Glyph
 abbrev pub mirrored_of : ℕ → Option ℕ
 mirrored_of c = if is_bidi_mirrored c then other_of_pair c else None

@@ -1,5 +1,5 @@
 -- One step of canonical decomposition (UAX 44, Decomposition_Mapping without a tag; The Unicode Standard, section 3.12).
-use Rattle.std.specs.Prelude.{ℕ, zero, suc, ◌+◌, ◌-◌, ◌/◌, ◌%◌, ◌==◌, List, [], ◌∷◌, Option, Some, None, if◌then◌else◌}
+use Rattle.std.specs.Prelude.{ℕ, zero, suc, ◌+◌, ◌-◌, ◌/◌, ◌%◌, ◌==◌, ◌&&◌, ◌||◌, nat_lt, Bool, List, [], ◌∷◌, Option, Some, None, if◌then◌else◌}
 use Rattle.std.specs.Option.{option_map_or}
 use Rattle.ucd_normal.specs.Decomposition.{canonical_mapping}
 use Rattle.unicode_normalization.specs.Hangul.{is_syllable, s_base, l_base, v_base, t_base, n_count, t_count}
@@ -17,6 +17,11 @@ split_syllable s =
     let index = s - s_base in
     if index % t_count == 0 then (l_base + index / n_count, v_base + index % n_count / t_count)
     else (s - index % t_count, t_base + index % t_count)
+
+-- places without a canonical mapping, which are no syllables either
+abbrev pub is_whole_early : ℕ → Bool
+is_whole_early c =
+    nat_lt c 0xC0 || (nat_lt 0x2FF c && nat_lt c 0x340) || (nat_lt 0x4F9 c && nat_lt c 0x622) || (nat_lt 0x2001 c && nat_lt c 0x2126)
 
 -- the canonical mapping of the database, and that of syllables
 abbrev pub split_of : ℕ → Option (ℕ × ℕ)

@@ -62,10 +62,16 @@ pub const CCC_BY_CHARACTER: [(char, u8); 3] = [
     ('\u{1A60}', 254),
 ];
 
+/// The greatest combining class of these.
+const LAST_MODIFIED: u8 = 132;
+
 /// The ccc that shaping takes in place of a combining class.
 fn modified_ccc(ccc: u8) -> u8
     ensures { result ≡ modified_ccc ccc }
 {
+    if ccc > LAST_MODIFIED {
+        return ccc;
+    }
     MODIFIED_CCC
         .iter()
         .find(|entry| entry.0 == ccc)
@@ -77,6 +83,9 @@ fn modified_ccc(ccc: u8) -> u8
 fn ccc_by_character(c: char) -> Option<u8>
     ensures { result ≡ ccc_by_character c }
 {
+    if c < '\u{F39}' {
+        return None;
+    }
     CCC_BY_CHARACTER
         .iter()
         .find(|entry| entry.0 == c)

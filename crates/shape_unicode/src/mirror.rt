@@ -1,6 +1,7 @@
 //! Mirror images, for text that runs from right to left (UAX 9, Bidi_Mirroring_Glyph).
 ghost use Rattle.std.specs.Prelude.{◌≡◌};
 ghost use Rattle.shape_unicode.specs.Mirror.{other_one, other_of_pair, is_between_brackets, mirrored_of};
+ghost use Rattle.shape_unicode.specs.Mirror.{is_before_angles};
 
 use crate::mirror_pairs::MIRROR_PAIRS;
 
@@ -29,12 +30,22 @@ fn is_between_brackets(c: char) -> bool
     '\u{BB}' < c && c < '\u{F3A}'
 }
 
+/// Whether `c` stands in General Punctuation before its angle quotes, where nothing is mirrored either.
+fn is_before_angles(c: char) -> bool
+    ensures { result ≡ is_before_angles c }
+{
+    '\u{1FFF}' < c && c < '\u{2039}'
+}
+
 /// The mirror image of `c`, where one is encoded. Few characters have the property Bidi_Mirrored, and the
 /// pairs are walked through for these alone.
 pub(crate) fn mirrored_of(c: char) -> Option<char>
     ensures { result ≡ mirrored_of c }
 {
     if is_between_brackets(c) {
+        return None;
+    }
+    if is_before_angles(c) {
         return None;
     }
     if ucd_bidi::is_bidi_mirrored(c) {

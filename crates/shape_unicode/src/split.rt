@@ -8,7 +8,7 @@
 //! (`proofs/LastStepLemmas.antt`).
 ghost use Rattle.std.specs.Prelude.{◌≡◌};
 ghost use Rattle.ucd_normal.specs.Composition.{composite};
-ghost use Rattle.shape_unicode.specs.Split.{split_of};
+ghost use Rattle.shape_unicode.specs.Split.{split_of, is_whole_early};
 ghost use Rattle.shape_unicode.specs.LastStep.{last_step, excluded_head, head_of, split_by};
 
 use crate::hangul::{is_syllable, split_syllable};
@@ -72,10 +72,24 @@ fn split_by(c: char, full: &[char]) -> Option<(char, char)>
     }
 }
 
+/// Whether `c` stands where no character splits: up to the signs of Latin-1, among the first marks, in Hebrew and
+/// the first letters of Arabic, or in General Punctuation. Most marks and joiners are so told without the table.
+fn is_whole_early(c: char) -> bool
+    ensures { result ≡ is_whole_early c }
+{
+    c < '\u{C0}'
+        || '\u{2FF}' < c && c < '\u{340}'
+        || '\u{4F9}' < c && c < '\u{622}'
+        || '\u{2001}' < c && c < '\u{2126}'
+}
+
 /// The parts that `c` splits into in one step; the second one is U+0000 where there is one part alone.
 pub(crate) fn split(c: char) -> Option<(char, char)>
     ensures { result ≡ split_of c }
 {
+    if is_whole_early(c) {
+        return None;
+    }
     if is_syllable(c) {
         Some(split_syllable(c))
     } else {

@@ -55,8 +55,8 @@ pub struct MarkStep {
 
 /// The component of the base that a mark belongs to.
 #[tactic(auto, using(shape_buffer::proofs::WrappingLemmas::kept_bits), unfolding(crate::specs::MarkState::component_of))]
-fn mark_component(base: Base, info: &hb_glyph_info_t) -> i32
-    ensures { result ≡ component_of base info.now }
+fn mark_component(base: &Base, info: &hb_glyph_info_t) -> i32
+    ensures { result ≡ component_of base.now info.now }
 {
     let component = difference(i32::from(info._hb_glyph_info_get_ligature_component()), 1);
     if base.ligature_id == 0
@@ -70,8 +70,8 @@ fn mark_component(base: Base, info: &hb_glyph_info_t) -> i32
 
 /// Which part of the base from its left a component is.
 #[tactic(auto, using(shape_buffer::proofs::WrappingLemmas::kept_bits), unfolding(crate::specs::MarkState::place_of))]
-fn place_of_component(base: Base, component: i32) -> i32
-    ensures { result ≡ place_of base component }
+fn place_of_component(base: &Base, component: i32) -> i32
+    ensures { result ≡ place_of base.now component }
 {
     if base.left_to_right {
         return component;
@@ -84,9 +84,9 @@ fn place_of_component(base: Base, component: i32) -> i32
 
 /// The extents of a component.
 #[tactic(auto, using(shape_buffer::proofs::WrappingLemmas::kept_bits), unfolding(crate::specs::MarkState::component_extents))]
-fn component_extents(base: Base, component: i32) -> hb_glyph_extents_t
-    requires { 0 < base.number_of_components }
-    ensures { result ≡ component_extents_of base component }
+fn component_extents(base: &Base, component: i32) -> hb_glyph_extents_t
+    requires { 0 < base.now.number_of_components }
+    ensures { result ≡ component_extents_of base.now component }
 {
     let n = i32::from(base.number_of_components);
     let mut extents = base.extents;
@@ -101,58 +101,53 @@ fn component_extents(base: Base, component: i32) -> hb_glyph_extents_t
 
 /// Goes to the component of a mark.
 #[tactic(auto, using(shape_buffer::proofs::WrappingLemmas::kept_bits), unfolding(crate::specs::MarkState::at_component))]
-fn at_component(base: Base, info: &hb_glyph_info_t, mut state: MarkState) -> MarkState
-    requires { 0 < base.number_of_components }
-    ensures { result ≡ at_component_of base info.now state }
+fn at_component(base: &Base, info: &hb_glyph_info_t, state: &mut MarkState)
+    requires { 0 < base.now.number_of_components }
+    ensures { state.new ≡ at_component_of base.now info.now state.old }
 {
     let component = mark_component(base, info);
     if component == state.component {
-        return state;
+        return;
     }
     state.component_extents = component_extents(base, component);
     state.component = component;
     state.ccc = NO_LAST_CCC;
-    state
 }
 
 /// The same, where the base has several components.
 #[tactic(auto, using(shape_buffer::proofs::WrappingLemmas::kept_bits), unfolding(crate::specs::MarkState::with_component))]
-fn with_component(base: Base, info: &hb_glyph_info_t, state: MarkState) -> MarkState
-    ensures { result ≡ with_component_of base info.now state }
+fn with_component(base: &Base, info: &hb_glyph_info_t, state: &mut MarkState)
+    ensures { state.new ≡ with_component_of base.now info.now state.old }
 {
     if base.number_of_components > 1 {
-        at_component(base, info, state)
-    } else {
-        state
+        at_component(base, info, state);
     }
 }
 
 /// The state at a mark of this ccc: another ccc than the last begins at the box of the component again.
 #[tactic(auto, using(shape_buffer::proofs::WrappingLemmas::kept_bits), unfolding(crate::specs::MarkState::at_ccc))]
-fn at_ccc(ccc: u8, mut state: MarkState) -> MarkState
-    ensures { result ≡ at_ccc_of ccc state }
+fn at_ccc(ccc: u8, state: &mut MarkState)
+    ensures { state.new ≡ at_ccc_of ccc state.old }
 {
     if ccc == state.ccc {
-        return state;
+        return;
     }
     state.ccc = ccc;
     state.extents = state.component_extents;
-    state
 }
 
 /// Passes by a mark without a ccc.
 #[tactic(auto, using(shape_buffer::proofs::WrappingLemmas::kept_bits), unfolding(crate::specs::MarkState::passed))]
-fn passed(forward: bool, position: GlyphPosition, mut state: MarkState) -> MarkState
-    ensures { result ≡ passed_of forward position state }
+fn pass(forward: bool, position: GlyphPosition, state: &mut MarkState)
+    ensures { state.new ≡ passed_of forward position state.old }
 {
     if forward {
         state.x_offset = difference(state.x_offset, position.x_advance);
         state.y_offset = difference(state.y_offset, position.y_advance);
-        return state;
+        return;
     }
     state.x_offset = sum(state.x_offset, position.x_advance);
     state.y_offset = sum(state.y_offset, position.y_advance);
-    state
 }
 
 /// A position without advances, moved by the running offset.
@@ -169,14 +164,9 @@ fn moved(mut position: GlyphPosition, state: &MarkState) -> GlyphPosition
 
 /// Places a mark of a ccc in the state that it is placed in.
 #[tactic(auto, using(shape_buffer::proofs::WrappingLemmas::kept_bits), unfolding(crate::specs::MarkState::place_in))]
-fn place_in<F: hb_font_t>(
-    face: &F,
-    base: Base,
-    mut state: MarkState,
-    info: &hb_glyph_info_t,
-    position: GlyphPosition,
-) -> MarkStep
-    ensures { result ≡ place_in_of (F.face face.now) base state info.now position }
+fn place_in<F: hb_font_t>(face: &F, base: &Base, info: &hb_glyph_info_t, step: &mut MarkStep)
+    ensures { step.new
+        ≡ place_in_of (F.face face.now) base.now step.old.state info.now step.old.position }
 {
     let placed = position_mark(
         face,
@@ -184,31 +174,26 @@ fn place_in<F: hb_font_t>(
         GlyphId(info.glyph_id),
         info._hb_glyph_info_get_modified_combining_class(),
         PlacedMark {
-            position,
-            base: state.extents,
+            position: step.position,
+            base: step.state.extents,
         },
     );
-    let position = moved(placed.position, &state);
-    state.extents = placed.base;
-    MarkStep { position, state }
+    step.position = moved(placed.position, &step.state);
+    step.state.extents = placed.base;
 }
 
-/// Places a mark of a base, or passes it by.
+/// Places a mark of a base, or passes it by. The step comes with the mark's position and the state before it.
 #[tactic(auto, using(shape_buffer::proofs::WrappingLemmas::kept_bits), unfolding(crate::specs::MarkState::place_mark))]
-pub fn place_mark<F: hb_font_t>(
-    face: &F,
-    base: Base,
-    state: MarkState,
-    info: &hb_glyph_info_t,
-    position: GlyphPosition,
-) -> MarkStep
-    ensures { result ≡ place_mark_of (F.face face.now) base state info.now position }
+pub fn place_mark<F: hb_font_t>(face: &F, base: &Base, info: &hb_glyph_info_t, step: &mut MarkStep)
+    ensures { step.new
+        ≡ place_mark_of (F.face face.now) base.now step.old.state info.now step.old.position }
 {
     let ccc = info._hb_glyph_info_get_modified_combining_class();
     if ccc == 0 {
-        let state = passed(base.surroundings.forward, position, state);
-        return MarkStep { position, state };
+        pass(base.surroundings.forward, step.position, &mut step.state);
+        return;
     }
-    let state = at_ccc(ccc, with_component(base, info, state));
-    place_in(face, base, state, info, position)
+    with_component(base, info, &mut step.state);
+    at_ccc(ccc, &mut step.state);
+    place_in(face, base, info, step);
 }

@@ -9,7 +9,7 @@ ghost use Rattle.shape_fallback.specs.Marks.{zeroed_position as zeroed_position_
 ghost use Rattle.shape_fallback.specs.Marks.{zeroed as zeroed_of};
 ghost use Rattle.shape_fallback.specs.Positions.{with_positions};
 
-use crate::ot_shape_fallback::mark_state::{Base, MarkState, NO_LAST_CCC, place_mark};
+use crate::ot_shape_fallback::mark_state::{Base, MarkState, MarkStep, NO_LAST_CCC, place_mark};
 use crate::ot_shape_fallback::one_mark::Surroundings;
 use crate::ot_shape_fallback::recategorize::is_nonspacing;
 use shape_buffer::buffer::{GlyphId, GlyphPosition, hb_buffer_t, hb_glyph_info_t};
@@ -55,13 +55,14 @@ pub(crate) fn place_marks_of_base<F: hb_font_t>(
     ensures { buffer.new
         ≡ with_positions (marks_placed (F.face face.now) base first) from to buffer.old }
 {
-    let mut state = first;
+    let mut step = MarkStep {
+        position: GlyphPosition::zero(),
+        state: first,
+    };
     for i in from..to {
-        let info = buffer.infos()[i];
-        let position = buffer.positions()[i];
-        let step = place_mark(face, base, state, &info, position);
+        step.position = buffer.positions()[i];
+        place_mark(face, &base, &buffer.infos()[i], &mut step);
         buffer.set_position(i, step.position);
-        state = step.state;
     }
 }
 

@@ -86,7 +86,7 @@ module _ (rules : Rules) where
     absorbed = starter.absorbed ++ record { place = mark.place; char = c } ∷ [];
   }
 
-  composed_info : (s : Placed) (ms : List Placed) (c : Placed) → AllByRecursion (λ m. 0 < ccc_of_placed m) ms
+  pub composed_info : (s : Placed) (ms : List Placed) (c : Placed) → AllByRecursion (λ m. 0 < ccc_of_placed m) ms
       → composed ccc_of_placed (is_blocked ccc_of_placed) is_mark_placed (compose_placed rules) s ms c
       ≡ option_map (made_with s c) (composed_char rules (placed_info s) (greatest_ccc ccc_of_placed ms) (placed_info c))
   composed_info s ms c nonzero =
@@ -94,7 +94,7 @@ module _ (rules : Rules) where
       option_map-if (made_with s c) (is_mark_item c.item && not (is_blocked ccc_of_placed ms c)) compose
       ∙ ap (λ b. option_map (made_with s c) (if is_mark_item c.item && not b then compose else None)) (blocked_by_number ccc_of_placed ms c nonzero)
 
-  placed-next : (i : ℕ) (items : List Item) (x : Item) → i < length items → x ≡ get_or items i x
+  pub placed-next : (i : ℕ) (items : List Item) (x : Item) → i < length items → x ≡ get_or items i x
       → placed i (drop i items) ≡ item_at i x ∷ placed (i + 1) (drop (i + 1) items)
   placed-next i items x lt is = rw (add-one, drop-cons items i x) (ap (λ y. item_at i y ∷ placed (suc i) (drop (suc i) items)) (sym is))
 

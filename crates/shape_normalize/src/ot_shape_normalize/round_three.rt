@@ -5,15 +5,16 @@
 //! Standard, D115 to D117). Marks may stand out of order, in a run too long to be put in order or where a
 //! hook has turned them. So the greatest ccc since the starter decides, and not that of the last mark.
 //!
-//! The walk puts out items and remembers what was composed; the clusters of each starter and the marks that
-//! went into it are merged afterwards, as they stand in the list.
-ghost use Rattle.std.specs.Prelude.{◌≡◌, ◌≤◌, map, length, IfOk, IsOkUnless, OnOk};
+//! In most texts nothing composes, and then no item is copied: a first walk asks, and the list stays as it
+//! is. Else a second walk puts out items and remembers what was composed; the clusters of each starter and
+//! the marks that went into it are merged afterwards, as they stand in the list.
+ghost use Rattle.std.specs.Prelude.{◌≡◌, ◌≤◌, map, length, IfOk, IsOkUnless, OnOk, IsTrue};
 ghost use Rattle.shape_buffer.specs.Buffer.{cleared, limit_of};
 ghost use Rattle.canonical_form.specs.Recompose.{compose_with_glyph};
 ghost use Rattle.shape_buffer.specs.UnicodeProps.{with_scratch_of};
 ghost use Rattle.shape_normalize.specs.RoundOne.{part_item, seen_chars};
 ghost use Rattle.shape_normalize.specs.RoundThree.{recomposed_items, chained_spans, composed_chars};
-ghost use Rattle.shape_normalize.specs.RoundThree.{placed_info};
+ghost use Rattle.shape_normalize.specs.RoundThree.{placed, placed_info};
 ghost use Rattle.shape_normalize.specs.RoundThree.{is_blocked_behind, composed_char, info_at_its_place};
 ghost use Rattle.shape_normalize.specs.RoundThree.{round_three};
 ghost use Rattle.shape_plan.specs.Rules.{has_glyph};
@@ -134,6 +135,43 @@ impl PlacedInfo {
     }
 }
 
+/// Whether nothing composes: each item is then put out as it stands. It stops at the first mark that
+/// composes.
+fn nothing_composes<T: ShapingTypes>(
+    plan: &PlanOf<'_, T>,
+    face: &T::Face,
+    infos: &[hb_glyph_info_t],
+) -> bool
+    ensures { IsTrue result → recomposed_items
+        (⟦<T as Meaning>⟧.rules plan.now face.now) infos.now ≡ placed 0 infos.now }
+{
+    let Some(first) = infos.first() else {
+        return true;
+    };
+    let mut starter = PlacedInfo {
+        info: *first,
+        place: 0,
+    };
+    let mut between = 0;
+    for place in 1..infos.len() {
+        let next = PlacedInfo {
+            info: infos[place],
+            place,
+        };
+        if composed_of::<T>(plan, face, &starter, between, &next).is_some() {
+            return false;
+        }
+        let ccc = next.info._hb_glyph_info_get_modified_combining_class();
+        if ccc == 0 {
+            starter = next;
+            between = 0;
+        } else {
+            between = between.max(ccc);
+        }
+    }
+    true
+}
+
 /// Walks over the items: each mark that composes goes into its starter, and all else is put out.
 fn recompose_all<T: ShapingTypes>(
     alloc: Global,
@@ -225,6 +263,10 @@ pub(crate) fn recompose<T: ShapingTypes>(
     ensures memory { IsOkUnless result ShapeError.Memory }
     ensures settings { cleared buffer.new ≡ cleared buffer.old }
 {
+    if nothing_composes::<T>(plan, face, buffer.infos()) {
+        buffer.clear_positions();
+        return Ok(());
+    }
     let recomposed = recompose_all::<T>(alloc, plan, face, buffer.infos(), buffer.scratch_flags())?;
     buffer.merge_spans_out(&recomposed.spans);
     let infos = all_at_their_places(alloc, &recomposed.out, buffer.infos())?;

@@ -10,9 +10,9 @@ pub returns : goal.returns
 unfolding at_component
 returns c =
     let found = c.mark_component-component.result in
-    let another : int_eq found c.args.state.component ≡ false = elim (cases_Bool (int_eq found c.args.state.component)) [
-      | inl same ↦ absurd (c.if-component-state.false (ap (of_z w32) ((Decides-int_eq found c.args.state.component).0 same)))
+    let another : int_eq found c.args.state.now.component ≡ false = elim (cases_Bool (int_eq found c.args.state.now.component)) [
+      | inl same ↦ absurd (c.if-component-state.false (ap (of_z w32) ((Decides-int_eq found c.args.state.now.component).0 same)))
       | inr another ↦ another
     ] in
-    let test : int_eq (component_of c.args.base c.args.info.now) c.args.state.component ≡ false = cc in
+    let test : int_eq (component_of c.args.base.now c.args.info.now) c.args.state.now.component ≡ false = cc in
     rw test (grind (arith, kept_bits))

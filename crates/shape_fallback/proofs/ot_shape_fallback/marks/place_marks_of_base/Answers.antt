@@ -11,10 +11,10 @@ loop-i-preserved g c =
     let item : c.index-infos-i.result ≡ get_or c.loop-i.buffer.items c.loop-i.i c.index-infos-i.result = cc in
     let position : get_or c.positions.result.now c.loop-i.i zero_position
     ≡ get_or c.loop-i.buffer.positions c.loop-i.i zero_position = cc in
-    let step = marks_step (g.F.hb_font_t.face c.args.face.now) c.args.base c.loop-i.state c.loop-i.i c.args.to c.loop-i.buffer c.index-infos-i.result _ c.loop-i-test.true items positions item position in
+    let step = marks_step (g.F.hb_font_t.face c.args.face.now) c.args.base c.loop-i.step.state c.loop-i.i c.args.to c.loop-i.buffer c.index-infos-i.result _ c.loop-i-test.true items positions item position in
     record { as_many = grind (arith, common_steps); rest = cc }
 
 pub returns : goal.returns
 returns g c =
-    let end = marks_end (g.F.hb_font_t.face c.args.face.now) c.args.base c.loop-i.state c.loop-i.i c.args.to c.loop-i.buffer c.loop-i-test.false (omega arith) in
+    let end = marks_end (g.F.hb_font_t.face c.args.face.now) c.args.base c.loop-i.step.state c.loop-i.i c.args.to c.loop-i.buffer c.loop-i-test.false (omega arith) in
     sym end ∙ c.loop-i.invariant.rest
