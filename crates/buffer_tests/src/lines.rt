@@ -10,7 +10,7 @@ use shape_lines::{Line, can_cut, cut_lines};
 use std::alloc::Global;
 use std::test::Fail;
 
-/// A glyph: its cluster, its mask and its advance, to the right and downwards alike.
+/// A glyph: its cluster, its mask and its advance to the right; downwards it is 1 more.
 type Cell = (u32, u32, i32);
 
 /// A line: its glyphs and its text.
@@ -37,7 +37,7 @@ fn place(buffer: &mut hb_buffer_t, cells: &[Cell]) {
     for (_, _, advance) in cells {
         let mut position = GlyphPosition::zero();
         position.x_advance = *advance;
-        position.y_advance = advance.wrapping_neg();
+        position.y_advance = advance.wrapping_add(1).wrapping_neg();
         if at < buffer.len() {
             buffer.set_position(at, position);
             at = at.saturating_add(1);
@@ -63,11 +63,11 @@ fn lines(alloc: Global, glyphs: &GlyphBuffer, text_end: u32, width: u32) -> Resu
     Ok(rows)
 }
 
-/// Two letters, a space and a letter.
-const TEXT: [Cell; 4] = [(0, 0, 600), (1, 0, 500), (2, 0, 250), (3, 0, 600)];
+/// Two letters, a space and a letter: they end at 600, 1100, 1350 and 1650.
+const TEXT: [Cell; 4] = [(0, 0, 600), (1, 0, 500), (2, 0, 250), (3, 0, 300)];
 
 /// The same as it runs to the left.
-const TURNED: [Cell; 4] = [(3, 0, 600), (2, 0, 250), (1, 0, 500), (0, 0, 600)];
+const TURNED: [Cell; 4] = [(3, 0, 300), (2, 0, 250), (1, 0, 500), (0, 0, 600)];
 
 #[test]
 fn what_can_be_cut(rt: HostRuntime) -> Result<(), Fail> {
@@ -91,7 +91,11 @@ fn longest_part_that_fits(rt: HostRuntime) -> Result<(), Fail> {
         [(0, 2, 0, 2), (2, 4, 2, 4)].as_slice()
     );
     assert_eq!(rt;
-        lines(alloc, &text, 9, 1950)?.as_slice(),
+        lines(alloc, &text, 4, 749)?.as_slice(),
+        [(0, 1, 0, 1), (1, 2, 1, 2), (2, 4, 2, 4)].as_slice()
+    );
+    assert_eq!(rt;
+        lines(alloc, &text, 9, 1650)?.as_slice(),
         [(0, 4, 0, 9)].as_slice()
     );
     // none fits: the shortest parts
@@ -120,8 +124,8 @@ fn in_the_order_of_the_text(rt: HostRuntime) -> Result<(), Fail> {
     );
     let text = glyphs(alloc, Direction::TopToBottom, &TEXT)?;
     assert_eq!(rt;
-        lines(alloc, &text, 4, 1100)?.as_slice(),
-        [(0, 2, 0, 2), (2, 4, 2, 4)].as_slice()
+        lines(alloc, &text, 4, 1101)?.as_slice(),
+        [(0, 1, 0, 1), (1, 4, 1, 4)].as_slice()
     );
     Ok(())
 }
@@ -130,20 +134,22 @@ fn in_the_order_of_the_text(rt: HostRuntime) -> Result<(), Fail> {
 fn at_places_of_a_cut_alone(rt: HostRuntime) -> Result<(), Fail> {
     let alloc = rt.alloc();
     // not before the cluster that is unsafe to break, and not inside the one of two glyphs
-    let cells = [(0, 0, 10), (1, 1, 10), (4, 0, 10), (4, 0, 10)];
+    let cells = [(0, 0, 10), (1, 1, 20), (4, 0, 40), (4, 0, 80)];
     let text = glyphs(alloc, Direction::LeftToRight, &cells)?;
-    assert_eq!(rt;
-        lines(alloc, &text, 5, 5)?.as_slice(),
-        [(0, 2, 0, 4), (2, 4, 4, 5)].as_slice()
-    );
+    for width in [10, 70] {
+        assert_eq!(rt;
+            lines(alloc, &text, 5, width)?.as_slice(),
+            [(0, 2, 0, 4), (2, 4, 4, 5)].as_slice()
+        );
+    }
     // the cluster that stands later in the text decides where it runs to the left
-    let cells = [(4, 1, 10), (1, 0, 10), (0, 1, 10)];
+    let cells = [(4, 1, 40), (1, 0, 20), (0, 1, 10)];
     let text = glyphs(alloc, Direction::RightToLeft, &cells)?;
     assert_eq!(rt;
-        lines(alloc, &text, 5, 5)?.as_slice(),
+        lines(alloc, &text, 5, 30)?.as_slice(),
         [(2, 3, 0, 1), (0, 2, 1, 5)].as_slice()
     );
-    let cells = [(7, 0, 10), (7, 0, 10)];
+    let cells = [(7, 0, 10), (7, 0, 20)];
     let text = glyphs(alloc, Direction::LeftToRight, &cells)?;
     assert_eq!(rt;
         lines(alloc, &text, 8, 0)?.as_slice(),
@@ -156,11 +162,15 @@ fn at_places_of_a_cut_alone(rt: HostRuntime) -> Result<(), Fail> {
 fn widths_below_zero(rt: HostRuntime) -> Result<(), Fail> {
     let alloc = rt.alloc();
     // wide, then narrow: a longer part fits again
-    let cells = [(0, 0, 600), (1, 0, 600), (2, 0, -700)];
+    let cells = [(0, 0, 600), (1, 0, 500), (2, 0, -700)];
     let text = glyphs(alloc, Direction::LeftToRight, &cells)?;
     assert_eq!(rt;
-        lines(alloc, &text, 3, 600)?.as_slice(),
+        lines(alloc, &text, 3, 400)?.as_slice(),
         [(0, 3, 0, 3)].as_slice()
+    );
+    assert_eq!(rt;
+        lines(alloc, &text, 3, 399)?.as_slice(),
+        [(0, 1, 0, 1), (1, 3, 1, 3)].as_slice()
     );
     // beyond 32 bits
     let cells = [(0, 0, i32::MAX), (1, 0, i32::MAX), (2, 0, 2)];
@@ -176,7 +186,8 @@ fn widths_below_zero(rt: HostRuntime) -> Result<(), Fail> {
         lines(alloc, &text, 3, 0)?.as_slice(),
         [(0, 3, 0, 3)].as_slice()
     );
-    // downwards it is the negative of the advance: 2 ^ 31, 2 ^ 31, 7
+    // downwards it is the negative of the advance, here -2 ^ 31: 2 ^ 31, 2 ^ 31, 8
+    let cells = [(0, 0, i32::MAX), (1, 0, i32::MAX), (2, 0, 7)];
     let text = glyphs(alloc, Direction::TopToBottom, &cells)?;
     assert_eq!(rt;
         lines(alloc, &text, 3, u32::MAX)?.as_slice(),

@@ -39,42 +39,50 @@ line glyph_start glyph_end text_start text_end = record {
   text_end = text_end;
 }
 
--- two letters, a space and a letter
+-- two letters, a space and a letter: they end at 600, 1100, 1350 and 1650
 abbrev pub text : Buffer
-text = laid LeftToRight (cell 0 0 (pos 600) ∷ cell 1 0 (pos 500) ∷ cell 2 0 (pos 250) ∷ cell 3 0 (pos 600) ∷ [])
+text = laid LeftToRight (cell 0 0 (pos 600) ∷ cell 1 0 (pos 500) ∷ cell 2 0 (pos 250) ∷ cell 3 0 (pos 300) ∷ [])
 
 -- the same as it runs to the left
 abbrev pub turned : Buffer
-turned = laid RightToLeft (cell 3 0 (pos 600) ∷ cell 2 0 (pos 250) ∷ cell 1 0 (pos 500) ∷ cell 0 0 (pos 600) ∷ [])
+turned = laid RightToLeft (cell 3 0 (pos 300) ∷ cell 2 0 (pos 250) ∷ cell 1 0 (pos 500) ∷ cell 0 0 (pos 600) ∷ [])
 
 abbrev pub downward : Buffer
 downward = record text { direction = TopToBottom }
 
 -- not to be broken before the second cluster; the third one has two glyphs
 abbrev pub joined : Buffer
-joined = laid LeftToRight (cell 0 0 (pos 10) ∷ cell 1 1 (pos 10) ∷ cell 4 0 (pos 10) ∷ cell 4 0 (pos 10) ∷ [])
+joined = laid LeftToRight (cell 0 0 (pos 10) ∷ cell 1 1 (pos 20) ∷ cell 4 0 (pos 40) ∷ cell 4 0 (pos 80) ∷ [])
 
 -- running to the left, not to be broken before the last cluster of the text
 abbrev pub joined_turned : Buffer
-joined_turned = laid RightToLeft (cell 4 1 (pos 10) ∷ cell 1 0 (pos 10) ∷ cell 0 1 (pos 10) ∷ [])
+joined_turned = laid RightToLeft (cell 4 1 (pos 40) ∷ cell 1 0 (pos 20) ∷ cell 0 1 (pos 10) ∷ [])
 
+-- they end at 600, 1100 and 400
 abbrev pub wide_then_narrow : Buffer
-wide_then_narrow = laid LeftToRight (cell 0 0 (pos 600) ∷ cell 1 0 (pos 600) ∷ cell 2 0 (negsuc 699) ∷ [])
+wide_then_narrow = laid LeftToRight (cell 0 0 (pos 600) ∷ cell 1 0 (pos 500) ∷ cell 2 0 (negsuc 699) ∷ [])
 
 abbrev pub one_cluster : Buffer
-one_cluster = laid LeftToRight (cell 7 0 (pos 10) ∷ cell 7 0 (pos 10) ∷ [])
+one_cluster = laid LeftToRight (cell 7 0 (pos 10) ∷ cell 7 0 (pos 20) ∷ [])
+
+abbrev pub each_alone : List Line
+each_alone = line 0 1 0 1 ∷ line 1 2 1 2 ∷ line 2 3 2 3 ∷ line 3 4 3 4 ∷ []
 
 -- no other lines are right: `laws::right_lines_are_unique`
 pub record WorkedLines : Type 0 where
   pub no_glyphs : AreRightLines (laid LeftToRight []) 0 (pos 5) []
   pub longest : AreRightLines text 4 (pos 1200) (line 0 2 0 2 ∷ line 2 4 2 4 ∷ [])
   pub exactly_as_wide : AreRightLines text 4 (pos 1100) (line 0 2 0 2 ∷ line 2 4 2 4 ∷ [])
-  pub one_less : AreRightLines text 4 (pos 1099) (line 0 1 0 1 ∷ line 1 3 1 3 ∷ line 3 4 3 4 ∷ [])
-  pub whole : AreRightLines text 9 (pos 1950) (line 0 4 0 9 ∷ [])
-  pub shortest_as_none_fits : AreRightLines text 4 (pos 100) (line 0 1 0 1 ∷ line 1 2 1 2 ∷ line 2 3 2 3 ∷ line 3 4 3 4 ∷ [])
+  pub one_less : AreRightLines text 4 (pos 1099) (line 0 1 0 1 ∷ line 1 4 1 4 ∷ [])
+  pub three_lines : AreRightLines text 4 (pos 749) (line 0 1 0 1 ∷ line 1 2 1 2 ∷ line 2 4 2 4 ∷ [])
+  pub whole : AreRightLines text 9 (pos 1650) (line 0 4 0 9 ∷ [])
+  pub one_less_than_whole : AreRightLines text 9 (pos 1649) (line 0 3 0 3 ∷ line 3 4 3 9 ∷ [])
+  pub shortest_as_none_fits : AreRightLines text 4 (pos 100) each_alone
   pub from_the_end_where_clusters_fall : AreRightLines turned 4 (pos 1200) (line 2 4 0 2 ∷ line 0 2 2 4 ∷ [])
-  pub vertical : AreRightLines downward 4 (pos 1101) (line 0 1 0 1 ∷ line 1 3 1 3 ∷ line 3 4 3 4 ∷ [])
-  pub not_before_an_unsafe_cluster : AreRightLines joined 5 (pos 5) (line 0 2 0 4 ∷ line 2 4 4 5 ∷ [])
-  pub nor_where_clusters_fall : AreRightLines joined_turned 5 (pos 5) (line 2 3 0 1 ∷ line 0 2 1 5 ∷ [])
-  pub fits_again : AreRightLines wide_then_narrow 3 (pos 600) (line 0 3 0 3 ∷ [])
-  pub not_inside_a_cluster : AreRightLines one_cluster 8 (pos 0) (line 0 2 7 8 ∷ [])
+  pub vertical : AreRightLines downward 4 (pos 1101) (line 0 1 0 1 ∷ line 1 4 1 4 ∷ [])
+  pub not_before_an_unsafe_cluster : AreRightLines joined 5 (pos 10) (line 0 2 0 4 ∷ line 2 4 4 5 ∷ [])
+  pub nor_where_clusters_fall : AreRightLines joined_turned 5 (pos 30) (line 2 3 0 1 ∷ line 0 2 1 5 ∷ [])
+  pub not_inside_a_cluster : AreRightLines joined 5 (pos 70) (line 0 2 0 4 ∷ line 2 4 4 5 ∷ [])
+  pub nor_as_none_fits : AreRightLines one_cluster 8 (pos 0) (line 0 2 7 8 ∷ [])
+  pub fits_again : AreRightLines wide_then_narrow 3 (pos 400) (line 0 3 0 3 ∷ [])
+  pub fits_never : AreRightLines wide_then_narrow 3 (pos 399) (line 0 1 0 1 ∷ line 1 3 1 3 ∷ [])
