@@ -7,3 +7,4 @@ pub mod StepLaws
 pub mod CountLaws
 pub mod Engine
 pub mod WorkedKern
+pub mod WorkedEngine

@@ -6,7 +6,7 @@ use Rattle.shape_buffer.specs.Positions.{zero_position}
 use Rattle.shape_buffer.specs.Wrapping.{◌+ʷ◌, ◌-ʷ◌}
 use Rattle.shape_buffer.specs.declared.buffer.positions.GlyphPosition.{GlyphPosition}
 use Rattle.shape_buffer.specs.declared.buffer.settings.Direction.{Direction}
-use Rattle.shape_buffer.specs.declared.buffer.settings.Direction.TheVariants.{LeftToRight, RightToLeft, TopToBottom}
+use Rattle.shape_buffer.specs.declared.buffer.settings.Direction.TheVariants.{LeftToRight, RightToLeft, TopToBottom, BottomToTop}
 use Rattle.shape_buffer.specs.declared.buffer.settings.hb_tag_t.{hb_tag_t}
 use Rattle.shape_buffer.specs.declared.interfaces.map_request.MapRequest.{MapRequest}
 use Rattle.shape_buffer.specs.declared.interfaces.map_request.MapRequest.TheVariants.{Feature, Pause}
@@ -15,7 +15,7 @@ use Rattle.shape_font.specs.Bytes.{i16_of}
 use Rattle.kern_table.specs.Map.{map_of, kern_masks}
 use Rattle.kern_table.specs.Pairs.{value_of}
 use Rattle.kern_table.specs.Tables.{parts_of, is_read, part_kerned, table_kerned}
-use Rattle.kern_table.specs.Walk.{is_passed, left_after, kerned}
+use Rattle.kern_table.specs.Walk.{left_after, kerned}
 
 -- a part of format 0 that says so many pairs, with room for two: glyphs 2 and 3 by -50, 3 and 2 by -35; so long, and of this coverage
 abbrev pub part : ℕ → ℕ → ℕ → List ℕ
@@ -77,11 +77,19 @@ ignorable cluster = record (on 9 cluster) { properties = record new_properties {
 
 -- a line of these items, each 600 wide
 abbrev pub line : Direction → List Item → Buffer
-line direction items = record new_buffer { items = items; positions = map (λ _. record zero_position { x_advance = pos 600 }) items; direction = direction }
+line direction items = record new_buffer {
+  items = items;
+  positions = map (λ _. record zero_position { x_advance = pos 600 }) items;
+  direction = direction;
+}
 
 -- advances and offsets along a horizontal line
 abbrev pub along : Buffer → List (ℤ × ℤ)
 along b = map (λ (p : GlyphPosition). (p.x_advance, p.x_offset)) b.positions
+
+-- the same down a vertical line
+abbrev pub down : Buffer → List (ℤ × ℤ)
+down b = map (λ (p : GlyphPosition). (p.y_advance, p.y_offset)) b.positions
 
 abbrev pub masks : Buffer → List ℕ
 masks b = map (λ (x : Item). x.mask) b.items
@@ -106,11 +114,21 @@ pub record WorkedLines : Type 0 where
   pub off_between : along (by_part (on 2 0 ∷ off 8 1 ∷ on 3 2 ∷ [])) ≡ still ∷ still ∷ still ∷ []
   pub mark_in_front_waits : left_after 16 0 None (mark 0 ∷ []) ≡ Some 0
   pub unsafe_between : masks (by_part (on 2 0 ∷ mark 0 ∷ on 3 1 ∷ on 8 2 ∷ [])) ≡ 16 ∷ 16 ∷ 19 ∷ 16 ∷ []
+  -- every glyph, where it is asked for
+  pub concat_asked : masks (kerned (table 1 1) 4 16 (record (line LeftToRight (on 8 0 ∷ on 8 1 ∷ [])) { flags = record { 0 = 64 } }))
+      ≡ 18 ∷ 18 ∷ []
+  pub concat_unasked : masks (by_part (on 8 0 ∷ on 8 1 ∷ [])) ≡ 16 ∷ 16 ∷ []
   -- from the left of the line: 3 stands there, before 2
   pub backward : along (part_kerned (table 1 1) 4 16 (line RightToLeft (on 2 0 ∷ on 3 1 ∷ [])))
       ≡ (pos 583, negsuc 16) ∷ (pos 582, pos 0) ∷ []
+  pub downwards : down (part_kerned (table 1 0) 4 16 (line TopToBottom (on 2 0 ∷ on 3 1 ∷ [])))
+      ≡ (negsuc 24, pos 0) ∷ (negsuc 24, negsuc 24) ∷ []
+  pub upwards : down (part_kerned (table 1 0) 4 16 (line BottomToTop (on 2 0 ∷ on 3 1 ∷ [])))
+      ≡ (negsuc 16, negsuc 16) ∷ (negsuc 17, pos 0) ∷ []
+  pub down_alone : along (part_kerned (table 1 0) 4 16 (line TopToBottom (on 2 0 ∷ on 3 1 ∷ []))) ≡ still ∷ still ∷ []
   pub other_line : along (part_kerned (table 1 1) 4 16 (line TopToBottom (on 2 0 ∷ on 3 1 ∷ []))) ≡ still ∷ still ∷ []
-  pub whole_table : along (table_kerned (table 1 1) 16 (line LeftToRight (on 2 0 ∷ on 3 1 ∷ []))) ≡ (pos 575, pos 0) ∷ (pos 575, negsuc 24) ∷ []
+  pub whole_table : along (table_kerned (table 1 1) 16 (line LeftToRight (on 2 0 ∷ on 3 1 ∷ [])))
+      ≡ (pos 575, pos 0) ∷ (pos 575, negsuc 24) ∷ []
   pub two_parts : along (table_kerned (table 2 1 ++ part 26 1 2) 16 (line LeftToRight (on 2 0 ∷ on 3 1 ∷ [])))
       ≡ (pos 550, pos 0) ∷ (pos 550, negsuc 49) ∷ []
   pub short_part : along (table_kerned (0 ∷ 0 ∷ 0 ∷ 1 ∷ part 5 1 2) 16 (line LeftToRight (on 2 0 ∷ on 3 1 ∷ []))) ≡ still ∷ still ∷ []
@@ -130,7 +148,12 @@ worked_lines = record {
   off_between = refl;
   mark_in_front_waits = refl;
   unsafe_between = refl;
+  concat_asked = refl;
+  concat_unasked = refl;
   backward = refl;
+  downwards = refl;
+  upwards = refl;
+  down_alone = refl;
   other_line = refl;
   whole_table = refl;
   two_parts = refl;

@@ -1,9 +1,11 @@
 //! The definitions, computed on tables and buffers that were read by hand.
 ghost use Rattle.kern_table.specs.WorkedKern.{WorkedValues, WorkedLines, WorkedMaps};
+ghost use Rattle.kern_table.specs.WorkedEngine.{WorkedEngine};
 
-/// Values of pairs, lines that are kerned, and what requests ask for.
+/// Values of pairs, lines that are kerned, what requests ask for, and what the engine answers.
 pub fn kerning_meets_worked_cases()
     ensures values { WorkedValues }
     ensures lines { WorkedLines }
     ensures maps { WorkedMaps }
+    ensures engine { WorkedEngine }
 {}

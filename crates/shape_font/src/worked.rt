@@ -4,7 +4,7 @@ ghost use Rattle.shape_font.specs.WorkedGlyphs.{WorkedLists, WorkedSegments, Wor
 ghost use Rattle.shape_font.specs.WorkedLines.{WorkedLines};
 ghost use Rattle.shape_font.specs.WorkedSearches.{WorkedSearches, WorkedVariations};
 ghost use Rattle.shape_font.specs.WorkedNames.{WorkedNames};
-ghost use Rattle.shape_font.specs.WorkedFace.{WorkedFace};
+ghost use Rattle.shape_font.specs.WorkedFace.{WorkedFace, WorkedOrigins};
 
 /// Numbers, the directory, collections, and the choice of a character map.
 pub fn tables_meet_worked_cases()
@@ -30,4 +30,5 @@ pub fn searches_meet_worked_cases()
     ensures variations { WorkedVariations }
     ensures names { WorkedNames }
     ensures face { WorkedFace }
+    ensures origins { WorkedOrigins }
 {}

@@ -1,3 +1,4 @@
+use Rattle.kern_table.specs.WorkedEngine.{worked_engine}
 use Rattle.kern_table.specs.WorkedKern.{worked_values, worked_lines, worked_maps}
 use Rattle.kern_table.proofs.worked.kerning_meets_worked_cases.Goals as goal
 
@@ -9,3 +10,6 @@ returns-clause-lines c = worked_lines
 
 pub returns-clause-maps : goal.returns-clause-maps
 returns-clause-maps c = worked_maps
+
+pub returns-clause-engine : goal.returns-clause-engine
+returns-clause-engine c = worked_engine

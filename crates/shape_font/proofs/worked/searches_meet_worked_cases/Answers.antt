@@ -1,6 +1,6 @@
 use Rattle.shape_font.specs.WorkedSearches.{worked_searches, worked_variations}
 use Rattle.shape_font.specs.WorkedNames.{worked_names}
-use Rattle.shape_font.specs.WorkedFace.{worked_face}
+use Rattle.shape_font.specs.WorkedFace.{worked_face, worked_origins}
 use Rattle.shape_font.proofs.worked.searches_meet_worked_cases.Goals as goal
 
 pub returns-clause-searches : goal.returns-clause-searches
@@ -14,3 +14,6 @@ returns-clause-names c = worked_names
 
 pub returns-clause-face : goal.returns-clause-face
 returns-clause-face c = worked_face
+
+pub returns-clause-origins : goal.returns-clause-origins
+returns-clause-origins c = worked_origins
