@@ -35,7 +35,9 @@ length_concat end b =
     ]
 
 pub length_pair_moved : (i j : ℕ) (by : ℤ) (b : Buffer) → length (pair_moved i j by b).items ≡ length b.items
-length_pair_moved = step-pair_moved (λ b c. length c.items ≡ length b.items) (λ b. refl) (λ a b c first later. later ∙ first) length-unsafe_to_break
+length_pair_moved =
+    step-pair_moved (λ b c. length c.items ≡ length b.items) (λ b. refl)
+    (λ a b c first later. later ∙ first) length-unsafe_to_break
     length_concat (λ i p b. refl)
 
 pub length_kerned : (t : List ℕ) (start mask : ℕ) (b : Buffer) → length (kerned t start mask b).items ≡ length b.items
@@ -85,5 +87,7 @@ limit_concat end b =
     ]
 
 pub limit_pair_moved : (i j : ℕ) (by : ℤ) (b : Buffer) → limit_of (pair_moved i j by b) ≡ limit_of b
-limit_pair_moved = step-pair_moved (λ b c. limit_of c ≡ limit_of b) (λ b. refl) (λ a b c first later. later ∙ first) limit-break limit_concat
+limit_pair_moved =
+    step-pair_moved (λ b c. limit_of c ≡ limit_of b) (λ b. refl)
+    (λ a b c first later. later ∙ first) limit-break limit_concat
     (λ i p b. refl)

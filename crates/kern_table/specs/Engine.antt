@@ -26,7 +26,12 @@ abbrev pub kern_lookups : FontFace → LookupMeaning
 kern_lookups face = record no_lookups { kern = table_kerned face.kern.now }
 
 pub kern_masks-lawful : (map : KernMap) → LawfulMasks (kern_masks map)
-kern_masks-lawful map = record { global_mask = global_mask-free map; one_mask = one_mask-free map; mask = mask-free map; shift = shift-small map }
+kern_masks-lawful map = record {
+  global_mask = global_mask-free map;
+  one_mask = one_mask-free map;
+  mask = mask-free map;
+  shift = shift-small map;
+}
 
 pub kern_lookups-lawful : (face : FontFace) → LawfulLookups (kern_lookups face)
 kern_lookups-lawful face = record {

@@ -78,8 +78,9 @@ exact_component base item =
     pos base.number_of_components -ℤ pos 1
     else component
 
--- where all numbers round a base fit, they are the exact ones: the base's extents, the running offset at the first mark and past each mark of
--- ccc 0, and which component a mark belongs to, where the numbers of components are of u8
+-- where all numbers round a base fit, they are the exact ones: the base's extents, the running offset at the
+-- first mark and past each mark of ccc 0, and which component a mark belongs to, where the numbers of
+-- components are of u8
 pub record ExactRound : Type 0 where
   pub base_above : (face : FaceMeaning) (s : Setting) (x : Item) (p : GlyphPosition) (E : Extents) → Fits32 (E.y_bearing +ℤ p.y_offset)
       → (base_of face s x p E).extents.y_bearing ≡ E.y_bearing +ℤ p.y_offset

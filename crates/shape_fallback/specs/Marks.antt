@@ -24,7 +24,12 @@ marks_placed face base s (x ∷ xs) (p ∷ ps) =
 -- a position without its advances; the offsets lose them first where they are adjusted
 unfoldable pub zeroed_position : Bool → GlyphPosition → GlyphPosition
 zeroed_position adjust p =
-    if adjust then record p { x_advance = pos 0; y_advance = pos 0; x_offset = p.x_offset -ʷ p.x_advance; y_offset = p.y_offset -ʷ p.y_advance }
+    if adjust then record p {
+      x_advance = pos 0;
+      y_advance = pos 0;
+      x_offset = p.x_offset -ʷ p.x_advance;
+      y_offset = p.y_offset -ʷ p.y_advance;
+    }
     else record p { x_advance = pos 0; y_advance = pos 0 }
 
 -- a nonspacing mark loses its advances

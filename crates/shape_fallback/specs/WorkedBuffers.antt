@@ -45,7 +45,10 @@ latin_face advance = base_face 1000 advance (Some (extents (pos 30) (pos 700) ad
 abbrev pub letter : ℕ → Item
 letter n =
     let item = new_item 0x61 0 in
-    record item { glyph_id = 1; properties = record item.properties { general_category = LowercaseLetter; ligature_id = 1; number_of_components = n } }
+    record item {
+      glyph_id = 1;
+      properties = record item.properties { general_category = LowercaseLetter; ligature_id = 1; number_of_components = n };
+    }
 
 -- a mark of a glyph and a ccc, of a category, in a cluster
 abbrev pub mark_of : ℕ → ℕ → hb_unicode_general_category_t → ℕ → Item
@@ -101,7 +104,17 @@ unfolding marks_positioned setting_of runs_to_right bases_positioned bases base_
     marks_placed place_mark place_in at_ccc with_component moved mark_placed is_double is_left is_right is_below is_above is_attached
     agree lowered raised ◌+ʷ◌ ◌-ʷ◌ neg_w int_wrap
 above_and_below =
-    record { above = refl; below = refl; two_acutes = refl; above_then_below = refl; moved_base = refl; no_gap = refl; gap_of_one = refl; right_to_left = refl; downwards = refl }
+    record {
+      above = refl;
+      below = refl;
+      two_acutes = refl;
+      above_then_below = refl;
+      moved_base = refl;
+      no_gap = refl;
+      gap_of_one = refl;
+      right_to_left = refl;
+      downwards = refl;
+    }
 
 -- offsets of one mark of ccc 230 on a ligature of three components of advance 900
 abbrev pub on_ligature : Direction → ℕ → List GlyphPosition
@@ -256,4 +269,12 @@ pub record WorkedBuffers : Type 0 where
 
 pub worked_buffers : WorkedBuffers
 worked_buffers =
-    record { latin = above_and_below; ligatures = on_ligatures; ccc_0 = marks_of_ccc_0; bare_bases = bases_without_extents; widest = widest_mark; steps = due_steps; spans = marked_spans }
+    record {
+      latin = above_and_below;
+      ligatures = on_ligatures;
+      ccc_0 = marks_of_ccc_0;
+      bare_bases = bases_without_extents;
+      widest = widest_mark;
+      steps = due_steps;
+      spans = marked_spans;
+    }

@@ -37,7 +37,15 @@ worked_base left_to_right id n width = record {
 abbrev pub component_mark : ℕ → ℕ → ℕ → ℕ → Item
 component_mark glyph ccc id component =
     let item = new_item 0x301 0 in
-    record item { glyph_id = glyph; properties = record item.properties { general_category = NonspacingMark; modified_ccc = ccc; ligature_id = id; ligature_component = component } }
+    record item {
+      glyph_id = glyph;
+      properties = record item.properties {
+        general_category = NonspacingMark;
+        modified_ccc = ccc;
+        ligature_id = id;
+        ligature_component = component;
+      };
+    }
 
 pub record Components : Type 0 where
   pub of_three : map (λ component. component_of (worked_base true 1 3 (pos 900)) (component_mark 2 230 1 component))
@@ -57,7 +65,17 @@ pub record Components : Type 0 where
 components : Components
 unfolding component_of place_of component_extents ◌+ʷ◌ ◌-ʷ◌ ◌*ʷ◌ int_wrap
 components =
-    record { of_three = refl; of_another = refl; of_no_id = refl; places = refl; places_from_the_right = refl; thirds = refl; thirds_from_the_right = refl; turned = refl; widest = refl }
+    record {
+      of_three = refl;
+      of_another = refl;
+      of_no_id = refl;
+      places = refl;
+      places_from_the_right = refl;
+      thirds = refl;
+      thirds_from_the_right = refl;
+      turned = refl;
+      widest = refl;
+    }
 
 -- ---- the state from mark to mark
 
@@ -89,7 +107,14 @@ pub record States : Type 0 where
 states : States
 unfolding at_component with_component at_ccc component_of place_of component_extents ◌+ʷ◌ ◌-ʷ◌ ◌*ʷ◌ int_wrap
 states =
-    record { another_component = refl; same_component = refl; one_component = refl; two_components = refl; another_ccc = refl; same_ccc = refl }
+    record {
+      another_component = refl;
+      same_component = refl;
+      one_component = refl;
+      two_components = refl;
+      another_ccc = refl;
+      same_ccc = refl;
+    }
 
 -- x_advance, y_advance, x_offset, y_offset
 abbrev pub at : ℤ → ℤ → ℤ → ℤ → GlyphPosition
@@ -120,7 +145,16 @@ pub record RunningOffsets : Type 0 where
 running_offsets : RunningOffsets
 unfolding passed moved first_state zeroed_position ◌+ʷ◌ ◌-ʷ◌ neg_w int_wrap
 running_offsets =
-    record { passed_forward = refl; passed_backward = refl; added = refl; first_forward = refl; first_backward = refl; adjusted = refl; not_adjusted = refl; least_advance = refl }
+    record {
+      passed_forward = refl;
+      passed_backward = refl;
+      added = refl;
+      first_forward = refl;
+      first_backward = refl;
+      adjusted = refl;
+      not_adjusted = refl;
+      least_advance = refl;
+    }
 
 -- ---- which items are bases
 
@@ -167,7 +201,15 @@ pub record DirectionsOfComponents : Type 0 where
 directions_of_components : DirectionsOfComponents
 unfolding runs_to_right
 directions_of_components =
-    record { left_to_right = refl; right_to_left = refl; by_script = refl; up_by_script = refl; invalid_by_script = refl; unknown_script = refl; no_script = refl }
+    record {
+      left_to_right = refl;
+      right_to_left = refl;
+      by_script = refl;
+      up_by_script = refl;
+      invalid_by_script = refl;
+      unknown_script = refl;
+      no_script = refl;
+    }
 
 pub record WorkedMarks : Type 0 where
   pub of_ligatures : Components
@@ -178,4 +220,10 @@ pub record WorkedMarks : Type 0 where
 
 pub worked_marks : WorkedMarks
 worked_marks =
-    record { of_ligatures = components; from_mark_to_mark = states; offsets = running_offsets; spans = worked_bases; directions = directions_of_components }
+    record {
+      of_ligatures = components;
+      from_mark_to_mark = states;
+      offsets = running_offsets;
+      spans = worked_bases;
+      directions = directions_of_components;
+    }

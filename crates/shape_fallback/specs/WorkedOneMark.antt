@@ -44,7 +44,17 @@ pub record XOffsets : Type 0 where
 x_offsets : XOffsets
 unfolding is_double is_left is_right ◌+ʷ◌ ◌-ʷ◌ int_wrap
 x_offsets =
-    record { double = refl; double_backward = refl; double_vertical = refl; left = refl; right = refl; centred = refl; narrow_base = refl; turned_mark = refl; widest = refl }
+    record {
+      double = refl;
+      double_backward = refl;
+      double_vertical = refl;
+      left = refl;
+      right = refl;
+      centred = refl;
+      narrow_base = refl;
+      turned_mark = refl;
+      widest = refl;
+    }
 
 abbrev pub stack : ℤ → Extents → Stacked
 stack y base = record { y_offset = y; base = base }

@@ -50,7 +50,16 @@ pub record FirstGlyphs : Type 0 where
 first_glyphs : FirstGlyphs
 unfolding first_glyph
 first_glyphs =
-    record { seven_alone = refl; zero_first = refl; nine_last = refl; no_figure = refl; colon_is_none = refl; stop_first = refl; comma_else = refl; neither = refl }
+    record {
+      seven_alone = refl;
+      zero_first = refl;
+      nine_last = refl;
+      no_figure = refl;
+      colon_is_none = refl;
+      stop_first = refl;
+      comma_else = refl;
+      neither = refl;
+    }
 
 -- advances of spaces that were 251 wide, or -251 high
 pub record SpaceAdvances : Type 0 where
@@ -72,7 +81,20 @@ pub record SpaceAdvances : Type 0 where
 space_advances : SpaceAdvances
 unfolding space_advance is_em_part em_part em_advance as_wide_as first_glyph neg_w int_wrap
 space_advances =
-    record { em_spaces = refl; em_spaces_down = refl; figure = refl; figure_down = refl; no_figure = refl; punctuation = refl; comma = refl; punctuation_down = refl; no_punctuation = refl; narrow = refl; narrow_down = refl; others = refl }
+    record {
+      em_spaces = refl;
+      em_spaces_down = refl;
+      figure = refl;
+      figure_down = refl;
+      no_figure = refl;
+      punctuation = refl;
+      comma = refl;
+      punctuation_down = refl;
+      no_punctuation = refl;
+      narrow = refl;
+      narrow_down = refl;
+      others = refl;
+    }
 
 -- a position of these advances, moved by 5 and 6
 abbrev pub worked_position : ℤ → ℤ → GlyphPosition

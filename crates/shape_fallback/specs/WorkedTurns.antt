@@ -55,7 +55,12 @@ pub record LinesOfMarks : Type 0 where
 lines_of_marks : LinesOfMarks
 unfolding setting_of
 lines_of_marks =
-    record { rightward = λ unicode face. refl; leftward = λ unicode face. refl; downward = λ unicode face. refl; upward = λ unicode face. refl }
+    record {
+      rightward = λ unicode face. refl;
+      leftward = λ unicode face. refl;
+      downward = λ unicode face. refl;
+      upward = λ unicode face. refl;
+    }
 
 -- a space as wide as the em square of 1000 units, with these scratch flags
 abbrev pub em_space : ℕ → Buffer

@@ -17,7 +17,8 @@ string_of t k at = let start = string_start t k at in let len = slice_index t st
 -- the number of a glyph's name: in format 1 its own, in format 2 the one that is listed
 abbrev pub name_index : List ℕ → ℕ → Option ℕ
 name_index post glyph = if nat_eq (u32_of post 0) 0x10000 then (if nat_lt glyph 258 then Some glyph else None)
-    else (if nat_eq (u32_of post 0) 0x20000 && nat_lt glyph (fitting post (u16_of post 32) 34 2) then Some (u16_of post (34 + 2 * glyph)) else None)
+    else (if nat_eq (u32_of post 0) 0x20000 && nat_lt glyph (fitting post (u16_of post 32) 34 2)
+    then Some (u16_of post (34 + 2 * glyph)) else None)
 
 -- the name with a number: 258 that the table leaves out, then the strings after the list
 abbrev pub name_of : List ℕ → List ℕ → ℕ → Option (List ℕ)

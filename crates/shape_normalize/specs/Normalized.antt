@@ -42,8 +42,8 @@ selector_items rules b =
     flat_map (sequence_items rules b.invisible_glyph b.not_found_variation_selector_glyph)
     (filter (is_selector_sequence rules.unicode) (sequences (variation_sequences_merged rules b).items))
 
--- an item except for its cluster, its mask, its hidden bit and the glyph that its index becomes, which later steps change, and its ccc where a
--- reorder hook is given, which may set that
+-- an item except for its cluster, its mask, its hidden bit and the glyph that its index becomes, which later
+-- steps change, and its ccc where a reorder hook is given, which may set that
 abbrev pub content : Rules → Item → Item
 content rules item = record item {
   cluster = 0;

@@ -65,7 +65,9 @@ sequence_origins rules invisible place sequence =
 
 -- the origin of each item of the expanded list
 abbrev pub origins : Rules → Buffer → List Origin
-origins rules text = origins_of_parts (sequence_origins rules text.invisible_glyph) 0 (sequences (variation_sequences_merged rules text).items)
+origins rules text =
+    origins_of_parts (sequence_origins rules text.invisible_glyph) 0
+    (sequences (variation_sequences_merged rules text).items)
 
 -- what an item has of the text's item at the place that it came from: the feature bits; outside sequences with a selector the glyph of
 -- its own character, or what stands in for that; and the hidden bit with the character, or else that of its own character, except for a CGJ

@@ -93,7 +93,10 @@ glyphs_worked = record {
 -- an item whose properties are not those of its character
 abbrev pub odd_item : ℕ → Item
 odd_item c =
-    let plain : Item = new_item c 3 in record plain { mask = 256; properties = record plain.properties { modified_ccc = 7; continuation = true; shaper_category = 5 } }
+    let plain : Item = new_item c 3 in record plain {
+      mask = 256;
+      properties = record plain.properties { modified_ccc = 7; continuation = true; shaper_category = 5 };
+    }
 
 -- an item's character, ccc and the shaper's category byte
 abbrev pub char_ccc_and_category : Item → ℕ × (ℕ × ℕ)
@@ -117,7 +120,15 @@ pub record ItemsWorked : Type 0 where
 
 items_worked : ItemsWorked
 items_worked =
-    record { kept = refl; remembered = refl; with_glyph_forgotten = refl; parts = refl; parts_place = refl; shortest = refl; half_supported = refl }
+    record {
+      kept = refl;
+      remembered = refl;
+      with_glyph_forgotten = refl;
+      parts = refl;
+      parts_place = refl;
+      shortest = refl;
+      half_supported = refl;
+    }
 
 -- an item that had a glyph index before
 abbrev pub indexed : ℕ → ℕ → Item
@@ -166,18 +177,24 @@ pub record VariantsWorked : Type 0 where
   pub passes_without : glyph (passed_item (face_of []).nominal_glyph (indexed 0x62 5)) ≡ (0x62, 5)
   pub variation_sequence : map glyph (variant_items (face_of (0xFE00 ∷ [])) None (item 0x61 0 ∷ item 0xFE00 1 ∷ item 0xFE00 2 ∷ []))
       ≡ (0x61, 7) ∷ (0xFE00, 0xFE00) ∷ []
-  pub no_variation_sequence : map glyph (variant_items (face_of (0x61 ∷ [])) None (item 0x61 0 ∷ item 0xFE00 1 ∷ [])) ≡ (0x61, 0x61) ∷ (0xFE00, 0) ∷ []
+  pub no_variation_sequence : map glyph
+      (variant_items (face_of (0x61 ∷ [])) None (item 0x61 0 ∷ item 0xFE00 1 ∷ []))
+      ≡ (0x61, 0x61) ∷ (0xFE00, 0) ∷ []
   pub marks_selector : map selects (variant_items (face_of []) None (item 0x62 0 ∷ item 0xFE00 1 ∷ item 0xFE00 2 ∷ []))
       ≡ (false, false) ∷ (true, true) ∷ (false, true) ∷ []
   pub ignorable_goes : map selects (variant_items (face_of []) (Some (record { 0 = 4 })) (item 0x62 0 ∷ item 0xFE00 1 ∷ []))
       ≡ (false, false) ∷ (true, false) ∷ []
   -- where they stand: in parts from a place on, and in sequences
   pub spans_of_parts : variation_sequence_spans (face_of (0xFE00 ∷ [])) 2
-      (map (map (λ c. item c 0)) ((0x62 ∷ []) ∷ (0x61 ∷ 0xFE00 ∷ 0xFE00 ∷ []) ∷ (0x62 ∷ 0xFE00 ∷ []) ∷ (0x61 ∷ []) ∷ (0x61 ∷ 0xFE00 ∷ []) ∷ []))
+      (map (map (λ c. item c 0)) ((0x62 ∷ []) ∷ (0x61 ∷ 0xFE00 ∷ 0xFE00 ∷ [])
+      ∷ (0x62 ∷ 0xFE00 ∷ []) ∷ (0x61 ∷ []) ∷ (0x61 ∷ 0xFE00 ∷ []) ∷ []))
       ≡ (3, 5) ∷ (9, 11) ∷ []
   pub spans_of_sequences : variation_sequences_from world (face_of (0xFE00 ∷ [])) 0 (sequences (map (λ c. item c 0)
       (0x62 ∷ 0x61 ∷ 0xFE00 ∷ 0xFE00 ∷ 0x62 ∷ 0xFE00 ∷ 0x61 ∷ 0x301 ∷ 0xFE00 ∷ 0x61 ∷ 0x61 ∷ 0xFE00 ∷ []))) ≡ (1, 3) ∷ (10, 12) ∷ []
-  pub spans_from_a_place : variation_sequences_from world (face_of (0xFE00 ∷ [])) 5 (sequences (item 0x61 0 ∷ item 0xFE00 0 ∷ [])) ≡ (5, 7) ∷ []
+  pub spans_from_a_place :
+      variation_sequences_from world (face_of (0xFE00 ∷ [])) 5
+      (sequences (item 0x61 0 ∷ item 0xFE00 0 ∷ []))
+      ≡ (5, 7) ∷ []
   pub no_spans : variation_sequences_from world (face_of (0xFE00 ∷ [])) 0 (sequences []) ≡ []
   -- two items that become one are merged first
   pub variation_sequence_merged : map at (round_one (rules_in 1 (0x61 ∷ 0xFE00 ∷ [])) (buffer_of (item 0x61 1 ∷ item 0xFE00 0 ∷ []))).items

@@ -23,7 +23,9 @@ pub record PlacesWorked : Type 0 where
   pub in_sequence : origins_of (0x61 ∷ 0x301 ∷ []) (item 0xE1 0 ∷ item 0x323 1 ∷ item 0xE1 2 ∷ [])
       ≡ origin_at false 0 ∷ origin_at false 0 ∷ origin_at false 1 ∷ origin_at false 2 ∷ origin_at false 2 ∷ []
   -- U+0061 and its selector become one item, which came from the first, where the face has a glyph for the two
-  pub variation_sequence : origins_of (0x61 ∷ 0xFE00 ∷ []) (item 0x61 0 ∷ item 0xFE00 1 ∷ item 0x301 2 ∷ []) ≡ origin_at true 0 ∷ origin_at true 2 ∷ []
+  pub variation_sequence :
+      origins_of (0x61 ∷ 0xFE00 ∷ []) (item 0x61 0 ∷ item 0xFE00 1 ∷ item 0x301 2 ∷ [])
+      ≡ origin_at true 0 ∷ origin_at true 2 ∷ []
   pub no_variation_sequence : origins_of (0x61 ∷ []) (item 0x61 0 ∷ item 0xFE00 1 ∷ item 0x301 2 ∷ [])
       ≡ origin_at true 0 ∷ origin_at true 1 ∷ origin_at true 2 ∷ []
   pub second_selector : origins_of (0x61 ∷ 0xFE00 ∷ []) (item 0x61 0 ∷ item 0xFE00 1 ∷ item 0xFE00 2 ∷ [])

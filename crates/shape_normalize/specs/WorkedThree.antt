@@ -139,7 +139,15 @@ pub record MergedOutWorked : Type 0 where
 merged_out_worked : MergedOutWorked
 unfolding merge
 merged_out_worked =
-    record { spans_are = refl; merged = refl; grows_right = refl; at_characters = refl; no_flags = refl; seen = refl; seen_ignorable = refl }
+    record {
+      spans_are = refl;
+      merged = refl;
+      grows_right = refl;
+      at_characters = refl;
+      no_flags = refl;
+      seen = refl;
+      seen_ignorable = refl;
+    }
 
 pub record RoundThreeWorked : Type 0 where
   pub composed : ComposedWorked
@@ -148,4 +156,9 @@ pub record RoundThreeWorked : Type 0 where
   pub merged : MergedOutWorked
 
 pub round_three_worked : RoundThreeWorked
-round_three_worked = record { composed = composed_worked; long_runs = long_runs_worked; items = composed_item_worked; merged = merged_out_worked }
+round_three_worked = record {
+  composed = composed_worked;
+  long_runs = long_runs_worked;
+  items = composed_item_worked;
+  merged = merged_out_worked;
+}

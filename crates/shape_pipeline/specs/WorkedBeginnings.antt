@@ -44,7 +44,8 @@ text_in language = record new_buffer { direction = LeftToRight; script = script_
 -- the requests of its plan, by an engine that tells script and language by the scripts that it chooses
 abbrev pub requests_in : Option (List ℕ) → Builder
 requests_in language =
-    (planned_for plain_unicode (record (planning_with constants_of) { layouts = λ _. telling_layout }) no_tables 5 [] (text_in language)).ot_map
+    (planned_for plain_unicode (record (planning_with constants_of) { layouts = λ _. telling_layout })
+    no_tables 5 [] (text_in language)).ot_map
 
 -- the engine is told the language of the text
 pub record WorkedLanguages : Type 0 where
@@ -72,7 +73,8 @@ worked_origins = record {
   negative = λ face glyph is. ap (λ advance. int_div advance (pos 2)) is;
 }
 
--- a fact of the clusters of glyphs that is promised in a direction, and what it asks: keepers, a monotone level, and clusters that never fall
+-- a fact of the clusters of glyphs that is promised in a direction, and what it asks: keepers, a monotone
+-- level, and clusters that never fall
 abbrev pub PromisedIn : Direction → (Buffer → Buffer → Type 0) → Type 0
 PromisedIn direction Fact =
     (run : Run) (text glyphs : Buffer) → ClustersComeInOrder run direction text glyphs

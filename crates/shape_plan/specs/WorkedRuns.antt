@@ -1,5 +1,5 @@
--- What a run and normalising go by, worked out by hand: hooks count where they are given and the plan keeps its shaper, and all else is told
--- of the plan and the face.
+-- What a run and normalising go by, worked out by hand: hooks count where they are given and the plan keeps
+-- its shaper, and all else is told of the plan and the face.
 use Rattle.std.specs.Prelude.{◌≡◌, ◌+◌, ℕ, pos, neg_ℤ, true, false, [], ◌∷◌, Option, Some, None, is_some, refl}
 use Rattle.shape_buffer.specs.Buffer.{Buffer, new_buffer}
 use Rattle.shape_buffer.specs.Face.{FaceMeaning}

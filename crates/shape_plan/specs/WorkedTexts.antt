@@ -28,7 +28,8 @@ telling_layout = record layout_of {
 -- the builder that script 100 and a language begin with
 abbrev pub begun_in : Option (List ℕ) → Builder
 begun_in language =
-    (begun_planner (record (planning_with constants_of) { layouts = λ _. telling_layout }) no_tables 5 LeftToRight (script_of 100) language).ot_map
+    (begun_planner (record (planning_with constants_of) { layouts = λ _. telling_layout })
+    no_tables 5 LeftToRight (script_of 100) language).ot_map
 
 abbrev pub german : Option (List ℕ)
 german = Some (0x64 ∷ 0x65 ∷ [])

@@ -159,7 +159,15 @@ zeroing_of_marks = record {
 times_of_zeroing : TimesOfZeroing
 unfolding marks_zeroed positions_mapped ◌-ʷ◌ int_wrap
 times_of_zeroing =
-    record { early = refl; late = refl; late_not_early = refl; early_not_late = refl; never = refl; plan_says_no = refl; shaper_not_kept = refl }
+    record {
+      early = refl;
+      late = refl;
+      late_not_early = refl;
+      early_not_late = refl;
+      never = refl;
+      plan_says_no = refl;
+      shaper_not_kept = refl;
+    }
 
 -- a table that adds to each horizontal advance
 abbrev more_advance : ℤ → GlyphPosition → GlyphPosition

@@ -25,7 +25,14 @@ pub record Flags : Type 0 where
 flags : Flags
 unfolding graphemes_marked
 flags =
-    record { four = refl; third_pairs_with_fourth = refl; mark_parts_them = refl; beside_the_range = refl; sub_region_tags = refl; beside_the_tags = refl }
+    record {
+      four = refl;
+      third_pairs_with_fourth = refl;
+      mark_parts_them = refl;
+      beside_the_range = refl;
+      sub_region_tags = refl;
+      beside_the_tags = refl;
+    }
 
 -- sequences of emoji (UAX 29, GB9 and GB11); ZWJ joins pictographs alone, and a pictograph without one begins anew
 pub record Emoji : Type 0 where
@@ -62,7 +69,9 @@ unfolding graphemes_marked
 others = record { marks_of_a_letter = refl; first_mark = refl; voice_mark = refl }
 
 abbrev pub of_category : hb_unicode_general_category_t → ℕ → Item
-of_category category c = let plain : Item = new_item c 0 in record plain { properties = record plain.properties { general_category = category } }
+of_category category c =
+    let plain : Item = new_item c 0 in
+    record plain { properties = record plain.properties { general_category = category } }
 
 abbrev pub joiner_of : hb_unicode_general_category_t → Item
 joiner_of category = let plain : Item = of_category category 0x200D in record plain { properties = record plain.properties { zwj = true } }

@@ -44,7 +44,15 @@ pub record FormedClusters : Type 0 where
 formed_clusters : FormedClusters
 unfolding graphemes_marked clusters_formed merge
 formed_clusters =
-    record { regional_pairs = refl; by_character = refl; marked = refl; marked_too = refl; seen = refl; merged_unmarked = refl; ascii = refl }
+    record {
+      regional_pairs = refl;
+      by_character = refl;
+      marked = refl;
+      marked_too = refl;
+      seen = refl;
+      merged_unmarked = refl;
+      ascii = refl;
+    }
 
 abbrev pub ordered : Direction → Option Script → Buffer → Buffer
 ordered direction script b = natively_ordered worked_unicode (record (formed b) { direction = direction; script = script })
@@ -181,7 +189,14 @@ abbrev pub odd_bracket : Item
 odd_bracket = let plain : Item = new_item 0x28 3 in record plain {
   mask = 9;
   properties =
-      record plain.properties { general_category = OtherSymbol; hidden = true; continuation = true; zwj = true; space_type = 3; shaper_category = 4 };
+      record plain.properties {
+        general_category = OtherSymbol;
+        hidden = true;
+        continuation = true;
+        zwj = true;
+        space_type = 3;
+        shaper_category = 4;
+      };
 }
 
 pub record RotatedItems : Type 0 where

@@ -57,7 +57,13 @@ substituting = record no_lookups {
 -- the engine with so many stages, in a plan without a shaper
 abbrev with_engine : ℕ → Run → Run
 with_engine n run =
-    record run { lookups = substituting; map = with_stages n; hooks = None; constants = constants true true; decisions = by_tables false false }
+    record run {
+      lookups = substituting;
+      map = with_stages n;
+      hooks = None;
+      constants = constants true true;
+      decisions = by_tables false false;
+    }
 
 abbrev glyph_at : ℕ → ℕ → Item
 glyph_at g cluster = with_glyph g (new_item 0x61 cluster)
@@ -89,9 +95,11 @@ pub record SubstitutedTexts (run : Run) : Type 0 where
 
 -- two glyphs become four in stage 1, and two again in stage 3: the list is longest on the way
 pub record LongestOnTheWay (run : Run) : Type 0 where
-  pub before : length (run_steps (stage_steps (with_engine 4 run) 1) (at_level MonotoneCharacters (glyph_at 10 0 ∷ glyph_at 10 1 ∷ []))).items
+  pub before : length (run_steps (stage_steps (with_engine 4 run) 1)
+      (at_level MonotoneCharacters (glyph_at 10 0 ∷ glyph_at 10 1 ∷ []))).items
       ≡ 2
-  pub longest : length (run_steps (stage_steps (with_engine 4 run) 2) (at_level MonotoneCharacters (glyph_at 10 0 ∷ glyph_at 10 1 ∷ []))).items
+  pub longest : length (run_steps (stage_steps (with_engine 4 run) 2)
+      (at_level MonotoneCharacters (glyph_at 10 0 ∷ glyph_at 10 1 ∷ []))).items
       ≡ 4
   pub after : glyphs (after_stages run 4 (at_level MonotoneCharacters (glyph_at 10 0 ∷ glyph_at 10 1 ∷ []))) ≡ 10 ∷ 10 ∷ []
 

@@ -39,7 +39,8 @@ four mask = masked_item mask 0 ∷ masked_item mask 1 ∷ masked_item mask 2 ∷
 
 pub record UserFeatures : Type 0 where
   pub in_the_middle : masks_with (feature 1 3 1 3 ∷ []) (four 0) ≡ 0 ∷ 0x300 ∷ 0x300 ∷ 0 ∷ []
-  pub clusters_and_not_places : masks_with (feature 1 3 1 3 ∷ []) (masked_item 0 7 ∷ masked_item 0 7 ∷ masked_item 0 1 ∷ masked_item 0 1 ∷ [])
+  pub clusters_and_not_places : masks_with (feature 1 3 1 3 ∷ [])
+      (masked_item 0 7 ∷ masked_item 0 7 ∷ masked_item 0 1 ∷ masked_item 0 1 ∷ [])
       ≡ 0 ∷ 0 ∷ 0x300 ∷ 0x300 ∷ []
   pub empty_range : masks_with (feature 1 3 2 2 ∷ []) (four 0) ≡ 0 ∷ 0 ∷ 0 ∷ 0 ∷ []
   pub from_the_start : masks_with (feature 1 1 0 1 ∷ []) (four 0) ≡ 0x100 ∷ 0 ∷ 0 ∷ 0 ∷ []

@@ -40,7 +40,9 @@ look_up {X} key test xs form d all found =
     let P : Option X → Type 0 = λ v. find key xs ≡ v → option_map form v ≡ Some d → IsFound key test form d in
     let cases : P (find key xs) = elim (find key xs) as P [
       | None ↦ λ e h. cc
-      | Some x ↦ λ e h. let passes = found_passes key test xs x all e in record { entry = x; is_key = passes.0; passes = passes.1; into = cc }
+      | Some x ↦ λ e h.
+          let passes = found_passes key test xs x all e in
+          record { entry = x; is_key = passes.0; passes = passes.1; into = cc }
     ] in
     cases refl found
 

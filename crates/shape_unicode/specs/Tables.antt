@@ -36,7 +36,8 @@ by_tree f s = tree_value s.default (tree_of f s)
 
 -- the same by trees; opening it opens the readers of trees too
 unfoldable pub by_trees : Tables
-unfolding tables points_ok values_ok paired_with expand canonical_combining_class_stepped decomposition_stepped general_category_stepped compositions_stepped
+unfolding tables points_ok values_ok paired_with expand
+    canonical_combining_class_stepped decomposition_stepped general_category_stepped compositions_stepped
 by_trees =
     record {
       ccc = by_tree ccc canonical_combining_class_stepped;
