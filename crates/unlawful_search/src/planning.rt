@@ -9,9 +9,9 @@ use crate::face::{Answers, OddFace};
 use crate::layout::{OddLayout, OddMap};
 use crate::marking::Marking;
 use crate::shaper::OddShaper;
-use crate::universe::{Text, Universe};
+use crate::universe::Universe;
 use crate::wishes::{Wish, Wishes};
-use shape_buffer::buffer::{Direction, ShapeError};
+use shape_buffer::buffer::{Direction, Script, ShapeError};
 use shape_pipeline::ot_shape_plan::hb_ot_shape_plan_t;
 use shape_pipeline::ot_shaper::{
     DEFAULT_SHAPER, HB_OT_SHAPE_ZERO_WIDTH_MARKS_NONE, Preference, hb_ot_shaper_t,
@@ -34,12 +34,12 @@ fn refuses(wishes: Wishes) -> bool {
     asks || wishes.refuses_kept
 }
 
-/// The plan by a shaper for a text that runs in a direction.
-fn planned<'a, S>(
+/// The plan by a shaper for a text of a script that runs in a direction.
+pub(crate) fn planned<'a, S>(
     alloc: Global,
     face: &'a OddFace,
     shaper: &'a S,
-    text: &Text,
+    script: Option<Script>,
     direction: Direction,
 ) -> Result<hb_ot_shape_plan_t<'a, S, OddMap, S::Data>, ShapeError>
 where
@@ -51,7 +51,7 @@ where
         face,
         shaper,
         direction,
-        text.script,
+        script,
         None,
         &[],
     )
@@ -73,7 +73,8 @@ fn plain_map(
         },
         ..universe.face
     };
-    let plan = planned(alloc, &face, &DEFAULT_SHAPER, &universe.text, direction)?;
+    let script = universe.text.script;
+    let plan = planned(alloc, &face, &DEFAULT_SHAPER, script, direction)?;
     Ok((*plan.ot_map(), !plan.apply_morx()))
 }
 
@@ -128,7 +129,13 @@ where
     if refused && refusal != Some(ShapeError::Memory) {
         return Ok(Some("a run after planning was refused"));
     }
-    let planned = planned(alloc, &universe.face, shaper, &universe.text, direction);
+    let planned = planned(
+        alloc,
+        &universe.face,
+        shaper,
+        universe.text.script,
+        direction,
+    );
     let Ok(plan) = planned else {
         return Ok(if refused {
             None

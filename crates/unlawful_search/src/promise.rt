@@ -5,9 +5,9 @@
 
 use crate::change::Call;
 use crate::face::{Calls, OddFace};
-use crate::layout::OddLayout;
+use crate::layout::{OddLayout, OddMap};
 use crate::marking::{Early, Late, Marking, Never};
-use crate::planning::broken_plan;
+use crate::planning::{broken_plan, planned};
 use crate::shaper::{Automatic, OddShaper, PlainShaper};
 use crate::universe::{Premise, Text, Universe};
 use shape_buffer::buffer::{
@@ -302,16 +302,7 @@ where
     if target_direction == Direction::Invalid {
         return Ok(Some("guessing"));
     }
-    let planned = hb_ot_shape_plan_t::new::<UnicodeDatabase, OddFace, OddLayout>(
-        alloc,
-        face,
-        shaper,
-        target_direction,
-        text.script(),
-        None,
-        &[],
-    );
-    let Ok(plan) = planned else {
+    let Ok(plan) = planned(alloc, face, shaper, text.script(), target_direction) else {
         return Ok(None);
     };
     let mut buffer = text.into_inner();
@@ -327,17 +318,30 @@ where
     if prepare_text::<UnicodeDatabase, OddFace, OddLayout, S>(alloc, &mut ctx).is_err() {
         return Ok(broken_clearing(&buffer));
     }
+    broken_by_normalising(alloc, universe, &plan, &mut buffer)
+}
+
+/// What normalising a prepared text breaks.
+fn broken_by_normalising<S>(
+    alloc: Global,
+    universe: &Universe,
+    plan: &hb_ot_shape_plan_t<'_, S, OddMap, S::Data>,
+    buffer: &mut hb_buffer_t,
+) -> Result<Option<&'static str>, ShapeError>
+where
+    S: hb_ot_shaper_t<UnicodeDatabase, OddFace, OddLayout>,
+{
     let mut before = Vec::new(alloc);
     before.extend_from_slice(buffer.infos())?;
     let normalised = _hb_ot_shape_normalize::<UnicodeDatabase, OddFace, OddLayout, S>(
         alloc,
-        &plan,
-        &mut buffer,
-        face,
+        plan,
+        buffer,
+        &universe.face,
     );
     Ok(match normalised {
         Ok(()) => broken_list(universe, before.as_slice(), buffer.infos()),
-        Err(_) => broken_clearing(&buffer),
+        Err(_) => broken_clearing(buffer),
     })
 }
 
