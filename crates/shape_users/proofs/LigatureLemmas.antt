@@ -1,5 +1,5 @@
 -- Substituting keeps clusters and flags: what is taken out was in the cluster of its neighbour.
-use Rattle.std.proofs.Common.{◌≡◌, ℕ, zero, suc, ◌+◌, ◌<◌, ◌≤◌, ◌==◌, ◌&&◌, ◌⊎◌, ◌||◌, Bool, true, false, List, [], ◌∷◌, length, map, get_or, set, nat_lt, refl, ap, sym, ◌∙◌, inl, subst, arith, if◌then◌else◌}
+use Rattle.std.proofs.Common.{◌≡◌, ℕ, zero, suc, ◌+◌, ◌≤◌, ◌==◌, ◌||◌, Bool, true, false, List, [], ◌∷◌, length, map, nat_lt, refl, ap, sym, ◌∙◌, inl, subst, arith, if◌then◌else◌}
 use Rattle.std.proofs.lemmas.Bool.Decides.{nat_tests}
 use Rattle.std.proofs.Math.ListN.{get_or-eq_default}
 use Rattle.std.proofs.Math.Seq.{map-set_same}
@@ -8,10 +8,10 @@ use Rattle.std.specs.List.{list_any, remove}
 use Rattle.shape_buffer.specs.Buffer.{Buffer}
 use Rattle.shape_buffer.specs.BufferClusters.{merge_clusters, merge_at}
 use Rattle.shape_buffer.specs.Clusters.{clusters}
-use Rattle.shape_buffer.specs.ClusterOrder.{IsMonotoneLevel, KeepsClusters}
+use Rattle.shape_buffer.specs.ClusterOrder.{IsMonotoneLevel}
 use Rattle.shape_buffer.specs.Items.{Item, new_item}
 use Rattle.shape_buffer.specs.Keepers.{EachLookup, KeepsOrder, IsClusterKeeper, IsFlagKeeper, LookupsKeepClusters, LookupsKeepFlags}
-use Rattle.shape_buffer.specs.KeepsFlags.{IsDefinedFlag, KeepsFlags, has_flag, some_has}
+use Rattle.shape_buffer.specs.KeepsFlags.{KeepsFlags, has_flag, some_has}
 use Rattle.shape_buffer.proofs.Merging.ClusterLemmas.{merge_clusters-monotone}
 use Rattle.shape_buffer.proofs.Deletion.DeleteKeeps.{merged_keeps}
 use Rattle.shape_buffer.proofs.Order.DrawsInOrder.{DrawsInOrder, DrawsInOrder-same, DrawsInOrder-behind, DrawsInOrder-again, KeepsClusters-from_draws}

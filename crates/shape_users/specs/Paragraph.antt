@@ -1,6 +1,5 @@
 -- What glyphs show of a text.
-use Rattle.std.specs.Prelude.{◌≡◌, ℕ, ◌-◌, ◌<◌, ◌≤◌, ◌⊎◌, List, length, slice_index_or, Contains}
-use Rattle.shape_buffer.specs.Clusters.{clusters}
+use Rattle.std.specs.Prelude.{◌≡◌, ℕ, ◌-◌, ◌<◌, ◌≤◌, ◌⊎◌, List, length, slice_index_or}
 use Rattle.shape_buffer.specs.Items.{Item, new_item}
 
 -- the cluster of the glyph at a place

@@ -6,7 +6,7 @@
 use crate::arabic::ArabicShaper;
 use crate::hebrew::HebrewShaper;
 use crate::ligatures::Ligatures;
-use crate::shaping::{face_of, shaped};
+use crate::shaping::{assert_that, face_of, shaped};
 use shape_buffer::interfaces::NoLookups;
 use shape_pipeline::{
     BufferClusterLevel, DEFAULT_SHAPER, Direction, GlyphBuffer, MapFace, Script, UnicodeBuffer,
@@ -215,7 +215,7 @@ fn letters_and_accents(rt: HostRuntime) -> Result<(), Fail> {
         Script::LATIN,
         &alphabet,
     )?;
-    assert!(rt; 200 < cuts);
+    assert_that(&rt, 200 < cuts);
     Ok(())
 }
 
@@ -228,7 +228,7 @@ fn ligatures(rt: HostRuntime) -> Result<(), Fail> {
         Script::LATIN,
         &alphabet,
     )?;
-    assert!(rt; 200 < cuts);
+    assert_that(&rt, 200 < cuts);
     Ok(())
 }
 
@@ -249,7 +249,7 @@ fn hebrew(rt: HostRuntime) -> Result<(), Fail> {
         Script::HEBREW,
         &alphabet,
     )?;
-    assert!(rt; 200 < cuts);
+    assert_that(&rt, 200 < cuts);
     Ok(())
 }
 
@@ -269,6 +269,6 @@ fn arabic(rt: HostRuntime) -> Result<(), Fail> {
         Script::ARABIC,
         &alphabet,
     )?;
-    assert!(rt; 200 < cuts);
+    assert_that(&rt, 200 < cuts);
     Ok(())
 }

@@ -4,7 +4,7 @@
 //!
 //! Each function shapes a text and does nothing else. Its contract is what a user of that clause wants to hear:
 //! so a clause that comes to say less, of one direction or of one level alone, is refused here.
-ghost use Rattle.std.specs.Prelude.{◌≡◌, ◌≢◌, ◌==◌, ◌<◌, ◌≤◌, ◌*◌, ◌↔◌, ℕ, true, false, [], length, All, Contains};
+ghost use Rattle.std.specs.Prelude.{◌≡◌, ◌≢◌, ◌==◌, ◌<◌, ◌≤◌, ◌*◌, ◌↔◌, ℕ, false, [], length, All, Contains};
 ghost use Rattle.std.specs.Prelude.{IfOk, IfErr, OnOk, OnErr};
 ghost use Rattle.std.specs.Str.{chars};
 ghost use Rattle.std.specs.Int.RustNames.{bit_and};
@@ -13,22 +13,21 @@ ghost use Rattle.shape_buffer.specs.Buffer.{Buffer, new_buffer};
 ghost use Rattle.shape_buffer.specs.ClusterOrder.{IsMonotoneLevel, IsOrderedFor};
 ghost use Rattle.shape_buffer.specs.Clusters.{clusters};
 ghost use Rattle.shape_buffer.specs.Direction.{is_backward};
-ghost use Rattle.shape_buffer.specs.FlagNames.{UNSAFE_TO_CONCAT, PRODUCE_UNSAFE_TO_CONCAT};
+ghost use Rattle.shape_buffer.specs.FlagNames.{UNSAFE_TO_CONCAT};
 ghost use Rattle.shape_buffer.specs.Flags.{HasOneSetOfFlags};
 ghost use Rattle.shape_buffer.specs.Guess.{guessed, first_script, script_or_ltr};
 ghost use Rattle.shape_buffer.specs.KeepsFlags.{some_has};
 ghost use Rattle.shape_buffer.specs.declared.buffer.settings.BufferClusterLevel.{BufferClusterLevel};
 ghost use Rattle.shape_buffer.specs.declared.buffer.settings.Direction.{Direction};
 ghost use Rattle.shape_buffer.specs.Text.{text_items};
-ghost use Rattle.shape_normalize.specs.CanonicalForm.{AreEquivalent, HasCanonicalForm};
+ghost use Rattle.shape_normalize.specs.CanonicalForm.{AreEquivalent};
 ghost use Rattle.shape_normalize.specs.Normalized.{HasItemGlyph, KeepsFeatures, Recomposes};
 ghost use Rattle.shape_normalize.specs.Origins.{ComesByPlace};
 ghost use Rattle.shape_plan.specs.Plan.{Fits};
 ghost use Rattle.shape_pipeline.specs.Canonical.{prepared_characters, normalised_characters};
 ghost use Rattle.shape_pipeline.specs.Canonical.{HasPlainText, HasCanonicalText};
-ghost use Rattle.shape_pipeline.specs.Headline.{target_of, prepared_text, normalised_list};
+ghost use Rattle.shape_pipeline.specs.Headline.{prepared_text, normalised_list};
 ghost use Rattle.shape_pipeline.specs.Order.{grapheme_clusters};
-ghost use Rattle.shape_pipeline.specs.Shaped.{HasItems};
 ghost use Rattle.shape_users.specs.PlainGlyphs.{AreOfText, HaveGlyphs, IsGivenBackEmpty};
 ghost use Rattle.shape_users.specs.PlainGlyphs.{NoStepPasses, SomeStepPasses};
 ghost use Rattle.shape_users.specs.PlainGlyphs.{IsTextOf, IsPlaceIn};

@@ -4,7 +4,20 @@ use shape_pipeline::{
 };
 use shape_unicode::UnicodeDatabase;
 use std::alloc::Global;
+use std::fmt::Debug;
+use std::process::Abort;
 use std::test::Fail;
+
+/// Compares two values. The proof of a test takes a second for each `assert_eq!` of its own, and next to nothing
+/// for a call of this, since it has no contract.
+pub fn assert_same<T: Copy + PartialEq + Debug>(rt: &impl Abort, found: T, wanted: T) {
+    assert_eq!(rt; found, wanted);
+}
+
+/// Asserts what no later call of a test relies on.
+pub fn assert_that(rt: &impl Abort, condition: bool) {
+    assert!(rt; condition);
+}
 
 /// A face in which these characters have these glyphs, each 500 wide.
 pub fn face_of(alloc: Global, known: &[(char, u32)]) -> Result<MapFace, Fail> {
@@ -17,6 +30,15 @@ pub fn face_of(alloc: Global, known: &[(char, u32)]) -> Result<MapFace, Fail> {
         face.set_glyph(*c, GlyphId(*glyph), metrics)?;
     }
     Ok(face)
+}
+
+/// Appends a short text.
+pub fn append(text: &mut UnicodeBuffer, more: &str) -> Result<(), Fail> {
+    if 1000 < more.len() {
+        return Err(Fail::from("long"));
+    }
+    text.push_str(more)?;
+    Ok(())
 }
 
 /// The text shaped; a refusal fails the test.
@@ -36,27 +58,35 @@ where
     }
 }
 
-/// The glyphs of these characters with their clusters, in the order of the line; each character is in the
-/// cluster of its place.
-pub fn shaped_characters<M, S>(
+/// Compares the glyphs of these characters with their clusters, in the order of the line; each character is in
+/// the cluster of its place. The face has a glyph for the characters of `known` alone.
+pub fn assert_shaped<M, S>(
+    rt: &impl Abort,
     alloc: Global,
-    face: &MapFace,
+    known: &[(char, u32)],
     shaper: &S,
     characters: &[char],
-) -> Result<Vec<(u32, u32)>, Fail>
+    glyphs: &[(u32, u32)],
+) -> Result<(), Fail>
 where
     M: hb_ot_layout_t<MapFace>,
     S: hb_ot_shaper_t<UnicodeDatabase, MapFace, M>,
 {
+    let face = face_of(alloc, known)?;
     let mut text = UnicodeBuffer::new(alloc);
     let mut place: u32 = 0;
     for c in characters {
         text.add(*c, place)?;
         place = place.saturating_add(1);
     }
-    let mut answer = Vec::new(alloc);
-    for info in shaped::<M, S>(alloc, face, shaper, text)?.glyph_infos() {
-        answer.push((info.glyph_id, info.cluster))?;
+    assert_glyphs(rt, &shaped::<M, S>(alloc, &face, shaper, text)?, glyphs);
+    Ok(())
+}
+
+/// Compares glyphs with their clusters.
+pub fn assert_glyphs(rt: &impl Abort, answer: &GlyphBuffer, glyphs: &[(u32, u32)]) {
+    assert_same(rt, answer.len(), glyphs.len());
+    for (info, glyph) in answer.glyph_infos().iter().zip(glyphs) {
+        assert_same(rt, (info.glyph_id, info.cluster), *glyph);
     }
-    Ok(answer)
 }

@@ -1,4 +1,5 @@
 //! Texts shaped and cut into lines, whose answers were worked out by hand.
+use crate::shaping::{assert_same, assert_that};
 use shape_buffer::interfaces::hb_glyph_extents_t;
 use shape_pipeline::lines::{can_cut, cut_lines};
 use shape_pipeline::ot_shaper::Decomposed;
@@ -99,15 +100,15 @@ fn assert_lines(
         return Err(Fail::from("uncut"));
     }
     let lines = cut_lines(alloc, glyphs, text_end, width)?;
-    assert_eq!(rt; lines.len(), rows.len());
+    assert_same(rt, lines.len(), rows.len());
     for (line, (start, end, shown, text)) in lines.iter().zip(rows.iter()) {
-        assert_eq!(rt; (line.glyph_start, line.glyph_end), (*start, *end));
-        assert_eq!(rt; (line.text_start, line.text_end), *text);
+        assert_same(rt, (line.glyph_start, line.glyph_end), (*start, *end));
+        assert_same(rt, (line.text_start, line.text_end), *text);
         let mut seen = Vec::new(alloc);
         for info in glyphs.glyph_infos().iter().take(*end).skip(*start) {
             seen.push((info.glyph_id, info.cluster))?;
         }
-        assert!(rt; seen.as_slice() == *shown);
+        assert_that(rt, seen.as_slice() == *shown);
     }
     Ok(())
 }
@@ -166,7 +167,7 @@ fn letters_with_marks(rt: HostRuntime) -> Result<(), Fail> {
     let unordered = (Direction::LeftToRight, BufferClusterLevel::Characters);
     let shaper = Preferring::<Decomposed>::new();
     let glyphs = shaped_with(alloc, &MARKED, &shaper, unordered, "a\u{301}\u{323}")?;
-    assert_eq!(rt; glyphs.len(), 3);
-    assert!(rt; !can_cut(&glyphs, 5));
+    assert_same(&rt, glyphs.len(), 3);
+    assert_that(&rt, !can_cut(&glyphs, 5));
     Ok(())
 }

@@ -4,7 +4,7 @@ use crate::arabic::ArabicShaper;
 use crate::breaking::lines_of_text;
 use crate::hebrew::HebrewShaper;
 use crate::ligatures::Ligatures;
-use crate::shaping::{face_of, shaped};
+use crate::shaping::{assert_same, assert_that, face_of, shaped};
 use bitflags::Flags;
 use shape_pipeline::lines::{Line, can_cut, cut_lines};
 use shape_pipeline::{
@@ -141,14 +141,21 @@ where
     Ok(lines.len())
 }
 
+/// How many glyphs and lines of a width a text has.
+fn counts(alloc: Global, face: &MapFace, text: &str, width: u32) -> Result<(usize, usize), Fail> {
+    if 1000 < text.len() {
+        return Err(Fail::from("long"));
+    }
+    let shaped = lines_of_text::<UnicodeDatabase, MapFace>(alloc, face, text, width)?;
+    Ok((shaped.glyphs.len(), shaped.lines.len()))
+}
+
 #[test]
 fn from_a_string_to_its_lines(rt: HostRuntime) -> Result<(), Fail> {
     let alloc = rt.alloc();
     let face = face_of(alloc, &[('e', 1), ('\u{301}', 2), ('x', 3), (' ', 4)])?;
-    let shaped = lines_of_text::<UnicodeDatabase, MapFace>(alloc, &face, "xe\u{301} ex", 1000)?;
-    assert_eq!(rt; shaped.glyphs.len(), 6);
     // x, then e with its accent; the space and e; x
-    assert_eq!(rt; shaped.lines.len(), 3);
+    assert_same(&rt, counts(alloc, &face, "xe\u{301} ex", 1000)?, (6, 3));
     Ok(())
 }
 
@@ -182,7 +189,7 @@ fn marks(rt: HostRuntime) -> Result<(), Fail> {
                     text,
                     width,
                 )?;
-                assert!(rt; 1 < lines);
+                assert_that(&rt, 1 < lines);
             }
         }
     }
@@ -206,7 +213,7 @@ fn ligatures(rt: HostRuntime) -> Result<(), Fail> {
                 "afi fa\u{301}fi\u{301} iffa",
                 width,
             )?;
-            assert!(rt; 1 < lines);
+            assert_that(&rt, 1 < lines);
         }
     }
     Ok(())
@@ -238,7 +245,7 @@ fn hebrew_and_arabic(rt: HostRuntime) -> Result<(), Fail> {
                 "\u{5E9}\u{5BC}\u{5B4} \u{5D9}\u{5B4}\u{5E9}",
                 width,
             )?;
-            assert!(rt; 1 < lines);
+            assert_that(&rt, 1 < lines);
             let lines = lines_that_look_alike::<NoLookups, _>(
                 alloc,
                 &face,
@@ -247,7 +254,7 @@ fn hebrew_and_arabic(rt: HostRuntime) -> Result<(), Fail> {
                 "\u{628}\u{64E}\u{651} \u{628}\u{651}\u{628}",
                 width,
             )?;
-            assert!(rt; 1 < lines);
+            assert_that(&rt, 1 < lines);
         }
     }
     Ok(())

@@ -1,24 +1,25 @@
 //! Spans of a text and of its glyphs, in both directions.
 use crate::paragraph::{GlyphSpan, TextSpan, glyphs_of_text, text_of_glyphs};
-use crate::shaping::{face_of, shaped};
+use crate::shaping::{append, assert_same, face_of, shaped};
 use shape_buffer::buffer::{Direction, GlyphBuffer, UnicodeBuffer};
 use shape_buffer::interfaces::NoLookups;
 use shape_pipeline::ot_shaper::DEFAULT_SHAPER;
 use std::alloc::Global;
+use std::process::Abort;
 use std::test::Fail;
 
 /// The text `a`, `e`, U+0301, `x`, whose graphemes begin at 0, 1 and 4 of its 5 bytes, shaped in a direction.
 fn shaped_towards(alloc: Global, direction: Direction) -> Result<GlyphBuffer, Fail> {
     let face = face_of(alloc, &[('a', 1), ('e', 2), ('\u{301}', 3), ('x', 4)])?;
     let mut text = UnicodeBuffer::new(alloc);
-    text.push_str("ae\u{301}x")?;
+    append(&mut text, "ae\u{301}x")?;
     text.set_direction(direction);
     shaped::<NoLookups, _>(alloc, &face, &DEFAULT_SHAPER, text)
 }
 
 /// The text that the glyphs from one place up to another show, and the glyphs that show a text.
 fn assert_spans(
-    rt: &impl std::process::Abort,
+    rt: &impl Abort,
     glyphs: &GlyphBuffer,
     places: (usize, usize),
     text: (u32, u32),
@@ -29,12 +30,12 @@ fn assert_spans(
         end: text.1,
     };
     assert!(rt; places.0 < places.1 && places.1 <= glyphs.len());
-    assert!(rt; text_of_glyphs(glyphs, places.0, places.1, 5) == span);
+    assert_same(rt, text_of_glyphs(glyphs, places.0, places.1, 5), span);
     let want = GlyphSpan {
         start: back.0,
         end: back.1,
     };
-    assert!(rt; glyphs_of_text(glyphs, span) == want);
+    assert_same(rt, glyphs_of_text(glyphs, span), want);
 }
 
 #[test]

@@ -2,8 +2,10 @@
 use crate::plain_glyphs::{
     PlainPlan, glyphs_of_str, plain_glyphs, plain_glyphs_counted, plain_glyphs_formed,
 };
-use crate::shaping::face_of;
-use shape_buffer::buffer::{BufferClusterLevel, Direction, Script, UnicodeBuffer, hb_tag_t};
+use crate::shaping::{append, assert_glyphs, assert_same, face_of};
+use shape_buffer::buffer::{
+    BufferClusterLevel, Direction, GlyphBuffer, Script, UnicodeBuffer, hb_tag_t,
+};
 use shape_buffer::interfaces::{MapFace, NoLookups};
 use shape_pipeline::ot_shape_plan::hb_ot_shape_plan_t;
 use shape_pipeline::ot_shaper::DEFAULT_SHAPER;
@@ -24,11 +26,73 @@ fn text_at(
     level: BufferClusterLevel,
 ) -> Result<UnicodeBuffer, Fail> {
     let mut text = UnicodeBuffer::new(alloc);
-    text.push_str("e\u{301}x")?;
+    append(&mut text, "e\u{301}x")?;
     text.set_script(Some(Script(hb_tag_t::from_bytes(b"Latn"))));
     text.set_direction(direction);
     text.set_cluster_level(level);
     Ok(text)
+}
+
+fn planned(alloc: Global, face: &MapFace, direction: Direction) -> Result<PlainPlan<'_>, Fail> {
+    if direction == Direction::Invalid {
+        return Err(Fail::from("no direction"));
+    }
+    let plan = hb_ot_shape_plan_t::new::<UnicodeDatabase, MapFace, NoLookups>(
+        alloc,
+        face,
+        &DEFAULT_SHAPER,
+        direction,
+        Some(Script(hb_tag_t::from_bytes(b"Latn"))),
+        None,
+        &[],
+    )?;
+    Ok(plan)
+}
+
+/// The direction of the glyphs of a text, and how many they are.
+fn shaped(
+    alloc: Global,
+    face: &MapFace,
+    plan: &PlainPlan<'_>,
+    text: UnicodeBuffer,
+) -> Result<(Direction, usize), Fail> {
+    if !plan.fits::<UnicodeDatabase>(&text) {
+        return Err(Fail::from("the plan doesn't fit"));
+    }
+    match plain_glyphs::<UnicodeDatabase, MapFace>(alloc, face, plan, text) {
+        Ok(glyphs) => Ok((glyphs.direction(), glyphs.len())),
+        Err(_) => Err(Fail::from("refused")),
+    }
+}
+
+fn counted(
+    alloc: Global,
+    face: &MapFace,
+    plan: &PlainPlan<'_>,
+    text: UnicodeBuffer,
+) -> Result<GlyphBuffer, Fail> {
+    if !plan.fits::<UnicodeDatabase>(&text) {
+        return Err(Fail::from("the plan doesn't fit"));
+    }
+    match plain_glyphs_counted::<UnicodeDatabase, MapFace>(alloc, face, plan, text) {
+        Ok(glyphs) => Ok(glyphs),
+        Err(_) => Err(Fail::from("refused")),
+    }
+}
+
+fn formed(
+    alloc: Global,
+    face: &MapFace,
+    plan: &PlainPlan<'_>,
+    text: UnicodeBuffer,
+) -> Result<GlyphBuffer, Fail> {
+    if !plan.fits::<UnicodeDatabase>(&text) {
+        return Err(Fail::from("the plan doesn't fit"));
+    }
+    match plain_glyphs_formed::<UnicodeDatabase, MapFace>(alloc, face, plan, text) {
+        Ok(glyphs) => Ok(glyphs),
+        Err(_) => Err(Fail::from("refused")),
+    }
 }
 
 #[test]
@@ -36,52 +100,33 @@ fn glyphs_come_by_graphemes_in_both_directions(rt: HostRuntime) -> Result<(), Fa
     let alloc = rt.alloc();
     let face = face_of(alloc, &[('e', 1), ('\u{301}', 2), ('x', 3)])?;
     for direction in [Direction::LeftToRight, Direction::RightToLeft] {
-        let plan: PlainPlan<'_> = hb_ot_shape_plan_t::new::<UnicodeDatabase, MapFace, NoLookups>(
-            alloc,
-            &face,
-            &DEFAULT_SHAPER,
-            direction,
-            Some(Script(hb_tag_t::from_bytes(b"Latn"))),
-            None,
-            &[],
-        )?;
+        let plan = planned(alloc, &face, direction)?;
         for level in LEVELS {
-            let text = text_at(alloc, direction, level)?;
-            assert!(rt; plan.fits::<UnicodeDatabase>(&text));
-            let Ok(glyphs) = plain_glyphs::<UnicodeDatabase, MapFace>(alloc, &face, &plan, text)
-            else {
-                return Err(Fail::from("refused"));
-            };
-            assert!(rt; glyphs.direction() == direction);
-            assert_eq!(rt; glyphs.len(), 3);
-            let text = text_at(alloc, direction, level)?;
-            assert!(rt; plan.fits::<UnicodeDatabase>(&text));
-            let counted = plain_glyphs_counted::<UnicodeDatabase, MapFace>(
-                alloc, &face, &plan, text,
-            );
-            assert!(rt; counted.is_ok());
-            let text = text_at(alloc, direction, level)?;
-            assert!(rt; plan.fits::<UnicodeDatabase>(&text));
-            let formed = plain_glyphs_formed::<UnicodeDatabase, MapFace>(alloc, &face, &plan, text);
-            assert!(rt; formed.is_ok());
+            let seen = shaped(alloc, &face, &plan, text_at(alloc, direction, level)?)?;
+            assert_same(&rt, seen, (direction, 3));
+            counted(alloc, &face, &plan, text_at(alloc, direction, level)?)?;
+            formed(alloc, &face, &plan, text_at(alloc, direction, level)?)?;
         }
     }
     Ok(())
 }
 
+/// The glyphs of a string.
+fn of_str(alloc: Global, face: &MapFace, text: &str) -> Result<GlyphBuffer, Fail> {
+    if 1000 < text.len() {
+        return Err(Fail::from("long"));
+    }
+    match glyphs_of_str::<UnicodeDatabase, MapFace>(alloc, face, text) {
+        Ok(glyphs) => Ok(glyphs),
+        Err(_) => Err(Fail::from("refused")),
+    }
+}
+
 #[test]
 fn glyphs_of_a_string_run_with_its_script(rt: HostRuntime) -> Result<(), Fail> {
-    let alloc = rt.alloc();
-    let face = face_of(alloc, &[('\u{5D0}', 1), ('\u{5D1}', 2)])?;
-    let shaped = glyphs_of_str::<UnicodeDatabase, MapFace>(alloc, &face, "\u{5D0}\u{5D1}");
-    let Ok(glyphs) = shaped else {
-        return Err(Fail::from("refused"));
-    };
-    assert!(rt; glyphs.direction() == Direction::RightToLeft);
-    let mut answer = Vec::new(alloc);
-    for info in glyphs.glyph_infos() {
-        answer.push((info.glyph_id, info.cluster))?;
-    }
-    assert!(rt; answer.as_slice() == [(2, 2), (1, 0)].as_slice());
+    let face = face_of(rt.alloc(), &[('\u{5D0}', 1), ('\u{5D1}', 2)])?;
+    let glyphs = of_str(rt.alloc(), &face, "\u{5D0}\u{5D1}")?;
+    assert_same(&rt, glyphs.direction(), Direction::RightToLeft);
+    assert_glyphs(&rt, &glyphs, &[(2, 2), (1, 0)]);
     Ok(())
 }

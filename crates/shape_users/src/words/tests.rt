@@ -1,69 +1,124 @@
 //! Words under one spelling and another.
-use crate::shaping::face_of;
+use crate::shaping::{assert_same, assert_that, face_of};
 use crate::words::{Word, equivalent_spellings, find_plan, keep_word, spelled};
 use shape_buffer::buffer::{Direction, Script, hb_tag_t};
 use shape_buffer::interfaces::{MapFace, NoLookups};
 use shape_pipeline::ot_shape_plan::hb_ot_shape_plan_t;
 use shape_pipeline::ot_shaper::{Decomposed, Preferring};
 use shape_unicode::UnicodeDatabase;
+use std::alloc::Global;
+use std::process::Abort;
 use std::test::Fail;
+
+/// A plan in the mode that decomposes fully.
+type Plan<'a> = hb_ot_shape_plan_t<'a, Preferring<Decomposed>, (), ()>;
+
+fn planned<'a>(
+    alloc: Global,
+    face: &'a MapFace,
+    shaper: &'a Preferring<Decomposed>,
+    direction: Direction,
+    script: &[u8; 4],
+) -> Result<Plan<'a>, Fail> {
+    if direction == Direction::Invalid {
+        return Err(Fail::from("no direction"));
+    }
+    let plan = hb_ot_shape_plan_t::new::<UnicodeDatabase, MapFace, NoLookups>(
+        alloc,
+        face,
+        shaper,
+        direction,
+        Some(Script(hb_tag_t::from_bytes(script))),
+        None,
+        &[],
+    )?;
+    Ok(plan)
+}
+
+/// A plan for texts in Hebrew, and one for texts in Latin.
+fn plans_of<'a>(
+    alloc: Global,
+    face: &'a MapFace,
+    shaper: &'a Preferring<Decomposed>,
+) -> Result<Vec<Plan<'a>>, Fail> {
+    let mut plans = Vec::new(alloc);
+    plans.push(planned(alloc, face, shaper, Direction::RightToLeft, b"Hebr")?)?;
+    plans.push(planned(alloc, face, shaper, Direction::LeftToRight, b"Latn")?)?;
+    Ok(plans)
+}
+
+/// The place of the plan for a word.
+fn plan_for(alloc: Global, plans: &[Plan<'_>], spelling: &str) -> Result<Option<usize>, Fail> {
+    let text = spelled(alloc, spelling)?;
+    Ok(find_plan::<UnicodeDatabase, _, _, _>(plans, &text))
+}
+
+/// The place that a word is kept at.
+fn kept(
+    alloc: Global,
+    face: &MapFace,
+    plan: &Plan<'_>,
+    words: &mut Vec<Word>,
+    spelling: &str,
+) -> Result<usize, Fail> {
+    let text = spelled(alloc, spelling)?;
+    if !plan.fits::<UnicodeDatabase>(&text) {
+        return Err(Fail::from("the plan doesn't fit"));
+    }
+    let place = keep_word::<UnicodeDatabase, MapFace, NoLookups, _>(
+        alloc, face, plan, words, spelling,
+    )?;
+    Ok(place)
+}
+
+/// Compares a word's spelling and its glyphs.
+fn assert_word(rt: &impl Abort, word: &Word, spelling: &str, glyphs: &[u32]) {
+    assert_that(rt, word.spelling.as_str() == spelling);
+    assert_same(rt, word.glyphs.len(), glyphs.len());
+    for (info, glyph) in word.glyphs.glyph_infos().iter().zip(glyphs) {
+        assert_same(rt, info.glyph_id, *glyph);
+    }
+}
 
 #[test]
 fn equivalent_spellings_are_one_word(rt: HostRuntime) -> Result<(), Fail> {
     let alloc = rt.alloc();
     let face = face_of(alloc, &[('q', 1), ('e', 2), ('\u{301}', 3), ('\u{E9}', 4)])?;
     let shaper = Preferring::<Decomposed>::new();
-    let mut plans = Vec::new(alloc);
-    for (direction, script) in [
-        (
-            Direction::RightToLeft,
-            Script(hb_tag_t::from_bytes(b"Hebr")),
-        ),
-        (
-            Direction::LeftToRight,
-            Script(hb_tag_t::from_bytes(b"Latn")),
-        ),
-    ] {
-        let plan = hb_ot_shape_plan_t::new::<UnicodeDatabase, MapFace, NoLookups>(
-            alloc,
-            &face,
-            &shaper,
-            direction,
-            Some(script),
-            None,
-            &[],
-        )?;
-        plans.push(plan)?;
-    }
+    let plans = plans_of(alloc, &face, &shaper)?;
+    let Some(plan) = plans.get(1) else {
+        return Err(Fail::from("not two plans"));
+    };
     // one letter more with an accent, spelled as one character and as two, and without the accent
     let spellings = ["q\u{301}\u{E9}", "q\u{301}e\u{301}", "q\u{301}e"];
     let mut words: Vec<Word> = Vec::new(alloc);
     for (spelling, want) in spellings.iter().zip([0, 0, 1]) {
-        let text = spelled(alloc, spelling)?;
-        let place = find_plan::<UnicodeDatabase, _, _, _>(plans.as_slice(), &text);
-        assert!(rt; place == Some(1));
-        let plan = &plans[1];
-        assert!(rt; plan.fits::<UnicodeDatabase>(&text));
-        let kept = keep_word::<UnicodeDatabase, MapFace, NoLookups, _>(
-            alloc, &face, plan, &mut words, spelling,
-        )?;
-        assert_eq!(rt; kept, want);
+        assert_same(&rt, plan_for(alloc, plans.as_slice(), spelling)?, Some(1));
+        assert_same(&rt, kept(alloc, &face, plan, &mut words, spelling)?, want);
     }
     // the second call kept what the first had shaped
-    assert_eq!(rt; words.len(), 2);
+    assert_same(&rt, words.len(), 2);
     let wants = [
         ("q\u{301}\u{E9}", [1, 3, 2, 3].as_slice()),
         ("q\u{301}e", [1, 3, 2].as_slice()),
     ];
     for (word, (spelling, glyphs)) in words.iter().zip(wants) {
-        assert!(rt; word.spelling.as_str() == spelling);
-        let mut shown = Vec::new(alloc);
-        for info in word.glyphs.glyph_infos() {
-            shown.push(info.glyph_id)?;
-        }
-        assert!(rt; shown.as_slice() == glyphs);
+        assert_word(&rt, word, spelling, glyphs);
     }
     Ok(())
+}
+
+/// Whether two spellings are equivalent, where this can be told.
+fn told(
+    alloc: Global,
+    face: &MapFace,
+    plan: &Plan<'_>,
+    (first, second): (&str, &str),
+) -> Result<Option<bool>, Fail> {
+    let told = equivalent_spellings::<UnicodeDatabase, MapFace, NoLookups, _>(
+        alloc, face, plan, first, second,
+    )?;
+    Ok(told)
 }
 
 /// What the face's glyphs and the text leave open isn't answered.
@@ -75,15 +130,7 @@ fn spellings_that_can_be_told(rt: HostRuntime) -> Result<(), Fail> {
         &[('q', 1), ('e', 2), ('\u{301}', 3), ('\u{FE00}', 4)],
     )?;
     let shaper = Preferring::<Decomposed>::new();
-    let plan = hb_ot_shape_plan_t::new::<UnicodeDatabase, MapFace, NoLookups>(
-        alloc,
-        &face,
-        &shaper,
-        Direction::LeftToRight,
-        Some(Script(hb_tag_t::from_bytes(b"Latn"))),
-        None,
-        &[],
-    )?;
+    let plan = planned(alloc, &face, &shaper, Direction::LeftToRight, b"Latn")?;
     let cases = [
         ("q\u{301}\u{E9}", "q\u{301}e\u{301}", Some(true)),
         ("q\u{301}\u{E9}", "q\u{301}e", Some(false)),
@@ -93,10 +140,7 @@ fn spellings_that_can_be_told(rt: HostRuntime) -> Result<(), Fail> {
         ("q\u{301}e", "q\u{301}e\u{FE00}", None),
     ];
     for (first, second, want) in cases {
-        let told = equivalent_spellings::<UnicodeDatabase, MapFace, NoLookups, _>(
-            alloc, &face, &plan, first, second,
-        )?;
-        assert_eq!(rt; told, want);
+        assert_same(&rt, told(alloc, &face, &plan, (first, second))?, want);
     }
     Ok(())
 }

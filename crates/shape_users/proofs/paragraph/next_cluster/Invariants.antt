@@ -1,4 +1,4 @@
-use Rattle.std.proofs.Common.{◌≡◌, ℕ, ◌<◌, ◌≤◌, ◌⊎◌, length}
+use Rattle.std.proofs.Common.{ℕ, ◌<◌, ◌≤◌, ◌⊎◌}
 use Rattle.shape_users.specs.Paragraph.{cluster_at, EndsIn}
 use Rattle.shape_users.proofs.paragraph.next_cluster.Given as goal
 

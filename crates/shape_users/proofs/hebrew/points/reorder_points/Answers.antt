@@ -1,4 +1,4 @@
-use Rattle.std.proofs.Common.{◌≡◌, ◌<◌, ◌≤◌, ◌+◌, ◌-◌, length, arith, ap, sym, ◌∙◌}
+use Rattle.std.proofs.Common.{◌+◌, ◌-◌, length, arith, ap, sym, ◌∙◌}
 use Rattle.shape_users.specs.Points.{place_in_range}
 use Rattle.shape_users.proofs.hebrew.points.reorder_points.Goals as goal
 use Rattle.shape_buffer.proofs.Merging.KeyLemmas.{length-merge_clusters}
