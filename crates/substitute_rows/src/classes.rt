@@ -1,7 +1,7 @@
 //! Classes of glyphs: 8 is a mark, 2 a base. The face's are that glyph 9 is a mark and all others are bases. And
 //! syllables.
 
-use crate::runs::{FORWARD, planned, shaped, text_of};
+use crate::runs::{FORWARD, assert_same, planned, shaped, text_of};
 use shape_buffer::buffer::{hb_buffer_t, hb_glyph_info_t, hb_unicode_general_category_t};
 use shape_pipeline::ot_shape::syllabic_clear_var;
 use shape_pipeline::ot_shaper::{DEFAULT_SHAPER, hb_default_shaper_t};
@@ -13,9 +13,13 @@ use std::test::Fail;
 use test_worlds::{DigitUnicode, RuleFace, RuleLayout};
 
 fn assert_classes(rt: &impl Abort, infos: &[hb_glyph_info_t], classes: &[u32]) {
-    assert_eq!(rt; infos.len(), classes.len());
+    assert_same(rt, infos.len(), classes.len());
     for (info, class) in infos.iter().zip(classes) {
-        assert_eq!(rt; u32::from(info._hb_glyph_info_get_glyph_class().0), *class);
+        assert_same(
+            rt,
+            u32::from(info._hb_glyph_info_get_glyph_class().0),
+            *class,
+        );
     }
 }
 
@@ -73,12 +77,17 @@ fn made_up_glyphs_are_as_no_lookup_made_them(rt: HostRuntime) -> Result<(), Fail
         );
         assert_classes(&rt, buffer.infos(), &want);
         for (info, substituted) in buffer.infos().iter().zip([false, true]) {
-            assert_eq!(rt; info.glyph_id, 9);
-            assert_eq!(rt;
+            assert_same(&rt, info.glyph_id, 9);
+            assert_same(
+                &rt,
                 info._hb_glyph_info_get_substituted(),
-                classes && substituted
+                classes && substituted,
             );
-            assert_eq!(rt; info._hb_glyph_info_get_ligated(), classes && substituted);
+            assert_same(
+                &rt,
+                info._hb_glyph_info_get_ligated(),
+                classes && substituted,
+            );
         }
     }
     Ok(())
@@ -96,10 +105,10 @@ fn every_item_comes_into_syllable_0(rt: HostRuntime) -> Result<(), Fail> {
     let mut buffer = text_of(alloc, FORWARD, "")?.into_inner();
     buffer.replace_infos(infos)?;
     syllabic_clear_var(&mut buffer);
-    assert_eq!(rt; buffer.len(), 3);
+    assert_same(&rt, buffer.len(), 3);
     for info in buffer.infos() {
-        assert_eq!(rt; info._hb_glyph_info_get_syllable(), 0);
-        assert_eq!(rt; (info.codepoint, info.cluster), ('a', 2));
+        assert_same(&rt, info._hb_glyph_info_get_syllable(), 0);
+        assert_same(&rt, (info.codepoint, info.cluster), ('a', 2));
     }
     Ok(())
 }

@@ -2,7 +2,7 @@
 //! whole that aren't in its least cluster are unsafe to break and to concat, 3.
 
 use crate::runs::{
-    BACKWARD, FORWARD, Manner, assert_glyphs, assert_masks, masked, shaped, text_of,
+    BACKWARD, FORWARD, Manner, assert_glyphs, assert_masks, assert_that, masked, shaped, text_of,
 };
 use bitflags::Flags;
 use shape_buffer::buffer::{BufferFlags, Direction, ScratchFlags};
@@ -35,10 +35,11 @@ fn numerator_comes_first_in_a_forward_buffer(rt: HostRuntime) -> Result<(), Fail
         let text = text_of(alloc, manner, "1\u{2044}2")?;
         let buffer = masked(alloc, &with_fractions(&[]), &DEFAULT_SHAPER, &[], text)?;
         assert_masks(&rt, &buffer, masks);
-        assert!(rt;
+        assert_that(
+            &rt,
             buffer
                 .scratch_flags()
-                .contains(ScratchFlags::HAS_GLYPH_FLAGS)
+                .contains(ScratchFlags::HAS_GLYPH_FLAGS),
         );
     }
     Ok(())
@@ -82,10 +83,11 @@ fn face_without_lookups_for_fractions(rt: HostRuntime) -> Result<(), Fail> {
     let text = text_of(alloc, FORWARD, "1\u{2044}2")?;
     let buffer = masked(alloc, &RuleFace::of(&[]), &DEFAULT_SHAPER, &[], text)?;
     assert_masks(&rt, &buffer, &[8, 8, 8]);
-    assert!(rt;
+    assert_that(
+        &rt,
         !buffer
             .scratch_flags()
-            .contains(ScratchFlags::HAS_GLYPH_FLAGS)
+            .contains(ScratchFlags::HAS_GLYPH_FLAGS),
     );
     Ok(())
 }

@@ -1,6 +1,6 @@
 //! Stages that reach the limit of a run: 64 glyphs for each character of the text, at least 16384.
 
-use crate::runs::{FORWARD, text_of};
+use crate::runs::{FORWARD, assert_same, text_of};
 use shape_buffer::buffer::{Direction, ShapeError, UnicodeBuffer};
 use shape_pipeline::ot_shaper::{DEFAULT_SHAPER, hb_default_shaper_t};
 use shape_pipeline::shape;
@@ -54,12 +54,12 @@ fn assert_length(
         text,
     );
     match answer {
-        Ok(buffer) => assert_eq!(rt; Some(buffer.len()), glyphs),
+        Ok(buffer) => assert_same(rt, Some(buffer.len()), glyphs),
         Err(fault) => {
-            assert_eq!(rt; glyphs, None);
-            assert_eq!(rt; fault.cause, ShapeError::Length);
-            assert_eq!(rt; fault.buffer.len(), 0);
-            assert_eq!(rt; fault.buffer.direction(), Direction::Invalid);
+            assert_same(rt, glyphs, None);
+            assert_same(rt, fault.cause, ShapeError::Length);
+            assert_same(rt, fault.buffer.len(), 0);
+            assert_same(rt, fault.buffer.direction(), Direction::Invalid);
         }
     }
 }

@@ -2,7 +2,7 @@
 //! cleared buffer, which gives the run's glyphs once it is filled again. With memory at hand the tests pass; the
 //! gate's script refuses one growth after the other, and reads that it was so.
 
-use crate::runs::{FORWARD, assert_glyphs, masked, planned, ss01, text_of};
+use crate::runs::{FORWARD, assert_glyphs, assert_same, masked, planned, ss01, text_of};
 use shape_buffer::buffer::{Direction, Feature, ShapeError, UnicodeBuffer};
 use shape_pipeline::ot_shaper::{DEFAULT_SHAPER, hb_default_shaper_t};
 use shape_pipeline::shape;
@@ -48,11 +48,11 @@ fn growths_in_a_stage(rt: HostRuntime) -> Result<(), Fail> {
     );
     match answer {
         Ok(()) => {
-            assert_eq!(rt; buffer.len(), 18);
+            assert_same(&rt, buffer.len(), 18);
             Ok(())
         }
         Err(cause) => {
-            assert_eq!(rt; cause, ShapeError::Memory);
+            assert_same(&rt, cause, ShapeError::Memory);
             Err(Fail::from("refused"))
         }
     }
@@ -92,12 +92,12 @@ fn assert_run(
             return Ok(());
         }
         Err(fault) => {
-            assert_eq!(rt; fault.cause, ShapeError::Memory);
+            assert_same(rt, fault.cause, ShapeError::Memory);
             fault.buffer
         }
     };
-    assert_eq!(rt; again.len(), 0);
-    assert_eq!(rt; again.direction(), Direction::Invalid);
+    assert_same(rt, again.len(), 0);
+    assert_same(rt, again.direction(), Direction::Invalid);
     fill(&mut again, text)?;
     match shape::<DigitUnicode, RuleFace, RuleLayout, hb_default_shaper_t>(
         alloc,

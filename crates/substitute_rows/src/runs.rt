@@ -14,6 +14,7 @@ use shape_substitute::glyphs::setup_glyphs;
 use shape_substitute::masks::setup_masks;
 use shape_substitute::substitution::substitute;
 use std::alloc::Global;
+use std::fmt::Debug;
 use std::process::Abort;
 use std::test::Fail;
 use test_worlds::{DigitUnicode, RuleFace, RuleLayout, RuleMap};
@@ -191,18 +192,29 @@ where
     }
 }
 
+/// Compares two values. The proof of a test takes a second for each `assert_eq!` of its own, and next to nothing
+/// for a call of this, since it has no contract.
+pub fn assert_same<T: Copy + PartialEq + Debug>(rt: &impl Abort, found: T, wanted: T) {
+    assert_eq!(rt; found, wanted);
+}
+
+/// Asserts what no later call of a test relies on.
+pub fn assert_that(rt: &impl Abort, condition: bool) {
+    assert!(rt; condition);
+}
+
 /// Compares masks.
 pub fn assert_masks(rt: &impl Abort, buffer: &hb_buffer_t, masks: &[u32]) {
-    assert_eq!(rt; buffer.len(), masks.len());
+    assert_same(rt, buffer.len(), masks.len());
     for (info, mask) in buffer.infos().iter().zip(masks) {
-        assert_eq!(rt; info.mask, *mask);
+        assert_same(rt, info.mask, *mask);
     }
 }
 
 /// Compares glyphs, clusters and masks.
 pub fn assert_glyphs(rt: &impl Abort, infos: &[hb_glyph_info_t], glyphs: &[(u32, u32, u32)]) {
-    assert_eq!(rt; infos.len(), glyphs.len());
+    assert_same(rt, infos.len(), glyphs.len());
     for (info, glyph) in infos.iter().zip(glyphs) {
-        assert_eq!(rt; (info.glyph_id, info.cluster, info.mask), *glyph);
+        assert_same(rt, (info.glyph_id, info.cluster, info.mask), *glyph);
     }
 }

@@ -1,6 +1,8 @@
 //! Stages of substitution with a pause, ligatures and two glyphs for one.
 
-use crate::runs::{BACKWARD, FORWARD, Manner, assert_glyphs, shaped, text_in_clusters, text_of};
+use crate::runs::{
+    BACKWARD, FORWARD, Manner, assert_glyphs, assert_same, shaped, text_in_clusters, text_of,
+};
 use shape_buffer::buffer::BufferClusterLevel;
 use shape_pipeline::ot_shaper::DEFAULT_SHAPER;
 use std::test::Fail;
@@ -92,7 +94,7 @@ fn stages_make_glyphs_of_glyphs(rt: HostRuntime) -> Result<(), Fail> {
         let text = text_of(alloc, manner, text)?;
         let glyphs = shaped(alloc, &face, &DEFAULT_SHAPER, &[], text)?;
         assert_glyphs(&rt, glyphs.glyph_infos(), want);
-        assert_eq!(rt; glyphs.glyph_positions().len(), want.len());
+        assert_same(&rt, glyphs.glyph_positions().len(), want.len());
     }
     Ok(())
 }
