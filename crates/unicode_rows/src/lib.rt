@@ -9,6 +9,8 @@
 pub mod callers;
 #[cfg(test)]
 mod characters;
+#[cfg(test)]
+mod comparing;
 pub mod every_glyph;
 pub mod moved_rows;
 pub mod normalising;

@@ -1,6 +1,7 @@
 //! Whole tables of the functions of Unicode, each beside another source: names of scripts and categories as
 //! `ucd_sets` knows them, the bidirectional classes of letters, and the standard's list of mirror images.
 
+use crate::comparing::assert_same;
 use crate::ordering::chars_of;
 use shape_buffer::buffer::{Direction, Script, hb_tag_t};
 use shape_buffer::interfaces::{hb_unicode_funcs_t, hb_unicode_general_category_t};
@@ -25,13 +26,13 @@ const MIRROR_IMAGES: &str = "\
 const MIRRORED: usize = 428;
 
 fn assert_image(rt: &impl Abort, c: char, image: char) {
-    assert_eq!(rt; UnicodeDatabase::mirrored(c), Some(image), "at {c:?}");
+    assert_same(rt, (c, UnicodeDatabase::mirrored(c)), (c, Some(image)));
 }
 
 #[test]
 fn mirror_images_are_those_of_the_standard(rt: HostRuntime) -> Result<(), Fail> {
     let listed = chars_of(rt.alloc(), MIRROR_IMAGES)?;
-    assert_eq!(rt; listed.len(), MIRRORED);
+    assert_same(&rt, listed.len(), MIRRORED);
     let mut first = None;
     for c in &listed {
         match first {
@@ -52,7 +53,7 @@ fn nothing_else_has_an_image(rt: HostRuntime) {
     for c in (0..=0x10FFFF).filter_map(char::from_u32) {
         images = images.saturating_add(usize::from(UnicodeDatabase::mirrored(c).is_some()));
     }
-    assert_eq!(rt; images, MIRRORED);
+    assert_same(&rt, images, MIRRORED);
 }
 
 /// The letters of a script's tag in lower case, where the first letter alone isn't.
@@ -75,7 +76,7 @@ fn scripts_have_their_names(rt: HostRuntime) {
             last = Some(script);
             let letters = letters_of(UnicodeDatabase::script(c));
             let named = letters.map(|letters| ucd_sets::by_value(b"script", &letters));
-            assert_eq!(rt; named, Some(Ok(Set::Script(script))), "at {c:?}");
+            assert_same(&rt, (c, named), (c, Some(Ok(Set::Script(script)))));
         }
     }
 }
@@ -91,7 +92,7 @@ fn categories_have_their_names(rt: HostRuntime) -> Result<(), Fail> {
             let name = format!(in alloc; "{:?}", UnicodeDatabase::general_category(c))?;
             let name = ucd_sets::normalize(alloc, &chars_of(alloc, &name)?)?;
             let named = ucd_sets::by_value(b"generalcategory", &name);
-            assert_eq!(rt; named, Ok(Set::Category(category)), "at {c:?}");
+            assert_same(&rt, (c, named), (c, Ok(Set::Category(category))));
         }
     }
     Ok(())
@@ -130,15 +131,15 @@ fn scripts_run_as_their_letters(rt: HostRuntime) -> Result<(), Fail> {
             UnicodeDatabase::script_direction(script),
             direction_of_class(c),
         ) {
-            (Some(direction), Some(own)) => assert_eq!(rt; direction, own, "at {c:?}"),
+            (Some(direction), Some(own)) => assert_same(&rt, (c, direction), (c, own)),
             (None, Some(_)) if !either_way.contains(&script) => either_way.push(script)?,
             _ => {}
         }
     }
     let letters = [b"Runr", b"Tfng", b"Ital", b"Hung"];
-    assert_eq!(rt; either_way.len(), letters.len());
+    assert_same(&rt, either_way.len(), letters.len());
     for (script, letters) in either_way.iter().zip(letters) {
-        assert_eq!(rt; *script, Script(hb_tag_t::from_bytes(letters)));
+        assert_same(&rt, *script, Script(hb_tag_t::from_bytes(letters)));
     }
     Ok(())
 }

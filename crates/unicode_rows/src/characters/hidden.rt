@@ -1,5 +1,6 @@
 //! Spaces, forms, and what is unseen: the ends of each range, as HarfBuzz has them.
 
+use crate::comparing::assert_same;
 use shape_buffer::interfaces::hb_unicode_funcs_t;
 use shape_buffer::interfaces::space_types::{
     NOT_SPACE, SPACE, SPACE_4_EM_18, SPACE_EM, SPACE_EM_2, SPACE_EM_3, SPACE_EM_4, SPACE_EM_5,
@@ -31,7 +32,7 @@ fn spaces(rt: HostRuntime) {
         ('\u{205F}', SPACE_4_EM_18),
         ('\u{3000}', SPACE_EM),
     ] {
-        assert_eq!(rt; UnicodeDatabase::space_fallback(c), want, "at {c:?}");
+        assert_same(&rt, (c, UnicodeDatabase::space_fallback(c)), (c, want));
     }
 }
 
@@ -148,11 +149,11 @@ fn mirrors(rt: HostRuntime) {
         ('\u{300C}', '\u{300D}'),
         ('\u{FF62}', '\u{FF63}'),
     ] {
-        assert_eq!(rt; UnicodeDatabase::mirrored(a), Some(b), "at {a:?}");
-        assert_eq!(rt; UnicodeDatabase::mirrored(b), Some(a), "at {b:?}");
+        assert_same(&rt, (a, UnicodeDatabase::mirrored(a)), (a, Some(b)));
+        assert_same(&rt, (b, UnicodeDatabase::mirrored(b)), (b, Some(a)));
     }
     for c in ['a', '/', '\u{221A}', '\u{2018}', '\u{201C}'] {
-        assert_eq!(rt; UnicodeDatabase::mirrored(c), None, "at {c:?}");
+        assert_same(&rt, (c, UnicodeDatabase::mirrored(c)), (c, None));
     }
 }
 
@@ -171,9 +172,9 @@ fn verticals(rt: HostRuntime) {
         ('\u{FF08}', '\u{FE35}'),
         ('\u{FF5D}', '\u{FE38}'),
     ] {
-        assert_eq!(rt; UnicodeDatabase::vertical(c), Some(want), "at {c:?}");
+        assert_same(&rt, (c, UnicodeDatabase::vertical(c)), (c, Some(want)));
     }
     for c in ['a', '(', '!', '_', '\u{2015}', '\u{30FF}', '\u{FE35}'] {
-        assert_eq!(rt; UnicodeDatabase::vertical(c), None, "at {c:?}");
+        assert_same(&rt, (c, UnicodeDatabase::vertical(c)), (c, None));
     }
 }

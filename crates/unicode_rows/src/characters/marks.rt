@@ -1,5 +1,6 @@
 //! Categories and ccc: UnicodeData.txt, and HarfBuzz's modified combining classes.
 
+use crate::comparing::assert_same;
 use shape_buffer::interfaces::{hb_unicode_funcs_t, hb_unicode_general_category_t};
 use shape_unicode::UnicodeDatabase;
 use ucd_normal::canonical_combining_class;
@@ -21,7 +22,7 @@ fn categories(rt: HostRuntime) {
         ('\u{E000}', hb_unicode_general_category_t::PrivateUse),
         ('\u{10FFFF}', hb_unicode_general_category_t::Unassigned),
     ] {
-        assert_eq!(rt; UnicodeDatabase::general_category(c), want, "at {c:?}");
+        assert_same(&rt, (c, UnicodeDatabase::general_category(c)), (c, want));
     }
 }
 
@@ -63,10 +64,10 @@ const ALONE: [char; 3] = ['\u{F39}', '\u{FC6}', '\u{1A60}'];
 #[test]
 fn changed_cccs(rt: HostRuntime) {
     for (c, want) in CHANGED {
-        assert_eq!(rt;
-            UnicodeDatabase::modified_combining_class(c),
-            want,
-            "at {c:?}"
+        assert_same(
+            &rt,
+            (c, UnicodeDatabase::modified_combining_class(c)),
+            (c, want),
         );
     }
 }
@@ -112,10 +113,10 @@ fn other_cccs(rt: HostRuntime) {
         ('\u{AC00}', 0),
         ('\u{10FFFF}', 0),
     ] {
-        assert_eq!(rt;
-            UnicodeDatabase::modified_combining_class(c),
-            want,
-            "at {c:?}"
+        assert_same(
+            &rt,
+            (c, UnicodeDatabase::modified_combining_class(c)),
+            (c, want),
         );
     }
 }

@@ -1,5 +1,6 @@
 //! Scripts.txt, and the directions that HarfBuzz has for scripts.
 
+use crate::comparing::assert_same;
 use shape_buffer::buffer::{Direction, Script, hb_tag_t};
 use shape_buffer::interfaces::hb_unicode_funcs_t;
 use shape_unicode::UnicodeDatabase;
@@ -26,7 +27,7 @@ fn scripts(rt: HostRuntime) {
         ('\u{E000}', b"Zzzz"),
     ] {
         let want = Script(hb_tag_t::from_bytes(letters));
-        assert_eq!(rt; UnicodeDatabase::script(c), want, "at {c:?}");
+        assert_same(&rt, (c, UnicodeDatabase::script(c)), (c, want));
     }
 }
 
@@ -50,10 +51,10 @@ fn directions(rt: HostRuntime) {
         (b"Tfng", None),
     ] {
         let script = Script(hb_tag_t::from_bytes(letters));
-        assert_eq!(rt;
-            UnicodeDatabase::script_direction(script),
-            want,
-            "at {script:?}"
+        assert_same(
+            &rt,
+            (script, UnicodeDatabase::script_direction(script)),
+            (script, want),
         );
     }
 }

@@ -1,5 +1,6 @@
 //! Splits and composites, as UnicodeData.txt and DerivedNormalizationProps.txt have them.
 
+use crate::comparing::assert_same;
 use shape_buffer::interfaces::hb_unicode_funcs_t;
 use shape_unicode::UnicodeDatabase;
 
@@ -28,8 +29,8 @@ fn pairs_split_and_compose(rt: HostRuntime) {
         ('\u{D788}', '\u{1112}', '\u{1175}'),
         ('\u{D7A3}', '\u{D788}', '\u{11C2}'),
     ] {
-        assert_eq!(rt; UnicodeDatabase::decompose(c), Some((a, b)), "at {c:?}");
-        assert_eq!(rt; UnicodeDatabase::compose(a, b), Some(c), "at {c:?}");
+        assert_same(&rt, (c, UnicodeDatabase::decompose(c)), (c, Some((a, b))));
+        assert_same(&rt, (c, UnicodeDatabase::compose(a, b)), (c, Some(c)));
     }
 }
 
@@ -54,8 +55,8 @@ fn others_split_and_stay_apart(rt: HostRuntime) {
         ('\u{1D160}', '\u{1D15F}', '\u{1D16E}'),
         ('\u{1D1C0}', '\u{1D1BC}', '\u{1D16F}'),
     ] {
-        assert_eq!(rt; UnicodeDatabase::decompose(c), Some((a, b)), "at {c:?}");
-        assert_eq!(rt; UnicodeDatabase::compose(a, b), None, "at {c:?}");
+        assert_same(&rt, (c, UnicodeDatabase::decompose(c)), (c, Some((a, b))));
+        assert_same(&rt, (c, UnicodeDatabase::compose(a, b)), (c, None));
     }
 }
 
@@ -74,7 +75,7 @@ fn others_stay_whole(rt: HostRuntime) {
         '\u{FDFA}',
         '\u{10FFFF}',
     ] {
-        assert_eq!(rt; UnicodeDatabase::decompose(c), None, "at {c:?}");
+        assert_same(&rt, (c, UnicodeDatabase::decompose(c)), (c, None));
     }
     for (a, b) in [
         ('A', 'B'),
@@ -84,6 +85,6 @@ fn others_stay_whole(rt: HostRuntime) {
         ('\u{1100}', '\u{11A8}'),
         ('\u{1113}', '\u{1161}'),
     ] {
-        assert_eq!(rt; UnicodeDatabase::compose(a, b), None, "at {a:?}");
+        assert_same(&rt, (a, UnicodeDatabase::compose(a, b)), (a, None));
     }
 }

@@ -1,5 +1,6 @@
 //! The texts through whole runs of the default shaper.
 
+use crate::comparing::assert_same;
 use crate::every_glyph::{ADVANCE, EveryGlyph};
 use crate::texts::{TEXTS, Text};
 use shape_buffer::buffer::{Direction, GlyphBuffer, Script, UnicodeBuffer, hb_tag_t};
@@ -73,20 +74,20 @@ fn in_order(alloc: Global, text: &Text, direction: Direction) -> Result<Vec<(cha
 /// Compares glyphs, clusters and advances. Clusters are those of graphemes, and nothing went from one to
 /// another, so that no glyph has a flag.
 fn assert_glyphs(rt: &impl Abort, glyphs: &GlyphBuffer, want: &[(char, u32)], name: &str) {
-    assert_eq!(rt; glyphs.len(), want.len(), "{name}");
+    assert_same(rt, (name, glyphs.len()), (name, want.len()));
     for (info, (c, cluster)) in glyphs.glyph_infos().iter().zip(want) {
-        assert_eq!(rt;
-            (info.glyph_id, info.cluster),
-            (u32::from(*c), *cluster),
-            "{name}"
+        assert_same(
+            rt,
+            (name, (info.glyph_id, info.cluster)),
+            (name, (u32::from(*c), *cluster)),
         );
-        assert_eq!(rt; info.mask, 0, "{name}");
+        assert_same(rt, (name, info.mask), (name, 0));
     }
     for (position, (c, _)) in glyphs.glyph_positions().iter().zip(want) {
-        assert_eq!(rt;
-            (position.x_advance, position.y_advance),
-            (width(*c), 0),
-            "{name}"
+        assert_same(
+            rt,
+            (name, (position.x_advance, position.y_advance)),
+            (name, (width(*c), 0)),
         );
     }
 }
