@@ -119,22 +119,24 @@ where
 fn marks_of_a_base_without_a_box_are_zeroed(rt: HostRuntime) -> Result<(), Fail> {
     let alloc = rt.alloc();
     let face = tabled(alloc, NO_TABLES, false)?;
+    let hanging = HangingShaper::new();
     let rightward = [(1, 0, (600, 0, 0, 0), 0), (2, 0, (0, 0, -100, 0), 0)];
-    assert_shaped(&rt, alloc, &face, &HangingShaper, &RIGHTWARD, &rightward)?;
+    assert_shaped(&rt, alloc, &face, &hanging, &RIGHTWARD, &rightward)?;
     let leftward = [(2, 0, (0, 0, 0, 0), 0), (4, 0, (500, 0, 0, 0), 0)];
-    assert_shaped(&rt, alloc, &face, &HangingShaper, &LEFTWARD, &leftward)
+    assert_shaped(&rt, alloc, &face, &hanging, &LEFTWARD, &leftward)
 }
 
 #[test]
 fn zeroing_alone_adjusts_in_forward_text(rt: HostRuntime) -> Result<(), Fail> {
     let alloc = rt.alloc();
     let face = tabled(alloc, NO_TABLES, false)?;
+    let (early, late) = (EarlyShaper::new(), LateShaper::new());
     let rightward = [(1, 0, (600, 0, 0, 0), 0), (2, 0, (0, 0, -100, 0), 0)];
-    assert_shaped(&rt, alloc, &face, &EarlyShaper, &RIGHTWARD, &rightward)?;
-    assert_shaped(&rt, alloc, &face, &LateShaper, &RIGHTWARD, &rightward)?;
+    assert_shaped(&rt, alloc, &face, &early, &RIGHTWARD, &rightward)?;
+    assert_shaped(&rt, alloc, &face, &late, &RIGHTWARD, &rightward)?;
     let leftward = [(2, 0, (0, 0, 0, 0), 0), (4, 0, (500, 0, 0, 0), 0)];
-    assert_shaped(&rt, alloc, &face, &EarlyShaper, &LEFTWARD, &leftward)?;
-    assert_shaped(&rt, alloc, &face, &LateShaper, &LEFTWARD, &leftward)
+    assert_shaped(&rt, alloc, &face, &early, &LEFTWARD, &leftward)?;
+    assert_shaped(&rt, alloc, &face, &late, &LEFTWARD, &leftward)
 }
 
 /// What `GPOS` adds to a mark stays where the mark was zeroed before, and goes where it is zeroed after.
@@ -143,12 +145,12 @@ fn zeroing_comes_before_or_after_tables(rt: HostRuntime) -> Result<(), Fail> {
     let alloc = rt.alloc();
     let face = tabled(alloc, GPOS, false)?;
     let early = [(1, 0, (601, 0, 0, 0), 0), (2, 0, (1, 0, 0, 0), 0)];
-    assert_shaped(&rt, alloc, &face, &EarlyShaper, &RIGHTWARD, &early)?;
+    assert_shaped(&rt, alloc, &face, &EarlyShaper::new(), &RIGHTWARD, &early)?;
     let late = [(1, 0, (601, 0, 0, 0), 0), (2, 0, (0, 0, 0, 0), 0)];
-    assert_shaped(&rt, alloc, &face, &LateShaper, &RIGHTWARD, &late)?;
+    assert_shaped(&rt, alloc, &face, &LateShaper::new(), &RIGHTWARD, &late)?;
     assert_shaped(&rt, alloc, &face, &DEFAULT_SHAPER, &RIGHTWARD, &late)?;
     let never = [(1, 0, (601, 0, 0, 0), 0), (2, 0, (101, 0, 0, 0), 0)];
-    assert_shaped(&rt, alloc, &face, &HangingShaper, &RIGHTWARD, &never)
+    assert_shaped(&rt, alloc, &face, &HangingShaper::new(), &RIGHTWARD, &never)
 }
 
 /// Compares a letter with an acute that isn't zeroed, though the plan zeroes marks: its shaper gave way.
@@ -168,12 +170,13 @@ where
 #[test]
 fn shaper_that_gave_way_zeroes_nothing(rt: HostRuntime) -> Result<(), Fail> {
     let alloc = rt.alloc();
-    assert_kept(&rt, alloc, &EarlyShaper)?;
-    assert_kept(&rt, alloc, &LateShaper)?;
+    assert_kept(&rt, alloc, &EarlyShaper::new())?;
+    assert_kept(&rt, alloc, &LateShaper::new())?;
     // its wish for boxes stays: the mark is zeroed since its base has none, and isn't moved
     let face = tabled(alloc, MORX, false)?;
     let placed = [(1, 0, (600, 0, 0, 0), 0), (2, 0, (0, 0, 0, 0), 0)];
-    assert_shaped(&rt, alloc, &face, &HangingShaper, &RIGHTWARD, &placed)
+    let hanging = HangingShaper::new();
+    assert_shaped(&rt, alloc, &face, &hanging, &RIGHTWARD, &placed)
 }
 
 /// `GPOS` adds 1, `kerx` 10 and `kern` 100. A plan may have both of the first two; then the first runs.

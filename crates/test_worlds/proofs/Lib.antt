@@ -1,3 +1,4 @@
 mod PromiseRows
 mod PremiseRows
+pub mod ReplaceLemmas
 mod RuleLemmas

@@ -1,7 +1,5 @@
-//! How shapers want marks to be treated, as types, since a shaper's wish is a constant.
-ghost use Rattle.std.specs.Prelude.{◌≡◌, ℕ, Bool, Option, true, false, None, Some, refl};
-ghost use Rattle.shape_buffer.specs.declared.buffer.settings.hb_tag_t.{hb_tag_t as AnyTag};
-ghost use Rattle.shape_plan.specs.Shaper.{is_zero_width_type};
+//! How the shapers of a universe want marks to be treated.
+ghost use Rattle.std.specs.Prelude.{true, false, None, Some, refl};
 ghost use Rattle.shape_plan.specs.Tags.{tag};
 
 use shape_buffer::buffer::hb_tag_t;
@@ -9,26 +7,7 @@ use shape_plan::ot_shaper::{
     HB_OT_SHAPE_ZERO_WIDTH_MARKS_BY_GDEF_EARLY, HB_OT_SHAPE_ZERO_WIDTH_MARKS_BY_GDEF_LATE,
     HB_OT_SHAPE_ZERO_WIDTH_MARKS_NONE,
 };
-
-/// What a shaper wants for marks.
-pub trait Marking {
-    ghost ZERO_WIDTH_MARKS: { ℕ };
-
-    /// When marks lose their advances: 0 to 2.
-    const ZERO_WIDTH_MARKS: u32;
-
-    ghost FALLBACK_POSITION: { Bool };
-
-    /// Whether marks are placed by their extents where no table places them.
-    const FALLBACK_POSITION: bool;
-
-    ghost GPOS_TAG: { Option AnyTag };
-
-    /// The script whose positioning lookups the shaper is made for.
-    const GPOS_TAG: Option<hb_tag_t>;
-
-    ghost lawful: { is_zero_width_type ZERO_WIDTH_MARKS ≡ true };
-}
+use test_worlds::Marking;
 
 /// Marks lose their advances late, and are placed by their extents.
 pub struct Late;

@@ -7,7 +7,6 @@ ghost use Rattle.std.specs.Prelude.{◌≢◌};
 
 use crate::face::{Answers, OddFace};
 use crate::layout::{OddLayout, OddMap};
-use crate::marking::Marking;
 use crate::shaper::OddShaper;
 use crate::universe::Universe;
 use crate::wishes::{Wish, Wishes};
@@ -18,6 +17,7 @@ use shape_pipeline::ot_shaper::{
 };
 use shape_unicode::UnicodeDatabase;
 use std::alloc::Global;
+use test_worlds::Marking;
 
 /// How many requests a wish is.
 fn requests_of(wish: Wish) -> usize {

@@ -6,9 +6,9 @@
 use crate::change::Call;
 use crate::face::{Calls, OddFace};
 use crate::layout::{OddLayout, OddMap};
-use crate::marking::{Early, Late, Marking, Never};
+use crate::marking::{Early, Late, Never};
 use crate::planning::{broken_plan, planned};
-use crate::shaper::{Automatic, OddShaper, PlainShaper};
+use crate::shaper::{OddShaper, PlainShaper};
 use crate::universe::{Premise, Text, Universe};
 use shape_buffer::buffer::{
     BufferClusterLevel, BufferFlags, DEFINED, Direction, GlyphBuffer, ShapeError, ShapeFault,
@@ -25,6 +25,7 @@ use shape_pipeline::ot_shaper::{
 use shape_pipeline::shape;
 use shape_unicode::UnicodeDatabase;
 use std::alloc::Global;
+use test_worlds::{Automatic, Marking};
 
 /// What a run answers, and the promise that it breaks.
 #[derive(Clone, Copy)]

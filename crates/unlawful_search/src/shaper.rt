@@ -3,7 +3,7 @@
 //! One gives every hook; those of planning stand in `wishes`. The other one leaves planning alone,
 //! and splits, composites and the order of marks to Unicode, so that its runs of marks are put in
 //! order as they are met.
-ghost use Rattle.std.specs.Prelude.{◌≡◌, true, false, pos, refl};
+ghost use Rattle.std.specs.Prelude.{◌≡◌, true, false};
 ghost use Rattle.unlawful_search.specs.Changes.{made};
 ghost use Rattle.unlawful_search.specs.Hooks.{odd_split as odd_split_of, odd_split-falls, odd_composite};
 ghost use Rattle.unlawful_search.specs.Hooks.{all_masked, all_masked-alone, ends_exchanged};
@@ -11,12 +11,10 @@ ghost use Rattle.unlawful_search.specs.Hooks.{ends_exchanged-reorders, masked as
 
 use crate::change::make;
 use crate::face::OddFace;
-use crate::marking::Marking;
 use crate::wishes::Wishes;
 use shape_buffer::buffer::{ShapeError, hb_buffer_t, hb_glyph_info_t, hb_mask_t, hb_tag_t};
 use shape_buffer::interfaces::{hb_ot_layout_t, hb_unicode_funcs_t};
 use shape_buffer::walks::update_items;
-use shape_plan::normalization_mode::HB_OT_SHAPE_NORMALIZATION_MODE_AUTO;
 use shape_plan::ot_shape_plan::hb_ot_shape_plan_t;
 use shape_plan::ot_shaper::hooks::{
     compose_hook, decompose_hook, pause_hook, postprocess_glyphs_hook, preprocess_text_hook,
@@ -25,6 +23,7 @@ use shape_plan::ot_shaper::hooks::{
 use shape_plan::ot_shaper::{Preference, no_hook, script_shaper};
 use std::alloc::Global;
 use std::marker::PhantomData;
+use test_worlds::Marking;
 
 /// Gives the hooks that a face tells of, whatever the shaper.
 pub struct odd_hooks;
@@ -207,17 +206,6 @@ impl<S, D, U: hb_unicode_funcs_t, M: hb_ot_layout_t<OddFace>> pause_hook<S, D, U
     ) -> Result<(), ShapeError> {
         make(alloc, face.calls.pause, buffer)
     }
-}
-
-/// Leaves the mode of normalising to the plan.
-pub struct Automatic;
-
-impl Preference for Automatic {
-    ghost PREFERENCE = { pos 4 };
-
-    const PREFERENCE: i32 = HB_OT_SHAPE_NORMALIZATION_MODE_AUTO;
-
-    ghost lawful = { refl };
 }
 
 /// Gives every hook.

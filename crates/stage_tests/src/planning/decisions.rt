@@ -190,9 +190,9 @@ fn by_the_default_shaper(rt: HostRuntime) -> Result<(), Fail> {
 
 #[test]
 fn by_a_shaper_with_wishes(rt: HostRuntime) -> Result<(), Fail> {
-    let (alloc, shaper) = (rt.alloc(), &WishingShaper);
-    assert_by_table(&rt, alloc, shaper, Direction::RightToLeft, WISHING_BRINGS)?;
-    assert_by_table(&rt, alloc, shaper, Direction::TopToBottom, WISHING_BRINGS)
+    let (alloc, shaper) = (rt.alloc(), WishingShaper::new());
+    assert_by_table(&rt, alloc, &shaper, Direction::RightToLeft, WISHING_BRINGS)?;
+    assert_by_table(&rt, alloc, &shaper, Direction::TopToBottom, WISHING_BRINGS)
 }
 
 #[test]
@@ -225,10 +225,11 @@ fn gpos_then_kerx(rt: HostRuntime) -> Result<(), Fail> {
 #[test]
 fn wishes_of_a_replaced_shaper(rt: HostRuntime) -> Result<(), Fail> {
     let (morx, both) = (Bits(MORX), Bits(MORX | GSUB));
+    let shaper = WishingShaper::new();
     let plan = hb_ot_shape_plan_t::new::<PlainUnicode, Bits, BitLayout>(
         rt.alloc(),
         &morx,
-        &WishingShaper,
+        &shaper,
         Direction::LeftToRight,
         None,
         None,
@@ -241,7 +242,7 @@ fn wishes_of_a_replaced_shaper(rt: HostRuntime) -> Result<(), Fail> {
     let vertical = hb_ot_shape_plan_t::new::<PlainUnicode, Bits, BitLayout>(
         rt.alloc(),
         &both,
-        &WishingShaper,
+        &shaper,
         Direction::TopToBottom,
         None,
         None,

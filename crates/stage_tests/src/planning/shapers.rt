@@ -12,64 +12,12 @@ use shape_plan::ot_shape_plan::hb_ot_shape_plan_t;
 use shape_plan::ot_shaper::hooks::{
     collect_features_hook, create_data_hook, override_features_hook,
 };
-use shape_plan::ot_shaper::{
-    HB_OT_SHAPE_ZERO_WIDTH_MARKS_BY_GDEF_EARLY, HB_OT_SHAPE_ZERO_WIDTH_MARKS_NONE, no_hook,
-    script_shaper,
-};
+use shape_plan::ot_shaper::{HB_OT_SHAPE_ZERO_WIDTH_MARKS_NONE, no_hook, script_shaper};
 use std::alloc::Global;
+use test_worlds::{Automatic, EarlyHanging};
 
 /// Wants marks zeroed early and placed by their extents; gives no hook.
-#[derive(Clone, Copy, Debug)]
-pub struct WishingShaper;
-
-impl<U: hb_unicode_funcs_t, F: hb_font_t, M: hb_ot_layout_t<F>> script_shaper<U, F, M>
-    for WishingShaper {
-    type Data = ();
-
-    type CollectFeatures = no_hook;
-
-    type OverrideFeatures = no_hook;
-
-    type CreateData = no_hook;
-
-    type PreprocessText = no_hook;
-
-    type PostprocessGlyphs = no_hook;
-
-    type Pause = no_hook;
-
-    type Decompose = no_hook;
-
-    type Compose = no_hook;
-
-    type SetupMasks = no_hook;
-
-    type ReorderMarks = no_hook;
-
-    ghost IS_DEFAULT = { false };
-
-    const IS_DEFAULT: bool = false;
-
-    ghost NORMALIZATION_PREFERENCE = { pos 4 };
-
-    const NORMALIZATION_PREFERENCE: i32 = HB_OT_SHAPE_NORMALIZATION_MODE_DEFAULT;
-
-    ghost GPOS_TAG = { None };
-
-    const GPOS_TAG: Option<hb_tag_t> = None;
-
-    ghost ZERO_WIDTH_MARKS = { 1 };
-
-    const ZERO_WIDTH_MARKS: u32 = HB_OT_SHAPE_ZERO_WIDTH_MARKS_BY_GDEF_EARLY;
-
-    ghost FALLBACK_POSITION = { true };
-
-    const FALLBACK_POSITION: bool = true;
-
-    ghost lawful_preference = { refl };
-
-    ghost lawful_zero_width = { refl };
-}
+pub type WishingShaper = test_worlds::WishingShaper<Automatic, EarlyHanging>;
 
 /// Is made for script 2, wants nothing for marks, asks for feature 3 and pause 9 after it, turns feature 4
 /// on for each syllable at last, and keeps how many features the user asks for.
