@@ -1,4 +1,4 @@
-use crate::support::{filled, rows};
+use crate::support::{assert_rows, assert_same, filled};
 use shape_buffer::buffer::{BufferClusterLevel, BufferFlags, ScratchFlags};
 use std::alloc::Global;
 use std::process::Abort;
@@ -32,14 +32,13 @@ fn leaves(
         Call::Break => buffer.unsafe_to_break(start, end),
         Call::Concat => buffer.unsafe_to_concat(start, end),
     }
-    let found = rows(alloc, &buffer)?;
-    assert_eq!(rt; found.as_slice(), after);
+    assert_rows(rt, &buffer, after);
     let scratch_flags = if has_flags {
         ScratchFlags::HAS_GLYPH_FLAGS
     } else {
         ScratchFlags(0)
     };
-    assert_eq!(rt; buffer.scratch_flags(), scratch_flags);
+    assert_same(rt, buffer.scratch_flags(), scratch_flags);
     Ok(())
 }
 

@@ -1,10 +1,29 @@
-use crate::support::{filled, rows};
+use crate::support::{assert_advances, assert_rows, assert_same, filled};
 use shape_buffer::buffer::{
     BufferClusterLevel, GlyphPosition, ScratchFlags, hb_buffer_t, hb_glyph_info_t,
 };
 use std::alloc::Global;
 use std::process::Abort;
 use std::test::Fail;
+
+/// A buffer of these glyphs, clusters and masks.
+fn glyphs(
+    alloc: Global,
+    level: BufferClusterLevel,
+    rows: &[(u32, u32, u32)],
+) -> Result<hb_buffer_t, Fail> {
+    let mut infos: Vec<hb_glyph_info_t> = Vec::new(alloc);
+    for row in rows.iter() {
+        let mut info = hb_glyph_info_t::new('a', row.1);
+        info.glyph_id = row.0;
+        info.mask = row.2;
+        infos.push(info)?;
+    }
+    let mut buffer = hb_buffer_t::new(alloc);
+    buffer.replace_infos(infos)?;
+    buffer.set_cluster_level(level);
+    Ok(buffer)
+}
 
 /// Deletes the items of glyph 1 from a list of glyphs, clusters and masks: what that leaves, and whether
 /// HAS_GLYPH_FLAGS is set.
@@ -16,25 +35,15 @@ fn leaves(
     after: &[(u32, u32)],
     has_flags: bool,
 ) -> Result<(), Fail> {
-    let mut infos: Vec<hb_glyph_info_t> = Vec::new(alloc);
-    for row in before.iter() {
-        let mut info = hb_glyph_info_t::new('a', row.1);
-        info.glyph_id = row.0;
-        info.mask = row.2;
-        infos.push(info)?;
-    }
-    let mut buffer = hb_buffer_t::new(alloc);
-    buffer.replace_infos(infos)?;
-    buffer.set_cluster_level(level);
+    let mut buffer = glyphs(alloc, level, before)?;
     buffer.delete_glyphs_inplace(|info| info.glyph_id == 1);
-    let found = rows(alloc, &buffer)?;
-    assert_eq!(rt; found.as_slice(), after);
+    assert_rows(rt, &buffer, after);
     let scratch_flags = if has_flags {
         ScratchFlags::HAS_GLYPH_FLAGS
     } else {
         ScratchFlags(0)
     };
-    assert_eq!(rt; buffer.scratch_flags(), scratch_flags);
+    assert_same(rt, buffer.scratch_flags(), scratch_flags);
     Ok(())
 }
 
@@ -161,6 +170,19 @@ fn nothing_is_left_or_picked(rt: HostRuntime) -> Result<(), Fail> {
     leaves(rt, alloc, graphemes, &kept, &[(3, 7), (2, 5)], false)
 }
 
+/// Gives each item an advance, one more than the one before it.
+fn place(buffer: &mut hb_buffer_t) {
+    let mut x_advance: i32 = 100;
+    for place in 0..buffer.len() {
+        let mut position = GlyphPosition::zero();
+        position.x_advance = x_advance;
+        if place < buffer.len() {
+            buffer.set_position(place, position);
+        }
+        x_advance = x_advance.saturating_add(1);
+    }
+}
+
 #[test]
 fn positions_go_with_items(rt: HostRuntime) -> Result<(), Fail> {
     let mut buffer = filled(
@@ -168,18 +190,9 @@ fn positions_go_with_items(rt: HostRuntime) -> Result<(), Fail> {
         BufferClusterLevel::MonotoneGraphemes,
         &[(0, 0), (1, 1), (2, 0), (3, 1), (4, 0)],
     )?;
-    for (i, x_advance) in [(0, 100), (1, 101), (2, 102), (3, 103), (4, 104)] {
-        assert!(rt; i < buffer.len());
-        let mut position = GlyphPosition::zero();
-        position.x_advance = x_advance;
-        buffer.set_position(i, position);
-    }
+    place(&mut buffer);
+    assert_advances(&rt, &buffer, &[100, 101, 102, 103, 104]);
     buffer.delete_glyphs_inplace(|info| info.mask == 1);
-    let advances: Vec<i32> = buffer
-        .positions()
-        .iter()
-        .map(|position| position.x_advance)
-        .collect(rt.alloc())?;
-    assert_eq!(rt; advances.as_slice(), [100, 102, 104].as_slice());
+    assert_advances(&rt, &buffer, &[100, 102, 104]);
     Ok(())
 }

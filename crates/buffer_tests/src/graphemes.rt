@@ -1,21 +1,18 @@
 //! Graphemes that are merged in one walk.
-use crate::support::rows;
+use crate::support::assert_rows;
 use shape_buffer::buffer::{BufferClusterLevel, hb_buffer_t, hb_glyph_info_t};
 use std::alloc::Global;
 use std::process::Abort;
 use std::test::Fail;
 
-/// Merges the graphemes of items of these clusters and masks, some of which are continuations: what it
-/// leaves.
-fn leaves(
-    rt: &impl Abort,
+/// A buffer of these clusters and masks, some of whose items are continuations.
+fn filled(
     alloc: Global,
     level: BufferClusterLevel,
-    before: &[(u32, u32, bool)],
-    after: &[(u32, u32)],
-) -> Result<(), Fail> {
+    rows: &[(u32, u32, bool)],
+) -> Result<hb_buffer_t, Fail> {
     let mut infos: Vec<hb_glyph_info_t> = Vec::new(alloc);
-    for &(cluster, mask, continues) in before {
+    for &(cluster, mask, continues) in rows {
         let mut info = hb_glyph_info_t::new('a', cluster);
         info.mask = mask;
         info._hb_glyph_info_set_continuation(continues);
@@ -24,9 +21,20 @@ fn leaves(
     let mut buffer = hb_buffer_t::new(alloc);
     buffer.replace_infos(infos)?;
     buffer.set_cluster_level(level);
+    Ok(buffer)
+}
+
+/// Merges the graphemes of items: what it leaves.
+fn leaves(
+    rt: &impl Abort,
+    alloc: Global,
+    level: BufferClusterLevel,
+    before: &[(u32, u32, bool)],
+    after: &[(u32, u32)],
+) -> Result<(), Fail> {
+    let mut buffer = filled(alloc, level, before)?;
     buffer.merge_graphemes();
-    let found = rows(alloc, &buffer)?;
-    assert_eq!(rt; found.as_slice(), after);
+    assert_rows(rt, &buffer, after);
     Ok(())
 }
 

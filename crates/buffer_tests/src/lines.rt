@@ -3,11 +3,13 @@
 //! The gate's script counts growths: a test that cuts a buffer without glyphs has as many as one that does not. It
 //! refuses each of those of `growths` in turn.
 
+use crate::support::{assert_list, assert_same, assert_that};
 use shape_buffer::buffer::{
     Direction, GlyphBuffer, GlyphPosition, ShapeError, UnicodeBuffer, hb_buffer_t, hb_glyph_info_t,
 };
 use shape_lines::{Line, can_cut, cut_lines};
 use std::alloc::Global;
+use std::process::Abort;
 use std::test::Fail;
 
 /// A glyph: its cluster, its mask and its advance to the right; downwards it is 1 more.
@@ -63,22 +65,45 @@ fn lines(alloc: Global, glyphs: &GlyphBuffer, text_end: u32, width: u32) -> Resu
     Ok(rows)
 }
 
+/// Compares the lines of glyphs whose text ends at a cluster, for a width.
+fn assert_lines(
+    rt: &impl Abort,
+    alloc: Global,
+    glyphs: &GlyphBuffer,
+    (text_end, width): (u32, u32),
+    rows: &[Row],
+) -> Result<(), Fail> {
+    assert_list(rt, lines(alloc, glyphs, text_end, width)?.as_slice(), rows);
+    Ok(())
+}
+
 /// Two letters, a space and a letter: they end at 600, 1100, 1350 and 1650.
 const TEXT: [Cell; 4] = [(0, 0, 600), (1, 0, 500), (2, 0, 250), (3, 0, 300)];
 
 /// The same as it runs to the left.
 const TURNED: [Cell; 4] = [(3, 0, 300), (2, 0, 250), (1, 0, 500), (0, 0, 600)];
 
+/// Whether glyphs to the right can be cut.
+fn can_be_cut(alloc: Global, cells: &[Cell], text_end: u32) -> Result<bool, Fail> {
+    let glyphs = glyphs(alloc, Direction::LeftToRight, cells)?;
+    Ok(can_cut(&glyphs, text_end))
+}
+
 #[test]
 fn what_can_be_cut(rt: HostRuntime) -> Result<(), Fail> {
     let alloc = rt.alloc();
-    let ltr = Direction::LeftToRight;
-    assert!(rt; can_cut(&glyphs(alloc, ltr, &[])?, 0));
-    assert!(rt; can_cut(&glyphs(alloc, ltr, &[(0, 1, 0), (0, 9, 0), (2, 0, 0)])?, 3));
-    assert!(rt; can_cut(&glyphs(alloc, ltr, &[(2, 0, 0), (0, 1, 0)])?, 3));
-    assert!(rt; !can_cut(&glyphs(alloc, ltr, &[(0, 0, 0), (2, 0, 0), (1, 0, 0)])?, 3));
-    assert!(rt; !can_cut(&glyphs(alloc, ltr, &[(0, 1, 0), (0, 0, 0)])?, 3));
-    assert!(rt; !can_cut(&glyphs(alloc, ltr, &[(0, 0, 0), (2, 0, 0)])?, 2));
+    assert_that(&rt, can_be_cut(alloc, &[], 0)?);
+    assert_that(
+        &rt,
+        can_be_cut(alloc, &[(0, 1, 0), (0, 9, 0), (2, 0, 0)], 3)?,
+    );
+    assert_that(&rt, can_be_cut(alloc, &[(2, 0, 0), (0, 1, 0)], 3)?);
+    assert_that(
+        &rt,
+        !can_be_cut(alloc, &[(0, 0, 0), (2, 0, 0), (1, 0, 0)], 3)?,
+    );
+    assert_that(&rt, !can_be_cut(alloc, &[(0, 1, 0), (0, 0, 0)], 3)?);
+    assert_that(&rt, !can_be_cut(alloc, &[(0, 0, 0), (2, 0, 0)], 2)?);
     Ok(())
 }
 
@@ -86,23 +111,23 @@ fn what_can_be_cut(rt: HostRuntime) -> Result<(), Fail> {
 fn longest_part_that_fits(rt: HostRuntime) -> Result<(), Fail> {
     let alloc = rt.alloc();
     let text = glyphs(alloc, Direction::LeftToRight, &TEXT)?;
-    assert_eq!(rt;
-        lines(alloc, &text, 4, 1200)?.as_slice(),
-        [(0, 2, 0, 2), (2, 4, 2, 4)].as_slice()
-    );
-    assert_eq!(rt;
-        lines(alloc, &text, 4, 749)?.as_slice(),
-        [(0, 1, 0, 1), (1, 2, 1, 2), (2, 4, 2, 4)].as_slice()
-    );
-    assert_eq!(rt;
-        lines(alloc, &text, 9, 1650)?.as_slice(),
-        [(0, 4, 0, 9)].as_slice()
-    );
+    assert_lines(&rt, alloc, &text, (4, 1200), &[(0, 2, 0, 2), (2, 4, 2, 4)])?;
+    assert_lines(
+        &rt,
+        alloc,
+        &text,
+        (4, 749),
+        &[(0, 1, 0, 1), (1, 2, 1, 2), (2, 4, 2, 4)],
+    )?;
+    assert_lines(&rt, alloc, &text, (9, 1650), &[(0, 4, 0, 9)])?;
     // none fits: the shortest parts
-    assert_eq!(rt;
-        lines(alloc, &text, 4, 100)?.as_slice(),
-        [(0, 1, 0, 1), (1, 2, 1, 2), (2, 3, 2, 3), (3, 4, 3, 4)].as_slice()
-    );
+    assert_lines(
+        &rt,
+        alloc,
+        &text,
+        (4, 100),
+        &[(0, 1, 0, 1), (1, 2, 1, 2), (2, 3, 2, 3), (3, 4, 3, 4)],
+    )?;
     Ok(())
 }
 
@@ -111,22 +136,13 @@ fn in_the_order_of_the_text(rt: HostRuntime) -> Result<(), Fail> {
     let alloc = rt.alloc();
     for direction in [Direction::RightToLeft, Direction::BottomToTop] {
         let text = glyphs(alloc, direction, &TURNED)?;
-        assert_eq!(rt;
-            lines(alloc, &text, 4, 1200)?.as_slice(),
-            [(2, 4, 0, 2), (0, 2, 2, 4)].as_slice()
-        );
+        assert_lines(&rt, alloc, &text, (4, 1200), &[(2, 4, 0, 2), (0, 2, 2, 4)])?;
     }
     // the order of clusters decides, not the direction
     let text = glyphs(alloc, Direction::RightToLeft, &TEXT)?;
-    assert_eq!(rt;
-        lines(alloc, &text, 4, 1200)?.as_slice(),
-        [(0, 2, 0, 2), (2, 4, 2, 4)].as_slice()
-    );
+    assert_lines(&rt, alloc, &text, (4, 1200), &[(0, 2, 0, 2), (2, 4, 2, 4)])?;
     let text = glyphs(alloc, Direction::TopToBottom, &TEXT)?;
-    assert_eq!(rt;
-        lines(alloc, &text, 4, 1101)?.as_slice(),
-        [(0, 1, 0, 1), (1, 4, 1, 4)].as_slice()
-    );
+    assert_lines(&rt, alloc, &text, (4, 1101), &[(0, 1, 0, 1), (1, 4, 1, 4)])?;
     Ok(())
 }
 
@@ -137,24 +153,15 @@ fn at_places_of_a_cut_alone(rt: HostRuntime) -> Result<(), Fail> {
     let cells = [(0, 0, 10), (1, 1, 20), (4, 0, 40), (4, 0, 80)];
     let text = glyphs(alloc, Direction::LeftToRight, &cells)?;
     for width in [10, 70] {
-        assert_eq!(rt;
-            lines(alloc, &text, 5, width)?.as_slice(),
-            [(0, 2, 0, 4), (2, 4, 4, 5)].as_slice()
-        );
+        assert_lines(&rt, alloc, &text, (5, width), &[(0, 2, 0, 4), (2, 4, 4, 5)])?;
     }
     // the cluster that stands later in the text decides where it runs to the left
     let cells = [(4, 1, 40), (1, 0, 20), (0, 1, 10)];
     let text = glyphs(alloc, Direction::RightToLeft, &cells)?;
-    assert_eq!(rt;
-        lines(alloc, &text, 5, 30)?.as_slice(),
-        [(2, 3, 0, 1), (0, 2, 1, 5)].as_slice()
-    );
+    assert_lines(&rt, alloc, &text, (5, 30), &[(2, 3, 0, 1), (0, 2, 1, 5)])?;
     let cells = [(7, 0, 10), (7, 0, 20)];
     let text = glyphs(alloc, Direction::LeftToRight, &cells)?;
-    assert_eq!(rt;
-        lines(alloc, &text, 8, 0)?.as_slice(),
-        [(0, 2, 7, 8)].as_slice()
-    );
+    assert_lines(&rt, alloc, &text, (8, 0), &[(0, 2, 7, 8)])?;
     Ok(())
 }
 
@@ -164,35 +171,32 @@ fn widths_below_zero(rt: HostRuntime) -> Result<(), Fail> {
     // wide, then narrow: a longer part fits again
     let cells = [(0, 0, 600), (1, 0, 500), (2, 0, -700)];
     let text = glyphs(alloc, Direction::LeftToRight, &cells)?;
-    assert_eq!(rt;
-        lines(alloc, &text, 3, 400)?.as_slice(),
-        [(0, 3, 0, 3)].as_slice()
-    );
-    assert_eq!(rt;
-        lines(alloc, &text, 3, 399)?.as_slice(),
-        [(0, 1, 0, 1), (1, 3, 1, 3)].as_slice()
-    );
+    assert_lines(&rt, alloc, &text, (3, 400), &[(0, 3, 0, 3)])?;
+    assert_lines(&rt, alloc, &text, (3, 399), &[(0, 1, 0, 1), (1, 3, 1, 3)])?;
     // beyond 32 bits
     let cells = [(0, 0, i32::MAX), (1, 0, i32::MAX), (2, 0, 2)];
     let text = glyphs(alloc, Direction::LeftToRight, &cells)?;
-    assert_eq!(rt; lines(alloc, &text, 3, 0)?.len(), 3);
-    assert_eq!(rt;
-        lines(alloc, &text, 3, u32::MAX)?.as_slice(),
-        [(0, 2, 0, 2), (2, 3, 2, 3)].as_slice()
-    );
+    assert_same(&rt, lines(alloc, &text, 3, 0)?.len(), 3);
+    assert_lines(
+        &rt,
+        alloc,
+        &text,
+        (3, u32::MAX),
+        &[(0, 2, 0, 2), (2, 3, 2, 3)],
+    )?;
     let cells = [(0, 0, i32::MIN), (1, 0, i32::MIN), (2, 0, 7)];
     let text = glyphs(alloc, Direction::LeftToRight, &cells)?;
-    assert_eq!(rt;
-        lines(alloc, &text, 3, 0)?.as_slice(),
-        [(0, 3, 0, 3)].as_slice()
-    );
+    assert_lines(&rt, alloc, &text, (3, 0), &[(0, 3, 0, 3)])?;
     // downwards it is the negative of the advance, here -2 ^ 31: 2 ^ 31, 2 ^ 31, 8
     let cells = [(0, 0, i32::MAX), (1, 0, i32::MAX), (2, 0, 7)];
     let text = glyphs(alloc, Direction::TopToBottom, &cells)?;
-    assert_eq!(rt;
-        lines(alloc, &text, 3, u32::MAX)?.as_slice(),
-        [(0, 1, 0, 1), (1, 3, 1, 3)].as_slice()
-    );
+    assert_lines(
+        &rt,
+        alloc,
+        &text,
+        (3, u32::MAX),
+        &[(0, 1, 0, 1), (1, 3, 1, 3)],
+    )?;
     Ok(())
 }
 
@@ -206,36 +210,40 @@ fn begun(alloc: Global) -> Result<(GlyphBuffer, GlyphBuffer), Fail> {
 #[test]
 fn glyphs_are_begun(rt: HostRuntime) -> Result<(), Fail> {
     let (text, none) = begun(rt.alloc())?;
-    assert_eq!(rt; (text.len(), none.len()), (4, 0));
+    assert_same(&rt, (text.len(), none.len()), (4, 0));
     Ok(())
 }
 
 #[test]
 fn no_glyphs_make_no_line(rt: HostRuntime) -> Result<(), Fail> {
     let (text, none) = begun(rt.alloc())?;
-    assert!(rt; can_cut(&text, 4));
-    if !can_cut(&none, 0) {
+    assert_that(&rt, can_cut(&text, 4));
+    assert_lines(&rt, rt.alloc(), &none, (0, 100), &[])
+}
+
+/// How many lines the glyphs of the text are cut into, or why they are not.
+fn count_lines(alloc: Global, text: &GlyphBuffer) -> Result<Result<usize, ShapeError>, Fail> {
+    if !can_cut(text, 4) {
         return Err(Fail::from("uncut"));
     }
-    assert!(rt; cut_lines(rt.alloc(), &none, 0, 100)?.is_empty());
-    Ok(())
+    match cut_lines(alloc, text, 4, 100) {
+        Ok(lines) => Ok(Ok(lines.len())),
+        Err(cause) => Ok(Err(cause)),
+    }
 }
 
 #[test]
 fn growths(rt: HostRuntime) -> Result<(), Fail> {
     let text = glyphs(rt.alloc(), Direction::LeftToRight, &TEXT)?;
-    if !can_cut(&text, 4) {
-        return Err(Fail::from("uncut"));
-    }
-    match cut_lines(rt.alloc(), &text, 4, 100) {
-        Ok(lines) => {
-            assert_eq!(rt; lines.len(), 4);
+    match count_lines(rt.alloc(), &text)? {
+        Ok(count) => {
+            assert_same(&rt, count, 4);
             Ok(())
         }
         Err(cause) => {
-            assert_eq!(rt; cause, ShapeError::Memory);
-            assert_eq!(rt; text.len(), 4);
-            assert_eq!(rt; lines(rt.alloc(), &text, 4, 100)?.len(), 4);
+            assert_same(&rt, cause, ShapeError::Memory);
+            assert_same(&rt, text.len(), 4);
+            assert_same(&rt, lines(rt.alloc(), &text, 4, 100)?.len(), 4);
             Err(Fail::from("refused"))
         }
     }

@@ -2,7 +2,7 @@
 //! and the second one makes each such call besides; the gate's script counts the growths of both, which must be
 //! as many.
 
-use crate::support::with_every_property;
+use crate::support::{assert_same, assert_that, with_every_property};
 use shape_buffer::buffer::{
     BufferClusterLevel, BufferFlags, Direction, GlyphId, GlyphPosition, GlyphPropsFlags, Language,
     ScratchFlags, Script, UnicodeBuffer, hb_buffer_t, hb_glyph_info_t, hb_tag_t,
@@ -64,20 +64,22 @@ fn count_settings(buffer: &hb_buffer_t) -> usize {
 /// Guesses script and direction, which are set, and then those of the text.
 fn guess(rt: &impl Abort, buffer: &mut hb_buffer_t) {
     buffer.guess_segment_properties::<PlainUnicode>();
-    assert_eq!(rt; buffer.direction(), Direction::RightToLeft);
+    assert_same(rt, buffer.direction(), Direction::RightToLeft);
     buffer.set_direction(Direction::Invalid);
     buffer.set_script(None);
-    assert_eq!(rt; buffer.guessed_script::<PlainUnicode>(), None);
-    assert_eq!(rt;
+    assert_same(rt, buffer.guessed_script::<PlainUnicode>(), None);
+    assert_same(
+        rt,
         buffer.guessed_direction::<PlainUnicode>(),
-        Direction::LeftToRight
+        Direction::LeftToRight,
     );
-    assert_eq!(rt;
+    assert_same(
+        rt,
         buffer.direction_by::<PlainUnicode>(None),
-        Direction::LeftToRight
+        Direction::LeftToRight,
     );
     buffer.guess_segment_properties::<PlainUnicode>();
-    assert_eq!(rt; buffer.direction(), Direction::LeftToRight);
+    assert_same(rt, buffer.direction(), Direction::LeftToRight);
 }
 
 /// Merges clusters and marks spans, at a level.
@@ -205,19 +207,31 @@ fn count_properties(item: &hb_glyph_info_t) -> usize {
 /// Hands the items out as glyphs, and gives the buffer back for new text.
 fn hand_out(rt: &impl Abort, buffer: hb_buffer_t) -> UnicodeBuffer {
     let glyphs = buffer.into_glyphs();
-    assert_eq!(rt; glyphs.len(), glyphs.glyph_infos().len());
-    assert_eq!(rt; glyphs.len(), glyphs.glyph_positions().len());
-    assert_eq!(rt; glyphs.direction(), Direction::LeftToRight);
+    assert_same(rt, glyphs.len(), glyphs.glyph_infos().len());
+    assert_same(rt, glyphs.len(), glyphs.glyph_positions().len());
+    assert_same(rt, glyphs.direction(), Direction::LeftToRight);
     let text = glyphs.clear();
-    assert!(rt; text.is_empty() && text.len() == 0);
+    assert_that(rt, text.is_empty() && text.len() == 0);
     text
+}
+
+fn delete_items(buffer: &mut hb_buffer_t) {
+    buffer.delete_glyphs_inplace(|info| info.cluster == 9);
+}
+
+/// The buffer of a text, reset and cleared.
+fn reset(mut text: UnicodeBuffer) -> UnicodeBuffer {
+    text.set_language(None);
+    let mut buffer = text.into_inner();
+    buffer.reset();
+    buffer.clear()
 }
 
 #[test]
 fn filled_is_begun(rt: HostRuntime) -> Result<(), Fail> {
     let (buffer, language) = begun(rt.alloc())?;
-    assert_eq!(rt; buffer.len(), 16);
-    assert!(rt; language.0.as_str() == "de");
+    assert_same(&rt, buffer.len(), 16);
+    assert_that(&rt, language.0.as_str() == "de");
     Ok(())
 }
 
@@ -226,8 +240,8 @@ fn filled_and_used(rt: HostRuntime) -> Result<(), Fail> {
     let (mut buffer, language) = begun(rt.alloc())?;
     buffer.enter();
     set_all(&mut buffer, language);
-    assert_eq!(rt; count_settings(&buffer), 11);
-    assert_eq!(rt; count_properties(&with_every_property()), 19);
+    assert_same(&rt, count_settings(&buffer), 11);
+    assert_same(&rt, count_properties(&with_every_property()), 19);
     guess(&rt, &mut buffer);
     merge_and_mark(&mut buffer, BufferClusterLevel::Characters);
     merge_and_mark(&mut buffer, BufferClusterLevel::MonotoneCharacters);
@@ -236,15 +250,15 @@ fn filled_and_used(rt: HostRuntime) -> Result<(), Fail> {
     merge_many(&mut buffer, BufferClusterLevel::MonotoneGraphemes);
     move_items(&mut buffer);
     write_items(&mut buffer);
-    assert_eq!(rt; (buffer.infos().len(), buffer.positions().len()), (15, 15));
-    buffer.delete_glyphs_inplace(|info| info.cluster == 9);
-    assert!(rt; !buffer.is_empty());
+    assert_same(
+        &rt,
+        (buffer.infos().len(), buffer.positions().len()),
+        (15, 15),
+    );
+    delete_items(&mut buffer);
+    assert_that(&rt, !buffer.is_empty());
     buffer.leave();
-    let mut text = hand_out(&rt, buffer);
-    text.set_language(None);
-    let mut buffer = text.into_inner();
-    buffer.reset();
-    assert!(rt; buffer.clear().as_inner().is_empty());
-    assert!(rt; hb_buffer_t::new(rt.alloc()).is_empty());
+    assert_that(&rt, reset(hand_out(&rt, buffer)).as_inner().is_empty());
+    assert_that(&rt, hb_buffer_t::new(rt.alloc()).is_empty());
     Ok(())
 }

@@ -1,7 +1,7 @@
 ghost use Rattle.std.specs.Prelude.{length};
 ghost use Rattle.shape_buffer.specs.Spans.{AreSpansInOrder};
 
-use crate::support::{filled, rows};
+use crate::support::{assert_rows, assert_same, filled};
 use shape_buffer::buffer::{BufferClusterLevel, ScratchFlags};
 use std::alloc::Global;
 use std::process::Abort;
@@ -21,15 +21,14 @@ fn leaves(
     let mut buffer = filled(alloc, level, before)?;
     assert!(rt; buffer.len() == before.len());
     buffer.merge_spans(spans);
-    let found = rows(alloc, &buffer)?;
-    assert_eq!(rt; found.as_slice(), after);
+    assert_rows(rt, &buffer, after);
     let marks = level == BufferClusterLevel::Characters && !spans.is_empty();
     let scratch_flags = if marks {
         ScratchFlags::HAS_GLYPH_FLAGS
     } else {
         ScratchFlags(0)
     };
-    assert_eq!(rt; buffer.scratch_flags(), scratch_flags);
+    assert_same(rt, buffer.scratch_flags(), scratch_flags);
     Ok(())
 }
 
@@ -47,9 +46,8 @@ fn leaves_out(
     let mut buffer = filled(alloc, level, before)?;
     assert!(rt; buffer.len() == before.len());
     buffer.merge_spans_out(spans);
-    let found = rows(alloc, &buffer)?;
-    assert_eq!(rt; found.as_slice(), after);
-    assert_eq!(rt; buffer.scratch_flags(), ScratchFlags(0));
+    assert_rows(rt, &buffer, after);
+    assert_same(rt, buffer.scratch_flags(), ScratchFlags(0));
     Ok(())
 }
 

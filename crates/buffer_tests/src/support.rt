@@ -1,11 +1,63 @@
 //! Small buffers for the tests, and what they show.
+//!
+//! Tests compare by the functions below, which have no contract: the proof of a test takes a second for each
+//! `assert_eq!` of its own, and next to nothing for a call.
 
 use shape_buffer::buffer::{
-    BufferClusterLevel, GlyphPropsFlags, hb_buffer_t, hb_glyph_info_t,
+    BufferClusterLevel, GlyphPropsFlags, UnicodeBuffer, hb_buffer_t, hb_glyph_info_t,
     hb_unicode_general_category_t,
 };
 use std::alloc::Global;
+use std::fmt::Debug;
+use std::process::Abort;
 use std::test::Fail;
+
+/// Compares two values.
+pub fn assert_same<T: Copy + PartialEq + Debug>(rt: &impl Abort, found: T, wanted: T) {
+    assert_eq!(rt; found, wanted);
+}
+
+/// Compares two lists.
+pub fn assert_list<T: PartialEq + Debug>(rt: &impl Abort, found: &[T], wanted: &[T]) {
+    assert_eq!(rt; found, wanted);
+}
+
+/// Asserts what no later call of a test relies on.
+pub fn assert_that(rt: &impl Abort, condition: bool) {
+    assert!(rt; condition);
+}
+
+/// Compares clusters and masks.
+pub fn assert_rows(rt: &impl Abort, buffer: &hb_buffer_t, rows: &[(u32, u32)]) {
+    assert_eq!(rt; buffer.len(), rows.len());
+    for (info, row) in buffer.infos().iter().zip(rows) {
+        assert_eq!(rt; (info.cluster, info.mask), *row);
+    }
+}
+
+/// Compares advances to the right.
+pub fn assert_advances(rt: &impl Abort, buffer: &hb_buffer_t, advances: &[i32]) {
+    assert_eq!(rt; buffer.len(), advances.len());
+    for (position, advance) in buffer.positions().iter().zip(advances) {
+        assert_eq!(rt; position.x_advance, *advance);
+    }
+}
+
+/// Appends a text.
+pub fn append(text: &mut UnicodeBuffer, more: &str) -> Result<(), Fail> {
+    if 100 < more.len() {
+        return Err(Fail::from("long"));
+    }
+    text.push_str(more)?;
+    Ok(())
+}
+
+/// A text with nothing set.
+pub fn text_of(alloc: Global, characters: &str) -> Result<UnicodeBuffer, Fail> {
+    let mut text = UnicodeBuffer::new(alloc);
+    append(&mut text, characters)?;
+    Ok(text)
+}
 
 /// A buffer of these clusters and masks.
 pub fn filled(
@@ -23,16 +75,6 @@ pub fn filled(
     buffer.replace_infos(infos)?;
     buffer.set_cluster_level(level);
     Ok(buffer)
-}
-
-/// The clusters and masks of a buffer.
-pub fn rows(alloc: Global, buffer: &hb_buffer_t) -> Result<Vec<(u32, u32)>, Fail> {
-    let rows: Vec<(u32, u32)> = buffer
-        .infos()
-        .iter()
-        .map(|info| (info.cluster, info.mask))
-        .collect(alloc)?;
-    Ok(rows)
 }
 
 /// An item with every property set.

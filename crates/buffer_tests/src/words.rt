@@ -1,5 +1,6 @@
 //! The properties of an item side by side: each at its least and its greatest value, beside each other one.
 
+use crate::support::{assert_same, assert_that};
 use shape_buffer::buffer::{GlyphPropsFlags, hb_glyph_info_t, hb_unicode_general_category_t};
 use std::test::Fail;
 
@@ -116,10 +117,22 @@ fn each_property_beside_each_other(rt: HostRuntime) {
     for from in [false, true] {
         for one in 0..18 {
             for other in 0..18 {
-                assert!(rt; two_are_set(at_extreme(from), (one, false), (other, false)));
-                assert!(rt; two_are_set(at_extreme(from), (one, false), (other, true)));
-                assert!(rt; two_are_set(at_extreme(from), (one, true), (other, false)));
-                assert!(rt; two_are_set(at_extreme(from), (one, true), (other, true)));
+                assert_that(
+                    &rt,
+                    two_are_set(at_extreme(from), (one, false), (other, false)),
+                );
+                assert_that(
+                    &rt,
+                    two_are_set(at_extreme(from), (one, false), (other, true)),
+                );
+                assert_that(
+                    &rt,
+                    two_are_set(at_extreme(from), (one, true), (other, false)),
+                );
+                assert_that(
+                    &rt,
+                    two_are_set(at_extreme(from), (one, true), (other, true)),
+                );
             }
         }
     }
@@ -128,13 +141,14 @@ fn each_property_beside_each_other(rt: HostRuntime) {
 #[test]
 fn words_of_items(rt: HostRuntime) {
     let mut item = hb_glyph_info_t::new('a', 3);
-    assert_eq!(rt; item.words(), (0, 4_294_967_296));
+    assert_same(&rt, item.words(), (0, 4_294_967_296));
     item._hb_glyph_info_set_glyph_class(GlyphPropsFlags::MARK);
     item._hb_glyph_info_set_syllable(5);
-    assert_eq!(rt; item.words(), (0, 5_501_853_106_184));
-    assert_eq!(rt; at_extreme(false).words(), (0, 0));
-    assert_eq!(rt;
+    assert_same(&rt, item.words(), (0, 5_501_853_106_184));
+    assert_same(&rt, at_extreme(false).words(), (0, 0));
+    assert_same(
+        &rt,
         at_extreme(true).words(),
-        (0x3FFF_FF1D, 0xFFFF_FFFF_FFFF_003E)
+        (0x3FFF_FF1D, 0xFFFF_FFFF_FFFF_003E),
     );
 }
