@@ -8,7 +8,7 @@
 mod lines;
 
 ghost use Rattle.std.specs.Prelude.{IfOk};
-ghost use Rattle.shape_buffer.specs.Spans.{AreSpansInOrder};
+ghost use Rattle.shape_items.specs.Spans.{AreSpansInOrder};
 
 use shape_buffer::buffer::{ShapeError, UnicodeBuffer, hb_buffer_t, hb_glyph_info_t};
 use shape_buffer::walks::update_items;

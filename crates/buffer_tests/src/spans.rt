@@ -1,5 +1,5 @@
 ghost use Rattle.std.specs.Prelude.{length};
-ghost use Rattle.shape_buffer.specs.Spans.{AreSpansInOrder};
+ghost use Rattle.shape_items.specs.Spans.{AreSpansInOrder};
 
 use crate::support::{assert_rows, assert_same, filled};
 use shape_buffer::buffer::{BufferClusterLevel, ScratchFlags};

@@ -3,17 +3,17 @@ use Prim.Native.Nat.{zero}
 use Rattle.std.proofs.Common.{◌≡◌, ◌||◌, ℕ, suc, ◌+◌, ◌==◌, Bool, true, false, if◌then◌else◌, List, [], ◌∷◌, ◌++◌, map, length, reverse, nat_lt, nat_eq, refl, sym, ap, ◌∙◌, subst, inl, inr}
 use Rattle.std.proofs.lemmas.List.{reverse-append, reverse-reverse, map-append}
 use Rattle.std.specs.Int.RustNames.{bit_and}
-use Rattle.shape_buffer.specs.Buffer.{Buffer}
-use Rattle.shape_buffer.specs.BufferClusters.{unsafe_to_break, unsafe_to_concat, with_glyph_flags}
-use Rattle.shape_buffer.specs.ClusterOrder.{IsMonotoneLevel}
-use Rattle.shape_buffer.specs.Clusters.{clusters, map_range, mark_concat}
-use Rattle.shape_buffer.specs.Direction.{is_horizontal, is_backward}
-use Rattle.shape_buffer.specs.FlagNames.{PRODUCE_UNSAFE_TO_CONCAT}
-use Rattle.shape_buffer.specs.Items.{Item}
+use Rattle.shape_items.specs.Buffer.{Buffer}
+use Rattle.shape_items.specs.BufferClusters.{unsafe_to_break, unsafe_to_concat, with_glyph_flags}
+use Rattle.shape_items.specs.ClusterOrder.{IsMonotoneLevel}
+use Rattle.shape_items.specs.Clusters.{clusters, map_range, mark_concat}
+use Rattle.shape_common.specs.Direction.{is_horizontal, is_backward}
+use Rattle.shape_common.specs.FlagNames.{PRODUCE_UNSAFE_TO_CONCAT}
+use Rattle.shape_items.specs.Items.{Item}
 use Rattle.shape_buffer.specs.Keepers.{EachLookup, KeepsOrder, IsClusterKeeper, IsFlagKeeper, LookupsKeepClusters, LookupsKeepFlags}
-use Rattle.shape_buffer.specs.KeepsFlags.{KeepsFlags, has_flag, some_has}
-use Rattle.shape_buffer.proofs.Flags.FlagLemmas.{glyph_flags_set, KeepsFlags-same, KeepsFlags-then, unsafe_to_break_keeps}
-use Rattle.shape_buffer.proofs.Merging.KeyLemmas.{keys-unsafe_to_break, without_items-unsafe_to_break}
+use Rattle.shape_items.specs.KeepsFlags.{KeepsFlags, has_flag, some_has}
+use Rattle.shape_items.proofs.Flags.FlagLemmas.{glyph_flags_set, KeepsFlags-same, KeepsFlags-then, unsafe_to_break_keeps}
+use Rattle.shape_items.proofs.Merging.KeyLemmas.{keys-unsafe_to_break, without_items-unsafe_to_break}
 use Rattle.shape_buffer.proofs.Steps.KeeperLemmas.{KeepsClusters-equal, KeepsOrder-same, KeepsOrder-then}
 use Rattle.shape_font.specs.Bytes.{u16_of}
 use Rattle.shape_font.specs.declared.face.FontFace.{FontFace}

@@ -1,7 +1,7 @@
 -- what one step over the parts of a table, or over the glyphs of a buffer, does
 use Rattle.std.proofs.Common.{◌≡◌, ℕ, suc, ◌<◌, ◌≤◌, ◌+◌, ◌-◌, true, false, nat_lt, List, refl, arith}
 use Rattle.std.proofs.lemmas.Bool.Decides.{nat_tests}
-use Rattle.shape_buffer.specs.Buffer.{Buffer}
+use Rattle.shape_items.specs.Buffer.{Buffer}
 use Rattle.shape_font.specs.Bytes.{u16_of}
 use Rattle.kern_table.specs.Tables.{part_kerned, kerned_from}
 use Rattle.kern_table.specs.Walk.{kerned_at, left_after, kerned_to}

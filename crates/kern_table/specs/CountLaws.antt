@@ -3,12 +3,12 @@ use Prim.Native.Nat.{zero}
 use Rattle.std.proofs.Common.{◌≡◌, ℕ, suc, ℤ, ◌+◌, ◌==◌, ◌≤◌, Bool, true, false, if◌then◌else◌, List, map, length, reverse, Option, nat_lt, nat_eq, refl, sym, ap, ◌∙◌, arith}
 use Rattle.std.specs.Int.RustNames.{bit_and}
 use Rattle.std.proofs.lemmas.List.{length-map, length-reverse}
-use Rattle.shape_buffer.specs.Buffer.{Buffer, limit_of}
-use Rattle.shape_buffer.specs.BufferClusters.{unsafe_to_break, unsafe_to_concat, with_glyph_flags}
-use Rattle.shape_buffer.specs.Clusters.{clusters, map_range, mark_concat}
-use Rattle.shape_buffer.specs.Direction.{is_horizontal, is_backward}
-use Rattle.shape_buffer.specs.FlagNames.{PRODUCE_UNSAFE_TO_CONCAT}
-use Rattle.shape_buffer.proofs.Merging.KeyLemmas.{keys-map_range, length-map_range, length-unsafe_to_break, without_items-unsafe_to_break}
+use Rattle.shape_items.specs.Buffer.{Buffer, limit_of}
+use Rattle.shape_items.specs.BufferClusters.{unsafe_to_break, unsafe_to_concat, with_glyph_flags}
+use Rattle.shape_items.specs.Clusters.{clusters, map_range, mark_concat}
+use Rattle.shape_common.specs.Direction.{is_horizontal, is_backward}
+use Rattle.shape_common.specs.FlagNames.{PRODUCE_UNSAFE_TO_CONCAT}
+use Rattle.shape_items.proofs.Merging.KeyLemmas.{keys-map_range, length-map_range, length-unsafe_to_break, without_items-unsafe_to_break}
 use Rattle.shape_font.specs.Bytes.{u16_of}
 use Rattle.kern_table.specs.Walk.{pair_moved, kerned}
 use Rattle.kern_table.specs.StepLaws.{step-pair_moved, step-kerned}

@@ -1,6 +1,6 @@
 -- what the engine answers of a face, and what it makes of a buffer
 use Rattle.std.specs.Prelude.{◌≡◌, ℕ, List, Bool, true, false, None, not, nat_eq, length, refl}
-use Rattle.shape_buffer.specs.Buffer.{Buffer}
+use Rattle.shape_items.specs.Buffer.{Buffer}
 use Rattle.shape_buffer.specs.Layout.{LayoutMeaning, LookupMeaning, LawfulMasks, LawfulLookups}
 use Rattle.shape_buffer.specs.NoLookups.{no_lookups, no_lookups-lawful}
 use Rattle.shape_font.specs.declared.face.FontFace.{FontFace}

@@ -3,12 +3,12 @@ use Prim.Native.Nat.{zero}
 use Rattle.std.proofs.Common.{◌≡◌, ℕ, suc, ℤ, ◌+◌, Bool, true, false, if◌then◌else◌, List, length, Option, Some, None, nat_lt, nat_eq, refl}
 use Rattle.std.specs.Prelude.{pos}
 use Rattle.std.specs.Ordering.{int_eq}
-use Rattle.shape_buffer.specs.Wrapping.{◌-ʷ◌}
+use Rattle.shape_common.specs.Wrapping.{◌-ʷ◌}
 use Rattle.std.specs.Int.RustNames.{bit_and}
-use Rattle.shape_buffer.specs.Buffer.{Buffer}
-use Rattle.shape_buffer.specs.BufferClusters.{unsafe_to_break, unsafe_to_concat}
-use Rattle.shape_buffer.specs.Direction.{is_horizontal}
-use Rattle.shape_buffer.specs.declared.buffer.positions.GlyphPosition.{GlyphPosition}
+use Rattle.shape_items.specs.Buffer.{Buffer}
+use Rattle.shape_items.specs.BufferClusters.{unsafe_to_break, unsafe_to_concat}
+use Rattle.shape_common.specs.Direction.{is_horizontal}
+use Rattle.shape_common.specs.declared.positions.GlyphPosition.{GlyphPosition}
 use Rattle.shape_font.specs.Metrics.{half_down}
 use Rattle.kern_table.specs.Pairs.{value_of}
 use Rattle.kern_table.specs.Walk.{moved_on, moved, position_at, position_put, pair_moved, pair_kerned, item_at, is_passed_by, kerned_with, kerned_at, kerned_to, kerned}

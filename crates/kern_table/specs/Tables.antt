@@ -1,8 +1,8 @@
 -- kerning of a buffer by a whole table `kern` (OpenType, version 0)
 use Prim.Native.Nat.{zero}
 use Rattle.std.specs.Prelude.{ℕ, suc, List, Bool, ◌+◌, ◌/◌, ◌%◌, ◌&&◌, nat_lt, nat_eq, reverse, slice_index, if◌then◌else◌}
-use Rattle.shape_buffer.specs.Buffer.{Buffer}
-use Rattle.shape_buffer.specs.Direction.{is_horizontal, is_backward}
+use Rattle.shape_items.specs.Buffer.{Buffer}
+use Rattle.shape_common.specs.Direction.{is_horizontal, is_backward}
 use Rattle.shape_font.specs.Bytes.{u16_of}
 use Rattle.kern_table.specs.Walk.{kerned}
 

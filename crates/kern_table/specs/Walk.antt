@@ -3,14 +3,14 @@ use Prim.Native.Nat.{zero}
 use Rattle.std.specs.Prelude.{ℕ, suc, ℤ, pos, List, Bool, true, false, Option, Some, None, is_some, ◌+◌, ◌==◌, ◌&&◌, ◌||◌, length, nat_eq, slice_set, slice_index_or, if◌then◌else◌}
 use Rattle.std.specs.Int.RustNames.{bit_and}
 use Rattle.std.specs.Ordering.{int_eq}
-use Rattle.shape_buffer.specs.Buffer.{Buffer}
-use Rattle.shape_buffer.specs.BufferClusters.{unsafe_to_break, unsafe_to_concat}
-use Rattle.shape_buffer.specs.FlagNames.{MARK}
-use Rattle.shape_buffer.specs.Items.{Item, new_item, is_ignorable_item}
-use Rattle.shape_buffer.specs.Positions.{zero_position}
-use Rattle.shape_buffer.specs.Direction.{is_horizontal}
-use Rattle.shape_buffer.specs.Wrapping.{◌+ʷ◌, ◌-ʷ◌}
-use Rattle.shape_buffer.specs.declared.buffer.positions.GlyphPosition.{GlyphPosition}
+use Rattle.shape_items.specs.Buffer.{Buffer}
+use Rattle.shape_items.specs.BufferClusters.{unsafe_to_break, unsafe_to_concat}
+use Rattle.shape_common.specs.FlagNames.{MARK}
+use Rattle.shape_items.specs.Items.{Item, new_item, is_ignorable_item}
+use Rattle.shape_common.specs.Positions.{zero_position}
+use Rattle.shape_common.specs.Direction.{is_horizontal}
+use Rattle.shape_common.specs.Wrapping.{◌+ʷ◌, ◌-ʷ◌}
+use Rattle.shape_common.specs.declared.positions.GlyphPosition.{GlyphPosition}
 use Rattle.shape_font.specs.Metrics.{half_down}
 use Rattle.kern_table.specs.Pairs.{value_of}
 

@@ -1,6 +1,6 @@
 //! Kerning by a whole table `kern`: its parts in order, those of format 0 that move glyphs along the line.
 ghost use Rattle.std.specs.Prelude.{◌≡◌, ◌<◌, ◌≤◌, ◌^◌, length};
-ghost use Rattle.shape_buffer.specs.Buffer.{limit_of};
+ghost use Rattle.shape_items.specs.Buffer.{limit_of};
 ghost use Rattle.kern_table.specs.Tables.{parts_of, is_read as is_read_of, part_kerned, table_kerned};
 
 use crate::walk::kern_all;

@@ -2,7 +2,7 @@
 ghost use Rattle.std.specs.Prelude.{◌≡◌, ◌+◌, ◌<◌, ◌^◌, ◌≤ℤ◌, pos, negsuc, length, is_some};
 ghost use Rattle.std.specs.Option.{IfSome};
 ghost use Rattle.std.specs.Int.RustNames.{bit_and};
-ghost use Rattle.shape_buffer.specs.Buffer.{limit_of};
+ghost use Rattle.shape_items.specs.Buffer.{limit_of};
 ghost use Rattle.kern_table.specs.Walk.{is_passed as is_passed_of, moved_on as moved_on_of, moved as moved_of, position_at, position_put, pair_moved, pair_kerned, kerned_at, left_after, kerned as kerned_of};
 
 use crate::pairs::value;

@@ -1,8 +1,8 @@
 -- What the tables of a face answer.
 use Rattle.std.specs.Prelude.{ℕ, ℤ, pos, false, List, Option, Some, None, ◌==◌, ◌&&◌, length, nat_lt, slice_get, slice_index, unwrap_or, if◌then◌else◌}
-use Rattle.shape_buffer.specs.Face.{FaceMeaning}
-use Rattle.shape_buffer.specs.declared.buffer.settings.GlyphId.{GlyphId}
-use Rattle.shape_buffer.specs.declared.interfaces.face.hb_glyph_extents_t.{hb_glyph_extents_t}
+use Rattle.shape_common.specs.Face.{FaceMeaning}
+use Rattle.shape_common.specs.declared.settings.GlyphId.{GlyphId}
+use Rattle.shape_common.specs.declared.face.hb_glyph_extents_t.{hb_glyph_extents_t}
 
 -- 0 stands for no glyph
 abbrev pub glyph_of : ℕ → Option GlyphId

@@ -1,6 +1,2 @@
--- The flags of glyphs.
-pub mod FlagLemmas
+-- The flags of glyphs over a whole run.
 pub mod HonestLemmas
-pub mod ClusterRunLemmas
-pub mod ClusterFlagLemmas
-pub mod GlyphClusterLemmas

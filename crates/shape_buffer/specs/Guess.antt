@@ -1,15 +1,12 @@
 -- Guessing what a caller left open.
-use Rattle.std.specs.Prelude.{List, Option, Some, None, Bool, ◌==◌, ◌||◌, not, map, find}
-use Rattle.shape_buffer.specs.Items.{Item}
-use Rattle.shape_buffer.specs.Buffer.{Buffer}
-use Rattle.shape_buffer.specs.Unicode.{UnicodeMeaning}
-use Rattle.shape_buffer.specs.declared.buffer.settings.Script.{Script}
-use Rattle.shape_buffer.specs.declared.buffer.settings.Direction.{Direction}
-use Rattle.shape_buffer.specs.declared.buffer.settings.Direction.TheVariants.{Invalid, LeftToRight}
-
--- a script other than Common (Zyyy), Inherited (Zinh) and Unknown (Zzzz)
-abbrev pub is_specific : Script → Bool
-is_specific script = not (script.0.0 == 0x5A797979 || script.0.0 == 0x5A696E68 || script.0.0 == 0x5A7A7A7A)
+use Rattle.std.specs.Prelude.{List, Option, Some, None, map, find}
+pub use Rattle.shape_common.specs.ScriptTags.{is_specific}
+use Rattle.shape_items.specs.Items.{Item}
+use Rattle.shape_items.specs.Buffer.{Buffer}
+use Rattle.shape_common.specs.Unicode.{UnicodeMeaning}
+use Rattle.shape_common.specs.declared.settings.Script.{Script}
+use Rattle.shape_common.specs.declared.settings.Direction.{Direction}
+use Rattle.shape_common.specs.declared.settings.Direction.TheVariants.{Invalid, LeftToRight}
 
 -- the first specific script of the characters
 abbrev pub first_script : UnicodeMeaning → List Item → Option Script

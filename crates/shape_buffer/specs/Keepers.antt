@@ -1,12 +1,12 @@
 -- What keeps the clusters and the flags of a buffer: steps of a run, and what is asked of lookups.
 use Rattle.std.specs.Prelude.{◌≡◌, ℕ, List, [], ◌∷◌}
-use Rattle.shape_buffer.specs.Buffer.{Buffer}
-use Rattle.shape_buffer.specs.ClusterOrder.{IsMonotoneLevel, KeepsClusters}
-use Rattle.shape_buffer.specs.Clusters.{clusters}
-use Rattle.shape_buffer.specs.KeepsFlags.{KeepsFlags}
+use Rattle.shape_items.specs.Buffer.{Buffer}
+use Rattle.shape_items.specs.ClusterOrder.{IsMonotoneLevel, KeepsClusters}
+use Rattle.shape_items.specs.Clusters.{clusters}
+use Rattle.shape_items.specs.KeepsFlags.{KeepsFlags}
 use Rattle.shape_buffer.specs.Layout.{LookupMeaning}
 use Rattle.shape_buffer.specs.Outcome.{Step}
-use Rattle.shape_buffer.specs.declared.buffer.settings.Feature.{Feature}
+use Rattle.shape_common.specs.declared.settings.Feature.{Feature}
 
 -- the clusters keep their order and none is new, and direction, flags and level stay
 pub record KeepsOrder (before after : Buffer) : Type 0 where

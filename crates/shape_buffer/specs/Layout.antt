@@ -2,13 +2,13 @@
 -- compiled to.
 use Rattle.std.specs.Prelude.{◌≡◌, ℕ, ◌<◌, Bool, List, Option, length}
 use Rattle.std.specs.Int.RustNames.{bit_and}
-use Rattle.shape_buffer.specs.Buffer.{Buffer}
+use Rattle.shape_items.specs.Buffer.{Buffer}
 use Rattle.shape_buffer.specs.MapBuilder.{Builder}
-use Rattle.shape_buffer.specs.declared.buffer.settings.Feature.{Feature}
-use Rattle.shape_buffer.specs.declared.buffer.settings.hb_tag_t.{hb_tag_t}
-use Rattle.shape_buffer.specs.declared.buffer.settings.Script.{Script}
+use Rattle.shape_common.specs.declared.settings.Feature.{Feature}
+use Rattle.shape_common.specs.declared.settings.hb_tag_t.{hb_tag_t}
+use Rattle.shape_common.specs.declared.settings.Script.{Script}
 use Rattle.shape_buffer.specs.declared.interfaces.map_request.TableIndex.{TableIndex}
-use Rattle.shape_buffer.specs.FlagNames.{DEFINED}
+use Rattle.shape_common.specs.FlagNames.{DEFINED}
 
 pub record LayoutMeaning (Map : Type 0) : Type 0 where
   -- by script, bytes of the language, and table

@@ -1,12 +1,12 @@
 -- The requests of a plan.
 use Rattle.std.specs.Prelude.{ℕ, Bool, true, List, [], ◌∷◌, ◌++◌, Option}
 use Rattle.std.specs.Int.RustNames.{bit_or}
-use Rattle.shape_buffer.specs.declared.buffer.settings.hb_tag_t.{hb_tag_t}
+use Rattle.shape_common.specs.declared.settings.hb_tag_t.{hb_tag_t}
 use Rattle.shape_buffer.specs.declared.interfaces.map_request.MapRequest.{MapRequest}
 use Rattle.shape_buffer.specs.declared.interfaces.map_request.MapRequest.TheVariants.{Feature, Pause}
 use Rattle.shape_buffer.specs.declared.interfaces.map_request.TableIndex.{TableIndex}
 use Rattle.shape_buffer.specs.declared.interfaces.map_request.TableIndex.TheVariants.{GSUB, GPOS}
-use Rattle.shape_buffer.specs.FlagNames.{F_GLOBAL}
+use Rattle.shape_common.specs.FlagNames.{F_GLOBAL}
 
 -- the requests in order, and the scripts that the engine chose; is_simple begins true, and is false where a collect hook is given or user
 -- features are passed

@@ -1,6 +1,6 @@
 -- Runs of steps, and when they are refused.
 use Rattle.std.specs.Prelude.{◌≡◌, ℕ, ◌<◌, ◌≤◌, ◌⊎◌, List, [], ◌∷◌, length, Result, Ok, Err}
-use Rattle.shape_buffer.specs.Buffer.{Buffer, limit_of}
+use Rattle.shape_items.specs.Buffer.{Buffer, limit_of}
 use Rattle.shape_buffer.specs.declared.buffer.error.ShapeError.{ShapeError}
 use Rattle.shape_buffer.specs.declared.buffer.error.ShapeError.TheVariants.{Memory, Length}
 

@@ -1,8 +1,8 @@
 -- Steps that go over the positions one by one, each beside its item.
 use Rattle.std.specs.Prelude.{List, [], ◌∷◌}
-use Rattle.shape_buffer.specs.Buffer.{Buffer}
-use Rattle.shape_buffer.specs.Items.{Item}
-use Rattle.shape_buffer.specs.declared.buffer.positions.GlyphPosition.{GlyphPosition}
+use Rattle.shape_items.specs.Buffer.{Buffer}
+use Rattle.shape_items.specs.Items.{Item}
+use Rattle.shape_common.specs.declared.positions.GlyphPosition.{GlyphPosition}
 
 -- what a function makes of each item and its position
 abbrev pub positions_over : (Item → GlyphPosition → GlyphPosition) → List Item → List GlyphPosition → List GlyphPosition

@@ -1,19 +1,17 @@
-//! The list of items that shaping works on, and what shaping asks of its callers.
+//! The buffer that shaping works on, and what shaping asks of its callers.
 //!
 //! [`buffer`] has the items, positions and settings of a text; each of its calls is a function on
 //! lists and settings, and its contract says which. [`interfaces`] has the traits that shaping is
 //! generic over: the functions of Unicode, the face and the layout engine, with the laws that every
 //! implementation proves. [`laws`] has what follows for canonical form, [`cluster_laws`] for clusters.
+//! Types of `shape_common` and `shape_items`, which stand below, are shown here, too.
 #![tactic(auto)]
 #![allow(non_camel_case_types)]
 
 pub mod buffer;
-pub mod cluster_laws;
 pub mod interfaces;
 pub mod position_walks;
 pub mod walks;
-pub mod worked;
-pub mod wrapping;
 
 pub use buffer::{
     BufferClusterLevel, BufferFlags, Direction, Feature, GlyphBuffer, GlyphCluster, GlyphId,
@@ -26,3 +24,5 @@ pub use interfaces::{
     MapFace, Metrics, NoLookups, PlainUnicode, hb_font_t, hb_glyph_extents_t, hb_ot_layout_t,
     hb_ot_map_builder_t, hb_tables_t, hb_unicode_funcs_t,
 };
+pub use shape_common::wrapping;
+pub use shape_items::cluster_laws;

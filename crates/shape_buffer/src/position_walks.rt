@@ -1,9 +1,9 @@
 //! Walks that put in place of each position what a function makes of it and its item.
 ghost use Rattle.std.specs.Prelude.{◌≡◌};
-ghost use Rattle.shape_buffer.specs.Items.{Item};
+ghost use Rattle.shape_items.specs.Items.{Item};
 ghost use Rattle.shape_buffer.specs.Outcome.{Made};
 ghost use Rattle.shape_buffer.specs.PositionWalks.{positions_mapped};
-ghost use Rattle.shape_buffer.specs.declared.buffer.positions.GlyphPosition.{GlyphPosition as Position};
+ghost use Rattle.shape_common.specs.declared.positions.GlyphPosition.{GlyphPosition as Position};
 
 use crate::buffer::{GlyphPosition, hb_buffer_t, hb_glyph_info_t};
 

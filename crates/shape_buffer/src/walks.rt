@@ -1,7 +1,7 @@
 //! Walks that put in place of each item what a function makes of it.
 ghost use Rattle.std.specs.Prelude.{◌≡◌};
 ghost use Rattle.std.specs.Fn.{FnReturnsAt};
-ghost use Rattle.shape_buffer.specs.Items.{Item};
+ghost use Rattle.shape_items.specs.Items.{Item};
 ghost use Rattle.shape_buffer.specs.Outcome.{Made};
 ghost use Rattle.shape_buffer.specs.Walks.{items_mapped};
 

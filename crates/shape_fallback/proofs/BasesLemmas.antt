@@ -5,10 +5,10 @@ use Rattle.std.specs.List.{prefix_len}
 use Rattle.std.proofs.lemmas.List.{drop_all, length-map, drop-map, get_or_default}
 use Rattle.std.proofs.lemmas.List.Sums.{fold-append}
 use Rattle.std.proofs.Math.Seq.{drop-cons}
-use Rattle.shape_buffer.specs.Items.{Item, is_mark_item, new_item}
-use Rattle.shape_buffer.specs.Buffer.{Buffer}
-use Rattle.shape_buffer.specs.Face.{FaceMeaning}
-use Rattle.shape_buffer.proofs.Merging.KeyLemmas.{keys-unsafe_to_break, without_items-unsafe_to_break}
+use Rattle.shape_items.specs.Items.{Item, is_mark_item, new_item}
+use Rattle.shape_items.specs.Buffer.{Buffer}
+use Rattle.shape_common.specs.Face.{FaceMeaning}
+use Rattle.shape_items.proofs.Merging.KeyLemmas.{keys-unsafe_to_break, without_items-unsafe_to_break}
 use Rattle.shape_fallback.specs.declared.ot_shape_fallback.marks.Setting.{Setting}
 use Rattle.shape_fallback.specs.Bases.{begins_with_mark, Span, marks_of, position_span, base_at, bases, with_marks, positioned_at}
 

@@ -5,10 +5,10 @@ use Rattle.std.specs.Int.{w32, int_wrap}
 use Rattle.std.proofs.lemmas.Bool.{cases_Bool}
 use Rattle.std.proofs.lemmas.Int.{ints, int_wrap_fits, int_wrap-add_left, int_wrap-sub_right, int_wrap-add_same}
 use Rattle.std.proofs.Math.Nat.{div-le_self}
-use Rattle.shape_buffer.specs.Wrapping.{◌+ʷ◌, ◌-ʷ◌, neg_w, +ʷ-exact, -ʷ-exact, *ʷ-exact, neg_w-exact}
-use Rattle.shape_buffer.specs.Face.{FaceMeaning}
-use Rattle.shape_buffer.specs.Items.{Item}
-use Rattle.shape_buffer.specs.declared.buffer.positions.GlyphPosition.{GlyphPosition}
+use Rattle.shape_common.specs.Wrapping.{◌+ʷ◌, ◌-ʷ◌, neg_w, +ʷ-exact, -ʷ-exact, *ʷ-exact, neg_w-exact}
+use Rattle.shape_common.specs.Face.{FaceMeaning}
+use Rattle.shape_items.specs.Items.{Item}
+use Rattle.shape_common.specs.declared.positions.GlyphPosition.{GlyphPosition}
 use Rattle.shape_fallback.specs.Exact.{Fits32, exact_x_offset, XOffsetFits, hung_at, exact_hung, piled_at, pushed_up, exact_piled, StackedFits, exact_component, ExactRound, ExactMarks, ExactSpaces}
 use Rattle.shape_fallback.specs.Extents.{Extents}
 use Rattle.shape_fallback.specs.MarkState.{component_of, place_of, component_extents, passed, moved}

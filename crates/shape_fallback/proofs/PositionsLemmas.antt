@@ -2,11 +2,11 @@
 use Rattle.std.proofs.Common.{◌≡◌, ℕ, suc, ◌+◌, ◌-◌, ◌<◌, ◌≤◌, List, ◌∷◌, ◌++◌, length, get_or, take, drop, set, refl, ap, arith, slice_range, append_assoc}
 use Rattle.std.proofs.lemmas.List.{take-append-drop, take_more_set, drop-set-lt}
 use Rattle.std.proofs.Math.Seq.{drop-cons}
-use Rattle.shape_buffer.specs.Buffer.{Buffer}
-use Rattle.shape_buffer.specs.Items.{Item}
+use Rattle.shape_items.specs.Buffer.{Buffer}
+use Rattle.shape_items.specs.Items.{Item}
 use Rattle.shape_buffer.specs.PositionWalks.{positions_over}
-use Rattle.shape_buffer.specs.Positions.{zero_position}
-use Rattle.shape_buffer.specs.declared.buffer.positions.GlyphPosition.{GlyphPosition}
+use Rattle.shape_common.specs.Positions.{zero_position}
+use Rattle.shape_common.specs.declared.positions.GlyphPosition.{GlyphPosition}
 use Rattle.shape_fallback.specs.Positions.{with_positions}
 
 -- the part of a list from i on, at its first element

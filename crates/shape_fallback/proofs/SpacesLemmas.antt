@@ -4,8 +4,8 @@ use Rattle.std.specs.Prelude.{Option, Some, None}
 use Rattle.std.specs.Option.{option_or}
 use Rattle.std.proofs.lemmas.Bool.Decides.{nat_tests}
 use Rattle.std.proofs.lemmas.List.{drop_more, drop_all}
-use Rattle.shape_buffer.specs.Face.{FaceMeaning}
-use Rattle.shape_buffer.specs.declared.buffer.settings.GlyphId.{GlyphId}
+use Rattle.shape_common.specs.Face.{FaceMeaning}
+use Rattle.shape_common.specs.declared.settings.GlyphId.{GlyphId}
 use Rattle.shape_fallback.specs.Spaces.{first_glyph, is_em_part}
 
 -- a part of the em square is named by a number that isn't 0

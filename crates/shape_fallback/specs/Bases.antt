@@ -1,17 +1,17 @@
 -- All bases of a buffer, and their marks.
 use Rattle.std.specs.Prelude.{ℕ, pos, zero, suc, ◌+◌, ◌/◌, Bool, true, false, List, [], ◌∷◌, ◌++◌, Option, map, fold, drop, if◌then◌else◌}
 use Rattle.std.specs.List.{prefix_len}
-use Rattle.shape_buffer.specs.Buffer.{Buffer}
-use Rattle.shape_buffer.specs.BufferClusters.{unsafe_to_break}
-use Rattle.shape_buffer.specs.Direction.{is_horizontal, is_forward}
-use Rattle.shape_buffer.specs.Face.{FaceMeaning}
+use Rattle.shape_items.specs.Buffer.{Buffer}
+use Rattle.shape_items.specs.BufferClusters.{unsafe_to_break}
+use Rattle.shape_common.specs.Direction.{is_horizontal, is_forward}
+use Rattle.shape_common.specs.Face.{FaceMeaning}
 use Rattle.shape_buffer.specs.Guess.{script_or_ltr}
-use Rattle.shape_buffer.specs.Items.{Item}
-use Rattle.shape_buffer.specs.Items.{is_mark_item}
-use Rattle.shape_buffer.specs.Unicode.{UnicodeMeaning}
-use Rattle.shape_buffer.specs.declared.buffer.settings.Direction.{Direction}
-use Rattle.shape_buffer.specs.declared.buffer.settings.Direction.TheVariants.{LeftToRight}
-use Rattle.shape_buffer.specs.declared.buffer.settings.Script.{Script}
+use Rattle.shape_items.specs.Items.{Item}
+use Rattle.shape_items.specs.Items.{is_mark_item}
+use Rattle.shape_common.specs.Unicode.{UnicodeMeaning}
+use Rattle.shape_common.specs.declared.settings.Direction.{Direction}
+use Rattle.shape_common.specs.declared.settings.Direction.TheVariants.{LeftToRight}
+use Rattle.shape_common.specs.declared.settings.Script.{Script}
 use Rattle.shape_fallback.specs.Marks.{around_base}
 use Rattle.shape_fallback.specs.Positions.{with_positions}
 use Rattle.shape_fallback.specs.declared.ot_shape_fallback.marks.Setting.{Setting}

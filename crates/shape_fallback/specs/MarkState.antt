@@ -1,11 +1,11 @@
 -- Placing the marks of a base, one after the other.
 use Rattle.std.specs.Prelude.{ℕ, ℤ, pos, Bool, not, ◌==◌, ◌||◌, nat_lt, if◌then◌else◌, int_div, int_le}
 use Rattle.std.specs.Ordering.{int_eq}
-use Rattle.shape_buffer.specs.Items.{Item}
-use Rattle.shape_buffer.specs.declared.buffer.positions.GlyphPosition.{GlyphPosition}
-use Rattle.shape_buffer.specs.Wrapping.{◌+ʷ◌, ◌-ʷ◌, ◌*ʷ◌}
+use Rattle.shape_items.specs.Items.{Item}
+use Rattle.shape_common.specs.declared.positions.GlyphPosition.{GlyphPosition}
+use Rattle.shape_common.specs.Wrapping.{◌+ʷ◌, ◌-ʷ◌, ◌*ʷ◌}
 use Rattle.shape_fallback.specs.Extents.{Extents}
-use Rattle.shape_buffer.specs.Face.{FaceMeaning}
+use Rattle.shape_common.specs.Face.{FaceMeaning}
 use Rattle.shape_fallback.specs.OneMark.{mark_placed}
 use Rattle.shape_fallback.specs.declared.ot_shape_fallback.mark_state.Base.{Base}
 use Rattle.shape_fallback.specs.declared.ot_shape_fallback.mark_state.MarkState.{MarkState}

@@ -1,10 +1,10 @@
 -- The marks of one base.
 use Rattle.std.specs.Prelude.{pos, negsuc, Bool, List, [], ◌∷◌, Option, Some, None, if◌then◌else◌}
-use Rattle.shape_buffer.specs.Face.{FaceMeaning}
-use Rattle.shape_buffer.specs.Items.{Item}
+use Rattle.shape_common.specs.Face.{FaceMeaning}
+use Rattle.shape_items.specs.Items.{Item}
 use Rattle.shape_buffer.specs.PositionWalks.{positions_over}
-use Rattle.shape_buffer.specs.Wrapping.{◌-ʷ◌, ◌+ʷ◌, neg_w}
-use Rattle.shape_buffer.specs.declared.buffer.positions.GlyphPosition.{GlyphPosition}
+use Rattle.shape_common.specs.Wrapping.{◌-ʷ◌, ◌+ʷ◌, neg_w}
+use Rattle.shape_common.specs.declared.positions.GlyphPosition.{GlyphPosition}
 use Rattle.shape_fallback.specs.Extents.{Extents}
 use Rattle.shape_fallback.specs.MarkState.{place_mark}
 use Rattle.shape_fallback.specs.Recategorized.{is_nonspacing}

@@ -4,7 +4,7 @@ use Rattle.std.specs.Int.{is_positive}
 use Rattle.shape_fallback.specs.declared.ot_shape_fallback.one_mark.Stacked.{Stacked}
 use Rattle.shape_fallback.specs.declared.ot_shape_fallback.one_mark.PlacedMark.{PlacedMark}
 use Rattle.shape_fallback.specs.declared.ot_shape_fallback.one_mark.Surroundings.{Surroundings}
-use Rattle.shape_buffer.specs.Wrapping.{◌+ʷ◌, ◌-ʷ◌, neg_w}
+use Rattle.shape_common.specs.Wrapping.{◌+ʷ◌, ◌-ʷ◌, neg_w}
 use Rattle.shape_fallback.specs.Extents.{Extents}
 
 -- ccc of marks over two letters, and of those at the left and at the right of the base

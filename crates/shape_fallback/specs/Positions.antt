@@ -1,8 +1,8 @@
 -- Positions that are made from those before and from the items that they belong to.
 use Rattle.std.specs.Prelude.{ℕ, List, ◌++◌, take, drop, slice_range}
-use Rattle.shape_buffer.specs.Buffer.{Buffer}
-use Rattle.shape_buffer.specs.Items.{Item}
-use Rattle.shape_buffer.specs.declared.buffer.positions.GlyphPosition.{GlyphPosition}
+use Rattle.shape_items.specs.Buffer.{Buffer}
+use Rattle.shape_items.specs.Items.{Item}
+use Rattle.shape_common.specs.declared.positions.GlyphPosition.{GlyphPosition}
 
 -- the buffer with what f makes of the items and positions from place `from` up to place `to`
 abbrev pub with_positions : (List Item → List GlyphPosition → List GlyphPosition) → ℕ → ℕ → Buffer → Buffer

@@ -1,8 +1,8 @@
 -- The ccc that the marks of a buffer are placed by.
 use Rattle.std.specs.Prelude.{Bool, if◌then◌else◌}
-use Rattle.shape_buffer.specs.Buffer.{Buffer}
-use Rattle.shape_buffer.specs.Category.{is_nonspacing_category}
-use Rattle.shape_buffer.specs.Items.{Item}
+use Rattle.shape_items.specs.Buffer.{Buffer}
+use Rattle.shape_common.specs.Category.{is_nonspacing_category}
+use Rattle.shape_items.specs.Items.{Item}
 use Rattle.shape_buffer.specs.Walks.{items_mapped}
 use Rattle.shape_fallback.specs.Ccc.{fallback_ccc}
 

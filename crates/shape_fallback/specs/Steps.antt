@@ -1,18 +1,18 @@
 -- The steps of a run that stand in for lookups, each with the test whether it is due.
 use Rattle.std.specs.Prelude.{◌==◌, ◌&&◌, Bool, Option}
 use Rattle.std.specs.Int.RustNames.{bit_and}
-use Rattle.shape_buffer.specs.Buffer.{Buffer}
-use Rattle.shape_buffer.specs.Direction.{is_forward}
-use Rattle.shape_buffer.specs.Face.{FaceMeaning}
-use Rattle.shape_buffer.specs.Unicode.{UnicodeMeaning}
-use Rattle.shape_buffer.specs.declared.buffer.settings.Direction.{Direction}
-use Rattle.shape_buffer.specs.declared.buffer.settings.Script.{Script}
+use Rattle.shape_items.specs.Buffer.{Buffer}
+use Rattle.shape_common.specs.Direction.{is_forward}
+use Rattle.shape_common.specs.Face.{FaceMeaning}
+use Rattle.shape_common.specs.Unicode.{UnicodeMeaning}
+use Rattle.shape_common.specs.declared.settings.Direction.{Direction}
+use Rattle.shape_common.specs.declared.settings.Script.{Script}
 use Rattle.shape_plan.specs.Run.{step_if}
 use Rattle.shape_plan.specs.declared.decisions.Decisions.{Decisions}
 use Rattle.shape_fallback.specs.Bases.{marks_positioned}
 use Rattle.shape_fallback.specs.Recategorized.{recategorized}
 use Rattle.shape_fallback.specs.Spaces.{spaces_placed}
-use Rattle.shape_buffer.specs.FlagNames.{HAS_SPACE_FALLBACK}
+use Rattle.shape_common.specs.FlagNames.{HAS_SPACE_FALLBACK}
 
 -- ccc change where the plan places marks by their extents
 abbrev pub recategorize_step : Decisions → Buffer → Buffer

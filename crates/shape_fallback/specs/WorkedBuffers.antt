@@ -1,16 +1,16 @@
 -- Whole buffers of bases and marks, worked out by hand.
 use Rattle.std.specs.Prelude.{◌≡◌, ℕ, ℤ, pos, negsuc, Bool, true, false, ◌==◌, if◌then◌else◌, List, [], ◌∷◌, map, Option, Some, None, refl}
 use Rattle.std.specs.Int.{int_wrap}
-use Rattle.shape_buffer.specs.Buffer.{Buffer, new_buffer}
-use Rattle.shape_buffer.specs.Face.{FaceMeaning}
-use Rattle.shape_buffer.specs.Items.{Item, new_item}
+use Rattle.shape_items.specs.Buffer.{Buffer, new_buffer}
+use Rattle.shape_common.specs.Face.{FaceMeaning}
+use Rattle.shape_items.specs.Items.{Item, new_item}
 use Rattle.shape_buffer.specs.Walks.{items_mapped}
-use Rattle.shape_buffer.specs.Wrapping.{◌+ʷ◌, ◌-ʷ◌, ◌*ʷ◌, neg_w}
-use Rattle.shape_buffer.specs.declared.buffer.general_category.hb_unicode_general_category_t.{hb_unicode_general_category_t}
-use Rattle.shape_buffer.specs.declared.buffer.general_category.hb_unicode_general_category_t.TheVariants.{LowercaseLetter, NonspacingMark, SpacingMark}
-use Rattle.shape_buffer.specs.declared.buffer.positions.GlyphPosition.{GlyphPosition}
-use Rattle.shape_buffer.specs.declared.buffer.settings.Direction.{Direction}
-use Rattle.shape_buffer.specs.declared.buffer.settings.Direction.TheVariants.{LeftToRight, RightToLeft, TopToBottom}
+use Rattle.shape_common.specs.Wrapping.{◌+ʷ◌, ◌-ʷ◌, ◌*ʷ◌, neg_w}
+use Rattle.shape_common.specs.declared.general_category.hb_unicode_general_category_t.{hb_unicode_general_category_t}
+use Rattle.shape_common.specs.declared.general_category.hb_unicode_general_category_t.TheVariants.{LowercaseLetter, NonspacingMark, SpacingMark}
+use Rattle.shape_common.specs.declared.positions.GlyphPosition.{GlyphPosition}
+use Rattle.shape_common.specs.declared.settings.Direction.{Direction}
+use Rattle.shape_common.specs.declared.settings.Direction.TheVariants.{LeftToRight, RightToLeft, TopToBottom}
 use Rattle.shape_plan.specs.WorkedDecisions.{no_decisions}
 use Rattle.shape_plan.specs.declared.decisions.Decisions.{Decisions}
 use Rattle.shape_fallback.specs.Bases.{position_span, base_at, bases, bases_positioned, bases_marked, runs_to_right, setting_of, marks_positioned}

@@ -1,8 +1,8 @@
 -- Ccc that marks are placed by, worked out by hand.
 use Rattle.std.specs.Prelude.{◌≡◌, ℕ, [], ◌∷◌, map, refl}
-use Rattle.shape_buffer.specs.Items.{Item, new_item}
-use Rattle.shape_buffer.specs.declared.buffer.general_category.hb_unicode_general_category_t.{hb_unicode_general_category_t}
-use Rattle.shape_buffer.specs.declared.buffer.general_category.hb_unicode_general_category_t.TheVariants.{NonspacingMark, SpacingMark, EnclosingMark}
+use Rattle.shape_items.specs.Items.{Item, new_item}
+use Rattle.shape_common.specs.declared.general_category.hb_unicode_general_category_t.{hb_unicode_general_category_t}
+use Rattle.shape_common.specs.declared.general_category.hb_unicode_general_category_t.TheVariants.{NonspacingMark, SpacingMark, EnclosingMark}
 use Rattle.shape_fallback.specs.Ccc.{ccc_in_thai_or_lao, recategorized_ccc, fallback_ccc}
 use Rattle.shape_fallback.specs.Recategorized.{is_nonspacing, recategorized_item}
 

@@ -1,17 +1,17 @@
 -- Fallback spaces, worked out by hand.
 use Rattle.std.specs.Prelude.{◌≡◌, ℕ, ℤ, pos, negsuc, Bool, true, false, ◌==◌, if◌then◌else◌, List, [], ◌∷◌, map, Some, None, refl}
 use Rattle.std.specs.Int.{int_wrap}
-use Rattle.shape_buffer.specs.Buffer.{Buffer, new_buffer}
-use Rattle.shape_buffer.specs.Face.{FaceMeaning}
-use Rattle.shape_buffer.specs.Items.{Item, new_item}
+use Rattle.shape_items.specs.Buffer.{Buffer, new_buffer}
+use Rattle.shape_common.specs.Face.{FaceMeaning}
+use Rattle.shape_items.specs.Items.{Item, new_item}
 use Rattle.shape_buffer.specs.PositionWalks.{positions_mapped}
-use Rattle.shape_buffer.specs.Positions.{zero_position}
-use Rattle.shape_buffer.specs.Wrapping.{neg_w}
-use Rattle.shape_buffer.specs.declared.buffer.general_category.hb_unicode_general_category_t.{hb_unicode_general_category_t}
-use Rattle.shape_buffer.specs.declared.buffer.general_category.hb_unicode_general_category_t.TheVariants.{SpaceSeparator, LineSeparator}
-use Rattle.shape_buffer.specs.declared.buffer.positions.GlyphPosition.{GlyphPosition}
-use Rattle.shape_buffer.specs.declared.buffer.settings.Direction.{Direction}
-use Rattle.shape_buffer.specs.declared.buffer.settings.Direction.TheVariants.{Invalid, LeftToRight, RightToLeft, TopToBottom}
+use Rattle.shape_common.specs.Positions.{zero_position}
+use Rattle.shape_common.specs.Wrapping.{neg_w}
+use Rattle.shape_common.specs.declared.general_category.hb_unicode_general_category_t.{hb_unicode_general_category_t}
+use Rattle.shape_common.specs.declared.general_category.hb_unicode_general_category_t.TheVariants.{SpaceSeparator, LineSeparator}
+use Rattle.shape_common.specs.declared.positions.GlyphPosition.{GlyphPosition}
+use Rattle.shape_common.specs.declared.settings.Direction.{Direction}
+use Rattle.shape_common.specs.declared.settings.Direction.TheVariants.{Invalid, LeftToRight, RightToLeft, TopToBottom}
 use Rattle.shape_plan.specs.WorkedFaces.{bare_face}
 use Rattle.shape_fallback.specs.Spaces.{is_em_part, em_part, em_advance, first_glyph, figures, stops, as_wide_as, space_advance, space_positioned, is_lone_space, item_spaced, spaces_placed}
 use Rattle.shape_fallback.specs.Steps.{spaces_step}

@@ -1,10 +1,10 @@
 //! Laws of the fallback steps: each function has laws as its contract, and nothing to do.
 ghost use Rattle.std.specs.Prelude.{Option};
-ghost use Rattle.shape_buffer.specs.Face.{FaceMeaning};
+ghost use Rattle.shape_common.specs.Face.{FaceMeaning};
 ghost use Rattle.shape_buffer.specs.Keepers.{IsClusterKeeper, IsFlagKeeper};
-ghost use Rattle.shape_buffer.specs.Unicode.{UnicodeMeaning};
-ghost use Rattle.shape_buffer.specs.declared.buffer.settings.Direction.{Direction};
-ghost use Rattle.shape_buffer.specs.declared.buffer.settings.Script.{Script};
+ghost use Rattle.shape_common.specs.Unicode.{UnicodeMeaning};
+ghost use Rattle.shape_common.specs.declared.settings.Direction.{Direction};
+ghost use Rattle.shape_common.specs.declared.settings.Script.{Script};
 ghost use Rattle.shape_plan.specs.declared.decisions.Decisions.{Decisions};
 ghost use Rattle.shape_fallback.specs.Exact.{ExactMarks, ExactRound, ExactSpaces};
 ghost use Rattle.shape_fallback.specs.Keepers.{EachFallback};

@@ -1,10 +1,10 @@
 -- what the bytes of a font say as a face
 use Rattle.std.specs.Prelude.{ℕ, ℤ, pos, neg_ℤ, ◌+ℤ◌, int_div, Option, Some, None, ◌+◌, ◌&&◌, ◌/◌, nat_lt, nat_eq, if◌then◌else◌}
 use Rattle.std.specs.Option.{option_map_or}
-use Rattle.shape_buffer.specs.Face.{FaceMeaning}
-use Rattle.shape_buffer.specs.Wrapping.{◌+ʷ◌}
-use Rattle.shape_buffer.specs.declared.buffer.settings.GlyphId.{GlyphId}
-use Rattle.shape_buffer.specs.declared.interfaces.face.hb_glyph_extents_t.{hb_glyph_extents_t}
+use Rattle.shape_common.specs.Face.{FaceMeaning}
+use Rattle.shape_common.specs.Wrapping.{◌+ʷ◌}
+use Rattle.shape_common.specs.declared.settings.GlyphId.{GlyphId}
+use Rattle.shape_common.specs.declared.face.hb_glyph_extents_t.{hb_glyph_extents_t}
 use Rattle.shape_font.specs.Bytes.{u32_of}
 use Rattle.shape_font.specs.Cmap.{mapped_glyph}
 use Rattle.shape_font.specs.Metrics.{advance_of, bearing_of, listed_origin, ascender_of, descender_of, place_of, box_of, half_down}

@@ -1,7 +1,7 @@
 -- advances, bearings, origins and boxes of glyphs, by `hmtx`, `vmtx`, `VORG`, `loca` and `glyf`
 use Rattle.std.specs.Prelude.{ℕ, ℤ, pos, List, Bool, Option, Some, None, ◌+◌, ◌-◌, ◌*◌, ◌/◌, ◌%◌, ◌-ℤ◌, ◌||◌, nat_lt, nat_eq, length, if◌then◌else◌, cond, int_lt, int_div, unsigned_abs}
 use Rattle.std.specs.Option.{option_map_or, unwrap_or}
-use Rattle.shape_buffer.specs.declared.interfaces.face.hb_glyph_extents_t.{hb_glyph_extents_t}
+use Rattle.shape_common.specs.declared.face.hb_glyph_extents_t.{hb_glyph_extents_t}
 use Rattle.shape_font.specs.Bytes.{u16_of, u32_of, i16_of, fitting}
 use Rattle.shape_font.specs.Search.{first_at}
 

@@ -5,9 +5,9 @@ use Rattle.std.proofs.lemmas.Bool.Decides.{nat_tests}
 use Rattle.std.proofs.lemmas.Int.{ints}
 use Rattle.std.specs.Prelude.{nat_lt, nat_le, All}
 use Rattle.std.specs.List.{list_all}
-use Rattle.shape_buffer.specs.Buffer.{Buffer}
-use Rattle.shape_buffer.specs.Clusters.{clusters}
-use Rattle.shape_buffer.specs.Items.{Item}
+use Rattle.shape_items.specs.Buffer.{Buffer}
+use Rattle.shape_items.specs.Clusters.{clusters}
+use Rattle.shape_items.specs.Items.{Item}
 use Rattle.shape_lines.specs.CanCut.{CanCut, IsMonotone}
 use Rattle.shape_lines.specs.Parts.{parts_of, is_end, width_between, MayEnd, IsLineEnd, AreLines}
 use Rattle.shape_lines.specs.RightLines.{AreRightLines}

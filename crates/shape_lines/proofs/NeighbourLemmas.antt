@@ -7,10 +7,10 @@ use Rattle.std.proofs.lemmas.List.Sums.{AllPass-from_list_all, list_all-from_All
 use Rattle.std.specs.List.{AllAdjacentBelow, IsAllAdjacentAnswer, list_all}
 use Rattle.std.specs.List.Sorted.{IsNonDecreasing}
 use Rattle.std.specs.Prelude.{nat_le, nat_lt, All}
-use Rattle.shape_buffer.specs.ClusterOrder.{IsNonIncreasing}
-use Rattle.shape_buffer.specs.Clusters.{clusters}
-use Rattle.shape_buffer.specs.Flags.{flags_of, HasOneSetOfFlags}
-use Rattle.shape_buffer.specs.Items.{Item, new_item}
+use Rattle.shape_items.specs.ClusterOrder.{IsNonIncreasing}
+use Rattle.shape_items.specs.Clusters.{clusters}
+use Rattle.shape_items.specs.Flags.{flags_of, HasOneSetOfFlags}
+use Rattle.shape_items.specs.Items.{Item, new_item}
 
 -- a test passes each glyph and the next
 abbrev pub EachPair : (Item → Item → Bool) → List Item → Type 0

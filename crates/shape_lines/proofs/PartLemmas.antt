@@ -1,13 +1,13 @@
 -- The parts that the cutter goes over: as many as glyphs, each with its glyph's width, and a line may end before it by one glyph.
 use Rattle.std.proofs.Common.{◌≡◌, ℕ, zero, suc, ◌+◌, ◌-◌, ◌<◌, ◌==◌, ◌&&◌, not, Bool, true, ℤ, ◌+ℤ◌, List, [], ◌∷◌, length, take, drop, get_or, refl, sym, ap, ap₂, ◌∙◌, arith}
 use Rattle.std.proofs.lemmas.List.{get_or-map}
-use Rattle.shape_buffer.specs.Buffer.{Buffer}
-use Rattle.shape_buffer.specs.Clusters.{clusters}
-use Rattle.shape_buffer.specs.FlagNames.{UNSAFE_TO_BREAK}
-use Rattle.shape_buffer.specs.Items.{Item}
-use Rattle.shape_buffer.specs.KeepsFlags.{has_flag}
-use Rattle.shape_buffer.specs.declared.buffer.positions.GlyphPosition.{GlyphPosition}
-use Rattle.shape_buffer.specs.declared.buffer.settings.Direction.{Direction}
+use Rattle.shape_items.specs.Buffer.{Buffer}
+use Rattle.shape_items.specs.Clusters.{clusters}
+use Rattle.shape_common.specs.FlagNames.{UNSAFE_TO_BREAK}
+use Rattle.shape_items.specs.Items.{Item}
+use Rattle.shape_items.specs.KeepsFlags.{has_flag}
+use Rattle.shape_common.specs.declared.positions.GlyphPosition.{GlyphPosition}
+use Rattle.shape_common.specs.declared.settings.Direction.{Direction}
 use Rattle.shape_lines.specs.Parts.{parts_after, parts_from, parts_of, is_end, total, width_between}
 use Rattle.shape_lines.specs.Places.{cluster_at, lacks_break_at}
 use Rattle.shape_lines.specs.RightLines.{total_width, width_from}

@@ -3,8 +3,8 @@ use Rattle.std.proofs.Common.{◌≡◌, ◌≢◌, ◌⊎◌, ℕ, zero, suc, �
 use Rattle.std.proofs.lemmas.Bool.{cases_lt, and_parts, and_from, cond-true, cond-false}
 use Rattle.std.proofs.lemmas.Bool.Decides.{nat_tests}
 use Rattle.std.specs.Prelude.{nat_lt, if◌then◌else◌}
-use Rattle.shape_buffer.specs.Buffer.{Buffer}
-use Rattle.shape_buffer.specs.Clusters.{clusters}
+use Rattle.shape_items.specs.Buffer.{Buffer}
+use Rattle.shape_items.specs.Clusters.{clusters}
 use Rattle.shape_lines.specs.CanCut.{CanCut}
 use Rattle.shape_lines.specs.Parts.{parts_from, parts_of, is_end, width_between, MayEnd, IsLineEnd, AreLines}
 use Rattle.shape_lines.specs.Places.{cluster_at, lacks_break_at, IsPlaceOfCut, BeginsSafely}

@@ -5,14 +5,14 @@ use Rattle.std.proofs.lemmas.Bool.Decides.{nat_tests}
 use Rattle.std.proofs.lemmas.List.{get_or-reverse, length-reverse, get_or-map, length-map}
 use Rattle.std.proofs.lemmas.Nat.{and_assoc}
 use Rattle.std.specs.Int.RustNames.{bit_and}
-use Rattle.shape_buffer.specs.Buffer.{Buffer}
-use Rattle.shape_buffer.specs.Clusters.{clusters}
-use Rattle.shape_buffer.specs.FlagNames.{UNSAFE_TO_BREAK}
-use Rattle.shape_buffer.specs.Flags.{flags_of, HasOneSetOfFlags}
-use Rattle.shape_buffer.specs.Items.{Item, new_item}
-use Rattle.shape_buffer.specs.KeepsFlags.{has_flag}
-use Rattle.shape_buffer.specs.declared.buffer.positions.GlyphPosition.{GlyphPosition}
-use Rattle.shape_buffer.specs.declared.buffer.settings.Direction.{Direction}
+use Rattle.shape_items.specs.Buffer.{Buffer}
+use Rattle.shape_items.specs.Clusters.{clusters}
+use Rattle.shape_common.specs.FlagNames.{UNSAFE_TO_BREAK}
+use Rattle.shape_items.specs.Flags.{flags_of, HasOneSetOfFlags}
+use Rattle.shape_items.specs.Items.{Item, new_item}
+use Rattle.shape_items.specs.KeepsFlags.{has_flag}
+use Rattle.shape_common.specs.declared.positions.GlyphPosition.{GlyphPosition}
+use Rattle.shape_common.specs.declared.settings.Direction.{Direction}
 use Rattle.shape_lines.specs.CanCut.{IsMonotone}
 use Rattle.shape_lines.specs.Places.{cluster_at, lacks_break_at}
 use Rattle.shape_lines.specs.TextOrder.{Glyph, glyphs_of, falls, text_order, place_in}

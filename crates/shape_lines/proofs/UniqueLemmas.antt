@@ -3,8 +3,8 @@ use Rattle.std.proofs.Common.{◌≡◌, ◌⊎◌, ℕ, ◌-◌, ◌<◌, ◌�
 use Rattle.std.proofs.lemmas.Bool.{cases_lt}
 use Rattle.std.proofs.lemmas.Int.{ints}
 use Rattle.std.specs.Prelude.{if◌then◌else◌}
-use Rattle.shape_buffer.specs.Buffer.{Buffer}
-use Rattle.shape_buffer.specs.Clusters.{clusters}
+use Rattle.shape_items.specs.Buffer.{Buffer}
+use Rattle.shape_items.specs.Clusters.{clusters}
 use Rattle.shape_lines.specs.Places.{cluster_at}
 use Rattle.shape_lines.specs.RightLines.{MayEndAt, width_from, IsLongest, IsShortestAsNoneFits, IsLeastCluster, first_place, end_place, IsRightLine, next_text, AreRightFrom}
 use Rattle.shape_lines.specs.TextOrder.{Glyph, falls, text_order}

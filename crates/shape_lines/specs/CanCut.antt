@@ -1,10 +1,10 @@
 -- What can be cut into lines.
 use Rattle.std.specs.Prelude.{ℕ, ◌<◌, ◌⊎◌, List, All}
 use Rattle.std.specs.List.Sorted.{IsNonDecreasing}
-use Rattle.shape_buffer.specs.Buffer.{Buffer}
-use Rattle.shape_buffer.specs.ClusterOrder.{IsNonIncreasing}
-use Rattle.shape_buffer.specs.Clusters.{clusters}
-use Rattle.shape_buffer.specs.Flags.{HasOneSetOfFlags}
+use Rattle.shape_items.specs.Buffer.{Buffer}
+use Rattle.shape_items.specs.ClusterOrder.{IsNonIncreasing}
+use Rattle.shape_items.specs.Clusters.{clusters}
+use Rattle.shape_items.specs.Flags.{HasOneSetOfFlags}
 
 -- never falling, or never rising
 abbrev pub IsMonotone : List ℕ → Type 0

@@ -1,7 +1,7 @@
 -- Lines of a shaped text: each the longest part from its start that fits, and where none fits the shortest one.
 use Rattle.std.specs.Prelude.{◌≡◌, ◌⊎◌, ℕ, ◌-◌, ◌<◌, ◌≤◌, ℤ, pos, ◌+ℤ◌, ◌≤ℤ◌, ◌<ℤ◌, List, [], ◌∷◌, length, slice_range, if◌then◌else◌}
-use Rattle.shape_buffer.specs.Buffer.{Buffer}
-use Rattle.shape_buffer.specs.Clusters.{clusters}
+use Rattle.shape_items.specs.Buffer.{Buffer}
+use Rattle.shape_items.specs.Clusters.{clusters}
 use Rattle.shape_lines.specs.Places.{cluster_at, IsPlaceOfCut}
 use Rattle.shape_lines.specs.TextOrder.{Glyph, falls, text_order}
 use Rattle.shape_lines.specs.declared.cutting.Line.{Line}

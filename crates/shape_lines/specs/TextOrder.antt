@@ -1,14 +1,14 @@
 -- The glyphs of a buffer in the order of their text, each as a line breaker sees it.
 use Rattle.std.specs.Prelude.{ℕ, ◌-◌, ℤ, neg_ℤ, Bool, not, nat_lt, List, [], ◌∷◌, length, reverse, slice_index, if◌then◌else◌}
-use Rattle.shape_buffer.specs.Buffer.{Buffer}
-use Rattle.shape_buffer.specs.Clusters.{clusters}
-use Rattle.shape_buffer.specs.Direction.{is_vertical}
-use Rattle.shape_buffer.specs.FlagNames.{UNSAFE_TO_BREAK}
-use Rattle.shape_buffer.specs.Items.{Item}
-use Rattle.shape_buffer.specs.KeepsFlags.{has_flag}
-use Rattle.shape_buffer.specs.Positions.{zero_position}
-use Rattle.shape_buffer.specs.declared.buffer.positions.GlyphPosition.{GlyphPosition}
-use Rattle.shape_buffer.specs.declared.buffer.settings.Direction.{Direction}
+use Rattle.shape_items.specs.Buffer.{Buffer}
+use Rattle.shape_items.specs.Clusters.{clusters}
+use Rattle.shape_common.specs.Direction.{is_vertical}
+use Rattle.shape_common.specs.FlagNames.{UNSAFE_TO_BREAK}
+use Rattle.shape_items.specs.Items.{Item}
+use Rattle.shape_items.specs.KeepsFlags.{has_flag}
+use Rattle.shape_common.specs.Positions.{zero_position}
+use Rattle.shape_common.specs.declared.positions.GlyphPosition.{GlyphPosition}
+use Rattle.shape_common.specs.declared.settings.Direction.{Direction}
 
 -- a glyph as a line breaker sees it: its cluster, whether it lacks UNSAFE_TO_BREAK, and its width
 pub record Glyph : Type 0 where

@@ -1,8 +1,8 @@
 -- What the walk of the cutter keeps.
 use Rattle.std.specs.Prelude.{◌≡◌, ◌⊎◌, ℕ, ◌-◌, ◌<◌, ◌≤◌, nat_lt, false, ℤ, pos, ◌^◌, ◌+ℤ◌, ◌≤ℤ◌, List, [], ◌∷◌, ◌++◌, length, drop, if◌then◌else◌}
 use Rattle.std.specs.Int.{int_min}
-use Rattle.shape_buffer.specs.Buffer.{Buffer}
-use Rattle.shape_buffer.specs.Clusters.{clusters}
+use Rattle.shape_items.specs.Buffer.{Buffer}
+use Rattle.shape_items.specs.Clusters.{clusters}
 use Rattle.shape_lines.specs.Parts.{is_end, width_between, MayEnd, Fits, AreLines, parts_of}
 use Rattle.shape_lines.specs.Places.{cluster_at}
 use Rattle.shape_lines.specs.TextOrder.{falls, text_order}

@@ -1,7 +1,7 @@
 -- What can be cut into lines, on small cases whose answers are worked out by hand.
 use Rattle.std.specs.Prelude.{ℕ, List, [], ◌∷◌}
-use Rattle.shape_buffer.specs.Buffer.{Buffer, new_buffer}
-use Rattle.shape_buffer.specs.Items.{Item, new_item}
+use Rattle.shape_items.specs.Buffer.{Buffer, new_buffer}
+use Rattle.shape_items.specs.Items.{Item, new_item}
 use Rattle.shape_lines.specs.CanCut.{CanCut}
 
 -- a glyph in a cluster, with a mask

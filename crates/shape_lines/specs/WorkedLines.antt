@@ -1,11 +1,11 @@
 -- Right lines, on small cases whose answers are worked out by hand.
 use Rattle.std.specs.Prelude.{ℕ, ℤ, pos, negsuc, neg_ℤ, ◌+ℤ◌, List, [], ◌∷◌}
-use Rattle.shape_buffer.specs.Buffer.{Buffer}
-use Rattle.shape_buffer.specs.Items.{Item}
-use Rattle.shape_buffer.specs.Positions.{zero_position}
-use Rattle.shape_buffer.specs.declared.buffer.positions.GlyphPosition.{GlyphPosition}
-use Rattle.shape_buffer.specs.declared.buffer.settings.Direction.{Direction}
-use Rattle.shape_buffer.specs.declared.buffer.settings.Direction.TheVariants.{LeftToRight, RightToLeft, TopToBottom}
+use Rattle.shape_items.specs.Buffer.{Buffer}
+use Rattle.shape_items.specs.Items.{Item}
+use Rattle.shape_common.specs.Positions.{zero_position}
+use Rattle.shape_common.specs.declared.positions.GlyphPosition.{GlyphPosition}
+use Rattle.shape_common.specs.declared.settings.Direction.{Direction}
+use Rattle.shape_common.specs.declared.settings.Direction.TheVariants.{LeftToRight, RightToLeft, TopToBottom}
 use Rattle.shape_lines.specs.RightLines.{AreRightLines}
 use Rattle.shape_lines.specs.WorkedCanCut.{marked, of_items}
 use Rattle.shape_lines.specs.declared.cutting.Line.{Line}

@@ -1,9 +1,9 @@
 -- The order of the text and the places of a cut, on small cases whose answers are worked out by hand.
 use Rattle.std.specs.Prelude.{◌≡◌, ℕ, ℤ, pos, negsuc, true, false, Bool, List, [], ◌∷◌, map, refl}
-use Rattle.shape_buffer.specs.Positions.{zero_position}
-use Rattle.shape_buffer.specs.declared.buffer.positions.GlyphPosition.{GlyphPosition}
-use Rattle.shape_buffer.specs.declared.buffer.settings.Direction.{Direction}
-use Rattle.shape_buffer.specs.declared.buffer.settings.Direction.TheVariants.{LeftToRight, RightToLeft, TopToBottom, BottomToTop}
+use Rattle.shape_common.specs.Positions.{zero_position}
+use Rattle.shape_common.specs.declared.positions.GlyphPosition.{GlyphPosition}
+use Rattle.shape_common.specs.declared.settings.Direction.{Direction}
+use Rattle.shape_common.specs.declared.settings.Direction.TheVariants.{LeftToRight, RightToLeft, TopToBottom, BottomToTop}
 use Rattle.shape_lines.specs.Places.{IsPlaceOfCut}
 use Rattle.shape_lines.specs.TextOrder.{Glyph, text_order}
 use Rattle.shape_lines.specs.WorkedCanCut.{marked, in_clusters, of_items}

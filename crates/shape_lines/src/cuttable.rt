@@ -2,9 +2,9 @@
 ghost use Rattle.std.specs.Prelude.{◌≡◌, ◌↔◌, true, nat_lt};
 ghost use Rattle.std.specs.List.{list_all};
 ghost use Rattle.std.specs.List.Sorted.{IsNonDecreasing};
-ghost use Rattle.shape_buffer.specs.ClusterOrder.{IsNonIncreasing};
-ghost use Rattle.shape_buffer.specs.Clusters.{clusters};
-ghost use Rattle.shape_buffer.specs.Flags.{HasOneSetOfFlags};
+ghost use Rattle.shape_items.specs.ClusterOrder.{IsNonIncreasing};
+ghost use Rattle.shape_items.specs.Clusters.{clusters};
+ghost use Rattle.shape_items.specs.Flags.{HasOneSetOfFlags};
 ghost use Rattle.shape_lines.specs.CanCut.{CanCut, IsMonotone};
 
 use shape_buffer::buffer::{DEFINED, GlyphBuffer, hb_glyph_info_t};

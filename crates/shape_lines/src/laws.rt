@@ -1,6 +1,6 @@
 //! Laws for line breakers: each function has a law as its contract, and nothing to do.
 ghost use Rattle.std.specs.Prelude.{◌≡◌, ◌<◌, ◌↔◌, ℕ, ℤ, List, length};
-ghost use Rattle.shape_buffer.specs.Buffer.{Buffer};
+ghost use Rattle.shape_items.specs.Buffer.{Buffer};
 ghost use Rattle.shape_lines.specs.CanCut.{CanCut};
 ghost use Rattle.shape_lines.specs.Places.{IsPlaceOfCut, BeginsSafely};
 ghost use Rattle.shape_lines.specs.RightLines.{AreRightLines};

@@ -1,7 +1,7 @@
 //! The glyphs of a buffer, read in the order of their text: from the end of the list where clusters fall.
 ghost use Rattle.std.specs.Prelude.{◌≡◌, ◌<◌, ◌-◌, ◌==◌, length, get_or, not};
-ghost use Rattle.shape_buffer.specs.Clusters.{clusters};
-ghost use Rattle.shape_buffer.specs.Positions.{zero_position};
+ghost use Rattle.shape_items.specs.Clusters.{clusters};
+ghost use Rattle.shape_common.specs.Positions.{zero_position};
 ghost use Rattle.shape_lines.specs.Parts.{parts_of, IsNarrow};
 ghost use Rattle.shape_lines.specs.Places.{cluster_at as cluster_of};
 ghost use Rattle.shape_lines.specs.TextOrder.{falls, text_order, place_in, width_of};

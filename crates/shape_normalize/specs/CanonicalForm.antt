@@ -1,16 +1,16 @@
 -- Canonical form: what normalising promises of equivalent texts (UAX 15; The Unicode Standard, D70 and D118).
 use Rattle.std.specs.Prelude.{◌≡◌, ◌↔◌, ℕ, Bool, true, false, List, ◌++◌, map, drop, All, None}
 use Rattle.std.specs.List.{list_any}
-use Rattle.shape_buffer.specs.Buffer.{Buffer}
+use Rattle.shape_items.specs.Buffer.{Buffer}
 use Rattle.canonical_form.specs.Equivalent.{IsEquivalent, IsCanonical, ComposesSoundly}
 use Rattle.canonical_form.specs.Expanded.{begins_with_mark}
-use Rattle.shape_buffer.specs.Items.{char_of, is_mark_item}
+use Rattle.shape_items.specs.Items.{char_of, is_mark_item}
 use Rattle.canonical_form.specs.Laws.{IsWhollySupported}
 use Rattle.canonical_form.specs.Recompose.{is_blocked, compose_with_glyph, recomposed}
-use Rattle.shape_buffer.specs.Unicode.{is_mark}
+use Rattle.shape_common.specs.Unicode.{is_mark}
 use Rattle.canonical_form.specs.SplitsFall.{SplitsFall}
 use Rattle.shape_normalize.specs.Normalized.{normalized}
-use Rattle.shape_buffer.specs.Prepared.{IsPrepared}
+use Rattle.shape_items.specs.Prepared.{IsPrepared}
 use Rattle.shape_normalize.specs.RoundOne.{round_one}
 use Rattle.shape_normalize.specs.RoundTwo.{max_run, has_mark_past_first}
 use Rattle.shape_plan.specs.Rules.{Rules, decompositions, has_glyph}

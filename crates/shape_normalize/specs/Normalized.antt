@@ -1,11 +1,11 @@
 -- The normalised list.
 use Rattle.std.specs.Prelude.{◌≡◌, ◌⊎◌, ◌&&◌, ℕ, Bool, true, false, if◌then◌else◌, List, map, filter, flat_map, All, Contains, Option, None, Some, is_some}
-use Rattle.shape_buffer.specs.Buffer.{Buffer}
-use Rattle.shape_buffer.specs.Clusters.{clusters}
-use Rattle.shape_buffer.specs.ClusterOrder.{KeepsClusters, IsMonotoneLevel}
-use Rattle.shape_buffer.specs.Items.{Item, ccc_of_item, feature_bits}
-use Rattle.shape_buffer.specs.UnicodeProps.{is_hidden_char}
-use Rattle.shape_buffer.specs.declared.buffer.settings.GlyphId.{GlyphId}
+use Rattle.shape_items.specs.Buffer.{Buffer}
+use Rattle.shape_items.specs.Clusters.{clusters}
+use Rattle.shape_items.specs.ClusterOrder.{KeepsClusters, IsMonotoneLevel}
+use Rattle.shape_items.specs.Items.{Item, ccc_of_item, feature_bits}
+use Rattle.shape_items.specs.UnicodeProps.{is_hidden_char}
+use Rattle.shape_common.specs.declared.settings.GlyphId.{GlyphId}
 use Rattle.canonical_form.specs.Runs.{HasNoLongerRun}
 use Rattle.shape_plan.specs.Reorder.{IsRunInOrder}
 use Rattle.shape_plan.specs.Rules.{Rules, has_glyph}

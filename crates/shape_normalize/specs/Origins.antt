@@ -3,11 +3,11 @@ use Rattle.std.specs.Prelude.{◌≡◌, ◌⊎◌, ℕ, suc, ◌+◌, ◌-◌, 
 use Rattle.std.specs.List.{AllZip, range_with_len}
 use Rattle.std.specs.List.Sorted.{IsPermutation}
 use Rattle.std.specs.Option.{MatchOption}
-use Rattle.shape_buffer.specs.Buffer.{Buffer}
-use Rattle.shape_buffer.specs.Face.{FaceMeaning}
-use Rattle.shape_buffer.specs.Items.{Item, new_item, ccc_of_item}
-use Rattle.shape_buffer.specs.UnicodeProps.{is_hidden_char}
-use Rattle.shape_buffer.specs.declared.buffer.settings.GlyphId.{GlyphId}
+use Rattle.shape_items.specs.Buffer.{Buffer}
+use Rattle.shape_common.specs.Face.{FaceMeaning}
+use Rattle.shape_items.specs.Items.{Item, new_item, ccc_of_item}
+use Rattle.shape_items.specs.UnicodeProps.{is_hidden_char}
+use Rattle.shape_common.specs.declared.settings.GlyphId.{GlyphId}
 use Rattle.canonical_form.specs.Runs.{AreRunsSettled}
 use Rattle.shape_plan.specs.Rules.{Rules, has_glyph}
 use Rattle.shape_normalize.specs.Normalized.{ordered, features_of, hidden_char}

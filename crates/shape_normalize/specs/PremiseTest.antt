@@ -2,8 +2,8 @@
 use Rattle.std.specs.Prelude.{ℕ, ◌+◌, ◌==◌, ◌&&◌, nat_lt, not, Bool, true, false, if◌then◌else◌, List, [], ◌∷◌, map, Option, None, Some, is_some}
 use Rattle.std.specs.List.{list_all}
 use Rattle.canonical_form.specs.Chain.{full_text}
-use Rattle.shape_buffer.specs.Items.{Item, char_of, ccc_of_item, is_mark_item}
-use Rattle.shape_buffer.specs.Unicode.{UnicodeMeaning, is_mark}
+use Rattle.shape_items.specs.Items.{Item, char_of, ccc_of_item, is_mark_item}
+use Rattle.shape_common.specs.Unicode.{UnicodeMeaning, is_mark}
 use Rattle.shape_normalize.specs.RoundTwo.{max_run, has_mark_past_first}
 use Rattle.shape_plan.specs.Rules.{Rules, decompositions, has_glyph}
 

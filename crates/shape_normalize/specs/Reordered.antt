@@ -2,12 +2,12 @@
 use Rattle.std.specs.Prelude.{◌≡◌, ◌⊎◌, ℕ, ◌<◌, map, take, drop, slice_range, All}
 use Rattle.std.specs.Int.RustNames.{bit_or}
 use Rattle.std.specs.List.Sorted.{IsPermutation}
-use Rattle.shape_buffer.specs.Buffer.{Buffer}
-use Rattle.shape_buffer.specs.Items.{Item, ccc_of_item, feature_bits}
-use Rattle.shape_buffer.specs.KeepsFlags.{KeepsFlags}
-use Rattle.shape_buffer.specs.declared.buffer.settings.BufferClusterLevel.TheVariants.{Characters}
+use Rattle.shape_items.specs.Buffer.{Buffer}
+use Rattle.shape_items.specs.Items.{Item, ccc_of_item, feature_bits}
+use Rattle.shape_items.specs.KeepsFlags.{KeepsFlags}
+use Rattle.shape_common.specs.declared.settings.BufferClusterLevel.TheVariants.{Characters}
 use Rattle.shape_plan.specs.Reorder.{with_ccc}
-use Rattle.shape_buffer.specs.FlagNames.{HAS_GLYPH_FLAGS}
+use Rattle.shape_common.specs.FlagNames.{HAS_GLYPH_FLAGS}
 
 -- an item except for its cluster and its defined flags, which merging changes
 abbrev pub unmerged : Item → Item

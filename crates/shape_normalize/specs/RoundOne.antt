@@ -4,20 +4,20 @@ use Rattle.std.specs.Prelude.{ℕ, ◌+◌, ◌==◌, ◌&&◌, not, Bool, true,
 use Rattle.std.specs.Option.{option_map, option_map_or, option_or}
 use Rattle.std.specs.List.{flat_map, list_any}
 use Rattle.std.specs.Int.RustNames.{bit_or}
-use Rattle.shape_buffer.specs.Category.{is_space_category}
+use Rattle.shape_common.specs.Category.{is_space_category}
 use Rattle.canonical_form.specs.Divided.{divided}
-use Rattle.shape_buffer.specs.Items.{Item, is_mark_item}
-use Rattle.shape_buffer.specs.Positions.{zero_position}
-use Rattle.shape_buffer.specs.Spans.{all_merged}
-use Rattle.shape_buffer.specs.Buffer.{Buffer}
+use Rattle.shape_items.specs.Items.{Item, is_mark_item}
+use Rattle.shape_common.specs.Positions.{zero_position}
+use Rattle.shape_items.specs.Spans.{all_merged}
+use Rattle.shape_items.specs.Buffer.{Buffer}
 use Rattle.canonical_form.specs.Expansion.{chosen_expansion}
-use Rattle.shape_buffer.specs.Face.{FaceMeaning}
-use Rattle.shape_buffer.specs.Unicode.{UnicodeMeaning}
-use Rattle.shape_buffer.specs.UnicodeProps.{with_unicode_props, with_scratch_of}
-use Rattle.shape_buffer.specs.declared.buffer.flags.ScratchFlags.{ScratchFlags}
-use Rattle.shape_buffer.specs.declared.buffer.settings.GlyphId.{GlyphId}
+use Rattle.shape_common.specs.Face.{FaceMeaning}
+use Rattle.shape_common.specs.Unicode.{UnicodeMeaning}
+use Rattle.shape_items.specs.UnicodeProps.{with_unicode_props, with_scratch_of}
+use Rattle.shape_common.specs.declared.flags.ScratchFlags.{ScratchFlags}
+use Rattle.shape_common.specs.declared.settings.GlyphId.{GlyphId}
 use Rattle.shape_plan.specs.Rules.{Rules, decompositions, has_glyph}
-use Rattle.shape_buffer.specs.FlagNames.{HAS_SPACE_FALLBACK, HAS_VARIATION_SELECTOR_FALLBACK}
+use Rattle.shape_common.specs.FlagNames.{HAS_SPACE_FALLBACK, HAS_VARIATION_SELECTOR_FALLBACK}
 
 -- ---- the glyph of an item
 

@@ -2,10 +2,10 @@
 use Rattle.std.specs.Prelude.{ℕ, suc, ◌+◌, ◌&&◌, not, nat_lt, nat_le, if◌then◌else◌, Bool, List, [], ◌∷◌, ◌++◌, map, replicate, length, get_or, Option, None}
 use Rattle.std.specs.Option.{option_map}
 use Rattle.std.specs.List.{flat_map}
-use Rattle.shape_buffer.specs.Items.{Item, ccc_of_item, is_mark_item}
-use Rattle.shape_buffer.specs.Positions.{zero_position}
-use Rattle.shape_buffer.specs.Buffer.{Buffer}
-use Rattle.shape_buffer.specs.Spans.{spans_merged_out}
+use Rattle.shape_items.specs.Items.{Item, ccc_of_item, is_mark_item}
+use Rattle.shape_common.specs.Positions.{zero_position}
+use Rattle.shape_items.specs.Buffer.{Buffer}
+use Rattle.shape_items.specs.Spans.{spans_merged_out}
 use Rattle.canonical_form.specs.Recompose.{is_blocked, is_blocked_by_last, compose_with_glyph, recomposed}
 use Rattle.shape_plan.specs.Rules.{Rules, has_glyph}
 use Rattle.shape_normalize.specs.declared.ot_shape_normalize.round_three.PlacedInfo.{PlacedInfo}

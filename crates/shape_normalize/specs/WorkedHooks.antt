@@ -1,9 +1,9 @@
 -- Whose ccc counts where a shaper's hooks are given, computed on small cases whose answers are worked out by hand: Unicode's of each
 -- character that a hook splits or composes, and the item's own of each mark that a hook has reordered.
 use Rattle.std.specs.Prelude.{◌≡◌, ℕ, ◌+◌, ◌==◌, ◌&&◌, Bool, true, false, if◌then◌else◌, List, [], ◌∷◌, map, get_or, Some, None, refl}
-use Rattle.shape_buffer.specs.Buffer.{Buffer}
-use Rattle.shape_buffer.specs.Clusters.{merge}
-use Rattle.shape_buffer.specs.Items.{Item, new_item, ccc_of_item}
+use Rattle.shape_items.specs.Buffer.{Buffer}
+use Rattle.shape_items.specs.Clusters.{merge}
+use Rattle.shape_items.specs.Items.{Item, new_item, ccc_of_item}
 use Rattle.shape_plan.specs.Reorder.{exchanged, ccc_set}
 use Rattle.shape_plan.specs.Rules.{Rules}
 use Rattle.shape_normalize.specs.Normalized.{normalized, hidden_char}

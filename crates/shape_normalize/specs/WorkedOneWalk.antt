@@ -1,7 +1,7 @@
 -- Texts whose marks come of expansions, computed on small cases whose answers are worked out by hand.
 use Rattle.std.specs.Prelude.{◌≡◌, ℕ, ◌==◌, if◌then◌else◌, List, [], ◌∷◌, ◌++◌, map, flat_map, replicate, Some, refl}
-use Rattle.shape_buffer.specs.Clusters.{merge}
-use Rattle.shape_buffer.specs.Items.{char_of}
+use Rattle.shape_items.specs.Clusters.{merge}
+use Rattle.shape_items.specs.Items.{char_of}
 use Rattle.shape_plan.specs.Rules.{Rules}
 use Rattle.shape_normalize.specs.Normalized.{normalized}
 use Rattle.shape_normalize.specs.RoundOne.{round_one}

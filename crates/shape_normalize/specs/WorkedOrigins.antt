@@ -1,8 +1,8 @@
 -- Where items came from, computed on small cases whose answers are worked out by hand.
 use Rattle.std.specs.Prelude.{◌≡◌, ℕ, true, false, List, [], ◌∷◌, replicate, Some}
 use Rattle.std.specs.List.{range_with_len}
-use Rattle.shape_buffer.specs.Buffer.{Buffer}
-use Rattle.shape_buffer.specs.Items.{Item}
+use Rattle.shape_items.specs.Buffer.{Buffer}
+use Rattle.shape_items.specs.Items.{Item}
 use Rattle.shape_plan.specs.Rules.{Rules}
 use Rattle.shape_normalize.specs.Normalized.{KeepsFeatures}
 use Rattle.shape_normalize.specs.Origins.{Origin, origin_at, origins, new_origins, HasOfOrigin, all_places, AreInOneRun, IsOrderOf, IsFromPlace, IsFromStarter, ComesByPlace}

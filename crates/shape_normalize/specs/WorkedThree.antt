@@ -1,9 +1,9 @@
 -- Round three, computed on small cases whose answers are worked out by hand.
 use Rattle.std.specs.Prelude.{◌≡◌, ℕ, true, List, [], ◌∷◌, ◌++◌, map, replicate, refl}
-use Rattle.shape_buffer.specs.Clusters.{merge}
-use Rattle.shape_buffer.specs.Items.{Item}
-use Rattle.shape_buffer.specs.declared.buffer.general_category.hb_unicode_general_category_t.TheVariants.{OtherSymbol}
-use Rattle.shape_buffer.specs.declared.buffer.settings.BufferClusterLevel.TheVariants.{Characters}
+use Rattle.shape_items.specs.Clusters.{merge}
+use Rattle.shape_items.specs.Items.{Item}
+use Rattle.shape_common.specs.declared.general_category.hb_unicode_general_category_t.TheVariants.{OtherSymbol}
+use Rattle.shape_common.specs.declared.settings.BufferClusterLevel.TheVariants.{Characters}
 use Rattle.shape_normalize.specs.RoundThree.{Placed, recomposed_items, recomposed_by_last, absorbed_spans, round_three}
 use Rattle.shape_normalize.specs.Normalized.{normalized}
 use Rattle.shape_normalize.specs.RoundTwo.{run_settled}

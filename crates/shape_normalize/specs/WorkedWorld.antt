@@ -2,14 +2,14 @@
 use Rattle.std.specs.Prelude.{ℕ, pos, false, ◌==◌, ◌&&◌, ◌||◌, if◌then◌else◌, List, map, Option, Some, None}
 use Rattle.std.specs.List.{find}
 use Rattle.std.specs.Option.{option_map}
-use Rattle.shape_buffer.specs.Buffer.{Buffer, new_buffer}
-use Rattle.shape_buffer.specs.Face.{FaceMeaning}
-use Rattle.shape_buffer.specs.Items.{Item, new_item}
-use Rattle.shape_buffer.specs.Positions.{zero_position}
-use Rattle.shape_buffer.specs.Unicode.{UnicodeMeaning}
-use Rattle.shape_buffer.specs.UnicodeProps.{with_unicode_props}
-use Rattle.shape_buffer.specs.declared.buffer.general_category.hb_unicode_general_category_t.{hb_unicode_general_category_t}
-use Rattle.shape_buffer.specs.declared.buffer.general_category.hb_unicode_general_category_t.TheVariants.{LowercaseLetter, OtherLetter, OtherSymbol, NonspacingMark, EnclosingMark, SpaceSeparator}
+use Rattle.shape_items.specs.Buffer.{Buffer, new_buffer}
+use Rattle.shape_common.specs.Face.{FaceMeaning}
+use Rattle.shape_items.specs.Items.{Item, new_item}
+use Rattle.shape_common.specs.Positions.{zero_position}
+use Rattle.shape_common.specs.Unicode.{UnicodeMeaning}
+use Rattle.shape_items.specs.UnicodeProps.{with_unicode_props}
+use Rattle.shape_common.specs.declared.general_category.hb_unicode_general_category_t.{hb_unicode_general_category_t}
+use Rattle.shape_common.specs.declared.general_category.hb_unicode_general_category_t.TheVariants.{LowercaseLetter, OtherLetter, OtherSymbol, NonspacingMark, EnclosingMark, SpaceSeparator}
 use Rattle.shape_plan.specs.Rules.{Rules, goes_short, mode_recomposes}
 use Rattle.shape_plan.specs.WorkedFaces.{bare_face}
 

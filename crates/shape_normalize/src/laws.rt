@@ -1,6 +1,6 @@
 //! Laws that spare callers a proof: each function has laws as its contract, and nothing to do.
 ghost use Rattle.std.specs.Prelude.{◌≡◌, ℕ, false, None};
-ghost use Rattle.shape_buffer.specs.Buffer.{Buffer};
+ghost use Rattle.shape_items.specs.Buffer.{Buffer};
 ghost use Rattle.shape_normalize.specs.CanonicalForm.{HasLawfulHooks};
 ghost use Rattle.shape_normalize.specs.Reordered.{ReordersRun};
 ghost use Rattle.shape_plan.specs.Reorder.{IsRunInOrder};

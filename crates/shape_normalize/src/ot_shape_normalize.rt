@@ -6,10 +6,10 @@
 //! them. A shaper may bring splits of its own. The marks after a character are then put in one order,
 //! so that spellings of one text become one list (UAX 15; The Unicode Standard, D68 and D107 to D109).
 ghost use Rattle.std.specs.Prelude.{◌≡◌, ◌<◌, ◌≤◌, [], length, map, All, IsOk, OnOk, OnErr, Err};
-ghost use Rattle.shape_buffer.specs.Buffer.{cleared, limit_of};
-ghost use Rattle.shape_buffer.specs.Clusters.{clusters};
-ghost use Rattle.shape_buffer.specs.ClusterOrder.{KeepsClusters, IsMonotoneLevel};
-ghost use Rattle.shape_buffer.specs.Items.{char_of};
+ghost use Rattle.shape_items.specs.Buffer.{cleared, limit_of};
+ghost use Rattle.shape_items.specs.Clusters.{clusters};
+ghost use Rattle.shape_items.specs.ClusterOrder.{KeepsClusters, IsMonotoneLevel};
+ghost use Rattle.shape_items.specs.Items.{char_of};
 ghost use Rattle.shape_normalize.specs.RoundOne.{round_one};
 ghost use Rattle.shape_normalize.specs.RoundTwo.{has_mark_past_first as has_mark_past_first_of};
 ghost use Rattle.shape_normalize.specs.CanonicalForm.{NormalizesCanonically};

@@ -1,12 +1,12 @@
 -- Canonical form end to end: preparing prepares, so the premises that normalising asks of a buffer hold of every prepared text.
 use Rattle.std.proofs.Common.{◌≡◌, ℕ, List, refl, sym, subst}
 use Rattle.std.specs.Prelude.{◌↔◌}
-use Rattle.shape_buffer.specs.Buffer.{Buffer}
-use Rattle.shape_buffer.specs.Face.{FaceMeaning}
+use Rattle.shape_items.specs.Buffer.{Buffer}
+use Rattle.shape_common.specs.Face.{FaceMeaning}
 use Rattle.shape_buffer.specs.Guess.{guessed}
 use Rattle.shape_buffer.specs.Layout.{LookupMeaning, MapMeaning}
-use Rattle.shape_buffer.specs.Prepared.{IsPrepared}
-use Rattle.shape_buffer.specs.Unicode.{UnicodeMeaning, LawfulUnicode}
+use Rattle.shape_items.specs.Prepared.{IsPrepared}
+use Rattle.shape_common.specs.Unicode.{UnicodeMeaning, LawfulUnicode}
 use Rattle.shape_normalize.specs.CanonicalForm.{text_of, AreEquivalent, HasNoSelector, CanonicalTextPremises, NormalizesCanonically, EquivalencePremises, CanonicalFormPremises, PlainPremises}
 use Rattle.shape_normalize.proofs.Form.CanonicalFormLemmas.{NormalizesCanonically-normalized}
 use Rattle.shape_plan.specs.Plan.{Plan}

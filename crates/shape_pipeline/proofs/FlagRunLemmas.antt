@@ -1,13 +1,13 @@
 -- The flags of a whole run: one set for each cluster.
 use Rattle.std.proofs.Common.{◌≡◌, ◌==◌, false, List, [], ◌∷◌, ◌++◌, bit_and, refl, subst, sym, ◌∙◌}
-use Rattle.shape_buffer.specs.Buffer.{Buffer}
-use Rattle.shape_buffer.specs.Flags.{flags_propagated}
-use Rattle.shape_buffer.specs.Items.{Item}
+use Rattle.shape_items.specs.Buffer.{Buffer}
+use Rattle.shape_items.specs.Flags.{flags_propagated}
+use Rattle.shape_items.specs.Items.{Item}
 use Rattle.shape_buffer.specs.Keepers.{IsFlagKeeper, EachStep}
 use Rattle.shape_buffer.specs.Layout.{LawfulMasks}
 use Rattle.shape_buffer.specs.Outcome.{Step, step, run_steps}
-use Rattle.shape_buffer.specs.declared.buffer.flags.BufferFlags.{BufferFlags}
-use Rattle.shape_buffer.specs.declared.buffer.settings.Direction.{Direction}
+use Rattle.shape_common.specs.declared.flags.BufferFlags.{BufferFlags}
+use Rattle.shape_common.specs.declared.settings.Direction.{Direction}
 use Rattle.shape_buffer.proofs.Flags.HonestLemmas.{IsHonest, honest-kept, one_set-propagated, concat-propagated}
 use Rattle.shape_buffer.proofs.Steps.KeeperLemmas.{EachStep-front}
 use Rattle.shape_fallback.proofs.KeeperLemmas.{fallback-keeps_flags}

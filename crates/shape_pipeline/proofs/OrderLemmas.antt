@@ -3,20 +3,20 @@
 use Rattle.std.proofs.Common.{◌≡◌, ◌≢◌, ℕ, Bool, true, false, List, [], ◌∷◌, ◌++◌, length, Option, Some, None, refl, ap, sym, ◌∙◌, arith, subst}
 use Rattle.std.specs.Prelude.{Contains, not}
 use Rattle.std.specs.List.Sorted.{IsNonDecreasing}
-use Rattle.shape_buffer.specs.Buffer.{Buffer}
-use Rattle.shape_buffer.specs.ClusterOrder.{IsMonotoneLevel, IsOrderedFor}
-use Rattle.shape_buffer.specs.Clusters.{clusters}
-use Rattle.shape_buffer.specs.Direction.{is_backward, reverse_of}
-use Rattle.shape_buffer.specs.Flags.{flags_propagated}
+use Rattle.shape_items.specs.Buffer.{Buffer}
+use Rattle.shape_items.specs.ClusterOrder.{IsMonotoneLevel, IsOrderedFor}
+use Rattle.shape_items.specs.Clusters.{clusters}
+use Rattle.shape_common.specs.Direction.{is_backward, reverse_of}
+use Rattle.shape_items.specs.Flags.{flags_propagated}
 use Rattle.shape_buffer.specs.Guess.{guessed_script, known_or_ltr, script_or_ltr, direction_or}
-use Rattle.shape_buffer.specs.Items.{Item}
+use Rattle.shape_items.specs.Items.{Item}
 use Rattle.shape_buffer.specs.Keepers.{KeepsOrder, IsClusterKeeper, EachStep}
 use Rattle.shape_buffer.specs.Outcome.{Step, step, run_steps}
-use Rattle.shape_buffer.specs.Unicode.{UnicodeMeaning}
-use Rattle.shape_buffer.specs.declared.buffer.settings.Script.{Script}
-use Rattle.shape_buffer.specs.declared.buffer.settings.BufferClusterLevel.TheVariants.{MonotoneGraphemes}
-use Rattle.shape_buffer.specs.declared.buffer.settings.Direction.{Direction}
-use Rattle.shape_buffer.specs.declared.buffer.settings.Direction.TheVariants.{Invalid, LeftToRight, RightToLeft, TopToBottom, BottomToTop}
+use Rattle.shape_common.specs.Unicode.{UnicodeMeaning}
+use Rattle.shape_common.specs.declared.settings.Script.{Script}
+use Rattle.shape_common.specs.declared.settings.BufferClusterLevel.TheVariants.{MonotoneGraphemes}
+use Rattle.shape_common.specs.declared.settings.Direction.{Direction}
+use Rattle.shape_common.specs.declared.settings.Direction.TheVariants.{Invalid, LeftToRight, RightToLeft, TopToBottom, BottomToTop}
 use Rattle.shape_buffer.proofs.Steps.KeeperLemmas.{EachStep-append}
 use Rattle.shape_fallback.proofs.KeeperLemmas.{fallback-keeps_clusters}
 use Rattle.shape_normalize.proofs.Normalized.ClusterOrderLemmas.{KeepsOrder-normalized}

@@ -1,6 +1,6 @@
 -- A property of each step of a run's parts, from the parts' own lists.
 use Rattle.std.proofs.Common.{List, [], ◌∷◌, ◌++◌, subst, sym}
-use Rattle.shape_buffer.specs.Buffer.{Buffer}
+use Rattle.shape_items.specs.Buffer.{Buffer}
 use Rattle.shape_buffer.specs.Keepers.{EachStep}
 use Rattle.shape_buffer.specs.Outcome.{Step, step, run_steps}
 use Rattle.shape_buffer.proofs.Steps.KeeperLemmas.{EachStep-append}

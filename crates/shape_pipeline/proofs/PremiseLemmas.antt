@@ -3,18 +3,18 @@ use Rattle.std.proofs.Common.{◌≡◌, ◌⊎◌, inl, inr, ℕ, Bool, true, f
 use Rattle.std.specs.Option.{option_map}
 use Rattle.canonical_form.specs.Equivalent.{ComposesSoundly}
 use Rattle.canonical_form.specs.SplitsFall.{SplitsFall}
-use Rattle.shape_buffer.specs.Buffer.{Buffer}
-use Rattle.shape_buffer.specs.Face.{FaceMeaning}
+use Rattle.shape_items.specs.Buffer.{Buffer}
+use Rattle.shape_common.specs.Face.{FaceMeaning}
 use Rattle.shape_buffer.specs.Guess.{guessed}
-use Rattle.shape_buffer.specs.Items.{Item}
+use Rattle.shape_items.specs.Items.{Item}
 use Rattle.shape_buffer.specs.Keepers.{EachLookup, IsClusterKeeper, IsFlagKeeper, LookupsKeepClusters, LookupsKeepFlags}
 use Rattle.shape_buffer.specs.Layout.{LookupMeaning, MapMeaning}
 use Rattle.shape_buffer.specs.NoLookups.{no_lookups}
-use Rattle.shape_buffer.specs.Unicode.{UnicodeMeaning, LawfulUnicode}
-use Rattle.shape_buffer.proofs.Flags.FlagLemmas.{KeepsFlags-same}
+use Rattle.shape_common.specs.Unicode.{UnicodeMeaning, LawfulUnicode}
+use Rattle.shape_items.proofs.Flags.FlagLemmas.{KeepsFlags-same}
 use Rattle.shape_normalize.specs.CanonicalForm.{HasLawfulHooks, TextPremises, HasNoSelector}
 use Rattle.shape_normalize.specs.Normalized.{HookKeepsClusters}
-use Rattle.shape_buffer.specs.Prepared.{IsPrepared}
+use Rattle.shape_items.specs.Prepared.{IsPrepared}
 use Rattle.shape_plan.specs.Keepers.{EachHook, EachCall, RunKeepsFlags, has_steps}
 use Rattle.shape_plan.specs.Plan.{Plan, hooks_of}
 use Rattle.shape_plan.specs.Rules.{Rules, rules_of, used_decompositions, used_compose}

@@ -1,10 +1,10 @@
 -- What is known of a run from its outcome, and normalising as a step.
 use Rattle.std.proofs.Common.{◌≡◌, ◌≢◌, ◌<◌, ◌≤◌, ◌&&◌, Bool, true, false, List, [], ◌∷◌, length, inl, refl, ap, sym, subst, ◌∙◌, arith, if◌then◌else◌, Result, Ok, Err}
 use Rattle.std.specs.Prelude.{OnOk, IfOk}
-use Rattle.shape_buffer.specs.Buffer.{Buffer, limit_of, run_limit}
+use Rattle.shape_items.specs.Buffer.{Buffer, limit_of, run_limit}
 use Rattle.shape_buffer.specs.Guess.{guessed}
-use Rattle.shape_buffer.specs.Items.{Item}
-use Rattle.shape_buffer.specs.declared.buffer.settings.Direction.{Direction}
+use Rattle.shape_items.specs.Items.{Item}
+use Rattle.shape_common.specs.declared.settings.Direction.{Direction}
 use Rattle.shape_buffer.specs.Outcome.{Step, Ran, Refused, for_length, for_memory, RunOutcome, SomePast, run_steps}
 use Rattle.shape_buffer.specs.declared.buffer.error.ShapeError.{ShapeError}
 use Rattle.shape_buffer.specs.declared.buffer.error.ShapeError.TheVariants.{Memory, Length}
@@ -18,7 +18,7 @@ use Rattle.shape_normalize.proofs.RoundThree.ByAllLemmas.{normalized_recomposes}
 use Rattle.shape_normalize.proofs.RoundThree.RoundThreeLemmas.{limit-spans_merged_out}
 use Rattle.shape_normalize.proofs.Normalized.SettingLemmas.{limit_of-ordered}
 use Rattle.shape_plan.specs.Rules.{Rules}
-use Rattle.shape_buffer.specs.Unicode.{LawfulUnicode}
+use Rattle.shape_common.specs.Unicode.{LawfulUnicode}
 use Rattle.shape_normalize.proofs.Form.CanonicalFormLemmas.{NormalizesCanonically-normalized}
 use Rattle.shape_normalize.proofs.Normalized.ClusterOrderLemmas.{normalized_keeps}
 use Rattle.shape_normalize.proofs.Places.ByPlaceLemmas.{normalized_by_place}

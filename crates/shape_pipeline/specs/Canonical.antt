@@ -1,10 +1,10 @@
 -- Canonical form end to end: what a run's normalised list is to its prepared text, and two such lists to each other.
 use Rattle.std.specs.Prelude.{◌≡◌, ◌↔◌, ℕ, true, false, List, ◌++◌, Some, None}
 use Rattle.canonical_form.specs.Expanded.{begins_with_mark}
-use Rattle.shape_buffer.specs.Buffer.{Buffer}
+use Rattle.shape_items.specs.Buffer.{Buffer}
 use Rattle.shape_buffer.specs.Guess.{guessed}
-use Rattle.shape_buffer.specs.Items.{is_mark_item}
-use Rattle.shape_buffer.specs.Unicode.{is_mark}
+use Rattle.shape_items.specs.Items.{is_mark_item}
+use Rattle.shape_common.specs.Unicode.{is_mark}
 use Rattle.shape_normalize.specs.CanonicalForm.{text_of, AreEquivalent, HasCanonicalForm, HasLawfulHooks, HasNoSelector, CanonicalTextPremises, IsRecomposedForm}
 use Rattle.shape_normalize.specs.RoundOne.{round_one}
 use Rattle.shape_normalize.specs.RoundTwo.{has_mark_past_first}

@@ -1,14 +1,14 @@
 -- What is promised of a whole run, end to end.
 use Rattle.std.specs.Prelude.{◌≡◌, ◌==◌, false, All}
 use Rattle.std.specs.Int.RustNames.{bit_and}
-use Rattle.shape_buffer.specs.Buffer.{Buffer}
-use Rattle.shape_buffer.specs.ClusterOrder.{IsMonotoneLevel, KeepsClusters}
-use Rattle.shape_buffer.specs.Clusters.{clusters}
-use Rattle.shape_buffer.specs.Flags.{HasOneSetOfFlags}
+use Rattle.shape_items.specs.Buffer.{Buffer}
+use Rattle.shape_items.specs.ClusterOrder.{IsMonotoneLevel, KeepsClusters}
+use Rattle.shape_items.specs.Clusters.{clusters}
+use Rattle.shape_items.specs.Flags.{HasOneSetOfFlags}
 use Rattle.shape_buffer.specs.Guess.{guessed, guessed_direction}
-use Rattle.shape_buffer.specs.KeepsFlags.{some_has}
+use Rattle.shape_items.specs.KeepsFlags.{some_has}
 use Rattle.shape_buffer.specs.Outcome.{run_steps}
-use Rattle.shape_buffer.specs.declared.buffer.settings.Direction.{Direction}
+use Rattle.shape_common.specs.declared.settings.Direction.{Direction}
 use Rattle.shape_normalize.specs.CanonicalForm.{text_of, NormalizesCanonically}
 use Rattle.shape_normalize.specs.Normalized.{normalized, BroughtInHaveGlyphs, HasItemGlyph, HookKeepsClusters, KeepsFeatures, Recomposes}
 use Rattle.shape_normalize.specs.Origins.{ComesByPlace}
@@ -16,7 +16,7 @@ use Rattle.shape_plan.specs.Keepers.{RunKeepsFlags}
 use Rattle.shape_plan.specs.Rules.{Rules}
 use Rattle.shape_plan.specs.Run.{Run}
 use Rattle.shape_pipeline.specs.Shaped.{HasItems, text_made, shaped_steps, finished}
-use Rattle.shape_buffer.specs.FlagNames.{UNSAFE_TO_CONCAT, PRODUCE_UNSAFE_TO_CONCAT}
+use Rattle.shape_common.specs.FlagNames.{UNSAFE_TO_CONCAT, PRODUCE_UNSAFE_TO_CONCAT}
 
 -- the direction that a text is shaped for
 abbrev pub target_of : Run → Buffer → Direction

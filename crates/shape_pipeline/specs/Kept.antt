@@ -1,5 +1,5 @@
 -- The settings that clearing keeps.
-use Rattle.shape_buffer.specs.Buffer.{Buffer, new_buffer}
+use Rattle.shape_items.specs.Buffer.{Buffer, new_buffer}
 use Rattle.shape_pipeline.specs.declared.ot_shape.kept.KeptSettings.{KeptSettings}
 
 abbrev pub kept_settings : Buffer → KeptSettings

@@ -1,12 +1,12 @@
 -- What is promised of clusters: they come from the text, in the order of its direction.
 use Rattle.std.specs.Prelude.{◌≡◌, ℕ, List, Contains}
 use Rattle.std.specs.List.Sorted.{IsNonDecreasing}
-use Rattle.shape_buffer.specs.Buffer.{Buffer}
-use Rattle.shape_buffer.specs.ClusterOrder.{IsMonotoneLevel, IsOrderedFor}
-use Rattle.shape_buffer.specs.Clusters.{clusters}
-use Rattle.shape_buffer.specs.Direction.{is_backward}
-use Rattle.shape_buffer.specs.declared.buffer.settings.BufferClusterLevel.TheVariants.{MonotoneGraphemes}
-use Rattle.shape_buffer.specs.declared.buffer.settings.Direction.{Direction}
+use Rattle.shape_items.specs.Buffer.{Buffer}
+use Rattle.shape_items.specs.ClusterOrder.{IsMonotoneLevel, IsOrderedFor}
+use Rattle.shape_items.specs.Clusters.{clusters}
+use Rattle.shape_common.specs.Direction.{is_backward}
+use Rattle.shape_common.specs.declared.settings.BufferClusterLevel.TheVariants.{MonotoneGraphemes}
+use Rattle.shape_common.specs.declared.settings.Direction.{Direction}
 use Rattle.shape_normalize.specs.Normalized.{HookKeepsClusters}
 use Rattle.shape_plan.specs.Keepers.{CallsKeepClusters}
 use Rattle.shape_plan.specs.Run.{Run}

@@ -1,7 +1,7 @@
 -- What a run owes, where its shaper gives no hook and its engine has no lookups: nothing.
 use Rattle.std.specs.Prelude.{◌≡◌, ◌⊎◌, false, None}
-use Rattle.shape_buffer.specs.Buffer.{Buffer}
-use Rattle.shape_buffer.specs.Prepared.{IsPrepared}
+use Rattle.shape_items.specs.Buffer.{Buffer}
+use Rattle.shape_items.specs.Prepared.{IsPrepared}
 use Rattle.shape_normalize.specs.CanonicalForm.{text_of, HasLawfulHooks, CanonicalTextPremises, EquivalencePremises, CanonicalFormPremises, PlainPremises}
 use Rattle.shape_plan.specs.Keepers.{RunKeepsFlags, EachCalledPause}
 use Rattle.shape_plan.specs.Run.{Run}

@@ -1,9 +1,9 @@
 -- A run: the list of its steps, and what it makes of a text.
 use Rattle.std.specs.Prelude.{◌≡◌, ◌≢◌, ◌<◌, ◌≤◌, ◌⊎◌, List, [], ◌∷◌, ◌++◌, Some, None, length}
-use Rattle.shape_buffer.specs.Buffer.{Buffer, limit_of, run_limit}
+use Rattle.shape_items.specs.Buffer.{Buffer, limit_of, run_limit}
 use Rattle.shape_buffer.specs.Guess.{guessed, guessed_direction}
 use Rattle.shape_buffer.specs.Outcome.{Step, step, run_steps, EachWithin, SomePast}
-use Rattle.shape_buffer.specs.declared.buffer.settings.Direction.{Direction}
+use Rattle.shape_common.specs.declared.settings.Direction.{Direction}
 use Rattle.shape_fallback.specs.Steps.{recategorize_step, spaces_step, marks_step}
 use Rattle.shape_normalize.specs.Normalized.{normalized}
 use Rattle.shape_normalize.specs.RoundOne.{round_one}

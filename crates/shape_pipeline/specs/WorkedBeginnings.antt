@@ -3,17 +3,17 @@
 use Rattle.std.specs.Prelude.{◌≡◌, ℕ, ℤ, pos, neg_ℤ, int_div, List, [], Contains, Option, None, Some, refl}
 use Rattle.std.specs.List.Sorted.{IsNonDecreasing}
 use Rattle.std.proofs.Common.{ap}
-use Rattle.shape_buffer.specs.Buffer.{Buffer, new_buffer}
-use Rattle.shape_buffer.specs.ClusterOrder.{IsMonotoneLevel, IsNonIncreasing}
-use Rattle.shape_buffer.specs.Clusters.{clusters}
-use Rattle.shape_buffer.specs.Flags.{HasOneSetOfFlags}
+use Rattle.shape_items.specs.Buffer.{Buffer, new_buffer}
+use Rattle.shape_items.specs.ClusterOrder.{IsMonotoneLevel, IsNonIncreasing}
+use Rattle.shape_items.specs.Clusters.{clusters}
+use Rattle.shape_items.specs.Flags.{HasOneSetOfFlags}
 use Rattle.shape_buffer.specs.MapBuilder.{Builder}
-use Rattle.shape_buffer.specs.MapFace.{map_face, advance_of}
-use Rattle.shape_buffer.specs.PlainUnicode.{plain_unicode}
-use Rattle.shape_buffer.specs.declared.buffer.settings.Direction.TheVariants.{LeftToRight, RightToLeft, TopToBottom, BottomToTop}
-use Rattle.shape_buffer.specs.declared.buffer.settings.Direction.{Direction}
-use Rattle.shape_buffer.specs.declared.buffer.settings.GlyphId.{GlyphId}
-use Rattle.shape_buffer.specs.declared.interfaces.map_face.MapFace.{MapFace}
+use Rattle.shape_common.specs.MapFace.{map_face, advance_of}
+use Rattle.shape_common.specs.PlainUnicode.{plain_unicode}
+use Rattle.shape_common.specs.declared.settings.Direction.TheVariants.{LeftToRight, RightToLeft, TopToBottom, BottomToTop}
+use Rattle.shape_common.specs.declared.settings.Direction.{Direction}
+use Rattle.shape_common.specs.declared.settings.GlyphId.{GlyphId}
+use Rattle.shape_common.specs.declared.map_face.MapFace.{MapFace}
 use Rattle.shape_plan.specs.Decisions.{decided}
 use Rattle.shape_plan.specs.Keepers.{RunKeepsFlags}
 use Rattle.shape_plan.specs.Planner.{begun_planner, collected_planner, facts_of, compiled_plan, planned}

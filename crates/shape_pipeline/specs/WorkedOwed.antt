@@ -1,6 +1,6 @@
 -- What is asked of a shaper's pauses: those that a run calls, and no other.
 use Rattle.std.specs.Prelude.{◌≡◌, ℕ, ◌<◌, true, false, Some, None}
-use Rattle.shape_buffer.specs.Buffer.{Buffer}
+use Rattle.shape_items.specs.Buffer.{Buffer}
 use Rattle.shape_buffer.specs.Keepers.{IsFlagKeeper}
 use Rattle.shape_plan.specs.Keepers.{EachCalledPause}
 use Rattle.shape_plan.specs.Run.{Run}

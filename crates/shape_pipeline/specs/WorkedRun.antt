@@ -1,8 +1,8 @@
 -- The order of a run, step by step: the list that its parts come to.
 use Rattle.std.specs.Prelude.{◌≡◌, ◌&&◌, List, [], ◌∷◌, ◌++◌}
-use Rattle.shape_buffer.specs.Flags.{flags_propagated}
+use Rattle.shape_items.specs.Flags.{flags_propagated}
 use Rattle.shape_buffer.specs.Outcome.{Step, step}
-use Rattle.shape_buffer.specs.declared.buffer.settings.Direction.{Direction}
+use Rattle.shape_common.specs.declared.settings.Direction.{Direction}
 use Rattle.shape_fallback.specs.Steps.{recategorize_step, spaces_step, marks_step}
 use Rattle.shape_plan.specs.Run.{Run, step_if, hook_if}
 use Rattle.shape_position.specs.Advances.{positions_cleared, advanced}

@@ -7,14 +7,14 @@
 //! own proves those alone, and takes the rest from here.
 ghost use Rattle.std.specs.Prelude.{◌≡◌, ◌≢◌, ◌⊎◌, ◌<◌, ℕ, false, All};
 ghost use Rattle.std.specs.List.Sorted.{IsNonDecreasing};
-ghost use Rattle.shape_buffer.specs.Buffer.{Buffer};
-ghost use Rattle.shape_buffer.specs.ClusterOrder.{IsMonotoneLevel};
-ghost use Rattle.shape_buffer.specs.Clusters.{clusters};
+ghost use Rattle.shape_items.specs.Buffer.{Buffer};
+ghost use Rattle.shape_items.specs.ClusterOrder.{IsMonotoneLevel};
+ghost use Rattle.shape_items.specs.Clusters.{clusters};
 ghost use Rattle.shape_buffer.specs.Guess.{guessed};
 ghost use Rattle.shape_buffer.specs.Keepers.{IsClusterKeeper, IsFlagKeeper};
 ghost use Rattle.shape_buffer.specs.Keepers.{LookupsKeepClusters, LookupsKeepFlags};
 ghost use Rattle.shape_buffer.specs.NoLookups.{no_lookups};
-ghost use Rattle.shape_buffer.specs.declared.buffer.settings.Direction.{Direction};
+ghost use Rattle.shape_common.specs.declared.settings.Direction.{Direction};
 ghost use Rattle.shape_normalize.specs.CanonicalForm.{text_of};
 ghost use Rattle.shape_lines.specs.CanCut.{CanCut};
 ghost use Rattle.shape_normalize.specs.Normalized.{normalized, HookKeepsClusters};

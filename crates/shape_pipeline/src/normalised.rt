@@ -1,8 +1,8 @@
 //! The normalised characters of a text by themselves, by which shaped texts are found again.
 ghost use Rattle.std.specs.Prelude.{◌≡◌, [], map, IsOk, IsErr, IfOk, IfErr, Err};
-ghost use Rattle.shape_buffer.specs.Buffer.{cleared};
+ghost use Rattle.shape_items.specs.Buffer.{cleared};
 ghost use Rattle.shape_buffer.specs.Guess.{guessed};
-ghost use Rattle.shape_buffer.specs.Items.{char_of};
+ghost use Rattle.shape_items.specs.Items.{char_of};
 ghost use Rattle.shape_normalize.specs.CanonicalForm.{text_of};
 ghost use Rattle.shape_normalize.specs.Normalized.{normalized};
 ghost use Rattle.shape_pipeline.specs.Canonical.{normalised_characters as characters_by, ListIsCanonical};

@@ -5,7 +5,7 @@
 //! stands for its meaning, so the whole run is a function from buffer to buffer; a refused one leaves
 //! the buffer cleared.
 ghost use Rattle.std.specs.Prelude.{◌≡◌, ◌≢◌, [], IsOk, OnOk, OnErr, Err};
-ghost use Rattle.shape_buffer.specs.Buffer.{cleared};
+ghost use Rattle.shape_items.specs.Buffer.{cleared};
 ghost use Rattle.shape_buffer.specs.Outcome.{IsWithinLimit, RunOutcome};
 ghost use Rattle.shape_pipeline.specs.Shaped.{all_steps, entered, Prepares, Shapes};
 ghost use Rattle.shape_pipeline.specs.Shaped.{PreparingPasses, ShapingPasses};

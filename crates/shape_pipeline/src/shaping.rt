@@ -1,6 +1,6 @@
 //! The entries: text goes in, glyphs come out.
 ghost use Rattle.std.specs.Prelude.{◌≡◌, ◌≤◌, [], length, IsOk, IfOk, IfErr};
-ghost use Rattle.shape_buffer.specs.Buffer.{cleared, run_limit};
+ghost use Rattle.shape_items.specs.Buffer.{cleared, run_limit};
 ghost use Rattle.shape_buffer.specs.Guess.{guessed, guessed_direction};
 ghost use Rattle.shape_pipeline.specs.Headline.{target_of, prepared_text, normalised_list};
 ghost use Rattle.shape_pipeline.specs.Headline.{IsMadeOfNormalisedList, NormalForm};

@@ -1,8 +1,8 @@
 -- Steps and hooks that aren't due keep everything, and lookups that aren't called owe nothing.
 use Rattle.std.proofs.Common.{◌≡◌, Bool, true, false, Option, Some, None, refl}
-use Rattle.shape_buffer.specs.Buffer.{Buffer}
+use Rattle.shape_items.specs.Buffer.{Buffer}
 use Rattle.shape_buffer.specs.Keepers.{IsClusterKeeper, IsFlagKeeper, EachLookup}
-use Rattle.shape_buffer.proofs.Flags.FlagLemmas.{KeepsFlags-same}
+use Rattle.shape_items.proofs.Flags.FlagLemmas.{KeepsFlags-same}
 use Rattle.shape_buffer.proofs.Steps.KeeperLemmas.{KeepsOrder-same}
 use Rattle.shape_plan.specs.Keepers.{EachCalledLookup}
 use Rattle.shape_plan.specs.Run.{Run, step_if, hook_if}

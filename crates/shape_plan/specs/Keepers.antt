@@ -1,6 +1,6 @@
 -- What is asked of a shaper's hooks and an engine's lookups so that a run keeps the clusters and the flags of its text.
 use Rattle.std.specs.Prelude.{◌≡◌, ℕ, ◌<◌, Some, Bool, true, false, ◌||◌}
-use Rattle.shape_buffer.specs.Buffer.{Buffer}
+use Rattle.shape_items.specs.Buffer.{Buffer}
 use Rattle.shape_buffer.specs.Keepers.{IsClusterKeeper, IsFlagKeeper}
 use Rattle.shape_plan.specs.Run.{Run}
 use Rattle.shape_plan.specs.Shaper.{ShaperConstants, HookMeaning}

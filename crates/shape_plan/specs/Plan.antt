@@ -1,12 +1,12 @@
 -- What a plan is to its callers.
 use Rattle.std.specs.Prelude.{◌≡◌, List, Option, Some, None, unwrap_or}
 use Rattle.std.specs.Option.{option_map}
-use Rattle.shape_buffer.specs.Buffer.{Buffer}
+use Rattle.shape_items.specs.Buffer.{Buffer}
 use Rattle.shape_buffer.specs.Guess.{guessed_direction, guessed_script}
-use Rattle.shape_buffer.specs.Unicode.{UnicodeMeaning}
-use Rattle.shape_buffer.specs.declared.buffer.settings.Direction.{Direction}
-use Rattle.shape_buffer.specs.declared.buffer.settings.Feature.{Feature}
-use Rattle.shape_buffer.specs.declared.buffer.settings.Script.{Script}
+use Rattle.shape_common.specs.Unicode.{UnicodeMeaning}
+use Rattle.shape_common.specs.declared.settings.Direction.{Direction}
+use Rattle.shape_common.specs.declared.settings.Feature.{Feature}
+use Rattle.shape_common.specs.declared.settings.Script.{Script}
 use Rattle.shape_plan.specs.declared.decisions.Decisions.{Decisions}
 use Rattle.shape_plan.specs.declared.ot_shape_plan.ChosenShaper.{ChosenShaper}
 use Rattle.shape_plan.specs.declared.ot_shape_plan.ChosenShaper.TheVariants.{Given, Dumber}

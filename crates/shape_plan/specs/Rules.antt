@@ -3,10 +3,10 @@ use Rattle.std.specs.Prelude.{ℕ, ℤ, Bool, true, false, ◌||◌, not, Option
 use Rattle.std.specs.Option.{option_map, option_map_or}
 use Rattle.std.specs.Ordering.{int_eq}
 use Rattle.canonical_form.specs.Decompositions.{Decompositions}
-use Rattle.shape_buffer.specs.Buffer.{Buffer}
-use Rattle.shape_buffer.specs.Unicode.{UnicodeMeaning}
-use Rattle.shape_buffer.specs.Face.{FaceMeaning}
-use Rattle.shape_buffer.specs.declared.buffer.settings.GlyphId.{GlyphId}
+use Rattle.shape_items.specs.Buffer.{Buffer}
+use Rattle.shape_common.specs.Unicode.{UnicodeMeaning}
+use Rattle.shape_common.specs.Face.{FaceMeaning}
+use Rattle.shape_common.specs.declared.settings.GlyphId.{GlyphId}
 use Rattle.shape_plan.specs.ModeNames.{MODE_NONE, MODE_COMPOSED_DIACRITICS, MODE_COMPOSED_DIACRITICS_NO_SHORT_CIRCUIT, MODE_AUTO}
 use Rattle.shape_plan.specs.Plan.{Plan, hooks_of}
 use Rattle.shape_plan.specs.Shaper.{ShaperConstants, HookMeaning}

@@ -1,13 +1,13 @@
 -- What a whole run goes by, as functions and values: one record of all that its four type parameters, its plan and its face bring.
 use Rattle.std.specs.Prelude.{Bool, List, Option, if◌then◌else◌}
 use Rattle.std.specs.Option.{option_map_or}
-use Rattle.shape_buffer.specs.Buffer.{Buffer}
-use Rattle.shape_buffer.specs.Face.{FaceMeaning}
+use Rattle.shape_items.specs.Buffer.{Buffer}
+use Rattle.shape_common.specs.Face.{FaceMeaning}
 use Rattle.shape_buffer.specs.Layout.{MapMeaning, LookupMeaning}
-use Rattle.shape_buffer.specs.Unicode.{UnicodeMeaning}
-use Rattle.shape_buffer.specs.declared.buffer.settings.Direction.{Direction}
-use Rattle.shape_buffer.specs.declared.buffer.settings.Feature.{Feature}
-use Rattle.shape_buffer.specs.declared.buffer.settings.Script.{Script}
+use Rattle.shape_common.specs.Unicode.{UnicodeMeaning}
+use Rattle.shape_common.specs.declared.settings.Direction.{Direction}
+use Rattle.shape_common.specs.declared.settings.Feature.{Feature}
+use Rattle.shape_common.specs.declared.settings.Script.{Script}
 use Rattle.shape_plan.specs.Plan.{Plan, hooks_of}
 use Rattle.shape_plan.specs.Rules.{Rules, rules_of}
 use Rattle.shape_plan.specs.Shaper.{ShaperConstants, HookMeaning}

@@ -1,13 +1,13 @@
 -- What the constants and hooks of a shaper mean, and what every shaper owes.
 use Rattle.std.specs.Prelude.{◌≡◌, ℕ, ℤ, ◌⊎◌, Bool, true, ◌&&◌, nat_le, int_le, Option, map}
 use Rattle.std.specs.Int.RustNames.{bit_or}
-use Rattle.shape_buffer.specs.Buffer.{Buffer}
-use Rattle.shape_buffer.specs.Items.{Item}
+use Rattle.shape_items.specs.Buffer.{Buffer}
+use Rattle.shape_items.specs.Items.{Item}
 use Rattle.canonical_form.specs.Chain.{FallsAlong}
-use Rattle.shape_buffer.specs.declared.buffer.settings.hb_tag_t.{hb_tag_t}
+use Rattle.shape_common.specs.declared.settings.hb_tag_t.{hb_tag_t}
 use Rattle.shape_plan.specs.ModeNames.{MODE_NONE, MODE_AUTO}
 use Rattle.shape_plan.specs.Reorder.{ReordersRanges}
-use Rattle.shape_buffer.specs.FlagNames.{HAS_GLYPH_FLAGS}
+use Rattle.shape_common.specs.FlagNames.{HAS_GLYPH_FLAGS}
 
 -- the constants of a shaper
 pub record ShaperConstants : Type 0 where

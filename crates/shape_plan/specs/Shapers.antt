@@ -1,8 +1,8 @@
 -- Shapers that give no hook.
 use Rattle.std.specs.Prelude.{refl}
 use Rattle.std.proofs.Common.{inl}
-use Rattle.shape_buffer.specs.Buffer.{Buffer}
-use Rattle.shape_buffer.specs.Unicode.{UnicodeMeaning}
+use Rattle.shape_items.specs.Buffer.{Buffer}
+use Rattle.shape_common.specs.Unicode.{UnicodeMeaning}
 use Rattle.shape_plan.specs.Reorder.{ReordersRanges, done}
 use Rattle.shape_plan.specs.Shaper.{HookMeaning, ChangesMasksAlone}
 

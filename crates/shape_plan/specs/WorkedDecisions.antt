@@ -1,6 +1,6 @@
 -- The decisions of plans, computed on small cases whose answers are worked out by hand.
 use Rattle.std.specs.Prelude.{◌≡◌, Bool, true, false, List, [], ◌∷◌, refl}
-use Rattle.shape_buffer.specs.declared.interfaces.face.hb_tables_t.{hb_tables_t}
+use Rattle.shape_common.specs.declared.face.hb_tables_t.{hb_tables_t}
 use Rattle.shape_plan.specs.Decisions.{decided}
 use Rattle.shape_plan.specs.declared.decisions.Decisions.{Decisions}
 use Rattle.shape_plan.specs.declared.decisions.PlanFacts.{PlanFacts}

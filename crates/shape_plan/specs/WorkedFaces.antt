@@ -2,7 +2,7 @@
 use Rattle.std.specs.Prelude.{◌==◌, ℕ, pos, Bool, true, false, Some, None, refl, if◌then◌else◌}
 use Rattle.std.specs.Int.RustNames.{bit_and}
 use Rattle.std.proofs.Common.{rules}
-use Rattle.shape_buffer.specs.Face.{FaceMeaning}
+use Rattle.shape_common.specs.Face.{FaceMeaning}
 use Rattle.shape_buffer.specs.Layout.{LayoutMeaning, MapMeaning, LawfulMasks, HasNoDefinedFlag}
 use Rattle.shape_buffer.specs.declared.interfaces.map_request.TableIndex.TheVariants.{GSUB, GPOS}
 

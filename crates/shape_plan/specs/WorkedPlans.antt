@@ -1,12 +1,12 @@
 -- Planners and plans, computed on small cases whose answers are worked out by hand.
 use Rattle.std.specs.Prelude.{◌≡◌, ◌+◌, ◌*◌, ℕ, pos, Bool, true, false, List, [], ◌∷◌, length, Some, None, is_some, refl}
-use Rattle.shape_buffer.specs.Face.{FaceMeaning}
+use Rattle.shape_common.specs.Face.{FaceMeaning}
 use Rattle.shape_buffer.specs.Layout.{LayoutMeaning, MapMeaning}
 use Rattle.shape_buffer.specs.MapBuilder.{Builder}
-use Rattle.shape_buffer.specs.declared.buffer.settings.Direction.{Direction}
-use Rattle.shape_buffer.specs.declared.buffer.settings.Direction.TheVariants.{LeftToRight, RightToLeft, TopToBottom}
-use Rattle.shape_buffer.specs.declared.buffer.settings.Feature.{Feature}
-use Rattle.shape_buffer.specs.declared.interfaces.face.hb_tables_t.{hb_tables_t}
+use Rattle.shape_common.specs.declared.settings.Direction.{Direction}
+use Rattle.shape_common.specs.declared.settings.Direction.TheVariants.{LeftToRight, RightToLeft, TopToBottom}
+use Rattle.shape_common.specs.declared.settings.Feature.{Feature}
+use Rattle.shape_common.specs.declared.face.hb_tables_t.{hb_tables_t}
 use Rattle.shape_buffer.specs.declared.interfaces.map_request.TableIndex.TheVariants.{GSUB, GPOS}
 use Rattle.shape_plan.specs.WorkedFaces.{bare_face}
 use Rattle.shape_plan.specs.Plan.{Plan}

@@ -1,12 +1,12 @@
 -- What a run and normalising go by, worked out by hand: hooks count where they are given and the plan keeps
 -- its shaper, and all else is told of the plan and the face.
 use Rattle.std.specs.Prelude.{◌≡◌, ◌+◌, ℕ, pos, neg_ℤ, true, false, [], ◌∷◌, Option, Some, None, is_some, refl}
-use Rattle.shape_buffer.specs.Buffer.{Buffer, new_buffer}
-use Rattle.shape_buffer.specs.Face.{FaceMeaning}
+use Rattle.shape_items.specs.Buffer.{Buffer, new_buffer}
+use Rattle.shape_common.specs.Face.{FaceMeaning}
 use Rattle.shape_buffer.specs.Layout.{LookupMeaning}
-use Rattle.shape_buffer.specs.PlainUnicode.{plain_unicode}
-use Rattle.shape_buffer.specs.Unicode.{UnicodeMeaning}
-use Rattle.shape_buffer.specs.declared.buffer.settings.Direction.TheVariants.{RightToLeft}
+use Rattle.shape_common.specs.PlainUnicode.{plain_unicode}
+use Rattle.shape_common.specs.Unicode.{UnicodeMeaning}
+use Rattle.shape_common.specs.declared.settings.Direction.TheVariants.{RightToLeft}
 use Rattle.shape_plan.specs.Keepers.{has_steps}
 use Rattle.shape_plan.specs.ModeNames.{MODE_DECOMPOSED}
 use Rattle.shape_plan.specs.Plan.{Plan}

@@ -4,19 +4,19 @@ use Rattle.std.specs.Prelude.{if◌then◌else◌}
 use Rattle.std.specs.List.{suffix_len}
 use Rattle.std.proofs.lemmas.Bool.{cases_Bool}
 use Rattle.std.proofs.lemmas.List.{length-map, length-append, length-take, length-drop}
-use Rattle.shape_buffer.specs.Buffer.{Buffer}
-use Rattle.shape_buffer.specs.Clusters.{clusters}
-use Rattle.shape_buffer.specs.Delete.{hand_over, give_to_kept, hand_on, delete_from}
-use Rattle.shape_buffer.specs.Face.{FaceMeaning}
-use Rattle.shape_buffer.specs.Flags.{flags_propagated, flagged_from, mask_after}
-use Rattle.shape_buffer.specs.Items.{Item, has_cluster, is_ignorable_item}
-use Rattle.shape_buffer.specs.KeepsFlags.{has_glyph_flags}
+use Rattle.shape_items.specs.Buffer.{Buffer}
+use Rattle.shape_items.specs.Clusters.{clusters}
+use Rattle.shape_items.specs.Delete.{hand_over, give_to_kept, hand_on, delete_from}
+use Rattle.shape_common.specs.Face.{FaceMeaning}
+use Rattle.shape_items.specs.Flags.{flags_propagated, flagged_from, mask_after}
+use Rattle.shape_items.specs.Items.{Item, has_cluster, is_ignorable_item}
+use Rattle.shape_items.specs.KeepsFlags.{has_glyph_flags}
 use Rattle.shape_buffer.specs.Walks.{items_mapped}
-use Rattle.shape_buffer.specs.declared.buffer.flags.BufferFlags.{BufferFlags}
-use Rattle.shape_buffer.specs.declared.buffer.settings.GlyphId.{GlyphId}
-use Rattle.shape_buffer.proofs.Flags.ClusterRunLemmas.{flagged-runs}
-use Rattle.shape_buffer.proofs.Deletion.DeleteLemmas.{hand_on-cases, kept_by_deletion}
-use Rattle.shape_buffer.proofs.Merging.KeyLemmas.{length-map_range, length-merge_clusters, without_items-merge_clusters}
+use Rattle.shape_common.specs.declared.flags.BufferFlags.{BufferFlags}
+use Rattle.shape_common.specs.declared.settings.GlyphId.{GlyphId}
+use Rattle.shape_items.proofs.Flags.ClusterRunLemmas.{flagged-runs}
+use Rattle.shape_items.proofs.Deletion.DeleteLemmas.{hand_on-cases, kept_by_deletion}
+use Rattle.shape_items.proofs.Merging.KeyLemmas.{length-map_range, length-merge_clusters, without_items-merge_clusters}
 use Rattle.shape_position.specs.Ignorables.{ignorables_hidden, shown_as, replaced_or_deleted, hides_ignorables, removes_ignorables, unseen_glyph}
 use Rattle.shape_position.specs.Kept.{KeepsAsMany}
 

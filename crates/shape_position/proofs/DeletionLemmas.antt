@@ -1,11 +1,11 @@
 -- What deletion leaves of the settings of a buffer.
 use Rattle.std.proofs.Common.{◌≡◌, ℕ, Bool, length, refl, ap, ◌∙◌}
-use Rattle.shape_buffer.specs.Buffer.{Buffer}
-use Rattle.shape_buffer.specs.BufferClusters.{merge_clusters}
-use Rattle.shape_buffer.specs.Delete.{give_to_kept, deleted}
-use Rattle.shape_buffer.specs.Items.{Item}
-use Rattle.shape_buffer.proofs.Deletion.DeleteLemmas.{hand_on-cases, IsKeptByLoss, kept_by_deletion}
-use Rattle.shape_buffer.proofs.Merging.KeyLemmas.{without_items-merge_clusters}
+use Rattle.shape_items.specs.Buffer.{Buffer}
+use Rattle.shape_items.specs.BufferClusters.{merge_clusters}
+use Rattle.shape_items.specs.Delete.{give_to_kept, deleted}
+use Rattle.shape_items.specs.Items.{Item}
+use Rattle.shape_items.proofs.Deletion.DeleteLemmas.{hand_on-cases, IsKeptByLoss, kept_by_deletion}
+use Rattle.shape_items.proofs.Merging.KeyLemmas.{without_items-merge_clusters}
 
 -- direction and level are the same
 pub record SameSettings (before after : Buffer) : Type 0 where

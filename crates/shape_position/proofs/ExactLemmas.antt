@@ -1,6 +1,6 @@
 -- Positions that fit an i32 are exact: each difference wraps at most once.
 use Rattle.std.proofs.Common.{ℤ, refl}
-use Rattle.shape_buffer.specs.Wrapping.{◌-ʷ◌, -ʷ-exact}
+use Rattle.shape_common.specs.Wrapping.{◌-ʷ◌, -ʷ-exact}
 use Rattle.shape_position.specs.Advances.{glyph_of, IsExactDifference}
 use Rattle.shape_position.specs.Exact.{ExactAdvances, ExactMarkWidths}
 

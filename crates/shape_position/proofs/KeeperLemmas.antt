@@ -1,11 +1,11 @@
 -- Steps that keep the order of clusters, the flags of glyphs and the number of positions.
 use Rattle.std.proofs.Common.{◌≡◌, ℕ, List, [], ◌∷◌, map, refl, sym, ◌∙◌, inl}
-use Rattle.shape_buffer.specs.Items.{Item}
+use Rattle.shape_items.specs.Items.{Item}
 use Rattle.shape_buffer.specs.Keepers.{IsClusterKeeper, IsFlagKeeper}
-use Rattle.shape_buffer.specs.KeepsFlags.{some_has}
+use Rattle.shape_items.specs.KeepsFlags.{some_has}
 use Rattle.shape_buffer.specs.PositionWalks.{positions_mapped}
 use Rattle.shape_buffer.specs.Walks.{items_mapped}
-use Rattle.shape_buffer.specs.declared.buffer.positions.GlyphPosition.{GlyphPosition}
+use Rattle.shape_common.specs.declared.positions.GlyphPosition.{GlyphPosition}
 use Rattle.shape_buffer.proofs.Loops.PositionWalkLemmas.{length-positions_over}
 use Rattle.shape_buffer.proofs.Steps.KeeperLemmas.{KeepsClusters-equal}
 use Rattle.shape_position.specs.Kept.{KeepsAsMany}

@@ -3,19 +3,19 @@ use Rattle.std.proofs.Common.{◌≡◌, ℕ, Bool, true, false, List, [], ◌�
 use Rattle.std.specs.Prelude.{◌==◌, ◌&&◌, not, if◌then◌else◌}
 use Rattle.std.proofs.lemmas.Bool.{and_parts, cases_Bool}
 use Rattle.std.proofs.lemmas.List.{length-map}
-use Rattle.shape_buffer.specs.Clusters.{clusters}
-use Rattle.shape_buffer.specs.Direction.{is_horizontal, is_forward}
-use Rattle.shape_buffer.specs.Face.{FaceMeaning}
-use Rattle.shape_buffer.specs.Flags.{flags_propagated, flagged_from, mask_after}
-use Rattle.shape_buffer.specs.Items.{Item, is_ignorable_item}
+use Rattle.shape_items.specs.Clusters.{clusters}
+use Rattle.shape_common.specs.Direction.{is_horizontal, is_forward}
+use Rattle.shape_common.specs.Face.{FaceMeaning}
+use Rattle.shape_items.specs.Flags.{flags_propagated, flagged_from, mask_after}
+use Rattle.shape_items.specs.Items.{Item, is_ignorable_item}
 use Rattle.shape_buffer.specs.Keepers.{IsClusterKeeper, IsFlagKeeper, EachStep}
-use Rattle.shape_buffer.specs.KeepsFlags.{has_glyph_flags}
-use Rattle.shape_buffer.specs.declared.buffer.flags.BufferFlags.{BufferFlags}
-use Rattle.shape_buffer.specs.declared.buffer.settings.GlyphId.{GlyphId}
+use Rattle.shape_items.specs.KeepsFlags.{has_glyph_flags}
+use Rattle.shape_common.specs.declared.flags.BufferFlags.{BufferFlags}
+use Rattle.shape_common.specs.declared.settings.GlyphId.{GlyphId}
 use Rattle.shape_buffer.specs.Outcome.{step as plain_step}
-use Rattle.shape_buffer.proofs.Flags.ClusterRunLemmas.{flagged-runs}
-use Rattle.shape_buffer.proofs.Deletion.DeleteKeeps.{deleted_keeps_clusters, deleted_keeps_flags}
-use Rattle.shape_buffer.proofs.Flags.FlagLemmas.{KeepsFlags-same}
+use Rattle.shape_items.proofs.Flags.ClusterRunLemmas.{flagged-runs}
+use Rattle.shape_items.proofs.Deletion.DeleteKeeps.{deleted_keeps_clusters, deleted_keeps_flags}
+use Rattle.shape_items.proofs.Flags.FlagLemmas.{KeepsFlags-same}
 use Rattle.shape_buffer.proofs.Loops.PositionWalkLemmas.{length-positions_over}
 use Rattle.shape_buffer.proofs.Steps.KeeperLemmas.{EachStep-append, KeepsClusters-equal, KeepsOrder-same, clusters-map, order-items_mapped}
 use Rattle.shape_plan.specs.Keepers.{CallsKeepClusters, RunKeepsFlags}

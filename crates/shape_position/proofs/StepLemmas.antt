@@ -1,6 +1,6 @@
 -- Steps that make the same of a buffer.
 use Rattle.std.proofs.Common.{◌≡◌, ◌∙◌}
-use Rattle.shape_buffer.specs.Buffer.{Buffer}
+use Rattle.shape_items.specs.Buffer.{Buffer}
 use Rattle.shape_buffer.specs.Outcome.{Made}
 
 -- a step that was made is every step that makes the same of the buffer

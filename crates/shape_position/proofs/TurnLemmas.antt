@@ -3,14 +3,14 @@ use Rattle.std.proofs.Common.{◌≡◌, ◌||◌, ℕ, ◌-◌, ◌<◌, Bool, 
 use Rattle.std.specs.Prelude.{Contains, if◌then◌else◌, not}
 use Rattle.std.specs.List.Sorted.{IsNonDecreasing}
 use Rattle.std.proofs.lemmas.List.{get_or-reverse, length-reverse, reverse-append, map-append}
-use Rattle.shape_buffer.specs.Buffer.{Buffer}
-use Rattle.shape_buffer.specs.ClusterOrder.{IsNonIncreasing, IsOrderedFor}
-use Rattle.shape_buffer.specs.Clusters.{clusters}
-use Rattle.shape_buffer.specs.Direction.{is_backward}
-use Rattle.shape_buffer.specs.Items.{Item}
+use Rattle.shape_items.specs.Buffer.{Buffer}
+use Rattle.shape_items.specs.ClusterOrder.{IsNonIncreasing, IsOrderedFor}
+use Rattle.shape_items.specs.Clusters.{clusters}
+use Rattle.shape_common.specs.Direction.{is_backward}
+use Rattle.shape_items.specs.Items.{Item}
 use Rattle.shape_buffer.specs.Keepers.{IsFlagKeeper}
-use Rattle.shape_buffer.specs.KeepsFlags.{KeepsFlags, has_flag, some_has}
-use Rattle.shape_buffer.proofs.Flags.FlagLemmas.{append-cases, KeepsFlags-same}
+use Rattle.shape_items.specs.KeepsFlags.{KeepsFlags, has_flag, some_has}
+use Rattle.shape_items.proofs.Flags.FlagLemmas.{append-cases, KeepsFlags-same}
 use Rattle.shape_position.specs.Kept.{TurnsOrder, KeepsAsMany}
 use Rattle.shape_position.specs.Turning.{turned}
 

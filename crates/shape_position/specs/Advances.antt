@@ -1,15 +1,15 @@
 -- Positions before any table: zeros, then advances and origins by the face.
 use Rattle.std.specs.Prelude.{◌≡◌, ℤ, ◌-ℤ◌, Bool, FitsSigned, if◌then◌else◌}
 use Rattle.std.specs.Int.{w32}
-use Rattle.shape_buffer.specs.Buffer.{Buffer}
-use Rattle.shape_buffer.specs.Direction.{is_horizontal}
-use Rattle.shape_buffer.specs.Face.{FaceMeaning}
-use Rattle.shape_buffer.specs.Items.{Item}
+use Rattle.shape_items.specs.Buffer.{Buffer}
+use Rattle.shape_common.specs.Direction.{is_horizontal}
+use Rattle.shape_common.specs.Face.{FaceMeaning}
+use Rattle.shape_items.specs.Items.{Item}
 use Rattle.shape_buffer.specs.PositionWalks.{positions_mapped}
-use Rattle.shape_buffer.specs.Positions.{zero_position}
-use Rattle.shape_buffer.specs.Wrapping.{◌-ʷ◌}
-use Rattle.shape_buffer.specs.declared.buffer.positions.GlyphPosition.{GlyphPosition}
-use Rattle.shape_buffer.specs.declared.buffer.settings.GlyphId.{GlyphId}
+use Rattle.shape_common.specs.Positions.{zero_position}
+use Rattle.shape_common.specs.Wrapping.{◌-ʷ◌}
+use Rattle.shape_common.specs.declared.positions.GlyphPosition.{GlyphPosition}
+use Rattle.shape_common.specs.declared.settings.GlyphId.{GlyphId}
 
 -- each position with all six numbers 0
 abbrev pub positions_cleared : Buffer → Buffer

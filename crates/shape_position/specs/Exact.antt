@@ -1,8 +1,8 @@
 -- The exact numbers of positions, for where they fit an i32.
 use Rattle.std.specs.Prelude.{◌≡◌, pos, Bool, true, false}
-use Rattle.shape_buffer.specs.Face.{FaceMeaning}
-use Rattle.shape_buffer.specs.Items.{Item}
-use Rattle.shape_buffer.specs.declared.buffer.positions.GlyphPosition.{GlyphPosition}
+use Rattle.shape_common.specs.Face.{FaceMeaning}
+use Rattle.shape_items.specs.Items.{Item}
+use Rattle.shape_common.specs.declared.positions.GlyphPosition.{GlyphPosition}
 use Rattle.shape_position.specs.Advances.{glyph_of, advanced_position, IsExactDifference}
 use Rattle.shape_position.specs.Zeroing.{is_mark_glyph, zeroed_mark}
 

@@ -2,15 +2,15 @@
 use Rattle.std.specs.Prelude.{pos, ◌==◌, ◌&&◌, not, Bool, Option, Some, None, if◌then◌else◌}
 use Rattle.std.specs.Int.RustNames.{bit_and}
 use Rattle.std.specs.Option.{option_or}
-use Rattle.shape_buffer.specs.Buffer.{Buffer}
-use Rattle.shape_buffer.specs.Delete.{deleted}
-use Rattle.shape_buffer.specs.Face.{FaceMeaning}
-use Rattle.shape_buffer.specs.Items.{Item, is_ignorable_item}
+use Rattle.shape_items.specs.Buffer.{Buffer}
+use Rattle.shape_items.specs.Delete.{deleted}
+use Rattle.shape_common.specs.Face.{FaceMeaning}
+use Rattle.shape_items.specs.Items.{Item, is_ignorable_item}
 use Rattle.shape_buffer.specs.PositionWalks.{positions_mapped}
 use Rattle.shape_buffer.specs.Walks.{items_mapped}
-use Rattle.shape_buffer.specs.declared.buffer.positions.GlyphPosition.{GlyphPosition}
-use Rattle.shape_buffer.specs.declared.buffer.settings.GlyphId.{GlyphId}
-use Rattle.shape_buffer.specs.FlagNames.{PRESERVE_DEFAULT_IGNORABLES, REMOVE_DEFAULT_IGNORABLES, HAS_DEFAULT_IGNORABLES}
+use Rattle.shape_common.specs.declared.positions.GlyphPosition.{GlyphPosition}
+use Rattle.shape_common.specs.declared.settings.GlyphId.{GlyphId}
+use Rattle.shape_common.specs.FlagNames.{PRESERVE_DEFAULT_IGNORABLES, REMOVE_DEFAULT_IGNORABLES, HAS_DEFAULT_IGNORABLES}
 
 -- the run has seen default ignorables (scratch flag 2)
 abbrev pub has_ignorables : Buffer → Bool

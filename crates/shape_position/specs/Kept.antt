@@ -1,10 +1,10 @@
 -- What the steps of a run do to clusters, flags and the number of positions.
 use Rattle.std.specs.Prelude.{◌≡◌, ℕ, not, length, reverse, Contains, if◌then◌else◌}
 use Rattle.std.specs.List.Sorted.{IsNonDecreasing}
-use Rattle.shape_buffer.specs.Buffer.{Buffer}
-use Rattle.shape_buffer.specs.ClusterOrder.{IsNonIncreasing, IsOrderedFor}
-use Rattle.shape_buffer.specs.Clusters.{clusters}
-use Rattle.shape_buffer.specs.Direction.{is_backward}
+use Rattle.shape_items.specs.Buffer.{Buffer}
+use Rattle.shape_items.specs.ClusterOrder.{IsNonIncreasing, IsOrderedFor}
+use Rattle.shape_items.specs.Clusters.{clusters}
+use Rattle.shape_common.specs.Direction.{is_backward}
 
 -- as many positions as items, where there were
 abbrev pub KeepsAsMany : (Buffer → Buffer) → Type 0

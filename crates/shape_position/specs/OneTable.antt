@@ -1,6 +1,6 @@
 -- GPOS and kerx never both run: said of the very steps that position by tables.
 use Rattle.std.specs.Prelude.{◌≡◌, ◌⊎◌, ℕ, true, false, Contains}
-use Rattle.shape_buffer.specs.Buffer.{Buffer}
+use Rattle.shape_items.specs.Buffer.{Buffer}
 use Rattle.shape_buffer.specs.Outcome.{step}
 use Rattle.shape_plan.specs.Decisions.{runs_gpos, runs_kerx}
 use Rattle.shape_plan.specs.Run.{Run}

@@ -1,13 +1,13 @@
 -- Variation selectors for which the face has no variation glyph.
 use Rattle.std.specs.Prelude.{◌==◌, Bool, false, Option, Some, None, map, if◌then◌else◌}
 use Rattle.std.specs.Int.RustNames.{bit_and}
-use Rattle.shape_buffer.specs.Buffer.{Buffer}
-use Rattle.shape_buffer.specs.Items.{Item}
+use Rattle.shape_items.specs.Buffer.{Buffer}
+use Rattle.shape_items.specs.Items.{Item}
 use Rattle.shape_buffer.specs.PositionWalks.{positions_over}
-use Rattle.shape_buffer.specs.declared.buffer.positions.GlyphPosition.{GlyphPosition}
-use Rattle.shape_buffer.specs.declared.buffer.settings.GlyphId.{GlyphId}
+use Rattle.shape_common.specs.declared.positions.GlyphPosition.{GlyphPosition}
+use Rattle.shape_common.specs.declared.settings.GlyphId.{GlyphId}
 use Rattle.shape_position.specs.Ignorables.{without_values}
-use Rattle.shape_buffer.specs.FlagNames.{HAS_VARIATION_SELECTOR_FALLBACK}
+use Rattle.shape_common.specs.FlagNames.{HAS_VARIATION_SELECTOR_FALLBACK}
 
 -- the run has seen such selectors (scratch flag 16)
 abbrev pub has_selector_fallback : Buffer → Bool

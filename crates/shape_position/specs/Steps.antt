@@ -1,6 +1,6 @@
 -- The steps of a run from the first position to the flags of glyphs, in their order.
 use Rattle.std.specs.Prelude.{List, [], ◌∷◌, ◌++◌}
-use Rattle.shape_buffer.specs.Flags.{flags_propagated}
+use Rattle.shape_items.specs.Flags.{flags_propagated}
 use Rattle.shape_buffer.specs.Outcome.{Step, step}
 use Rattle.shape_plan.specs.Run.{Run, hook_if}
 use Rattle.shape_position.specs.Advances.{positions_cleared, advanced}

@@ -1,6 +1,6 @@
 -- Positions by the tables that a plan has chosen.
 use Rattle.std.specs.Prelude.{◌&&◌, not, if◌then◌else◌}
-use Rattle.shape_buffer.specs.Buffer.{Buffer}
+use Rattle.shape_items.specs.Buffer.{Buffer}
 use Rattle.shape_buffer.specs.Layout.{LookupMeaning}
 use Rattle.shape_plan.specs.Run.{step_if}
 use Rattle.shape_plan.specs.declared.decisions.Decisions.{Decisions}

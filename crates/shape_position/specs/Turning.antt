@@ -1,7 +1,7 @@
 -- The order in which glyphs are handed out.
 use Rattle.std.specs.Prelude.{reverse, if◌then◌else◌}
-use Rattle.shape_buffer.specs.Buffer.{Buffer}
-use Rattle.shape_buffer.specs.Direction.{is_backward}
+use Rattle.shape_items.specs.Buffer.{Buffer}
+use Rattle.shape_common.specs.Direction.{is_backward}
 
 -- glyphs and positions in the other order, where the text runs to the left or to the top
 unfoldable pub turned : Buffer → Buffer

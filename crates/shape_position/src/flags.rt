@@ -6,13 +6,13 @@
 ghost use Rattle.std.specs.Prelude.{◌≡◌, ◌==◌, false, IsTrue};
 ghost use Rattle.std.specs.List.{prefix_len};
 ghost use Rattle.std.specs.Int.RustNames.{bit_and};
-ghost use Rattle.shape_buffer.specs.Flags.{first_united, handed_flags as handed_flags_of};
-ghost use Rattle.shape_buffer.specs.Flags.{with_tatweel as with_tatweel_of};
-ghost use Rattle.shape_buffer.specs.Flags.{mask_after as mask_after_of, flags_propagated};
-ghost use Rattle.shape_buffer.specs.FlagNames.{PRODUCE_UNSAFE_TO_CONCAT, UNSAFE_TO_CONCAT};
-ghost use Rattle.shape_buffer.specs.Flags.{HasOneSetOfFlags};
-ghost use Rattle.shape_buffer.specs.KeepsFlags.{some_has};
-ghost use Rattle.shape_buffer.specs.Items.{has_cluster};
+ghost use Rattle.shape_items.specs.Flags.{first_united, handed_flags as handed_flags_of};
+ghost use Rattle.shape_items.specs.Flags.{with_tatweel as with_tatweel_of};
+ghost use Rattle.shape_items.specs.Flags.{mask_after as mask_after_of, flags_propagated};
+ghost use Rattle.shape_common.specs.FlagNames.{PRODUCE_UNSAFE_TO_CONCAT, UNSAFE_TO_CONCAT};
+ghost use Rattle.shape_items.specs.Flags.{HasOneSetOfFlags};
+ghost use Rattle.shape_items.specs.KeepsFlags.{some_has};
+ghost use Rattle.shape_items.specs.Items.{has_cluster};
 ghost use Rattle.shape_buffer.specs.Outcome.{Made};
 ghost use Rattle.shape_buffer.specs.Honest.{IsHonest};
 

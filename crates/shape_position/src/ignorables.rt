@@ -6,7 +6,7 @@
 //! meant to be seen and stays (The Unicode Standard, section 5.21).
 ghost use Rattle.std.specs.Prelude.{◌≡◌};
 ghost use Rattle.shape_buffer.specs.Outcome.{Made};
-ghost use Rattle.shape_buffer.specs.Items.{is_ignorable_item};
+ghost use Rattle.shape_items.specs.Items.{is_ignorable_item};
 ghost use Rattle.shape_position.specs.Ignorables.{hides_ignorables as hides_ignorables_of};
 ghost use Rattle.shape_position.specs.Ignorables.{removes_ignorables as removes_ignorables_of};
 ghost use Rattle.shape_position.specs.Ignorables.{without_values as without_values_of};

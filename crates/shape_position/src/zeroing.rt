@@ -5,10 +5,10 @@
 //! moved back by the advance that it loses, so that it hangs over the glyph before it; in a backward line
 //! it then hangs over the glyph that comes to stand before it when the line is turned.
 ghost use Rattle.std.specs.Prelude.{◌≡◌, ◌<◌, length, slice_index_or, slice_set};
-ghost use Rattle.shape_buffer.specs.Items.{Item};
+ghost use Rattle.shape_items.specs.Items.{Item};
 ghost use Rattle.shape_buffer.specs.Outcome.{Made};
 ghost use Rattle.shape_buffer.specs.PositionWalks.{positions_mapped};
-ghost use Rattle.shape_buffer.specs.declared.buffer.positions.GlyphPosition.{GlyphPosition as Position};
+ghost use Rattle.shape_common.specs.declared.positions.GlyphPosition.{GlyphPosition as Position};
 ghost use Rattle.shape_position.specs.Advances.{IsExactDifference};
 ghost use Rattle.shape_position.specs.Zeroing.{is_mark_glyph as is_mark_glyph_of};
 ghost use Rattle.shape_position.specs.Zeroing.{without_advances as without_advances_of};

@@ -3,28 +3,28 @@ use Rattle.std.proofs.Common.{◌≡◌, ◌≢◌, ℕ, ◌==◌, ◌&&◌, ◌
 use Rattle.std.proofs.lemmas.Bool.{cases_Bool}
 use Rattle.std.proofs.lemmas.List.{length-map}
 use Rattle.canonical_form.specs.Expanded.{begins_with_mark}
-use Rattle.shape_buffer.specs.Buffer.{Buffer, limit_of}
-use Rattle.shape_buffer.specs.BufferClusters.{merge_clusters, unsafe_to_break}
-use Rattle.shape_buffer.specs.Face.{FaceMeaning}
-use Rattle.shape_buffer.specs.Flags.{with_mask}
-use Rattle.shape_buffer.specs.Items.{Item, is_mark_item}
+use Rattle.shape_items.specs.Buffer.{Buffer, limit_of}
+use Rattle.shape_items.specs.BufferClusters.{merge_clusters, unsafe_to_break}
+use Rattle.shape_common.specs.Face.{FaceMeaning}
+use Rattle.shape_items.specs.Flags.{with_mask}
+use Rattle.shape_items.specs.Items.{Item, is_mark_item}
 use Rattle.shape_buffer.specs.Outcome.{Made, Outcome, Refused, for_length, for_memory, step}
 use Rattle.shape_buffer.specs.declared.buffer.error.ShapeError.{ShapeError}
 use Rattle.shape_buffer.specs.declared.buffer.error.ShapeError.TheVariants.{Memory, Length}
 use Rattle.shape_prepare.specs.DottedCircle.{dotted_circled, with_circle, takes_circle}
-use Rattle.shape_buffer.specs.Positions.{zero_position}
-use Rattle.shape_buffer.specs.Unicode.{UnicodeMeaning}
+use Rattle.shape_common.specs.Positions.{zero_position}
+use Rattle.shape_common.specs.Unicode.{UnicodeMeaning}
 use Rattle.shape_buffer.specs.Walks.{items_mapped}
-use Rattle.shape_buffer.specs.declared.buffer.settings.BufferClusterLevel.{BufferClusterLevel}
-use Rattle.shape_buffer.specs.declared.buffer.settings.BufferClusterLevel.TheVariants.{MonotoneGraphemes, MonotoneCharacters, Characters}
-use Rattle.shape_buffer.specs.declared.buffer.settings.Direction.{Direction}
+use Rattle.shape_common.specs.declared.settings.BufferClusterLevel.{BufferClusterLevel}
+use Rattle.shape_common.specs.declared.settings.BufferClusterLevel.TheVariants.{MonotoneGraphemes, MonotoneCharacters, Characters}
+use Rattle.shape_common.specs.declared.settings.Direction.{Direction}
 use Rattle.shape_plan.specs.declared.decisions.Decisions.{Decisions}
 use Rattle.shape_prepare.specs.Begun.{begun}
-use Rattle.shape_buffer.specs.GraphemeSpans.{grapheme_spans}
+use Rattle.shape_items.specs.GraphemeSpans.{grapheme_spans}
 use Rattle.shape_prepare.specs.ClustersFormed.{clusters_formed, over_graphemes}
 use Rattle.shape_prepare.specs.NativeOrder.{natively_ordered, native_direction, is_against, merged_to_turn, graphemes_turned}
 use Rattle.shape_prepare.specs.Rotated.{rotated, rotated_item, in_forms}
-use Rattle.shape_buffer.specs.Direction.{is_backward, is_vertical}
+use Rattle.shape_common.specs.Direction.{is_backward, is_vertical}
 
 -- a step that leaves the buffer as it was
 pub Made-same : (f : Buffer → Buffer) (b : Buffer) → f b ≡ b → Made f b b

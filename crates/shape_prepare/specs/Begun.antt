@@ -1,8 +1,8 @@
 -- How a run begins.
 use Rattle.std.specs.Prelude.{ℕ, map, length, replicate}
-use Rattle.shape_buffer.specs.Buffer.{Buffer}
-use Rattle.shape_buffer.specs.Flags.{with_mask}
-use Rattle.shape_buffer.specs.Positions.{zero_position}
+use Rattle.shape_items.specs.Buffer.{Buffer}
+use Rattle.shape_items.specs.Flags.{with_mask}
+use Rattle.shape_common.specs.Positions.{zero_position}
 
 -- every mask is the global one, and every position moves nothing
 unfoldable pub begun : ℕ → Buffer → Buffer

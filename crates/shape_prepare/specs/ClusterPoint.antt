@@ -1,18 +1,18 @@
 -- What preparing makes of clusters that never fall.
 use Rattle.std.specs.Prelude.{◌≡◌, ℕ, Bool, if◌then◌else◌, List, take, Contains}
 use Rattle.std.specs.List.{flat_map}
-use Rattle.shape_buffer.specs.Items.{Item}
-use Rattle.shape_buffer.specs.declared.buffer.settings.BufferClusterLevel.TheVariants.{MonotoneGraphemes}
+use Rattle.shape_items.specs.Items.{Item}
+use Rattle.shape_common.specs.declared.settings.BufferClusterLevel.TheVariants.{MonotoneGraphemes}
 use Rattle.shape_prepare.specs.Begun.{begun}
-use Rattle.shape_buffer.specs.GraphemeSpans.{graphemes}
+use Rattle.shape_items.specs.GraphemeSpans.{graphemes}
 use Rattle.shape_prepare.specs.Graphemes.{graphemes_marked}
 use Rattle.std.specs.List.Sorted.{IsNonDecreasing}
-use Rattle.shape_buffer.specs.Buffer.{Buffer}
-use Rattle.shape_buffer.specs.Clusters.{clusters}
-use Rattle.shape_buffer.specs.ClusterOrder.{IsMonotoneLevel, IsOrderedFor}
-use Rattle.shape_buffer.specs.Direction.{reverse_of}
+use Rattle.shape_items.specs.Buffer.{Buffer}
+use Rattle.shape_items.specs.Clusters.{clusters}
+use Rattle.shape_items.specs.ClusterOrder.{IsMonotoneLevel, IsOrderedFor}
+use Rattle.shape_common.specs.Direction.{reverse_of}
 use Rattle.shape_buffer.specs.Outcome.{run_steps}
-use Rattle.shape_buffer.specs.declared.buffer.settings.Direction.{Direction}
+use Rattle.shape_common.specs.declared.settings.Direction.{Direction}
 use Rattle.shape_plan.specs.Keepers.{CallsKeepClusters}
 use Rattle.shape_plan.specs.Run.{Run}
 use Rattle.shape_prepare.specs.NativeOrder.{is_against, native_direction}

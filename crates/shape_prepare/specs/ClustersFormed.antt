@@ -1,11 +1,11 @@
 -- The clusters of graphemes.
 use Rattle.std.specs.Prelude.{ℕ, ◌==◌, if◌then◌else◌, fold}
 use Rattle.std.specs.Int.RustNames.{bit_and}
-use Rattle.shape_buffer.specs.Buffer.{Buffer}
-use Rattle.shape_buffer.specs.BufferClusters.{merge_clusters, unsafe_to_break}
-use Rattle.shape_buffer.specs.declared.buffer.settings.BufferClusterLevel.TheVariants.{MonotoneGraphemes, MonotoneCharacters, Characters}
-use Rattle.shape_buffer.specs.GraphemeSpans.{grapheme_spans}
-use Rattle.shape_buffer.specs.FlagNames.{HAS_NON_ASCII}
+use Rattle.shape_items.specs.Buffer.{Buffer}
+use Rattle.shape_items.specs.BufferClusters.{merge_clusters, unsafe_to_break}
+use Rattle.shape_common.specs.declared.settings.BufferClusterLevel.TheVariants.{MonotoneGraphemes, MonotoneCharacters, Characters}
+use Rattle.shape_items.specs.GraphemeSpans.{grapheme_spans}
+use Rattle.shape_common.specs.FlagNames.{HAS_NON_ASCII}
 
 -- f over the span of each grapheme, from left to right
 abbrev pub over_graphemes : (ℕ → ℕ → Buffer → Buffer) → Buffer → Buffer

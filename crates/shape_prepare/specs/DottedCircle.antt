@@ -2,13 +2,13 @@
 use Rattle.std.specs.Prelude.{ℕ, Bool, true, false, ◌==◌, ◌&&◌, not, if◌then◌else◌, List, [], ◌∷◌, is_some}
 use Rattle.std.specs.Int.RustNames.{bit_and}
 use Rattle.canonical_form.specs.Expanded.{begins_with_mark}
-use Rattle.shape_buffer.specs.Buffer.{Buffer}
-use Rattle.shape_buffer.specs.Face.{FaceMeaning}
-use Rattle.shape_buffer.specs.Items.{Item, new_item, is_mark_item}
-use Rattle.shape_buffer.specs.Positions.{zero_position}
-use Rattle.shape_buffer.specs.Unicode.{UnicodeMeaning}
-use Rattle.shape_buffer.specs.UnicodeProps.{with_unicode_props, with_scratch_of}
-use Rattle.shape_buffer.specs.FlagNames.{BEGINNING_OF_TEXT, DO_NOT_INSERT_DOTTED_CIRCLE}
+use Rattle.shape_items.specs.Buffer.{Buffer}
+use Rattle.shape_common.specs.Face.{FaceMeaning}
+use Rattle.shape_items.specs.Items.{Item, new_item, is_mark_item}
+use Rattle.shape_common.specs.Positions.{zero_position}
+use Rattle.shape_common.specs.Unicode.{UnicodeMeaning}
+use Rattle.shape_items.specs.UnicodeProps.{with_unicode_props, with_scratch_of}
+use Rattle.shape_common.specs.FlagNames.{BEGINNING_OF_TEXT, DO_NOT_INSERT_DOTTED_CIRCLE}
 
 abbrev pub is_empty : List ℕ → Bool
 is_empty [] = true

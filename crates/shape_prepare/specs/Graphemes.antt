@@ -1,12 +1,12 @@
 -- The properties of a text's items, and which of them continue a grapheme.
 use Rattle.std.specs.Prelude.{ℕ, Bool, true, false, ◌&&◌, ◌||◌, not, nat_le, if◌then◌else◌, List, [], ◌∷◌, map, fold}
-use Rattle.shape_buffer.specs.Buffer.{Buffer}
-use Rattle.shape_buffer.specs.Items.{Item}
-use Rattle.shape_buffer.specs.Unicode.{UnicodeMeaning}
-use Rattle.shape_buffer.specs.UnicodeProps.{with_unicode_props, with_scratch_of}
-use Rattle.shape_buffer.specs.declared.buffer.flags.ScratchFlags.{ScratchFlags}
-use Rattle.shape_buffer.specs.declared.buffer.general_category.hb_unicode_general_category_t.{hb_unicode_general_category_t}
-use Rattle.shape_buffer.specs.declared.buffer.general_category.hb_unicode_general_category_t.TheVariants.{UppercaseLetter, LowercaseLetter, TitlecaseLetter, OtherLetter, SpaceSeparator, ModifierSymbol}
+use Rattle.shape_items.specs.Buffer.{Buffer}
+use Rattle.shape_items.specs.Items.{Item}
+use Rattle.shape_common.specs.Unicode.{UnicodeMeaning}
+use Rattle.shape_items.specs.UnicodeProps.{with_unicode_props, with_scratch_of}
+use Rattle.shape_common.specs.declared.flags.ScratchFlags.{ScratchFlags}
+use Rattle.shape_common.specs.declared.general_category.hb_unicode_general_category_t.{hb_unicode_general_category_t}
+use Rattle.shape_common.specs.declared.general_category.hb_unicode_general_category_t.TheVariants.{UppercaseLetter, LowercaseLetter, TitlecaseLetter, OtherLetter, SpaceSeparator, ModifierSymbol}
 use Rattle.shape_prepare.specs.declared.graphemes.Before.{Before}
 use Rattle.shape_prepare.specs.declared.graphemes.Before.TheVariants.{Plain, OpenIndicator, Zwj}
 

@@ -1,12 +1,12 @@
 -- Where preparing leaves the characters of a text as they are.
 use Rattle.std.specs.Prelude.{◌≡◌, ℕ, ◌&&◌, true, false, map, All, Some}
 use Rattle.canonical_form.specs.Expanded.{begins_with_mark}
-use Rattle.shape_buffer.specs.Buffer.{Buffer}
-use Rattle.shape_buffer.specs.Face.{FaceMeaning}
-use Rattle.shape_buffer.specs.Items.{char_of, new_item}
+use Rattle.shape_items.specs.Buffer.{Buffer}
+use Rattle.shape_common.specs.Face.{FaceMeaning}
+use Rattle.shape_items.specs.Items.{char_of, new_item}
 use Rattle.shape_buffer.specs.Outcome.{run_steps}
-use Rattle.shape_buffer.specs.Unicode.{UnicodeMeaning, is_mark}
-use Rattle.shape_buffer.specs.declared.buffer.settings.Direction.{Direction}
+use Rattle.shape_common.specs.Unicode.{UnicodeMeaning, is_mark}
+use Rattle.shape_common.specs.declared.settings.Direction.{Direction}
 use Rattle.shape_plan.specs.Run.{Run}
 use Rattle.shape_plan.specs.Shaper.{HookMeaning}
 use Rattle.shape_plan.specs.declared.decisions.Decisions.{Decisions}

@@ -1,19 +1,19 @@
 -- The native direction of a text, and its native order.
 use Rattle.std.specs.Prelude.{ℕ, Bool, true, false, ◌&&◌, ◌||◌, not, if◌then◌else◌, Option, Some, None, List, [], ◌∷◌, map, length, take, drop, reverse}
 use Rattle.std.specs.List.{list_any, flat_map}
-use Rattle.shape_buffer.specs.Buffer.{Buffer}
-use Rattle.shape_buffer.specs.BufferClusters.{merge_clusters}
-use Rattle.shape_buffer.specs.Category.{is_digit_category}
-use Rattle.shape_buffer.specs.Direction.{reverse_of}
-use Rattle.shape_buffer.specs.Items.{Item}
-use Rattle.shape_buffer.specs.Unicode.{UnicodeMeaning}
-use Rattle.shape_buffer.specs.declared.buffer.general_category.hb_unicode_general_category_t.{hb_unicode_general_category_t}
-use Rattle.shape_buffer.specs.declared.buffer.general_category.hb_unicode_general_category_t.TheVariants.{UppercaseLetter, LowercaseLetter, TitlecaseLetter, ModifierLetter, OtherLetter}
-use Rattle.shape_buffer.specs.declared.buffer.settings.BufferClusterLevel.TheVariants.{MonotoneGraphemes, MonotoneCharacters, Characters}
-use Rattle.shape_buffer.specs.declared.buffer.settings.Direction.{Direction}
-use Rattle.shape_buffer.specs.declared.buffer.settings.Direction.TheVariants.{Invalid, LeftToRight, RightToLeft, TopToBottom, BottomToTop}
-use Rattle.shape_buffer.specs.declared.buffer.settings.Script.{Script}
-use Rattle.shape_buffer.specs.GraphemeSpans.{graphemes}
+use Rattle.shape_items.specs.Buffer.{Buffer}
+use Rattle.shape_items.specs.BufferClusters.{merge_clusters}
+use Rattle.shape_common.specs.Category.{is_digit_category}
+use Rattle.shape_common.specs.Direction.{reverse_of}
+use Rattle.shape_items.specs.Items.{Item}
+use Rattle.shape_common.specs.Unicode.{UnicodeMeaning}
+use Rattle.shape_common.specs.declared.general_category.hb_unicode_general_category_t.{hb_unicode_general_category_t}
+use Rattle.shape_common.specs.declared.general_category.hb_unicode_general_category_t.TheVariants.{UppercaseLetter, LowercaseLetter, TitlecaseLetter, ModifierLetter, OtherLetter}
+use Rattle.shape_common.specs.declared.settings.BufferClusterLevel.TheVariants.{MonotoneGraphemes, MonotoneCharacters, Characters}
+use Rattle.shape_common.specs.declared.settings.Direction.{Direction}
+use Rattle.shape_common.specs.declared.settings.Direction.TheVariants.{Invalid, LeftToRight, RightToLeft, TopToBottom, BottomToTop}
+use Rattle.shape_common.specs.declared.settings.Script.{Script}
+use Rattle.shape_items.specs.GraphemeSpans.{graphemes}
 use Rattle.shape_prepare.specs.Graphemes.{is_regional_indicator}
 use Rattle.shape_prepare.specs.ClustersFormed.{over_graphemes}
 

@@ -1,10 +1,10 @@
 -- Preparing prepares: each item's mark, by its category, and ccc become those of its character.
 use Rattle.std.specs.Prelude.{◌≡◌, true, Some}
-use Rattle.shape_buffer.specs.Buffer.{Buffer}
+use Rattle.shape_items.specs.Buffer.{Buffer}
 use Rattle.shape_buffer.specs.Outcome.{run_steps}
-use Rattle.shape_buffer.specs.Prepared.{IsPrepared}
-use Rattle.shape_buffer.specs.Unicode.{UnicodeMeaning, LawfulUnicode}
-use Rattle.shape_buffer.specs.declared.buffer.settings.Direction.{Direction}
+use Rattle.shape_items.specs.Prepared.{IsPrepared}
+use Rattle.shape_common.specs.Unicode.{UnicodeMeaning, LawfulUnicode}
+use Rattle.shape_common.specs.declared.settings.Direction.{Direction}
 use Rattle.shape_plan.specs.Run.{Run}
 use Rattle.shape_plan.specs.Shaper.{HookMeaning}
 use Rattle.shape_prepare.specs.PrepareSteps.{prepare_steps}

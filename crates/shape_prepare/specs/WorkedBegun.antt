@@ -1,8 +1,8 @@
 -- What a buffer of an earlier use begins with, worked out by hand.
 use Rattle.std.specs.Prelude.{◌≡◌, [], ◌∷◌, refl, pos}
-use Rattle.shape_buffer.specs.Buffer.{Buffer, new_buffer}
-use Rattle.shape_buffer.specs.Items.{new_item}
-use Rattle.shape_buffer.specs.Positions.{zero_position}
+use Rattle.shape_items.specs.Buffer.{Buffer, new_buffer}
+use Rattle.shape_items.specs.Items.{new_item}
+use Rattle.shape_common.specs.Positions.{zero_position}
 use Rattle.shape_prepare.specs.Begun.{begun}
 use Rattle.shape_prepare.specs.WorkedUnicode.{masks}
 

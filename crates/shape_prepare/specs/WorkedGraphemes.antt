@@ -1,10 +1,10 @@
 -- Graphemes and dotted circles on cases whose answers are worked out by hand.
 use Rattle.std.specs.Prelude.{◌≡◌, ℕ, ◌==◌, Bool, true, false, List, [], ◌∷◌, map, refl}
-use Rattle.shape_buffer.specs.Buffer.{Buffer}
-use Rattle.shape_buffer.specs.Items.{Item, new_item}
-use Rattle.shape_buffer.specs.Unicode.{UnicodeMeaning}
-use Rattle.shape_buffer.specs.declared.buffer.general_category.hb_unicode_general_category_t.{hb_unicode_general_category_t}
-use Rattle.shape_buffer.specs.declared.buffer.general_category.hb_unicode_general_category_t.TheVariants.{UppercaseLetter, LowercaseLetter, TitlecaseLetter, ModifierLetter, OtherLetter, SpaceSeparator, LineSeparator, ModifierSymbol, OtherSymbol, Format}
+use Rattle.shape_items.specs.Buffer.{Buffer}
+use Rattle.shape_items.specs.Items.{Item, new_item}
+use Rattle.shape_common.specs.Unicode.{UnicodeMeaning}
+use Rattle.shape_common.specs.declared.general_category.hb_unicode_general_category_t.{hb_unicode_general_category_t}
+use Rattle.shape_common.specs.declared.general_category.hb_unicode_general_category_t.TheVariants.{UppercaseLetter, LowercaseLetter, TitlecaseLetter, ModifierLetter, OtherLetter, SpaceSeparator, LineSeparator, ModifierSymbol, OtherSymbol, Format}
 use Rattle.shape_prepare.specs.Graphemes.{graphemes_marked, is_passed, is_skin_tone, is_extender, continues_by_rule, is_to_next}
 use Rattle.shape_prepare.specs.DottedCircle.{circle_before, dotted_circled}
 use Rattle.shape_prepare.specs.declared.graphemes.Before.TheVariants.{Plain, Zwj}

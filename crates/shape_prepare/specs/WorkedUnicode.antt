@@ -1,16 +1,16 @@
 -- What Unicode says of the characters of the worked cases, and a text of characters.
 use Rattle.std.specs.Prelude.{ℕ, ◌==◌, ◌&&◌, ◌||◌, nat_le, Bool, if◌then◌else◌, List, map, Option, Some, None}
-use Rattle.shape_buffer.specs.Buffer.{Buffer, new_buffer}
-use Rattle.shape_buffer.specs.Face.{FaceMeaning}
-use Rattle.shape_buffer.specs.Items.{new_item}
-use Rattle.shape_buffer.specs.Positions.{zero_position}
-use Rattle.shape_buffer.specs.Unicode.{UnicodeMeaning}
-use Rattle.shape_buffer.specs.declared.buffer.general_category.hb_unicode_general_category_t.{hb_unicode_general_category_t}
-use Rattle.shape_buffer.specs.declared.buffer.general_category.hb_unicode_general_category_t.TheVariants.{LowercaseLetter, OtherLetter, ModifierLetter, NonspacingMark, DecimalNumber, ModifierSymbol, OtherSymbol, OpenPunctuation, Format, SpaceSeparator}
-use Rattle.shape_buffer.specs.declared.buffer.settings.Direction.{Direction}
-use Rattle.shape_buffer.specs.declared.buffer.settings.Direction.TheVariants.{LeftToRight, RightToLeft, TopToBottom}
-use Rattle.shape_buffer.specs.declared.buffer.settings.Script.{Script}
-use Rattle.shape_buffer.specs.PlainUnicode.{plain_unicode}
+use Rattle.shape_items.specs.Buffer.{Buffer, new_buffer}
+use Rattle.shape_common.specs.Face.{FaceMeaning}
+use Rattle.shape_items.specs.Items.{new_item}
+use Rattle.shape_common.specs.Positions.{zero_position}
+use Rattle.shape_common.specs.Unicode.{UnicodeMeaning}
+use Rattle.shape_common.specs.declared.general_category.hb_unicode_general_category_t.{hb_unicode_general_category_t}
+use Rattle.shape_common.specs.declared.general_category.hb_unicode_general_category_t.TheVariants.{LowercaseLetter, OtherLetter, ModifierLetter, NonspacingMark, DecimalNumber, ModifierSymbol, OtherSymbol, OpenPunctuation, Format, SpaceSeparator}
+use Rattle.shape_common.specs.declared.settings.Direction.{Direction}
+use Rattle.shape_common.specs.declared.settings.Direction.TheVariants.{LeftToRight, RightToLeft, TopToBottom}
+use Rattle.shape_common.specs.declared.settings.Script.{Script}
+use Rattle.shape_common.specs.PlainUnicode.{plain_unicode}
 use Rattle.shape_plan.specs.WorkedFaces.{bare_face}
 
 -- categories, near enough to those of UAX 44 for these cases

@@ -4,9 +4,9 @@
 //! broken inside one without shaping anew. Text of ASCII characters alone has graphemes of one item, so
 //! nothing is done for it.
 ghost use Rattle.std.specs.Prelude.{◌≡◌, ◌≢◌};
-ghost use Rattle.shape_buffer.specs.BufferClusters.{merge_clusters, unsafe_to_break};
+ghost use Rattle.shape_items.specs.BufferClusters.{merge_clusters, unsafe_to_break};
 ghost use Rattle.shape_buffer.specs.Outcome.{Made};
-ghost use Rattle.shape_buffer.specs.declared.buffer.settings.BufferClusterLevel.TheVariants.{Characters};
+ghost use Rattle.shape_common.specs.declared.settings.BufferClusterLevel.TheVariants.{Characters};
 ghost use Rattle.shape_prepare.specs.ClustersFormed.{clusters_formed, over_graphemes};
 
 use crate::grapheme_walk::{GraphemeChange, each_grapheme};

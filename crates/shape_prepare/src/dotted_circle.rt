@@ -5,11 +5,11 @@
 ghost use Rattle.std.specs.Prelude.{◌≡◌, ◌<◌, length, IsTrue};
 ghost use Rattle.shape_buffer.specs.Outcome.{Outcome, IsWithinLimit, step};
 ghost use Rattle.canonical_form.specs.Expanded.{begins_with_mark as begins_with_mark_of};
-ghost use Rattle.shape_buffer.specs.Items.{is_mark_item};
+ghost use Rattle.shape_items.specs.Items.{is_mark_item};
 ghost use Rattle.shape_prepare.specs.DottedCircle.{dotted_circled, with_circle};
 ghost use Rattle.shape_prepare.specs.DottedCircle.{takes_circle as takes_circle_of};
 ghost use Rattle.shape_prepare.specs.DottedCircle.{circle_before as circle_before_of};
-ghost use Rattle.shape_buffer.specs.UnicodeProps.{with_scratch_of};
+ghost use Rattle.shape_items.specs.UnicodeProps.{with_scratch_of};
 
 use bitflags::Flags;
 use shape_buffer::buffer::{BufferFlags, ScratchFlags, ShapeError, hb_buffer_t, hb_glyph_info_t};

@@ -1,9 +1,9 @@
 //! The walk over the graphemes of a buffer.
 ghost use Rattle.std.specs.Prelude.{◌≡◌, ◌≤◌, map, drop, length};
-ghost use Rattle.shape_buffer.specs.BufferClusters.{unsafe_to_break};
+ghost use Rattle.shape_items.specs.BufferClusters.{unsafe_to_break};
 ghost use Rattle.shape_buffer.specs.Outcome.{Made};
 ghost use Rattle.shape_prepare.specs.ClustersFormed.{over_graphemes};
-ghost use Rattle.shape_buffer.specs.GraphemeSpans.{is_continuation, ends};
+ghost use Rattle.shape_items.specs.GraphemeSpans.{is_continuation, ends};
 ghost use Rattle.shape_prepare.specs.GraphemeWalk.{changed};
 
 use shape_buffer::buffer::{hb_buffer_t, hb_glyph_info_t};

@@ -17,7 +17,7 @@ ghost use Rattle.shape_prepare.specs.Graphemes.{is_modifier_symbol as is_modifie
 ghost use Rattle.shape_prepare.specs.Graphemes.{is_skin_tone as is_skin_tone_of};
 ghost use Rattle.shape_prepare.specs.Graphemes.{is_regional_indicator as is_regional_indicator_of};
 ghost use Rattle.shape_prepare.specs.Graphemes.{is_extender as is_extender_of, is_open, is_joining};
-ghost use Rattle.shape_buffer.specs.UnicodeProps.{with_unicode_props, with_scratch_of};
+ghost use Rattle.shape_items.specs.UnicodeProps.{with_unicode_props, with_scratch_of};
 
 use shape_buffer::buffer::{
     ScratchFlags, hb_buffer_t, hb_glyph_info_t, hb_unicode_general_category_t,

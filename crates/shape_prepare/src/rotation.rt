@@ -5,7 +5,7 @@
 //! Where Unicode has a character of that look and the face has a glyph for it, the character becomes that
 //! one; else lookups get the chance, by the mask of `rtlm`, or by `vert`.
 ghost use Rattle.std.specs.Prelude.{◌≡◌, ◌&&◌, not};
-ghost use Rattle.shape_buffer.specs.Direction.{is_backward, is_vertical};
+ghost use Rattle.shape_common.specs.Direction.{is_backward, is_vertical};
 ghost use Rattle.shape_buffer.specs.Outcome.{Made};
 ghost use Rattle.shape_prepare.specs.Rotated.{rotated, in_forms, mirrored_item, vertical_item};
 

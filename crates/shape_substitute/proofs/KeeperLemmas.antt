@@ -1,13 +1,13 @@
 -- Steps that keep the order of clusters and the flags of glyphs.
 use Rattle.std.proofs.Common.{◌≡◌, ℕ, true, List, [], ◌∷◌, map, refl, ap, sym, ◌∙◌, inl, inr}
 use Rattle.std.proofs.lemmas.Bool.{or_cases, or_right}
-use Rattle.shape_buffer.specs.Buffer.{Buffer}
-use Rattle.shape_buffer.specs.Clusters.{clusters}
-use Rattle.shape_buffer.specs.Items.{Item}
+use Rattle.shape_items.specs.Buffer.{Buffer}
+use Rattle.shape_items.specs.Clusters.{clusters}
+use Rattle.shape_items.specs.Items.{Item}
 use Rattle.shape_buffer.specs.Keepers.{IsClusterKeeper, IsFlagKeeper}
-use Rattle.shape_buffer.specs.KeepsFlags.{IsDefinedFlag, has_flag, some_has}
+use Rattle.shape_items.specs.KeepsFlags.{IsDefinedFlag, has_flag, some_has}
 use Rattle.shape_buffer.specs.Walks.{items_mapped}
-use Rattle.shape_buffer.proofs.Flags.FlagLemmas.{KeepsFlags-items}
+use Rattle.shape_items.proofs.Flags.FlagLemmas.{KeepsFlags-items}
 use Rattle.shape_buffer.proofs.Steps.KeeperLemmas.{KeepsClusters-equal, clusters-map}
 use Rattle.shape_plan.specs.Shaper.{without_mask}
 use Rattle.shape_substitute.proofs.MaskLemmas.{MasksAlone}

@@ -5,7 +5,7 @@ use Rattle.std.proofs.lemmas.Bool.{and_parts}
 use Rattle.std.specs.Option.{option_map_or}
 use Rattle.shape_buffer.specs.Keepers.{IsClusterKeeper, IsFlagKeeper, EachStep}
 use Rattle.shape_buffer.specs.Outcome.{step}
-use Rattle.shape_buffer.proofs.Flags.FlagLemmas.{KeepsFlags-same}
+use Rattle.shape_items.proofs.Flags.FlagLemmas.{KeepsFlags-same}
 use Rattle.shape_buffer.proofs.Steps.KeeperLemmas.{EachStep-append, KeepsOrder-same}
 use Rattle.shape_plan.specs.Keepers.{CallsKeepClusters, RunKeepsFlags}
 use Rattle.shape_plan.specs.Run.{Run, hook_if}

@@ -3,17 +3,17 @@ use Rattle.std.proofs.Common.{◌≡◌, ℕ, ◌+◌, ◌≤◌, ◌==◌, true
 use Rattle.std.proofs.lemmas.Bool.{cases_Bool}
 use Rattle.std.proofs.lemmas.List.{length-map}
 use Rattle.std.proofs.Math.ListN.{get_or-map}
-use Rattle.shape_buffer.specs.Buffer.{Buffer, limit_of}
-use Rattle.shape_buffer.specs.BufferClusters.{unsafe_to_break, unsafe_to_concat}
-use Rattle.shape_buffer.specs.Clusters.{mark_concat}
-use Rattle.shape_buffer.specs.Items.{Item}
+use Rattle.shape_items.specs.Buffer.{Buffer, limit_of}
+use Rattle.shape_items.specs.BufferClusters.{unsafe_to_break, unsafe_to_concat}
+use Rattle.shape_items.specs.Clusters.{mark_concat}
+use Rattle.shape_items.specs.Items.{Item}
 use Rattle.shape_buffer.specs.Outcome.{Made}
 use Rattle.shape_plan.specs.Shaper.{without_mask}
 use Rattle.shape_substitute.specs.Fractions.{features_added, with_features, is_slash, slash_masked, has_whole, whole_start, whole_end, next_place, slashes_masked, slash_places, fraction_masks, may_have_fractions, fractions_masked}
 use Rattle.shape_plan.specs.declared.decisions.Decisions.{Decisions}
 use Rattle.shape_substitute.specs.declared.fractions.FractionMasks.{FractionMasks}
-use Rattle.shape_buffer.proofs.Merging.ClusterLemmas.{unsafe_to_break-cases}
-use Rattle.shape_buffer.proofs.Merging.KeyLemmas.{keys-map_range, keys-unsafe_to_break}
+use Rattle.shape_items.proofs.Merging.ClusterLemmas.{unsafe_to_break-cases}
+use Rattle.shape_items.proofs.Merging.KeyLemmas.{keys-map_range, keys-unsafe_to_break}
 
 pub record MasksAlone (before after : Buffer) : Type 0 where
   pub items : map without_mask after.items ≡ map without_mask before.items

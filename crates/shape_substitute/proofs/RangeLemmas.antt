@@ -2,8 +2,8 @@
 use Rattle.std.proofs.Common.{◌≡◌, ℕ, zero, suc, ◌+◌, ◌-◌, ◌<◌, ◌≤◌, List, [], ◌∷◌, length, get_or, set, refl, ap, arith}
 use Rattle.std.proofs.lemmas.List.{take-append-drop}
 use Rattle.std.proofs.lemmas.List.Edits.{map_over_more}
-use Rattle.shape_buffer.specs.Items.{Item}
-use Rattle.shape_buffer.specs.Clusters.{map_range}
+use Rattle.shape_items.specs.Items.{Item}
+use Rattle.shape_items.specs.Clusters.{map_range}
 
 -- over no item yet
 pub map_range_none : (f : Item → Item) (from : ℕ) (xs : List Item) → map_range f from from xs ≡ xs

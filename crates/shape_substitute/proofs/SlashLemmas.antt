@@ -1,7 +1,7 @@
 -- The walk over the slashes of a list.
 use Rattle.std.proofs.Common.{◌≡◌, ℕ, ◌+◌, true, false, nat_lt, List, ◌∷◌, refl}
-use Rattle.shape_buffer.specs.Buffer.{Buffer}
-use Rattle.shape_buffer.specs.Items.{Item}
+use Rattle.shape_items.specs.Buffer.{Buffer}
+use Rattle.shape_items.specs.Items.{Item}
 use Rattle.shape_substitute.specs.Fractions.{is_slash, slash_places, slash_masked, next_place, slashes_masked}
 use Rattle.shape_substitute.specs.declared.fractions.FractionMasks.{FractionMasks}
 

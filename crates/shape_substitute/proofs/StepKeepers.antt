@@ -2,19 +2,19 @@
 use Rattle.std.proofs.Common.{◌≡◌, ◌==◌, ◌&&◌, ◌+◌, ℕ, true, false, nat_le, nat_lt, List, [], ◌∷◌, map, refl, ap, sym, ◌∙◌, inl, inr, arith, bit_and, fold}
 use Rattle.std.proofs.lemmas.Bool.{cases_Bool}
 use Rattle.std.proofs.lemmas.Bool.Decides.{nat_tests}
-use Rattle.shape_buffer.specs.Buffer.{Buffer}
-use Rattle.shape_buffer.specs.BufferClusters.{unsafe_to_concat}
-use Rattle.shape_buffer.specs.Direction.{is_forward}
-use Rattle.shape_buffer.specs.Items.{Item}
+use Rattle.shape_items.specs.Buffer.{Buffer}
+use Rattle.shape_items.specs.BufferClusters.{unsafe_to_concat}
+use Rattle.shape_common.specs.Direction.{is_forward}
+use Rattle.shape_items.specs.Items.{Item}
 use Rattle.shape_buffer.specs.Keepers.{IsClusterKeeper, IsFlagKeeper}
-use Rattle.shape_buffer.specs.KeepsFlags.{IsDefinedFlag, has_flag, KeepsFlags}
+use Rattle.shape_items.specs.KeepsFlags.{IsDefinedFlag, has_flag, KeepsFlags}
 use Rattle.shape_buffer.specs.Layout.{MapMeaning, LawfulMasks, HasNoDefinedFlag}
 use Rattle.shape_buffer.specs.Walks.{items_mapped}
-use Rattle.shape_buffer.specs.declared.buffer.settings.Direction.{Direction}
-use Rattle.shape_buffer.specs.declared.buffer.settings.Feature.{Feature}
-use Rattle.shape_buffer.proofs.Flags.FlagLemmas.{glyph_flags_set, the_first, range_brings, unsafe_to_break_keeps, KeepsFlags-items, KeepsFlags-same, KeepsFlags-then}
+use Rattle.shape_common.specs.declared.settings.Direction.{Direction}
+use Rattle.shape_common.specs.declared.settings.Feature.{Feature}
+use Rattle.shape_items.proofs.Flags.FlagLemmas.{glyph_flags_set, the_first, range_brings, unsafe_to_break_keeps, KeepsFlags-items, KeepsFlags-same, KeepsFlags-then}
 use Rattle.shape_buffer.proofs.Steps.KeeperLemmas.{order-items_mapped}
-use Rattle.shape_buffer.proofs.Merging.KeyLemmas.{keys-map}
+use Rattle.shape_items.proofs.Merging.KeyLemmas.{keys-map}
 use Rattle.shape_plan.specs.Shaper.{without_mask}
 use Rattle.shape_plan.specs.declared.decisions.Decisions.{Decisions}
 use Rattle.shape_substitute.specs.Classes.{glyphs_mapped, classes_synthesised, with_nominal_glyph, with_class}

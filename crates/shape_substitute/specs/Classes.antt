@@ -1,11 +1,11 @@
 -- Glyphs and their classes as substitution begins; syllables.
 use Rattle.std.specs.Prelude.{◌&&◌, not, false, if◌then◌else◌}
-use Rattle.shape_buffer.specs.Buffer.{Buffer}
-use Rattle.shape_buffer.specs.Category.{is_nonspacing_category}
-use Rattle.shape_buffer.specs.Items.{Item, is_ignorable_item}
+use Rattle.shape_items.specs.Buffer.{Buffer}
+use Rattle.shape_common.specs.Category.{is_nonspacing_category}
+use Rattle.shape_items.specs.Items.{Item, is_ignorable_item}
 use Rattle.shape_buffer.specs.Walks.{items_mapped}
-use Rattle.shape_buffer.specs.declared.buffer.flags.GlyphPropsFlags.{GlyphPropsFlags}
-use Rattle.shape_buffer.specs.FlagNames.{MARK, BASE_GLYPH}
+use Rattle.shape_common.specs.declared.flags.GlyphPropsFlags.{GlyphPropsFlags}
+use Rattle.shape_common.specs.FlagNames.{MARK, BASE_GLYPH}
 
 -- the glyph of an item becomes the one that the face answered for its character
 abbrev pub with_nominal_glyph : Item → Item

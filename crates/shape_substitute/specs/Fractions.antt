@@ -2,16 +2,16 @@
 use Rattle.std.specs.Prelude.{ℕ, ◌+◌, ◌-◌, ◌==◌, ◌&&◌, nat_lt, Bool, List, [], ◌∷◌, take, drop, if◌then◌else◌}
 use Rattle.std.specs.Int.RustNames.{bit_and, bit_or}
 use Rattle.std.specs.List.{prefix_len, suffix_len}
-use Rattle.shape_buffer.specs.Buffer.{Buffer}
-use Rattle.shape_buffer.specs.BufferClusters.{unsafe_to_break, unsafe_to_concat}
-use Rattle.shape_buffer.specs.Category.{is_digit_category}
-use Rattle.shape_buffer.specs.Clusters.{map_range}
-use Rattle.shape_buffer.specs.Direction.{is_forward}
-use Rattle.shape_buffer.specs.Items.{Item}
-use Rattle.shape_buffer.specs.declared.buffer.settings.Direction.{Direction}
+use Rattle.shape_items.specs.Buffer.{Buffer}
+use Rattle.shape_items.specs.BufferClusters.{unsafe_to_break, unsafe_to_concat}
+use Rattle.shape_common.specs.Category.{is_digit_category}
+use Rattle.shape_items.specs.Clusters.{map_range}
+use Rattle.shape_common.specs.Direction.{is_forward}
+use Rattle.shape_items.specs.Items.{Item}
+use Rattle.shape_common.specs.declared.settings.Direction.{Direction}
 use Rattle.shape_plan.specs.declared.decisions.Decisions.{Decisions}
 use Rattle.shape_substitute.specs.declared.fractions.FractionMasks.{FractionMasks}
-use Rattle.shape_buffer.specs.FlagNames.{HAS_NON_ASCII}
+use Rattle.shape_common.specs.FlagNames.{HAS_NON_ASCII}
 
 -- before the slash stands the numerator where text runs forward, else the denominator
 abbrev pub fraction_masks : Decisions → Direction → FractionMasks

@@ -1,11 +1,11 @@
 -- Features that the user asks for over some clusters.
 use Rattle.std.specs.Prelude.{ℕ, ◌-◌, ◌*◌, ◌^◌, ◌%◌, ◌&&◌, nat_le, nat_lt, List, fold, if◌then◌else◌}
 use Rattle.std.specs.Int.RustNames.{bit_and, bit_or}
-use Rattle.shape_buffer.specs.Buffer.{Buffer}
-use Rattle.shape_buffer.specs.Items.{Item}
+use Rattle.shape_items.specs.Buffer.{Buffer}
+use Rattle.shape_items.specs.Items.{Item}
 use Rattle.shape_buffer.specs.Layout.{MapMeaning}
 use Rattle.shape_buffer.specs.Walks.{items_mapped}
-use Rattle.shape_buffer.specs.declared.buffer.settings.Feature.{Feature}
+use Rattle.shape_common.specs.declared.settings.Feature.{Feature}
 use Rattle.shape_plan.specs.Requests.{is_global}
 
 -- a value at its place in a mask, bits past 32 dropped

@@ -1,7 +1,7 @@
 -- Masks and substitution as steps of a run.
 use Rattle.std.specs.Prelude.{ℕ, zero, suc, ◌&&◌, List, [], ◌∷◌, ◌++◌, if◌then◌else◌}
 use Rattle.std.specs.Option.{option_map_or}
-use Rattle.shape_buffer.specs.Buffer.{Buffer}
+use Rattle.shape_items.specs.Buffer.{Buffer}
 use Rattle.shape_buffer.specs.Outcome.{Step, step}
 use Rattle.shape_plan.specs.Run.{Run, step_if, hook_if}
 use Rattle.shape_substitute.specs.Classes.{glyphs_mapped, classes_synthesised}

@@ -1,11 +1,11 @@
 -- Fractions, computed on small cases whose answers are worked out by hand.
 use Rattle.std.specs.Prelude.{◌≡◌, ℕ, Bool, true, false, List, [], ◌∷◌, map, refl}
-use Rattle.shape_buffer.specs.Buffer.{Buffer, new_buffer}
-use Rattle.shape_buffer.specs.Items.{Item, new_item}
-use Rattle.shape_buffer.specs.declared.buffer.general_category.hb_unicode_general_category_t.{hb_unicode_general_category_t}
-use Rattle.shape_buffer.specs.declared.buffer.general_category.hb_unicode_general_category_t.TheVariants.{DecimalNumber, OtherNumber, OtherLetter, MathSymbol}
-use Rattle.shape_buffer.specs.declared.buffer.settings.Direction.{Direction}
-use Rattle.shape_buffer.specs.declared.buffer.settings.Direction.TheVariants.{Invalid, LeftToRight, RightToLeft, TopToBottom, BottomToTop}
+use Rattle.shape_items.specs.Buffer.{Buffer, new_buffer}
+use Rattle.shape_items.specs.Items.{Item, new_item}
+use Rattle.shape_common.specs.declared.general_category.hb_unicode_general_category_t.{hb_unicode_general_category_t}
+use Rattle.shape_common.specs.declared.general_category.hb_unicode_general_category_t.TheVariants.{DecimalNumber, OtherNumber, OtherLetter, MathSymbol}
+use Rattle.shape_common.specs.declared.settings.Direction.{Direction}
+use Rattle.shape_common.specs.declared.settings.Direction.TheVariants.{Invalid, LeftToRight, RightToLeft, TopToBottom, BottomToTop}
 use Rattle.shape_plan.specs.WorkedDecisions.{no_decisions}
 use Rattle.shape_plan.specs.declared.decisions.Decisions.{Decisions}
 use Rattle.shape_substitute.specs.Fractions.{features_added, slash_masked, slash_places, whole_start, whole_end, next_place, fractions_masked}

@@ -1,16 +1,16 @@
 -- Stages of single, ligature and multiple substitutions, run on small texts whose answers are worked out by hand.
 use Rattle.std.specs.Prelude.{◌≡◌, ℕ, zero, suc, ◌+◌, ◌==◌, ◌&&◌, Bool, true, false, List, [], ◌∷◌, length, map, drop, None, refl, if◌then◌else◌}
 use Rattle.std.specs.List.{flat_map}
-use Rattle.shape_buffer.specs.Buffer.{Buffer, new_buffer}
-use Rattle.shape_buffer.specs.BufferClusters.{merge_clusters}
-use Rattle.shape_buffer.specs.Clusters.{clusters, map_range, merge}
-use Rattle.shape_buffer.specs.Delete.{lose}
-use Rattle.shape_buffer.specs.Items.{Item, new_item}
+use Rattle.shape_items.specs.Buffer.{Buffer, new_buffer}
+use Rattle.shape_items.specs.BufferClusters.{merge_clusters}
+use Rattle.shape_items.specs.Clusters.{clusters, map_range, merge}
+use Rattle.shape_items.specs.Delete.{lose}
+use Rattle.shape_items.specs.Items.{Item, new_item}
 use Rattle.shape_buffer.specs.Layout.{LookupMeaning}
 use Rattle.shape_buffer.specs.NoLookups.{no_lookups}
 use Rattle.shape_buffer.specs.Outcome.{run_steps}
-use Rattle.shape_buffer.specs.declared.buffer.settings.BufferClusterLevel.{BufferClusterLevel}
-use Rattle.shape_buffer.specs.declared.buffer.settings.BufferClusterLevel.TheVariants.{MonotoneGraphemes, MonotoneCharacters, Characters}
+use Rattle.shape_common.specs.declared.settings.BufferClusterLevel.{BufferClusterLevel}
+use Rattle.shape_common.specs.declared.settings.BufferClusterLevel.TheVariants.{MonotoneGraphemes, MonotoneCharacters, Characters}
 use Rattle.shape_plan.specs.Run.{Run}
 use Rattle.shape_substitute.specs.Substitution.{stage_steps, substitute_steps}
 use Rattle.shape_substitute.specs.WorkedSteps.{with_stages, constants, by_tables, glyphs}

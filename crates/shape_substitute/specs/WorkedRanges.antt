@@ -1,12 +1,12 @@
 -- The user's features and the classes of glyphs, computed on small cases whose answers are worked out by hand.
 use Rattle.std.specs.Prelude.{◌≡◌, ℕ, ◌==◌, Bool, true, false, List, [], ◌∷◌, map, None, refl, if◌then◌else◌}
-use Rattle.shape_buffer.specs.Buffer.{new_buffer}
-use Rattle.shape_buffer.specs.Items.{Item, new_item}
+use Rattle.shape_items.specs.Buffer.{new_buffer}
+use Rattle.shape_items.specs.Items.{Item, new_item}
 use Rattle.shape_buffer.specs.Layout.{MapMeaning}
 use Rattle.shape_buffer.specs.Walks.{items_mapped}
-use Rattle.shape_buffer.specs.declared.buffer.general_category.hb_unicode_general_category_t.{hb_unicode_general_category_t}
-use Rattle.shape_buffer.specs.declared.buffer.general_category.hb_unicode_general_category_t.TheVariants.{NonspacingMark, SpacingMark, EnclosingMark, OtherLetter}
-use Rattle.shape_buffer.specs.declared.buffer.settings.Feature.{Feature}
+use Rattle.shape_common.specs.declared.general_category.hb_unicode_general_category_t.{hb_unicode_general_category_t}
+use Rattle.shape_common.specs.declared.general_category.hb_unicode_general_category_t.TheVariants.{NonspacingMark, SpacingMark, EnclosingMark, OtherLetter}
+use Rattle.shape_common.specs.declared.settings.Feature.{Feature}
 use Rattle.shape_substitute.specs.Classes.{class_of_glyph, with_class, with_nominal_glyph, without_syllable, glyphs_mapped, classes_synthesised, syllables_cleared}
 use Rattle.shape_plan.specs.Requests.{is_global}
 use Rattle.shape_substitute.specs.Ranges.{shifted, with_value, ranges_masked}

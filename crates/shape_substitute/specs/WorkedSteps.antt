@@ -1,14 +1,14 @@
 -- Lists of steps, run on small cases whose answers are worked out by hand.
 use Rattle.std.specs.Prelude.{◌≡◌, ℕ, ◌+◌, ◌*◌, ◌==◌, Bool, true, false, List, [], ◌∷◌, length, map, None, Some, refl, if◌then◌else◌}
-use Rattle.shape_buffer.specs.Buffer.{Buffer, new_buffer}
+use Rattle.shape_items.specs.Buffer.{Buffer, new_buffer}
 use Rattle.shape_buffer.specs.Walks.{items_mapped}
-use Rattle.shape_buffer.specs.Items.{Item, new_item}
+use Rattle.shape_items.specs.Items.{Item, new_item}
 use Rattle.shape_buffer.specs.Layout.{MapMeaning, LookupMeaning}
 use Rattle.shape_buffer.specs.NoLookups.{no_lookups}
 use Rattle.shape_buffer.specs.Outcome.{run_steps}
-use Rattle.shape_buffer.specs.Unicode.{UnicodeMeaning}
-use Rattle.shape_buffer.specs.declared.buffer.settings.Direction.TheVariants.{LeftToRight}
-use Rattle.shape_buffer.specs.declared.buffer.settings.Feature.{Feature}
+use Rattle.shape_common.specs.Unicode.{UnicodeMeaning}
+use Rattle.shape_common.specs.declared.settings.Direction.TheVariants.{LeftToRight}
+use Rattle.shape_common.specs.declared.settings.Feature.{Feature}
 use Rattle.shape_plan.specs.WorkedPlans.{constants_of}
 use Rattle.shape_plan.specs.Run.{Run}
 use Rattle.shape_plan.specs.Shaper.{ShaperConstants, HookMeaning}

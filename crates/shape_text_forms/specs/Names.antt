@@ -1,10 +1,10 @@
 -- what one word names: a tag, a direction, a script, a language
 use Rattle.std.specs.Prelude.{ℕ, List, [], ◌∷◌, Bool, not, Option, Some, None, ◌+◌, ◌==◌, ◌||◌, length, map, take, if◌then◌else◌}
 use Rattle.std.specs.List.{prefix_len}
-use Rattle.shape_buffer.specs.ScriptTags.{script_of_tag}
-use Rattle.shape_buffer.specs.declared.buffer.settings.Script.{Script}
-use Rattle.shape_buffer.specs.declared.buffer.settings.Direction.{Direction}
-use Rattle.shape_buffer.specs.declared.buffer.settings.Direction.TheVariants.{Invalid, LeftToRight, RightToLeft, TopToBottom, BottomToTop}
+use Rattle.shape_common.specs.ScriptTags.{script_of_tag}
+use Rattle.shape_common.specs.declared.settings.Script.{Script}
+use Rattle.shape_common.specs.declared.settings.Direction.{Direction}
+use Rattle.shape_common.specs.declared.settings.Direction.TheVariants.{Invalid, LeftToRight, RightToLeft, TopToBottom, BottomToTop}
 use Rattle.shape_text_forms.specs.Feature.{tag_value, is_letter}
 use Rattle.shape_text_forms.specs.Scan.{is_between}
 

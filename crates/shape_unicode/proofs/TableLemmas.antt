@@ -13,7 +13,7 @@ use Rattle.ucd_normal.specs.Decomposition.{decomposition, any_mapping}
 use Rattle.ucd_normal.specs.DecompositionRows.{Tag}
 use Rattle.ucd_normal.specs.DecompositionRows.Tag.{vertical}
 use Rattle.ucd_normal.proofs.DecompositionLemmas.{decomposition_stepped}
-use Rattle.shape_buffer.specs.Category.{is_space_category}
+use Rattle.shape_common.specs.Category.{is_space_category}
 use Rattle.shape_unicode.specs.Category.{category_from, category_of}
 use Rattle.shape_unicode.specs.Mirror.{other_of_pair}
 use Rattle.shape_unicode.specs.Space.{space_of}

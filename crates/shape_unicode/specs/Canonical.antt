@@ -5,7 +5,7 @@ use Rattle.ucd_normal.specs.CanonicalCombiningClass.{canonical_combining_class a
 use Rattle.canonical_form.specs.Chain.{full_text}
 use Rattle.canonical_form.specs.Decompositions.{Decompositions}
 use Rattle.canonical_form.specs.Equivalent.{IsEquivalent}
-use Rattle.shape_buffer.specs.Unicode.{decompositions_of}
+use Rattle.shape_common.specs.Unicode.{decompositions_of}
 use Rattle.shape_unicode.specs.Ccc.{ccc_by_character}
 use Rattle.shape_unicode.specs.Meaning.{unicode_database}
 

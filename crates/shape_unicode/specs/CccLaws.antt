@@ -7,7 +7,7 @@ use Rattle.unicode_normalization.specs.Hangul.{is_syllable}
 use Rattle.shape_unicode.specs.Ccc.{modified_ccc_of}
 use Rattle.shape_unicode.specs.Split.{parts_of, split_of}
 use Rattle.shape_unicode.specs.TableFacts.{parts_keep, CccPass}
-use Rattle.shape_buffer.specs.Unicode.{is_mark}
+use Rattle.shape_common.specs.Unicode.{is_mark}
 use Rattle.shape_unicode.specs.Meaning.{unicode_database}
 use Rattle.shape_unicode.specs.SplitLaws.{not_true}
 

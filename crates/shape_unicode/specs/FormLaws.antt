@@ -4,7 +4,7 @@ use Rattle.std.proofs.lemmas.Bool.{cases_Bool, and_parts, cond-true, cond-false}
 use Rattle.std.specs.List.{find, list_all}
 use Rattle.std.specs.Option.{option_map}
 use Rattle.ucd_bidi.specs.Binary.{is_bidi_mirrored}
-use Rattle.shape_buffer.specs.Unicode.{IsPlain, FormsArePlain}
+use Rattle.shape_common.specs.Unicode.{IsPlain, FormsArePlain}
 use Rattle.shape_unicode.specs.Meaning.{unicode_database}
 use Rattle.shape_unicode.specs.Mirror.{other_one, is_one_of, other_of_pair, mirrored_of}
 use Rattle.shape_unicode.specs.Vertical.{vertical_of}

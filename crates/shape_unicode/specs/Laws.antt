@@ -1,5 +1,5 @@
 -- The laws of the functions of Unicode, proved of all characters from what is computed over the short tables.
-use Rattle.shape_buffer.specs.Unicode.{LawfulUnicode}
+use Rattle.shape_common.specs.Unicode.{LawfulUnicode}
 use Rattle.canonical_form.specs.SplitsFall.{SplitsFall}
 use Rattle.shape_unicode.specs.Canonical.{by_shaping}
 use Rattle.shape_unicode.specs.Meaning.{unicode_database}

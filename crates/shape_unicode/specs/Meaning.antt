@@ -2,7 +2,7 @@
 use Rattle.ucd_emoji.specs.Binary.{is_extended_pictographic}
 use Rattle.ucd_script.specs.Script.{script}
 use Rattle.unicode_normalization.specs.Compose.{primary_composite}
-use Rattle.shape_buffer.specs.Unicode.{UnicodeMeaning}
+use Rattle.shape_common.specs.Unicode.{UnicodeMeaning}
 use Rattle.shape_unicode.specs.Category.{category_of}
 use Rattle.shape_unicode.specs.Ccc.{modified_ccc_of}
 use Rattle.shape_unicode.specs.Split.{split_of, height_of}

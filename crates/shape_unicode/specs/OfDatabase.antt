@@ -3,8 +3,8 @@ use Rattle.std.specs.Prelude.{◌≡◌, ◌≢◌, ℕ, ◌⊎◌, true, [], �
 use Rattle.ucd_bidi.specs.Binary.{is_bidi_mirrored}
 use Rattle.ucd_normal.specs.Decomposition.{decomposition, any_mapping}
 use Rattle.ucd_normal.specs.DecompositionRows.Tag.{vertical}
-use Rattle.shape_buffer.specs.Category.{is_space_category}
-use Rattle.shape_buffer.specs.declared.interfaces.space_types.TheConstants.{NOT_SPACE}
+use Rattle.shape_common.specs.Category.{is_space_category}
+use Rattle.shape_common.specs.declared.space_types.TheConstants.{NOT_SPACE}
 use Rattle.shape_unicode.specs.Category.{category_of}
 use Rattle.shape_unicode.specs.Mirror.{mirrored_of}
 use Rattle.shape_unicode.specs.Space.{space_of}

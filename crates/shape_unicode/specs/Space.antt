@@ -2,7 +2,7 @@
 use Rattle.std.specs.Prelude.{ℕ, ◌==◌, unwrap_or, option_map}
 use Rattle.std.specs.List.{find}
 use Rattle.shape_unicode.specs.declared.space.TheConstants.{SPACES}
-use Rattle.shape_buffer.specs.declared.interfaces.space_types.TheConstants.{NOT_SPACE}
+use Rattle.shape_common.specs.declared.space_types.TheConstants.{NOT_SPACE}
 
 -- the width that the table has for c
 abbrev pub space_of : ℕ → ℕ

@@ -14,7 +14,7 @@ use Rattle.ucd_normal.proofs.CanonicalCombiningClassLemmas.{canonical_combining_
 use Rattle.ucd_normal.proofs.CompositionLemmas.{is_empty}
 use Rattle.ucd_normal.proofs.DecompositionLemmas.{decomposition_stepped}
 use Rattle.unicode_normalization.specs.Hangul.{is_among, is_syllable}
-use Rattle.shape_buffer.specs.Category.{is_mark_category, is_space_category}
+use Rattle.shape_common.specs.Category.{is_mark_category, is_space_category}
 use Rattle.shape_unicode.specs.Category.{category_from}
 use Rattle.shape_unicode.specs.Ccc.{modified_ccc_from}
 use Rattle.shape_unicode.specs.Split.{parts_of, depth_within}

@@ -7,10 +7,10 @@ use Rattle.std.specs.Int.RustNames.{bit_and}
 use Rattle.std.specs.List.{find}
 use Rattle.std.specs.Option.{option_map}
 use Rattle.std.specs.Prelude.{All, unwrap_or}
-use Rattle.shape_buffer.specs.Clusters.{clusters}
-use Rattle.shape_buffer.specs.Flags.{flags_of, HasOneSetOfFlags}
-use Rattle.shape_buffer.specs.Items.{Item, has_cluster}
-use Rattle.shape_buffer.specs.ClusterOrder.{IsOrderedFor}
+use Rattle.shape_items.specs.Clusters.{clusters}
+use Rattle.shape_items.specs.Flags.{flags_of, HasOneSetOfFlags}
+use Rattle.shape_items.specs.Items.{Item, has_cluster}
+use Rattle.shape_items.specs.ClusterOrder.{IsOrderedFor}
 use Rattle.shape_users.specs.Lines.{lacks_break, cut_at}
 
 -- the cluster of the item at a place

@@ -3,15 +3,15 @@ use Rattle.std.proofs.Common.{◌≡◌, ◌==◌, ℕ, zero, suc, ◌+◌, ◌<
 use Rattle.std.proofs.lemmas.List.Edits.{length-swap}
 use Rattle.std.proofs.Math.Seq.{map-set_same}
 use Rattle.std.specs.List.{swap}
-use Rattle.shape_buffer.specs.Buffer.{Buffer}
-use Rattle.shape_buffer.specs.BufferClusters.{merge_clusters}
-use Rattle.shape_buffer.specs.Clusters.{clusters, merge}
-use Rattle.shape_buffer.specs.ClusterOrder.{KeepsClusters, IsMonotoneLevel}
-use Rattle.shape_buffer.specs.Items.{new_item}
-use Rattle.shape_buffer.proofs.Merging.ClusterLemmas.{merge_clusters-monotone}
-use Rattle.shape_buffer.proofs.Merging.JoinLemmas.{merge_joins}
-use Rattle.shape_buffer.proofs.Merging.KeyLemmas.{length-merge_clusters}
-use Rattle.shape_buffer.proofs.Deletion.DeleteKeeps.{merged_keeps}
+use Rattle.shape_items.specs.Buffer.{Buffer}
+use Rattle.shape_items.specs.BufferClusters.{merge_clusters}
+use Rattle.shape_items.specs.Clusters.{clusters, merge}
+use Rattle.shape_items.specs.ClusterOrder.{KeepsClusters, IsMonotoneLevel}
+use Rattle.shape_items.specs.Items.{new_item}
+use Rattle.shape_items.proofs.Merging.ClusterLemmas.{merge_clusters-monotone}
+use Rattle.shape_items.proofs.Merging.JoinLemmas.{merge_joins}
+use Rattle.shape_items.proofs.Merging.KeyLemmas.{length-merge_clusters}
+use Rattle.shape_items.proofs.Deletion.DeleteKeeps.{merged_keeps}
 use Rattle.shape_buffer.proofs.Steps.KeeperLemmas.{KeepsClusters-same, KeepsClusters-then}
 use Rattle.shape_plan.specs.Reorder.{exchanged}
 use Rattle.shape_users.proofs.HookLemmas.{KeepsRuns, clusters_swapped}

@@ -3,9 +3,9 @@ use Rattle.std.proofs.Common.{◌≡◌, ℕ, ◌-◌, ◌<◌, ◌≤◌, ◌�
 use Rattle.std.proofs.lemmas.Bool.Decides.{nat_tests}
 use Rattle.std.proofs.lemmas.List.{length-map}
 use Rattle.std.specs.Prelude.{◌↔◌, min, max}
-use Rattle.shape_buffer.specs.Clusters.{clusters}
-use Rattle.shape_buffer.specs.Items.{Item, new_item}
-use Rattle.shape_buffer.specs.ClusterOrder.{IsOrderedFor}
+use Rattle.shape_items.specs.Clusters.{clusters}
+use Rattle.shape_items.specs.Items.{Item, new_item}
+use Rattle.shape_items.specs.ClusterOrder.{IsOrderedFor}
 use Rattle.shape_users.specs.Paragraph.{cluster_at, FirstToLast, ShowsExactly}
 use Rattle.shape_users.proofs.LineLemmas.{cluster-at}
 

@@ -7,20 +7,20 @@ use Rattle.std.specs.List.Sorted.{IsNonDecreasing}
 use Rattle.std.specs.Str.{chars}
 use Rattle.std.proofs.lemmas.List.{get_or-map, length-map}
 use Rattle.std.proofs.lemmas.List.Elements.{All-contains}
-use Rattle.shape_buffer.specs.Buffer.{Buffer, limit_of, cleared, run_limit, new_buffer}
-use Rattle.shape_buffer.specs.ClusterOrder.{IsMonotoneLevel}
-use Rattle.shape_buffer.specs.Clusters.{clusters}
-use Rattle.shape_buffer.specs.FlagNames.{PRODUCE_UNSAFE_TO_CONCAT}
-use Rattle.shape_buffer.specs.Items.{Item, new_item}
+use Rattle.shape_items.specs.Buffer.{Buffer, limit_of, cleared, run_limit, new_buffer}
+use Rattle.shape_items.specs.ClusterOrder.{IsMonotoneLevel}
+use Rattle.shape_items.specs.Clusters.{clusters}
+use Rattle.shape_common.specs.FlagNames.{PRODUCE_UNSAFE_TO_CONCAT}
+use Rattle.shape_items.specs.Items.{Item, new_item}
 use Rattle.shape_buffer.specs.Text.{items_from, text_items, IsFirstByte}
-use Rattle.shape_buffer.specs.Unicode.{UnicodeMeaning}
-use Rattle.shape_buffer.specs.declared.buffer.settings.Feature.{Feature}
-use Rattle.shape_buffer.specs.declared.buffer.settings.Script.{Script}
+use Rattle.shape_common.specs.Unicode.{UnicodeMeaning}
+use Rattle.shape_common.specs.declared.settings.Feature.{Feature}
+use Rattle.shape_common.specs.declared.settings.Script.{Script}
 use Rattle.shape_buffer.specs.Guess.{guessed}
 use Rattle.shape_buffer.specs.Outcome.{Step, run_steps, EachWithin, SomePast}
-use Rattle.shape_buffer.specs.declared.buffer.positions.GlyphPosition.{GlyphPosition}
-use Rattle.shape_buffer.specs.declared.buffer.settings.Direction.{Direction}
-use Rattle.shape_buffer.specs.declared.buffer.settings.Direction.TheVariants.{Invalid, LeftToRight, RightToLeft, TopToBottom, BottomToTop}
+use Rattle.shape_common.specs.declared.positions.GlyphPosition.{GlyphPosition}
+use Rattle.shape_common.specs.declared.settings.Direction.{Direction}
+use Rattle.shape_common.specs.declared.settings.Direction.TheVariants.{Invalid, LeftToRight, RightToLeft, TopToBottom, BottomToTop}
 use Rattle.shape_buffer.specs.Guess.{direction_or, guessed_direction, guessed_script, script_or, first_script, script_or_ltr}
 use Rattle.shape_pipeline.specs.Headline.{target_of}
 use Rattle.shape_pipeline.specs.Order.{ClustersComeInOrder, ComesInOrder, RunKeepsClusters}

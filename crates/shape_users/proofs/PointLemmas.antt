@@ -2,14 +2,14 @@
 use Rattle.std.proofs.Common.{◌≡◌, ℕ, ◌+◌, ◌-◌, ◌<◌, ◌≤◌, length, slice_range, Option, Some, None, refl, sym, ap, ◌∙◌, arith, subst}
 use Rattle.std.specs.List.{swap}
 use Rattle.std.specs.Option.{option_map_or}
-use Rattle.shape_buffer.specs.Buffer.{Buffer}
-use Rattle.shape_buffer.specs.BufferClusters.{merge_clusters}
-use Rattle.shape_buffer.specs.Clusters.{clusters, merge}
-use Rattle.shape_buffer.specs.ClusterOrder.{KeepsClusters, IsMonotoneLevel}
-use Rattle.shape_buffer.proofs.Merging.ClusterLemmas.{merge_clusters-monotone}
-use Rattle.shape_buffer.proofs.Deletion.DeleteKeeps.{merged_keeps}
-use Rattle.shape_buffer.proofs.Merging.JoinLemmas.{cluster_at, merge_joins}
-use Rattle.shape_buffer.proofs.Merging.KeyLemmas.{length-merge}
+use Rattle.shape_items.specs.Buffer.{Buffer}
+use Rattle.shape_items.specs.BufferClusters.{merge_clusters}
+use Rattle.shape_items.specs.Clusters.{clusters, merge}
+use Rattle.shape_items.specs.ClusterOrder.{KeepsClusters, IsMonotoneLevel}
+use Rattle.shape_items.proofs.Merging.ClusterLemmas.{merge_clusters-monotone}
+use Rattle.shape_items.proofs.Deletion.DeleteKeeps.{merged_keeps}
+use Rattle.shape_items.proofs.Merging.JoinLemmas.{cluster_at, merge_joins}
+use Rattle.shape_items.proofs.Merging.KeyLemmas.{length-merge}
 use Rattle.shape_buffer.proofs.Steps.KeeperLemmas.{KeepsClusters-same}
 use Rattle.shape_users.proofs.HookLemmas.{KeepsRuns, clusters_swapped}
 use Rattle.shape_users.specs.Points.{third_place, step_before, points_reordered, place_in_range}

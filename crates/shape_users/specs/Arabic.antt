@@ -5,10 +5,10 @@ use Rattle.std.proofs.Common.{arith, cond, ap, sym, ◌∙◌}
 use Rattle.std.proofs.lemmas.List.{length-take-le, length-drop, length-set, get_or_default}
 use Rattle.std.proofs.lemmas.List.Edits.{length-swap}
 use Rattle.std.proofs.lemmas.List.Sums.{prefix_len-le-length}
-use Rattle.shape_buffer.specs.Buffer.{Buffer}
-use Rattle.shape_buffer.specs.BufferClusters.{merge_clusters}
-use Rattle.shape_buffer.specs.Items.{Item, new_item, ccc_of_item}
-use Rattle.shape_buffer.proofs.Merging.KeyLemmas.{length-merge_clusters}
+use Rattle.shape_items.specs.Buffer.{Buffer}
+use Rattle.shape_items.specs.BufferClusters.{merge_clusters}
+use Rattle.shape_items.specs.Items.{Item, new_item, ccc_of_item}
+use Rattle.shape_items.proofs.Merging.KeyLemmas.{length-merge_clusters}
 use Rattle.shape_plan.specs.Reorder.{exchanged, ccc_set, Reorders, exchange, merge, set_ccc, done, ReordersRanges}
 use Rattle.shape_users.specs.declared.arabic.modifiers.TheConstants.{MODIFIER_MARKS}
 

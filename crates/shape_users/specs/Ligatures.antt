@@ -1,8 +1,8 @@
 -- A small engine: one stage of substitution, by a single glyph and a ligature of two.
 use Rattle.std.specs.Prelude.{ℕ, zero, suc, ◌+◌, ◌==◌, ◌&&◌, Bool, if◌then◌else◌, List, length, map, set, remove, slice_index_or}
-use Rattle.shape_buffer.specs.Buffer.{Buffer}
-use Rattle.shape_buffer.specs.BufferClusters.{merge_clusters}
-use Rattle.shape_buffer.specs.Items.{Item, new_item}
+use Rattle.shape_items.specs.Buffer.{Buffer}
+use Rattle.shape_items.specs.BufferClusters.{merge_clusters}
+use Rattle.shape_items.specs.Items.{Item, new_item}
 use Rattle.shape_buffer.specs.Layout.{MapMeaning, LookupMeaning, LawfulMasks, LawfulLookups}
 use Rattle.shape_buffer.specs.NoLookups.{no_masks, no_lookups, no_masks-lawful, no_lookups-lawful}
 use Rattle.shape_users.specs.declared.ligatures.substitution.TheConstants.{SINGLE, LIGATURE}

@@ -3,8 +3,8 @@ use Rattle.std.specs.Prelude.{ℕ, ◌==◌, Bool, false, List, unwrap_or}
 use Rattle.std.specs.Int.RustNames.{bit_and}
 use Rattle.std.specs.List.{find}
 use Rattle.std.specs.Option.{option_map}
-use Rattle.shape_buffer.specs.Items.{Item, has_cluster}
-use Rattle.shape_buffer.specs.FlagNames.{UNSAFE_TO_BREAK}
+use Rattle.shape_items.specs.Items.{Item, has_cluster}
+use Rattle.shape_common.specs.FlagNames.{UNSAFE_TO_BREAK}
 
 -- the glyph lacks UNSAFE_TO_BREAK (1)
 abbrev pub lacks_break : Item → Bool

@@ -1,6 +1,6 @@
 -- What glyphs show of a text.
 use Rattle.std.specs.Prelude.{◌≡◌, ℕ, ◌-◌, ◌<◌, ◌≤◌, ◌⊎◌, List, length, slice_index_or}
-use Rattle.shape_buffer.specs.Items.{Item, new_item}
+use Rattle.shape_items.specs.Items.{Item, new_item}
 
 -- the cluster of the glyph at a place
 abbrev pub cluster_at : List Item → ℕ → ℕ

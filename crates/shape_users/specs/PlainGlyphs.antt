@@ -2,11 +2,11 @@
 use Rattle.std.specs.Prelude.{◌≡◌, ◌⊎◌, ◌<◌, ◌≤◌, ◌++◌, ℕ, true, List, [], ◌∷◌, length, All, Contains}
 use Rattle.std.specs.List.Sorted.{IsNonDecreasing}
 use Rattle.std.specs.Str.{IsCharBoundary}
-use Rattle.shape_buffer.specs.Buffer.{Buffer, limit_of, new_buffer}
-use Rattle.shape_buffer.specs.Clusters.{clusters}
-use Rattle.shape_buffer.specs.Face.{FaceMeaning}
+use Rattle.shape_items.specs.Buffer.{Buffer, limit_of, new_buffer}
+use Rattle.shape_items.specs.Clusters.{clusters}
+use Rattle.shape_common.specs.Face.{FaceMeaning}
 use Rattle.shape_buffer.specs.Guess.{guessed}
-use Rattle.shape_buffer.specs.Items.{Item}
+use Rattle.shape_items.specs.Items.{Item}
 use Rattle.shape_buffer.specs.Outcome.{Step, run_steps}
 use Rattle.shape_buffer.specs.Text.{text_items}
 use Rattle.shape_plan.specs.Rules.{has_glyph}

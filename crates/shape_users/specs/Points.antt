@@ -3,9 +3,9 @@ use Rattle.std.specs.Prelude.{◌≡◌, ℕ, ◌+◌, ◌-◌, ◌<◌, ◌≤�
 use Rattle.std.specs.Option.{option_map_or}
 use Rattle.std.proofs.Common.{arith, cond}
 use Rattle.std.proofs.lemmas.List.{length-take-le, length-drop}
-use Rattle.shape_buffer.specs.Buffer.{Buffer}
-use Rattle.shape_buffer.specs.BufferClusters.{merge_clusters}
-use Rattle.shape_buffer.specs.Items.{Item, ccc_of_item}
+use Rattle.shape_items.specs.Buffer.{Buffer}
+use Rattle.shape_items.specs.BufferClusters.{merge_clusters}
+use Rattle.shape_items.specs.Items.{Item, ccc_of_item}
 use Rattle.shape_plan.specs.Reorder.{exchanged, Reorders, done, exchange, merge, ReordersRanges}
 
 -- patah or qamats (20, 21), then sheva or hiriq (22, 23), then meteg (25) or a mark below (220)

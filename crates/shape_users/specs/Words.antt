@@ -1,12 +1,12 @@
 -- Words that are found under each equivalent spelling.
 use Rattle.std.specs.Prelude.{◌≡◌, ◌⊎◌, ℕ, ◌<◌, ◌≤◌, ◌^◌, SomeIndex, List, [], ◌∷◌, ◌++◌, length, replicate, slice_index_or, string_bytes}
-use Rattle.shape_buffer.specs.Buffer.{Buffer, new_buffer, limit_of}
+use Rattle.shape_items.specs.Buffer.{Buffer, new_buffer, limit_of}
 use Rattle.shape_buffer.specs.Guess.{guessed}
-use Rattle.shape_buffer.specs.Positions.{zero_position}
+use Rattle.shape_common.specs.Positions.{zero_position}
 use Rattle.shape_buffer.specs.Text.{text_items}
 use Rattle.shape_normalize.specs.CanonicalForm.{text_of}
 use Rattle.shape_normalize.specs.RoundOne.{round_one}
-use Rattle.shape_buffer.specs.Unicode.{UnicodeMeaning}
+use Rattle.shape_common.specs.Unicode.{UnicodeMeaning}
 use Rattle.shape_plan.specs.Plan.{Plan, Fits}
 use Rattle.shape_plan.specs.Run.{Run}
 use Rattle.shape_pipeline.specs.Headline.{target_of, prepared_text, normalised_list}

@@ -1,9 +1,9 @@
 -- How modifier marks are reordered, on runs whose answers are worked out by hand.
 use Rattle.std.specs.Prelude.{◌≡◌, ℕ, List, [], ◌∷◌, map, refl}
-use Rattle.shape_buffer.specs.Buffer.{Buffer, new_buffer}
-use Rattle.shape_buffer.specs.Clusters.{merge}
-use Rattle.shape_buffer.specs.Items.{Item, new_item, ccc_of_item}
-use Rattle.shape_buffer.specs.declared.buffer.settings.BufferClusterLevel.TheVariants.{Characters}
+use Rattle.shape_items.specs.Buffer.{Buffer, new_buffer}
+use Rattle.shape_items.specs.Clusters.{merge}
+use Rattle.shape_items.specs.Items.{Item, new_item, ccc_of_item}
+use Rattle.shape_common.specs.declared.settings.BufferClusterLevel.TheVariants.{Characters}
 use Rattle.shape_plan.specs.Reorder.{with_ccc}
 use Rattle.shape_users.specs.Arabic.{modifiers_reordered}
 

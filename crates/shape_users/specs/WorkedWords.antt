@@ -1,6 +1,6 @@
 -- What a cache keeps of its words, on lists that were worked by hand: what the promise takes, and what it refuses.
 use Rattle.std.specs.Prelude.{◌≡◌, ◌≢◌, ℕ, List, [], ◌∷◌, string_bytes}
-use Rattle.shape_buffer.specs.Buffer.{Buffer}
+use Rattle.shape_items.specs.Buffer.{Buffer}
 use Rattle.shape_pipeline.specs.Shaped.{shaped}
 use Rattle.shape_plan.specs.Run.{Run}
 use Rattle.shape_users.specs.Words.{spelled, AreSpelledAlike, KeepsWords}

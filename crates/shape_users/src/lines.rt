@@ -9,11 +9,11 @@
 ghost use Rattle.std.specs.Prelude.{◌≡◌, All};
 ghost use Rattle.std.specs.List.{find};
 ghost use Rattle.std.specs.Option.{option_map};
-ghost use Rattle.shape_buffer.specs.Items.{has_cluster};
-ghost use Rattle.shape_buffer.specs.Clusters.{clusters};
-ghost use Rattle.shape_buffer.specs.Direction.{is_backward};
-ghost use Rattle.shape_buffer.specs.Flags.{HasOneSetOfFlags};
-ghost use Rattle.shape_buffer.specs.ClusterOrder.{IsOrderedFor};
+ghost use Rattle.shape_items.specs.Items.{has_cluster};
+ghost use Rattle.shape_items.specs.Clusters.{clusters};
+ghost use Rattle.shape_common.specs.Direction.{is_backward};
+ghost use Rattle.shape_items.specs.Flags.{HasOneSetOfFlags};
+ghost use Rattle.shape_items.specs.ClusterOrder.{IsOrderedFor};
 ghost use Rattle.shape_users.specs.Lines.{cut_at, lacks_break};
 
 #[cfg(test)]

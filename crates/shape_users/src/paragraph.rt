@@ -4,9 +4,9 @@
 //! a screen reader. The other way round it is asked which glyphs to mark. Both stand on the clusters of the
 //! glyphs, in the order of the text's direction, and on nothing else.
 ghost use Rattle.std.specs.Prelude.{◌≡◌, ℕ, ◌-◌, ◌<◌, ◌≤◌, ◌⊎◌, ◌↔◌, length};
-ghost use Rattle.shape_buffer.specs.Clusters.{clusters};
-ghost use Rattle.shape_buffer.specs.Direction.{is_backward};
-ghost use Rattle.shape_buffer.specs.ClusterOrder.{IsOrderedFor};
+ghost use Rattle.shape_items.specs.Clusters.{clusters};
+ghost use Rattle.shape_common.specs.Direction.{is_backward};
+ghost use Rattle.shape_items.specs.ClusterOrder.{IsOrderedFor};
 ghost use Rattle.shape_users.specs.Paragraph.{cluster_at, EndsIn, FirstToLast, ShowsExactly};
 
 #[cfg(test)]

@@ -5,7 +5,7 @@ use Rattle.std.specs.Prelude.{◌↔◌}
 use Rattle.std.specs.Int.RustNames.{bit_and}
 use Rattle.bitflags.specs.Sets.{Row, known_bits}
 use Rattle.bitflags.proofs.OnLiterals.{bitflags_on_literals}
-use Rattle.shape_buffer.specs.declared.buffer.flags.BufferFlags.{BufferFlags}
+use Rattle.shape_common.specs.declared.flags.BufferFlags.{BufferFlags}
 use Rattle.shapeline.specs.Settings.{ALL_FLAGS}
 
 -- the flags that there are

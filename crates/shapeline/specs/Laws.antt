@@ -7,15 +7,15 @@ use Rattle.std.proofs.lemmas.Bool.{and_parts, or_cases}
 use Rattle.std.proofs.lemmas.Bool.Decides.{nat_tests}
 use Rattle.std.proofs.lemmas.List.{append_assoc}
 use Rattle.unicode.specs.GeneralCategory.{general_category}
-use Rattle.shape_buffer.specs.Category.{is_mark_category, is_space_category}
+use Rattle.shape_common.specs.Category.{is_mark_category, is_space_category}
 use Rattle.canonical_form.specs.Chain.{kept_part, full, full_text}
 use Rattle.canonical_form.specs.Decompositions.{Decompositions}
 use Rattle.canonical_form.specs.Order.{Swaps, done}
 use Rattle.canonical_form.specs.Equivalent.{ComposesSoundly}
-use Rattle.shape_buffer.specs.Unicode.{FormsArePlain, IsPlain, LawfulUnicode, decompositions_of}
+use Rattle.shape_common.specs.Unicode.{FormsArePlain, IsPlain, LawfulUnicode, decompositions_of}
 use Rattle.canonical_form.specs.SplitsFall.{SplitsFall}
-use Rattle.shape_buffer.specs.declared.buffer.general_category.hb_unicode_general_category_t.{hb_unicode_general_category_t}
-use Rattle.shape_buffer.specs.declared.buffer.general_category.hb_unicode_general_category_t.TheVariants.{Unassigned}
+use Rattle.shape_common.specs.declared.general_category.hb_unicode_general_category_t.{hb_unicode_general_category_t}
+use Rattle.shape_common.specs.declared.general_category.hb_unicode_general_category_t.TheVariants.{Unassigned}
 use Rattle.shape_unicode.specs.Category.{category_from}
 use Rattle.shapeline.specs.Category.{category_of, is_marked}
 use Rattle.shapeline.specs.Ccc.{ccc_in_table, ccc_of}

@@ -1,5 +1,5 @@
 -- What the program's functions of Unicode answer.
-use Rattle.shape_buffer.specs.Unicode.{UnicodeMeaning}
+use Rattle.shape_common.specs.Unicode.{UnicodeMeaning}
 use Rattle.shapeline.specs.Category.{category_of}
 use Rattle.shapeline.specs.Ccc.{ccc_of}
 use Rattle.shapeline.specs.Split.{split_of, height_of}

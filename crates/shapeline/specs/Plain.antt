@@ -1,6 +1,6 @@
 -- Which characters may take another's place.
 use Rattle.std.specs.Prelude.{ℕ, ◌&&◌, not, Bool, Option, Some, None, option_and_then, if◌then◌else◌}
-use Rattle.shape_buffer.specs.Category.{is_space_category}
+use Rattle.shape_common.specs.Category.{is_space_category}
 use Rattle.shapeline.specs.Category.{category_of, is_marked}
 
 -- neither a mark nor a space separator

@@ -1,8 +1,8 @@
 -- The rows of what a run asks of its lookups.
 use Rattle.std.proofs.Common.{◌≡◌, nat_lt, Bool, true, false, [], ◌∷◌, length, refl, ap, arith}
 use Rattle.std.proofs.lemmas.Bool.Decides.{nat_tests}
-use Rattle.shape_buffer.specs.Buffer.{Buffer, new_buffer}
-use Rattle.shape_buffer.specs.Items.{new_item}
+use Rattle.shape_items.specs.Buffer.{Buffer, new_buffer}
+use Rattle.shape_items.specs.Items.{new_item}
 use Rattle.test_worlds.specs.WorkedPremises.{kept_if, LeavesTexts, PremisesMet, PremisesMissed, WorkedPremises}
 
 left : LeavesTexts (λ b. b)

@@ -8,13 +8,13 @@ use Rattle.std.proofs.lemmas.List.Sums.{AllPass-from_list_all}
 use Rattle.std.proofs.lemmas.Map.Views.{list_any-from_Contains, Contains-from_any, exact_unsigned_eq}
 use Rattle.std.specs.List.{Contains, list_all, list_any}
 use Rattle.std.specs.List.Sorted.{IsNonDecreasing}
-use Rattle.shape_buffer.specs.Clusters.{clusters}
-use Rattle.shape_buffer.specs.ClusterOrder.{IsNonIncreasing, IsOrderedFor}
-use Rattle.shape_buffer.specs.Direction.{is_backward}
-use Rattle.shape_buffer.specs.declared.buffer.settings.BufferClusterLevel.{BufferClusterLevel}
-use Rattle.shape_buffer.specs.declared.buffer.settings.BufferClusterLevel.TheVariants.{MonotoneGraphemes, MonotoneCharacters}
-use Rattle.shape_buffer.specs.declared.buffer.settings.Direction.{Direction}
-use Rattle.shape_buffer.specs.declared.buffer.settings.Direction.TheVariants.{LeftToRight, RightToLeft, TopToBottom, BottomToTop}
+use Rattle.shape_items.specs.Clusters.{clusters}
+use Rattle.shape_items.specs.ClusterOrder.{IsNonIncreasing, IsOrderedFor}
+use Rattle.shape_common.specs.Direction.{is_backward}
+use Rattle.shape_common.specs.declared.settings.BufferClusterLevel.{BufferClusterLevel}
+use Rattle.shape_common.specs.declared.settings.BufferClusterLevel.TheVariants.{MonotoneGraphemes, MonotoneCharacters}
+use Rattle.shape_common.specs.declared.settings.Direction.{Direction}
+use Rattle.shape_common.specs.declared.settings.Direction.TheVariants.{LeftToRight, RightToLeft, TopToBottom, BottomToTop}
 use Rattle.shape_pipeline.specs.Order.{grapheme_clusters}
 use Rattle.shape_plan.specs.Run.{Run}
 use Rattle.shape_prepare.specs.Begun.{begun}

@@ -3,11 +3,11 @@ use Rattle.std.proofs.Common.{◌≡◌, ℕ, ◌+◌, ◌≤◌, List, length, 
 use Rattle.std.proofs.lemmas.List.{length-set}
 use Rattle.std.proofs.lemmas.List.Edits.{length-remove}
 use Rattle.std.specs.List.{remove}
-use Rattle.shape_buffer.specs.Buffer.{Buffer, limit_of}
-use Rattle.shape_buffer.specs.BufferClusters.{merge_clusters}
-use Rattle.shape_buffer.specs.Items.{Item, new_item}
+use Rattle.shape_items.specs.Buffer.{Buffer, limit_of}
+use Rattle.shape_items.specs.BufferClusters.{merge_clusters}
+use Rattle.shape_items.specs.Items.{Item, new_item}
 use Rattle.shape_buffer.specs.Outcome.{Made}
-use Rattle.shape_buffer.proofs.Merging.KeyLemmas.{length-merge_clusters, without_items-merge_clusters}
+use Rattle.shape_items.proofs.Merging.KeyLemmas.{length-merge_clusters, without_items-merge_clusters}
 use Rattle.test_worlds.specs.Rules.{with_glyph, made_one}
 use Rattle.test_worlds.specs.declared.rules.Ligature.{Ligature}
 

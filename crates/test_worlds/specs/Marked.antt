@@ -2,10 +2,10 @@
 use Rattle.std.specs.Prelude.{◌≡◌, ◌≢◌, ℕ, ◌<◌, ◌==◌, ◌||◌, Bool, true, false, if◌then◌else◌}
 use Rattle.std.proofs.Common.{arith}
 use Rattle.std.proofs.lemmas.Bool.Decides.{nat_tests}
-use Rattle.shape_buffer.specs.Unicode.{UnicodeMeaning, LawfulUnicode, is_mark}
-use Rattle.shape_buffer.specs.declared.buffer.general_category.hb_unicode_general_category_t.{hb_unicode_general_category_t}
-use Rattle.shape_buffer.specs.declared.buffer.general_category.hb_unicode_general_category_t.TheVariants.{OtherLetter, NonspacingMark, SpaceSeparator}
-use Rattle.shape_buffer.specs.PlainUnicode.{plain_unicode}
+use Rattle.shape_common.specs.Unicode.{UnicodeMeaning, LawfulUnicode, is_mark}
+use Rattle.shape_common.specs.declared.general_category.hb_unicode_general_category_t.{hb_unicode_general_category_t}
+use Rattle.shape_common.specs.declared.general_category.hb_unicode_general_category_t.TheVariants.{OtherLetter, NonspacingMark, SpaceSeparator}
+use Rattle.shape_common.specs.PlainUnicode.{plain_unicode}
 
 -- U+FE00 and U+FE01
 abbrev pub is_marked_selector : ℕ → Bool

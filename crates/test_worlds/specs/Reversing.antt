@@ -1,7 +1,7 @@
 -- A shaper whose `reorder_marks` hook reverses.
 use Rattle.std.specs.Prelude.{ℕ, zero, suc, ◌+◌, ◌-◌, ◌/◌, ◌≤◌}
 use Rattle.std.proofs.Common.{arith}
-use Rattle.shape_buffer.specs.Buffer.{Buffer}
+use Rattle.shape_items.specs.Buffer.{Buffer}
 use Rattle.shape_plan.specs.Reorder.{exchanged, Reorders, done, exchange, IsRunInOrder, ReordersRanges}
 
 -- so many pairs of a range exchanged, from the outermost one on

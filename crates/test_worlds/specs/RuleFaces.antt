@@ -1,6 +1,6 @@
 -- Faces that list the rules of their lookups.
 use Rattle.std.specs.Prelude.{Some}
-use Rattle.shape_buffer.specs.Face.{FaceMeaning}
+use Rattle.shape_common.specs.Face.{FaceMeaning}
 use Rattle.shape_plan.specs.WorkedFaces.{bare_face}
 use Rattle.test_worlds.specs.declared.rule_face.RuleFace.{RuleFace}
 

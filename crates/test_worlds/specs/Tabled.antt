@@ -1,14 +1,14 @@
 -- A face with tables, one that goes down the line by given numbers, and an engine that has masks for fractions and whose tables add to
 -- advances.
 use Rattle.std.specs.Prelude.{◌==◌, ℕ, ℤ, pos, Bool, true, false, Some, None, refl, if◌then◌else◌}
-use Rattle.shape_buffer.specs.Face.{FaceMeaning}
-use Rattle.shape_buffer.specs.Items.{Item}
+use Rattle.shape_common.specs.Face.{FaceMeaning}
+use Rattle.shape_items.specs.Items.{Item}
 use Rattle.shape_buffer.specs.Layout.{LayoutMeaning, MapMeaning, LookupMeaning, HasNoDefinedFlag, LawfulMasks, LawfulLookups}
-use Rattle.shape_buffer.specs.MapFace.{map_face}
+use Rattle.shape_common.specs.MapFace.{map_face}
 use Rattle.shape_buffer.specs.NoLookups.{no_layout, no_masks, no_masks-lawful, no_lookups}
 use Rattle.shape_buffer.specs.PositionWalks.{positions_mapped}
-use Rattle.shape_buffer.specs.Wrapping.{◌+ʷ◌}
-use Rattle.shape_buffer.specs.declared.buffer.positions.GlyphPosition.{GlyphPosition}
+use Rattle.shape_common.specs.Wrapping.{◌+ʷ◌}
+use Rattle.shape_common.specs.declared.positions.GlyphPosition.{GlyphPosition}
 use Rattle.shape_plan.specs.WorkedFaces.{bare_face}
 use Rattle.test_worlds.specs.declared.tabled.TabledFace.{TabledFace}
 use Rattle.test_worlds.specs.declared.tabled.DeepFace.{DeepFace}

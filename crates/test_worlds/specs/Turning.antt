@@ -1,7 +1,7 @@
 -- The `preprocess_text` hook that turns characters.
 use Rattle.std.specs.Prelude.{◌==◌, if◌then◌else◌}
-use Rattle.shape_buffer.specs.Buffer.{Buffer}
-use Rattle.shape_buffer.specs.Items.{Item}
+use Rattle.shape_items.specs.Buffer.{Buffer}
+use Rattle.shape_items.specs.Items.{Item}
 use Rattle.shape_buffer.specs.Walks.{items_mapped}
 
 -- U+0061 becomes U+0301, with the properties that it has

@@ -1,6 +1,6 @@
 -- The definitions, computed on small cases whose answers are worked out by hand.
 use Rattle.std.specs.Prelude.{◌≡◌, ℕ, ◌==◌, ◌||◌, Bool, true, false, if◌then◌else◌, [], ◌∷◌, Some, None, refl}
-use Rattle.shape_buffer.specs.Buffer.{run_limit}
+use Rattle.shape_items.specs.Buffer.{run_limit}
 use Rattle.canonical_form.specs.Chain.{chain_point, second_part, full}
 use Rattle.canonical_form.specs.Decompositions.{Decompositions}
 use Rattle.canonical_form.specs.Expansion.{expansion, choice}

@@ -1,15 +1,15 @@
 -- What a character says of its item and of a text, worked by hand, beside general categories and directions.
 use Rattle.std.specs.Prelude.{◌≡◌, ℕ, Bool, true, false, List, [], ◌∷◌, map, refl}
-use Rattle.shape_buffer.specs.Category.{is_mark_category, is_nonspacing_category, is_space_category}
-use Rattle.shape_buffer.specs.Direction.{is_horizontal, is_vertical, is_forward, is_backward, reverse_of}
-use Rattle.shape_buffer.specs.Items.{Item, new_item}
-use Rattle.shape_buffer.specs.Unicode.{UnicodeMeaning}
-use Rattle.shape_buffer.specs.UnicodeProps.{is_hidden_char, with_unicode_props, with_scratch_of}
-use Rattle.shape_buffer.specs.declared.buffer.flags.ScratchFlags.{ScratchFlags}
-use Rattle.shape_buffer.specs.declared.buffer.general_category.hb_unicode_general_category_t.{hb_unicode_general_category_t}
-use Rattle.shape_buffer.specs.declared.buffer.general_category.hb_unicode_general_category_t.TheVariants.{UppercaseLetter, LowercaseLetter, OtherLetter, NonspacingMark, SpacingMark, EnclosingMark, DecimalNumber, OtherSymbol, SpaceSeparator, LineSeparator}
-use Rattle.shape_buffer.specs.declared.buffer.settings.Direction.TheVariants.{Invalid, LeftToRight, RightToLeft, TopToBottom, BottomToTop}
-use Rattle.shape_buffer.specs.PlainUnicode.{plain_unicode}
+use Rattle.shape_common.specs.Category.{is_mark_category, is_nonspacing_category, is_space_category}
+use Rattle.shape_common.specs.Direction.{is_horizontal, is_vertical, is_forward, is_backward, reverse_of}
+use Rattle.shape_items.specs.Items.{Item, new_item}
+use Rattle.shape_common.specs.Unicode.{UnicodeMeaning}
+use Rattle.shape_items.specs.UnicodeProps.{is_hidden_char, with_unicode_props, with_scratch_of}
+use Rattle.shape_common.specs.declared.flags.ScratchFlags.{ScratchFlags}
+use Rattle.shape_common.specs.declared.general_category.hb_unicode_general_category_t.{hb_unicode_general_category_t}
+use Rattle.shape_common.specs.declared.general_category.hb_unicode_general_category_t.TheVariants.{UppercaseLetter, LowercaseLetter, OtherLetter, NonspacingMark, SpacingMark, EnclosingMark, DecimalNumber, OtherSymbol, SpaceSeparator, LineSeparator}
+use Rattle.shape_common.specs.declared.settings.Direction.TheVariants.{Invalid, LeftToRight, RightToLeft, TopToBottom, BottomToTop}
+use Rattle.shape_common.specs.PlainUnicode.{plain_unicode}
 
 -- ---- hidden characters
 

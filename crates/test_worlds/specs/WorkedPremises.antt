@@ -1,6 +1,6 @@
 -- What a run asks of its lookups, worked by hand over an engine that loses every text in the calls that a run doesn't make.
 use Rattle.std.specs.Prelude.{◌≡◌, ℕ, ◌==◌, nat_lt, Bool, true, false, if◌then◌else◌, [], ◌∷◌}
-use Rattle.shape_buffer.specs.Buffer.{Buffer, new_buffer}
+use Rattle.shape_items.specs.Buffer.{Buffer, new_buffer}
 use Rattle.shape_buffer.specs.Layout.{LookupMeaning}
 use Rattle.shape_plan.specs.Keepers.{EachCalledLookup}
 use Rattle.shape_plan.specs.Run.{Run}

@@ -1,18 +1,18 @@
 -- The clusters of a result, clusters by number, and scripts by their tags, worked by hand.
 use Rattle.std.specs.Int.{int_wrap}
 use Rattle.std.specs.Prelude.{◌≡◌, ℕ, ℤ, pos, true, false, List, [], ◌∷◌, map, Option, Some, None, refl}
-use Rattle.shape_buffer.specs.Buffer.{Buffer, new_buffer}
-use Rattle.shape_buffer.specs.GlyphClusters.{advance_over, clusters_in_text_order}
-use Rattle.shape_buffer.specs.Items.{Item, new_item}
-use Rattle.shape_buffer.specs.Positions.{zero_position}
-use Rattle.shape_buffer.specs.ScriptTags.{script_of_tag}
+use Rattle.shape_items.specs.Buffer.{Buffer, new_buffer}
+use Rattle.shape_items.specs.GlyphClusters.{advance_over, clusters_in_text_order}
+use Rattle.shape_items.specs.Items.{Item, new_item}
+use Rattle.shape_common.specs.Positions.{zero_position}
+use Rattle.shape_common.specs.ScriptTags.{script_of_tag}
 use Rattle.shape_buffer.specs.Text.{numbered_from}
-use Rattle.shape_buffer.specs.Wrapping.{◌+ʷ◌}
-use Rattle.shape_buffer.specs.declared.buffer.glyph_clusters.GlyphCluster.{GlyphCluster}
-use Rattle.shape_buffer.specs.declared.buffer.positions.GlyphPosition.{GlyphPosition}
-use Rattle.shape_buffer.specs.declared.buffer.settings.Direction.{Direction}
-use Rattle.shape_buffer.specs.declared.buffer.settings.Direction.TheVariants.{LeftToRight, RightToLeft, TopToBottom, BottomToTop}
-use Rattle.shape_buffer.specs.declared.buffer.settings.Script.{Script}
+use Rattle.shape_common.specs.Wrapping.{◌+ʷ◌}
+use Rattle.shape_items.specs.declared.clusters.glyph_clusters.GlyphCluster.{GlyphCluster}
+use Rattle.shape_common.specs.declared.positions.GlyphPosition.{GlyphPosition}
+use Rattle.shape_common.specs.declared.settings.Direction.{Direction}
+use Rattle.shape_common.specs.declared.settings.Direction.TheVariants.{LeftToRight, RightToLeft, TopToBottom, BottomToTop}
+use Rattle.shape_common.specs.declared.settings.Script.{Script}
 
 -- ---- clusters of a result
 

@@ -1,17 +1,17 @@
 -- What a text brings into a buffer, where its graphemes stand, what is guessed of it, and what clearing leaves, worked by hand.
 use Rattle.std.specs.Prelude.{◌≡◌, ℕ, ◌==◌, Bool, true, false, if◌then◌else◌, List, [], ◌∷◌, map, Option, Some, None, pos, refl}
 use Rattle.std.specs.Str.{chars}
-use Rattle.shape_buffer.specs.Buffer.{Buffer, new_buffer, cleared, limit_of}
-use Rattle.shape_buffer.specs.GraphemeSpans.{grapheme_spans}
+use Rattle.shape_items.specs.Buffer.{Buffer, new_buffer, cleared, limit_of}
+use Rattle.shape_items.specs.GraphemeSpans.{grapheme_spans}
 use Rattle.shape_buffer.specs.Guess.{is_specific, guessed_script, guessed_direction, guessed}
-use Rattle.shape_buffer.specs.Items.{Item, new_item}
+use Rattle.shape_items.specs.Items.{Item, new_item}
 use Rattle.shape_buffer.specs.Text.{text_items, context_before, context_after}
-use Rattle.shape_buffer.specs.Unicode.{UnicodeMeaning}
-use Rattle.shape_buffer.specs.declared.buffer.settings.BufferClusterLevel.TheVariants.{MonotoneGraphemes, Characters}
-use Rattle.shape_buffer.specs.declared.buffer.settings.Direction.{Direction}
-use Rattle.shape_buffer.specs.declared.buffer.settings.Direction.TheVariants.{Invalid, LeftToRight, RightToLeft, TopToBottom, BottomToTop}
-use Rattle.shape_buffer.specs.declared.buffer.settings.Script.{Script}
-use Rattle.shape_buffer.specs.PlainUnicode.{plain_unicode}
+use Rattle.shape_common.specs.Unicode.{UnicodeMeaning}
+use Rattle.shape_common.specs.declared.settings.BufferClusterLevel.TheVariants.{MonotoneGraphemes, Characters}
+use Rattle.shape_common.specs.declared.settings.Direction.{Direction}
+use Rattle.shape_common.specs.declared.settings.Direction.TheVariants.{Invalid, LeftToRight, RightToLeft, TopToBottom, BottomToTop}
+use Rattle.shape_common.specs.declared.settings.Script.{Script}
+use Rattle.shape_common.specs.PlainUnicode.{plain_unicode}
 
 -- ---- characters of a text
 

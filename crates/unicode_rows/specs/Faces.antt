@@ -1,6 +1,6 @@
 -- A face that has a glyph for every character.
 use Rattle.std.specs.Prelude.{pos, Some}
-use Rattle.shape_buffer.specs.Face.{FaceMeaning}
+use Rattle.shape_common.specs.Face.{FaceMeaning}
 use Rattle.shape_plan.specs.WorkedFaces.{bare_face}
 use Rattle.unicode_rows.specs.declared.every_glyph.EveryGlyph.{EveryGlyph}
 

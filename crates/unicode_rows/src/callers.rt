@@ -1,6 +1,6 @@
 //! Functions over the whole of Unicode, as a program may write them: what they prove needs no proof file.
 ghost use Rattle.std.specs.Prelude.{◌≡◌, unwrap_or, is_some, if◌then◌else◌};
-ghost use Rattle.shape_buffer.specs.Unicode.{is_mark};
+ghost use Rattle.shape_common.specs.Unicode.{is_mark};
 ghost use Rattle.shape_unicode.specs.Meaning.{unicode_database};
 
 use shape_buffer::interfaces::hb_unicode_funcs_t;

@@ -1,10 +1,10 @@
 -- Changes keep the number of items and the limit.
 use Rattle.std.proofs.Common.{◌≡◌, length, refl, ap, ◌∙◌, arith}
-use Rattle.shape_buffer.specs.Buffer.{Buffer, limit_of}
+use Rattle.shape_items.specs.Buffer.{Buffer, limit_of}
 use Rattle.shape_buffer.specs.Outcome.{Made}
 use Rattle.shape_buffer.specs.PositionWalks.{positions_mapped}
 use Rattle.shape_buffer.specs.Walks.{items_mapped}
-use Rattle.shape_buffer.proofs.Merging.KeyLemmas.{without_items-merge_clusters, without_items-unsafe_to_break}
+use Rattle.shape_items.proofs.Merging.KeyLemmas.{without_items-merge_clusters, without_items-unsafe_to_break}
 use Rattle.unlawful_search.specs.Changes.{kept}
 use Rattle.unlawful_search.specs.KeptCounts.{length-kept}
 use Rattle.unlawful_search.specs.declared.change.Change.{Change}

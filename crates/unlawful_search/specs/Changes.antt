@@ -2,13 +2,13 @@
 use Rattle.std.specs.Prelude.{ℕ, ℤ, zero, suc, ◌==◌, List, [], ◌∷◌, ◌++◌, Option, Some, None, length, reverse, replicate, if◌then◌else◌}
 use Rattle.std.specs.Int.RustNames.{bit_and, bit_xor}
 use Rattle.std.specs.List.{flat_map}
-use Rattle.shape_buffer.specs.Buffer.{Buffer}
-use Rattle.shape_buffer.specs.BufferClusters.{merge_clusters, unsafe_to_break}
-use Rattle.shape_buffer.specs.Items.{Item}
+use Rattle.shape_items.specs.Buffer.{Buffer}
+use Rattle.shape_items.specs.BufferClusters.{merge_clusters, unsafe_to_break}
+use Rattle.shape_items.specs.Items.{Item}
 use Rattle.shape_buffer.specs.PositionWalks.{positions_mapped}
-use Rattle.shape_buffer.specs.Positions.{zero_position}
+use Rattle.shape_common.specs.Positions.{zero_position}
 use Rattle.shape_buffer.specs.Walks.{items_mapped}
-use Rattle.shape_buffer.specs.declared.buffer.positions.GlyphPosition.{GlyphPosition}
+use Rattle.shape_common.specs.declared.positions.GlyphPosition.{GlyphPosition}
 use Rattle.unlawful_search.specs.declared.change.Edit.{Edit}
 use Rattle.unlawful_search.specs.declared.change.Edit.TheVariants as edits
 use Rattle.unlawful_search.specs.declared.change.Change.{Change}

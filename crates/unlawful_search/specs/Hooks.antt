@@ -4,8 +4,8 @@ use Rattle.std.specs.Int.RustNames.{bit_or}
 use Rattle.std.proofs.Common.{ap, inl, arith}
 use Rattle.std.proofs.lemmas.Bool.Decides.{nat_tests}
 use Rattle.canonical_form.specs.Chain.{FallsAlong}
-use Rattle.shape_buffer.specs.Buffer.{Buffer}
-use Rattle.shape_buffer.specs.Items.{Item}
+use Rattle.shape_items.specs.Buffer.{Buffer}
+use Rattle.shape_items.specs.Items.{Item}
 use Rattle.shape_buffer.specs.Walks.{items_mapped}
 use Rattle.shape_buffer.specs.MapBuilder.{feature, pause}
 use Rattle.shape_buffer.specs.declared.interfaces.map_request.MapRequest.{MapRequest}

@@ -1,11 +1,11 @@
 -- Changes keep the number of items, as positioning owes.
 use Rattle.std.proofs.Common.{◌≡◌, Option, Some, None, length, pos, refl}
 use Rattle.std.proofs.lemmas.List.{length-map, length-reverse}
-use Rattle.shape_buffer.specs.Buffer.{Buffer}
+use Rattle.shape_items.specs.Buffer.{Buffer}
 use Rattle.shape_buffer.specs.Layout.{LawfulLookups}
 use Rattle.shape_buffer.specs.PositionWalks.{positions_mapped}
 use Rattle.shape_buffer.specs.Walks.{items_mapped}
-use Rattle.shape_buffer.proofs.Merging.KeyLemmas.{length-merge_clusters, length-unsafe_to_break}
+use Rattle.shape_items.proofs.Merging.KeyLemmas.{length-merge_clusters, length-unsafe_to_break}
 use Rattle.unlawful_search.specs.Changes.{edited, kept, placed}
 use Rattle.unlawful_search.specs.Layouts.{odd_lookups}
 use Rattle.unlawful_search.specs.declared.change.Change.{Change}

@@ -1,8 +1,8 @@
 -- What the engine of odd faces answers and does.
 use Rattle.std.specs.Prelude.{◌==◌, pos, Bool, true, false, Some, None, length, refl, if◌then◌else◌}
 use Rattle.std.proofs.Common.{rules}
-use Rattle.shape_buffer.specs.Delete.{deleted}
-use Rattle.shape_buffer.specs.Items.{Item}
+use Rattle.shape_items.specs.Delete.{deleted}
+use Rattle.shape_items.specs.Items.{Item}
 use Rattle.shape_buffer.specs.Layout.{LayoutMeaning, MapMeaning, LookupMeaning, LawfulMasks, HasNoDefinedFlag}
 use Rattle.unlawful_search.specs.Changes.{kept, placed, made}
 use Rattle.unlawful_search.specs.declared.change.Change.TheVariants.{Positions}

@@ -1,6 +1,6 @@
 use Rattle.std.proofs.Common.{ℕ, ◌+◌, ◌-◌, ◌∷◌, [], ◌++◌, arith, ap, sym, subst, ◌∙◌, append_assoc, append-nil}
-use Rattle.shape_buffer.specs.Spans.{AreSpansInOrder}
-use Rattle.shape_buffer.proofs.MergingInOrder.EachSpanLemmas.{AreSpansInOrder-lower}
+use Rattle.shape_items.specs.Spans.{AreSpansInOrder}
+use Rattle.shape_items.proofs.MergingInOrder.EachSpanLemmas.{AreSpansInOrder-lower}
 use Rattle.buffer_bench.proofs.neighbours.Goals as goal
 
 pub loop-i-preserved : goal.loop-i-preserved

@@ -1,5 +1,5 @@
 use Rattle.std.proofs.Common.{ℕ, ◌-◌, ◌++◌, List}
-use Rattle.shape_buffer.specs.Spans.{AreSpansInOrder}
+use Rattle.shape_items.specs.Spans.{AreSpansInOrder}
 use Rattle.buffer_bench.proofs.neighbours.Given as goal
 
 -- whatever comes after the spans may begin where the next one does

@@ -3,14 +3,14 @@ use Rattle.std.proofs.Common.{◌≡◌, ◌==◌, ◌||◌, ℕ, zero, suc, ◌
 use Rattle.std.proofs.lemmas.Bool.{cases_Bool}
 use Rattle.std.proofs.lemmas.Bool.Decides.{nat_tests}
 use Rattle.std.proofs.lemmas.Nat.{and_assoc, and_le_r}
-use Rattle.shape_buffer.specs.Buffer.{Buffer}
-use Rattle.shape_buffer.specs.Items.{Item}
+use Rattle.shape_items.specs.Buffer.{Buffer}
+use Rattle.shape_items.specs.Items.{Item}
 use Rattle.shape_buffer.specs.Keepers.{IsFlagKeeper, EachStep}
-use Rattle.shape_buffer.specs.KeepsFlags.{IsDefinedFlag, has_flag, some_has, has_glyph_flags, KeepsFlags}
+use Rattle.shape_items.specs.KeepsFlags.{IsDefinedFlag, has_flag, some_has, has_glyph_flags, KeepsFlags}
 pub use Rattle.shape_buffer.specs.Honest.{IsHonest}
-use Rattle.shape_buffer.specs.Flags.{flags_of, flags_propagated, HasOneSetOfFlags}
+use Rattle.shape_items.specs.Flags.{flags_of, flags_propagated, HasOneSetOfFlags}
 use Rattle.shape_buffer.specs.Outcome.{Step, run_steps}
-use Rattle.shape_buffer.proofs.Flags.ClusterRunLemmas.{flagged-runs, one_set-flagged, concat-flagged}
+use Rattle.shape_items.proofs.Flags.ClusterRunLemmas.{flagged-runs, one_set-flagged, concat-flagged}
 
 pub honest-kept : {old new : Buffer} → KeepsFlags old new → IsHonest old → IsHonest new
 honest-kept {old} {new} keeps before = record {

@@ -1,8 +1,8 @@
 -- Loops that write a position from its item and from it.
 use Rattle.std.proofs.Common.{zero, suc, ◌≡◌, ◌+◌, ◌<◌, ℕ, List, ◌++◌, [], ◌∷◌, take, drop, set, length, get_or, arith, refl, ap}
-use Rattle.shape_buffer.specs.Items.{Item}
+use Rattle.shape_items.specs.Items.{Item}
 use Rattle.shape_buffer.specs.PositionWalks.{positions_over}
-use Rattle.shape_buffer.specs.declared.buffer.positions.GlyphPosition.{GlyphPosition}
+use Rattle.shape_common.specs.declared.positions.GlyphPosition.{GlyphPosition}
 
 -- one more position is written
 pub positions_over_more : (f : Item → GlyphPosition → GlyphPosition) (items : List Item) (old : List GlyphPosition) (i : ℕ) (item : Item)

@@ -1,8 +1,8 @@
 -- Walks over the items of a buffer that write each of them.
 use Rattle.std.proofs.Common.{◌≡◌, ℕ, ◌+◌, ◌<◌, ◌≤◌, List, [], ◌∷◌, ◌++◌, length, get_or, take, drop, set, refl, ap, sym, ◌∙◌, arith, append_assoc}
 use Rattle.std.proofs.lemmas.List.{take-append-drop, take_more_set, drop-set-lt, drop_more, drop_all}
-use Rattle.shape_buffer.specs.Items.{Item}
-use Rattle.shape_buffer.specs.Buffer.{Buffer}
+use Rattle.shape_items.specs.Items.{Item}
+use Rattle.shape_items.specs.Buffer.{Buffer}
 
 -- the items from place i on are what `rest` makes of them
 abbrev pub with_rest : (List Item → List Item) → ℕ → Buffer → Buffer

@@ -1,34 +1,14 @@
 -- What keeps the order of clusters and the flags of glyphs, step by step.
-use Rattle.std.proofs.Common.{◌≡◌, ℕ, List, [], ◌∷◌, ◌++◌, map, refl, ap, sym, ◌∙◌, subst}
-use Rattle.shape_buffer.specs.Buffer.{Buffer}
-use Rattle.shape_buffer.specs.BufferClusters.{unsafe_to_break}
-use Rattle.shape_buffer.specs.ClusterOrder.{KeepsClusters}
-use Rattle.shape_buffer.specs.Clusters.{clusters}
-use Rattle.shape_buffer.specs.Items.{Item}
+use Rattle.std.proofs.Common.{◌≡◌, ℕ, List, [], ◌∷◌, ◌++◌, refl, ap, ◌∙◌}
+use Rattle.shape_items.specs.Buffer.{Buffer}
+use Rattle.shape_items.specs.BufferClusters.{unsafe_to_break}
+use Rattle.shape_items.specs.Clusters.{clusters}
+use Rattle.shape_items.specs.Items.{Item}
 use Rattle.shape_buffer.specs.Keepers.{KeepsOrder, IsClusterKeeper, EachStep}
 use Rattle.shape_buffer.specs.Outcome.{Step}
 use Rattle.shape_buffer.specs.Walks.{items_mapped}
-use Rattle.shape_buffer.proofs.Merging.KeyLemmas.{keys-map, keys-unsafe_to_break, without_items-unsafe_to_break}
-
--- ---- lists of clusters
-
-pub KeepsClusters-same : (xs : List ℕ) → KeepsClusters xs xs
-KeepsClusters-same xs = record { rising = λ h. h; falling = λ h. h; none_new = λ k h. h }
-
-pub KeepsClusters-equal : (before after : List ℕ) → after ≡ before → KeepsClusters before after
-KeepsClusters-equal before after same =
-    subst (λ (xs : List ℕ). KeepsClusters before xs) (sym same) (KeepsClusters-same before)
-
-pub KeepsClusters-then : (xs ys zs : List ℕ) → KeepsClusters xs ys → KeepsClusters ys zs → KeepsClusters xs zs
-KeepsClusters-then xs ys zs first later = record {
-  rising = λ h. later.rising (first.rising h);
-  falling = λ h. later.falling (first.falling h);
-  none_new = λ k h. first.none_new k (later.none_new k h);
-}
-
-pub clusters-map : (f : Item → Item) → ((x : Item) → (f x).cluster ≡ x.cluster) → (xs : List Item)
-    → clusters (map f xs) ≡ clusters xs
-clusters-map = keys-map (λ item. item.cluster)
+pub use Rattle.shape_items.proofs.Order.KeepsClusterLemmas.{KeepsClusters-same, KeepsClusters-equal, KeepsClusters-then, clusters-map}
+use Rattle.shape_items.proofs.Merging.KeyLemmas.{keys-unsafe_to_break, without_items-unsafe_to_break}
 
 -- ---- buffers
 

@@ -1,7 +1,7 @@
 -- Runs of steps one after another.
 use Rattle.std.proofs.Common.{◌≡◌, ◌≤◌, List, [], ◌∷◌, ◌++◌, length, Result, Ok, Err, refl, ap, ◌∙◌, inl, inr, arith}
 use Rattle.std.proofs.Common.{subst, sym}
-use Rattle.shape_buffer.specs.Buffer.{Buffer, limit_of}
+use Rattle.shape_items.specs.Buffer.{Buffer, limit_of}
 use Rattle.shape_buffer.specs.declared.buffer.error.ShapeError.{ShapeError}
 use Rattle.shape_buffer.specs.Outcome.{Step, step as plain_step, IsWithinLimit, Made, run_steps, EachWithin, SomePast, Ran, Refused, for_length, for_memory, RunOutcome}
 

@@ -2,12 +2,11 @@
 ghost use Rattle.std.specs.Prelude.{◌≡◌};
 
 use crate::buffer::error::ShapeError;
-use crate::buffer::glyph_clusters::{GlyphCluster, clusters_in_order};
-use crate::buffer::items::hb_glyph_info_t;
-use crate::buffer::positions::GlyphPosition;
-use crate::buffer::settings::{Direction, Language, Script};
 use crate::buffer::storage::hb_buffer_t;
 use crate::buffer::unicode_buffer::UnicodeBuffer;
+use shape_common::{Direction, GlyphPosition, Language, Script};
+use shape_items::clusters::{GlyphCluster, clusters_in_order};
+use shape_items::hb_glyph_info_t;
 use std::alloc::Global;
 use std::iter::Zip;
 use std::marker::Model;
@@ -29,7 +28,7 @@ impl hb_buffer_t {
 }
 
 impl Model for GlyphBuffer {
-    ghost use Rattle.shape_buffer.specs.Buffer.{Buffer};
+    ghost use Rattle.shape_items.specs.Buffer.{Buffer};
 
     ghost Value = { Buffer };
 
@@ -41,8 +40,8 @@ impl GlyphBuffer {
     ghost use Rattle.std.specs.Option.{option_map};
     ghost use Rattle.std.specs.Prelude.{◌↔◌, [], length, string_bytes, IsTrue, IfOk, IsOkUnless};
     ghost use Rattle.std.specs.Slice.Iter.{iter_rest};
-    ghost use Rattle.shape_buffer.specs.Buffer.{cleared};
-    ghost use Rattle.shape_buffer.specs.GlyphClusters.{clusters_in_text_order};
+    ghost use Rattle.shape_items.specs.Buffer.{cleared};
+    ghost use Rattle.shape_items.specs.GlyphClusters.{clusters_in_text_order};
 
     /// How many glyphs there are.
     pub fn len(&self) -> usize

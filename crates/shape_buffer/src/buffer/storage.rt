@@ -8,10 +8,11 @@ mod settings;
 mod spans;
 
 use crate::buffer::context::Context;
-use crate::buffer::flags::{BufferFlags, ScratchFlags};
-use crate::buffer::items::hb_glyph_info_t;
-use crate::buffer::positions::GlyphPosition;
-use crate::buffer::settings::{BufferClusterLevel, Direction, GlyphId, Language, Script};
+use shape_common::{
+    BufferClusterLevel, BufferFlags, Direction, GlyphId, GlyphPosition, Language, ScratchFlags,
+    Script,
+};
+use shape_items::hb_glyph_info_t;
 use std::alloc::Global;
 use std::marker::Model;
 
@@ -46,7 +47,7 @@ pub struct hb_buffer_t {
 impl Model for hb_buffer_t {
     ghost use Rattle.std.specs.Prelude.{◌≡◌, ◌≤◌, length, string_bytes};
     ghost use Rattle.std.specs.Option.{option_map};
-    ghost use Rattle.shape_buffer.specs.Buffer.{Buffer};
+    ghost use Rattle.shape_items.specs.Buffer.{Buffer};
 
     ghost Value = { Buffer };
 
@@ -73,7 +74,7 @@ impl Model for hb_buffer_t {
 }
 
 impl hb_buffer_t {
-    ghost use Rattle.shape_buffer.specs.Buffer.{new_buffer, cleared, limit_of, run_limit};
+    ghost use Rattle.shape_items.specs.Buffer.{new_buffer, cleared, limit_of, run_limit};
 
     /// A buffer without text, at level MONOTONE_GRAPHEMES and without flags. It keeps the allocator;
     /// no other call takes one.

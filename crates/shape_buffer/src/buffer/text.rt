@@ -1,10 +1,10 @@
 //! The characters of a text as items.
 ghost use Rattle.std.specs.Prelude.{◌≡◌, ◌++◌, ◌<◌, ◌^◌, length, take, All, OnOk};
 ghost use Rattle.std.specs.List.Sorted.{IsNonDecreasing};
-ghost use Rattle.shape_buffer.specs.Clusters.{clusters};
+ghost use Rattle.shape_items.specs.Clusters.{clusters};
 ghost use Rattle.shape_buffer.specs.Text.{text_items, numbered_from, IsFirstByte};
 
-use crate::buffer::items::hb_glyph_info_t;
+use shape_items::hb_glyph_info_t;
 use std::alloc::AllocError;
 
 /// Appends the items of a text; where memory runs out, what was there stands first still.

@@ -6,10 +6,10 @@ ghost use Rattle.std.specs.List.Sorted.{IsNonDecreasing};
 ghost use Rattle.std.specs.Option.{option_map};
 
 use crate::buffer::error::ShapeError;
-use crate::buffer::flags::BufferFlags;
-use crate::buffer::settings::{BufferClusterLevel, Direction, GlyphId, Language, Script};
 use crate::buffer::storage::hb_buffer_t;
-use crate::interfaces::hb_unicode_funcs_t;
+use shape_common::{
+    BufferClusterLevel, BufferFlags, Direction, GlyphId, Language, Script, hb_unicode_funcs_t,
+};
 use std::alloc::Global;
 use std::marker::Model;
 
@@ -20,7 +20,7 @@ pub struct UnicodeBuffer {
 }
 
 impl hb_buffer_t {
-    ghost use Rattle.shape_buffer.specs.Buffer.{cleared};
+    ghost use Rattle.shape_items.specs.Buffer.{cleared};
 
     /// Gives the buffer cleared, for new text: flags, level and the two glyph settings stay. Takes no
     /// memory.
@@ -33,7 +33,7 @@ impl hb_buffer_t {
 }
 
 impl Model for UnicodeBuffer {
-    ghost use Rattle.shape_buffer.specs.Buffer.{Buffer};
+    ghost use Rattle.shape_items.specs.Buffer.{Buffer};
 
     ghost Value = { Buffer };
 
@@ -41,13 +41,13 @@ impl Model for UnicodeBuffer {
 }
 
 impl UnicodeBuffer {
-    ghost use Rattle.shape_buffer.specs.Buffer.{new_buffer};
-    ghost use Rattle.shape_buffer.specs.Clusters.{clusters};
+    ghost use Rattle.shape_items.specs.Buffer.{new_buffer};
+    ghost use Rattle.shape_items.specs.Clusters.{clusters};
     ghost use Rattle.shape_buffer.specs.Guess.{guessed};
-    ghost use Rattle.shape_buffer.specs.Items.{new_item};
+    ghost use Rattle.shape_items.specs.Items.{new_item};
     ghost use Rattle.shape_buffer.specs.Text.{text_items, context_before, context_after};
     ghost use Rattle.shape_buffer.specs.Text.{numbered_from, IsFirstByte};
-    ghost use Rattle.shape_buffer.specs.Positions.{zero_position};
+    ghost use Rattle.shape_common.specs.Positions.{zero_position};
 
     /// A buffer without text, at level MONOTONE_GRAPHEMES and without flags. It keeps the allocator.
     pub fn new(alloc: Global) -> Self

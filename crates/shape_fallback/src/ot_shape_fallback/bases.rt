@@ -4,7 +4,7 @@
 //! span is marked unsafe to break, since it can't be shaped in parts, and its marks are placed.
 ghost use Rattle.std.specs.Prelude.{◌≡◌, ◌+◌, ◌<◌, ◌≤◌, length, drop};
 ghost use Rattle.std.specs.List.{prefix_len};
-ghost use Rattle.shape_buffer.specs.Items.{is_mark_item};
+ghost use Rattle.shape_items.specs.Items.{is_mark_item};
 ghost use Rattle.shape_buffer.specs.Outcome.{Made};
 ghost use Rattle.shape_fallback.specs.Bases.{bases_positioned, position_span as position_span_of};
 ghost use Rattle.shape_fallback.specs.Bases.{positioned_at, begins_with_mark};

@@ -54,7 +54,7 @@ pub struct MarkStep {
 }
 
 /// The component of the base that a mark belongs to.
-#[tactic(auto, using(shape_buffer::proofs::WrappingLemmas::kept_bits), unfolding(crate::specs::MarkState::component_of))]
+#[tactic(auto, using(shape_common::proofs::WrappingLemmas::kept_bits), unfolding(crate::specs::MarkState::component_of))]
 fn mark_component(base: &Base, info: &hb_glyph_info_t) -> i32
     ensures { result ≡ component_of base.now info.now }
 {
@@ -69,7 +69,7 @@ fn mark_component(base: &Base, info: &hb_glyph_info_t) -> i32
 }
 
 /// Which part of the base from its left a component is.
-#[tactic(auto, using(shape_buffer::proofs::WrappingLemmas::kept_bits), unfolding(crate::specs::MarkState::place_of))]
+#[tactic(auto, using(shape_common::proofs::WrappingLemmas::kept_bits), unfolding(crate::specs::MarkState::place_of))]
 fn place_of_component(base: &Base, component: i32) -> i32
     ensures { result ≡ place_of base.now component }
 {
@@ -83,7 +83,7 @@ fn place_of_component(base: &Base, component: i32) -> i32
 }
 
 /// The extents of a component.
-#[tactic(auto, using(shape_buffer::proofs::WrappingLemmas::kept_bits), unfolding(crate::specs::MarkState::component_extents))]
+#[tactic(auto, using(shape_common::proofs::WrappingLemmas::kept_bits), unfolding(crate::specs::MarkState::component_extents))]
 fn component_extents(base: &Base, component: i32) -> hb_glyph_extents_t
     requires { 0 < base.now.number_of_components }
     ensures { result ≡ component_extents_of base.now component }
@@ -100,7 +100,7 @@ fn component_extents(base: &Base, component: i32) -> hb_glyph_extents_t
 }
 
 /// Goes to the component of a mark.
-#[tactic(auto, using(shape_buffer::proofs::WrappingLemmas::kept_bits), unfolding(crate::specs::MarkState::at_component))]
+#[tactic(auto, using(shape_common::proofs::WrappingLemmas::kept_bits), unfolding(crate::specs::MarkState::at_component))]
 fn at_component(base: &Base, info: &hb_glyph_info_t, state: &mut MarkState)
     requires { 0 < base.now.number_of_components }
     ensures { state.new ≡ at_component_of base.now info.now state.old }
@@ -115,7 +115,7 @@ fn at_component(base: &Base, info: &hb_glyph_info_t, state: &mut MarkState)
 }
 
 /// The same, where the base has several components.
-#[tactic(auto, using(shape_buffer::proofs::WrappingLemmas::kept_bits), unfolding(crate::specs::MarkState::with_component))]
+#[tactic(auto, using(shape_common::proofs::WrappingLemmas::kept_bits), unfolding(crate::specs::MarkState::with_component))]
 fn with_component(base: &Base, info: &hb_glyph_info_t, state: &mut MarkState)
     ensures { state.new ≡ with_component_of base.now info.now state.old }
 {
@@ -125,7 +125,7 @@ fn with_component(base: &Base, info: &hb_glyph_info_t, state: &mut MarkState)
 }
 
 /// The state at a mark of this ccc: another ccc than the last begins at the box of the component again.
-#[tactic(auto, using(shape_buffer::proofs::WrappingLemmas::kept_bits), unfolding(crate::specs::MarkState::at_ccc))]
+#[tactic(auto, using(shape_common::proofs::WrappingLemmas::kept_bits), unfolding(crate::specs::MarkState::at_ccc))]
 fn at_ccc(ccc: u8, state: &mut MarkState)
     ensures { state.new ≡ at_ccc_of ccc state.old }
 {
@@ -137,7 +137,7 @@ fn at_ccc(ccc: u8, state: &mut MarkState)
 }
 
 /// Passes by a mark without a ccc.
-#[tactic(auto, using(shape_buffer::proofs::WrappingLemmas::kept_bits), unfolding(crate::specs::MarkState::passed))]
+#[tactic(auto, using(shape_common::proofs::WrappingLemmas::kept_bits), unfolding(crate::specs::MarkState::passed))]
 fn pass(forward: bool, position: GlyphPosition, state: &mut MarkState)
     ensures { state.new ≡ passed_of forward position state.old }
 {
@@ -151,7 +151,7 @@ fn pass(forward: bool, position: GlyphPosition, state: &mut MarkState)
 }
 
 /// A position without advances, moved by the running offset.
-#[tactic(auto, using(shape_buffer::proofs::WrappingLemmas::kept_bits), unfolding(crate::specs::MarkState::moved))]
+#[tactic(auto, using(shape_common::proofs::WrappingLemmas::kept_bits), unfolding(crate::specs::MarkState::moved))]
 fn moved(mut position: GlyphPosition, state: &MarkState) -> GlyphPosition
     ensures { result ≡ moved_of position state.now }
 {
@@ -163,7 +163,7 @@ fn moved(mut position: GlyphPosition, state: &MarkState) -> GlyphPosition
 }
 
 /// Places a mark of a ccc in the state that it is placed in.
-#[tactic(auto, using(shape_buffer::proofs::WrappingLemmas::kept_bits), unfolding(crate::specs::MarkState::place_in))]
+#[tactic(auto, using(shape_common::proofs::WrappingLemmas::kept_bits), unfolding(crate::specs::MarkState::place_in))]
 fn place_in<F: hb_font_t>(face: &F, base: &Base, info: &hb_glyph_info_t, step: &mut MarkStep)
     ensures { step.new
         ≡ place_in_of (F.face face.now) base.now step.old.state info.now step.old.position }
@@ -183,7 +183,7 @@ fn place_in<F: hb_font_t>(face: &F, base: &Base, info: &hb_glyph_info_t, step: &
 }
 
 /// Places a mark of a base, or passes it by. The step comes with the mark's position and the state before it.
-#[tactic(auto, using(shape_buffer::proofs::WrappingLemmas::kept_bits), unfolding(crate::specs::MarkState::place_mark))]
+#[tactic(auto, using(shape_common::proofs::WrappingLemmas::kept_bits), unfolding(crate::specs::MarkState::place_mark))]
 pub fn place_mark<F: hb_font_t>(face: &F, base: &Base, info: &hb_glyph_info_t, step: &mut MarkStep)
     ensures { step.new
         ≡ place_mark_of (F.face face.now) base.now step.old.state info.now step.old.position }

@@ -25,7 +25,7 @@ pub struct Setting {
 }
 
 /// A position without its advances.
-#[tactic(auto, using(shape_buffer::proofs::WrappingLemmas::kept_bits), unfolding(crate::specs::Marks::zeroed_position))]
+#[tactic(auto, using(shape_common::proofs::WrappingLemmas::kept_bits), unfolding(crate::specs::Marks::zeroed_position))]
 pub(crate) fn zeroed_position(adjust: bool, mut position: GlyphPosition) -> GlyphPosition
     ensures { result ≡ zeroed_position_of adjust position }
 {
@@ -92,7 +92,7 @@ pub(crate) fn zero_marks(adjust: bool, buffer: &mut hb_buffer_t, from: usize, to
 }
 
 /// A base with these extents of its glyph.
-#[tactic(auto, using(shape_buffer::proofs::WrappingLemmas::kept_bits), unfolding(crate::specs::Marks::base_of))]
+#[tactic(auto, using(shape_common::proofs::WrappingLemmas::kept_bits), unfolding(crate::specs::Marks::base_of))]
 pub(crate) fn make_base<F: hb_font_t>(
     face: &F,
     setting: Setting,
@@ -115,7 +115,7 @@ pub(crate) fn make_base<F: hb_font_t>(
 }
 
 /// The state at the first mark.
-#[tactic(auto, using(shape_buffer::proofs::WrappingLemmas::kept_bits), unfolding(crate::specs::Marks::first_state))]
+#[tactic(auto, using(shape_common::proofs::WrappingLemmas::kept_bits), unfolding(crate::specs::Marks::first_state))]
 pub(crate) fn first_state(base: Base, position: GlyphPosition) -> MarkState
     ensures { result ≡ first_state_of base position }
 {

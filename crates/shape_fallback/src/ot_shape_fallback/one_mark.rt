@@ -54,7 +54,7 @@ fn forward_width(forward: bool, base: hb_glyph_extents_t) -> i32
 }
 
 /// How far a mark of such extents is moved to the right from the place of a base of such extents.
-#[tactic(auto, using(shape_buffer::proofs::WrappingLemmas::kept_bits))]
+#[tactic(auto, using(shape_common::proofs::WrappingLemmas::kept_bits))]
 pub(crate) fn mark_x_offset(
     horizontal: bool,
     forward: bool,
@@ -121,7 +121,7 @@ pub struct Stacked {
 }
 
 /// The mark under a base whose gap is taken into account: never moved up.
-#[tactic(auto, using(shape_buffer::proofs::WrappingLemmas::kept_bits))]
+#[tactic(auto, using(shape_common::proofs::WrappingLemmas::kept_bits))]
 fn hung(gap: i32, mark: hb_glyph_extents_t, mut base: hb_glyph_extents_t) -> Stacked
     ensures value { result ≡ hung_of gap mark base }
     ensures exact { Fits32 (hung_at mark base) → StackedFits (exact_hung gap mark base)
@@ -137,7 +137,7 @@ fn hung(gap: i32, mark: hb_glyph_extents_t, mut base: hb_glyph_extents_t) -> Sta
 }
 
 /// The mark on a base whose gap is taken into account: not moved down too much.
-#[tactic(auto, using(shape_buffer::proofs::WrappingLemmas::kept_bits))]
+#[tactic(auto, using(shape_common::proofs::WrappingLemmas::kept_bits))]
 fn piled(gap: i32, mark: hb_glyph_extents_t, mut base: hb_glyph_extents_t) -> Stacked
     ensures value { result ≡ piled_of gap mark base }
     ensures exact { Fits32 (piled_at mark base) → Fits32 (neg_ℤ (piled_at mark base))
@@ -159,7 +159,7 @@ fn piled(gap: i32, mark: hb_glyph_extents_t, mut base: hb_glyph_extents_t) -> St
 }
 
 /// A base with a gap below it, except for marks that touch it.
-#[tactic(auto, using(shape_buffer::proofs::WrappingLemmas::kept_bits), unfolding(crate::specs::OneMark::lowered))]
+#[tactic(auto, using(shape_common::proofs::WrappingLemmas::kept_bits), unfolding(crate::specs::OneMark::lowered))]
 fn lowered(gap: i32, ccc: u8, mut base: hb_glyph_extents_t) -> hb_glyph_extents_t
     ensures { result ≡ lowered_of gap ccc base }
 {
@@ -171,7 +171,7 @@ fn lowered(gap: i32, ccc: u8, mut base: hb_glyph_extents_t) -> hb_glyph_extents_
 }
 
 /// A base with a gap above it, except for marks that touch it.
-#[tactic(auto, using(shape_buffer::proofs::WrappingLemmas::kept_bits), unfolding(crate::specs::OneMark::raised))]
+#[tactic(auto, using(shape_common::proofs::WrappingLemmas::kept_bits), unfolding(crate::specs::OneMark::raised))]
 fn raised(gap: i32, ccc: u8, mut base: hb_glyph_extents_t) -> hb_glyph_extents_t
     ensures { result ≡ raised_of gap ccc base }
 {

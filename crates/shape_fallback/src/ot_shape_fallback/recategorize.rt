@@ -1,6 +1,6 @@
 //! The ccc that the marks of a buffer are placed by.
 ghost use Rattle.std.specs.Prelude.{◌≡◌, ◌<◌, length, slice_index_or, slice_set};
-ghost use Rattle.shape_buffer.specs.Items.{Item};
+ghost use Rattle.shape_items.specs.Items.{Item};
 ghost use Rattle.shape_buffer.specs.Outcome.{Made};
 ghost use Rattle.shape_fallback.specs.Recategorized.{is_nonspacing as is_nonspacing_of};
 ghost use Rattle.shape_fallback.specs.Recategorized.{recategorized, recategorized_item};

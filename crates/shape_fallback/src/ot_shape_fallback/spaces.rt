@@ -64,7 +64,7 @@ fn em_part(units_per_em: u16, space_type: space_t) -> i32
 }
 
 /// That advance; along vertical lines, which go down, it is negative.
-#[tactic(auto, using(shape_buffer::proofs::WrappingLemmas::kept_bits), unfolding(crate::specs::Spaces::em_advance))]
+#[tactic(auto, using(shape_common::proofs::WrappingLemmas::kept_bits), unfolding(crate::specs::Spaces::em_advance))]
 fn em_advance(horizontal: bool, units_per_em: u16, space_type: space_t) -> i32
     requires { 0 < space_type }
     ensures value { result ≡ em_advance_of horizontal (em_part_of units_per_em space_type) }
@@ -90,7 +90,7 @@ fn first_glyph<F: hb_font_t>(face: &F, characters: &[char]) -> Option<GlyphId>
 }
 
 /// The advance of the first of some characters that has a glyph; where none has, the one before.
-#[tactic(auto, using(shape_buffer::proofs::WrappingLemmas::kept_bits), unfolding(crate::specs::Spaces::as_wide_as))]
+#[tactic(auto, using(shape_common::proofs::WrappingLemmas::kept_bits), unfolding(crate::specs::Spaces::as_wide_as))]
 fn as_wide_as<F: hb_font_t>(face: &F, horizontal: bool, characters: &[char], before: i32) -> i32
     ensures { result ≡ as_wide_as_of (F.face face.now) horizontal characters.now before }
 {
@@ -104,7 +104,7 @@ fn as_wide_as<F: hb_font_t>(face: &F, horizontal: bool, characters: &[char], bef
 }
 
 /// The advance along the line of a space of a type, which had another one before.
-#[tactic(auto, using(shape_buffer::proofs::WrappingLemmas::kept_bits), unfolding(crate::specs::Spaces::space_advance))]
+#[tactic(auto, using(shape_common::proofs::WrappingLemmas::kept_bits), unfolding(crate::specs::Spaces::space_advance))]
 fn space_advance<F: hb_font_t>(face: &F, horizontal: bool, space_type: space_t, before: i32) -> i32
     ensures { result ≡ space_advance_of (F.face face.now) horizontal space_type before }
 {
@@ -120,7 +120,7 @@ fn space_advance<F: hb_font_t>(face: &F, horizontal: bool, space_type: space_t, 
 }
 
 /// A position with the advance of a space of a type.
-#[tactic(auto, using(shape_buffer::proofs::WrappingLemmas::kept_bits), unfolding(crate::specs::Spaces::space_positioned))]
+#[tactic(auto, using(shape_common::proofs::WrappingLemmas::kept_bits), unfolding(crate::specs::Spaces::space_positioned))]
 fn position_space<F: hb_font_t>(
     face: &F,
     horizontal: bool,

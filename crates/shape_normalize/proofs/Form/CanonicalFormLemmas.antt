@@ -6,13 +6,13 @@ use Rattle.canonical_form.proofs.Expanding.ChoiceLemmas.{full_text-expanded}
 use Rattle.canonical_form.proofs.Expanding.ExpandedLemmas.{expanded-plain}
 use Rattle.canonical_form.proofs.LawLemmas.{choices_are_equivalent, ordered_is_equivalent, decomposed_is_canonical, decomposed_decides}
 use Rattle.canonical_form.proofs.NormaliseLemmas.{sound_with_glyph, equivalent_normalised, recomposed_equal_iff}
-use Rattle.shape_buffer.specs.Buffer.{Buffer}
+use Rattle.shape_items.specs.Buffer.{Buffer}
 use Rattle.canonical_form.specs.Expanded.{expanded_text}
 use Rattle.canonical_form.specs.Expansion.{choice}
 use Rattle.canonical_form.specs.Laws.{IsDecomposed}
 use Rattle.canonical_form.specs.Recompose.{compose_with_glyph}
 use Rattle.canonical_form.specs.Runs.{AreRunsSettled}
-use Rattle.shape_buffer.specs.Unicode.{LawfulUnicode, is_mark}
+use Rattle.shape_common.specs.Unicode.{LawfulUnicode, is_mark}
 use Rattle.shape_normalize.specs.CanonicalForm.{text_of, AreEquivalent, HasCanonicalForm, IsRecomposedForm, EquivalencePremises, CanonicalFormPremises, NormalizesCanonically, recomposed_text}
 use Rattle.shape_normalize.specs.Normalized.{ordered, normalized}
 use Rattle.shape_normalize.specs.RoundTwo.{max_run, has_mark_past_first}

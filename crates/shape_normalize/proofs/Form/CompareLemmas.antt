@@ -4,7 +4,7 @@ use Rattle.std.proofs.lemmas.Bool.{and_parts}
 use Rattle.std.proofs.lemmas.Bool.Decides.{nat_tests}
 use Rattle.std.proofs.lemmas.List.{length-map}
 use Rattle.std.specs.List.{list_all, zip}
-use Rattle.shape_buffer.specs.Items.{Item, char_of}
+use Rattle.shape_items.specs.Items.{Item, char_of}
 
 abbrev alike : Item × Item → Bool
 alike pair = pair.0.codepoint == pair.1.codepoint

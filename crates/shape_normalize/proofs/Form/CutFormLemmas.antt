@@ -6,13 +6,13 @@ use Rattle.std.specs.List.{list_any}
 use Rattle.canonical_form.proofs.CutLemmas.{cut}
 use Rattle.canonical_form.proofs.Expanding.ExpandedLemmas.{expanded-cut}
 use Rattle.canonical_form.proofs.Ordering.RunLemmas.{AreRunsSettled-unique, Swaps-nil, IsSettled-swaps}
-use Rattle.shape_buffer.specs.Buffer.{Buffer}
+use Rattle.shape_items.specs.Buffer.{Buffer}
 use Rattle.canonical_form.specs.Expanded.{begins_with_mark}
 use Rattle.canonical_form.specs.Expansion.{choice}
-use Rattle.shape_buffer.specs.Items.{Item, char_of, is_mark_item}
+use Rattle.shape_items.specs.Items.{Item, char_of, is_mark_item}
 use Rattle.canonical_form.specs.Recompose.{is_blocked, compose_with_glyph}
 use Rattle.canonical_form.specs.Runs.{AreRunsSettled}
-use Rattle.shape_buffer.specs.Unicode.{UnicodeMeaning, LawfulUnicode, is_mark}
+use Rattle.shape_common.specs.Unicode.{UnicodeMeaning, LawfulUnicode, is_mark}
 use Rattle.shape_normalize.specs.CanonicalForm.{text_of, CutPremises, recomposed_text}
 use Rattle.shape_normalize.specs.Normalized.{ordered, normalized}
 use Rattle.shape_normalize.specs.RoundTwo.{max_run, has_mark_past_first}

@@ -6,14 +6,14 @@ use Rattle.std.specs.List.{list_any}
 use Rattle.canonical_form.proofs.MapLemmas.{AreRunsSettled-map}
 use Rattle.canonical_form.proofs.Ordering.RunLemmas.{AreRunsSettled-swaps, AreRunsSettled-unique}
 use Rattle.canonical_form.proofs.Ordering.SwapLemmas.{all-swaps}
-use Rattle.shape_buffer.specs.Buffer.{Buffer}
+use Rattle.shape_items.specs.Buffer.{Buffer}
 use Rattle.canonical_form.specs.Expanded.{expanded_text}
-use Rattle.shape_buffer.specs.Items.{Item, char_of, is_mark_item}
+use Rattle.shape_items.specs.Items.{Item, char_of, is_mark_item}
 use Rattle.canonical_form.specs.Runs.{AreRunsSettled}
-use Rattle.shape_buffer.specs.Unicode.{UnicodeMeaning, LawfulUnicode, is_mark}
+use Rattle.shape_common.specs.Unicode.{UnicodeMeaning, LawfulUnicode, is_mark}
 use Rattle.shape_normalize.specs.CanonicalForm.{text_of, HasNoSelector, PlainPremises, recomposed_text}
 use Rattle.shape_normalize.specs.Normalized.{ordered, normalized}
-use Rattle.shape_buffer.specs.Prepared.{IsPrepared, IsPreparedItem}
+use Rattle.shape_items.specs.Prepared.{IsPrepared, IsPreparedItem}
 use Rattle.shape_normalize.specs.RoundOne.{round_one}
 use Rattle.shape_normalize.specs.RoundThree.{round_three}
 use Rattle.shape_normalize.specs.RoundTwo.{max_run, has_mark_past_first, marks_ordered, cgj_unhidden_where_seen}

@@ -11,10 +11,10 @@ use Rattle.canonical_form.specs.Chain.{FallsAlong, kept_part, full, full_text}
 use Rattle.canonical_form.specs.Decompositions.{Decompositions}
 use Rattle.canonical_form.specs.Runs.{HasNoLongerRun}
 use Rattle.canonical_form.proofs.Expanding.ChainLemmas.{full-stays, full-splits, kept_part_zero}
-use Rattle.shape_buffer.specs.Buffer.{Buffer}
-use Rattle.shape_buffer.specs.Items.{Item, char_of, ccc_of_item, is_mark_item}
-use Rattle.shape_buffer.specs.Prepared.{IsPreparedItem}
-use Rattle.shape_buffer.specs.Unicode.{UnicodeMeaning, is_mark}
+use Rattle.shape_items.specs.Buffer.{Buffer}
+use Rattle.shape_items.specs.Items.{Item, char_of, ccc_of_item, is_mark_item}
+use Rattle.shape_items.specs.Prepared.{IsPreparedItem}
+use Rattle.shape_common.specs.Unicode.{UnicodeMeaning, is_mark}
 use Rattle.shape_plan.specs.Rules.{Rules, decompositions, has_glyph}
 use Rattle.shape_normalize.specs.CanonicalForm.{CanonicalFormPremises, HasLawfulHooks, text_of}
 use Rattle.shape_normalize.specs.PremiseTest.{row_with, row_before, is_plain_item, is_full_mode, is_supported_text, meets_premises}

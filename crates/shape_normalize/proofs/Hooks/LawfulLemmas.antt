@@ -2,14 +2,14 @@
 use Rattle.std.proofs.Common.{◌≡◌, false, List, Option, Some, None, map, get_or, refl}
 use Rattle.std.proofs.lemmas.List.Elements.{All-map}
 use Rattle.canonical_form.specs.Equivalent.{ComposesSoundly}
-use Rattle.shape_buffer.specs.Face.{FaceMeaning}
-use Rattle.shape_buffer.specs.Items.{Item}
-use Rattle.shape_buffer.specs.Unicode.{UnicodeMeaning, LawfulUnicode}
+use Rattle.shape_common.specs.Face.{FaceMeaning}
+use Rattle.shape_items.specs.Items.{Item}
+use Rattle.shape_common.specs.Unicode.{UnicodeMeaning, LawfulUnicode}
 use Rattle.canonical_form.specs.SplitsFall.{SplitsFall}
-use Rattle.shape_buffer.specs.UnicodeProps.{with_unicode_props}
+use Rattle.shape_items.specs.UnicodeProps.{with_unicode_props}
 use Rattle.shape_normalize.specs.CanonicalForm.{HasLawfulHooks}
 use Rattle.shape_plan.specs.Plan.{Plan, hooks_of}
-use Rattle.shape_buffer.specs.Prepared.{IsPrepared, IsPreparedItem}
+use Rattle.shape_items.specs.Prepared.{IsPrepared, IsPreparedItem}
 use Rattle.shape_plan.specs.Rules.{used_decompositions, used_compose, used_reorder, rules_of}
 use Rattle.shape_plan.specs.Shaper.{ShaperConstants, HookMeaning}
 use Rattle.shape_normalize.proofs.Form.PreparedLemmas.{prepared-with_props}

@@ -6,10 +6,10 @@ use Rattle.std.proofs.lemmas.List.Edits.{swap_is, length-swap, split_between}
 use Rattle.std.proofs.lemmas.List.Sorted.{IsPermutation-refl, IsPermutation-trans, IsPermutation-swap, IsPermutation-map, IsPermutation-append_left, IsPermutation-append_right}
 use Rattle.std.specs.List.{swap}
 use Rattle.std.specs.List.Sorted.{IsPermutation}
-use Rattle.shape_buffer.specs.Buffer.{Buffer}
-use Rattle.shape_buffer.specs.BufferClusters.{merge_clusters}
-use Rattle.shape_buffer.specs.Items.{Item}
-use Rattle.shape_buffer.proofs.Merging.KeyLemmas.{IsKey, keys-merge_clusters, without_items, without_items-merge_clusters, length-merge_clusters}
+use Rattle.shape_items.specs.Buffer.{Buffer}
+use Rattle.shape_items.specs.BufferClusters.{merge_clusters}
+use Rattle.shape_items.specs.Items.{Item}
+use Rattle.shape_items.proofs.Merging.KeyLemmas.{IsKey, keys-merge_clusters, without_items, without_items-merge_clusters, length-merge_clusters}
 use Rattle.shape_plan.specs.Reorder.{exchanged, with_ccc, ccc_set, Reorders, done, exchange, merge, set_ccc, ReordersRanges}
 use Rattle.shape_normalize.proofs.RoundTwo.SpanLemmas.{map-slice_range}
 

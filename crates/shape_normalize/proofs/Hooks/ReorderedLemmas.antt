@@ -6,12 +6,12 @@ use Rattle.std.proofs.lemmas.Nat.Bits.{bit_at_or, same_from_bits}
 use Rattle.std.proofs.lemmas.List.{take-map, drop-map, map-set}
 use Rattle.std.proofs.lemmas.List.Elements.{All-map, All-set}
 use Rattle.std.proofs.lemmas.List.Sorted.{All-permutation}
-use Rattle.shape_buffer.specs.Buffer.{Buffer}
-use Rattle.shape_buffer.specs.BufferClusters.{merge_clusters}
-use Rattle.shape_buffer.specs.Items.{Item, ccc_of_item}
-use Rattle.shape_buffer.specs.declared.buffer.settings.BufferClusterLevel.TheVariants.{Characters}
-use Rattle.shape_buffer.proofs.Merging.ClusterLemmas.{unsafe_to_break-cases, merge_clusters-cases}
-use Rattle.shape_buffer.proofs.Merging.KeyLemmas.{IsKey, IsKey-ccc, IsKey-unflagged, keys-merge_clusters, without_items-merge_clusters}
+use Rattle.shape_items.specs.Buffer.{Buffer}
+use Rattle.shape_items.specs.BufferClusters.{merge_clusters}
+use Rattle.shape_items.specs.Items.{Item, ccc_of_item}
+use Rattle.shape_common.specs.declared.settings.BufferClusterLevel.TheVariants.{Characters}
+use Rattle.shape_items.proofs.Merging.ClusterLemmas.{unsafe_to_break-cases, merge_clusters-cases}
+use Rattle.shape_items.proofs.Merging.KeyLemmas.{IsKey, IsKey-ccc, IsKey-unflagged, keys-merge_clusters, without_items-merge_clusters}
 use Rattle.shape_plan.specs.Reorder.{IsRunInOrder, with_ccc, ccc_set, exchanged, Reorders}
 use Rattle.shape_normalize.specs.Reordered.{unmerged, without_ccc, ReordersRun}
 use Rattle.shape_normalize.proofs.Normalized.NormalFlagLemmas.{flags-Reorders}

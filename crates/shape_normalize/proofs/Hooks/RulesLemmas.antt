@@ -2,7 +2,7 @@
 use Rattle.std.proofs.Common.{◌≡◌, Bool, true, false, Option, Some, None, IfSome, subst}
 use Rattle.std.specs.Option.{option_map}
 use Rattle.canonical_form.specs.Chain.{FallsAlong}
-use Rattle.shape_buffer.specs.Unicode.{UnicodeMeaning, LawfulUnicode}
+use Rattle.shape_common.specs.Unicode.{UnicodeMeaning, LawfulUnicode}
 use Rattle.shape_plan.specs.Plan.{Plan, hooks_of}
 use Rattle.shape_plan.specs.Reorder.{ReordersRanges}
 use Rattle.shape_plan.specs.Rules.{used_split, used_height, used_reorder}

@@ -6,9 +6,9 @@ use Rattle.std.specs.Option.{option_map, option_map_or}
 use Rattle.std.proofs.lemmas.Bool.{cases_Bool}
 use Rattle.std.proofs.lemmas.List.Elements.{All-from_recursion, recursion_from_All, All-contains_itself}
 use Rattle.std.proofs.lemmas.List.Sums.{AllPass-from_list_all}
-use Rattle.shape_buffer.specs.Items.{Item}
-use Rattle.shape_buffer.specs.Buffer.{Buffer}
-use Rattle.shape_buffer.specs.declared.buffer.settings.GlyphId.{GlyphId}
+use Rattle.shape_items.specs.Items.{Item}
+use Rattle.shape_items.specs.Buffer.{Buffer}
+use Rattle.shape_common.specs.declared.settings.GlyphId.{GlyphId}
 use Rattle.canonical_form.proofs.Expanding.ChoiceLemmas.{chosen_glyphs}
 use Rattle.canonical_form.proofs.Lists.EveryLemmas.{append_all}
 use Rattle.shape_plan.specs.Rules.{Rules, decompositions, has_glyph}

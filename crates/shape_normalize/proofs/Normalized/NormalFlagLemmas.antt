@@ -6,23 +6,23 @@ use Rattle.std.proofs.lemmas.Bool.{cases_Bool}
 use Rattle.std.proofs.lemmas.Nat.{and_or_apart}
 use Rattle.std.proofs.lemmas.List.Sorted.{IsPermutation-swap, list_any-IsPermutation}
 use Rattle.std.specs.List.{swap}
-use Rattle.shape_buffer.specs.Buffer.{Buffer}
-use Rattle.shape_buffer.specs.BufferClusters.{merge_clusters, merge_out_clusters}
-use Rattle.shape_buffer.specs.Items.{Item, ccc_of_item}
-use Rattle.shape_buffer.specs.KeepsFlags.{has_flag, some_has, KeepsFlags}
+use Rattle.shape_items.specs.Buffer.{Buffer}
+use Rattle.shape_items.specs.BufferClusters.{merge_clusters, merge_out_clusters}
+use Rattle.shape_items.specs.Items.{Item, ccc_of_item}
+use Rattle.shape_items.specs.KeepsFlags.{has_flag, some_has, KeepsFlags}
 use Rattle.canonical_form.specs.Order.{in_order}
-use Rattle.shape_buffer.specs.UnicodeProps.{with_scratch_of, flag_if, beyond_ascii}
-use Rattle.shape_buffer.specs.Unicode.{UnicodeMeaning}
-use Rattle.shape_buffer.specs.Face.{FaceMeaning}
-use Rattle.shape_buffer.specs.declared.buffer.flags.ScratchFlags.{ScratchFlags}
-use Rattle.shape_buffer.specs.declared.buffer.settings.GlyphId.{GlyphId}
-use Rattle.shape_buffer.proofs.Flags.FlagLemmas.{append-cases, take_in, drop_in, KeepsFlags-items, KeepsFlags-same, KeepsFlags-then, merge_clusters_keeps, merge_out_clusters_keeps}
+use Rattle.shape_items.specs.UnicodeProps.{with_scratch_of, flag_if, beyond_ascii}
+use Rattle.shape_common.specs.Unicode.{UnicodeMeaning}
+use Rattle.shape_common.specs.Face.{FaceMeaning}
+use Rattle.shape_common.specs.declared.flags.ScratchFlags.{ScratchFlags}
+use Rattle.shape_common.specs.declared.settings.GlyphId.{GlyphId}
+use Rattle.shape_items.proofs.Flags.FlagLemmas.{append-cases, take_in, drop_in, KeepsFlags-items, KeepsFlags-same, KeepsFlags-then, merge_clusters_keeps, merge_out_clusters_keeps}
 use Rattle.canonical_form.proofs.Ordering.OrderLemmas.{Swaps-in_order}
 use Rattle.canonical_form.proofs.Ordering.SwapLemmas.{all-swaps}
 use Rattle.shape_normalize.specs.Normalized.{normalized}
 use Rattle.shape_plan.specs.Reorder.{exchanged, ccc_set, Reorders}
 use Rattle.shape_normalize.specs.RoundOne.{part_item, whole_item, expansion_of, variation_sequences_merged, variation_sequences_from, sequences, round_one, remembers_space, seen_chars, seen_expanded, seen_variant, seen_sequence, variants, is_selector_sequence, is_with_marks, with_space_fallback, with_selector_fallback}
-use Rattle.shape_buffer.specs.Spans.{spans_merged_out}
+use Rattle.shape_items.specs.Spans.{spans_merged_out}
 use Rattle.shape_normalize.specs.RoundThree.{Placed, recomposed_items, absorbed_spans, with_cluster_at, round_three, composed_chars}
 use Rattle.shape_normalize.specs.RoundTwo.{spans, run_cccs, spans_merged, run_in_order, run_reordered, run_settled, marks_ordered, cgj_unhidden_where_seen, cgj_unhidden}
 use Rattle.shape_plan.specs.Rules.{Rules}
@@ -32,7 +32,7 @@ use Rattle.shape_normalize.proofs.RoundThree.RecomposedItemLemmas.{each_recompos
 use Rattle.shape_normalize.proofs.Hooks.ReorderLemmas.{LawfulReorder, kept_by_steps, keys-ccc_set}
 use Rattle.shape_normalize.proofs.RoundOne.RoundOneLemmas.{whole_item_is, expanded_all}
 use Rattle.shape_normalize.proofs.RoundOne.SelectorLemmas.{variation_sequences_in_order}
-use Rattle.shape_buffer.proofs.MergingInOrder.EachSpanLemmas.{all_merged_keep, spans_merged_out_is}
+use Rattle.shape_items.proofs.MergingInOrder.EachSpanLemmas.{all_merged_keep, spans_merged_out_is}
 use Rattle.shape_normalize.proofs.RoundTwo.RunMarkLemmas.{AreMarks}
 use Rattle.shape_normalize.proofs.RoundOne.SequenceLemmas.{each_of_values, each_value}
 use Rattle.shape_normalize.proofs.RoundTwo.SettleLemmas.{run_placed, run_placed-in_order, length-run_placed, settled_cases, kept_by_marks_ordered, Reorders-run_reordered}

@@ -4,10 +4,10 @@ use Rattle.std.specs.List.{AllByRecursion, Contains}
 use Rattle.std.proofs.lemmas.Bool.{cases_Bool, cond-true, cond-false, and_right}
 use Rattle.std.proofs.lemmas.List.{length-map}
 use Rattle.std.proofs.lemmas.List.Elements.{All-from_recursion, recursion_from_All}
-use Rattle.shape_buffer.specs.Items.{Item, char_of, ccc_of_item}
-use Rattle.shape_buffer.specs.Buffer.{Buffer}
-use Rattle.shape_buffer.specs.declared.buffer.positions.GlyphPosition.{GlyphPosition}
-use Rattle.shape_buffer.proofs.Merging.KeyLemmas.{IsKey, IsKey-unflagged}
+use Rattle.shape_items.specs.Items.{Item, char_of, ccc_of_item}
+use Rattle.shape_items.specs.Buffer.{Buffer}
+use Rattle.shape_common.specs.declared.positions.GlyphPosition.{GlyphPosition}
+use Rattle.shape_items.proofs.Merging.KeyLemmas.{IsKey, IsKey-unflagged}
 use Rattle.shape_plan.specs.Rules.{Rules, has_glyph}
 use Rattle.shape_normalize.specs.RoundOne.{round_one, part_item}
 use Rattle.shape_normalize.specs.RoundTwo.{has_mark_past_first, marks_ordered, unhidden, cgj_unhidden_where_seen, without_place, OrdersMarks}

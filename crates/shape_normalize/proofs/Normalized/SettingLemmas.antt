@@ -1,6 +1,6 @@
 -- Normalising keeps the cluster level, and the limit, which the lists of its rounds stay within.
 use Rattle.std.proofs.Common.{◌≡◌, ◌≤◌, ◌==◌, Bool, true, false, [], if◌then◌else◌, length, bit_and, refl, ap, ◌∙◌, arith}
-use Rattle.shape_buffer.specs.Buffer.{Buffer, limit_of}
+use Rattle.shape_items.specs.Buffer.{Buffer, limit_of}
 use Rattle.shape_plan.specs.Rules.{Rules}
 use Rattle.shape_normalize.specs.RoundOne.{sequences, variation_sequences_from, round_one}
 use Rattle.shape_normalize.specs.RoundThree.{absorbed_spans, recomposed_items}
@@ -8,7 +8,7 @@ use Rattle.shape_normalize.specs.RoundTwo.{marks_ordered, cgj_unhidden_where_see
 use Rattle.shape_normalize.specs.Normalized.{normalized, ordered}
 use Rattle.shape_normalize.proofs.Normalized.NormalizedLemmas.{length-ordered, kept_by_rounds}
 use Rattle.shape_normalize.proofs.Hooks.ReorderLemmas.{LawfulReorder}
-use Rattle.shape_buffer.proofs.MergingInOrder.EachSpanLemmas.{spans_merged_out_is, without_items-all_merged}
+use Rattle.shape_items.proofs.MergingInOrder.EachSpanLemmas.{spans_merged_out_is, without_items-all_merged}
 use Rattle.shape_normalize.proofs.RoundTwo.SettleLemmas.{without_items-marks_ordered}
 
 -- ---- round one

@@ -9,9 +9,9 @@ use Rattle.std.proofs.lemmas.List.Sorted.{All-permutation}
 use Rattle.canonical_form.specs.Runs.{AreRunsSettled}
 use Rattle.canonical_form.proofs.Ordering.RunLemmas.{AreRunsSettled-swaps}
 use Rattle.canonical_form.proofs.Ordering.SwapLemmas.{all-swaps}
-use Rattle.shape_buffer.specs.Buffer.{Buffer}
-use Rattle.shape_buffer.specs.Items.{Item, new_item, ccc_of_item}
-use Rattle.shape_buffer.specs.UnicodeProps.{is_hidden_char}
+use Rattle.shape_items.specs.Buffer.{Buffer}
+use Rattle.shape_items.specs.Items.{Item, new_item, ccc_of_item}
+use Rattle.shape_items.specs.UnicodeProps.{is_hidden_char}
 use Rattle.shape_plan.specs.Reorder.{with_ccc}
 use Rattle.shape_plan.specs.Rules.{Rules}
 use Rattle.shape_normalize.specs.Normalized.{ordered, hidden_char}

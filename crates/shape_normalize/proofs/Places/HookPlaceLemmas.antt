@@ -10,9 +10,9 @@ use Rattle.std.proofs.lemmas.List.FromFn.{length-range_with_len, get_or-range_wi
 use Rattle.std.proofs.lemmas.List.Sorted.{All-permutation, IsPermutation-refl, IsPermutation-trans, IsPermutation-swap, IsPermutation-cons, length_permutation}
 use Rattle.canonical_form.specs.Order.{IsSwap, Swaps, in_order}
 use Rattle.canonical_form.proofs.Ordering.OrderLemmas.{Swaps-in_order}
-use Rattle.shape_buffer.specs.Buffer.{Buffer}
-use Rattle.shape_buffer.specs.Items.{Item, ccc_of_item}
-use Rattle.shape_buffer.proofs.Merging.KeyLemmas.{IsKey}
+use Rattle.shape_items.specs.Buffer.{Buffer}
+use Rattle.shape_items.specs.Items.{Item, ccc_of_item}
+use Rattle.shape_items.proofs.Merging.KeyLemmas.{IsKey}
 use Rattle.shape_normalize.specs.Origins.{item_at, all_places, IsShortRun, AreInOneRun, PermutesRuns}
 use Rattle.shape_normalize.specs.Reordered.{without_ccc}
 use Rattle.shape_normalize.specs.RoundTwo.{max_run, spans_merged, run_reordered, run_settled, marks_ordered}

@@ -7,8 +7,8 @@ use Rattle.std.proofs.lemmas.List.FromFn.{get_or-range_with_len}
 use Rattle.std.proofs.lemmas.List.Sorted.{IsPermutation-refl, length_permutation}
 use Rattle.canonical_form.specs.Order.{IsSwap, Swaps}
 use Rattle.canonical_form.proofs.Ordering.OrderLemmas.{in_order_from_reached}
-use Rattle.shape_buffer.specs.Clusters.{merge}
-use Rattle.shape_buffer.specs.Items.{Item, new_item, ccc_of_item}
+use Rattle.shape_items.specs.Clusters.{merge}
+use Rattle.shape_items.specs.Items.{Item, new_item, ccc_of_item}
 use Rattle.shape_normalize.specs.Normalized.{features_of}
 use Rattle.shape_normalize.specs.Origins.{item_at, HasOfOrigin, all_places, AreInOneRun, PermutesRuns, IsOrderOf, new_origins, ComesByPlace}
 use Rattle.shape_normalize.specs.RoundOne.{round_one}

@@ -4,10 +4,10 @@ use Rattle.std.proofs.lemmas.List.{take-map, map-append, reverse-append}
 use Rattle.std.specs.Option.{option_map, option_map_or}
 use Rattle.canonical_form.specs.Chain.{kept_part}
 use Rattle.canonical_form.proofs.Expanding.WalkLemmas.{found_parts}
-use Rattle.shape_buffer.specs.Items.{Item}
-use Rattle.shape_buffer.specs.Unicode.{UnicodeMeaning}
-use Rattle.shape_buffer.specs.declared.buffer.flags.ScratchFlags.{ScratchFlags}
-use Rattle.shape_buffer.specs.declared.buffer.settings.GlyphId.{GlyphId}
+use Rattle.shape_items.specs.Items.{Item}
+use Rattle.shape_common.specs.Unicode.{UnicodeMeaning}
+use Rattle.shape_common.specs.declared.flags.ScratchFlags.{ScratchFlags}
+use Rattle.shape_common.specs.declared.settings.GlyphId.{GlyphId}
 use Rattle.shape_normalize.specs.RoundOne.{part_item, seen_chars}
 use Rattle.shape_normalize.specs.OneWalk.{part_of_char, with_part, seen_parts}
 use Rattle.shape_normalize.specs.declared.ot_shape_normalize.decompose.Part.{Part}

@@ -2,9 +2,9 @@
 use Rattle.std.proofs.Common.{ℕ, List, [], ◌∷◌, ◌++◌, append_assoc, append-nil}
 use Rattle.std.specs.List.{flat_map}
 use Rattle.std.proofs.lemmas.List.{map-append}
-use Rattle.shape_buffer.specs.Clusters.{clusters}
-use Rattle.shape_buffer.specs.Items.{Item}
-use Rattle.shape_buffer.proofs.Order.DrawsInOrder.{DrawsInOrder, DrawsInOrder-same, DrawsInOrder-behind, DrawsInOrder-again}
+use Rattle.shape_items.specs.Clusters.{clusters}
+use Rattle.shape_items.specs.Items.{Item}
+use Rattle.shape_items.proofs.Order.DrawsInOrder.{DrawsInOrder, DrawsInOrder-same, DrawsInOrder-behind, DrawsInOrder-again}
 
 -- what is drawn in order from a list stays so where the first list goes before that one, and the second before it
 abbrev pub DrawsBefore : List ℕ → List ℕ → Type 0

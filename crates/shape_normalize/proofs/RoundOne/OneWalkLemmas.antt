@@ -8,13 +8,13 @@ use Rattle.std.proofs.lemmas.List.Folds.{list_any_none}
 use Rattle.std.specs.List.{AllByRecursion, flat_map, list_any}
 use Rattle.canonical_form.specs.Expanded.{expanded_from}
 use Rattle.canonical_form.proofs.Lists.DividedLemmas.{divided-parts}
-use Rattle.shape_buffer.specs.Buffer.{Buffer, limit_of}
-use Rattle.shape_buffer.specs.Items.{Item, is_mark_item}
-use Rattle.shape_buffer.specs.Positions.{zero_position}
-use Rattle.shape_buffer.specs.Spans.{all_merged}
-use Rattle.shape_buffer.specs.Unicode.{UnicodeMeaning}
-use Rattle.shape_buffer.specs.declared.buffer.flags.ScratchFlags.{ScratchFlags}
-use Rattle.shape_buffer.specs.declared.buffer.settings.GlyphId.{GlyphId}
+use Rattle.shape_items.specs.Buffer.{Buffer, limit_of}
+use Rattle.shape_items.specs.Items.{Item, is_mark_item}
+use Rattle.shape_common.specs.Positions.{zero_position}
+use Rattle.shape_items.specs.Spans.{all_merged}
+use Rattle.shape_common.specs.Unicode.{UnicodeMeaning}
+use Rattle.shape_common.specs.declared.flags.ScratchFlags.{ScratchFlags}
+use Rattle.shape_common.specs.declared.settings.GlyphId.{GlyphId}
 use Rattle.shape_plan.specs.Rules.{Rules}
 use Rattle.shape_normalize.specs.RoundOne.{expanded_item, seen_expanded, sequences, is_with_marks, is_selector_item, is_selector_sequence, sequence_items, seen_sequence, variation_sequences_from, variation_sequences_merged, expanded, round_one}
 use Rattle.shape_normalize.specs.OneWalk.{HasNoSelectorSequence, item_becomes, stands_with_marks, expanded_behind, seen_behind}

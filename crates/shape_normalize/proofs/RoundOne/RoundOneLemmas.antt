@@ -7,18 +7,18 @@ use Rattle.std.proofs.lemmas.List.Elements.{All-from_recursion, recursion_from_A
 use Rattle.std.proofs.lemmas.List.Folds.{list_any_none}
 use Rattle.canonical_form.proofs.Expanding.ChoiceLemmas.{choice_glyphs}
 use Rattle.canonical_form.proofs.Expanding.ExpandedLemmas.{expanded-map}
-use Rattle.shape_buffer.proofs.Merging.KeyLemmas.{IsKey}
-use Rattle.shape_buffer.proofs.MergingInOrder.EachSpanLemmas.{keys-all_merged}
-use Rattle.shape_buffer.specs.Buffer.{Buffer}
+use Rattle.shape_items.proofs.Merging.KeyLemmas.{IsKey}
+use Rattle.shape_items.proofs.MergingInOrder.EachSpanLemmas.{keys-all_merged}
+use Rattle.shape_items.specs.Buffer.{Buffer}
 use Rattle.canonical_form.specs.Choice.{HasGlyphOrIs}
 use Rattle.canonical_form.specs.Expanded.{expanded_in_sequences, expanded_text}
 use Rattle.canonical_form.specs.Expansion.{choice}
-use Rattle.shape_buffer.specs.Items.{Item, char_of, is_mark_item}
-use Rattle.shape_buffer.specs.Unicode.{is_mark}
-use Rattle.shape_buffer.specs.declared.buffer.settings.GlyphId.{GlyphId}
+use Rattle.shape_items.specs.Items.{Item, char_of, is_mark_item}
+use Rattle.shape_common.specs.Unicode.{is_mark}
+use Rattle.shape_common.specs.declared.settings.GlyphId.{GlyphId}
 use Rattle.shape_normalize.specs.Normalized.{BroughtInHaveGlyphs}
-use Rattle.shape_buffer.specs.Prepared.{IsPreparedItem}
-use Rattle.shape_buffer.specs.Spans.{all_merged}
+use Rattle.shape_items.specs.Prepared.{IsPreparedItem}
+use Rattle.shape_items.specs.Spans.{all_merged}
 use Rattle.shape_normalize.specs.RoundOne.{item_glyph, passed_item, part_item, whole_item, remembers_space, expanded_item, expanded, expansion_of, is_selector_item, is_selector_sequence, is_with_marks, marked_selector, variant_items, variants, sequences, sequence_items, variation_sequences_from, variation_sequences_merged, round_one}
 use Rattle.shape_plan.specs.Rules.{Rules, decompositions, has_glyph}
 use Rattle.shape_normalize.proofs.RoundOne.SequenceLemmas.{each_part, each_of_values, each_value, each_weaker, flat_map_all, flat_map_same, flat_map_parts_all, sequence_becomes, sequences-expanded}

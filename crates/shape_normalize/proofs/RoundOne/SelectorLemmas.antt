@@ -1,16 +1,16 @@
 -- Sequences that hold a variation selector, and the items that become one with it.
 use Rattle.std.proofs.Common.{◌≡◌, ℕ, ◌+◌, ◌≤◌, nat_lt, Bool, true, false, if◌then◌else◌, is_some, List, [], ◌∷◌, ◌++◌, length, sum_by, fold, replicate, refl, ap, ap₂, ◌∙◌, arith, rules}
 use Rattle.std.proofs.lemmas.List.Sums.{sum_by-cons}
-use Rattle.shape_buffer.specs.Buffer.{Buffer, cleared, limit_of}
-use Rattle.shape_buffer.specs.Face.{FaceMeaning}
-use Rattle.shape_buffer.specs.Items.{Item, is_mark_item}
-use Rattle.shape_buffer.specs.Positions.{zero_position}
-use Rattle.shape_buffer.specs.Spans.{AreSpansInOrder}
-use Rattle.shape_buffer.specs.Unicode.{UnicodeMeaning}
-use Rattle.shape_buffer.specs.declared.buffer.flags.ScratchFlags.{ScratchFlags}
+use Rattle.shape_items.specs.Buffer.{Buffer, cleared, limit_of}
+use Rattle.shape_common.specs.Face.{FaceMeaning}
+use Rattle.shape_items.specs.Items.{Item, is_mark_item}
+use Rattle.shape_common.specs.Positions.{zero_position}
+use Rattle.shape_items.specs.Spans.{AreSpansInOrder}
+use Rattle.shape_common.specs.Unicode.{UnicodeMeaning}
+use Rattle.shape_common.specs.declared.flags.ScratchFlags.{ScratchFlags}
 use Rattle.canonical_form.proofs.Lists.DividedLemmas.{lengths-divided}
-use Rattle.shape_buffer.proofs.Merging.KeyLemmas.{without_items}
-use Rattle.shape_buffer.proofs.MergingInOrder.EachSpanLemmas.{AreSpansInOrder-lower, AreSpansInOrder-append, without_items-all_merged}
+use Rattle.shape_items.proofs.Merging.KeyLemmas.{without_items}
+use Rattle.shape_items.proofs.MergingInOrder.EachSpanLemmas.{AreSpansInOrder-lower, AreSpansInOrder-append, without_items-all_merged}
 use Rattle.shape_plan.specs.Rules.{Rules}
 use Rattle.shape_normalize.specs.RoundOne.{is_with_marks, is_selector_item, is_selector_sequence, variants, sequences, variation_sequence_glyph, variation_sequence_spans, variation_sequences_from, variation_sequences_merged, expanded, seen_sequence, round_one}
 

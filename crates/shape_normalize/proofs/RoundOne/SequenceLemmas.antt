@@ -7,7 +7,7 @@ use Rattle.canonical_form.proofs.Lists.EveryLemmas.{append_all}
 use Rattle.canonical_form.specs.Divided.{put_first, divided}
 use Rattle.canonical_form.proofs.Lists.DividedLemmas.{divided-joins, divided-parts, divided-begins}
 use Rattle.canonical_form.specs.Expanded.{begins_with_mark, expanded_from, expanded_in_sequences}
-use Rattle.shape_buffer.specs.Items.{Item, is_mark_item}
+use Rattle.shape_items.specs.Items.{Item, is_mark_item}
 use Rattle.shape_normalize.specs.RoundOne.{sequences, is_with_marks}
 
 -- what holds of all that each item becomes holds of all that the list becomes

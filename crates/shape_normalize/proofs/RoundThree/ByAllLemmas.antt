@@ -1,9 +1,9 @@
 -- What recomposing puts out; and where marks are ordered, the mark that was put out last decides too.
 use Rattle.std.proofs.Common.{◌≡◌, ℕ, suc, true, List, [], ◌∷◌, map, None, refl, sym, ap, subst, arith, ◌∙◌}
 use Rattle.std.proofs.lemmas.Bool.{cond-true, and_from}
-use Rattle.shape_buffer.specs.Buffer.{Buffer}
-use Rattle.shape_buffer.specs.Items.{Item, ccc_of_item}
-use Rattle.shape_buffer.proofs.Merging.KeyLemmas.{IsKey-ccc}
+use Rattle.shape_items.specs.Buffer.{Buffer}
+use Rattle.shape_items.specs.Items.{Item, ccc_of_item}
+use Rattle.shape_items.proofs.Merging.KeyLemmas.{IsKey-ccc}
 use Rattle.canonical_form.specs.Order.{IsOrdered}
 use Rattle.canonical_form.specs.Runs.{AreRunsSettled}
 use Rattle.canonical_form.proofs.Recomposing.BlockLemmas.{recomposed_by_last as last_decides}
@@ -11,7 +11,7 @@ use Rattle.canonical_form.proofs.Ordering.RunLemmas.{AreRunsSettled-ordered}
 use Rattle.shape_plan.specs.Rules.{Rules}
 use Rattle.shape_normalize.specs.Normalized.{ordered, normalized, without_cluster, HasShortRuns, Recomposes}
 use Rattle.shape_normalize.specs.RoundOne.{round_one}
-use Rattle.shape_buffer.specs.Spans.{spans_merged_out}
+use Rattle.shape_items.specs.Spans.{spans_merged_out}
 use Rattle.shape_normalize.specs.RoundThree.{Placed, placed, ccc_of_placed, is_mark_placed, compose_placed, recomposed_items, recomposed_by_last, absorbed_spans, with_cluster_at, with_put_out, round_three}
 use Rattle.shape_normalize.specs.RoundTwo.{max_run, has_mark_past_first, marks_ordered, cgj_unhidden_where_seen}
 use Rattle.shape_normalize.proofs.RoundTwo.CgjLemmas.{keys-cgj_unhidden_where_seen}

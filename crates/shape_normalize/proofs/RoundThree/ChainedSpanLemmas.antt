@@ -2,18 +2,18 @@
 use Rattle.std.proofs.Common.{◌≡◌, ℕ, suc, ◌+◌, ◌-◌, ◌<◌, ◌≤◌, List, [], ◌∷◌, ◌++◌, length, map, Some, refl, sym, ap, subst, ◌∙◌, arith, append-nil}
 use Rattle.std.specs.List.{AllByRecursion}
 use Rattle.std.proofs.lemmas.List.Sums.{fold-append}
-use Rattle.shape_buffer.specs.Buffer.{Buffer}
-use Rattle.shape_buffer.specs.Clusters.{clusters, merge}
-use Rattle.shape_buffer.specs.ClusterOrder.{KeepsClusters}
-use Rattle.shape_buffer.specs.Items.{Item}
-use Rattle.shape_buffer.specs.Spans.{AreSpansInOrder, merge_each, spans_merged_out}
+use Rattle.shape_items.specs.Buffer.{Buffer}
+use Rattle.shape_items.specs.Clusters.{clusters, merge}
+use Rattle.shape_items.specs.ClusterOrder.{KeepsClusters}
+use Rattle.shape_items.specs.Items.{Item}
+use Rattle.shape_items.specs.Spans.{AreSpansInOrder, merge_each, spans_merged_out}
 use Rattle.canonical_form.specs.Recompose.{is_blocked}
 use Rattle.canonical_form.proofs.Lists.EveryLemmas.{push_all}
 use Rattle.canonical_form.proofs.Recomposing.RecomposeLemmas.{by_steps}
-use Rattle.shape_buffer.proofs.Merging.KeyLemmas.{length-merge}
-use Rattle.shape_buffer.proofs.Merging.JoinLemmas.{Joined as SharesCluster, merge_joins}
-use Rattle.shape_buffer.proofs.Merging.NestedMergeLemmas.{merge-from_later}
-use Rattle.shape_buffer.proofs.MergingInOrder.EachSpanLemmas.{AreSpansInOrder-lower, length-merge_each, spans_merged_out-equal, spans_merged_out_keep}
+use Rattle.shape_items.proofs.Merging.KeyLemmas.{length-merge}
+use Rattle.shape_items.proofs.Merging.JoinLemmas.{Joined as SharesCluster, merge_joins}
+use Rattle.shape_items.proofs.Merging.NestedMergeLemmas.{merge-from_later}
+use Rattle.shape_items.proofs.MergingInOrder.EachSpanLemmas.{AreSpansInOrder-lower, length-merge_each, spans_merged_out-equal, spans_merged_out_keep}
 use Rattle.shape_normalize.specs.RoundThree.{Absorbed, Placed, placed, ccc_of_placed, is_mark_placed, compose_placed, recomposed_items, absorbed_spans, spans_between, chained_spans}
 use Rattle.shape_plan.specs.Rules.{Rules}
 use Rattle.shape_normalize.proofs.RoundThree.RoundThreePlaceLemmas.{AreAbsorbedInOrder, InOrder, AreFrom, AreFrom-placed, in_order-higher, in_order-push, absorbed_is, recomposed_placed}

@@ -2,12 +2,12 @@
 use Rattle.std.proofs.Common.{◌≡◌, ℕ, suc, List, [], ◌∷◌, map, Option, Some, None, option_map, refl, sym, ap, subst, ◌∙◌}
 use Rattle.std.specs.List.{AllByRecursion}
 use Rattle.canonical_form.proofs.MapLemmas.{is_blocked-map, recomposed-map}
-use Rattle.shape_buffer.specs.Buffer.{Buffer}
-use Rattle.shape_buffer.specs.Items.{Item, char_of}
+use Rattle.shape_items.specs.Buffer.{Buffer}
+use Rattle.shape_items.specs.Items.{Item, char_of}
 use Rattle.canonical_form.specs.Recompose.{is_blocked, compose_with_glyph, recomposed}
-use Rattle.shape_buffer.specs.Unicode.{LawfulUnicode, is_mark}
-use Rattle.shape_buffer.specs.Prepared.{IsPreparedItem}
-use Rattle.shape_buffer.specs.Spans.{spans_merged_out}
+use Rattle.shape_common.specs.Unicode.{LawfulUnicode, is_mark}
+use Rattle.shape_items.specs.Prepared.{IsPreparedItem}
+use Rattle.shape_items.specs.Spans.{spans_merged_out}
 use Rattle.shape_normalize.specs.RoundThree.{Placed, placed, ccc_of_placed, is_mark_placed, compose_placed, recomposed_items, absorbed_spans, with_cluster_at, round_three}
 use Rattle.shape_plan.specs.Rules.{Rules, has_glyph}
 use Rattle.shape_normalize.proofs.Form.PreparedLemmas.{ArePrepared, prepared-part}

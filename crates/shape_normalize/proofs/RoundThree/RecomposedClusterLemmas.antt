@@ -2,17 +2,17 @@
 use Rattle.std.proofs.Common.{◌≡◌, ℕ, suc, ◌+◌, Bool, List, [], ◌∷◌, ◌++◌, map, length, drop, get_or, Option, Some, refl, sym, ap, ap₂, subst, ◌∙◌, arith, append_assoc, append-nil, drop-cons}
 use Rattle.std.proofs.Math.ListN.{get_or-map}
 use Rattle.std.proofs.lemmas.List.{map-append, length-map, drop_all}
-use Rattle.shape_buffer.specs.Buffer.{Buffer}
-use Rattle.shape_buffer.specs.Clusters.{clusters}
-use Rattle.shape_buffer.specs.ClusterOrder.{KeepsClusters}
-use Rattle.shape_buffer.specs.Items.{Item}
+use Rattle.shape_items.specs.Buffer.{Buffer}
+use Rattle.shape_items.specs.Clusters.{clusters}
+use Rattle.shape_items.specs.ClusterOrder.{KeepsClusters}
+use Rattle.shape_items.specs.Items.{Item}
 use Rattle.canonical_form.specs.Recompose.{recomposed_from, recomposed, is_blocked}
-use Rattle.shape_buffer.proofs.Order.DrawsInOrder.{DrawsInOrder, DrawsInOrder-same, DrawsInOrder-then, KeepsClusters-from_draws}
+use Rattle.shape_items.proofs.Order.DrawsInOrder.{DrawsInOrder, DrawsInOrder-same, DrawsInOrder-then, KeepsClusters-from_draws}
 use Rattle.shape_buffer.proofs.Steps.KeeperLemmas.{KeepsClusters-then}
-use Rattle.shape_buffer.proofs.MergingInOrder.EachSpanLemmas.{length-spans_merged_out}
+use Rattle.shape_items.proofs.MergingInOrder.EachSpanLemmas.{length-spans_merged_out}
 use Rattle.canonical_form.proofs.Recomposing.RecomposeLemmas.{by_steps}
 use Rattle.shape_plan.specs.Rules.{Rules}
-use Rattle.shape_buffer.specs.Spans.{spans_merged_out}
+use Rattle.shape_items.specs.Spans.{spans_merged_out}
 use Rattle.shape_normalize.specs.RoundThree.{Placed, placed, ccc_of_placed, is_mark_placed, compose_placed, recomposed_items, absorbed_spans, with_cluster_at, round_three}
 use Rattle.shape_normalize.proofs.RoundThree.RoundThreePlaceLemmas.{absorbed_is}
 use Rattle.shape_normalize.proofs.RoundThree.ChainedSpanLemmas.{recomposed_spans_keep}

@@ -4,14 +4,14 @@ use Rattle.std.specs.List.{AllByRecursion}
 use Rattle.std.specs.Option.{option_and_then}
 use Rattle.std.proofs.lemmas.Bool.{cases_Bool, cond-true, cond-false}
 use Rattle.std.proofs.lemmas.List.{length-map}
-use Rattle.shape_buffer.specs.Buffer.{Buffer}
-use Rattle.shape_buffer.specs.Items.{Item}
+use Rattle.shape_items.specs.Buffer.{Buffer}
+use Rattle.shape_items.specs.Items.{Item}
 use Rattle.canonical_form.specs.Recompose.{is_blocked}
 use Rattle.canonical_form.proofs.Recomposing.RecomposeLemmas.{recomposed-all}
 use Rattle.shape_plan.specs.Rules.{Rules, has_glyph}
 use Rattle.shape_normalize.specs.RoundOne.{part_item}
 use Rattle.shape_normalize.proofs.RoundThree.RoundThreePlaceLemmas.{absorbed_is, length-recomposed}
-use Rattle.shape_buffer.specs.Spans.{spans_merged_out}
+use Rattle.shape_items.specs.Spans.{spans_merged_out}
 use Rattle.shape_normalize.specs.RoundThree.{Placed, placed, ccc_of_placed, is_mark_placed, compose_placed, recomposed_items, absorbed_spans, with_cluster_at, round_three}
 
 pub glyph_of_composed : (has : ℕ → Bool) (o : Option ℕ) (c : ℕ) → option_and_then (λ c. if has c then Some c else None) o ≡ Some c

@@ -1,15 +1,15 @@
 -- Round three: what the walk that recomposes has put out, and what it leaves.
 use Rattle.std.proofs.Common.{◌≡◌, ℕ, ◌≤◌, List, [], ◌∷◌, length, map, replicate, Result, Ok, Err, IsErrAnd, IsOkUnless, refl, ap, ap₂, ◌∙◌, arith}
 use Rattle.std.proofs.lemmas.List.{length-map}
-use Rattle.shape_buffer.specs.Buffer.{Buffer, cleared, limit_of}
-use Rattle.shape_buffer.specs.Items.{Item}
-use Rattle.shape_buffer.specs.Positions.{zero_position}
-use Rattle.shape_buffer.specs.declared.buffer.flags.ScratchFlags.{ScratchFlags}
+use Rattle.shape_items.specs.Buffer.{Buffer, cleared, limit_of}
+use Rattle.shape_items.specs.Items.{Item}
+use Rattle.shape_common.specs.Positions.{zero_position}
+use Rattle.shape_common.specs.declared.flags.ScratchFlags.{ScratchFlags}
 use Rattle.shape_buffer.specs.declared.buffer.error.ShapeError.{ShapeError}
 use Rattle.shape_buffer.specs.declared.buffer.error.ShapeError.TheVariants.{Memory, Length}
-use Rattle.shape_buffer.proofs.MergingInOrder.EachSpanLemmas.{spans_merged_out_is}
+use Rattle.shape_items.proofs.MergingInOrder.EachSpanLemmas.{spans_merged_out_is}
 use Rattle.shape_normalize.specs.RoundOne.{seen_chars}
-use Rattle.shape_buffer.specs.Spans.{spans_merged_out}
+use Rattle.shape_items.specs.Spans.{spans_merged_out}
 use Rattle.shape_normalize.specs.RoundThree.{Placed, recomposed_items, absorbed_spans, composed_chars, placed_info, with_cluster_at, info_at_its_place, round_three}
 use Rattle.shape_plan.specs.Rules.{Rules}
 use Rattle.shape_normalize.specs.declared.ot_shape_normalize.round_three.PlacedInfo.{PlacedInfo}

@@ -2,7 +2,7 @@
 use Rattle.std.proofs.Common.{◌≡◌, ℕ, suc, ◌+◌, ◌<◌, ◌≤◌, List, [], ◌∷◌, ◌++◌, length, Option, None, Some, refl, sym, subst, arith}
 use Rattle.std.specs.Option.{option_map}
 use Rattle.std.specs.List.{AllByRecursion}
-use Rattle.shape_buffer.specs.Items.{Item}
+use Rattle.shape_items.specs.Items.{Item}
 use Rattle.canonical_form.specs.Recompose.{is_blocked, compose_with_glyph}
 use Rattle.canonical_form.proofs.Lists.EveryLemmas.{append_all}
 use Rattle.canonical_form.proofs.Recomposing.RecomposeLemmas.{by_steps}

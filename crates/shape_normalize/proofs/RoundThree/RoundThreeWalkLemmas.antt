@@ -5,10 +5,10 @@ use Rattle.std.specs.List.{AllByRecursion, flat_map, slice_get}
 use Rattle.std.proofs.lemmas.List.{map-append, drop_all}
 use Rattle.std.proofs.lemmas.Grind.{flat_map-append}
 use Rattle.std.proofs.lemmas.List.Sums.{fold-append}
-use Rattle.shape_buffer.specs.Items.{Item, ccc_of_item, is_mark_item}
+use Rattle.shape_items.specs.Items.{Item, ccc_of_item, is_mark_item}
 use Rattle.canonical_form.specs.Recompose.{composed, recomposed_from, is_blocked, greatest_ccc, compose_with_glyph}
-use Rattle.shape_buffer.specs.UnicodeProps.{with_scratch_of}
-use Rattle.shape_buffer.specs.declared.buffer.flags.ScratchFlags.{ScratchFlags}
+use Rattle.shape_items.specs.UnicodeProps.{with_scratch_of}
+use Rattle.shape_common.specs.declared.flags.ScratchFlags.{ScratchFlags}
 use Rattle.canonical_form.proofs.Lists.EveryLemmas.{push_all}
 use Rattle.canonical_form.proofs.Recomposing.BlockLemmas.{blocked_by_number, greatest_ccc-push}
 use Rattle.canonical_form.proofs.Recomposing.RecomposeLemmas.{recomposed_from-some, recomposed_from-starter, recomposed_from-mark}

@@ -3,10 +3,10 @@ use Rattle.std.proofs.Common.{◌≡◌, ℕ, suc, ◌+◌, ◌<◌, ◌≤◌, 
 use Rattle.std.specs.Option.{option_map}
 use Rattle.std.specs.List.{AllByRecursion, slice_get}
 use Rattle.std.proofs.lemmas.List.{drop_all}
-use Rattle.shape_buffer.specs.Buffer.{Buffer}
-use Rattle.shape_buffer.specs.Items.{Item, ccc_of_item}
-use Rattle.shape_buffer.specs.Positions.{zero_position}
-use Rattle.shape_buffer.specs.Spans.{spans_merged_out}
+use Rattle.shape_items.specs.Buffer.{Buffer}
+use Rattle.shape_items.specs.Items.{Item, ccc_of_item}
+use Rattle.shape_common.specs.Positions.{zero_position}
+use Rattle.shape_items.specs.Spans.{spans_merged_out}
 use Rattle.canonical_form.specs.Recompose.{composed, is_blocked, greatest_ccc}
 use Rattle.canonical_form.proofs.Lists.EveryLemmas.{push_all}
 use Rattle.canonical_form.proofs.Recomposing.BlockLemmas.{greatest_ccc-push}

@@ -1,7 +1,7 @@
 -- What unhiding CGJ keeps, and a walk over the items between the first and the last that unhides them.
 use Rattle.std.proofs.Common.{◌≡◌, ℕ, zero, suc, ◌+◌, ◌<◌, ◌≤◌, ◌==◌, ◌&&◌, bit_and, if◌then◌else◌, true, false, List, [], ◌∷◌, ◌++◌, map, take, drop, length, get_or, set, refl, ap, ap₂, arith, add-one}
-use Rattle.shape_buffer.specs.Items.{Item, ccc_of_item, char_of}
-use Rattle.shape_buffer.specs.Buffer.{Buffer}
+use Rattle.shape_items.specs.Items.{Item, ccc_of_item, char_of}
+use Rattle.shape_items.specs.Buffer.{Buffer}
 use Rattle.shape_normalize.specs.RoundTwo.{keeps_nothing_apart, unhidden, one_cgj_unhidden, cgj_unhidden_after, cgj_unhidden, cgj_unhidden_where_seen}
 
 -- ---- what unhiding keeps

@@ -2,8 +2,8 @@
 ghost use Rattle.std.specs.Prelude.{◌≡◌, ◌<◌, ◌≤◌, ◌↔◌, ◌⊎◌, ◌==◌, IsTrue, IfOk, OnOk, OnErr, Err};
 ghost use Rattle.std.specs.Prelude.{length, map};
 ghost use Rattle.std.specs.List.{list_all, zip};
-ghost use Rattle.shape_buffer.specs.Buffer.{cleared, limit_of};
-ghost use Rattle.shape_buffer.specs.Items.{char_of};
+ghost use Rattle.shape_items.specs.Buffer.{cleared, limit_of};
+ghost use Rattle.shape_items.specs.Items.{char_of};
 ghost use Rattle.shape_normalize.specs.CanonicalForm.{text_of, AreEquivalent};
 ghost use Rattle.shape_normalize.specs.CanonicalForm.{CanonicalFormPremises};
 ghost use Rattle.shape_normalize.specs.Normalized.{normalized};

@@ -4,7 +4,7 @@
 //! A variation sequence is merged before it becomes one item, and a shaper that reorders may merge what a
 //! later run takes in: both are said of the whole list, and so are the two rounds.
 ghost use Rattle.std.specs.Prelude.{◌≡◌, ◌≤◌, ◌<◌, length, OnOk, Err, if◌then◌else◌, None, false};
-ghost use Rattle.shape_buffer.specs.Buffer.{cleared, limit_of};
+ghost use Rattle.shape_items.specs.Buffer.{cleared, limit_of};
 ghost use Rattle.shape_normalize.specs.OneWalk.{HasNoSelectorSequence};
 ghost use Rattle.shape_normalize.specs.RoundOne.{round_one};
 ghost use Rattle.shape_normalize.specs.RoundTwo.{has_mark_past_first as has_mark_past_first_of};

@@ -5,7 +5,7 @@
 //! long as nothing expands.
 ghost use Rattle.std.specs.Prelude.{◌≡◌, ◌≤◌, ◌<◌, ◌==◌, ◌++◌, drop, take, length, vec_len};
 ghost use Rattle.std.specs.Prelude.{IfOk, OnOk, Err, true};
-ghost use Rattle.shape_buffer.specs.Buffer.{cleared, limit_of};
+ghost use Rattle.shape_items.specs.Buffer.{cleared, limit_of};
 ghost use Rattle.shape_normalize.specs.RoundOne.{round_one};
 ghost use Rattle.shape_normalize.specs.OneWalk.{HasNoSelectorSequence, shortest_of};
 ghost use Rattle.shape_normalize.specs.OneWalk.{expanded_behind, seen_behind, stands_with_marks};

@@ -6,7 +6,7 @@
 ghost use Rattle.std.specs.Prelude.{◌≡◌, ◌<◌, ◌≤◌, ◌++◌, length, fold, vec_len, OnOk, IfOk};
 ghost use Rattle.std.specs.Prelude.{Err};
 ghost use Rattle.std.specs.List.{flat_map};
-ghost use Rattle.shape_buffer.specs.Buffer.{cleared, limit_of};
+ghost use Rattle.shape_items.specs.Buffer.{cleared, limit_of};
 ghost use Rattle.shape_normalize.specs.RoundOne.{expanded, expanded_item, round_one, seen_expanded};
 ghost use Rattle.shape_normalize.specs.RoundOne.{seen_sequence, sequence_items, sequences};
 

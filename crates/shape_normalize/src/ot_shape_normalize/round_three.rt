@@ -9,9 +9,9 @@
 //! is. Else a second walk puts out items and remembers what was composed; the clusters of each starter and
 //! the marks that went into it are merged afterwards, as they stand in the list.
 ghost use Rattle.std.specs.Prelude.{◌≡◌, ◌≤◌, map, length, IfOk, IsOkUnless, OnOk, IsTrue};
-ghost use Rattle.shape_buffer.specs.Buffer.{cleared, limit_of};
+ghost use Rattle.shape_items.specs.Buffer.{cleared, limit_of};
 ghost use Rattle.canonical_form.specs.Recompose.{compose_with_glyph};
-ghost use Rattle.shape_buffer.specs.UnicodeProps.{with_scratch_of};
+ghost use Rattle.shape_items.specs.UnicodeProps.{with_scratch_of};
 ghost use Rattle.shape_normalize.specs.RoundOne.{part_item, seen_chars};
 ghost use Rattle.shape_normalize.specs.RoundThree.{recomposed_items, chained_spans, composed_chars};
 ghost use Rattle.shape_normalize.specs.RoundThree.{placed, placed_info};

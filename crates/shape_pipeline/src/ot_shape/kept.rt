@@ -3,7 +3,7 @@
 //! A hook or a lookup may have changed them before a later one was refused. What is handed back then is the
 //! caller's buffer cleared, so these settings are put back as the caller had them.
 ghost use Rattle.std.specs.Prelude.{◌≡◌};
-ghost use Rattle.shape_buffer.specs.Buffer.{Buffer, new_buffer};
+ghost use Rattle.shape_items.specs.Buffer.{Buffer, new_buffer};
 ghost use Rattle.shape_pipeline.specs.Kept.{kept_settings, cleared_with};
 
 use shape_buffer::buffer::{BufferClusterLevel, BufferFlags, GlyphId, hb_buffer_t};

@@ -6,11 +6,11 @@
 ghost use Rattle.std.specs.Prelude.{◌≡◌, ◌<◌, ◌≤◌, ℕ, Bool, Option, List, length, MatchResult};
 ghost use Rattle.std.specs.Prelude.{OnOk, IfErr};
 ghost use Rattle.canonical_form.specs.Chain.{FallsAlong};
-ghost use Rattle.shape_buffer.specs.Buffer.{Buffer};
+ghost use Rattle.shape_items.specs.Buffer.{Buffer};
 ghost use Rattle.shape_buffer.specs.MapBuilder.{Builder, with_requests};
 ghost use Rattle.shape_buffer.specs.Outcome.{IsWithinLimit, Made, Outcome, step};
-ghost use Rattle.shape_buffer.specs.declared.buffer.settings.Direction.{Direction as AnyDirection};
-ghost use Rattle.shape_buffer.specs.declared.buffer.settings.Script.{Script as AnyScript};
+ghost use Rattle.shape_common.specs.declared.settings.Direction.{Direction as AnyDirection};
+ghost use Rattle.shape_common.specs.declared.settings.Script.{Script as AnyScript};
 ghost use Rattle.shape_buffer.specs.declared.interfaces.map_request.MapRequest.{MapRequest as AnyRequest};
 ghost use Rattle.shape_plan.specs.Plan.{Plan};
 ghost use Rattle.shape_plan.specs.Reorder.{IsRunInOrder, ReordersRanges};

@@ -4,17 +4,17 @@ use Rattle.std.proofs.lemmas.List.Elements.{recursion_from_All}
 use Rattle.std.specs.Prelude.{All}
 use Rattle.std.specs.List.{AllByRecursion}
 use Rattle.canonical_form.specs.Expanded.{begins_with_mark}
-use Rattle.shape_buffer.specs.Buffer.{Buffer}
-use Rattle.shape_buffer.specs.BufferClusters.{merge_clusters, unsafe_to_break}
-use Rattle.shape_buffer.specs.Direction.{is_backward}
-use Rattle.shape_buffer.specs.Face.{FaceMeaning}
-use Rattle.shape_buffer.specs.Flags.{with_mask}
-use Rattle.shape_buffer.specs.Items.{Item, new_item, char_of, is_mark_item}
-use Rattle.shape_buffer.specs.Unicode.{UnicodeMeaning, is_mark}
-use Rattle.shape_buffer.specs.UnicodeProps.{with_unicode_props}
+use Rattle.shape_items.specs.Buffer.{Buffer}
+use Rattle.shape_items.specs.BufferClusters.{merge_clusters, unsafe_to_break}
+use Rattle.shape_common.specs.Direction.{is_backward}
+use Rattle.shape_common.specs.Face.{FaceMeaning}
+use Rattle.shape_items.specs.Flags.{with_mask}
+use Rattle.shape_items.specs.Items.{Item, new_item, char_of, is_mark_item}
+use Rattle.shape_common.specs.Unicode.{UnicodeMeaning, is_mark}
+use Rattle.shape_items.specs.UnicodeProps.{with_unicode_props}
 use Rattle.shape_buffer.specs.Walks.{items_mapped}
-use Rattle.shape_buffer.specs.declared.buffer.settings.Direction.{Direction}
-use Rattle.shape_buffer.proofs.Merging.KeyLemmas.{IsKey, keys-merge_clusters, keys-unsafe_to_break}
+use Rattle.shape_common.specs.declared.settings.Direction.{Direction}
+use Rattle.shape_items.proofs.Merging.KeyLemmas.{IsKey, keys-merge_clusters, keys-unsafe_to_break}
 use Rattle.shape_plan.specs.Run.{hook_if}
 use Rattle.shape_plan.specs.declared.decisions.Decisions.{Decisions}
 use Rattle.shape_plan.proofs.KeeperLemmas.{keeper-hook}

@@ -8,21 +8,21 @@ use Rattle.std.specs.List.Sorted.{IsNonDecreasing}
 use Rattle.canonical_form.specs.Divided.{put_first}
 use Rattle.canonical_form.proofs.Lists.DividedLemmas.{whole, whole-divided, divided-joins, divided-parts, divided-begins}
 use Rattle.canonical_form.specs.Expanded.{begins_with_mark}
-use Rattle.shape_buffer.specs.Buffer.{Buffer}
-use Rattle.shape_buffer.specs.Clusters.{clusters}
-use Rattle.shape_buffer.specs.ClusterOrder.{IsMonotoneLevel}
-use Rattle.shape_buffer.specs.Face.{FaceMeaning}
-use Rattle.shape_buffer.specs.Items.{Item, is_mark_item}
-use Rattle.shape_buffer.specs.Unicode.{UnicodeMeaning}
-use Rattle.shape_buffer.proofs.Merging.JoinLemmas.{cluster_at}
+use Rattle.shape_items.specs.Buffer.{Buffer}
+use Rattle.shape_items.specs.Clusters.{clusters}
+use Rattle.shape_items.specs.ClusterOrder.{IsMonotoneLevel}
+use Rattle.shape_common.specs.Face.{FaceMeaning}
+use Rattle.shape_items.specs.Items.{Item, is_mark_item}
+use Rattle.shape_common.specs.Unicode.{UnicodeMeaning}
+use Rattle.shape_items.proofs.Merging.JoinLemmas.{cluster_at}
 use Rattle.shape_prepare.specs.ClusterPoint.{first_clusters, PreparingKeepsFirsts}
 use Rattle.shape_prepare.specs.Begun.{begun}
-use Rattle.shape_buffer.specs.GraphemeSpans.{grapheme_spans, graphemes, is_continuation}
+use Rattle.shape_items.specs.GraphemeSpans.{grapheme_spans, graphemes, is_continuation}
 use Rattle.shape_prepare.specs.ClustersFormed.{clusters_formed}
 use Rattle.shape_prepare.specs.NativeOrder.{natively_ordered}
 use Rattle.shape_plan.specs.Run.{hook_if}
 use Rattle.shape_buffer.specs.Keepers.{IsClusterKeeper}
-use Rattle.shape_buffer.specs.declared.buffer.settings.BufferClusterLevel.TheVariants.{MonotoneGraphemes}
+use Rattle.shape_common.specs.declared.settings.BufferClusterLevel.TheVariants.{MonotoneGraphemes}
 use Rattle.shape_buffer.proofs.Steps.KeeperLemmas.{KeepsOrder-same, KeepsOrder-then}
 use Rattle.shape_prepare.proofs.Keeping.OrderKeeperLemmas.{begun-keeps_order, graphemes_marked-keeps_order, dotted_circled-keeps_order, rotated-keeps_order, natively-in_order, formed-ready, circled-unseen, marked-unseen, seen_past}
 use Rattle.shape_prepare.proofs.StepLemmas.{clusters_formed-unseen, clusters_formed-merged}

@@ -8,27 +8,27 @@ use Rattle.std.proofs.lemmas.Grind.{flat_map-append}
 use Rattle.std.specs.List.{list_any}
 use Rattle.canonical_form.proofs.Lists.DividedLemmas.{whole, whole-divided}
 use Rattle.canonical_form.specs.Expanded.{begins_with_mark}
-use Rattle.shape_buffer.specs.Buffer.{Buffer}
-use Rattle.shape_buffer.specs.BufferClusters.{merge_clusters, unsafe_to_break}
-use Rattle.shape_buffer.specs.Face.{FaceMeaning}
-use Rattle.shape_buffer.specs.Flags.{with_mask}
-use Rattle.shape_buffer.specs.Items.{Item, is_mark_item}
+use Rattle.shape_items.specs.Buffer.{Buffer}
+use Rattle.shape_items.specs.BufferClusters.{merge_clusters, unsafe_to_break}
+use Rattle.shape_common.specs.Face.{FaceMeaning}
+use Rattle.shape_items.specs.Flags.{with_mask}
+use Rattle.shape_items.specs.Items.{Item, is_mark_item}
 use Rattle.shape_buffer.specs.Keepers.{IsFlagKeeper, EachStep}
-use Rattle.shape_buffer.specs.KeepsFlags.{KeepsFlags, IsDefinedFlag, has_flag, some_has}
+use Rattle.shape_items.specs.KeepsFlags.{KeepsFlags, IsDefinedFlag, has_flag, some_has}
 use Rattle.shape_buffer.specs.Layout.{HasNoDefinedFlag}
-use Rattle.shape_buffer.specs.Unicode.{UnicodeMeaning}
-use Rattle.shape_buffer.specs.UnicodeProps.{with_unicode_props, with_scratch_of, flag_if, beyond_ascii}
+use Rattle.shape_common.specs.Unicode.{UnicodeMeaning}
+use Rattle.shape_items.specs.UnicodeProps.{with_unicode_props, with_scratch_of, flag_if, beyond_ascii}
 use Rattle.shape_buffer.specs.Walks.{items_mapped}
-use Rattle.shape_buffer.specs.declared.buffer.flags.ScratchFlags.{ScratchFlags}
-use Rattle.shape_buffer.specs.declared.buffer.settings.Direction.{Direction}
-use Rattle.shape_buffer.specs.Direction.{is_backward}
-use Rattle.shape_buffer.proofs.Flags.FlagLemmas.{KeepsFlags-same, KeepsFlags-then, KeepsFlags-items, merge_clusters_keeps, unsafe_to_break_keeps}
+use Rattle.shape_common.specs.declared.flags.ScratchFlags.{ScratchFlags}
+use Rattle.shape_common.specs.declared.settings.Direction.{Direction}
+use Rattle.shape_common.specs.Direction.{is_backward}
+use Rattle.shape_items.proofs.Flags.FlagLemmas.{KeepsFlags-same, KeepsFlags-then, KeepsFlags-items, merge_clusters_keeps, unsafe_to_break_keeps}
 use Rattle.shape_buffer.proofs.Flags.HonestLemmas.{IsHonest}
 use Rattle.shape_plan.specs.declared.decisions.Decisions.{Decisions}
 use Rattle.shape_prepare.specs.Begun.{begun}
 use Rattle.shape_prepare.specs.ClustersFormed.{clusters_formed, over_graphemes}
 use Rattle.shape_prepare.specs.DottedCircle.{dotted_circled, with_circle, takes_circle}
-use Rattle.shape_buffer.specs.GraphemeSpans.{graphemes, is_continuation}
+use Rattle.shape_items.specs.GraphemeSpans.{graphemes, is_continuation}
 use Rattle.shape_prepare.specs.Graphemes.{graphemes_marked, continuations_marked, seen_item, is_to_next}
 use Rattle.shape_prepare.specs.Keeping.{PreparingKeepsFlags}
 use Rattle.shape_prepare.specs.NativeOrder.{natively_ordered, native_direction, is_against, graphemes_turned, merged_to_turn, from_last}

@@ -8,33 +8,33 @@ use Rattle.std.specs.Prelude.{Contains}
 use Rattle.std.specs.List.Sorted.{IsNonDecreasing}
 use Rattle.canonical_form.proofs.Lists.DividedLemmas.{whole, whole-divided}
 use Rattle.canonical_form.specs.Expanded.{begins_with_mark}
-use Rattle.shape_buffer.specs.Buffer.{Buffer}
-use Rattle.shape_buffer.specs.BufferClusters.{merge_clusters, unsafe_to_break}
-use Rattle.shape_buffer.specs.Clusters.{clusters, merge}
-use Rattle.shape_buffer.specs.ClusterOrder.{IsMonotoneLevel, IsOrderedFor, KeepsClusters}
-use Rattle.shape_buffer.specs.Direction.{is_backward}
-use Rattle.shape_buffer.specs.Face.{FaceMeaning}
-use Rattle.shape_buffer.specs.Flags.{with_mask}
-use Rattle.shape_buffer.specs.Items.{Item, is_mark_item}
+use Rattle.shape_items.specs.Buffer.{Buffer}
+use Rattle.shape_items.specs.BufferClusters.{merge_clusters, unsafe_to_break}
+use Rattle.shape_items.specs.Clusters.{clusters, merge}
+use Rattle.shape_items.specs.ClusterOrder.{IsMonotoneLevel, IsOrderedFor, KeepsClusters}
+use Rattle.shape_common.specs.Direction.{is_backward}
+use Rattle.shape_common.specs.Face.{FaceMeaning}
+use Rattle.shape_items.specs.Flags.{with_mask}
+use Rattle.shape_items.specs.Items.{Item, is_mark_item}
 use Rattle.shape_buffer.specs.Keepers.{KeepsOrder, IsClusterKeeper}
-use Rattle.shape_buffer.specs.Unicode.{UnicodeMeaning, is_mark}
-use Rattle.shape_buffer.specs.UnicodeProps.{with_unicode_props, with_scratch_of, flag_if, beyond_ascii}
+use Rattle.shape_common.specs.Unicode.{UnicodeMeaning, is_mark}
+use Rattle.shape_items.specs.UnicodeProps.{with_unicode_props, with_scratch_of, flag_if, beyond_ascii}
 use Rattle.shape_buffer.specs.Walks.{items_mapped}
-use Rattle.shape_buffer.specs.declared.buffer.flags.ScratchFlags.{ScratchFlags}
-use Rattle.shape_buffer.specs.declared.buffer.settings.BufferClusterLevel.{BufferClusterLevel}
-use Rattle.shape_buffer.specs.declared.buffer.settings.BufferClusterLevel.TheVariants.{MonotoneGraphemes, MonotoneCharacters, Characters}
-use Rattle.shape_buffer.specs.declared.buffer.settings.Direction.{Direction}
-use Rattle.shape_buffer.proofs.Order.DrawsInOrder.{KeepsClusters-from_draws, DrawsInOrder-same, DrawsInOrder-again}
-use Rattle.shape_buffer.proofs.Order.GraphemeOrderLemmas.{AreOneCluster, clusters-turned, falls-turned}
+use Rattle.shape_common.specs.declared.flags.ScratchFlags.{ScratchFlags}
+use Rattle.shape_common.specs.declared.settings.BufferClusterLevel.{BufferClusterLevel}
+use Rattle.shape_common.specs.declared.settings.BufferClusterLevel.TheVariants.{MonotoneGraphemes, MonotoneCharacters, Characters}
+use Rattle.shape_common.specs.declared.settings.Direction.{Direction}
+use Rattle.shape_items.proofs.Order.DrawsInOrder.{KeepsClusters-from_draws, DrawsInOrder-same, DrawsInOrder-again}
+use Rattle.shape_items.proofs.Order.GraphemeOrderLemmas.{AreOneCluster, clusters-turned, falls-turned}
 use Rattle.shape_buffer.proofs.Steps.KeeperLemmas.{KeepsClusters-equal, KeepsClusters-then, KeepsOrder-same, KeepsOrder-then, clusters-map, order-unsafe_to_break}
-use Rattle.shape_buffer.proofs.Merging.MergeOrder.{merge_keeps}
-use Rattle.shape_buffer.proofs.Merging.KeyLemmas.{length-merge}
+use Rattle.shape_items.proofs.Merging.MergeOrder.{merge_keeps}
+use Rattle.shape_items.proofs.Merging.KeyLemmas.{length-merge}
 use Rattle.shape_plan.specs.declared.decisions.Decisions.{Decisions}
 use Rattle.shape_prepare.specs.Begun.{begun}
 use Rattle.shape_prepare.specs.ClusterPoint.{direction_for, InOrderFor, PreparingKeepsOrder}
 use Rattle.shape_plan.specs.Run.{hook_if}
 use Rattle.shape_plan.proofs.KeeperLemmas.{keeper-hook}
-use Rattle.shape_buffer.specs.GraphemeSpans.{grapheme_spans, spans_from, graphemes, is_continuation}
+use Rattle.shape_items.specs.GraphemeSpans.{grapheme_spans, spans_from, graphemes, is_continuation}
 use Rattle.shape_prepare.specs.ClustersFormed.{clusters_formed, over_graphemes}
 use Rattle.shape_prepare.specs.DottedCircle.{dotted_circled, with_circle, takes_circle}
 use Rattle.shape_prepare.specs.Graphemes.{graphemes_marked, continuations_marked, continues, seen_item, is_to_next, is_skin_tone, is_regional_indicator, is_extender, is_passed, is_modifier_symbol}

@@ -4,24 +4,24 @@ use Rattle.std.proofs.lemmas.Bool.{cases_Bool}
 use Rattle.std.proofs.lemmas.List.Elements.{All-from_recursion, recursion_from_All}
 use Rattle.canonical_form.proofs.Lists.DividedLemmas.{whole, whole-divided}
 use Rattle.canonical_form.specs.Expanded.{begins_with_mark}
-use Rattle.shape_buffer.specs.Buffer.{Buffer}
-use Rattle.shape_buffer.specs.BufferClusters.{merge_clusters, unsafe_to_break}
-use Rattle.shape_buffer.specs.Direction.{is_backward}
-use Rattle.shape_buffer.specs.Face.{FaceMeaning}
-use Rattle.shape_buffer.specs.Items.{Item, is_mark_item}
-use Rattle.shape_buffer.specs.Prepared.{IsPreparedItem}
-use Rattle.shape_buffer.specs.Unicode.{UnicodeMeaning, LawfulUnicode, FormsArePlain}
-use Rattle.shape_buffer.specs.UnicodeProps.{with_unicode_props}
+use Rattle.shape_items.specs.Buffer.{Buffer}
+use Rattle.shape_items.specs.BufferClusters.{merge_clusters, unsafe_to_break}
+use Rattle.shape_common.specs.Direction.{is_backward}
+use Rattle.shape_common.specs.Face.{FaceMeaning}
+use Rattle.shape_items.specs.Items.{Item, is_mark_item}
+use Rattle.shape_items.specs.Prepared.{IsPreparedItem}
+use Rattle.shape_common.specs.Unicode.{UnicodeMeaning, LawfulUnicode, FormsArePlain}
+use Rattle.shape_items.specs.UnicodeProps.{with_unicode_props}
 use Rattle.shape_buffer.specs.Walks.{items_mapped}
-use Rattle.shape_buffer.specs.declared.buffer.settings.Direction.{Direction}
-use Rattle.shape_buffer.proofs.Merging.KeyLemmas.{keys-merge_clusters, keys-unsafe_to_break}
-use Rattle.shape_buffer.proofs.PreparedLemmas.{ArePrepared, unmarked_ccc, ccc_with_props, prepared_key, IsKey-prepared_key, prepared_by_keys}
+use Rattle.shape_common.specs.declared.settings.Direction.{Direction}
+use Rattle.shape_items.proofs.Merging.KeyLemmas.{keys-merge_clusters, keys-unsafe_to_break}
+use Rattle.shape_items.proofs.PreparedLemmas.{ArePrepared, unmarked_ccc, ccc_with_props, prepared_key, IsKey-prepared_key, prepared_by_keys}
 use Rattle.shape_plan.specs.Run.{hook_if}
 use Rattle.shape_plan.specs.declared.decisions.Decisions.{Decisions}
 use Rattle.shape_prepare.specs.Begun.{begun}
 use Rattle.shape_prepare.specs.ClustersFormed.{clusters_formed, over_graphemes}
 use Rattle.shape_prepare.specs.DottedCircle.{dotted_circled, with_circle, takes_circle}
-use Rattle.shape_buffer.specs.GraphemeSpans.{graphemes, is_continuation}
+use Rattle.shape_items.specs.GraphemeSpans.{graphemes, is_continuation}
 use Rattle.shape_prepare.specs.Graphemes.{graphemes_marked, continuations_marked, is_to_next}
 use Rattle.shape_prepare.specs.NativeOrder.{natively_ordered, native_direction, is_against, merged_to_turn, from_last}
 use Rattle.shape_prepare.specs.PreparedPoint.{KeepsPrepared, PreparingPrepares}

@@ -5,17 +5,17 @@ use Rattle.std.proofs.lemmas.List.{take_at, drop_at}
 use Rattle.std.specs.List.Sorted.{IsNonDecreasing}
 use Rattle.canonical_form.specs.Divided.{divided, put_first}
 use Rattle.canonical_form.proofs.Lists.DividedLemmas.{whole, whole-divided, sizes-bits}
-use Rattle.shape_buffer.specs.Buffer.{Buffer}
-use Rattle.shape_buffer.specs.BufferClusters.{merge_clusters, merge_at}
-use Rattle.shape_buffer.specs.Clusters.{clusters, merge}
-use Rattle.shape_buffer.specs.ClusterOrder.{IsMonotoneLevel}
-use Rattle.shape_buffer.specs.Items.{Item}
-use Rattle.shape_buffer.proofs.Merging.ClusterLemmas.{merge_clusters-monotone}
-use Rattle.shape_buffer.proofs.Order.GraphemeOrderLemmas.{AreOneCluster}
-use Rattle.shape_buffer.proofs.Merging.KeyLemmas.{keys-merge}
-use Rattle.shape_buffer.specs.GraphemeSpans.{grapheme_spans, graphemes, is_continuation}
+use Rattle.shape_items.specs.Buffer.{Buffer}
+use Rattle.shape_items.specs.BufferClusters.{merge_clusters, merge_at}
+use Rattle.shape_items.specs.Clusters.{clusters, merge}
+use Rattle.shape_items.specs.ClusterOrder.{IsMonotoneLevel}
+use Rattle.shape_items.specs.Items.{Item}
+use Rattle.shape_items.proofs.Merging.ClusterLemmas.{merge_clusters-monotone}
+use Rattle.shape_items.proofs.Order.GraphemeOrderLemmas.{AreOneCluster}
+use Rattle.shape_items.proofs.Merging.KeyLemmas.{keys-merge}
+use Rattle.shape_items.specs.GraphemeSpans.{grapheme_spans, graphemes, is_continuation}
 use Rattle.shape_prepare.specs.NativeOrder.{parted}
-use Rattle.shape_buffer.proofs.MergingInOrder.GraphemeWalkLemmas.{IsKey-continuation}
+use Rattle.shape_items.proofs.MergingInOrder.GraphemeWalkLemmas.{IsKey-continuation}
 use Rattle.shape_prepare.proofs.Spans.RisingMergeLemmas.{all_merged, parts-merged, parts-one_cluster, SomeEach, Merged}
 use Rattle.shape_prepare.proofs.Spans.TurnLemmas.{total, total-lengths}
 

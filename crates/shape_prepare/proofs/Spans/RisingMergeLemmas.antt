@@ -4,14 +4,14 @@ use Rattle.std.proofs.lemmas.Bool.{cases_Bool}
 use Rattle.std.proofs.lemmas.Bool.Decides.{nat_tests}
 use Rattle.std.proofs.lemmas.List.{length-take, length-drop, length-map, take-map, drop-map, get_or-take, get_or-drop, drop-drop}
 use Rattle.std.specs.List.Sorted.{IsNonDecreasing}
-use Rattle.shape_buffer.specs.Clusters.{clusters, merge, put_range, least_cluster, growth_left, growth_right}
-use Rattle.shape_buffer.specs.Items.{Item}
-use Rattle.shape_buffer.proofs.Merging.ClusterLemmas.{merge_short, merge_long}
-use Rattle.shape_buffer.proofs.Order.GraphemeOrderLemmas.{AreOneCluster}
-use Rattle.shape_buffer.proofs.Merging.JoinLemmas.{cluster_at}
-use Rattle.shape_buffer.proofs.Merging.KeyLemmas.{length-merge}
-use Rattle.shape_buffer.proofs.Merging.MergeOrder.{least_of_span_reached, put_range_below, put_range_inside, put_range_above, growth_right-within, place_cases, merge_keeps}
-use Rattle.shape_buffer.specs.GraphemeSpans.{spans_from}
+use Rattle.shape_items.specs.Clusters.{clusters, merge, put_range, least_cluster, growth_left, growth_right}
+use Rattle.shape_items.specs.Items.{Item}
+use Rattle.shape_items.proofs.Merging.ClusterLemmas.{merge_short, merge_long}
+use Rattle.shape_items.proofs.Order.GraphemeOrderLemmas.{AreOneCluster}
+use Rattle.shape_items.proofs.Merging.JoinLemmas.{cluster_at}
+use Rattle.shape_items.proofs.Merging.KeyLemmas.{length-merge}
+use Rattle.shape_items.proofs.Merging.MergeOrder.{least_of_span_reached, put_range_below, put_range_inside, put_range_above, growth_right-within, place_cases, merge_keeps}
+use Rattle.shape_items.specs.GraphemeSpans.{spans_from}
 use Rattle.shape_prepare.specs.NativeOrder.{parted}
 use Rattle.shape_prepare.proofs.Spans.TurnLemmas.{total}
 

@@ -3,12 +3,12 @@ use Rattle.std.proofs.Common.{◌≡◌, ℕ, ◌+◌, ◌-◌, ◌≤◌, List,
 use Rattle.std.proofs.lemmas.List.{reverse-append, reverse-reverse, length-append, length-drop, length-take-le, append-nil, take-append-drop, take_at, drop_at, drop-map}
 use Rattle.std.proofs.lemmas.Grind.{flat_map-append, common_steps}
 use Rattle.canonical_form.proofs.Lists.DividedLemmas.{whole, whole-divided}
-use Rattle.shape_buffer.specs.Buffer.{Buffer}
+use Rattle.shape_items.specs.Buffer.{Buffer}
 use Rattle.shape_buffer.specs.Ranges.{reversed_range}
-use Rattle.shape_buffer.specs.Direction.{reverse_of}
-use Rattle.shape_buffer.specs.Items.{Item}
-use Rattle.shape_buffer.specs.declared.buffer.positions.GlyphPosition.{GlyphPosition}
-use Rattle.shape_buffer.specs.GraphemeSpans.{graphemes, is_continuation, spans_from}
+use Rattle.shape_common.specs.Direction.{reverse_of}
+use Rattle.shape_items.specs.Items.{Item}
+use Rattle.shape_common.specs.declared.positions.GlyphPosition.{GlyphPosition}
+use Rattle.shape_items.specs.GraphemeSpans.{graphemes, is_continuation, spans_from}
 use Rattle.shape_prepare.specs.ClustersFormed.{over_graphemes}
 use Rattle.shape_prepare.specs.GraphemeWalk.{reverse_span}
 use Rattle.shape_prepare.specs.NativeOrder.{parted, from_last, graphemes_turned}

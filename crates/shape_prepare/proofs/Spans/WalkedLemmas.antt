@@ -1,16 +1,16 @@
 -- The code's walk over the graphemes of a buffer, whatever it does with each.
 use Rattle.std.proofs.Common.{◌≡◌, ℕ, ◌+◌, ◌<◌, ◌≤◌, true, false, Bool, List, length, drop, map, refl, sym, ap, ◌∙◌, arith}
 use Rattle.std.proofs.lemmas.List.{length-map, drop_all, drop-drop, drop-map}
-use Rattle.shape_buffer.specs.Buffer.{Buffer, limit_of}
-use Rattle.shape_buffer.specs.BufferClusters.{unsafe_to_break}
+use Rattle.shape_items.specs.Buffer.{Buffer, limit_of}
+use Rattle.shape_items.specs.BufferClusters.{unsafe_to_break}
 use Rattle.shape_buffer.specs.Outcome.{Made}
-use Rattle.shape_buffer.proofs.Merging.KeyLemmas.{keys-unsafe_to_break, length-unsafe_to_break, without_items-unsafe_to_break}
+use Rattle.shape_items.proofs.Merging.KeyLemmas.{keys-unsafe_to_break, length-unsafe_to_break, without_items-unsafe_to_break}
 use Rattle.shape_prepare.specs.ClustersFormed.{over_graphemes}
-use Rattle.shape_buffer.specs.GraphemeSpans.{is_continuation, ends}
+use Rattle.shape_items.specs.GraphemeSpans.{is_continuation, ends}
 use Rattle.shape_prepare.specs.GraphemeWalk.{reverse_span, changed}
 use Rattle.shape_prepare.specs.declared.grapheme_walk.GraphemeChange.{GraphemeChange}
 use Rattle.shape_prepare.specs.declared.grapheme_walk.GraphemeChange.TheVariants.{Mark, Turn}
-use Rattle.shape_buffer.proofs.MergingInOrder.GraphemeWalkLemmas.{walk-spans, walk_ends, walk_goes_on, left_to_do, IsKey-continuation}
+use Rattle.shape_items.proofs.MergingInOrder.GraphemeWalkLemmas.{walk-spans, walk_ends, walk_goes_on, left_to_do, IsKey-continuation}
 use Rattle.shape_prepare.proofs.Spans.TurnLemmas.{behind-reversed, length-reversed_range}
 
 -- what is done with a span changes no bit after it, nor how many items there are, nor the limit

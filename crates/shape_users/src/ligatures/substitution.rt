@@ -1,6 +1,6 @@
 //! Glyphs that stand for other glyphs: one for one, and one for two.
 ghost use Rattle.std.specs.Prelude.{◌≡◌, ◌≤◌, length};
-ghost use Rattle.shape_buffer.specs.Buffer.{limit_of};
+ghost use Rattle.shape_items.specs.Buffer.{limit_of};
 ghost use Rattle.shape_buffer.specs.Outcome.{Made};
 ghost use Rattle.shape_users.specs.Ligatures.{single, singled, ligated_at, substituted};
 

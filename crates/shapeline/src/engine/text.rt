@@ -1,7 +1,7 @@
 //! The line `text C ..`: shapes the characters, and prints what became of them.
 ghost use Rattle.std.specs.Prelude.{◌≡◌, [], IfOk, IsOkUnless};
 ghost use Rattle.std.specs.Option.{SomeIff};
-ghost use Rattle.shape_buffer.specs.Buffer.{new_buffer};
+ghost use Rattle.shape_items.specs.Buffer.{new_buffer};
 ghost use Rattle.shape_buffer.specs.Text.{items_from};
 ghost use Rattle.shapeline.specs.Lines.{IsAnswered};
 ghost use Rattle.shapeline.specs.Text.{IsText, characters, utf8_len};

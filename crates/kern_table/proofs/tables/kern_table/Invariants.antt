@@ -1,5 +1,5 @@
 use Rattle.std.proofs.Common.{◌≡◌, ◌+◌, ◌-◌, ◌*◌, ◌≤◌, length}
-use Rattle.shape_buffer.specs.Buffer.{limit_of}
+use Rattle.shape_items.specs.Buffer.{limit_of}
 use Rattle.kern_table.specs.Tables.{parts_of, kerned_from}
 use Rattle.kern_table.proofs.tables.kern_table.Given as goal
 

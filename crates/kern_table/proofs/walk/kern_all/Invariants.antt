@@ -1,7 +1,7 @@
 use Rattle.std.proofs.Common.{◌≡◌, ◌<◌, length}
 use Rattle.std.specs.Option.{IfSome}
-use Rattle.shape_buffer.specs.Buffer.{limit_of}
-use Rattle.shape_buffer.specs.BufferClusters.{unsafe_to_concat}
+use Rattle.shape_items.specs.Buffer.{limit_of}
+use Rattle.shape_items.specs.BufferClusters.{unsafe_to_concat}
 use Rattle.kern_table.specs.Walk.{kerned_to}
 use Rattle.kern_table.proofs.walk.kern_all.Given as goal
 

@@ -1,7 +1,7 @@
 use Rattle.std.proofs.Common.{◌≡◌, ◌++◌, take, drop, length}
-use Rattle.shape_buffer.specs.Items.{Item}
+use Rattle.shape_items.specs.Items.{Item}
 use Rattle.shape_buffer.specs.PositionWalks.{positions_over}
-use Rattle.shape_buffer.specs.declared.buffer.positions.GlyphPosition.{GlyphPosition}
+use Rattle.shape_common.specs.declared.positions.GlyphPosition.{GlyphPosition}
 use Rattle.shape_buffer.proofs.position_walks.update_positions.Given as goal
 
 abbrev pub invariant-loop-i : goal.invariant-loop-i

@@ -1,6 +1,6 @@
 use Rattle.std.proofs.Common.{◌≡◌, map, ◌++◌, take, drop, length}
 use Rattle.std.specs.Fn.{FnReturnsAt}
-use Rattle.shape_buffer.specs.Items.{Item}
+use Rattle.shape_items.specs.Items.{Item}
 use Rattle.shape_buffer.proofs.walks.update_items.Given as goal
 
 abbrev pub invariant-loop-i : goal.invariant-loop-i

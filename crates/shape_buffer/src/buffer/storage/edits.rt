@@ -3,18 +3,18 @@ ghost use Rattle.std.specs.Prelude.{◌≡◌, ◌<◌, ◌≤◌, ◌^◌, ◌�
 ghost use Rattle.std.specs.Prelude.{All, reverse, swap, replicate, vec_len, IsErrOf, IsOkUnless, OnOk};
 ghost use Rattle.std.specs.Prelude.{OnErr};
 ghost use Rattle.std.specs.List.Sorted.{IsNonDecreasing};
-ghost use Rattle.shape_buffer.specs.Buffer.{limit_of};
-ghost use Rattle.shape_buffer.specs.Clusters.{clusters};
-ghost use Rattle.shape_buffer.specs.Items.{new_item};
-ghost use Rattle.shape_buffer.specs.Positions.{zero_position};
+ghost use Rattle.shape_items.specs.Buffer.{limit_of};
+ghost use Rattle.shape_items.specs.Clusters.{clusters};
+ghost use Rattle.shape_items.specs.Items.{new_item};
+ghost use Rattle.shape_common.specs.Positions.{zero_position};
 ghost use Rattle.shape_buffer.specs.Text.{text_items, numbered_from, IsFirstByte};
 ghost use Rattle.shape_buffer.specs.declared.buffer.error.ShapeError.TheVariants.{Length};
 
 use crate::buffer::error::ShapeError;
-use crate::buffer::items::hb_glyph_info_t;
-use crate::buffer::positions::GlyphPosition;
 use crate::buffer::storage::hb_buffer_t;
 use crate::buffer::text::{append_text, number_clusters};
+use shape_common::GlyphPosition;
+use shape_items::hb_glyph_info_t;
 use std::alloc::AllocError;
 
 impl hb_buffer_t {

@@ -4,10 +4,9 @@ ghost use Rattle.shape_buffer.specs.Guess.{guessed, guessed_script, guessed_dire
 ghost use Rattle.shape_buffer.specs.Guess.{first_script as first_script_of, script_or_ltr};
 ghost use Rattle.shape_buffer.specs.Guess.{direction_or};
 
-use crate::buffer::items::hb_glyph_info_t;
-use crate::buffer::settings::{Direction, Script};
 use crate::buffer::storage::hb_buffer_t;
-use crate::interfaces::hb_unicode_funcs_t;
+use shape_common::{Direction, Script, hb_unicode_funcs_t};
+use shape_items::hb_glyph_info_t;
 
 impl hb_buffer_t {
     /// The script of the text as guessing would set it: the one that is set, else the first of its

@@ -5,7 +5,7 @@ use crate::buffer::storage::edits::zero_positions;
 use crate::buffer::storage::hb_buffer_t;
 
 impl hb_buffer_t {
-    ghost use Rattle.shape_buffer.specs.Positions.{zero_position};
+    ghost use Rattle.shape_common.specs.Positions.{zero_position};
     ghost use Rattle.shape_buffer.specs.Ranges.{reversed_range};
 
     /// Turns the order of the items from `start` up to `end`, and that of their positions with it. Takes no

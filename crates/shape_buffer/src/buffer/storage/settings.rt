@@ -4,9 +4,10 @@ ghost use Rattle.std.specs.Option.{option_map};
 ghost use Rattle.shape_buffer.specs.Text.{context_before, context_after};
 
 use crate::buffer::context::Context;
-use crate::buffer::flags::{BufferFlags, ScratchFlags};
-use crate::buffer::settings::{BufferClusterLevel, Direction, GlyphId, Language, Script};
 use crate::buffer::storage::hb_buffer_t;
+use shape_common::{
+    BufferClusterLevel, BufferFlags, Direction, GlyphId, Language, ScratchFlags, Script,
+};
 
 impl hb_buffer_t {
     /// Reads the direction that the text runs in.

@@ -1,28 +1,27 @@
 //! Merging, marking and deleting: what changes clusters and flags of spans of items.
 ghost use Rattle.std.specs.Prelude.{◌≡◌, ◌≤◌, [], Bool, length};
 ghost use Rattle.std.specs.Fn.{FnReturnsAt};
-ghost use Rattle.shape_buffer.specs.BufferClusters.{merge_clusters as merge_clusters_of};
-ghost use Rattle.shape_buffer.specs.BufferClusters.{merge_out_clusters as merge_out_clusters_of};
-ghost use Rattle.shape_buffer.specs.BufferClusters.{unsafe_to_break as unsafe_to_break_of};
-ghost use Rattle.shape_buffer.specs.BufferClusters.{unsafe_to_concat as unsafe_to_concat_of};
-ghost use Rattle.shape_buffer.specs.ClusterOrder.{KeepsClusters};
-ghost use Rattle.shape_buffer.specs.Clusters.{clusters};
-ghost use Rattle.shape_buffer.specs.Delete.{deleted};
-ghost use Rattle.shape_buffer.specs.GraphemeSpans.{grapheme_spans};
-ghost use Rattle.shape_buffer.specs.Items.{Item};
-ghost use Rattle.shape_buffer.specs.KeepsFlags.{KeepsFlags};
-ghost use Rattle.shape_buffer.specs.Spans.{AreSpansInOrder, all_merged};
-ghost use Rattle.shape_buffer.specs.Spans.{merge_each as merge_each_of};
-ghost use Rattle.shape_buffer.specs.Spans.{spans_merged_out as spans_merged_out_of};
+ghost use Rattle.shape_items.specs.BufferClusters.{merge_clusters as merge_clusters_of};
+ghost use Rattle.shape_items.specs.BufferClusters.{merge_out_clusters as merge_out_clusters_of};
+ghost use Rattle.shape_items.specs.BufferClusters.{unsafe_to_break as unsafe_to_break_of};
+ghost use Rattle.shape_items.specs.BufferClusters.{unsafe_to_concat as unsafe_to_concat_of};
+ghost use Rattle.shape_items.specs.ClusterOrder.{KeepsClusters};
+ghost use Rattle.shape_items.specs.Clusters.{clusters};
+ghost use Rattle.shape_items.specs.Delete.{deleted};
+ghost use Rattle.shape_items.specs.GraphemeSpans.{grapheme_spans};
+ghost use Rattle.shape_items.specs.Items.{Item};
+ghost use Rattle.shape_items.specs.KeepsFlags.{KeepsFlags};
+ghost use Rattle.shape_items.specs.Spans.{AreSpansInOrder, all_merged};
+ghost use Rattle.shape_items.specs.Spans.{merge_each as merge_each_of};
+ghost use Rattle.shape_items.specs.Spans.{spans_merged_out as spans_merged_out_of};
 
-use crate::buffer::clusters::{mark_break, mark_concat, merge_items};
-use crate::buffer::delete::delete_items;
-use crate::buffer::each_span::{merge_each, merge_graphemes};
-use crate::buffer::flags::{BufferFlags, ScratchFlags};
-use crate::buffer::items::hb_glyph_info_t;
-use crate::buffer::settings::BufferClusterLevel;
 use crate::buffer::storage::hb_buffer_t;
 use bitflags::Flags;
+use shape_common::{BufferClusterLevel, BufferFlags, ScratchFlags};
+use shape_items::clusters::{
+    delete_items, mark_break, mark_concat, merge_each, merge_graphemes, merge_items,
+};
+use shape_items::hb_glyph_info_t;
 
 /// As many spans as a run of 32 marks can have: so few cost less one by one than a walk over the list.
 const FEW_SPANS: usize = 16;

@@ -2,9 +2,9 @@ use Rattle.std.proofs.Common.{◌∙◌, sym, ap, subst}
 use Rattle.std.proofs.lemmas.Bool.{false≢true}
 use Rattle.std.specs.List.{list_all}
 use Rattle.std.specs.Prelude.{nat_lt, List}
-use Rattle.shape_buffer.specs.Clusters.{clusters}
-use Rattle.shape_buffer.specs.Flags.{HasOneSetOfFlags}
-use Rattle.shape_buffer.specs.Items.{Item}
+use Rattle.shape_items.specs.Clusters.{clusters}
+use Rattle.shape_items.specs.Flags.{HasOneSetOfFlags}
+use Rattle.shape_items.specs.Items.{Item}
 use Rattle.shape_lines.specs.CanCut.{IsMonotone}
 use Rattle.shape_lines.proofs.NeighbourLemmas.{below_end}
 use Rattle.shape_lines.proofs.cuttable.can_cut.Goals as goal

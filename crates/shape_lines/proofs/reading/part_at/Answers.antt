@@ -1,8 +1,8 @@
 use Rattle.std.proofs.Common.{◌≡◌, ◌∙◌, ◌-◌, ◌==◌, ◌&&◌, not, true, sym, ap, length, get_or, to_z, of_z, arith, false, rules}
-use Rattle.shape_buffer.specs.Clusters.{clusters}
-use Rattle.shape_buffer.specs.FlagNames.{UNSAFE_TO_BREAK}
-use Rattle.shape_buffer.specs.Items.{new_item}
-use Rattle.shape_buffer.specs.KeepsFlags.{has_flag}
+use Rattle.shape_items.specs.Clusters.{clusters}
+use Rattle.shape_common.specs.FlagNames.{UNSAFE_TO_BREAK}
+use Rattle.shape_items.specs.Items.{new_item}
+use Rattle.shape_items.specs.KeepsFlags.{has_flag}
 use Rattle.shape_lines.specs.Places.{cluster_at}
 use Rattle.shape_lines.specs.TextOrder.{falls, place_in, text_order, width_of}
 use Rattle.shape_lines.proofs.PartLemmas.{part, part-listed}

@@ -1,5 +1,5 @@
 use Rattle.std.proofs.Common.{pos, [], ◌∷◌, refl}
-use Rattle.shape_buffer.specs.declared.buffer.settings.Direction.TheVariants.{LeftToRight}
+use Rattle.shape_common.specs.declared.settings.Direction.TheVariants.{LeftToRight}
 use Rattle.shape_lines.specs.WorkedLines.{laid, text, turned, downward, joined, joined_turned, wide_then_narrow, one_cluster}
 use Rattle.shape_lines.proofs.DecideLemmas.{right_rising, right_falling}
 use Rattle.shape_lines.proofs.worked.lines_meet_worked_cases.Goals as goal

@@ -1,5 +1,5 @@
 use Rattle.std.proofs.Common.{arith, ◌≡◌, ◌≤◌, ◌∙◌, ap, length, sym, subst}
-use Rattle.shape_buffer.specs.Buffer.{limit_of, Buffer}
+use Rattle.shape_items.specs.Buffer.{limit_of, Buffer}
 use Rattle.shape_normalize.specs.Normalized.{ordered}
 use Rattle.shape_normalize.specs.RoundTwo.{cgj_unhidden_where_seen}
 use Rattle.shape_plan.specs.Rules.{rules_of}

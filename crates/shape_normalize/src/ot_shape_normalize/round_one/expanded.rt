@@ -5,7 +5,7 @@
 //! say in that, so the functions for one item that stays whole state it by the rules without a shaper.
 ghost use Rattle.std.specs.Prelude.{◌≡◌, ◌<◌, ◌≤◌, [], ◌∷◌, ◌++◌, length, map, reverse, vec_len};
 ghost use Rattle.std.specs.Prelude.{if◌then◌else◌, OnOk, IfOk, IfSome, IfNone, Err, None};
-ghost use Rattle.shape_buffer.specs.UnicodeProps.{with_scratch_of};
+ghost use Rattle.shape_items.specs.UnicodeProps.{with_scratch_of};
 ghost use Rattle.shape_plan.specs.Rules.{rules_without_shaper};
 ghost use Rattle.shape_normalize.specs.RoundOne.{part_item, remembers_space as remembers_space_of};
 ghost use Rattle.shape_normalize.specs.RoundOne.{whole_item as whole_item_of, expanded_item};

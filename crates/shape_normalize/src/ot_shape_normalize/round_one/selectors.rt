@@ -3,7 +3,7 @@
 ghost use Rattle.std.specs.Prelude.{◌≡◌, ◌<◌, ◌≤◌, ◌∷◌, ◌++◌, length, map, fold, vec_len, OnOk};
 ghost use Rattle.std.specs.Prelude.{Err};
 ghost use Rattle.std.specs.List.{flat_map};
-ghost use Rattle.shape_buffer.specs.Buffer.{limit_of};
+ghost use Rattle.shape_items.specs.Buffer.{limit_of};
 ghost use Rattle.shape_normalize.specs.RoundOne.{marked_selector, passed_item, seen_variant};
 ghost use Rattle.shape_normalize.specs.RoundOne.{variant_items, variants, with_selector_fallback};
 

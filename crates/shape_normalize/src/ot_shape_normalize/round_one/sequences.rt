@@ -2,7 +2,7 @@
 ghost use Rattle.std.specs.Prelude.{◌≡◌, ◌≤◌, [], length, MatchOption};
 ghost use Rattle.std.specs.List.{list_any, prefix_len};
 ghost use Rattle.canonical_form.specs.Divided.{IsFirstPart};
-ghost use Rattle.shape_buffer.specs.Items.{is_mark_item};
+ghost use Rattle.shape_items.specs.Items.{is_mark_item};
 ghost use Rattle.shape_normalize.specs.RoundOne.{is_selector_sequence as is_selector_sequence_of};
 ghost use Rattle.shape_normalize.specs.RoundOne.{is_selector_item};
 ghost use Rattle.shape_normalize.specs.RoundOne.{is_with_marks as is_with_marks_of};

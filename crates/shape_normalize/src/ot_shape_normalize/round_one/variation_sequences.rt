@@ -1,6 +1,6 @@
 //! Items that become one with the variation selector after them: their clusters are merged first.
 ghost use Rattle.std.specs.Prelude.{◌≡◌, ◌+◌, ◌<◌, ◌^◌, ◌++◌, length, IfOk, OnOk, OnErr};
-ghost use Rattle.shape_buffer.specs.Spans.{all_merged};
+ghost use Rattle.shape_items.specs.Spans.{all_merged};
 ghost use Rattle.shape_normalize.specs.RoundOne.{sequences, variants, variation_sequences_from};
 ghost use Rattle.shape_normalize.specs.RoundOne.{variation_sequence_spans};
 ghost use Rattle.shape_normalize.specs.RoundOne.{variation_sequence_glyph as variation_sequence_glyph_of};

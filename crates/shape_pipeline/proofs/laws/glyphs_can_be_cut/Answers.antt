@@ -2,10 +2,10 @@ use Rattle.std.proofs.Common.{ℕ, ◌<◌, Bool, true, false, List, get_or, len
 use Rattle.std.proofs.lemmas.List.{get_or-map, length-map}
 use Rattle.std.proofs.lemmas.List.Elements.{All-contains, Contains-get_or}
 use Rattle.std.specs.Prelude.{All}
-use Rattle.shape_buffer.specs.ClusterOrder.{IsOrderedFor}
-use Rattle.shape_buffer.specs.Clusters.{clusters}
-use Rattle.shape_buffer.specs.Direction.{is_backward}
-use Rattle.shape_buffer.specs.Items.{Item, new_item}
+use Rattle.shape_items.specs.ClusterOrder.{IsOrderedFor}
+use Rattle.shape_items.specs.Clusters.{clusters}
+use Rattle.shape_common.specs.Direction.{is_backward}
+use Rattle.shape_items.specs.Items.{Item, new_item}
 use Rattle.shape_lines.specs.CanCut.{IsMonotone}
 use Rattle.shape_pipeline.proofs.laws.glyphs_can_be_cut.Goals as goal
 

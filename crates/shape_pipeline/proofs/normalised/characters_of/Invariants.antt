@@ -1,5 +1,5 @@
 use Rattle.std.proofs.Common.{◌≡◌, map, take}
-use Rattle.shape_buffer.specs.Items.{char_of}
+use Rattle.shape_items.specs.Items.{char_of}
 use Rattle.shape_pipeline.proofs.normalised.characters_of.Given as goal
 
 -- the characters so far are read

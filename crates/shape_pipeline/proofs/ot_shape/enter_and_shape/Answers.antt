@@ -1,5 +1,5 @@
 use Rattle.std.proofs.Common.{subst}
-use Rattle.shape_buffer.specs.Buffer.{Buffer}
+use Rattle.shape_items.specs.Buffer.{Buffer}
 use Rattle.shape_buffer.specs.Outcome.{RunOutcome}
 use Rattle.shape_plan.specs.Run.{run_of}
 use Rattle.shape_pipeline.specs.Shaped.{all_steps}

@@ -1,5 +1,5 @@
 use Rattle.std.proofs.Common.{◌≡◌, ◌∙◌, ap, arith, None}
-use Rattle.shape_buffer.specs.Buffer.{Buffer}
+use Rattle.shape_items.specs.Buffer.{Buffer}
 use Rattle.shape_buffer.specs.declared.buffer.error.ShapeError.TheVariants.{Length}
 use Rattle.shape_pipeline.proofs.RunLemmas.{refused-length, Shapes-none, Shapes-some}
 use Rattle.shape_pipeline.proofs.ot_shape.shape_whole.Goals as goal

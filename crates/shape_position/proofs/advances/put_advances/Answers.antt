@@ -1,5 +1,5 @@
 use Rattle.std.proofs.Common.{◌≡◌, rules, ap}
-use Rattle.shape_buffer.specs.Direction.{is_horizontal}
+use Rattle.shape_common.specs.Direction.{is_horizontal}
 use Rattle.shape_buffer.specs.PositionWalks.{positions_mapped}
 use Rattle.shape_position.specs.Advances.{advanced, advanced_position}
 use Rattle.shape_position.proofs.StepLemmas.{Made-as}

@@ -1,12 +1,12 @@
 use Rattle.std.proofs.Common.{◌≡◌, true, false, List, slice_range, ◌+◌, ◌<◌, ◌∷◌, ◌∙◌, length, get_or, drop, refl, ap, sym, rules, arith, None, Some}
 use Rattle.std.proofs.lemmas.Grind.{common_steps}
 use Rattle.std.proofs.lemmas.List.{drop_more}
-use Rattle.shape_buffer.specs.Buffer.{limit_of}
-use Rattle.shape_buffer.specs.Items.{Item}
-use Rattle.shape_buffer.specs.KeepsFlags.{has_glyph_flags}
-use Rattle.shape_buffer.specs.declared.buffer.flags.BufferFlags.{BufferFlags}
-use Rattle.shape_buffer.specs.Flags.{flagged_from, mask_after, with_mask, flags_propagated}
-use Rattle.shape_buffer.proofs.Flags.ClusterRunLemmas.{flagged-runs}
+use Rattle.shape_items.specs.Buffer.{limit_of}
+use Rattle.shape_items.specs.Items.{Item}
+use Rattle.shape_items.specs.KeepsFlags.{has_glyph_flags}
+use Rattle.shape_common.specs.declared.flags.BufferFlags.{BufferFlags}
+use Rattle.shape_items.specs.Flags.{flagged_from, mask_after, with_mask, flags_propagated}
+use Rattle.shape_items.proofs.Flags.ClusterRunLemmas.{flagged-runs}
 use Rattle.shape_buffer.proofs.Loops.WalkOverLemmas.{with_rest, walk_step, walk_end}
 use Rattle.shape_position.proofs.flags.share_flags.Goals as goal
 

@@ -1,5 +1,5 @@
 use Rattle.std.proofs.Common.{◌≡◌, length, None}
-use Rattle.shape_buffer.specs.Flags.{flagged_from}
+use Rattle.shape_items.specs.Flags.{flagged_from}
 use Rattle.shape_buffer.proofs.Loops.WalkOverLemmas.{with_rest}
 use Rattle.shape_position.proofs.flags.share_flags.Given as goal
 

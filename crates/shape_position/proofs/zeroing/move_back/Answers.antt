@@ -1,5 +1,5 @@
 use Rattle.std.proofs.Common.{◌≡◌, ◌∙◌, rules, to_z, of_z, w32}
-use Rattle.shape_buffer.specs.Wrapping.{◌-ʷ◌, -ʷ-exact}
+use Rattle.shape_common.specs.Wrapping.{◌-ʷ◌, -ʷ-exact}
 use Rattle.shape_position.proofs.zeroing.move_back.Goals as goal
 
 pub returns-clause-exact_x : goal.returns-clause-exact_x

@@ -1,6 +1,6 @@
 use Rattle.std.proofs.Common.{◌≡◌, ap, arith}
 use Rattle.std.specs.Prelude.{◌&&◌}
-use Rattle.shape_buffer.specs.Direction.{is_forward}
+use Rattle.shape_common.specs.Direction.{is_forward}
 use Rattle.shape_buffer.specs.PositionWalks.{positions_mapped}
 use Rattle.shape_position.specs.Zeroing.{marks_zeroed, zeroed_mark}
 use Rattle.shape_position.proofs.StepLemmas.{Made-as}

@@ -1,7 +1,7 @@
 use Rattle.std.proofs.Common.{ap, ◌∙◌, arith}
-use Rattle.shape_buffer.specs.Buffer.{limit_of}
-use Rattle.shape_buffer.specs.GraphemeSpans.{grapheme_spans}
-use Rattle.shape_buffer.proofs.MergingInOrder.EachSpanLemmas.{spans_merged_out_is, spans_merged_out-merged}
+use Rattle.shape_items.specs.Buffer.{limit_of}
+use Rattle.shape_items.specs.GraphemeSpans.{grapheme_spans}
+use Rattle.shape_items.proofs.MergingInOrder.EachSpanLemmas.{spans_merged_out_is, spans_merged_out-merged}
 use Rattle.shape_prepare.proofs.clusters.merge_graphemes.Goals as goal
 
 pub returns : goal.returns

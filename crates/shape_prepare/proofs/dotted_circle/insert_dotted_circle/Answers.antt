@@ -2,7 +2,7 @@ use Rattle.std.proofs.Common.{sym, ap, ◌∙◌}
 use Rattle.shape_buffer.proofs.Steps.Runs.{Ran-made}
 use Rattle.shape_prepare.specs.DottedCircle.{dotted_circled, with_circle}
 use Rattle.canonical_form.specs.Expanded.{begins_with_mark}
-use Rattle.shape_buffer.specs.Items.{is_mark_item}
+use Rattle.shape_items.specs.Items.{is_mark_item}
 use Rattle.shape_prepare.proofs.StepLemmas.{Made-same, Outcome-alike, dotted_circled-put, dotted_circled-none, dotted_circled-no_mark}
 use Rattle.shape_prepare.proofs.dotted_circle.insert_dotted_circle.Goals as goal
 use Rattle.shape_prepare.proofs.dotted_circle.insert_dotted_circle.Goals.{else-takes_circle-via-then-takes_circle+else-begins_with_mark, else-takes_circle-via-else-takes_circle}

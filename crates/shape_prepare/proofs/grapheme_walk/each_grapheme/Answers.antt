@@ -1,5 +1,5 @@
 use Rattle.std.proofs.Common.{◌+◌, map, drop, refl, sym, ap, ◌∙◌, arith}
-use Rattle.shape_buffer.specs.GraphemeSpans.{is_continuation, ends}
+use Rattle.shape_items.specs.GraphemeSpans.{is_continuation, ends}
 use Rattle.shape_prepare.specs.GraphemeWalk.{changed}
 use Rattle.shape_prepare.proofs.Spans.WalkedLemmas.{Walked-begun, Walked-ends, Walked-goes_on, Walked-made, change_leaves}
 use Rattle.shape_prepare.proofs.grapheme_walk.each_grapheme.Goals as goal

@@ -1,6 +1,6 @@
 use Rattle.std.proofs.Common.{◌≡◌, length, map, fold, drop}
 use Rattle.shape_buffer.proofs.Loops.WalkOverLemmas.{with_rest}
-use Rattle.shape_buffer.specs.UnicodeProps.{with_unicode_props}
+use Rattle.shape_items.specs.UnicodeProps.{with_unicode_props}
 use Rattle.shape_prepare.specs.Graphemes.{continuations_marked, seen_item}
 use Rattle.shape_prepare.specs.declared.graphemes.Before.TheVariants.{Plain}
 use Rattle.shape_prepare.proofs.graphemes.set_unicode_props.Given as goal

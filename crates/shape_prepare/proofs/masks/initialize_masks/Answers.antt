@@ -1,5 +1,5 @@
 use Rattle.std.proofs.Common.{ap, ◌∙◌, rules, subst}
-use Rattle.shape_buffer.specs.Flags.{with_mask}
+use Rattle.shape_items.specs.Flags.{with_mask}
 use Rattle.shape_buffer.specs.Outcome.{Made}
 use Rattle.shape_prepare.specs.Begun.{begun}
 use Rattle.shape_prepare.proofs.StepLemmas.{Made-begun}

@@ -1,6 +1,6 @@
 use Rattle.std.proofs.Common.{◌≡◌, ◌≢◌, ◌≤◌, true, false, length, sym, ap, ap₂, ◌∙◌, rules, arith}
-use Rattle.shape_buffer.specs.Buffer.{Buffer, limit_of}
-use Rattle.shape_buffer.specs.declared.buffer.settings.BufferClusterLevel.TheVariants.{MonotoneCharacters}
+use Rattle.shape_items.specs.Buffer.{Buffer, limit_of}
+use Rattle.shape_common.specs.declared.settings.BufferClusterLevel.TheVariants.{MonotoneCharacters}
 use Rattle.shape_prepare.specs.NativeOrder.{natively_ordered, is_against, graphemes_turned}
 use Rattle.shape_prepare.proofs.StepLemmas.{Made-same, natively_ordered-kept, natively_ordered-turned, merged_to_turn-merged, merged_to_turn-kept}
 use Rattle.shape_prepare.proofs.native_direction.ensure_native_direction.Goals as goal

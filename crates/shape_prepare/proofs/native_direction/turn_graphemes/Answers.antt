@@ -1,8 +1,8 @@
 use Rattle.std.proofs.Common.{◌≡◌, length, ap, ◌∙◌, arith}
 use Rattle.std.proofs.lemmas.List.{length-reverse}
-use Rattle.shape_buffer.specs.Buffer.{Buffer, limit_of}
-use Rattle.shape_buffer.specs.Direction.{reverse_of}
-use Rattle.shape_buffer.specs.declared.buffer.settings.Direction.{Direction}
+use Rattle.shape_items.specs.Buffer.{Buffer, limit_of}
+use Rattle.shape_common.specs.Direction.{reverse_of}
+use Rattle.shape_common.specs.declared.settings.Direction.{Direction}
 use Rattle.shape_prepare.proofs.Spans.TurnLemmas.{turned_over, turned-whole}
 use Rattle.shape_prepare.proofs.native_direction.turn_graphemes.Goals as goal
 

@@ -1,8 +1,8 @@
 use Rattle.std.proofs.Common.{◌≡◌, List, get_or, set, refl, ap, sym, ◌∙◌, arith}
 use Rattle.std.proofs.lemmas.Grind.{common_steps}
-use Rattle.shape_buffer.specs.Buffer.{Buffer}
-use Rattle.shape_buffer.specs.Items.{Item}
-use Rattle.shape_buffer.specs.Clusters.{map_range}
+use Rattle.shape_items.specs.Buffer.{Buffer}
+use Rattle.shape_items.specs.Items.{Item}
+use Rattle.shape_items.specs.Clusters.{map_range}
 use Rattle.shape_substitute.specs.Fractions.{features_added, with_features}
 use Rattle.shape_substitute.proofs.RangeLemmas.{map_range_none, map_range_more}
 use Rattle.shape_substitute.proofs.fractions.add_features.Goals as goal

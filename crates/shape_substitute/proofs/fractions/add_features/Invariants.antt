@@ -1,5 +1,5 @@
 use Rattle.std.proofs.Common.{◌≡◌, length}
-use Rattle.shape_buffer.specs.Clusters.{map_range}
+use Rattle.shape_items.specs.Clusters.{map_range}
 use Rattle.shape_substitute.specs.Fractions.{with_features}
 use Rattle.shape_substitute.proofs.fractions.add_features.Given as goal
 

@@ -1,6 +1,6 @@
 use Rattle.std.proofs.Common.{◌≡◌, ◌+◌, ◌&&◌, nat_lt, true, false, List, ap, ap₂, sym, ◌∙◌, rules}
-use Rattle.shape_buffer.specs.BufferClusters.{unsafe_to_break}
-use Rattle.shape_buffer.specs.Items.{Item}
+use Rattle.shape_items.specs.BufferClusters.{unsafe_to_break}
+use Rattle.shape_items.specs.Items.{Item}
 use Rattle.shape_substitute.specs.Fractions.{features_added, slash_masked, has_whole, whole_start, whole_end}
 use Rattle.shape_substitute.proofs.MaskLemmas.{Made-masks, alone-slash_masked, slash_masked-alone, slash_masked-whole}
 use Rattle.shape_substitute.proofs.fractions.mask_slash.Goals as goal

@@ -1,8 +1,8 @@
 use Rattle.std.proofs.Common.{◌≡◌, ◌+◌, true, false, nat_lt, List, ◌∷◌, length, get_or, drop, ap, sym, ◌∙◌, arith}
 use Rattle.std.proofs.lemmas.Bool.Decides.{nat_tests}
 use Rattle.std.proofs.lemmas.List.{drop_more}
-use Rattle.shape_buffer.specs.Buffer.{Buffer}
-use Rattle.shape_buffer.specs.Items.{Item}
+use Rattle.shape_items.specs.Buffer.{Buffer}
+use Rattle.shape_items.specs.Items.{Item}
 use Rattle.shape_substitute.specs.Fractions.{is_slash, slash_places, slashes_masked}
 use Rattle.shape_substitute.proofs.MaskLemmas.{MasksAlone-then, alone-slash_masked, same_slash}
 use Rattle.shape_substitute.proofs.SlashLemmas.{slashes-reached, slashes-passed, slashes-other}

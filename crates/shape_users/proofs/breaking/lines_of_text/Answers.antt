@@ -1,6 +1,6 @@
 use Rattle.std.proofs.Common.{◌<◌, length, List, sym, subst}
 use Rattle.std.specs.Prelude.{All}
-use Rattle.shape_buffer.specs.Items.{Item}
+use Rattle.shape_items.specs.Items.{Item}
 use Rattle.shape_users.specs.PlainGlyphs.{IsTextOf}
 use Rattle.shape_users.proofs.PlainLemmas.{plan_of, text_of-appended, string-level}
 use Rattle.shape_users.proofs.breaking.lines_of_text.Goals as goal

@@ -1,5 +1,5 @@
 use Rattle.std.proofs.Common.{◌≡◌, ◌∙◌, sym, rules}
-use Rattle.shape_buffer.specs.Direction.{is_backward}
+use Rattle.shape_common.specs.Direction.{is_backward}
 use Rattle.shape_users.specs.Lines.{cut_at}
 use Rattle.shape_users.proofs.LineLemmas.{each_answers}
 use Rattle.shape_users.proofs.lines.may_cut.Goals as goal

@@ -1,6 +1,6 @@
 use Rattle.std.proofs.Common.{List, length, subst}
-use Rattle.shape_buffer.specs.Direction.{is_backward}
-use Rattle.shape_buffer.specs.Items.{Item}
+use Rattle.shape_common.specs.Direction.{is_backward}
+use Rattle.shape_items.specs.Items.{Item}
 use Rattle.shape_users.specs.Paragraph.{FirstToLast}
 use Rattle.shape_users.proofs.ParagraphLemmas.{glyphs_exact}
 use Rattle.shape_users.proofs.paragraph.glyphs_of_text.Goals as goal

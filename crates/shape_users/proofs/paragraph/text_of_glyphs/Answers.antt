@@ -1,8 +1,8 @@
 use Rattle.std.proofs.Common.{◌≡◌, ℕ, ◌-◌, ◌<◌, ◌≤◌, ◌⊎◌, List, length, get_or, subst, sym, ap, ◌∙◌, arith}
 use Rattle.std.proofs.lemmas.List.{get_or_default}
 use Rattle.std.specs.Prelude.{min, max}
-use Rattle.shape_buffer.specs.Direction.{is_backward}
-use Rattle.shape_buffer.specs.Items.{Item, new_item}
+use Rattle.shape_common.specs.Direction.{is_backward}
+use Rattle.shape_items.specs.Items.{Item, new_item}
 use Rattle.shape_users.specs.Paragraph.{cluster_at, ShowsExactly}
 use Rattle.shape_users.proofs.ParagraphLemmas.{text_exact}
 use Rattle.shape_users.proofs.paragraph.text_of_glyphs.Goals as goal

@@ -2,11 +2,11 @@ use Rattle.std.proofs.Common.{◌≡◌, ◌+◌, ◌-◌, ℕ, List, length, ge
 use Rattle.std.proofs.lemmas.Grind.{common_steps}
 use Rattle.std.proofs.lemmas.List.{length-set, get_or_default}
 use Rattle.std.specs.List.{remove}
-use Rattle.shape_buffer.specs.Buffer.{Buffer}
-use Rattle.shape_buffer.specs.BufferClusters.{merge_clusters}
-use Rattle.shape_buffer.specs.Items.{Item, new_item}
+use Rattle.shape_items.specs.Buffer.{Buffer}
+use Rattle.shape_items.specs.BufferClusters.{merge_clusters}
+use Rattle.shape_items.specs.Items.{Item, new_item}
 use Rattle.test_worlds.specs.Rules.{with_glyph, made_one}
-use Rattle.shape_buffer.proofs.Merging.KeyLemmas.{length-merge_clusters}
+use Rattle.shape_items.proofs.Merging.KeyLemmas.{length-merge_clusters}
 use Rattle.test_worlds.proofs.RuleLemmas.{Made-made_one}
 use Rattle.test_worlds.proofs.lookups.make_one.Goals as goal
 

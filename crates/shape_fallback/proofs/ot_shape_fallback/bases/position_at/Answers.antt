@@ -1,7 +1,7 @@
 use Rattle.std.proofs.Common.{◌≡◌, ◌<◌, ◌+◌, ◌∙◌, true, false, sym, get_or, drop, arith}
 use Rattle.std.specs.List.{prefix_len}
 use Rattle.std.proofs.lemmas.Grind.{common_steps}
-use Rattle.shape_buffer.specs.Items.{is_mark_item}
+use Rattle.shape_items.specs.Items.{is_mark_item}
 use Rattle.shape_fallback.specs.Bases.{begins_with_mark}
 use Rattle.shape_fallback.proofs.BasesLemmas.{at_unfollowed, at_mark, at_base, some_by_first}
 use Rattle.shape_fallback.proofs.ot_shape_fallback.bases.position_at.Goals as goal

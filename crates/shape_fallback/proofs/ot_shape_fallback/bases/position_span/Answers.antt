@@ -1,7 +1,7 @@
 use Rattle.std.proofs.Common.{◌≡◌, ◌<◌, ◌∙◌, sym, get_or, length, arith}
 use Rattle.std.specs.Prelude.{Some, None}
 use Rattle.std.proofs.lemmas.Grind.{common_steps}
-use Rattle.shape_buffer.specs.Positions.{zero_position}
+use Rattle.shape_common.specs.Positions.{zero_position}
 use Rattle.shape_fallback.specs.Bases.{position_span}
 use Rattle.shape_fallback.proofs.MarksLemmas.{span_some, span_none}
 use Rattle.shape_fallback.proofs.ot_shape_fallback.bases.position_span.Goals as goal

@@ -2,7 +2,7 @@ use Rattle.std.proofs.Common.{◌≡◌, false, ap, inl, inr, of_z, w32, arith}
 use Rattle.std.proofs.lemmas.Bool.{cases_Bool}
 use Rattle.std.proofs.lemmas.Bool.Decides.{Decides-int_eq}
 use Rattle.std.specs.Ordering.{int_eq}
-use Rattle.shape_buffer.proofs.WrappingLemmas.{kept_bits}
+use Rattle.shape_common.proofs.WrappingLemmas.{kept_bits}
 use Rattle.shape_fallback.specs.MarkState.{at_component, component_of}
 use Rattle.shape_fallback.proofs.ot_shape_fallback.mark_state.at_component.Goals as goal
 

@@ -1,6 +1,6 @@
 use Rattle.std.proofs.Common.{◌≡◌, ◌<◌, ◌∙◌, sym, get_or, length, arith}
 use Rattle.std.proofs.lemmas.Grind.{common_steps}
-use Rattle.shape_buffer.specs.Positions.{zero_position}
+use Rattle.shape_common.specs.Positions.{zero_position}
 use Rattle.shape_fallback.specs.Marks.{zeroed}
 use Rattle.shape_fallback.proofs.PositionsLemmas.{each_step, each_end}
 use Rattle.shape_fallback.proofs.ot_shape_fallback.marks.zero_marks.Goals as goal

@@ -1,5 +1,5 @@
 use Rattle.std.proofs.Common.{◌≡◌, ◌∙◌, arith, to_z, of_z, w32}
-use Rattle.shape_buffer.proofs.WrappingLemmas.{kept_bits}
+use Rattle.shape_common.proofs.WrappingLemmas.{kept_bits}
 use Rattle.shape_fallback.specs.OneMark.{mark_x_offset}
 use Rattle.shape_fallback.proofs.ExactLemmas.{x_offset-exact}
 use Rattle.shape_fallback.proofs.ot_shape_fallback.one_mark.mark_x_offset.Goals as goal

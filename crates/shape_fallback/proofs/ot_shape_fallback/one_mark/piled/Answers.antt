@@ -1,5 +1,5 @@
 use Rattle.std.proofs.Common.{◌∙◌, arith}
-use Rattle.shape_buffer.proofs.WrappingLemmas.{kept_bits}
+use Rattle.shape_common.proofs.WrappingLemmas.{kept_bits}
 use Rattle.shape_fallback.proofs.ExactLemmas.{piled-exact}
 use Rattle.shape_fallback.proofs.ot_shape_fallback.one_mark.piled.Goals as goal
 

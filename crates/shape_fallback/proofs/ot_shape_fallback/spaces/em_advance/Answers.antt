@@ -1,5 +1,5 @@
 use Rattle.std.proofs.Common.{◌≡◌, Bool, true, false, ◌∙◌, ap, sym, arith}
-use Rattle.shape_buffer.proofs.WrappingLemmas.{kept_bits}
+use Rattle.shape_common.proofs.WrappingLemmas.{kept_bits}
 use Rattle.shape_fallback.specs.Spaces.{em_advance, em_part}
 use Rattle.shape_fallback.proofs.ExactLemmas.{down-exact}
 use Rattle.shape_fallback.proofs.ot_shape_fallback.spaces.em_advance.Goals as goal

@@ -1,5 +1,5 @@
 use Rattle.std.proofs.Common.{◌≡◌, ◌∙◌, rules, ap}
-use Rattle.shape_buffer.specs.Direction.{is_horizontal}
+use Rattle.shape_common.specs.Direction.{is_horizontal}
 use Rattle.shape_buffer.specs.PositionWalks.{positions_mapped}
 use Rattle.shape_fallback.specs.Spaces.{item_spaced, spaces_placed}
 use Rattle.shape_fallback.proofs.ot_shape_fallback.spaces.put_space_advances.Goals as goal

@@ -1,7 +1,7 @@
 use Rattle.std.proofs.Common.{◌≡◌, ◌+◌, ◌-◌, ◌<◌, ◌≤◌, ◌==◌, true, List, length, get_or, set, bit_and, rules, sym, ap, ap₂, ◌∙◌, arith}
 use Rattle.std.proofs.lemmas.Grind.{common_steps}
-use Rattle.shape_buffer.specs.Buffer.{Buffer}
-use Rattle.shape_buffer.specs.Items.{Item}
+use Rattle.shape_items.specs.Buffer.{Buffer}
+use Rattle.shape_items.specs.Items.{Item}
 use Rattle.shape_normalize.specs.RoundTwo.{one_cgj_unhidden}
 use Rattle.shape_normalize.proofs.RoundTwo.CgjLemmas.{unhidden_more, unhidden_all}
 use Rattle.shape_normalize.proofs.ot_shape_normalize.cgj.unhide_cgj.Goals as goal

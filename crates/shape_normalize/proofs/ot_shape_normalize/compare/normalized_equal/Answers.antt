@@ -1,5 +1,5 @@
 use Rattle.std.proofs.Common.{rules, ◌≡◌, map, sym, ap, ◌∙◌}
-use Rattle.shape_buffer.specs.Items.{char_of}
+use Rattle.shape_items.specs.Items.{char_of}
 use Rattle.shape_normalize.specs.CanonicalForm.{text_of}
 use Rattle.shape_normalize.specs.Normalized.{normalized}
 use Rattle.shape_plan.specs.Rules.{rules_of}

@@ -1,6 +1,6 @@
 use Rattle.std.proofs.Common.{rules, ◌≡◌, ◌<◌, ◌≤◌, length, replicate, vec_len, ap, ◌∙◌, arith}
-use Rattle.shape_buffer.specs.Buffer.{Buffer, limit_of}
-use Rattle.shape_buffer.specs.Positions.{zero_position}
+use Rattle.shape_items.specs.Buffer.{Buffer, limit_of}
+use Rattle.shape_common.specs.Positions.{zero_position}
 use Rattle.shape_plan.specs.Rules.{rules_of}
 use Rattle.shape_normalize.proofs.RoundOne.OneWalkLemmas.{limit-placed, counts_whole, placed_whole, counts_on, placed_on}
 use Rattle.shape_normalize.proofs.ot_shape_normalize.one_walk.expand_in_one_walk.Goals as goal

@@ -1,7 +1,7 @@
 use Rattle.std.proofs.Common.{map, Some, sym, ap, ◌∙◌}
 use Rattle.std.specs.Option.{is_some}
 use Rattle.canonical_form.specs.Chain.{full_text}
-use Rattle.shape_buffer.specs.Items.{char_of}
+use Rattle.shape_items.specs.Items.{char_of}
 use Rattle.shape_plan.specs.Rules.{rules_of, decompositions, has_glyph}
 use Rattle.shape_normalize.specs.PremiseTest.{row_before}
 use Rattle.shape_normalize.proofs.Form.PremiseTestLemmas.{row_before-last, row_before-last_refused, row_before-none}

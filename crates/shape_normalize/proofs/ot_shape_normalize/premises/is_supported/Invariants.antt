@@ -1,6 +1,6 @@
 use Rattle.std.proofs.Common.{◌≡◌, map, length, Some}
 use Rattle.canonical_form.specs.Chain.{full_text}
-use Rattle.shape_buffer.specs.Items.{char_of}
+use Rattle.shape_items.specs.Items.{char_of}
 use Rattle.shape_plan.specs.Rules.{rules_of, decompositions, has_glyph}
 use Rattle.shape_normalize.specs.PremiseTest.{row_before}
 use Rattle.shape_normalize.proofs.ot_shape_normalize.premises.is_supported.Given as goal

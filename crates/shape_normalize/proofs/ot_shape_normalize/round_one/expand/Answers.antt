@@ -1,6 +1,6 @@
 use Rattle.std.proofs.Common.{◌≡◌, replicate, length, vec_len, rules, ap, ◌∙◌, arith}
-use Rattle.shape_buffer.specs.Buffer.{Buffer, cleared}
-use Rattle.shape_buffer.specs.Positions.{zero_position}
+use Rattle.shape_items.specs.Buffer.{Buffer, cleared}
+use Rattle.shape_common.specs.Positions.{zero_position}
 use Rattle.shape_plan.specs.Rules.{rules_of}
 use Rattle.shape_normalize.proofs.RoundOne.SelectorLemmas.{limit-merged, cleared-merged, items-round_one, round_one-from_merged}
 use Rattle.shape_normalize.proofs.ot_shape_normalize.round_one.expand.Goals as goal

@@ -1,5 +1,5 @@
 use Rattle.std.proofs.Common.{◌≡◌, ◌≤◌, ◌++◌, length, fold, vec_len}
-use Rattle.shape_buffer.specs.Buffer.{limit_of}
+use Rattle.shape_items.specs.Buffer.{limit_of}
 use Rattle.shape_plan.specs.Rules.{rules_of}
 use Rattle.shape_normalize.specs.RoundOne.{expanded, seen_sequence, sequences}
 use Rattle.shape_normalize.proofs.ot_shape_normalize.round_one.expand_all.Given as goal

@@ -1,5 +1,5 @@
 use Rattle.std.proofs.Common.{◌<◌, ◌≤◌, Err, length, sym, ap, ◌∙◌, arith}
-use Rattle.shape_buffer.specs.Buffer.{Buffer, cleared, limit_of}
+use Rattle.shape_items.specs.Buffer.{Buffer, cleared, limit_of}
 use Rattle.shape_plan.specs.Rules.{rules_of}
 use Rattle.shape_normalize.proofs.RoundThree.ChainedSpanLemmas.{walked_spans_in_order, walked_spans_merged}
 use Rattle.shape_normalize.proofs.RoundThree.UncomposedLemmas.{nothing_recomposed}

@@ -1,7 +1,7 @@
 use Rattle.std.proofs.Common.{◌+◌, ◌-◌, length, arith, ap, sym, ◌∙◌}
 use Rattle.shape_users.specs.Points.{place_in_range}
 use Rattle.shape_users.proofs.hebrew.points.reorder_points.Goals as goal
-use Rattle.shape_buffer.proofs.Merging.KeyLemmas.{length-merge_clusters}
+use Rattle.shape_items.proofs.Merging.KeyLemmas.{length-merge_clusters}
 
 pub exchange-requires-clause-first : goal.exchange-requires-clause-first
 exchange-requires-clause-first c =

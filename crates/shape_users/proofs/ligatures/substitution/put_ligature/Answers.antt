@@ -1,9 +1,9 @@
 use Rattle.std.proofs.Common.{◌+◌, length, ap, ◌∙◌, arith}
 use Rattle.std.proofs.lemmas.List.{length-set}
 use Rattle.std.proofs.lemmas.List.Edits.{length-remove}
-use Rattle.shape_buffer.specs.Buffer.{Buffer}
+use Rattle.shape_items.specs.Buffer.{Buffer}
 use Rattle.shape_users.proofs.ligatures.substitution.put_ligature.Goals as goal
-use Rattle.shape_buffer.proofs.Merging.KeyLemmas.{length-merge_clusters}
+use Rattle.shape_items.proofs.Merging.KeyLemmas.{length-merge_clusters}
 
 pub bounds-infos-i-2 : goal.bounds-infos-i-2
 bounds-infos-i-2 c =

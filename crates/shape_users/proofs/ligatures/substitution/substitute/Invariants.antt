@@ -1,5 +1,5 @@
 use Rattle.std.proofs.Common.{◌≡◌, ◌≤◌, length}
-use Rattle.shape_buffer.specs.Buffer.{limit_of}
+use Rattle.shape_items.specs.Buffer.{limit_of}
 use Rattle.shape_users.specs.Ligatures.{ligated, singled}
 use Rattle.shape_users.proofs.ligatures.substitution.substitute.Given as goal
 

@@ -1,5 +1,5 @@
 use Rattle.std.proofs.Common.{Err, inl, inr, ◌∙◌, ap, sym}
-use Rattle.shape_buffer.specs.Buffer.{Buffer}
+use Rattle.shape_items.specs.Buffer.{Buffer}
 use Rattle.shape_normalize.specs.CanonicalForm.{text_of}
 use Rattle.shape_normalize.specs.Normalized.{normalized}
 use Rattle.shape_plan.specs.Rules.{rules_of}

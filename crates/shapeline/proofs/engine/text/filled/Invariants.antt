@@ -1,6 +1,6 @@
 use Rattle.std.proofs.Common.{◌≡◌, ◌<◌, ◌+◌, ◌^◌, ◌++◌, []}
 use Rattle.std.specs.List.{AllByRecursion}
-use Rattle.shape_buffer.specs.Buffer.{new_buffer}
+use Rattle.shape_items.specs.Buffer.{new_buffer}
 use Rattle.shape_buffer.specs.Text.{items_from}
 use Rattle.shapeline.specs.Text.{IsCharacterWord, characters, utf8_len}
 use Rattle.shapeline.specs.Words.{words}

@@ -1,5 +1,5 @@
 use Rattle.std.proofs.Common.{◌≡◌, ◌++◌, replicate, drop}
-use Rattle.shape_buffer.specs.Positions.{zero_position}
+use Rattle.shape_common.specs.Positions.{zero_position}
 use Rattle.shape_buffer.proofs.buffer.storage.edits.zero_positions.Given as goal
 
 abbrev pub invariant-loop-position : goal.invariant-loop-position

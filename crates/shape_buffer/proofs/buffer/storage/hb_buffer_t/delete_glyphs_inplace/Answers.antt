@@ -1,7 +1,7 @@
 use Rattle.std.proofs.Common.{ap, refl, ◌∙◌}
-use Rattle.shape_buffer.specs.Delete.{deleted}
+use Rattle.shape_items.specs.Delete.{deleted}
 use Rattle.shape_buffer.specs.contracts.buffer.storage.hb_buffer_t.{the_view}
-use Rattle.shape_buffer.proofs.Deletion.DeleteKeeps.{deleted_keeps}
+use Rattle.shape_items.proofs.Deletion.DeleteKeeps.{deleted_keeps}
 use Rattle.shape_buffer.proofs.buffer.storage.hb_buffer_t.delete_glyphs_inplace.Goals as goal
 
 pub returns-clause-deleted : goal.returns-clause-deleted

@@ -1,6 +1,6 @@
 use Rattle.std.proofs.Common.{arith}
 use Rattle.std.proofs.lemmas.Grind.{common_steps}
-use Rattle.shape_buffer.proofs.Deletion.DeleteKeeps.{merged_keeps}
+use Rattle.shape_items.proofs.Deletion.DeleteKeeps.{merged_keeps}
 use Rattle.shape_buffer.proofs.buffer.storage.hb_buffer_t.merge_clusters.Goals as goal
 
 pub returns-then-eq-clause-keeps : goal.returns-then-eq-clause-keeps

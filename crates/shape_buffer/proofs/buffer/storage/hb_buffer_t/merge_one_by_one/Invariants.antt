@@ -1,5 +1,5 @@
 use Rattle.std.proofs.Common.{◌≡◌, ℕ, drop, length}
-use Rattle.shape_buffer.specs.Spans.{AreSpansInOrder, all_merged}
+use Rattle.shape_items.specs.Spans.{AreSpansInOrder, all_merged}
 use Rattle.shape_buffer.proofs.buffer.storage.hb_buffer_t.merge_one_by_one.Given as goal
 
 -- what is left of the spans makes of the buffer what all of them do

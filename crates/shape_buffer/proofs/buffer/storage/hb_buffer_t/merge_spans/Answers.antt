@@ -1,7 +1,7 @@
 use Rattle.std.proofs.Common.{◌≢◌, length, ap, ◌∙◌, rules}
-use Rattle.shape_buffer.specs.Buffer.{Buffer}
-use Rattle.shape_buffer.specs.declared.buffer.settings.BufferClusterLevel.TheVariants.{Characters}
-use Rattle.shape_buffer.proofs.MergingInOrder.EachSpanLemmas.{length-merge_each, length-all_merged, all_merged_keep, merged_at_once}
+use Rattle.shape_items.specs.Buffer.{Buffer}
+use Rattle.shape_common.specs.declared.settings.BufferClusterLevel.TheVariants.{Characters}
+use Rattle.shape_items.proofs.MergingInOrder.EachSpanLemmas.{length-merge_each, length-all_merged, all_merged_keep, merged_at_once}
 use Rattle.shape_buffer.proofs.buffer.storage.hb_buffer_t.merge_spans.Goals as goal
 
 pub returns-then-spans-le-FEW_SPANS-clause-len : goal.returns-then-spans-le-FEW_SPANS-clause-len

@@ -1,5 +1,5 @@
 use Rattle.std.proofs.Common.{rules}
-use Rattle.shape_buffer.specs.Items.{is_mark_item}
+use Rattle.shape_items.specs.Items.{is_mark_item}
 use Rattle.canonical_form.proofs.Lists.DividedLemmas.{IsFirstPart-at}
 use Rattle.shape_normalize.proofs.ot_shape_normalize.round_one.sequences.first_sequence.Goals as goal
 

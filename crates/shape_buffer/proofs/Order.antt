@@ -1,3 +1,0 @@
--- The order of clusters.
-pub mod DrawsInOrder
-pub mod GraphemeOrderLemmas

@@ -1,7 +1,0 @@
-use Rattle.std.proofs.Common.{refl}
-use Rattle.shape_buffer.specs.Words.{properties_of}
-use Rattle.shape_buffer.proofs.buffer.properties.ItemProperties.new.Goals as goal
-
-pub returns : goal.returns
-unfolding properties_of
-returns c = refl

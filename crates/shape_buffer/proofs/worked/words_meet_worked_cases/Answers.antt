@@ -1,5 +1,0 @@
-use Rattle.shape_buffer.specs.WorkedWords.{words_worked}
-use Rattle.shape_buffer.proofs.worked.words_meet_worked_cases.Goals as goal
-
-pub returns : goal.returns
-returns c = words_worked

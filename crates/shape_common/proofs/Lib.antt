@@ -1,0 +1,2 @@
+pub mod CategoryLemmas
+pub mod WrappingLemmas

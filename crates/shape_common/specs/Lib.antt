@@ -1,0 +1,11 @@
+pub mod Direction
+pub mod Category
+pub mod CategoryNumber
+pub mod Positions
+pub mod FlagNames
+pub mod Unicode
+pub mod Face
+pub mod Wrapping
+pub mod PlainUnicode
+pub mod MapFace
+pub mod ScriptTags

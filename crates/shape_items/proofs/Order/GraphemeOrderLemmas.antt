@@ -1,0 +1,60 @@
+-- The order of clusters where graphemes are turned.
+use Rattle.std.proofs.Common.{◌≡◌, ℕ, zero, suc, ◌-◌, ◌<◌, List, [], ◌∷◌, ◌++◌, length, reverse, replicate, refl, ap, sym, ◌∙◌, arith, subst}
+use Rattle.std.proofs.lemmas.List.{get_or-reverse, length-reverse, reverse-append, map-append, append-nil}
+use Rattle.std.proofs.lemmas.Grind.{flat_map-append}
+use Rattle.std.specs.List.Sorted.{IsNonDecreasing}
+use Rattle.canonical_form.proofs.Lists.DividedLemmas.{whole}
+use Rattle.shape_items.specs.Items.{Item}
+use Rattle.shape_items.specs.Clusters.{clusters}
+use Rattle.shape_items.specs.ClusterOrder.{IsNonIncreasing}
+
+-- a part stands in one cluster
+abbrev pub IsOneCluster : List Item → Type 0
+IsOneCluster part = (cluster : ℕ) × (clusters part ≡ replicate (length part) cluster)
+
+abbrev pub AreOneCluster : List (List Item) → Type 0
+AreOneCluster [] = Unit {0}
+AreOneCluster (part ∷ parts) = IsOneCluster part × AreOneCluster parts
+
+behind-replicate : (n c : ℕ) → replicate n c ++ (c ∷ []) ≡ c ∷ replicate n c
+behind-replicate zero c = refl
+behind-replicate (suc n) c = ap (λ (cs : List ℕ). c ∷ cs) (behind-replicate n c)
+
+reverse-replicate : (n c : ℕ) → reverse (replicate n c) ≡ replicate n c
+reverse-replicate zero c = refl
+reverse-replicate (suc n) c =
+    reverse-append (c ∷ []) (replicate n c) ∙ ap (λ (cs : List ℕ). cs ++ (c ∷ [])) (reverse-replicate n c) ∙ behind-replicate n c
+
+one_cluster-reverse : (part : List Item) → IsOneCluster part → reverse (clusters part) ≡ clusters part
+one_cluster-reverse part (c, is) = ap (λ (cs : List ℕ). reverse cs) is ∙ reverse-replicate (length part) c ∙ sym is
+
+whole-behind : (parts : List (List Item)) (part : List Item)
+    → clusters (whole (parts ++ (part ∷ []))) ≡ clusters (whole parts) ++ clusters part
+whole-behind parts part =
+    ap clusters (flat_map-append (λ (p : List Item). p) parts (part ∷ []) ∙ ap (λ (xs : List Item). whole parts ++ xs) (append-nil part))
+    ∙ map-append (λ (item : Item). item.cluster) (whole parts) part
+
+-- parts in one cluster each, from the last to the first, have the clusters of the whole from its end
+pub clusters-turned : (parts : List (List Item)) → AreOneCluster parts
+    → clusters (whole (reverse parts)) ≡ reverse (clusters (whole parts))
+clusters-turned [] one = refl
+clusters-turned (part ∷ parts) one =
+    ap (λ (ps : List (List Item)). clusters (whole ps)) (reverse-append (part ∷ []) parts)
+    ∙ whole-behind (reverse parts) part
+    ∙ ap (λ (cs : List ℕ). cs ++ clusters part) (clusters-turned parts one.1)
+    ∙ ap (λ (cs : List ℕ). reverse (clusters (whole parts)) ++ cs) (sym (one_cluster-reverse part one.0))
+    ∙ sym (reverse-append (clusters part) (clusters (whole parts)))
+    ∙ ap (λ (cs : List ℕ). reverse cs) (sym (map-append (λ (item : Item). item.cluster) part (whole parts)))
+
+falls-reverse : (xs : List ℕ) → IsNonDecreasing xs → IsNonIncreasing (reverse xs)
+falls-reverse xs rising i j d le lt =
+    let short : j < length xs = rw (← length-reverse xs) lt in
+    let first : i < length xs = omega arith in
+    rw (get_or-reverse xs j d short, get_or-reverse xs i d first)
+    (rising (length xs - 1 - j) (length xs - 1 - i) d (omega arith) (omega arith))
+
+-- rising clusters fall once the parts are turned
+pub falls-turned : (parts : List (List Item)) → AreOneCluster parts → IsNonDecreasing (clusters (whole parts))
+    → IsNonIncreasing (clusters (whole (reverse parts)))
+falls-turned parts one rising =
+    subst (λ (cs : List ℕ). IsNonIncreasing cs) (sym (clusters-turned parts one)) (falls-reverse (clusters (whole parts)) rising)

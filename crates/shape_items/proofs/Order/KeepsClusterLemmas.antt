@@ -1,0 +1,24 @@
+-- What keeps clusters: a list of them, once and again.
+use Rattle.std.proofs.Common.{◌≡◌, ℕ, List, map, sym, subst}
+use Rattle.shape_items.specs.ClusterOrder.{KeepsClusters}
+use Rattle.shape_items.specs.Clusters.{clusters}
+use Rattle.shape_items.specs.Items.{Item}
+use Rattle.shape_items.proofs.Merging.KeyLemmas.{keys-map}
+
+pub KeepsClusters-same : (xs : List ℕ) → KeepsClusters xs xs
+KeepsClusters-same xs = record { rising = λ h. h; falling = λ h. h; none_new = λ k h. h }
+
+pub KeepsClusters-equal : (before after : List ℕ) → after ≡ before → KeepsClusters before after
+KeepsClusters-equal before after same =
+    subst (λ (xs : List ℕ). KeepsClusters before xs) (sym same) (KeepsClusters-same before)
+
+pub KeepsClusters-then : (xs ys zs : List ℕ) → KeepsClusters xs ys → KeepsClusters ys zs → KeepsClusters xs zs
+KeepsClusters-then xs ys zs first later = record {
+  rising = λ h. later.rising (first.rising h);
+  falling = λ h. later.falling (first.falling h);
+  none_new = λ k h. first.none_new k (later.none_new k h);
+}
+
+pub clusters-map : (f : Item → Item) → ((x : Item) → (f x).cluster ≡ x.cluster) → (xs : List Item)
+    → clusters (map f xs) ≡ clusters xs
+clusters-map = keys-map (λ item. item.cluster)

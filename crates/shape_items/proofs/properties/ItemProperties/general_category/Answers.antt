@@ -1,0 +1,12 @@
+use Rattle.std.proofs.Common.{sym, ap, ◌∙◌, lit<}
+use Rattle.bit_fields.proofs.FieldLemmas.{fields-at}
+use Rattle.shape_common.specs.CategoryNumber.{category_of}
+use Rattle.shape_items.specs.Properties.{Properties}
+use Rattle.shape_items.specs.Words.{first_widths, properties_of}
+use Rattle.shape_items.proofs.properties.ItemProperties.general_category.Goals as goal
+
+pub returns : goal.returns
+unfolding properties_of
+returns c =
+    c.of_number.ensures ∙ ap category_of (c.read_byte.ensures ∙ sym (fields-at first_widths 0 c.self.inside.first (lit< tt)))
+    ∙ ap (λ (p : Properties). p.general_category) c.self.view_is

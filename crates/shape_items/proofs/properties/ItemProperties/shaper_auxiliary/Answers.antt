@@ -1,0 +1,11 @@
+use Rattle.std.proofs.Common.{sym, ap, ◌∙◌, lit<}
+use Rattle.bit_fields.proofs.FieldLemmas.{fields-at}
+use Rattle.shape_items.specs.Properties.{Properties}
+use Rattle.shape_items.specs.Words.{upper_widths, properties_of}
+use Rattle.shape_items.proofs.properties.ItemProperties.shaper_auxiliary.Goals as goal
+
+pub returns : goal.returns
+unfolding properties_of
+returns c =
+    c.read_byte.ensures ∙ sym (fields-at upper_widths 3 c.self.inside.upper (lit< tt))
+    ∙ ap (λ (p : Properties). p.shaper_auxiliary) c.self.view_is

@@ -1,0 +1,8 @@
+//! The definitions, computed on cases that were worked out by hand. Each function has such cases as its
+//! contract, and nothing to do.
+ghost use Rattle.shape_items.specs.WorkedWords.{WordsWorked};
+
+/// The words of an item: a new one, one with each of its properties, and the numbers of categories.
+pub fn words_meet_worked_cases()
+    ensures { WordsWorked }
+{}
