@@ -32,6 +32,7 @@ ghost use Rattle.shape_users.specs.PlainGlyphs.{AreOfText, HaveGlyphs, IsGivenBa
 ghost use Rattle.shape_users.specs.PlainGlyphs.{NoStepPasses, SomeStepPasses};
 ghost use Rattle.shape_users.specs.PlainGlyphs.{IsTextOf, IsPlaceIn};
 
+pub mod by_shape;
 #[cfg(test)]
 mod tests;
 

@@ -1,4 +1,5 @@
 //! A letter with its accent and a letter after it, in both directions and at every level.
+use crate::plain_glyphs::by_shape::{glyphs_counted, glyphs_formed};
 use crate::plain_glyphs::{
     PlainPlan, glyphs_of_str, plain_glyphs, plain_glyphs_counted, plain_glyphs_formed,
 };
@@ -120,6 +121,24 @@ fn of_str(alloc: Global, face: &MapFace, text: &str) -> Result<GlyphBuffer, Fail
         Ok(glyphs) => Ok(glyphs),
         Err(_) => Err(Fail::from("refused")),
     }
+}
+
+#[test]
+fn shape_gives_the_same_glyphs_by_a_plan_of_its_own(rt: HostRuntime) -> Result<(), Fail> {
+    let alloc = rt.alloc();
+    let face = face_of(alloc, &[('e', 1), ('\u{301}', 2), ('x', 3)])?;
+    let level = BufferClusterLevel::MonotoneGraphemes;
+    let text = text_at(alloc, Direction::LeftToRight, level)?;
+    let counted = glyphs_counted::<UnicodeDatabase, MapFace>(alloc, &face, &DEFAULT_SHAPER, text);
+    let text = text_at(alloc, Direction::LeftToRight, level)?;
+    let formed = glyphs_formed::<UnicodeDatabase, MapFace>(alloc, &face, &DEFAULT_SHAPER, text);
+    for answer in [counted, formed] {
+        let Ok(glyphs) = answer else {
+            return Err(Fail::from("refused"));
+        };
+        assert_eq!(rt; glyphs.len(), 3);
+    }
+    Ok(())
 }
 
 #[test]
