@@ -94,13 +94,17 @@ fn four(alloc: Global) -> Result<UnicodeBuffer, Fail> {
     Ok(text)
 }
 
-/// Gives the second item an advance of 7, and puts another one in its place.
-fn write_second(buffer: &mut hb_buffer_t) {
+/// Gives an item an advance of 7.
+fn advance_by_seven(buffer: &mut hb_buffer_t, i: usize) {
     let mut position = GlyphPosition::zero();
     position.x_advance = 7;
-    if 1 < buffer.len() {
-        buffer.set_position(1, position);
+    if i < buffer.len() {
+        buffer.set_position(i, position);
     }
+}
+
+/// Puts another item in the place of the second.
+fn write_second(buffer: &mut hb_buffer_t) {
     if 1 < buffer.len() {
         buffer.set_info(1, hb_glyph_info_t::new('y', 5));
     }
@@ -108,10 +112,9 @@ fn write_second(buffer: &mut hb_buffer_t) {
 
 /// Puts an item after the first one.
 fn insert_second(buffer: &mut hb_buffer_t) -> Result<(), Fail> {
-    if buffer.is_empty() {
-        return Err(Fail::from("empty"));
+    if 1 <= buffer.len() {
+        buffer.insert(1, hb_glyph_info_t::new('z', 2))?;
     }
-    buffer.insert(1, hb_glyph_info_t::new('z', 2))?;
     Ok(())
 }
 
@@ -130,6 +133,7 @@ fn lists(rt: HostRuntime) -> Result<(), Fail> {
     buffer.enter();
     assert_same(&rt, buffer.length_limit(), 16384);
     assert_same(&rt, (buffer.is_empty(), buffer.len()), (false, 4));
+    advance_by_seven(&mut buffer, 1);
     write_second(&mut buffer);
     insert_second(&mut buffer)?;
     assert_same(&rt, buffer.len(), 5);
@@ -227,13 +231,8 @@ fn properties(rt: HostRuntime) {
     assert_same(&rt, item.cluster, 3);
 }
 
-/// Exchanges two items with their positions, the first of which has an advance of 7.
+/// Exchanges two items with their positions.
 fn exchange(buffer: &mut hb_buffer_t, i: usize, j: usize) {
-    let mut position = GlyphPosition::zero();
-    position.x_advance = 7;
-    if i < buffer.len() {
-        buffer.set_position(i, position);
-    }
     if i < buffer.len() && j < buffer.len() {
         buffer.swap(i, j);
     }
@@ -259,6 +258,7 @@ fn flags_of(item: &hb_glyph_info_t) -> (bool, bool, bool) {
 fn items_are_exchanged_with_their_positions(rt: HostRuntime) -> Result<(), Fail> {
     let level = BufferClusterLevel::Characters;
     let mut buffer = filled(rt.alloc(), level, &[(0, 1), (1, 2), (2, 4)])?;
+    advance_by_seven(&mut buffer, 0);
     exchange(&mut buffer, 0, 2);
     assert_rows(&rt, &buffer, &[(2, 4), (1, 2), (0, 1)]);
     assert_advances(&rt, &buffer, &[0, 0, 7]);

@@ -1,3 +1,4 @@
+use crate::comparing::{assert_same, assert_that};
 use crate::support::tiny_font;
 use shape_buffer::{GlyphId, hb_font_t, hb_glyph_extents_t};
 use shape_font::FontFace;
@@ -56,15 +57,21 @@ fn names(rt: HostRuntime) -> Result<(), Fail> {
     let Some(face) = FontFace::from_slice(&bytes, 0) else {
         return Err(Fail::from("no face"));
     };
-    assert!(rt; face.glyph_name(GlyphId(0)) == Some(b".notdef".as_slice()));
-    assert!(rt; face.glyph_name(GlyphId(6)) == Some(b"grinning".as_slice()));
-    assert!(rt; face.glyph_name(GlyphId(7)).is_none());
+    assert_that(
+        &rt,
+        face.glyph_name(GlyphId(0)) == Some(b".notdef".as_slice()),
+    );
+    assert_that(
+        &rt,
+        face.glyph_name(GlyphId(6)) == Some(b"grinning".as_slice()),
+    );
+    assert_that(&rt, face.glyph_name(GlyphId(7)).is_none());
     // the names that a table of format 1 leaves out
     let post: &[u8] = &[0, 1, 0, 0];
     for (glyph, name) in [(0, b".notdef".as_slice()), (3, b"space"), (257, b"dcroat")] {
         assert!(rt; glyph_name(post, glyph) == Some(name), "{glyph}");
     }
-    assert!(rt; glyph_name(post, 258).is_none());
+    assert_that(&rt, glyph_name(post, 258).is_none());
     Ok(())
 }
 
@@ -87,21 +94,24 @@ fn metrics(rt: HostRuntime) -> Result<(), Fail> {
         assert_eq!(rt; face.glyph_h_origin(GlyphId(glyph)), advance / 2, "{glyph}");
         assert_eq!(rt; face.glyph_v_origin(GlyphId(glyph)), origin, "{glyph}");
     }
-    assert_eq!(rt; face.glyph_h_advance(GlyphId(7)), 0);
-    assert_eq!(rt; face.glyph_extents(GlyphId(7)), None);
-    assert_eq!(rt; face.glyph_v_advance(GlyphId(2)), -1000);
-    assert_eq!(rt; face.glyph_v_origin(GlyphId(7)), 800);
-    assert_eq!(rt; face.units_per_em(), 1000);
-    assert_eq!(rt; face.glyph_count(), 7);
-    assert!(rt; !face.tables().gsub);
+    assert_same(&rt, face.glyph_h_advance(GlyphId(7)), 0);
+    assert_same(&rt, face.glyph_extents(GlyphId(7)), None);
+    assert_same(&rt, face.glyph_v_advance(GlyphId(2)), -1000);
+    assert_same(&rt, face.glyph_v_origin(GlyphId(7)), 800);
+    assert_same(&rt, face.units_per_em(), 1000);
+    assert_same(&rt, face.glyph_count(), 7);
+    assert_that(&rt, !face.tables().gsub);
     Ok(())
 }
 
 #[test]
 fn no_font(rt: HostRuntime) -> Result<(), Fail> {
-    assert!(rt; FontFace::from_slice(&[], 0).is_none());
+    assert_that(&rt, FontFace::from_slice(&[], 0).is_none());
     let bytes = tiny_font(rt.alloc())?;
-    assert!(rt; FontFace::from_slice(&bytes, 1).is_none());
-    assert!(rt; FontFace::from_slice(&bytes[..bytes.len() / 2], 0).is_none());
+    assert_that(&rt, FontFace::from_slice(&bytes, 1).is_none());
+    assert_that(
+        &rt,
+        FontFace::from_slice(&bytes[..bytes.len() / 2], 0).is_none(),
+    );
     Ok(())
 }

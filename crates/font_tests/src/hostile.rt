@@ -1,6 +1,7 @@
 //! Broken fonts: each shapes, with glyphs that the file has.
 ghost use Rattle.std.specs.Prelude.{◌<◌, length};
 
+use crate::comparing::assert_that;
 use crate::support::tiny_font;
 use shape_buffer::{GlyphId, hb_font_t};
 use shape_font::FontFace;
@@ -68,7 +69,7 @@ fn fonts_by_byte(alloc: Global, bytes: &mut [u8], at: usize) -> Result<u32, Fail
 #[test]
 fn each_byte_changed(rt: HostRuntime) -> Result<(), Fail> {
     let mut bytes = tiny_font(rt.alloc())?;
-    assert!(rt; is_font(rt.alloc(), &bytes)?);
+    assert_that(&rt, is_font(rt.alloc(), &bytes)?);
     let mut fonts: u32 = 0;
     for at in 0..bytes.len() {
         fonts = fonts.saturating_add(fonts_by_byte(rt.alloc(), &mut bytes, at)?);

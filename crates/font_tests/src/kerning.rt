@@ -1,5 +1,6 @@
 //! Texts kerned by the table `kern` of the tests' font: A and B are moved together by 50, B and A by 35.
 
+use crate::comparing::{assert_same, assert_that};
 use crate::support::tiny_font;
 use kern_table::KernTable;
 use shape_buffer::Direction;
@@ -119,14 +120,15 @@ fn growths(rt: HostRuntime) -> Result<(), Fail> {
             return Ok(());
         }
         Err(fault) => {
-            assert_eq!(rt; fault.cause, ShapeError::Memory);
+            assert_same(&rt, fault.cause, ShapeError::Memory);
             fault.buffer
         }
     };
-    assert!(rt; left.is_empty());
-    assert_eq!(rt;
+    assert_that(&rt, left.is_empty());
+    assert_same(
+        &rt,
         (left.direction(), left.script()),
-        (Direction::Invalid, None)
+        (Direction::Invalid, None),
     );
     let Ok(glyphs) = kerned_or_refused(alloc, &face, &[on_at_1], filled(left, ltr, "ABA")?) else {
         return Err(Fail::from("refused twice"));

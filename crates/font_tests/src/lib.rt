@@ -4,6 +4,8 @@
 #[cfg(test)]
 mod answers;
 #[cfg(test)]
+mod comparing;
+#[cfg(test)]
 mod hostile;
 #[cfg(test)]
 mod kerning;

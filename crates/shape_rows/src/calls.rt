@@ -1,5 +1,6 @@
 //! Calls on their happy path whose answers no clause of another test shows.
 
+use crate::comparing::{assert_same, assert_that};
 use shape_buffer::buffer::{
     Direction, Feature, Language, ScratchFlags, Script, UnicodeBuffer, hb_glyph_info_t, hb_tag_t,
     hb_unicode_general_category_t,
@@ -39,15 +40,15 @@ fn a_plan_fits_by_direction_and_script(rt: HostRuntime) -> Result<(), Fail> {
     let mut text = UnicodeBuffer::new(alloc);
     assert!(rt; !plan.fits::<PlainUnicode>(&text), "no script is Unknown");
     text.set_script(latin);
-    assert!(rt; plan.fits::<PlainUnicode>(&text));
+    assert_that(&rt, plan.fits::<PlainUnicode>(&text));
     text.set_direction(Direction::RightToLeft);
-    assert!(rt; !plan.fits::<PlainUnicode>(&text));
-    assert_eq!(rt; plan.direction(), Direction::LeftToRight);
-    assert_eq!(rt; plan.script(), latin);
-    assert!(rt; plan.shaper().is_some() && plan.data().is_none());
+    assert_that(&rt, !plan.fits::<PlainUnicode>(&text));
+    assert_same(&rt, plan.direction(), Direction::LeftToRight);
+    assert_same(&rt, plan.script(), latin);
+    assert_that(&rt, plan.shaper().is_some() && plan.data().is_none());
     let builder = hb_ot_map_builder_t::new::<RowFace<'_>, NoLookups>(alloc, &face, latin, None);
-    assert!(rt; builder.requests().is_empty() && builder.is_simple());
-    assert_eq!(rt; builder.chosen_script(TableIndex::GPOS), None);
+    assert_that(&rt, builder.requests().is_empty() && builder.is_simple());
+    assert_same(&rt, builder.chosen_script(TableIndex::GPOS), None);
     Ok(())
 }
 
@@ -67,9 +68,9 @@ fn a_plan_fits_what_is_guessed(rt: HostRuntime) -> Result<(), Fail> {
     )?;
     let mut text = UnicodeBuffer::new(alloc);
     text.push_str("a")?;
-    assert!(rt; plan.fits::<UnicodeDatabase>(&text));
+    assert_that(&rt, plan.fits::<UnicodeDatabase>(&text));
     text.set_direction(Direction::RightToLeft);
-    assert!(rt; !plan.fits::<UnicodeDatabase>(&text));
+    assert_that(&rt, !plan.fits::<UnicodeDatabase>(&text));
     Ok(())
 }
 
@@ -81,12 +82,12 @@ fn plain_characters_are_letters(rt: HostRuntime) {
         let mut info = hb_glyph_info_t::new(c, 0);
         info.init_unicode_props::<PlainUnicode>(&mut seen);
         let letter = hb_unicode_general_category_t::OtherLetter;
-        assert_eq!(rt; info._hb_glyph_info_get_general_category(), letter);
-        assert!(rt; !info._hb_glyph_info_get_ignorable());
-        assert_eq!(rt; PlainUnicode::mirrored(c), None);
-        assert_eq!(rt; PlainUnicode::script(c), Script::UNKNOWN);
-        assert!(rt; !PlainUnicode::is_emoji_extended_pictographic(c));
-        assert!(rt; !PlainUnicode::is_variation_selector(c));
+        assert_same(&rt, info._hb_glyph_info_get_general_category(), letter);
+        assert_that(&rt, !info._hb_glyph_info_get_ignorable());
+        assert_same(&rt, PlainUnicode::mirrored(c), None);
+        assert_same(&rt, PlainUnicode::script(c), Script::UNKNOWN);
+        assert_that(&rt, !PlainUnicode::is_emoji_extended_pictographic(c));
+        assert_that(&rt, !PlainUnicode::is_variation_selector(c));
     }
 }
 
@@ -112,9 +113,9 @@ fn normalising_keeps_what_is_not_split(rt: HostRuntime) -> Result<(), Fail> {
         &mut buffer,
         &face,
     )?;
-    assert_eq!(rt; buffer.len(), 2);
+    assert_same(&rt, buffer.len(), 2);
     for (info, (c, glyph)) in buffer.infos().iter().zip([('a', 0x61), ('\u{e9}', 0)]) {
-        assert_eq!(rt; (info.codepoint, info.glyph_index), (c, glyph));
+        assert_same(&rt, (info.codepoint, info.glyph_index), (c, glyph));
     }
     Ok(())
 }
@@ -138,7 +139,7 @@ fn a_buffer_is_shaped_in_place(rt: HostRuntime) -> Result<(), Fail> {
     text.set_direction(Direction::RightToLeft);
     let mut buffer = text.into_inner();
     let target_direction = buffer.direction();
-    assert!(rt; target_direction == Direction::RightToLeft);
+    assert_that(&rt, target_direction == Direction::RightToLeft);
     let mut ctx = hb_ot_shape_context_t {
         plan: &plan,
         face: &face,
@@ -146,11 +147,11 @@ fn a_buffer_is_shaped_in_place(rt: HostRuntime) -> Result<(), Fail> {
         target_direction,
     };
     shape_internal::<PlainUnicode, RowFace<'_>, NoLookups, _>(alloc, &mut ctx)?;
-    assert_eq!(rt; buffer.direction(), Direction::RightToLeft);
-    assert_eq!(rt; buffer.length_limit(), usize::MAX);
-    assert_eq!(rt; buffer.len(), 2);
+    assert_same(&rt, buffer.direction(), Direction::RightToLeft);
+    assert_same(&rt, buffer.length_limit(), usize::MAX);
+    assert_same(&rt, buffer.len(), 2);
     for (info, (glyph, cluster)) in buffer.infos().iter().zip([(0x62, 1), (0x61, 0)]) {
-        assert_eq!(rt; (info.glyph_id, info.cluster), (glyph, cluster));
+        assert_same(&rt, (info.glyph_id, info.cluster), (glyph, cluster));
     }
     Ok(())
 }

@@ -6,6 +6,8 @@
 #[cfg(test)]
 mod calls;
 #[cfg(test)]
+mod comparing;
+#[cfg(test)]
 mod emoji;
 #[cfg(test)]
 mod ligatures;

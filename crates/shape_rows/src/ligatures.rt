@@ -1,6 +1,7 @@
 //! Marks round a base, through the two calls for them: the components of ligatures, and the ccc that
 //! marks are placed by. The em square has 1000 units, so that the gap is 62.
 
+use crate::comparing::assert_same;
 use crate::texts::face_of;
 use shape_buffer::buffer::{
     Direction, GlyphPosition, hb_buffer_t, hb_glyph_info_t, hb_unicode_general_category_t,
@@ -146,8 +147,12 @@ fn each_component_has_its_third_of_the_base(rt: HostRuntime) -> Result<(), Fail>
 fn mark_of_another_ligature_is_the_last_component(rt: HostRuntime) -> Result<(), Fail> {
     let alloc = rt.alloc();
     for mark in [(2, 1), (0, 1)] {
-        assert_eq!(rt; last_offsets(alloc, RIGHTWARD, &[mark])?, Some((-300, 112)));
-        assert_eq!(rt; last_offsets(alloc, LEFTWARD, &[mark])?, Some((0, 112)));
+        assert_same(
+            &rt,
+            last_offsets(alloc, RIGHTWARD, &[mark])?,
+            Some((-300, 112)),
+        );
+        assert_same(&rt, last_offsets(alloc, LEFTWARD, &[mark])?, Some((0, 112)));
     }
     Ok(())
 }
@@ -156,13 +161,15 @@ fn mark_of_another_ligature_is_the_last_component(rt: HostRuntime) -> Result<(),
 fn components_without_a_horizontal_plan_run_to_the_right(rt: HostRuntime) -> Result<(), Fail> {
     let alloc = rt.alloc();
     let directions = (Direction::TopToBottom, Direction::RightToLeft);
-    assert_eq!(rt;
+    assert_same(
+        &rt,
         last_offsets(alloc, directions, &[(1, 2)])?,
-        Some((300, 112))
+        Some((300, 112)),
     );
-    assert_eq!(rt;
+    assert_same(
+        &rt,
         last_offsets(alloc, directions, &[(1, 3)])?,
-        Some((600, 112))
+        Some((600, 112)),
     );
     Ok(())
 }
@@ -172,15 +179,15 @@ fn marks_of_a_component_pile_up(rt: HostRuntime) -> Result<(), Fail> {
     let alloc = rt.alloc();
     // the box grows to 912, and a gap on top of it the next mark stands at 974 - 650
     let same = last_offsets(alloc, RIGHTWARD, &[(1, 2), (1, 2)])?;
-    assert_eq!(rt; same, Some((-600, 324)));
+    assert_same(&rt, same, Some((-600, 324)));
     // another component begins anew, and so does the first one after it
     let next = last_offsets(alloc, RIGHTWARD, &[(1, 2), (1, 3)])?;
-    assert_eq!(rt; next, Some((-300, 112)));
+    assert_same(&rt, next, Some((-300, 112)));
     let back = last_offsets(alloc, RIGHTWARD, &[(1, 2), (1, 3), (1, 2)])?;
-    assert_eq!(rt; back, Some((-600, 112)));
+    assert_same(&rt, back, Some((-600, 112)));
     // component -1, after another one, is a part of its own: it begins at -300
     let none = last_offsets(alloc, RIGHTWARD, &[(1, 2), (1, 0)])?;
-    assert_eq!(rt; none, Some((-1200, 112)));
+    assert_same(&rt, none, Some((-1200, 112)));
     Ok(())
 }
 
@@ -284,8 +291,8 @@ fn classes_of_other_scripts(rt: HostRuntime) -> Result<(), Fail> {
         hb_unicode_general_category_t::EnclosingMark,
         hb_unicode_general_category_t::OtherLetter,
     ] {
-        assert_eq!(rt; recategorised(alloc, '\u{E34}', other, 0)?, Some(0));
-        assert_eq!(rt; recategorised(alloc, '\u{301}', other, 13)?, Some(13));
+        assert_same(&rt, recategorised(alloc, '\u{E34}', other, 0)?, Some(0));
+        assert_same(&rt, recategorised(alloc, '\u{301}', other, 13)?, Some(13));
     }
     Ok(())
 }

@@ -1,5 +1,6 @@
 //! Normalised lists of texts with marks, selectors and spaces, over hooks and faces of the tests' own.
 
+use crate::comparing::{assert_same, assert_that};
 use shape_buffer::buffer::{
     Direction, GlyphId, ScratchFlags, ShapeError, UnicodeBuffer, hb_buffer_t, hb_glyph_info_t,
 };
@@ -122,7 +123,7 @@ fn a_mask_survives_a_composition(rt: HostRuntime) -> Result<(), Fail> {
     normalize(alloc, &RowFace::of(&['a']), &AbsorbingShaper, &mut buffer)?;
     assert_items(&rt, &buffer, &[('a', 0x61, 0), ('b', 0, 2)]);
     for (info, mask) in buffer.infos().iter().zip([0x100, 0x400]) {
-        assert_eq!(rt; info.mask, mask);
+        assert_same(&rt, info.mask, mask);
     }
     Ok(())
 }
@@ -160,7 +161,7 @@ fn a_selector_takes_part_in_the_choice_of_a_glyph(rt: HostRuntime) -> Result<(),
             (false, false),
         ],
     );
-    assert_eq!(rt; buffer.scratch_flags().0 & 16, 16);
+    assert_same(&rt, buffer.scratch_flags().0 & 16, 16);
     Ok(())
 }
 
@@ -205,22 +206,30 @@ fn spaces_without_a_glyph(rt: HostRuntime) -> Result<(), Fail> {
     let alloc = rt.alloc();
     let (none, space) = (RowFace::of(&[]), RowFace::of(&[' ']));
     let invisible = Some(GlyphId(5));
-    assert_eq!(rt;
+    assert_same(
+        &rt,
         space_of(alloc, &space, None, '\u{2003}')?,
-        (0x20, SPACE_EM, true)
+        (0x20, SPACE_EM, true),
     );
-    assert_eq!(rt;
+    assert_same(
+        &rt,
         space_of(alloc, &space, invisible, '\u{2007}')?,
-        (0x20, SPACE_FIGURE, true)
+        (0x20, SPACE_FIGURE, true),
     );
-    assert_eq!(rt;
+    assert_same(
+        &rt,
         space_of(alloc, &none, invisible, '\u{2003}')?,
-        (5, SPACE_EM, true)
+        (5, SPACE_EM, true),
     );
-    assert_eq!(rt; space_of(alloc, &none, None, '\u{2003}')?, (0, 0, false));
-    assert_eq!(rt;
+    assert_same(
+        &rt,
+        space_of(alloc, &none, None, '\u{2003}')?,
+        (0, 0, false),
+    );
+    assert_same(
+        &rt,
         space_of(alloc, &RowFace::of(&['\u{2003}']), None, '\u{2003}')?,
-        (0x2003, 0, false)
+        (0x2003, 0, false),
     );
     Ok(())
 }
@@ -264,7 +273,7 @@ fn two_texts_are_compared(rt: HostRuntime) -> Result<(), Fail> {
         let answer = normalized_equal::<MarkedUnicode, RowFace<'_>, NoLookups, hb_default_shaper_t>(
             alloc, &plan, &face, &mut a, &mut b,
         )?;
-        assert_eq!(rt; answer, equal);
+        assert_same(&rt, answer, equal);
     }
     Ok(())
 }
@@ -296,11 +305,12 @@ fn a_text_past_its_limit_clears_both(rt: HostRuntime) -> Result<(), Fail> {
             &mut a,
             &mut b,
         );
-        assert_eq!(rt; answer, Err(ShapeError::Length));
-        assert!(rt; a.is_empty() && b.is_empty());
-        assert_eq!(rt;
+        assert_same(&rt, answer, Err(ShapeError::Length));
+        assert_that(&rt, a.is_empty() && b.is_empty());
+        assert_same(
+            &rt,
             (a.direction(), b.direction()),
-            (Direction::Invalid, Direction::Invalid)
+            (Direction::Invalid, Direction::Invalid),
         );
     }
     Ok(())

@@ -2,6 +2,7 @@
 //! tests that begin alike the second one makes such calls besides; the gate's script counts the growths of
 //! both, which must be as many.
 
+use crate::comparing::{assert_same, assert_that};
 use crate::texts::face_of;
 use shape_buffer::buffer::{
     BufferFlags, Direction, GlyphId, ScratchFlags, Script, UnicodeBuffer, hb_buffer_t,
@@ -320,7 +321,7 @@ fn text_is_begun(rt: HostRuntime) -> Result<(), Fail> {
     let tabled = tabled(alloc)?;
     let decomposing = Preferring::<Decomposed>::new();
     let begun = begin(alloc, &face, &tabled, &decomposing)?;
-    assert_eq!(rt; (begun.text.len(), begun.spelled.len()), (16, 4));
+    assert_same(&rt, (begun.text.len(), begun.spelled.len()), (16, 4));
     Ok(())
 }
 
@@ -339,7 +340,7 @@ fn steps_are_made(rt: HostRuntime) -> Result<(), Fail> {
     } = begin(alloc, &face, &tabled, &decomposing)?;
     let mut empty = UnicodeBuffer::new(alloc);
     empty.guess_segment_properties::<UnicodeDatabase>();
-    assert!(rt; plain.fits::<UnicodeDatabase>(&empty));
+    assert_that(&rt, plain.fits::<UnicodeDatabase>(&empty));
     assert_plain(&rt, &plain);
     assert_no_requests(&rt, alloc, &face);
     assert_premises(&rt, &plain, &full, &face, &mut spelled);
@@ -349,9 +350,9 @@ fn steps_are_made(rt: HostRuntime) -> Result<(), Fail> {
     make_glyphs(&plain, &face, &mut text);
     make_whole_steps(&plain, &face, &mut text)?;
     place_glyphs(&plain, &face, &mut text);
-    assert_eq!(rt; text.len(), 16);
+    assert_same(&rt, text.len(), 16);
     finish(&plain, &face, &mut text);
-    assert_eq!(rt; text.len(), 12);
+    assert_same(&rt, text.len(), 12);
     Ok(())
 }
 
@@ -382,7 +383,7 @@ fn empty_text_is_shaped(rt: HostRuntime) -> Result<(), Fail> {
     let tabled = tabled(alloc)?;
     let decomposing = Preferring::<Decomposed>::new();
     let begun = begin(alloc, &face, &tabled, &decomposing)?;
-    assert_eq!(rt; begun.text.len(), 16);
+    assert_same(&rt, begun.text.len(), 16);
     let plan = &begun.plain;
     shape_in_place(alloc, plan, &face)?;
     let text = UnicodeBuffer::new(alloc);
@@ -390,7 +391,7 @@ fn empty_text_is_shaped(rt: HostRuntime) -> Result<(), Fail> {
         return Err(Fail::from("the plan doesn't fit"));
     }
     match shape_with_plan::<UnicodeDatabase, MapFace, NoLookups, _>(alloc, &face, plan, text) {
-        Ok(glyphs) => assert_eq!(rt; glyphs.len(), 0),
+        Ok(glyphs) => assert_same(&rt, glyphs.len(), 0),
         Err(_) => return Err(Fail::from("refused")),
     }
     Ok(())

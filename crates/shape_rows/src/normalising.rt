@@ -1,5 +1,6 @@
 //! Normalised lists of texts over the whole database of Unicode.
 
+use crate::comparing::assert_same;
 use crate::texts::{
     BY_CHARACTER, Manner, PLAINLY, assert_characters, assert_items, normalised, planned, prepared,
     text_of,
@@ -53,7 +54,7 @@ fn half_supported_chain(rt: HostRuntime) -> Result<(), Fail> {
     let list = normalised(alloc, &face, &DEFAULT_SHAPER, text)?;
     assert_items(&rt, &list, &[('\u{1EA4}', 0)]);
     for info in list.infos() {
-        assert_eq!(rt; info.glyph_index, 0);
+        assert_same(&rt, info.glyph_index, 0);
     }
     Ok(())
 }
@@ -116,7 +117,7 @@ fn no_mark_past_first(rt: HostRuntime) -> Result<(), Fail> {
             NoLookups,
             Preferring<Decomposed>,
         >(alloc, &plan, &face, &mut a, &mut b)?;
-        assert_eq!(rt; answer, equal);
+        assert_same(&rt, answer, equal);
     }
     Ok(())
 }
@@ -225,9 +226,10 @@ fn grapheme_joiner(rt: HostRuntime) -> Result<(), Fail> {
         let list = normalised(alloc, &EVERY_GLYPH, &decomposed, buffer)?;
         assert_characters(&rt, &list, &text);
         for info in list.infos() {
-            assert_eq!(rt;
+            assert_same(
+                &rt,
                 info._hb_glyph_info_get_hidden(),
-                hidden && info.codepoint == '\u{34F}'
+                hidden && info.codepoint == '\u{34F}',
             );
         }
     }

@@ -1,5 +1,6 @@
 //! Glyphs of whole runs, with clusters, positions and flags, over the whole database of Unicode.
 
+use crate::comparing::{assert_same, assert_that};
 use crate::texts::{
     BY_CHARACTER, GlyphOf, Manner, PLAINLY, PlacedGlyph, assert_glyphs, face_of, shaped, text_of,
 };
@@ -187,7 +188,7 @@ fn a_cleared_buffer_serves_again(rt: HostRuntime) -> Result<(), Fail> {
     let glyphs = shaped(alloc, &face, &DEFAULT_SHAPER, text)?;
     assert_glyphs(&rt, &glyphs, &placed);
     let mut again = glyphs.clear();
-    assert!(rt; again.is_empty());
+    assert_that(&rt, again.is_empty());
     again.push_str("\u{5D0}\u{5D1}")?;
     again.guess_segment_properties::<shape_unicode::UnicodeDatabase>();
     let answer = shaped(alloc, &face, &DEFAULT_SHAPER, again)?;
@@ -218,8 +219,8 @@ fn handed_out(alloc: Global, flags: BufferFlags, masks: [u32; 2]) -> Result<[u32
 fn joined_flags_and_tatweel(rt: HostRuntime) -> Result<(), Fail> {
     let alloc = rt.alloc();
     let united = handed_out(alloc, BufferFlags::PRODUCE_UNSAFE_TO_CONCAT, [1, 0])?;
-    assert_eq!(rt; united, [1, 1]);
+    assert_same(&rt, united, [1, 1]);
     let tatweel = handed_out(alloc, BufferFlags::PRODUCE_SAFE_TO_INSERT_TATWEEL, [4, 0])?;
-    assert_eq!(rt; tatweel, [5, 5]);
+    assert_same(&rt, tatweel, [5, 5]);
     Ok(())
 }

@@ -1,5 +1,6 @@
 //! Texts that meet the premises of canonical form, and texts that miss one of them.
 
+use crate::comparing::{assert_same, assert_that};
 use crate::texts::{PLAINLY, planned, prepared, text_of};
 use shape_buffer::interfaces::{NoLookups, hb_font_t};
 use shape_pipeline::ot_shape_normalize::meets_canonical_premises;
@@ -48,10 +49,10 @@ fn spellings(rt: HostRuntime) -> Result<(), Fail> {
         (&['q', '\u{301}', '\u{EA}'], false),
     ];
     for (text, want) in cases {
-        assert_eq!(rt; meets(alloc, &face, &shaper, text)?, want);
+        assert_same(&rt, meets(alloc, &face, &shaper, text)?, want);
     }
     let selecting = &['q', '\u{301}', '\u{FE00}'];
-    assert!(rt; !meets(alloc, &EVERY_GLYPH, &shaper, selecting)?);
+    assert_that(&rt, !meets(alloc, &EVERY_GLYPH, &shaper, selecting)?);
     Ok(())
 }
 
@@ -70,13 +71,17 @@ fn marks_in_a_row(rt: HostRuntime) -> Result<(), Fail> {
     ];
     for (letter, mark, marks, want) in cases {
         let text = stacked(alloc, letter, mark, marks)?;
-        assert_eq!(rt; meets(alloc, &EVERY_GLYPH, &shaper, text.as_slice())?, want);
+        assert_same(
+            &rt,
+            meets(alloc, &EVERY_GLYPH, &shaper, text.as_slice())?,
+            want,
+        );
     }
     let mut text = stacked(alloc, 'q', '\u{301}', 32)?;
     for c in stacked(alloc, 'q', '\u{323}', 32)?.iter() {
         text.push(*c)?;
     }
-    assert!(rt; meets(alloc, &EVERY_GLYPH, &shaper, text.as_slice())?);
+    assert_that(&rt, meets(alloc, &EVERY_GLYPH, &shaper, text.as_slice())?);
     Ok(())
 }
 
@@ -86,9 +91,15 @@ fn modes(rt: HostRuntime) -> Result<(), Fail> {
     let face = &EVERY_GLYPH;
     let text = &['q', '\u{301}', '\u{E9}'];
     let composing = Preferring::<ComposedDiacriticsNoShortCircuit>::new();
-    assert!(rt; meets(alloc, face, &composing, text)?);
-    assert!(rt; !meets(alloc, face, &DEFAULT_SHAPER, text)?);
-    assert!(rt; !meets(alloc, face, &Preferring::<ComposedDiacritics>::new(), text)?);
-    assert!(rt; !meets(alloc, face, &Preferring::<Shortest>::new(), text)?);
+    assert_that(&rt, meets(alloc, face, &composing, text)?);
+    assert_that(&rt, !meets(alloc, face, &DEFAULT_SHAPER, text)?);
+    assert_that(
+        &rt,
+        !meets(alloc, face, &Preferring::<ComposedDiacritics>::new(), text)?,
+    );
+    assert_that(
+        &rt,
+        !meets(alloc, face, &Preferring::<Shortest>::new(), text)?,
+    );
     Ok(())
 }

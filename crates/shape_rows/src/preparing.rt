@@ -1,5 +1,6 @@
 //! Prepared texts over the whole database of Unicode.
 
+use crate::comparing::assert_same;
 use crate::texts::{
     BY_CHARACTER, Manner, PLAINLY, assert_items, normalised, prepared, shaped, text_of,
 };
@@ -17,7 +18,7 @@ fn empty_text(rt: HostRuntime) -> Result<(), Fail> {
         ..PLAINLY
     };
     let glyphs = shaped(alloc, &face, &DEFAULT_SHAPER, text_of(alloc, manner, &[])?)?;
-    assert_eq!(rt; glyphs.len(), 0);
+    assert_same(&rt, glyphs.len(), 0);
     Ok(())
 }
 
@@ -29,7 +30,7 @@ fn regional_pairs(rt: HostRuntime) -> Result<(), Fail> {
     let list = prepared(alloc, &RowFace::of(&[]), &DEFAULT_SHAPER, text)?;
     assert_items(&rt, &list, &[(a, 0), (a, 0), (a, 8), (a, 8)]);
     for (info, continuation) in list.infos().iter().zip([false, true, false, true]) {
-        assert_eq!(rt; info._hb_glyph_info_get_continuation(), continuation);
+        assert_same(&rt, info._hb_glyph_info_get_continuation(), continuation);
     }
     Ok(())
 }
@@ -66,10 +67,10 @@ fn bottom_to_top(rt: HostRuntime) -> Result<(), Fail> {
     assert_items(&rt, &list, &items);
     let text = text_of(alloc, manner, &['a', '\u{301}', 'b'])?;
     let glyphs = shaped(alloc, &face, &DEFAULT_SHAPER, text)?;
-    assert_eq!(rt; glyphs.len(), 3);
-    assert_eq!(rt; glyphs.direction(), Direction::BottomToTop);
+    assert_same(&rt, glyphs.len(), 3);
+    assert_same(&rt, glyphs.direction(), Direction::BottomToTop);
     for (info, item) in glyphs.glyph_infos().iter().zip(items) {
-        assert_eq!(rt; (info.codepoint, info.cluster), item);
+        assert_same(&rt, (info.codepoint, info.cluster), item);
     }
     Ok(())
 }
@@ -113,6 +114,6 @@ fn digits_of_a_text_are_not_turned(rt: HostRuntime) -> Result<(), Fail> {
     text.set_script(Some(Script(hb_tag_t::from_bytes(b"Hebr"))));
     let list = prepared(alloc, &RowFace::of(&[]), &DEFAULT_SHAPER, text)?;
     assert_items(&rt, &list, &[('1', 0), ('2', 1)]);
-    assert_eq!(rt; list.direction(), Direction::LeftToRight);
+    assert_same(&rt, list.direction(), Direction::LeftToRight);
     Ok(())
 }

@@ -2,6 +2,7 @@
 //! its call is refused it says so, after comparisons of the buffer that is handed back, and of the glyphs that this
 //! buffer gives once it is filled again.
 
+use crate::comparing::{assert_same, assert_that};
 use crate::texts::{
     BY_CHARACTER, Manner, PLAINLY, PlacedGlyph, assert_characters, assert_glyphs, face_of, planned,
     prepared, text_of,
@@ -277,10 +278,13 @@ fn comparing(rt: HostRuntime) -> Result<(), Fail> {
     let Err(cause) = compare(&rt, alloc, &face, &plan, &mut a, &mut b) else {
         return Ok(());
     };
-    assert_eq!(rt; cause, ShapeError::Memory);
+    assert_same(&rt, cause, ShapeError::Memory);
     for left in [&a, &b] {
-        assert!(rt; left.is_empty() && left.positions().is_empty());
-        assert!(rt; left.direction() == Direction::Invalid && left.script().is_none());
+        assert_that(&rt, left.is_empty() && left.positions().is_empty());
+        assert_that(
+            &rt,
+            left.direction() == Direction::Invalid && left.script().is_none(),
+        );
     }
     let mut a = again(alloc, &face, &shaper, a, SPELLINGS[0])?;
     let mut b = again(alloc, &face, &shaper, b, SPELLINGS[1])?;
@@ -305,18 +309,18 @@ fn a_key(rt: HostRuntime) -> Result<(), Fail> {
         alloc, &face, &plan, text,
     ) {
         Ok(key) => {
-            assert_eq!(rt; key.as_slice(), &NORMALISED[..]);
+            assert_same(&rt, key.as_slice(), &NORMALISED[..]);
             return Ok(());
         }
         Err(fault) => {
-            assert_eq!(rt; fault.cause, ShapeError::Memory);
+            assert_same(&rt, fault.cause, ShapeError::Memory);
             fault.buffer
         }
     };
     assert_cleared(&rt, row, &left);
     let left = filled(left, row.text)?;
     match normalised_characters::<UnicodeDatabase, _, NoLookups, _>(alloc, &face, &plan, left) {
-        Ok(key) => assert_eq!(rt; key.as_slice(), &NORMALISED[..]),
+        Ok(key) => assert_same(&rt, key.as_slice(), &NORMALISED[..]),
         Err(_) => return Err(Fail::from("refused twice")),
     }
     Err(Fail::from("refused"))

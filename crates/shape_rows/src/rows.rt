@@ -1,5 +1,6 @@
 //! Whole runs with the answers that the rules give.
 
+use crate::comparing::{assert_same, assert_that};
 use shape_buffer::buffer::{Direction, GlyphBuffer, ShapeError, ShapeFault, UnicodeBuffer};
 use shape_buffer::interfaces::{NoLookups, PlainUnicode, hb_font_t};
 use shape_pipeline::ot_shape_plan::hb_ot_shape_plan_t;
@@ -84,17 +85,20 @@ fn length_limit(rt: HostRuntime) -> Result<(), Fail> {
     let alloc = rt.alloc();
     match shaped(alloc, &EVERY_GLYPH, &splitting(16383), '\u{F0000}')? {
         Ok(glyphs) => {
-            assert_eq!(rt; glyphs.len(), 16384);
-            assert!(rt; glyphs.glyph_infos().iter().all(|info| info.cluster == 7));
+            assert_same(&rt, glyphs.len(), 16384);
+            assert_that(
+                &rt,
+                glyphs.glyph_infos().iter().all(|info| info.cluster == 7),
+            );
         }
         Err(_) => return Err(Fail::from("refused")),
     }
     match shaped(alloc, &EVERY_GLYPH, &splitting(16384), '\u{F0000}')? {
         Ok(_) => return Err(Fail::from("not refused")),
         Err(fault) => {
-            assert_eq!(rt; fault.cause, ShapeError::Length);
-            assert!(rt; fault.buffer.is_empty());
-            assert_eq!(rt; fault.buffer.direction(), Direction::Invalid);
+            assert_same(&rt, fault.cause, ShapeError::Length);
+            assert_that(&rt, fault.buffer.is_empty());
+            assert_same(&rt, fault.buffer.direction(), Direction::Invalid);
         }
     }
     Ok(())

@@ -1,5 +1,6 @@
 //! Shapers with wishes for marks, by themselves and beside tables that position.
 
+use crate::comparing::assert_that;
 use crate::texts::{GlyphOf, Manner, PLAINLY, PlacedGlyph, assert_glyphs, face_of, text_of};
 use shape_buffer::buffer::{Direction, GlyphBuffer, UnicodeBuffer};
 use shape_buffer::interfaces::hb_tables_t;
@@ -210,6 +211,9 @@ fn one_table_positions(rt: HostRuntime) -> Result<(), Fail> {
     let face = tabled(alloc, all, false)?;
     let text = text_of(alloc, PLAINLY, &['a'])?;
     let plan = planned(alloc, &face, &DEFAULT_SHAPER, &text)?;
-    assert!(rt; plan.apply_gpos() && plan.apply_kerx() && !plan.apply_kern());
+    assert_that(
+        &rt,
+        plan.apply_gpos() && plan.apply_kerx() && !plan.apply_kern(),
+    );
     Ok(())
 }

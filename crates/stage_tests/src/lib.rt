@@ -3,6 +3,8 @@
 #![allow(non_camel_case_types)]
 
 #[cfg(test)]
+mod comparing;
+#[cfg(test)]
 mod numbers;
 #[cfg(test)]
 mod planning;

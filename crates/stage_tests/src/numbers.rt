@@ -1,5 +1,6 @@
 //! The numbers of the modes of normalising and of the times of zeroing marks, as the rules have them.
 
+use crate::comparing::assert_same;
 use shape_plan::normalization_mode::{
     HB_OT_SHAPE_NORMALIZATION_MODE_AUTO, HB_OT_SHAPE_NORMALIZATION_MODE_COMPOSED_DIACRITICS,
     HB_OT_SHAPE_NORMALIZATION_MODE_COMPOSED_DIACRITICS_NO_SHORT_CIRCUIT,
@@ -20,8 +21,8 @@ fn modes_of_normalising(rt: HostRuntime) {
         HB_OT_SHAPE_NORMALIZATION_MODE_COMPOSED_DIACRITICS_NO_SHORT_CIRCUIT,
         HB_OT_SHAPE_NORMALIZATION_MODE_AUTO,
     ];
-    assert_eq!(rt; modes, [0, 1, 2, 3, 4]);
-    assert_eq!(rt; HB_OT_SHAPE_NORMALIZATION_MODE_DEFAULT, 4);
+    assert_same(&rt, modes, [0, 1, 2, 3, 4]);
+    assert_same(&rt, HB_OT_SHAPE_NORMALIZATION_MODE_DEFAULT, 4);
 }
 
 #[test]
@@ -31,10 +32,10 @@ fn times_of_zeroing_marks(rt: HostRuntime) {
         HB_OT_SHAPE_ZERO_WIDTH_MARKS_BY_GDEF_EARLY,
         HB_OT_SHAPE_ZERO_WIDTH_MARKS_BY_GDEF_LATE,
     ];
-    assert_eq!(rt; times, [0, 1, 2]);
+    assert_same(&rt, times, [0, 1, 2]);
 }
 
 #[test]
 fn longest_run_of_marks(rt: HostRuntime) {
-    assert_eq!(rt; MAX_COMBINING_MARKS, 32);
+    assert_same(&rt, MAX_COMBINING_MARKS, 32);
 }

@@ -6,6 +6,7 @@ use super::support::{
     BitLayout, Bits, CROSS_KERNING, GLYPH_CLASSES, GPOS, GPOS_KERNS, GSUB, KERNING, KERX,
     MACHINE_KERNING, MASKS, MORX, SCRIPT_TWO, TRAK,
 };
+use crate::comparing::{assert_same, assert_that};
 use shape_buffer::buffer::{Direction, Feature, Script, UnicodeBuffer, hb_tag_t};
 use shape_buffer::interfaces::PlainUnicode;
 use shape_plan::ot_shape_plan::hb_ot_shape_plan_t;
@@ -214,9 +215,9 @@ fn gpos_then_kerx(rt: HostRuntime) -> Result<(), Fail> {
         None,
         &[],
     )?;
-    assert!(rt; plan.apply_gpos() && plan.apply_kerx());
-    assert!(rt; !plan.apply_kern() && !plan.apply_fallback_kern());
-    assert!(rt; !plan.zero_marks() && !plan.fallback_mark_positioning());
+    assert_that(&rt, plan.apply_gpos() && plan.apply_kerx());
+    assert_that(&rt, !plan.apply_kern() && !plan.apply_fallback_kern());
+    assert_that(&rt, !plan.zero_marks() && !plan.fallback_mark_positioning());
     Ok(())
 }
 
@@ -235,10 +236,10 @@ fn wishes_of_a_replaced_shaper(rt: HostRuntime) -> Result<(), Fail> {
         None,
         &[],
     )?;
-    assert!(rt; plan.shaper().is_none() && plan.data().is_none());
-    assert!(rt; plan.apply_morx() && plan.apply_fallback_kern());
-    assert!(rt; plan.zero_marks() && plan.fallback_mark_positioning());
-    assert!(rt; !plan.adjust_mark_positioning_when_zeroing());
+    assert_that(&rt, plan.shaper().is_none() && plan.data().is_none());
+    assert_that(&rt, plan.apply_morx() && plan.apply_fallback_kern());
+    assert_that(&rt, plan.zero_marks() && plan.fallback_mark_positioning());
+    assert_that(&rt, !plan.adjust_mark_positioning_when_zeroing());
     let vertical = hb_ot_shape_plan_t::new::<PlainUnicode, Bits, BitLayout>(
         rt.alloc(),
         &both,
@@ -248,7 +249,7 @@ fn wishes_of_a_replaced_shaper(rt: HostRuntime) -> Result<(), Fail> {
         None,
         &[],
     )?;
-    assert!(rt; vertical.shaper().is_some() && !vertical.apply_morx());
+    assert_that(&rt, vertical.shaper().is_some() && !vertical.apply_morx());
     Ok(())
 }
 
@@ -271,18 +272,21 @@ fn masks(rt: HostRuntime) -> Result<(), Fail> {
             &[],
         )?;
         let side = (plan.numr_mask(), plan.dnom_mask(), plan.rtlm_mask());
-        assert_eq!(rt;
+        assert_same(
+            &rt,
             (plan.frac_mask(), plan.kern_mask(), plan.trak_mask()),
-            (mask, mask, mask)
+            (mask, mask, mask),
         );
-        assert_eq!(rt; side, (mask, mask, mask));
-        assert_eq!(rt;
+        assert_same(&rt, side, (mask, mask, mask));
+        assert_same(
+            &rt,
             (plan.has_frac(), plan.has_vert(), plan.has_gpos_mark()),
-            (mask != 0, mask != 0, mask != 0)
+            (mask != 0, mask != 0, mask != 0),
         );
-        assert_eq!(rt;
+        assert_same(
+            &rt,
             (plan.requested_kerning(), plan.apply_trak()),
-            (mask != 0, tracked)
+            (mask != 0, tracked),
         );
         plan.masks_are_features();
         plan.positions_by_one_table();
@@ -310,12 +314,13 @@ fn parts(rt: HostRuntime) -> Result<(), Fail> {
         None,
         &[liga, liga],
     )?;
-    assert_eq!(rt;
+    assert_same(
+        &rt,
         (plan.direction(), plan.script()),
-        (Direction::LeftToRight, latin)
+        (Direction::LeftToRight, latin),
     );
-    assert_eq!(rt; plan.user_features(), [liga, liga].as_slice());
-    assert_eq!(rt; plan.data().copied(), Some(2));
+    assert_same(&rt, plan.user_features(), [liga, liga].as_slice());
+    assert_same(&rt, plan.data().copied(), Some(2));
     let replaced = hb_ot_shape_plan_t::new::<PlainUnicode, Bits, BitLayout>(
         rt.alloc(),
         &morx,
@@ -325,14 +330,14 @@ fn parts(rt: HostRuntime) -> Result<(), Fail> {
         None,
         &[liga],
     )?;
-    assert!(rt; replaced.data().is_none());
+    assert_that(&rt, replaced.data().is_none());
     let mut text = UnicodeBuffer::new(rt.alloc());
     text.add('a', 0)?;
-    assert!(rt; !plan.fits::<PlainUnicode>(&text));
+    assert_that(&rt, !plan.fits::<PlainUnicode>(&text));
     text.set_script(latin);
     text.set_direction(Direction::LeftToRight);
-    assert!(rt; plan.fits::<PlainUnicode>(&text));
+    assert_that(&rt, plan.fits::<PlainUnicode>(&text));
     text.set_direction(Direction::RightToLeft);
-    assert!(rt; !plan.fits::<PlainUnicode>(&text));
+    assert_that(&rt, !plan.fits::<PlainUnicode>(&text));
     Ok(())
 }

@@ -1,6 +1,7 @@
 //! The requests, as the builder of a planner shows them, against lists spelled by letters.
 use super::shapers::ScriptShaper;
 use super::support::{BitLayout, Bits, MORX};
+use crate::comparing::{assert_same, assert_that};
 use shape_buffer::buffer::{Direction, Feature, hb_tag_t};
 use shape_buffer::interfaces::{MapRequest, PlainUnicode, hb_ot_map_builder_t};
 use shape_plan::ot_shape_plan::ChosenShaper;
@@ -102,9 +103,9 @@ fn directions(rt: HostRuntime) -> Result<(), Fail> {
     for (direction, count) in counts {
         let builder = collected(rt.alloc(), direction, &[])?;
         let wanted = expected(rt.alloc(), direction)?;
-        assert_eq!(rt; builder.requests().len(), count);
-        assert_eq!(rt; builder.requests(), wanted.as_slice());
-        assert!(rt; builder.is_simple());
+        assert_same(&rt, builder.requests().len(), count);
+        assert_same(&rt, builder.requests(), wanted.as_slice());
+        assert_that(&rt, builder.is_simple());
     }
     Ok(())
 }
@@ -132,9 +133,9 @@ fn a_planner_is_compiled(rt: HostRuntime) -> Result<(), Fail> {
     );
     planner.collect_features::<PlainUnicode, BitLayout>(rt.alloc(), &[kern])?;
     let plan = planner.compile::<PlainUnicode, BitLayout>(rt.alloc(), &[kern])?;
-    assert_eq!(rt; plan.direction(), Direction::TopToBottom);
-    assert_eq!(rt; plan.user_features().len(), 1);
-    assert!(rt; plan.shaper().is_some() && !plan.apply_gpos());
+    assert_same(&rt, plan.direction(), Direction::TopToBottom);
+    assert_same(&rt, plan.user_features().len(), 1);
+    assert_that(&rt, plan.shaper().is_some() && !plan.apply_gpos());
     Ok(())
 }
 
@@ -153,16 +154,18 @@ fn of_the_user(rt: HostRuntime) -> Result<(), Fail> {
         end: u32::MAX,
     };
     let builder = collected(rt.alloc(), Direction::LeftToRight, &[kern, part])?;
-    assert_eq!(rt; builder.requests().len(), 29);
-    assert_eq!(rt;
+    assert_same(&rt, builder.requests().len(), 29);
+    assert_same(
+        &rt,
         builder.requests().get(27).copied(),
-        Some(ask(b"kern", 1, 0))
+        Some(ask(b"kern", 1, 0)),
     );
-    assert_eq!(rt;
+    assert_same(
+        &rt,
         builder.requests().get(28).copied(),
-        Some(ask(b"liga", 0, 2))
+        Some(ask(b"liga", 0, 2)),
     );
-    assert!(rt; !builder.is_simple());
+    assert_that(&rt, !builder.is_simple());
     Ok(())
 }
 
@@ -180,13 +183,25 @@ fn of_a_shaper(rt: HostRuntime) -> Result<(), Fail> {
     );
     planner.collect_features::<PlainUnicode, BitLayout>(rt.alloc(), &[])?;
     let requests = planner.ot_map.requests();
-    assert_eq!(rt; requests.len(), 22);
-    assert_eq!(rt; requests.get(8).copied(), Some(ask(b"HARF", 1, 1)));
-    assert_eq!(rt; requests.get(9).copied(), Some(ask(&[0, 0, 0, 3], 1, 1)));
-    assert_eq!(rt; requests.get(10).copied(), Some(MapRequest::Pause(Some(9))));
-    assert_eq!(rt; requests.get(11).copied(), Some(ask(b"Buzz", 1, 1)));
-    assert_eq!(rt; requests.get(21).copied(), Some(ask(&[0, 0, 0, 4], 64, 1)));
-    assert!(rt; !planner.ot_map.is_simple());
+    assert_same(&rt, requests.len(), 22);
+    assert_same(&rt, requests.get(8).copied(), Some(ask(b"HARF", 1, 1)));
+    assert_same(
+        &rt,
+        requests.get(9).copied(),
+        Some(ask(&[0, 0, 0, 3], 1, 1)),
+    );
+    assert_same(
+        &rt,
+        requests.get(10).copied(),
+        Some(MapRequest::Pause(Some(9))),
+    );
+    assert_same(&rt, requests.get(11).copied(), Some(ask(b"Buzz", 1, 1)));
+    assert_same(
+        &rt,
+        requests.get(21).copied(),
+        Some(ask(&[0, 0, 0, 4], 64, 1)),
+    );
+    assert_that(&rt, !planner.ot_map.is_simple());
     let mut replaced = hb_ot_shape_planner_t::<Bits, ScriptShaper>::new::<PlainUnicode, BitLayout>(
         rt.alloc(),
         &morx,
@@ -196,8 +211,8 @@ fn of_a_shaper(rt: HostRuntime) -> Result<(), Fail> {
         None,
     );
     replaced.collect_features::<PlainUnicode, BitLayout>(rt.alloc(), &[])?;
-    assert_eq!(rt; replaced.ot_map.requests().len(), 19);
-    assert!(rt; matches!(replaced.shaper, ChosenShaper::Dumber));
+    assert_same(&rt, replaced.ot_map.requests().len(), 19);
+    assert_that(&rt, matches!(replaced.shaper, ChosenShaper::Dumber));
     Ok(())
 }
 
@@ -213,7 +228,7 @@ fn dumber(rt: HostRuntime) -> Result<(), Fail> {
         None,
         None,
     );
-    assert!(rt; matches!(kept.shaper, ChosenShaper::Given(_)));
+    assert_that(&rt, matches!(kept.shaper, ChosenShaper::Given(_)));
     let replaced = hb_ot_shape_planner_t::new::<PlainUnicode, BitLayout>(
         rt.alloc(),
         &morx,
@@ -222,8 +237,11 @@ fn dumber(rt: HostRuntime) -> Result<(), Fail> {
         None,
         None,
     );
-    assert!(rt; matches!(replaced.shaper, ChosenShaper::Dumber));
-    assert!(rt; !replaced.script_zero_marks && !replaced.script_fallback_mark_positioning);
+    assert_that(&rt, matches!(replaced.shaper, ChosenShaper::Dumber));
+    assert_that(
+        &rt,
+        !replaced.script_zero_marks && !replaced.script_fallback_mark_positioning,
+    );
     Ok(())
 }
 
@@ -241,8 +259,8 @@ fn builder_calls(rt: HostRuntime) -> Result<(), Fail> {
         ask(b"clig", 1, 0),
         MapRequest::Pause(Some(7)),
     ];
-    assert_eq!(rt; builder.requests(), wanted.as_slice());
+    assert_same(&rt, builder.requests(), wanted.as_slice());
     builder.set_simple(false);
-    assert!(rt; !builder.is_simple());
+    assert_that(&rt, !builder.is_simple());
     Ok(())
 }
