@@ -10,46 +10,21 @@ use shape_buffer::buffer::{
 };
 use shape_buffer::interfaces::{MapFace, NoLookups, TableIndex, hb_font_t, hb_ot_map_builder_t};
 use shape_buffer::walks::update_items;
-use shape_fallback::ot_shape_fallback::{
-    _hb_ot_shape_fallback_kern, _hb_ot_shape_fallback_mark_position_recategorize_marks,
-    _hb_ot_shape_fallback_spaces, position_marks,
-};
-use shape_fallback::steps::{place_marks, place_spaces, recategorize_marks};
-use shape_pipeline::ot_shape::{
-    hb_ot_shape_context_t, prepare_text, shape_internal, syllabic_clear_var,
-};
+use shape_pipeline::ot_shape::{hb_ot_shape_context_t, prepare_text, shape_internal};
 use shape_pipeline::ot_shape_normalize::{_hb_ot_shape_normalize, meets_canonical_premises};
 use shape_pipeline::ot_shape_plan::hb_ot_shape_plan_t;
 use shape_pipeline::ot_shaper::{DEFAULT_SHAPER, Decomposed, Preferring, hb_default_shaper_t};
 use shape_pipeline::shape_with_plan;
 use shape_plan::shaping_types::TypesOf;
-use shape_position::advances::{clear_positions, position_default, put_advances};
-use shape_position::finishing::reverse_backward;
-use shape_position::flags::propagate_flags;
-use shape_position::ignorables::{hide_default_ignorables, zero_width_default_ignorables};
-use shape_position::selectors::deal_with_variation_selectors;
-use shape_position::tables::{
-    position_finish_advances, position_finish_offsets, position_start, remove_deleted,
-    zero_width_deleted,
-};
-use shape_position::zeroing::{zero_mark_widths_by_gdef, zero_marks_early, zero_marks_late};
-use shape_prepare::clusters::form_clusters;
 use shape_prepare::graphemes::set_unicode_props;
-use shape_prepare::masks::initialize_masks;
-use shape_prepare::native_direction::ensure_native_direction;
-use shape_prepare::rotation::rotate_chars;
 use shape_substitute::fractions::setup_masks_fraction;
-use shape_substitute::glyphs::{
-    hb_synthesize_glyph_classes, map_glyphs_fast, setup_glyphs, substitute_start,
-    synthesize_classes,
-};
-use shape_substitute::masks::{setup_masks, setup_masks_shaper};
-use shape_substitute::ranges::setup_masks_user;
 use shape_unicode::UnicodeDatabase;
 use std::alloc::Global;
 use std::process::Abort;
 use std::test::Fail;
 use test_worlds::{AddingLayout, TabledFace};
+
+mod steps;
 
 /// The types of a run with the default shaper.
 type Types = TypesOf<UnicodeDatabase, MapFace, NoLookups, hb_default_shaper_t>;
@@ -229,41 +204,6 @@ fn set_items(buffer: &mut hb_buffer_t) {
     buffer.set_scratch_flags(ScratchFlags(63));
 }
 
-fn prepare(plan: &Plan<'_>, face: &MapFace, buffer: &mut hb_buffer_t) {
-    initialize_masks::<Types>(plan, buffer);
-    set_unicode_props::<UnicodeDatabase>(buffer);
-    form_clusters(buffer);
-    ensure_native_direction::<UnicodeDatabase>(buffer);
-    rotate_chars::<Types>(plan, face, buffer, Direction::RightToLeft);
-}
-
-fn make_glyphs(plan: &Plan<'_>, face: &MapFace, buffer: &mut hb_buffer_t) {
-    setup_masks_fraction(plan, buffer);
-    setup_masks_shaper::<Types>(plan, face, buffer);
-    setup_masks_user::<Types>(plan, buffer);
-    recategorize_marks::<Types>(plan, face, buffer);
-    map_glyphs_fast(buffer);
-    substitute_start::<Types>(plan, face, buffer);
-    hb_synthesize_glyph_classes(buffer);
-    synthesize_classes(plan, buffer);
-}
-
-fn place_glyphs(plan: &Plan<'_>, face: &MapFace, buffer: &mut hb_buffer_t) {
-    clear_positions(buffer);
-    put_advances(face, buffer);
-    place_spaces::<Types>(plan, face, buffer);
-    position_start::<Types>(plan, face, buffer);
-    zero_marks_early::<Types>(plan, face, buffer);
-    zero_marks_late::<Types>(plan, face, buffer);
-    zero_mark_widths_by_gdef(buffer, true);
-    position_finish_advances::<Types>(plan, face, buffer);
-    zero_width_default_ignorables(buffer);
-    zero_width_deleted::<Types>(plan, face, buffer);
-    position_finish_offsets::<Types>(plan, face, buffer);
-    place_marks::<Types>(plan, face, buffer);
-    position_marks::<UnicodeDatabase, _, _, _, _>(plan, face, buffer, true);
-}
-
 /// Prepares a text, and asks for the premises in a mode that misses the first of them and in one in which the
 /// text meets all.
 fn assert_premises(
@@ -289,29 +229,6 @@ fn divide(rt: &impl Abort, plan: &Plan<'_>, buffer: &mut hb_buffer_t) {
         let is_part = matches!(info.codepoint, '1' | '2' | '\u{2044}');
         assert_eq!(rt; info.mask & plan.frac_mask() != 0, is_part);
     }
-}
-
-/// The steps that are made of several, and those that stand under a name of their own.
-fn make_whole_steps(plan: &Plan<'_>, face: &MapFace, buffer: &mut hb_buffer_t) -> Result<(), Fail> {
-    if buffer.length_limit() < buffer.len() {
-        return Err(Fail::from("past the limit"));
-    }
-    setup_masks::<Types>(plan, face, buffer);
-    setup_glyphs::<Types>(plan, face, buffer);
-    position_default::<Types>(plan, face, buffer);
-    syllabic_clear_var(buffer);
-    _hb_ot_shape_fallback_mark_position_recategorize_marks(plan, face, buffer);
-    _hb_ot_shape_fallback_spaces(plan, face, buffer);
-    _hb_ot_shape_fallback_kern(plan, face, buffer);
-    Ok(())
-}
-
-fn finish(plan: &Plan<'_>, face: &MapFace, buffer: &mut hb_buffer_t) {
-    propagate_flags(buffer);
-    reverse_backward(buffer);
-    remove_deleted::<Types>(plan, face, buffer);
-    deal_with_variation_selectors(buffer);
-    hide_default_ignorables(face, buffer);
 }
 
 #[test]
@@ -344,14 +261,22 @@ fn steps_are_made(rt: HostRuntime) -> Result<(), Fail> {
     assert_plain(&rt, &plain);
     assert_no_requests(&rt, alloc, &face);
     assert_premises(&rt, &plain, &full, &face, &mut spelled);
-    prepare(&plain, &face, &mut text);
+    steps::form_graphemes(&plain, &mut text);
+    steps::turn(&plain, &face, &mut text);
     set_items(&mut text);
     divide(&rt, &dividing, &mut text);
-    make_glyphs(&plain, &face, &mut text);
-    make_whole_steps(&plain, &face, &mut text)?;
-    place_glyphs(&plain, &face, &mut text);
+    steps::put_masks(&plain, &face, &mut text);
+    steps::make_glyphs(&plain, &face, &mut text);
+    steps::classify(&plain, &mut text);
+    steps::make_whole_steps(&plain, &face, &mut text)?;
+    steps::fall_back(&plain, &face, &mut text);
+    steps::advance(&plain, &face, &mut text);
+    steps::zero_marks(&plain, &face, &mut text);
+    steps::finish_positions(&plain, &face, &mut text);
+    steps::put_marks(&plain, &face, &mut text);
     assert_same(&rt, text.len(), 16);
-    finish(&plain, &face, &mut text);
+    steps::order(&mut text);
+    steps::hide(&plain, &face, &mut text);
     assert_same(&rt, text.len(), 12);
     Ok(())
 }
