@@ -1,16 +1,21 @@
--- Each step of positions and of the end of a run keeps clusters, flags and the number of positions.
+-- Each step of positions and of the end of a run keeps clusters, flags and the number of positions. Clusters and flags are told at once, as
+-- a relation of a buffer before and after a step.
 use Rattle.std.proofs.Common.{◌≡◌, ℕ, Bool, true, false, List, [], ◌∷◌, Option, Some, None, refl, ap, sym, ◌∙◌, inl, inr}
 use Rattle.std.specs.Prelude.{◌==◌, ◌&&◌, not, if◌then◌else◌}
 use Rattle.std.proofs.lemmas.Bool.{and_parts, cases_Bool}
 use Rattle.std.proofs.lemmas.List.{length-map}
+use Rattle.shape_items.specs.Buffer.{Buffer}
 use Rattle.shape_items.specs.Clusters.{clusters}
 use Rattle.shape_common.specs.Direction.{is_horizontal, is_forward}
 use Rattle.shape_common.specs.Face.{FaceMeaning}
 use Rattle.shape_items.specs.Flags.{flags_propagated, flagged_from, mask_after}
 use Rattle.shape_items.specs.Items.{Item, is_ignorable_item}
-use Rattle.shape_buffer.specs.Keepers.{IsClusterKeeper, IsFlagKeeper, EachStep}
-use Rattle.shape_items.specs.KeepsFlags.{has_glyph_flags}
+use Rattle.shape_buffer.specs.Keepers.{IsClusterKeeper, IsFlagKeeper, KeepsOrder, EachStep}
+use Rattle.shape_items.specs.ClusterOrder.{IsMonotoneLevel}
+use Rattle.shape_items.specs.KeepsFlags.{KeepsFlags, has_glyph_flags}
 use Rattle.shape_common.specs.declared.flags.BufferFlags.{BufferFlags}
+use Rattle.shape_buffer.specs.PositionWalks.{positions_mapped}
+use Rattle.shape_common.specs.declared.positions.GlyphPosition.{GlyphPosition}
 use Rattle.shape_common.specs.declared.settings.GlyphId.{GlyphId}
 use Rattle.shape_buffer.specs.Outcome.{step as plain_step}
 use Rattle.shape_items.proofs.Flags.ClusterRunLemmas.{flagged-runs}
@@ -18,68 +23,131 @@ use Rattle.shape_items.proofs.Deletion.DeleteKeeps.{deleted_keeps_clusters, dele
 use Rattle.shape_items.proofs.Flags.FlagLemmas.{KeepsFlags-same}
 use Rattle.shape_buffer.proofs.Loops.PositionWalkLemmas.{length-positions_over}
 use Rattle.shape_buffer.proofs.Steps.KeeperLemmas.{EachStep-append, KeepsClusters-equal, KeepsOrder-same, clusters-map, order-items_mapped}
-use Rattle.shape_plan.specs.Keepers.{CallsKeepClusters, RunKeepsFlags}
+use Rattle.shape_plan.specs.Keepers.{EachCall}
 use Rattle.shape_plan.specs.Run.{Run, step_if}
 use Rattle.shape_position.specs.Advances.{advanced, advanced_position}
 use Rattle.shape_position.specs.Ignorables.{ignorables_zeroed, ignorables_hidden, shown_as, replaced_or_deleted, zeroed_ignorable, hides_ignorables, removes_ignorables, unseen_glyph}
 use Rattle.shape_position.specs.Keepers.{StepsKeepClusters, StepsKeepFlags, StepsKeepCount, StepsKeep}
 use Rattle.shape_position.specs.Kept.{KeepsAsMany}
 use Rattle.shape_position.specs.Selectors.{selectors_replaced, selectors_replaced_by, not_found_item, not_found_position, has_selector_fallback}
-use Rattle.shape_position.specs.Steps.{place_steps, close_steps, show_steps}
+use Rattle.shape_position.specs.Steps.{place_steps, close_steps, table_steps, show_steps}
 use Rattle.shape_position.specs.Tables.{table_positioned}
 use Rattle.shape_position.specs.Zeroing.{marks_zeroed, zeroed_mark, zeroed_at, zero_width_time}
 use Rattle.shape_position.proofs.CountLemmas.{as_many-hidden, as_many-flags}
 use Rattle.shape_position.proofs.DeletionLemmas.{settings-deleted}
 use Rattle.shape_position.proofs.KeeperLemmas.{some_has-map, order-positions_mapped, flags-items_mapped, flags-positions_mapped, as_many-positions_mapped}
 use Rattle.shape_position.proofs.TurnLemmas.{turns-turned, flags-turned, as_many-turned}
-use Rattle.shape_plan.proofs.KeeperLemmas.{flags-hook_if, flags-step_if, flags-step_due, order-hook_if, order-step_if, order-step_due}
+use Rattle.shape_plan.proofs.KeeperLemmas.{keeper-hook, keeper-step_if, keeper-step_due}
 
--- ---- steps over positions
+-- ---- relations of a buffer before and after
 
-order-advanced : (face : FaceMeaning) → IsClusterKeeper (advanced face)
+-- each buffer is in that relation with what the step makes of it
+abbrev Leads : (Buffer → Buffer → Type 0) → (Buffer → Buffer) → Type 0
+Leads R f = (b : Buffer) → R b (f b)
+
+-- a relation of each buffer with itself, with what a walk over positions makes of it, and with what the two steps that write glyphs do
+record Holds (R : Buffer → Buffer → Type 0) : Type 0 where
+  same : (b : Buffer) → R b b
+  positions : (f : Item → GlyphPosition → GlyphPosition) → Leads R (positions_mapped f)
+  selectors : (glyph : Option GlyphId) → Leads R (selectors_replaced_by glyph)
+  hiding : (glyph : Option GlyphId) → Leads R (replaced_or_deleted glyph)
+
+-- ---- steps
+
+leads-advanced : (R : Buffer → Buffer → Type 0) → Holds R → (face : FaceMeaning) → Leads R (advanced face)
 unfolding advanced
-order-advanced face b monotone = order-positions_mapped (advanced_position face (is_horizontal b.direction)) b monotone
+leads-advanced R holds face b = holds.positions (advanced_position face (is_horizontal b.direction)) b
 
-flags-advanced : (face : FaceMeaning) → IsFlagKeeper (advanced face)
-unfolding advanced
-flags-advanced face b = flags-positions_mapped (advanced_position face (is_horizontal b.direction)) b
-
-as_many-advanced : (face : FaceMeaning) → KeepsAsMany (advanced face)
-unfolding advanced
-as_many-advanced face b as_many = as_many-positions_mapped (advanced_position face (is_horizontal b.direction)) b as_many
-
-order-marks_zeroed : (adjust : Bool) → IsClusterKeeper (marks_zeroed adjust)
+leads-marks_zeroed : (R : Buffer → Buffer → Type 0) → Holds R → (adjust : Bool) → Leads R (marks_zeroed adjust)
 unfolding marks_zeroed
-order-marks_zeroed adjust b monotone = order-positions_mapped (zeroed_mark (adjust && is_forward b.direction)) b monotone
+leads-marks_zeroed R holds adjust b = holds.positions (zeroed_mark (adjust && is_forward b.direction)) b
 
-flags-marks_zeroed : (adjust : Bool) → IsFlagKeeper (marks_zeroed adjust)
-unfolding marks_zeroed
-flags-marks_zeroed adjust b = flags-positions_mapped (zeroed_mark (adjust && is_forward b.direction)) b
-
-as_many-marks_zeroed : (adjust : Bool) → KeepsAsMany (marks_zeroed adjust)
-unfolding marks_zeroed
-as_many-marks_zeroed adjust b as_many = as_many-positions_mapped (zeroed_mark (adjust && is_forward b.direction)) b as_many
-
-order-ignorables_zeroed : IsClusterKeeper ignorables_zeroed
+leads-ignorables_zeroed : (R : Buffer → Buffer → Type 0) → Holds R → Leads R ignorables_zeroed
 unfolding ignorables_zeroed
-order-ignorables_zeroed b monotone = elim (cases_Bool (hides_ignorables b && not (removes_ignorables b))) [
-  | inl due ↦ rw due (order-positions_mapped zeroed_ignorable b monotone)
-  | inr not_due ↦ rw not_due (KeepsOrder-same b)
+leads-ignorables_zeroed R holds b = elim (cases_Bool (hides_ignorables b && not (removes_ignorables b))) [
+  | inl due ↦ rw due (holds.positions zeroed_ignorable b)
+  | inr not_due ↦ rw not_due (holds.same b)
 ]
 
-flags-ignorables_zeroed : IsFlagKeeper ignorables_zeroed
-unfolding ignorables_zeroed
-flags-ignorables_zeroed b = elim (cases_Bool (hides_ignorables b && not (removes_ignorables b))) [
-  | inl due ↦ rw due (flags-positions_mapped zeroed_ignorable b)
-  | inr not_due ↦ rw not_due (KeepsFlags-same b)
+leads-selectors : (R : Buffer → Buffer → Type 0) → Holds R → Leads R selectors_replaced
+unfolding selectors_replaced
+leads-selectors R holds b = elim (cases_Bool (has_selector_fallback b)) [
+  | inl seen ↦ rw seen (holds.selectors b.not_found_variation_selector_glyph b)
+  | inr none ↦ rw none (holds.same b)
 ]
 
-as_many-ignorables_zeroed : KeepsAsMany ignorables_zeroed
-unfolding ignorables_zeroed
-as_many-ignorables_zeroed b as_many = elim (cases_Bool (hides_ignorables b && not (removes_ignorables b))) [
-  | inl due ↦ rw due (as_many-positions_mapped zeroed_ignorable b as_many)
-  | inr not_due ↦ rw not_due as_many
+leads-hidden : (R : Buffer → Buffer → Type 0) → Holds R → (face : FaceMeaning) → Leads R (ignorables_hidden face)
+unfolding ignorables_hidden
+leads-hidden R holds face b = elim (cases_Bool (hides_ignorables b)) [
+  | inl due ↦ rw due (holds.hiding (if removes_ignorables b then None else unseen_glyph face b) b)
+  | inr not_due ↦ rw not_due (holds.same b)
 ]
+
+leads-zeroed_at : (R : Buffer → Buffer → Type 0) → Holds R → (time : ℕ) (run : Run)
+    → Leads R (zeroed_at time run.decisions run.constants run.hooks)
+leads-zeroed_at R holds time run =
+    keeper-step_if (Leads R) holds.same (run.decisions.zero_marks && (zero_width_time run.constants run.hooks == time))
+    (leads-marks_zeroed R holds run.decisions.adjust_mark_positioning_when_zeroing)
+
+leads-tables : (R : Buffer → Buffer → Type 0) → Holds R → (run : Run) → EachCall (Leads R) run
+    → Leads R (table_positioned run.lookups run.decisions)
+leads-tables R holds run keeps = by_gpos run.decisions.apply_gpos refl
+  where
+    by_gpos : (gpos : Bool) → run.decisions.apply_gpos ≡ gpos
+        → Leads R (if gpos then run.lookups.position
+        else step_if run.decisions.apply_kerx (run.lookups.aat_position run.decisions.kern_mask))
+    by_gpos true due = keeps.lookups.position due
+    by_gpos false not_due = keeper-step_due (Leads R) holds.same run.decisions.apply_kerx (keeps.lookups.aat_position not_due)
+
+-- ---- the lists
+
+leads-place_steps : (R : Buffer → Buffer → Type 0) → Holds R → (run : Run) → EachCall (Leads R) run → EachStep (Leads R) (place_steps run)
+leads-place_steps R holds run keeps = (
+  keeps.lookups.position_start,
+  (
+    leads-zeroed_at R holds 1 run,
+    (
+      leads-tables R holds run keeps,
+      (
+        keeper-step_due (Leads R) holds.same run.decisions.apply_kern keeps.lookups.kern,
+        (leads-zeroed_at R holds 2 run, tt),
+      ),
+    ),
+  ),
+)
+
+leads-close_steps : (R : Buffer → Buffer → Type 0) → Holds R → (run : Run) → EachCall (Leads R) run → EachStep (Leads R) (close_steps run)
+leads-close_steps R holds run keeps = (
+  keeps.lookups.position_finish_advances,
+  (
+    leads-ignorables_zeroed R holds,
+    (
+      keeper-step_due (Leads R) holds.same run.decisions.apply_morx keeps.lookups.aat_zero_width_deleted,
+      (keeps.lookups.position_finish_offsets, tt),
+    ),
+  ),
+)
+
+leads-table_steps : (R : Buffer → Buffer → Type 0) → Holds R → (run : Run) → EachCall (Leads R) run → EachStep (Leads R) (table_steps run)
+leads-table_steps R holds run keeps =
+    EachStep-append (Leads R) (place_steps run) (close_steps run) (leads-place_steps R holds run keeps) (leads-close_steps R holds run keeps)
+
+leads-show_steps : (R : Buffer → Buffer → Type 0) → Holds R → (run : Run) → EachCall (Leads R) run → EachStep (Leads R) (show_steps run)
+leads-show_steps R holds run keeps = (
+  keeper-step_due (Leads R) holds.same (run.decisions.apply_morx && not run.decisions.apply_gpos)
+      (λ both. keeps.lookups.aat_remove_deleted (and_parts run.decisions.apply_morx (not run.decisions.apply_gpos) both).0),
+  (
+    leads-selectors R holds,
+    (
+      leads-hidden R holds run.face,
+      (
+        keeper-hook (Leads R) holds.same run.constants.has_postprocess_glyphs run.hooks (λ h. h.postprocess)
+            (λ h is. (keeps.hooks h is).postprocess),
+        tt,
+      ),
+    ),
+  ),
+)
 
 -- ---- selectors
 
@@ -122,32 +190,6 @@ flags-replaced_by (Some glyph) b =
           (sym (some_has-map (not_found_item glyph) (not_found-mask glyph) flag b.items) ∙ some);
     }
 
-as_many-replaced_by : (glyph : Option GlyphId) → KeepsAsMany (selectors_replaced_by glyph)
-as_many-replaced_by None b as_many = as_many
-as_many-replaced_by (Some glyph) b as_many =
-    length-positions_over not_found_position b.items b.positions as_many ∙ sym (length-map b.items (not_found_item glyph))
-
-order-selectors : IsClusterKeeper selectors_replaced
-unfolding selectors_replaced
-order-selectors b monotone = elim (cases_Bool (has_selector_fallback b)) [
-  | inl seen ↦ rw seen (order-replaced_by b.not_found_variation_selector_glyph b monotone)
-  | inr none ↦ rw none (KeepsOrder-same b)
-]
-
-flags-selectors : IsFlagKeeper selectors_replaced
-unfolding selectors_replaced
-flags-selectors b = elim (cases_Bool (has_selector_fallback b)) [
-  | inl seen ↦ rw seen (flags-replaced_by b.not_found_variation_selector_glyph b)
-  | inr none ↦ rw none (KeepsFlags-same b)
-]
-
-as_many-selectors : KeepsAsMany selectors_replaced
-unfolding selectors_replaced
-as_many-selectors b as_many = elim (cases_Bool (has_selector_fallback b)) [
-  | inl seen ↦ rw seen (as_many-replaced_by b.not_found_variation_selector_glyph b as_many)
-  | inr none ↦ rw none as_many
-]
-
 -- ---- hiding
 
 shown-cluster : (glyph : GlyphId) (item : Item) → (shown_as glyph item).cluster ≡ item.cluster
@@ -177,20 +219,6 @@ flags-replaced_or_deleted : (glyph : Option GlyphId) → IsFlagKeeper (replaced_
 flags-replaced_or_deleted None b = deleted_keeps_flags is_ignorable_item b
 flags-replaced_or_deleted (Some glyph) b = flags-items_mapped (shown_as glyph) (shown-mask glyph) b
 
-order-hidden : (face : FaceMeaning) → IsClusterKeeper (ignorables_hidden face)
-unfolding ignorables_hidden
-order-hidden face b monotone = elim (cases_Bool (hides_ignorables b)) [
-  | inl due ↦ rw due (order-replaced_or_deleted (if removes_ignorables b then None else unseen_glyph face b) b monotone)
-  | inr not_due ↦ rw not_due (KeepsOrder-same b)
-]
-
-flags-hidden : (face : FaceMeaning) → IsFlagKeeper (ignorables_hidden face)
-unfolding ignorables_hidden
-flags-hidden face b = elim (cases_Bool (hides_ignorables b)) [
-  | inl due ↦ rw due (flags-replaced_or_deleted (if removes_ignorables b then None else unseen_glyph face b) b)
-  | inr not_due ↦ rw not_due (KeepsFlags-same b)
-]
-
 -- ---- flags
 
 clusters-flagged : (flags : BufferFlags) (before : Option (ℕ × ℕ)) (items : List Item)
@@ -219,127 +247,72 @@ flags-flags b = elim (cases_Bool (has_glyph_flags b)) [
   | inr unseen ↦ rw unseen (KeepsFlags-same b)
 ]
 
--- ---- tables
+-- ---- clusters, and flags
 
-order-tables : (run : Run) → CallsKeepClusters run → IsClusterKeeper (table_positioned run.lookups run.decisions)
-order-tables run keeps = by_gpos run.decisions.apply_gpos refl
-  where
-    by_gpos : (gpos : Bool) → run.decisions.apply_gpos ≡ gpos
-        → IsClusterKeeper (if gpos then run.lookups.position
-        else step_if run.decisions.apply_kerx (run.lookups.aat_position run.decisions.kern_mask))
-    by_gpos true due = keeps.lookups.position due
-    by_gpos false not_due = order-step_due run.decisions.apply_kerx (keeps.lookups.aat_position not_due)
+order : Holds (λ b after. IsMonotoneLevel b.cluster_level → KeepsOrder b after)
+order = record {
+  same = λ b monotone. KeepsOrder-same b;
+  positions = order-positions_mapped;
+  selectors = order-replaced_by;
+  hiding = order-replaced_or_deleted;
+}
 
-flags-tables : (run : Run) → RunKeepsFlags run → IsFlagKeeper (table_positioned run.lookups run.decisions)
-flags-tables run keeps = by_gpos run.decisions.apply_gpos refl
-  where
-    by_gpos : (gpos : Bool) → run.decisions.apply_gpos ≡ gpos
-        → IsFlagKeeper (if gpos then run.lookups.position
-        else step_if run.decisions.apply_kerx (run.lookups.aat_position run.decisions.kern_mask))
-    by_gpos true due = keeps.lookups.position due
-    by_gpos false not_due = flags-step_due run.decisions.apply_kerx (keeps.lookups.aat_position not_due)
-
-order-zeroed_at : (time : ℕ) (run : Run) → IsClusterKeeper (zeroed_at time run.decisions run.constants run.hooks)
-order-zeroed_at time run =
-    order-step_if (run.decisions.zero_marks && (zero_width_time run.constants run.hooks == time))
-    (order-marks_zeroed run.decisions.adjust_mark_positioning_when_zeroing)
-
-flags-zeroed_at : (time : ℕ) (run : Run) → IsFlagKeeper (zeroed_at time run.decisions run.constants run.hooks)
-flags-zeroed_at time run =
-    flags-step_if (run.decisions.zero_marks && (zero_width_time run.constants run.hooks == time))
-    (flags-marks_zeroed run.decisions.adjust_mark_positioning_when_zeroing)
-
--- ---- the lists
-
-order-place_steps : (run : Run) → CallsKeepClusters run → EachStep IsClusterKeeper (place_steps run)
-order-place_steps run keeps = (
-  keeps.lookups.position_start,
-  (
-    order-zeroed_at 1 run,
-    (
-      order-tables run keeps,
-      (order-step_due run.decisions.apply_kern keeps.lookups.kern, (order-zeroed_at 2 run, tt)),
-    ),
-  ),
-)
-
-order-close_steps : (run : Run) → CallsKeepClusters run → EachStep IsClusterKeeper (close_steps run)
-order-close_steps run keeps = (
-  keeps.lookups.position_finish_advances,
-  (
-    order-ignorables_zeroed,
-    (order-step_due run.decisions.apply_morx keeps.lookups.aat_zero_width_deleted, (keeps.lookups.position_finish_offsets, tt)),
-  ),
-)
-
-order-show_steps : (run : Run) → CallsKeepClusters run → EachStep IsClusterKeeper (show_steps run)
-order-show_steps run keeps = (
-  order-step_due (run.decisions.apply_morx && not run.decisions.apply_gpos)
-      (λ both. keeps.lookups.aat_remove_deleted (and_parts run.decisions.apply_morx (not run.decisions.apply_gpos) both).0),
-  (
-    order-selectors,
-    (
-      order-hidden run.face,
-      (order-hook_if run.constants.has_postprocess_glyphs run.hooks (λ h. h.postprocess) (λ h is. (keeps.hooks h is).postprocess), tt),
-    ),
-  ),
-)
-
-flags-place_steps : (run : Run) → RunKeepsFlags run → EachStep IsFlagKeeper (place_steps run)
-flags-place_steps run keeps = (
-  keeps.lookups.position_start,
-  (
-    flags-zeroed_at 1 run,
-    (
-      flags-tables run keeps,
-      (flags-step_due run.decisions.apply_kern keeps.lookups.kern, (flags-zeroed_at 2 run, tt)),
-    ),
-  ),
-)
-
-flags-close_steps : (run : Run) → RunKeepsFlags run → EachStep IsFlagKeeper (close_steps run)
-flags-close_steps run keeps = (
-  keeps.lookups.position_finish_advances,
-  (
-    flags-ignorables_zeroed,
-    (flags-step_due run.decisions.apply_morx keeps.lookups.aat_zero_width_deleted, (keeps.lookups.position_finish_offsets, tt)),
-  ),
-)
-
-flags-show_steps : (run : Run) → RunKeepsFlags run → EachStep IsFlagKeeper (show_steps run)
-flags-show_steps run keeps = (
-  flags-step_due (run.decisions.apply_morx && not run.decisions.apply_gpos)
-      (λ both. keeps.lookups.aat_remove_deleted (and_parts run.decisions.apply_morx (not run.decisions.apply_gpos) both).0),
-  (
-    flags-selectors,
-    (
-      flags-hidden run.face,
-      (flags-hook_if run.constants.has_postprocess_glyphs run.hooks (λ h. h.postprocess) (λ h is. (keeps.hooks h is).postprocess), tt),
-    ),
-  ),
-)
+flags : Holds KeepsFlags
+flags = record {
+  same = KeepsFlags-same;
+  positions = flags-positions_mapped;
+  selectors = flags-replaced_by;
+  hiding = flags-replaced_or_deleted;
+}
 
 pub steps_keep_clusters : StepsKeepClusters
 steps_keep_clusters = record {
-  advances = λ run. (order-positions_mapped _, (order-advanced run.face, tt));
-  tables = λ run keeps. EachStep-append IsClusterKeeper (place_steps run) (close_steps run) (order-place_steps run keeps)
-      (order-close_steps run keeps);
+  advances = λ run. (order-positions_mapped _, (leads-advanced _ order run.face, tt));
+  tables = leads-table_steps _ order;
   turning = turns-turned;
-  showing = order-show_steps;
+  showing = leads-show_steps _ order;
   flags = order-flags;
 }
 
 pub steps_keep_flags : StepsKeepFlags
 steps_keep_flags = record {
-  advances = λ run. (flags-positions_mapped _, (flags-advanced run.face, tt));
-  tables = λ run keeps. EachStep-append IsFlagKeeper (place_steps run) (close_steps run) (flags-place_steps run keeps)
-      (flags-close_steps run keeps);
+  advances = λ run. (flags-positions_mapped _, (leads-advanced _ flags run.face, tt));
+  tables = leads-table_steps _ flags;
   finish = λ run keeps. (
     flags-turned,
     EachStep-append IsFlagKeeper (show_steps run) (plain_step flags_propagated ∷ [])
-        (flags-show_steps run keeps) (flags-flags, tt),
+        (leads-show_steps _ flags run keeps) (flags-flags, tt),
   );
 }
+
+-- ---- the number of positions
+
+as_many-advanced : (face : FaceMeaning) → KeepsAsMany (advanced face)
+unfolding advanced
+as_many-advanced face b as_many = as_many-positions_mapped (advanced_position face (is_horizontal b.direction)) b as_many
+
+as_many-marks_zeroed : (adjust : Bool) → KeepsAsMany (marks_zeroed adjust)
+unfolding marks_zeroed
+as_many-marks_zeroed adjust b as_many = as_many-positions_mapped (zeroed_mark (adjust && is_forward b.direction)) b as_many
+
+as_many-ignorables_zeroed : KeepsAsMany ignorables_zeroed
+unfolding ignorables_zeroed
+as_many-ignorables_zeroed b as_many = elim (cases_Bool (hides_ignorables b && not (removes_ignorables b))) [
+  | inl due ↦ rw due (as_many-positions_mapped zeroed_ignorable b as_many)
+  | inr not_due ↦ rw not_due as_many
+]
+
+as_many-replaced_by : (glyph : Option GlyphId) → KeepsAsMany (selectors_replaced_by glyph)
+as_many-replaced_by None b as_many = as_many
+as_many-replaced_by (Some glyph) b as_many =
+    length-positions_over not_found_position b.items b.positions as_many ∙ sym (length-map b.items (not_found_item glyph))
+
+as_many-selectors : KeepsAsMany selectors_replaced
+unfolding selectors_replaced
+as_many-selectors b as_many = elim (cases_Bool (has_selector_fallback b)) [
+  | inl seen ↦ rw seen (as_many-replaced_by b.not_found_variation_selector_glyph b as_many)
+  | inr none ↦ rw none as_many
+]
 
 pub steps_keep_count : StepsKeepCount
 steps_keep_count = record {
