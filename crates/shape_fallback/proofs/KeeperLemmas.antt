@@ -26,64 +26,62 @@ use Rattle.shape_fallback.specs.Steps.{spaces_step, marks_adjusted}
 use Rattle.shape_fallback.specs.declared.ot_shape_fallback.marks.Setting.{Setting}
 use Rattle.shape_items.proofs.Merging.KeyLemmas.{keys-unsafe_to_break, without_items-unsafe_to_break}
 
--- ---- what leaves clusters and settings alone
+-- ---- what leaves clusters, settings and flags alone
 
--- clusters, direction, flags and level are the same
-record LeavesOrder (before after : Buffer) : Type 0 where
+-- clusters, direction and level are the same, and flags are kept
+record Leaves (before after : Buffer) : Type 0 where
   same_clusters : clusters after.items ≡ clusters before.items
   direction : after.direction ≡ before.direction
-  flags : after.flags ≡ before.flags
   level : after.cluster_level ≡ before.cluster_level
+  kept : KeepsFlags before after
 
-KeepsOrder-left : (b c : Buffer) → LeavesOrder b c → KeepsOrder b c
+KeepsOrder-left : (b c : Buffer) → Leaves b c → KeepsOrder b c
 KeepsOrder-left b c left = record {
   clusters = KeepsClusters-equal (clusters b.items) (clusters c.items) left.same_clusters;
   direction = left.direction;
-  flags = left.flags;
+  flags = left.kept.flags;
   level = left.level;
 }
 
-LeavesOrder-same : (b : Buffer) → LeavesOrder b b
-LeavesOrder-same b = record { same_clusters = refl; direction = refl; flags = refl; level = refl }
+Leaves-same : (b : Buffer) → Leaves b b
+Leaves-same b = record { same_clusters = refl; direction = refl; level = refl; kept = KeepsFlags-same b }
 
-LeavesOrder-then : (b c d : Buffer) → LeavesOrder b c → LeavesOrder c d → LeavesOrder b d
-LeavesOrder-then b c d first second = record {
+Leaves-then : (b c d : Buffer) → Leaves b c → Leaves c d → Leaves b d
+Leaves-then b c d first second = record {
   same_clusters = second.same_clusters ∙ first.same_clusters;
   direction = second.direction ∙ first.direction;
-  flags = second.flags ∙ first.flags;
   level = second.level ∙ first.level;
+  kept = KeepsFlags-then b c d first.kept second.kept;
 }
 
 -- ---- the marks
 
-leaves-break : (start end : ℕ) (b : Buffer) → LeavesOrder b (unsafe_to_break start end b)
+leaves-break : (start end : ℕ) (b : Buffer) → Leaves b (unsafe_to_break start end b)
 leaves-break start end b =
     let rest = without_items-unsafe_to_break start end b in
     record {
       same_clusters = keys-unsafe_to_break (λ x. x.cluster) (λ x. refl) start end b;
       direction = ap (λ c. c.direction) rest;
-      flags = ap (λ c. c.flags) rest;
       level = ap (λ c. c.cluster_level) rest;
+      kept = unsafe_to_break_keeps start end b;
     }
 
-leaves-spans : (face : FaceMeaning) (s : Setting) (spans : List Span) (b : Buffer) → LeavesOrder b (fold (position_span face s) b spans)
+leaves-span : (face : FaceMeaning) (s : Setting) (b : Buffer) (span : Span) → Leaves b (position_span face s b span)
 unfolding position_span
-leaves-spans face s [] b = LeavesOrder-same b
-leaves-spans face s (span ∷ spans) b =
+leaves-span face s b span =
     let break = leaves-break span.start span.end b in
-    let left : LeavesOrder b (position_span face s b span) = record { same_clusters = break.same_clusters; direction = break.direction; flags = break.flags; level = break.level } in
-    LeavesOrder-then b (position_span face s b span) _ left (leaves-spans face s spans (position_span face s b span))
+    let kept = break.kept in
+    record {
+      same_clusters = break.same_clusters;
+      direction = break.direction;
+      level = break.level;
+      kept = record { flags = kept.flags; stays_set = kept.stays_set; none_new = kept.none_new };
+    }
 
-flags-span : (face : FaceMeaning) (s : Setting) (b : Buffer) (span : Span) → KeepsFlags b (position_span face s b span)
-unfolding position_span
-flags-span face s b span =
-    let kept = unsafe_to_break_keeps span.start span.end b in
-    record { flags = kept.flags; stays_set = kept.stays_set; none_new = kept.none_new }
-
-flags-spans : (face : FaceMeaning) (s : Setting) (spans : List Span) (b : Buffer) → KeepsFlags b (fold (position_span face s) b spans)
-flags-spans face s [] b = KeepsFlags-same b
-flags-spans face s (span ∷ spans) b =
-    KeepsFlags-then b (position_span face s b span) _ (flags-span face s b span) (flags-spans face s spans (position_span face s b span))
+leaves-spans : (face : FaceMeaning) (s : Setting) (spans : List Span) (b : Buffer) → Leaves b (fold (position_span face s) b spans)
+leaves-spans face s [] b = Leaves-same b
+leaves-spans face s (span ∷ spans) b =
+    Leaves-then b (position_span face s b span) _ (leaves-span face s b span) (leaves-spans face s spans (position_span face s b span))
 
 -- marking a span looks at no position
 break-without_positions : (start end : ℕ) (b : Buffer)
@@ -106,25 +104,27 @@ pub bases-marked : (face : FaceMeaning) (s : Setting) (b : Buffer)
 unfolding bases_positioned bases_marked
 bases-marked face s b = spans-marked face s (bases 0 (marks_of b)) b b refl
 
-pub marks-keep_clusters : (unicode : UnicodeMeaning) (face : FaceMeaning) (direction : Direction) (script : Option Script) (adjust : Bool)
-    → IsClusterKeeper (marks_positioned unicode face direction script adjust)
+leaves-marks : (unicode : UnicodeMeaning) (face : FaceMeaning) (direction : Direction) (script : Option Script) (adjust : Bool) (b : Buffer)
+    → Leaves b (marks_positioned unicode face direction script adjust b)
 unfolding marks_positioned bases_positioned
-marks-keep_clusters unicode face direction script adjust b monotone = KeepsOrder-left b _ (leaves-spans face _ (bases 0 (marks_of b)) b)
+leaves-marks unicode face direction script adjust b = leaves-spans face _ (bases 0 (marks_of b)) b
 
-pub marks-keep_flags : (unicode : UnicodeMeaning) (face : FaceMeaning) (direction : Direction) (script : Option Script) (adjust : Bool)
-    → IsFlagKeeper (marks_positioned unicode face direction script adjust)
-unfolding marks_positioned bases_positioned
-marks-keep_flags unicode face direction script adjust b = flags-spans face _ (bases 0 (marks_of b)) b
+leaves-adjusted : (unicode : UnicodeMeaning) (face : FaceMeaning) (direction : Direction) (script : Option Script)
+    (decisions : Decisions) (b : Buffer)
+    → Leaves b (marks_adjusted unicode face direction script decisions b)
+unfolding marks_adjusted
+leaves-adjusted unicode face direction script decisions b = leaves-marks unicode face direction script _ b
 
 -- ---- spaces move along their line alone
 
-pub spaces-keep_clusters : (face : FaceMeaning) → IsClusterKeeper (spaces_placed face)
+leaves-spaces : (face : FaceMeaning) (b : Buffer) → Leaves b (spaces_placed face b)
 unfolding spaces_placed positions_mapped
-spaces-keep_clusters face b monotone = KeepsOrder-left b _ (record { same_clusters = refl; direction = refl; flags = refl; level = refl })
-
-pub spaces-keep_flags : (face : FaceMeaning) → IsFlagKeeper (spaces_placed face)
-unfolding spaces_placed positions_mapped
-spaces-keep_flags face b = record { flags = refl; stays_set = λ e. e; none_new = λ flag d some. inl some }
+leaves-spaces face b = record {
+  same_clusters = refl;
+  direction = refl;
+  level = refl;
+  kept = record { flags = refl; stays_set = λ e. e; none_new = λ flag d some. inl some };
+}
 
 -- ---- ccc are neither clusters nor masks
 
@@ -147,60 +147,51 @@ recategorized-flags : (flag : ℕ) (xs : List Item) → some_has flag (map recat
 recategorized-flags flag [] = refl
 recategorized-flags flag (x ∷ xs) = rw (recategorized-flag flag x, recategorized-flags flag xs) refl
 
-pub recategorized-keeps_clusters : IsClusterKeeper recategorized
+leaves-recategorized : (b : Buffer) → Leaves b (recategorized b)
 unfolding items_mapped
-recategorized-keeps_clusters b monotone =
-    KeepsOrder-left b _ (record { same_clusters = recategorized-clusters b.items; direction = refl; flags = refl; level = refl })
+leaves-recategorized b = record {
+  same_clusters = recategorized-clusters b.items;
+  direction = refl;
+  level = refl;
+  kept = KeepsFlags-items b (map recategorized_item b.items) (λ flag d some. sym (recategorized-flags flag b.items) ∙ some);
+}
 
-pub recategorized-keeps_flags : IsFlagKeeper recategorized
-unfolding items_mapped
-recategorized-keeps_flags b =
-    KeepsFlags-items b (map recategorized_item b.items) (λ flag d some. sym (recategorized-flags flag b.items) ∙ some)
+-- ---- the steps, which may not be due
 
--- ---- steps that may not be due
+leaves-if : (test : Bool) (f : Buffer → Buffer) → ((b : Buffer) → Leaves b (f b)) → (b : Buffer) → Leaves b (step_if test f b)
+leaves-if true f leaves = leaves
+leaves-if false f leaves = Leaves-same
 
-IsClusterKeeper-if : (test : Bool) (f : Buffer → Buffer) → IsClusterKeeper f → IsClusterKeeper (step_if test f)
-IsClusterKeeper-if true f keeps = keeps
-IsClusterKeeper-if false f keeps = λ b monotone. KeepsOrder-left b b (LeavesOrder-same b)
-
-IsFlagKeeper-if : (test : Bool) (f : Buffer → Buffer) → IsFlagKeeper f → IsFlagKeeper (step_if test f)
-IsFlagKeeper-if true f keeps = keeps
-IsFlagKeeper-if false f keeps = λ b. KeepsFlags-same b
-
-spaces_step-keeps_clusters : (face : FaceMeaning) → IsClusterKeeper (spaces_step face)
+leaves-spaces_step : (face : FaceMeaning) (b : Buffer) → Leaves b (spaces_step face b)
 unfolding spaces_step
-spaces_step-keeps_clusters face b = IsClusterKeeper-if _ (spaces_placed face) (spaces-keep_clusters face) b
+leaves-spaces_step face b = leaves-if _ (spaces_placed face) (leaves-spaces face) b
 
-spaces_step-keeps_flags : (face : FaceMeaning) → IsFlagKeeper (spaces_step face)
-unfolding spaces_step
-spaces_step-keeps_flags face b = IsFlagKeeper-if _ (spaces_placed face) (spaces-keep_flags face) b
-
-marks_adjusted-keeps_clusters : (unicode : UnicodeMeaning) (face : FaceMeaning) (direction : Direction) (script : Option Script)
-    (decisions : Decisions)
-    → IsClusterKeeper (marks_adjusted unicode face direction script decisions)
-unfolding marks_adjusted
-marks_adjusted-keeps_clusters unicode face direction script decisions b = marks-keep_clusters unicode face direction script _ b
-
-marks_adjusted-keeps_flags : (unicode : UnicodeMeaning) (face : FaceMeaning) (direction : Direction) (script : Option Script)
-    (decisions : Decisions)
-    → IsFlagKeeper (marks_adjusted unicode face direction script decisions)
-unfolding marks_adjusted
-marks_adjusted-keeps_flags unicode face direction script decisions b = marks-keep_flags unicode face direction script _ b
+each_leaves : (unicode : UnicodeMeaning) (face : FaceMeaning) (direction : Direction) (script : Option Script) (decisions : Decisions)
+    → EachFallback (λ f. (b : Buffer) → Leaves b (f b)) unicode face direction script decisions
+each_leaves unicode face direction script decisions = record {
+  recategorize = leaves-if _ recategorized leaves-recategorized;
+  spaces = leaves-spaces_step face;
+  marks = leaves-if _ _ (leaves-adjusted unicode face direction script decisions);
+}
 
 pub fallback-keeps_clusters : (unicode : UnicodeMeaning) (face : FaceMeaning) (direction : Direction) (script : Option Script)
     (decisions : Decisions)
     → EachFallback IsClusterKeeper unicode face direction script decisions
-fallback-keeps_clusters unicode face direction script decisions = record {
-  recategorize = IsClusterKeeper-if _ recategorized recategorized-keeps_clusters;
-  spaces = spaces_step-keeps_clusters face;
-  marks = IsClusterKeeper-if _ _ (marks_adjusted-keeps_clusters unicode face direction script decisions);
-}
+fallback-keeps_clusters unicode face direction script decisions =
+    let each = each_leaves unicode face direction script decisions in
+    record {
+      recategorize = λ b monotone. KeepsOrder-left b _ (each.recategorize b);
+      spaces = λ b monotone. KeepsOrder-left b _ (each.spaces b);
+      marks = λ b monotone. KeepsOrder-left b _ (each.marks b);
+    }
 
 pub fallback-keeps_flags : (unicode : UnicodeMeaning) (face : FaceMeaning) (direction : Direction) (script : Option Script)
     (decisions : Decisions)
     → EachFallback IsFlagKeeper unicode face direction script decisions
-fallback-keeps_flags unicode face direction script decisions = record {
-  recategorize = IsFlagKeeper-if _ recategorized recategorized-keeps_flags;
-  spaces = spaces_step-keeps_flags face;
-  marks = IsFlagKeeper-if _ _ (marks_adjusted-keeps_flags unicode face direction script decisions);
-}
+fallback-keeps_flags unicode face direction script decisions =
+    let each = each_leaves unicode face direction script decisions in
+    record {
+      recategorize = λ b. (each.recategorize b).kept;
+      spaces = λ b. (each.spaces b).kept;
+      marks = λ b. (each.marks b).kept;
+    }
