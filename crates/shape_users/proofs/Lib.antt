@@ -4,6 +4,7 @@ mod LineLemmas
 mod ModifierLemmas
 mod ParagraphLemmas
 mod PlainLemmas
+mod PlainRows
 mod PointLemmas
 mod WordLemmas
 mod WordRows

@@ -7,5 +7,6 @@ pub mod PlainGlyphs
 pub mod Points
 pub mod WorkedArabic
 pub mod WorkedForms
+pub mod WorkedPlain
 pub mod Words
 pub mod WorkedWords
