@@ -8,5 +8,6 @@ pub mod Points
 pub mod WorkedArabic
 pub mod WorkedForms
 pub mod WorkedPlain
+pub mod WorkedPoints
 pub mod Words
 pub mod WorkedWords
