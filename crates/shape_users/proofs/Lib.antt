@@ -6,5 +6,6 @@ mod ParagraphLemmas
 mod PlainLemmas
 mod PlainRows
 mod PointLemmas
+mod ShownRows
 mod WordLemmas
 mod WordRows

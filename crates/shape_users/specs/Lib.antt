@@ -9,5 +9,6 @@ pub mod WorkedArabic
 pub mod WorkedForms
 pub mod WorkedPlain
 pub mod WorkedPoints
+pub mod WorkedShown
 pub mod Words
 pub mod WorkedWords
