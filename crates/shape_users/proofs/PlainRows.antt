@@ -3,7 +3,7 @@ use Rattle.std.proofs.Common.{◌≡◌, ◌∙◌, ◌⊎◌, ℕ, zero, suc, �
 use Rattle.std.specs.Prelude.{Contains}
 use Rattle.std.specs.List.Sorted.{IsNonDecreasing}
 use Rattle.std.specs.Str.{chars}
-use Rattle.shape_items.specs.Buffer.{Buffer, limit_of, new_buffer}
+use Rattle.shape_items.specs.Buffer.{Buffer, limit_of}
 use Rattle.shape_items.specs.Clusters.{clusters}
 use Rattle.shape_items.specs.Items.{Item, new_item}
 use Rattle.shape_buffer.specs.Outcome.{Step, run_steps}
@@ -13,7 +13,7 @@ use Rattle.shape_common.specs.declared.settings.GlyphId.{GlyphId}
 use Rattle.shape_lines.specs.WorkedCanCut.{in_clusters}
 use Rattle.shape_plan.specs.Rules.{has_glyph}
 use Rattle.shape_plan.specs.Run.{Run}
-use Rattle.shape_users.specs.PlainGlyphs.{AreOfText, HaveGlyphs, OneStep, NoStepPasses, SomeStepPasses, IsPlaceIn, IsTextOf}
+use Rattle.shape_users.specs.PlainGlyphs.{AreOfText, HaveGlyphs, OneStep, SomeStepPasses, IsPlaceIn, IsTextOf}
 use Rattle.shape_users.specs.WorkedPlain.{ClustersOfTexts, HasOneOfTwo, CharactersWithGlyphs, begun_text, HasSteps, FirstPasses, SecondPasses, StepsOfRuns, WhatIsLeft, euro_string, euro_text, PlacesOfStrings, TextsOfStrings, WorkedPlain}
 
 -- ---- clusters and characters

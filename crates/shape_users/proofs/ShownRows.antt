@@ -1,7 +1,7 @@
 -- The rows of glyphs and the text that they show.
-use Rattle.std.proofs.Common.{◌≡◌, ◌⊎◌, ℕ, zero, suc, ◌-◌, ◌<◌, ◌≤◌, List, [], ◌∷◌, length, inl, inr, refl, arith}
+use Rattle.std.proofs.Common.{◌≡◌, ◌⊎◌, ℕ, zero, suc, ◌-◌, ◌<◌, ◌≤◌, List, [], length, inl, inr, refl, arith}
 use Rattle.shape_items.specs.Items.{Item}
-use Rattle.shape_users.specs.Paragraph.{cluster_at, EndsIn, ShowsExactly, FirstToLast}
+use Rattle.shape_users.specs.Paragraph.{cluster_at, EndsIn, ShowsExactly}
 use Rattle.shape_users.specs.WorkedShown.{rising, falling, WorkedEnds, WorkedTextOfGlyphs, WorkedGlyphsOfText, WorkedShown}
 
 -- what holds of the first four places holds of each below four

@@ -1,15 +1,15 @@
 -- What a caller knows of glyphs and of a string's text, on cases that are worked out by hand: what each fact takes, and what it refuses.
-use Rattle.std.specs.Prelude.{◌≡◌, ◌⊎◌, ◌<◌, ◌≤◌, ◌++◌, ℕ, List, [], ◌∷◌, Option, Some, None, pos, Contains}
+use Rattle.std.specs.Prelude.{◌≡◌, ◌⊎◌, ◌<◌, ℕ, List, [], ◌∷◌, Option, Some, None, pos, Contains}
 use Rattle.std.specs.List.Sorted.{IsNonDecreasing}
 use Rattle.shape_items.specs.Buffer.{Buffer, limit_of, new_buffer}
 use Rattle.shape_items.specs.Clusters.{clusters}
-use Rattle.shape_items.specs.Items.{Item, new_item}
+use Rattle.shape_items.specs.Items.{new_item}
 use Rattle.shape_buffer.specs.Guess.{guessed}
 use Rattle.shape_buffer.specs.Outcome.{Step}
 use Rattle.shape_common.specs.Face.{FaceMeaning}
 use Rattle.shape_common.specs.Positions.{zero_position}
 use Rattle.shape_common.specs.declared.settings.BufferClusterLevel.TheVariants.{MonotoneGraphemes, Characters}
-use Rattle.shape_common.specs.declared.settings.Direction.TheVariants.{Invalid, RightToLeft}
+use Rattle.shape_common.specs.declared.settings.Direction.TheVariants.{RightToLeft}
 use Rattle.shape_common.specs.declared.settings.GlyphId.{GlyphId}
 use Rattle.shape_lines.specs.WorkedCanCut.{in_clusters}
 use Rattle.shape_pipeline.specs.Headline.{target_of}

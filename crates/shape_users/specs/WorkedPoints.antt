@@ -2,7 +2,7 @@
 use Rattle.std.specs.Prelude.{◌≡◌, ℕ, Bool, true, false, List, [], ◌∷◌, length, map, replicate, Option, Some, None, refl}
 use Rattle.shape_items.specs.Buffer.{Buffer, new_buffer}
 use Rattle.shape_items.specs.Clusters.{merge}
-use Rattle.shape_items.specs.Items.{Item, new_item}
+use Rattle.shape_items.specs.Items.{new_item}
 use Rattle.shape_common.specs.Positions.{zero_position}
 use Rattle.shape_common.specs.declared.settings.BufferClusterLevel.TheVariants.{Characters}
 use Rattle.shape_plan.specs.Reorder.{with_ccc}

@@ -1,5 +1,5 @@
 -- Where a text may be cut, and which glyphs show which part of it, on lists that are worked out by hand.
-use Rattle.std.specs.Prelude.{◌≡◌, ℕ, Bool, true, false, List, [], ◌∷◌, map, refl}
+use Rattle.std.specs.Prelude.{◌≡◌, true, false, List, [], ◌∷◌, map, refl}
 use Rattle.shape_items.specs.Items.{Item}
 use Rattle.shape_lines.specs.WorkedCanCut.{marked, in_clusters}
 use Rattle.shape_users.specs.Lines.{lacks_break, cut_at}
