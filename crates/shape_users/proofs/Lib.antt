@@ -4,6 +4,8 @@ mod LineLemmas
 mod ModifierLemmas
 mod ParagraphLemmas
 mod PlainLemmas
+mod PlainRows
 mod PointLemmas
+mod ShownRows
 mod WordLemmas
 mod WordRows

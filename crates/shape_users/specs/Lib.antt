@@ -7,5 +7,8 @@ pub mod PlainGlyphs
 pub mod Points
 pub mod WorkedArabic
 pub mod WorkedForms
+pub mod WorkedPlain
+pub mod WorkedPoints
+pub mod WorkedShown
 pub mod Words
 pub mod WorkedWords

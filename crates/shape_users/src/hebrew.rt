@@ -13,6 +13,7 @@ ghost use Rattle.shape_pipeline.specs.Order.{RunKeepsClusters};
 ghost use Rattle.shape_users.specs.Forms.{form_of};
 ghost use Rattle.shape_users.specs.WorkedForms.{WorkedForms};
 ghost use Rattle.shape_users.specs.Points.{points_reordered, points_reordered-reorders};
+ghost use Rattle.shape_users.specs.WorkedPoints.{WorkedPoints};
 
 #[cfg(test)]
 mod every_form;
@@ -142,4 +143,9 @@ pub fn hebrew_runs_keep<U: hb_unicode_funcs_t, F: hb_font_t, M: hb_ot_layout_t<F
 /// What letters and points make, on pairs worked out by hand.
 pub fn forms_meet_worked_cases()
     ensures { WorkedForms }
+{}
+
+/// Which points are reordered, where, and their clusters, on runs worked out by hand.
+pub fn points_meet_worked_cases()
+    ensures { WorkedPoints }
 {}

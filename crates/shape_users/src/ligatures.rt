@@ -10,6 +10,7 @@ ghost use Rattle.shape_plan.specs.declared.ot_shaper.shapers.hb_default_shaper_t
 ghost use Rattle.shape_pipeline.specs.Premises.{OwesNothing};
 ghost use Rattle.shape_users.specs.Ligatures.{ligature_masks, ligature_lookups};
 ghost use Rattle.shape_users.specs.Ligatures.{ligature_masks-lawful, ligature_lookups-lawful};
+ghost use Rattle.shape_users.specs.WorkedPoints.{WorkedLigatures};
 
 mod substitution;
 #[cfg(test)]
@@ -177,3 +178,8 @@ pub fn ligature_runs_owe_nothing<U: hb_unicode_funcs_t, F: hb_font_t>()
     ligatures_keep::<F>();
     runs_without_hooks_owe_nothing::<U, F, Ligatures, hb_default_shaper_t>();
 }
+
+/// What the stage substitutes, on glyphs worked out by hand.
+pub fn ligatures_meet_worked_cases()
+    ensures { WorkedLigatures }
+{}

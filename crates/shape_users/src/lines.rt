@@ -15,6 +15,7 @@ ghost use Rattle.shape_common.specs.Direction.{is_backward};
 ghost use Rattle.shape_items.specs.Flags.{HasOneSetOfFlags};
 ghost use Rattle.shape_items.specs.ClusterOrder.{IsOrderedFor};
 ghost use Rattle.shape_users.specs.Lines.{cut_at, lacks_break};
+ghost use Rattle.shape_users.specs.WorkedShown.{WorkedCuts};
 
 #[cfg(test)]
 mod tests;
@@ -43,3 +44,8 @@ fn first_lacks_break(glyphs: &[hb_glyph_info_t], cluster: u32) -> Option<bool>
         .find(|glyph| glyph.cluster == cluster)
         .map(|glyph| glyph.mask & UNSAFE_TO_BREAK == 0)
 }
+
+/// Which clusters a line may begin with, and which not, on glyphs worked out by hand.
+pub fn cuts_meet_worked_cases()
+    ensures { WorkedCuts }
+{}

@@ -8,6 +8,7 @@ ghost use Rattle.shape_items.specs.Clusters.{clusters};
 ghost use Rattle.shape_common.specs.Direction.{is_backward};
 ghost use Rattle.shape_items.specs.ClusterOrder.{IsOrderedFor};
 ghost use Rattle.shape_users.specs.Paragraph.{cluster_at, EndsIn, FirstToLast, ShowsExactly};
+ghost use Rattle.shape_users.specs.WorkedShown.{WorkedShown};
 
 #[cfg(test)]
 mod tests;
@@ -99,3 +100,8 @@ fn first_to_last(glyphs: &[hb_glyph_info_t], text: TextSpan) -> GlyphSpan
     }
     GlyphSpan { start, end }
 }
+
+/// Where spans of text end, which text glyphs show and which glyphs show a text, on lists worked out by hand.
+pub fn shown_text_meets_worked_cases()
+    ensures { WorkedShown }
+{}

@@ -31,6 +31,7 @@ ghost use Rattle.shape_pipeline.specs.Order.{grapheme_clusters};
 ghost use Rattle.shape_users.specs.PlainGlyphs.{AreOfText, HaveGlyphs, IsGivenBackEmpty};
 ghost use Rattle.shape_users.specs.PlainGlyphs.{NoStepPasses, SomeStepPasses};
 ghost use Rattle.shape_users.specs.PlainGlyphs.{IsTextOf, IsPlaceIn};
+ghost use Rattle.shape_users.specs.WorkedPlain.{WorkedPlain};
 
 pub mod by_shape;
 #[cfg(test)]
@@ -265,3 +266,8 @@ where
         Err(fault) => Err(fault),
     }
 }
+
+/// What these facts take and refuse, on glyphs, steps and strings worked out by hand.
+pub fn plain_facts_meet_worked_cases()
+    ensures { WorkedPlain }
+{}

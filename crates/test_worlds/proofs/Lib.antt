@@ -1,3 +1,6 @@
+mod FitRows
+mod OutcomeRows
+mod PartRows
 mod PromiseRows
 mod PremiseRows
 pub mod ReplaceLemmas

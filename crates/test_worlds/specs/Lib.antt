@@ -5,6 +5,9 @@ pub mod Reversing
 pub mod Swapping
 pub mod Worked
 pub mod WorkedClusters
+pub mod WorkedFits
+pub mod WorkedOutcomes
+pub mod WorkedParts
 pub mod WorkedPremises
 pub mod WorkedCharacters
 pub mod WorkedTexts

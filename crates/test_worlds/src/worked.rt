@@ -2,6 +2,9 @@
 ghost use Rattle.test_worlds.specs.Worked.{WorkedCases};
 ghost use Rattle.test_worlds.specs.WorkedCharacters.{WorkedCharacters};
 ghost use Rattle.test_worlds.specs.WorkedClusters.{WorkedPromises};
+ghost use Rattle.test_worlds.specs.WorkedFits.{WorkedFits};
+ghost use Rattle.test_worlds.specs.WorkedOutcomes.{WorkedOutcomes};
+ghost use Rattle.test_worlds.specs.WorkedParts.{WorkedParts};
 ghost use Rattle.test_worlds.specs.WorkedPremises.{WorkedPremises};
 ghost use Rattle.test_worlds.specs.WorkedResults.{WorkedResults};
 ghost use Rattle.test_worlds.specs.WorkedTexts.{WorkedTexts};
@@ -38,4 +41,21 @@ pub fn texts_meet_worked_cases()
 /// The clusters of a result in the order of the text, clusters by number, and scripts by their tags.
 pub fn results_meet_worked_cases()
     ensures { WorkedResults }
+{}
+
+/// Steps in order, those that pass a limit and those that don't, and what is known of runs that were made or
+/// refused.
+pub fn outcomes_meet_worked_cases()
+    ensures { WorkedOutcomes }
+{}
+
+/// First bytes of a string, requests of a plan, ranges and spans, words of items, flags that are seen, and forms
+/// for a direction.
+pub fn parts_meet_worked_cases()
+    ensures { WorkedParts }
+{}
+
+/// What holds of each plan's decisions, and which texts a plan fits.
+pub fn plans_meet_worked_cases()
+    ensures { WorkedFits }
 {}

@@ -1,0 +1,5 @@
+use Rattle.shape_users.proofs.PlainRows.{worked_plain}
+use Rattle.shape_users.proofs.plain_glyphs.plain_facts_meet_worked_cases.Goals as goal
+
+pub returns : goal.returns
+returns c = worked_plain
