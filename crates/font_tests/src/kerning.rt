@@ -14,16 +14,22 @@ use std::test::Fail;
 
 const KERN: hb_tag_t = hb_tag_t(0x6B65_726E);
 
+/// Puts a text after what a buffer has.
+fn append(buffer: &mut UnicodeBuffer, text: &str) -> Result<(), Fail> {
+    if 100 < text.len() {
+        return Err(Fail::from("too long a text"));
+    }
+    buffer.push_str(text)?;
+    Ok(())
+}
+
 /// A buffer with a text after what it has, which runs in a direction.
 fn filled(
     mut buffer: UnicodeBuffer,
     direction: Direction,
     text: &str,
 ) -> Result<UnicodeBuffer, Fail> {
-    if text.len() >= 0x1_0000_0000 {
-        return Err(Fail::from("too long a text"));
-    }
-    buffer.push_str(text)?;
+    append(&mut buffer, text)?;
     buffer.set_direction(direction);
     Ok(buffer)
 }
