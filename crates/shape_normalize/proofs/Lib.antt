@@ -5,3 +5,4 @@ pub mod RoundThree
 pub mod Normalized
 pub mod Places
 pub mod Form
+mod FormRows

@@ -14,3 +14,4 @@ pub mod WorkedOneWalk
 pub mod WorkedThree
 pub mod WorkedHooks
 pub mod WorkedOrigins
+pub mod WorkedForm

@@ -1,4 +1,5 @@
 //! The definitions of normalising, computed on small cases whose answers are worked out by hand.
+ghost use Rattle.shape_normalize.specs.WorkedForm.{FormWorked};
 ghost use Rattle.shape_normalize.specs.WorkedHooks.{HooksWorked};
 ghost use Rattle.shape_normalize.specs.WorkedOne.{RoundOneWorked};
 ghost use Rattle.shape_normalize.specs.WorkedOneWalk.{OneWalkWorked};
@@ -34,4 +35,10 @@ pub fn origins_meet_worked_cases()
 /// Whose ccc counts where hooks split, compose or reorder.
 pub fn hooks_meet_worked_cases()
     ensures { HooksWorked }
+{}
+
+/// What is promised of a normalised list: glyphs, hidden items, short runs, order and what composes; and what
+/// canonical form asks, and no more.
+pub fn form_meets_worked_cases()
+    ensures { FormWorked }
 {}

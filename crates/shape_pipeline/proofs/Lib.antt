@@ -5,3 +5,4 @@ mod PartLemmas
 mod PremiseLemmas
 mod RunLemmas
 mod WorkedOwedLemmas
+mod PassRows

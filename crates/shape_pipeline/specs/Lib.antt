@@ -5,6 +5,7 @@ pub mod Headline
 pub mod Canonical
 pub mod Planned
 pub mod Premises
+pub mod WorkedPasses
 pub mod WorkedRun
 pub mod WorkedBeginnings
 pub mod WorkedOwed

@@ -1,6 +1,7 @@
 //! The order of a run, laid beside the list of its parts, and what it begins and ends with, worked by hand.
 ghost use Rattle.shape_pipeline.specs.WorkedBeginnings.{WorkedBeginnings};
 ghost use Rattle.shape_pipeline.specs.WorkedOwed.{PausesAreAsked};
+ghost use Rattle.shape_pipeline.specs.WorkedPasses.{WorkedPasses};
 ghost use Rattle.shape_pipeline.specs.WorkedRun.{StepsComeInOrder};
 
 /// A run makes its steps in this order, from the first mask to the flags of glyphs. Does nothing.
@@ -13,4 +14,10 @@ pub fn steps_come_in_order()
 pub fn beginnings_meet_worked_cases()
     ensures beginnings { WorkedBeginnings }
     ensures pauses { PausesAreAsked }
+{}
+
+/// What is known of texts with an item and without, prepared, normalised and shaped, when each passes the limit,
+/// and what a shaper makes for the plan of a text. Does nothing.
+pub fn passes_meet_worked_cases()
+    ensures { WorkedPasses }
 {}
