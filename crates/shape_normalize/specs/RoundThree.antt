@@ -1,7 +1,7 @@
 -- Round three of normalising: marks are composed with their starters again (The Unicode Standard, D115 to D117).
-use Rattle.std.specs.Prelude.{◌≡◌, ℕ, suc, ◌+◌, ◌<◌, ◌==◌, ◌&&◌, not, nat_lt, nat_le, if◌then◌else◌, Bool, false, List, [], ◌∷◌, ◌++◌, map, drop, replicate, length, get_or, slice_index_or, Option, None}
+use Rattle.std.specs.Prelude.{ℕ, ◌≡◌, suc, ◌+◌, ◌==◌, ◌&&◌, not, nat_lt, nat_le, if◌then◌else◌, Bool, false, List, [], ◌∷◌, ◌++◌, map, drop, replicate, length, get_or, slice_get, Option, Some, None}
 use Rattle.std.specs.Option.{option_map}
-use Rattle.std.specs.List.{AllByRecursion, flat_map}
+use Rattle.std.specs.List.{flat_map}
 use Rattle.shape_items.specs.Items.{Item, ccc_of_item, is_mark_item}
 use Rattle.shape_common.specs.Positions.{zero_position}
 use Rattle.shape_items.specs.Buffer.{Buffer}
@@ -102,16 +102,13 @@ composed_char rules starter greatest next =
     then compose_with_glyph rules.compose (has_glyph rules.face.nominal_glyph) starter.codepoint next.codepoint
     else None
 
--- an item that is put out stands at its place
-abbrev pub IsInPlace : List Item → Placed → Type 0
-IsInPlace items p = (p.place < length items) × (slice_index_or items p.place p.item ≡ p.item)
-
 abbrev pub cluster_and_mask : Item → ℕ × ℕ
 cluster_and_mask item = (item.cluster, item.mask)
 
 -- what the walk makes of the items: each that is put out stands at its place, with the cluster and the mask that it had
 pub record AreComposedInPlace (rules : Rules) (old new : List Item) : Type 0 where
-  pub in_place : AllByRecursion (IsInPlace new) (recomposed_items rules old)
+  pub in_place : map (λ (p : Placed). slice_get new p.place) (recomposed_items rules old)
+      ≡ map (λ (p : Placed). Some p.item) (recomposed_items rules old)
   pub same : map cluster_and_mask new ≡ map cluster_and_mask old
 
 -- the first of these spans ends here

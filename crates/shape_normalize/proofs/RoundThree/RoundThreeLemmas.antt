@@ -10,10 +10,11 @@ use Rattle.shape_common.specs.declared.flags.ScratchFlags.{ScratchFlags}
 use Rattle.shape_items.proofs.MergingInOrder.EachSpanLemmas.{spans_merged_out_is, length-spans_merged_out}
 use Rattle.shape_normalize.specs.RoundOne.{seen_chars}
 use Rattle.shape_items.specs.Spans.{AreSpansInOrder, spans_merged_out}
-use Rattle.shape_normalize.specs.RoundThree.{Placed, recomposed_items, absorbed_spans, chained_spans, composed_chars, with_cluster_at, round_three, cluster_and_mask, IsInPlace, AreComposedInPlace, without_ends, ends_taken_out}
+use Rattle.shape_normalize.specs.RoundThree.{Placed, recomposed_items, absorbed_spans, chained_spans, composed_chars, with_cluster_at, round_three, cluster_and_mask, AreComposedInPlace, without_ends, ends_taken_out}
 use Rattle.shape_plan.specs.Rules.{Rules}
 use Rattle.shape_normalize.proofs.RoundThree.ChainedSpanLemmas.{chained_in_order, chained_merged}
 use Rattle.shape_normalize.proofs.RoundThree.MergedMarkLemmas.{marks-merged_out, bare, bare-merged_out}
+use Rattle.shape_normalize.proofs.RoundThree.RoundThreeWalkLemmas.{IsInPlace, each_in_place}
 use Rattle.shape_normalize.proofs.RoundThree.TakenOutLemmas.{left_in_place}
 
 -- ---- the spans are merged
@@ -101,7 +102,7 @@ module _ (rules : Rules) (old composed merged new : Buffer) (spans : List (ℕ �
   unfolding put_out
   left =
       ap (λ s. without_ends 0 s merged.items) spans_are ∙ left_in_place rules old.items merged.items size
-      ∙ settled_each composed.items spanned.items merged.items bares marks put_out items_are.in_place
+      ∙ settled_each composed.items spanned.items merged.items bares marks put_out (each_in_place composed.items put_out items_are.in_place)
 
   pub is_round_three : new ≡ round_three rules old
   unfolding put_out spanned changed

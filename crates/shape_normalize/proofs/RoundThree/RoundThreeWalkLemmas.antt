@@ -1,9 +1,10 @@
 -- The walk of round three: what it puts in place, step by step.
 use Rattle.std.proofs.Common.{◌≡◌, ◌≢◌, ℕ, suc, ◌+◌, ◌<◌, ◌≤◌, Bool, true, false, ◌&&◌, not, max, if◌then◌else◌, List, [], ◌∷◌, ◌++◌, length, map, get_or, set, drop, Option, None, Some, IsTrue, refl, sym, ap, ap₂, subst, ◌∙◌, add-one, append_assoc, append-nil, drop-cons, drop-set-lt, lt-length-set, get_or-set_other, get_or-set_same, eq-eqb, ne_eqb, arith}
 use Rattle.std.specs.Option.{option_map}
-use Rattle.std.specs.List.{AllByRecursion, flat_map}
+use Rattle.std.specs.List.{AllByRecursion, flat_map, slice_get}
 use Rattle.std.proofs.Math.Seq.{map-set_same}
 use Rattle.std.proofs.lemmas.List.{map-append, length-map, drop_all, drop_more, get_or_default}
+use Rattle.std.proofs.lemmas.Option.{slice_get-get_or, slice_get_within, get_or_from_slice_get}
 use Rattle.std.proofs.lemmas.Grind.{flat_map-append, drop_more_same}
 use Rattle.std.proofs.lemmas.List.Sums.{fold-append}
 use Rattle.shape_items.specs.Items.{Item, ccc_of_item, is_mark_item}
@@ -14,7 +15,7 @@ use Rattle.canonical_form.proofs.Lists.EveryLemmas.{append_all, push_all}
 use Rattle.canonical_form.proofs.Recomposing.BlockLemmas.{blocked_by_number, greatest_ccc-push}
 use Rattle.canonical_form.proofs.Recomposing.RecomposeLemmas.{recomposed_from-some, recomposed_from-starter, recomposed_from-mark}
 use Rattle.shape_normalize.specs.RoundOne.{part_item, seen_chars}
-use Rattle.shape_normalize.specs.RoundThree.{Absorbed, Placed, placed, ccc_of_placed, is_mark_placed, compose_placed, recomposed_items, spans_between, chained_spans, composed_chars, composed_char, cluster_and_mask, IsInPlace, AreComposedInPlace}
+use Rattle.shape_normalize.specs.RoundThree.{Absorbed, Placed, placed, ccc_of_placed, is_mark_placed, compose_placed, recomposed_items, spans_between, chained_spans, composed_chars, composed_char, cluster_and_mask, AreComposedInPlace}
 use Rattle.shape_plan.specs.Rules.{Rules, has_glyph}
 
 option_map-if : {A B : Type 0} (f : A → B) (t : Bool) (o : Option A)
@@ -26,8 +27,34 @@ pub some_items : (xs : List Item) (empty : Bool) → (xs ≡ [] → IsTrue empty
 some_items [] empty tells is = let yes : empty ≡ true = tells refl in absurd (cc)
 some_items (x ∷ xs) empty tells is = omega arith
 
-same_head : (x y : Item) (xs ys : List Item) → x ∷ xs ≡ y ∷ ys → x ≡ y
+same_head : {A : Type 0} (x y : A) (xs ys : List A) → x ∷ xs ≡ y ∷ ys → x ≡ y
 same_head x y xs ys same = cc
+
+same_tail : {A : Type 0} (x y : A) (xs ys : List A) → x ∷ xs ≡ y ∷ ys → xs ≡ ys
+same_tail x y xs ys same = cc
+
+-- ---- items in their places
+
+-- an item that is put out stands at its place
+abbrev pub IsInPlace : List Item → Placed → Type 0
+IsInPlace items p = (p.place < length items) × (get_or items p.place p.item ≡ p.item)
+
+all_in_place : (items : List Item) (out : List Placed) → AllByRecursion (IsInPlace items) out
+    → map (λ (p : Placed). slice_get items p.place) out ≡ map (λ (p : Placed). Some p.item) out
+all_in_place items [] each = refl
+all_in_place items (p ∷ out) each =
+    ap₂ ◌∷◌ (slice_get-get_or items p.place p.item each.0.0 ∙ ap Some each.0.1) (all_in_place items out each.1)
+
+pub each_in_place : (items : List Item) (out : List Placed)
+    → map (λ (p : Placed). slice_get items p.place) out ≡ map (λ (p : Placed). Some p.item) out → AllByRecursion (IsInPlace items) out
+each_in_place items [] same = tt
+each_in_place items (p ∷ out) same =
+    let there = map (λ (p : Placed). slice_get items p.place) out in
+    let own = map (λ (p : Placed). Some p.item) out in
+    let here : slice_get items p.place ≡ Some p.item = same_head (slice_get items p.place) (Some p.item) there own same in (
+      (slice_get_within items p.place p.item here, get_or_from_slice_get items p.place p.item p.item here),
+      each_in_place items out (same_tail (slice_get items p.place) (Some p.item) there own same),
+    )
 
 -- ---- lists that each item adds to
 
@@ -213,9 +240,9 @@ module _ (rules : Rules) where
 
     pub walked_items : AreComposedInPlace rules items now
     walked_items = record {
-      in_place = subst (AllByRecursion (IsInPlace now)) (sym all)
+      in_place = all_in_place now (recomposed_items rules items) (subst (AllByRecursion (IsInPlace now)) (sym all)
           (append_all (IsInPlace now) h.before (h.at ∷ h.marks) (before_in_place h.at.place now h.before h.before_at)
-          (h.at_in_place, before_in_place i now h.marks (between_before h.at.place i now h.marks h.marks_at)));
+          (h.at_in_place, before_in_place i now h.marks (between_before h.at.place i now h.marks h.marks_at))));
       same = h.same;
     }
 

@@ -170,7 +170,7 @@ module _ (rules : Rules) (n : ℕ) (ys : List Item) (size : length ys ≡ n) whe
       let unabsorbed : chained_spans ms ≡ [] = ap chained_spans (sym (append-nil ms)) ∙ chained-unabsorbed ms [] none in
       let past : drop k ys ≡ [] = drop_all k ys (omega (arith, size, from)) in (
         ap (λ l. without_ends s.place (spans_of s ++ l) (drop s.place ys)) unabsorbed
-        ∙ kept [] tt ∙ ap (λ l. there s ∷ map there ms ++ without_ends k [] l) past ∙ append-nil (there s ∷ map there ms),
+            ∙ kept [] tt ∙ ap (λ l. there s ∷ map there ms ++ without_ends k [] l) past ∙ append-nil (there s ∷ map there ms),
         subst (λ l. EndsAfter (suc s.place) (spans_of s ++ l)) (sym unabsorbed) (own_end_after s.place k s.absorbed [] absorbed tt),
       )
 
@@ -208,13 +208,13 @@ module _ (rules : Rules) (n : ℕ) (ys : List Item) (size : length ys ≡ n) whe
       let above : EndsAfter k (chained_spans out) = ends_after-lower k (suc c.place) (chained_spans out) (omega (arith, from.0)) others.1 in
       let spans_are : chained_spans (ms ++ out) ≡ chained_spans out = chained-unabsorbed ms out none in (
         ap (λ l. without_ends s.place (spans_of s ++ l) (drop s.place ys)) spans_are
-        ∙ kept (chained_spans out) above
-        ∙ ap (λ l. there s ∷ map there ms ++ l)
-        (ap (λ p. without_ends p (chained_spans out) (drop p ys)) (sym from.0) ∙ others.0)
-        ∙ ap (λ l. there s ∷ l) (sym (map-append there ms out)),
+            ∙ kept (chained_spans out) above
+            ∙ ap (λ l. there s ∷ map there ms ++ l)
+            (ap (λ p. without_ends p (chained_spans out) (drop p ys)) (sym from.0) ∙ others.0)
+            ∙ ap (λ l. there s ∷ l) (sym (map-append there ms out)),
         subst (λ l. EndsAfter (suc s.place) (spans_of s ++ l)) (sym spans_are)
-        (own_end_after s.place k s.absorbed (chained_spans out) absorbed
-        (ends_after-lower (suc s.place) (suc c.place) (chained_spans out) (omega (arith, from.0, behind)) others.1)),
+            (own_end_after s.place k s.absorbed (chained_spans out) absorbed
+            (ends_after-lower (suc s.place) (suc c.place) (chained_spans out) (omega (arith, from.0, behind)) others.1)),
       )
 
   left_passes : (s c : Placed) (ms rest out : List Placed) → AreLeft s (ms ++ c ∷ []) rest out → AreLeft s ms (c ∷ rest) out

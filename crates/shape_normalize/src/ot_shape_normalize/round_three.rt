@@ -6,12 +6,12 @@
 //! hook has turned them. So the greatest ccc since the starter decides, and not that of the last mark.
 //!
 //! A walk puts each composed character in its starter's place, and notes the span that ends with the mark. In most
-//! texts nothing composes, and nothing is written. Else the clusters of the spans are merged as all items still
+//! texts nothing composes, and nothing is written. Else the clusters of the spans are merged while all items still
 //! stand in the list, and then the marks are taken out of it in place: no list of items is made.
 ghost use Rattle.std.specs.Prelude.{◌≡◌, ◌<◌, ◌≤◌, [], length, set, take, drop, slice_index_or};
 ghost use Rattle.std.specs.Prelude.{IfOk, IsOkUnless, OnOk};
 ghost use Rattle.canonical_form.specs.Recompose.{compose_with_glyph};
-ghost use Rattle.shape_items.specs.Buffer.{cleared, limit_of};
+ghost use Rattle.shape_items.specs.Buffer.{cleared};
 ghost use Rattle.shape_items.specs.Items.{Item};
 ghost use Rattle.shape_items.specs.Spans.{AreSpansInOrder, spans_merged_out};
 ghost use Rattle.shape_items.specs.UnicodeProps.{with_scratch_of};
@@ -97,7 +97,7 @@ fn put_composed<U: hb_unicode_funcs_t, F: hb_font_t>(
     ensures { (item : Item) → item ≡ slice_index_or buffer.old.items starter item
         → buffer.new ≡ record buffer.old {
           items = set buffer.old.items starter
-            (part_item U.unicode (F.face face.now).nominal_glyph item c);
+              (part_item U.unicode (F.face face.now).nominal_glyph item c);
           scratch_flags = with_scratch_of U.unicode c buffer.old.scratch_flags;
         } }
 {
@@ -160,8 +160,7 @@ fn compose_in_place<T: ShapingTypes>(
 }
 
 /// Whether no item is in a smaller cluster than the first one.
-fn begins_least(infos: &[hb_glyph_info_t]) -> bool
-{
+fn begins_least(infos: &[hb_glyph_info_t]) -> bool {
     let Some(first) = infos.first() else {
         return true;
     };
@@ -169,6 +168,9 @@ fn begins_least(infos: &[hb_glyph_info_t]) -> bool
 }
 
 /// Merges the clusters of each span, in order.
+///
+/// A span that begins in its least cluster grows to the right alone, over items that no later one grows over
+/// again. So such spans are merged one by one, without a walk over the items beside them.
 fn merge_composed(buffer: &mut hb_buffer_t, spans: &[(usize, usize)])
     requires { AreSpansInOrder 0 (length buffer.old.items) spans.now }
     ensures { buffer.new ≡ spans_merged_out spans.now buffer.old }
@@ -234,7 +236,6 @@ pub(crate) fn recompose<T: ShapingTypes>(
     buffer: &mut hb_buffer_t,
     face: &T::Face,
 ) -> Result<(), ShapeError>
-    requires { length buffer.old.items ≤ limit_of buffer.old }
     ensures ok { OnOk result (buffer.new
         ≡ round_three (⟦<T as Meaning>⟧.rules plan.now face.now) buffer.old) }
     ensures memory { IsOkUnless result ShapeError.Memory }
