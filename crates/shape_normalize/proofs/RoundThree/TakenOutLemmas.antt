@@ -1,6 +1,6 @@
 -- Taking out the last item of each of many spans: what the walk keeps, and that it leaves the items at the places of what is put out.
-use Rattle.std.proofs.Common.{◌≡◌, ℕ, zero, suc, ◌+◌, ◌-◌, ◌<◌, ◌≤◌, ◌==◌, true, false, if◌then◌else◌, List, [], ◌∷◌, ◌++◌, length, map, get_or, take, drop, set, replicate, Option, Some, None, refl, sym, ap, ap₂, subst, ◌∙◌, arith, add-one, append_assoc, append-nil, drop-cons, drop-drop, drop-set-lt, eq-eqb, ne_eqb}
-use Rattle.std.specs.List.{AllByRecursion, slice_get}
+use Rattle.std.proofs.Common.{◌≡◌, ℕ, zero, suc, ◌+◌, ◌-◌, ◌<◌, ◌≤◌, ◌==◌, true, false, List, [], ◌∷◌, ◌++◌, length, map, get_or, take, drop, set, replicate, Some, None, refl, sym, ap, ap₂, subst, ◌∙◌, arith, add-one, append_assoc, append-nil, drop-cons, drop-drop, drop-set-lt, eq-eqb, ne_eqb}
+use Rattle.std.specs.List.{slice_get}
 use Rattle.std.proofs.lemmas.Bool.{cond-true, cond-false}
 use Rattle.std.proofs.lemmas.List.{map-append, length-set, drop_all, drop_more, get_or_default, take_more_set}
 use Rattle.shape_items.specs.Buffer.{Buffer}
@@ -113,13 +113,6 @@ module _ (spans : List (ℕ × ℕ)) (old : List Item) (place : ℕ) (now : List
             ∙ ap₂ (λ l r. l ++ rest r) (sym (take_more_set now kept x (omega (arith, lt, h.behind))))
             (sym (drop-set-lt (place + 1) now kept x (omega (arith, h.behind))));
       }
-
--- the whole list was walked over
-pub kept_all : (spans : List (ℕ × ℕ)) (old : List Item) (place : ℕ) (now : List Item) (kept taken : ℕ) → length now ≤ place
-    → AreKept spans old place now kept taken → without_ends 0 spans old ≡ take kept now
-kept_all spans old place now kept taken le h =
-    h.whole ∙ ap (λ l. take kept now ++ without_ends place (drop taken spans) l) (drop_all place now le)
-    ∙ append-nil (take kept now)
 
 -- ---- what is left of a list whose marks were composed
 

@@ -1,4 +1,4 @@
-use Rattle.std.proofs.Common.{◌≡◌, ap, ◌∙◌}
+use Rattle.std.proofs.Common.{ap, ◌∙◌}
 use Rattle.shape_items.specs.Spans.{spans_merged_out}
 use Rattle.shape_plan.specs.Rules.{rules_of}
 use Rattle.shape_normalize.specs.RoundThree.{ends_taken_out}

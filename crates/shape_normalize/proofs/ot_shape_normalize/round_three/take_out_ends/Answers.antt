@@ -1,7 +1,7 @@
 use Rattle.std.proofs.Common.{◌≡◌, ◌<◌, List, length, get_or, set, refl, ap, sym, ◌∙◌, arith}
 use Rattle.shape_items.specs.Buffer.{Buffer}
 use Rattle.shape_items.specs.Items.{Item}
-use Rattle.shape_normalize.proofs.RoundThree.TakenOutLemmas.{nothing_taken_out, AreKept-first, AreKept-taken, AreKept-put, kept_all}
+use Rattle.shape_normalize.proofs.RoundThree.TakenOutLemmas.{nothing_taken_out, AreKept-first, AreKept-taken, AreKept-put}
 use Rattle.shape_normalize.proofs.ot_shape_normalize.round_three.take_out_ends.Goals as goal
 use Rattle.shape_normalize.proofs.ot_shape_normalize.round_three.take_out_ends.Goals.{then-ends_next, else-ends_next}
 
