@@ -1,5 +1,5 @@
 -- Round three of normalising: marks are composed with their starters again (The Unicode Standard, D115 to D117).
-use Rattle.std.specs.Prelude.{ℕ, suc, ◌+◌, ◌&&◌, not, nat_lt, nat_le, if◌then◌else◌, Bool, List, [], ◌∷◌, ◌++◌, map, replicate, length, get_or, Option, None}
+use Rattle.std.specs.Prelude.{ℕ, ◌≡◌, suc, ◌+◌, ◌==◌, ◌&&◌, not, nat_lt, nat_le, if◌then◌else◌, Bool, false, List, [], ◌∷◌, ◌++◌, map, drop, replicate, length, get_or, slice_get, Option, Some, None}
 use Rattle.std.specs.Option.{option_map}
 use Rattle.std.specs.List.{flat_map}
 use Rattle.shape_items.specs.Items.{Item, ccc_of_item, is_mark_item}
@@ -8,7 +8,6 @@ use Rattle.shape_items.specs.Buffer.{Buffer}
 use Rattle.shape_items.specs.Spans.{spans_merged_out}
 use Rattle.canonical_form.specs.Recompose.{is_blocked, is_blocked_by_last, compose_with_glyph, recomposed}
 use Rattle.shape_plan.specs.Rules.{Rules, has_glyph}
-use Rattle.shape_normalize.specs.declared.ot_shape_normalize.round_three.PlacedInfo.{PlacedInfo}
 use Rattle.shape_normalize.specs.RoundOne.{part_item, seen_chars}
 
 -- a mark that was composed with a starter: the place where it stood, and the character that the two made
@@ -80,7 +79,7 @@ with_put_out rules b out =
 abbrev pub round_three : Rules → Buffer → Buffer
 round_three rules b = with_put_out rules b (recomposed_items rules b.items)
 
--- ---- the walk of the code, which keeps the spans and the flags beside what it puts out
+-- ---- the walk of the code, which puts composed characters in place and keeps the spans beside them
 
 -- a span from this place to the first of these marks, and from each of them to the next
 abbrev pub spans_between : ℕ → List Absorbed → List (ℕ × ℕ)
@@ -92,20 +91,40 @@ spans_between from (mark ∷ absorbed) = (from, mark.place + 1) ∷ spans_betwee
 abbrev pub chained_spans : List Placed → List (ℕ × ℕ)
 chained_spans out = flat_map (λ p. spans_between p.place p.absorbed) out
 
--- an item that was put out, with its place alone
-abbrev pub placed_info : Placed → PlacedInfo
-placed_info p = record { info = p.item; place = p.place }
-
 -- after marks of this greatest ccc, 0 where there are none, a mark of such a ccc is blocked from their starter
 abbrev pub is_blocked_behind : ℕ → ℕ → Bool
 is_blocked_behind greatest ccc = nat_lt 0 greatest && nat_le ccc greatest
 
 -- the character that a starter makes with an item after it and after marks of this greatest ccc, where the two compose
-abbrev pub composed_char : Rules → PlacedInfo → ℕ → PlacedInfo → Option ℕ
+abbrev pub composed_char : Rules → Item → ℕ → Item → Option ℕ
 composed_char rules starter greatest next =
-    if is_mark_item next.info && not (is_blocked_behind greatest (ccc_of_item next.info))
-    then compose_with_glyph rules.compose (has_glyph rules.face.nominal_glyph) starter.info.codepoint next.info.codepoint
+    if is_mark_item next && not (is_blocked_behind greatest (ccc_of_item next))
+    then compose_with_glyph rules.compose (has_glyph rules.face.nominal_glyph) starter.codepoint next.codepoint
     else None
 
-abbrev pub info_at_its_place : List Item → PlacedInfo → Item
-info_at_its_place items p = with_cluster_at items (record { item = p.info; place = p.place; absorbed = [] })
+abbrev pub cluster_and_mask : Item → ℕ × ℕ
+cluster_and_mask item = (item.cluster, item.mask)
+
+-- what the walk makes of the items: each that is put out stands at its place, with the cluster and the mask that it had
+pub record AreComposedInPlace (rules : Rules) (old new : List Item) : Type 0 where
+  pub in_place : map (λ (p : Placed). slice_get new p.place) (recomposed_items rules old)
+      ≡ map (λ (p : Placed). Some p.item) (recomposed_items rules old)
+  pub same : map cluster_and_mask new ≡ map cluster_and_mask old
+
+-- the first of these spans ends here
+abbrev pub ends_at : ℕ → List (ℕ × ℕ) → Bool
+ends_at end [] = false
+ends_at end (span ∷ spans) = span.1 == end
+
+-- the items from this place on without the last one of each of these spans, whose ends rise
+abbrev pub without_ends : ℕ → List (ℕ × ℕ) → List Item → List Item
+without_ends place spans [] = []
+without_ends place spans (item ∷ items) =
+    if ends_at (suc place) spans then without_ends (suc place) (drop 1 spans) items
+    else item ∷ without_ends (suc place) spans items
+
+-- the buffer without the last item of each of these spans, at positions of zeros
+abbrev pub ends_taken_out : List (ℕ × ℕ) → Buffer → Buffer
+ends_taken_out spans b =
+    let left = without_ends 0 spans b.items in
+    record b { items = left; positions = replicate (length left) zero_position }

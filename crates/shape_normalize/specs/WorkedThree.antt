@@ -4,9 +4,12 @@ use Rattle.shape_items.specs.Clusters.{merge}
 use Rattle.shape_items.specs.Items.{Item}
 use Rattle.shape_common.specs.declared.general_category.hb_unicode_general_category_t.TheVariants.{OtherSymbol}
 use Rattle.shape_common.specs.declared.settings.BufferClusterLevel.TheVariants.{Characters}
-use Rattle.shape_normalize.specs.RoundThree.{Placed, recomposed_items, recomposed_by_last, absorbed_spans, round_three}
+use Rattle.shape_normalize.specs.RoundThree.{Placed, recomposed_items, recomposed_by_last, absorbed_spans, chained_spans, round_three, AreComposedInPlace, ends_taken_out}
 use Rattle.shape_normalize.specs.Normalized.{normalized}
+use Rattle.shape_normalize.specs.RoundOne.{part_item}
 use Rattle.shape_normalize.specs.RoundTwo.{run_settled}
+use Rattle.shape_common.specs.Positions.{zero_position}
+use Rattle.shape_plan.specs.Rules.{Rules}
 use Rattle.shape_normalize.specs.WorkedWorld.{rules_in, item, buffer_of, at, marked}
 
 -- every character of the small world
@@ -149,11 +152,42 @@ merged_out_worked =
       seen_ignorable = refl;
     }
 
+-- U+0061 U+0323 U+0301, with U+00E1 composed into the first
+abbrev below_and_above : List Item
+below_and_above = item 0x61 0 ∷ item 0x323 1 ∷ item 0x301 2 ∷ []
+
+abbrev few_rules : Rules
+few_rules = rules_in 3 few_chars
+
+abbrev composed_first : Item
+composed_first = part_item few_rules.unicode few_rules.face.nominal_glyph (item 0x61 0) 0xE1
+
+-- the walk of the code: characters in place, spans, and what stays
+pub record InPlaceWorked : Type 0 where
+  pub composed : AreComposedInPlace few_rules below_and_above (composed_first ∷ item 0x323 1 ∷ item 0x301 2 ∷ [])
+  -- two marks of one letter, and one of the next
+  pub chained : chained_spans (recomposed_items (rules_in 3 all_chars) (
+      item 0x61 0 ∷ item 0x323 1 ∷ item 0x61 2 ∷ item 0x301 3 ∷ [])) ≡ (0, 2) ∷ (2, 4) ∷ []
+  pub taken_out : map at (ends_taken_out ((0, 2) ∷ (2, 4) ∷ []) (buffer_of (
+      item 0x61 0 ∷ item 0x323 1 ∷ item 0x62 2 ∷ item 0x301 3 ∷ item 0x63 4 ∷ []))).items ≡ (0x61, 0) ∷ (0x62, 2) ∷ (0x63, 4) ∷ []
+  pub positions : (ends_taken_out ((0, 3) ∷ []) (buffer_of below_and_above)).positions ≡ zero_position ∷ zero_position ∷ []
+  pub none : map at (ends_taken_out [] (buffer_of below_and_above)).items ≡ (0x61, 0) ∷ (0x323, 1) ∷ (0x301, 2) ∷ []
+
+in_place_worked : InPlaceWorked
+in_place_worked = record {
+  composed = record { in_place = refl; same = refl };
+  chained = refl;
+  taken_out = refl;
+  positions = refl;
+  none = refl;
+}
+
 pub record RoundThreeWorked : Type 0 where
   pub composed : ComposedWorked
   pub long_runs : LongRunsWorked
   pub items : ComposedItemWorked
   pub merged : MergedOutWorked
+  pub in_place : InPlaceWorked
 
 pub round_three_worked : RoundThreeWorked
 round_three_worked = record {
@@ -161,4 +195,5 @@ round_three_worked = record {
   long_runs = long_runs_worked;
   items = composed_item_worked;
   merged = merged_out_worked;
+  in_place = in_place_worked;
 }

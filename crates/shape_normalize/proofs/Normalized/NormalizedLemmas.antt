@@ -54,15 +54,6 @@ length-cgj_unhidden_where_seen b =
     sym (length-map (cgj_unhidden_where_seen b).items char_of) ∙ ap length (chars-cgj_unhidden_where_seen b) ∙ length-map b.items char_of
 
 module _ (rules : Rules) (lawful : LawfulReorder rules.reorder) where
-  -- ordering keeps the number of items
-  pub length-ordered : (b : Buffer) → length (ordered rules b).items ≡ length (round_one rules b).items
-  length-ordered b =
-      length-cgj_unhidden_where_seen (ordered_where rules (has_mark_past_first b.items) (round_one rules b)) ∙ by_test (has_mark_past_first b.items)
-    where
-      by_test : (test : Bool) → length (ordered_where rules test (round_one rules b)).items ≡ length (round_one rules b).items
-      by_test true = length-marks_ordered rules.reorder lawful (round_one rules b)
-      by_test false = refl
-
   -- the later rounds bring in no item
   pub length-normalized : (b : Buffer) → length (normalized rules b).items ≤ length (round_one rules b).items
   length-normalized b =

@@ -1,12 +1,12 @@
--- Normalising keeps the cluster level, and the limit, which the lists of its rounds stay within.
-use Rattle.std.proofs.Common.{◌≡◌, ◌≤◌, ◌==◌, Bool, true, false, [], if◌then◌else◌, length, bit_and, refl, ap, ◌∙◌, arith}
+-- Normalising keeps the cluster level and the limit.
+use Rattle.std.proofs.Common.{◌≡◌, ◌==◌, Bool, true, false, [], if◌then◌else◌, bit_and, refl, ap, ◌∙◌}
 use Rattle.shape_items.specs.Buffer.{Buffer, limit_of}
 use Rattle.shape_plan.specs.Rules.{Rules}
 use Rattle.shape_normalize.specs.RoundOne.{sequences, variation_sequences_from, round_one}
 use Rattle.shape_normalize.specs.RoundThree.{absorbed_spans, recomposed_items}
 use Rattle.shape_normalize.specs.RoundTwo.{marks_ordered, cgj_unhidden_where_seen, cgj_unhidden, has_mark_past_first}
 use Rattle.shape_normalize.specs.Normalized.{normalized, ordered}
-use Rattle.shape_normalize.proofs.Normalized.NormalizedLemmas.{length-ordered, kept_by_rounds}
+use Rattle.shape_normalize.proofs.Normalized.NormalizedLemmas.{kept_by_rounds}
 use Rattle.shape_normalize.proofs.Hooks.ReorderLemmas.{LawfulReorder}
 use Rattle.shape_items.proofs.MergingInOrder.EachSpanLemmas.{spans_merged_out_is, without_items-all_merged}
 use Rattle.shape_normalize.proofs.RoundTwo.SettleLemmas.{without_items-marks_ordered}
@@ -38,11 +38,6 @@ module _ (rules : Rules) (lawful : LawfulReorder rules.reorder) where
           ≡ (round_one rules b).length_limit
       by_test true = ap (λ (c : Buffer). c.length_limit) (without_items-marks_ordered rules.reorder lawful (round_one rules b))
       by_test false = refl
-
-  -- where the expanded list is within the limit, so is the ordered one, within its own
-  pub within_ordered : (b : Buffer) → length (round_one rules b).items ≤ limit_of b
-      → length (ordered rules b).items ≤ limit_of (ordered rules b)
-  within_ordered b within = rw (limit-ordered b) (omega (arith, length-ordered rules lawful b))
 
   pub limit_of-ordered : (b : Buffer) → limit_of (ordered rules b) ≡ limit_of b
   limit_of-ordered b = rw (limit-ordered b) refl

@@ -34,15 +34,15 @@ chained_then from k n (mark ∷ absorbed) spans le within h later =
     )
 
 -- nothing was composed with these
-abbrev AreUnabsorbed : List Placed → Type 0
+abbrev pub AreUnabsorbed : List Placed → Type 0
 AreUnabsorbed ms = AllByRecursion (λ (m : Placed). m.absorbed ≡ []) ms
 
-chained-unabsorbed : (ms out : List Placed) → AreUnabsorbed ms → chained_spans (ms ++ out) ≡ chained_spans out
+pub chained-unabsorbed : (ms out : List Placed) → AreUnabsorbed ms → chained_spans (ms ++ out) ≡ chained_spans out
 chained-unabsorbed [] out none = refl
 chained-unabsorbed (m ∷ ms) out none =
     ap (λ absorbed. spans_between m.place absorbed ++ chained_spans (ms ++ out)) none.0 ∙ chained-unabsorbed ms out none.1
 
-AreFrom-fit : (n k : ℕ) (rest : List Placed) → AreFrom n k rest → k ≤ n
+pub AreFrom-fit : (n k : ℕ) (rest : List Placed) → AreFrom n k rest → k ≤ n
 AreFrom-fit n k [] from = omega arith
 AreFrom-fit n k (p ∷ ps) from = let later = AreFrom-fit n (suc k) ps from.2 in omega arith
 
@@ -88,18 +88,11 @@ module _ (rules : Rules) (n : ℕ) where
             (push_all (λ (m : Placed). m.absorbed ≡ []) ms c unabsorbed from.1) from.2;
       })
 
-chained_in_order : (rules : Rules) (items : List Item) → AreSpansInOrder 0 (length items) (chained_spans (recomposed_items rules items))
+pub chained_in_order : (rules : Rules) (items : List Item) → AreSpansInOrder 0 (length items) (chained_spans (recomposed_items rules items))
 chained_in_order rules [] = tt
 chained_in_order rules (x ∷ items) =
     chained_after rules (suc (length items)) (item_at rules 0 x) [] (placed 1 items) 1 (omega arith) tt tt
     (AreFrom-placed (suc (length items)) 1 items (omega arith))
-
--- the spans of a walk over these items are in order
-pub walked_spans_in_order : (rules : Rules) (items infos : List Item) (spans : List (ℕ × ℕ)) → infos ≡ items
-    → spans ≡ chained_spans (recomposed_items rules infos) → AreSpansInOrder 0 (length items) spans
-walked_spans_in_order rules items infos spans infos_are spans_are =
-    subst (AreSpansInOrder 0 (length items)) (sym (spans_are ∙ ap (λ xs. chained_spans (recomposed_items rules xs)) infos_are))
-    (chained_in_order rules items)
 
 -- ---- merging them
 
@@ -136,21 +129,13 @@ all_chained n (p ∷ out) xs is h =
     ∙ sym (fold-append step xs chain (chained_spans out))
 
 -- the spans of the code do what those of the round do
-chained_merged : (rules : Rules) (b : Buffer)
+pub chained_merged : (rules : Rules) (b : Buffer)
     → spans_merged_out (chained_spans (recomposed_items rules b.items)) b
     ≡ spans_merged_out (absorbed_spans (recomposed_items rules b.items)) b
 chained_merged rules b =
     let out = recomposed_items rules b.items in
     spans_merged_out-equal (chained_spans out) (absorbed_spans out) b
     (sym (all_chained (length b.items) out b.items refl (recomposed_placed rules b.items).in_order))
-
--- the spans of a walk over the items of a buffer make of it what those of the round do
-pub walked_spans_merged : (rules : Rules) (old merged : Buffer) (infos : List Item) (spans : List (ℕ × ℕ)) → infos ≡ old.items
-    → spans ≡ chained_spans (recomposed_items rules infos) → merged ≡ spans_merged_out spans old
-    → merged ≡ spans_merged_out (absorbed_spans (recomposed_items rules old.items)) old
-walked_spans_merged rules old merged infos spans infos_are spans_are merged_is =
-    merged_is ∙ ap (λ s. spans_merged_out s old) (spans_are ∙ ap (λ xs. chained_spans (recomposed_items rules xs)) infos_are)
-    ∙ chained_merged rules old
 
 -- merging them keeps the order of clusters, and brings no new one
 pub recomposed_spans_keep : (rules : Rules) (b : Buffer)

@@ -5,17 +5,20 @@
 //! Standard, D115 to D117). Marks may stand out of order, in a run too long to be put in order or where a
 //! hook has turned them. So the greatest ccc since the starter decides, and not that of the last mark.
 //!
-//! In most texts nothing composes, and then no item is copied: a first walk asks, and the list stays as it
-//! is. Else a second walk puts out items and remembers what was composed; the clusters of each starter and
-//! the marks that went into it are merged afterwards, as they stand in the list.
-ghost use Rattle.std.specs.Prelude.{◌≡◌, ◌≤◌, map, length, IfOk, IsOkUnless, OnOk, IsTrue};
-ghost use Rattle.shape_items.specs.Buffer.{cleared, limit_of};
+//! A walk puts each composed character in its starter's place, and notes the span that ends with the mark. In most
+//! texts nothing composes, and nothing is written. Else the clusters of the spans are merged while all items still
+//! stand in the list, and then the marks are taken out of it in place: no list of items is made.
+ghost use Rattle.std.specs.Prelude.{◌≡◌, ◌<◌, ◌≤◌, [], length, set, take, drop, slice_index_or};
+ghost use Rattle.std.specs.Prelude.{IfOk, IsOkUnless, OnOk};
 ghost use Rattle.canonical_form.specs.Recompose.{compose_with_glyph};
+ghost use Rattle.shape_items.specs.Buffer.{cleared};
+ghost use Rattle.shape_items.specs.Items.{Item};
+ghost use Rattle.shape_items.specs.Spans.{AreSpansInOrder, spans_merged_out};
 ghost use Rattle.shape_items.specs.UnicodeProps.{with_scratch_of};
 ghost use Rattle.shape_normalize.specs.RoundOne.{part_item, seen_chars};
 ghost use Rattle.shape_normalize.specs.RoundThree.{recomposed_items, chained_spans, composed_chars};
-ghost use Rattle.shape_normalize.specs.RoundThree.{placed, placed_info};
-ghost use Rattle.shape_normalize.specs.RoundThree.{is_blocked_behind, composed_char, info_at_its_place};
+ghost use Rattle.shape_normalize.specs.RoundThree.{is_blocked_behind, composed_char};
+ghost use Rattle.shape_normalize.specs.RoundThree.{AreComposedInPlace, ends_at, ends_taken_out};
 ghost use Rattle.shape_normalize.specs.RoundThree.{round_three};
 ghost use Rattle.shape_plan.specs.Rules.{has_glyph};
 
@@ -25,26 +28,6 @@ use shape_buffer::interfaces::{hb_font_t, hb_ot_layout_t, hb_unicode_funcs_t};
 use shape_plan::ot_shaper::hb_ot_shaper_t;
 use shape_plan::shaping_types::{Meaning, PlanOf, ShapingTypes};
 use std::alloc::{AllocError, Global};
-
-/// An item that was put out, and the place where it stood.
-#[derive(Clone, Copy)]
-struct PlacedInfo {
-    info: hb_glyph_info_t,
-    place: usize,
-}
-
-/// What the walk leaves: the items that were put out, the spans of what was composed, and the scratch flags
-/// that the composed characters show.
-///
-/// A span goes from a starter to the first mark that was composed with it, or from each such mark to the
-/// next: merged in order they do what spans that all begin at the starter do, and their lengths stay linear
-/// where a starter takes many marks.
-#[derive(Drop)]
-struct Recomposed {
-    out: Vec<PlacedInfo>,
-    spans: Vec<(usize, usize)>,
-    scratch_flags: ScratchFlags,
-}
 
 /// What two characters compose to: the hook's where it is given and the plan keeps the shaper, else Unicode's.
 fn compose_of<T: ShapingTypes>(
@@ -88,165 +71,161 @@ fn is_blocked(greatest: u8, ccc: u8) -> bool
 fn composed_of<T: ShapingTypes>(
     plan: &PlanOf<'_, T>,
     face: &T::Face,
-    starter: &PlacedInfo,
+    starter: &hb_glyph_info_t,
     greatest: u8,
-    next: &PlacedInfo,
+    next: &hb_glyph_info_t,
 ) -> Option<char>
     ensures { result ≡ composed_char (⟦<T as Meaning>⟧.rules plan.now face.now)
         starter.now greatest next.now }
 {
-    let ccc = next.info._hb_glyph_info_get_modified_combining_class();
-    if next.info._hb_glyph_info_is_unicode_mark() && !is_blocked(greatest, ccc) {
-        compose_with_glyph_of::<T>(plan, face, starter.info.codepoint, next.info.codepoint)
+    let ccc = next._hb_glyph_info_get_modified_combining_class();
+    if next._hb_glyph_info_is_unicode_mark() && !is_blocked(greatest, ccc) {
+        compose_with_glyph_of::<T>(plan, face, starter.codepoint, next.codepoint)
     } else {
         None
     }
 }
 
-impl PlacedInfo {
-    /// The item with another character in its place.
-    fn with_char<U: hb_unicode_funcs_t, F: hb_font_t>(
-        &self,
-        face: &F,
-        c: char,
-        scratch_flags: &mut ScratchFlags,
-    ) -> Self
-        ensures item { result ≡ record self.now {
-          info = part_item U.unicode (F.face face.now).nominal_glyph self.now.info c;
+/// Puts a composed character in the place of its starter.
+fn put_composed<U: hb_unicode_funcs_t, F: hb_font_t>(
+    face: &F,
+    buffer: &mut hb_buffer_t,
+    starter: usize,
+    c: char,
+)
+    requires { starter < length buffer.old.items }
+    ensures { (item : Item) → item ≡ slice_index_or buffer.old.items starter item
+        → buffer.new ≡ record buffer.old {
+          items = set buffer.old.items starter
+              (part_item U.unicode (F.face face.now).nominal_glyph item c);
+          scratch_flags = with_scratch_of U.unicode c buffer.old.scratch_flags;
         } }
-        ensures flags { scratch_flags.new ≡ with_scratch_of U.unicode c scratch_flags.old }
-    {
-        PlacedInfo {
-            info: part_of::<U, F>(face, &self.info, c, scratch_flags),
-            place: self.place,
-        }
-    }
-
-    /// The item with the cluster and the mask that stand at its place.
-    fn at_its_place(&self, infos: &[hb_glyph_info_t]) -> hb_glyph_info_t
-        ensures { result ≡ info_at_its_place infos.now self.now }
-    {
-        let mut info = self.info;
-        if let Some(at) = infos.get(self.place) {
-            info.cluster = at.cluster;
-            info.mask = at.mask;
-        }
-        info
-    }
-}
-
-/// Whether nothing composes: each item is then put out as it stands. It stops at the first mark that
-/// composes.
-fn nothing_composes<T: ShapingTypes>(
-    plan: &PlanOf<'_, T>,
-    face: &T::Face,
-    infos: &[hb_glyph_info_t],
-) -> bool
-    ensures { IsTrue result → recomposed_items
-        (⟦<T as Meaning>⟧.rules plan.now face.now) infos.now ≡ placed 0 infos.now }
 {
-    let Some(first) = infos.first() else {
-        return true;
-    };
-    let mut starter = PlacedInfo {
-        info: *first,
-        place: 0,
-    };
-    let mut between = 0;
-    for place in 1..infos.len() {
-        let next = PlacedInfo {
-            info: infos[place],
-            place,
-        };
-        if composed_of::<T>(plan, face, &starter, between, &next).is_some() {
-            return false;
-        }
-        let ccc = next.info._hb_glyph_info_get_modified_combining_class();
-        if ccc == 0 {
-            starter = next;
-            between = 0;
-        } else {
-            between = between.max(ccc);
-        }
-    }
-    true
+    let mut scratch_flags = buffer.scratch_flags();
+    let item = part_of::<U, F>(face, &buffer.infos()[starter], c, &mut scratch_flags);
+    buffer.set_info(starter, item);
+    buffer.set_scratch_flags(scratch_flags);
 }
 
-/// Walks over the items: each mark that composes goes into its starter, and all else is put out.
-fn recompose_all<T: ShapingTypes>(
+/// Puts each composed character in the place of its starter, and gives the spans of what was composed; each
+/// ends with the mark that went into a starter, which still stands in its own place.
+///
+/// A span goes from a starter to the first mark that was composed with it, or from each such mark to the
+/// next: merged in order they do what spans that all begin at the starter do, and their lengths stay linear
+/// where a starter takes many marks.
+fn compose_in_place<T: ShapingTypes>(
     alloc: Global,
     plan: &PlanOf<'_, T>,
     face: &T::Face,
-    infos: &[hb_glyph_info_t],
-    scratch_flags: ScratchFlags,
-) -> Result<Recomposed, AllocError>
-    ensures out { IfOk result (λ r. r.out.items ≡ map placed_info (recomposed_items
-        (⟦<T as Meaning>⟧.rules plan.now face.now) infos.now)) }
-    ensures spans { IfOk result (λ r. r.spans.items ≡ chained_spans (recomposed_items
-        (⟦<T as Meaning>⟧.rules plan.now face.now) infos.now)) }
-    ensures flags { IfOk result (λ r. r.scratch_flags
-        ≡ seen_chars T.Unicode.unicode scratch_flags (composed_chars (recomposed_items
-        (⟦<T as Meaning>⟧.rules plan.now face.now) infos.now))) }
+    buffer: &mut hb_buffer_t,
+) -> Result<Vec<(usize, usize)>, AllocError>
+    ensures spans { IfOk result (λ spans. spans.items ≡ chained_spans (recomposed_items
+        (⟦<T as Meaning>⟧.rules plan.now face.now) buffer.old.items)) }
+    ensures items { OnOk result (AreComposedInPlace
+        (⟦<T as Meaning>⟧.rules plan.now face.now) buffer.old.items buffer.new.items) }
+    ensures flags { OnOk result (buffer.new.scratch_flags
+        ≡ seen_chars T.Unicode.unicode buffer.old.scratch_flags (composed_chars (recomposed_items
+        (⟦<T as Meaning>⟧.rules plan.now face.now) buffer.old.items))) }
+    ensures rest { buffer.new ≡ record buffer.old {
+      items = buffer.new.items;
+      scratch_flags = buffer.new.scratch_flags;
+    } }
 {
-    let mut walk = Recomposed {
-        out: Vec::with_capacity(alloc, infos.len())?,
-        spans: Vec::new(alloc),
-        scratch_flags,
-    };
-    let Some(first) = infos.first() else {
-        return Ok(walk);
-    };
-    walk.out.push(PlacedInfo {
-        info: *first,
-        place: 0,
-    })?;
+    let mut spans = Vec::new(alloc);
+    if buffer.is_empty() {
+        return Ok(spans);
+    }
     let mut starter = 0;
     let mut from = 0;
     let mut greatest = 0;
-    for place in 1..infos.len() {
-        let next = PlacedInfo {
-            info: infos[place],
-            place,
-        };
-        let at = walk.out[starter];
-        if let Some(c) = composed_of::<T>(plan, face, &at, greatest, &next) {
-            walk.spans.push((from, place + 1))?;
-            walk.out[starter] = at.with_char::<T::Unicode, T::Face>(
-                face,
-                c,
-                &mut walk.scratch_flags,
-            );
+    for place in 1..buffer.len() {
+        let infos = buffer.infos();
+        let next = &infos[place];
+        let ccc = next._hb_glyph_info_get_modified_combining_class();
+        if let Some(c) = composed_of::<T>(plan, face, &infos[starter], greatest, next) {
+            spans.push((from, place + 1))?;
+            put_composed::<T::Unicode, T::Face>(face, buffer, starter, c);
             from = place;
             continue;
         }
-        let ccc = next.info._hb_glyph_info_get_modified_combining_class();
         if ccc == 0 {
-            starter = walk.out.len();
+            starter = place;
             from = place;
             greatest = 0;
         } else {
             greatest = greatest.max(ccc);
         }
-        walk.out.push(next)?;
     }
-    Ok(walk)
+    Ok(spans)
 }
 
-/// The items that were put out, each with the cluster and the mask that stand at its place. Room for all of
-/// them is asked for at once: `collect` would go on where its first request is refused.
-fn all_at_their_places(
-    alloc: Global,
-    out: &[PlacedInfo],
-    infos: &[hb_glyph_info_t],
-) -> Result<Vec<hb_glyph_info_t>, AllocError>
-    ensures { IfOk result (λ placed_back. placed_back.items
-        ≡ map (info_at_its_place infos.now) out.now) }
+/// Whether no item is in a smaller cluster than the first one.
+fn begins_least(infos: &[hb_glyph_info_t]) -> bool {
+    let Some(first) = infos.first() else {
+        return true;
+    };
+    infos.iter().all(|info| first.cluster <= info.cluster)
+}
+
+/// Merges the clusters of each span, in order.
+///
+/// A span that begins in its least cluster grows to the right alone, over items that no later one grows over
+/// again. So such spans are merged one by one, without a walk over the items beside them.
+fn merge_composed(buffer: &mut hb_buffer_t, spans: &[(usize, usize)])
+    requires { AreSpansInOrder 0 (length buffer.old.items) spans.now }
+    ensures { buffer.new ≡ spans_merged_out spans.now buffer.old }
 {
-    let mut placed_back = Vec::with_capacity(alloc, out.len())?;
-    for placed in out {
-        placed_back.push(placed.at_its_place(infos))?;
+    let mut merged = 0;
+    while merged < spans.len() {
+        let (start, end) = spans[merged];
+        if !begins_least(&buffer.infos()[start..end]) {
+            break;
+        }
+        buffer.merge_out_clusters(start, end);
+        merged += 1;
     }
-    Ok(placed_back)
+    buffer.merge_spans_out(&spans[merged..]);
+}
+
+/// Whether the first of the spans that are left ends here.
+fn ends_next(spans: &[(usize, usize)], taken: usize, end: usize) -> bool
+    ensures { result ≡ ends_at end (drop taken spans.now) }
+{
+    taken < spans.len() && spans[taken].1 == end
+}
+
+/// Takes out the items from `len` on.
+fn cut(buffer: &mut hb_buffer_t, len: usize)
+    ensures { record buffer.new { positions = [] }
+        ≡ record buffer.old { items = take len buffer.old.items; positions = [] } }
+{
+    let mut last = buffer.len();
+    while len < last {
+        last -= 1;
+        buffer.remove(last);
+    }
+}
+
+/// Takes out the last item of each of these spans, and leaves the others at positions of zeros.
+fn take_out_ends(buffer: &mut hb_buffer_t, spans: &[(usize, usize)])
+    ensures { buffer.new ≡ ends_taken_out spans.now buffer.old }
+{
+    let Some((_, end)) = spans.first() else {
+        buffer.clear_positions();
+        return;
+    };
+    let mut kept = end.saturating_sub(1);
+    let mut taken = 0;
+    for place in kept..buffer.len() {
+        if ends_next(spans, taken, place + 1) {
+            taken += 1;
+        } else {
+            buffer.set_info(kept, buffer.infos()[place]);
+            kept += 1;
+        }
+    }
+    cut(buffer, kept);
+    buffer.clear_positions();
 }
 
 /// Composes marks with their starters. Refuses with `Memory` where a growth was refused; the settings that
@@ -257,20 +236,13 @@ pub(crate) fn recompose<T: ShapingTypes>(
     buffer: &mut hb_buffer_t,
     face: &T::Face,
 ) -> Result<(), ShapeError>
-    requires { length buffer.old.items ≤ limit_of buffer.old }
     ensures ok { OnOk result (buffer.new
         ≡ round_three (⟦<T as Meaning>⟧.rules plan.now face.now) buffer.old) }
     ensures memory { IsOkUnless result ShapeError.Memory }
     ensures settings { cleared buffer.new ≡ cleared buffer.old }
 {
-    if nothing_composes::<T>(plan, face, buffer.infos()) {
-        buffer.clear_positions();
-        return Ok(());
-    }
-    let recomposed = recompose_all::<T>(alloc, plan, face, buffer.infos(), buffer.scratch_flags())?;
-    buffer.merge_spans_out(&recomposed.spans);
-    let infos = all_at_their_places(alloc, &recomposed.out, buffer.infos())?;
-    buffer.replace_infos(infos)?;
-    buffer.set_scratch_flags(recomposed.scratch_flags);
+    let spans = compose_in_place::<T>(alloc, plan, face, buffer)?;
+    merge_composed(buffer, &spans);
+    take_out_ends(buffer, &spans);
     Ok(())
 }
