@@ -1,16 +1,17 @@
 -- Lemmas on the bases of a buffer.
-use Rattle.std.proofs.Common.{◌≡◌, ℕ, zero, suc, ◌+◌, ◌<◌, ◌≤◌, Bool, true, false, List, [], ◌∷◌, ◌++◌, length, get_or, drop, map, refl, ap, sym, ◌∙◌, arith, cond}
+use Rattle.std.proofs.Common.{◌≡◌, ℕ, zero, suc, ◌+◌, ◌<◌, ◌≤◌, Bool, true, false, List, [], ◌∷◌, ◌++◌, length, get_or, drop, map, refl, ap, sym, ◌∙◌, arith, cond, inl, inr}
 use Rattle.std.specs.Prelude.{fold}
 use Rattle.std.specs.List.{prefix_len}
 use Rattle.std.proofs.lemmas.List.{drop_all, length-map, drop-map, get_or_default}
 use Rattle.std.proofs.lemmas.List.Sums.{fold-append}
 use Rattle.std.proofs.Math.Seq.{drop-cons}
+use Rattle.std.proofs.lemmas.Bool.{cases_Bool, cases_lt}
 use Rattle.shape_items.specs.Items.{Item, is_mark_item, new_item}
 use Rattle.shape_items.specs.Buffer.{Buffer}
 use Rattle.shape_common.specs.Face.{FaceMeaning}
 use Rattle.shape_items.proofs.Merging.KeyLemmas.{keys-unsafe_to_break, without_items-unsafe_to_break}
 use Rattle.shape_fallback.specs.declared.ot_shape_fallback.marks.Setting.{Setting}
-use Rattle.shape_fallback.specs.Bases.{begins_with_mark, Span, marks_of, position_span, base_at, bases, with_marks, positioned_at}
+use Rattle.shape_fallback.specs.Bases.{begins_with_mark, Span, marks_of, marks_from, position_span, base_at, bases, with_marks, positioned_at}
 
 -- placing the marks of a span leaves which items are marks
 marks_of-span : (face : FaceMeaning) (s : Setting) (b : Buffer) (span : Span) → marks_of (position_span face s b span) ≡ marks_of b
@@ -149,3 +150,51 @@ at_unfollowed face s i b within first =
     let x : Item = get_or b.items i (new_item 0 0) in
     unfollowed face s i b x within (get_or_default b.items i (new_item 0 0) x within)
     (sym (none_by_first (drop (i + 1) b.items) first)) (is_mark_item x) refl
+
+-- the marks from a place on, counted over the items
+pub marks_from_items : (i : ℕ) (b : Buffer) → marks_from i b ≡ prefix_len is_mark_item (drop i b.items)
+marks_from_items i b = ap (prefix_len (λ mark. mark)) (drop-map is_mark_item i b.items) ∙ prefix_of_marks (drop i b.items)
+
+-- where some marks stand from a place on, the first is there, and the others from the next place on
+one_mark_less : (i : ℕ) (ms : List Bool) → 0 < prefix_len (λ mark. mark) (drop i ms)
+    → prefix_len (λ mark. mark) (drop i ms) ≡ 1 + prefix_len (λ mark. mark) (drop (i + 1) ms)
+one_mark_less zero [] some = absurd (omega (arith, some))
+one_mark_less zero (true ∷ ms) some = refl
+one_mark_less zero (false ∷ ms) some = absurd (omega (arith, some))
+one_mark_less (suc i) [] some = absurd (omega (arith, some))
+one_mark_less (suc i) (m ∷ ms) some =
+    let more : suc i + 1 ≡ suc (i + 1) = omega arith in
+    rw more (one_mark_less i ms some)
+
+pub marks_from_next : (i : ℕ) (b : Buffer) → 0 < marks_from i b → marks_from i b ≡ 1 + marks_from (i + 1) b
+marks_from_next i b some = one_mark_less i (marks_of b) some
+
+begins_by_count : (xs : List Item) → 0 < prefix_len is_mark_item xs → begins_with_mark xs ≡ true
+begins_by_count [] some = absurd (omega (arith, some))
+begins_by_count (x ∷ xs) some = elim (cases_Bool (is_mark_item x)) [
+  | inl mark ↦ mark
+  | inr other ↦ absurd (let none : prefix_len is_mark_item (x ∷ xs) ≡ 0 = rw other refl in omega (arith, none, some))
+]
+
+-- a place where a mark stands is no base
+pub at_counted : (face : FaceMeaning) (s : Setting) (i : ℕ) (b : Buffer) → i < length b.items → 0 < marks_from i b
+    → positioned_at face s i b ≡ b
+at_counted face s i b within some =
+    let x : Item = get_or b.items i (new_item 0 0) in
+    let read = get_or_default b.items i (new_item 0 0) x within in
+    let first = begins_by_count (drop i b.items) (omega (arith, marks_from_items i b, some)) in
+    let here : drop i b.items ≡ x ∷ drop (suc i) b.items = drop-cons b.items i x within ∙ ap (λ (y : Item). y ∷ drop (suc i) b.items) (sym read) in
+    at_mark face s i b x within read (sym (ap begins_with_mark here) ∙ first)
+
+-- every place visited but the last, which has nothing after it
+pub bases_last : (face : FaceMeaning) (s : Setting) (i : ℕ) (b : Buffer) → length b.items ≤ i + 1
+    → fold (position_span face s) b (bases i (drop i (marks_of b))) ≡ b
+bases_last face s i b over = elim (cases_lt i (length b.items)) [
+  | inl within ↦
+      let none : drop (i + 1) b.items ≡ [] = drop_all (i + 1) b.items over in
+      let last = at_unfollowed face s i b within (rw none refl) in
+      bases_step face s i b within
+      ∙ ap (λ (c : Buffer). fold (position_span face s) c (bases (i + 1) (drop (i + 1) (marks_of c)))) last
+      ∙ bases_end face s (i + 1) b over
+  | inr past ↦ bases_end face s i b past
+]

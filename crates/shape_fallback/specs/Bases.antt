@@ -50,6 +50,10 @@ begins_with_mark (item ∷ items) = is_mark_item item
 abbrev pub marks_of : Buffer → List Bool
 marks_of b = map is_mark_item b.items
 
+-- how many items from place i on are marks, up to the first that isn't
+abbrev pub marks_from : ℕ → Buffer → ℕ
+marks_from i b = prefix_len (λ mark. mark) (drop i (marks_of b))
+
 -- the buffer with the marks of the base at place i placed, if there is one with marks
 unfoldable pub positioned_at : FaceMeaning → Setting → ℕ → Buffer → Buffer
 positioned_at face s i b = fold (position_span face s) b (base_at i (drop i (marks_of b)))

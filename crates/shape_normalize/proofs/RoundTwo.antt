@@ -1,6 +1,7 @@
 -- Round two: runs of marks, the spans that their order moves, and each CGJ.
 pub mod RunsLemmas
 pub mod SpanLemmas
+pub mod GreatestLemmas
 pub mod RunMarkLemmas
 pub mod InOrderLemmas
 pub mod RunWalkLemmas

@@ -1,4 +1,5 @@
 mod StepLemmas
+mod FlagWalkLemmas
 mod KeeperLemmas
 mod DeletionLemmas
 mod CountLemmas

@@ -5,6 +5,7 @@ pub mod Tables
 pub mod Ignorables
 pub mod Selectors
 pub mod Turning
+pub mod FlagWalk
 pub mod Steps
 pub mod Kept
 pub mod Keepers

@@ -8,7 +8,8 @@ ghost use Rattle.std.specs.List.{prefix_len};
 ghost use Rattle.std.specs.Int.RustNames.{bit_and};
 ghost use Rattle.shape_items.specs.Flags.{first_united, handed_flags as handed_flags_of};
 ghost use Rattle.shape_items.specs.Flags.{with_tatweel as with_tatweel_of};
-ghost use Rattle.shape_items.specs.Flags.{mask_after as mask_after_of, flags_propagated};
+ghost use Rattle.shape_items.specs.Flags.{flags_propagated};
+ghost use Rattle.shape_position.specs.FlagWalk.{passed_by, passed_run};
 ghost use Rattle.shape_common.specs.FlagNames.{PRODUCE_UNSAFE_TO_CONCAT, UNSAFE_TO_CONCAT};
 ghost use Rattle.shape_items.specs.Flags.{HasOneSetOfFlags};
 ghost use Rattle.shape_items.specs.KeepsFlags.{some_has};
@@ -29,13 +30,20 @@ fn is_alone(infos: &[hb_glyph_info_t], cluster: u32) -> bool
     infos.len() > 1 && infos[0].cluster == cluster && infos[1].cluster != cluster
 }
 
+/// How many items at the beginning have the cluster.
+fn count_in(infos: &[hb_glyph_info_t], cluster: u32) -> usize
+    ensures { result ≡ prefix_len (has_cluster cluster) infos.now }
+{
+    infos
+        .iter()
+        .take_while(|info| info.cluster == cluster)
+        .count()
+}
+
 /// The defined flags of the first items, as long as they are in the cluster, united.
 fn united_flags(infos: &[hb_glyph_info_t], cluster: u32) -> hb_mask_t
     ensures { result ≡ first_united cluster infos.now }
 {
-    if is_alone(infos, cluster) {
-        return infos[0].mask & DEFINED;
-    }
     infos
         .iter()
         .take_while(|info| info.cluster == cluster)
@@ -70,19 +78,41 @@ fn handed_flags(flags: BufferFlags, united: hb_mask_t) -> hb_mask_t
     }
 }
 
-/// The mask of an item, the first of these, after one of this cluster and mask.
-fn mask_after(
-    flags: BufferFlags,
-    before: Option<(u32, hb_mask_t)>,
-    info: &hb_glyph_info_t,
-    infos: &[hb_glyph_info_t],
-) -> hb_mask_t
-    ensures { result ≡ mask_after_of flags before info.now infos.now }
+/// What the walk over the items hands on: the mask that an item got, and how many of those behind it get it, too.
+#[derive(Clone, Copy, Debug)]
+pub struct Passed {
+    pub mask: hb_mask_t,
+    pub left: usize,
+}
+
+/// What the first items hand on, where they are in the cluster. A call of its own: most clusters have one item.
+#[inline(never)]
+fn pass_run(flags: BufferFlags, infos: &[hb_glyph_info_t], cluster: u32) -> Passed
+    ensures { result ≡ passed_run flags cluster infos.now }
 {
-    match before {
-        Some((cluster, mask)) if info.cluster == cluster => mask,
-        _ => handed_flags(flags, united_flags(infos, info.cluster)),
+    Passed {
+        mask: handed_flags(flags, united_flags(infos, cluster)),
+        left: count_in(infos, cluster).saturating_sub(1),
     }
+}
+
+/// What the first of these items gets, which is of the cluster, and how many behind it.
+fn pass(flags: BufferFlags, before: Passed, infos: &[hb_glyph_info_t], cluster: u32) -> Passed
+    ensures { result ≡ passed_by flags before cluster infos.now }
+{
+    if before.left > 0 {
+        return Passed {
+            left: before.left - 1,
+            ..before
+        };
+    }
+    if is_alone(infos, cluster) {
+        return Passed {
+            mask: handed_flags(flags, infos[0].mask & DEFINED),
+            left: 0,
+        };
+    }
+    pass_run(flags, infos, cluster)
 }
 
 /// Gives the items of each cluster the flags of all, where the run has seen flags.
@@ -96,12 +126,11 @@ fn share_flags(buffer: &mut hb_buffer_t)
         return;
     }
     let flags = buffer.flags();
-    let mut before = None;
+    let mut passed = Passed { mask: 0, left: 0 };
     for i in 0..buffer.len() {
         let mut info = buffer.infos()[i];
-        let mask = mask_after(flags, before, &info, &buffer.infos()[i..]);
-        before = Some((info.cluster, mask));
-        info.mask = mask;
+        passed = pass(flags, passed, &buffer.infos()[i..], info.cluster);
+        info.mask = passed.mask;
         buffer.set_info(i, info);
     }
 }

@@ -4,9 +4,11 @@
 //! positions once tables have placed the glyphs, and then take the look of a space; where there is no such
 //! glyph, or their removal is asked for, they are deleted. One that a lookup has put a glyph in for is
 //! meant to be seen and stays (The Unicode Standard, section 5.21).
-ghost use Rattle.std.specs.Prelude.{◌≡◌};
+ghost use Rattle.std.specs.Prelude.{◌≡◌, ◌<◌, length, slice_index_or, slice_set};
 ghost use Rattle.shape_buffer.specs.Outcome.{Made};
-ghost use Rattle.shape_items.specs.Items.{is_ignorable_item};
+ghost use Rattle.shape_buffer.specs.PositionWalks.{positions_mapped};
+ghost use Rattle.shape_common.specs.declared.positions.GlyphPosition.{GlyphPosition as Position};
+ghost use Rattle.shape_items.specs.Items.{Item, is_ignorable_item};
 ghost use Rattle.shape_position.specs.Ignorables.{hides_ignorables as hides_ignorables_of};
 ghost use Rattle.shape_position.specs.Ignorables.{removes_ignorables as removes_ignorables_of};
 ghost use Rattle.shape_position.specs.Ignorables.{without_values as without_values_of};
@@ -20,7 +22,6 @@ use shape_buffer::buffer::{
     BufferFlags, GlyphId, GlyphPosition, ScratchFlags, hb_buffer_t, hb_glyph_info_t,
 };
 use shape_buffer::interfaces::hb_font_t;
-use shape_buffer::position_walks::update_positions;
 use shape_buffer::walks::update_items;
 
 /// Whether default ignorables are hidden: the run has seen some, and the flags don't preserve them.
@@ -57,14 +58,30 @@ pub(crate) fn without_values(position: GlyphPosition) -> GlyphPosition
     }
 }
 
-/// The position of a glyph, with values 0 where it stands for a default ignorable.
-fn zero_ignorable(info: &hb_glyph_info_t, position: GlyphPosition) -> GlyphPosition
-    ensures { result ≡ zeroed_ignorable info.now position }
+/// Sets the four values of the position at a place to 0 where its glyph stands for a default ignorable. No other is
+/// written.
+fn zero_ignorable_at(buffer: &mut hb_buffer_t, place: usize)
+    requires { place < length buffer.old.items }
+    ensures { (x : Item) (p : Position) → x ≡ slice_index_or buffer.old.items place x
+        → p ≡ slice_index_or buffer.old.positions place p
+        → buffer.new ≡ record buffer.old {
+          positions = slice_set buffer.old.positions place (zeroed_ignorable x p);
+        } }
 {
-    if info._hb_glyph_info_is_default_ignorable() {
-        without_values(position)
-    } else {
-        position
+    let info = &buffer.infos()[place];
+    if !info._hb_glyph_info_is_default_ignorable() {
+        return;
+    }
+    let position = buffer.positions()[place];
+    buffer.set_position(place, without_values(position));
+}
+
+/// Sets the four values of default ignorables to 0.
+fn zero_ignorables(buffer: &mut hb_buffer_t)
+    ensures { Made (positions_mapped zeroed_ignorable) buffer.old buffer.new }
+{
+    for i in 0..buffer.len() {
+        zero_ignorable_at(buffer, i);
     }
 }
 
@@ -77,7 +94,7 @@ pub fn zero_width_default_ignorables(buffer: &mut hb_buffer_t)
     if !hides_ignorables(buffer) || removes_ignorables(buffer) {
         return;
     }
-    update_positions(buffer, |info, position| zero_ignorable(info, position));
+    zero_ignorables(buffer);
 }
 
 /// What is seen of default ignorables: the buffer's invisible glyph, else the glyph of U+0020.

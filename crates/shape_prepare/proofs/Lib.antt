@@ -1,3 +1,4 @@
 mod Spans
 pub mod Keeping
 mod StepLemmas
+mod GraphemeLemmas

@@ -71,6 +71,10 @@ is_to_next unicode before item =
     && not (is_passed item.properties.general_category) then Zwj
     else Plain
 
+-- no rule has a say: the item continues already, as a mark does, and is no ZWJ
+abbrev pub is_settled : Item → Bool
+is_settled item = item.properties.continuation && not item.properties.zwj
+
 abbrev pub with_continuation : Bool → Item → Item
 with_continuation continuation item = record item { properties = record item.properties { continuation = continuation } }
 

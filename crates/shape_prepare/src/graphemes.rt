@@ -12,6 +12,7 @@ ghost use Rattle.shape_buffer.specs.Outcome.{Made};
 ghost use Rattle.shape_prepare.specs.Graphemes.{graphemes_marked, with_continuation, continues};
 ghost use Rattle.shape_prepare.specs.Graphemes.{continues_by_rule as continues_by_rule_of};
 ghost use Rattle.shape_prepare.specs.Graphemes.{is_to_next, is_joined as is_joined_of};
+ghost use Rattle.shape_prepare.specs.Graphemes.{is_settled as is_settled_of};
 ghost use Rattle.shape_prepare.specs.Graphemes.{is_passed as is_passed_of};
 ghost use Rattle.shape_prepare.specs.Graphemes.{is_modifier_symbol as is_modifier_symbol_of};
 ghost use Rattle.shape_prepare.specs.Graphemes.{is_skin_tone as is_skin_tone_of};
@@ -69,11 +70,21 @@ fn mark_item<U: hb_unicode_funcs_t>(
     mark_continuation::<U>(before, info)
 }
 
+/// Whether no rule has to be asked about an item: it continues already, as a mark does, and is no ZWJ.
+fn is_settled(info: &hb_glyph_info_t) -> bool
+    ensures { result ≡ is_settled_of info.now }
+{
+    info._hb_glyph_info_get_continuation() && !info._hb_glyph_info_get_zwj()
+}
+
 /// Marks an item as a continuation if it is one, and says what it is to the next one.
 fn mark_continuation<U: hb_unicode_funcs_t>(before: Before, info: &mut hb_glyph_info_t) -> Before
     ensures item { info.new ≡ with_continuation (continues U.unicode before info.old) info.old }
     ensures next { result ≡ is_to_next U.unicode before info.old }
 {
+    if is_settled(info) {
+        return Before::Plain;
+    }
     let joined = is_joined::<U>(before, info.codepoint);
     let joins = info._hb_glyph_info_get_zwj()
         && !joined

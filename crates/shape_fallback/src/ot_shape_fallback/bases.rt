@@ -1,13 +1,14 @@
 //! All bases of a buffer, each with its marks.
 //!
-//! One walk finds the items that aren't marks and have a mark directly after them, and counts these. The
-//! span is marked unsafe to break, since it can't be shaped in parts, and its marks are placed.
-ghost use Rattle.std.specs.Prelude.{◌≡◌, ◌+◌, ◌<◌, ◌≤◌, length, drop};
+//! One walk finds the marks, and looks at the item before each first one: where it is no mark it is a base, and
+//! its marks are counted. The span is marked unsafe to break, since it can't be shaped in parts, and its marks
+//! are placed.
+ghost use Rattle.std.specs.Prelude.{◌≡◌, ◌+◌, ◌-◌, ◌<◌, ◌≤◌, length, drop};
 ghost use Rattle.std.specs.List.{prefix_len};
 ghost use Rattle.shape_items.specs.Items.{is_mark_item};
 ghost use Rattle.shape_buffer.specs.Outcome.{Made};
 ghost use Rattle.shape_fallback.specs.Bases.{bases_positioned, position_span as position_span_of};
-ghost use Rattle.shape_fallback.specs.Bases.{positioned_at, begins_with_mark};
+ghost use Rattle.shape_fallback.specs.Bases.{positioned_at, begins_with_mark, marks_from};
 
 use crate::ot_shape_fallback::marks::{
     Setting, first_state, make_base, place_marks_of_base, zero_marks,
@@ -52,34 +53,69 @@ fn marks_at_start(infos: &[hb_glyph_info_t]) -> usize
         .count()
 }
 
-/// Whether a mark stands at a place.
-fn has_mark_at(infos: &[hb_glyph_info_t], i: usize) -> bool
+/// Whether the item at a place is a mark.
+fn is_mark_at(infos: &[hb_glyph_info_t], i: usize) -> bool
+    requires { i < length infos.now }
     ensures { result ≡ begins_with_mark (drop i infos.now) }
 {
-    i < infos.len() && infos[i]._hb_glyph_info_is_unicode_mark()
+    infos[i]._hb_glyph_info_is_unicode_mark()
 }
 
-/// Places the marks of the base at a place, if there is one with marks. Where no mark follows nothing else is
-/// asked.
-fn position_at<F: hb_font_t>(face: &F, setting: Setting, buffer: &mut hb_buffer_t, i: usize)
+/// Places the marks of the base at a place, if there is one with marks, and answers where what is done ends: after
+/// these marks, else after the item.
+fn position_at<F: hb_font_t>(
+    face: &F,
+    setting: Setting,
+    buffer: &mut hb_buffer_t,
+    i: usize,
+) -> usize
     requires { i < length buffer.old.items }
-    ensures { buffer.new ≡ positioned_at (F.face face.now) setting i buffer.old }
+    ensures placed { buffer.new ≡ positioned_at (F.face face.now) setting i buffer.old }
+    ensures end { result ≤ i + 1 + marks_from (i + 1) buffer.old }
 {
-    if !has_mark_at(buffer.infos(), i + 1) {
-        return;
-    }
     if buffer.infos()[i]._hb_glyph_info_is_unicode_mark() {
-        return;
+        return i + 1;
     }
     let marks = marks_at_start(&buffer.infos()[i + 1..]);
-    position_span(face, setting, buffer, i, i + 1 + marks);
+    if marks == 0 {
+        return i + 1;
+    }
+    let end = i + 1 + marks;
+    position_span(face, setting, buffer, i, end);
+    end
 }
 
-/// Places the marks of all bases.
+/// Places the marks of the base before a place, if a mark stands there that isn't placed yet; those before place `done`
+/// are. Answers where what is done ends.
+fn position_before<F: hb_font_t>(
+    face: &F,
+    setting: Setting,
+    buffer: &mut hb_buffer_t,
+    done: usize,
+    i: usize,
+) -> usize
+    requires after { 0 < i }
+    requires within { i < length buffer.old.items }
+    requires marks { done ≤ i - 1 + marks_from (i - 1) buffer.old }
+    ensures placed { buffer.new ≡ positioned_at (F.face face.now) setting (i - 1) buffer.old }
+    ensures end { result ≤ i + marks_from i buffer.old }
+{
+    if i < done {
+        return done;
+    }
+    if !is_mark_at(buffer.infos(), i) {
+        return done;
+    }
+    position_at(face, setting, buffer, i - 1)
+}
+
+/// Places the marks of all bases. A base is looked for where a mark stands after it, and marks that were placed are
+/// passed by.
 pub(crate) fn position_bases<F: hb_font_t>(face: &F, setting: Setting, buffer: &mut hb_buffer_t)
     ensures { Made (bases_positioned (F.face face.now) setting) buffer.old buffer.new }
 {
-    for i in 0..buffer.len() {
-        position_at(face, setting, buffer, i);
+    let mut done = 0;
+    for i in 1..buffer.len() {
+        done = position_before(face, setting, buffer, done, i);
     }
 }

@@ -1,6 +1,6 @@
 use Rattle.std.proofs.Common.{◌≡◌, true, rules, refl}
 use Rattle.std.specs.Prelude.{◌&&◌, not}
-use Rattle.shape_position.specs.Ignorables.{ignorables_zeroed, zeroed_ignorable, hides_ignorables, removes_ignorables}
+use Rattle.shape_position.specs.Ignorables.{ignorables_zeroed, hides_ignorables, removes_ignorables}
 use Rattle.shape_position.proofs.StepLemmas.{Made-as}
 use Rattle.shape_position.proofs.ignorables.zero_width_default_ignorables.Goals as goal
 
@@ -9,4 +9,4 @@ unfolding ignorables_zeroed
 returns c =
     let b = c.args.buffer.now in
     let on : (hides_ignorables b && not (removes_ignorables b)) ≡ true = search rules in
-    Made-as ignorables_zeroed (c.update_positions.ensures zeroed_ignorable (λ x p q said. search rules)) (rw on refl)
+    Made-as ignorables_zeroed c.zero_ignorables.ensures (rw on refl)

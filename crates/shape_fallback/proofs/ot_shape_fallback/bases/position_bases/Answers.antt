@@ -1,27 +1,46 @@
-use Rattle.std.proofs.Common.{◌<◌, ◌≤◌, ◌∙◌, ap, sym, length, refl, arith}
-use Rattle.std.specs.Prelude.{unwrap_or}
+use Rattle.std.proofs.Common.{◌≡◌, ◌<◌, ◌≤◌, ◌+◌, ◌-◌, List, Bool, ◌∙◌, ap, sym, length, drop, refl, arith}
+use Rattle.std.specs.Prelude.{unwrap_or, fold}
+use Rattle.std.specs.List.{prefix_len}
 use Rattle.std.proofs.lemmas.Grind.{common_steps}
-use Rattle.shape_fallback.specs.Bases.{bases_positioned}
-use Rattle.shape_fallback.proofs.BasesLemmas.{bases_step, bases_end, length-positioned_at, limit-positioned_at}
+use Rattle.shape_fallback.specs.Bases.{bases_positioned, position_span, bases, marks_of, marks_from, positioned_at}
+use Rattle.shape_fallback.proofs.BasesLemmas.{bases_step, bases_last, length-positioned_at, limit-positioned_at, marks_of-positioned_at}
 use Rattle.shape_fallback.proofs.ot_shape_fallback.bases.position_bases.Goals as goal
 
 pub loop-i-init : goal.loop-i-init
 unfolding bases_positioned
-loop-i-init g c = record { as_many = refl; same_limit = refl; rest = refl }
+loop-i-init g c = record { after = omega arith; as_many = refl; same_limit = refl; marks = omega arith; rest = refl }
 
 pub loop-i-preserved : goal.loop-i-preserved
 loop-i-preserved g c =
     let face = g.F.hb_font_t.face c.args.face.now in
-    let within : c.loop-i.i < length c.loop-i.buffer.items = grind (arith, common_steps) in
-    let step = bases_step face c.args.setting c.loop-i.i c.loop-i.buffer within in
-    let many = length-positioned_at face c.args.setting c.loop-i.i c.loop-i.buffer in
-    let limit = limit-positioned_at face c.args.setting c.loop-i.i c.loop-i.buffer in
-    record { as_many = cc; same_limit = cc; rest = cc }
+    let s = c.args.setting in
+    let b = c.loop-i.buffer in
+    let i = c.loop-i.i in
+    let base = i - 1 in
+    let placed = positioned_at face s base b in
+    let within : base < length b.items = grind (arith, common_steps) in
+    let here : base + 1 ≡ i = omega arith in
+    let next : i + 1 - 1 ≡ i = omega arith in
+    let made = c.position_before-done.ensures.placed in
+    let step : fold (position_span face s) b (bases base (drop base (marks_of b)))
+    ≡ fold (position_span face s) placed (bases i (drop i (marks_of placed))) = bases_step face s base b within
+    ∙ ap (λ n. fold (position_span face s) placed (bases n (drop n (marks_of placed)))) here in
+    let many = length-positioned_at face s base b in
+    let limit = limit-positioned_at face s base b in
+    let kept : marks_from i placed ≡ marks_from i b =
+    ap (λ (ms : List Bool). prefix_len (λ mark. mark) (drop i ms)) (marks_of-positioned_at face s base b) in
+    rw (made, next) (record {
+      after = omega arith;
+      as_many = many ∙ c.loop-i.invariant.as_many;
+      same_limit = limit ∙ c.loop-i.invariant.same_limit;
+      marks = omega (arith, c.position_before-done.ensures.end, kept);
+      rest = sym step ∙ c.loop-i.invariant.rest;
+    })
 
 pub returns : goal.returns
 returns g c =
-    let over : length c.loop-i.buffer.items ≤ c.loop-i.i = grind (arith, common_steps) in
-    let end = bases_end (g.F.hb_font_t.face c.args.face.now) c.args.setting c.loop-i.i c.loop-i.buffer over in
+    let over : length c.loop-i.buffer.items ≤ c.loop-i.i - 1 + 1 = grind (arith, common_steps) in
+    let end = bases_last (g.F.hb_font_t.face c.args.face.now) c.args.setting (c.loop-i.i - 1) c.loop-i.buffer over in
     record {
       made = sym end ∙ c.loop-i.invariant.rest;
       no_longer = grind (arith, common_steps);

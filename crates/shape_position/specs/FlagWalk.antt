@@ -1,0 +1,19 @@
+-- The walk that gives each cluster one set of flags, and what it hands on from item to item.
+use Rattle.std.specs.Prelude.{ℕ, ◌-◌, nat_lt, List, if◌then◌else◌}
+use Rattle.std.specs.List.{prefix_len}
+use Rattle.shape_items.specs.Items.{Item, has_cluster}
+use Rattle.shape_items.specs.Flags.{first_united, handed_flags}
+use Rattle.shape_common.specs.declared.flags.BufferFlags.{BufferFlags}
+use Rattle.shape_position.specs.declared.flags.Passed.{Passed}
+
+-- what the first of some items hands on where a cluster begins with it: the flags of all that are in the cluster, and how many are behind it
+abbrev pub passed_run : BufferFlags → ℕ → List Item → Passed
+passed_run flags cluster items = record {
+  mask = handed_flags flags (first_united cluster items);
+  left = prefix_len (has_cluster cluster) items - 1;
+}
+
+-- what the first of some items hands on, after one that hands this on
+abbrev pub passed_by : BufferFlags → Passed → ℕ → List Item → Passed
+passed_by flags before cluster items =
+    if nat_lt 0 before.left then record { mask = before.mask; left = before.left - 1 } else passed_run flags cluster items

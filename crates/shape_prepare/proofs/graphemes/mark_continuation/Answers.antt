@@ -1,0 +1,14 @@
+use Rattle.std.proofs.Common.{◌≡◌, true, false, rules}
+use Rattle.shape_prepare.proofs.GraphemeLemmas.{with_continuation-settled, is_to_next-settled}
+use Rattle.shape_prepare.proofs.graphemes.mark_continuation.Goals as goal
+
+pub returns-then-is_settled-clause-item : goal.returns-then-is_settled-clause-item
+returns-then-is_settled-clause-item g c =
+    let continuing : c.args.info.now.properties.continuation ≡ true = search rules in
+    with_continuation-settled g.U.hb_unicode_funcs_t.unicode c.args.before c.args.info.now continuing
+
+pub returns-then-is_settled-clause-next : goal.returns-then-is_settled-clause-next
+returns-then-is_settled-clause-next g c =
+    let continuing : c.args.info.now.properties.continuation ≡ true = search rules in
+    let no_joiner : c.args.info.now.properties.zwj ≡ false = search rules in
+    is_to_next-settled g.U.hb_unicode_funcs_t.unicode c.args.before c.args.info.now continuing no_joiner
