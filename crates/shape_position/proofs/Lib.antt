@@ -1,4 +1,5 @@
 mod StepLemmas
+mod ClearingLemmas
 mod FlagWalkLemmas
 mod KeeperLemmas
 mod DeletionLemmas

@@ -53,7 +53,10 @@ fn advance_position<F: hb_font_t>(
 pub fn clear_positions(buffer: &mut hb_buffer_t)
     ensures { Made positions_cleared buffer.old buffer.new }
 {
-    update_positions(buffer, |_, _| GlyphPosition::zero());
+    if buffer.positions().is_empty() {
+        return;
+    }
+    buffer.clear_positions();
 }
 
 /// Gives each glyph its advance, and in lines that aren't horizontal its origin, in units of the face. An
