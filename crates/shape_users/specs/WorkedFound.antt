@@ -25,13 +25,18 @@ pub record WordsFound (run : Run) (a b : Word) (spelling : List ℕ) : Type 0 wh
   -- the first alone is asked
   pub first_alone : (IsLike run a spelling → ⊥) → IsNowhere run (a ∷ b ∷ []) 1 spelling
 
+-- the prepared text passes its limit where it is expanded
+abbrev pub ExpandsPastLimit : Run → List ℕ → Type 0
+ExpandsPastLimit run spelling =
+    let text = prepared_text run (spelled spelling) in
+    limit_of text < length (round_one run.rules text).items
+
 pub record TooLong (run : Run) (spelling : List ℕ) : Type 0 where
   pub by_bytes : 2 ^ 32 ≤ length spelling → IsTooLongToPrepare run spelling
   pub by_a_step : HasItems (spelled spelling)
       → PreparingPasses run (target_of run (spelled spelling)) (guessed run.unicode (spelled spelling)) → IsTooLongToPrepare run spelling
   pub to_prepare : IsTooLongToPrepare run spelling → IsTooLong run spelling
-  pub to_expand : limit_of (prepared_text run (spelled spelling)) < length (round_one run.rules (prepared_text run (spelled spelling))).items
-      → IsTooLong run spelling
+  pub to_expand : ExpandsPastLimit run spelling → IsTooLong run spelling
   pub to_shape : HasItems (spelled spelling)
       → ShapingPasses run (target_of run (spelled spelling)) (guessed run.unicode (spelled spelling)) → IsTooLongToShape run spelling
   pub bytes_to_shape : 2 ^ 32 ≤ length spelling → IsTooLongToShape run spelling
