@@ -31,12 +31,16 @@ in_one x y (suc k, lt, e) = absurd (omega arith)
 glyphs_brought_in : GlyphsBroughtIn
 glyphs_brought_in = record {
   with_glyph = of_one (λ c. (has_glyph (face_of (0x61 ∷ [])).nominal_glyph c ≡ true) ⊎ Contains [] c) 0x61 (inl refl);
-  of_the_text = of_one (λ c. (has_glyph (face_of []).nominal_glyph c ≡ true) ⊎ Contains (0x62 ∷ 0x61 ∷ []) c) 0x61 (inr (1, omega arith, refl));
+  of_the_text =
+      of_one (λ c. (has_glyph (face_of []).nominal_glyph c ≡ true) ⊎ Contains (0x62 ∷ 0x61 ∷ []) c) 0x61 (inr (1, omega arith, refl));
   without_glyph = λ have. elim (have 0 0 (omega arith)) [
     | inl is ↦ absurd (let e : false ≡ true = is in cc)
     | inr there ↦ let e : 0x63 ≡ 0x62 = in_one 0x63 0x62 there in omega (arith, e)
   ];
 }
+
+abbrev variant_rules : Rules
+variant_rules = rules_in 4 (0x61 ∷ 0xFE00 ∷ [])
 
 glyphs_of_items : GlyphsOfItems
 unfolding merge
@@ -50,7 +54,10 @@ glyphs_of_items = record {
   of_the_sequence = inr (0, omega arith, refl);
   not_of_the_sequence = λ has. elim has [
     | inl is ↦ let e : 8 ≡ 0x61 = is in omega (arith, e)
-    | inr there ↦ let e : 7 ≡ 8 = ap (λ (one : Item). one.glyph_index) (in_one (content (rules_in 4 (0x61 ∷ 0xFE00 ∷ [])) (placed 0x61 7)) (content (rules_in 4 (0x61 ∷ 0xFE00 ∷ [])) (placed 0x61 8)) there) in omega (arith, e)
+    | inr there ↦
+        let same = in_one (content variant_rules (placed 0x61 7)) (content variant_rules (placed 0x61 8)) there in
+        let e : 7 ≡ 8 = ap (λ (one : Item). one.glyph_index) same in
+        omega (arith, e)
   ];
 }
 
@@ -65,11 +72,16 @@ hidden_items = record {
   as_it_was = λ unseen. of_one (IsHiddenAs (with_hidden true 0x61)) (with_hidden true 0x61) (inr (0, omega arith, refl));
   of_another = λ keeps. elim (keeps refl 0 (item 0x61 0) (omega arith)) [
     | inl is ↦ absurd (let e : true ≡ false = is in cc)
-    | inr there ↦ let e : 0x62 ≡ 0x61 = ap (λ (one : ℕ × Bool). one.0) (in_one (hidden_char (with_hidden true 0x62)) (hidden_char (with_hidden true 0x61)) there) in omega (arith, e)
+    | inr there ↦
+        let same = in_one (hidden_char (with_hidden true 0x62)) (hidden_char (with_hidden true 0x61)) there in
+        let e : 0x62 ≡ 0x61 = ap (λ (one : ℕ × Bool). one.0) same in
+        omega (arith, e)
   ];
   hidden_anew = λ keeps. elim (keeps refl 0 (item 0x61 0) (omega arith)) [
     | inl is ↦ absurd (let e : true ≡ false = is in cc)
-    | inr there ↦ absurd (let e : false ≡ true = ap (λ (one : ℕ × Bool). one.1) (in_one (hidden_char (with_hidden false 0x61)) (hidden_char (with_hidden true 0x61)) there) in cc)
+    | inr there ↦
+        let same = in_one (hidden_char (with_hidden false 0x61)) (hidden_char (with_hidden true 0x61)) there in
+        absurd (let e : false ≡ true = ap (λ (one : ℕ × Bool). one.1) same in cc)
   ];
 }
 

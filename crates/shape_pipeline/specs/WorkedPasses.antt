@@ -52,13 +52,18 @@ pub record ListsOfGlyphs (run : Run) : Type 0 where
 
 -- ---- limits
 
+-- the prepared text passes its limit where it is expanded
+abbrev pub ExpandingPasses : Run → Direction → Type 0
+ExpandingPasses run target =
+    let text = prepared run target (entered one_item) in
+    limit_of text < length (round_one run.rules text).items
+
 pub record LimitsPassed (run : Run) (target : Direction) : Type 0 where
   pub preparing : SomePast (prepare_steps run target) (entered one_item) → NormalisingPasses run target one_item
-  pub expanding : limit_of (prepared run target (entered one_item)) < length (round_one run.rules (prepared run target (entered one_item))).items
-      → NormalisingPasses run target one_item
+  pub expanding : ExpandingPasses run target → NormalisingPasses run target one_item
   pub by_no_other : NormalisingPasses run target one_item
       → SomePast (prepare_steps run target) (entered one_item)
-      ⊎ (limit_of (prepared run target (entered one_item)) < length (round_one run.rules (prepared run target (entered one_item))).items)
+      ⊎ ExpandingPasses run target
   -- a text without items isn't prepared, so no step of that passes
   pub of_nothing : NormalisingPasses run target new_buffer → limit_of new_buffer < length (round_one run.rules new_buffer).items
   pub shaping : ShapingPasses run target one_item → SomePast (all_steps run target) (entered one_item)

@@ -1,3 +1,4 @@
+mod FoundRows
 mod HookLemmas
 mod LigatureLemmas
 mod LineLemmas

@@ -119,13 +119,15 @@ module _ (run : Run) (text : Buffer) where
       → limit_of (run_steps before (begun_text run text)) < at.counts (run_steps before (begun_text run text))
       → FirstPasses run text one ⊎ SecondPasses run text one two
   which one two [] at behind is past =
-      inl (subst (λ (step : Step). limit_of (begun_text run text) < step.counts (begun_text run text)) (ap (λ (steps : List Step). get_or steps 0 at) is) past)
+      let same : at ≡ one = ap (λ (steps : List Step). get_or steps 0 at) is in
+      inl (subst (λ (step : Step). limit_of (begun_text run text) < step.counts (begun_text run text)) same past)
   which one two (first ∷ []) at behind is past =
       let same : first ≡ one = ap (λ (steps : List Step). get_or steps 0 first) is in
       let next : at ≡ two = ap (λ (steps : List Step). get_or steps 1 at) is in
       inr (subst (λ (step : Step). limit_of (one.makes (begun_text run text)) < step.counts (one.makes (begun_text run text))) next
       (subst (λ (step : Step). limit_of (step.makes (begun_text run text)) < at.counts (step.makes (begun_text run text))) same past))
-  which one two (first ∷ second ∷ []) at behind is past = let e : suc (suc (suc (length behind))) ≡ 2 = ap length is in absurd (omega (arith, e))
+  which one two (first ∷ second ∷ []) at behind is past =
+      let e : suc (suc (suc (length behind))) ≡ 2 = ap length is in absurd (omega (arith, e))
   which one two (first ∷ second ∷ third ∷ before) at behind is past =
       let e : suc (suc (suc (length (before ++ (at ∷ behind))))) ≡ 2 = ap length is in absurd (omega (arith, e))
 

@@ -72,8 +72,8 @@ shows glyphs start end from to four within theirs shown = record {
 two_glyphs : ShowsExactly rising 1 3 2 5
 two_glyphs =
     shows rising 1 3 2 5 refl (omega arith)
-    (each_of_four (IsTheirs rising 1 3 2 5) (λ a b. absurd (omega arith)) (λ a b. (omega arith, omega arith)) (λ a b. (omega arith, omega arith))
-    (λ a b. absurd (omega arith)))
+    (each_of_four (IsTheirs rising 1 3 2 5) (λ a b. absurd (omega arith)) (λ a b. (omega arith, omega arith))
+    (λ a b. (omega arith, omega arith)) (λ a b. absurd (omega arith)))
     (each_of_four (IsShown rising 1 3 2 5) (λ a b. absurd (omega arith)) (λ a b. (1, omega arith, omega arith, refl))
     (λ a b. (1, omega arith, omega arith, refl)) (λ a b. absurd (omega arith)))
 
@@ -88,8 +88,8 @@ one_of_two =
 falling_glyphs : ShowsExactly falling 0 2 2 7
 falling_glyphs =
     shows falling 0 2 2 7 refl (omega arith)
-    (each_of_four (IsTheirs falling 0 2 2 7) (λ a b. (omega arith, omega arith)) (λ a b. (omega arith, omega arith)) (λ a b. absurd (omega arith))
-    (λ a b. absurd (omega arith)))
+    (each_of_four (IsTheirs falling 0 2 2 7) (λ a b. (omega arith, omega arith)) (λ a b. (omega arith, omega arith))
+    (λ a b. absurd (omega arith)) (λ a b. absurd (omega arith)))
     (each_of_four (IsShown falling 0 2 2 7) (λ a b. (0, omega arith, omega arith, refl)) (λ a b. (1, omega arith, omega arith, refl))
     (λ a b. (1, omega arith, omega arith, refl)) (λ a b. absurd (omega arith)))
 

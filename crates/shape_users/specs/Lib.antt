@@ -7,6 +7,7 @@ pub mod PlainGlyphs
 pub mod Points
 pub mod WorkedArabic
 pub mod WorkedForms
+pub mod WorkedFound
 pub mod WorkedPlain
 pub mod WorkedPoints
 pub mod WorkedShown

@@ -8,6 +8,7 @@ ghost use Rattle.std.specs.Prelude.{◌≡◌, length, Err, IsErr, IfOk, OnErr, 
 ghost use Rattle.shape_plan.specs.Plan.{Fits};
 ghost use Rattle.shape_users.specs.Words.{spelled as text_spelled, FitsAt, IsPlaceOf, IsNowhere};
 ghost use Rattle.shape_users.specs.Words.{NoneFits, KeepsWords, FindsTooLong, KeepsTooLong};
+ghost use Rattle.shape_users.specs.WorkedFound.{WorkedFound};
 ghost use Rattle.shape_users.specs.WorkedWords.{WorkedWords};
 
 mod spellings;
@@ -124,4 +125,9 @@ where
 /// What a cache keeps of its words, on lists that were worked by hand. Does nothing.
 pub fn words_meet_worked_cases()
     ensures { WorkedWords }
+{}
+
+/// Which word and which plan are found, and when a spelling is too long for that, on lists worked out by hand.
+pub fn found_words_meet_worked_cases()
+    ensures { WorkedFound }
 {}
