@@ -29,6 +29,8 @@ const MAX_LEN_MIN: usize = 16384;
 pub struct hb_buffer_t {
     infos: Vec<hb_glyph_info_t>,
     positions: Vec<GlyphPosition>,
+    /// Whether some position may be other than zeros. Where none is, nothing is written to make them zeros.
+    has_positions: bool,
     /// Room for deletion and for merging many spans, which take no memory: a number for each item, at least.
     run_starts: Vec<usize>,
     direction: Direction,
@@ -45,8 +47,9 @@ pub struct hb_buffer_t {
 }
 
 impl Model for hb_buffer_t {
-    ghost use Rattle.std.specs.Prelude.{◌≡◌, ◌≤◌, length, string_bytes};
+    ghost use Rattle.std.specs.Prelude.{◌≡◌, ◌≤◌, false, length, replicate, string_bytes};
     ghost use Rattle.std.specs.Option.{option_map};
+    ghost use Rattle.shape_common.specs.Positions.{zero_position};
     ghost use Rattle.shape_items.specs.Buffer.{Buffer};
 
     ghost Value = { Buffer };
@@ -70,6 +73,8 @@ impl Model for hb_buffer_t {
     ghost invariant = { λ b. record {
       as_many : length b.positions.items ≡ length b.infos.items;
       room : length b.infos.items ≤ length b.run_starts.items;
+      zeros : b.has_positions ≡ false
+          → b.positions.items ≡ replicate (length b.positions.items) zero_position;
     } };
 }
 
@@ -84,6 +89,7 @@ impl hb_buffer_t {
         hb_buffer_t {
             infos: Vec::new(alloc),
             positions: Vec::new(alloc),
+            has_positions: false,
             run_starts: Vec::new(alloc),
             direction: Direction::Invalid,
             script: None,
@@ -175,6 +181,7 @@ impl hb_buffer_t {
             ≡ record self.old { positions = slice_set self.old.positions i position } }
     {
         self.positions[i] = position;
+        self.has_positions = true;
     }
 
     /// Leaves the buffer cleared: no item, direction, script, language, context, scratch flag or limit.
@@ -184,6 +191,7 @@ impl hb_buffer_t {
     {
         self.infos.clear();
         self.positions.clear();
+        self.has_positions = false;
         self.direction = Direction::Invalid;
         self.script = None;
         self.language = None;

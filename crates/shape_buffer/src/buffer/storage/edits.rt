@@ -1,5 +1,6 @@
 //! Calls that change which items there are, or their order: positions go with their items.
-ghost use Rattle.std.specs.Prelude.{◌≡◌, ◌<◌, ◌≤◌, ◌^◌, ◌↔◌, [], ◌∷◌, ◌++◌, length, insert, remove};
+ghost use Rattle.std.specs.Prelude.{◌≡◌, ◌<◌, ◌≤◌, ◌-◌, ◌^◌, ◌↔◌, [], ◌∷◌, ◌++◌};
+ghost use Rattle.std.specs.Prelude.{false, length, take, insert, remove};
 ghost use Rattle.std.specs.Prelude.{All, reverse, swap, replicate, vec_len, IsErrOf, IsOkUnless, OnOk};
 ghost use Rattle.std.specs.Prelude.{OnErr};
 ghost use Rattle.std.specs.List.Sorted.{IsNonDecreasing};
@@ -25,6 +26,7 @@ impl hb_buffer_t {
           positions = reverse self.old.positions;
         } }
     {
+        self.has_positions = true;
         self.infos.reverse();
         self.positions.reverse();
     }
@@ -38,6 +40,7 @@ impl hb_buffer_t {
         } }
     {
         self.swap_infos(i, j);
+        self.has_positions = true;
         self.positions.swap(i, j);
     }
 
@@ -57,6 +60,7 @@ impl hb_buffer_t {
           positions = remove self.old.positions i;
         } }
     {
+        self.has_positions = true;
         self.infos.remove(i);
         self.positions.remove(i);
     }
@@ -78,6 +82,7 @@ impl hb_buffer_t {
         }
         make_room(&mut self.run_starts, self.infos.len() + 1)?;
         self.positions.reserve(1)?;
+        self.has_positions = true;
         self.infos.insert(i, item)?;
         self.positions.insert(i, GlyphPosition::zero())?;
         Ok(())
@@ -98,8 +103,9 @@ impl hb_buffer_t {
             return Err(ShapeError::Length);
         }
         make_room(&mut self.run_starts, infos.len())?;
-        self.positions.resize(infos.len(), GlyphPosition::zero())?;
-        zero_positions(self.positions.as_mut_slice());
+        resize_zeros(&mut self.positions, infos.len())?;
+        make_zeros(self.has_positions, self.positions.as_mut_slice());
+        self.has_positions = false;
         self.infos = infos;
         Ok(())
     }
@@ -140,9 +146,7 @@ impl hb_buffer_t {
             outcome = make_room(&mut self.run_starts, self.infos.len());
         }
         if outcome.is_ok() {
-            outcome = self
-                .positions
-                .resize(self.infos.len(), GlyphPosition::zero());
+            outcome = resize_zeros(&mut self.positions, self.infos.len());
         }
         if outcome.is_err() {
             self.infos.truncate(before);
@@ -171,10 +175,33 @@ impl hb_buffer_t {
     }
 }
 
+/// Makes a list so long, with zeros behind what it has: one of zeros alone stays that.
+fn resize_zeros(positions: &mut Vec<GlyphPosition>, count: usize) -> Result<(), AllocError>
+    ensures items { OnOk result (positions.new.items ≡ take count positions.old.items
+        ++ replicate (count - length positions.old.items) zero_position) }
+    ensures len { OnOk result (length positions.new.items ≡ count) }
+    ensures err { OnErr result (positions.new.items ≡ positions.old.items) }
+    ensures zeros { positions.old.items ≡ replicate (length positions.old.items) zero_position
+        → positions.new.items ≡ replicate (length positions.new.items) zero_position }
+{
+    positions.resize(count, GlyphPosition::zero())
+}
+
+/// Makes every position zeros: nothing is written where they are.
+pub(super) fn make_zeros(has_positions: bool, positions: &mut [GlyphPosition])
+    requires { has_positions ≡ false
+        → positions.old ≡ replicate (length positions.old) zero_position }
+    ensures { positions.new ≡ replicate (length positions.old) zero_position }
+{
+    if has_positions {
+        zero_positions(positions);
+    }
+}
+
 /// Sets every position to zeros. A call of its own: where LLVM inlines it into a large function, the loop does not
 /// become one fill of memory.
 #[inline(never)]
-pub(super) fn zero_positions(positions: &mut [GlyphPosition])
+fn zero_positions(positions: &mut [GlyphPosition])
     ensures { positions.new ≡ replicate (length positions.old) zero_position }
 {
     for position in positions.iter_mut() {

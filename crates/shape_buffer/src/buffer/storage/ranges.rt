@@ -1,7 +1,7 @@
 //! Calls that write a part of the list in place.
 ghost use Rattle.std.specs.Prelude.{◌≡◌, ◌≤◌, length, replicate};
 
-use crate::buffer::storage::edits::zero_positions;
+use crate::buffer::storage::edits::make_zeros;
 use crate::buffer::storage::hb_buffer_t;
 
 impl hb_buffer_t {
@@ -18,16 +18,18 @@ impl hb_buffer_t {
           positions = reversed_range start end self.old.positions;
         } }
     {
+        self.has_positions = true;
         self.infos[start..end].reverse();
         self.positions[start..end].reverse();
     }
 
-    /// Makes every position zeros. Takes no memory.
+    /// Makes every position zeros. Takes no memory, and writes nothing where all of them are.
     pub fn clear_positions(&mut self)
         ensures { self.new ≡ record self.old {
           positions = replicate (length self.old.items) zero_position;
         } }
     {
-        zero_positions(self.positions.as_mut_slice());
+        make_zeros(self.has_positions, self.positions.as_mut_slice());
+        self.has_positions = false;
     }
 }

@@ -196,6 +196,7 @@ impl hb_buffer_t {
         ensures rest { record self.new { items = []; positions = []; scratch_flags = record { 0 = 0 } }
             ≡ record self.old { items = []; positions = []; scratch_flags = record { 0 = 0 } } }
     {
+        self.has_positions = true;
         delete_items(
             &mut self.infos,
             &mut self.positions,
