@@ -139,7 +139,7 @@ fn a_buffer_is_shaped_in_place(rt: HostRuntime) -> Result<(), Fail> {
     text.set_direction(Direction::RightToLeft);
     let mut buffer = text.into_inner();
     let target_direction = buffer.direction();
-    assert_that(&rt, target_direction == Direction::RightToLeft);
+    assert!(rt; target_direction == Direction::RightToLeft);
     let mut ctx = hb_ot_shape_context_t {
         plan: &plan,
         face: &face,
@@ -147,11 +147,11 @@ fn a_buffer_is_shaped_in_place(rt: HostRuntime) -> Result<(), Fail> {
         target_direction,
     };
     shape_internal::<PlainUnicode, RowFace<'_>, NoLookups, _>(alloc, &mut ctx)?;
-    assert_same(&rt, buffer.direction(), Direction::RightToLeft);
-    assert_same(&rt, buffer.length_limit(), usize::MAX);
-    assert_same(&rt, buffer.len(), 2);
+    assert_eq!(rt; buffer.direction(), Direction::RightToLeft);
+    assert_eq!(rt; buffer.length_limit(), usize::MAX);
+    assert_eq!(rt; buffer.len(), 2);
     for (info, (glyph, cluster)) in buffer.infos().iter().zip([(0x62, 1), (0x61, 0)]) {
-        assert_same(&rt, (info.glyph_id, info.cluster), (glyph, cluster));
+        assert_eq!(rt; (info.glyph_id, info.cluster), (glyph, cluster));
     }
     Ok(())
 }
