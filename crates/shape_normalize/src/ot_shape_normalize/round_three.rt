@@ -8,7 +8,7 @@
 //! A walk puts each composed character in its starter's place, and notes the span that ends with the mark. In most
 //! texts nothing composes, and nothing is written. Else the clusters of the spans are merged while all items still
 //! stand in the list, and then the marks are taken out of it in place: no list of items is made.
-ghost use Rattle.std.specs.Prelude.{◌≡◌, ◌<◌, [], length, set, take, drop, slice_index_or};
+ghost use Rattle.std.specs.Prelude.{◌≡◌, ◌<◌, ◌≤◌, [], length, set, take, drop, slice_index_or};
 ghost use Rattle.std.specs.Prelude.{IfOk, IsOkUnless, OnOk};
 ghost use Rattle.canonical_form.specs.Recompose.{compose_with_glyph};
 ghost use Rattle.shape_items.specs.Buffer.{cleared};
@@ -23,7 +23,7 @@ ghost use Rattle.shape_normalize.specs.RoundThree.{round_three};
 ghost use Rattle.shape_plan.specs.Rules.{has_glyph};
 
 use crate::ot_shape_normalize::round_one::part_of;
-use shape_buffer::buffer::{ShapeError, hb_buffer_t, hb_glyph_info_t};
+use shape_buffer::buffer::{ScratchFlags, ShapeError, hb_buffer_t, hb_glyph_info_t};
 use shape_buffer::interfaces::{hb_font_t, hb_ot_layout_t, hb_unicode_funcs_t};
 use shape_plan::ot_shaper::hb_ot_shaper_t;
 use shape_plan::shaping_types::{Meaning, PlanOf, ShapingTypes};
