@@ -1,6 +1,6 @@
 pub mod RoundOne
-pub mod OneWalk
 pub mod RoundTwo
+pub mod OneWalk
 pub mod Reordered
 pub mod RoundThree
 pub mod Normalized
