@@ -4,7 +4,9 @@
 use crate::texts::{PLAINLY, assert_characters, normalised, shaped, text_of};
 use shape_buffer::buffer::GlyphBuffer;
 use shape_buffer::interfaces::NoLookups;
-use shape_pipeline::ot_shaper::{ComposedDiacriticsNoShortCircuit, Preferring, hb_ot_shaper_t};
+use shape_pipeline::ot_shaper::{
+    ComposedDiacriticsNoShortCircuit, Decomposed, Preferring, hb_ot_shaper_t,
+};
 use shape_unicode::UnicodeDatabase;
 use std::alloc::Global;
 use std::process::Abort;
@@ -18,6 +20,9 @@ const FEW: [char; 5] = ['a', '\u{301}', '\u{308}', '\u{323}', '\u{E1}'];
 const WITH_STARTERS: [char; 7] = [
     'a', 'b', '\u{301}', '\u{308}', '\u{323}', '\u{20DD}', '\u{E1}',
 ];
+
+/// U+0344, the marks that it splits into, and a mark below.
+const SPLIT: [char; 5] = ['a', '\u{301}', '\u{308}', '\u{323}', '\u{344}'];
 
 /// A mark so many times, between other characters.
 fn around(
@@ -93,6 +98,30 @@ fn marks_of_a_shorter_run_are_put_in_order(rt: HostRuntime) -> Result<(), Fail> 
     let text = around(alloc, &['a', '\u{308}'], below, &['\u{301}'])?;
     let list = around(alloc, &['a'], below, &['\u{308}', '\u{301}'])?;
     assert_composed(&rt, alloc, &FEW, &text, &list)
+}
+
+/// A run is counted by what is put out: of 31 marks the one below comes first, 32 keep their order, and of 33
+/// the one below stays last.
+#[test]
+fn split_marks_count_twice(rt: HostRuntime) -> Result<(), Fail> {
+    let alloc = rt.alloc();
+    let shaper = Preferring::<Decomposed>::new();
+    let cases: [(usize, &[char], &[char], &[char]); 3] = [
+        (15, &['\u{323}'], &['a', '\u{323}'], &[]),
+        (16, &[], &['a'], &[]),
+        (16, &['\u{323}'], &['a'], &['\u{323}']),
+    ];
+    for (count, below, first, last) in cases {
+        let text = around(alloc, &['a'], ('\u{344}', count), below)?;
+        let mut list = Vec::new(alloc);
+        list.extend_from_slice(first)?;
+        for _ in 0..count {
+            list.extend_from_slice(&['\u{308}', '\u{301}'])?;
+        }
+        list.extend_from_slice(last)?;
+        assert_list(&rt, alloc, RowFace::of(&SPLIT), &shaper, &text, &list)?;
+    }
+    Ok(())
 }
 
 /// U+0301 composes past any number of marks below.
