@@ -245,13 +245,26 @@ fn exchange_infos(buffer: &mut hb_buffer_t, i: usize, j: usize) {
     }
 }
 
-/// The flags of an item.
-fn flags_of(item: &hb_glyph_info_t) -> (bool, bool, bool) {
-    (
-        item.unsafe_to_break(),
-        item.unsafe_to_concat(),
-        item.safe_to_insert_tatweel(),
-    )
+/// The flags of an item, each by its bit.
+fn flags_of(item: &hb_glyph_info_t) -> u32 {
+    let mut flags = 0;
+    if item.unsafe_to_break() {
+        flags |= 1;
+    }
+    if item.unsafe_to_concat() {
+        flags |= 2;
+    }
+    if item.safe_to_insert_tatweel() {
+        flags |= 4;
+    }
+    flags
+}
+
+/// Compares the flags of the items.
+fn assert_flags(rt: &impl Abort, buffer: &hb_buffer_t, flags: &[u32]) {
+    for (item, wanted) in buffer.infos().iter().zip(flags) {
+        assert_same(rt, flags_of(item), *wanted);
+    }
 }
 
 #[test]
@@ -266,13 +279,6 @@ fn items_are_exchanged_with_their_positions(rt: HostRuntime) -> Result<(), Fail>
     assert_rows(&rt, &buffer, &[(2, 4), (0, 1), (1, 2)]);
     exchange_infos(&mut buffer, 2, 1);
     assert_advances(&rt, &buffer, &[0, 0, 7]);
-    let flags = [
-        (false, false, true),
-        (false, true, false),
-        (true, false, false),
-    ];
-    for (item, wanted) in buffer.infos().iter().zip(flags) {
-        assert_same(&rt, flags_of(item), wanted);
-    }
+    assert_flags(&rt, &buffer, &[4, 2, 1]);
     Ok(())
 }
