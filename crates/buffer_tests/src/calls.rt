@@ -245,25 +245,24 @@ fn exchange_infos(buffer: &mut hb_buffer_t, i: usize, j: usize) {
     }
 }
 
-/// The flags of an item, each by its bit.
-fn flags_of(item: &hb_glyph_info_t) -> u32 {
-    let mut flags = 0;
-    if item.unsafe_to_break() {
-        flags |= 1;
+/// Compares which items are unsafe to break.
+fn assert_breaks(rt: &impl Abort, buffer: &hb_buffer_t, flags: &[bool]) {
+    for (item, wanted) in buffer.infos().iter().zip(flags) {
+        assert_same(rt, item.unsafe_to_break(), *wanted);
     }
-    if item.unsafe_to_concat() {
-        flags |= 2;
-    }
-    if item.safe_to_insert_tatweel() {
-        flags |= 4;
-    }
-    flags
 }
 
-/// Compares the flags of the items.
-fn assert_flags(rt: &impl Abort, buffer: &hb_buffer_t, flags: &[u32]) {
+/// Compares which items are unsafe to concat.
+fn assert_concats(rt: &impl Abort, buffer: &hb_buffer_t, flags: &[bool]) {
     for (item, wanted) in buffer.infos().iter().zip(flags) {
-        assert_same(rt, flags_of(item), *wanted);
+        assert_same(rt, item.unsafe_to_concat(), *wanted);
+    }
+}
+
+/// Compares before which items a tatweel is safe.
+fn assert_tatweels(rt: &impl Abort, buffer: &hb_buffer_t, flags: &[bool]) {
+    for (item, wanted) in buffer.infos().iter().zip(flags) {
+        assert_same(rt, item.safe_to_insert_tatweel(), *wanted);
     }
 }
 
@@ -279,6 +278,8 @@ fn items_are_exchanged_with_their_positions(rt: HostRuntime) -> Result<(), Fail>
     assert_rows(&rt, &buffer, &[(2, 4), (0, 1), (1, 2)]);
     exchange_infos(&mut buffer, 2, 1);
     assert_advances(&rt, &buffer, &[0, 0, 7]);
-    assert_flags(&rt, &buffer, &[4, 2, 1]);
+    assert_tatweels(&rt, &buffer, &[true, false, false]);
+    assert_concats(&rt, &buffer, &[false, true, false]);
+    assert_breaks(&rt, &buffer, &[false, false, true]);
     Ok(())
 }
