@@ -13,7 +13,7 @@ use Rattle.shape_common.specs.declared.map_face.Metrics.{Metrics}
 abbrev pub metrics_of : MapFace → GlyphId → Option Metrics
 metrics_of face glyph = get nat_cmp face.metrics glyph.0
 
--- the advance of a glyph, 0 where nothing was said of it
+-- the advance of a glyph, 0 if nothing was said of it
 abbrev pub advance_of : MapFace → GlyphId → ℤ
 advance_of face glyph = option_map_or (λ metrics. metrics.advance) (metrics_of face glyph) (pos 0)
 

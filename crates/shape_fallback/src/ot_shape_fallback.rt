@@ -7,7 +7,7 @@
 //! made one that names a side. A mark of a ligature goes to its own component, an equal part of the
 //! ligature's advance. A space takes its part of the em square, or the advance of a digit or a full stop.
 //!
-//! Contracts say every number, each sum, difference and product taken modulo 2^32; where all of them fit
+//! Contracts say every number, each sum, difference and product taken modulo 2^32; if all of them fit
 //! they are the exact ones.
 ghost use Rattle.std.specs.Prelude.{◌≡◌};
 ghost use Rattle.shape_buffer.specs.Outcome.{Made};
@@ -49,10 +49,10 @@ pub fn _hb_ot_shape_fallback_mark_position_recategorize_marks<F: hb_font_t, S, P
 ///
 /// A base is an item that isn't a mark and has marks directly after it. The base and its marks are
 /// marked unsafe to break, since they must be placed together. Marks of ccc 0 keep their positions;
-/// each other mark loses its advances and is moved from the place after the base to the base. Where the
+/// each other mark loses its advances and is moved from the place after the base to the base. If the
 /// face has no extents for the base, nonspacing marks lose their advances and nothing else is placed;
-/// their offsets lose the advances first where `adjust_offsets_when_zeroing` says so. Lines run as the
-/// buffer says; the components of a ligature run as the plan does, or as its script where the plan is
+/// their offsets lose the advances first if `adjust_offsets_when_zeroing` says so. Lines run as the
+/// buffer says; the components of a ligature run as the plan does, or as its script if the plan is
 /// vertical. Sums wrap modulo 2^32. Takes no memory.
 #[tactic(auto, unfolding(crate::specs::Bases::marks_positioned))]
 pub fn position_marks<U: hb_unicode_funcs_t, F: hb_font_t, S, P, D>(

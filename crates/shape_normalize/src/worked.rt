@@ -32,7 +32,7 @@ pub fn origins_meet_worked_cases()
     ensures { OriginsWorked }
 {}
 
-/// Whose ccc counts where hooks split, compose or reorder.
+/// Whose ccc counts if hooks split, compose or reorder.
 pub fn hooks_meet_worked_cases()
     ensures { HooksWorked }
 {}

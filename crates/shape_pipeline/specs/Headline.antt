@@ -55,6 +55,6 @@ pub record HasFlagsByCluster (text glyphs : Buffer) : Type 0 where
   pub concat : (bit_and text.flags.0 PRODUCE_UNSAFE_TO_CONCAT == PRODUCE_UNSAFE_TO_CONCAT) ≡ false
       → some_has UNSAFE_TO_CONCAT glyphs.items ≡ false
 
--- so it is where lookups and hooks keep flags
+-- so it is if lookups and hooks keep flags
 abbrev pub FlagsAreByCluster : Run → Buffer → Buffer → Type 0
 FlagsAreByCluster run text glyphs = RunKeepsFlags run → HasFlagsByCluster text glyphs

@@ -19,7 +19,7 @@ pub record Run : Type 0 where
   pub map : MapMeaning
   pub lookups : LookupMeaning
   pub constants : ShaperConstants
-  -- where the plan keeps the shaper
+  -- if the plan keeps the shaper
   pub hooks : Option HookMeaning
   pub direction : Direction
   pub script : Option Script
@@ -44,10 +44,10 @@ run_of unicode masks lookups constants hooks faces plan face = record {
   rules = rules_of unicode constants hooks faces plan face;
 }
 
--- a step where the test holds, else none
+-- a step if the test holds, else none
 abbrev pub step_if : Bool → (Buffer → Buffer) → Buffer → Buffer
 step_if test f = if test then f else (λ b. b)
 
--- a hook where it is given and the plan keeps the shaper, else none
+-- a hook if it is given and the plan keeps the shaper, else none
 abbrev pub hook_if : Bool → Option HookMeaning → (HookMeaning → Buffer → Buffer) → Buffer → Buffer
 hook_if given hooks pick = option_map_or (λ h. step_if given (pick h)) hooks (λ b. b)

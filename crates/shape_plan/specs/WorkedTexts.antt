@@ -97,7 +97,7 @@ tags_of_facts = record {
 abbrev pub tag_script : ℕ → Script
 tag_script number = record { 0 = tag number }
 
--- Zzzz where there is no script
+-- Zzzz if there is no script
 pub record ScriptsThatFit : Type 0 where
   pub none : known_script None ≡ tag_script 0x5A7A7A7A
   pub some : known_script (script_of 100) ≡ tag_script 100

@@ -14,7 +14,7 @@ use Rattle.shape_position.specs.Steps.{advance_steps, table_steps, show_steps, f
 use Rattle.shape_position.specs.Turning.{turned}
 use Rattle.shape_position.specs.Zeroing.{marks_zeroed}
 
--- every step keeps the order of clusters, but the reversal, which turns it where the text runs backward
+-- every step keeps the order of clusters, but the reversal, which turns it if the text runs backward
 pub record StepsKeepClusters : Type 0 where
   pub advances : (run : Run) → EachStep IsClusterKeeper (advance_steps run)
   pub tables : (run : Run) → CallsKeepClusters run → EachStep IsClusterKeeper (table_steps run)

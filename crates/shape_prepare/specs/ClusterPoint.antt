@@ -18,7 +18,7 @@ use Rattle.shape_plan.specs.Run.{Run}
 use Rattle.shape_prepare.specs.NativeOrder.{is_against, native_direction}
 use Rattle.shape_prepare.specs.PrepareSteps.{grapheme_steps, prepare_steps}
 
--- the direction where the list was turned, or not
+-- the direction if the list was turned, or not
 abbrev pub direction_for : Bool → Direction → Direction
 direction_for turned direction = if turned then reverse_of direction else direction
 
@@ -36,7 +36,7 @@ pub record InOrderFor (turned : Bool) (old new : Buffer) : Type 0 where
   pub flags : new.flags ≡ old.flags
   pub level : new.cluster_level ≡ old.cluster_level
 
--- at the monotone levels, where the hooks keep clusters, a text whose clusters never fall is prepared in order
+-- at the monotone levels, if the hooks keep clusters, a text whose clusters never fall is prepared in order
 abbrev pub PreparingKeepsOrder : Type 0
 PreparingKeepsOrder =
     (run : Run) (target : Direction) (b : Buffer) → CallsKeepClusters run → IsMonotoneLevel b.cluster_level

@@ -78,7 +78,7 @@ is_settled item = item.properties.continuation && not item.properties.zwj
 abbrev pub with_continuation : Bool → Item → Item
 with_continuation continuation item = record item { properties = record item.properties { continuation = continuation } }
 
--- each item marked as a continuation where it is one
+-- each item marked as a continuation if it is one
 abbrev pub continuations_marked : UnicodeMeaning → Before → List Item → List Item
 continuations_marked unicode before [] = []
 continuations_marked unicode before (item ∷ items) =

@@ -1,4 +1,4 @@
--- Where preparing leaves the characters of a text as they are.
+-- When preparing leaves the characters of a text as they are.
 use Rattle.std.specs.Prelude.{◌≡◌, ℕ, ◌&&◌, true, false, map, All, Some}
 use Rattle.canonical_form.specs.Expanded.{begins_with_mark}
 use Rattle.shape_items.specs.Buffer.{Buffer}

@@ -13,7 +13,7 @@ use crate::grapheme_walk::{GraphemeChange, each_grapheme};
 use bitflags::Flags;
 use shape_buffer::buffer::{BufferClusterLevel, ScratchFlags, hb_buffer_t};
 
-/// Where a character past ASCII was seen, merges each grapheme at level MONOTONE_GRAPHEMES, and marks each
+/// If a character past ASCII was seen, merges each grapheme at level MONOTONE_GRAPHEMES, and marks each
 /// unsafe to break at the other levels. Takes no memory.
 pub fn form_clusters(buffer: &mut hb_buffer_t)
     ensures { Made clusters_formed buffer.old buffer.new }

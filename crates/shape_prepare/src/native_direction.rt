@@ -26,7 +26,7 @@ use shape_buffer::buffer::{
 use shape_buffer::interfaces::hb_unicode_funcs_t;
 
 /// Turns a text that runs against its native direction, and its direction with it: horizontal text unlike
-/// the direction of its script, where that is known, and vertical text that runs to the top. Graphemes
+/// the direction of its script, if that is known, and vertical text that runs to the top. Graphemes
 /// stay as they are; at level MONOTONE_CHARACTERS each is merged first. Text from left to right that has
 /// numbers and no letter stays so under a script that is written from right to left. Takes no memory.
 pub fn ensure_native_direction<U: hb_unicode_funcs_t>(buffer: &mut hb_buffer_t)
@@ -42,7 +42,7 @@ pub fn ensure_native_direction<U: hb_unicode_funcs_t>(buffer: &mut hb_buffer_t)
     turn_graphemes(buffer);
 }
 
-/// The direction that the text is written in, where it is known.
+/// The direction that the text is written in, if it is known.
 fn native_direction<U: hb_unicode_funcs_t>(buffer: &hb_buffer_t) -> Option<Direction>
     ensures { result ≡ native_direction_of U.unicode buffer.now }
 {
@@ -54,7 +54,7 @@ fn native_direction<U: hb_unicode_funcs_t>(buffer: &hb_buffer_t) -> Option<Direc
     }
 }
 
-/// The direction that a script is written in, where it is known.
+/// The direction that a script is written in, if it is known.
 fn direction_of_script<U: hb_unicode_funcs_t>(script: Option<Script>) -> Option<Direction>
     ensures { result ≡ direction_of_script_of U.unicode script }
 {

@@ -6,7 +6,7 @@ use Rattle.shape_common.specs.declared.settings.Feature.{Feature}
 use Rattle.shape_text_forms.specs.Scan.{is_of, without_spaces, after_first, after_byte, number_of}
 use Rattle.shape_text_forms.specs.declared.scan.Kind.TheVariants.{Letter, Tag}
 
--- four bytes, the first one highest; spaces (32) where there are fewer
+-- four bytes, the first one highest; spaces (32) if there are fewer
 abbrev pub tag_value : List ℕ → ℕ
 tag_value bytes =
     get_or bytes 0 32 * 16777216 + get_or bytes 1 32 * 65536 + get_or bytes 2 32 * 256 + get_or bytes 3 32

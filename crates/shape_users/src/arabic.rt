@@ -103,7 +103,7 @@ impl<U: hb_unicode_funcs_t, F, M: hb_ot_layout_t<F>> reorder_marks_hook<ArabicSh
     ghost reorders = { λ _ _. modifiers_reordered-reorders };
 }
 
-/// A run by this shaper keeps clusters where its engine's lookups do, and flags where they do, whatever the
+/// A run by this shaper keeps clusters if its engine's lookups do, and flags if they do, whatever the
 /// functions of Unicode, the plan and the face.
 pub fn arabic_runs_keep<U: hb_unicode_funcs_t, F: hb_font_t, M: hb_ot_layout_t<F>>()
     ensures clusters { (plan : Plan AnyShaper M.Map Unit) (face : F)

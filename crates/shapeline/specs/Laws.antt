@@ -54,7 +54,7 @@ falls e = nat_lt (height_of e.1) (height_of e.0)
 abbrev ends : Entry → Bool
 ends e = e.2 == 0 || is_none (split_in_table e.2)
 
--- the parts have the ccc of the whole, where that isn't 0; U+0000 has none
+-- the parts have the ccc of the whole, if that isn't 0; U+0000 has none
 abbrev keeps_ccc : Entry → Bool
 keeps_ccc e = ccc_in_table e.0 == 0 || (ccc_in_table e.1 == ccc_in_table e.0 && (e.2 == 0 || ccc_in_table e.2 == ccc_in_table e.0))
 

@@ -27,7 +27,7 @@ impl<'a> Words<'a> {
         Words { rest: line }
     }
 
-    /// The words before and after the first `/`, where that is a word by itself.
+    /// The words before and after the first `/`, if that is a word by itself.
     pub fn parted(self) -> Option<(Words<'a>, Words<'a>)>
         ensures { MatchOption result
             ((before behind : List (List ℕ)) → All (All (λ b. b ≢ 47)) before

@@ -18,7 +18,7 @@ use shape_buffer::buffer::{GlyphId, GlyphPosition, hb_glyph_info_t};
 use shape_buffer::interfaces::{hb_font_t, hb_glyph_extents_t};
 use shape_buffer::wrapping::{difference, product, quotient, sum};
 
-/// Stands for the last ccc where no mark of the component has been placed yet.
+/// Stands for the last ccc if no mark of the component has been placed yet.
 pub const NO_LAST_CCC: u8 = 255;
 
 /// What the marks of a base are placed by.
@@ -114,7 +114,7 @@ fn at_component(base: &Base, info: &hb_glyph_info_t, state: &mut MarkState)
     state.ccc = NO_LAST_CCC;
 }
 
-/// The same, where the base has several components.
+/// The same, if the base has several components.
 #[tactic(auto, using(shape_common::proofs::WrappingLemmas::kept_bits), unfolding(crate::specs::MarkState::with_component))]
 fn with_component(base: &Base, info: &hb_glyph_info_t, state: &mut MarkState)
     ensures { state.new ≡ with_component_of base.now info.now state.old }

@@ -15,7 +15,7 @@ use shape_plan::normalization_mode::{
 use shape_plan::ot_shaper::hb_ot_shaper_t;
 use shape_plan::shaping_types::{PlanOf, ShapingTypes};
 
-/// The mode of a plan: the shaper's preference where the plan keeps it, else AUTO.
+/// The mode of a plan: the shaper's preference if the plan keeps it, else AUTO.
 fn mode_of<T: ShapingTypes>(plan: &PlanOf<'_, T>) -> hb_ot_shape_normalization_mode_t
     ensures { result ≡ used_mode T.Shaper.constants.preference plan.now }
 {

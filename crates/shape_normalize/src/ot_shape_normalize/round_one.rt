@@ -30,7 +30,7 @@ use shape_plan::shaping_types::{Meaning, PlanOf, ShapingTypes};
 use std::alloc::Global;
 
 impl Expanded {
-    /// Puts out what the items of a sequence become, each by itself. Refuses with `Length` where that passes
+    /// Puts out what the items of a sequence become, each by itself. Refuses with `Length` if that passes
     /// the buffer's limit.
     fn put_items<T: ShapingTypes>(
         &mut self,
@@ -62,7 +62,7 @@ impl Expanded {
         Ok(())
     }
 
-    /// Puts out what a sequence becomes. Refuses with `Length` where that passes the buffer's limit.
+    /// Puts out what a sequence becomes. Refuses with `Length` if that passes the buffer's limit.
     fn put_sequence<T: ShapingTypes>(
         &mut self,
         plan: &PlanOf<'_, T>,
@@ -91,7 +91,7 @@ impl Expanded {
     }
 }
 
-/// What the items of a list become, in order. Refuses with `Length` where that passes the limit.
+/// What the items of a list become, in order. Refuses with `Length` if that passes the limit.
 fn expand_all<T: ShapingTypes>(
     alloc: Global,
     plan: &PlanOf<'_, T>,
@@ -122,7 +122,7 @@ fn expand_all<T: ShapingTypes>(
     Ok(out)
 }
 
-/// Puts what the items become in their place. Refuses with `Length` where that passes the limit; after a
+/// Puts what the items become in their place. Refuses with `Length` if that passes the limit; after a
 /// refusal the settings that clearing keeps are as they were.
 pub(crate) fn expand<T: ShapingTypes>(
     alloc: Global,

@@ -134,7 +134,7 @@ pub(crate) fn begin(
     add_tracking(builder)
 }
 
-/// A script's own features, where the shaper is kept and collects some. The builder is no longer simple
+/// A script's own features, if the shaper is kept and collects some. The builder is no longer simple
 /// when the hook sees it.
 pub(crate) fn collect<U, F, M, S>(
     alloc: Global,
@@ -227,7 +227,7 @@ fn add_user_features(
     Ok(())
 }
 
-/// All that comes after a script's own features. Where the user asks for some the builder is no longer
+/// All that comes after a script's own features. If the user asks for some the builder is no longer
 /// simple.
 pub(crate) fn widen(
     builder: &mut hb_ot_map_builder_t,
@@ -246,7 +246,7 @@ pub(crate) fn widen(
     add_user_features(builder, features)
 }
 
-/// What the shaper asks for last, where it is kept and does.
+/// What the shaper asks for last, if it is kept and does.
 pub(crate) fn override_features<U, F, M, S>(
     alloc: Global,
     shaper: ChosenShaper<'_, S>,

@@ -144,7 +144,7 @@ rotated-keeps_order unicode face decisions target b = record {
   level = refl;
 }
 
--- ---- graphemes of one item, where no character past ASCII was seen
+-- ---- graphemes of one item, if no character past ASCII was seen
 
 abbrev pub seen_past : ScratchFlags → Bool
 seen_past flags = bit_and flags.0 1 == 1
@@ -194,7 +194,7 @@ ascii-continues unicode item within =
     (is_regional_indicator c) (c == 0x200D) (is_extender c) (is_mark unicode c) within
     (grind (arith, nat_tests)) (grind (arith, nat_tests)) (grind (arith, nat_tests)) (grind (arith, nat_tests))
 
--- where no character past ASCII was seen no item continues a grapheme
+-- if no character past ASCII was seen no item continues a grapheme
 none-marked : (unicode : UnicodeMeaning) (items : List Item) (flags : ScratchFlags)
     → seen_past (fold (seen_item unicode) flags items) ≡ false
     → NoneContinues (continuations_marked unicode Plain (map (with_unicode_props unicode) items))

@@ -13,7 +13,7 @@ fn is_plain(c: char) -> bool
     !category.is_mark() && !matches!(category, hb_unicode_general_category_t::SpaceSeparator)
 }
 
-/// The form that a table has for a character, where both are plain.
+/// The form that a table has for a character, if both are plain.
 pub fn plain_form(c: char, form: Option<char>) -> Option<char>
     ensures { result ≡ plain_form c form }
 {

@@ -23,7 +23,7 @@ impl hb_buffer_t {
         self.positions[start..end].reverse();
     }
 
-    /// Makes every position zeros. Takes no memory, and writes nothing where all of them are.
+    /// Makes every position zeros. Takes no memory, and writes nothing if all of them are.
     pub fn clear_positions(&mut self)
         ensures { self.new ≡ record self.old {
           positions = replicate (length self.old.items) zero_position;

@@ -33,7 +33,7 @@ const HYPHEN: char = '\u{2010}';
 
 const NON_BREAKING_HYPHEN: char = '\u{2011}';
 
-/// The index of the glyph of a character, 0 where the face has none.
+/// The index of the glyph of a character, 0 if the face has none.
 fn glyph_index<F: hb_font_t>(face: &F, c: char) -> u32
     ensures { result ≡ glyph_index_of (F.face face.now).nominal_glyph c }
 {
@@ -103,7 +103,7 @@ fn is_fallback_space<U: hb_unicode_funcs_t, F: hb_font_t>(
         && space_glyph::<U, F>(face, invisible).is_some()
 }
 
-/// The index of the glyph of an item whose character has none, 0 where nothing stands in for it.
+/// The index of the glyph of an item whose character has none, 0 if nothing stands in for it.
 fn fallback_index<U: hb_unicode_funcs_t, F: hb_font_t>(
     face: &F,
     info: &hb_glyph_info_t,
@@ -166,7 +166,7 @@ fn kept_item<U: hb_unicode_funcs_t, F: hb_font_t>(
     lacking_item::<U, F>(face, info, invisible, scratch_flags)
 }
 
-/// The item with its glyph, where it keeps its character; none where it expands, and then `expansion` is
+/// The item with its glyph, if it keeps its character; none if it expands, and then `expansion` is
 /// what it becomes. The face is asked once about an item that has a glyph and keeps it.
 pub(crate) fn unexpanded<T: ShapingTypes>(
     plan: &PlanOf<'_, T>,
@@ -252,7 +252,7 @@ impl Expanded {
         Ok(())
     }
 
-    /// Puts out what an item becomes. Refuses with `Length` where that passes the limit.
+    /// Puts out what an item becomes. Refuses with `Length` if that passes the limit.
     pub(crate) fn put_item<T: ShapingTypes>(
         &mut self,
         plan: &PlanOf<'_, T>,

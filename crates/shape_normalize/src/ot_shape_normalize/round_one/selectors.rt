@@ -1,4 +1,4 @@
-//! Sequences that hold a variation selector: an item and its selector become one item where the face has a
+//! Sequences that hold a variation selector: an item and its selector become one item if the face has a
 //! glyph for the two; all other items pass.
 ghost use Rattle.std.specs.Prelude.{◌≡◌, ◌<◌, ◌≤◌, ◌∷◌, ◌++◌, length, map, fold, vec_len, OnOk};
 ghost use Rattle.std.specs.Prelude.{Err};
@@ -14,7 +14,7 @@ use shape_buffer::buffer::{GlyphId, ScratchFlags, ShapeError, hb_buffer_t, hb_gl
 use shape_buffer::interfaces::{hb_font_t, hb_unicode_funcs_t};
 use std::alloc::AllocError;
 
-/// The item with the glyph of its character, or as it is where it has none.
+/// The item with the glyph of its character, or as it is if it has none.
 fn passed<F: hb_font_t>(face: &F, info: &hb_glyph_info_t) -> hb_glyph_info_t
     ensures { result ≡ passed_item (F.face face.now).nominal_glyph info.now }
 {
@@ -40,7 +40,7 @@ fn push_passed<F: hb_font_t>(
     Ok(())
 }
 
-/// Marks a selector that made no glyph with its item; where the buffer has a not-found glyph for
+/// Marks a selector that made no glyph with its item; if the buffer has a not-found glyph for
 /// selectors, it is no longer ignorable.
 fn mark_selector(info: &mut hb_glyph_info_t, not_found: Option<GlyphId>)
     ensures { info.new ≡ marked_selector not_found info.old }
@@ -97,7 +97,7 @@ impl Expanded {
         Ok(())
     }
 
-    /// Puts out what an item and the selectors directly after it become. Refuses with `Length` where that
+    /// Puts out what an item and the selectors directly after it become. Refuses with `Length` if that
     /// passes the limit.
     fn put_variant<F: hb_font_t>(
         &mut self,
@@ -135,7 +135,7 @@ impl Expanded {
         Ok(())
     }
 
-    /// Puts out what a sequence that holds a variation selector becomes. Refuses with `Length` where that
+    /// Puts out what a sequence that holds a variation selector becomes. Refuses with `Length` if that
     /// passes the buffer's limit.
     pub(super) fn put_variants<U: hb_unicode_funcs_t, F: hb_font_t>(
         &mut self,
