@@ -1,4 +1,4 @@
--- The expanded list: each item becomes what its character does, which may go by whether a mark stands at it.
+-- The expanded list: each item becomes what its character does, which may depend on whether a mark stands at it.
 use Rattle.std.specs.Prelude.{ℕ, Bool, true, false, ◌&&◌, ◌||◌, not, List, [], ◌∷◌, ◌++◌}
 use Rattle.canonical_form.specs.Decompositions.{Decompositions}
 use Rattle.canonical_form.specs.Expansion.{choice}

@@ -102,7 +102,7 @@ pub fn recomposed_decides()
 {}
 
 /// Which ccc between a starter and a mark keeps the two apart: in an ordered list that of the
-/// item put out last, in every list the greatest.
+/// item emitted last, in every list the greatest.
 pub fn one_ccc_decides<T>()
     ensures last { LastDecides T }
     ensures greatest { GreatestDecides T }

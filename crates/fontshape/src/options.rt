@@ -197,7 +197,7 @@ impl Options {
         }
     }
 
-    /// Turns an option on that takes no value.
+    /// Switches on an option that takes no value.
     fn turn_on(&mut self, switch: Switch) {
         match switch {
             Switch::Help => self.help = true,

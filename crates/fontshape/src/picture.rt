@@ -55,7 +55,7 @@ fn append_glyphs(
     Ok(())
 }
 
-/// Appends a bar for each cluster, in two colours by turns, and a mark where a line may be cut before its text.
+/// Appends a bar for each cluster, in two alternating colours, and a mark where a line may be cut before its text.
 fn append_clusters(
     alloc: Global,
     out: &mut String,

@@ -41,7 +41,7 @@ feature tag flags value = Feature tag flags value
 abbrev pub feature_on : hb_tag_t → ℕ → ℕ → MapRequest
 feature_on tag flags value = feature tag (bit_or F_GLOBAL flags) value
 
--- a feature turned off over the whole text
+-- a feature switched off over the whole text
 abbrev pub feature_off : hb_tag_t → MapRequest
 feature_off tag = feature tag F_GLOBAL 0
 

@@ -1,4 +1,4 @@
--- The steps of a run that stand in for lookups, each with the test whether it is due.
+-- The steps of a run that replace lookups, each with the test whether it is due.
 use Rattle.std.specs.Prelude.{◌==◌, ◌&&◌, Bool, Option}
 use Rattle.std.specs.Int.RustNames.{bit_and}
 use Rattle.shape_items.specs.Buffer.{Buffer}

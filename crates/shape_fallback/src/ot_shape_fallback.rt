@@ -1,7 +1,7 @@
-//! Fallback positions: what stands in for the lookups that a face lacks.
+//! Fallback positions: what replaces the lookups that a face lacks.
 //!
 //! A font without positioning lookups leaves its marks beside their bases, and may have no glyph for
-//! most of the spaces. So each mark goes by its ccc to a side of its base: below, above, at the left or at
+//! most of the spaces. So each mark is placed by its ccc at a side of its base: below, above, at the left or at
 //! the right of the base's extents, taken as wide as its advance and as high as its ink, a gap apart, each
 //! next mark of the ccc beyond the one before. A ccc that only tells marks of one script apart is first
 //! made one that names a side. A mark of a ligature goes to its own component, an equal part of the
@@ -33,7 +33,7 @@ use shape_buffer::interfaces::{hb_font_t, hb_unicode_funcs_t};
 use shape_plan::ot_shape_plan::hb_ot_shape_plan_t;
 
 /// Gives each nonspacing mark the ccc that [`position_marks`] places it by: ccc of 200 and more
-/// name a side of the base and stay, marks of Thai and Lao go by their character, and the ccc of
+/// name a side of the base and stay, marks of Thai and Lao get theirs by their character, and the ccc of
 /// other scripts become ones that name a side. Neither plan nor face is asked. Takes no memory.
 pub fn _hb_ot_shape_fallback_mark_position_recategorize_marks<F: hb_font_t, S, P, D>(
     plan: &hb_ot_shape_plan_t<'_, S, P, D>,

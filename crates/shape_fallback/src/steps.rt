@@ -1,4 +1,4 @@
-//! The steps of a run that stand in for lookups: each asks the plan or the buffer whether it is due.
+//! The steps of a run that replace lookups: each asks the plan or the buffer whether it is due.
 ghost use Rattle.std.specs.Prelude.{◌≡◌};
 ghost use Rattle.shape_buffer.specs.Outcome.{Made};
 ghost use Rattle.shape_fallback.specs.Steps.{recategorize_step, spaces_step, marks_step};

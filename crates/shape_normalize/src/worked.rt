@@ -7,7 +7,7 @@ ghost use Rattle.shape_normalize.specs.WorkedOrigins.{OriginsWorked};
 ghost use Rattle.shape_normalize.specs.WorkedThree.{RoundThreeWorked};
 ghost use Rattle.shape_normalize.specs.WorkedTwo.{RoundTwoWorked};
 
-/// Modes, glyphs that stand in for others, expansions, sequences and variation selectors.
+/// Modes, glyphs that replace others, expansions, sequences and variation selectors.
 pub fn round_one_meets_worked_cases()
     ensures { RoundOneWorked }
 {}

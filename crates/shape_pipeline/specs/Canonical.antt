@@ -52,7 +52,7 @@ pub record IsCutInTwo (run : Run) (text front back : Buffer) : Type 0 where
   pub back_marked : has_mark_past_first (prepared_text run back).items ≡ true
 
 -- the normalised list is equivalent to the prepared text, canonical or recomposed of a canonical one, the same as another text's exactly
--- when both are equivalent; it goes by characters alone, and may be made part by part
+-- when both are equivalent; it depends on characters alone, and may be made part by part
 pub record HasCanonicalList (run : Run) (text : Buffer) : Type 0 where
   pub equivalent : HasPlainText run text → AreEquivalent run.rules (prepared_characters run text) (normalised_characters run text)
   pub canonical : run.rules.recomposes ≡ false → HasCanonicalText run text → HasCanonicalForm run.rules (normalised_characters run text)
@@ -71,7 +71,7 @@ pub record HasCanonicalList (run : Run) (text : Buffer) : Type 0 where
 abbrev pub ListIsCanonical : Run → Buffer → Type 0
 ListIsCanonical run text = RunKeepsEquivalence run → HasCanonicalList run text
 
--- preparing leaves the characters of a text, with script and direction guessed: no dotted circle goes in, nothing is turned, mirrored or
+-- preparing leaves the characters of a text, with script and direction guessed: no dotted circle goes in, nothing is reversed, mirrored or
 -- taken in its vertical form, and a given `preprocess_text` leaves characters
 abbrev pub LeavesText : Run → Buffer → Type 0
 LeavesText run text = LeavesCharacters run (target_of run text) (entered (guessed run.unicode text))

@@ -36,7 +36,7 @@ IsMadeOfNormalisedList run text glyphs =
     HasItems text → glyphs ≡ finished (target_of run text) (run_steps (shaped_steps run) (normalised_list run text))
 
 -- what is promised of the normalised list of a prepared text: what is brought in has a glyph, each item has the glyph of its character
--- or what stands in for it, features are those of the text's items, each item comes by its place, clusters keep their order,
+-- or what replaces it, features are those of the text's items, each item comes by its place, clusters keep their order,
 -- canonical form, and what recomposing leaves
 pub record NormalForm (rules : Rules) (text list : Buffer) : Type 0 where
   pub brought_in : BroughtInHaveGlyphs rules.face.nominal_glyph (text_of text) (text_of list)

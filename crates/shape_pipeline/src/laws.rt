@@ -115,7 +115,7 @@ pub fn plain_runs_owe_nothing<U: hb_unicode_funcs_t, F: hb_font_t>()
         → OwesNothing (⟦<hb_default_shaper_t as Runs<U, F, NoLookups>>⟧.run plan face) }
 {}
 
-/// If preparing leaves the characters of a text (no dotted circle goes in, nothing is turned, mirrored or
+/// If preparing leaves the characters of a text (no dotted circle goes in, nothing is reversed, mirrored or
 /// taken in its vertical form, and a given hook leaves characters), they are those of the prepared text. So
 /// two such texts are led to the same normalised characters exactly when they are equivalent, if hooks
 /// keep equivalence and canonical form can be asked of both.

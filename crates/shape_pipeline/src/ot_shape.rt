@@ -26,7 +26,7 @@ use shape_prepare::prepare::prepare;
 pub use shape_substitute::syllables::syllabic_clear_var;
 use std::alloc::Global;
 
-/// A buffer that is being shaped, with the plan and the face that this goes by, and the direction that the
+/// A buffer that is being shaped, with the plan and the face that it is shaped by, and the direction that the
 /// text was handed over in. `S` is the type of the shaper, `P` that of the compiled lookups, `D` that of the
 /// shaper's data.
 #[derive(Drop)]

@@ -31,7 +31,7 @@ pub record Planner (F S : Type 0) : Type 0 where
   -- if it is kept
   pub shaper : Option S
 
--- what planning goes by: the answers of faces and engine, the shaper's constants and those of its hooks that make a plan
+-- what planning depends on: the answers of faces and engine, the shaper's constants and those of its hooks that make a plan
 pub record Planning (F S P D : Type 0) : Type 0 where
   pub faces : F → FaceMeaning
   pub layouts : F → LayoutMeaning P
@@ -83,7 +83,7 @@ is_chosen chosen script = option_map_or (λ c. c.0 == script.0) chosen false
 abbrev pub is_gpos_disabled : {S : Type 0} → Option hb_tag_t → Option S → Option hb_tag_t → Bool
 is_gpos_disabled gpos_tag shaper chosen = is_some shaper && option_map_or (λ script. not (is_chosen chosen script)) gpos_tag false
 
--- what the decisions go by, where `map` is what the requests were compiled to
+-- what the decisions depend on, where `map` is what the requests were compiled to
 unfoldable pub facts_of : {F S P D : Type 0} → Planning F S P D → Planner F S → MapMeaning → PlanFacts
 facts_of planning planner map =
     let layout = planning.layouts planner.face in

@@ -30,7 +30,7 @@ forms LeftToRight = on tag.ltra F_NONE ∷ on tag.ltrm F_NONE ∷ []
 forms RightToLeft = on tag.rtla F_NONE ∷ add tag.rtlm F_NONE ∷ []
 forms _ = []
 
--- fractions, which masks turn on where digits stand round a slash
+-- fractions, which masks switch on where digits stand round a slash
 abbrev pub fractions : List MapRequest
 fractions = add tag.frac F_NONE ∷ add tag.numr F_NONE ∷ add tag.dnom F_NONE ∷ []
 
@@ -38,7 +38,7 @@ fractions = add tag.frac F_NONE ∷ add tag.numr F_NONE ∷ add tag.dnom F_NONE 
 abbrev pub random : List MapRequest
 random = feature_on tag.rand F_RANDOM 255 ∷ []
 
--- tracking, which a table of its own may stand in for, and two features of faces that come before those of a script
+-- tracking, whose work a table of its own may do, and two features of faces that come before those of a script
 abbrev pub tracking : List MapRequest
 tracking = on tag.trak F_HAS_FALLBACK ∷ on tag.harf F_NONE ∷ on tag.harf_discretionary F_NONE ∷ []
 

@@ -1,4 +1,4 @@
--- What normalising goes by, as functions on characters.
+-- What normalising depends on, as functions on characters.
 use Rattle.std.specs.Prelude.{ℕ, ℤ, Bool, true, false, ◌||◌, not, Option, None, is_some, if◌then◌else◌}
 use Rattle.std.specs.Option.{option_map, option_map_or}
 use Rattle.std.specs.Ordering.{int_eq}

@@ -1,4 +1,4 @@
--- What a whole run goes by, as functions and values: one record of all that its four type parameters, its plan and its face bring.
+-- What a whole run depends on, as functions and values: one record of all that its four type parameters, its plan and its face bring.
 use Rattle.std.specs.Prelude.{Bool, List, Option, if◌then◌else◌}
 use Rattle.std.specs.Option.{option_map_or}
 use Rattle.shape_items.specs.Buffer.{Buffer}
@@ -25,7 +25,7 @@ pub record Run : Type 0 where
   pub script : Option Script
   pub decisions : Decisions
   pub user_features : List Feature
-  -- what normalising goes by
+  -- what normalising depends on
   pub rules : Rules
 
 abbrev pub run_of : {S P D F : Type 0} → UnicodeMeaning → (P → MapMeaning) → (P → F → LookupMeaning) → ShaperConstants

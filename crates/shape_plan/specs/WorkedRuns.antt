@@ -1,4 +1,4 @@
--- What a run and normalising go by, worked out by hand: hooks count if they are given and the plan keeps
+-- What a run and normalising depend on, worked out by hand: hooks count if they are given and the plan keeps
 -- its shaper, and all else is told of the plan and the face.
 use Rattle.std.specs.Prelude.{◌≡◌, ◌+◌, ℕ, pos, neg_ℤ, true, false, [], ◌∷◌, Option, Some, None, is_some, refl}
 use Rattle.shape_items.specs.Buffer.{Buffer, new_buffer}

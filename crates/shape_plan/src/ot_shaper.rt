@@ -296,13 +296,13 @@ pub trait hb_ot_shaper_t<U: hb_unicode_funcs_t, F: hb_font_t, M: hb_ot_layout_t<
         → OwedHooks (hooks shaper plan face) };
 }
 
-/// What a run goes by under a plan and over a face: the meanings that its four type parameters bring, in plain
+/// What a run depends on under a plan and over a face: the meanings that its four type parameters bring, in plain
 /// functions. Every shaper has it, and none writes it.
 pub trait Runs<U: hb_unicode_funcs_t, F: hb_font_t, M: hb_ot_layout_t<F>>: hb_ot_shaper_t<U, F, M> {
-    /// What normalising goes by.
+    /// What normalising depends on.
     ghost rules: { Plan Self M.Map Self.Data → F → Rules };
 
-    /// What the whole run goes by.
+    /// What the whole run depends on.
     ghost run: { Plan Self M.Map Self.Data → F → Run };
 }
 

@@ -28,7 +28,7 @@ use shape_buffer::interfaces::{
 use std::alloc::Global;
 use std::marker::Model;
 
-/// What planning goes by: the meanings that its type parameters bring, in plain functions. Every shaper
+/// What planning depends on: the meanings that its type parameters bring, in plain functions. Every shaper
 /// has it, and none writes it.
 pub trait Plans<U: hb_unicode_funcs_t, F: hb_font_t, M: hb_ot_layout_t<F>>: hb_ot_shaper_t<
     U,

@@ -1,7 +1,7 @@
 //! The end of a run: the order of the glyphs, which of them are seen, and their flags.
 //!
 //! Shaping works in the order of the text, so if lines run to the left or to the top the glyphs are
-//! turned once they are placed. Flags come last, since every step before may still move them between glyphs.
+//! reversed once they are placed. Flags come last, since every step before may still move them between glyphs.
 ghost use Rattle.std.specs.Prelude.{◌≡◌};
 ghost use Rattle.shape_buffer.specs.Outcome.{IsWithinLimit, Made, Outcome, RunOutcome, step};
 ghost use Rattle.shape_plan.specs.Run.{hook_if};
@@ -18,7 +18,7 @@ use shape_plan::ot_shaper::hb_ot_shaper_t;
 use shape_plan::shaping_types::{Meaning, PlanOf, ShapingTypes};
 use std::alloc::Global;
 
-/// Turns glyphs and positions, if the buffer's direction is backward. Takes no memory.
+/// Reverses glyphs and positions, if the buffer's direction is backward. Takes no memory.
 #[tactic(auto, unfolding(crate::specs::Turning::turned))]
 pub fn reverse_backward(buffer: &mut hb_buffer_t)
     ensures { Made turned buffer.old buffer.new }

@@ -78,7 +78,7 @@ fn handed_flags(flags: BufferFlags, united: hb_mask_t) -> hb_mask_t
     }
 }
 
-/// What the walk over the items hands on: the mask that an item got, and how many of those behind it get it, too.
+/// What the walk over the items hands on: the mask that an item got, and how many of those after it get it, too.
 #[derive(Clone, Copy, Debug)]
 pub struct Passed {
     pub mask: hb_mask_t,
@@ -96,7 +96,7 @@ fn pass_run(flags: BufferFlags, infos: &[hb_glyph_info_t], cluster: u32) -> Pass
     }
 }
 
-/// What the first of these items gets, which is of the cluster, and how many behind it.
+/// What the first of these items gets, which is of the cluster, and how many after it.
 fn pass(flags: BufferFlags, before: Passed, infos: &[hb_glyph_info_t], cluster: u32) -> Passed
     ensures { result ≡ passed_by flags before cluster infos.now }
 {

@@ -4,7 +4,7 @@ ghost use Rattle.shape_position.specs.Keepers.{StepsKeep};
 ghost use Rattle.shape_position.specs.OneTable.{EachRunsOneTable};
 
 /// Each step of positions and of the end of a run keeps the order of clusters and the flags of glyphs,
-/// if the lookups and hooks of the run do. The reversal turns the order of clusters if the buffer's
+/// if the lookups and hooks of the run do. The reversal inverts the order of clusters if the buffer's
 /// direction is backward. Each of them that asks neither lookups nor hooks leaves as many positions as items,
 /// if there were. Does nothing: a caller's proof cites it.
 pub fn steps_keep_clusters_and_flags()

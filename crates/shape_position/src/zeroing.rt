@@ -3,7 +3,7 @@
 //! A mark stands over the glyph before it and must not move the pen. Shapers say when its advance goes:
 //! before the tables place it, after, or never. If no table moves marks, a mark of a forward line is
 //! moved back by the advance that it loses, so that it hangs over the glyph before it; in a backward line
-//! it then hangs over the glyph that comes to stand before it when the line is turned.
+//! it then hangs over the glyph that comes to stand before it when the line is reversed.
 ghost use Rattle.std.specs.Prelude.{◌≡◌, ◌<◌, length, slice_index_or, slice_set};
 ghost use Rattle.shape_items.specs.Items.{Item};
 ghost use Rattle.shape_buffer.specs.Outcome.{Made};

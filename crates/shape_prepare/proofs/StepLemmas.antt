@@ -170,7 +170,7 @@ pub dotted_circled-no_mark : (unicode : UnicodeMeaning) (face : FaceMeaning) (b 
 unfolding dotted_circled
 dotted_circled-no_mark unicode face b takes mark = rw (takes, mark) refl
 
--- a text in its native direction stays, any other is turned
+-- a text in its native direction stays, any other is reversed
 pub natively_ordered-kept : (unicode : UnicodeMeaning) (b : Buffer) → is_against (native_direction unicode b) b.direction ≡ false
     → natively_ordered unicode b ≡ b
 unfolding natively_ordered

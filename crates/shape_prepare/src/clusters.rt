@@ -1,4 +1,4 @@
-//! The fourth step: the clusters of graphemes.
+//! The clusters of graphemes.
 //!
 //! A caller who asks for graphemes gets one cluster for each. Any other is told that a line can't be
 //! broken inside one without shaping anew. Text of ASCII characters alone has graphemes of one item, so

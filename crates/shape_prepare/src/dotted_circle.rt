@@ -1,4 +1,4 @@
-//! The third step: a base for a mark that begins a text.
+//! The dotted circle: a base for a mark that begins a text.
 //!
 //! A mark that nothing stands before would hang on what is printed beside it. So it gets a dotted circle to
 //! stand on, as code charts have it, unless the caller forbids it or the text goes on from another one.

@@ -13,7 +13,7 @@ use shape_buffer::buffer::{hb_buffer_t, hb_glyph_info_t};
 pub(crate) enum GraphemeChange {
     /// It is marked unsafe to break.
     Mark,
-    /// The order of its items is turned.
+    /// The order of its items is reversed.
     Turn,
 }
 

@@ -10,7 +10,7 @@ pub fn preparing_keeps_flags()
 {}
 
 /// At the monotone levels, if the shaper's hook keeps clusters, clusters that never fall come out so, or
-/// never rise exactly when the native order turned the list, which the buffer's direction tells; none is
+/// never rise exactly when the native order reversed the list, which the buffer's direction tells; none is
 /// new, and flags and level stay.
 pub fn preparing_keeps_order()
     ensures { PreparingKeepsOrder }
@@ -28,7 +28,7 @@ pub fn preparing_prepares()
     ensures { PreparingPrepares }
 {}
 
-/// The prepared text has the characters of the text, if no dotted circle goes in, the list isn't turned,
+/// The prepared text has the characters of the text, if no dotted circle goes in, the list isn't reversed,
 /// each character is its own form for the direction, and a given hook leaves characters.
 pub fn preparing_keeps_characters()
     ensures { PreparingKeepsCharacters }

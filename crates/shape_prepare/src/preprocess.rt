@@ -1,4 +1,4 @@
-//! The sixth step: what the script shaper makes of the text.
+//! The hook `preprocess_text`: what the script shaper makes of the text.
 ghost use Rattle.shape_buffer.specs.Outcome.{Outcome, IsWithinLimit, step};
 ghost use Rattle.shape_plan.specs.Run.{hook_if};
 

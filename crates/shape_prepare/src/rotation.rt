@@ -1,4 +1,4 @@
-//! The seventh step: characters that have another form in the direction of the text.
+//! Mirrored and vertical forms: characters that have another form in the direction of the text.
 //!
 //! A parenthesis that opens a text from right to left is drawn as the mirror image of the one that opens a
 //! text from left to right (UAX 9, rule L4), and a dash that stands in a vertical line is drawn upright.

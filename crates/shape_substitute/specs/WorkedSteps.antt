@@ -154,7 +154,7 @@ pub record RunsOfMasks (run : Run) : Type 0 where
   pub hook_not_given : masks_after (hooked (masking run (constants true false) (first_feature ∷ []))) glyph_5 ≡ 0x200 ∷ []
   pub without_shaper : masks_after (unhooked (masking run (constants true true) [])) glyph_5 ≡ 0 ∷ []
 
--- whatever else a run goes by
+-- whatever else a run depends on
 pub record WorkedSteps : Type 0 where
   pub lookups : (run : Run) → RunsOfLookups (record run { lookups = adding })
   pub pauses : (run : Run) → RunsOfPauses (record run { lookups = adding })

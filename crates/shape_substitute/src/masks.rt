@@ -1,4 +1,4 @@
-//! Masks that go by the text: fractions, what the shaper sets, what the user asks for.
+//! Masks that depend on the text: fractions, what the shaper sets, what the user asks for.
 //!
 //! Each later one sees what the earlier ones have set, so the user's wish stands over the shaper's.
 ghost use Rattle.std.specs.Prelude.{◌≡◌};

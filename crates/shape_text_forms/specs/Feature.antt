@@ -11,7 +11,7 @@ abbrev pub tag_value : List ℕ → ℕ
 tag_value bytes =
     get_or bytes 0 32 * 16777216 + get_or bytes 1 32 * 65536 + get_or bytes 2 32 * 256 + get_or bytes 3 32
 
--- a minus (45) turns a feature off; without a sign, and after a plus (43), it is on
+-- a minus (45) switches a feature off; without a sign, and after a plus (43), it is on
 abbrev pub sign_of : List ℕ → ℕ × List ℕ
 sign_of text = option_map_or (λ rest. (0, rest)) (after_byte 45 text)
     (option_map_or (λ rest. (1, rest)) (after_byte 43 text) (1, text))

@@ -11,7 +11,7 @@ use Rattle.shape_common.specs.declared.settings.GlyphId.{GlyphId}
 use Rattle.shape_common.specs.declared.face.hb_glyph_extents_t.{hb_glyph_extents_t}
 use Rattle.shape_text_forms.specs.declared.glyph_text.Pen.{Pen}
 
--- what a text of glyphs goes by: what is asked for, the names of glyphs, their boxes
+-- what a text of glyphs depends on: what is asked for, the names of glyphs, their boxes
 pub record Form : Type 0 where
   pub flags : ℕ
   pub name : ℕ → Option (List ℕ)

@@ -53,7 +53,7 @@ impl hb_unicode_funcs_t for UnicodeDatabase {
         mirrored_of(c)
     }
 
-    /// Decomposition_Mapping with the tag `<vertical>`, turned round, from wide forms.
+    /// Decomposition_Mapping with the tag `<vertical>`, inverted, from wide forms.
     fn vertical(c: char) -> Option<char> {
         vertical_of(c)
     }

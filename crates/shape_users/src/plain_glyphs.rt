@@ -130,7 +130,7 @@ where
 }
 
 /// The glyphs of a text, with what is known of the normalised list that they are made of: each character that
-/// the text hasn't has a glyph, each item has the glyph of its character or of what stands in for it, feature
+/// the text hasn't has a glyph, each item has the glyph of its character or of what replaces it, feature
 /// bits and places are those of the text's items, and marks were composed by the standard's rule. Without a
 /// variation selector the list is equivalent to the text; if canonical form is asked of both, the lists
 /// of two texts have the same characters exactly when the texts are equivalent.

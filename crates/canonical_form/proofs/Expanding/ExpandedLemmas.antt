@@ -6,7 +6,7 @@ use Rattle.std.specs.List.{AllByRecursion}
 use Rattle.canonical_form.specs.Expanded.{begins_with_mark, expanded_from, expanded_in_sequences}
 
 module _ {A B : Type 0} (is_mark : A → Bool) (become : Bool → A → List B) where
-  -- if nothing goes by clusters, each item becomes what it does by itself
+  -- if nothing depends on clusters, each item becomes what it does by itself
   expanded_from-plain : (by_itself : A → List B) → ((with_marks : Bool) (x : A) → become with_marks x ≡ by_itself x)
       → (first : Bool) (xs : List A) → expanded_from is_mark become first xs ≡ flat_map by_itself xs
   expanded_from-plain by_itself same first [] = refl

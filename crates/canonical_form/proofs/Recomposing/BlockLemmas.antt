@@ -118,7 +118,7 @@ module _ {A : Type 0} (ccc : A → ℕ) (is_mark : A → Bool) (compose : A → 
   last_below [] c h = omega arith
   last_below (m ∷ ms) c h = grind (arith, nat_tests)
 
-  -- for an ordered list, the ccc that was put out last alone decides
+  -- for an ordered list, the ccc that was emitted last alone decides
   pub recomposed_by_last : (xs : List A) → IsOrdered ccc xs
       → recomposed ccc (is_blocked ccc) is_mark compose xs ≡ recomposed ccc (is_blocked_by_last ccc) is_mark compose xs
   recomposed_by_last [] up = refl

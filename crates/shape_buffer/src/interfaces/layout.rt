@@ -68,7 +68,7 @@ pub trait hb_ot_layout_t<F> {
     fn global_mask(map: &Self::Map) -> hb_mask_t
         ensures { result ≡ (masks map.now).global_mask };
 
-    /// The mask that turns a feature on with value 1; 0 if the feature has none.
+    /// The mask that switches a feature on with value 1; 0 if the feature has none.
     fn get_1_mask(map: &Self::Map, tag: hb_tag_t) -> hb_mask_t
         ensures { result ≡ (masks map.now).one_mask tag };
 

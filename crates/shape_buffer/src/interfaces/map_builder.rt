@@ -91,7 +91,7 @@ impl hb_ot_map_builder_t {
         Ok(())
     }
 
-    /// Asks for a feature. `value` is what it is set to: 0 turns a feature off, 1 turns it on; a greater
+    /// Asks for a feature. `value` is what it is set to: 0 switches a feature off, 1 switches it on; a greater
     /// value picks an alternate. Refuses with `Memory` if a growth was refused; a refused call changes
     /// nothing.
     pub fn add_feature(
@@ -124,7 +124,7 @@ impl hb_ot_map_builder_t {
         self.add_feature(tag, F_GLOBAL | flags, value)
     }
 
-    /// Turns a feature off over the whole text: `add_feature` with value 0 and `F_GLOBAL`. Refuses as
+    /// Switches a feature off over the whole text: `add_feature` with value 0 and `F_GLOBAL`. Refuses as
     /// `add_feature` does.
     pub fn disable_feature(&mut self, tag: hb_tag_t) -> Result<(), ShapeError>
         ensures ok { OnOk result (self.new ≡ with_request self.old (feature_off tag)) }

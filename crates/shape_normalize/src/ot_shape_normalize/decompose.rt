@@ -10,7 +10,7 @@
 //! aren't marks, and faces don't mix them with whole syllables.
 //!
 //! The chain is walked in a loop that keeps the second parts in a list, so its depth is bounded by
-//! memory alone and the length of the expansion is known before any of it is put out. Each part is kept with
+//! memory alone and the length of the expansion is known before any of it is emitted. Each part is kept with
 //! its glyph, so that the face is asked once about it.
 ghost use Rattle.std.specs.Prelude.{◌≡◌, [], ◌∷◌, ◌++◌, reverse, take, map, IfOk, IsTrue, Ok};
 ghost use Rattle.std.specs.Prelude.{if◌then◌else◌, Some, None, true, false};

@@ -107,7 +107,7 @@ fn add_random(builder: &mut hb_ot_map_builder_t) -> Result<(), ShapeError>
     builder.enable_feature(tags::RAND, F_RANDOM, MAX_VALUE)
 }
 
-/// Tracking, which a user turns off like a feature though a table of its own does it, and two features of
+/// Tracking, which a user switches off like a feature though a table of its own does it, and two features of
 /// faces.
 fn add_tracking(builder: &mut hb_ot_map_builder_t) -> Result<(), ShapeError>
     ensures ok { OnOk result (builder.new ≡ with_requests builder.old tracking) }
@@ -207,7 +207,7 @@ fn add_directed(builder: &mut hb_ot_map_builder_t, direction: Direction) -> Resu
     }
 }
 
-/// Those that the user asks for, in order. One over the whole text is on; any other is turned on by masks.
+/// Those that the user asks for, in order. One over the whole text is on; any other is switched on by masks.
 fn add_user_features(
     builder: &mut hb_ot_map_builder_t,
     features: &[Feature],

@@ -52,7 +52,7 @@ fn mark_selector(info: &mut hb_glyph_info_t, not_found: Option<GlyphId>)
 }
 
 impl Expanded {
-    /// Puts out an item that became one with its selector, and those after them.
+    /// Emits an item that became one with its selector, and those after them.
     fn put_variation_sequence<F: hb_font_t>(
         &mut self,
         face: &F,
@@ -72,7 +72,7 @@ impl Expanded {
         Ok(())
     }
 
-    /// Puts out an item, its selector that no glyph came of, and those after them.
+    /// Emits an item, its selector that no glyph came of, and those after them.
     fn put_apart<F: hb_font_t>(
         &mut self,
         face: &F,
@@ -97,7 +97,7 @@ impl Expanded {
         Ok(())
     }
 
-    /// Puts out what an item and the selectors directly after it become. Refuses with `Length` if that
+    /// Emits what an item and the selectors directly after it become. Refuses with `Length` if that
     /// passes the limit.
     fn put_variant<F: hb_font_t>(
         &mut self,
@@ -135,7 +135,7 @@ impl Expanded {
         Ok(())
     }
 
-    /// Puts out what a sequence that holds a variation selector becomes. Refuses with `Length` if that
+    /// Emits what a sequence that holds a variation selector becomes. Refuses with `Length` if that
     /// passes the buffer's limit.
     pub(super) fn put_variants<U: hb_unicode_funcs_t, F: hb_font_t>(
         &mut self,
