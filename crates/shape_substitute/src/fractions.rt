@@ -151,7 +151,7 @@ fn mask_slash(buffer: &mut hb_buffer_t, masks: FractionMasks, slash: usize) -> u
     end
 }
 
-/// Masks the wholes from left to right. A slash that stands among the digits of a whole is passed by.
+/// Masks the wholes from left to right. A slash that stands among the digits of a whole is skipped.
 fn mask_slashes(buffer: &mut hb_buffer_t, masks: FractionMasks)
     ensures { Made (λ b. slashes_masked masks 0 (slash_places 0 b.items) b) buffer.old buffer.new }
 {

@@ -1,6 +1,6 @@
 //! Glyphs, as substitution finds them: the ones that the face answered, with a class each.
 //!
-//! Lookups may pass by glyphs of a class. If a face doesn't say which glyphs are marks, the characters
+//! Lookups may skip glyphs of a class. If a face doesn't say which glyphs are marks, the characters
 //! do: a nonspacing mark is one, except for default ignorables, which lookups are to see.
 ghost use Rattle.std.specs.Prelude.{◌≡◌};
 ghost use Rattle.shape_buffer.specs.Outcome.{IsWithinLimit, Made, Ran};

@@ -26,7 +26,7 @@ abbrev pub plain_tag_of : List ℕ → Option (ℕ × List ℕ)
 plain_tag_of text = let count = prefix_len (is_of (Tag 0)) text in
     if count == 0 || nat_lt 4 count then None else Some (tag_value (take count text), drop count text)
 
--- the tag of four bytes between quotes, and the text after them; the first quote is passed
+-- the tag of four bytes between quotes, and the text after them; the first quote is skipped
 abbrev pub quoted_tag_of : ℕ → List ℕ → Option (ℕ × List ℕ)
 quoted_tag_of quote text = let count = prefix_len (is_of (Tag quote)) text in
     if count == 4 then option_map (λ rest. (tag_value (take 4 text), rest)) (after_first quote (drop 4 text)) else None

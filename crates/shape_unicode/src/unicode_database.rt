@@ -17,7 +17,7 @@ use shape_buffer::interfaces::{hb_unicode_funcs_t, hb_unicode_general_category_t
 use ucd_category::GeneralCategory;
 
 /// The functions of Unicode over the whole database. It has no value: its functions are called as
-/// `UnicodeDatabase::decompose(c)`, and it is passed as a type.
+/// `UnicodeDatabase::decompose(c)`, and it is given as a type.
 pub struct UnicodeDatabase;
 
 impl hb_unicode_funcs_t for UnicodeDatabase {

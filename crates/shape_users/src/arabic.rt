@@ -1,6 +1,6 @@
 //! A script shaper for Arabic. Modifier combining marks that come first among the marks of their ccc, such as
 //! a hamza above, are put before every other mark of their letter, since they are read as a part of it
-//! (UTR 53); at the levels that merge, in one cluster with those that they pass.
+//! (UTR 53); at the levels that merge, in one cluster with those that they move past.
 //!
 //! The shaper gives one of the ten hooks; `no_hook` stands for the others. What a run by it owes is what its
 //! engine's lookups owe, and no more: [`arabic_runs_keep`]. It asks for no features of joining letters: these

@@ -110,7 +110,7 @@ fn position_before<F: hb_font_t>(
 }
 
 /// Places the marks of all bases. A base is looked for before a mark alone, and marks that were placed are
-/// passed by.
+/// skipped.
 pub(crate) fn position_bases<F: hb_font_t>(face: &F, setting: Setting, buffer: &mut hb_buffer_t)
     ensures { Made (bases_positioned (F.face face.now) setting) buffer.old buffer.new }
 {

@@ -1,5 +1,5 @@
 //! Sequences that hold a variation selector: an item and its selector become one item if the face has a
-//! glyph for the two; all other items pass.
+//! glyph for the two; all other items stay.
 ghost use Rattle.std.specs.Prelude.{◌≡◌, ◌<◌, ◌≤◌, ◌∷◌, ◌++◌, length, map, fold, vec_len, OnOk};
 ghost use Rattle.std.specs.Prelude.{Err};
 ghost use Rattle.std.specs.List.{flat_map};
@@ -25,7 +25,7 @@ fn passed<F: hb_font_t>(face: &F, info: &hb_glyph_info_t) -> hb_glyph_info_t
     passed
 }
 
-/// Adds items that pass.
+/// Adds items that stay.
 fn push_passed<F: hb_font_t>(
     out: &mut Vec<hb_glyph_info_t>,
     face: &F,
