@@ -47,7 +47,7 @@ pub fn find_plan<U: hb_unicode_funcs_t, S, P, D>(
 }
 
 /// The place of a word that was shaped under a spelling with the same normalised characters: the first such.
-/// Refuses as `same_word` does for the spelling and each of the words up to that place: with `Length`
+/// Refuses as `same_word` does for the spelling and a word up to that place: with `Length`
 /// if one of the two is too long, and always then.
 pub fn find_word<U, F, M, S>(
     alloc: Global,

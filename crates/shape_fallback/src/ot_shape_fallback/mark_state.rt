@@ -136,7 +136,7 @@ fn at_ccc(ccc: u8, state: &mut MarkState)
     state.extents = state.component_extents;
 }
 
-/// Skips a mark without a ccc.
+/// Moves past a mark without a ccc.
 #[tactic(auto, using(shape_common::proofs::WrappingLemmas::kept_bits), unfolding(crate::specs::MarkState::passed))]
 fn pass(forward: bool, position: GlyphPosition, state: &mut MarkState)
     ensures { state.new ≡ passed_of forward position state.old }
@@ -182,7 +182,7 @@ fn place_in<F: hb_font_t>(face: &F, base: &Base, info: &hb_glyph_info_t, step: &
     step.state.extents = placed.base;
 }
 
-/// Places a mark of a base, or skips it. The step comes with the mark's position and the state before it.
+/// Places a mark of a base, or moves past it. The step comes with the mark's position and the state before it.
 #[tactic(auto, using(shape_common::proofs::WrappingLemmas::kept_bits), unfolding(crate::specs::MarkState::place_mark))]
 pub fn place_mark<F: hb_font_t>(face: &F, base: &Base, info: &hb_glyph_info_t, step: &mut MarkStep)
     ensures { step.new
