@@ -34,7 +34,7 @@ greatest_supported split has_glyph zero c = None
 greatest_supported split has_glyph (suc n) c =
     option_or (supported split has_glyph (suc n) c) (greatest_supported split has_glyph n c)
 
--- the expansion that is chosen for c, where `true` asks for the shortest: none where c has a glyph;
+-- the expansion that is chosen for c, where `true` asks for the shortest: none if c has a glyph;
 -- no chain is longer than the height of its character
 abbrev pub chosen_expansion : Decompositions → (ℕ → Bool) → Bool → ℕ → Option (List ℕ)
 chosen_expansion D has_glyph true c = if has_glyph c then None else least_supported D.split has_glyph (D.height c) c

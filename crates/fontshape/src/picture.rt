@@ -24,7 +24,7 @@ fn places(alloc: Global, glyphs: &GlyphBuffer) -> Result<Vec<Place>, AllocError>
     Ok(places)
 }
 
-/// The place of this number, the begin of the line if there are fewer.
+/// The place of this number, the start of the line if there are fewer.
 fn place_at(places: &[Place], at: usize) -> Place {
     match places.get(at) {
         Some(place) => *place,

@@ -72,7 +72,7 @@ impl MapFace {
         }
     }
 
-    /// The extents of a glyph, where they were given.
+    /// The extents of a glyph, if they were given.
     fn extents(&self, glyph: GlyphId) -> Option<hb_glyph_extents_t>
         ensures { result ≡ extents_of self.now glyph }
     {

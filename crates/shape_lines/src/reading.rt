@@ -44,7 +44,7 @@ pub(super) fn cluster_at(glyphs: &GlyphBuffer, place: usize) -> u32
     infos[listed(infos, place)].cluster
 }
 
-/// The glyph at a place of the text. A line may end before it if its cluster is another than that of the
+/// The glyph at a place of the text. A line may end before it if its cluster isn't that of the
 /// glyph before it, and it lacks `UNSAFE_TO_BREAK`.
 pub(super) fn part_at(glyphs: &GlyphBuffer, place: usize) -> Part
     requires { place < length glyphs.now.items }

@@ -23,7 +23,7 @@ use std::alloc::Global;
 
 /// The characters that a run by this plan normalises a text to: a key under which a cache keeps shaped texts of
 /// the plan and of what else is set of them. Script and direction are guessed if they aren't set. If the
-/// premises of `canonical` hold, two texts have one key exactly when they are canonically equivalent. Elsewhere
+/// premises of `canonical` hold, two texts have one key exactly when they are canonically equivalent. Otherwise
 /// equal keys don't say that: clusters, positions and properties are no part of them.
 ///
 /// Refuses with `Length` if a step of preparing would leave a list past the run's limit, or the expanded list

@@ -1,4 +1,4 @@
-//! The modes of normalising, which a shaper prefers one of.
+//! The modes of normalising; a shaper prefers one of them.
 
 /// How a text is normalised, 0 to 4.
 pub type hb_ot_shape_normalization_mode_t = i32;

@@ -3,8 +3,8 @@
 //! A plan is made in three steps. `new` asks what is known of the face and the shaper, and whether the
 //! shaper is kept: if `morx` substitutes, the face does a script's work itself. `collect_features` asks
 //! for features in the order in which their lookups are to run: a shaper's stand between those that come
-//! early and late in every text, the user's after these, where they win, and what a shaper overrides
-//! after all, if it wins over the user's. `compile` has the engine compile the requests, and then
+//! early and late in every text, then come the user's, which win over these, and last what a shaper
+//! overrides, which wins over the user's. `compile` has the engine compile the requests, and then
 //! decides who positions, kerns and places marks. All that depends on no text is decided here, once for
 //! every text that the plan fits.
 ghost use Rattle.std.specs.Prelude.{◌≡◌, Option, OnOk, IsOkUnless, IfOk, IfErr, string_bytes};

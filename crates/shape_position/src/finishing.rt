@@ -1,7 +1,7 @@
 //! The end of a run: the order of the glyphs, which of them are seen, and their flags.
 //!
-//! Shaping works in the order of the text, so if lines run to the left or to the top the glyphs are
-//! reversed once they are placed. Flags come last, since every step before may still move them between glyphs.
+//! Shaping works in the order of the text, so the glyphs of a line that runs to the left or to the top
+//! are reversed once they are placed. Flags come last, since every step before may still move them between glyphs.
 ghost use Rattle.std.specs.Prelude.{◌≡◌};
 ghost use Rattle.shape_buffer.specs.Outcome.{IsWithinLimit, Made, Outcome, RunOutcome, step};
 ghost use Rattle.shape_plan.specs.Run.{hook_if};

@@ -2,8 +2,8 @@
 //!
 //! They guide shaping and are unseen in the end, unless the buffer's flags preserve them. So they lose their
 //! positions once tables have placed the glyphs, and then take the look of a space; if there is no such
-//! glyph, or their removal is asked for, they are deleted. One that a lookup has put a glyph in for is
-//! meant to be seen and stays (The Unicode Standard, section 5.21).
+//! glyph, or their removal is asked for, they are deleted. One that a lookup has replaced is meant
+//! to be seen and stays (The Unicode Standard, section 5.21).
 ghost use Rattle.std.specs.Prelude.{◌≡◌, ◌<◌, length, slice_index_or, slice_set};
 ghost use Rattle.shape_buffer.specs.Outcome.{Made};
 ghost use Rattle.shape_buffer.specs.PositionWalks.{positions_mapped};
@@ -107,7 +107,7 @@ fn unseen_glyph<F: hb_font_t>(face: &F, buffer: &hb_buffer_t) -> Option<GlyphId>
     }
 }
 
-/// The item, with the glyph where it stands for a default ignorable.
+/// The item, with the glyph if it stands for a default ignorable.
 fn show_as(glyph: GlyphId, info: &hb_glyph_info_t) -> hb_glyph_info_t
     ensures { result ≡ shown_as_of glyph info.now }
 {

@@ -1,7 +1,7 @@
 //! Glyphs as text, as `hb-shape` writes them: `[A=0+600|B=1@-50,0+640]`.
 //!
 //! A glyph is its name or number, `=` and its cluster, `@` and where it is moved to, `+` and how far the pen moves
-//! on, and if that is asked for `#` and its flags, and its box.
+//! on; if they are asked for, also `#` and its flags, and its box.
 ghost use Rattle.std.specs.Prelude.{◌≡◌, ◌++◌, true, pos, length, string_bytes, IfOk};
 ghost use Rattle.std.specs.Option.{option_map};
 ghost use Rattle.shape_text_forms.specs.Serialize.{asks, cluster_word, offset_word, advance_word};
@@ -34,7 +34,7 @@ impl SerializeFlags {
     /// The flags of each glyph are written, if it has any.
     pub const GLYPH_FLAGS: u32 = 16;
 
-    /// No advance is written, and offsets count from the begin of the line.
+    /// No advance is written, and offsets count from the start of the line.
     pub const NO_ADVANCES: u32 = 32;
 
     /// Whether this one, one of the constants, is asked for.
@@ -144,7 +144,7 @@ fn append_flags(out: &mut String, flags: SerializeFlags, mask: u32) -> Result<()
     Ok(())
 }
 
-/// Appends the begin of a box: its left and upper sides.
+/// Appends the start of a box: its left and upper sides.
 fn append_corner(out: &mut String, x: i32, y: i32) -> Result<(), AllocError>
     ensures { IfOk result (λ _. string_bytes out.new ≡ string_bytes out.old ++ corner_word x y) }
 {

@@ -2,7 +2,7 @@
 //!
 //! A line breaker shapes a paragraph once and cuts it where lines end. If a glyph lacks
 //! `UNSAFE_TO_BREAK`, the part before it and the part from it on are meant to look alone as they do together;
-//! elsewhere they are to be shaped again. That they do is not proved; the tests of `cuts` try it at the two levels
+//! otherwise they are to be shaped again. That they do is not proved; the tests of `cuts` try it at the two levels
 //! that keep clusters in order, on every short text of a few alphabets. At level CHARACTERS it is not always
 //! so: U+05B4 U+05E9 U+200D, in Hebrew and left to right, look different cut after the first character. The
 //! caller speaks of the text by clusters, which lead back to it.

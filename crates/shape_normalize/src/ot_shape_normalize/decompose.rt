@@ -1,7 +1,7 @@
 //! The expansion of one character along its chain.
 //!
 //! In the modes for composed diacritics a character without marks takes the shortest expansion that the face
-//! has glyphs for, so itself if it can: who drew a glyph for the whole drew it as it should look, and most
+//! has glyphs for, so itself if it can: whoever drew a glyph for the whole drew it as it should look, and most
 //! text then stays as it is. With marks beside it the longest is taken, since each part that is a mark has a
 //! place among them.
 //!

@@ -2,8 +2,8 @@
 //!
 //! An engine is to run lookups in the order of the features that asked for them, so the order of the
 //! requests is their meaning: variations of the face come before everything, a direction's forms and
-//! fractions before a script's features, those of every text and of a direction after them, the user's
-//! after these, and what a shaper overrides last, where it wins. Each function here appends one row of
+//! fractions before a script's features, those of every text and of a direction after them, then the
+//! user's, and last what a shaper overrides, which wins. Each function here appends one row of
 //! the order to a builder; what it appends stands in its contract.
 ghost use Rattle.std.specs.Prelude.{◌≡◌, OnOk, IsOkUnless, map};
 ghost use Rattle.shape_buffer.specs.MapBuilder.{with_requests};
