@@ -1,7 +1,7 @@
 //! Laws of canonical form: each function has laws as its contract, and nothing to do.
 //!
 //! They hold for all decompositions whose heights fall and whose marks keep their combining class
-//! (ccc), so for the functions of Unicode as for a shaper's own. Equivalence is that of UAX 15 with
+//! (ccc), so for the Unicode functions as for a shaper's own. Equivalence is that of UAX 15 with
 //! the combining classes at hand; a canonical text has the form of its NFD.
 ghost use Rattle.canonical_form.specs.Laws.{FullIsByTwoRules, EquivalenceIsReflexive};
 ghost use Rattle.canonical_form.specs.Laws.{EquivalenceIsSymmetric, EquivalenceIsTransitive};

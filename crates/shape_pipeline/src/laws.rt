@@ -108,8 +108,8 @@ where
         → LookupsKeepClusters run.lookups → LookupsKeepFlags run.lookups → OwesNothing run }
 {}
 
-/// A run of the default shaper with the engine that changes nothing owes nothing, whatever the functions of
-/// Unicode, the plan and the face: also under the plan that `shape` makes.
+/// A run of the default shaper with the engine that changes nothing owes nothing, whatever the Unicode
+/// functions, the plan and the face: also under the plan that `shape` makes.
 pub fn plain_runs_owe_nothing<U: hb_unicode_funcs_t, F: hb_font_t>()
     ensures { (plan : Plan DefaultShaper Unit Unit) (face : F)
         → OwesNothing (⟦<hb_default_shaper_t as Runs<U, F, NoLookups>>⟧.run plan face) }

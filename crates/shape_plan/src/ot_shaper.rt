@@ -53,7 +53,7 @@ pub const HB_OT_SHAPE_ZERO_WIDTH_MARKS_BY_GDEF_EARLY: hb_ot_shape_zero_width_mar
 /// After lookups have placed them.
 pub const HB_OT_SHAPE_ZERO_WIDTH_MARKS_BY_GDEF_LATE: hb_ot_shape_zero_width_marks_type_t = 2;
 
-/// A script shaper over the functions of Unicode `U`, faces of type `F` and the layout engine `M`, as a run
+/// A script shaper over the Unicode functions `U`, faces of type `F` and the layout engine `M`, as a run
 /// sees it: its constants, which hooks it gives, and what they do. Authors write a [`script_shaper`].
 pub trait hb_ot_shaper_t<U: hb_unicode_funcs_t, F: hb_font_t, M: hb_ot_layout_t<F>> {
     /// What the shaper keeps in a plan.

@@ -13,7 +13,7 @@ use std::marker::PhantomData;
 
 /// The types of a run.
 pub trait ShapingTypes {
-    /// The functions of Unicode.
+    /// The Unicode functions.
     type Unicode: hb_unicode_funcs_t;
 
     type Face: hb_font_t;

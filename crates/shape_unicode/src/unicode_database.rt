@@ -1,4 +1,4 @@
-//! The type that has the functions of Unicode.
+//! The type that has the Unicode functions.
 ghost use Rattle.std.specs.Prelude.{◌≡◌};
 ghost use Rattle.shape_unicode.specs.Meaning.{unicode_database};
 
@@ -16,7 +16,7 @@ use shape_buffer::interfaces::space_types::space_t;
 use shape_buffer::interfaces::{hb_unicode_funcs_t, hb_unicode_general_category_t};
 use ucd_category::GeneralCategory;
 
-/// The functions of Unicode over the whole database. It has no value: its functions are called as
+/// The Unicode functions over the whole database. It has no value: its functions are called as
 /// `UnicodeDatabase::decompose(c)`, and it is given as a type.
 pub struct UnicodeDatabase;
 

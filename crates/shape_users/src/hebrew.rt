@@ -128,7 +128,7 @@ impl<U: hb_unicode_funcs_t, F, M: hb_ot_layout_t<F>> reorder_marks_hook<HebrewSh
 }
 
 /// A run by this shaper keeps clusters if its engine's lookups do, and flags if they do, whatever the
-/// functions of Unicode, the plan and the face.
+/// Unicode functions, the plan and the face.
 pub fn hebrew_runs_keep<U: hb_unicode_funcs_t, F: hb_font_t, M: hb_ot_layout_t<F>>()
     ensures clusters { (plan : Plan AnyShaper M.Map Unit) (face : F)
         → let run = ⟦<HebrewShaper as Runs<U, F, M>>⟧.run plan face in

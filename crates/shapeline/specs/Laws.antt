@@ -1,4 +1,4 @@
--- The laws of the program's functions of Unicode: the rule of a table is a test that computes over the whole table.
+-- The laws of the program's Unicode functions: the rule of a table is a test that computes over the whole table.
 use Rattle.std.specs.Prelude.{◌≡◌, ◌≢◌, ℕ, ◌<◌, ◌⊎◌, ◌==◌, ◌&&◌, ◌||◌, not, nat_lt, Bool, true, false, List, [], ◌∷◌, Option, Some, None, ◌++◌, is_none, option_and_then, refl}
 use Rattle.std.specs.List.{find, list_all}
 use Rattle.std.specs.Option.{option_map}

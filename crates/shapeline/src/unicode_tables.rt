@@ -1,4 +1,4 @@
-//! The program's functions of Unicode: categories and scripts of the Unicode Character Database, widths of
+//! The program's Unicode functions: categories and scripts of the Unicode Character Database, widths of
 //! spaces as `shape_unicode` has them, and small tables for everything else.
 //!
 //! A file for each property. No proof of this program knows the value of a category, so the laws may not rest
@@ -26,7 +26,7 @@ use shape_buffer::interfaces::space_types::space_t;
 use shape_buffer::interfaces::{hb_unicode_funcs_t, hb_unicode_general_category_t};
 use shape_unicode::space_of;
 
-/// The program's functions of Unicode.
+/// The program's Unicode functions.
 pub struct UnicodeTables;
 
 impl hb_unicode_funcs_t for UnicodeTables {
