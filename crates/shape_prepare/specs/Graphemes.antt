@@ -63,7 +63,7 @@ abbrev pub continues : UnicodeMeaning → Before → Item → Bool
 continues unicode before item = item.properties.continuation || is_joined unicode before item.codepoint || continues_by_rule before item
 
 -- what an item is to the next one: a regional indicator is open unless it continues, and a ZWJ joins unless it was itself joined or
--- passed
+-- is of a category that no rule asks about
 abbrev pub is_to_next : UnicodeMeaning → Before → Item → Before
 is_to_next unicode before item =
     if is_regional_indicator item.codepoint && not (continues unicode before item) then OpenIndicator

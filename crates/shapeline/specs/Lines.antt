@@ -67,7 +67,7 @@ IsLine line = IsUtf8 line × IsWellFormed (line_words line)
 
 -- what has been done of a line about a command: malformed exactly when it isn't as it should be, and then the state stays; else the
 -- state is the one that it asks for. Only a line that takes memory is refused it, and then all stays but the metrics of glyphs; only
--- if a line asks for an answer a write fails
+-- if a line asks for an answer can a write fail
 abbrev pub IsObeyed : Option Command → Type 0 → State → State → Outcome → State → Type 0
 IsObeyed command Good old asked Malformed new = (¬ Good) × (new ≡ old)
 IsObeyed command Good old asked OutOfMemory new =
