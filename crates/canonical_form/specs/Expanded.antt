@@ -7,7 +7,7 @@ abbrev pub begins_with_mark : {A : Type 0} → (A → Bool) → List A → Bool
 begins_with_mark is_mark [] = false
 begins_with_mark is_mark (x ∷ xs) = is_mark x
 
--- an item stands in a sequence with marks if a mark follows it directly, and if it is itself a mark,
+-- an item stands in a sequence with marks if a mark follows it directly, or if it is itself a mark,
 -- except for the first of the list; `become` says what an item in such a sequence, or one by itself, becomes
 abbrev pub expanded_from : {A B : Type 0} → (A → Bool) → (Bool → A → List B) → Bool → List A → List B
 expanded_from is_mark become first [] = []

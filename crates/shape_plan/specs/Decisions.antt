@@ -34,7 +34,7 @@ apply_gpos f = not (prefers_kerx f) && has_gpos f
 abbrev pub lacks_kerning : PlanFacts → Bool
 lacks_kerning f = not (prefers_kerx f) && (not f.has_gpos_kern || not (apply_gpos f))
 
--- kerx if it is preferred, and if kerning is lacking
+-- kerx if it is preferred, or if kerning is lacking
 abbrev pub apply_kerx : PlanFacts → Bool
 apply_kerx f = prefers_kerx f || (lacks_kerning f && f.tables.kerx)
 

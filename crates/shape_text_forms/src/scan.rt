@@ -107,7 +107,7 @@ fn number_value(minus: bool, number: u64) -> Option<u32>
 }
 
 /// The number at the front of a text, after spaces and a sign, modulo 2^32, and the text after it. None if no
-/// digit stands there, and if it is 2^63 or more.
+/// digit stands there, or if it is 2^63 or more.
 pub fn number(text: &[u8]) -> Option<(u32, &[u8])>
     ensures { option_map (λ r. (r.0, r.1.now)) result ≡ number_of text.now }
 {

@@ -17,7 +17,7 @@ use std::alloc::Global;
 use std::io::Write;
 
 /// Compares two texts and writes the answer, or the number of the refusal. Malformed if no word `/` parts
-/// the two, if a word of theirs is no character, and if 32 bits can't count the bytes of one in UTF-8.
+/// the two, if a word of theirs is no character, or if 32 bits can't count the bytes of one in UTF-8.
 pub fn answer<W: Write>(
     alloc: Global,
     face: &MapFace,

@@ -22,7 +22,7 @@ use std::io;
 use std::io::Write;
 
 /// Shapes a text and writes its answer, or the number of the refusal. Malformed if a word is no
-/// character, and if 32 bits can't count the bytes in UTF-8.
+/// character, or if 32 bits can't count the bytes in UTF-8.
 pub fn answer<W: Write>(
     alloc: Global,
     face: &MapFace,
