@@ -34,7 +34,7 @@ use Rattle.shape_pipeline.proofs.PartLemmas.{Leads, Leads-then, EachStep-glyph_p
 abbrev HasFlags : BufferFlags → Buffer → Type 0
 HasFlags flags b = b.flags ≡ flags
 
--- and the run has seen it where a glyph has a flag
+-- and the run has seen it if a glyph has a flag
 record IsSeen (flags : BufferFlags) (b : Buffer) : Type 0 where
   honest : IsHonest b
   asked : b.flags ≡ flags

@@ -61,7 +61,7 @@ some_has-reverse flag (x ∷ xs) some =
 abbrev turned_if : Bool → Buffer → Buffer
 turned_if backward b = if backward then record b { items = reverse b.items; positions = reverse b.positions } else b
 
--- the reversal turns the order of clusters exactly where the text runs backward
+-- the reversal inverts the order of clusters exactly when the text runs backward
 pub turns-turned : (b : Buffer) → TurnsOrder b (turned b)
 unfolding turned
 turns-turned b = record {

@@ -6,11 +6,11 @@ use Rattle.shape_items.specs.ClusterOrder.{IsNonIncreasing, IsOrderedFor}
 use Rattle.shape_items.specs.Clusters.{clusters}
 use Rattle.shape_common.specs.Direction.{is_backward}
 
--- as many positions as items, where there were
+-- as many positions as items, if there were
 abbrev pub KeepsAsMany : (Buffer → Buffer) → Type 0
 KeepsAsMany f = (b : Buffer) → length b.positions ≡ length b.items → length (f b).positions ≡ length (f b).items
 
--- what the reversal does: clusters turn their order where the text runs backward, none is new, and direction, flags and level stay
+-- what the reversal does: clusters are in the other order if the text runs backward, none is new, and direction, flags and level stay
 pub record TurnsOrder (before after : Buffer) : Type 0 where
   pub turned : clusters after.items ≡ (if is_backward before.direction then reverse (clusters before.items) else clusters before.items)
   pub rising : IsNonDecreasing (clusters before.items) → IsOrderedFor (is_backward before.direction) (clusters after.items)

@@ -11,7 +11,7 @@ pub record WritesFeaturesAlone (run : Run) : Type 0 where
   pub global : HasNoDefinedFlag run.map.global_mask
   pub mirroring : HasNoDefinedFlag run.decisions.rtlm_mask
 
--- each step keeps flags, where the hooks do
+-- each step keeps flags, if the hooks do
 abbrev pub PreparingKeepsFlags : Type 0
 PreparingKeepsFlags =
     (run : Run) (target : Direction) → WritesFeaturesAlone run → RunKeepsFlags run → EachStep IsFlagKeeper (prepare_steps run target)

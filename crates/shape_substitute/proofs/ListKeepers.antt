@@ -1,4 +1,4 @@
--- What the lists of steps of masks and substitution keep, clusters and flags told at once: of any property of steps that holds where
+-- What the lists of steps of masks and substitution keep, clusters and flags told at once: of any property of steps that holds if
 -- nothing is done, if each step that is no call has it.
 use Rattle.std.proofs.Common.{◌≡◌, ◌&&◌, ◌≤◌, ◌<◌, ℕ, zero, suc, Bool, true, false, [], ◌∷◌, Option, Some, None, refl, arith}
 use Rattle.std.specs.Prelude.{if◌then◌else◌}

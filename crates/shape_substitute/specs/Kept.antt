@@ -19,11 +19,11 @@ pub record EachSubstitutionStep (Keeps : (Buffer → Buffer) → Type 0) (run : 
   pub glyphs : EachStep Keeps (glyph_steps run)
   pub lookups : EachStep Keeps (substitute_steps run)
 
--- they keep clusters where the lookups and the hooks do
+-- they keep clusters if the lookups and the hooks do
 abbrev pub SubstitutionKeepsClusters : Type 0
 SubstitutionKeepsClusters = (run : Run) → CallsKeepClusters run → EachSubstitutionStep IsClusterKeeper run
 
--- and flags, where besides the masks of the plan and of its features are those of features
+-- and flags, if the masks of the plan and of its features are those of features, too
 abbrev pub SubstitutionKeepsFlags : Type 0
 SubstitutionKeepsFlags =
     (run : Run) → LawfulMasks run.map → FractionsAreFeatures run.decisions → RunKeepsFlags run → EachSubstitutionStep IsFlagKeeper run

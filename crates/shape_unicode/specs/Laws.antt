@@ -1,4 +1,4 @@
--- The laws of the functions of Unicode, proved of all characters from what is computed over the short tables.
+-- The laws of the Unicode functions, proved of all characters from what is computed over the short tables.
 use Rattle.shape_common.specs.Unicode.{LawfulUnicode}
 use Rattle.canonical_form.specs.SplitsFall.{SplitsFall}
 use Rattle.shape_unicode.specs.Canonical.{by_shaping}

@@ -86,7 +86,7 @@ fn looks_same(
     Ok(together.as_slice() == apart.as_slice())
 }
 
-/// How often a text may be cut. Fails where a part looks different then.
+/// How often a text may be cut. Fails if a part looks different then.
 fn cuts_of<M, S>(
     alloc: Global,
     face: &MapFace,

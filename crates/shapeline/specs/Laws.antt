@@ -1,4 +1,4 @@
--- The laws of the program's functions of Unicode: the rule of a table is a test that computes over the whole table.
+-- The laws of the program's Unicode functions: the rule of a table is a test that computes over the whole table.
 use Rattle.std.specs.Prelude.{◌≡◌, ◌≢◌, ℕ, ◌<◌, ◌⊎◌, ◌==◌, ◌&&◌, ◌||◌, not, nat_lt, Bool, true, false, List, [], ◌∷◌, Option, Some, None, ◌++◌, is_none, option_and_then, refl}
 use Rattle.std.specs.List.{find, list_all}
 use Rattle.std.specs.Option.{option_map}
@@ -54,7 +54,7 @@ falls e = nat_lt (height_of e.1) (height_of e.0)
 abbrev ends : Entry → Bool
 ends e = e.2 == 0 || is_none (split_in_table e.2)
 
--- the parts have the ccc of the whole, where that isn't 0; U+0000 has none
+-- the parts have the ccc of the whole, if that isn't 0; U+0000 has none
 abbrev keeps_ccc : Entry → Bool
 keeps_ccc e = ccc_in_table e.0 == 0 || (ccc_in_table e.1 == ccc_in_table e.0 && (e.2 == 0 || ccc_in_table e.2 == ccc_in_table e.0))
 

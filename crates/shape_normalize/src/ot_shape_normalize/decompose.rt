@@ -1,7 +1,7 @@
 //! The expansion of one character along its chain.
 //!
 //! In the modes for composed diacritics a character without marks takes the shortest expansion that the face
-//! has glyphs for, so itself where it can: who drew a glyph for the whole drew it as it should look, and most
+//! has glyphs for, so itself if it can: whoever drew a glyph for the whole drew it as it should look, and most
 //! text then stays as it is. With marks beside it the longest is taken, since each part that is a mark has a
 //! place among them.
 //!
@@ -10,7 +10,7 @@
 //! aren't marks, and faces don't mix them with whole syllables.
 //!
 //! The chain is walked in a loop that keeps the second parts in a list, so its depth is bounded by
-//! memory alone and the length of the expansion is known before any of it is put out. Each part is kept with
+//! memory alone and the length of the expansion is known before any of it is emitted. Each part is kept with
 //! its glyph, so that the face is asked once about it.
 ghost use Rattle.std.specs.Prelude.{◌≡◌, [], ◌∷◌, ◌++◌, reverse, take, map, IfOk, IsTrue, Ok};
 ghost use Rattle.std.specs.Prelude.{if◌then◌else◌, Some, None, true, false};
@@ -43,7 +43,7 @@ pub(crate) struct Expansion {
     pub(crate) seconds: Vec<Part>,
 }
 
-/// The split of a character: the hook's where it is given and the plan keeps the shaper, else Unicode's.
+/// The split of a character: the hook's if it is given and the plan keeps the shaper, else Unicode's.
 pub(crate) fn split_of<T: ShapingTypes>(
     plan: &PlanOf<'_, T>,
     face: &T::Face,
@@ -57,7 +57,7 @@ pub(crate) fn split_of<T: ShapingTypes>(
     }
 }
 
-/// The character with its glyph, where the face has one.
+/// The character with its glyph, if the face has one.
 fn part_with_glyph<F: hb_font_t>(face: &F, c: char) -> Option<Part>
     ensures { result ≡ (if has_glyph (F.face face.now).nominal_glyph c
         then Some (part_of_char (F.face face.now).nominal_glyph c) else None) }
@@ -87,7 +87,7 @@ fn keep_second<F: hb_font_t>(face: &F, b: char, seconds: &mut Vec<Part>) -> Resu
 }
 
 /// Walks along the chain of a character and keeps its second parts. Answers the last point that has a
-/// glyph and after which every second part has one, and how many these are; where the shortest expansion
+/// glyph and after which every second part has one, and how many these are; if the shortest expansion
 /// is asked, of a character without a glyph, the first such point.
 fn walk_chain<T: ShapingTypes>(
     plan: &PlanOf<'_, T>,
@@ -131,7 +131,7 @@ impl Expansion {
     }
 }
 
-/// Keeps the supported expansion of greatest length and says whether one is supported. Where the shortest is
+/// Keeps the supported expansion of greatest length and says whether one is supported. If the shortest is
 /// asked, of a character without a glyph, the one of least length.
 pub(crate) fn decompose<T: ShapingTypes>(
     plan: &PlanOf<'_, T>,

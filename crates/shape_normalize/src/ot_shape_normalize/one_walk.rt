@@ -76,7 +76,7 @@ fn place_glyphs<T: ShapingTypes>(
 }
 
 /// What the items before `from` are, which have their glyphs, and then what the others become. Refuses with
-/// `Length` where that passes the limit.
+/// `Length` if that passes the limit.
 fn expand_on<T: ShapingTypes>(
     alloc: Global,
     plan: &PlanOf<'_, T>,
@@ -120,7 +120,7 @@ fn expand_on<T: ShapingTypes>(
     Ok(out)
 }
 
-/// Puts what the items become in their place, where each sequence is expanded. Refuses with `Length` where
+/// Puts what the items become in their place, if each sequence is expanded. Refuses with `Length` if
 /// that passes the limit; after a refusal the settings that clearing keeps are as they were.
 pub(crate) fn expand_in_one_walk<T: ShapingTypes>(
     alloc: Global,

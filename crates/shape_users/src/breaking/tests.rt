@@ -1,5 +1,5 @@
 //! Texts cut into lines, each of whose pieces is shaped again, with what stands around it as
-//! context. A piece begins the text where it is the first one, and ends it where it is the last.
+//! context. A piece begins the text if it is the first one, and ends it if it is the last.
 use crate::arabic::ArabicShaper;
 use crate::breaking::lines_of_text;
 use crate::hebrew::HebrewShaper;

@@ -7,7 +7,7 @@ use shape_pipeline::ot_shaper::DEFAULT_SHAPER;
 use std::alloc::Global;
 use std::test::Fail;
 
-/// Whether a line may end before clusters 0, 1 and 3, where those of the text are 0, 1 and 3.
+/// Whether a line may end before clusters 0, 1 and 3, if those of the text are 0, 1 and 3.
 fn cuts(alloc: Global, level: BufferClusterLevel) -> Result<[bool; 3], Fail> {
     let face = face_of(alloc, &[('e', 1), ('\u{301}', 2), ('x', 3)])?;
     let mut text = UnicodeBuffer::new(alloc);

@@ -108,7 +108,7 @@ fn equivalent_spellings_are_one_word(rt: HostRuntime) -> Result<(), Fail> {
     Ok(())
 }
 
-/// Whether two spellings are equivalent, where this can be told.
+/// Whether two spellings are equivalent, if this can be told.
 fn told(
     alloc: Global,
     face: &MapFace,

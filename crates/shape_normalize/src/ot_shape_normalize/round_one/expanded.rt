@@ -33,7 +33,7 @@ const HYPHEN: char = '\u{2010}';
 
 const NON_BREAKING_HYPHEN: char = '\u{2011}';
 
-/// The index of the glyph of a character, 0 where the face has none.
+/// The index of the glyph of a character, 0 if the face has none.
 fn glyph_index<F: hb_font_t>(face: &F, c: char) -> u32
     ensures { result ≡ glyph_index_of (F.face face.now).nominal_glyph c }
 {
@@ -73,7 +73,7 @@ pub(crate) fn part_of<U: hb_unicode_funcs_t, F: hb_font_t>(
     with_part::<U>(info, Part { c, glyph }, scratch_flags)
 }
 
-/// The glyph that stands in for a space: that of U+0020, else the invisible one.
+/// The glyph that replaces a space: that of U+0020, else the invisible one.
 fn space_glyph<U: hb_unicode_funcs_t, F: hb_font_t>(
     face: &F,
     invisible: Option<GlyphId>,
@@ -83,7 +83,7 @@ fn space_glyph<U: hb_unicode_funcs_t, F: hb_font_t>(
     face.get_nominal_glyph(SPACE).or(invisible)
 }
 
-/// Whether an item is a space that a glyph stands in for. Its own category counts, which a shaper may have
+/// Whether an item is a space that another glyph replaces. Its own category counts, which a shaper may have
 /// set.
 fn is_fallback_space<U: hb_unicode_funcs_t, F: hb_font_t>(
     face: &F,
@@ -103,7 +103,7 @@ fn is_fallback_space<U: hb_unicode_funcs_t, F: hb_font_t>(
         && space_glyph::<U, F>(face, invisible).is_some()
 }
 
-/// The index of the glyph of an item whose character has none, 0 where nothing stands in for it.
+/// The index of the glyph of an item whose character has none, 0 if nothing replaces it.
 fn fallback_index<U: hb_unicode_funcs_t, F: hb_font_t>(
     face: &F,
     info: &hb_glyph_info_t,
@@ -145,7 +145,7 @@ fn lacking_item<U: hb_unicode_funcs_t, F: hb_font_t>(
     whole
 }
 
-/// An item that keeps its character, with its glyph, or what stands in for that.
+/// An item that keeps its character, with its glyph, or with what replaces that.
 fn kept_item<U: hb_unicode_funcs_t, F: hb_font_t>(
     face: &F,
     info: &hb_glyph_info_t,
@@ -166,7 +166,7 @@ fn kept_item<U: hb_unicode_funcs_t, F: hb_font_t>(
     lacking_item::<U, F>(face, info, invisible, scratch_flags)
 }
 
-/// The item with its glyph, where it keeps its character; none where it expands, and then `expansion` is
+/// The item with its glyph, if it keeps its character; none if it expands, and then `expansion` is
 /// what it becomes. The face is asked once about an item that has a glyph and keeps it.
 pub(crate) fn unexpanded<T: ShapingTypes>(
     plan: &PlanOf<'_, T>,
@@ -209,7 +209,7 @@ pub(crate) fn unexpanded<T: ShapingTypes>(
     Ok(Some(lacking_item::<T::Unicode, T::Face>(face, info, invisible, scratch_flags)))
 }
 
-/// The items that were put out, and the scratch flags that their characters show.
+/// The items that were emitted, and the scratch flags that their characters show.
 #[derive(Drop)]
 pub(crate) struct Expanded {
     pub(crate) infos: Vec<hb_glyph_info_t>,
@@ -219,7 +219,7 @@ pub(crate) struct Expanded {
 }
 
 impl Expanded {
-    /// Puts out an item of an expansion.
+    /// Emits an item of an expansion.
     fn put_part<U: hb_unicode_funcs_t>(
         &mut self,
         info: &hb_glyph_info_t,
@@ -236,7 +236,7 @@ impl Expanded {
         Ok(())
     }
 
-    /// Puts out the items of the expansion, which keeps no second part.
+    /// Emits the items of the expansion, which keeps no second part.
     fn put_parts<U: hb_unicode_funcs_t>(&mut self, info: &hb_glyph_info_t) -> Result<(), AllocError>
         ensures infos { OnOk result (self.new.infos.items ≡ self.old.infos.items
             ++ map (with_part_of U.unicode info.now)
@@ -252,7 +252,7 @@ impl Expanded {
         Ok(())
     }
 
-    /// Puts out what an item becomes. Refuses with `Length` where that passes the limit.
+    /// Emits what an item becomes. Refuses with `Length` if that passes the limit.
     pub(crate) fn put_item<T: ShapingTypes>(
         &mut self,
         plan: &PlanOf<'_, T>,
