@@ -1,3 +1,4 @@
+pub mod Part
 pub mod RoundOne
 pub mod OneWalk
 pub mod RoundTwo

@@ -12,7 +12,8 @@ use Rattle.canonical_form.specs.Runs.{AreRunsSettled}
 use Rattle.shape_plan.specs.Rules.{Rules, has_glyph}
 use Rattle.shape_normalize.specs.Normalized.{ordered, features_of, hidden_char}
 use Rattle.shape_normalize.specs.Reordered.{unmerged, without_ccc}
-use Rattle.shape_normalize.specs.RoundOne.{item_glyph, part_item, expanded_item, variants, sequences, is_with_marks, is_selector_sequence, variation_sequences_merged, round_one}
+use Rattle.shape_normalize.specs.Part.{part_item}
+use Rattle.shape_normalize.specs.RoundOne.{item_glyph, expanded_item, variants, sequences, is_with_marks, is_selector_sequence, variation_sequences_merged, round_one}
 use Rattle.shape_normalize.specs.RoundTwo.{max_run, has_mark_past_first, unhidden, has_seen_cgj}
 use Rattle.shape_normalize.specs.RoundThree.{Absorbed, Placed, recomposed_items}
 

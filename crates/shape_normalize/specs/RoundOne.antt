@@ -13,17 +13,13 @@ use Rattle.shape_items.specs.Buffer.{Buffer}
 use Rattle.canonical_form.specs.Expansion.{chosen_expansion}
 use Rattle.shape_common.specs.Face.{FaceMeaning}
 use Rattle.shape_common.specs.Unicode.{UnicodeMeaning}
-use Rattle.shape_items.specs.UnicodeProps.{with_unicode_props, with_scratch_of}
 use Rattle.shape_common.specs.declared.flags.ScratchFlags.{ScratchFlags}
 use Rattle.shape_common.specs.declared.settings.GlyphId.{GlyphId}
 use Rattle.shape_plan.specs.Rules.{Rules, decompositions, has_glyph}
 use Rattle.shape_common.specs.FlagNames.{HAS_SPACE_FALLBACK, HAS_VARIATION_SELECTOR_FALLBACK}
+use Rattle.shape_normalize.specs.Part.{glyph_index, part_item, seen_chars}
 
 -- ---- the glyph of an item
-
--- the index of the glyph of a character, 0 where it has none
-abbrev pub glyph_index : (ℕ → Option GlyphId) → ℕ → ℕ
-glyph_index glyph c = unwrap_or (option_map (λ g. g.0) (glyph c)) 0
 
 -- the glyph that stands in for a space: that of U+0020, else the buffer's invisible glyph
 abbrev pub space_glyph : Rules → Option GlyphId → Option GlyphId
@@ -52,10 +48,6 @@ item_glyph rules invisible item = option_map_or (λ g. g.0) (rules.face.nominal_
 abbrev pub expansion_of : Rules → Bool → Item → Option (List ℕ)
 expansion_of rules short item = chosen_expansion (decompositions rules) (has_glyph rules.face.nominal_glyph) short item.codepoint
 
--- an item of an expansion: a copy with a character of its own, its glyph, and the properties of that character
-abbrev pub part_item : UnicodeMeaning → (ℕ → Option GlyphId) → Item → ℕ → Item
-part_item unicode glyph item c = with_unicode_props unicode (record item { codepoint = c; glyph_index = glyph_index glyph c })
-
 -- a space separator without a glyph of its own, whose fallback type is remembered
 abbrev pub remembers_space : Rules → Option GlyphId → Item → Bool
 remembers_space rules invisible item = not (has_glyph rules.face.nominal_glyph item.codepoint) && is_fallback_space rules invisible item
@@ -73,10 +65,6 @@ abbrev pub expanded_item : Rules → Option GlyphId → Bool → Item → List I
 expanded_item rules invisible short item =
     option_map_or (map (part_item rules.unicode rules.face.nominal_glyph item)) (expansion_of rules short item)
     (whole_item rules invisible item ∷ [])
-
--- the scratch flags once the characters of a list were seen
-abbrev pub seen_chars : UnicodeMeaning → ScratchFlags → List ℕ → ScratchFlags
-seen_chars unicode flags chars = fold (λ flags c. with_scratch_of unicode c flags) flags chars
 
 -- scratch flags with "has space fallback"
 abbrev pub with_space_fallback : ScratchFlags → ScratchFlags

@@ -8,7 +8,7 @@ use Rattle.shape_items.specs.Buffer.{Buffer}
 use Rattle.shape_items.specs.Spans.{spans_merged_out}
 use Rattle.canonical_form.specs.Recompose.{is_blocked, is_blocked_by_last, compose_with_glyph, recomposed}
 use Rattle.shape_plan.specs.Rules.{Rules, has_glyph}
-use Rattle.shape_normalize.specs.RoundOne.{part_item, seen_chars}
+use Rattle.shape_normalize.specs.Part.{part_item, seen_chars}
 
 -- a mark that was composed with a starter: the place where it stood, and the character that the two made
 pub record Absorbed : Type 0 where

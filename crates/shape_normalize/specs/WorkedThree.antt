@@ -6,7 +6,7 @@ use Rattle.shape_common.specs.declared.general_category.hb_unicode_general_categ
 use Rattle.shape_common.specs.declared.settings.BufferClusterLevel.TheVariants.{Characters}
 use Rattle.shape_normalize.specs.RoundThree.{Placed, recomposed_items, recomposed_by_last, absorbed_spans, chained_spans, round_three, AreComposedInPlace, ends_taken_out}
 use Rattle.shape_normalize.specs.Normalized.{normalized}
-use Rattle.shape_normalize.specs.RoundOne.{part_item}
+use Rattle.shape_normalize.specs.Part.{part_item}
 use Rattle.shape_normalize.specs.RoundTwo.{run_settled}
 use Rattle.shape_common.specs.Positions.{zero_position}
 use Rattle.shape_plan.specs.Rules.{Rules}

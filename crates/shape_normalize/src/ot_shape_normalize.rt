@@ -25,6 +25,7 @@ mod decompose;
 mod expand_and_order;
 mod mode;
 mod one_walk;
+mod part;
 mod premises;
 mod round_one;
 mod round_three;

@@ -13,7 +13,8 @@ use Rattle.shape_common.specs.declared.settings.GlyphId.{GlyphId}
 use Rattle.shape_items.proofs.Merging.ClusterLemmas.{unsafe_to_break-cases, merge_clusters-cases}
 use Rattle.shape_items.proofs.Merging.KeyLemmas.{IsKey}
 use Rattle.shape_normalize.specs.Normalized.{ordered, normalized, hidden_char, KeepsHidden}
-use Rattle.shape_normalize.specs.RoundOne.{part_item, whole_item, expansion_of, variation_sequences_merged, round_one}
+use Rattle.shape_normalize.specs.Part.{part_item}
+use Rattle.shape_normalize.specs.RoundOne.{whole_item, expansion_of, variation_sequences_merged, round_one}
 use Rattle.shape_normalize.specs.RoundThree.{round_three}
 use Rattle.shape_normalize.specs.RoundTwo.{spans, run_cccs, run_settled, marks_ordered, has_mark_past_first, has_seen_cgj, cgj_unhidden, cgj_unhidden_where_seen}
 use Rattle.shape_plan.specs.Rules.{Rules}

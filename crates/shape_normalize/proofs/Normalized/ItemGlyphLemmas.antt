@@ -12,7 +12,8 @@ use Rattle.shape_common.specs.declared.settings.GlyphId.{GlyphId}
 use Rattle.canonical_form.proofs.Expanding.ChoiceLemmas.{chosen_glyphs}
 use Rattle.canonical_form.proofs.Lists.EveryLemmas.{append_all}
 use Rattle.shape_plan.specs.Rules.{Rules, decompositions, has_glyph}
-use Rattle.shape_normalize.specs.RoundOne.{item_glyph, remembers_space, part_item, whole_item, expanded_item, expansion_of, sequences, is_selector_sequence, is_with_marks, variation_sequences_merged, sequence_items, round_one}
+use Rattle.shape_normalize.specs.Part.{part_item}
+use Rattle.shape_normalize.specs.RoundOne.{item_glyph, remembers_space, whole_item, expanded_item, expansion_of, sequences, is_selector_sequence, is_with_marks, variation_sequences_merged, sequence_items, round_one}
 use Rattle.shape_normalize.specs.Normalized.{normalized, content, selector_items, HasItemGlyph}
 use Rattle.shape_normalize.proofs.Normalized.NormalizedLemmas.{normalized_all}
 use Rattle.shape_normalize.proofs.Hooks.ReorderLemmas.{LawfulReorder}

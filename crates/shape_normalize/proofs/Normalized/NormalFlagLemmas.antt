@@ -21,7 +21,8 @@ use Rattle.canonical_form.proofs.Ordering.OrderLemmas.{Swaps-in_order}
 use Rattle.canonical_form.proofs.Ordering.SwapLemmas.{all-swaps}
 use Rattle.shape_normalize.specs.Normalized.{normalized}
 use Rattle.shape_plan.specs.Reorder.{exchanged, ccc_set, Reorders}
-use Rattle.shape_normalize.specs.RoundOne.{part_item, whole_item, expansion_of, variation_sequences_merged, variation_sequences_from, sequences, round_one, remembers_space, seen_chars, seen_expanded, seen_variant, seen_sequence, variants, is_selector_sequence, is_with_marks, with_space_fallback, with_selector_fallback}
+use Rattle.shape_normalize.specs.Part.{part_item, seen_chars}
+use Rattle.shape_normalize.specs.RoundOne.{whole_item, expansion_of, variation_sequences_merged, variation_sequences_from, sequences, round_one, remembers_space, seen_expanded, seen_variant, seen_sequence, variants, is_selector_sequence, is_with_marks, with_space_fallback, with_selector_fallback}
 use Rattle.shape_items.specs.Spans.{spans_merged_out}
 use Rattle.shape_normalize.specs.RoundThree.{Placed, recomposed_items, absorbed_spans, with_cluster_at, round_three, composed_chars}
 use Rattle.shape_normalize.specs.RoundTwo.{spans, run_cccs, spans_merged, run_in_order, run_reordered, run_settled, marks_ordered, cgj_unhidden_where_seen, cgj_unhidden}

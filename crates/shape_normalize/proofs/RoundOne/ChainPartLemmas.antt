@@ -8,9 +8,8 @@ use Rattle.shape_items.specs.Items.{Item}
 use Rattle.shape_common.specs.Unicode.{UnicodeMeaning}
 use Rattle.shape_common.specs.declared.flags.ScratchFlags.{ScratchFlags}
 use Rattle.shape_common.specs.declared.settings.GlyphId.{GlyphId}
-use Rattle.shape_normalize.specs.RoundOne.{part_item, seen_chars}
-use Rattle.shape_normalize.specs.OneWalk.{part_of_char, with_part, seen_parts}
-use Rattle.shape_normalize.specs.declared.ot_shape_normalize.decompose.Part.{Part}
+use Rattle.shape_normalize.specs.Part.{part_item, seen_chars, part_of_char, with_part, seen_parts}
+use Rattle.shape_normalize.specs.declared.ot_shape_normalize.part.Part.{Part}
 
 -- the characters of parts
 abbrev pub chars_of : List Part → List ℕ

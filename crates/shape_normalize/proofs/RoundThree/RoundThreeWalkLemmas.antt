@@ -14,7 +14,7 @@ use Rattle.shape_common.specs.declared.flags.ScratchFlags.{ScratchFlags}
 use Rattle.canonical_form.proofs.Lists.EveryLemmas.{append_all, push_all}
 use Rattle.canonical_form.proofs.Recomposing.BlockLemmas.{blocked_by_number, greatest_ccc-push}
 use Rattle.canonical_form.proofs.Recomposing.RecomposeLemmas.{recomposed_from-some, recomposed_from-starter, recomposed_from-mark}
-use Rattle.shape_normalize.specs.RoundOne.{part_item, seen_chars}
+use Rattle.shape_normalize.specs.Part.{part_item, seen_chars}
 use Rattle.shape_normalize.specs.RoundThree.{Absorbed, Placed, placed, ccc_of_placed, is_mark_placed, compose_placed, recomposed_items, spans_between, chained_spans, composed_chars, composed_char, cluster_and_mask, AreComposedInPlace}
 use Rattle.shape_plan.specs.Rules.{Rules, has_glyph}
 

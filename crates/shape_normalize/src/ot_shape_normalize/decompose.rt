@@ -20,20 +20,13 @@ ghost use Rattle.canonical_form.specs.Chain.{kept_part};
 ghost use Rattle.canonical_form.specs.Expansion.{chosen_expansion};
 ghost use Rattle.shape_plan.specs.Plan.{hooks_of};
 ghost use Rattle.shape_plan.specs.Rules.{decompositions, has_glyph};
-ghost use Rattle.shape_normalize.specs.OneWalk.{part_of_char};
+ghost use Rattle.shape_normalize.specs.Part.{part_of_char};
 
-use shape_buffer::buffer::GlyphId;
+use crate::ot_shape_normalize::part::{Part, part_with_glyph};
 use shape_buffer::interfaces::{hb_font_t, hb_ot_layout_t, hb_unicode_funcs_t};
 use shape_plan::ot_shaper::hb_ot_shaper_t;
 use shape_plan::shaping_types::{Meaning, PlanOf, ShapingTypes};
 use std::alloc::{AllocError, Global};
-
-/// A character of an expansion, with the index of its glyph.
-#[derive(Clone, Copy)]
-pub(crate) struct Part {
-    pub(crate) c: char,
-    pub(crate) glyph: u32,
-}
 
 /// What a character becomes: `first`, and after it `seconds` from the last to the first. One of these serves
 /// the whole text, so that the second parts of all its characters take memory once.
@@ -54,17 +47,6 @@ pub(crate) fn split_of<T: ShapingTypes>(
     match plan.shaper() {
         Some(shaper) if T::Shaper::HAS_DECOMPOSE => shaper.decompose(plan, face, c),
         _ => T::Unicode::decompose(c),
-    }
-}
-
-/// The character with its glyph, if the face has one.
-fn part_with_glyph<F: hb_font_t>(face: &F, c: char) -> Option<Part>
-    ensures { result ≡ (if has_glyph (F.face face.now).nominal_glyph c
-        then Some (part_of_char (F.face face.now).nominal_glyph c) else None) }
-{
-    match face.get_nominal_glyph(c) {
-        Some(GlyphId(glyph)) => Some(Part { c, glyph }),
-        None => None,
     }
 }
 

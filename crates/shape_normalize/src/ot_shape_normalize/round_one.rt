@@ -21,7 +21,7 @@ use crate::ot_shape_normalize::round_one::sequences::{
     first_sequence, is_selector_sequence, is_with_marks,
 };
 use crate::ot_shape_normalize::round_one::variation_sequences::merge_variation_sequences;
-pub(crate) use expanded::{Expanded, part_of, unexpanded};
+pub(crate) use expanded::{Expanded, unexpanded};
 pub(crate) use sequences::holds_selector;
 use shape_buffer::buffer::{ShapeError, hb_buffer_t, hb_glyph_info_t};
 use shape_buffer::interfaces::{hb_font_t, hb_ot_layout_t, hb_unicode_funcs_t};

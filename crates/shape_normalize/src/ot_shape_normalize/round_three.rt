@@ -15,14 +15,14 @@ ghost use Rattle.shape_items.specs.Buffer.{cleared};
 ghost use Rattle.shape_items.specs.Items.{Item};
 ghost use Rattle.shape_items.specs.Spans.{AreSpansInOrder, spans_merged_out};
 ghost use Rattle.shape_items.specs.UnicodeProps.{with_scratch_of};
-ghost use Rattle.shape_normalize.specs.RoundOne.{part_item, seen_chars};
+ghost use Rattle.shape_normalize.specs.Part.{part_item, seen_chars};
 ghost use Rattle.shape_normalize.specs.RoundThree.{recomposed_items, chained_spans, composed_chars};
 ghost use Rattle.shape_normalize.specs.RoundThree.{is_blocked_behind, composed_char};
 ghost use Rattle.shape_normalize.specs.RoundThree.{AreComposedInPlace, ends_at, ends_taken_out};
 ghost use Rattle.shape_normalize.specs.RoundThree.{round_three};
 ghost use Rattle.shape_plan.specs.Rules.{has_glyph};
 
-use crate::ot_shape_normalize::round_one::part_of;
+use crate::ot_shape_normalize::part::part_of;
 use shape_buffer::buffer::{ScratchFlags, ShapeError, hb_buffer_t, hb_glyph_info_t};
 use shape_buffer::interfaces::{hb_font_t, hb_ot_layout_t, hb_unicode_funcs_t};
 use shape_plan::ot_shaper::hb_ot_shaper_t;

@@ -7,16 +7,16 @@ ghost use Rattle.std.specs.Prelude.{◌≡◌, ◌<◌, ◌≤◌, [], ◌∷◌
 ghost use Rattle.std.specs.Prelude.{if◌then◌else◌, OnOk, IfOk, IfSome, IfNone, Err, None};
 ghost use Rattle.shape_items.specs.UnicodeProps.{with_scratch_of};
 ghost use Rattle.shape_plan.specs.Rules.{rules_without_shaper};
-ghost use Rattle.shape_normalize.specs.RoundOne.{part_item, remembers_space as remembers_space_of};
+ghost use Rattle.shape_normalize.specs.Part.{with_part as with_part_of, seen_parts};
+ghost use Rattle.shape_normalize.specs.RoundOne.{remembers_space as remembers_space_of};
 ghost use Rattle.shape_normalize.specs.RoundOne.{whole_item as whole_item_of, expanded_item};
 ghost use Rattle.shape_normalize.specs.RoundOne.{with_space_fallback, seen_expanded};
-ghost use Rattle.shape_normalize.specs.RoundOne.{glyph_index as glyph_index_of};
 ghost use Rattle.shape_normalize.specs.RoundOne.{space_glyph as space_glyph_of};
 ghost use Rattle.shape_normalize.specs.RoundOne.{is_fallback_space as is_fallback_space_of};
 ghost use Rattle.shape_normalize.specs.RoundOne.{fallback_index as fallback_index_of};
-ghost use Rattle.shape_normalize.specs.OneWalk.{with_part as with_part_of, seen_parts};
 
-use crate::ot_shape_normalize::decompose::{Expansion, Part, decompose};
+use crate::ot_shape_normalize::decompose::{Expansion, decompose};
+use crate::ot_shape_normalize::part::{Part, glyph_index, with_part};
 use bitflags::Flags;
 use shape_buffer::buffer::{
     GlyphId, ScratchFlags, ShapeError, hb_glyph_info_t, hb_unicode_general_category_t,
@@ -32,46 +32,6 @@ const SPACE: char = ' ';
 const HYPHEN: char = '\u{2010}';
 
 const NON_BREAKING_HYPHEN: char = '\u{2011}';
-
-/// The index of the glyph of a character, 0 if the face has none.
-fn glyph_index<F: hb_font_t>(face: &F, c: char) -> u32
-    ensures { result ≡ glyph_index_of (F.face face.now).nominal_glyph c }
-{
-    match face.get_nominal_glyph(c) {
-        Some(GlyphId(glyph)) => glyph,
-        None => 0,
-    }
-}
-
-/// A copy of an item with the character and the glyph of a part, and the properties of that character.
-fn with_part<U: hb_unicode_funcs_t>(
-    info: &hb_glyph_info_t,
-    part: Part,
-    scratch_flags: &mut ScratchFlags,
-) -> hb_glyph_info_t
-    ensures item { result ≡ with_part_of U.unicode info.now part }
-    ensures flags { scratch_flags.new ≡ with_scratch_of U.unicode part.c scratch_flags.old }
-{
-    let mut copy = *info;
-    copy.codepoint = part.c;
-    copy.glyph_index = part.glyph;
-    copy.init_unicode_props::<U>(scratch_flags);
-    copy
-}
-
-/// A copy of an item with another character, its glyph, and the properties of that character.
-pub(crate) fn part_of<U: hb_unicode_funcs_t, F: hb_font_t>(
-    face: &F,
-    info: &hb_glyph_info_t,
-    c: char,
-    scratch_flags: &mut ScratchFlags,
-) -> hb_glyph_info_t
-    ensures item { result ≡ part_item U.unicode (F.face face.now).nominal_glyph info.now c }
-    ensures flags { scratch_flags.new ≡ with_scratch_of U.unicode c scratch_flags.old }
-{
-    let glyph = glyph_index(face, c);
-    with_part::<U>(info, Part { c, glyph }, scratch_flags)
-}
 
 /// The glyph that replaces a space: that of U+0020, else the invisible one.
 fn space_glyph<U: hb_unicode_funcs_t, F: hb_font_t>(
