@@ -1,7 +1,6 @@
 -- Round two: runs of marks, the spans that their order moves, and each CGJ.
 pub mod RunsLemmas
 pub mod SpanLemmas
-pub mod GreatestLemmas
 pub mod RunMarkLemmas
 pub mod InOrderLemmas
 pub mod RunWalkLemmas
@@ -16,3 +15,4 @@ pub mod MergeFirstLemmas
 pub mod SpanOrderLemmas
 pub mod MovedSpanLemmas
 pub mod SpansAheadLemmas
+pub mod NotedLemmas

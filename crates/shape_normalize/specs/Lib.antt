@@ -1,7 +1,7 @@
 pub mod Part
 pub mod RoundOne
-pub mod OneWalk
 pub mod RoundTwo
+pub mod OneWalk
 pub mod Reordered
 pub mod RoundThree
 pub mod Normalized

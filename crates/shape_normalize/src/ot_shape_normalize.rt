@@ -30,6 +30,7 @@ mod premises;
 mod round_one;
 mod round_three;
 mod round_two;
+mod runs;
 
 use crate::ot_shape_normalize::cgj::unhide_cgj;
 use crate::ot_shape_normalize::context::ContextOf;

@@ -12,7 +12,8 @@ ghost use Rattle.shape_normalize.specs.RoundTwo.{marks_ordered};
 
 use crate::ot_shape_normalize::one_walk::expand_in_one_walk;
 use crate::ot_shape_normalize::round_one::{expand, holds_selector};
-use crate::ot_shape_normalize::round_two::{order_runs, reorders_marks, settle_at_once};
+use crate::ot_shape_normalize::round_two::{order_runs, reorders_marks, settle_followed};
+use crate::ot_shape_normalize::runs::FollowedRuns;
 use shape_buffer::buffer::{ShapeError, hb_buffer_t, hb_glyph_info_t};
 use shape_buffer::interfaces::{hb_font_t, hb_ot_layout_t, hb_unicode_funcs_t};
 use shape_plan::ot_shaper::hb_ot_shaper_t;
@@ -88,9 +89,10 @@ fn take_one_walk<T: ShapingTypes>(
         (⟦<T as Meaning>⟧.rules plan.now face.now) buffer.old).items }
     ensures settings { cleared buffer.new ≡ cleared buffer.old }
 {
-    expand_in_one_walk::<T>(alloc, plan, buffer, face)?;
+    let mut runs = FollowedRuns::new(alloc, has_marks);
+    expand_in_one_walk::<T>(alloc, plan, buffer, face, &mut runs)?;
     if has_marks {
-        return settle_at_once(alloc, buffer);
+        return settle_followed(alloc, buffer, &mut runs);
     }
     Ok(())
 }

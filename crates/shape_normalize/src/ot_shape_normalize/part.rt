@@ -18,7 +18,7 @@ pub(crate) struct Part {
     pub(crate) glyph: u32,
 }
 
-/// The index of the glyph of a character, 0 where the face has none.
+/// The index of the glyph of a character, 0 if the face has none.
 pub(crate) fn glyph_index<F: hb_font_t>(face: &F, c: char) -> u32
     ensures { result ≡ glyph_index_of (F.face face.now).nominal_glyph c }
 {
@@ -28,7 +28,7 @@ pub(crate) fn glyph_index<F: hb_font_t>(face: &F, c: char) -> u32
     }
 }
 
-/// The character with its glyph, where the face has one.
+/// The character with its glyph, if the face has one.
 pub(crate) fn part_with_glyph<F: hb_font_t>(face: &F, c: char) -> Option<Part>
     ensures { result ≡ (if has_glyph (F.face face.now).nominal_glyph c
         then Some (part_of_char (F.face face.now).nominal_glyph c) else None) }

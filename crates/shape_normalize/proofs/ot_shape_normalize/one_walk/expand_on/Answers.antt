@@ -1,7 +1,9 @@
-use Rattle.std.proofs.Common.{rules, ◌≡◌, ◌<◌, ◌+◌, ◌++◌, ◌==◌, length, get_or, drop, sym, ap, ◌∙◌, arith, append_assoc}
+use Rattle.std.proofs.Common.{rules, ◌≡◌, ◌<◌, ◌+◌, ◌++◌, ◌==◌, length, get_or, map, drop, take, subst, sym, ap, ◌∙◌, arith, append_assoc}
+use Rattle.shape_items.specs.Items.{ccc_of_item}
 use Rattle.shape_plan.specs.Rules.{rules_of}
 use Rattle.shape_normalize.specs.RoundOne.{expanded_item, seen_expanded}
-use Rattle.shape_normalize.specs.OneWalk.{stands_with_marks, expanded_behind}
+use Rattle.shape_normalize.specs.OneWalk.{stands_with_marks, expanded_behind, FollowsRuns}
+use Rattle.shape_normalize.proofs.RoundTwo.NotedLemmas.{taken_before}
 use Rattle.shape_normalize.proofs.RoundOne.OneWalkLemmas.{behind_here, seen_here, passed_by_more}
 use Rattle.shape_normalize.proofs.ot_shape_normalize.one_walk.expand_on.Goals as goal
 
@@ -27,6 +29,8 @@ loop-i-preserved g c =
           ∙ ap (λ xs. out ++ xs) (sym (behind_here planned invisible items i item within at)) ∙ c.loop-i.invariant.infos);
       flags = rw (seen, short) (sym (seen_here planned invisible items i item c.loop-i.out.scratch_flags within at) ∙ c.loop-i.invariant.flags);
       within = search (rules, c.in_ok-put_item.ensures.within);
+      runs = search (rules, c.in_ok-follow_from.ensures.runs);
+      follows = search (rules, c.in_ok-follow_from.ensures.follows);
     }
 
 -- what was put out, and what this item becomes, is a part of the whole
@@ -48,3 +52,16 @@ returns-in_err-put_item-clause-length g c is_length =
     (passed_by_more (out ++ becomes) later _ c.length_limit-limit.result (append_assoc out becomes later
     ∙ ap (λ xs. out ++ xs) (sym (behind_here planned invisible items i item (omega (arith, c.loop-i-test.true)) c.index-infos-i.is))
     ∙ c.loop-i.invariant.infos) passed)
+
+pub follow_from-requires-clause-runs : goal.follow_from-requires-clause-runs
+follow_from-requires-clause-runs g c =
+    let shaper = g.T.Shaper.hb_ot_shaper_t in
+    let planned = rules_of g.T.Unicode.hb_unicode_funcs_t.unicode shaper.constants shaper.hooks g.T.Face.hb_font_t.face c.args.plan.now c.args.face.now in
+    let out = c.loop-i.out.infos.items in
+    let becomes = expanded_item planned c.invisible_glyph-invisible.result c.is_asked-shortest.result c.index-infos-i.result in
+    let put : c.put_item.new.self.infos.items ≡ out ++ becomes = search (rules, c.in_ok-put_item.ensures.infos) in
+    let counted : c.len-before.result ≡ length out = omega arith in
+    subst (λ cccs. FollowsRuns cccs c.loop-i.runs)
+    (sym (ap (λ xs. map ccc_of_item (take c.len-before.result xs)) c.deref.ensures.value
+    ∙ taken_before out becomes c.put_item.new.self.infos.items c.len-before.result counted put))
+    c.loop-i.invariant.runs

@@ -1,11 +1,12 @@
-use Rattle.std.proofs.Common.{rules, ◌≡◌, ◌<◌, ◌==◌, length, get_or, List, set, drop, sym, ap, ◌∙◌, arith, ◌∷◌, []}
+use Rattle.std.proofs.Common.{rules, ◌≡◌, ◌<◌, ◌≤◌, ◌+◌, ◌==◌, length, get_or, List, map, set, drop, take, subst, sym, ap, ◌∙◌, arith, ◌∷◌, []}
 use Rattle.std.proofs.lemmas.Grind.{common_steps}
 use Rattle.shape_items.specs.Buffer.{Buffer}
-use Rattle.shape_items.specs.Items.{Item}
+use Rattle.shape_items.specs.Items.{Item, ccc_of_item}
 use Rattle.shape_plan.specs.Rules.{rules_of}
 use Rattle.shape_normalize.specs.RoundOne.{expanded_item, seen_expanded}
-use Rattle.shape_normalize.specs.OneWalk.{stands_with_marks}
+use Rattle.shape_normalize.specs.OneWalk.{stands_with_marks, FollowsRuns}
 use Rattle.shape_normalize.proofs.RoundOne.OneWalkLemmas.{placed_more, seen_more}
+use Rattle.shape_normalize.proofs.RoundTwo.NotedLemmas.{placed_cccs, cccs_so_far}
 use Rattle.shape_normalize.proofs.ot_shape_normalize.one_walk.place_glyphs.Goals as goal
 
 pub loop-i-preserved : goal.loop-i-preserved
@@ -21,7 +22,7 @@ loop-i-preserved g c =
     let within : i < length items = omega (arith, c.loop-i-test.true, c.loop-i.invariant.as_many, c.len-i-end.ensures.items) in
     let at : item ≡ get_or items i item = c.index-infos-i.is ∙ ap (λ xs. get_or xs i item) infos_are in
     let short : c.is_asked.result ≡ planned.short (stands_with_marks (i == 0) (drop i items)) =
-    c.is_asked.ensures planned.short c.requires
+    c.is_asked.ensures planned.short c.requires.shortest
     ∙ ap planned.short (c.stands_with_marks_at.ensures ∙ ap (λ xs. stands_with_marks (i == 0) (drop i xs)) infos_are) in
     let becomes : expanded_item planned invisible c.is_asked.result item ≡ whole ∷ [] = search (rules, c.in_ok-found.ensures.item) in
     let stays : expanded_item planned invisible (planned.short (stands_with_marks (i == 0) (drop i items))) item ≡ whole ∷ [] =
@@ -35,4 +36,14 @@ loop-i-preserved g c =
       as_many = grind (arith, common_steps, written);
       rest = c.set_info.ensures ∙ ap (λ (b : Buffer). record b { items = set items i whole }) c.loop-i.invariant.rest
           ∙ ap (λ (xs : List Item). record c.args.buffer.now { items = xs }) (sym written);
+      runs = subst (λ cccs. FollowsRuns cccs c.follow.new.self)
+          (sym (ap (λ xs. map ccc_of_item (take (i + 1) xs)) written ∙ placed_cccs items i whole _ within c._hb_glyph_info_get_modified_combining_class.ensures))
+          (c.in_ok-follow.ensures.runs (map ccc_of_item (take i items)) (omega (arith, cccs_so_far items i (omega arith))) c.loop-i.invariant.runs);
+      follows = search (rules, c.in_ok-follow.ensures.follows);
     }
+
+pub follow-requires : goal.follow-requires
+follow-requires g c =
+    let items = c.loop-i.buffer.items in
+    let within : c.loop-i.i ≤ length items = omega (arith, c.loop-i-test.true, c.loop-i.invariant.as_many, c.len-i-end.ensures.items) in
+    omega (arith, c.loop-i.invariant.runs.within, cccs_so_far items c.loop-i.i within)

@@ -1,6 +1,7 @@
-use Rattle.std.proofs.Common.{◌≡◌, ◌++◌, ◌==◌, true, take, drop, length}
+use Rattle.std.proofs.Common.{◌≡◌, ◌++◌, ◌==◌, true, map, take, drop, length}
+use Rattle.shape_items.specs.Items.{ccc_of_item}
 use Rattle.shape_plan.specs.Rules.{rules_of}
-use Rattle.shape_normalize.specs.OneWalk.{expanded_behind, seen_behind}
+use Rattle.shape_normalize.specs.OneWalk.{expanded_behind, seen_behind, FollowsRuns}
 use Rattle.shape_normalize.proofs.ot_shape_normalize.one_walk.place_glyphs.Given as goal
 
 -- what stands at its place, then what is left expanded, is what the list expands to
@@ -16,4 +17,6 @@ invariant-loop-i g l =
           ≡ seen_behind rules l.invisible true old.scratch_flags old.items;
       as_many : length l.buffer.items ≡ length old.items;
       rest : l.buffer ≡ record old { items = l.buffer.items };
+      runs : FollowsRuns (map ccc_of_item (take l.i l.buffer.items)) l.runs;
+      follows : l.runs.follows ≡ l.fn.runs.follows;
     }
