@@ -137,7 +137,7 @@ impl hb_glyph_info_t {
     pub fn _hb_glyph_info_is_unicode_mark(&self) -> bool
         ensures { result ≡ is_mark_category self.now.properties.general_category }
     {
-        self.properties.general_category().is_mark()
+        self.properties.is_mark()
     }
 
     /// Reads the general category: `init_unicode_props` sets it to the character's.
