@@ -109,26 +109,32 @@ impl ItemProperties {
         }
     }
 
-    /// Makes the eight properties that go by a character those of an ASCII character of this category: it has
-    /// no other. One write of the first word, once compiled.
-    pub(crate) fn set_for_ascii(&mut self, general_category: hb_unicode_general_category_t)
+    /// Sets the eight properties that go by a character for one that is no joiner, and hidden from no lookup. One
+    /// write of the first word, once compiled.
+    pub(crate) fn set_for_plain(
+        &mut self,
+        general_category: hb_unicode_general_category_t,
+        modified_ccc: u8,
+        ignorable: bool,
+        continuation: bool,
+    )
         ensures { self.new ≡ record self.old {
           general_category = general_category;
-          modified_ccc = 0;
+          modified_ccc = modified_ccc;
           space_type = 0;
-          ignorable = false;
+          ignorable = ignorable;
           hidden = false;
-          continuation = false;
+          continuation = continuation;
           zwj = false;
           zwnj = false;
         } }
     {
         self.set_general_category(general_category);
-        self.set_modified_ccc(0);
+        self.set_modified_ccc(modified_ccc);
         self.set_space_type(0);
-        self.set_ignorable(false);
+        self.set_ignorable(ignorable);
         self.set_hidden(false);
-        self.set_continuation(false);
+        self.set_continuation(continuation);
         self.set_zwj(false);
         self.set_zwnj(false);
     }
