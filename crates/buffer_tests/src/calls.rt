@@ -140,6 +140,9 @@ fn lists(rt: HostRuntime) -> Result<(), Fail> {
     remove_first(&mut buffer);
     assert_rows(&rt, &buffer, &[(2, 0), (5, 0), (1, 0), (3, 0)]);
     assert_advances(&rt, &buffer, &[0, 7, 0, 0]);
+    buffer.truncate(3);
+    assert_rows(&rt, &buffer, &[(2, 0), (5, 0), (1, 0)]);
+    assert_advances(&rt, &buffer, &[0, 7, 0]);
     buffer.leave();
     assert_same(&rt, buffer.length_limit(), usize::MAX);
     Ok(())

@@ -8,7 +8,7 @@
 //! A walk puts each composed character in its starter's place, and notes the span that ends with the mark. In most
 //! texts nothing composes, and nothing is written. Else the clusters of the spans are merged while all items still
 //! stand in the list, and then the marks are taken out of it in place: no list of items is made.
-ghost use Rattle.std.specs.Prelude.{◌≡◌, ◌<◌, ◌≤◌, [], length, set, take, drop, slice_index_or};
+ghost use Rattle.std.specs.Prelude.{◌≡◌, ◌<◌, ◌≤◌, length, set, drop, slice_index_or};
 ghost use Rattle.std.specs.Prelude.{IfOk, IsOkUnless, OnOk};
 ghost use Rattle.canonical_form.specs.Recompose.{compose_with_glyph};
 ghost use Rattle.shape_items.specs.Buffer.{cleared};
@@ -194,18 +194,6 @@ fn ends_next(spans: &[(usize, usize)], taken: usize, end: usize) -> bool
     taken < spans.len() && spans[taken].1 == end
 }
 
-/// Takes out the items from `len` on.
-fn cut(buffer: &mut hb_buffer_t, len: usize)
-    ensures { record buffer.new { positions = [] }
-        ≡ record buffer.old { items = take len buffer.old.items; positions = [] } }
-{
-    let mut last = buffer.len();
-    while len < last {
-        last -= 1;
-        buffer.remove(last);
-    }
-}
-
 /// Takes out the last item of each of these spans, and leaves the others at positions of zeros.
 fn take_out_ends(buffer: &mut hb_buffer_t, spans: &[(usize, usize)])
     ensures { buffer.new ≡ ends_taken_out spans.now buffer.old }
@@ -224,7 +212,7 @@ fn take_out_ends(buffer: &mut hb_buffer_t, spans: &[(usize, usize)])
             kept += 1;
         }
     }
-    cut(buffer, kept);
+    buffer.truncate(kept);
     buffer.clear_positions();
 }
 

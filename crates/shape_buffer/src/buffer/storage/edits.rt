@@ -65,6 +65,18 @@ impl hb_buffer_t {
         self.positions.remove(i);
     }
 
+    /// Takes out the items from `len` on, and their positions; where there are no more than `len` items nothing
+    /// changes. Takes no memory.
+    pub fn truncate(&mut self, len: usize)
+        ensures { self.new ≡ record self.old {
+          items = take len self.old.items;
+          positions = take len self.old.positions;
+        } }
+    {
+        self.infos.truncate(len);
+        truncate_positions(&mut self.positions, len);
+    }
+
     /// Puts an item in before the one at `i`, at the end where `i` is the length, at a position of zeros.
     /// Refuses with `Length` where the list has reached its limit, and with `Memory` where a growth was
     /// refused; a refused call changes nothing.
@@ -185,6 +197,15 @@ fn resize_zeros(positions: &mut Vec<GlyphPosition>, count: usize) -> Result<(), 
         → positions.new.items ≡ replicate (length positions.new.items) zero_position }
 {
     positions.resize(count, GlyphPosition::zero())
+}
+
+/// Makes a list no longer than this: one of zeros alone stays that.
+fn truncate_positions(positions: &mut Vec<GlyphPosition>, len: usize)
+    ensures items { positions.new.items ≡ take len positions.old.items }
+    ensures zeros { positions.old.items ≡ replicate (length positions.old.items) zero_position
+        → positions.new.items ≡ replicate (length positions.new.items) zero_position }
+{
+    positions.truncate(len);
 }
 
 /// Makes every position zeros: nothing is written where they are.
