@@ -113,9 +113,33 @@ impl Expansion {
     }
 }
 
-/// Keeps the supported expansion of greatest length and says whether one is supported. If the shortest is
-/// asked, of a character without a glyph, the one of least length.
+/// Keeps the supported expansion of greatest length and says whether one is supported. Where the shortest is
+/// asked, of a character without a glyph, the one of least length. Most characters don't split, so that is asked
+/// first.
 pub(crate) fn decompose<T: ShapingTypes>(
+    plan: &PlanOf<'_, T>,
+    face: &T::Face,
+    c: char,
+    shortest: bool,
+    expansion: &mut Expansion,
+) -> Result<bool, AllocError>
+    requires { IsTrue shortest → has_glyph (T.Face.face face.now).nominal_glyph c ≡ false }
+    ensures { IfOk result (λ found. (if found
+        then Some (expansion.new.first ∷ reverse expansion.new.seconds.items) else None)
+        ≡ option_map (map (part_of_char (T.Face.face face.now).nominal_glyph))
+        (chosen_expansion (decompositions (⟦<T as Meaning>⟧.rules plan.now face.now))
+        (has_glyph (T.Face.face face.now).nominal_glyph) shortest c)) }
+{
+    if split_of::<T>(plan, face, c).is_none() {
+        return Ok(false);
+    }
+    keep_expansion::<T>(plan, face, c, shortest, expansion)
+}
+
+/// Decomposes by the walk along the chain. A call of its own, so that a character that doesn't split is not
+/// charged for what the walk keeps.
+#[inline(never)]
+fn keep_expansion<T: ShapingTypes>(
     plan: &PlanOf<'_, T>,
     face: &T::Face,
     c: char,
