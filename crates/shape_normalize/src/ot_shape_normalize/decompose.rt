@@ -113,7 +113,7 @@ impl Expansion {
     }
 }
 
-/// Keeps the supported expansion of greatest length and says whether one is supported. Where the shortest is
+/// Keeps the supported expansion of greatest length and says whether one is supported. If the shortest is
 /// asked, of a character without a glyph, the one of least length. Most characters don't split, so that is asked
 /// first.
 pub(crate) fn decompose<T: ShapingTypes>(
