@@ -58,8 +58,8 @@ module _ (reorder : Option (Buffer → ℕ → ℕ → Buffer)) (lawful : Lawful
 
   pub flag-marks_ordered : (b : Buffer) → cgj_flag (marks_ordered reorder b) ≡ cgj_flag b
   flag-marks_ordered b =
-      kept_by_marks_ordered reorder lawful (λ c. cgj_flag c ≡ cgj_flag b)
-      (λ start end c rising within marks so_far. flag-run_settled start end c rising within marks ∙ so_far) b refl
+      kept_by_marks_ordered reorder lawful b (λ c. cgj_flag c ≡ cgj_flag b)
+      (λ start end c run within marks so_far. flag-run_settled start end c run.ordered within marks ∙ so_far) refl
 
 -- where no CGJ was seen, none is unhidden
 pub cgj_unseen : (b : Buffer) → has_seen_cgj b ≡ false → cgj_unhidden_where_seen b ≡ b

@@ -233,10 +233,10 @@ module _ (reorder : Option (Buffer → ℕ → ℕ → Buffer)) (lawful : Lawful
 
   flags-marks_ordered : (b : Buffer) → KeepsFlags b (marks_ordered reorder b)
   flags-marks_ordered b =
-      kept_by_marks_ordered reorder lawful (λ c. KeepsFlags b c)
-      (λ start end c ordered within marks so_far. KeepsFlags-then b c (run_settled reorder c (start, end)) so_far
-      (flags-run_settled start end c ordered within marks))
-      b (KeepsFlags-same b)
+      kept_by_marks_ordered reorder lawful b (λ c. KeepsFlags b c)
+      (λ start end c run within marks so_far. KeepsFlags-then b c (run_settled reorder c (start, end)) so_far
+      (flags-run_settled start end c run.ordered within marks))
+      (KeepsFlags-same b)
 
 flags-cgj : (b : Buffer) → KeepsFlags b (cgj_unhidden_where_seen b)
 flags-cgj b =
