@@ -13,6 +13,7 @@ use shape_fallback::ot_shape_fallback::{
 use shape_pipeline::ot_shape_plan::hb_ot_shape_plan_t;
 use shape_pipeline::ot_shaper::{DEFAULT_SHAPER, hb_default_shaper_t};
 use std::alloc::Global;
+use std::process::Abort;
 use std::test::Fail;
 
 /// A plan of a direction, without a script.
@@ -115,9 +116,33 @@ const LEFTWARD: (Direction, Direction) = (Direction::RightToLeft, Direction::Rig
 /// The plan runs to the right, the buffer to the left.
 const APART: (Direction, Direction) = (Direction::LeftToRight, Direction::RightToLeft);
 
+/// Compares the offsets of a mark of each of these components of the base's ligature.
+fn assert_components(
+    rt: &impl Abort,
+    alloc: Global,
+    rows: &[((Direction, Direction), u8, i32)],
+) -> Result<(), Fail> {
+    for (directions, component, x_offset) in rows {
+        let offsets = last_offsets(alloc, *directions, &[(1, *component)])?;
+        assert_eq!(rt; offsets, Some((*x_offset, 112)), "{component}");
+    }
+    Ok(())
+}
+
+/// Compares the offsets of the last of some marks of a base.
+fn assert_last(
+    rt: &impl Abort,
+    alloc: Global,
+    directions: (Direction, Direction),
+    marks: &[Component],
+    offsets: (i32, i32),
+) -> Result<(), Fail> {
+    assert_same(rt, last_offsets(alloc, directions, marks)?, Some(offsets));
+    Ok(())
+}
+
 #[test]
 fn each_component_has_its_third_of_the_base(rt: HostRuntime) -> Result<(), Fail> {
-    let alloc = rt.alloc();
     let rows: [((Direction, Direction), u8, i32); 12] = [
         // thirds begin at 0, 300 and 600; a mark stands 0 from there, and goes back by the advance
         (RIGHTWARD, 1, -900),
@@ -136,23 +161,15 @@ fn each_component_has_its_third_of_the_base(rt: HostRuntime) -> Result<(), Fail>
         (APART, 1, 0),
         (APART, 3, 600),
     ];
-    for (directions, component, x_offset) in rows {
-        let offsets = last_offsets(alloc, directions, &[(1, component)])?;
-        assert_eq!(rt; offsets, Some((x_offset, 112)), "{component}");
-    }
-    Ok(())
+    assert_components(&rt, rt.alloc(), &rows)
 }
 
 #[test]
 fn mark_of_another_ligature_is_the_last_component(rt: HostRuntime) -> Result<(), Fail> {
     let alloc = rt.alloc();
     for mark in [(2, 1), (0, 1)] {
-        assert_same(
-            &rt,
-            last_offsets(alloc, RIGHTWARD, &[mark])?,
-            Some((-300, 112)),
-        );
-        assert_same(&rt, last_offsets(alloc, LEFTWARD, &[mark])?, Some((0, 112)));
+        assert_last(&rt, alloc, RIGHTWARD, &[mark], (-300, 112))?;
+        assert_last(&rt, alloc, LEFTWARD, &[mark], (0, 112))?;
     }
     Ok(())
 }
@@ -161,34 +178,21 @@ fn mark_of_another_ligature_is_the_last_component(rt: HostRuntime) -> Result<(),
 fn components_without_a_horizontal_plan_run_to_the_right(rt: HostRuntime) -> Result<(), Fail> {
     let alloc = rt.alloc();
     let directions = (Direction::TopToBottom, Direction::RightToLeft);
-    assert_same(
-        &rt,
-        last_offsets(alloc, directions, &[(1, 2)])?,
-        Some((300, 112)),
-    );
-    assert_same(
-        &rt,
-        last_offsets(alloc, directions, &[(1, 3)])?,
-        Some((600, 112)),
-    );
-    Ok(())
+    assert_last(&rt, alloc, directions, &[(1, 2)], (300, 112))?;
+    assert_last(&rt, alloc, directions, &[(1, 3)], (600, 112))
 }
 
 #[test]
 fn marks_of_a_component_pile_up(rt: HostRuntime) -> Result<(), Fail> {
     let alloc = rt.alloc();
     // the box grows to 912, and a gap on top of it the next mark stands at 974 - 650
-    let same = last_offsets(alloc, RIGHTWARD, &[(1, 2), (1, 2)])?;
-    assert_same(&rt, same, Some((-600, 324)));
+    assert_last(&rt, alloc, RIGHTWARD, &[(1, 2), (1, 2)], (-600, 324))?;
     // another component begins anew, and so does the first one after it
-    let next = last_offsets(alloc, RIGHTWARD, &[(1, 2), (1, 3)])?;
-    assert_same(&rt, next, Some((-300, 112)));
-    let back = last_offsets(alloc, RIGHTWARD, &[(1, 2), (1, 3), (1, 2)])?;
-    assert_same(&rt, back, Some((-600, 112)));
+    assert_last(&rt, alloc, RIGHTWARD, &[(1, 2), (1, 3)], (-300, 112))?;
+    let back = [(1, 2), (1, 3), (1, 2)];
+    assert_last(&rt, alloc, RIGHTWARD, &back, (-600, 112))?;
     // component -1, after another one, is a part of its own: it begins at -300
-    let none = last_offsets(alloc, RIGHTWARD, &[(1, 2), (1, 0)])?;
-    assert_same(&rt, none, Some((-1200, 112)));
-    Ok(())
+    assert_last(&rt, alloc, RIGHTWARD, &[(1, 2), (1, 0)], (-1200, 112))
 }
 
 /// The ccc of a character that has this category and ccc, once marks are recategorised.
@@ -216,10 +220,21 @@ fn recategorised(
     )
 }
 
+/// Compares what the ccc of marks becomes.
+fn assert_classes(rt: &impl Abort, alloc: Global, rows: &[(char, u8, u8)]) -> Result<(), Fail> {
+    let mark = hb_unicode_general_category_t::NonspacingMark;
+    for (c, ccc, becomes) in rows {
+        assert_eq!(rt;
+            recategorised(alloc, *c, mark, *ccc)?,
+            Some(*becomes),
+            "{ccc}"
+        );
+    }
+    Ok(())
+}
+
 #[test]
 fn classes_of_single_characters(rt: HostRuntime) -> Result<(), Fail> {
-    let alloc = rt.alloc();
-    let mark = hb_unicode_general_category_t::NonspacingMark;
     let rows: [(char, u8, u8); 16] = [
         ('\u{E34}', 0, 232),
         ('\u{E31}', 0, 232),
@@ -239,16 +254,36 @@ fn classes_of_single_characters(rt: HostRuntime) -> Result<(), Fail> {
         ('\u{F00}', 0, 0),
         ('\u{301}', 0, 0),
     ];
-    for (c, ccc, becomes) in rows {
-        assert_eq!(rt; recategorised(alloc, c, mark, ccc)?, Some(becomes), "{ccc}");
+    assert_classes(&rt, rt.alloc(), &rows)
+}
+
+/// Compares what the ccc of the acute becomes, where that was another one.
+fn assert_classes_of_acute(rt: &impl Abort, alloc: Global, rows: &[(u8, u8)]) -> Result<(), Fail> {
+    let mark = hb_unicode_general_category_t::NonspacingMark;
+    for (ccc, becomes) in rows {
+        assert_eq!(rt;
+            recategorised(alloc, '\u{301}', mark, *ccc)?,
+            Some(*becomes),
+            "{ccc}"
+        );
     }
+    Ok(())
+}
+
+/// Compares what becomes of other characters than nonspacing marks: they keep their ccc.
+fn assert_kept(
+    rt: &impl Abort,
+    alloc: Global,
+    category: hb_unicode_general_category_t,
+) -> Result<(), Fail> {
+    assert_same(rt, recategorised(alloc, '\u{E34}', category, 0)?, Some(0));
+    assert_same(rt, recategorised(alloc, '\u{301}', category, 13)?, Some(13));
     Ok(())
 }
 
 #[test]
 fn classes_of_other_scripts(rt: HostRuntime) -> Result<(), Fail> {
     let alloc = rt.alloc();
-    let mark = hb_unicode_general_category_t::NonspacingMark;
     let rows: [(u8, u8); 28] = [
         (1, 1),
         (3, 222),
@@ -279,20 +314,13 @@ fn classes_of_other_scripts(rt: HostRuntime) -> Result<(), Fail> {
         (200, 200),
         (230, 230),
     ];
-    for (ccc, becomes) in rows {
-        assert_eq!(rt;
-            recategorised(alloc, '\u{301}', mark, ccc)?,
-            Some(becomes),
-            "{ccc}"
-        );
-    }
+    assert_classes_of_acute(&rt, alloc, &rows)?;
     for other in [
         hb_unicode_general_category_t::SpacingMark,
         hb_unicode_general_category_t::EnclosingMark,
         hb_unicode_general_category_t::OtherLetter,
     ] {
-        assert_same(&rt, recategorised(alloc, '\u{E34}', other, 0)?, Some(0));
-        assert_same(&rt, recategorised(alloc, '\u{301}', other, 13)?, Some(13));
+        assert_kept(&rt, alloc, other)?;
     }
     Ok(())
 }

@@ -66,14 +66,44 @@ fn assert_space(
     Ok(())
 }
 
+/// Compares the types of spaces at the least and at the greatest em square.
+fn assert_spaces(rt: &impl Abort, alloc: Global, parts: &[(char, i32, i32)]) -> Result<(), Fail> {
+    for (c, least, greatest) in parts {
+        assert_space(rt, alloc, 1, &[*c], *least)?;
+        assert_space(rt, alloc, 65535, &[*c], *greatest)?;
+    }
+    Ok(())
+}
+
 #[test]
 fn spaces_of_the_least_and_the_greatest_em(rt: HostRuntime) -> Result<(), Fail> {
-    let alloc = rt.alloc();
-    for (c, least, greatest) in PARTS {
-        let space = [c];
-        assert_space(&rt, alloc, 1, &space, least)?;
-        assert_space(&rt, alloc, 65535, &space, greatest)?;
+    assert_spaces(&rt, rt.alloc(), &PARTS)
+}
+
+/// A face of so many units with boxes for a letter and a mark.
+fn boxed(alloc: Global, units: u16) -> Result<MapFace, Fail> {
+    let mut face = MapFace::new(alloc, units);
+    for (c, glyph, advance, extents) in [
+        ('a', 1, 600, (0, 700, 600, -700)),
+        ('\u{301}', 2, 200, (50, 800, 200, -150)),
+    ] {
+        let extents = Some(hb_glyph_extents_t {
+            x_bearing: extents.0,
+            y_bearing: extents.1,
+            width: extents.2,
+            height: extents.3,
+        });
+        face.set_glyph(c, GlyphId(glyph), Metrics { advance, extents })?;
     }
+    Ok(face)
+}
+
+/// Compares how far up the mark of a letter goes in an em square of so many units.
+fn assert_gap(rt: &impl Abort, alloc: Global, units: u16, y_offset: i32) -> Result<(), Fail> {
+    let text = text_of(alloc, PLAINLY, &['a', '\u{301}'])?;
+    let glyphs = shaped(alloc, &boxed(alloc, units)?, &DEFAULT_SHAPER, text)?;
+    let placed = [(1, 0, (600, 0, 0, 0), 0), (2, 0, (0, 0, -450, y_offset), 0)];
+    assert_glyphs(rt, &glyphs, &placed);
     Ok(())
 }
 
@@ -82,23 +112,7 @@ fn gap_between_marks_is_a_sixteenth(rt: HostRuntime) -> Result<(), Fail> {
     let alloc = rt.alloc();
     // without a gap the mark at 50 is drawn for a higher base, and comes down half of the way
     for (units, y_offset) in [(1, 25), (15, 25), (16, 51), (65535, 4145)] {
-        let mut face = MapFace::new(alloc, units);
-        for (c, glyph, advance, extents) in [
-            ('a', 1, 600, (0, 700, 600, -700)),
-            ('\u{301}', 2, 200, (50, 800, 200, -150)),
-        ] {
-            let extents = Some(hb_glyph_extents_t {
-                x_bearing: extents.0,
-                y_bearing: extents.1,
-                width: extents.2,
-                height: extents.3,
-            });
-            face.set_glyph(c, GlyphId(glyph), Metrics { advance, extents })?;
-        }
-        let text = text_of(alloc, PLAINLY, &['a', '\u{301}'])?;
-        let glyphs = shaped(alloc, &face, &DEFAULT_SHAPER, text)?;
-        let placed = [(1, 0, (600, 0, 0, 0), 0), (2, 0, (0, 0, -450, y_offset), 0)];
-        assert_glyphs(&rt, &glyphs, &placed);
+        assert_gap(&rt, alloc, units, y_offset)?;
     }
     Ok(())
 }

@@ -74,13 +74,27 @@ fn assert_composed(
     assert_list(rt, alloc, RowFace::of(face), &shaper, text, list)
 }
 
+/// Compares a text, a mark so many times between other characters, with its list, which has that mark between
+/// others.
+fn assert_around(
+    rt: &impl Abort,
+    alloc: Global,
+    mark: (char, usize),
+    (before, behind): (&[char], &[char]),
+    (list_before, list_behind): (&[char], &[char]),
+) -> Result<(), Fail> {
+    let text = around(alloc, before, mark, behind)?;
+    let list = around(alloc, list_before, mark, list_behind)?;
+    assert_composed(rt, alloc, &FEW, &text, &list)
+}
+
 /// U+0308 has the ccc of U+0301 and keeps it from the letter, after any number of marks below.
 #[test]
 fn marks_of_a_long_run_stay(rt: HostRuntime) -> Result<(), Fail> {
     let alloc = rt.alloc();
+    let text: (&[char], &[char]) = (&['a', '\u{308}'], &['\u{301}']);
     for count in [31, 32, 1000] {
-        let text = around(alloc, &['a', '\u{308}'], ('\u{323}', count), &['\u{301}'])?;
-        assert_composed(&rt, alloc, &FEW, &text, &text)?;
+        assert_around(&rt, alloc, ('\u{323}', count), text, text)?;
     }
     Ok(())
 }
@@ -88,24 +102,31 @@ fn marks_of_a_long_run_stay(rt: HostRuntime) -> Result<(), Fail> {
 /// Of 32 marks those below come first, and U+0308 stands right before U+0301.
 #[test]
 fn marks_of_a_shorter_run_are_put_in_order(rt: HostRuntime) -> Result<(), Fail> {
-    let alloc = rt.alloc();
-    let below = ('\u{323}', 30);
-    let text = around(alloc, &['a', '\u{308}'], below, &['\u{301}'])?;
-    let list = around(alloc, &['a'], below, &['\u{308}', '\u{301}'])?;
-    assert_composed(&rt, alloc, &FEW, &text, &list)
+    let text: (&[char], &[char]) = (&['a', '\u{308}'], &['\u{301}']);
+    let list: (&[char], &[char]) = (&['a'], &['\u{308}', '\u{301}']);
+    assert_around(&rt, rt.alloc(), ('\u{323}', 30), text, list)
 }
 
 /// U+0301 composes past any number of marks below.
 #[test]
 fn marks_below_let_pass(rt: HostRuntime) -> Result<(), Fail> {
     let alloc = rt.alloc();
+    let text: (&[char], &[char]) = (&['a'], &['\u{301}']);
+    let list: (&[char], &[char]) = (&['\u{E1}'], &[]);
     for count in [1, 31, 32, 1000] {
-        let below = ('\u{323}', count);
-        let text = around(alloc, &['a'], below, &['\u{301}'])?;
-        let list = around(alloc, &['\u{E1}'], below, &[])?;
-        assert_composed(&rt, alloc, &FEW, &text, &list)?;
+        assert_around(&rt, alloc, ('\u{323}', count), text, list)?;
     }
     Ok(())
+}
+
+/// The same with a shaper that exchanges marks.
+fn assert_swapped(
+    rt: &impl Abort,
+    alloc: Global,
+    text: &[char],
+    list: &[char],
+) -> Result<(), Fail> {
+    assert_list(rt, alloc, RowFace::of(&FEW), &SwappingShaper, text, list)
 }
 
 /// The hook brings U+0308 before U+0323: after the two U+0301 stays. Of U+0323 U+0301 it makes U+0301 U+0323, and
@@ -113,28 +134,30 @@ fn marks_below_let_pass(rt: HostRuntime) -> Result<(), Fail> {
 #[test]
 fn a_hook_brings_a_greater_ccc_forward(rt: HostRuntime) -> Result<(), Fail> {
     let alloc = rt.alloc();
-    let cases: [(&[char], &[char]); 2] = [
-        (
-            &['a', '\u{323}', '\u{308}', '\u{301}'],
-            &['a', '\u{308}', '\u{323}', '\u{301}'],
-        ),
-        (&['a', '\u{323}', '\u{301}'], &['\u{E1}', '\u{323}']),
-    ];
-    for (text, list) in cases {
-        assert_list(&rt, alloc, RowFace::of(&FEW), &SwappingShaper, text, list)?;
-    }
-    Ok(())
+    let text = ['a', '\u{323}', '\u{308}', '\u{301}'];
+    let list = ['a', '\u{308}', '\u{323}', '\u{301}'];
+    assert_swapped(&rt, alloc, &text, &list)?;
+    let text = ['a', '\u{323}', '\u{301}'];
+    assert_swapped(&rt, alloc, &text, &['\u{E1}', '\u{323}'])
 }
 
 /// What stands before a new starter keeps nothing from it.
 #[test]
 fn a_new_starter_forgets(rt: HostRuntime) -> Result<(), Fail> {
     let alloc = rt.alloc();
+    let text: (&[char], &[char]) = (&['a'], &['a', '\u{301}']);
+    let list: (&[char], &[char]) = (&['a'], &['\u{E1}']);
     for count in [1, 33] {
-        let above = ('\u{308}', count);
-        let text = around(alloc, &['a'], above, &['a', '\u{301}'])?;
-        let list = around(alloc, &['a'], above, &['\u{E1}'])?;
-        assert_composed(&rt, alloc, &FEW, &text, &list)?;
+        assert_around(&rt, alloc, ('\u{308}', count), text, list)?;
+    }
+    Ok(())
+}
+
+/// Compares a letter and marks below, with other characters behind them, which all stay.
+fn assert_kept_apart(rt: &impl Abort, alloc: Global, behind: &[char]) -> Result<(), Fail> {
+    for count in [0, 1, 33] {
+        let text = around(alloc, &['a'], ('\u{323}', count), behind)?;
+        assert_composed(rt, alloc, &WITH_STARTERS, &text, &text)?;
     }
     Ok(())
 }
@@ -143,15 +166,6 @@ fn a_new_starter_forgets(rt: HostRuntime) -> Result<(), Fail> {
 #[test]
 fn a_starter_between_keeps_apart(rt: HostRuntime) -> Result<(), Fail> {
     let alloc = rt.alloc();
-    let starters: [[char; 3]; 2] = [
-        ['b', '\u{323}', '\u{301}'],
-        ['\u{20DD}', '\u{323}', '\u{301}'],
-    ];
-    for behind in &starters {
-        for count in [0, 1, 33] {
-            let text = around(alloc, &['a'], ('\u{323}', count), behind)?;
-            assert_composed(&rt, alloc, &WITH_STARTERS, &text, &text)?;
-        }
-    }
-    Ok(())
+    assert_kept_apart(&rt, alloc, &['b', '\u{323}', '\u{301}'])?;
+    assert_kept_apart(&rt, alloc, &['\u{20DD}', '\u{323}', '\u{301}'])
 }

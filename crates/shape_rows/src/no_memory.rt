@@ -8,12 +8,16 @@ use shape_buffer::buffer::{
     BufferFlags, Direction, GlyphId, ScratchFlags, Script, UnicodeBuffer, hb_buffer_t,
     hb_glyph_info_t, hb_tag_t,
 };
-use shape_buffer::interfaces::{MapFace, NoLookups, TableIndex, hb_font_t, hb_ot_map_builder_t};
+use shape_buffer::interfaces::{
+    MapFace, NoLookups, TableIndex, hb_font_t, hb_ot_layout_t, hb_ot_map_builder_t,
+};
 use shape_buffer::walks::update_items;
 use shape_pipeline::ot_shape::{hb_ot_shape_context_t, prepare_text, shape_internal};
 use shape_pipeline::ot_shape_normalize::{_hb_ot_shape_normalize, meets_canonical_premises};
 use shape_pipeline::ot_shape_plan::hb_ot_shape_plan_t;
-use shape_pipeline::ot_shaper::{DEFAULT_SHAPER, Decomposed, Preferring, hb_default_shaper_t};
+use shape_pipeline::ot_shaper::{
+    DEFAULT_SHAPER, Decomposed, Preferring, hb_default_shaper_t, hb_ot_shaper_t,
+};
 use shape_pipeline::shape_with_plan;
 use shape_plan::shaping_types::TypesOf;
 use shape_prepare::graphemes::set_unicode_props;
@@ -100,44 +104,39 @@ fn entered(alloc: Global, text: &[char]) -> Result<hb_buffer_t, Fail> {
     Ok(buffer)
 }
 
+/// A plan that runs to the right.
+fn planned<'a, F, M, S>(
+    alloc: Global,
+    face: &'a F,
+    shaper: &'a S,
+) -> Result<hb_ot_shape_plan_t<'a, S, M::Map, ()>, Fail>
+where
+    F: hb_font_t,
+    M: hb_ot_layout_t<F>,
+    S: hb_ot_shaper_t<UnicodeDatabase, F, M, Data = ()>,
+{
+    let plan = hb_ot_shape_plan_t::new::<UnicodeDatabase, F, M>(
+        alloc,
+        face,
+        shaper,
+        Direction::LeftToRight,
+        None,
+        None,
+        &[],
+    )?;
+    Ok(plan)
+}
+
 fn begin<'a>(
     alloc: Global,
     face: &'a MapFace,
     tabled: &'a TabledFace,
     decomposing: &'a Preferring<Decomposed>,
 ) -> Result<Begun<'a>, Fail> {
-    let rightward = Direction::LeftToRight;
-    let plain = hb_ot_shape_plan_t::new::<UnicodeDatabase, MapFace, NoLookups>(
-        alloc,
-        face,
-        &DEFAULT_SHAPER,
-        rightward,
-        None,
-        None,
-        &[],
-    )?;
-    let dividing = hb_ot_shape_plan_t::new::<UnicodeDatabase, TabledFace, AddingLayout>(
-        alloc,
-        tabled,
-        &DEFAULT_SHAPER,
-        rightward,
-        None,
-        None,
-        &[],
-    )?;
-    let full = hb_ot_shape_plan_t::new::<UnicodeDatabase, MapFace, NoLookups>(
-        alloc,
-        face,
-        decomposing,
-        rightward,
-        None,
-        None,
-        &[],
-    )?;
     Ok(Begun {
-        plain,
-        dividing,
-        full,
+        plain: planned::<MapFace, NoLookups, _>(alloc, face, &DEFAULT_SHAPER)?,
+        dividing: planned::<TabledFace, AddingLayout, _>(alloc, tabled, &DEFAULT_SHAPER)?,
+        full: planned::<MapFace, NoLookups, _>(alloc, face, decomposing)?,
         text: entered(alloc, &TEXT)?,
         spelled: entered(alloc, &SPELLED)?,
     })
@@ -265,15 +264,8 @@ fn steps_are_made(rt: HostRuntime) -> Result<(), Fail> {
     steps::turn(&plain, &face, &mut text);
     set_items(&mut text);
     divide(&rt, &dividing, &mut text);
-    steps::put_masks(&plain, &face, &mut text);
-    steps::make_glyphs(&plain, &face, &mut text);
-    steps::classify(&plain, &mut text);
-    steps::make_whole_steps(&plain, &face, &mut text)?;
-    steps::fall_back(&plain, &face, &mut text);
-    steps::advance(&plain, &face, &mut text);
-    steps::zero_marks(&plain, &face, &mut text);
-    steps::finish_positions(&plain, &face, &mut text);
-    steps::put_marks(&plain, &face, &mut text);
+    steps::make_glyphs(&plain, &face, &mut text)?;
+    steps::place(&plain, &face, &mut text);
     assert_same(&rt, text.len(), 16);
     steps::order(&mut text);
     steps::hide(&plain, &face, &mut text);
@@ -301,6 +293,18 @@ fn shape_in_place(alloc: Global, plan: &Plan<'_>, face: &MapFace) -> Result<(), 
     Ok(())
 }
 
+/// How many glyphs an empty text has.
+fn shape_nothing(alloc: Global, plan: &Plan<'_>, face: &MapFace) -> Result<usize, Fail> {
+    let text = UnicodeBuffer::new(alloc);
+    if !plan.fits::<UnicodeDatabase>(&text) {
+        return Err(Fail::from("the plan doesn't fit"));
+    }
+    match shape_with_plan::<UnicodeDatabase, MapFace, NoLookups, _>(alloc, face, plan, text) {
+        Ok(glyphs) => Ok(glyphs.len()),
+        Err(_) => Err(Fail::from("refused")),
+    }
+}
+
 #[test]
 fn empty_text_is_shaped(rt: HostRuntime) -> Result<(), Fail> {
     let alloc = rt.alloc();
@@ -309,15 +313,7 @@ fn empty_text_is_shaped(rt: HostRuntime) -> Result<(), Fail> {
     let decomposing = Preferring::<Decomposed>::new();
     let begun = begin(alloc, &face, &tabled, &decomposing)?;
     assert_same(&rt, begun.text.len(), 16);
-    let plan = &begun.plain;
-    shape_in_place(alloc, plan, &face)?;
-    let text = UnicodeBuffer::new(alloc);
-    if !plan.fits::<UnicodeDatabase>(&text) {
-        return Err(Fail::from("the plan doesn't fit"));
-    }
-    match shape_with_plan::<UnicodeDatabase, MapFace, NoLookups, _>(alloc, &face, plan, text) {
-        Ok(glyphs) => assert_same(&rt, glyphs.len(), 0),
-        Err(_) => return Err(Fail::from("refused")),
-    }
+    shape_in_place(alloc, &begun.plain, &face)?;
+    assert_same(&rt, shape_nothing(alloc, &begun.plain, &face)?, 0);
     Ok(())
 }

@@ -5,10 +5,12 @@ use crate::texts::{
     BY_CHARACTER, GlyphOf, Manner, PLAINLY, PlacedGlyph, assert_glyphs, face_of, shaped, text_of,
 };
 use shape_buffer::buffer::{
-    BufferFlags, Direction, GlyphId, ScratchFlags, hb_buffer_t, hb_glyph_info_t,
+    BufferFlags, Direction, GlyphBuffer, GlyphId, ScratchFlags, UnicodeBuffer, hb_buffer_t,
+    hb_glyph_info_t,
 };
 use shape_pipeline::ot_shaper::DEFAULT_SHAPER;
 use shape_position::flags::propagate_flags;
+use shape_unicode::UnicodeDatabase;
 use std::alloc::Global;
 use std::process::Abort;
 use std::test::Fail;
@@ -56,18 +58,17 @@ fn hidden_joiner(rt: HostRuntime) -> Result<(), Fail> {
     Ok(())
 }
 
+/// Compares the advance of a space that is a part of the em square.
+fn assert_space(rt: &impl Abort, alloc: Global, c: char, advance: i32) -> Result<(), Fail> {
+    let placed = [(3, 0, (advance, 0, 0, 0), 0)];
+    assert_shaped(rt, alloc, &[SPACE], PLAINLY, &[c], &placed)
+}
+
 #[test]
 fn em_spaces(rt: HostRuntime) -> Result<(), Fail> {
     let alloc = rt.alloc();
     for (c, advance) in [('\u{2004}', 333), ('\u{200A}', 63), ('\u{205F}', 222)] {
-        assert_shaped(
-            &rt,
-            alloc,
-            &[SPACE],
-            PLAINLY,
-            &[c],
-            &[(3, 0, (advance, 0, 0, 0), 0)],
-        )?;
+        assert_space(&rt, alloc, c, advance)?;
     }
     Ok(())
 }
@@ -130,6 +131,14 @@ fn spaces_of_a_width(rt: HostRuntime) -> Result<(), Fail> {
     Ok(())
 }
 
+/// The glyphs of a text, one of which stands for variation selectors without a variant.
+fn with_selector_glyph(alloc: Global, text: &[char]) -> Result<GlyphBuffer, Fail> {
+    let face = face_of(alloc, &[LETTER, SPACE])?;
+    let mut buffer = text_of(alloc, PLAINLY, text)?;
+    buffer.set_not_found_variation_selector_glyph(Some(GlyphId(9)));
+    shaped(alloc, &face, &DEFAULT_SHAPER, buffer)
+}
+
 #[test]
 fn selectors_without_a_variant(rt: HostRuntime) -> Result<(), Fail> {
     let alloc = rt.alloc();
@@ -137,15 +146,8 @@ fn selectors_without_a_variant(rt: HostRuntime) -> Result<(), Fail> {
     let hidden = (3, 0, (0, 0, 0, 0), 0);
     let placed = [PLACED_LETTER, hidden, hidden];
     assert_shaped(&rt, alloc, &[LETTER, SPACE], PLAINLY, &text, &placed)?;
-    let face = face_of(alloc, &[LETTER, SPACE])?;
-    let mut buffer = text_of(alloc, PLAINLY, &text)?;
-    buffer.set_not_found_variation_selector_glyph(Some(GlyphId(9)));
-    let answer = shaped(alloc, &face, &DEFAULT_SHAPER, buffer)?;
-    assert_glyphs(
-        &rt,
-        &answer,
-        &[PLACED_LETTER, (9, 0, (0, 0, 0, 0), 0), hidden],
-    );
+    let placed = [PLACED_LETTER, (9, 0, (0, 0, 0, 0), 0), hidden];
+    assert_glyphs(&rt, &with_selector_glyph(alloc, &text)?, &placed);
     Ok(())
 }
 
@@ -176,6 +178,20 @@ fn from_right_to_left(rt: HostRuntime) -> Result<(), Fail> {
     assert_shaped(&rt, alloc, &face, manner, &['(', 'a'], &placed)
 }
 
+/// Two letters of Hebrew.
+fn two_letters(alloc: Global) -> Result<UnicodeBuffer, Fail> {
+    text_of(alloc, PLAINLY, &['\u{5D0}', '\u{5D1}'])
+}
+
+/// The same in the buffer of glyphs that are cleared.
+fn two_letters_again(rt: &impl Abort, glyphs: GlyphBuffer) -> Result<UnicodeBuffer, Fail> {
+    let mut again = glyphs.clear();
+    assert_that(rt, again.is_empty());
+    again.push_str("\u{5D0}\u{5D1}")?;
+    again.guess_segment_properties::<UnicodeDatabase>();
+    Ok(again)
+}
+
 #[test]
 fn a_cleared_buffer_serves_again(rt: HostRuntime) -> Result<(), Fail> {
     let alloc = rt.alloc();
@@ -184,13 +200,9 @@ fn a_cleared_buffer_serves_again(rt: HostRuntime) -> Result<(), Fail> {
         &[('\u{5D0}', 1, 500, None), ('\u{5D1}', 2, 450, None)],
     )?;
     let placed = [(2, 2, (450, 0, 0, 0), 0), (1, 0, (500, 0, 0, 0), 0)];
-    let text = text_of(alloc, PLAINLY, &['\u{5D0}', '\u{5D1}'])?;
-    let glyphs = shaped(alloc, &face, &DEFAULT_SHAPER, text)?;
+    let glyphs = shaped(alloc, &face, &DEFAULT_SHAPER, two_letters(alloc)?)?;
     assert_glyphs(&rt, &glyphs, &placed);
-    let mut again = glyphs.clear();
-    assert_that(&rt, again.is_empty());
-    again.push_str("\u{5D0}\u{5D1}")?;
-    again.guess_segment_properties::<shape_unicode::UnicodeDatabase>();
+    let again = two_letters_again(&rt, glyphs)?;
     let answer = shaped(alloc, &face, &DEFAULT_SHAPER, again)?;
     assert_glyphs(&rt, &answer, &placed);
     Ok(())

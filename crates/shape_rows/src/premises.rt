@@ -1,6 +1,6 @@
 //! Texts that meet the premises of canonical form, and texts that miss one of them.
 
-use crate::comparing::{assert_same, assert_that};
+use crate::comparing::assert_same;
 use crate::texts::{PLAINLY, planned, prepared, text_of};
 use shape_buffer::interfaces::{NoLookups, hb_font_t};
 use shape_pipeline::ot_shape_normalize::meets_canonical_premises;
@@ -10,6 +10,7 @@ use shape_pipeline::ot_shaper::{
 };
 use shape_unicode::UnicodeDatabase;
 use std::alloc::Global;
+use std::process::Abort;
 use std::test::Fail;
 use test_worlds::{EVERY_GLYPH, RowFace};
 
@@ -25,6 +26,19 @@ where
     Ok(meets_canonical_premises::<UnicodeDatabase, F, NoLookups, S>(&plan, face, &buffer))
 }
 
+/// Compares whether a text meets them in the mode that decomposes fully.
+fn assert_meets(
+    rt: &impl Abort,
+    alloc: Global,
+    face: RowFace<'_>,
+    text: &[char],
+    want: bool,
+) -> Result<(), Fail> {
+    let shaper = Preferring::<Decomposed>::new();
+    assert_same(rt, meets(alloc, &face, &shaper, text)?, want);
+    Ok(())
+}
+
 /// A letter with so many marks after it.
 fn stacked(alloc: Global, letter: char, mark: char, marks: usize) -> Result<Vec<char>, Fail> {
     let mut text = Vec::new(alloc);
@@ -38,7 +52,6 @@ fn stacked(alloc: Global, letter: char, mark: char, marks: usize) -> Result<Vec<
 #[test]
 fn spellings(rt: HostRuntime) -> Result<(), Fail> {
     let alloc = rt.alloc();
-    let shaper = Preferring::<Decomposed>::new();
     let face = RowFace::of(&['q', 'e', '\u{301}']);
     let cases: [(&[char], bool); 6] = [
         (&['q', '\u{301}', '\u{E9}'], true),
@@ -49,57 +62,67 @@ fn spellings(rt: HostRuntime) -> Result<(), Fail> {
         (&['q', '\u{301}', '\u{EA}'], false),
     ];
     for (text, want) in cases {
-        assert_same(&rt, meets(alloc, &face, &shaper, text)?, want);
+        assert_meets(&rt, alloc, face, text, want)?;
     }
-    let selecting = &['q', '\u{301}', '\u{FE00}'];
-    assert_that(&rt, !meets(alloc, &EVERY_GLYPH, &shaper, selecting)?);
-    Ok(())
+    let selecting = ['q', '\u{301}', '\u{FE00}'];
+    assert_meets(&rt, alloc, EVERY_GLYPH, &selecting, false)
+}
+
+/// Compares whether a letter with so many marks meets them, over a face of every glyph.
+fn assert_stacked(
+    rt: &impl Abort,
+    alloc: Global,
+    (letter, mark, marks): (char, char, usize),
+    want: bool,
+) -> Result<(), Fail> {
+    let text = stacked(alloc, letter, mark, marks)?;
+    assert_meets(rt, alloc, EVERY_GLYPH, text.as_slice(), want)
+}
+
+/// A q with 32 marks above and 32 below.
+fn above_and_below(alloc: Global) -> Result<Vec<char>, Fail> {
+    let mut text = stacked(alloc, 'q', '\u{301}', 32)?;
+    for c in stacked(alloc, 'q', '\u{323}', 32)?.iter() {
+        text.push(*c)?;
+    }
+    Ok(text)
 }
 
 /// U+00E9 brings a mark of its own, and U+0344 is two marks.
 #[test]
 fn marks_in_a_row(rt: HostRuntime) -> Result<(), Fail> {
     let alloc = rt.alloc();
-    let shaper = Preferring::<Decomposed>::new();
     let cases = [
-        ('q', '\u{301}', 32, true),
-        ('q', '\u{301}', 33, false),
-        ('\u{E9}', '\u{301}', 31, true),
-        ('\u{E9}', '\u{301}', 32, false),
-        ('q', '\u{344}', 16, true),
-        ('q', '\u{344}', 17, false),
+        (('q', '\u{301}', 32), true),
+        (('q', '\u{301}', 33), false),
+        (('\u{E9}', '\u{301}', 31), true),
+        (('\u{E9}', '\u{301}', 32), false),
+        (('q', '\u{344}', 16), true),
+        (('q', '\u{344}', 17), false),
     ];
-    for (letter, mark, marks, want) in cases {
-        let text = stacked(alloc, letter, mark, marks)?;
-        assert_same(
-            &rt,
-            meets(alloc, &EVERY_GLYPH, &shaper, text.as_slice())?,
-            want,
-        );
+    for (text, want) in cases {
+        assert_stacked(&rt, alloc, text, want)?;
     }
-    let mut text = stacked(alloc, 'q', '\u{301}', 32)?;
-    for c in stacked(alloc, 'q', '\u{323}', 32)?.iter() {
-        text.push(*c)?;
-    }
-    assert_that(&rt, meets(alloc, &EVERY_GLYPH, &shaper, text.as_slice())?);
+    let text = above_and_below(alloc)?;
+    assert_meets(&rt, alloc, EVERY_GLYPH, text.as_slice(), true)
+}
+
+/// Compares whether a text meets them by a shaper.
+fn assert_mode<S>(rt: &impl Abort, alloc: Global, shaper: &S, want: bool) -> Result<(), Fail>
+where
+    S: hb_ot_shaper_t<UnicodeDatabase, RowFace<'static>, NoLookups, Data = ()>,
+{
+    let text = ['q', '\u{301}', '\u{E9}'];
+    assert_same(rt, meets(alloc, &EVERY_GLYPH, shaper, &text)?, want);
     Ok(())
 }
 
 #[test]
 fn modes(rt: HostRuntime) -> Result<(), Fail> {
     let alloc = rt.alloc();
-    let face = &EVERY_GLYPH;
-    let text = &['q', '\u{301}', '\u{E9}'];
     let composing = Preferring::<ComposedDiacriticsNoShortCircuit>::new();
-    assert_that(&rt, meets(alloc, face, &composing, text)?);
-    assert_that(&rt, !meets(alloc, face, &DEFAULT_SHAPER, text)?);
-    assert_that(
-        &rt,
-        !meets(alloc, face, &Preferring::<ComposedDiacritics>::new(), text)?,
-    );
-    assert_that(
-        &rt,
-        !meets(alloc, face, &Preferring::<Shortest>::new(), text)?,
-    );
-    Ok(())
+    assert_mode(&rt, alloc, &composing, true)?;
+    assert_mode(&rt, alloc, &DEFAULT_SHAPER, false)?;
+    assert_mode(&rt, alloc, &Preferring::<ComposedDiacritics>::new(), false)?;
+    assert_mode(&rt, alloc, &Preferring::<Shortest>::new(), false)
 }

@@ -10,7 +10,7 @@ use crate::texts::{
 use shape_buffer::buffer::{
     BufferFlags, Direction, GlyphId, Language, ShapeError, UnicodeBuffer, hb_buffer_t,
 };
-use shape_buffer::interfaces::{NoLookups, hb_font_t};
+use shape_buffer::interfaces::{MapFace, NoLookups, hb_font_t};
 use shape_pipeline::ot_shape_normalize::normalized_equal;
 use shape_pipeline::ot_shaper::{
     ComposedDiacriticsNoShortCircuit, DEFAULT_SHAPER, Decomposed, Preferring, hb_ot_shaper_t,
@@ -124,26 +124,35 @@ where
     }
 }
 
+/// Compares the glyphs of a row by the default shaper, over a face of these characters.
+fn assert_default_row(
+    rt: &impl Abort,
+    alloc: Global,
+    face: &[char],
+    row: Row<'_>,
+) -> Result<(), Fail> {
+    assert_row(rt, alloc, &RowFace::of(face), &DEFAULT_SHAPER, row)
+}
+
 #[test]
 fn e_acute(rt: HostRuntime) -> Result<(), Fail> {
-    let face = RowFace::of(&['e', '\u{301}']);
     let row = Row {
         manner: PLAINLY,
         text: &['\u{E9}'],
         glyphs: &[bare(0x65, 0, 0), bare(0x301, 0, 0)],
     };
-    assert_row(&rt, rt.alloc(), &face, &DEFAULT_SHAPER, row)
+    assert_default_row(&rt, rt.alloc(), &['e', '\u{301}'], row)
 }
 
 #[test]
 fn shortest_expansion(rt: HostRuntime) -> Result<(), Fail> {
-    let face = RowFace::of(&['A', '\u{302}', '\u{301}', '\u{C2}']);
+    let face = ['A', '\u{302}', '\u{301}', '\u{C2}'];
     let row = Row {
         manner: PLAINLY,
         text: &['\u{1EA4}'],
         glyphs: &[bare(0xC2, 0, 0), bare(0x301, 0, 0)],
     };
-    assert_row(&rt, rt.alloc(), &face, &DEFAULT_SHAPER, row)
+    assert_default_row(&rt, rt.alloc(), &face, row)
 }
 
 #[test]
@@ -157,29 +166,28 @@ fn ordering_merges(rt: HostRuntime) -> Result<(), Fail> {
     assert_row(&rt, rt.alloc(), &EVERY_GLYPH, &decomposed, row)
 }
 
-#[test]
-fn three_spellings(rt: HostRuntime) -> Result<(), Fail> {
+/// Compares the glyphs of a text that is composed again.
+fn assert_composed(rt: &impl Abort, alloc: Global, text: &[char]) -> Result<(), Fail> {
     let shaper = Preferring::<ComposedDiacriticsNoShortCircuit>::new();
     let face = RowFace::of(&['e', '\u{301}', '\u{323}', '\u{1EB9}', '\u{E9}']);
-    let spellings: [&[char]; 3] = [
-        &['\u{E9}', '\u{323}'],
-        &['e', '\u{301}', '\u{323}'],
-        &['\u{1EB9}', '\u{301}'],
-    ];
-    for text in spellings {
-        let row = Row {
-            manner: PLAINLY,
-            text,
-            glyphs: &[bare(0x1EB9, 0, 0), bare(0x301, 0, 0)],
-        };
-        assert_row(&rt, rt.alloc(), &face, &shaper, row)?;
-    }
-    Ok(())
+    let row = Row {
+        manner: PLAINLY,
+        text,
+        glyphs: &[bare(0x1EB9, 0, 0), bare(0x301, 0, 0)],
+    };
+    assert_row(rt, alloc, &face, &shaper, row)
+}
+
+#[test]
+fn three_spellings(rt: HostRuntime) -> Result<(), Fail> {
+    let alloc = rt.alloc();
+    assert_composed(&rt, alloc, &['\u{E9}', '\u{323}'])?;
+    assert_composed(&rt, alloc, &['e', '\u{301}', '\u{323}'])?;
+    assert_composed(&rt, alloc, &['\u{1EB9}', '\u{301}'])
 }
 
 #[test]
 fn dotted_circle(rt: HostRuntime) -> Result<(), Fail> {
-    let face = RowFace::of(&['\u{25CC}', '\u{301}']);
     let row = Row {
         manner: Manner {
             flags: BufferFlags::BEGINNING_OF_TEXT,
@@ -188,7 +196,17 @@ fn dotted_circle(rt: HostRuntime) -> Result<(), Fail> {
         text: &['\u{301}'],
         glyphs: &[bare(0x25CC, 0, 0), bare(0x301, 0, 0)],
     };
-    assert_row(&rt, rt.alloc(), &face, &DEFAULT_SHAPER, row)
+    assert_default_row(&rt, rt.alloc(), &['\u{25CC}', '\u{301}'], row)
+}
+
+/// Compares the glyphs of a row by the default shaper, over a face with widths and boxes.
+fn assert_mapped_row(
+    rt: &impl Abort,
+    alloc: Global,
+    face: &MapFace,
+    row: Row<'_>,
+) -> Result<(), Fail> {
+    assert_row(rt, alloc, face, &DEFAULT_SHAPER, row)
 }
 
 #[test]
@@ -207,13 +225,13 @@ fn mark_above_and_below(rt: HostRuntime) -> Result<(), Fail> {
         text: &['a', '\u{301}'],
         glyphs: &[(1, 0, (600, 0, 0, 0), 0), (2, 0, (0, 0, -450, 112), 0)],
     };
-    assert_row(&rt, alloc, &face, &DEFAULT_SHAPER, above)?;
+    assert_mapped_row(&rt, alloc, &face, above)?;
     let below = Row {
         manner: PLAINLY,
         text: &['a', '\u{323}'],
         glyphs: &[(1, 0, (600, 0, 0, 0), 0), (4, 0, (0, 0, -450, -12), 0)],
     };
-    assert_row(&rt, alloc, &face, &DEFAULT_SHAPER, below)
+    assert_mapped_row(&rt, alloc, &face, below)
 }
 
 type Comparing = Preferring<Decomposed>;
@@ -260,6 +278,32 @@ fn again(
     prepared(alloc, face, shaper, text)
 }
 
+/// Compares what a refused call leaves of a buffer.
+fn assert_left_empty(rt: &impl Abort, left: &hb_buffer_t) {
+    assert_that(rt, left.is_empty() && left.positions().is_empty());
+    assert_that(
+        rt,
+        left.direction() == Direction::Invalid && left.script().is_none(),
+    );
+}
+
+/// Compares the two spellings again in the buffers that a refused call has left.
+fn compare_again(
+    rt: &impl Abort,
+    alloc: Global,
+    face: &RowFace<'_>,
+    shaper: &Comparing,
+    plan: &ComparingPlan<'_>,
+    (a, b): (hb_buffer_t, hb_buffer_t),
+) -> Result<(), Fail> {
+    assert_left_empty(rt, &a);
+    assert_left_empty(rt, &b);
+    let mut a = again(alloc, face, shaper, a, SPELLINGS[0])?;
+    let mut b = again(alloc, face, shaper, b, SPELLINGS[1])?;
+    compare(rt, alloc, face, plan, &mut a, &mut b)?;
+    Ok(())
+}
+
 /// Both buffers are cleared where one growth of either is refused.
 #[test]
 fn comparing(rt: HostRuntime) -> Result<(), Fail> {
@@ -267,29 +311,36 @@ fn comparing(rt: HostRuntime) -> Result<(), Fail> {
     let face = RowFace::of(&['\u{5E9}', '\u{5BC}', '\u{5C1}', '\u{323}']);
     let shaper = Comparing::new();
     let first = text_of(alloc, PLAINLY, SPELLINGS[0])?;
+    let second = text_of(alloc, PLAINLY, SPELLINGS[1])?;
     let plan = planned(alloc, &face, &shaper, &first)?;
     let mut a = prepared(alloc, &face, &shaper, first)?;
-    let mut b = prepared(
-        alloc,
-        &face,
-        &shaper,
-        text_of(alloc, PLAINLY, SPELLINGS[1])?,
-    )?;
+    let mut b = prepared(alloc, &face, &shaper, second)?;
     let Err(cause) = compare(&rt, alloc, &face, &plan, &mut a, &mut b) else {
         return Ok(());
     };
     assert_same(&rt, cause, ShapeError::Memory);
-    for left in [&a, &b] {
-        assert_that(&rt, left.is_empty() && left.positions().is_empty());
-        assert_that(
-            &rt,
-            left.direction() == Direction::Invalid && left.script().is_none(),
-        );
-    }
-    let mut a = again(alloc, &face, &shaper, a, SPELLINGS[0])?;
-    let mut b = again(alloc, &face, &shaper, b, SPELLINGS[1])?;
-    compare(&rt, alloc, &face, &plan, &mut a, &mut b)?;
+    compare_again(&rt, alloc, &face, &shaper, &plan, (a, b))?;
     Err(Fail::from("refused"))
+}
+
+/// Compares the key of a text. Where it is refused, hands back what is left of the text.
+fn key_or_left(
+    rt: &impl Abort,
+    alloc: Global,
+    face: &RowFace<'_>,
+    plan: &ComparingPlan<'_>,
+    text: UnicodeBuffer,
+) -> Option<UnicodeBuffer> {
+    match normalised_characters::<UnicodeDatabase, _, NoLookups, _>(alloc, face, plan, text) {
+        Ok(key) => {
+            assert_same(rt, key.as_slice(), &NORMALISED[..]);
+            None
+        }
+        Err(fault) => {
+            assert_same(rt, fault.cause, ShapeError::Memory);
+            Some(fault.buffer)
+        }
+    }
 }
 
 /// A text's key is refused with the text's buffer, cleared, which gives the key once it is filled again.
@@ -305,23 +356,13 @@ fn a_key(rt: HostRuntime) -> Result<(), Fail> {
     };
     let text = text_set(alloc, row)?;
     let plan = planned(alloc, &face, &shaper, &text)?;
-    let left = match normalised_characters::<UnicodeDatabase, _, NoLookups, _>(
-        alloc, &face, &plan, text,
-    ) {
-        Ok(key) => {
-            assert_same(&rt, key.as_slice(), &NORMALISED[..]);
-            return Ok(());
-        }
-        Err(fault) => {
-            assert_same(&rt, fault.cause, ShapeError::Memory);
-            fault.buffer
-        }
+    let Some(left) = key_or_left(&rt, alloc, &face, &plan, text) else {
+        return Ok(());
     };
     assert_cleared(&rt, row, &left);
     let left = filled(left, row.text)?;
-    match normalised_characters::<UnicodeDatabase, _, NoLookups, _>(alloc, &face, &plan, left) {
-        Ok(key) => assert_same(&rt, key.as_slice(), &NORMALISED[..]),
-        Err(_) => return Err(Fail::from("refused twice")),
+    if key_or_left(&rt, alloc, &face, &plan, left).is_some() {
+        return Err(Fail::from("refused twice"));
     }
     Err(Fail::from("refused"))
 }

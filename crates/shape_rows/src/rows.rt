@@ -52,6 +52,18 @@ fn assert_glyphs(rt: &impl Abort, answer: Result<GlyphBuffer, ShapeFault>, chars
     }
 }
 
+/// Compares what U+1EA4 becomes over a face of these characters.
+fn assert_stacked(
+    rt: &impl Abort,
+    alloc: Global,
+    face: &[char],
+    chars: &[char],
+) -> Result<(), Fail> {
+    let answer = shaped(alloc, &RowFace::of(face), &StackedShaper, '\u{1EA4}')?;
+    assert_glyphs(rt, answer, chars);
+    Ok(())
+}
+
 #[test]
 fn greatest_expansion(rt: HostRuntime) -> Result<(), Fail> {
     let alloc = rt.alloc();
@@ -66,11 +78,7 @@ fn greatest_expansion(rt: HostRuntime) -> Result<(), Fail> {
         (&[], &['\u{1EA4}']),
     ];
     for (face, chars) in cases {
-        assert_glyphs(
-            &rt,
-            shaped(alloc, &RowFace::of(face), &StackedShaper, '\u{1EA4}')?,
-            chars,
-        );
+        assert_stacked(&rt, alloc, face, chars)?;
     }
     Ok(())
 }
@@ -80,28 +88,44 @@ fn splitting(depth: u16) -> DeepShaper {
     DeepShaper { depth, second: 'a' }
 }
 
+/// Asserts that a text has glyphs up to the limit, in one cluster.
+fn assert_as_many_as_fit(
+    rt: &impl Abort,
+    answer: Result<GlyphBuffer, ShapeFault>,
+) -> Result<(), Fail> {
+    match answer {
+        Ok(glyphs) => {
+            assert_same(rt, glyphs.len(), 16384);
+            assert_that(
+                rt,
+                glyphs.glyph_infos().iter().all(|info| info.cluster == 7),
+            );
+            Ok(())
+        }
+        Err(_) => Err(Fail::from("refused")),
+    }
+}
+
+/// Asserts that a text is refused for length, and its buffer handed back cleared.
+fn assert_too_long(rt: &impl Abort, answer: Result<GlyphBuffer, ShapeFault>) -> Result<(), Fail> {
+    match answer {
+        Ok(_) => Err(Fail::from("not refused")),
+        Err(fault) => {
+            assert_same(rt, fault.cause, ShapeError::Length);
+            assert_that(rt, fault.buffer.is_empty());
+            assert_same(rt, fault.buffer.direction(), Direction::Invalid);
+            Ok(())
+        }
+    }
+}
+
 #[test]
 fn length_limit(rt: HostRuntime) -> Result<(), Fail> {
     let alloc = rt.alloc();
-    match shaped(alloc, &EVERY_GLYPH, &splitting(16383), '\u{F0000}')? {
-        Ok(glyphs) => {
-            assert_same(&rt, glyphs.len(), 16384);
-            assert_that(
-                &rt,
-                glyphs.glyph_infos().iter().all(|info| info.cluster == 7),
-            );
-        }
-        Err(_) => return Err(Fail::from("refused")),
-    }
-    match shaped(alloc, &EVERY_GLYPH, &splitting(16384), '\u{F0000}')? {
-        Ok(_) => return Err(Fail::from("not refused")),
-        Err(fault) => {
-            assert_same(&rt, fault.cause, ShapeError::Length);
-            assert_that(&rt, fault.buffer.is_empty());
-            assert_same(&rt, fault.buffer.direction(), Direction::Invalid);
-        }
-    }
-    Ok(())
+    let longest = shaped(alloc, &EVERY_GLYPH, &splitting(16383), '\u{F0000}')?;
+    assert_as_many_as_fit(&rt, longest)?;
+    let longer = shaped(alloc, &EVERY_GLYPH, &splitting(16384), '\u{F0000}')?;
+    assert_too_long(&rt, longer)
 }
 
 /// Splits that go deeper than a run's limit, of which only the last first part is left over.
@@ -117,14 +141,18 @@ fn a_deep_chain_is_walked(rt: HostRuntime) -> Result<(), Fail> {
     Ok(())
 }
 
+/// Asserts that U+F0000 stays where the face has it and no deeper part of it.
+fn assert_left(rt: &impl Abort, alloc: Global, shaper: &DeepShaper) -> Result<(), Fail> {
+    let face = RowFace::of(&['\u{F0000}', 'a']);
+    let answer = shaped(alloc, &face, shaper, '\u{F0000}')?;
+    assert_glyphs(rt, answer, &['\u{F0000}']);
+    Ok(())
+}
+
 /// An expansion that the face can't show doesn't count, however long it is.
 #[test]
 fn a_deep_chain_without_glyphs_is_left(rt: HostRuntime) -> Result<(), Fail> {
     let alloc = rt.alloc();
-    let face = RowFace::of(&['\u{F0000}', 'a']);
-    for shaper in [DEEPEST, splitting(16384)] {
-        let answer = shaped(alloc, &face, &shaper, '\u{F0000}')?;
-        assert_glyphs(&rt, answer, &['\u{F0000}']);
-    }
-    Ok(())
+    assert_left(&rt, alloc, &DEEPEST)?;
+    assert_left(&rt, alloc, &splitting(16384))
 }

@@ -1,6 +1,6 @@
 //! Shapers with wishes for marks, by themselves and beside tables that position.
 
-use crate::comparing::assert_that;
+use crate::comparing::assert_same;
 use crate::texts::{GlyphOf, Manner, PLAINLY, PlacedGlyph, assert_glyphs, face_of, text_of};
 use shape_buffer::buffer::{Direction, GlyphBuffer, UnicodeBuffer};
 use shape_buffer::interfaces::hb_tables_t;
@@ -180,6 +180,26 @@ fn shaper_that_gave_way_zeroes_nothing(rt: HostRuntime) -> Result<(), Fail> {
     assert_shaped(&rt, alloc, &face, &hanging, &RIGHTWARD, &placed)
 }
 
+/// Compares the advance of a letter under tables, by the default shaper.
+fn assert_advance(
+    rt: &impl Abort,
+    alloc: Global,
+    (tables, kerning): (hb_tables_t, bool),
+    advance: i32,
+) -> Result<(), Fail> {
+    let face = tabled(alloc, tables, kerning)?;
+    let placed = [(1, 0, (advance, 0, 0, 0), 0)];
+    assert_shaped(rt, alloc, &face, &DEFAULT_SHAPER, &['a'], &placed)
+}
+
+/// Whether `GPOS`, `kerx` and `kern` are applied under a plan for a letter.
+fn applied(alloc: Global, tables: hb_tables_t) -> Result<(bool, bool, bool), Fail> {
+    let face = tabled(alloc, tables, false)?;
+    let text = text_of(alloc, PLAINLY, &['a'])?;
+    let plan = planned(alloc, &face, &DEFAULT_SHAPER, &text)?;
+    Ok((plan.apply_gpos(), plan.apply_kerx(), plan.apply_kern()))
+}
+
 /// `GPOS` adds 1, `kerx` 10 and `kern` 100. A plan may have both of the first two; then the first runs.
 #[test]
 fn one_table_positions(rt: HostRuntime) -> Result<(), Fail> {
@@ -203,17 +223,8 @@ fn one_table_positions(rt: HostRuntime) -> Result<(), Fail> {
         (NO_TABLES, true, 700),
         (NO_TABLES, false, 600),
     ] {
-        let face = tabled(alloc, tables, kerning)?;
-        let text = text_of(alloc, PLAINLY, &['a'])?;
-        let glyphs = shaped(alloc, &face, &DEFAULT_SHAPER, text)?;
-        assert_glyphs(&rt, &glyphs, &[(1, 0, (advance, 0, 0, 0), 0)]);
+        assert_advance(&rt, alloc, (tables, kerning), advance)?;
     }
-    let face = tabled(alloc, all, false)?;
-    let text = text_of(alloc, PLAINLY, &['a'])?;
-    let plan = planned(alloc, &face, &DEFAULT_SHAPER, &text)?;
-    assert_that(
-        &rt,
-        plan.apply_gpos() && plan.apply_kerx() && !plan.apply_kern(),
-    );
+    assert_same(&rt, applied(alloc, all)?, (true, true, false));
     Ok(())
 }

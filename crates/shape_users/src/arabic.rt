@@ -15,8 +15,6 @@ ghost use Rattle.shape_users.specs.declared.arabic.ArabicShaper.{ArabicShaper as
 ghost use Rattle.shape_pipeline.specs.Order.{RunKeepsClusters};
 
 mod modifiers;
-#[cfg(test)]
-mod tests;
 
 use modifiers::reorder_modifiers;
 use shape_buffer::buffer::{hb_buffer_t, hb_tag_t};

@@ -15,12 +15,8 @@ ghost use Rattle.shape_users.specs.WorkedForms.{WorkedForms};
 ghost use Rattle.shape_users.specs.Points.{points_reordered, points_reordered-reorders};
 ghost use Rattle.shape_users.specs.WorkedPoints.{WorkedPoints};
 
-#[cfg(test)]
-mod every_form;
-mod forms;
+pub mod forms;
 mod points;
-#[cfg(test)]
-mod tests;
 
 use forms::form;
 use points::reorder_points;

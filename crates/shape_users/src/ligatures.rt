@@ -13,8 +13,6 @@ ghost use Rattle.shape_users.specs.Ligatures.{ligature_masks-lawful, ligature_lo
 ghost use Rattle.shape_users.specs.WorkedPoints.{WorkedLigatures};
 
 mod substitution;
-#[cfg(test)]
-mod tests;
 
 use shape_buffer::buffer::{
     Feature, Language, Script, ShapeError, hb_buffer_t, hb_mask_t, hb_tag_t,

@@ -17,8 +17,6 @@ ghost use Rattle.shape_items.specs.ClusterOrder.{IsOrderedFor};
 ghost use Rattle.shape_users.specs.Lines.{cut_at, lacks_break};
 ghost use Rattle.shape_users.specs.WorkedShown.{WorkedCuts};
 
-#[cfg(test)]
-mod tests;
 
 use shape_buffer::{GlyphBuffer, UNSAFE_TO_BREAK, hb_glyph_info_t};
 

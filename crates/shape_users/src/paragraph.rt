@@ -10,8 +10,6 @@ ghost use Rattle.shape_items.specs.ClusterOrder.{IsOrderedFor};
 ghost use Rattle.shape_users.specs.Paragraph.{cluster_at, EndsIn, FirstToLast, ShowsExactly};
 ghost use Rattle.shape_users.specs.WorkedShown.{WorkedShown};
 
-#[cfg(test)]
-mod tests;
 
 use shape_buffer::buffer::{GlyphBuffer, hb_glyph_info_t};
 

@@ -34,8 +34,6 @@ ghost use Rattle.shape_users.specs.PlainGlyphs.{IsTextOf, IsPlaceIn};
 ghost use Rattle.shape_users.specs.WorkedPlain.{WorkedPlain};
 
 pub mod by_shape;
-#[cfg(test)]
-mod tests;
 
 use crate::arabic::{ArabicShaper, arabic_runs_keep};
 use crate::ligatures::{Ligatures, ligatures_keep};

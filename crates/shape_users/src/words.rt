@@ -12,8 +12,6 @@ ghost use Rattle.shape_users.specs.WorkedFound.{WorkedFound};
 ghost use Rattle.shape_users.specs.WorkedWords.{WorkedWords};
 
 mod spellings;
-#[cfg(test)]
-mod tests;
 
 use shape_buffer::buffer::{GlyphBuffer, ShapeError, UnicodeBuffer};
 use shape_buffer::interfaces::{hb_font_t, hb_ot_layout_t, hb_unicode_funcs_t};

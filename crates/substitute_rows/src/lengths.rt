@@ -37,14 +37,15 @@ fn many(alloc: Global, count: u32) -> Result<UnicodeBuffer, Fail> {
     Ok(text)
 }
 
-/// Shapes a text; compares how many glyphs it has, or asks that it is refused for its length and cleared.
+/// Shapes so many times a; compares how many glyphs that has, or asks that it is refused for its length and cleared.
 fn assert_length(
     rt: &impl Abort,
     alloc: Global,
     stages: &'static [Stage],
-    text: UnicodeBuffer,
+    count: u32,
     glyphs: Option<usize>,
-) {
+) -> Result<(), Fail> {
+    let text = many(alloc, count)?;
     let face = RuleFace::of(stages);
     let answer = shape::<DigitUnicode, RuleFace, RuleLayout, hb_default_shaper_t>(
         alloc,
@@ -62,33 +63,24 @@ fn assert_length(
             assert_same(rt, fault.buffer.direction(), Direction::Invalid);
         }
     }
+    Ok(())
 }
 
 #[test]
 fn stage_reaches_the_least_limit(rt: HostRuntime) -> Result<(), Fail> {
     let alloc = rt.alloc();
-    assert_length(&rt, alloc, &[DOUBLED; 14], many(alloc, 1)?, Some(16384));
-    assert_length(&rt, alloc, &[DOUBLED; 15], many(alloc, 1)?, None);
-    Ok(())
+    assert_length(&rt, alloc, &[DOUBLED; 14], 1, Some(16384))?;
+    assert_length(&rt, alloc, &[DOUBLED; 15], 1, None)
 }
 
 #[test]
 fn limit_grows_with_the_text(rt: HostRuntime) -> Result<(), Fail> {
     let alloc = rt.alloc();
-    assert_length(&rt, alloc, &[DOUBLED; 6], many(alloc, 257)?, Some(16448));
-    assert_length(&rt, alloc, &[DOUBLED; 7], many(alloc, 257)?, None);
-    Ok(())
+    assert_length(&rt, alloc, &[DOUBLED; 6], 257, Some(16448))?;
+    assert_length(&rt, alloc, &[DOUBLED; 7], 257, None)
 }
 
 #[test]
 fn stage_at_the_limit_may_change_glyphs(rt: HostRuntime) -> Result<(), Fail> {
-    let alloc = rt.alloc();
-    assert_length(
-        &rt,
-        alloc,
-        &TURNED_AT_THE_LIMIT,
-        many(alloc, 257)?,
-        Some(16448),
-    );
-    Ok(())
+    assert_length(&rt, rt.alloc(), &TURNED_AT_THE_LIMIT, 257, Some(16448))
 }

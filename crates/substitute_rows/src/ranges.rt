@@ -1,13 +1,14 @@
 //! Features over a part of the text. The bits of `ss01` are 0x300, its values stand there from bit 8 on.
 
 use crate::runs::{
-    FORWARD, assert_glyphs, assert_masks, masked, planned, shaped, ss01, text_in_clusters, text_of,
+    FORWARD, assert_masks, assert_shaped, masked, planned, ss01, text_in_clusters, text_of,
 };
 use shape_buffer::buffer::{Feature, UnicodeBuffer, hb_buffer_t};
 use shape_pipeline::ot_shaper::{DEFAULT_SHAPER, hb_default_shaper_t};
 use shape_plan::shaping_types::TypesOf;
 use shape_substitute::masks::setup_masks;
 use std::alloc::Global;
+use std::process::Abort;
 use std::test::Fail;
 use test_worlds::{DigitUnicode, DoublingShaper, RuleFace, RuleLayout, Single, Stage};
 
@@ -29,6 +30,18 @@ fn set_from_0(
         &mut buffer,
     );
     Ok(buffer)
+}
+
+/// Compares the masks of four letters whose masks were 0.
+fn assert_ranges(
+    rt: &impl Abort,
+    alloc: Global,
+    features: &[Feature],
+    masks: &[u32],
+) -> Result<(), Fail> {
+    let text = text_of(alloc, FORWARD, "abcd")?;
+    assert_masks(rt, &set_from_0(alloc, features, text)?, masks);
+    Ok(())
 }
 
 #[test]
@@ -54,9 +67,14 @@ fn ranges_are_of_clusters(rt: HostRuntime) -> Result<(), Fail> {
         (&[ss01(3, 0, u32::MAX)], &[0, 0, 0, 0]),
     ];
     for (features, masks) in cases {
-        let text = text_of(alloc, FORWARD, "abcd")?;
-        assert_masks(&rt, &set_from_0(alloc, features, text)?, masks);
+        assert_ranges(&rt, alloc, features, masks)?;
     }
+    Ok(())
+}
+
+#[test]
+fn ranges_are_of_clusters_of_their_own(rt: HostRuntime) -> Result<(), Fail> {
+    let alloc = rt.alloc();
     let text = text_in_clusters(alloc, FORWARD, &[('a', 5), ('b', 5), ('c', 9)])?;
     let buffer = set_from_0(alloc, &[ss01(2, 5, 9), ss01(1, 0, 3)], text)?;
     assert_masks(&rt, &buffer, &[0x200, 0x200, 0]);
@@ -87,20 +105,17 @@ fn user_comes_after_the_shaper(rt: HostRuntime) -> Result<(), Fail> {
 
 #[test]
 fn glyphs_in_the_range_are_substituted(rt: HostRuntime) -> Result<(), Fail> {
-    let alloc = rt.alloc();
     let face = RuleFace::of(&[Stage::Single(Single {
         feature: 0x200,
         from: 0x62,
         to: 0x42,
     })]);
-    let text = text_of(alloc, FORWARD, "bbbb")?;
-    let glyphs = shaped(alloc, &face, &DEFAULT_SHAPER, &[ss01(3, 1, 3)], text)?;
     let want = [
         (0x62, 0, 8),
         (0x42, 1, 0x308),
         (0x42, 2, 0x308),
         (0x62, 3, 8),
     ];
-    assert_glyphs(&rt, glyphs.glyph_infos(), &want);
-    Ok(())
+    let features = [ss01(3, 1, 3)];
+    assert_shaped(&rt, rt.alloc(), &face, &features, (FORWARD, "bbbb"), &want)
 }

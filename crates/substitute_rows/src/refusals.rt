@@ -25,30 +25,35 @@ const DOUBLED: Stage = Stage::Multiple(Multiple {
 /// Two glyphs that stay, and sixteen of the two that are doubled.
 const STAGES: [Stage; 4] = [Stage::Add(0), DOUBLED, DOUBLED, DOUBLED];
 
-#[test]
-fn growths_in_a_stage(rt: HostRuntime) -> Result<(), Fail> {
-    let alloc = rt.alloc();
-    let face = RuleFace::of(&STAGES);
+/// How many glyphs the stages make of a text, or why they are refused.
+fn stages_run(alloc: Global, face: &RuleFace) -> Result<Result<usize, ShapeError>, Fail> {
     let text = text_of(alloc, FORWARD, "abab")?;
-    let plan = planned(alloc, &face, &DEFAULT_SHAPER, &[], &text)?;
-    let mut buffer = masked(alloc, &face, &DEFAULT_SHAPER, &[], text)?;
+    let plan = planned(alloc, face, &DEFAULT_SHAPER, &[], &text)?;
+    let mut buffer = masked(alloc, face, &DEFAULT_SHAPER, &[], text)?;
     if buffer.length_limit() < buffer.len() {
         return Err(Fail::from("past the limit"));
     }
     setup_glyphs::<TypesOf<DigitUnicode, RuleFace, RuleLayout, hb_default_shaper_t>>(
         &plan,
-        &face,
+        face,
         &mut buffer,
     );
-    let answer = substitute::<TypesOf<DigitUnicode, RuleFace, RuleLayout, hb_default_shaper_t>>(
+    match substitute::<TypesOf<DigitUnicode, RuleFace, RuleLayout, hb_default_shaper_t>>(
         alloc,
         &plan,
-        &face,
+        face,
         &mut buffer,
-    );
-    match answer {
-        Ok(()) => {
-            assert_same(&rt, buffer.len(), 18);
+    ) {
+        Ok(()) => Ok(Ok(buffer.len())),
+        Err(cause) => Ok(Err(cause)),
+    }
+}
+
+#[test]
+fn growths_in_a_stage(rt: HostRuntime) -> Result<(), Fail> {
+    match stages_run(rt.alloc(), &RuleFace::of(&STAGES))? {
+        Ok(count) => {
+            assert_same(&rt, count, 18);
             Ok(())
         }
         Err(cause) => {

@@ -7,7 +7,7 @@ use shape_buffer::buffer::{
 use shape_pipeline::ot_shape::{hb_ot_shape_context_t, prepare_text};
 use shape_pipeline::ot_shape_normalize::_hb_ot_shape_normalize;
 use shape_pipeline::ot_shape_plan::hb_ot_shape_plan_t;
-use shape_pipeline::ot_shaper::hb_ot_shaper_t;
+use shape_pipeline::ot_shaper::{DEFAULT_SHAPER, hb_ot_shaper_t};
 use shape_pipeline::shape;
 use shape_plan::shaping_types::TypesOf;
 use shape_substitute::glyphs::setup_glyphs;
@@ -17,7 +17,7 @@ use std::alloc::Global;
 use std::fmt::Debug;
 use std::process::Abort;
 use std::test::Fail;
-use test_worlds::{DigitUnicode, RuleFace, RuleLayout, RuleMap};
+use test_worlds::{DigitUnicode, DoublingShaper, RuleFace, RuleLayout, RuleMap};
 
 /// What is set of a text before it is shaped.
 #[derive(Clone, Copy)]
@@ -198,11 +198,6 @@ pub fn assert_same<T: Copy + PartialEq + Debug>(rt: &impl Abort, found: T, wante
     assert_eq!(rt; found, wanted);
 }
 
-/// Asserts what no later call of a test relies on.
-pub fn assert_that(rt: &impl Abort, condition: bool) {
-    assert!(rt; condition);
-}
-
 /// Compares masks.
 pub fn assert_masks(rt: &impl Abort, buffer: &hb_buffer_t, masks: &[u32]) {
     assert_same(rt, buffer.len(), masks.len());
@@ -211,10 +206,42 @@ pub fn assert_masks(rt: &impl Abort, buffer: &hb_buffer_t, masks: &[u32]) {
     }
 }
 
+/// A glyph, its cluster and its mask.
+pub type Glyph = (u32, u32, u32);
+
 /// Compares glyphs, clusters and masks.
-pub fn assert_glyphs(rt: &impl Abort, infos: &[hb_glyph_info_t], glyphs: &[(u32, u32, u32)]) {
+pub fn assert_glyphs(rt: &impl Abort, infos: &[hb_glyph_info_t], glyphs: &[Glyph]) {
     assert_same(rt, infos.len(), glyphs.len());
     for (info, glyph) in infos.iter().zip(glyphs) {
         assert_same(rt, (info.glyph_id, info.cluster, info.mask), *glyph);
     }
+}
+
+/// Compares the glyphs of a text by the default shaper.
+pub fn assert_shaped(
+    rt: &impl Abort,
+    alloc: Global,
+    face: &RuleFace,
+    features: &[Feature],
+    (manner, text): (Manner, &str),
+    glyphs: &[Glyph],
+) -> Result<(), Fail> {
+    let text = text_of(alloc, manner, text)?;
+    let answer = shaped(alloc, face, &DEFAULT_SHAPER, features, text)?;
+    assert_glyphs(rt, answer.glyph_infos(), glyphs);
+    Ok(())
+}
+
+/// Compares the glyphs of a text by the shaper with the hooks `setup_masks` and `pause`.
+pub fn assert_doubled(
+    rt: &impl Abort,
+    alloc: Global,
+    face: &RuleFace,
+    (manner, text): (Manner, &str),
+    glyphs: &[Glyph],
+) -> Result<(), Fail> {
+    let text = text_of(alloc, manner, text)?;
+    let answer = shaped(alloc, face, &DoublingShaper, &[], text)?;
+    assert_glyphs(rt, answer.glyph_infos(), glyphs);
+    Ok(())
 }

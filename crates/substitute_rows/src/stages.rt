@@ -1,12 +1,15 @@
 //! Stages of substitution with a pause, ligatures and two glyphs for one.
 
 use crate::runs::{
-    BACKWARD, FORWARD, Manner, assert_glyphs, assert_same, shaped, text_in_clusters, text_of,
+    BACKWARD, FORWARD, Glyph, Manner, assert_doubled, assert_glyphs, assert_same, assert_shaped,
+    shaped, text_in_clusters, text_of,
 };
 use shape_buffer::buffer::BufferClusterLevel;
 use shape_pipeline::ot_shaper::DEFAULT_SHAPER;
+use std::alloc::Global;
+use std::process::Abort;
 use std::test::Fail;
-use test_worlds::{DoublingShaper, Ligature, Multiple, RuleFace, Single, Stage};
+use test_worlds::{Ligature, Multiple, RuleFace, Single, Stage};
 
 #[test]
 fn pause_stands_between_two_stages(rt: HostRuntime) -> Result<(), Fail> {
@@ -15,18 +18,14 @@ fn pause_stands_between_two_stages(rt: HostRuntime) -> Result<(), Fail> {
     // 5 and 1, twice where pause 7 is run, and 3
     for (pause, glyph) in [(Some(7), 15), (Some(8), 9), (None, 9)] {
         let face = RuleFace { pause, ..plain };
-        let text = text_of(alloc, FORWARD, "\u{5}")?;
-        let glyphs = shaped(alloc, &face, &DoublingShaper, &[], text)?;
-        assert_glyphs(&rt, glyphs.glyph_infos(), &[(glyph, 0, 0x808)]);
+        let want = [(glyph, 0, 0x808)];
+        assert_doubled(&rt, alloc, &face, (FORWARD, "\u{5}"), &want)?;
     }
     let face = RuleFace {
         pause: Some(7),
         ..plain
     };
-    let text = text_of(alloc, FORWARD, "\u{5}")?;
-    let glyphs = shaped(alloc, &face, &DEFAULT_SHAPER, &[], text)?;
-    assert_glyphs(&rt, glyphs.glyph_infos(), &[(9, 0, 8)]);
-    Ok(())
+    assert_shaped(&rt, alloc, &face, &[], (FORWARD, "\u{5}"), &[(9, 0, 8)])
 }
 
 /// In place of f and i 0xFB01, of æ a and e, of a A, of e and y 0x1F; in this order.
@@ -56,11 +55,25 @@ const LETTER_RULES: [Stage; 4] = [
     }),
 ];
 
+/// Compares the glyphs of a text by these rules, each of which has a position.
+fn assert_letters(
+    rt: &impl Abort,
+    alloc: Global,
+    (manner, text): (Manner, &str),
+    want: &[Glyph],
+) -> Result<(), Fail> {
+    let text = text_of(alloc, manner, text)?;
+    let face = RuleFace::of(&LETTER_RULES);
+    let glyphs = shaped(alloc, &face, &DEFAULT_SHAPER, &[], text)?;
+    assert_glyphs(rt, glyphs.glyph_infos(), want);
+    assert_same(rt, glyphs.glyph_positions().len(), want.len());
+    Ok(())
+}
+
 #[test]
 fn stages_make_glyphs_of_glyphs(rt: HostRuntime) -> Result<(), Fail> {
     let alloc = rt.alloc();
-    let face = RuleFace::of(&LETTER_RULES);
-    let cases: [(Manner, &str, &[(u32, u32, u32)]); 7] = [
+    let cases: [(Manner, &str, &[Glyph]); 7] = [
         (
             FORWARD,
             "ofix",
@@ -91,36 +104,42 @@ fn stages_make_glyphs_of_glyphs(rt: HostRuntime) -> Result<(), Fail> {
         (BACKWARD, "fia", &[(0x41, 2, 8), (0xFB01, 0, 8)]),
     ];
     for (manner, text, want) in cases {
-        let text = text_of(alloc, manner, text)?;
-        let glyphs = shaped(alloc, &face, &DEFAULT_SHAPER, &[], text)?;
-        assert_glyphs(&rt, glyphs.glyph_infos(), want);
-        assert_same(&rt, glyphs.glyph_positions().len(), want.len());
+        assert_letters(&rt, alloc, (manner, text), want)?;
     }
     Ok(())
 }
 
 #[test]
 fn ligature_is_no_part_of_the_next_at_its_place(rt: HostRuntime) -> Result<(), Fail> {
-    let alloc = rt.alloc();
     let face = RuleFace::of(&[Stage::Ligature(Ligature {
         feature: 0,
         first: 0x61,
         second: 0x61,
         into: 0x61,
     })]);
-    let text = text_of(alloc, FORWARD, "aaaaa")?;
-    let glyphs = shaped(alloc, &face, &DEFAULT_SHAPER, &[], text)?;
     let want = [(0x61, 0, 8), (0x61, 2, 8), (0x61, 4, 8)];
-    assert_glyphs(&rt, glyphs.glyph_infos(), &want);
+    assert_shaped(&rt, rt.alloc(), &face, &[], (FORWARD, "aaaaa"), &want)
+}
+
+/// Compares the glyphs of a text, whose last two characters are in one cluster, at a level.
+fn assert_merged(
+    rt: &impl Abort,
+    alloc: Global,
+    level: BufferClusterLevel,
+    want: &[Glyph],
+) -> Result<(), Fail> {
+    let items = [('o', 0), ('f', 1), ('i', 2), ('x', 2)];
+    let text = text_in_clusters(alloc, Manner { level, ..FORWARD }, &items)?;
+    let face = RuleFace::of(&LETTER_RULES);
+    let glyphs = shaped(alloc, &face, &DEFAULT_SHAPER, &[], text)?;
+    assert_glyphs(rt, glyphs.glyph_infos(), want);
     Ok(())
 }
 
 #[test]
 fn ligature_merges_by_the_level(rt: HostRuntime) -> Result<(), Fail> {
     let alloc = rt.alloc();
-    let face = RuleFace::of(&LETTER_RULES);
-    let items = [('o', 0), ('f', 1), ('i', 2), ('x', 2)];
-    let cases: [(BufferClusterLevel, [(u32, u32, u32); 3]); 3] = [
+    let cases: [(BufferClusterLevel, [Glyph; 3]); 3] = [
         // the cluster of i is taken in whole
         (
             BufferClusterLevel::MonotoneGraphemes,
@@ -137,9 +156,7 @@ fn ligature_merges_by_the_level(rt: HostRuntime) -> Result<(), Fail> {
         ),
     ];
     for (level, want) in cases {
-        let text = text_in_clusters(alloc, Manner { level, ..FORWARD }, &items)?;
-        let glyphs = shaped(alloc, &face, &DEFAULT_SHAPER, &[], text)?;
-        assert_glyphs(&rt, glyphs.glyph_infos(), &want);
+        assert_merged(&rt, alloc, level, &want)?;
     }
     Ok(())
 }

@@ -48,31 +48,44 @@ pub fn turn(plan: &Plan<'_>, face: &MapFace, buffer: &mut hb_buffer_t) {
     rotate_chars::<Types>(plan, face, buffer, Direction::RightToLeft);
 }
 
+/// Masks, glyphs and their classes.
+pub fn make_glyphs(plan: &Plan<'_>, face: &MapFace, buffer: &mut hb_buffer_t) -> Result<(), Fail> {
+    put_masks(plan, face, buffer);
+    map_glyphs(plan, face, buffer);
+    classify(plan, buffer);
+    make_whole_steps(plan, face, buffer)
+}
+
+/// All that places glyphs.
+pub fn place(plan: &Plan<'_>, face: &MapFace, buffer: &mut hb_buffer_t) {
+    fall_back(plan, face, buffer);
+    advance(plan, face, buffer);
+    zero_marks(plan, face, buffer);
+    finish_positions(plan, face, buffer);
+    put_marks(plan, face, buffer);
+}
+
 /// The masks, one kind after the other.
-pub fn put_masks(plan: &Plan<'_>, face: &MapFace, buffer: &mut hb_buffer_t) {
+fn put_masks(plan: &Plan<'_>, face: &MapFace, buffer: &mut hb_buffer_t) {
     setup_masks_fraction(plan, buffer);
     setup_masks_shaper::<Types>(plan, face, buffer);
     setup_masks_user::<Types>(plan, buffer);
 }
 
-/// The glyphs and their classes.
-pub fn make_glyphs(plan: &Plan<'_>, face: &MapFace, buffer: &mut hb_buffer_t) {
+/// The glyphs of the characters.
+fn map_glyphs(plan: &Plan<'_>, face: &MapFace, buffer: &mut hb_buffer_t) {
     recategorize_marks::<Types>(plan, face, buffer);
     map_glyphs_fast(buffer);
     substitute_start::<Types>(plan, face, buffer);
 }
 
-pub fn classify(plan: &Plan<'_>, buffer: &mut hb_buffer_t) {
+fn classify(plan: &Plan<'_>, buffer: &mut hb_buffer_t) {
     hb_synthesize_glyph_classes(buffer);
     synthesize_classes(plan, buffer);
 }
 
 /// The steps that are made of several, and that of syllables.
-pub fn make_whole_steps(
-    plan: &Plan<'_>,
-    face: &MapFace,
-    buffer: &mut hb_buffer_t,
-) -> Result<(), Fail> {
+fn make_whole_steps(plan: &Plan<'_>, face: &MapFace, buffer: &mut hb_buffer_t) -> Result<(), Fail> {
     if buffer.length_limit() < buffer.len() {
         return Err(Fail::from("past the limit"));
     }
@@ -84,21 +97,21 @@ pub fn make_whole_steps(
 }
 
 /// The steps that stand under a name of their own.
-pub fn fall_back(plan: &Plan<'_>, face: &MapFace, buffer: &mut hb_buffer_t) {
+fn fall_back(plan: &Plan<'_>, face: &MapFace, buffer: &mut hb_buffer_t) {
     _hb_ot_shape_fallback_mark_position_recategorize_marks(plan, face, buffer);
     _hb_ot_shape_fallback_spaces(plan, face, buffer);
     _hb_ot_shape_fallback_kern(plan, face, buffer);
 }
 
 /// Advances and spaces.
-pub fn advance(plan: &Plan<'_>, face: &MapFace, buffer: &mut hb_buffer_t) {
+fn advance(plan: &Plan<'_>, face: &MapFace, buffer: &mut hb_buffer_t) {
     clear_positions(buffer);
     put_advances(face, buffer);
     place_spaces::<Types>(plan, face, buffer);
 }
 
 /// The marks that have no width.
-pub fn zero_marks(plan: &Plan<'_>, face: &MapFace, buffer: &mut hb_buffer_t) {
+fn zero_marks(plan: &Plan<'_>, face: &MapFace, buffer: &mut hb_buffer_t) {
     position_start::<Types>(plan, face, buffer);
     zero_marks_early::<Types>(plan, face, buffer);
     zero_marks_late::<Types>(plan, face, buffer);
@@ -106,7 +119,7 @@ pub fn zero_marks(plan: &Plan<'_>, face: &MapFace, buffer: &mut hb_buffer_t) {
 }
 
 /// What is behind the lookups that place glyphs.
-pub fn finish_positions(plan: &Plan<'_>, face: &MapFace, buffer: &mut hb_buffer_t) {
+fn finish_positions(plan: &Plan<'_>, face: &MapFace, buffer: &mut hb_buffer_t) {
     position_finish_advances::<Types>(plan, face, buffer);
     zero_width_default_ignorables(buffer);
     zero_width_deleted::<Types>(plan, face, buffer);
@@ -114,7 +127,7 @@ pub fn finish_positions(plan: &Plan<'_>, face: &MapFace, buffer: &mut hb_buffer_
 }
 
 /// Marks about their bases, where the plan asks for it and in any case.
-pub fn put_marks(plan: &Plan<'_>, face: &MapFace, buffer: &mut hb_buffer_t) {
+fn put_marks(plan: &Plan<'_>, face: &MapFace, buffer: &mut hb_buffer_t) {
     place_marks::<Types>(plan, face, buffer);
     position_marks::<UnicodeDatabase, _, _, _, _>(plan, face, buffer, true);
 }

@@ -2,7 +2,7 @@
 //! nothing, mode 3 composes again.
 
 use crate::every_glyph::EveryGlyph;
-use crate::moved_rows::MOVED_ROWS;
+use crate::moved_rows::{MOVED_ROWS, MovedRow};
 use crate::normalising::{BASE_WITH_MARK, normalised};
 use crate::normalization_rows::NORMALIZATION_ROWS;
 use crate::ordering::{chars_of, decomposed, recomposed};
@@ -55,16 +55,33 @@ fn assert_equivalent(rt: &impl Abort, lists: &[Vec<char>], row: &[&str; 5]) {
     assert!(rt; lists[3] == lists[4], "{row:?}");
 }
 
+/// Compares the lists of a row's columns in the mode that composes nothing.
+fn assert_split(rt: &impl Abort, alloc: Global, row: &[&str; 5]) -> Result<(), Fail> {
+    let lists = lists_of(alloc, &splitting(), row)?;
+    assert_equivalent(rt, lists.as_slice(), row);
+    for (column, list) in row.iter().zip(&lists) {
+        let whole = behind_base(alloc, column)?;
+        assert_eq!(rt; *list, decomposed(alloc, whole.as_str())?, "{row:?}");
+    }
+    Ok(())
+}
+
 #[test]
 fn equivalent_columns_split_alike(rt: HostRuntime) -> Result<(), Fail> {
     let alloc = rt.alloc();
     for row in &NORMALIZATION_ROWS {
-        let lists = lists_of(alloc, &splitting(), row)?;
-        assert_equivalent(&rt, lists.as_slice(), row);
-        for (column, list) in row.iter().zip(&lists) {
-            let whole = behind_base(alloc, column)?;
-            assert_eq!(rt; *list, decomposed(alloc, whole.as_str())?, "{row:?}");
-        }
+        assert_split(&rt, alloc, row)?;
+    }
+    Ok(())
+}
+
+/// Compares the lists of a row's columns in the mode that composes again.
+fn assert_composed(rt: &impl Abort, alloc: Global, row: &[&str; 5]) -> Result<(), Fail> {
+    let lists = lists_of(alloc, &composing(), row)?;
+    assert_equivalent(rt, lists.as_slice(), row);
+    for (column, list) in row.iter().zip(&lists) {
+        let split = decomposed(alloc, behind_base(alloc, column)?.as_str())?;
+        assert_eq!(rt; *list, recomposed(alloc, split.as_slice())?, "{row:?}");
     }
     Ok(())
 }
@@ -73,12 +90,7 @@ fn equivalent_columns_split_alike(rt: HostRuntime) -> Result<(), Fail> {
 fn equivalent_columns_compose_alike(rt: HostRuntime) -> Result<(), Fail> {
     let alloc = rt.alloc();
     for row in &NORMALIZATION_ROWS {
-        let lists = lists_of(alloc, &composing(), row)?;
-        assert_equivalent(&rt, lists.as_slice(), row);
-        for (column, list) in row.iter().zip(&lists) {
-            let split = decomposed(alloc, behind_base(alloc, column)?.as_str())?;
-            assert_eq!(rt; *list, recomposed(alloc, split.as_slice())?, "{row:?}");
-        }
+        assert_composed(&rt, alloc, row)?;
     }
     Ok(())
 }
@@ -115,20 +127,31 @@ fn other_forms_have_other_lists(rt: HostRuntime) -> Result<(), Fail> {
     Ok(())
 }
 
+/// Compares lists that are all the same.
+fn assert_all(rt: &impl Abort, lists: &[Vec<char>], want: &[char], row: &MovedRow) {
+    for list in lists {
+        assert!(rt; list.as_slice() == want, "{:?}: {}", row.mark, row.reason);
+    }
+}
+
+/// Compares the lists of two forms, in both modes.
+fn assert_moved(rt: &impl Abort, alloc: Global, row: &MovedRow) -> Result<(), Fail> {
+    let [form, other] = row.forms;
+    assert!(rt; form != other && form.contains(row.mark), "{}", row.reason);
+    let want = chars_of(alloc, behind_base(alloc, row.normalised)?.as_str())?;
+    let split = lists_of(alloc, &splitting(), &row.forms)?;
+    assert_all(rt, split.as_slice(), want.as_slice(), row);
+    let composed = lists_of(alloc, &composing(), &row.forms)?;
+    assert_all(rt, composed.as_slice(), want.as_slice(), row);
+    Ok(())
+}
+
 /// The lines whose forms differ by the place of a mark with a ccc of its own.
 #[test]
 fn moved_marks_have_one_list(rt: HostRuntime) -> Result<(), Fail> {
     let alloc = rt.alloc();
     for row in &MOVED_ROWS {
-        let [form, other] = row.forms;
-        assert!(rt; form != other && form.contains(row.mark), "{}", row.reason);
-        let want = chars_of(alloc, behind_base(alloc, row.normalised)?.as_str())?;
-        for list in lists_of(alloc, &splitting(), &row.forms)? {
-            assert_eq!(rt; list, want, "{:?}: {}", row.mark, row.reason);
-        }
-        for list in lists_of(alloc, &composing(), &row.forms)? {
-            assert_eq!(rt; list, want, "{:?}: {}", row.mark, row.reason);
-        }
+        assert_moved(&rt, alloc, row)?;
     }
     Ok(())
 }

@@ -6,15 +6,18 @@ use crate::texts::{TEXTS, Text};
 use shape_buffer::buffer::{Direction, GlyphBuffer, Script, UnicodeBuffer, hb_tag_t};
 use shape_buffer::interfaces::{NoLookups, hb_unicode_funcs_t, hb_unicode_general_category_t};
 use shape_pipeline::ot_shape_plan::hb_ot_shape_plan_t;
-use shape_pipeline::ot_shaper::DEFAULT_SHAPER;
+use shape_pipeline::ot_shaper::{DEFAULT_SHAPER, hb_default_shaper_t};
 use shape_pipeline::shape_with_plan;
 use shape_unicode::UnicodeDatabase;
 use std::alloc::Global;
 use std::process::Abort;
 use std::test::Fail;
 
-/// The glyphs of a text, whose script and direction are guessed.
-fn shaped(alloc: Global, text: &Text) -> Result<GlyphBuffer, Fail> {
+/// A plan of the default shaper.
+type Plan<'a> = hb_ot_shape_plan_t<'a, hb_default_shaper_t, (), ()>;
+
+/// A text whose script and direction are guessed.
+fn guessed(alloc: Global, text: &Text) -> Result<UnicodeBuffer, Fail> {
     let mut buffer = UnicodeBuffer::new(alloc);
     let mut offset: u32 = 0;
     for c in text.typed.chars() {
@@ -22,28 +25,42 @@ fn shaped(alloc: Global, text: &Text) -> Result<GlyphBuffer, Fail> {
         offset = offset.saturating_add(c.len_utf8() as u32);
     }
     buffer.guess_segment_properties::<UnicodeDatabase>();
-    if buffer.script() != Some(Script(hb_tag_t::from_bytes(text.script))) {
-        return Err(Fail::from("another script"));
-    }
+    Ok(buffer)
+}
+
+/// The plan for a text.
+fn planned(alloc: Global, buffer: &UnicodeBuffer) -> Result<Plan<'static>, Fail> {
     let direction = buffer.direction();
     if direction == Direction::Invalid {
         return Err(Fail::from("no direction"));
     }
-    let face = EveryGlyph;
     let plan = hb_ot_shape_plan_t::new::<UnicodeDatabase, EveryGlyph, NoLookups>(
         alloc,
-        &face,
+        &EveryGlyph,
         &DEFAULT_SHAPER,
         direction,
         buffer.script(),
         None,
         &[],
     )?;
+    Ok(plan)
+}
+
+/// The glyphs of a text, whose script and direction are guessed.
+fn shaped(alloc: Global, text: &Text) -> Result<GlyphBuffer, Fail> {
+    let buffer = guessed(alloc, text)?;
+    if buffer.script() != Some(Script(hb_tag_t::from_bytes(text.script))) {
+        return Err(Fail::from("another script"));
+    }
+    let plan = planned(alloc, &buffer)?;
     if !plan.fits::<UnicodeDatabase>(&buffer) {
         return Err(Fail::from("the plan doesn't fit"));
     }
     match shape_with_plan::<UnicodeDatabase, EveryGlyph, NoLookups, _>(
-        alloc, &face, &plan, buffer,
+        alloc,
+        &EveryGlyph,
+        &plan,
+        buffer,
     ) {
         Ok(glyphs) => Ok(glyphs),
         Err(_) => Err(Fail::from("refused")),
@@ -92,19 +109,25 @@ fn assert_glyphs(rt: &impl Abort, glyphs: &GlyphBuffer, want: &[(char, u32)], na
     }
 }
 
+/// Compares the glyphs of a text, and that they run as its script does.
+fn assert_text(rt: &impl Abort, alloc: Global, text: &Text) -> Result<(), Fail> {
+    let direction = if text.script == b"Hebr" || text.script == b"Arab" {
+        Direction::RightToLeft
+    } else {
+        Direction::LeftToRight
+    };
+    let glyphs = shaped(alloc, text)?;
+    assert_same(rt, (text.name, glyphs.direction()), (text.name, direction));
+    let want = in_order(alloc, text, direction)?;
+    assert_glyphs(rt, &glyphs, want.as_slice(), text.name);
+    Ok(())
+}
+
 #[test]
 fn texts_of_seven_scripts(rt: HostRuntime) -> Result<(), Fail> {
     let alloc = rt.alloc();
     for text in &TEXTS {
-        let direction = if text.script == b"Hebr" || text.script == b"Arab" {
-            Direction::RightToLeft
-        } else {
-            Direction::LeftToRight
-        };
-        let glyphs = shaped(alloc, text)?;
-        assert_eq!(rt; glyphs.direction(), direction, "{}", text.name);
-        let want = in_order(alloc, text, direction)?;
-        assert_glyphs(&rt, &glyphs, want.as_slice(), text.name);
+        assert_text(&rt, alloc, text)?;
     }
     Ok(())
 }

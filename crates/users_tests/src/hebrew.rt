@@ -1,7 +1,7 @@
 //! Texts in Hebrew, shaped with a face that has a glyph for these characters alone.
-use crate::hebrew::HebrewShaper;
 use crate::shaping::assert_shaped;
 use shape_buffer::interfaces::NoLookups;
+use shape_users::hebrew::HebrewShaper;
 use std::alloc::Global;
 use std::process::Abort;
 use std::test::Fail;

@@ -1,17 +1,17 @@
 //! A letter with its accent and a letter after it, in both directions and at every level.
-use crate::plain_glyphs::by_shape::{glyphs_counted, glyphs_formed};
-use crate::plain_glyphs::{
-    PlainPlan, glyphs_of_str, plain_glyphs, plain_glyphs_counted, plain_glyphs_formed,
-};
-use crate::shaping::{append, assert_glyphs, assert_same, face_of};
+use crate::shaping::{append, assert_glyphs, assert_same, face_of, planned};
 use shape_buffer::buffer::{
     BufferClusterLevel, Direction, GlyphBuffer, Script, UnicodeBuffer, hb_tag_t,
 };
-use shape_buffer::interfaces::{MapFace, NoLookups};
-use shape_pipeline::ot_shape_plan::hb_ot_shape_plan_t;
+use shape_buffer::interfaces::MapFace;
 use shape_pipeline::ot_shaper::DEFAULT_SHAPER;
 use shape_unicode::UnicodeDatabase;
+use shape_users::plain_glyphs::by_shape::{glyphs_counted, glyphs_formed};
+use shape_users::plain_glyphs::{
+    PlainPlan, glyphs_of_str, plain_glyphs, plain_glyphs_counted, plain_glyphs_formed,
+};
 use std::alloc::Global;
+use std::process::Abort;
 use std::test::Fail;
 
 const LEVELS: [BufferClusterLevel; 3] = [
@@ -32,22 +32,6 @@ fn text_at(
     text.set_direction(direction);
     text.set_cluster_level(level);
     Ok(text)
-}
-
-fn planned(alloc: Global, face: &MapFace, direction: Direction) -> Result<PlainPlan<'_>, Fail> {
-    if direction == Direction::Invalid {
-        return Err(Fail::from("no direction"));
-    }
-    let plan = hb_ot_shape_plan_t::new::<UnicodeDatabase, MapFace, NoLookups>(
-        alloc,
-        face,
-        &DEFAULT_SHAPER,
-        direction,
-        Some(Script(hb_tag_t::from_bytes(b"Latn"))),
-        None,
-        &[],
-    )?;
-    Ok(plan)
 }
 
 /// The direction of the glyphs of a text, and how many they are.
@@ -96,20 +80,29 @@ fn formed(
     }
 }
 
+/// Asserts that the text has three glyphs in a direction, at every level.
+fn assert_three(
+    rt: &impl Abort,
+    alloc: Global,
+    face: &MapFace,
+    direction: Direction,
+) -> Result<(), Fail> {
+    let plan = planned(alloc, face, &DEFAULT_SHAPER, direction, b"Latn")?;
+    for level in LEVELS {
+        let seen = shaped(alloc, face, &plan, text_at(alloc, direction, level)?)?;
+        assert_same(rt, seen, (direction, 3));
+        counted(alloc, face, &plan, text_at(alloc, direction, level)?)?;
+        formed(alloc, face, &plan, text_at(alloc, direction, level)?)?;
+    }
+    Ok(())
+}
+
 #[test]
 fn glyphs_come_by_graphemes_in_both_directions(rt: HostRuntime) -> Result<(), Fail> {
     let alloc = rt.alloc();
     let face = face_of(alloc, &[('e', 1), ('\u{301}', 2), ('x', 3)])?;
-    for direction in [Direction::LeftToRight, Direction::RightToLeft] {
-        let plan = planned(alloc, &face, direction)?;
-        for level in LEVELS {
-            let seen = shaped(alloc, &face, &plan, text_at(alloc, direction, level)?)?;
-            assert_same(&rt, seen, (direction, 3));
-            counted(alloc, &face, &plan, text_at(alloc, direction, level)?)?;
-            formed(alloc, &face, &plan, text_at(alloc, direction, level)?)?;
-        }
-    }
-    Ok(())
+    assert_three(&rt, alloc, &face, Direction::LeftToRight)?;
+    assert_three(&rt, alloc, &face, Direction::RightToLeft)
 }
 
 /// The glyphs of a string.
@@ -123,21 +116,32 @@ fn of_str(alloc: Global, face: &MapFace, text: &str) -> Result<GlyphBuffer, Fail
     }
 }
 
+/// How many glyphs `shape` gives the text.
+fn counted_by_shape(alloc: Global, face: &MapFace) -> Result<usize, Fail> {
+    let level = BufferClusterLevel::MonotoneGraphemes;
+    let text = text_at(alloc, Direction::LeftToRight, level)?;
+    match glyphs_counted::<UnicodeDatabase, MapFace>(alloc, face, &DEFAULT_SHAPER, text) {
+        Ok(glyphs) => Ok(glyphs.len()),
+        Err(_) => Err(Fail::from("refused")),
+    }
+}
+
+/// How many glyphs `shape` gives the text, their forms known.
+fn formed_by_shape(alloc: Global, face: &MapFace) -> Result<usize, Fail> {
+    let level = BufferClusterLevel::MonotoneGraphemes;
+    let text = text_at(alloc, Direction::LeftToRight, level)?;
+    match glyphs_formed::<UnicodeDatabase, MapFace>(alloc, face, &DEFAULT_SHAPER, text) {
+        Ok(glyphs) => Ok(glyphs.len()),
+        Err(_) => Err(Fail::from("refused")),
+    }
+}
+
 #[test]
 fn shape_gives_the_same_glyphs_by_a_plan_of_its_own(rt: HostRuntime) -> Result<(), Fail> {
     let alloc = rt.alloc();
     let face = face_of(alloc, &[('e', 1), ('\u{301}', 2), ('x', 3)])?;
-    let level = BufferClusterLevel::MonotoneGraphemes;
-    let text = text_at(alloc, Direction::LeftToRight, level)?;
-    let counted = glyphs_counted::<UnicodeDatabase, MapFace>(alloc, &face, &DEFAULT_SHAPER, text);
-    let text = text_at(alloc, Direction::LeftToRight, level)?;
-    let formed = glyphs_formed::<UnicodeDatabase, MapFace>(alloc, &face, &DEFAULT_SHAPER, text);
-    for answer in [counted, formed] {
-        let Ok(glyphs) = answer else {
-            return Err(Fail::from("refused"));
-        };
-        assert_eq!(rt; glyphs.len(), 3);
-    }
+    assert_same(&rt, counted_by_shape(alloc, &face)?, 3);
+    assert_same(&rt, formed_by_shape(alloc, &face)?, 3);
     Ok(())
 }
 

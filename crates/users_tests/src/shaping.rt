@@ -1,6 +1,9 @@
-//! What the tests of this crate shape with: faces of a few characters, and the whole database of Unicode.
+//! What these tests shape with: faces of a few characters, and the whole database of Unicode.
+use shape_buffer::buffer::{GlyphPosition, hb_glyph_info_t};
+use shape_pipeline::ot_shape_plan::hb_ot_shape_plan_t;
 use shape_pipeline::{
-    GlyphBuffer, GlyphId, MapFace, Metrics, UnicodeBuffer, hb_ot_layout_t, hb_ot_shaper_t, shape,
+    Direction, GlyphBuffer, GlyphId, MapFace, Metrics, NoLookups, Script, UnicodeBuffer,
+    hb_ot_layout_t, hb_ot_shaper_t, hb_tag_t, shape,
 };
 use shape_unicode::UnicodeDatabase;
 use std::alloc::Global;
@@ -17,6 +20,20 @@ pub fn assert_same<T: Copy + PartialEq + Debug>(rt: &impl Abort, found: T, wante
 /// Asserts what no later call of a test relies on.
 pub fn assert_that(rt: &impl Abort, condition: bool) {
     assert!(rt; condition);
+}
+
+/// A glyph as it is seen: its number, its cluster, and its position.
+pub type Seen = (u32, u32, (i32, i32, i32, i32));
+
+/// What is seen of a glyph of a text whose first cluster is at `start`.
+pub fn seen_of(info: &hb_glyph_info_t, position: &GlyphPosition, start: u32) -> Seen {
+    let placed = (
+        position.x_advance,
+        position.y_advance,
+        position.x_offset,
+        position.y_offset,
+    );
+    (info.glyph_id, info.cluster.wrapping_add(start), placed)
 }
 
 /// A face in which these characters have these glyphs, each 500 wide.
@@ -39,6 +56,32 @@ pub fn append(text: &mut UnicodeBuffer, more: &str) -> Result<(), Fail> {
     }
     text.push_str(more)?;
     Ok(())
+}
+
+/// The plan for texts of a direction and a script.
+pub fn planned<'a, S>(
+    alloc: Global,
+    face: &'a MapFace,
+    shaper: &'a S,
+    direction: Direction,
+    script: &[u8; 4],
+) -> Result<hb_ot_shape_plan_t<'a, S, (), ()>, Fail>
+where
+    S: hb_ot_shaper_t<UnicodeDatabase, MapFace, NoLookups, Data = ()>,
+{
+    if direction == Direction::Invalid {
+        return Err(Fail::from("no direction"));
+    }
+    let plan = hb_ot_shape_plan_t::new::<UnicodeDatabase, MapFace, NoLookups>(
+        alloc,
+        face,
+        shaper,
+        direction,
+        Some(Script(hb_tag_t::from_bytes(script))),
+        None,
+        &[],
+    )?;
+    Ok(plan)
 }
 
 /// The text shaped; a refusal fails the test.

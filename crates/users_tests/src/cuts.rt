@@ -3,21 +3,18 @@
 //! What is tried: every text of two and three characters of a few alphabets, towards all four directions, at the
 //! two levels that keep clusters in order, over a face of a few glyphs, with the default shaper, the engine with
 //! ligatures, and both script shapers. A part is shaped in the direction and script of the whole.
-use crate::arabic::ArabicShaper;
-use crate::hebrew::HebrewShaper;
-use crate::ligatures::Ligatures;
-use crate::shaping::{assert_that, face_of, shaped};
+use crate::shaping::{Seen, assert_that, face_of, seen_of, shaped};
 use shape_buffer::interfaces::NoLookups;
 use shape_pipeline::{
     BufferClusterLevel, DEFAULT_SHAPER, Direction, GlyphBuffer, MapFace, Script, UnicodeBuffer,
     hb_ot_layout_t, hb_ot_shaper_t,
 };
 use shape_unicode::UnicodeDatabase;
+use shape_users::arabic::ArabicShaper;
+use shape_users::hebrew::HebrewShaper;
+use shape_users::ligatures::Ligatures;
 use std::alloc::Global;
 use std::test::Fail;
-
-/// A glyph as it is seen: its number, its cluster, and its position.
-type Seen = (u32, u32, (i32, i32, i32, i32));
 
 /// How a text and its parts are shaped.
 #[derive(Clone, Copy)]
@@ -27,7 +24,24 @@ struct Setting {
     script: Script,
 }
 
-/// The characters shaped, each in the cluster of its place in the whole text, the first at `start`.
+/// The characters, each in the cluster of its place in the whole text, the first at `start`.
+fn part_of(alloc: Global, characters: &[char], start: u32) -> Result<UnicodeBuffer, Fail> {
+    let mut text = UnicodeBuffer::new(alloc);
+    let mut place = start;
+    for c in characters {
+        text.add(*c, place)?;
+        place = place.saturating_add(1);
+    }
+    Ok(text)
+}
+
+fn put(setting: Setting, text: &mut UnicodeBuffer) {
+    text.set_direction(setting.direction);
+    text.set_script(Some(setting.script));
+    text.set_cluster_level(setting.level);
+}
+
+/// The characters shaped.
 fn shaped_part<M, S>(
     alloc: Global,
     face: &MapFace,
@@ -40,28 +54,15 @@ where
     M: hb_ot_layout_t<MapFace>,
     S: hb_ot_shaper_t<UnicodeDatabase, MapFace, M>,
 {
-    let mut text = UnicodeBuffer::new(alloc);
-    let mut place = start;
-    for c in characters {
-        text.add(*c, place)?;
-        place = place.saturating_add(1);
-    }
-    text.set_direction(setting.direction);
-    text.set_script(Some(setting.script));
-    text.set_cluster_level(setting.level);
+    let mut text = part_of(alloc, characters, start)?;
+    put(setting, &mut text);
     shaped::<M, S>(alloc, face, shaper, text)
 }
 
 /// Puts glyphs after others as they are seen.
 fn see(seen: &mut Vec<Seen>, glyphs: &GlyphBuffer) -> Result<(), Fail> {
     for (info, position) in glyphs.iter() {
-        let advance = (position.x_advance, position.y_advance);
-        let offset = (position.x_offset, position.y_offset);
-        seen.push((
-            info.glyph_id,
-            info.cluster,
-            (advance.0, advance.1, offset.0, offset.1),
-        ))?;
+        seen.push(seen_of(info, position, 0))?;
     }
     Ok(())
 }

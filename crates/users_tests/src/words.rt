@@ -1,51 +1,17 @@
 //! Words under one spelling and another.
-use crate::shaping::{assert_same, assert_that, face_of};
-use crate::words::{Word, equivalent_spellings, find_plan, keep_word, spelled};
-use shape_buffer::buffer::{Direction, Script, hb_tag_t};
+use crate::shaping::{assert_same, assert_that, face_of, planned};
+use shape_buffer::buffer::Direction;
 use shape_buffer::interfaces::{MapFace, NoLookups};
 use shape_pipeline::ot_shape_plan::hb_ot_shape_plan_t;
 use shape_pipeline::ot_shaper::{Decomposed, Preferring};
 use shape_unicode::UnicodeDatabase;
+use shape_users::words::{Word, equivalent_spellings, find_plan, keep_word, spelled};
 use std::alloc::Global;
 use std::process::Abort;
 use std::test::Fail;
 
 /// A plan in the mode that decomposes fully.
 type Plan<'a> = hb_ot_shape_plan_t<'a, Preferring<Decomposed>, (), ()>;
-
-fn planned<'a>(
-    alloc: Global,
-    face: &'a MapFace,
-    shaper: &'a Preferring<Decomposed>,
-    direction: Direction,
-    script: &[u8; 4],
-) -> Result<Plan<'a>, Fail> {
-    if direction == Direction::Invalid {
-        return Err(Fail::from("no direction"));
-    }
-    let plan = hb_ot_shape_plan_t::new::<UnicodeDatabase, MapFace, NoLookups>(
-        alloc,
-        face,
-        shaper,
-        direction,
-        Some(Script(hb_tag_t::from_bytes(script))),
-        None,
-        &[],
-    )?;
-    Ok(plan)
-}
-
-/// A plan for texts in Hebrew, and one for texts in Latin.
-fn plans_of<'a>(
-    alloc: Global,
-    face: &'a MapFace,
-    shaper: &'a Preferring<Decomposed>,
-) -> Result<Vec<Plan<'a>>, Fail> {
-    let mut plans = Vec::new(alloc);
-    plans.push(planned(alloc, face, shaper, Direction::RightToLeft, b"Hebr")?)?;
-    plans.push(planned(alloc, face, shaper, Direction::LeftToRight, b"Latn")?)?;
-    Ok(plans)
-}
 
 /// The place of the plan for a word.
 fn plan_for(alloc: Global, plans: &[Plan<'_>], spelling: &str) -> Result<Option<usize>, Fail> {
@@ -80,31 +46,53 @@ fn assert_word(rt: &impl Abort, word: &Word, spelling: &str, glyphs: &[u32]) {
     }
 }
 
+/// The words that are kept of some spellings. Asserts that each is kept at its place, and that of a plan for Hebrew and
+/// one for Latin the second one serves it.
+fn words_of(
+    rt: &impl Abort,
+    alloc: Global,
+    face: &MapFace,
+    spellings: &[(&str, usize)],
+) -> Result<Vec<Word>, Fail> {
+    let shaper = Preferring::<Decomposed>::new();
+    let plans = [
+        planned(alloc, face, &shaper, Direction::RightToLeft, b"Hebr")?,
+        planned(alloc, face, &shaper, Direction::LeftToRight, b"Latn")?,
+    ];
+    let mut words: Vec<Word> = Vec::new(alloc);
+    for (spelling, place) in spellings {
+        assert_same(rt, plan_for(alloc, &plans, spelling)?, Some(1));
+        assert_same(
+            rt,
+            kept(alloc, face, &plans[1], &mut words, spelling)?,
+            *place,
+        );
+    }
+    Ok(words)
+}
+
+/// Compares words with their spellings and their glyphs.
+fn assert_words(rt: &impl Abort, words: &[Word], wants: &[(&str, &[u32])]) {
+    assert_same(rt, words.len(), wants.len());
+    for (word, (spelling, glyphs)) in words.iter().zip(wants) {
+        assert_word(rt, word, spelling, glyphs);
+    }
+}
+
 #[test]
 fn equivalent_spellings_are_one_word(rt: HostRuntime) -> Result<(), Fail> {
     let alloc = rt.alloc();
     let face = face_of(alloc, &[('q', 1), ('e', 2), ('\u{301}', 3), ('\u{E9}', 4)])?;
-    let shaper = Preferring::<Decomposed>::new();
-    let plans = plans_of(alloc, &face, &shaper)?;
-    let Some(plan) = plans.get(1) else {
-        return Err(Fail::from("not two plans"));
-    };
     // one letter more with an accent, spelled as one character and as two, and without the accent
-    let spellings = ["q\u{301}\u{E9}", "q\u{301}e\u{301}", "q\u{301}e"];
-    let mut words: Vec<Word> = Vec::new(alloc);
-    for (spelling, want) in spellings.iter().zip([0, 0, 1]) {
-        assert_same(&rt, plan_for(alloc, plans.as_slice(), spelling)?, Some(1));
-        assert_same(&rt, kept(alloc, &face, plan, &mut words, spelling)?, want);
-    }
-    // the second call kept what the first had shaped
-    assert_same(&rt, words.len(), 2);
-    let wants = [
-        ("q\u{301}\u{E9}", [1, 3, 2, 3].as_slice()),
-        ("q\u{301}e", [1, 3, 2].as_slice()),
+    let spellings = [
+        ("q\u{301}\u{E9}", 0),
+        ("q\u{301}e\u{301}", 0),
+        ("q\u{301}e", 1),
     ];
-    for (word, (spelling, glyphs)) in words.iter().zip(wants) {
-        assert_word(&rt, word, spelling, glyphs);
-    }
+    let words = words_of(&rt, alloc, &face, &spellings)?;
+    // the second call kept what the first had shaped
+    let wants: [(&str, &[u32]); 2] = [("q\u{301}\u{E9}", &[1, 3, 2, 3]), ("q\u{301}e", &[1, 3, 2])];
+    assert_words(&rt, words.as_slice(), &wants);
     Ok(())
 }
 
@@ -121,6 +109,21 @@ fn told(
     Ok(told)
 }
 
+/// Compares what is told of pairs of spellings.
+fn assert_told(
+    rt: &impl Abort,
+    alloc: Global,
+    face: &MapFace,
+    cases: &[(&str, &str, Option<bool>)],
+) -> Result<(), Fail> {
+    let shaper = Preferring::<Decomposed>::new();
+    let plan = planned(alloc, face, &shaper, Direction::LeftToRight, b"Latn")?;
+    for (first, second, want) in cases {
+        assert_same(rt, told(alloc, face, &plan, (first, second))?, *want);
+    }
+    Ok(())
+}
+
 /// What the face's glyphs and the text leave open isn't answered.
 #[test]
 fn spellings_that_can_be_told(rt: HostRuntime) -> Result<(), Fail> {
@@ -129,8 +132,6 @@ fn spellings_that_can_be_told(rt: HostRuntime) -> Result<(), Fail> {
         alloc,
         &[('q', 1), ('e', 2), ('\u{301}', 3), ('\u{FE00}', 4)],
     )?;
-    let shaper = Preferring::<Decomposed>::new();
-    let plan = planned(alloc, &face, &shaper, Direction::LeftToRight, b"Latn")?;
     let cases = [
         ("q\u{301}\u{E9}", "q\u{301}e\u{301}", Some(true)),
         ("q\u{301}\u{E9}", "q\u{301}e", Some(false)),
@@ -139,8 +140,5 @@ fn spellings_that_can_be_told(rt: HostRuntime) -> Result<(), Fail> {
         ("q\u{301}x", "q\u{301}e", None),
         ("q\u{301}e", "q\u{301}e\u{FE00}", None),
     ];
-    for (first, second, want) in cases {
-        assert_same(&rt, told(alloc, &face, &plan, (first, second))?, want);
-    }
-    Ok(())
+    assert_told(&rt, alloc, &face, &cases)
 }

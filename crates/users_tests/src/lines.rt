@@ -1,9 +1,9 @@
 //! Places of a cut in a letter with its accent and a letter after it.
-use crate::lines::may_cut;
 use crate::shaping::{append, assert_same, face_of, shaped};
 use shape_buffer::buffer::{BufferClusterLevel, UnicodeBuffer};
 use shape_buffer::interfaces::NoLookups;
 use shape_pipeline::ot_shaper::DEFAULT_SHAPER;
+use shape_users::lines::may_cut;
 use std::alloc::Global;
 use std::test::Fail;
 

@@ -1,7 +1,7 @@
 //! Words with a ligature.
-use crate::ligatures::Ligatures;
 use crate::shaping::assert_shaped;
 use shape_pipeline::ot_shaper::DEFAULT_SHAPER;
+use shape_users::ligatures::Ligatures;
 use std::test::Fail;
 
 #[test]

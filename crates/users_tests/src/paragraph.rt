@@ -1,9 +1,9 @@
 //! Spans of a text and of its glyphs, in both directions.
-use crate::paragraph::{GlyphSpan, TextSpan, glyphs_of_text, text_of_glyphs};
 use crate::shaping::{append, assert_same, face_of, shaped};
 use shape_buffer::buffer::{Direction, GlyphBuffer, UnicodeBuffer};
 use shape_buffer::interfaces::NoLookups;
 use shape_pipeline::ot_shaper::DEFAULT_SHAPER;
+use shape_users::paragraph::{GlyphSpan, TextSpan, glyphs_of_text, text_of_glyphs};
 use std::alloc::Global;
 use std::process::Abort;
 use std::test::Fail;
