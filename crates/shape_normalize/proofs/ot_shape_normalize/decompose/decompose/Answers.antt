@@ -1,7 +1,7 @@
 use Rattle.std.proofs.Common.{map, sym, ap, ◌∙◌}
 use Rattle.std.specs.Option.{option_map, is_some}
 use Rattle.shape_plan.specs.Rules.{rules_of, decompositions, has_glyph}
-use Rattle.shape_normalize.specs.OneWalk.{part_of_char}
+use Rattle.shape_normalize.specs.Part.{part_of_char}
 use Rattle.shape_normalize.proofs.RoundOne.ChainPartLemmas.{chosen-unsplit}
 use Rattle.shape_normalize.proofs.ot_shape_normalize.decompose.decompose.Goals as goal
 
