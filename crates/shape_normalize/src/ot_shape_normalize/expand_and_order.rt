@@ -89,7 +89,7 @@ fn take_one_walk<T: ShapingTypes>(
         (⟦<T as Meaning>⟧.rules plan.now face.now) buffer.old).items }
     ensures settings { cleared buffer.new ≡ cleared buffer.old }
 {
-    let mut runs = FollowedRuns::new(alloc, has_marks);
+    let mut runs = FollowedRuns::new(alloc);
     expand_in_one_walk::<T>(alloc, plan, buffer, face, &mut runs)?;
     if has_marks {
         return settle_followed(alloc, buffer, &mut runs);

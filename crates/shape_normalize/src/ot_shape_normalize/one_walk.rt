@@ -60,7 +60,6 @@ fn place_glyphs<T: ShapingTypes>(
     } }
     ensures runs { IfOk result (λ n. FollowsRuns
         (map ccc_of_item (take n buffer.new.items)) runs.new) }
-    ensures follows { IfOk result (λ _. runs.new.follows ≡ runs.old.follows) }
     ensures memory { IsOkUnless result ShapeError.Memory }
 {
     let invisible = buffer.invisible_glyph();
@@ -81,7 +80,8 @@ fn place_glyphs<T: ShapingTypes>(
             return Ok(i);
         };
         buffer.set_info(i, whole);
-        runs.follow(i + 1, whole._hb_glyph_info_get_modified_combining_class())?;
+        let ccc = buffer.infos()[i]._hb_glyph_info_get_modified_combining_class();
+        runs.follow(i + 1, ccc)?;
     }
     buffer.set_scratch_flags(scratch_flags);
     Ok(buffer.len())
@@ -114,7 +114,6 @@ fn expand_on<T: ShapingTypes>(
         < length (take from buffer.now.items ++ expanded_behind rules
         buffer.now.invisible_glyph (from == 0) (drop from buffer.now.items)) }
     ensures runs { IfOk result (λ out. FollowsRuns (map ccc_of_item out.infos.items) runs.new) }
-    ensures follows { IfOk result (λ _. runs.new.follows ≡ runs.old.follows) }
 {
     let infos = buffer.infos();
     let invisible = buffer.invisible_glyph();
@@ -157,7 +156,6 @@ pub(crate) fn expand_in_one_walk<T: ShapingTypes>(
         (⟦<T as Meaning>⟧.rules plan.now face.now) buffer.old).items }
     ensures settings { cleared buffer.new ≡ cleared buffer.old }
     ensures runs { OnOk result (FollowsRuns (map ccc_of_item buffer.new.items) runs.new) }
-    ensures follows { OnOk result (runs.new.follows ≡ runs.old.follows) }
 {
     let shortest = Shortest::of::<T>(plan);
     let mut expansion = Expansion::new(alloc);

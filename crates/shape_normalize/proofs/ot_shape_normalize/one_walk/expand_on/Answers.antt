@@ -30,7 +30,6 @@ loop-i-preserved g c =
       flags = rw (seen, short) (sym (seen_here planned invisible items i item c.loop-i.out.scratch_flags within at) ∙ c.loop-i.invariant.flags);
       within = search (rules, c.in_ok-put_item.ensures.within);
       runs = search (rules, c.in_ok-follow_from.ensures.runs);
-      follows = search (rules, c.in_ok-follow_from.ensures.follows);
     }
 
 -- what was put out, and what this item becomes, is a part of the whole

@@ -16,5 +16,4 @@ invariant-loop-i g l =
           ≡ seen_behind rules l.invisible (l.from == 0) l.buffer.scratch_flags (drop l.from l.infos);
       within : vec_len l.out.infos ≤ l.limit;
       runs : FollowsRuns (map ccc_of_item l.out.infos.items) l.runs;
-      follows : l.runs.follows ≡ l.fn.runs.follows;
     }

@@ -1,5 +1,6 @@
 use Rattle.std.proofs.Common.{rules, ◌≡◌, ◌<◌, ◌≤◌, ◌+◌, ◌==◌, length, get_or, List, map, set, drop, take, subst, sym, ap, ◌∙◌, arith, ◌∷◌, []}
 use Rattle.std.proofs.lemmas.Grind.{common_steps}
+use Rattle.std.proofs.lemmas.List.{get_or-set_same}
 use Rattle.shape_items.specs.Buffer.{Buffer}
 use Rattle.shape_items.specs.Items.{Item, ccc_of_item}
 use Rattle.shape_plan.specs.Rules.{rules_of}
@@ -30,6 +31,11 @@ loop-i-preserved g c =
     let flags : c.unexpanded.new.scratch_flags ≡ seen_expanded planned invisible c.is_asked.result c.loop-i.scratch_flags item =
     search (rules, c.in_ok-found.ensures.flags) in
     let written : c.set_info.new.self.items ≡ set items i whole = ap (λ (b : Buffer). b.items) c.set_info.ensures in
+    let again = c.index-infos-i-in-loop-i.result in
+    let read : again ≡ whole = c.index-infos-i-in-loop-i.is ∙ ap (λ xs. get_or xs i again) (c.infos.ensures ∙ written)
+    ∙ get_or-set_same items i whole again within in
+    let ccc : c._hb_glyph_info_get_modified_combining_class-ccc.result ≡ ccc_of_item whole =
+    c._hb_glyph_info_get_modified_combining_class-ccc.ensures ∙ ap ccc_of_item read in
     record {
       placed = rw written (placed_more planned invisible items i item whole within at stays ∙ c.loop-i.invariant.placed);
       seen = rw (written, flags, short) (seen_more planned invisible items i item whole c.loop-i.scratch_flags within at ∙ c.loop-i.invariant.seen);
@@ -37,13 +43,12 @@ loop-i-preserved g c =
       rest = c.set_info.ensures ∙ ap (λ (b : Buffer). record b { items = set items i whole }) c.loop-i.invariant.rest
           ∙ ap (λ (xs : List Item). record c.args.buffer.now { items = xs }) (sym written);
       runs = subst (λ cccs. FollowsRuns cccs c.follow.new.self)
-          (sym (ap (λ xs. map ccc_of_item (take (i + 1) xs)) written ∙ placed_cccs items i whole _ within c._hb_glyph_info_get_modified_combining_class.ensures))
+          (sym (ap (λ xs. map ccc_of_item (take (i + 1) xs)) written ∙ placed_cccs items i whole _ within ccc))
           (c.in_ok-follow.ensures.runs (map ccc_of_item (take i items)) (omega (arith, cccs_so_far items i (omega arith))) c.loop-i.invariant.runs);
-      follows = search (rules, c.in_ok-follow.ensures.follows);
     }
 
-pub follow-requires : goal.follow-requires
-follow-requires g c =
+pub follow-requires-clause-within : goal.follow-requires-clause-within
+follow-requires-clause-within g c =
     let items = c.loop-i.buffer.items in
     let within : c.loop-i.i ≤ length items = omega (arith, c.loop-i-test.true, c.loop-i.invariant.as_many, c.len-i-end.ensures.items) in
     omega (arith, c.loop-i.invariant.runs.within, cccs_so_far items c.loop-i.i within)

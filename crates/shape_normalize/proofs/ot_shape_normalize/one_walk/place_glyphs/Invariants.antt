@@ -18,5 +18,4 @@ invariant-loop-i g l =
       as_many : length l.buffer.items ≡ length old.items;
       rest : l.buffer ≡ record old { items = l.buffer.items };
       runs : FollowsRuns (map ccc_of_item (take l.i l.buffer.items)) l.runs;
-      follows : l.runs.follows ≡ l.fn.runs.follows;
     }
