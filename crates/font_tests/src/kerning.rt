@@ -61,12 +61,10 @@ fn kerned(
 
 /// Compares advances and offsets along the line, in its order.
 fn assert_moved(rt: &impl Abort, glyphs: &GlyphBuffer, wanted: &[(i32, i32)]) {
-    assert_eq!(rt; glyphs.len(), wanted.len());
+    assert_same(rt, glyphs.len(), wanted.len());
     for (position, (advance, offset)) in glyphs.glyph_positions().iter().zip(wanted.iter()) {
-        assert_eq!(rt;
-            (position.x_advance, position.x_offset),
-            (*advance, *offset)
-        );
+        assert_same(rt, position.x_advance, *advance);
+        assert_same(rt, position.x_offset, *offset);
     }
 }
 

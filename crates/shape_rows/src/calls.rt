@@ -161,16 +161,22 @@ fn two_normalised(alloc: Global, plan: &Plan<'_>, face: &RowFace<'_>) -> Result<
     Ok(buffer)
 }
 
+/// Compares characters and the glyphs that were found for them.
+fn assert_found(rt: &impl Abort, buffer: &hb_buffer_t, wanted: &[(char, u32)]) {
+    assert_same(rt, buffer.len(), wanted.len());
+    for (info, (c, glyph)) in buffer.infos().iter().zip(wanted) {
+        assert_same(rt, info.codepoint, *c);
+        assert_same(rt, info.glyph_index, *glyph);
+    }
+}
+
 #[test]
 fn normalising_keeps_what_is_not_split(rt: HostRuntime) -> Result<(), Fail> {
     let alloc = rt.alloc();
     let face = RowFace::of(&['a']);
     let plan = planned_towards(alloc, &face, Direction::LeftToRight)?;
     let buffer = two_normalised(alloc, &plan, &face)?;
-    assert_same(&rt, buffer.len(), 2);
-    for (info, (c, glyph)) in buffer.infos().iter().zip([('a', 0x61), ('\u{e9}', 0)]) {
-        assert_same(&rt, (info.codepoint, info.glyph_index), (c, glyph));
-    }
+    assert_found(&rt, &buffer, &[('a', 0x61), ('\u{e9}', 0)]);
     Ok(())
 }
 
@@ -194,6 +200,15 @@ fn two_in_place(alloc: Global, plan: &Plan<'_>, face: &RowFace<'_>) -> Result<hb
     Ok(buffer)
 }
 
+/// Compares glyphs and their clusters.
+fn assert_turned(rt: &impl Abort, buffer: &hb_buffer_t, wanted: &[(u32, u32)]) {
+    assert_same(rt, buffer.len(), wanted.len());
+    for (info, (glyph, cluster)) in buffer.infos().iter().zip(wanted) {
+        assert_same(rt, info.glyph_id, *glyph);
+        assert_same(rt, info.cluster, *cluster);
+    }
+}
+
 /// Two letters without a script, from right to left: the run turns them, and leaves the limit behind.
 #[test]
 fn a_buffer_is_shaped_in_place(rt: HostRuntime) -> Result<(), Fail> {
@@ -203,9 +218,6 @@ fn a_buffer_is_shaped_in_place(rt: HostRuntime) -> Result<(), Fail> {
     let buffer = two_in_place(alloc, &plan, &face)?;
     assert_same(&rt, buffer.direction(), Direction::RightToLeft);
     assert_same(&rt, buffer.length_limit(), usize::MAX);
-    assert_same(&rt, buffer.len(), 2);
-    for (info, (glyph, cluster)) in buffer.infos().iter().zip([(0x62, 1), (0x61, 0)]) {
-        assert_same(&rt, (info.glyph_id, info.cluster), (glyph, cluster));
-    }
+    assert_turned(&rt, &buffer, &[(0x62, 1), (0x61, 0)]);
     Ok(())
 }

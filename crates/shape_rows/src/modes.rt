@@ -95,17 +95,19 @@ fn absorb(alloc: Global, buffer: &mut hb_buffer_t) -> Result<(), Fail> {
 
 /// Compares characters, glyphs and clusters.
 fn assert_items(rt: &impl Abort, buffer: &hb_buffer_t, items: &[(char, u32, u32)]) {
-    assert_eq!(rt; buffer.len(), items.len());
-    for (info, item) in buffer.infos().iter().zip(items) {
-        assert_eq!(rt; (info.codepoint, info.glyph_index, info.cluster), *item);
+    assert_same(rt, buffer.len(), items.len());
+    for (info, (c, glyph, cluster)) in buffer.infos().iter().zip(items) {
+        assert_same(rt, info.codepoint, *c);
+        assert_same(rt, info.glyph_index, *glyph);
+        assert_same(rt, info.cluster, *cluster);
     }
 }
 
 /// Compares of each item whether it is a marked selector, and whether it is ignorable.
 fn assert_selectors(rt: &impl Abort, buffer: &hb_buffer_t, items: &[(bool, bool)]) {
     for (info, (marked, ignorable)) in buffer.infos().iter().zip(items) {
-        assert_eq!(rt; info._hb_glyph_info_get_selector_mark(), *marked);
-        assert_eq!(rt; info._hb_glyph_info_get_ignorable(), *ignorable);
+        assert_same(rt, info._hb_glyph_info_get_selector_mark(), *marked);
+        assert_same(rt, info._hb_glyph_info_get_ignorable(), *ignorable);
     }
 }
 

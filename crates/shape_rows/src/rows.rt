@@ -44,11 +44,11 @@ fn assert_glyphs(rt: &impl Abort, answer: Result<GlyphBuffer, ShapeFault>, chars
         assert!(rt; false, "refused");
         return;
     };
-    assert_eq!(rt; glyphs.len(), chars.len());
+    assert_same(rt, glyphs.len(), chars.len());
     for (info, c) in glyphs.glyph_infos().iter().zip(chars) {
-        assert_eq!(rt; info.codepoint, *c);
-        assert_eq!(rt; info.cluster, 7);
-        assert_eq!(rt; info.glyph_id, info.glyph_index);
+        assert_same(rt, info.codepoint, *c);
+        assert_same(rt, info.cluster, 7);
+        assert_same(rt, info.glyph_id, info.glyph_index);
     }
 }
 

@@ -1,5 +1,6 @@
 //! What the tests over the whole database of Unicode share: texts, runs of them, and comparisons.
 
+use crate::comparing::assert_same;
 use shape_buffer::buffer::{
     BufferClusterLevel, BufferFlags, Direction, GlyphBuffer, GlyphId, UnicodeBuffer, hb_buffer_t,
 };
@@ -167,17 +168,18 @@ pub fn face_of(alloc: Global, glyphs: &[GlyphOf]) -> Result<MapFace, Fail> {
 
 /// Compares characters and clusters.
 pub fn assert_items(rt: &impl Abort, buffer: &hb_buffer_t, items: &[(char, u32)]) {
-    assert_eq!(rt; buffer.len(), items.len());
-    for (info, item) in buffer.infos().iter().zip(items) {
-        assert_eq!(rt; (info.codepoint, info.cluster), *item);
+    assert_same(rt, buffer.len(), items.len());
+    for (info, (c, cluster)) in buffer.infos().iter().zip(items) {
+        assert_same(rt, info.codepoint, *c);
+        assert_same(rt, info.cluster, *cluster);
     }
 }
 
 /// Compares characters.
 pub fn assert_characters(rt: &impl Abort, buffer: &hb_buffer_t, characters: &[char]) {
-    assert_eq!(rt; buffer.len(), characters.len());
+    assert_same(rt, buffer.len(), characters.len());
     for (info, c) in buffer.infos().iter().zip(characters) {
-        assert_eq!(rt; info.codepoint, *c);
+        assert_same(rt, info.codepoint, *c);
     }
 }
 
@@ -186,15 +188,16 @@ pub type PlacedGlyph = (u32, u32, (i32, i32, i32, i32), u32);
 
 /// Compares glyphs with their clusters, positions and flags.
 pub fn assert_glyphs(rt: &impl Abort, glyphs: &GlyphBuffer, placed: &[PlacedGlyph]) {
-    assert_eq!(rt; glyphs.len(), placed.len());
+    assert_same(rt, glyphs.len(), placed.len());
     for (info, want) in glyphs.glyph_infos().iter().zip(placed) {
-        assert_eq!(rt;
-            (info.glyph_id, info.cluster, info.mask),
-            (want.0, want.1, want.3)
-        );
+        assert_same(rt, info.glyph_id, want.0);
+        assert_same(rt, info.cluster, want.1);
+        assert_same(rt, info.mask, want.3);
     }
     for (position, want) in glyphs.glyph_positions().iter().zip(placed) {
-        assert_eq!(rt; (position.x_advance, position.y_advance), (want.2.0, want.2.1));
-        assert_eq!(rt; (position.x_offset, position.y_offset), (want.2.2, want.2.3));
+        assert_same(rt, position.x_advance, want.2.0);
+        assert_same(rt, position.y_advance, want.2.1);
+        assert_same(rt, position.x_offset, want.2.2);
+        assert_same(rt, position.y_offset, want.2.3);
     }
 }

@@ -212,8 +212,10 @@ pub type Glyph = (u32, u32, u32);
 /// Compares glyphs, clusters and masks.
 pub fn assert_glyphs(rt: &impl Abort, infos: &[hb_glyph_info_t], glyphs: &[Glyph]) {
     assert_same(rt, infos.len(), glyphs.len());
-    for (info, glyph) in infos.iter().zip(glyphs) {
-        assert_same(rt, (info.glyph_id, info.cluster, info.mask), *glyph);
+    for (info, (glyph, cluster, mask)) in infos.iter().zip(glyphs) {
+        assert_same(rt, info.glyph_id, *glyph);
+        assert_same(rt, info.cluster, *cluster);
+        assert_same(rt, info.mask, *mask);
     }
 }
 

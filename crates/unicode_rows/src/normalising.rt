@@ -15,7 +15,7 @@ use std::alloc::Global;
 /// ccc.
 pub const BASE_WITH_MARK: [char; 2] = ['q', '\u{334}'];
 
-/// A text after a base with a mark, which runs to the right.
+/// A text after a base with a mark.
 fn text_of(alloc: Global, text: &[char]) -> Result<UnicodeBuffer, ShapeError> {
     let mut buffer = UnicodeBuffer::new(alloc);
     let mut place: u32 = 0;
@@ -23,7 +23,6 @@ fn text_of(alloc: Global, text: &[char]) -> Result<UnicodeBuffer, ShapeError> {
         buffer.add(*c, place)?;
         place = place.saturating_add(1);
     }
-    buffer.set_direction(Direction::LeftToRight);
     Ok(buffer)
 }
 
@@ -43,7 +42,7 @@ where
     )
 }
 
-/// A text prepared, then normalised.
+/// A text to the right, prepared, then normalised.
 fn normalised_buffer<S>(
     alloc: Global,
     shaper: &S,
@@ -54,6 +53,7 @@ where
 {
     let plan = planned(alloc, shaper)?;
     let mut buffer = text.into_inner();
+    buffer.set_direction(Direction::LeftToRight);
     let mut ctx = hb_ot_shape_context_t {
         plan: &plan,
         face: &EveryGlyph,

@@ -129,7 +129,8 @@ where
 /// Compares glyphs with their clusters.
 pub fn assert_glyphs(rt: &impl Abort, answer: &GlyphBuffer, glyphs: &[(u32, u32)]) {
     assert_same(rt, answer.len(), glyphs.len());
-    for (info, glyph) in answer.glyph_infos().iter().zip(glyphs) {
-        assert_same(rt, (info.glyph_id, info.cluster), *glyph);
+    for (info, (glyph, cluster)) in answer.glyph_infos().iter().zip(glyphs) {
+        assert_same(rt, info.glyph_id, *glyph);
+        assert_same(rt, info.cluster, *cluster);
     }
 }
