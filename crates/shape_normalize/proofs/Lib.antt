@@ -6,3 +6,4 @@ pub mod Normalized
 pub mod Places
 pub mod Form
 mod FormRows
+mod NotedRows

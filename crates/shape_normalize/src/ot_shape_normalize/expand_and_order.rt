@@ -90,11 +90,11 @@ fn take_one_walk<T: ShapingTypes>(
     ensures settings { cleared buffer.new ≡ cleared buffer.old }
 {
     let mut runs = FollowedRuns::new(alloc);
-    expand_in_one_walk::<T>(alloc, plan, buffer, face, &mut runs)?;
     if has_marks {
+        expand_in_one_walk::<T>(alloc, plan, buffer, face, true, &mut runs)?;
         return settle_followed(alloc, buffer, &mut runs);
     }
-    Ok(())
+    expand_in_one_walk::<T>(alloc, plan, buffer, face, false, &mut runs)
 }
 
 /// Expands the items and puts the marks in order, if some stand past the first item, as `has_marks` says.

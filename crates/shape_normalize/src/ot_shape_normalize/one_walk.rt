@@ -32,14 +32,16 @@ fn stands_with_marks_at(infos: &[hb_glyph_info_t], i: usize) -> bool
     is_behind || i + 1 < infos.len() && infos[i + 1]._hb_glyph_info_is_unicode_mark()
 }
 
-/// Gives each item its glyph and follows the runs, up to the first that expands. Answers the place of that
-/// one, or the length.
+/// Gives each item its glyph, up to the first that expands, and follows the runs, if `follows` says so.
+/// Answers the place of that one, or the length.
+#[inline(always)]
 fn place_glyphs<T: ShapingTypes>(
     plan: &PlanOf<'_, T>,
     face: &T::Face,
     buffer: &mut hb_buffer_t,
     shortest: &Shortest,
     expansion: &mut Expansion,
+    follows: bool,
     runs: &mut FollowedRuns,
 ) -> Result<usize, ShapeError>
     requires shortest { shortest.now ≡ shortest_of (⟦<T as Meaning>⟧.rules plan.now face.now).short }
@@ -58,8 +60,8 @@ fn place_glyphs<T: ShapingTypes>(
       items = buffer.new.items;
       scratch_flags = buffer.new.scratch_flags;
     } }
-    ensures runs { IfOk result (λ n. FollowsRuns
-        (map ccc_of_item (take n buffer.new.items)) runs.new) }
+    ensures runs { IfOk result (λ n. follows ≡ true
+        → FollowsRuns (map ccc_of_item (take n buffer.new.items)) runs.new) }
     ensures memory { IsOkUnless result ShapeError.Memory }
 {
     let invisible = buffer.invisible_glyph();
@@ -80,8 +82,7 @@ fn place_glyphs<T: ShapingTypes>(
             return Ok(i);
         };
         buffer.set_info(i, whole);
-        let ccc = buffer.infos()[i]._hb_glyph_info_get_modified_combining_class();
-        runs.follow(i + 1, ccc)?;
+        runs.follow_at(follows, buffer.infos(), i)?;
     }
     buffer.set_scratch_flags(scratch_flags);
     Ok(buffer.len())
@@ -97,11 +98,13 @@ fn expand_on<T: ShapingTypes>(
     shortest: &Shortest,
     from: usize,
     expansion: Expansion,
+    follows: bool,
     runs: &mut FollowedRuns,
 ) -> Result<Expanded, ShapeError>
     requires shortest { shortest.now ≡ shortest_of (⟦<T as Meaning>⟧.rules plan.now face.now).short }
     requires from { from ≤ length buffer.now.items }
-    requires runs { FollowsRuns (map ccc_of_item (take from buffer.now.items)) runs.old }
+    requires runs { follows ≡ true
+        → FollowsRuns (map ccc_of_item (take from buffer.now.items)) runs.old }
     ensures infos { let rules = ⟦<T as Meaning>⟧.rules plan.now face.now in
         IfOk result (λ out. out.infos.items ≡ take from buffer.now.items ++ expanded_behind rules
         buffer.now.invisible_glyph (from == 0) (drop from buffer.now.items)) }
@@ -113,7 +116,8 @@ fn expand_on<T: ShapingTypes>(
         result ≡ Err ShapeError.Length → limit_of buffer.now
         < length (take from buffer.now.items ++ expanded_behind rules
         buffer.now.invisible_glyph (from == 0) (drop from buffer.now.items)) }
-    ensures runs { IfOk result (λ out. FollowsRuns (map ccc_of_item out.infos.items) runs.new) }
+    ensures runs { IfOk result (λ out. follows ≡ true
+        → FollowsRuns (map ccc_of_item out.infos.items) runs.new) }
 {
     let infos = buffer.infos();
     let invisible = buffer.invisible_glyph();
@@ -132,19 +136,21 @@ fn expand_on<T: ShapingTypes>(
         let shortest = shortest.is_asked(stands_with_marks_at(infos, i));
         let before = out.infos.len();
         out.put_item::<T>(plan, face, &infos[i], shortest, invisible, limit)?;
-        runs.follow_from(&out.infos, before)?;
+        runs.follow_from(follows, &out.infos, before)?;
     }
     Ok(out)
 }
 
-/// Puts what the items become in their place and follows the runs of that, if each sequence is expanded.
-/// Refuses with `Length` if that passes the limit; after a refusal the settings that clearing keeps are
-/// as they were.
+/// Puts what the items become in their place, if each sequence is expanded, and follows the runs of that, if
+/// `follows` says so. Refuses with `Length` if that passes the limit; after a refusal the settings that
+/// clearing keeps are as they were. It is compiled for each of the two by itself.
+#[inline(always)]
 pub(crate) fn expand_in_one_walk<T: ShapingTypes>(
     alloc: Global,
     plan: &PlanOf<'_, T>,
     buffer: &mut hb_buffer_t,
     face: &T::Face,
+    follows: bool,
     runs: &mut FollowedRuns,
 ) -> Result<(), ShapeError>
     requires expands { HasNoSelectorSequence T.Unicode.unicode buffer.old.items }
@@ -155,11 +161,12 @@ pub(crate) fn expand_in_one_walk<T: ShapingTypes>(
     ensures length { result ≡ Err ShapeError.Length → limit_of buffer.old < length (round_one
         (⟦<T as Meaning>⟧.rules plan.now face.now) buffer.old).items }
     ensures settings { cleared buffer.new ≡ cleared buffer.old }
-    ensures runs { OnOk result (FollowsRuns (map ccc_of_item buffer.new.items) runs.new) }
+    ensures runs { OnOk result (follows ≡ true
+        → FollowsRuns (map ccc_of_item buffer.new.items) runs.new) }
 {
     let shortest = Shortest::of::<T>(plan);
     let mut expansion = Expansion::new(alloc);
-    let from = place_glyphs::<T>(plan, face, buffer, &shortest, &mut expansion, runs)?;
+    let from = place_glyphs::<T>(plan, face, buffer, &shortest, &mut expansion, follows, runs)?;
     if from == buffer.len() {
         if buffer.length_limit() < from {
             return Err(ShapeError::Length);
@@ -167,7 +174,7 @@ pub(crate) fn expand_in_one_walk<T: ShapingTypes>(
         buffer.clear_positions();
         return Ok(());
     }
-    let out = expand_on::<T>(alloc, plan, face, buffer, &shortest, from, expansion, runs)?;
+    let out = expand_on::<T>(alloc, plan, face, buffer, &shortest, from, expansion, follows, runs)?;
     let scratch_flags = out.scratch_flags;
     buffer.replace_infos(out.infos)?;
     buffer.set_scratch_flags(scratch_flags);

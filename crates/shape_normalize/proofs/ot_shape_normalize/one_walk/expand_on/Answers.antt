@@ -60,7 +60,7 @@ follow_from-requires-clause-runs g c =
     let becomes = expanded_item planned c.invisible_glyph-invisible.result c.is_asked-shortest.result c.index-infos-i.result in
     let put : c.put_item.new.self.infos.items ≡ out ++ becomes = search (rules, c.in_ok-put_item.ensures.infos) in
     let counted : c.len-before.result ≡ length out = omega arith in
-    subst (λ cccs. FollowsRuns cccs c.loop-i.runs)
+    λ yes. subst (λ cccs. FollowsRuns cccs c.loop-i.runs)
     (sym (ap (λ xs. map ccc_of_item (take c.len-before.result xs)) c.deref.ensures.value
     ∙ taken_before out becomes c.put_item.new.self.infos.items c.len-before.result counted put))
-    c.loop-i.invariant.runs
+    (c.loop-i.invariant.runs yes)

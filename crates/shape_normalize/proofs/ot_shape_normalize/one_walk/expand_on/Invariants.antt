@@ -1,4 +1,4 @@
-use Rattle.std.proofs.Common.{◌≡◌, ◌≤◌, ◌++◌, ◌==◌, map, take, drop, vec_len}
+use Rattle.std.proofs.Common.{◌≡◌, ◌≤◌, ◌++◌, ◌==◌, true, map, take, drop, vec_len}
 use Rattle.shape_items.specs.Items.{ccc_of_item}
 use Rattle.shape_plan.specs.Rules.{rules_of}
 use Rattle.shape_normalize.specs.OneWalk.{expanded_behind, seen_behind, FollowsRuns}
@@ -15,5 +15,5 @@ invariant-loop-i g l =
       flags : seen_behind rules l.invisible (l.i == 0) l.out.scratch_flags (drop l.i l.infos)
           ≡ seen_behind rules l.invisible (l.from == 0) l.buffer.scratch_flags (drop l.from l.infos);
       within : vec_len l.out.infos ≤ l.limit;
-      runs : FollowsRuns (map ccc_of_item l.out.infos.items) l.runs;
+      runs : l.follows ≡ true → FollowsRuns (map ccc_of_item l.out.infos.items) l.runs;
     }

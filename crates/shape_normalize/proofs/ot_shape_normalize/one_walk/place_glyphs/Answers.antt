@@ -1,13 +1,12 @@
 use Rattle.std.proofs.Common.{rules, ◌≡◌, ◌<◌, ◌≤◌, ◌+◌, ◌==◌, length, get_or, List, map, set, drop, take, subst, sym, ap, ◌∙◌, arith, ◌∷◌, []}
 use Rattle.std.proofs.lemmas.Grind.{common_steps}
-use Rattle.std.proofs.lemmas.List.{get_or-set_same}
+use Rattle.std.proofs.lemmas.List.{take-set}
 use Rattle.shape_items.specs.Buffer.{Buffer}
 use Rattle.shape_items.specs.Items.{Item, ccc_of_item}
 use Rattle.shape_plan.specs.Rules.{rules_of}
 use Rattle.shape_normalize.specs.RoundOne.{expanded_item, seen_expanded}
 use Rattle.shape_normalize.specs.OneWalk.{stands_with_marks, FollowsRuns}
 use Rattle.shape_normalize.proofs.RoundOne.OneWalkLemmas.{placed_more, seen_more}
-use Rattle.shape_normalize.proofs.RoundTwo.NotedLemmas.{placed_cccs, cccs_so_far}
 use Rattle.shape_normalize.proofs.ot_shape_normalize.one_walk.place_glyphs.Goals as goal
 
 pub loop-i-preserved : goal.loop-i-preserved
@@ -31,24 +30,19 @@ loop-i-preserved g c =
     let flags : c.unexpanded.new.scratch_flags ≡ seen_expanded planned invisible c.is_asked.result c.loop-i.scratch_flags item =
     search (rules, c.in_ok-found.ensures.flags) in
     let written : c.set_info.new.self.items ≡ set items i whole = ap (λ (b : Buffer). b.items) c.set_info.ensures in
-    let again = c.index-infos-i-in-loop-i.result in
-    let read : again ≡ whole = c.index-infos-i-in-loop-i.is ∙ ap (λ xs. get_or xs i again) (c.infos.ensures ∙ written)
-    ∙ get_or-set_same items i whole again within in
-    let ccc : c._hb_glyph_info_get_modified_combining_class-ccc.result ≡ ccc_of_item whole =
-    c._hb_glyph_info_get_modified_combining_class-ccc.ensures ∙ ap ccc_of_item read in
     record {
       placed = rw written (placed_more planned invisible items i item whole within at stays ∙ c.loop-i.invariant.placed);
       seen = rw (written, flags, short) (seen_more planned invisible items i item whole c.loop-i.scratch_flags within at ∙ c.loop-i.invariant.seen);
       as_many = grind (arith, common_steps, written);
       rest = c.set_info.ensures ∙ ap (λ (b : Buffer). record b { items = set items i whole }) c.loop-i.invariant.rest
           ∙ ap (λ (xs : List Item). record c.args.buffer.now { items = xs }) (sym written);
-      runs = subst (λ cccs. FollowsRuns cccs c.follow.new.self)
-          (sym (ap (λ xs. map ccc_of_item (take (i + 1) xs)) written ∙ placed_cccs items i whole _ within ccc))
-          (c.in_ok-follow.ensures.runs (map ccc_of_item (take i items)) (omega (arith, cccs_so_far items i (omega arith))) c.loop-i.invariant.runs);
+      runs = λ yes. subst (λ xs. FollowsRuns (map ccc_of_item (take (i + 1) xs)) c.follow_at.new.self) c.infos.ensures
+          (c.in_ok-follow_at.ensures.runs yes);
     }
 
-pub follow-requires-clause-within : goal.follow-requires-clause-within
-follow-requires-clause-within g c =
+pub follow_at-requires-clause-runs : goal.follow_at-requires-clause-runs
+follow_at-requires-clause-runs g c =
     let items = c.loop-i.buffer.items in
-    let within : c.loop-i.i ≤ length items = omega (arith, c.loop-i-test.true, c.loop-i.invariant.as_many, c.len-i-end.ensures.items) in
-    omega (arith, c.loop-i.invariant.runs.within, cccs_so_far items c.loop-i.i within)
+    let written : c.set_info.new.self.items ≡ set items c.loop-i.i c.in-Some.whole = ap (λ (b : Buffer). b.items) c.set_info.ensures in
+    λ yes. subst (λ xs. FollowsRuns (map ccc_of_item xs) c.loop-i.runs)
+    (sym (ap (take c.loop-i.i) (c.infos.ensures ∙ written) ∙ take-set items c.loop-i.i c.in-Some.whole)) (c.loop-i.invariant.runs yes)

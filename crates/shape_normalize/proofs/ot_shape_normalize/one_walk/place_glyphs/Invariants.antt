@@ -17,5 +17,5 @@ invariant-loop-i g l =
           ≡ seen_behind rules l.invisible true old.scratch_flags old.items;
       as_many : length l.buffer.items ≡ length old.items;
       rest : l.buffer ≡ record old { items = l.buffer.items };
-      runs : FollowsRuns (map ccc_of_item (take l.i l.buffer.items)) l.runs;
+      runs : l.follows ≡ true → FollowsRuns (map ccc_of_item (take l.i l.buffer.items)) l.runs;
     }
