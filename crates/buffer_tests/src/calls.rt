@@ -51,7 +51,7 @@ fn settings(rt: HostRuntime) -> Result<(), Fail> {
     Ok(())
 }
 
-/// Sets all again, but for the level.
+/// Sets all again, except the level.
 fn set_again(buffer: &mut hb_buffer_t) {
     buffer.set_pre_context("äb");
     buffer.set_post_context("");

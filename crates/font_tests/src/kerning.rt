@@ -142,7 +142,7 @@ fn assert_cleared(rt: &impl Abort, left: &UnicodeBuffer) {
     );
 }
 
-/// With memory at hand the test passes. Where one growth of the run is refused, planning included, it says so, after
+/// With memory at hand the test passes. If one growth of the run is refused, planning included, it says so, after
 /// comparisons of the buffer that is handed back, and of what that gives once it is filled again.
 #[test]
 fn growths(rt: HostRuntime) -> Result<(), Fail> {

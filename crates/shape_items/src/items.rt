@@ -89,7 +89,7 @@ impl hb_glyph_info_t {
         self.properties.words()
     }
 
-    /// Sets the eight properties that go by the character alone; the others stay. Adds to
+    /// Sets the eight properties that depend on the character alone; the others stay. Adds to
     /// `scratch_flags` what the character shows of its text.
     pub fn init_unicode_props<U: hb_unicode_funcs_t>(&mut self, scratch_flags: &mut ScratchFlags)
         ensures item { self.new ≡ with_unicode_props U.unicode self.old }
@@ -125,7 +125,7 @@ impl hb_glyph_info_t {
         }
     }
 
-    /// Puts the item into a cluster; where its cluster changes it loses its defined flags.
+    /// Puts the item into a cluster; if its cluster changes it loses its defined flags.
     pub(crate) fn put_in(&mut self, cluster: u32)
         ensures { self.new ≡ put_in cluster self.old }
     {

@@ -17,7 +17,7 @@ use Rattle.shape_plan.specs.Decisions.{MasksAreFeatures}
 use Rattle.shape_plan.specs.Keepers.{RunKeepsFlags}
 use Rattle.shape_plan.specs.Run.{Run}
 use Rattle.shape_position.specs.Steps.{show_steps, finish_steps}
-use Rattle.shape_position.specs.Turning.{turned}
+use Rattle.shape_position.specs.Reversal.{turned}
 use Rattle.shape_position.proofs.StepKeepers.{steps_keep_flags}
 use Rattle.shape_prepare.specs.Begun.{begun}
 use Rattle.shape_prepare.specs.ClustersFormed.{clusters_formed}

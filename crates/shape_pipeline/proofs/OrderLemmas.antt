@@ -23,7 +23,7 @@ use Rattle.shape_normalize.proofs.Normalized.ClusterOrderLemmas.{KeepsOrder-norm
 use Rattle.shape_normalize.proofs.Hooks.ReorderLemmas.{LawfulReorder}
 use Rattle.shape_plan.specs.Run.{Run}
 use Rattle.shape_position.specs.Steps.{show_steps, finish_steps}
-use Rattle.shape_position.specs.Turning.{turned}
+use Rattle.shape_position.specs.Reversal.{turned}
 use Rattle.shape_position.proofs.StepKeepers.{steps_keep_clusters}
 use Rattle.shape_prepare.specs.ClusterPoint.{InOrderFor, direction_for, is_turned}
 use Rattle.shape_prepare.specs.PrepareSteps.{prepare_steps}

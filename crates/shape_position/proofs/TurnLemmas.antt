@@ -11,8 +11,8 @@ use Rattle.shape_items.specs.Items.{Item}
 use Rattle.shape_buffer.specs.Keepers.{IsFlagKeeper}
 use Rattle.shape_items.specs.KeepsFlags.{KeepsFlags, has_flag, some_has}
 use Rattle.shape_items.proofs.Flags.FlagLemmas.{append-cases, KeepsFlags-same}
-use Rattle.shape_position.specs.Kept.{TurnsOrder, KeepsAsMany}
-use Rattle.shape_position.specs.Turning.{turned}
+use Rattle.shape_position.specs.StepEffects.{TurnsOrder, KeepsAsMany}
+use Rattle.shape_position.specs.Reversal.{turned}
 
 clusters-reverse : (xs : List Item) → clusters (reverse xs) ≡ reverse (clusters xs)
 clusters-reverse [] = refl

@@ -8,10 +8,10 @@ use Rattle.shape_plan.specs.Keepers.{CallsKeepClusters, RunKeepsFlags}
 use Rattle.shape_plan.specs.Run.{Run}
 use Rattle.shape_position.specs.Advances.{positions_cleared, advanced}
 use Rattle.shape_position.specs.Ignorables.{ignorables_zeroed, ignorables_hidden}
-use Rattle.shape_position.specs.Kept.{KeepsAsMany, TurnsOrder}
+use Rattle.shape_position.specs.StepEffects.{KeepsAsMany, TurnsOrder}
 use Rattle.shape_position.specs.Selectors.{selectors_replaced}
 use Rattle.shape_position.specs.Steps.{advance_steps, table_steps, show_steps, finish_steps}
-use Rattle.shape_position.specs.Turning.{turned}
+use Rattle.shape_position.specs.Reversal.{turned}
 use Rattle.shape_position.specs.Zeroing.{marks_zeroed}
 
 -- every step keeps the order of clusters, except the reversal, which inverts it if the text runs backward

@@ -21,7 +21,7 @@ use Rattle.shape_plan.specs.WorkedDecisions.{no_decisions}
 use Rattle.shape_plan.specs.declared.decisions.Decisions.{Decisions}
 use Rattle.shape_position.specs.Advances.{positions_cleared, advanced, advanced_position}
 use Rattle.shape_position.specs.Tables.{table_positioned, kerned, deleted_narrowed, deleted_removed}
-use Rattle.shape_position.specs.Turning.{turned}
+use Rattle.shape_position.specs.Reversal.{turned}
 use Rattle.shape_position.specs.Zeroing.{marks_zeroed, zeroed_mark, zeroed_at}
 
 -- the four values of a position

@@ -2,7 +2,7 @@
 ghost use Rattle.shape_prepare.specs.ClusterPoint.{PreparingKeepsOrder, PreparingKeepsFirsts};
 ghost use Rattle.shape_prepare.specs.KeptCharacters.{PreparingKeepsCharacters};
 ghost use Rattle.shape_prepare.specs.PreparedPoint.{PreparingPrepares};
-ghost use Rattle.shape_prepare.specs.Keeping.{PreparingKeepsFlags};
+ghost use Rattle.shape_prepare.specs.Keepers.{PreparingKeepsFlags};
 
 /// Each step keeps the flags of glyphs, if the plan's masks have none and the shaper's hook keeps them.
 pub fn preparing_keeps_flags()

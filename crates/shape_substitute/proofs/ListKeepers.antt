@@ -13,7 +13,7 @@ use Rattle.shape_plan.specs.Keepers.{EachCall}
 use Rattle.shape_plan.specs.Run.{Run, hook_if}
 use Rattle.shape_substitute.specs.Classes.{glyphs_mapped, classes_synthesised}
 use Rattle.shape_substitute.specs.Fractions.{fractions_masked}
-use Rattle.shape_substitute.specs.Kept.{EachSubstitutionStep, SubstitutionKeepsClusters, SubstitutionKeepsFlags}
+use Rattle.shape_substitute.specs.Keepers.{EachSubstitutionStep, SubstitutionKeepsClusters, SubstitutionKeepsFlags}
 use Rattle.shape_substitute.specs.Ranges.{ranges_masked}
 use Rattle.shape_substitute.specs.Substitution.{stage_steps, lookup_steps}
 use Rattle.shape_substitute.proofs.StepKeepers.{order-fractions_masked, order-ranges_masked, order-glyphs_mapped, order-classes_synthesised, flags-fractions_masked, flags-ranges_masked, flags-glyphs_mapped, flags-classes_synthesised}

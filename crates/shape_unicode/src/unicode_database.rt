@@ -21,7 +21,7 @@ use ucd_category::GeneralCategory;
 pub struct UnicodeDatabase;
 
 impl hb_unicode_funcs_t for UnicodeDatabase {
-    ghost use Rattle.shape_unicode.specs.Laws.{unicode_database-lawful};
+    ghost use Rattle.shape_unicode.specs.DatabaseLaws.{unicode_database-lawful};
     ghost use Rattle.shape_unicode.specs.TableFacts.{cccs_ok, mirrors_ok, verticals_ok};
 
     ghost unicode = { unicode_database };

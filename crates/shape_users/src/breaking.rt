@@ -8,7 +8,6 @@
 ghost use Rattle.std.specs.Prelude.{◌<◌, ◌^◌, pos, length, IfOk};
 ghost use Rattle.shape_lines.specs.RightLines.{AreRightLines};
 
-
 use shape_pipeline::laws::{glyphs_can_be_cut, plain_runs_owe_nothing};
 use shape_pipeline::lines::{Line, cut_lines};
 use shape_pipeline::{

@@ -17,7 +17,6 @@ ghost use Rattle.shape_items.specs.ClusterOrder.{IsOrderedFor};
 ghost use Rattle.shape_users.specs.Lines.{cut_at, lacks_break};
 ghost use Rattle.shape_users.specs.WorkedShown.{WorkedCuts};
 
-
 use shape_buffer::{GlyphBuffer, UNSAFE_TO_BREAK, hb_glyph_info_t};
 
 /// Whether a line may end before the character of a cluster: glyphs of that cluster are there, and the

@@ -10,7 +10,6 @@ ghost use Rattle.shape_items.specs.ClusterOrder.{IsOrderedFor};
 ghost use Rattle.shape_users.specs.Paragraph.{cluster_at, EndsIn, FirstToLast, ShowsExactly};
 ghost use Rattle.shape_users.specs.WorkedShown.{WorkedShown};
 
-
 use shape_buffer::buffer::{GlyphBuffer, hb_glyph_info_t};
 
 /// The text from one cluster up to another.

@@ -30,7 +30,7 @@ use shape_unicode::space_of;
 pub struct UnicodeTables;
 
 impl hb_unicode_funcs_t for UnicodeTables {
-    ghost use Rattle.shapeline.specs.Laws.{unicode_tables-lawful};
+    ghost use Rattle.shapeline.specs.TableLaws.{unicode_tables-lawful};
     ghost use Rattle.shapeline.specs.Meaning.{unicode_tables};
 
     ghost unicode = { unicode_tables };

@@ -1,4 +1,4 @@
--- Prepared lists stay prepared in round one and where CGJ are unhidden.
+-- Prepared lists stay prepared in round one and when CGJ are unhidden.
 use Rattle.std.proofs.Common.{ℕ, List, [], ◌∷◌, map, Option, None, Some, refl}
 use Rattle.std.specs.Option.{option_map_or}
 use Rattle.shape_items.specs.Buffer.{Buffer}

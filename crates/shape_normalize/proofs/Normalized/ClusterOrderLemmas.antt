@@ -123,7 +123,7 @@ pub cgj_unhidden_where_seen_clusters : (b : Buffer) → clusters (cgj_unhidden_w
 cgj_unhidden_where_seen_clusters b = keys-cgj_unhidden_where_seen (λ item. item.cluster) (λ item. refl) b
 
 module _ (rules : Rules) (lawful : LawfulReorder rules.reorder) where
-  -- normalising keeps the order of clusters at the monotone levels, and brings no new one, where the reorder hook does
+  -- normalising keeps the order of clusters at the monotone levels, and brings no new one, if the reorder hook does
   pub normalized_keeps : (b new : Buffer) → new ≡ normalized rules b → IsMonotoneLevel b.cluster_level → HookKeepsClusters rules
       → KeepsClusters (clusters b.items) (clusters new.items)
   normalized_keeps b new is monotone hook =

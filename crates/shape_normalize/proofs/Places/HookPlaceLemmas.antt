@@ -1,4 +1,4 @@
--- Round two by places, where a reorder hook is given: each run of at most 32 marks of the expanded list is in another order.
+-- Round two by places, if a reorder hook is given: each run of at most 32 marks of the expanded list is in another order.
 use Rattle.std.proofs.Common.{◌≡◌, ◌⊎◌, ℕ, zero, suc, ◌+◌, ◌-◌, ◌<◌, ◌≤◌, List, [], ◌∷◌, ◌++◌, map, take, drop, length, get_or, set, slice_range, Some, refl, sym, ap, ap₂, subst, ◌∙◌, arith, inl, inr}
 use Rattle.std.specs.List.{All, swap}
 use Rattle.std.specs.List.Sorted.{IsPermutation, SwapsInRange, apply_swaps}
@@ -70,7 +70,7 @@ module _ {A : Type 0} (xs ys : List A) (start end : ℕ) (ordered : start ≤ en
         behind = drop_behind xs ys start end end ordered within as_many (omega arith);
       }
 
--- where values are permuted in a range, so are the things that they are values of
+-- if values are permuted in a range, so are the things that they are values of
 module _ {A B : Type 0} (f : A → B) (xs : List A) (values : List B) (start end : ℕ) (ordered : start ≤ end)
     (within : end ≤ length xs) where
   things_permuted : PermutesRange start end (map f xs) values → (new : List A) × PermutesRange start end xs new × (map f new ≡ values)

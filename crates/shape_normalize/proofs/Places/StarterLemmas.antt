@@ -73,7 +73,7 @@ module _ (rules : Rules) where
       )
 
   module _ (items : List Item) where
-    -- an item that was put out, before it takes the cluster and the mask at its place
+    -- an item that was emitted, before it takes the cluster and the mask at its place
     abbrev IsPutOut : Placed → Type 0
     IsPutOut p = (p.item ≡ once_composed (item_at items p.place) p.absorbed p.item.codepoint) × HasGlyphOnceComposed p.absorbed p.item.codepoint
 

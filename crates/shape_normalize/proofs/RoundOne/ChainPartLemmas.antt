@@ -114,7 +114,7 @@ module _ (glyph : ℕ → Option GlyphId) where
         let are : parts ≡ map (part_of_char glyph) cs = ap (λ o. unwrap_or o []) e in
         sym (ap (seen_chars unicode flags) (ap chars_of are ∙ chars-parts cs))
 
-  -- where none is kept, none is chosen
+  -- if none is kept, none is chosen
   pub none_chosen : (chosen : Option (List ℕ)) → None ≡ option_map (map (part_of_char glyph)) chosen → chosen ≡ None
   none_chosen None e = refl
   none_chosen (Some cs) e = absurd (cc)

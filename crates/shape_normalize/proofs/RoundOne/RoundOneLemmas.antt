@@ -27,7 +27,7 @@ use Rattle.shape_normalize.proofs.RoundOne.SequenceLemmas.{each_part, each_of_va
 -- ---- merging variation sequences
 
 module _ (rules : Rules) where
-  -- what goes by neither clusters nor the defined flags stays
+  -- what depends on neither clusters nor the defined flags stays
   pub keys-variation_sequences_merged : {B : Type 0} (key : Item → B) → IsKey key → (b : Buffer) → map key (variation_sequences_merged rules b).items ≡ map key b.items
   keys-variation_sequences_merged key is_key b = keys-all_merged key is_key (variation_sequences_from rules.unicode rules.face 0 (sequences b.items)) b
 

@@ -34,7 +34,7 @@ walked_spans_in_order rules old new spans items_are spans_are =
     subst (AreSpansInOrder 0 (length new)) (sym spans_are)
     (subst (λ n. AreSpansInOrder 0 n (chained_spans (recomposed_items rules old))) size (chained_in_order rules old))
 
--- ---- the items that are put out, once the clusters are merged
+-- ---- the items that are emitted, once the clusters are merged
 
 module _ (now merged settled : List Item) (bares : map bare settled ≡ map bare now)
     (marks : map cluster_and_mask settled ≡ map cluster_and_mask merged) where

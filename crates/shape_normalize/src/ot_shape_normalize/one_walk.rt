@@ -174,7 +174,9 @@ pub(crate) fn expand_in_one_walk<T: ShapingTypes>(
         buffer.clear_positions();
         return Ok(());
     }
-    let out = expand_on::<T>(alloc, plan, face, buffer, &shortest, from, expansion, follows, runs)?;
+    let out = expand_on::<T>(
+        alloc, plan, face, buffer, &shortest, from, expansion, follows, runs,
+    )?;
     let scratch_flags = out.scratch_flags;
     buffer.replace_infos(out.infos)?;
     buffer.set_scratch_flags(scratch_flags);

@@ -214,7 +214,7 @@ fn of_a_shaper(rt: HostRuntime) -> Result<(), Fail> {
     Ok(())
 }
 
-/// The shaper that knows no script is kept as such where a shaper is replaced, and else like any other.
+/// The shaper that knows no script is kept as such if a shaper is replaced, and else like any other.
 #[test]
 fn dumber(rt: HostRuntime) -> Result<(), Fail> {
     let (plain, morx) = (Bits(0), Bits(MORX));
