@@ -77,7 +77,7 @@ pub equal_fields : (widths : List ℕ) (word other : ℕ) → word < 2 ^ bits_of
 equal_fields widths word other small other_small same =
     sym (word_of-fields widths word small) ∙ ap (word_of widths) same ∙ word_of-fields widths other other_small
 
--- a word keeps its number of bits where a field within them is put in
+-- a word keeps its number of bits if a field within them is put in
 pub with_field-below : (bits place width value word : ℕ) → place + width ≤ bits → value < 2 ^ width → word < 2 ^ bits
     → with_field place width value word < 2 ^ bits
 unfolding with_field

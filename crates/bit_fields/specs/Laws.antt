@@ -3,7 +3,7 @@ use Rattle.std.specs.Prelude.{◌≡◌, ℕ, ◌<◌, ◌≤◌, ◌+◌, ◌-�
 use Rattle.std.specs.Int.RustNames.{bit_and, bit_or}
 use Rattle.bit_fields.specs.Fields.{fields, word_of, place_of, width_of, bits_of, field, with_field, AreInFields}
 
--- the one law that every accessor goes by
+-- the one law that every accessor rests on
 abbrev pub PutFieldChangesAlone : Type 0
 PutFieldChangesAlone =
     (widths : List ℕ) (k value word : ℕ) → k < length widths → value < 2 ^ width_of widths k

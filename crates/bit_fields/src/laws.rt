@@ -31,7 +31,7 @@ pub fn fields_join()
     ensures { FieldsJoin }
 {}
 
-/// A word keeps its number of bits where a field within them is put in.
+/// A word keeps its number of bits if a field within them is put in.
 pub fn a_put_field_stays_in_the_word()
     ensures { PutFieldStaysInWord }
 {}

@@ -7,7 +7,7 @@ use std::alloc::Global;
 use std::io;
 use std::time::Instant;
 
-/// Glyphs each in a cluster of its own, with two advances by turns.
+/// Glyphs each in a cluster of its own, with two advances that alternate.
 fn laid(alloc: Global, count: u32, even: i32, odd: i32) -> Result<GlyphBuffer, ShapeError> {
     let mut text = UnicodeBuffer::new(alloc);
     for i in 0..count {
@@ -38,7 +38,7 @@ fn time_width(rt: &HostRuntime, glyphs: &GlyphBuffer, count: u32, width: u32) ->
     println!(rt; "{count} glyphs: {made} lines of width {width} {taken}")
 }
 
-/// Prints what cutting so many glyphs costs: advances all above zero, all below, all zero, and by turns.
+/// Prints what cutting so many glyphs costs: advances all above zero, all below, all zero, and alternating.
 pub fn time_lines(rt: &HostRuntime, count: u32) -> io::Result<()> {
     for (even, odd) in [(600, 600), (-600, -600), (0, 0), (600, -600)] {
         println!(rt; "{count} glyphs: advances {even} and {odd}")?;

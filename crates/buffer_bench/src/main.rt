@@ -66,7 +66,7 @@ fn falling_each(alloc: Global, count: u32) -> Result<hb_buffer_t, ShapeError> {
     Ok(text.into_inner())
 }
 
-/// The item, a continuation where its character is 'x', which stands for a mark.
+/// The item, a continuation if its character is 'x', which stands for a mark.
 fn marked(info: &hb_glyph_info_t) -> hb_glyph_info_t {
     let mut item = *info;
     item._hb_glyph_info_set_continuation(info.codepoint == 'x');

@@ -51,7 +51,7 @@ fn settings(rt: HostRuntime) -> Result<(), Fail> {
     Ok(())
 }
 
-/// Sets all again, but for the level.
+/// Sets all again, except the level.
 fn set_again(buffer: &mut hb_buffer_t) {
     buffer.set_pre_context("äb");
     buffer.set_post_context("");
@@ -140,6 +140,9 @@ fn lists(rt: HostRuntime) -> Result<(), Fail> {
     remove_first(&mut buffer);
     assert_rows(&rt, &buffer, &[(2, 0), (5, 0), (1, 0), (3, 0)]);
     assert_advances(&rt, &buffer, &[0, 7, 0, 0]);
+    buffer.truncate(3);
+    assert_rows(&rt, &buffer, &[(2, 0), (5, 0), (1, 0)]);
+    assert_advances(&rt, &buffer, &[0, 7, 0]);
     buffer.leave();
     assert_same(&rt, buffer.length_limit(), usize::MAX);
     Ok(())
@@ -245,13 +248,25 @@ fn exchange_infos(buffer: &mut hb_buffer_t, i: usize, j: usize) {
     }
 }
 
-/// The flags of an item.
-fn flags_of(item: &hb_glyph_info_t) -> (bool, bool, bool) {
-    (
-        item.unsafe_to_break(),
-        item.unsafe_to_concat(),
-        item.safe_to_insert_tatweel(),
-    )
+/// Compares which items are unsafe to break.
+fn assert_breaks(rt: &impl Abort, buffer: &hb_buffer_t, flags: &[bool]) {
+    for (item, wanted) in buffer.infos().iter().zip(flags) {
+        assert_same(rt, item.unsafe_to_break(), *wanted);
+    }
+}
+
+/// Compares which items are unsafe to concat.
+fn assert_concats(rt: &impl Abort, buffer: &hb_buffer_t, flags: &[bool]) {
+    for (item, wanted) in buffer.infos().iter().zip(flags) {
+        assert_same(rt, item.unsafe_to_concat(), *wanted);
+    }
+}
+
+/// Compares before which items a tatweel is safe.
+fn assert_tatweels(rt: &impl Abort, buffer: &hb_buffer_t, flags: &[bool]) {
+    for (item, wanted) in buffer.infos().iter().zip(flags) {
+        assert_same(rt, item.safe_to_insert_tatweel(), *wanted);
+    }
 }
 
 #[test]
@@ -266,13 +281,8 @@ fn items_are_exchanged_with_their_positions(rt: HostRuntime) -> Result<(), Fail>
     assert_rows(&rt, &buffer, &[(2, 4), (0, 1), (1, 2)]);
     exchange_infos(&mut buffer, 2, 1);
     assert_advances(&rt, &buffer, &[0, 0, 7]);
-    let flags = [
-        (false, false, true),
-        (false, true, false),
-        (true, false, false),
-    ];
-    for (item, wanted) in buffer.infos().iter().zip(flags) {
-        assert_same(&rt, flags_of(item), wanted);
-    }
+    assert_tatweels(&rt, &buffer, &[true, false, false]);
+    assert_concats(&rt, &buffer, &[false, true, false]);
+    assert_breaks(&rt, &buffer, &[false, false, true]);
     Ok(())
 }

@@ -86,7 +86,7 @@ fn merge_grows_right(rt: HostRuntime) -> Result<(), Fail> {
 
 #[test]
 fn merge_stays_within(rt: HostRuntime) -> Result<(), Fail> {
-    // grows on neither side where the outer items are in the least cluster
+    // grows on neither side if the outer items are in the least cluster
     leaves(
         &rt,
         rt.alloc(),
@@ -111,7 +111,7 @@ fn merge_drops_defined_flags(rt: HostRuntime) -> Result<(), Fail> {
         BufferClusterLevel::MonotoneCharacters,
         BufferFlags(0),
     );
-    // features stay, defined flags go where the cluster changes
+    // features stay, defined flags go if the cluster changes
     leaves(
         rt,
         alloc,

@@ -107,97 +107,133 @@ fn what_can_be_cut(rt: HostRuntime) -> Result<(), Fail> {
     Ok(())
 }
 
+/// Glyphs that run in a direction, the end of their text with a width, and the lines.
+type Case<'a> = (Direction, &'a [Cell], (u32, u32), &'a [Row]);
+
+/// Compares the lines of each case.
+fn assert_cases(rt: &impl Abort, alloc: Global, cases: &[Case<'_>]) -> Result<(), Fail> {
+    for (direction, cells, end_and_width, rows) in cases {
+        let text = glyphs(alloc, *direction, cells)?;
+        assert_lines(rt, alloc, &text, *end_and_width, rows)?;
+    }
+    Ok(())
+}
+
 #[test]
 fn longest_part_that_fits(rt: HostRuntime) -> Result<(), Fail> {
-    let alloc = rt.alloc();
-    let text = glyphs(alloc, Direction::LeftToRight, &TEXT)?;
-    assert_lines(&rt, alloc, &text, (4, 1200), &[(0, 2, 0, 2), (2, 4, 2, 4)])?;
-    assert_lines(
-        &rt,
-        alloc,
-        &text,
-        (4, 749),
-        &[(0, 1, 0, 1), (1, 2, 1, 2), (2, 4, 2, 4)],
-    )?;
-    assert_lines(&rt, alloc, &text, (9, 1650), &[(0, 4, 0, 9)])?;
-    // none fits: the shortest parts
-    assert_lines(
-        &rt,
-        alloc,
-        &text,
-        (4, 100),
-        &[(0, 1, 0, 1), (1, 2, 1, 2), (2, 3, 2, 3), (3, 4, 3, 4)],
-    )?;
-    Ok(())
+    let direction = Direction::LeftToRight;
+    let cases: [Case<'_>; 4] = [
+        (direction, &TEXT, (4, 1200), &[(0, 2, 0, 2), (2, 4, 2, 4)]),
+        (
+            direction,
+            &TEXT,
+            (4, 749),
+            &[(0, 1, 0, 1), (1, 2, 1, 2), (2, 4, 2, 4)],
+        ),
+        (direction, &TEXT, (9, 1650), &[(0, 4, 0, 9)]),
+        // none fits: the shortest parts
+        (
+            direction,
+            &TEXT,
+            (4, 100),
+            &[(0, 1, 0, 1), (1, 2, 1, 2), (2, 3, 2, 3), (3, 4, 3, 4)],
+        ),
+    ];
+    assert_cases(&rt, rt.alloc(), &cases)
 }
 
 #[test]
 fn in_the_order_of_the_text(rt: HostRuntime) -> Result<(), Fail> {
-    let alloc = rt.alloc();
-    for direction in [Direction::RightToLeft, Direction::BottomToTop] {
-        let text = glyphs(alloc, direction, &TURNED)?;
-        assert_lines(&rt, alloc, &text, (4, 1200), &[(2, 4, 0, 2), (0, 2, 2, 4)])?;
-    }
-    // the order of clusters decides, not the direction
-    let text = glyphs(alloc, Direction::RightToLeft, &TEXT)?;
-    assert_lines(&rt, alloc, &text, (4, 1200), &[(0, 2, 0, 2), (2, 4, 2, 4)])?;
-    let text = glyphs(alloc, Direction::TopToBottom, &TEXT)?;
-    assert_lines(&rt, alloc, &text, (4, 1101), &[(0, 1, 0, 1), (1, 4, 1, 4)])?;
-    Ok(())
+    let cases: [Case<'_>; 4] = [
+        (
+            Direction::RightToLeft,
+            &TURNED,
+            (4, 1200),
+            &[(2, 4, 0, 2), (0, 2, 2, 4)],
+        ),
+        (
+            Direction::BottomToTop,
+            &TURNED,
+            (4, 1200),
+            &[(2, 4, 0, 2), (0, 2, 2, 4)],
+        ),
+        // the order of clusters decides, not the direction
+        (
+            Direction::RightToLeft,
+            &TEXT,
+            (4, 1200),
+            &[(0, 2, 0, 2), (2, 4, 2, 4)],
+        ),
+        (
+            Direction::TopToBottom,
+            &TEXT,
+            (4, 1101),
+            &[(0, 1, 0, 1), (1, 4, 1, 4)],
+        ),
+    ];
+    assert_cases(&rt, rt.alloc(), &cases)
 }
+
+/// Not before the cluster 1, which is unsafe to break, and not inside the cluster 4 of two glyphs.
+const JOINED: [Cell; 4] = [(0, 0, 10), (1, 1, 20), (4, 0, 40), (4, 0, 80)];
+
+/// The cluster that stands later in the text decides where it runs to the left.
+const JOINED_TO_THE_LEFT: [Cell; 3] = [(4, 1, 40), (1, 0, 20), (0, 1, 10)];
+
+/// One cluster.
+const ONE_CLUSTER: [Cell; 2] = [(7, 0, 10), (7, 0, 20)];
 
 #[test]
 fn at_places_of_a_cut_alone(rt: HostRuntime) -> Result<(), Fail> {
-    let alloc = rt.alloc();
-    // not before the cluster that is unsafe to break, and not inside the one of two glyphs
-    let cells = [(0, 0, 10), (1, 1, 20), (4, 0, 40), (4, 0, 80)];
-    let text = glyphs(alloc, Direction::LeftToRight, &cells)?;
-    for width in [10, 70] {
-        assert_lines(&rt, alloc, &text, (5, width), &[(0, 2, 0, 4), (2, 4, 4, 5)])?;
-    }
-    // the cluster that stands later in the text decides where it runs to the left
-    let cells = [(4, 1, 40), (1, 0, 20), (0, 1, 10)];
-    let text = glyphs(alloc, Direction::RightToLeft, &cells)?;
-    assert_lines(&rt, alloc, &text, (5, 30), &[(2, 3, 0, 1), (0, 2, 1, 5)])?;
-    let cells = [(7, 0, 10), (7, 0, 20)];
-    let text = glyphs(alloc, Direction::LeftToRight, &cells)?;
-    assert_lines(&rt, alloc, &text, (8, 0), &[(0, 2, 7, 8)])?;
-    Ok(())
+    let right = Direction::LeftToRight;
+    let cases: [Case<'_>; 4] = [
+        (right, &JOINED, (5, 10), &[(0, 2, 0, 4), (2, 4, 4, 5)]),
+        (right, &JOINED, (5, 70), &[(0, 2, 0, 4), (2, 4, 4, 5)]),
+        (
+            Direction::RightToLeft,
+            &JOINED_TO_THE_LEFT,
+            (5, 30),
+            &[(2, 3, 0, 1), (0, 2, 1, 5)],
+        ),
+        (right, &ONE_CLUSTER, (8, 0), &[(0, 2, 7, 8)]),
+    ];
+    assert_cases(&rt, rt.alloc(), &cases)
 }
+
+/// Wide, then narrow: a longer part fits again.
+const NARROWER: [Cell; 3] = [(0, 0, 600), (1, 0, 500), (2, 0, -700)];
+
+/// Two together are beyond 32 bits.
+const WIDEST: [Cell; 3] = [(0, 0, i32::MAX), (1, 0, i32::MAX), (2, 0, 2)];
+
+/// The same below zero.
+const NARROWEST: [Cell; 3] = [(0, 0, i32::MIN), (1, 0, i32::MIN), (2, 0, 7)];
+
+/// Downwards it is the negative of the advance, here -2 ^ 31: 2 ^ 31, 2 ^ 31, 8.
+const DEEPEST: [Cell; 3] = [(0, 0, i32::MAX), (1, 0, i32::MAX), (2, 0, 7)];
 
 #[test]
 fn widths_below_zero(rt: HostRuntime) -> Result<(), Fail> {
-    let alloc = rt.alloc();
-    // wide, then narrow: a longer part fits again
-    let cells = [(0, 0, 600), (1, 0, 500), (2, 0, -700)];
-    let text = glyphs(alloc, Direction::LeftToRight, &cells)?;
-    assert_lines(&rt, alloc, &text, (3, 400), &[(0, 3, 0, 3)])?;
-    assert_lines(&rt, alloc, &text, (3, 399), &[(0, 1, 0, 1), (1, 3, 1, 3)])?;
-    // beyond 32 bits
-    let cells = [(0, 0, i32::MAX), (1, 0, i32::MAX), (2, 0, 2)];
-    let text = glyphs(alloc, Direction::LeftToRight, &cells)?;
-    assert_same(&rt, lines(alloc, &text, 3, 0)?.len(), 3);
-    assert_lines(
-        &rt,
-        alloc,
-        &text,
-        (3, u32::MAX),
-        &[(0, 2, 0, 2), (2, 3, 2, 3)],
-    )?;
-    let cells = [(0, 0, i32::MIN), (1, 0, i32::MIN), (2, 0, 7)];
-    let text = glyphs(alloc, Direction::LeftToRight, &cells)?;
-    assert_lines(&rt, alloc, &text, (3, 0), &[(0, 3, 0, 3)])?;
-    // downwards it is the negative of the advance, here -2 ^ 31: 2 ^ 31, 2 ^ 31, 8
-    let cells = [(0, 0, i32::MAX), (1, 0, i32::MAX), (2, 0, 7)];
-    let text = glyphs(alloc, Direction::TopToBottom, &cells)?;
-    assert_lines(
-        &rt,
-        alloc,
-        &text,
-        (3, u32::MAX),
-        &[(0, 1, 0, 1), (1, 3, 1, 3)],
-    )?;
-    Ok(())
+    let right = Direction::LeftToRight;
+    let cases: [Case<'_>; 6] = [
+        (right, &NARROWER, (3, 400), &[(0, 3, 0, 3)]),
+        (right, &NARROWER, (3, 399), &[(0, 1, 0, 1), (1, 3, 1, 3)]),
+        (
+            right,
+            &WIDEST,
+            (3, 0),
+            &[(0, 1, 0, 1), (1, 2, 1, 2), (2, 3, 2, 3)],
+        ),
+        (right, &WIDEST, (3, u32::MAX), &[(0, 2, 0, 2), (2, 3, 2, 3)]),
+        (right, &NARROWEST, (3, 0), &[(0, 3, 0, 3)]),
+        (
+            Direction::TopToBottom,
+            &DEEPEST,
+            (3, u32::MAX),
+            &[(0, 1, 0, 1), (1, 3, 1, 3)],
+        ),
+    ];
+    assert_cases(&rt, rt.alloc(), &cases)
 }
 
 /// Some glyphs, and none.

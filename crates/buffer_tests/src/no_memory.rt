@@ -134,7 +134,7 @@ fn merge_many(buffer: &mut hb_buffer_t, level: BufferClusterLevel) {
     }
 }
 
-/// Puts items in other places, and takes one out.
+/// Puts items in other places, and takes one out, and then all past the fourteenth.
 fn move_items(buffer: &mut hb_buffer_t) {
     if 3 <= buffer.len() {
         buffer.swap(0, 1);
@@ -149,6 +149,7 @@ fn move_items(buffer: &mut hb_buffer_t) {
     if 3 <= buffer.len() {
         buffer.remove(1);
     }
+    buffer.truncate(14);
 }
 
 /// Replaces items and positions, one and then each.
@@ -253,7 +254,7 @@ fn filled_and_used(rt: HostRuntime) -> Result<(), Fail> {
     assert_same(
         &rt,
         (buffer.infos().len(), buffer.positions().len()),
-        (15, 15),
+        (14, 14),
     );
     delete_items(&mut buffer);
     assert_that(&rt, !buffer.is_empty());

@@ -1,11 +1,13 @@
 //! What callers reach for beside filling and reading, each call once.
 
+use crate::support::{assert_list, assert_rows, assert_same, assert_that};
 use shape_buffer::buffer::{
     BufferClusterLevel, BufferFlags, Direction, Feature, GlyphBuffer, GlyphCluster, GlyphPosition,
     Language, Script, UnicodeBuffer, hb_buffer_t, hb_glyph_info_t, hb_tag_t,
 };
 use shape_buffer::cluster_laws::clusters_have_one_set_of_flags;
 use std::alloc::Global;
+use std::ops::Range;
 use std::test::Fail;
 
 /// Appends a text. What it holds is told by no contract, so that the proof of a test doesn't compute with it.
@@ -21,17 +23,11 @@ fn append(text: &mut UnicodeBuffer, more: &str) -> Result<(), Fail> {
 fn numbered_clusters(rt: HostRuntime) -> Result<(), Fail> {
     let mut text = UnicodeBuffer::new(rt.alloc());
     text.reserve(4)?;
-    assert!(rt; text.is_empty());
+    assert_that(&rt, text.is_empty());
     append(&mut text, "a\u{301}")?;
     append(&mut text, "\u{5d0}b")?;
     text.reset_clusters();
-    let clusters: Vec<u32> = text
-        .as_inner()
-        .infos()
-        .iter()
-        .map(|info| info.cluster)
-        .collect(rt.alloc())?;
-    assert_eq!(rt; clusters.as_slice(), [0, 1, 2, 3].as_slice());
+    assert_rows(&rt, text.as_inner(), &[(0, 0), (1, 0), (2, 0), (3, 0)]);
     Ok(())
 }
 
@@ -39,8 +35,8 @@ fn numbered_clusters(rt: HostRuntime) -> Result<(), Fail> {
 fn no_room_for_too_many(rt: HostRuntime) -> Result<(), Fail> {
     let mut text = UnicodeBuffer::new(rt.alloc());
     text.push_str("a")?;
-    assert!(rt; text.reserve(usize::MAX).is_err());
-    assert_eq!(rt; text.len(), 1);
+    assert_that(&rt, text.reserve(usize::MAX).is_err());
+    assert_same(&rt, text.len(), 1);
     Ok(())
 }
 
@@ -136,6 +132,20 @@ fn variants_of_scripts(rt: HostRuntime) {
     }
 }
 
+/// Lets the glyph at place k move the pen by 10 ^ k to the right, and twice as far down.
+fn move_by_powers_of_ten(buffer: &mut hb_buffer_t) {
+    let mut advance: i32 = 1;
+    for place in 0..buffer.len() {
+        let mut position = GlyphPosition::zero();
+        position.x_advance = advance;
+        position.y_advance = advance.wrapping_mul(-2);
+        if place < buffer.len() {
+            buffer.set_position(place, position);
+        }
+        advance = advance.wrapping_mul(10);
+    }
+}
+
 /// Glyphs of these clusters and masks; the glyph at place k moves the pen by 10 ^ k to the right, and twice
 /// as far down.
 fn glyphs_of(
@@ -151,52 +161,40 @@ fn glyphs_of(
     }
     let mut buffer = hb_buffer_t::new(alloc);
     buffer.replace_infos(infos)?;
-    let mut advance: i32 = 1;
-    for place in 0..buffer.len() {
-        let mut position = GlyphPosition::zero();
-        position.x_advance = advance;
-        position.y_advance = advance.wrapping_mul(-2);
-        if place < buffer.len() {
-            buffer.set_position(place, position);
-        }
-        advance = advance.wrapping_mul(10);
-    }
+    move_by_powers_of_ten(&mut buffer);
     buffer.set_direction(direction);
     buffer.set_script(Some(Script::HEBREW));
     buffer.set_language(Some(Language(String::from_str(alloc, "he")?)));
     Ok(buffer.into_glyphs())
 }
 
-/// A cluster as a row.
-fn row_of(cluster: &GlyphCluster) -> (u32, usize, usize, i32, bool) {
-    (
-        cluster.cluster,
-        cluster.start,
-        cluster.end,
-        cluster.advance,
-        cluster.unsafe_to_break,
-    )
+/// The glyphs from one place up to another, in one cluster.
+fn cluster_of(
+    cluster: u32,
+    span: Range<usize>,
+    advance: i32,
+    unsafe_to_break: bool,
+) -> GlyphCluster {
+    GlyphCluster {
+        cluster,
+        start: span.start,
+        end: span.end,
+        advance,
+        unsafe_to_break,
+    }
 }
 
 #[test]
 fn clusters_of_glyphs(rt: HostRuntime) -> Result<(), Fail> {
     let rows = [(0, 0), (3, 1), (3, 1), (4, 2), (9, 8)];
     let glyphs = glyphs_of(rt.alloc(), Direction::LeftToRight, &rows)?;
-    let clusters = glyphs.clusters(rt.alloc())?;
-    let found: Vec<(u32, usize, usize, i32, bool)> = clusters
-        .iter()
-        .map(row_of)
-        .collect(rt.alloc())?;
-    assert_eq!(rt;
-        found.as_slice(),
-        [
-            (0, 0, 1, 1, false),
-            (3, 1, 3, 110, true),
-            (4, 3, 4, 1000, false),
-            (9, 4, 5, 10000, false)
-        ]
-        .as_slice()
-    );
+    let clusters = [
+        cluster_of(0, 0..1, 1, false),
+        cluster_of(3, 1..3, 110, true),
+        cluster_of(4, 3..4, 1000, false),
+        cluster_of(9, 4..5, 10000, false),
+    ];
+    assert_list(&rt, glyphs.clusters(rt.alloc())?.as_slice(), &clusters);
     Ok(())
 }
 
@@ -204,40 +202,44 @@ fn clusters_of_glyphs(rt: HostRuntime) -> Result<(), Fail> {
 fn clusters_of_glyphs_backward(rt: HostRuntime) -> Result<(), Fail> {
     let rows = [(9, 0), (4, 4), (4, 1), (0, 0)];
     let glyphs = glyphs_of(rt.alloc(), Direction::BottomToTop, &rows)?;
-    let clusters = glyphs.clusters(rt.alloc())?;
-    let found: Vec<(u32, usize, usize, i32, bool)> = clusters
-        .iter()
-        .map(row_of)
-        .collect(rt.alloc())?;
-    assert_eq!(rt;
-        found.as_slice(),
-        [
-            (0, 3, 4, -2000, false),
-            (4, 1, 3, -220, true),
-            (9, 0, 1, -2, false)
-        ]
-        .as_slice()
-    );
+    let clusters = [
+        cluster_of(0, 3..4, -2000, false),
+        cluster_of(4, 1..3, -220, true),
+        cluster_of(9, 0..1, -2, false),
+    ];
+    assert_list(&rt, glyphs.clusters(rt.alloc())?.as_slice(), &clusters);
     Ok(())
+}
+
+/// The clusters of glyphs with their advances to the right, by the walk over both.
+fn walked(alloc: Global, glyphs: &GlyphBuffer) -> Result<Vec<(u32, i32)>, Fail> {
+    let mut found = Vec::new(alloc);
+    for (info, position) in glyphs.iter() {
+        found.push((info.cluster, position.x_advance))?;
+    }
+    Ok(found)
+}
+
+/// Whether glyphs are said to be in this language.
+fn is_in_language(glyphs: &GlyphBuffer, name: &str) -> bool {
+    glyphs
+        .language()
+        .is_some_and(|language| language.0.as_str() == name)
 }
 
 #[test]
 fn glyphs_with_positions(rt: HostRuntime) -> Result<(), Fail> {
     let glyphs = glyphs_of(rt.alloc(), Direction::RightToLeft, &[(5, 0), (2, 0)])?;
-    let mut found: Vec<(u32, i32)> = Vec::new(rt.alloc());
-    for (info, position) in glyphs.iter() {
-        found.push((info.cluster, position.x_advance))?;
-    }
-    assert_eq!(rt; found.as_slice(), [(5, 1), (2, 10)].as_slice());
-    assert!(rt; !glyphs.is_empty());
-    assert_eq!(rt; glyphs.script(), Some(Script::HEBREW));
-    assert!(rt;
-        glyphs
-            .language()
-            .is_some_and(|language| language.0.as_str() == "he")
+    assert_list(
+        &rt,
+        walked(rt.alloc(), &glyphs)?.as_slice(),
+        &[(5, 1), (2, 10)],
     );
+    assert_that(&rt, !glyphs.is_empty());
+    assert_that(&rt, glyphs.script() == Some(Script::HEBREW));
+    assert_that(&rt, is_in_language(&glyphs, "he"));
     clusters_have_one_set_of_flags();
     let empty = glyphs.clear().into_inner().into_glyphs();
-    assert!(rt; empty.is_empty() && empty.script().is_none());
+    assert_that(&rt, empty.is_empty() && empty.script().is_none());
     Ok(())
 }

@@ -51,7 +51,7 @@ fn inserted(alloc: Global) -> Answer {
     (answer, buffer.len())
 }
 
-/// Fails where the list of items itself is refused.
+/// Fails if the list of items itself is refused.
 fn replaced(alloc: Global) -> Result<Answer, Fail> {
     let mut infos = Vec::new(alloc);
     infos.resize(2, hb_glyph_info_t::new('d', 0))?;

@@ -29,17 +29,18 @@ pub fn assert_that(rt: &impl Abort, condition: bool) {
 
 /// Compares clusters and masks.
 pub fn assert_rows(rt: &impl Abort, buffer: &hb_buffer_t, rows: &[(u32, u32)]) {
-    assert_eq!(rt; buffer.len(), rows.len());
-    for (info, row) in buffer.infos().iter().zip(rows) {
-        assert_eq!(rt; (info.cluster, info.mask), *row);
+    assert_same(rt, buffer.len(), rows.len());
+    for (info, (cluster, mask)) in buffer.infos().iter().zip(rows) {
+        assert_same(rt, info.cluster, *cluster);
+        assert_same(rt, info.mask, *mask);
     }
 }
 
 /// Compares advances to the right.
 pub fn assert_advances(rt: &impl Abort, buffer: &hb_buffer_t, advances: &[i32]) {
-    assert_eq!(rt; buffer.len(), advances.len());
+    assert_same(rt, buffer.len(), advances.len());
     for (position, advance) in buffer.positions().iter().zip(advances) {
-        assert_eq!(rt; position.x_advance, *advance);
+        assert_same(rt, position.x_advance, *advance);
     }
 }
 

@@ -28,7 +28,7 @@ all_any : (cs : List ℕ) → AllByRecursion IsAny cs
 all_any [] = tt
 all_any (c ∷ cs) = (tt, all_any cs)
 
--- what composes soundly does so where the composed character has a glyph
+-- what composes soundly does so if the composed character has a glyph
 pub sound_with_glyph : (D : Decompositions) (compose : ℕ → ℕ → Option ℕ) (has_glyph : ℕ → Bool) → ComposesSoundly D compose
     → ComposesSoundly D (compose_with_glyph compose has_glyph)
 sound_with_glyph D compose has_glyph sound = record { equivalent = λ a b c e. go a b c (compose a b) refl e }
@@ -55,7 +55,7 @@ module _ (D : Decompositions) (lawful : SplitsFall D) where
         ⟫ no_swap (ap (λ l. full D s ++ l) (append-nil (full D c)));
   }
 
-  -- so does recomposing, where what composes is equivalent to its parts
+  -- so does recomposing, if what composes is equivalent to its parts
   pub equivalent_recomposed : (is_mark : ℕ → Bool) (compose : ℕ → ℕ → Option ℕ) → ComposesSoundly D compose → (xs : List ℕ)
       → IsEquivalent D xs (recomposed D.ccc (is_blocked D.ccc) is_mark compose xs)
   unfolding full_text
@@ -111,7 +111,7 @@ module _ (D : Decompositions) (lawful : SplitsFall D) where
           ordered = AreRunsSettled-ordered D.ccc limit [] (full_text D text) new (All-nil (λ x. 0 < D.ccc x)) supports.fits at;
         }
 
-    -- two texts are equivalent exactly where their settled lists are equal
+    -- two texts are equivalent exactly when their settled lists are equal
     pub settled_equal_iff : (s new t new' : List ℕ) → Supported s → Supported t → Settles s new → Settles t new'
         → (new ≡ new') ↔ IsEquivalent D s t
     settled_equal_iff s new t new' of_s of_t settled_s settled_t =
@@ -124,7 +124,7 @@ module _ (D : Decompositions) (lawful : SplitsFall D) where
               (Swaps-sym left ⟫ swaps ⟫ right),
         )
 
-    -- and exactly where what is recomposed of them is equal
+    -- and exactly when what is recomposed of them is equal
     pub recomposed_equal_iff : (compose : ℕ → ℕ → Option ℕ) → ComposesSoundly D compose → (s new t new' : List ℕ) → Supported s
         → Supported t → Settles s new → Settles t new'
         → (recomposed D.ccc (is_blocked D.ccc) is_mark compose new ≡ recomposed D.ccc (is_blocked D.ccc) is_mark compose new')

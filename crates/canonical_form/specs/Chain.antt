@@ -22,7 +22,7 @@ abbrev pub second_part : (ℕ → Option (ℕ × ℕ)) → ℕ → ℕ → Optio
 second_part split zero c = None
 second_part split (suc k) c = option_and_then (λ point. option_map (λ parts. parts.1) (split point)) (chain_point split k c)
 
--- Full, with so many steps to spare: c where it doesn't split, else Full of its first part and then its second part
+-- Full, with so many steps to spare: c if it doesn't split, else Full of its first part and then its second part
 abbrev pub full_within : (ℕ → Option (ℕ × ℕ)) → ℕ → ℕ → List ℕ
 full_within split zero c = c ∷ []
 full_within split (suc steps) c = option_map_or (λ parts. full_within split steps parts.0 ++ kept_part parts.1) (split c) (c ∷ [])

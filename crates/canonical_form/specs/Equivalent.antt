@@ -14,6 +14,6 @@ pub record IsCanonical (D : Decompositions) (text : List ℕ) : Type 0 where
   pub whole : All (λ c. D.split c ≡ None) text
   pub ordered : IsOrdered D.ccc text
 
--- the law composes-soundly: where two characters compose, the composed one is equivalent to the two
+-- the law composes-soundly: if two characters compose, the composed one is equivalent to the two
 pub record ComposesSoundly (D : Decompositions) (compose : ℕ → ℕ → Option ℕ) : Type 0 where
   pub equivalent : (a b c : ℕ) → compose a b ≡ Some c → IsEquivalent D (c ∷ []) (a ∷ b ∷ [])

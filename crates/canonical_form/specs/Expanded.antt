@@ -1,4 +1,4 @@
--- The expanded list: each item becomes what its character does, which may go by whether a mark stands at it.
+-- The expanded list: each item becomes what its character does, which may depend on whether a mark stands at it.
 use Rattle.std.specs.Prelude.{ℕ, Bool, true, false, ◌&&◌, ◌||◌, not, List, [], ◌∷◌, ◌++◌}
 use Rattle.canonical_form.specs.Decompositions.{Decompositions}
 use Rattle.canonical_form.specs.Expansion.{choice}
@@ -7,7 +7,7 @@ abbrev pub begins_with_mark : {A : Type 0} → (A → Bool) → List A → Bool
 begins_with_mark is_mark [] = false
 begins_with_mark is_mark (x ∷ xs) = is_mark x
 
--- an item stands in a sequence with marks where a mark follows it directly, and where it is itself a mark,
+-- an item stands in a sequence with marks if a mark follows it directly, or if it is itself a mark,
 -- except for the first of the list; `become` says what an item in such a sequence, or one by itself, becomes
 abbrev pub expanded_from : {A B : Type 0} → (A → Bool) → (Bool → A → List B) → Bool → List A → List B
 expanded_from is_mark become first [] = []

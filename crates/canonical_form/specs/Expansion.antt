@@ -10,7 +10,7 @@ abbrev pub seconds : (ℕ → Option (ℕ × ℕ)) → ℕ → ℕ → List ℕ
 seconds split zero c = []
 seconds split (suc k) c = option_map_or kept_part (second_part split (suc k) c) [] ++ seconds split k c
 
--- the expansion of length k: chain point k, then the second parts k down to 1; none where the chain ends before point k
+-- the expansion of length k: chain point k, then the second parts k down to 1; none if the chain ends before point k
 abbrev pub expansion : (ℕ → Option (ℕ × ℕ)) → ℕ → ℕ → Option (List ℕ)
 expansion split k c = option_map (λ point. point ∷ seconds split k c) (chain_point split k c)
 
@@ -19,7 +19,7 @@ abbrev pub is_supported : (ℕ → Bool) → Option (List ℕ) → Bool
 is_supported has_glyph None = false
 is_supported has_glyph (Some parts) = list_all has_glyph parts
 
--- the expansion of length k, where it is supported
+-- the expansion of length k, if it is supported
 abbrev pub supported : (ℕ → Option (ℕ × ℕ)) → (ℕ → Bool) → ℕ → ℕ → Option (List ℕ)
 supported split has_glyph k c = if is_supported has_glyph (expansion split k c) then expansion split k c else None
 
@@ -34,7 +34,7 @@ greatest_supported split has_glyph zero c = None
 greatest_supported split has_glyph (suc n) c =
     option_or (supported split has_glyph (suc n) c) (greatest_supported split has_glyph n c)
 
--- the expansion that is chosen for c, where `true` asks for the shortest: none where c has a glyph;
+-- the expansion that is chosen for c, where `true` asks for the shortest: none if c has a glyph;
 -- no chain is longer than the height of its character
 abbrev pub chosen_expansion : Decompositions → (ℕ → Bool) → Bool → ℕ → Option (List ℕ)
 chosen_expansion D has_glyph true c = if has_glyph c then None else least_supported D.split has_glyph (D.height c) c

@@ -1,7 +1,7 @@
 //! Laws of canonical form: each function has laws as its contract, and nothing to do.
 //!
 //! They hold for all decompositions whose heights fall and whose marks keep their combining class
-//! (ccc), so for the functions of Unicode as for a shaper's own. Equivalence is that of UAX 15 with
+//! (ccc), so for the Unicode functions as for a shaper's own. Equivalence is that of UAX 15 with
 //! the combining classes at hand; a canonical text has the form of its NFD.
 ghost use Rattle.canonical_form.specs.Laws.{FullIsByTwoRules, EquivalenceIsReflexive};
 ghost use Rattle.canonical_form.specs.Laws.{EquivalenceIsSymmetric, EquivalenceIsTransitive};
@@ -16,7 +16,7 @@ ghost use Rattle.canonical_form.specs.Laws.{LastDecides, GreatestDecides, Recomp
 ghost use Rattle.canonical_form.specs.Laws.{OrderedIsEquivalent, NormalisedIsEquivalent};
 ghost use Rattle.canonical_form.specs.Laws.{ExpandedCutsApart, SettledCutsApart};
 
-/// Full of a character is what two rules give: the character itself where it does not split, else
+/// Full of a character is what two rules give: the character itself if it does not split, else
 /// Full of its first part and then its second part.
 pub fn full_is_by_two_rules()
     ensures { FullIsByTwoRules }
@@ -35,8 +35,8 @@ pub fn expansion_is_equivalent()
     ensures choices { ChoicesAreEquivalent }
 {}
 
-/// A choice is the supported expansion of greatest length, or of least length where the shortest is
-/// asked for and the character has no glyph; it is the character itself where none is supported.
+/// A choice is the supported expansion of greatest length, or of least length if the shortest is
+/// asked for and the character has no glyph; it is the character itself if none is supported.
 pub fn choice_is_extremal()
     ensures greatest { ChoiceIsGreatest }
     ensures least { ChoiceIsLeast }
@@ -66,7 +66,7 @@ pub fn order_is_unique<T>()
     ensures unique { OrderIsUnique T }
 {}
 
-/// A list whose runs are settled is reached by swaps, is ordered where no run is too long, and is
+/// A list whose runs are settled is reached by swaps, is ordered if no run is too long, and is
 /// the only such list.
 pub fn settled_is_reached<T>()
     ensures reached { SettledIsReached T }
@@ -79,14 +79,14 @@ pub fn canonical_is_unique()
     ensures { CanonicalIsUnique }
 {}
 
-/// Where each character of Full has a glyph and no run is too long: the greatest choices, settled run by
-/// run, are canonical, and two texts are equivalent exactly where these lists are equal.
+/// If each character of Full has a glyph and no run is too long: the greatest choices, settled run by
+/// run, are canonical, and two texts are equivalent exactly when these lists are equal.
 pub fn decomposed_is_canonical()
     ensures canonical { DecomposedIsCanonical }
     ensures decides { DecomposedDecides }
 {}
 
-/// Where a composed character is always equivalent to its two parts, recomposing leaves a text that is
+/// If a composed character is always equivalent to its two parts, recomposing leaves a text that is
 /// equivalent, and so does each of its steps: a starter composes with a mark past others that do not
 /// block it (The Unicode Standard, D115 to D117).
 pub fn recomposed_is_equivalent()
@@ -94,7 +94,7 @@ pub fn recomposed_is_equivalent()
     ensures step { ComposedPastMarksIsEquivalent }
 {}
 
-/// Where a composed character is always equivalent to its two parts, each character of Full of both
+/// If a composed character is always equivalent to its two parts, each character of Full of both
 /// texts has a glyph, and no run is too long: two equivalent texts, decomposed and settled, have equal
 /// recomposed forms, and two others have different ones.
 pub fn recomposed_decides()
@@ -102,14 +102,14 @@ pub fn recomposed_decides()
 {}
 
 /// Which ccc between a starter and a mark keeps the two apart: in an ordered list that of the
-/// item put out last, in every list the greatest.
+/// item emitted last, in every list the greatest.
 pub fn one_ccc_decides<T>()
     ensures last { LastDecides T }
     ensures greatest { GreatestDecides T }
 {}
 
 /// Normalising keeps a text equivalent in every mode: expanded, with the shortest choices asked for all
-/// characters, for those that stand by themselves or for none, then settled run by run; and then, where a
+/// characters, for those that stand by themselves or for none, then settled run by run; and then, if a
 /// composed character is always equivalent to its two parts, recomposed to composed characters that have glyphs.
 pub fn normalised_is_equivalent()
     ensures ordered { OrderedIsEquivalent }

@@ -41,7 +41,7 @@ fn is_font(alloc: Global, bytes: &[u8]) -> Result<bool, Fail> {
     }
 }
 
-/// How many of the changes of one byte leave a font: 0, 255, and each bit turned.
+/// How many of the changes of one byte leave a font: 0, 255, and each bit flipped.
 fn fonts_by_byte(alloc: Global, bytes: &mut [u8], at: usize) -> Result<u32, Fail>
     requires { at < length bytes.old }
 {

@@ -12,7 +12,7 @@ pub struct Frame {
     pub y: f64,
 }
 
-/// A point of an outline; `on` where the outline goes through it.
+/// A point of an outline; `on` if the outline goes through it.
 #[derive(Clone, Copy)]
 pub struct Point {
     pub x: f64,

@@ -63,7 +63,7 @@ struct Font<'a> {
     outlines: Outlines<'a>,
 }
 
-/// Writes the glyphs of a text, a line, or draws them. Refuses where shaping or writing does.
+/// Writes the glyphs of a text, a line, or draws them. Refuses if shaping or writing does.
 fn answer<W: Write>(
     alloc: Global,
     options: &Options,

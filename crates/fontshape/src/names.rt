@@ -8,7 +8,7 @@ use shape_font::FontFace;
 use shape_pipeline::GlyphId;
 use shape_text_forms::glyph_names;
 
-/// The bytes as text; none where they aren't UTF-8.
+/// The bytes as text; none if they aren't UTF-8.
 #[tactic(auto, using(crate::proofs::TextLemmas::text_of_utf8, crate::proofs::TextLemmas::text_of_other))]
 fn text(bytes: &[u8]) -> Option<&str>
     ensures { option_map (λ s. s.now) result ≡ text_of bytes.now }
@@ -31,7 +31,7 @@ impl<'a> FaceNames<'a> {
         FaceNames { face }
     }
 
-    /// The name of a glyph by `post`; none where it has none, or one that is no text.
+    /// The name of a glyph by `post`; none if it has none, or one that is no text.
     fn name(&self, glyph: GlyphId) -> Option<&'a str>
         ensures { option_map (λ s. s.now) result ≡ written_name STANDARD.now self.now.face.post.now glyph.0 }
     {

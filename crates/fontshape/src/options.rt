@@ -51,7 +51,7 @@ impl Options {
         }
     }
 
-    /// The name of the font file, empty where help is asked for without one.
+    /// The name of the font file, empty if help is asked for without one.
     pub fn font(&self) -> &str {
         match &self.font {
             Some(font) => font.as_str(),
@@ -59,7 +59,7 @@ impl Options {
         }
     }
 
-    /// The text, where it is an argument.
+    /// The text, if it is an argument.
     pub fn text(&self) -> Option<&str> {
         match &self.text {
             Some(text) => Some(text.as_str()),
@@ -72,12 +72,12 @@ impl Options {
         self.features.as_slice()
     }
 
-    /// The direction, Invalid where it is to be guessed.
+    /// The direction, Invalid if it is to be guessed.
     pub fn direction(&self) -> Direction {
         self.direction
     }
 
-    /// The script, none where it is to be guessed.
+    /// The script, none if it is to be guessed.
     pub fn script(&self) -> Option<Script> {
         self.script
     }
@@ -95,7 +95,7 @@ impl Options {
         self.level
     }
 
-    /// How texts are normalised, 0 to 4; none where the shaper decides.
+    /// How texts are normalised, 0 to 4; none if the shaper decides.
     pub fn mode(&self) -> Option<u32> {
         self.mode
     }
@@ -174,7 +174,7 @@ impl Options {
         Ok(())
     }
 
-    /// Reads an option after its dashes; gives it where its value is to follow.
+    /// Reads an option after its dashes; gives it if its value is to follow.
     fn read_option(&mut self, alloc: Global, option: &str) -> Result<Option<Setting>, Failure> {
         if let Some((name, value)) = option.split_once('=') {
             return match Setting::from_name(name) {
@@ -197,7 +197,7 @@ impl Options {
         }
     }
 
-    /// Turns an option on that takes no value.
+    /// Switches on an option that takes no value.
     fn turn_on(&mut self, switch: Switch) {
         match switch {
             Switch::Help => self.help = true,
@@ -293,7 +293,7 @@ impl Options {
     }
 }
 
-/// That an argument is wrong, by its word; out of memory where there is none for the word.
+/// That an argument is wrong, by its word; out of memory if there is none for the word.
 fn usage(alloc: Global, wrong: Wrong, word: &str) -> Failure {
     match String::from_str(alloc, word) {
         Ok(word) => Failure::Usage(wrong, word),

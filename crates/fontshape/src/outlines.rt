@@ -71,7 +71,7 @@ impl<'a> Outlines<'a> {
         }
     }
 
-    /// The bytes of a glyph's outline, none where it has none.
+    /// The bytes of a glyph's outline, none if it has none.
     fn outline(&self, glyph: u16) -> &'a [u8] {
         let start = place(self.loca, self.long, usize::from(glyph));
         let end = place(self.loca, self.long, usize::from(glyph) + 1);
@@ -82,7 +82,7 @@ impl<'a> Outlines<'a> {
         }
     }
 
-    /// Appends the path of a glyph, in units of the font. Refuses where a growth was refused.
+    /// Appends the path of a glyph, in units of the font. Refuses if a growth was refused.
     pub fn append(&self, alloc: Global, out: &mut String, glyph: u16) -> Result<(), AllocError> {
         let mut parts = Vec::new(alloc);
         parts.push(Part {
@@ -178,7 +178,7 @@ fn signed_byte(outline: &[u8], at: usize) -> f64 {
     if byte < 128.0 { byte } else { byte - 256.0 }
 }
 
-/// The flags of so many points, fewer where the outline ends before, and where they end. A flag may say how often it is
+/// The flags of so many points, fewer if the outline ends before, and where they end. A flag may say how often it is
 /// repeated.
 fn flags_of(
     alloc: Global,

@@ -24,7 +24,7 @@ fn places(alloc: Global, glyphs: &GlyphBuffer) -> Result<Vec<Place>, AllocError>
     Ok(places)
 }
 
-/// The place of this number, the begin of the line where there are fewer.
+/// The place of this number, the start of the line if there are fewer.
 fn place_at(places: &[Place], at: usize) -> Place {
     match places.get(at) {
         Some(place) => *place,
@@ -55,7 +55,7 @@ fn append_glyphs(
     Ok(())
 }
 
-/// Appends a bar for each cluster, in two colours by turns, and a mark where a line may be cut before its text.
+/// Appends a bar for each cluster, in two alternating colours, and a mark where a line may be cut before its text.
 fn append_clusters(
     alloc: Global,
     out: &mut String,
@@ -131,7 +131,7 @@ fn append_head(out: &mut String, end: Place, down: bool, em: f64) -> Result<(), 
     out.push_str("\">\n<g transform=\"scale(1 -1)\">\n")
 }
 
-/// The picture of a line as SVG. Refuses where a growth was refused.
+/// The picture of a line as SVG. Refuses if a growth was refused.
 pub fn picture_of(
     alloc: Global,
     outlines: &Outlines,

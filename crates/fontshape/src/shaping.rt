@@ -16,7 +16,7 @@ use shape_unicode::UnicodeDatabase;
 use shape_users::hebrew::HebrewShaper;
 use std::alloc::Global;
 
-/// The text as a buffer with the settings that are asked for, script and direction guessed where they aren't.
+/// The text as a buffer with the settings that are asked for, script and direction guessed if they aren't.
 fn filled(alloc: Global, options: &Options, text: &str) -> Result<UnicodeBuffer, Failure> {
     if u32::MAX as usize <= text.len() {
         return Err(Failure::Length);
@@ -60,7 +60,7 @@ where
 }
 
 /// The glyphs of a buffer by this engine: with a shaper that prefers the mode that is asked for, else with the one of
-/// Hebrew where the text is in that script, else with the default one.
+/// Hebrew if the text is in that script, else with the default one.
 fn shaped_with<'a, M: hb_ot_layout_t<FontFace<'a>>>(
     alloc: Global,
     options: &Options,

@@ -74,7 +74,7 @@ flags-kerned : (t : List ℕ) (start mask : ℕ) (b : Buffer) → KeepsFlags b (
 flags-kerned = step-kerned KeepsFlags KeepsFlags-same KeepsFlags-then unsafe_to_break_keeps flags-concat
     (λ i p b. record { flags = refl; stays_set = λ e. e; none_new = λ flag d some. inl some })
 
--- ---- the order turned, and turned back
+-- ---- the order reversed, and reversed back
 
 clusters-reverse : (xs : List Item) → clusters (reverse xs) ≡ reverse (clusters xs)
 clusters-reverse [] = refl

@@ -10,7 +10,7 @@ use Rattle.kern_table.specs.Tables.{parts_of, table_kerned}
 use Rattle.kern_table.specs.CountLaws.{length-table_kerned}
 use Rattle.kern_table.specs.declared.map.KernMap.{KernMap}
 
--- kerning where the table has parts
+-- kerning if the table has parts
 abbrev pub kern_layout : FontFace → LayoutMeaning KernMap
 kern_layout face = record {
   chosen_script = λ _ _ _. None;

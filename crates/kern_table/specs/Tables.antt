@@ -6,7 +6,7 @@ use Rattle.shape_common.specs.Direction.{is_horizontal, is_backward}
 use Rattle.shape_font.specs.Bytes.{u16_of}
 use Rattle.kern_table.specs.Walk.{kerned}
 
--- the parts that the table says that it has; none where its version isn't 0
+-- the parts that the table says that it has; none if its version isn't 0
 abbrev pub parts_of : List ℕ → ℕ
 parts_of t = if nat_eq (u16_of t 0) 0 then u16_of t 2 else 0
 
@@ -30,6 +30,6 @@ kerned_from t mask zero start b = b
 kerned_from t mask (suc n) start b = let len = u16_of t (start + 2) in
     (if nat_lt len 6 then b else kerned_from t mask n (start + len) (part_kerned t start mask b))
 
--- all parts, where kerning is on somewhere
+-- all parts, if kerning is on somewhere
 abbrev pub table_kerned : List ℕ → ℕ → Buffer → Buffer
 table_kerned t mask b = if nat_eq mask 0 then b else kerned_from t mask (parts_of t) 4 b

@@ -47,11 +47,11 @@ item_at items i = slice_index_or items i (new_item 0 0)
 abbrev pub pair_kerned : List ℕ → ℕ → ℕ → ℕ → Buffer → Buffer
 pair_kerned t start i j b = pair_moved i j (value_of t start (item_at b.items i).glyph_id (item_at b.items j).glyph_id) b
 
--- a glyph is passed over where one waits at its left
+-- a glyph is skipped if one waits at its left
 abbrev pub is_passed_by : Option ℕ → Item → Bool
 is_passed_by left item = is_some left && is_passed item
 
--- which glyph waits after glyph `j`, where `left` waited before it: the same where `j` is passed over, none where kerning is off for it
+-- which glyph waits after glyph `j`, where `left` waited before it: the same if `j` is skipped, none if kerning is off for it
 abbrev pub left_after : ℕ → ℕ → Option ℕ → List Item → Option ℕ
 left_after mask j left items =
     if is_passed_by left (item_at items j) then left

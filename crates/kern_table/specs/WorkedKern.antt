@@ -114,7 +114,7 @@ pub record WorkedLines : Type 0 where
   pub off_between : along (by_part (on 2 0 ∷ off 8 1 ∷ on 3 2 ∷ [])) ≡ still ∷ still ∷ still ∷ []
   pub mark_in_front_waits : left_after 16 0 None (mark 0 ∷ []) ≡ Some 0
   pub unsafe_between : masks (by_part (on 2 0 ∷ mark 0 ∷ on 3 1 ∷ on 8 2 ∷ [])) ≡ 16 ∷ 16 ∷ 19 ∷ 16 ∷ []
-  -- every glyph, where it is asked for
+  -- every glyph, if it is asked for
   pub concat_asked : masks (kerned (table 1 1) 4 16 (record (line LeftToRight (on 8 0 ∷ on 8 1 ∷ [])) { flags = record { 0 = 64 } }))
       ≡ 18 ∷ 18 ∷ []
   pub concat_unasked : masks (by_part (on 8 0 ∷ on 8 1 ∷ [])) ≡ 16 ∷ 16 ∷ []

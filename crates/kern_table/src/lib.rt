@@ -1,6 +1,6 @@
 //! A layout engine over the table `kern` of a font file: [`KernTable`], for [`FontFace`](shape_font::FontFace).
 //!
-//! Two glyphs side by side, with marks and ignorables between them passed over, are moved together or apart by the
+//! Two glyphs side by side, with marks and ignorables between them skipped, are moved together or apart by the
 //! value that the table has for them: half of it goes to the advance of the first, the rest to the second. The table
 //! is read in place, and no memory is taken. [`pairs`] finds the value of two glyphs, [`walk`] goes over a buffer,
 //! [`tables`] over the parts of a table, [`map`] reads from the requests of a plan where kerning is on, and [`engine`]

@@ -9,8 +9,8 @@ use shape_buffer::interfaces::{F_GLOBAL, F_HAS_FALLBACK, MapRequest};
 /// The feature that kerns.
 pub const KERN: hb_tag_t = hb_tag_t(0x6b65_726e);
 
-/// What the requests so far ask of kerning: its greatest value, its value where no range says another one, and
-/// whether a table of its own stands in for the feature.
+/// What the requests so far ask of kerning: its greatest value, its value if no range says another one, and
+/// whether a table of its own may do the feature's work.
 #[derive(Clone, Copy, PartialEq, Eq, Debug)]
 pub struct KernWishes {
     pub greatest: u32,
@@ -71,7 +71,7 @@ fn wishes(requests: &[MapRequest]) -> KernWishes
     all
 }
 
-/// Where the requests turn kerning on: where some value but 0 is asked for, and a table may stand in for the feature.
+/// Where the requests switch kerning on: if a value other than 0 is asked for, and a table may do the feature's work.
 pub fn map(requests: &[MapRequest]) -> KernMap
     ensures { result ≡ map_of requests.now }
 {

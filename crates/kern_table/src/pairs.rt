@@ -25,7 +25,7 @@ fn pair(kern: &[u8], start: usize, glyphs: u32) -> Option<u32>
 }
 
 /// How far two glyphs are moved apart by the part of the table that begins at `start`, in units of the face;
-/// together where it is negative, and 0 where the part doesn't have them.
+/// together if it is negative, and 0 if the part doesn't have them.
 pub fn value(kern: &[u8], start: usize, left: u32, right: u32) -> i32
     requires { start < 2 ^ 34 }
     ensures value { result ≡ value_of kern.now start left right }

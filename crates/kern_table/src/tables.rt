@@ -7,7 +7,7 @@ use crate::walk::kern_all;
 use shape_buffer::buffer::{hb_buffer_t, hb_mask_t};
 use shape_font::bytes::{u8_at, u16_at};
 
-/// How many parts the table says that it has; none where its version isn't 0.
+/// How many parts the table says that it has; none if its version isn't 0.
 pub fn parts(kern: &[u8]) -> u32
     ensures value { result ≡ parts_of kern.now }
     ensures small { result ≤ 65535 }
@@ -49,7 +49,7 @@ fn kern_part(kern: &[u8], start: usize, mask: hb_mask_t, buffer: &mut hb_buffer_
     }
 }
 
-/// Kerns a buffer by all parts of the table that are read, in order, where the mask is that of some bits. A part that
+/// Kerns a buffer by all parts of the table that are read, in order, if the mask is that of some bits. A part that
 /// says that it is shorter than its header ends the table. Takes no memory.
 #[tactic(auto, using(crate::proofs::PartLemmas::kerned_from_next, crate::proofs::PartLemmas::kerned_from_short, crate::proofs::PartLemmas::kerned_from_end))]
 pub fn kern_table(kern: &[u8], mask: hb_mask_t, buffer: &mut hb_buffer_t)

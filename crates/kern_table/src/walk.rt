@@ -113,7 +113,7 @@ fn kern_pair(kern: &[u8], start: usize, buffer: &mut hb_buffer_t, i: usize, j: u
     move_pair(buffer, i, j, value(kern, start, left, right));
 }
 
-/// Kerns glyph `j` with the one that waits at its left, where kerning is on for it and it isn't passed over.
+/// Kerns glyph `j` with the one that waits at its left, if kerning is on for it and it isn't skipped.
 /// Answers which one waits after it.
 fn kern_at(
     kern: &[u8],
@@ -146,7 +146,7 @@ fn kern_at(
 }
 
 /// Kerns a buffer from left to right by the part of the table that begins at `start`: each glyph for which kerning
-/// is on with the next one for which it is, where only glyphs that are passed over stand between them. Takes no
+/// is on with the next one for which it is, if only glyphs that are skipped stand between them. Takes no
 /// memory, and a step for each glyph.
 #[tactic(auto, using(crate::specs::CountLaws::length_concat, crate::specs::CountLaws::limit_concat, crate::proofs::PartLemmas::kerned_to_next_buffer, crate::proofs::PartLemmas::kerned_to_next_left))]
 pub fn kern_all(kern: &[u8], start: usize, mask: hb_mask_t, buffer: &mut hb_buffer_t)

@@ -30,7 +30,7 @@ fn columns_of(line: &[u8]) -> Option<&str> {
     }
 }
 
-/// Answers the lines that have columns, and gives the exit status: 0 at the end of the input, 1 where a
+/// Answers the lines that have columns, and gives the exit status: 0 at the end of the input, 1 if a
 /// read, a write or a growth of memory failed, 2 at a malformed line.
 pub fn run<R: BufRead + Drop, W: Write + Drop>(alloc: Global, mut reader: R, mut writer: W) -> u8
     ensures { result ≤ 2 }

@@ -3,7 +3,7 @@
 use shape_buffer::buffer::ShapeError;
 use shape_pipeline::ot_shaper::{ComposedDiacriticsNoShortCircuit, Decomposed, Preferring};
 use std::alloc::{AllocError, Global};
-use unicode_rows::normalising::normalised;
+use unicode_tests::normalising::normalised;
 
 /// How many columns a line has: a text, its NFC, NFD, NFKC and NFKD.
 const COLUMNS: usize = 5;
@@ -13,8 +13,8 @@ fn character(word: &str) -> Option<char> {
     char::from_u32(u32::from_str_radix(word, 16).ok()?)
 }
 
-/// The characters that a column names by numbers with one space between them, or none where a word names
-/// no character. Refuses where memory is refused.
+/// The characters that a column names by numbers with one space between them, or none if a word names
+/// no character. Refuses if memory is refused.
 fn text_of(alloc: Global, column: &str) -> Result<Option<Vec<char>>, ShapeError> {
     let mut text = Vec::new(alloc);
     for word in column.split(' ') {
@@ -38,8 +38,8 @@ fn append_list(answer: &mut String, list: &[char]) -> Result<(), AllocError> {
 }
 
 /// The lists of the first five columns, by the two modes that split fully: 1, which composes nothing, and 3,
-/// which composes again. They stand in one line, each with a semicolon after it. None where there are
-/// fewer columns or one names no character. Refuses where memory is refused.
+/// which composes again. They stand in one line, each with a semicolon after it. None if there are
+/// fewer columns or one names no character. Refuses if memory is refused.
 pub fn answer(alloc: Global, columns: &str) -> Result<Option<String>, ShapeError> {
     let splitting = Preferring::<Decomposed>::new();
     let composing = Preferring::<ComposedDiacriticsNoShortCircuit>::new();

@@ -2,7 +2,7 @@
 //!
 //! Each export fills one buffer with a text, does its work and clears the buffer, so many times: the
 //! difference between two numbers of times is the cost of one. Functions that are to be told apart by the
-//! count are never inlined. An export answers how many glyphs there are at the end, and 0 where a call was
+//! count are never inlined. An export answers how many glyphs there are at the end, and 0 if a call was
 //! refused.
 #![tactic(auto)]
 #![allow(non_camel_case_types)]
@@ -112,7 +112,7 @@ fn shape_fresh(
     Ok(count)
 }
 
-/// The plan for a text; none where its direction is unknown.
+/// The plan for a text; none if its direction is unknown.
 fn plan_for<'a>(
     alloc: Global,
     face: &'a TableFace<'_>,
@@ -191,7 +191,7 @@ fn boxes_of(alloc: Global, numbers: &[i32]) -> Result<Vec<hb_glyph_extents_t>, A
     Ok(boxes)
 }
 
-/// Shapes a text of characters and clusters so many times: with one plan where `kept` holds, else with a
+/// Shapes a text of characters and clusters so many times: with one plan if `kept` holds, else with a
 /// plan each time. A text without clusters is that of `utf8`. For no times nothing is shaped.
 #[unsafe(no_mangle)]
 pub extern "C" fn bench_shape(

@@ -12,7 +12,7 @@ use Rattle.shape_common.specs.declared.settings.Direction.TheVariants.{Invalid, 
 abbrev pub first_script : UnicodeMeaning → List Item → Option Script
 first_script unicode items = find is_specific (map (λ item. unicode.script item.codepoint) items)
 
--- the script where one is set, else the first specific one of the text
+-- the script if one is set, else the first specific one of the text
 abbrev pub script_or : Option Script → Option Script → Option Script
 script_or (Some script) other = Some script
 script_or None other = other
@@ -20,18 +20,18 @@ script_or None other = other
 abbrev pub guessed_script : UnicodeMeaning → Buffer → Option Script
 guessed_script unicode b = script_or b.script (first_script unicode b.items)
 
--- the direction of an answer, left to right where it is none or Invalid
+-- the direction of an answer, left to right if it is none or Invalid
 abbrev pub known_or_ltr : Option Direction → Direction
 known_or_ltr None = LeftToRight
 known_or_ltr (Some Invalid) = LeftToRight
 known_or_ltr (Some direction) = direction
 
--- the direction of a script, left to right where none is known
+-- the direction of a script, left to right if none is known
 abbrev pub script_or_ltr : UnicodeMeaning → Option Script → Direction
 script_or_ltr unicode None = LeftToRight
 script_or_ltr unicode (Some script) = known_or_ltr (unicode.script_direction script)
 
--- the direction where one is set, else the other
+-- the direction if one is set, else the other
 abbrev pub direction_or : Direction → Direction → Direction
 direction_or Invalid other = other
 direction_or direction other = direction
@@ -39,6 +39,6 @@ direction_or direction other = direction
 abbrev pub guessed_direction : UnicodeMeaning → Buffer → Direction
 guessed_direction unicode b = direction_or b.direction (script_or_ltr unicode (guessed_script unicode b))
 
--- the buffer with script and direction guessed where they weren't set
+-- the buffer with script and direction guessed if they weren't set
 abbrev pub guessed : UnicodeMeaning → Buffer → Buffer
 guessed unicode b = record b { script = guessed_script unicode b; direction = guessed_direction unicode b }

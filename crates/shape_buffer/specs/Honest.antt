@@ -1,8 +1,8 @@
--- Flags are seen: where the run has not seen flags, no item has one.
+-- Flags are seen: if the run has not seen flags, no item has one.
 use Rattle.std.specs.Prelude.{◌≡◌, ℕ, false}
 use Rattle.shape_items.specs.Buffer.{Buffer}
 use Rattle.shape_items.specs.KeepsFlags.{IsDefinedFlag, some_has, has_glyph_flags}
 
--- where the scratch flag HAS_GLYPH_FLAGS is off, no item has a defined flag
+-- if the scratch flag HAS_GLYPH_FLAGS is off, no item has a defined flag
 pub record IsHonest (b : Buffer) : Type 0 where
   pub honest : has_glyph_flags b ≡ false → (flag : ℕ) → IsDefinedFlag flag → some_has flag b.items ≡ false

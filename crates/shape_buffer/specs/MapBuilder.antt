@@ -8,7 +8,7 @@ use Rattle.shape_buffer.specs.declared.interfaces.map_request.TableIndex.{TableI
 use Rattle.shape_buffer.specs.declared.interfaces.map_request.TableIndex.TheVariants.{GSUB, GPOS}
 use Rattle.shape_common.specs.FlagNames.{F_GLOBAL}
 
--- the requests in order, and the scripts that the engine chose; is_simple begins true, and is false where a collect hook is given or user
+-- the requests in order, and the scripts that the engine chose; is_simple begins true, and is false if a collect hook is given or user
 -- features are passed
 pub record Builder : Type 0 where
   pub requests : List MapRequest
@@ -41,7 +41,7 @@ feature tag flags value = Feature tag flags value
 abbrev pub feature_on : hb_tag_t → ℕ → ℕ → MapRequest
 feature_on tag flags value = feature tag (bit_or F_GLOBAL flags) value
 
--- a feature turned off over the whole text
+-- a feature switched off over the whole text
 abbrev pub feature_off : hb_tag_t → MapRequest
 feature_off tag = feature tag F_GLOBAL 0
 

@@ -44,7 +44,7 @@ pub record Ran (steps : List Step) (old new : Buffer) : Type 0 where
   pub within : IsWithinLimit new
   pub same_limit : limit_of new ≡ limit_of old
 
--- a run was refused: for its length only where some step would make a list past the limit
+-- a run was refused: for its length only if some step would make a list past the limit
 pub data Refused (steps : List Step) (old : Buffer) : ShapeError → Type 0 where
   for_length : SomePast steps old → Refused steps old Length
   for_memory : Refused steps old Memory

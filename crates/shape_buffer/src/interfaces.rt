@@ -1,4 +1,4 @@
-//! What shaping asks of its callers: the functions of Unicode, a face and a layout engine.
+//! What shaping asks of its callers: the Unicode functions, a face and a layout engine.
 //!
 //! Each is a trait whose meaning is one ghost record of functions; what every implementation owes is
 //! stated there once, as a law that it proves.

@@ -13,11 +13,11 @@ use Rattle.shape_common.specs.declared.map_face.Metrics.{Metrics}
 abbrev pub metrics_of : MapFace → GlyphId → Option Metrics
 metrics_of face glyph = get nat_cmp face.metrics glyph.0
 
--- the advance of a glyph, 0 where nothing was said of it
+-- the advance of a glyph, 0 if nothing was said of it
 abbrev pub advance_of : MapFace → GlyphId → ℤ
 advance_of face glyph = option_map_or (λ metrics. metrics.advance) (metrics_of face glyph) (pos 0)
 
--- its extents, where they were given
+-- its extents, if they were given
 abbrev pub extents_of : MapFace → GlyphId → Option hb_glyph_extents_t
 extents_of face glyph = option_map_or (λ metrics. metrics.extents) (metrics_of face glyph) None
 

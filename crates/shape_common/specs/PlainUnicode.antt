@@ -1,4 +1,4 @@
--- Functions of Unicode by which every character is a letter of an unknown script, which neither splits nor composes.
+-- Unicode functions by which every character is a letter of an unknown script, which neither splits nor composes.
 use Rattle.std.specs.Prelude.{false, None, refl}
 use Rattle.shape_common.specs.Unicode.{UnicodeMeaning, LawfulUnicode}
 use Rattle.shape_common.specs.declared.general_category.hb_unicode_general_category_t.TheVariants.{OtherLetter}

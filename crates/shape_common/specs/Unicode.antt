@@ -1,4 +1,4 @@
--- What the functions of Unicode mean, and the laws that every implementation proves.
+-- What the Unicode functions mean, and the laws that every implementation proves.
 use Rattle.std.specs.Prelude.{◌≡◌, ◌≢◌, ℕ, ◌<◌, Bool, true, false, Option, Some}
 use Rattle.canonical_form.specs.Decompositions.{Decompositions}
 use Rattle.canonical_form.specs.SplitsFall.{SplitsFall}

@@ -31,7 +31,7 @@ pub trait hb_font_t {
     /// What a face answers.
     ghost face: { Self → FaceMeaning };
 
-    /// The glyph that stands for a character where nothing else is known.
+    /// The glyph that stands for a character if nothing else is known.
     fn get_nominal_glyph(&self, c: char) -> Option<GlyphId>
         ensures { result ≡ (face self.now).nominal_glyph c };
 
@@ -39,7 +39,7 @@ pub trait hb_font_t {
     fn has_glyph(&self, c: char) -> bool
         ensures { result ≡ is_some ((face self.now).nominal_glyph c) };
 
-    /// The glyph that stands for a character before a variation selector, where the face has one for
+    /// The glyph that stands for a character before a variation selector, if the face has one for
     /// the two (OpenType, `cmap` format 14).
     fn glyph_variation_index(&self, c: char, selector: char) -> Option<GlyphId>
         ensures { result ≡ (face self.now).variation_glyph c selector };
@@ -60,7 +60,7 @@ pub trait hb_font_t {
     fn glyph_v_origin(&self, glyph: GlyphId) -> i32
         ensures { result ≡ (face self.now).v_origin glyph };
 
-    /// The box round the glyph, where the face knows it.
+    /// The box round the glyph, if the face knows it.
     fn glyph_extents(&self, glyph: GlyphId) -> Option<hb_glyph_extents_t>
         ensures { result ≡ (face self.now).extents glyph };
 

@@ -1,4 +1,4 @@
-//! What all of shaping shares: plain data types, the functions of Unicode, and faces.
+//! What all of shaping shares: plain data types, the Unicode functions, and faces.
 //!
 //! Tags, scripts, directions, languages, cluster levels and features are what a caller sets of a text; positions
 //! are what it gets. [`hb_unicode_funcs_t`] and [`hb_font_t`] are the traits that shaping asks its callers for:

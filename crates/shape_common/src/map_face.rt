@@ -44,7 +44,7 @@ impl MapFace {
     }
 
     /// Gives a character a glyph, and the glyph its metrics. This replaces what was said of either before.
-    /// Refuses where a growth was refused: the character then keeps the glyph that it had, and the glyph has
+    /// Refuses if a growth was refused: the character then keeps the glyph that it had, and the glyph has
     /// either its old metrics or the new ones.
     pub fn set_glyph(&mut self, c: char, glyph: GlyphId, metrics: Metrics) -> Result<(), AllocError>
         ensures units_per_em { self.new.units_per_em ≡ self.old.units_per_em }
@@ -62,7 +62,7 @@ impl MapFace {
         Ok(())
     }
 
-    /// The advance of a glyph, 0 where nothing was said of it.
+    /// The advance of a glyph, 0 if nothing was said of it.
     fn advance(&self, glyph: GlyphId) -> i32
         ensures { result ≡ advance_of self.now glyph }
     {
@@ -72,7 +72,7 @@ impl MapFace {
         }
     }
 
-    /// The extents of a glyph, where they were given.
+    /// The extents of a glyph, if they were given.
     fn extents(&self, glyph: GlyphId) -> Option<hb_glyph_extents_t>
         ensures { result ≡ extents_of self.now glyph }
     {

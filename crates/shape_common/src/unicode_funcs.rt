@@ -19,22 +19,22 @@ pub trait hb_unicode_funcs_t {
     fn modified_combining_class(c: char) -> u8
         ensures { result ≡ unicode.ccc c };
 
-    /// The two parts that a character splits into in one step; the second one is U+0000 where the
+    /// The two parts that a character splits into in one step; the second one is U+0000 if the
     /// character has one part alone (UAX 44, Decomposition_Mapping without a tag).
     fn decompose(c: char) -> Option<(char, char)>
         ensures { result ≡ unicode.split c };
 
     /// The character that two characters make in one step (The Unicode Standard, D114, primary
-    /// composites), where there is one.
+    /// composites), if there is one.
     fn compose(a: char, b: char) -> Option<char>
         ensures { result ≡ unicode.compose a b };
 
-    /// The character whose glyph is the mirror image of this one's (UAX 9, Bidi_Mirroring_Glyph), where
+    /// The character whose glyph is the mirror image of this one's (UAX 9, Bidi_Mirroring_Glyph), if
     /// there is one.
     fn mirrored(c: char) -> Option<char>
         ensures { result ≡ unicode.mirrored c };
 
-    /// The form that a character has in vertical text, where it is a character of its own (UAX 44,
+    /// The form that a character has in vertical text, if it is a character of its own (UAX 44,
     /// Decomposition_Mapping with the tag `<vertical>`).
     fn vertical(c: char) -> Option<char>
         ensures { result ≡ unicode.vertical c };

@@ -155,7 +155,7 @@ at_unfollowed face s i b within first =
 pub marks_from_items : (i : ℕ) (b : Buffer) → marks_from i b ≡ prefix_len is_mark_item (drop i b.items)
 marks_from_items i b = ap (prefix_len (λ mark. mark)) (drop-map is_mark_item i b.items) ∙ prefix_of_marks (drop i b.items)
 
--- where some marks stand from a place on, the first is there, and the others from the next place on
+-- if some marks stand from a place on, the first is there, and the others from the next place on
 one_mark_less : (i : ℕ) (ms : List Bool) → 0 < prefix_len (λ mark. mark) (drop i ms)
     → prefix_len (λ mark. mark) (drop i ms) ≡ 1 + prefix_len (λ mark. mark) (drop (i + 1) ms)
 one_mark_less zero [] some = absurd (omega (arith, some))

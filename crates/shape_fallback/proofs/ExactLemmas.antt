@@ -1,4 +1,4 @@
--- Where all numbers fit, the exact ones are taken.
+-- If all numbers fit, the exact ones are taken.
 use Rattle.std.proofs.Common.{◌≡◌, ℕ, ℤ, pos, ◌+ℤ◌, ◌-ℤ◌, ◌*ℤ◌, neg_ℤ, int_div, Bool, true, false, not, ◌&&◌, ◌||◌, ◌<◌, ◌≤◌, ◌+◌, ◌/◌, refl, ap, ◌∙◌, inl, inr, arith}
 use Rattle.std.specs.Prelude.{if◌then◌else◌, ◌==◌, int_le}
 use Rattle.std.specs.Int.{w32, int_wrap}

@@ -25,7 +25,7 @@ pub record Span : Type 0 where
 unfoldable pub position_span : FaceMeaning → Setting → Buffer → Span → Buffer
 position_span face s b span = with_positions (around_base face s) span.start span.end (unsafe_to_break span.start span.end b)
 
--- the base at place i, where it has n marks
+-- the base at place i, if it has n marks
 abbrev pub with_marks : ℕ → ℕ → List Span
 with_marks i zero = []
 with_marks i (suc n) = record { start = i; end = i + 1 + suc n } ∷ []
@@ -76,8 +76,8 @@ abbrev pub is_left_to_right : Direction → Bool
 is_left_to_right LeftToRight = true
 is_left_to_right _ = false
 
--- the components of a ligature run to the right: asked of the plan's direction where that is horizontal, else of its script's, left to
--- right where none is known
+-- the components of a ligature run to the right: asked of the plan's direction if that is horizontal, else of its script's, left to
+-- right if none is known
 unfoldable pub runs_to_right : UnicodeMeaning → Direction → Option Script → Bool
 runs_to_right unicode direction script =
     is_left_to_right (if is_horizontal direction then direction else script_or_ltr unicode script)

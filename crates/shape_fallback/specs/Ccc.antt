@@ -1,4 +1,4 @@
--- The ccc that marks are placed by, where a face does not place them.
+-- The ccc that marks are placed by, if a face does not place them.
 use Rattle.std.specs.Prelude.{ℕ, Bool, ◌&&◌, ◌||◌, ◌==◌, nat_le, if◌then◌else◌}
 
 -- the number is one from a to b

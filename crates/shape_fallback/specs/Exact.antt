@@ -1,4 +1,4 @@
--- The exact numbers of fallback positions, for where all of them fit an i32.
+-- The exact numbers of fallback positions, if all of them fit an i32.
 use Rattle.std.specs.Prelude.{◌≡◌, ◌==◌, ℕ, ℤ, pos, ◌<◌, ◌+ℤ◌, ◌-ℤ◌, ◌*ℤ◌, neg_ℤ, int_div, int_le, Bool, true, false, ◌&&◌, ◌||◌, not, if◌then◌else◌, FitsSigned}
 use Rattle.std.specs.Int.{w32}
 use Rattle.shape_common.specs.Face.{FaceMeaning}
@@ -78,8 +78,8 @@ exact_component base item =
     pos base.number_of_components -ℤ pos 1
     else component
 
--- where all numbers round a base fit, they are the exact ones: the base's extents, the running offset at the
--- first mark and past each mark of ccc 0, and which component a mark belongs to, where the numbers of
+-- if all numbers round a base fit, they are the exact ones: the base's extents, the running offset at the
+-- first mark and past each mark of ccc 0, and which component a mark belongs to, if the numbers of
 -- components are of u8
 pub record ExactRound : Type 0 where
   pub base_above : (face : FaceMeaning) (s : Setting) (x : Item) (p : GlyphPosition) (E : Extents) → Fits32 (E.y_bearing +ℤ p.y_offset)
@@ -101,7 +101,7 @@ pub record ExactRound : Type 0 where
   pub from_left : (base : Base) (c : ℤ) → base.left_to_right ≡ false → Fits32 (pos base.number_of_components -ℤ pos 1 -ℤ c)
       → place_of base c ≡ pos base.number_of_components -ℤ pos 1 -ℤ c
 
--- where all numbers of one mark fit, they are the exact ones
+-- if all numbers of one mark fit, they are the exact ones
 pub record ExactMarks : Type 0 where
   pub across : (horizontal forward : Bool) (ccc : ℕ) (B E : Extents) → XOffsetFits horizontal forward ccc B E
       → mark_x_offset horizontal forward ccc B E ≡ exact_x_offset horizontal forward ccc B E

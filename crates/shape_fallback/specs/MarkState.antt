@@ -12,7 +12,7 @@ use Rattle.shape_fallback.specs.declared.ot_shape_fallback.mark_state.MarkState.
 use Rattle.shape_fallback.specs.declared.ot_shape_fallback.mark_state.MarkStep.{MarkStep}
 use Rattle.shape_fallback.specs.declared.ot_shape_fallback.mark_state.TheConstants.{NO_LAST_CCC}
 
--- the component of the base that a mark belongs to: the last one where it isn't one of this ligature's
+-- the component of the base that a mark belongs to: the last one if it isn't one of this ligature's
 unfoldable pub component_of : Base → Item → ℤ
 component_of base item =
     let component = pos item.properties.ligature_component -ʷ pos 1 in
@@ -40,7 +40,7 @@ at_component base item s =
     if int_eq component s.component then s
     else record s { component = component; component_extents = component_extents base component; ccc = NO_LAST_CCC }
 
--- the same, where the base has several components
+-- the same, if the base has several components
 unfoldable pub with_component : Base → Item → MarkState → MarkState
 with_component base item s = if nat_lt 1 base.number_of_components then at_component base item s else s
 

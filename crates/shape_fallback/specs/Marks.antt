@@ -21,7 +21,7 @@ marks_placed face base s (x ∷ xs) (p ∷ ps) =
     let step = place_mark face base s x p in
     step.position ∷ marks_placed face base step.state xs ps
 
--- a position without its advances; the offsets lose them first where they are adjusted
+-- a position without its advances; the offsets lose them first if they are adjusted
 unfoldable pub zeroed_position : Bool → GlyphPosition → GlyphPosition
 zeroed_position adjust p =
     if adjust then record p {
@@ -61,7 +61,7 @@ first_state base p = record {
   y_offset = if base.surroundings.forward then neg_w p.y_advance else pos 0;
 }
 
--- the positions of the marks after a base, where the face has these extents for its glyph
+-- the positions of the marks after a base, if the face has these extents for its glyph
 abbrev pub behind_base : FaceMeaning → Setting → Item → GlyphPosition → Option Extents → List Item → List GlyphPosition → List GlyphPosition
 behind_base face s x p None xs ps = positions_over (zeroed s.adjust) xs ps
 behind_base face s x p (Some E) xs ps =

@@ -86,7 +86,7 @@ mark_placed_with horizontal forward gap ccc p E =
       base = s.base;
     }
 
--- a mark; where the face has no extents for it nothing changes
+-- a mark; if the face has no extents for it nothing changes
 unfoldable pub mark_placed : Surroundings → Option Extents → ℕ → PlacedMark → PlacedMark
 mark_placed s None ccc p = p
 mark_placed s (Some E) ccc p = mark_placed_with s.horizontal s.forward s.gap ccc p E

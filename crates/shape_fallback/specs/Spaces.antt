@@ -40,7 +40,7 @@ stops = 0x2E ∷ 0x2C ∷ []
 abbrev pub advance_along : FaceMeaning → Bool → GlyphId → ℤ
 advance_along face horizontal glyph = if horizontal then face.h_advance glyph else face.v_advance glyph
 
--- as wide as the first of some characters that has a glyph; where none has, as wide as before
+-- as wide as the first of some characters that has a glyph; if none has, as wide as before
 unfoldable pub as_wide_as : FaceMeaning → Bool → List ℕ → ℤ → ℤ
 as_wide_as face horizontal cs before = option_map_or (advance_along face horizontal) (first_glyph face cs) before
 

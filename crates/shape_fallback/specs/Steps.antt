@@ -1,4 +1,4 @@
--- The steps of a run that stand in for lookups, each with the test whether it is due.
+-- The steps of a run that replace lookups, each with the test whether it is due.
 use Rattle.std.specs.Prelude.{◌==◌, ◌&&◌, Bool, Option}
 use Rattle.std.specs.Int.RustNames.{bit_and}
 use Rattle.shape_items.specs.Buffer.{Buffer}
@@ -14,7 +14,7 @@ use Rattle.shape_fallback.specs.Recategorized.{recategorized}
 use Rattle.shape_fallback.specs.Spaces.{spaces_placed}
 use Rattle.shape_common.specs.FlagNames.{HAS_SPACE_FALLBACK}
 
--- ccc change where the plan places marks by their extents
+-- ccc change if the plan places marks by their extents
 abbrev pub recategorize_step : Decisions → Buffer → Buffer
 recategorize_step decisions = step_if decisions.fallback_mark_positioning recategorized
 
@@ -22,16 +22,16 @@ recategorize_step decisions = step_if decisions.fallback_mark_positioning recate
 abbrev pub has_space_fallback : Buffer → Bool
 has_space_fallback b = bit_and b.scratch_flags.0 HAS_SPACE_FALLBACK == HAS_SPACE_FALLBACK
 
--- spaces are placed where one without a glyph was seen
+-- spaces are placed if one without a glyph was seen
 unfoldable pub spaces_step : FaceMeaning → Buffer → Buffer
 spaces_step face b = step_if (has_space_fallback b) (spaces_placed face) b
 
--- a base without extents takes the advances of its marks into their offsets where the plan adjusts, and in forward text alone
+-- a base without extents takes the advances of its marks into their offsets if the plan adjusts, and in forward text alone
 unfoldable pub marks_adjusted : UnicodeMeaning → FaceMeaning → Direction → Option Script → Decisions → Buffer → Buffer
 marks_adjusted unicode face direction script decisions b =
     marks_positioned unicode face direction script (decisions.adjust_mark_positioning_when_zeroing && is_forward b.direction) b
 
--- marks are placed where the plan places them by their extents
+-- marks are placed if the plan places them by their extents
 abbrev pub marks_step : UnicodeMeaning → FaceMeaning → Direction → Option Script → Decisions → Buffer → Buffer
 marks_step unicode face direction script decisions =
     step_if decisions.fallback_mark_positioning (marks_adjusted unicode face direction script decisions)

@@ -25,7 +25,7 @@ use Rattle.shape_fallback.specs.WorkedMarks.{at, component_mark, some_script, wo
 use Rattle.shape_fallback.specs.WorkedOneMark.{extents}
 use Rattle.shape_fallback.specs.WorkedSpaces.{worked_face}
 
--- a face of u units where glyph 1 is a base of this advance, with extents or none, glyph 2 an acute above, glyph 3 a dot below
+-- a face of u units in which glyph 1 is a base of this advance, with extents or none, glyph 2 an acute above, glyph 3 a dot below
 abbrev pub base_face : ℕ → ℤ → Option Extents → FaceMeaning
 base_face u advance own = record (worked_face (λ c. false)) {
   h_advance = λ g. if g.0 == 1 then advance else pos 0;

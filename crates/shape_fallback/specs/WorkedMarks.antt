@@ -177,7 +177,7 @@ worked_bases = record { one = refl; bare = refl; marks_first = refl; two = refl;
 
 -- ---- directions and gaps
 
--- Unicode where only the directions of scripts are known
+-- Unicode of which only the directions of scripts are known
 abbrev pub worked_unicode : Option Direction → UnicodeMeaning
 worked_unicode direction = record plain_unicode {
   category = λ c. LowercaseLetter;

@@ -29,7 +29,7 @@ em_parts : EmParts
 unfolding em_part is_em_part
 em_parts = record { of_1000 = refl; of_1 = refl; of_8 = refl; of_65535 = refl; named = refl }
 
--- a face of 1000 units where some characters have the glyph of their own number, as wide as that
+-- a face of 1000 units in which some characters have the glyph of their own number, as wide as that
 abbrev pub worked_face : (ℕ → Bool) → FaceMeaning
 worked_face has = record bare_face { nominal_glyph = λ c. if has c then Some (record { 0 = c }) else None; h_advance = λ g. pos g.0 }
 

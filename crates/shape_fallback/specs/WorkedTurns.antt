@@ -1,4 +1,4 @@
--- What goes by the buffer and by nothing else: marks without a ccc in backward text, the line that marks stand along, and the flag of
+-- What depends on the buffer and on nothing else: marks without a ccc in backward text, the line that marks stand along, and the flag of
 -- spaces.
 use Rattle.std.specs.Prelude.{◌≡◌, ℕ, pos, negsuc, true, false, [], ◌∷◌, None, refl}
 use Rattle.std.specs.Int.{int_wrap}

@@ -20,7 +20,7 @@ pub fn fallback_steps_keep_clusters_and_flags()
         → EachFallback IsFlagKeeper unicode face direction script decisions }
 {}
 
-/// The numbers of one mark, and those that the marks of a base hand on, are the exact ones where they fit
+/// The numbers of one mark, and those that the marks of a base hand on, are the exact ones if they fit
 /// an i32, whatever wraps on the way to them.
 pub fn marks_are_exact_where_they_fit()
     ensures one { ExactMarks }

@@ -1,7 +1,7 @@
 //! Fallback positions of marks and spaces, for faces whose lookups place none.
 //!
-//! [`ot_shape_fallback`] has the calls, [`steps`] the steps of a run that make them where a plan or a
-//! buffer asks for it, [`laws`] what they leave alone and where their numbers are exact.
+//! [`ot_shape_fallback`] has the calls, [`steps`] the steps of a run that make them if a plan or a
+//! buffer asks for it, [`laws`] what they leave alone and when their numbers are exact.
 #![tactic(auto)]
 #![allow(non_camel_case_types)]
 

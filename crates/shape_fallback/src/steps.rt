@@ -1,4 +1,4 @@
-//! The steps of a run that stand in for lookups: each asks the plan or the buffer whether it is due.
+//! The steps of a run that replace lookups: each asks the plan or the buffer whether it is due.
 ghost use Rattle.std.specs.Prelude.{◌≡◌};
 ghost use Rattle.shape_buffer.specs.Outcome.{Made};
 ghost use Rattle.shape_fallback.specs.Steps.{recategorize_step, spaces_step, marks_step};
@@ -13,7 +13,7 @@ use shape_buffer::buffer::{ScratchFlags, hb_buffer_t};
 use shape_buffer::interfaces::{hb_font_t, hb_unicode_funcs_t};
 use shape_plan::shaping_types::{PlanOf, ShapingTypes};
 
-/// Gives marks the ccc that they are placed by, where the plan places marks by their extents.
+/// Gives marks the ccc that they are placed by, if the plan places marks by their extents.
 pub fn recategorize_marks<T: ShapingTypes>(
     plan: &PlanOf<'_, T>,
     face: &T::Face,
@@ -26,7 +26,7 @@ pub fn recategorize_marks<T: ShapingTypes>(
     }
 }
 
-/// Places spaces, where one without a glyph was seen.
+/// Places spaces, if one without a glyph was seen.
 #[tactic(auto, unfolding(crate::specs::Steps::spaces_step))]
 pub fn place_spaces<T: ShapingTypes>(plan: &PlanOf<'_, T>, face: &T::Face, buffer: &mut hb_buffer_t)
     ensures { Made (spaces_step (T.Face.face face.now)) buffer.old buffer.new }
@@ -39,8 +39,8 @@ pub fn place_spaces<T: ShapingTypes>(plan: &PlanOf<'_, T>, face: &T::Face, buffe
     }
 }
 
-/// Places marks, where the plan places marks by their extents. Offsets lose the advances of marks whose
-/// base has no extents where the plan adjusts them, and in forward text alone.
+/// Places marks, if the plan places marks by their extents. Offsets lose the advances of marks whose
+/// base has no extents if the plan adjusts them, and in forward text alone.
 pub fn place_marks<T: ShapingTypes>(plan: &PlanOf<'_, T>, face: &T::Face, buffer: &mut hb_buffer_t)
     ensures { Made (marks_step T.Unicode.unicode (T.Face.face face.now) plan.now.direction
         plan.now.script plan.now.decisions) buffer.old buffer.new }

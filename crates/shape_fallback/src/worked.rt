@@ -35,7 +35,7 @@ pub fn buffers_meet_worked_cases()
     ensures { WorkedBuffers }
 {}
 
-/// What goes by the buffer alone: marks of ccc 0 in text of either way, which stay where they are, the
+/// What depends on the buffer alone: marks of ccc 0 in text of either way, which stay where they are, the
 /// line that marks stand along, and the flag that says that spaces are due.
 pub fn turns_meet_worked_cases()
     ensures { WorkedTurns }

@@ -10,7 +10,7 @@ use Rattle.shape_font.proofs.MidpointLemmas.{found_in-none, found_in-less, found
 
 -- ---- the walk
 
--- where none that passes is kept, nothing is found
+-- if none that passes is kept, nothing is found
 kept_none : (keep : ℕ → Option ℕ) (p : ℕ → Bool) (n i : ℕ) → ((k : ℕ) → i ≤ k → k < i + n → p k ≡ true → keep k ≡ None)
     → option_and_then keep (first_at p n i) ≡ None
 kept_none keep p zero i none = refl

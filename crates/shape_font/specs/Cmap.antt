@@ -69,7 +69,7 @@ cmap_glyph t c = let format = u16_of t 0 in
     else (if nat_eq format 13 then glyph_of_groups t true c
     else 0))))))
 
--- a table of symbols has its glyphs at U+F000 .. U+F0FF; they stand for U+0000 .. U+00FF too where it has none there
+-- a table of symbols has its glyphs at U+F000 .. U+F0FF; they stand for U+0000 .. U+00FF too if it has none there
 abbrev pub mapped_glyph : List ℕ → Bool → ℕ → ℕ
 mapped_glyph t symbols c = let glyph = cmap_glyph t c in
     (if symbols && nat_eq glyph 0 && nat_lt c 256 then cmap_glyph t (0xF000 + c) else glyph)

@@ -10,7 +10,7 @@ font_start bytes index = if nat_eq (u32_of bytes 0) 0x74746366
     then (if nat_lt index (u32_of bytes 8) then Some (u32_of bytes (12 + 4 * index)) else None)
     else (if nat_eq index 0 then Some 0 else None)
 
--- the bytes from `at` on, `len` of them, where there are so many
+-- the bytes from `at` on, `len` of them, if there are so many
 abbrev pub part_of : List ℕ → ℕ → ℕ → Option (List ℕ)
 part_of bytes at len = if nat_le (at + len) (length bytes) then Some (slice_range bytes at (at + len)) else None
 

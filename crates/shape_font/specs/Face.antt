@@ -13,15 +13,15 @@ use Rattle.shape_font.specs.declared.face.FontFace.{FontFace}
 use Rattle.shape_font.specs.declared.variations.GlyphVariant.{GlyphVariant}
 use Rattle.shape_font.specs.declared.variations.GlyphVariant.TheVariants.{Missing, Default, Own}
 
--- the glyph with this number, where the font has it; 0 is none
+-- the glyph with this number, if the font has it; 0 is none
 abbrev pub own_glyph_of : FontFace → ℕ → Option GlyphId
 own_glyph_of f g = if nat_lt 0 g && nat_lt g f.glyph_count then Some (record { 0 = g }) else None
 
--- the glyph of a character, where `cmap` names one that the font has
+-- the glyph of a character, if `cmap` names one that the font has
 abbrev pub glyph_of : FontFace → ℕ → Option GlyphId
 glyph_of f c = own_glyph_of f (mapped_glyph f.cmap.now f.symbols c)
 
--- its glyph before a selector, where it looks as alone or has one of its own
+-- its glyph before a selector, if it looks as alone or has one of its own
 abbrev pub varied : FontFace → ℕ → GlyphVariant → Option GlyphId
 varied f c Missing = None
 varied f c Default = glyph_of f c

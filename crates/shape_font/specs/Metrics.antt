@@ -46,7 +46,7 @@ place_of loca long glyph = cond long (u32_of loca (4 * glyph)) (2 * u16_of loca 
 abbrev pub no_box : hb_glyph_extents_t
 no_box = record { x_bearing = pos 0; y_bearing = pos 0; width = pos 0; height = pos 0 }
 
--- the box in the header of an outline, moved to the bearing where there is one
+-- the box in the header of an outline, moved to the bearing if there is one
 unfoldable pub framed_of : List ℕ → ℕ → Option ℤ → hb_glyph_extents_t
 framed_of glyf start bearing = record {
   x_bearing = unwrap_or bearing (i16_of glyf (start + 2));
@@ -55,7 +55,7 @@ framed_of glyf start bearing = record {
   height = i16_of glyf (start + 4) -ℤ i16_of glyf (start + 8);
 }
 
--- an empty one where there is no outline
+-- an empty one if there is no outline
 abbrev pub box_of : List ℕ → ℕ → ℕ → Option ℤ → hb_glyph_extents_t
 box_of glyf start end bearing = if nat_lt end (start + 10) then no_box
     else (if nat_lt (length glyf) end then no_box else framed_of glyf start bearing)

@@ -9,7 +9,7 @@ abbrev pub string_start : List ℕ → ℕ → ℕ → ℕ
 string_start t zero at = at
 string_start t (suc k) at = string_start t k (at + (1 + slice_index t at))
 
--- its bytes; none where it is empty or reaches past the end
+-- its bytes; none if it is empty or reaches past the end
 abbrev pub string_of : List ℕ → ℕ → ℕ → Option (List ℕ)
 string_of t k at = let start = string_start t k at in let len = slice_index t start in
     (if nat_lt 0 len && nat_le (start + 1 + len) (length t) then Some (slice_range t (start + 1) (start + 1 + len)) else None)

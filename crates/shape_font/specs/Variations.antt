@@ -8,7 +8,7 @@ use Rattle.shape_font.specs.Subtables.{tail_of, subtable_of}
 use Rattle.shape_font.specs.declared.variations.GlyphVariant.{GlyphVariant}
 use Rattle.shape_font.specs.declared.variations.GlyphVariant.TheVariants.{Missing, Default, Own}
 
--- the table of sequences: that of Unicode with encoding 5, where its format is 14
+-- the table of sequences: that of Unicode with encoding 5, if its format is 14
 abbrev pub sequences_of : List ℕ → List ℕ
 sequences_of cmap = option_map_or (λ t. if nat_eq (u16_of t 0) 14 then t else []) (subtable_of cmap 5) []
 

@@ -67,7 +67,7 @@ fn by_segments(table: &[u8], count: u32, c: u32) -> u32
     }
 }
 
-/// The glyph of a character where `count` characters in a row from `start` on have theirs listed at `at`, or 0.
+/// The glyph of a character if `count` characters in a row from `start` on have theirs listed at `at`, or 0.
 fn by_list(table: &[u8], start: u32, count: u32, at: usize, c: u32) -> u64
     requires { at < 2 ^ 32 }
     ensures { result ≡ listed_glyph table.now start count at c }
@@ -100,7 +100,7 @@ fn group(table: &[u8], c: u32) -> Option<u32>
     found(groups(table), |i| group_side(table, c, i))
 }
 
-/// The glyph that group `i` gives a character of its own; `one` where a group has one glyph for all.
+/// The glyph that group `i` gives a character of its own; `one` if a group has one glyph for all.
 fn in_group(table: &[u8], one: bool, c: u32, i: u32) -> u64
     ensures { result ≡ group_glyph table.now one c i }
 {
@@ -113,7 +113,7 @@ fn in_group(table: &[u8], one: bool, c: u32, i: u32) -> u64
     }
 }
 
-/// The glyph of a character by a table of format 12, or 13 where groups have one glyph for all; or 0.
+/// The glyph of a character by a table of format 12, or 13 if groups have one glyph for all; or 0.
 fn by_groups(table: &[u8], one: bool, c: u32) -> u64
     ensures { result ≡ glyph_of_groups table.now one c }
 {
@@ -144,7 +144,7 @@ pub fn glyph(table: &[u8], c: u32) -> u64
     }
 }
 
-/// The glyph of a character, that of U+F000 and more where a table of symbols has none for one below 256; or 0.
+/// The glyph of a character, that of U+F000 and more if a table of symbols has none for one below 256; or 0.
 pub fn mapped(table: &[u8], symbols: bool, c: u32) -> u64
     ensures { result ≡ mapped_glyph table.now symbols c }
 {

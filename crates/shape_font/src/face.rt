@@ -98,7 +98,7 @@ fn lookups(bytes: &[u8], index: u32) -> hb_tables_t
 }
 
 impl<'a> FontFace<'a> {
-    /// The font with this number in a collection, or number 0, the one of a file of one font. None where the file
+    /// The font with this number in a collection, or number 0, the one of a file of one font. None if the file
     /// has no such font, or its em square is empty.
     pub fn from_slice(bytes: &'a [u8], index: u32) -> Option<FontFace<'a>>
         ensures found { is_some result ≡ nat_lt 0 (u16_of (bytes_of bytes.now index HEAD) 18) }
@@ -172,21 +172,21 @@ impl<'a> FontFace<'a> {
         self.glyph_count
     }
 
-    /// The table `kern`, for an engine that reads it; an empty one where the font has none.
+    /// The table `kern`, for an engine that reads it; an empty one if the font has none.
     pub fn kern_table(&self) -> &'a [u8]
         ensures { result.now ≡ self.now.kern.now }
     {
         self.kern
     }
 
-    /// The glyph's name by `post`; none where the table has none for it, or an empty one.
+    /// The glyph's name by `post`; none if the table has none for it, or an empty one.
     pub fn glyph_name(&self, glyph: GlyphId) -> Option<&'a [u8]>
         ensures { option_map (λ s. s.now) result ≡ glyph_name_of STANDARD.now self.now.post.now glyph.0 }
     {
         names::glyph_name(self.post, glyph.0)
     }
 
-    /// The glyph with this number, where the font has it; 0 is none.
+    /// The glyph with this number, if the font has it; 0 is none.
     fn own(&self, glyph: u64) -> Option<GlyphId>
         ensures { result ≡ own_glyph_of self.now glyph }
     {
@@ -197,14 +197,14 @@ impl<'a> FontFace<'a> {
         }
     }
 
-    /// The glyph of a character, where `cmap` names one that the font has.
+    /// The glyph of a character, if `cmap` names one that the font has.
     fn glyph(&self, c: char) -> Option<GlyphId>
         ensures { result ≡ glyph_of self.now c }
     {
         self.own(cmap::mapped(self.cmap, self.symbols, u32::from(c)))
     }
 
-    /// The glyph of a character before a selector: its own, or the character's where it looks as it does alone.
+    /// The glyph of a character before a selector: its own, or the character's if it looks as it does alone.
     fn variant(&self, c: char, selector: char) -> Option<GlyphId>
         ensures { result ≡ variant_of self.now c selector }
     {

@@ -54,7 +54,7 @@ fn string_start(table: &[u8], k: u32, at: usize) -> usize
     start
 }
 
-/// String `k` of those from `at` on; none where it is empty or reaches past the end.
+/// String `k` of those from `at` on; none if it is empty or reaches past the end.
 fn string(table: &[u8], k: u32, at: usize) -> Option<&[u8]>
     requires few { k < 2 ^ 16 }
     requires near { at < 2 ^ 32 }
@@ -105,7 +105,7 @@ fn name(post: &[u8], index: u32) -> Option<&[u8]>
     }
 }
 
-/// The name of a glyph; none where the table has none for it, or an empty one.
+/// The name of a glyph; none if the table has none for it, or an empty one.
 pub fn glyph_name(post: &[u8], glyph: u32) -> Option<&[u8]>
     ensures { option_map (λ s. s.now) result ≡ glyph_name_of STANDARD.now post.now glyph }
 {

@@ -19,7 +19,7 @@ pub fn side(n: u32, start: u32, end: u32) -> Ordering
     }
 }
 
-/// The same where the end decides first: after the end, whatever the start is.
+/// The same, but the end decides first: after the end, whatever the start is.
 pub fn side_by_end(n: u32, start: u32, end: u32) -> Ordering
     ensures { result ≡ side_from_end n start end }
 {

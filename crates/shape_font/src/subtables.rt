@@ -46,7 +46,7 @@ pub fn subtable(cmap: &[u8], key: u32) -> Option<&[u8]>
     }
 }
 
-/// The table for the first of these that `cmap` has; an empty one where it has none.
+/// The table for the first of these that `cmap` has; an empty one if it has none.
 fn first_of<'a>(cmap: &'a [u8], keys: &[u32]) -> &'a [u8]
     ensures { result.now ≡ first_subtable cmap.now keys.now }
 {
@@ -58,7 +58,7 @@ fn first_of<'a>(cmap: &'a [u8], keys: &[u32]) -> &'a [u8]
     &[]
 }
 
-/// The table of characters that says most; an empty one where `cmap` has none of those that are read.
+/// The table of characters that says most; an empty one if `cmap` has none of those that are read.
 pub fn chosen(cmap: &[u8]) -> &[u8]
     ensures { result.now ≡ chosen_subtable cmap.now }
 {

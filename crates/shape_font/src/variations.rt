@@ -24,7 +24,7 @@ pub enum GlyphVariant {
     Own(u32),
 }
 
-/// The table of sequences; an empty one where `cmap` has none.
+/// The table of sequences; an empty one if `cmap` has none.
 pub fn sequences(cmap: &[u8]) -> &[u8]
     ensures { result.now ≡ sequences_of cmap.now }
 {
@@ -50,7 +50,7 @@ fn record(table: &[u8], selector: u32) -> Option<u32>
     found(count, |i| selector_side(table, selector, i))
 }
 
-/// What the table has at the place that stands at `at`; nothing where that is 0.
+/// What the table has at the place that stands at `at`; nothing if that is 0.
 fn part(table: &[u8], at: usize) -> &[u8]
     requires { at < 2 ^ 40 }
     ensures { result.now ≡ part_of_sequences table.now at }

@@ -6,3 +6,4 @@ mod Unwritten
 pub mod Flags
 pub mod PreparedLemmas
 mod PropertyLemmas
+mod CategoryLemmas

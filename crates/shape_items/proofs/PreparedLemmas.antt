@@ -1,4 +1,4 @@
--- Prepared items: what being prepared goes by, and that properties of characters are enough for it.
+-- Prepared items: what being prepared depends on, and that properties of characters are enough for it.
 use Rattle.std.proofs.Common.{◌≡◌, ℕ, ◌<◌, true, false, if◌then◌else◌, ◌&&◌, List, [], ◌∷◌, map, refl, sym, ◌∙◌, ap, subst, arith, inl, inr}
 use Rattle.std.proofs.lemmas.Bool.{cases_Bool, cases_eq, cond-true, both_ways, and_from, and_right}
 use Rattle.std.proofs.lemmas.Bool.Decides.{nat_tests}
@@ -44,7 +44,7 @@ module _ (unicode : UnicodeMeaning) (lawful : LawfulUnicode unicode) where
   pub prepared-with_props : (item : Item) → IsPreparedItem unicode (with_unicode_props unicode item)
   prepared-with_props item = record { mark = refl; ccc = ccc_with_props item.codepoint }
 
--- what being prepared goes by: the character, the class and the category
+-- what being prepared depends on: the character, the class and the category
 abbrev pub PreparedKey : Type 0
 PreparedKey = ℕ × (ℕ × hb_unicode_general_category_t)
 

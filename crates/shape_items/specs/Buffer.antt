@@ -71,7 +71,7 @@ MAX_LEN_FACTOR = 64
 abbrev pub MAX_LEN_MIN : ℕ
 MAX_LEN_MIN = 16384
 
--- the most items that a buffer takes: all that can be counted where there is no limit
+-- the most items that a buffer takes: all that can be counted if there is no limit
 abbrev pub limit_of : Buffer → ℕ
 limit_of b = unwrap_or b.length_limit most_countable
 

@@ -20,7 +20,7 @@ unsafe_to_break start end b =
     }
     else b
 
--- the span marked unsafe to concat, where the buffer's flags ask for that
+-- the span marked unsafe to concat, if the buffer's flags ask for that
 abbrev pub unsafe_to_concat : ℕ → ℕ → Buffer → Buffer
 unsafe_to_concat start end b =
     if bit_and b.flags.0 PRODUCE_UNSAFE_TO_CONCAT == PRODUCE_UNSAFE_TO_CONCAT

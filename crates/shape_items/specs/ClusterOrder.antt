@@ -14,7 +14,7 @@ IsMonotoneLevel Characters = ⊥
 abbrev pub IsNonIncreasing : List ℕ → Type 0
 IsNonIncreasing xs = (i j : ℕ) (d : ℕ) → i ≤ j → j < length xs → slice_index_or xs j d ≤ slice_index_or xs i d
 
--- nondecreasing where text runs forward, nonincreasing where it runs backward
+-- nondecreasing if text runs forward, nonincreasing if it runs backward
 abbrev pub IsOrderedFor : Bool → List ℕ → Type 0
 IsOrderedFor true xs = IsNonIncreasing xs
 IsOrderedFor false xs = IsNonDecreasing xs

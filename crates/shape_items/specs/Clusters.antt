@@ -14,14 +14,14 @@ abbrev pub least_cluster : List Item → ℕ
 least_cluster [] = 0
 least_cluster (x ∷ xs) = fold (λ least item. min least item.cluster) x.cluster xs
 
--- how far a span of that least cluster grows left: over the items directly before `start` in the cluster of its first item, where that
+-- how far a span of that least cluster grows left: over the items directly before `start` in the cluster of its first item, if that
 -- isn't the least
 abbrev pub growth_left : List Item → ℕ → ℕ → ℕ
 growth_left xs start least =
     let first = slice_index (clusters xs) start in
     if first == least then 0 else suffix_len (has_cluster first) (take start xs)
 
--- how far a span of that least cluster grows right: over the items directly after its last one in that one's cluster, where that isn't the
+-- how far a span of that least cluster grows right: over the items directly after its last one in that one's cluster, if that isn't the
 -- least
 abbrev pub growth_right : List Item → ℕ → ℕ → ℕ
 growth_right xs last least =

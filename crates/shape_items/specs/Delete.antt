@@ -12,7 +12,7 @@ use Rattle.shape_common.specs.FlagNames.{DEFINED}
 abbrev pub hand_over : Item → Item → Item
 hand_over picked item = record item { cluster = picked.cluster; mask = bit_or (feature_bits item.mask) (bit_and picked.mask DEFINED) }
 
--- the first `kept` items are kept: where the picked item's cluster is below the last one's, all of them at their end with that cluster take
+-- the first `kept` items are kept: if the picked item's cluster is below the last one's, all of them at their end with that cluster take
 -- it
 abbrev pub give_to_kept : ℕ → Item → List Item → List Item
 give_to_kept kept picked xs =

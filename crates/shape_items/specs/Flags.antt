@@ -17,7 +17,7 @@ flags_of item = bit_and item.mask DEFINED
 abbrev pub united_flags : List Item → ℕ
 united_flags items = fold (λ united item. bit_or united (flags_of item)) 0 items
 
--- where tatweel is asked for: unsafe to break clears safe to insert tatweel, and one that is left brings both unsafe flags
+-- if tatweel is asked for: unsafe to break clears safe to insert tatweel, and one that is left brings both unsafe flags
 abbrev pub with_tatweel : BufferFlags → ℕ → ℕ
 with_tatweel flags united =
     if bit_and flags.0 PRODUCE_SAFE_TO_INSERT_TATWEEL == PRODUCE_SAFE_TO_INSERT_TATWEEL then
@@ -26,7 +26,7 @@ with_tatweel flags united =
     else united)
     else united
 
--- unsafe to concat stands only where it is asked for
+-- unsafe to concat stands only if it is asked for
 abbrev pub handed_flags : BufferFlags → ℕ → ℕ
 handed_flags flags united =
     let tatweel = with_tatweel flags united in
@@ -43,7 +43,7 @@ with_mask mask item = record item { mask = mask }
 abbrev pub run_flagged : BufferFlags → List Item → List Item
 run_flagged flags run = map (with_mask (handed_flags flags (united_flags run))) run
 
--- where the run has seen flags (HAS_GLYPH_FLAGS), each cluster gets one set of them
+-- if the run has seen flags (HAS_GLYPH_FLAGS), each cluster gets one set of them
 unfoldable pub flags_propagated : Buffer → Buffer
 flags_propagated b =
     if has_glyph_flags b then record b { items = flat_map (run_flagged b.flags) (cluster_runs b.items) } else b

@@ -46,7 +46,7 @@ clusters_of direction positions place [] = []
 clusters_of direction positions place (run ∷ runs) =
     cluster_of direction positions place run ∷ clusters_of direction positions (place + length run) runs
 
--- the clusters of a result in the order of the text: that of the list, turned where text runs backward
+-- the clusters of a result in the order of the text: that of the list, reversed if text runs backward
 abbrev pub clusters_in_text_order : Buffer → List GlyphCluster
 clusters_in_text_order b =
     let clusters = clusters_of b.direction b.positions 0 (cluster_runs b.items) in

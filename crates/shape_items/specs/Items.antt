@@ -68,7 +68,7 @@ feature_bits mask = bit_and mask 0xFFFFFFF8
 abbrev pub has_cluster : ℕ → Item → Bool
 has_cluster cluster item = item.cluster == cluster
 
--- the item in this cluster: where its cluster changes it loses its defined flags
+-- the item in this cluster: if its cluster changes it loses its defined flags
 abbrev pub put_in : ℕ → Item → Item
 put_in cluster item =
     if item.cluster == cluster then item else record item { cluster = cluster; mask = feature_bits item.mask }

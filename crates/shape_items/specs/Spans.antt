@@ -25,7 +25,7 @@ abbrev pub spans_merged_out : List (ℕ × ℕ) → Buffer → Buffer
 spans_merged_out spans b = fold (λ b span. merge_out_clusters span.0 span.1 b) b spans
 
 -- the items before a span of that least cluster whose first item is in the cluster `first`: those at their end in that cluster are put in
--- the least, where that is below
+-- the least, if that is below
 abbrev pub grown_left : ℕ → ℕ → List Item → List Item
 grown_left first least given =
     if nat_lt least first then put_range (length given - suffix_len (has_cluster first) given) (length given) least given else given

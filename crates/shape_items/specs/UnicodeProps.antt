@@ -14,7 +14,7 @@ is_hidden_char c = (nat_le 0x180B c && nat_le c 0x180D) || c == 0x180F || (nat_l
 abbrev pub beyond_ascii : ℕ → Bool
 beyond_ascii c = nat_le 0x80 c
 
--- the item with the eight properties that go by its character alone
+-- the item with the eight properties that depend on its character alone
 abbrev pub with_unicode_props : UnicodeMeaning → Item → Item
 with_unicode_props unicode item =
     let c = item.codepoint in
@@ -32,7 +32,7 @@ with_unicode_props unicode item =
       };
     }
 
--- flags with one more, where the test holds
+-- flags with one more, if the test holds
 abbrev pub flag_if : Bool → ℕ → ℕ → ℕ
 flag_if test flag flags = if test then bit_or flags flag else flags
 

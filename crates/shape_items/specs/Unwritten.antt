@@ -4,7 +4,7 @@ use Rattle.std.specs.Prelude.{◌≡◌, ◌≢◌, ℕ, ◌≤◌, ⊤, List, [
 use Rattle.shape_items.specs.Items.{Item}
 use Rattle.shape_items.specs.Delete.{hand_over}
 
--- the item as it is once the ones after it in its run are written: it takes the next one's cluster where that is smaller
+-- the item as it is once the ones after it in its run are written: it takes the next one's cluster if that is smaller
 abbrev pub follow : Item → List Item → Item
 follow x [] = x
 follow x (y ∷ _) = if nat_lt y.cluster x.cluster then hand_over y x else x

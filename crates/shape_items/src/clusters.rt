@@ -1,6 +1,6 @@
 //! Merging of clusters and marking of items, over slices.
 //!
-//! A cluster leads from glyphs back to the text: glyphs of one cluster come from one piece of it. Where
+//! A cluster leads from glyphs back to the text: glyphs of one cluster come from one piece of it. If
 //! items of several clusters are mixed they are merged into the least one, and so are the items beside
 //! them that stood in a cluster which is now partly gone.
 ghost use Rattle.std.specs.Prelude.{◌≡◌, ◌+◌, ◌≤◌, ◌<◌, length, map, slice_range};

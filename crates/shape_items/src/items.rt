@@ -16,6 +16,9 @@ use shape_common::{ScratchFlags, hb_unicode_funcs_t, hb_unicode_general_category
 /// U+034F, which keeps apart the marks around it.
 const COMBINING_GRAPHEME_JOINER: char = '\u{34F}';
 
+/// U+180B. Below it CGJ alone is hidden, and there are no joiners.
+const FIRST_MONGOLIAN_SELECTOR: char = '\u{180B}';
+
 const ZERO_WIDTH_NON_JOINER: char = '\u{200C}';
 
 const ZERO_WIDTH_JOINER: char = '\u{200D}';
@@ -86,7 +89,7 @@ impl hb_glyph_info_t {
         self.properties.words()
     }
 
-    /// Sets the eight properties that go by the character alone; the others stay. Adds to
+    /// Sets the eight properties that depend on the character alone; the others stay. Adds to
     /// `scratch_flags` what the character shows of its text.
     pub fn init_unicode_props<U: hb_unicode_funcs_t>(&mut self, scratch_flags: &mut ScratchFlags)
         ensures item { self.new ≡ with_unicode_props U.unicode self.old }
@@ -96,7 +99,7 @@ impl hb_glyph_info_t {
         let c = self.codepoint;
         let category = U::general_category(c);
         if c < '\u{80}' {
-            self.properties.set_for_ascii(category);
+            self.properties.set_for_plain(category, 0, false, false);
             return;
         }
         let mark = category.is_mark();
@@ -106,24 +109,23 @@ impl hb_glyph_info_t {
             0
         };
         let ignorable = U::is_default_ignorable(c);
-        self.properties.set_general_category(category);
-        self.properties.set_modified_ccc(modified_ccc);
-        self.properties.set_ignorable(ignorable);
-        self.properties.set_hidden(is_hidden(c));
-        self.properties.set_continuation(mark);
-        self.properties.set_zwj(c == ZERO_WIDTH_JOINER);
-        self.properties.set_zwnj(c == ZERO_WIDTH_NON_JOINER);
-        self.properties.set_space_type(0);
         scratch_flags.insert(ScratchFlags::HAS_NON_ASCII);
         if ignorable {
             scratch_flags.insert(ScratchFlags::HAS_DEFAULT_IGNORABLES);
+        }
+        self.properties
+            .set_for_plain(category, modified_ccc, ignorable, mark);
+        if c == COMBINING_GRAPHEME_JOINER || FIRST_MONGOLIAN_SELECTOR <= c {
+            self.properties.set_hidden(is_hidden(c));
+            self.properties.set_zwj(c == ZERO_WIDTH_JOINER);
+            self.properties.set_zwnj(c == ZERO_WIDTH_NON_JOINER);
         }
         if c == COMBINING_GRAPHEME_JOINER {
             scratch_flags.insert(ScratchFlags::HAS_CGJ);
         }
     }
 
-    /// Puts the item into a cluster; where its cluster changes it loses its defined flags.
+    /// Puts the item into a cluster; if its cluster changes it loses its defined flags.
     pub(crate) fn put_in(&mut self, cluster: u32)
         ensures { self.new ≡ put_in cluster self.old }
     {
@@ -137,7 +139,7 @@ impl hb_glyph_info_t {
     pub fn _hb_glyph_info_is_unicode_mark(&self) -> bool
         ensures { result ≡ is_mark_category self.now.properties.general_category }
     {
-        self.properties.general_category().is_mark()
+        self.properties.is_mark()
     }
 
     /// Reads the general category: `init_unicode_props` sets it to the character's.
@@ -306,6 +308,6 @@ fn is_hidden(c: char) -> bool
 {
     matches!(
         c,
-        '\u{180B}'..='\u{180D}' | '\u{180F}' | '\u{E0020}'..='\u{E007F}' | COMBINING_GRAPHEME_JOINER
+        FIRST_MONGOLIAN_SELECTOR..='\u{180D}' | '\u{180F}' | '\u{E0020}'..='\u{E007F}' | COMBINING_GRAPHEME_JOINER
     )
 }

@@ -3,7 +3,7 @@
 //! Contracts see the record `Properties` of `specs/Properties.antt` and never the storage, so the
 //! storage may change without a change of any clause. It is two words, of 32 and of 64 bits, in which each
 //! property has a field of its own (`specs/Words.antt`).
-ghost use Rattle.std.specs.Prelude.{◌≡◌, false};
+ghost use Rattle.std.specs.Prelude.{◌≡◌, ◌&&◌, false, nat_le};
 ghost use Rattle.std.specs.Int.RustNames.{bit_and};
 ghost use Rattle.bit_fields.specs.Fields.{fields};
 
@@ -84,8 +84,16 @@ impl Model for ItemProperties {
     ghost inverse_ok = { made_again };
 }
 
+/// Whether a category of this number is one of the three of marks, which stand side by side.
+fn is_mark_number(number: u8) -> bool
+    ensures { result ≡ (nat_le 5 number && nat_le number 7) }
+{
+    matches!(number, 5..=7)
+}
+
 /// What each property is, its accessors say (`_hb_glyph_info_get_` and `_hb_glyph_info_set_`).
 impl ItemProperties {
+    ghost use Rattle.shape_common.specs.Category.{is_mark_category};
     ghost use Rattle.shape_items.specs.Items.{new_properties};
     ghost use Rattle.shape_items.specs.Words.{first_widths, first_values};
     ghost use Rattle.shape_items.specs.Words.{second_widths, second_values};
@@ -101,26 +109,32 @@ impl ItemProperties {
         }
     }
 
-    /// Makes the eight properties that go by a character those of an ASCII character of this category: it has
-    /// no other. One write of the first word, once compiled.
-    pub(crate) fn set_for_ascii(&mut self, general_category: hb_unicode_general_category_t)
+    /// Sets the eight properties that go by a character for one that is no joiner, and hidden from no lookup. One
+    /// write of the first word, once compiled.
+    pub(crate) fn set_for_plain(
+        &mut self,
+        general_category: hb_unicode_general_category_t,
+        modified_ccc: u8,
+        ignorable: bool,
+        continuation: bool,
+    )
         ensures { self.new ≡ record self.old {
           general_category = general_category;
-          modified_ccc = 0;
+          modified_ccc = modified_ccc;
           space_type = 0;
-          ignorable = false;
+          ignorable = ignorable;
           hidden = false;
-          continuation = false;
+          continuation = continuation;
           zwj = false;
           zwnj = false;
         } }
     {
         self.set_general_category(general_category);
-        self.set_modified_ccc(0);
+        self.set_modified_ccc(modified_ccc);
         self.set_space_type(0);
-        self.set_ignorable(false);
+        self.set_ignorable(ignorable);
         self.set_hidden(false);
-        self.set_continuation(false);
+        self.set_continuation(continuation);
         self.set_zwj(false);
         self.set_zwnj(false);
     }
@@ -137,6 +151,13 @@ impl ItemProperties {
         ensures { result ≡ self.now.general_category }
     {
         hb_unicode_general_category_t::of_number(read_byte(self.first, GENERAL_CATEGORY))
+    }
+
+    /// Whether the category is one of the three of marks. Its number tells, without the category being made of it.
+    pub(crate) fn is_mark(&self) -> bool
+        ensures { result ≡ is_mark_category self.now.general_category }
+    {
+        is_mark_number(read_byte(self.first, GENERAL_CATEGORY))
     }
 
     pub(crate) fn set_general_category(&mut self, general_category: hb_unicode_general_category_t)

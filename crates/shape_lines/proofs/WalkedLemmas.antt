@@ -11,7 +11,7 @@ use Rattle.shape_lines.proofs.TotalLemmas.{IsWithin-total, narrow-take, narrow-d
 use Rattle.shape_lines.proofs.LeastLemmas.{least_at-below, least_at-reached}
 
 module _ (ps : List Part) (width : ℤ) (cut : ℕ → ℕ → Line) where
-  -- where no longer part fits, the line ends where it was taken to
+  -- if no longer part fits, the line ends where it was taken to
   taken_ends : (start taken : ℕ) → IsTaken ps width start taken
       → ((later : ℕ) → taken < later → MayEnd ps start later → width <ℤ width_between ps start later)
       → IsLineEnd ps width start taken
@@ -67,7 +67,7 @@ module _ (ps : List Part) (width : ℤ) (cut : ℕ → ℕ → Line) where
     none_new : (end : ℕ) → place < end → end < place + 1 → is_end ps end ≡ false
     none_new end after before = absurd (omega arith)
 
-    -- where some part fits that ends here or later, the line is taken up to here
+    -- if some part fits that ends here or later, the line is taken up to here
     pub IsWalked-taken : (so_far +ℤ least (drop place ps)) ≤ℤ width → IsWalked ps width cut lines start place so_far (pos 0) place (place + 1)
     IsWalked-taken fit =
         let at = least_at-reached ps place within in
@@ -92,7 +92,7 @@ module _ (ps : List Part) (width : ℤ) (cut : ℕ → ℕ → Line) where
           });
         }
 
-    -- and where it has met no end yet
+    -- and if it has met no end yet
     pub IsWalked-begun : taken ≡ start → IsWalked ps width cut lines start place so_far (pos 0) place (place + 1)
     IsWalked-begun none =
         let order = h.order in

@@ -7,7 +7,7 @@ use Rattle.shape_lines.specs.TextOrder.{Glyph, text_order}
 use Rattle.shape_lines.specs.declared.cutting.Line.{Line}
 use Rattle.shape_lines.specs.declared.reading.Part.{Part}
 
--- a glyph after one of this cluster: the text may be cut before it where its own is another and it lacks UNSAFE_TO_BREAK
+-- a glyph after one of this cluster: the text may be cut before it if its own is another and it lacks UNSAFE_TO_BREAK
 abbrev pub part_after : ℕ → Glyph → Part
 part_after before glyph = record { width = glyph.width; cut = not (glyph.cluster == before) && glyph.lacks_break }
 
@@ -51,7 +51,7 @@ pub record IsLongestThatFits (parts : List Part) (width : ℤ) (start end : ℕ)
   pub fits : Fits parts width start end
   pub none_longer : (later : ℕ) → end < later → MayEnd parts start later → width <ℤ width_between parts start later
 
--- where none fits, the shortest one
+-- if none fits, the shortest one
 pub record IsShortest (parts : List Part) (width : ℤ) (start end : ℕ) : Type 0 where
   pub may_end : MayEnd parts start end
   pub none_fits : (other : ℕ) → MayEnd parts start other → width <ℤ width_between parts start other

@@ -1,4 +1,4 @@
--- Lines of a shaped text: each the longest part from its start that fits, and where none fits the shortest one.
+-- Lines of a shaped text: each the longest part from its start that fits, and if none fits the shortest one.
 use Rattle.std.specs.Prelude.{◌≡◌, ◌⊎◌, ℕ, ◌-◌, ◌<◌, ◌≤◌, ℤ, pos, ◌+ℤ◌, ◌≤ℤ◌, ◌<ℤ◌, List, [], ◌∷◌, length, slice_range, if◌then◌else◌}
 use Rattle.shape_items.specs.Buffer.{Buffer}
 use Rattle.shape_items.specs.Clusters.{clusters}
@@ -26,7 +26,7 @@ pub record IsLongest (glyphs : List Glyph) (width : ℤ) (start end : ℕ) : Typ
   pub fits : width_from glyphs start end ≤ℤ width
   pub none_longer : (later : ℕ) → end < later → MayEndAt glyphs start later → width <ℤ width_from glyphs start later
 
--- the shortest part, where none fits
+-- the shortest part, if none fits
 pub record IsShortestAsNoneFits (glyphs : List Glyph) (width : ℤ) (start end : ℕ) : Type 0 where
   pub may_end : MayEndAt glyphs start end
   pub none_fits : (other : ℕ) → MayEndAt glyphs start other → width <ℤ width_from glyphs start other
@@ -37,7 +37,7 @@ pub record IsLeastCluster (glyphs : List Glyph) (start end least : ℕ) : Type 0
   pub is_one : (k : ℕ) × (start ≤ k) × (k < end) × (cluster_at glyphs k ≡ least)
   pub none_less : (k : ℕ) → start ≤ k → k < end → least ≤ cluster_at glyphs k
 
--- where a line begins and where it ends in the order of the text: from the end of the list where clusters fall
+-- where a line begins and where it ends in the order of the text: from the end of the list if clusters fall
 abbrev pub first_place : Buffer → Line → ℕ
 first_place b line = if falls (clusters b.items) then length b.items - line.glyph_end else line.glyph_start
 

@@ -16,7 +16,7 @@ pub record Glyph : Type 0 where
   pub lacks_break : Bool
   pub width : ℤ
 
--- a glyph's width: how far it moves the pen on, downwards where the direction is vertical
+-- a glyph's width: how far it moves the pen on, downwards if the direction is vertical
 abbrev pub width_of : Direction → GlyphPosition → ℤ
 width_of direction position = if is_vertical direction then neg_ℤ position.y_advance else position.x_advance
 
@@ -37,7 +37,7 @@ glyphs_of direction (item ∷ items) (position ∷ positions) = glyph_of directi
 abbrev pub falls : List ℕ → Bool
 falls ks = nat_lt (slice_index ks (length ks - 1)) (slice_index ks 0)
 
--- from the end of the list where its clusters fall
+-- from the end of the list if its clusters fall
 abbrev pub text_order : Buffer → List Glyph
 text_order b =
     let glyphs = glyphs_of b.direction b.items b.positions in

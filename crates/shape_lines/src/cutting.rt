@@ -30,7 +30,7 @@ pub struct Line {
 }
 
 /// The walk over a text: the lines so far, where the line that it is in begins, up to which end it was taken
-/// (its start where it has met none), and how wide it is from each of the two.
+/// (its start if it has met none), and how wide it is from each of the two.
 #[derive(Drop)]
 struct Walk {
     lines: Vec<Line>,
@@ -41,10 +41,10 @@ struct Walk {
 }
 
 /// The lines of a shaped text that ends at this cluster, in the order of the text, so from the end of the list
-/// where clusters fall. A line's width is the exact sum of its glyphs' advances, downwards where the direction
+/// if clusters fall. A line's width is the exact sum of its glyphs' advances, downwards if the direction
 /// is vertical. Each line is the longest part from its start to a place of a cut, or to the end of the text,
-/// that is at most this wide; where none is, it is the shortest one. No glyphs make no line, and take no
-/// memory. Refuses with `Memory` where a growth was refused. Asks that `can_cut` is true.
+/// that is at most this wide; if none is, it is the shortest one. No glyphs make no line, and take no
+/// memory. Refuses with `Memory` if a growth was refused. Asks that `can_cut` is true.
 pub fn cut_lines(
     alloc: Global,
     glyphs: &GlyphBuffer,
@@ -109,7 +109,7 @@ fn least_widths(alloc: Global, glyphs: &GlyphBuffer) -> Result<Vec<i128>, AllocE
     Ok(widths)
 }
 
-/// The least width from a part on, where that after it is known.
+/// The least width from a part on, given the least width after it.
 fn least_on(part: Part, behind: i128) -> i128
     requires narrow { IsNarrow part.width }
     requires small { IsSmall behind }
@@ -150,7 +150,7 @@ fn line_between(glyphs: &GlyphBuffer, text_end: u32, start: usize, end: usize) -
 }
 
 impl Walk {
-    /// Meets a place where a line may end: the line is taken up to it where it can be, and else ends where it
+    /// Meets a place where a line may end: the line is taken up to it if it can be, and else ends where it
     /// was taken to before; `least` is the least width from the place to an end at it or after it.
     fn meet_end(
         &mut self,

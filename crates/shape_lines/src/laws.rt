@@ -7,9 +7,9 @@ ghost use Rattle.shape_lines.specs.RightLines.{AreRightLines};
 ghost use Rattle.shape_lines.specs.TextOrder.{text_order};
 ghost use Rattle.shape_lines.specs.declared.cutting.Line.{Line};
 
-/// A line may end between two neighbouring glyphs of different clusters, where no glyph of the greater cluster
-/// has `UNSAFE_TO_BREAK`: a place of a cut. In the order of the text, from the end of the list where clusters
-/// fall, one glyph tells: where the glyphs can be cut, exactly the places of a cut are those before a glyph
+/// A line may end between two neighbouring glyphs of different clusters, if no glyph of the greater cluster
+/// has `UNSAFE_TO_BREAK`: a place of a cut. In the order of the text, from the end of the list if clusters
+/// fall, one glyph tells: if the glyphs can be cut, exactly the places of a cut are those before a glyph
 /// that begins another cluster and lacks the flag.
 pub fn places_are_told_by_one_glyph()
     ensures { (glyphs : Buffer) (text_end place : ℕ) → CanCut glyphs text_end

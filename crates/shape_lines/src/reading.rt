@@ -1,4 +1,4 @@
-//! The glyphs of a buffer, read in the order of their text: from the end of the list where clusters fall.
+//! The glyphs of a buffer, read in the order of their text: from the end of the list if clusters fall.
 ghost use Rattle.std.specs.Prelude.{◌≡◌, ◌<◌, ◌-◌, ◌==◌, length, get_or, not};
 ghost use Rattle.shape_items.specs.Clusters.{clusters};
 ghost use Rattle.shape_common.specs.Positions.{zero_position};
@@ -44,7 +44,7 @@ pub(super) fn cluster_at(glyphs: &GlyphBuffer, place: usize) -> u32
     infos[listed(infos, place)].cluster
 }
 
-/// The glyph at a place of the text. A line may end before it where its cluster is another than that of the
+/// The glyph at a place of the text. A line may end before it if its cluster isn't that of the
 /// glyph before it, and it lacks `UNSAFE_TO_BREAK`.
 pub(super) fn part_at(glyphs: &GlyphBuffer, place: usize) -> Part
     requires { place < length glyphs.now.items }
@@ -68,7 +68,7 @@ fn begins_cluster(glyphs: &GlyphBuffer, place: usize) -> bool
     place > 0 && cluster_at(glyphs, place) != cluster_at(glyphs, place - 1)
 }
 
-/// How far the glyph at a place of the list moves the pen on, downwards where the direction is vertical.
+/// How far the glyph at a place of the list moves the pen on, downwards if the direction is vertical.
 fn width_at(glyphs: &GlyphBuffer, at: usize) -> i64
     requires { at < length glyphs.now.items }
     ensures value { result

@@ -1,4 +1,4 @@
--- The rows of what a walk notes of the runs that it puts out.
+-- The rows of what a walk notes of the runs that it emits.
 use Rattle.std.proofs.Common.{◌≡◌, ℕ, ◌++◌, List, [], ◌∷◌, length, get_or, refl, sym, ap, ◌∙◌, arith}
 use Rattle.std.specs.List.{flat_map}
 use Rattle.shape_normalize.specs.RoundTwo.{moved_spans, all_moved_spans}

@@ -2,7 +2,6 @@
 mod OriginLemmas
 mod StarterLemmas
 mod PlaceLemmas
-mod WholeRunLemmas
 mod HookPlaceLemmas
 mod FromTextLemmas
 pub mod ByPlaceLemmas

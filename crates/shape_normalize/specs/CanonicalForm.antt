@@ -62,7 +62,7 @@ pub record CanonicalFormPremises (rules : Rules) (b : Buffer) : Type 0 where
   pub equivalence : EquivalencePremises rules b
   pub canonical : CanonicalTextPremises rules (text_of b)
 
--- a text recomposed: marks go into the starter before them where the composed character has a glyph
+-- a text recomposed: marks go into the starter before them if the composed character has a glyph
 abbrev pub recomposed_text : Rules → List ℕ → List ℕ
 recomposed_text rules text =
     recomposed rules.unicode.ccc (is_blocked rules.unicode.ccc) (is_mark rules.unicode)
@@ -75,7 +75,7 @@ pub record IsRecomposedForm (rules : Rules) (text new : List ℕ) : Type 0 where
   pub equivalent : AreEquivalent rules text canonical
   pub is : new ≡ recomposed_text rules canonical
 
--- a text whose normalised characters go by its characters alone: its items are prepared, there are no variation selectors and no hook that
+-- a text whose normalised characters depend on its characters alone: its items are prepared, there are no variation selectors and no hook that
 -- reorders
 pub record PlainPremises (rules : Rules) (b : Buffer) : Type 0 where
   pub prepared : IsPrepared rules.unicode b.items
@@ -95,7 +95,7 @@ pub record CutPremises (rules : Rules) (old front back : Buffer) : Type 0 where
   pub back_marked : has_mark_past_first back.items ≡ true
 
 -- normalising leads from the one text to an equivalent one, which is canonical or recomposed of a canonical one, and the same for
--- equivalent texts alone; it goes by characters alone, and may be done part by part
+-- equivalent texts alone; it depends on characters alone, and may be done part by part
 pub record NormalizesCanonically (rules : Rules) (old new : Buffer) : Type 0 where
   pub equivalent : EquivalencePremises rules old → AreEquivalent rules (text_of old) (text_of new)
   pub canonical : rules.recomposes ≡ false → CanonicalFormPremises rules old → HasCanonicalForm rules (text_of new)

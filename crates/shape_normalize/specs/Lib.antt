@@ -1,3 +1,4 @@
+pub mod Part
 pub mod RoundOne
 pub mod RoundTwo
 pub mod OneWalk

@@ -13,14 +13,14 @@ use Rattle.shape_normalize.specs.RoundOne.{round_one, item_glyph, sequences, seq
 use Rattle.shape_normalize.specs.RoundThree.{recomposed_items, recomposed_by_last, with_put_out, round_three}
 use Rattle.shape_normalize.specs.RoundTwo.{max_run, has_mark_past_first, has_seen_cgj, marks_ordered, cgj_unhidden_where_seen, OrdersMarks}
 
--- the buffer with its expanded list, with its marks in order where a mark stood past the first item as normalising began, and with each CGJ
+-- the buffer with its expanded list, with its marks in order if a mark stood past the first item as normalising began, and with each CGJ
 -- unhidden that keeps nothing apart
 abbrev pub ordered : Rules → Buffer → Buffer
 ordered rules b =
     let expanded = round_one rules b in
     cgj_unhidden_where_seen (if has_mark_past_first b.items then marks_ordered rules.reorder expanded else expanded)
 
--- the buffer with its normalised list: the ordered one, recomposed in the modes that compose, where a mark stood past the first item
+-- the buffer with its normalised list: the ordered one, recomposed in the modes that compose, if a mark stood past the first item
 abbrev pub normalized : Rules → Buffer → Buffer
 normalized rules b = if has_mark_past_first b.items && rules.recomposes then round_three rules (ordered rules b) else ordered rules b
 
@@ -28,7 +28,7 @@ normalized rules b = if has_mark_past_first b.items && rules.recomposes then rou
 abbrev pub BroughtInHaveGlyphs : (ℕ → Option GlyphId) → List ℕ → List ℕ → Type 0
 BroughtInHaveGlyphs glyph before after = All (λ c. (has_glyph glyph c ≡ true) ⊎ Contains before c) after
 
--- the reorder hook keeps clusters at the monotone levels, where one is given: each of its calls, over a run in order, keeps their order and
+-- the reorder hook keeps clusters at the monotone levels, if one is given: each of its calls, over a run in order, keeps their order and
 -- brings no new one
 abbrev pub HookKeepsClusters : Rules → Type 0
 HookKeepsClusters rules =
@@ -43,7 +43,7 @@ selector_items rules b =
     (filter (is_selector_sequence rules.unicode) (sequences (variation_sequences_merged rules b).items))
 
 -- an item except for its cluster, its mask, its hidden bit and the glyph that its index becomes, which later
--- steps change, and its ccc where a reorder hook is given, which may set that
+-- steps change, and its ccc if a reorder hook is given, which may set that
 abbrev pub content : Rules → Item → Item
 content rules item = record item {
   cluster = 0;
@@ -52,7 +52,7 @@ content rules item = record item {
   properties = record item.properties { hidden = false; modified_ccc = if is_some rules.reorder then 0 else ccc_of_item item };
 }
 
--- each item has the glyph of its character, or what stands in for it, except for those that come of sequences with a variation selector
+-- each item has the glyph of its character, or what replaces it, except for those that come of sequences with a variation selector
 abbrev pub HasItemGlyph : Rules → Buffer → Item → Type 0
 HasItemGlyph rules old item =
     (item.glyph_index ≡ item_glyph rules old.invisible_glyph item)
@@ -75,7 +75,7 @@ abbrev pub HasShortRuns : List Item → Type 0
 HasShortRuns items = HasNoLongerRun (λ ccc. ccc) max_run (map ccc_of_item items)
 
 -- in the modes that compose, the new list is the ordered one, recomposed by the rule of the standard (D115 to D117); without a reorder
--- hook and without a run of more than 32 marks, the new buffer is the one that the mark put out last alone would decide
+-- hook and without a run of more than 32 marks, the new buffer is the one that the mark emitted last alone would decide
 pub record Recomposes (rules : Rules) (old new : Buffer) : Type 0 where
   pub by_all : has_mark_past_first old.items ≡ true → rules.recomposes ≡ true
       → map without_cluster new.items ≡ map (λ p. without_cluster p.item) (recomposed_items rules (ordered rules old).items)
@@ -95,7 +95,7 @@ KeepsFeatures old new = All (λ item. Contains (map features_of old.items) (feat
 abbrev pub hidden_char : Item → ℕ × Bool
 hidden_char item = (item.codepoint, item.properties.hidden)
 
--- where no CGJ was seen by the end of round one, each item's hidden bit is that of its character, or the item has the character and the
+-- if no CGJ was seen by the end of round one, each item's hidden bit is that of its character, or the item has the character and the
 -- hidden bit of one of the text
 abbrev pub KeepsHidden : Rules → Buffer → Buffer → Type 0
 KeepsHidden rules old new =

@@ -12,7 +12,8 @@ use Rattle.canonical_form.specs.Runs.{AreRunsSettled}
 use Rattle.shape_plan.specs.Rules.{Rules, has_glyph}
 use Rattle.shape_normalize.specs.Normalized.{ordered, features_of, hidden_char}
 use Rattle.shape_normalize.specs.Reordered.{unmerged, without_ccc}
-use Rattle.shape_normalize.specs.RoundOne.{item_glyph, part_item, expanded_item, variants, sequences, is_with_marks, is_selector_sequence, variation_sequences_merged, round_one}
+use Rattle.shape_normalize.specs.Part.{part_item}
+use Rattle.shape_normalize.specs.RoundOne.{item_glyph, expanded_item, variants, sequences, is_with_marks, is_selector_sequence, variation_sequences_merged, round_one}
 use Rattle.shape_normalize.specs.RoundTwo.{max_run, has_mark_past_first, unhidden, has_seen_cgj}
 use Rattle.shape_normalize.specs.RoundThree.{Absorbed, Placed, recomposed_items}
 
@@ -35,7 +36,7 @@ abbrev pub origins_from : Bool → ℕ → List Item → List Origin
 origins_from selects place [] = []
 origins_from selects place (item ∷ items) = origin_at selects place ∷ origins_from selects (suc place) items
 
--- of an item with the selectors directly after it: where the face has a glyph for the first two, they became one item, which came from
+-- of an item with the selectors directly after it: if the face has a glyph for the first two, they became one item, which came from
 -- the first
 abbrev pub variant_origins : FaceMeaning → ℕ → List Item → List Origin
 variant_origins face place [] = []
@@ -70,7 +71,7 @@ origins rules text =
     (sequences (variation_sequences_merged rules text).items)
 
 -- what an item has of the text's item at the place that it came from: the feature bits; outside sequences with a selector the glyph of
--- its own character, or what stands in for that; and the hidden bit with the character, or else that of its own character, except for a CGJ
+-- its own character, or what replaces that; and the hidden bit with the character, or else that of its own character, except for a CGJ
 -- that may have been unhidden since
 pub record HasOfOrigin (rules : Rules) (text : Buffer) (unhides : Bool) (origin : Origin) (item : Item) : Type 0 where
   pub features : features_of item ≡ features_of (item_at text.items origin.place)
@@ -108,19 +109,19 @@ pub record PermutesRuns (items : List Item) (places : List ℕ) : Type 0 where
   pub all : IsPermutation (all_places items) places
   pub runs : (i d : ℕ) → i < length items → AreInOneRun items i (get_or places i d)
 
--- the places of the expanded list in the order that round two leaves: where no reorder hook is given runs of at most 32 marks are
+-- the places of the expanded list in the order that round two leaves: if no reorder hook is given runs of at most 32 marks are
 -- settled, else each of these is in another order
 abbrev pub IsOrderOf : Rules → List Item → List ℕ → Type 0
 IsOrderOf rules items places =
     MatchOption rules.reorder (AreRunsSettled (λ place. ccc_of_item (item_at items place)) max_run [] (all_places items) places)
     (λ reorder. PermutesRuns items places)
 
--- an item except for its cluster and its defined flags, which merging changes, and for its ccc where a reorder hook is given, which may
+-- an item except for its cluster and its defined flags, which merging changes, and for its ccc if a reorder hook is given, which may
 -- set that
 abbrev pub lasting : Rules → Item → Item
 lasting rules item = if is_some rules.reorder then without_ccc item else unmerged item
 
--- an item is the one of the expanded list that stood at this place; a CGJ may be unhidden, where one was seen
+-- an item is the one of the expanded list that stood at this place; a CGJ may be unhidden, if one was seen
 abbrev pub IsFromPlace : Rules → Buffer → ℕ → Item → Type 0
 IsFromPlace rules expanded place item =
     let from = item_at expanded.items place in

@@ -13,23 +13,19 @@ use Rattle.shape_items.specs.Buffer.{Buffer}
 use Rattle.canonical_form.specs.Expansion.{chosen_expansion}
 use Rattle.shape_common.specs.Face.{FaceMeaning}
 use Rattle.shape_common.specs.Unicode.{UnicodeMeaning}
-use Rattle.shape_items.specs.UnicodeProps.{with_unicode_props, with_scratch_of}
 use Rattle.shape_common.specs.declared.flags.ScratchFlags.{ScratchFlags}
 use Rattle.shape_common.specs.declared.settings.GlyphId.{GlyphId}
 use Rattle.shape_plan.specs.Rules.{Rules, decompositions, has_glyph}
 use Rattle.shape_common.specs.FlagNames.{HAS_SPACE_FALLBACK, HAS_VARIATION_SELECTOR_FALLBACK}
+use Rattle.shape_normalize.specs.Part.{glyph_index, part_item, seen_chars}
 
 -- ---- the glyph of an item
 
--- the index of the glyph of a character, 0 where it has none
-abbrev pub glyph_index : (ℕ → Option GlyphId) → ℕ → ℕ
-glyph_index glyph c = unwrap_or (option_map (λ g. g.0) (glyph c)) 0
-
--- the glyph that stands in for a space: that of U+0020, else the buffer's invisible glyph
+-- the glyph that replaces a space: that of U+0020, else the buffer's invisible glyph
 abbrev pub space_glyph : Rules → Option GlyphId → Option GlyphId
 space_glyph rules invisible = option_or (rules.face.nominal_glyph 0x20) invisible
 
--- a space separator, by its own category, of a fallback type, where there is a glyph to stand in for it
+-- a space separator, by its own category, of a fallback type, if there is a glyph to replace it
 abbrev pub is_fallback_space : Rules → Option GlyphId → Item → Bool
 is_fallback_space rules invisible item =
     is_space_category item.properties.general_category && not (rules.unicode.space_fallback item.codepoint == 0)
@@ -42,19 +38,15 @@ fallback_index rules invisible item =
     else if item.codepoint == 0x2011 then glyph_index rules.face.nominal_glyph 0x2010
     else 0
 
--- the glyph of an item: that of its character, else what stands in for it
+-- the glyph of an item: that of its character, else what replaces it
 abbrev pub item_glyph : Rules → Option GlyphId → Item → ℕ
 item_glyph rules invisible item = option_map_or (λ g. g.0) (rules.face.nominal_glyph item.codepoint) (fallback_index rules invisible item)
 
 -- ---- items that are expanded
 
--- the expansion of an item's character, where one is supported; `true` asks for the shortest
+-- the expansion of an item's character, if one is supported; `true` asks for the shortest
 abbrev pub expansion_of : Rules → Bool → Item → Option (List ℕ)
 expansion_of rules short item = chosen_expansion (decompositions rules) (has_glyph rules.face.nominal_glyph) short item.codepoint
-
--- an item of an expansion: a copy with a character of its own, its glyph, and the properties of that character
-abbrev pub part_item : UnicodeMeaning → (ℕ → Option GlyphId) → Item → ℕ → Item
-part_item unicode glyph item c = with_unicode_props unicode (record item { codepoint = c; glyph_index = glyph_index glyph c })
 
 -- a space separator without a glyph of its own, whose fallback type is remembered
 abbrev pub remembers_space : Rules → Option GlyphId → Item → Bool
@@ -68,15 +60,11 @@ whole_item rules invisible item =
     then record kept { properties = record kept.properties { space_type = rules.unicode.space_fallback item.codepoint } }
     else kept
 
--- what an item becomes: the items of its expansion, itself where none is supported
+-- what an item becomes: the items of its expansion, itself if none is supported
 abbrev pub expanded_item : Rules → Option GlyphId → Bool → Item → List Item
 expanded_item rules invisible short item =
     option_map_or (map (part_item rules.unicode rules.face.nominal_glyph item)) (expansion_of rules short item)
     (whole_item rules invisible item ∷ [])
-
--- the scratch flags once the characters of a list were seen
-abbrev pub seen_chars : UnicodeMeaning → ScratchFlags → List ℕ → ScratchFlags
-seen_chars unicode flags chars = fold (λ flags c. with_scratch_of unicode c flags) flags chars
 
 -- scratch flags with "has space fallback"
 abbrev pub with_space_fallback : ScratchFlags → ScratchFlags
@@ -93,11 +81,11 @@ seen_expanded rules invisible short flags item =
 abbrev pub is_selector_item : UnicodeMeaning → Item → Bool
 is_selector_item unicode item = unicode.selector item.codepoint
 
--- an item that passes: it has the glyph of its character, or keeps the index that it had
+-- an item that stays: it has the glyph of its character, or keeps the index that it had
 abbrev pub passed_item : (ℕ → Option GlyphId) → Item → Item
 passed_item glyph item = record item { glyph_index = option_map_or (λ g. g.0) (glyph item.codepoint) item.glyph_index }
 
--- a selector that no glyph came of: it is marked, and no longer ignorable where there is a glyph for such
+-- a selector that no glyph came of: it is marked, and no longer ignorable if there is a glyph for such
 abbrev pub marked_selector : Option GlyphId → Item → Item
 marked_selector not_found item = record item {
   properties = record item.properties {
@@ -106,7 +94,7 @@ marked_selector not_found item = record item {
   };
 }
 
--- an item with the selectors directly after it: of the item and the first of them becomes one item, where the face has a glyph for the two
+-- an item with the selectors directly after it: of the item and the first of them becomes one item, if the face has a glyph for the two
 abbrev pub variant_items : FaceMeaning → Option GlyphId → List Item → List Item
 variant_items face not_found [] = []
 variant_items face not_found (x ∷ []) = passed_item face.nominal_glyph x ∷ []
@@ -131,7 +119,7 @@ seen_variant face flags (x ∷ v ∷ rest) =
 abbrev pub variants : UnicodeMeaning → List Item → List (List Item)
 variants unicode sequence = divided (is_selector_item unicode) sequence
 
--- the glyph of the first two of these items, where the face has one for the two
+-- the glyph of the first two of these items, if the face has one for the two
 abbrev pub variation_sequence_glyph : FaceMeaning → List Item → Option GlyphId
 variation_sequence_glyph face [] = None
 variation_sequence_glyph face (x ∷ []) = None

@@ -8,7 +8,7 @@ use Rattle.shape_items.specs.Buffer.{Buffer}
 use Rattle.shape_items.specs.Spans.{spans_merged_out}
 use Rattle.canonical_form.specs.Recompose.{is_blocked, is_blocked_by_last, compose_with_glyph, recomposed}
 use Rattle.shape_plan.specs.Rules.{Rules, has_glyph}
-use Rattle.shape_normalize.specs.RoundOne.{part_item, seen_chars}
+use Rattle.shape_normalize.specs.Part.{part_item, seen_chars}
 
 -- a mark that was composed with a starter: the place where it stood, and the character that the two made
 pub record Absorbed : Type 0 where
@@ -32,7 +32,7 @@ ccc_of_placed p = ccc_of_item p.item
 abbrev pub is_mark_placed : Placed → Bool
 is_mark_placed p = is_mark_item p.item
 
--- the starter with the character that it makes with a mark, where that has a glyph
+-- the starter with the character that it makes with a mark, if that has a glyph
 abbrev pub compose_placed : Rules → Placed → Placed → Option Placed
 compose_placed rules starter mark =
     option_map (λ c. record {
@@ -41,12 +41,12 @@ compose_placed rules starter mark =
       absorbed = starter.absorbed ++ record { place = mark.place; char = c } ∷ [];
     }) (compose_with_glyph rules.compose (has_glyph rules.face.nominal_glyph) starter.item.codepoint mark.item.codepoint)
 
--- the items that are put out: a mark is blocked by any mark between it and its starter that has ccc 0 or a ccc not less than its own
+-- the items that are emitted: a mark is blocked by any mark between it and its starter that has ccc 0 or a ccc not less than its own
 -- (D115), in runs of any length
 abbrev pub recomposed_items : Rules → List Item → List Placed
 recomposed_items rules items = recomposed ccc_of_placed (is_blocked ccc_of_placed) is_mark_placed (compose_placed rules) (placed 0 items)
 
--- the items that would be put out if the mark put out last alone were asked, as HarfBuzz asks
+-- the items that would be emitted if the mark emitted last alone were asked, as HarfBuzz asks
 abbrev pub recomposed_by_last : Rules → List Item → List Placed
 recomposed_by_last rules items =
     recomposed ccc_of_placed (is_blocked_by_last ccc_of_placed) is_mark_placed (compose_placed rules) (placed 0 items)
@@ -63,7 +63,7 @@ composed_chars out = flat_map (λ p. map (λ mark. mark.char) p.absorbed) out
 abbrev pub with_cluster_at : List Item → Placed → Item
 with_cluster_at items p = let at = get_or items p.place p.item in record p.item { cluster = at.cluster; mask = at.mask }
 
--- the buffer with these items put out of its list, each span of a composition merged, at positions of zeros
+-- the buffer with these items as its list, each span of a composition merged, at positions of zeros
 -- the spans are merged while the marks that go still stand: each is in one cluster with the item before it from then on, so that a later
 -- merge grows over both or neither
 abbrev pub with_put_out : Rules → Buffer → List Placed → Buffer
@@ -91,11 +91,11 @@ spans_between from (mark ∷ absorbed) = (from, mark.place + 1) ∷ spans_betwee
 abbrev pub chained_spans : List Placed → List (ℕ × ℕ)
 chained_spans out = flat_map (λ p. spans_between p.place p.absorbed) out
 
--- after marks of this greatest ccc, 0 where there are none, a mark of such a ccc is blocked from their starter
+-- after marks of this greatest ccc, 0 if there are none, a mark of such a ccc is blocked from their starter
 abbrev pub is_blocked_behind : ℕ → ℕ → Bool
 is_blocked_behind greatest ccc = nat_lt 0 greatest && nat_le ccc greatest
 
--- the character that a starter makes with an item after it and after marks of this greatest ccc, where the two compose
+-- the character that a starter makes with an item after it and after marks of this greatest ccc, if the two compose
 abbrev pub composed_char : Rules → Item → ℕ → Item → Option ℕ
 composed_char rules starter greatest next =
     if is_mark_item next && not (is_blocked_behind greatest (ccc_of_item next))
@@ -105,7 +105,7 @@ composed_char rules starter greatest next =
 abbrev pub cluster_and_mask : Item → ℕ × ℕ
 cluster_and_mask item = (item.cluster, item.mask)
 
--- what the walk makes of the items: each that is put out stands at its place, with the cluster and the mask that it had
+-- what the walk makes of the items: each that is emitted stands at its place, with the cluster and the mask that it had
 pub record AreComposedInPlace (rules : Rules) (old new : List Item) : Type 0 where
   pub in_place : map (λ (p : Placed). slice_get new p.place) (recomposed_items rules old)
       ≡ map (λ (p : Placed). Some p.item) (recomposed_items rules old)

@@ -1,4 +1,4 @@
--- Whose ccc counts where a shaper's hooks are given, computed on small cases whose answers are worked out by hand: Unicode's of each
+-- Whose ccc counts when a shaper's hooks are given, computed on small cases whose answers are worked out by hand: Unicode's of each
 -- character that a hook splits or composes, and the item's own of each mark that a hook has reordered.
 use Rattle.std.specs.Prelude.{◌≡◌, ℕ, ◌+◌, ◌==◌, ◌&&◌, Bool, true, false, if◌then◌else◌, List, [], ◌∷◌, map, get_or, Some, None, refl}
 use Rattle.shape_items.specs.Buffer.{Buffer}
@@ -62,7 +62,7 @@ first_two_turned b start end = exchanged start (start + 1) b
 abbrev pub reordering : ℕ → (Buffer → ℕ → ℕ → Buffer) → Rules
 reordering mode reorder = record (rules_in mode marks_and_letters) { reorder = Some reorder }
 
--- the same where a CGJ was seen, by characters and whether they are hidden
+-- the same if a CGJ was seen, by characters and whether they are hidden
 abbrev pub hidden_by : Rules → List Item → List (ℕ × Bool)
 hidden_by rules items =
     map hidden_char (normalized rules (record (buffer_of items) { scratch_flags = record { 0 = 8 } })).items

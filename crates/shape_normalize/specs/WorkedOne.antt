@@ -25,7 +25,7 @@ pub record ModesWorked : Type 0 where
   pub composed_composes : mode_recomposes (pos 2) ≡ true
   pub no_short_circuit_composes : mode_recomposes (pos 3) ≡ true
   pub auto_composes : mode_recomposes (pos 4) ≡ true
-  -- a plan that keeps no shaper goes by AUTO, whatever the shaper prefers
+  -- a plan that keeps no shaper uses AUTO, whatever the shaper prefers
   pub without_shaper : (plan : Plan ℕ ℕ ℕ) → used_mode (pos 1) (record plan { shaper = None }) ≡ pos 4
   pub with_shaper : (shaper : ℕ) (plan : Plan ℕ ℕ ℕ) → used_mode (pos 1) (record plan { shaper = Some shaper }) ≡ pos 1
 
@@ -57,7 +57,7 @@ own_space c = let plain : Item = item c 0 in record plain { properties = record 
 abbrev pub letter_2002 : Item
 letter_2002 = let plain : Item = item 0x2002 0 in record plain { properties = record plain.properties { general_category = OtherLetter } }
 
--- what stands in for a glyph
+-- what replaces a glyph
 pub record GlyphsWorked : Type 0 where
   pub own_first : item_glyph (rules_in 1 (0x20 ∷ 0x2002 ∷ [])) None (item 0x2002 0) ≡ 0x2002
   pub space : item_glyph (rules_in 1 (0x20 ∷ [])) None (item 0x2002 0) ≡ 0x20

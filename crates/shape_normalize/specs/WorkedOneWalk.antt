@@ -17,7 +17,7 @@ expanded_chars rules text = map char_of (round_one rules (buffer_of (map (λ c. 
 abbrev pub normalized_chars : Rules → List ℕ → List ℕ
 normalized_chars rules text = map char_of (normalized rules (buffer_of (map (λ c. item c 0) text))).items
 
--- mode DECOMPOSED, where U+0062 splits into two marks out of order
+-- mode DECOMPOSED, in which U+0062 splits into two marks out of order
 abbrev pub falling_rules : Rules
 falling_rules =
     let plain : Rules = rules_in 1 (0x61 ∷ 0x301 ∷ 0x323 ∷ []) in
@@ -43,13 +43,13 @@ pub record ExpandedMarks : Type 0 where
   -- a mark as first item that expands begins a run, which a later mark goes on
   pub first_mark_expands : normalized_chars (rules_in 1 (0x61 ∷ 0x308 ∷ 0x301 ∷ 0x323 ∷ [])) (0x344 ∷ 0x323 ∷ 0x61 ∷ [])
       ≡ 0x323 ∷ 0x308 ∷ 0x301 ∷ 0x61 ∷ []
-  -- runs by what is put out: 32 marks are put in order, and 33 stay
+  -- runs by what is emitted: 32 marks are put in order, and 33 stay
   pub run_of_32 : normalized_chars (rules_in 1 (0x61 ∷ 0x308 ∷ 0x301 ∷ [])) (0x61 ∷ pairs 16) ≡ 0x61 ∷ split_pairs 16
   pub run_of_33 : normalized_chars (rules_in 1 (0x61 ∷ 0x308 ∷ 0x301 ∷ 0x323 ∷ [])) (0x61 ∷ (pairs 16 ++ 0x323 ∷ []))
       ≡ 0x61 ∷ (split_pairs 16 ++ 0x323 ∷ [])
   pub run_of_31 : normalized_chars (rules_in 1 (0x61 ∷ 0x308 ∷ 0x301 ∷ 0x323 ∷ [])) (0x61 ∷ (pairs 15 ++ 0x323 ∷ []))
       ≡ 0x61 ∷ 0x323 ∷ split_pairs 15
-  -- the first run is put in order where a mark stands past the first item, however late
+  -- the first run is put in order if a mark stands past the first item, however late
   pub no_mark_past_first : normalized_chars falling_rules (0x62 ∷ 0x61 ∷ 0x61 ∷ []) ≡ 0x301 ∷ 0x323 ∷ 0x61 ∷ 0x61 ∷ []
   pub mark_comes_late : normalized_chars falling_rules (0x62 ∷ 0x61 ∷ 0x61 ∷ 0x301 ∷ []) ≡ 0x323 ∷ 0x301 ∷ 0x61 ∷ 0x61 ∷ 0x301 ∷ []
 
@@ -71,7 +71,7 @@ expanded_marks = record {
 abbrev pub falling_then_mark : List ℕ
 falling_then_mark = 0 ∷ 230 ∷ 220 ∷ 0 ∷ 12 ∷ []
 
--- what a walk notes by the ccc of what it puts out
+-- what a walk notes by the ccc of what it emits
 pub record NotedRuns : Type 0 where
   pub runs_on : runs_from 1 3 (220 ∷ 0 ∷ 230 ∷ []) ≡ (1, 4) ∷ (5, 6) ∷ []
   pub runs_at_end : runs_from 2 4 [] ≡ (2, 4) ∷ []

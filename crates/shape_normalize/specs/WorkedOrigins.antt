@@ -16,13 +16,13 @@ origins_of chars items = origins (rules_in 1 chars) (buffer_of items)
 
 -- the places of round one
 pub record PlacesWorked : Type 0 where
-  -- U+00E1 splits in two, and stays where a part has no glyph
+  -- U+00E1 splits in two, and stays if a part has no glyph
   pub parts : origins_of (0x61 ∷ 0x301 ∷ []) (item 0xE1 0 ∷ item 0x62 1 ∷ [])
       ≡ origin_at false 0 ∷ origin_at false 0 ∷ origin_at false 1 ∷ []
   pub whole : origins_of (0x61 ∷ []) (item 0xE1 0 ∷ item 0x62 1 ∷ []) ≡ origin_at false 0 ∷ origin_at false 1 ∷ []
   pub in_sequence : origins_of (0x61 ∷ 0x301 ∷ []) (item 0xE1 0 ∷ item 0x323 1 ∷ item 0xE1 2 ∷ [])
       ≡ origin_at false 0 ∷ origin_at false 0 ∷ origin_at false 1 ∷ origin_at false 2 ∷ origin_at false 2 ∷ []
-  -- U+0061 and its selector become one item, which came from the first, where the face has a glyph for the two
+  -- U+0061 and its selector become one item, which came from the first, if the face has a glyph for the two
   pub variation_sequence :
       origins_of (0x61 ∷ 0xFE00 ∷ []) (item 0x61 0 ∷ item 0xFE00 1 ∷ item 0x301 2 ∷ [])
       ≡ origin_at true 0 ∷ origin_at true 2 ∷ []
@@ -38,7 +38,7 @@ pub record PlacesWorked : Type 0 where
   -- a selector by itself is expanded as any item is
   pub lone_selector : origins_of [] (item 0xFE00 0 ∷ []) ≡ origin_at false 0 ∷ []
 
--- what came of these items by the end, where their two marks change places
+-- what came of these items by the end, if their two marks change places
 abbrev pub two_marks : Buffer
 two_marks = buffer_of (item 0x62 0 ∷ item 0x61 1 ∷ item 0x301 2 ∷ item 0x323 3 ∷ [])
 
@@ -52,7 +52,7 @@ pub record NewPlacesWorked : Type 0 where
   pub expanded_composed : new_origins (rules_in 3 (0x61 ∷ 0xE1 ∷ 0x301 ∷ 0x323 ∷ [])) (buffer_of (item 0xE1 0 ∷ item 0x323 1 ∷ []))
       (0 ∷ 2 ∷ 1 ∷ [])
       ≡ origin_at false 0 ∷ origin_at false 1 ∷ []
-  -- nothing is composed where no mark stood past the first item
+  -- nothing is composed if no mark stood past the first item
   pub unmarked : new_origins (rules_in 3 (0x61 ∷ 0xE1 ∷ 0x301 ∷ [])) (buffer_of (item 0xE1 0 ∷ item 0x62 1 ∷ [])) (0 ∷ 1 ∷ 2 ∷ [])
       ≡ origin_at false 0 ∷ origin_at false 0 ∷ origin_at false 1 ∷ []
 
@@ -81,7 +81,7 @@ pub record OfOriginWorked : Type 0 where
   -- nor with another glyph than its character's, except for sequences with a selector
   pub other_glyph : Has (origin_at false 0) (masked 256 7 (item 0x61 0)) → ⊥
   pub variant_glyph : Has (origin_at true 0) (masked 256 7 (item 0x61 0))
-  -- nor hidden where neither it nor its character is
+  -- nor hidden if neither it nor its character is
   pub other_hidden : Has (origin_at false 0) (masked 256 0x61 (hidden_item (item 0x61 0))) → ⊥
   pub neighbour_hidden : Has (origin_at false 1) (masked 512 0x61 (hidden_item (item 0x61 0))) → ⊥
   -- except for a CGJ, once these were unhidden, and for nothing else
@@ -108,7 +108,7 @@ pub record OrderWorked : Type 0 where
   pub in_run : AreInOneRun runs_of_marks 3 1
   pub not_with_starter : AreInOneRun runs_of_marks 1 0 → ⊥
   pub not_past_starter : AreInOneRun runs_of_marks 3 5 → ⊥
-  -- a hook may turn the run round, and move no starter, nor a mark to another run, nor leave one out
+  -- a hook may reverse the run, and move no starter, nor a mark to another run, nor leave one out
   pub turned : IsOrderOf hooked runs_of_marks (0 ∷ 3 ∷ 2 ∷ 1 ∷ 4 ∷ 5 ∷ [])
   pub starter_moved : IsOrderOf hooked runs_of_marks (1 ∷ 0 ∷ 2 ∷ 3 ∷ 4 ∷ 5 ∷ []) → ⊥
   pub other_run : IsOrderOf hooked runs_of_marks (0 ∷ 1 ∷ 2 ∷ 5 ∷ 4 ∷ 3 ∷ []) → ⊥

@@ -6,7 +6,7 @@ use Rattle.shape_common.specs.declared.general_category.hb_unicode_general_categ
 use Rattle.shape_common.specs.declared.settings.BufferClusterLevel.TheVariants.{Characters}
 use Rattle.shape_normalize.specs.RoundThree.{Placed, recomposed_items, recomposed_by_last, absorbed_spans, chained_spans, round_three, AreComposedInPlace, ends_taken_out}
 use Rattle.shape_normalize.specs.Normalized.{normalized}
-use Rattle.shape_normalize.specs.RoundOne.{part_item}
+use Rattle.shape_normalize.specs.Part.{part_item}
 use Rattle.shape_normalize.specs.RoundTwo.{run_settled}
 use Rattle.shape_common.specs.Positions.{zero_position}
 use Rattle.shape_plan.specs.Rules.{Rules}
@@ -28,7 +28,7 @@ pub record ComposedWorked : Type 0 where
   -- not past one of the same ccc
   pub past_same : recomposed_chars (0x61 ∷ 0xE1 ∷ 0x301 ∷ 0x308 ∷ []) (item 0x61 0 ∷ item 0x308 1 ∷ item 0x301 2 ∷ [])
       ≡ 0x61 ∷ 0x308 ∷ 0x301 ∷ []
-  -- nor where marks of a smaller ccc come after that one
+  -- nor if marks of a smaller ccc come after that one
   pub past_same_and_smaller : recomposed_chars (0x61 ∷ 0xE1 ∷ 0x301 ∷ 0x308 ∷ 0x323 ∷ [])
       (item 0x61 0 ∷ item 0x308 1 ∷ item 0x323 2 ∷ item 0x301 3 ∷ []) ≡ 0x61 ∷ 0x308 ∷ 0x323 ∷ 0x301 ∷ []
   -- the first item is a starter, whatever its ccc
@@ -42,7 +42,7 @@ pub record ComposedWorked : Type 0 where
   -- so that a mark after it doesn't compose with the starter before
   pub starter_between : recomposed_chars (0x61 ∷ 0xE1 ∷ 0x301 ∷ 0x323 ∷ [])
       (item 0x61 0 ∷ item 0x323 1 ∷ item 0x62 2 ∷ item 0x301 3 ∷ []) ≡ 0x61 ∷ 0x323 ∷ 0x62 ∷ 0x301 ∷ []
-  -- and what was put out before it blocks nothing after it
+  -- and what was emitted before it blocks nothing after it
   pub new_starter_forgets : recomposed_chars (0x61 ∷ 0xE1 ∷ 0x301 ∷ 0x308 ∷ [])
       (item 0x61 0 ∷ item 0x308 1 ∷ item 0x61 2 ∷ item 0x301 3 ∷ []) ≡ 0x61 ∷ 0x308 ∷ 0xE1 ∷ []
 
@@ -72,7 +72,7 @@ around mark count = item 0x61 0 ∷ item mark 0 ∷ replicate count (item 0x323 
 abbrev normalized_chars : List Item → List ℕ
 normalized_chars items = map (λ (one : Item). one.codepoint) (normalized (rules_in 3 few_chars) (buffer_of items)).items
 
--- the characters that would be put out if the mark put out last alone were asked
+-- the characters that would be emitted if the mark emitted last alone were asked
 abbrev chars_by_last : List Item → List ℕ
 chars_by_last items = map (λ (p : Placed). p.item.codepoint) (recomposed_by_last (rules_in 3 few_chars) items)
 

@@ -65,7 +65,7 @@ world = record {
   script_direction = λ s. None;
 }
 
--- a face in which each of these characters has the glyph of its own number; U+0061 with U+FE00 after it has glyph 7 where the face has
+-- a face in which each of these characters has the glyph of its own number; U+0061 with U+FE00 after it has glyph 7 if the face has
 -- U+FE00
 abbrev pub face_of : List ℕ → FaceMeaning
 face_of chars = record bare_face {

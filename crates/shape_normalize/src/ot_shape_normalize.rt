@@ -25,6 +25,7 @@ mod decompose;
 mod expand_and_order;
 mod mode;
 mod one_walk;
+mod part;
 mod premises;
 mod round_one;
 mod round_three;
@@ -58,16 +59,16 @@ use std::alloc::Global;
 /// Each item becomes the items of an expansion of its character that the face has glyphs for, the
 /// shortest or the longest one, and takes the glyph that the face answers; a space or a non-breaking
 /// hyphen without a glyph takes that of another. A sequence of an item and its marks that holds a
-/// variation selector isn't expanded. Where a mark stood past the first item as normalising began, each
+/// variation selector isn't expanded. If a mark stood past the first item as normalising began, each
 /// run of at most 32 marks is put in the order of their ccc, the clusters of the spans that this
 /// moves are merged, the shaper may reorder the run, and in the modes that compose, marks are composed
 /// with their starters again, whose clusters are merged. Each CGJ that keeps nothing apart is unhidden.
-/// A mark is composed only where its ccc is greater than that of every mark between it and its starter.
+/// A mark is composed only if its ccc is greater than that of every mark between it and its starter.
 /// So under the first premises of `canonical_form` the list is equivalent to the text, however many marks
 /// stand in a row; canonical form itself asks for runs of at most 32.
 ///
-/// Refuses with `Length` where the expanded list is longer than the buffer's limit, and with `Memory`
-/// where a growth was refused; after a refusal the buffer is cleared. An empty buffer is left as it is,
+/// Refuses with `Length` if the expanded list is longer than the buffer's limit, and with `Memory`
+/// if a growth was refused; after a refusal the buffer is cleared. An empty buffer is left as it is,
 /// and no memory is taken.
 pub fn _hb_ot_shape_normalize<U, F, M, S>(
     alloc: Global,
@@ -141,7 +142,7 @@ fn normalize<T: ShapingTypes>(
     run_rounds::<T>(alloc, &mut ctx)
 }
 
-/// Expands the items and unhides CGJ; where there are marks past the first item, puts them in order, and
+/// Expands the items and unhides CGJ; if there are marks past the first item, puts them in order, and
 /// composes them in the modes that do. Leaves an empty list as it is.
 fn run_rounds<T: ShapingTypes>(alloc: Global, ctx: &mut ContextOf<'_, T>) -> Result<(), ShapeError>
     ensures same_reference { ctx.new.buffer.ghost_name ≡ ctx.old.buffer.ghost_name }

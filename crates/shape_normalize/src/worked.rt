@@ -7,7 +7,7 @@ ghost use Rattle.shape_normalize.specs.WorkedOrigins.{OriginsWorked};
 ghost use Rattle.shape_normalize.specs.WorkedThree.{RoundThreeWorked};
 ghost use Rattle.shape_normalize.specs.WorkedTwo.{RoundTwoWorked};
 
-/// Modes, glyphs that stand in for others, expansions, sequences and variation selectors.
+/// Modes, glyphs that replace others, expansions, sequences and variation selectors.
 pub fn round_one_meets_worked_cases()
     ensures { RoundOneWorked }
 {}
@@ -32,7 +32,7 @@ pub fn origins_meet_worked_cases()
     ensures { OriginsWorked }
 {}
 
-/// Whose ccc counts where hooks split, compose or reorder.
+/// Whose ccc counts if hooks split, compose or reorder.
 pub fn hooks_meet_worked_cases()
     ensures { HooksWorked }
 {}

@@ -60,7 +60,7 @@ module _ (run : Run) (same : run.rules.unicode ≡ run.unicode) (lawful : Lawful
     });
   }
 
--- the normalised list of any text is canonical, where the run's hooks keep equivalence
+-- the normalised list of any text is canonical, if the run's hooks keep equivalence
 pub list_is_canonical : {S P D F : Type 0} (unicode : UnicodeMeaning) (masks : P → MapMeaning) (lookups : P → F → LookupMeaning)
     (constants : ShaperConstants) (hooks : S → Plan S P D → F → HookMeaning) (faces : F → FaceMeaning) (plan : Plan S P D) (face : F)
     → LawfulUnicode unicode → (text : Buffer) → ListIsCanonical (run_of unicode masks lookups constants hooks faces plan face) text

@@ -17,7 +17,7 @@ use Rattle.shape_plan.specs.Decisions.{MasksAreFeatures}
 use Rattle.shape_plan.specs.Keepers.{RunKeepsFlags}
 use Rattle.shape_plan.specs.Run.{Run}
 use Rattle.shape_position.specs.Steps.{show_steps, finish_steps}
-use Rattle.shape_position.specs.Turning.{turned}
+use Rattle.shape_position.specs.Reversal.{turned}
 use Rattle.shape_position.proofs.StepKeepers.{steps_keep_flags}
 use Rattle.shape_prepare.specs.Begun.{begun}
 use Rattle.shape_prepare.specs.ClustersFormed.{clusters_formed}
@@ -34,7 +34,7 @@ use Rattle.shape_pipeline.proofs.PartLemmas.{Leads, Leads-then, EachStep-glyph_p
 abbrev HasFlags : BufferFlags → Buffer → Type 0
 HasFlags flags b = b.flags ≡ flags
 
--- and the run has seen it where a glyph has a flag
+-- and the run has seen it if a glyph has a flag
 record IsSeen (flags : BufferFlags) (b : Buffer) : Type 0 where
   honest : IsHonest b
   asked : b.flags ≡ flags

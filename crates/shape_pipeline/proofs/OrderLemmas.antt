@@ -23,7 +23,7 @@ use Rattle.shape_normalize.proofs.Normalized.ClusterOrderLemmas.{KeepsOrder-norm
 use Rattle.shape_normalize.proofs.Hooks.ReorderLemmas.{LawfulReorder}
 use Rattle.shape_plan.specs.Run.{Run}
 use Rattle.shape_position.specs.Steps.{show_steps, finish_steps}
-use Rattle.shape_position.specs.Turning.{turned}
+use Rattle.shape_position.specs.Reversal.{turned}
 use Rattle.shape_position.proofs.StepKeepers.{steps_keep_clusters}
 use Rattle.shape_prepare.specs.ClusterPoint.{InOrderFor, direction_for, is_turned}
 use Rattle.shape_prepare.specs.PrepareSteps.{prepare_steps}
@@ -42,7 +42,7 @@ record Comes (From : ℕ → Type 0) (b : Buffer) : Type 0 where
   from : (k : ℕ) → Contains (clusters b.items) k → From k
   monotone : IsMonotoneLevel b.cluster_level
 
--- turned against the target direction exactly where the clusters fall
+-- reversed against the target direction exactly when the clusters fall
 record IsFacing (From : ℕ → Type 0) (target : Direction) (b : Buffer) : Type 0 where
   comes : Comes From b
   turned : Bool
@@ -100,7 +100,7 @@ run_keeps kept (step ∷ steps) keep b state =
 Leads-keepers : {State : Buffer → Type 0} → IsKept State → (steps : List Step) → EachStep IsClusterKeeper steps → Leads State steps State
 Leads-keepers kept steps keep = record { leads = run_keeps kept steps keep }
 
--- ---- the two turns: where the text was turned against the target once, it is turned back, and nowhere else
+-- ---- the two reversals: if the text was reversed against the target once, it is reversed back, and never else
 
 back_again : (target : Direction) → target ≢ Invalid → not (is_backward (reverse_of target)) ≡ is_backward target
 back_again Invalid valid = absurd (valid refl)

@@ -9,7 +9,7 @@ use Rattle.shape_fallback.specs.Keepers.{EachFallback}
 use Rattle.shape_fallback.specs.Steps.{recategorize_step, spaces_step, marks_step}
 use Rattle.shape_plan.specs.Run.{Run}
 use Rattle.shape_position.specs.Steps.{advance_steps, table_steps}
-use Rattle.shape_substitute.specs.Kept.{EachSubstitutionStep}
+use Rattle.shape_substitute.specs.Keepers.{EachSubstitutionStep}
 use Rattle.shape_substitute.specs.Substitution.{mask_steps, glyph_steps, substitute_steps}
 use Rattle.shape_pipeline.specs.Shaped.{glyph_start, glyph_part, place_start, place_part}
 

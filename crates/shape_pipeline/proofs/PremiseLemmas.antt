@@ -1,4 +1,4 @@
--- Where the hooks do nothing of their own and the lookups keep clusters and flags, a run's premises hold.
+-- If the hooks do nothing of their own and the lookups keep clusters and flags, a run's premises hold.
 use Rattle.std.proofs.Common.{◌≡◌, ◌⊎◌, inl, inr, ℕ, Bool, true, false, ◌||◌, List, Option, Some, None, refl, sym, subst, ◌∙◌, arith}
 use Rattle.std.specs.Option.{option_map}
 use Rattle.canonical_form.specs.Equivalent.{ComposesSoundly}
@@ -150,7 +150,7 @@ module _ {S : Type 0} (unicode : UnicodeMeaning) (lawful : LawfulUnicode unicode
       ComposesSoundly (used_decompositions unicode splits (Some h)) (used_compose unicode composes (Some h)) in
       subst P (sym (none s)) (composes-none unicode lawful splits composes)
 
--- each item's mark and ccc are those of its character as normalising begins, where the shaper's hook leaves them so
+-- each item's mark and ccc are those of its character as normalising begins, if the shaper's hook leaves them so
 pub prepared_text-prepared : (run : Run) (text : Buffer) → LawfulUnicode run.unicode
     → ((hooks : HookMeaning) → run.hooks ≡ Some hooks → run.constants.has_preprocess_text ≡ true
     → KeepsPrepared run.unicode hooks.preprocess)
@@ -161,7 +161,7 @@ prepared_text-prepared run text lawful keeps =
     (λ none. subst (λ (items : List Item). IsPrepared run.unicode items) (sym none) (λ k d within. absurd (omega (arith, within))))
     (preparing_prepares run (target_of run text) (entered begun) lawful keeps)
 
--- a hook that reorders marks is none where it isn't given
+-- a hook that reorders marks is none if it isn't given
 no_reorder-keeps : (rules : Rules) → rules.reorder ≡ None → HookKeepsClusters rules
 no_reorder-keeps rules no_reorder reorder is = absurd (let e : None ≡ Some reorder = sym no_reorder ∙ is in cc)
 

@@ -52,7 +52,7 @@ pub record IsCutInTwo (run : Run) (text front back : Buffer) : Type 0 where
   pub back_marked : has_mark_past_first (prepared_text run back).items ≡ true
 
 -- the normalised list is equivalent to the prepared text, canonical or recomposed of a canonical one, the same as another text's exactly
--- where both are equivalent; it goes by characters alone, and may be made part by part
+-- when both are equivalent; it depends on characters alone, and may be made part by part
 pub record HasCanonicalList (run : Run) (text : Buffer) : Type 0 where
   pub equivalent : HasPlainText run text → AreEquivalent run.rules (prepared_characters run text) (normalised_characters run text)
   pub canonical : run.rules.recomposes ≡ false → HasCanonicalText run text → HasCanonicalForm run.rules (normalised_characters run text)
@@ -67,11 +67,11 @@ pub record HasCanonicalList (run : Run) (text : Buffer) : Type 0 where
   pub cuts : (front back : Buffer) → IsCutInTwo run text front back
       → normalised_characters run text ≡ normalised_characters run front ++ normalised_characters run back
 
--- so it is where hooks keep equivalence
+-- so it is if hooks keep equivalence
 abbrev pub ListIsCanonical : Run → Buffer → Type 0
 ListIsCanonical run text = RunKeepsEquivalence run → HasCanonicalList run text
 
--- preparing leaves the characters of a text, with script and direction guessed: no dotted circle goes in, nothing is turned, mirrored or
+-- preparing leaves the characters of a text, with script and direction guessed: no dotted circle goes in, nothing is reversed, mirrored or
 -- taken in its vertical form, and a given `preprocess_text` leaves characters
 abbrev pub LeavesText : Run → Buffer → Type 0
 LeavesText run text = LeavesCharacters run (target_of run text) (entered (guessed run.unicode text))
@@ -83,7 +83,7 @@ pub record HasOwnCharacters (run : Run) (text : Buffer) : Type 0 where
   pub plain : HasNoSelector run.rules (text_of text)
   pub canonical : CanonicalTextPremises run.rules (text_of text)
 
--- two texts that preparing leaves are led to the same normalised characters exactly where they are equivalent
+-- two texts that preparing leaves are led to the same normalised characters exactly when they are equivalent
 abbrev pub SpellingsMeet : Run → Type 0
 SpellingsMeet run =
     (one other : Buffer) → HasOwnCharacters run one → HasOwnCharacters run other

@@ -36,7 +36,7 @@ IsMadeOfNormalisedList run text glyphs =
     HasItems text → glyphs ≡ finished (target_of run text) (run_steps (shaped_steps run) (normalised_list run text))
 
 -- what is promised of the normalised list of a prepared text: what is brought in has a glyph, each item has the glyph of its character
--- or what stands in for it, features are those of the text's items, each item comes by its place, clusters keep their order,
+-- or what replaces it, features are those of the text's items, each item comes by its place, clusters keep their order,
 -- canonical form, and what recomposing leaves
 pub record NormalForm (rules : Rules) (text list : Buffer) : Type 0 where
   pub brought_in : BroughtInHaveGlyphs rules.face.nominal_glyph (text_of text) (text_of list)
@@ -55,6 +55,6 @@ pub record HasFlagsByCluster (text glyphs : Buffer) : Type 0 where
   pub concat : (bit_and text.flags.0 PRODUCE_UNSAFE_TO_CONCAT == PRODUCE_UNSAFE_TO_CONCAT) ≡ false
       → some_has UNSAFE_TO_CONCAT glyphs.items ≡ false
 
--- so it is where lookups and hooks keep flags
+-- so it is if lookups and hooks keep flags
 abbrev pub FlagsAreByCluster : Run → Buffer → Buffer → Type 0
 FlagsAreByCluster run text glyphs = RunKeepsFlags run → HasFlagsByCluster text glyphs

@@ -1,4 +1,4 @@
-pub mod Kept
+pub mod SettingsPutBack
 pub mod Shaped
 pub mod Order
 pub mod Headline

@@ -30,7 +30,7 @@ pub record ComesInOrder (run : Run) (target : Direction) (text glyphs : Buffer) 
       → (k : ℕ) → Contains (clusters glyphs.items) k → Contains (grapheme_clusters run text) k
   pub ordered : IsOrderedFor (is_backward target) (clusters glyphs.items)
 
--- so it is at the monotone levels, where lookups and hooks keep clusters and those of the text never fall
+-- so it is at the monotone levels, if lookups and hooks keep clusters and those of the text never fall
 abbrev pub ClustersComeInOrder : Run → Direction → Buffer → Buffer → Type 0
 ClustersComeInOrder run target text glyphs =
     RunKeepsClusters run → IsMonotoneLevel text.cluster_level → IsNonDecreasing (clusters text.items)

@@ -1,4 +1,4 @@
--- The plan that a text is shaped by where none is given, and what its shaper made for it.
+-- The plan that a text is shaped by if none is given, and what its shaper made for it.
 use Rattle.std.specs.Prelude.{List, Option}
 use Rattle.shape_items.specs.Buffer.{Buffer}
 use Rattle.shape_buffer.specs.Guess.{guessed_direction, guessed_script}
@@ -12,6 +12,6 @@ abbrev pub planned_for : {F S P D : Type 0} → UnicodeMeaning → Planning F S 
 planned_for unicode planning face shaper features text =
     planned planning face shaper (guessed_direction unicode text) (guessed_script unicode text) text.language features
 
--- what the shaper makes for that plan: of the plan as it is without, where it is kept and gives the hook
+-- what the shaper makes for that plan: of the plan as it is without, if it is kept and gives the hook
 abbrev pub data_for_text : {F S P D : Type 0} → UnicodeMeaning → Planning F S P D → F → S → List Feature → Buffer → Option D
 data_for_text unicode planning face shaper features text = own_data planning (planned_for unicode planning face shaper features text)

@@ -1,4 +1,4 @@
--- What a run owes, where its shaper gives no hook and its engine has no lookups: nothing.
+-- What a run owes, if its shaper gives no hook and its engine has no lookups: nothing.
 use Rattle.std.specs.Prelude.{◌≡◌, ◌⊎◌, false, None}
 use Rattle.shape_items.specs.Buffer.{Buffer}
 use Rattle.shape_items.specs.Prepared.{IsPrepared}

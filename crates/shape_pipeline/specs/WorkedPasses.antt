@@ -52,7 +52,7 @@ pub record ListsOfGlyphs (run : Run) : Type 0 where
 
 -- ---- limits
 
--- the prepared text passes its limit where it is expanded
+-- the prepared text passes its limit if it is expanded
 abbrev pub ExpandingPasses : Run → Direction → Type 0
 ExpandingPasses run target =
     let text = prepared run target (entered one_item) in

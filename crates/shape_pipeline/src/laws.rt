@@ -47,7 +47,7 @@ pub fn no_lookups_keep()
 {}
 
 /// Hooks that aren't given are never called, and hooks that leave buffers as they are change nothing. So a
-/// run by a shaper without other hooks keeps clusters, or flags, where its engine's lookups do. For clusters
+/// run by a shaper without other hooks keeps clusters, or flags, if its engine's lookups do. For clusters
 /// its hook that reorders marks must keep them too. Of hooks that split and compose nothing is asked.
 pub fn hooks_not_given_keep<U, F, M, S>()
 where
@@ -66,8 +66,8 @@ where
 {}
 
 /// Hook by hook: a shaper that gives one hook owes what that one does, and nothing of the others. A run keeps
-/// clusters, or flags, where each of its hooks that is given does and its engine's lookups do; of the hook
-/// that reorders marks the first asks its own. It keeps equivalence where none splits, composes or reorders,
+/// clusters, or flags, if each of its hooks that is given does and its engine's lookups do; of the hook
+/// that reorders marks the first asks its own. It keeps equivalence if none splits, composes or reorders,
 /// and a given `preprocess_text` leaves prepared items prepared.
 pub fn given_hooks_keep<U, F, M, S>()
 where
@@ -92,7 +92,7 @@ where
         → RunKeepsEquivalence run }
 {}
 
-/// A run owes nothing where its shaper's hooks do what is done without them, whichever of them are given
+/// A run owes nothing if its shaper's hooks do what is done without them, whichever of them are given
 /// except for the one that reorders marks, and its lookups keep clusters and flags: then it does so too, and
 /// what canonical form asks of a shaper holds of every text.
 pub fn runs_without_hooks_owe_nothing<U, F, M, S>()
@@ -108,16 +108,16 @@ where
         → LookupsKeepClusters run.lookups → LookupsKeepFlags run.lookups → OwesNothing run }
 {}
 
-/// A run of the default shaper with the engine that changes nothing owes nothing, whatever the functions of
-/// Unicode, the plan and the face: also under the plan that `shape` makes.
+/// A run of the default shaper with the engine that changes nothing owes nothing, whatever the Unicode
+/// functions, the plan and the face: also under the plan that `shape` makes.
 pub fn plain_runs_owe_nothing<U: hb_unicode_funcs_t, F: hb_font_t>()
     ensures { (plan : Plan DefaultShaper Unit Unit) (face : F)
         → OwesNothing (⟦<hb_default_shaper_t as Runs<U, F, NoLookups>>⟧.run plan face) }
 {}
 
-/// Where preparing leaves the characters of a text (no dotted circle goes in, nothing is turned, mirrored or
+/// If preparing leaves the characters of a text (no dotted circle goes in, nothing is reversed, mirrored or
 /// taken in its vertical form, and a given hook leaves characters), they are those of the prepared text. So
-/// two such texts are led to the same normalised characters exactly where they are equivalent, where hooks
+/// two such texts are led to the same normalised characters exactly when they are equivalent, if hooks
 /// keep equivalence and canonical form can be asked of both.
 pub fn equivalent_spellings_meet<U, F, M, S>()
 where
@@ -134,8 +134,8 @@ where
 {}
 
 /// What `shape` and `shape_with_plan` answer can be cut into lines, by their clauses `clusters` and `flags`: at a
-/// monotone level, where the text's clusters never fall, lookups and hooks keep clusters and flags, and each
-/// cluster of the text is below its end. Where `push_str` brought the text in, that is its length in bytes:
+/// monotone level, if the text's clusters never fall, lookups and hooks keep clusters and flags, and each
+/// cluster of the text is below its end. If `push_str` brought the text in, that is its length in bytes:
 /// the clauses `clusters` of `push_str` say both.
 pub fn glyphs_can_be_cut()
     ensures { (run : Run) (target : Direction) (text glyphs : Buffer) (text_end : ℕ)

@@ -26,7 +26,7 @@ use shape_prepare::prepare::prepare;
 pub use shape_substitute::syllables::syllabic_clear_var;
 use std::alloc::Global;
 
-/// A buffer that is being shaped, with the plan and the face that this goes by, and the direction that the
+/// A buffer that is being shaped, with the plan and the face that it is shaped by, and the direction that the
 /// text was handed over in. `S` is the type of the shaper, `P` that of the compiled lookups, `D` that of the
 /// shaper's data.
 #[derive(Drop)]
@@ -40,8 +40,8 @@ pub struct hb_ot_shape_context_t<'a, F, S, P, D> {
 /// Prepares a text for normalising: begins a run, sets properties and finds graphemes, puts in a dotted
 /// circle, forms clusters, puts the text in its native order, calls the shaper's `preprocess_text`, and takes
 /// the forms of characters for the target direction. Does nothing for an empty list, and takes no memory
-/// then. `target_direction` must be the buffer's direction, and not Invalid. Refuses with `Length` where a
-/// step would leave a list past the run's limit, and with `Memory` where a growth was refused; the buffer is
+/// then. `target_direction` must be the buffer's direction, and not Invalid. Refuses with `Length` if a
+/// step would leave a list past the run's limit, and with `Memory` if a growth was refused; the buffer is
 /// cleared then.
 pub fn prepare_text<U, F, M, S>(
     alloc: Global,
@@ -115,8 +115,8 @@ fn enter_and_prepare<T: ShapingTypes>(
 
 /// Shapes the text of a buffer: every step of a run, from entering to leaving. Does nothing for an empty
 /// list, and takes no memory then. `target_direction` must be the buffer's direction, and not Invalid.
-/// Refuses with `Length` where a step would leave a list past the run's limit (in normalising the expanded
-/// list counts), and with `Memory` where a growth was refused; the buffer is cleared then.
+/// Refuses with `Length` if a step would leave a list past the run's limit (in normalising the expanded
+/// list counts), and with `Memory` if a growth was refused; the buffer is cleared then.
 pub fn shape_internal<U, F, M, S>(
     alloc: Global,
     ctx: &mut hb_ot_shape_context_t<'_, F, S, M::Map, S::Data>,

@@ -20,11 +20,11 @@ use shape_plan::planner::Plans;
 use std::alloc::Global;
 
 /// The glyphs of a text by a plan that fits it, with positions in units of the face and clusters that lead
-/// back to the text. Script and direction are guessed where they aren't set. Refuses with `Length` where a
+/// back to the text. Script and direction are guessed if they aren't set. Refuses with `Length` if a
 /// step would leave a list past the run's limit (in normalising the expanded list counts), and with
-/// `Memory` where a growth was refused; the fault holds the cleared buffer. An empty text gives an empty
+/// `Memory` if a growth was refused; the fault holds the cleared buffer. An empty text gives an empty
 /// result and takes no memory. `form` is a law of the list that the run normalises, `canonical` says that it
-/// is equivalent to the text where hooks keep equivalence, and `made` that the glyphs are made of that list.
+/// is equivalent to the text if hooks keep equivalence, and `made` that the glyphs are made of that list.
 pub fn shape_with_plan<U, F, M, S>(
     alloc: Global,
     face: &F,
@@ -82,11 +82,11 @@ where
     }
 }
 
-/// The glyphs of a text: script and direction are guessed where they aren't set, a plan is made for them with
+/// The glyphs of a text: script and direction are guessed if they aren't set, a plan is made for them with
 /// the features that the user asks for, and the text is shaped by it; see [`shape_with_plan`]. A plan is made
-/// for an empty text too. Refuses with `Length` where a step would leave a list past the run's limit, and
-/// with `Memory` where a growth was refused, planning included; the fault holds the cleared buffer. `form` is
-/// a law of the list that the run normalises, `canonical` says that it is equivalent to the text where hooks
+/// for an empty text too. Refuses with `Length` if a step would leave a list past the run's limit, and
+/// with `Memory` if a growth was refused, planning included; the fault holds the cleared buffer. `form` is
+/// a law of the list that the run normalises, `canonical` says that it is equivalent to the text if hooks
 /// keep equivalence, `made` that the glyphs are made of that list, and `data` what the shaper's data is
 /// in the plan.
 pub fn shape<U, F, M, S>(

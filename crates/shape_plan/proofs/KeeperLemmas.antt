@@ -8,7 +8,7 @@ use Rattle.shape_plan.specs.Keepers.{EachCalledLookup}
 use Rattle.shape_plan.specs.Run.{Run, step_if, hook_if}
 use Rattle.shape_plan.specs.Shaper.{HookMeaning}
 
--- a step owes nothing where it isn't due
+-- a step owes nothing if it isn't due
 pub keeper-step_due : (Keeps : (Buffer → Buffer) → Type 0) → Keeps (λ b. b) → {f : Buffer → Buffer} (test : Bool)
     → (test ≡ true → Keeps f) → Keeps (step_if test f)
 keeper-step_due Keeps none true keeper = keeper refl

@@ -4,7 +4,7 @@ use Rattle.shape_buffer.specs.Layout.{HasNoDefinedFlag}
 use Rattle.shape_plan.specs.declared.decisions.Decisions.{Decisions}
 use Rattle.shape_plan.specs.declared.decisions.PlanFacts.{PlanFacts}
 
--- a feature has lookups where its mask isn't 0
+-- a feature has lookups if its mask isn't 0
 abbrev pub is_on : ℕ → Bool
 is_on mask = not (mask == 0)
 
@@ -16,7 +16,7 @@ has_frac f = is_on f.frac_mask || (is_on f.numr_mask && is_on f.dnom_mask)
 abbrev pub apply_trak : PlanFacts → Bool
 apply_trak f = is_on f.trak_mask && f.tables.trak
 
--- GSUB substitutes where morx doesn't
+-- GSUB substitutes if morx doesn't
 abbrev pub has_gsub : PlanFacts → Bool
 has_gsub f = not f.apply_morx && f.tables.gsub
 
@@ -34,11 +34,11 @@ apply_gpos f = not (prefers_kerx f) && has_gpos f
 abbrev pub lacks_kerning : PlanFacts → Bool
 lacks_kerning f = not (prefers_kerx f) && (not f.has_gpos_kern || not (apply_gpos f))
 
--- kerx where it is preferred, and where kerning is lacking
+-- kerx if it is preferred, or if kerning is lacking
 abbrev pub apply_kerx : PlanFacts → Bool
 apply_kerx f = prefers_kerx f || (lacks_kerning f && f.tables.kerx)
 
--- the table kern where kerning is lacking and there is no kerx
+-- the table kern if kerning is lacking and there is no kerx
 abbrev pub apply_kern : PlanFacts → Bool
 apply_kern f = lacks_kerning f && (not f.tables.kerx && f.has_kerning)
 
@@ -54,11 +54,11 @@ zero_marks f = f.script_zero_marks && (not (apply_kerx f) && (not (apply_kern f)
 abbrev pub adjusts : PlanFacts → Bool
 adjusts f = not (apply_gpos f) && (not (apply_kerx f) && (not (apply_kern f) || not f.has_cross_kerning))
 
--- where nothing places them and the given shaper wishes it
+-- if nothing places them and the given shaper wishes it
 abbrev pub fallback_mark_positioning : PlanFacts → Bool
 fallback_mark_positioning f = adjusts f && f.script_fallback_mark_positioning
 
--- where nothing places them, except for faces with morx, which count on it
+-- if nothing places them, except for faces with morx, which count on it
 abbrev pub adjust_when_zeroing : PlanFacts → Bool
 adjust_when_zeroing f = adjusts f && not f.apply_morx
 
@@ -98,14 +98,14 @@ pub record MasksAreFeatures (d : Decisions) : Type 0 where
   pub kern : HasNoDefinedFlag d.kern_mask
   pub trak : HasNoDefinedFlag d.trak_mask
 
--- which of GPOS and kerx is to run, the rule of the steps that position: GPOS alone where both are applied
+-- which of GPOS and kerx is to run, the rule of the steps that position: GPOS alone if both are applied
 abbrev pub runs_gpos : Decisions → Bool
 runs_gpos d = d.apply_gpos
 
 abbrev pub runs_kerx : Decisions → Bool
 runs_kerx d = not d.apply_gpos && d.apply_kerx
 
--- kerning falls back exactly where no table positions; kern and kerx are never both applied. `one_table` holds of any decisions, by the two
+-- kerning falls back exactly when no table positions; kern and kerx are never both applied. `one_table` holds of any decisions, by the two
 -- definitions above; that the steps call at most one of GPOS and kerx is the law `one_table_runs` of shape_position
 pub record PositionsByOneTable (d : Decisions) : Type 0 where
   pub fallback : IsTrue d.apply_fallback_kern ↔ ((d.apply_gpos ≡ false) × (d.apply_kerx ≡ false) × (d.apply_kern ≡ false))

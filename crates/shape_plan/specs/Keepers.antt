@@ -5,7 +5,7 @@ use Rattle.shape_buffer.specs.Keepers.{IsClusterKeeper, IsFlagKeeper}
 use Rattle.shape_plan.specs.Run.{Run}
 use Rattle.shape_plan.specs.Shaper.{ShaperConstants, HookMeaning}
 
--- a property of each pause that a run calls: of the numbers that its stages answer, where `morx` doesn't stand in their place
+-- a property of each pause that a run calls: of the numbers that its stages answer, if `morx` doesn't stand in their place
 abbrev pub EachCalledPause : ((Buffer → Buffer) → Type 0) → Run → HookMeaning → Type 0
 EachCalledPause Keeps run hooks =
     run.decisions.apply_morx ≡ false → (i n : ℕ) → i < run.map.stages → run.map.pause_after i ≡ Some n → Keeps (hooks.pause n)
@@ -37,7 +37,7 @@ pub record EachCalledLookup (Keeps : (Buffer → Buffer) → Type 0) (run : Run)
       → Keeps (run.lookups.aat_position run.decisions.kern_mask)
   pub kern : run.decisions.apply_kern ≡ true → Keeps (run.lookups.kern run.decisions.kern_mask)
 
--- a property of each lookup that is called and of each hook of the shaper, where the plan keeps it
+-- a property of each lookup that is called and of each hook of the shaper, if the plan keeps it
 pub record EachCall (Keeps : (Buffer → Buffer) → Type 0) (run : Run) : Type 0 where
   pub lookups : EachCalledLookup Keeps run
   pub hooks : (hooks : HookMeaning) → run.hooks ≡ Some hooks → EachHook Keeps run hooks

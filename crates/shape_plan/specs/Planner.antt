@@ -28,10 +28,10 @@ pub record Planner (F S : Type 0) : Type 0 where
   pub apply_morx : Bool
   pub script_zero_marks : Bool
   pub script_fallback_mark_positioning : Bool
-  -- where it is kept
+  -- if it is kept
   pub shaper : Option S
 
--- what planning goes by: the answers of faces and engine, the shaper's constants and those of its hooks that make a plan
+-- what planning depends on: the answers of faces and engine, the shaper's constants and those of its hooks that make a plan
 pub record Planning (F S P D : Type 0) : Type 0 where
   pub faces : F → FaceMeaning
   pub layouts : F → LayoutMeaning P
@@ -41,7 +41,7 @@ pub record Planning (F S P D : Type 0) : Type 0 where
   pub overriding : S → Builder → Direction → Option Script → List MapRequest
   pub made_data : S → Plan S P D → D
 
--- morx substitutes where the face has it and the text is horizontal or there is no GSUB
+-- morx substitutes if the face has it and the text is horizontal or there is no GSUB
 abbrev pub uses_morx : hb_tables_t → Direction → Bool
 uses_morx tables direction = tables.morx && (is_horizontal direction || not tables.gsub)
 
@@ -49,7 +49,7 @@ uses_morx tables direction = tables.morx && (is_horizontal direction || not tabl
 abbrev pub kept_shaper : {S : Type 0} → Bool → Bool → S → Option S
 kept_shaper apply_morx is_default shaper = if apply_morx && not is_default then None else Some shaper
 
--- a planner begins without requests; what the given shaper wishes of marks counts even where it gives way
+-- a planner begins without requests; what the given shaper wishes of marks counts even if it gives way
 unfoldable pub begun_planner : {F S P D : Type 0} → Planning F S P D → F → S → Direction → Option Script → Option (List ℕ) → Planner F S
 begun_planner planning face shaper direction script language =
     let morx = uses_morx (planning.faces face).tables direction in record {
@@ -83,7 +83,7 @@ is_chosen chosen script = option_map_or (λ c. c.0 == script.0) chosen false
 abbrev pub is_gpos_disabled : {S : Type 0} → Option hb_tag_t → Option S → Option hb_tag_t → Bool
 is_gpos_disabled gpos_tag shaper chosen = is_some shaper && option_map_or (λ script. not (is_chosen chosen script)) gpos_tag false
 
--- what the decisions go by, where `map` is what the requests were compiled to
+-- what the decisions depend on, where `map` is what the requests were compiled to
 unfoldable pub facts_of : {F S P D : Type 0} → Planning F S P D → Planner F S → MapMeaning → PlanFacts
 facts_of planning planner map =
     let layout = planning.layouts planner.face in
@@ -108,7 +108,7 @@ facts_of planning planner map =
       has_cross_kerning = layout.has_cross_kerning;
     }
 
--- what the shaper makes for a plan, where it is kept and gives the hook
+-- what the shaper makes for a plan, if it is kept and gives the hook
 abbrev pub data_for : {S P D : Type 0} → Bool → (S → Plan S P D → D) → Plan S P D → Option D
 data_for given made plan = option_map (λ make. make plan) (hook_of given made plan.shaper)
 

@@ -30,7 +30,7 @@ forms LeftToRight = on tag.ltra F_NONE ∷ on tag.ltrm F_NONE ∷ []
 forms RightToLeft = on tag.rtla F_NONE ∷ add tag.rtlm F_NONE ∷ []
 forms _ = []
 
--- fractions, which masks turn on where digits stand round a slash
+-- fractions, which masks switch on where digits stand round a slash
 abbrev pub fractions : List MapRequest
 fractions = add tag.frac F_NONE ∷ add tag.numr F_NONE ∷ add tag.dnom F_NONE ∷ []
 
@@ -38,7 +38,7 @@ fractions = add tag.frac F_NONE ∷ add tag.numr F_NONE ∷ add tag.dnom F_NONE 
 abbrev pub random : List MapRequest
 random = feature_on tag.rand F_RANDOM 255 ∷ []
 
--- tracking, which a table of its own may stand in for, and two features of faces that come before those of a script
+-- tracking, whose work a table of its own may do, and two features of faces that come before those of a script
 abbrev pub tracking : List MapRequest
 tracking = on tag.trak F_HAS_FALLBACK ∷ on tag.harf F_NONE ∷ on tag.harf_discretionary F_NONE ∷ []
 
@@ -70,11 +70,11 @@ vertical = on tag.vert F_GLOBAL_SEARCH ∷ []
 abbrev pub directed : Direction → List MapRequest
 directed direction = if is_horizontal direction then horizontal else vertical
 
--- a feature is global where its range is the whole text: from 0 to the greatest number of 32 bits
+-- a feature is global if its range is the whole text: from 0 to the greatest number of 32 bits
 abbrev pub is_global : Feature → Bool
 is_global f = f.start == 0 && f.end == 0xFFFFFFFF
 
--- what the user asks for: on over the whole text where it is global, else only where masks say so
+-- what the user asks for: on over the whole text if it is global, else only where masks say so
 abbrev pub user_request : Feature → MapRequest
 user_request f = feature f.tag (if is_global f then F_GLOBAL else F_NONE) f.value
 
@@ -82,11 +82,11 @@ user_request f = feature f.tag (if is_global f then F_GLOBAL else F_NONE) f.valu
 abbrev pub later_requests : Direction → List Feature → List MapRequest
 later_requests direction features = behind_script ++ common ++ directed direction ++ map user_request features
 
--- what a hook asks for, by the builder as it stands; none where the shaper is not kept or does not give the hook
+-- what a hook asks for, by the builder as it stands; none if the shaper is not kept or does not give the hook
 abbrev pub Collector : Type 0
 Collector = Option (Builder → Direction → Option Script → List MapRequest)
 
--- a hook of a shaper, where it is kept and gives the hook
+-- a hook of a shaper, if it is kept and gives the hook
 abbrev pub hook_of : {S H : Type 0} → Bool → (S → H) → Option S → Option H
 hook_of given hook shaper = if given then option_map hook shaper else None
 
@@ -95,7 +95,7 @@ abbrev pub hooked : Collector → Direction → Option Script → Builder → Bu
 hooked collector direction script builder =
     option_map_or (λ collect. with_requests builder (collect builder direction script)) collector builder
 
--- a builder is simple no longer where the test holds
+-- a builder is simple no longer if the test holds
 abbrev pub not_simple_if : Bool → Builder → Builder
 not_simple_if test builder = if test then record builder { is_simple = false } else builder
 
@@ -107,7 +107,7 @@ begun_requests direction builder = with_requests (record builder { is_simple = t
 abbrev pub collected : Collector → Direction → Option Script → Builder → Builder
 collected collects direction script builder = hooked collects direction script (not_simple_if (is_some collects) builder)
 
--- with the features of every text and of the user; where the user asks for some it is simple no longer
+-- with the features of every text and of the user; if the user asks for some it is simple no longer
 abbrev pub widened : Direction → List Feature → Builder → Builder
 widened direction features builder = with_requests (not_simple_if (not (length features == 0)) builder) (later_requests direction features)
 

@@ -1,4 +1,4 @@
--- What a whole run goes by, as functions and values: one record of all that its four type parameters, its plan and its face bring.
+-- What a whole run depends on, as functions and values: one record of all that its four type parameters, its plan and its face bring.
 use Rattle.std.specs.Prelude.{Bool, List, Option, if◌then◌else◌}
 use Rattle.std.specs.Option.{option_map_or}
 use Rattle.shape_items.specs.Buffer.{Buffer}
@@ -19,13 +19,13 @@ pub record Run : Type 0 where
   pub map : MapMeaning
   pub lookups : LookupMeaning
   pub constants : ShaperConstants
-  -- where the plan keeps the shaper
+  -- if the plan keeps the shaper
   pub hooks : Option HookMeaning
   pub direction : Direction
   pub script : Option Script
   pub decisions : Decisions
   pub user_features : List Feature
-  -- what normalising goes by
+  -- what normalising depends on
   pub rules : Rules
 
 abbrev pub run_of : {S P D F : Type 0} → UnicodeMeaning → (P → MapMeaning) → (P → F → LookupMeaning) → ShaperConstants
@@ -44,10 +44,10 @@ run_of unicode masks lookups constants hooks faces plan face = record {
   rules = rules_of unicode constants hooks faces plan face;
 }
 
--- a step where the test holds, else none
+-- a step if the test holds, else none
 abbrev pub step_if : Bool → (Buffer → Buffer) → Buffer → Buffer
 step_if test f = if test then f else (λ b. b)
 
--- a hook where it is given and the plan keeps the shaper, else none
+-- a hook if it is given and the plan keeps the shaper, else none
 abbrev pub hook_if : Bool → Option HookMeaning → (HookMeaning → Buffer → Buffer) → Buffer → Buffer
 hook_if given hooks pick = option_map_or (λ h. step_if given (pick h)) hooks (λ b. b)

@@ -205,7 +205,7 @@ masks_of_plans = record {
 }
 
 pub record ScriptsOfShapers : Type 0 where
-  -- GPOS is left out where the shaper that is kept is made for another script
+  -- GPOS is left out if the shaper that is kept is made for another script
   pub same : is_gpos_disabled {S = ℕ} (Some (tag 2)) (Some 5) (Some (tag 2)) ≡ false
   pub another : is_gpos_disabled {S = ℕ} (Some (tag 3)) (Some 5) (Some (tag 2)) ≡ true
   pub none_chosen : is_gpos_disabled {S = ℕ} (Some (tag 3)) (Some 5) None ≡ true

@@ -1,4 +1,4 @@
--- What a run and normalising go by, worked out by hand: hooks count where they are given and the plan keeps
+-- What a run and normalising depend on, worked out by hand: hooks count if they are given and the plan keeps
 -- its shaper, and all else is told of the plan and the face.
 use Rattle.std.specs.Prelude.{◌≡◌, ◌+◌, ℕ, pos, neg_ℤ, true, false, [], ◌∷◌, Option, Some, None, is_some, refl}
 use Rattle.shape_items.specs.Buffer.{Buffer, new_buffer}
@@ -70,7 +70,7 @@ giving = record constants_of { has_decompose = true; has_compose = true; has_reo
 abbrev pub rules_by : ShaperConstants → Option ℕ → Plan ℕ ℕ ℕ → Rules
 rules_by constants shaper plan = rules_of telling_unicode constants telling_hooks telling_face (of_plan plan shaper) 200
 
--- what `reorder_marks` from 1 up to 3 makes of a limit, where it counts
+-- what `reorder_marks` from 1 up to 3 makes of a limit, if it counts
 abbrev pub reordered : Rules → Option ℕ
 reordered rules = elim rules.reorder [ None ↦ None | Some reorder ↦ (reorder new_buffer 1 3).length_limit ]
 
@@ -98,7 +98,7 @@ pub record RulesOfShapers (plan : Plan ℕ ℕ ℕ) : Type 0 where
   pub short_not_kept : (rules_by giving None plan).short false ≡ true
   pub recomposes : (rules_by giving (Some 5) plan).recomposes ≡ false
   pub recomposes_not_kept : (rules_by giving None plan).recomposes ≡ true
-  -- without any shaper: as where it isn't kept
+  -- without any shaper: as if it isn't kept
   pub without : rules_by giving None plan ≡ rules_without_shaper telling_unicode (telling_face 200)
 
 pub rules_of_shapers : (plan : Plan ℕ ℕ ℕ) → RulesOfShapers plan
@@ -134,7 +134,7 @@ run_by shaper plan = run_of telling_unicode masks_of telling_lookups giving tell
 abbrev pub stage_of : Run → ℕ → Option ℕ
 stage_of run i = (run.lookups.stage i new_buffer).length_limit
 
--- the height that the run's hooks tell, where it has hooks
+-- the height that the run's hooks tell, if it has hooks
 abbrev pub hook_height : Run → Option ℕ
 hook_height run = elim run.hooks [ None ↦ None | Some hooks ↦ Some (hooks.height 7) ]
 

@@ -58,7 +58,7 @@ one_tag number = record {
 abbrev pub facts_on : Direction → ℕ → PlanFacts
 facts_on direction number = facts_of (planning_with constants_of) (begun_on constants_of no_tables direction) (one_tag number)
 
--- each fact goes by the mask or the index of one tag: vert, vkrn, mark, mkmk, kern, frac
+-- each fact depends on the mask or the index of one tag: vert, vkrn, mark, mkmk, kern, frac
 pub record TagsOfFacts : Type 0 where
   pub vert : (facts_on TopToBottom 0x76657274).vert_mask ≡ 8
   pub vkrn_is_not_vert : (facts_on TopToBottom 0x766B726E).vert_mask ≡ 0
@@ -97,7 +97,7 @@ tags_of_facts = record {
 abbrev pub tag_script : ℕ → Script
 tag_script number = record { 0 = tag number }
 
--- Zzzz where there is no script
+-- Zzzz if there is no script
 pub record ScriptsThatFit : Type 0 where
   pub none : known_script None ≡ tag_script 0x5A7A7A7A
   pub some : known_script (script_of 100) ≡ tag_script 100

@@ -1,9 +1,9 @@
-//! The modes of normalising, which a shaper prefers one of.
+//! The modes of normalising; a shaper prefers one of them.
 
 /// How a text is normalised, 0 to 4.
 pub type hb_ot_shape_normalization_mode_t = i32;
 
-/// A character is expanded only where the face lacks it, and then as little as may be. Nothing is composed.
+/// A character is expanded only if the face lacks it, and then as little as may be. Nothing is composed.
 pub const HB_OT_SHAPE_NORMALIZATION_MODE_NONE: hb_ot_shape_normalization_mode_t = 0;
 
 /// Every character is expanded as far as the face allows. Nothing is composed.

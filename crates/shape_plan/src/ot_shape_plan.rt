@@ -58,7 +58,7 @@ impl<'a, S, P, D> Model for hb_ot_shape_plan_t<'a, S, P, D> {
     ghost invariant = { λ p. AreLawful p.decisions };
 }
 
-/// What a shaper makes for a plan, where the plan keeps it and it gives the hook. Refuses with `Memory`
+/// What a shaper makes for a plan, if the plan keeps it and it gives the hook. Refuses with `Memory`
 /// alone.
 fn data_of<U, F, M, S>(
     alloc: Global,
@@ -174,8 +174,8 @@ impl<'a, S, P, D> hb_ot_shape_plan_t<'a, S, P, D> {
         let _ = &self.decisions;
     }
 
-    /// Kerning falls back exactly where no table positions, and `kern` and `kerx` are never both applied.
-    /// Where `GPOS` and `kerx` both are, the steps of positioning are to run `GPOS` alone; that they do is a
+    /// Kerning falls back exactly when no table positions, and `kern` and `kerx` are never both applied.
+    /// If `GPOS` and `kerx` both are, the steps of positioning are to run `GPOS` alone; that they do is a
     /// law of theirs. Does nothing.
     pub fn positions_by_one_table(&self)
         ensures { PositionsByOneTable self.now.decisions }
@@ -209,7 +209,7 @@ impl<'a, S, P, D> hb_ot_shape_plan_t<'a, S, P, D> {
         self.script
     }
 
-    /// The given shaper, where the plan keeps it; else hooks are never called.
+    /// The given shaper, if the plan keeps it; else hooks are never called.
     pub fn shaper(&self) -> Option<&'a S>
         ensures { option_copied result ≡ self.now.shaper }
     {
@@ -261,7 +261,7 @@ impl<'a, S, P, D> hb_ot_shape_plan_t<'a, S, P, D> {
         self.decisions.rtlm_mask
     }
 
-    /// The mask of kerning: of `kern` where the direction is horizontal, else of `vkrn`.
+    /// The mask of kerning: of `kern` if the direction is horizontal, else of `vkrn`.
     pub fn kern_mask(&self) -> hb_mask_t
         ensures { result ≡ self.now.decisions.kern_mask }
     {
@@ -338,7 +338,7 @@ impl<'a, S, P, D> hb_ot_shape_plan_t<'a, S, P, D> {
         self.decisions.apply_fallback_kern
     }
 
-    /// Whether the table `kerx` is applied. Where `apply_gpos` holds too, `GPOS` alone runs.
+    /// Whether the table `kerx` is applied. If `apply_gpos` holds too, `GPOS` alone runs.
     pub fn apply_kerx(&self) -> bool
         ensures { result ≡ self.now.decisions.apply_kerx }
     {

@@ -53,7 +53,7 @@ pub const HB_OT_SHAPE_ZERO_WIDTH_MARKS_BY_GDEF_EARLY: hb_ot_shape_zero_width_mar
 /// After lookups have placed them.
 pub const HB_OT_SHAPE_ZERO_WIDTH_MARKS_BY_GDEF_LATE: hb_ot_shape_zero_width_marks_type_t = 2;
 
-/// A script shaper over the functions of Unicode `U`, faces of type `F` and the layout engine `M`, as a run
+/// A script shaper over the Unicode functions `U`, faces of type `F` and the layout engine `M`, as a run
 /// sees it: its constants, which hooks it gives, and what they do. Authors write a [`script_shaper`].
 pub trait hb_ot_shaper_t<U: hb_unicode_funcs_t, F: hb_font_t, M: hb_ot_layout_t<F>> {
     /// What the shaper keeps in a plan.
@@ -98,7 +98,7 @@ pub trait hb_ot_shaper_t<U: hb_unicode_funcs_t, F: hb_font_t, M: hb_ot_layout_t<
 
     ghost FALLBACK_POSITION: { Bool };
 
-    /// Whether marks are placed by their extents where neither `GPOS` nor `kerx` nor a `kern` across the
+    /// Whether marks are placed by their extents if neither `GPOS` nor `kerx` nor a `kern` across the
     /// line is applied.
     const FALLBACK_POSITION: bool;
 
@@ -204,8 +204,8 @@ pub trait hb_ot_shaper_t<U: hb_unicode_funcs_t, F: hb_font_t, M: hb_ot_layout_t<
         ensures { MatchResult result (λ «data». «data» ≡ made_data self.now plan.now)
             (λ e. e ≡ ShapeError.Memory) };
 
-    /// Changes the text before it is normalised. Refuses with `Length` where the list would pass the limit,
-    /// with `Memory` where a growth was refused.
+    /// Changes the text before it is normalised. Refuses with `Length` if the list would pass the limit,
+    /// with `Memory` if a growth was refused.
     fn preprocess_text(
         &self,
         alloc: Global,
@@ -217,8 +217,8 @@ pub trait hb_ot_shaper_t<U: hb_unicode_funcs_t, F: hb_font_t, M: hb_ot_layout_t<
         ensures { Outcome (step (hooks self.now plan.now face.now).preprocess)
             buffer.old buffer.new result };
 
-    /// Changes the glyphs after they were positioned. Refuses with `Length` where the list would pass the
-    /// limit, with `Memory` where a growth was refused.
+    /// Changes the glyphs after they were positioned. Refuses with `Length` if the list would pass the
+    /// limit, with `Memory` if a growth was refused.
     fn postprocess_glyphs(
         &self,
         alloc: Global,
@@ -230,8 +230,8 @@ pub trait hb_ot_shaper_t<U: hb_unicode_funcs_t, F: hb_font_t, M: hb_ot_layout_t<
         ensures { Outcome (step (hooks self.now plan.now face.now).postprocess)
             buffer.old buffer.new result };
 
-    /// Runs the pause of number `n` between two stages of substitution. Refuses with `Length` where the list
-    /// would pass the limit, with `Memory` where a growth was refused.
+    /// Runs the pause of number `n` between two stages of substitution. Refuses with `Length` if the list
+    /// would pass the limit, with `Memory` if a growth was refused.
     fn pause(
         &self,
         alloc: Global,
@@ -245,7 +245,7 @@ pub trait hb_ot_shaper_t<U: hb_unicode_funcs_t, F: hb_font_t, M: hb_ot_layout_t<
             buffer.old buffer.new result };
 
     /// The two parts that a character splits into in one step, in place of Unicode's; the second one is
-    /// U+0000 where it has one part alone.
+    /// U+0000 if it has one part alone.
     fn decompose(
         &self,
         plan: &hb_ot_shape_plan_t<'_, Self, M::Map, Self::Data>,
@@ -296,13 +296,13 @@ pub trait hb_ot_shaper_t<U: hb_unicode_funcs_t, F: hb_font_t, M: hb_ot_layout_t<
         → OwedHooks (hooks shaper plan face) };
 }
 
-/// What a run goes by under a plan and over a face: the meanings that its four type parameters bring, in plain
+/// What a run depends on under a plan and over a face: the meanings that its four type parameters bring, in plain
 /// functions. Every shaper has it, and none writes it.
 pub trait Runs<U: hb_unicode_funcs_t, F: hb_font_t, M: hb_ot_layout_t<F>>: hb_ot_shaper_t<U, F, M> {
-    /// What normalising goes by.
+    /// What normalising depends on.
     ghost rules: { Plan Self M.Map Self.Data → F → Rules };
 
-    /// What the whole run goes by.
+    /// What the whole run depends on.
     ghost run: { Plan Self M.Map Self.Data → F → Run };
 }
 

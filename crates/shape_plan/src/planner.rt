@@ -1,10 +1,10 @@
 //! The planner of a run: what it asks of the layout engine, and the plan that it makes of the answers.
 //!
 //! A plan is made in three steps. `new` asks what is known of the face and the shaper, and whether the
-//! shaper is kept: where `morx` substitutes, the face does a script's work itself. `collect_features` asks
+//! shaper is kept: if `morx` substitutes, the face does a script's work itself. `collect_features` asks
 //! for features in the order in which their lookups are to run: a shaper's stand between those that come
-//! early and late in every text, the user's after these, where they win, and what a shaper overrides
-//! after all, where it wins over the user's. `compile` has the engine compile the requests, and then
+//! early and late in every text, then come the user's, which win over these, and last what a shaper
+//! overrides, which wins over the user's. `compile` has the engine compile the requests, and then
 //! decides who positions, kerns and places marks. All that depends on no text is decided here, once for
 //! every text that the plan fits.
 ghost use Rattle.std.specs.Prelude.{◌≡◌, Option, OnOk, IsOkUnless, IfOk, IfErr, string_bytes};
@@ -28,7 +28,7 @@ use shape_buffer::interfaces::{
 use std::alloc::Global;
 use std::marker::Model;
 
-/// What planning goes by: the meanings that its type parameters bring, in plain functions. Every shaper
+/// What planning depends on: the meanings that its type parameters bring, in plain functions. Every shaper
 /// has it, and none writes it.
 pub trait Plans<U: hb_unicode_funcs_t, F: hb_font_t, M: hb_ot_layout_t<F>>: hb_ot_shaper_t<
     U,
@@ -91,7 +91,7 @@ impl<'a, F, S> Model for hb_ot_shape_planner_t<'a, F, S> {
     } };
 }
 
-/// Whether the table `morx` substitutes: where the face has it and the text is horizontal or there is no
+/// Whether the table `morx` substitutes: if the face has it and the text is horizontal or there is no
 /// `GSUB`.
 fn uses_morx(tables: hb_tables_t, direction: Direction) -> bool
     ensures { result ≡ uses_morx_of tables direction }
@@ -173,7 +173,7 @@ impl<'a, F, S> hb_ot_shape_planner_t<'a, F, S> {
     /// The plan: has the engine compile the requests, decides all that depends on no text, copies the
     /// user's features and, last, has a kept shaper make its data. Refuses with `Memory` alone, and hands
     /// nothing back then. What is said of the masks and of who positions holds of every plan; it stands
-    /// here for the reader. That `GPOS` alone runs where `kerx` is applied too is the rule of the steps.
+    /// here for the reader. That `GPOS` alone runs if `kerx` is applied too is the rule of the steps.
     #[tactic(auto, unfolding(crate::specs::Planner::compiled_plan))]
     pub fn compile<U, M>(
         self,

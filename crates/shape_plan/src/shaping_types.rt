@@ -13,7 +13,7 @@ use std::marker::PhantomData;
 
 /// The types of a run.
 pub trait ShapingTypes {
-    /// The functions of Unicode.
+    /// The Unicode functions.
     type Unicode: hb_unicode_funcs_t;
 
     type Face: hb_font_t;
@@ -37,13 +37,13 @@ pub type PlanOf<'a, T> = hb_ot_shape_plan_t<
     >>::Data,
 >;
 
-/// What a run goes by under a plan and over a face: the meanings that its types bring, in plain functions.
+/// What a run depends on under a plan and over a face: the meanings that its types bring, in plain functions.
 /// All types have it, and none writes it.
 pub trait Meaning: ShapingTypes {
-    /// What normalising goes by.
+    /// What normalising depends on.
     ghost rules: { Plan Self.Shaper Self.Engine.Map Self.Shaper.Data → Self.Face → Rules };
 
-    /// What the whole run goes by.
+    /// What the whole run depends on.
     ghost run: { Plan Self.Shaper Self.Engine.Map Self.Shaper.Data → Self.Face → Run };
 }
 

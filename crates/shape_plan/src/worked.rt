@@ -40,7 +40,7 @@ pub fn texts_meet_worked_cases()
     ensures fit { ScriptsThatFit }
 {}
 
-/// What a run goes by: which hooks count, and what is told of plan and face.
+/// What a run depends on: which hooks count, and what is told of plan and face.
 pub fn runs_meet_worked_cases()
     ensures rules { (plan : Plan ℕ ℕ ℕ) → RulesOfShapers plan }
     ensures runs { (plan : Plan ℕ ℕ ℕ) → RunsOfPlans plan }

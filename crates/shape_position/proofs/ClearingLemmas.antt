@@ -12,7 +12,7 @@ zeros_over [] positions many = refl
 zeros_over (x ∷ items) [] many = absurd (omega (arith, many))
 zeros_over (x ∷ items) (p ∷ positions) many = ap (λ (ps : List GlyphPosition). zero_position ∷ ps) (zeros_over items positions (omega (arith, many)))
 
--- and none where there is no position
+-- and none if there is no position
 pub nothing_over : (items : List Item) (positions : List GlyphPosition) → length positions ≡ 0
     → positions ≡ positions_over (λ _ _. zero_position) items positions
 nothing_over [] [] none = refl

@@ -18,7 +18,7 @@ use Rattle.shape_items.proofs.Flags.ClusterRunLemmas.{flagged-runs}
 use Rattle.shape_items.proofs.Deletion.DeleteLemmas.{hand_on-cases, kept_by_deletion}
 use Rattle.shape_items.proofs.Merging.KeyLemmas.{length-map_range, length-merge_clusters, without_items-merge_clusters}
 use Rattle.shape_position.specs.Ignorables.{ignorables_hidden, shown_as, replaced_or_deleted, hides_ignorables, removes_ignorables, unseen_glyph}
-use Rattle.shape_position.specs.Kept.{KeepsAsMany}
+use Rattle.shape_position.specs.StepEffects.{KeepsAsMany}
 
 -- ---- deletion
 

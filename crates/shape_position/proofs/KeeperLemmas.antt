@@ -8,7 +8,7 @@ use Rattle.shape_buffer.specs.Walks.{items_mapped}
 use Rattle.shape_common.specs.declared.positions.GlyphPosition.{GlyphPosition}
 use Rattle.shape_buffer.proofs.Loops.PositionWalkLemmas.{length-positions_over}
 use Rattle.shape_buffer.proofs.Steps.KeeperLemmas.{KeepsClusters-equal}
-use Rattle.shape_position.specs.Kept.{KeepsAsMany}
+use Rattle.shape_position.specs.StepEffects.{KeepsAsMany}
 
 pub some_has-map : (f : Item → Item) → ((x : Item) → (f x).mask ≡ x.mask) → (flag : ℕ) (xs : List Item)
     → some_has flag (map f xs) ≡ some_has flag xs

@@ -22,7 +22,7 @@ placed_by run table =
     ∷ step (zeroed_late run)
     ∷ []) ++ close_steps run
 
--- which of two tables positions, where the first and the second are applied or not
+-- which of two tables positions, if the first and the second are applied or not
 abbrev chosen : Bool → Bool → (Buffer → Buffer) → (Buffer → Buffer) → Buffer → Buffer
 chosen first second by_first by_second = if first then by_first else step_if second by_second
 
@@ -70,7 +70,7 @@ no_kerx-runs run isnt kerx =
       finish = refl;
     }
 
--- where GPOS runs kerx does not
+-- if GPOS runs kerx does not
 second_waits : (first second : Bool) → first ≡ true → (not first && second) ≡ false
 second_waits true second is = refl
 second_waits false second is = absurd (Prim.search rules)

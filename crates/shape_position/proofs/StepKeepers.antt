@@ -28,7 +28,7 @@ use Rattle.shape_plan.specs.Run.{Run, step_if}
 use Rattle.shape_position.specs.Advances.{advanced, advanced_position}
 use Rattle.shape_position.specs.Ignorables.{ignorables_zeroed, ignorables_hidden, shown_as, replaced_or_deleted, zeroed_ignorable, hides_ignorables, removes_ignorables, unseen_glyph}
 use Rattle.shape_position.specs.Keepers.{StepsKeepClusters, StepsKeepFlags, StepsKeepCount, StepsKeep}
-use Rattle.shape_position.specs.Kept.{KeepsAsMany}
+use Rattle.shape_position.specs.StepEffects.{KeepsAsMany}
 use Rattle.shape_position.specs.Selectors.{selectors_replaced, selectors_replaced_by, not_found_item, not_found_position, has_selector_fallback}
 use Rattle.shape_position.specs.Steps.{place_steps, close_steps, table_steps, show_steps}
 use Rattle.shape_position.specs.Tables.{table_positioned}

@@ -11,8 +11,8 @@ use Rattle.shape_items.specs.Items.{Item}
 use Rattle.shape_buffer.specs.Keepers.{IsFlagKeeper}
 use Rattle.shape_items.specs.KeepsFlags.{KeepsFlags, has_flag, some_has}
 use Rattle.shape_items.proofs.Flags.FlagLemmas.{append-cases, KeepsFlags-same}
-use Rattle.shape_position.specs.Kept.{TurnsOrder, KeepsAsMany}
-use Rattle.shape_position.specs.Turning.{turned}
+use Rattle.shape_position.specs.StepEffects.{TurnsOrder, KeepsAsMany}
+use Rattle.shape_position.specs.Reversal.{turned}
 
 clusters-reverse : (xs : List Item) → clusters (reverse xs) ≡ reverse (clusters xs)
 clusters-reverse [] = refl
@@ -61,7 +61,7 @@ some_has-reverse flag (x ∷ xs) some =
 abbrev turned_if : Bool → Buffer → Buffer
 turned_if backward b = if backward then record b { items = reverse b.items; positions = reverse b.positions } else b
 
--- the reversal turns the order of clusters exactly where the text runs backward
+-- the reversal inverts the order of clusters exactly when the text runs backward
 pub turns-turned : (b : Buffer) → TurnsOrder b (turned b)
 unfolding turned
 turns-turned b = record {

@@ -33,6 +33,6 @@ advanced_position face horizontal item position =
 unfoldable pub advanced : FaceMeaning → Buffer → Buffer
 advanced face b = positions_mapped (advanced_position face (is_horizontal b.direction)) b
 
--- an offset that has lost a number is the exact difference where that fits
+-- an offset that has lost a number is the exact difference if that fits
 abbrev pub IsExactDifference : ℤ → ℤ → ℤ → Type 0
 IsExactDifference before lost after = FitsSigned w32 (before -ℤ lost) → after ≡ before -ℤ lost

@@ -1,4 +1,4 @@
--- The exact numbers of positions, for where they fit an i32.
+-- The exact numbers of positions, if they fit an i32.
 use Rattle.std.specs.Prelude.{◌≡◌, pos, Bool, true, false}
 use Rattle.shape_common.specs.Face.{FaceMeaning}
 use Rattle.shape_items.specs.Items.{Item}

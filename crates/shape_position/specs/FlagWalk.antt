@@ -6,7 +6,7 @@ use Rattle.shape_items.specs.Flags.{first_united, handed_flags}
 use Rattle.shape_common.specs.declared.flags.BufferFlags.{BufferFlags}
 use Rattle.shape_position.specs.declared.flags.Passed.{Passed}
 
--- what the first of some items hands on where a cluster begins with it: the flags of all that are in the cluster, and how many are behind it
+-- what the first of some items hands on if a cluster begins with it: the flags of all that are in the cluster, and how many are after it
 abbrev pub passed_run : BufferFlags → ℕ → List Item → Passed
 passed_run flags cluster items = record {
   mask = handed_flags flags (first_united cluster items);

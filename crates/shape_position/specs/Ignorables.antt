@@ -47,12 +47,12 @@ unseen_glyph face b = option_or b.invisible_glyph (face.nominal_glyph 0x20)
 abbrev pub shown_as : GlyphId → Item → Item
 shown_as glyph item = if is_ignorable_item item then record item { glyph_id = glyph.0 } else item
 
--- each ignorable takes the unseen glyph; they are deleted where there is none
+-- each ignorable takes the unseen glyph; they are deleted if there is none
 abbrev pub replaced_or_deleted : Option GlyphId → Buffer → Buffer
 replaced_or_deleted None = deleted is_ignorable_item
 replaced_or_deleted (Some glyph) = items_mapped (shown_as glyph)
 
--- hiding: unless ignorables are preserved they are replaced, and deleted where that is asked or no glyph can replace them
+-- hiding: unless ignorables are preserved they are replaced, and deleted if that is asked or no glyph can replace them
 unfoldable pub ignorables_hidden : FaceMeaning → Buffer → Buffer
 ignorables_hidden face b =
     if hides_ignorables b then

@@ -8,13 +8,13 @@ use Rattle.shape_plan.specs.Keepers.{CallsKeepClusters, RunKeepsFlags}
 use Rattle.shape_plan.specs.Run.{Run}
 use Rattle.shape_position.specs.Advances.{positions_cleared, advanced}
 use Rattle.shape_position.specs.Ignorables.{ignorables_zeroed, ignorables_hidden}
-use Rattle.shape_position.specs.Kept.{KeepsAsMany, TurnsOrder}
+use Rattle.shape_position.specs.StepEffects.{KeepsAsMany, TurnsOrder}
 use Rattle.shape_position.specs.Selectors.{selectors_replaced}
 use Rattle.shape_position.specs.Steps.{advance_steps, table_steps, show_steps, finish_steps}
-use Rattle.shape_position.specs.Turning.{turned}
+use Rattle.shape_position.specs.Reversal.{turned}
 use Rattle.shape_position.specs.Zeroing.{marks_zeroed}
 
--- every step keeps the order of clusters, but the reversal, which turns it where the text runs backward
+-- every step keeps the order of clusters, except the reversal, which inverts it if the text runs backward
 pub record StepsKeepClusters : Type 0 where
   pub advances : (run : Run) → EachStep IsClusterKeeper (advance_steps run)
   pub tables : (run : Run) → CallsKeepClusters run → EachStep IsClusterKeeper (table_steps run)
@@ -28,7 +28,7 @@ pub record StepsKeepFlags : Type 0 where
   pub tables : (run : Run) → RunKeepsFlags run → EachStep IsFlagKeeper (table_steps run)
   pub finish : (run : Run) → RunKeepsFlags run → EachStep IsFlagKeeper (finish_steps run)
 
--- the steps that write positions or items, turn them or delete some leave as many positions as items
+-- the steps that write positions or items, reverse them or delete some leave as many positions as items
 pub record StepsKeepCount : Type 0 where
   pub cleared : KeepsAsMany positions_cleared
   pub advances : (face : FaceMeaning) → KeepsAsMany (advanced face)

@@ -4,10 +4,10 @@ pub mod Exact
 pub mod Tables
 pub mod Ignorables
 pub mod Selectors
-pub mod Turning
+pub mod Reversal
 pub mod FlagWalk
 pub mod Steps
-pub mod Kept
+pub mod StepEffects
 pub mod Keepers
 pub mod OneTable
 pub mod WorkedPositions

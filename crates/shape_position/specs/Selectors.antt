@@ -30,6 +30,6 @@ selectors_replaced_by (Some glyph) b = record b {
   positions = positions_over not_found_position b.items b.positions;
 }
 
--- marked selectors take the not-found glyph, where the run has seen any and the glyph is set
+-- marked selectors take the not-found glyph, if the run has seen any and the glyph is set
 unfoldable pub selectors_replaced : Buffer → Buffer
 selectors_replaced b = if has_selector_fallback b then selectors_replaced_by b.not_found_variation_selector_glyph b else b

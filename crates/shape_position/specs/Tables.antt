@@ -5,7 +5,7 @@ use Rattle.shape_buffer.specs.Layout.{LookupMeaning}
 use Rattle.shape_plan.specs.Run.{step_if}
 use Rattle.shape_plan.specs.declared.decisions.Decisions.{Decisions}
 
--- by GPOS where the plan says so, else by kerx where it says that
+-- by GPOS if the plan says so, else by kerx if it says that
 abbrev pub table_positioned : LookupMeaning → Decisions → Buffer → Buffer
 table_positioned lookups decisions =
     if decisions.apply_gpos then lookups.position else step_if decisions.apply_kerx (lookups.aat_position decisions.kern_mask)
@@ -18,6 +18,6 @@ kerned lookups decisions = step_if decisions.apply_kern (lookups.kern decisions.
 abbrev pub deleted_narrowed : LookupMeaning → Decisions → Buffer → Buffer
 deleted_narrowed lookups decisions = step_if decisions.apply_morx lookups.aat_zero_width_deleted
 
--- and they go, where GPOS hasn't positioned
+-- and they go, if GPOS hasn't positioned
 abbrev pub deleted_removed : LookupMeaning → Decisions → Buffer → Buffer
 deleted_removed lookups decisions = step_if (decisions.apply_morx && not decisions.apply_gpos) lookups.aat_remove_deleted

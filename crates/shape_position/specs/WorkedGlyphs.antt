@@ -79,7 +79,7 @@ pub record HidingOfJoiners : Type 0 where
   pub by_invisible_glyph : hidden_by (record { 0 = 9 }) (a_at 0 ∷ joiner_at 1 ∷ []) 0 ≡ (1, 0) ∷ (9, 1) ∷ []
   pub behind_goes : hidden without_space (a_at 0 ∷ joiner_at 1 ∷ []) 0 2 ≡ (1, 0) ∷ []
   pub first_goes : hidden without_space (joiner_at 0 ∷ a_at 3 ∷ []) 0 2 ≡ (1, 0) ∷ []
-  -- the list of U+200C U+0061 once it is turned
+  -- the list of U+200C U+0061 once it is reversed
   pub last_goes : hidden without_space (a_at 3 ∷ joiner_at 0 ∷ []) 0 2 ≡ (1, 0) ∷ []
   pub all_go : hidden without_space (joiner_at 0 ∷ joiner_at 3 ∷ []) 0 2 ≡ []
   pub removed : hidden (face_of 1000) (a_at 0 ∷ joiner_at 1 ∷ []) 16 2 ≡ (1, 0) ∷ []

@@ -21,7 +21,7 @@ use Rattle.shape_plan.specs.WorkedDecisions.{no_decisions}
 use Rattle.shape_plan.specs.declared.decisions.Decisions.{Decisions}
 use Rattle.shape_position.specs.Advances.{positions_cleared, advanced, advanced_position}
 use Rattle.shape_position.specs.Tables.{table_positioned, kerned, deleted_narrowed, deleted_removed}
-use Rattle.shape_position.specs.Turning.{turned}
+use Rattle.shape_position.specs.Reversal.{turned}
 use Rattle.shape_position.specs.Zeroing.{marks_zeroed, zeroed_mark, zeroed_at}
 
 -- the four values of a position
@@ -139,7 +139,7 @@ pub record TimesOfZeroing : Type 0 where
   pub early_not_late : zeroed_positions 2 true 1 (Some (no_hooks plain_unicode)) ≡ at (pos 100) (pos 50) (pos 7) (pos 8) ∷ []
   pub never : zeroed_positions 2 true 0 (Some (no_hooks plain_unicode)) ≡ at (pos 100) (pos 50) (pos 7) (pos 8) ∷ []
   pub plan_says_no : zeroed_positions 2 false 2 (Some (no_hooks plain_unicode)) ≡ at (pos 100) (pos 50) (pos 7) (pos 8) ∷ []
-  -- where the plan doesn't keep the shaper, its time says nothing
+  -- if the plan doesn't keep the shaper, its time says nothing
   pub shaper_not_kept : zeroed_positions 2 true 2 None ≡ at (pos 100) (pos 50) (pos 7) (pos 8) ∷ []
 
 zeroing_of_marks : ZeroingOfMarks

@@ -21,7 +21,7 @@ use Rattle.shape_position.specs.Advances.{advanced}
 use Rattle.shape_position.specs.Ignorables.{ignorables_zeroed, ignorables_hidden}
 use Rattle.shape_position.specs.Selectors.{selectors_replaced}
 use Rattle.shape_position.specs.Steps.{advance_steps, table_steps, show_steps, finish_steps}
-use Rattle.shape_position.specs.Turning.{turned}
+use Rattle.shape_position.specs.Reversal.{turned}
 use Rattle.shape_position.specs.WorkedGlyphs.{ignored, selecting}
 use Rattle.shape_position.specs.WorkedPositions.{at, glyph_at, with_class, face_of, decided, shaper_with}
 use Rattle.shape_position.specs.Zeroing.{marks_zeroed}

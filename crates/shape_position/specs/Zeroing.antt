@@ -27,7 +27,7 @@ moved_back position = record position {
   y_offset = position.y_offset -ʷ position.y_advance;
 }
 
--- a mark has no advances; where it is adjusted, its offsets lose them first
+-- a mark has no advances; if it is adjusted, its offsets lose them first
 abbrev pub zeroed_mark : Bool → Item → GlyphPosition → GlyphPosition
 zeroed_mark adjust item position =
     if is_mark_glyph item then without_advances (if adjust then moved_back position else position) else position
@@ -46,11 +46,11 @@ ZERO_WIDTH_MARKS_BY_GDEF_EARLY = 1
 abbrev pub ZERO_WIDTH_MARKS_BY_GDEF_LATE : ℕ
 ZERO_WIDTH_MARKS_BY_GDEF_LATE = 2
 
--- when marks lose their advances: by the constant of the shaper that the plan keeps, never where it keeps none
+-- when marks lose their advances: by the constant of the shaper that the plan keeps, never if it keeps none
 abbrev pub zero_width_time : ShaperConstants → Option HookMeaning → ℕ
 zero_width_time constants hooks = option_map_or (λ _. constants.zero_width_marks) hooks ZERO_WIDTH_MARKS_NONE
 
--- zeroing at a time: where the plan zeroes marks and the shaper's time is this one
+-- zeroing at a time: if the plan zeroes marks and the shaper's time is this one
 abbrev pub zeroed_at : ℕ → Decisions → ShaperConstants → Option HookMeaning → Buffer → Buffer
 zeroed_at time decisions constants hooks =
     step_if (decisions.zero_marks && (zero_width_time constants hooks == time))

@@ -1,12 +1,12 @@
 //! The end of a run: the order of the glyphs, which of them are seen, and their flags.
 //!
-//! Shaping works in the order of the text, so where lines run to the left or to the top the glyphs are
-//! turned once they are placed. Flags come last, since every step before may still move them between glyphs.
+//! Shaping works in the order of the text, so the glyphs of a line that runs to the left or to the top
+//! are reversed once they are placed. Flags come last, since every step before may still move them between glyphs.
 ghost use Rattle.std.specs.Prelude.{◌≡◌};
 ghost use Rattle.shape_buffer.specs.Outcome.{IsWithinLimit, Made, Outcome, RunOutcome, step};
 ghost use Rattle.shape_plan.specs.Run.{hook_if};
 ghost use Rattle.shape_position.specs.Steps.{show_steps, finish_steps};
-ghost use Rattle.shape_position.specs.Turning.{turned};
+ghost use Rattle.shape_position.specs.Reversal.{turned};
 
 use crate::flags::propagate_flags;
 use crate::ignorables::hide_default_ignorables;
@@ -18,8 +18,8 @@ use shape_plan::ot_shaper::hb_ot_shaper_t;
 use shape_plan::shaping_types::{Meaning, PlanOf, ShapingTypes};
 use std::alloc::Global;
 
-/// Turns glyphs and positions, where the buffer's direction is backward. Takes no memory.
-#[tactic(auto, unfolding(crate::specs::Turning::turned))]
+/// Reverses glyphs and positions, if the buffer's direction is backward. Takes no memory.
+#[tactic(auto, unfolding(crate::specs::Reversal::turned))]
 pub fn reverse_backward(buffer: &mut hb_buffer_t)
     ensures { Made turned buffer.old buffer.new }
 {
@@ -28,7 +28,7 @@ pub fn reverse_backward(buffer: &mut hb_buffer_t)
     }
 }
 
-/// Runs the hook on the glyphs that are handed out, where the plan keeps a shaper that gives it. Refuses as
+/// Runs the hook on the glyphs that are handed out, if the plan keeps a shaper that gives it. Refuses as
 /// the hook does.
 pub fn postprocess_glyphs<T: ShapingTypes>(
     alloc: Global,
@@ -67,8 +67,8 @@ fn substitute_post<T: ShapingTypes>(
 }
 
 /// Makes of placed glyphs those that are handed out: in the order of their direction, without what is to
-/// stay unseen, each cluster with one set of flags. Refuses with `Length` where the shaper's hook would
-/// leave a list past the buffer's limit, and with `Memory` where a growth was refused; nothing is said of
+/// stay unseen, each cluster with one set of flags. Refuses with `Length` if the shaper's hook would
+/// leave a list past the buffer's limit, and with `Memory` if a growth was refused; nothing is said of
 /// the buffer then.
 pub fn finish_glyphs<T: ShapingTypes>(
     alloc: Global,

@@ -50,7 +50,7 @@ fn united_flags(infos: &[hb_glyph_info_t], cluster: u32) -> hb_mask_t
         .fold(0, |united, info| united | info.mask & DEFINED)
 }
 
-/// The united flags of a cluster, where tatweel is asked for: a tatweel may not be put in where it is unsafe
+/// The united flags of a cluster, if tatweel is asked for: a tatweel may not be put in where it is unsafe
 /// to break, and where it may be put in it is unsafe to break and to concat.
 fn with_tatweel(flags: BufferFlags, united: hb_mask_t) -> hb_mask_t
     ensures { result ≡ with_tatweel_of flags united }
@@ -66,7 +66,7 @@ fn with_tatweel(flags: BufferFlags, united: hb_mask_t) -> hb_mask_t
     }
 }
 
-/// What of the united flags of a cluster is handed out: unsafe to concat only where it is asked for.
+/// What of the united flags of a cluster is handed out: unsafe to concat only if it is asked for.
 fn handed_flags(flags: BufferFlags, united: hb_mask_t) -> hb_mask_t
     ensures { result ≡ handed_flags_of flags united }
 {
@@ -78,14 +78,14 @@ fn handed_flags(flags: BufferFlags, united: hb_mask_t) -> hb_mask_t
     }
 }
 
-/// What the walk over the items hands on: the mask that an item got, and how many of those behind it get it, too.
+/// What the walk over the items hands on: the mask that an item got, and how many of those after it get it, too.
 #[derive(Clone, Copy, Debug)]
 pub struct Passed {
     pub mask: hb_mask_t,
     pub left: usize,
 }
 
-/// What the first items hand on, where they are in the cluster. A call of its own: most clusters have one item.
+/// What the first items hand on, if they are in the cluster. A call of its own: most clusters have one item.
 #[inline(never)]
 fn pass_run(flags: BufferFlags, infos: &[hb_glyph_info_t], cluster: u32) -> Passed
     ensures { result ≡ passed_run flags cluster infos.now }
@@ -96,7 +96,7 @@ fn pass_run(flags: BufferFlags, infos: &[hb_glyph_info_t], cluster: u32) -> Pass
     }
 }
 
-/// What the first of these items gets, which is of the cluster, and how many behind it.
+/// What the first of these items gets, which is of the cluster, and how many after it.
 fn pass(flags: BufferFlags, before: Passed, infos: &[hb_glyph_info_t], cluster: u32) -> Passed
     ensures { result ≡ passed_by flags before cluster infos.now }
 {
@@ -115,7 +115,7 @@ fn pass(flags: BufferFlags, before: Passed, infos: &[hb_glyph_info_t], cluster: 
     pass_run(flags, infos, cluster)
 }
 
-/// Gives the items of each cluster the flags of all, where the run has seen flags.
+/// Gives the items of each cluster the flags of all, if the run has seen flags.
 fn share_flags(buffer: &mut hb_buffer_t)
     ensures { Made flags_propagated buffer.old buffer.new }
 {
@@ -135,8 +135,8 @@ fn share_flags(buffer: &mut hb_buffer_t)
     }
 }
 
-/// Gives each cluster one set of flags, where the run has seen flags: the defined bits of its items united,
-/// as far as the caller asks for them, in place of each mask. Where it hasn't seen any and no item has
+/// Gives each cluster one set of flags, if the run has seen flags: the defined bits of its items united,
+/// as far as the caller asks for them, in place of each mask. If it hasn't seen any and no item has
 /// one, nothing is to be done. Takes no memory.
 pub fn propagate_flags(buffer: &mut hb_buffer_t)
     ensures made { Made flags_propagated buffer.old buffer.new }

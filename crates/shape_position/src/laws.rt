@@ -4,9 +4,9 @@ ghost use Rattle.shape_position.specs.Keepers.{StepsKeep};
 ghost use Rattle.shape_position.specs.OneTable.{EachRunsOneTable};
 
 /// Each step of positions and of the end of a run keeps the order of clusters and the flags of glyphs,
-/// where the lookups and hooks of the run do. The reversal turns the order of clusters where the buffer's
+/// if the lookups and hooks of the run do. The reversal inverts the order of clusters if the buffer's
 /// direction is backward. Each of them that asks neither lookups nor hooks leaves as many positions as items,
-/// where there were. Does nothing: a caller's proof cites it.
+/// if there were. Does nothing: a caller's proof cites it.
 pub fn steps_keep_clusters_and_flags()
     ensures { StepsKeep }
 {}
@@ -18,12 +18,12 @@ pub fn one_table_runs()
 {}
 
 /// Advances are those that the face answers, and along a line down each offset is the exact difference to
-/// the origin of vertical lines where that fits an i32. Does nothing.
+/// the origin of vertical lines if that fits an i32. Does nothing.
 pub fn advances_are_exact_where_they_fit()
     ensures { ExactAdvances }
 {}
 
-/// A mark that loses its advances has none, and one that is adjusted is moved back by exactly these, where
+/// A mark that loses its advances has none, and one that is adjusted is moved back by exactly these, if
 /// the difference fits an i32. Does nothing.
 pub fn mark_widths_are_exact_where_they_fit()
     ensures { ExactMarkWidths }

@@ -50,7 +50,7 @@ fn close_positions<T: ShapingTypes>(plan: &PlanOf<'_, T>, face: &T::Face, buffer
 }
 
 /// Positions the glyphs by the tables of the plan, in units of the face; fallback marks come after.
-/// Refuses with `Length` where a table would leave a list past the buffer's limit, and with `Memory` where a
+/// Refuses with `Length` if a table would leave a list past the buffer's limit, and with `Memory` if a
 /// growth was refused; nothing is said of the buffer then.
 pub fn position_complex<T: ShapingTypes>(
     alloc: Global,

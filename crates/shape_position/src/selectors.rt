@@ -13,7 +13,7 @@ use crate::ignorables::without_values;
 use bitflags::Flags;
 use shape_buffer::buffer::{GlyphId, GlyphPosition, ScratchFlags, hb_buffer_t, hb_glyph_info_t};
 
-/// The item, with the glyph and without its mark where it is a marked selector.
+/// The item, with the glyph and without its mark if it is a marked selector.
 fn not_found_item(glyph: GlyphId, info: &hb_glyph_info_t) -> hb_glyph_info_t
     ensures { result ≡ not_found_item_of glyph info.now }
 {
@@ -25,7 +25,7 @@ fn not_found_item(glyph: GlyphId, info: &hb_glyph_info_t) -> hb_glyph_info_t
     info
 }
 
-/// The position of a glyph, with values 0 where it is a marked selector.
+/// The position of a glyph, with values 0 if it is a marked selector.
 fn not_found_position(info: &hb_glyph_info_t, position: GlyphPosition) -> GlyphPosition
     ensures { result ≡ not_found_position_of info.now position }
 {
@@ -48,7 +48,7 @@ fn replace_selectors(buffer: &mut hb_buffer_t, glyph: GlyphId)
     }
 }
 
-/// Gives each selector that normalising has marked the buffer's glyph for it, and values 0, where the run
+/// Gives each selector that normalising has marked the buffer's glyph for it, and values 0, if the run
 /// has seen one and that glyph is set; the mark goes. Takes no memory.
 #[tactic(auto, unfolding(crate::specs::Selectors::selectors_replaced))]
 pub fn deal_with_variation_selectors(buffer: &mut hb_buffer_t)

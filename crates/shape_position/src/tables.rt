@@ -1,6 +1,6 @@
 //! Positions by the tables of a face: GPOS or kerx, and kern.
 //!
-//! The plan has chosen the tables. Each function here is one call of the layout engine, made where the plan
+//! The plan has chosen the tables. Each function here is one call of the layout engine, made if the plan
 //! asks for it; what the table does is the engine's. Kerning without a table and tracking change nothing.
 ghost use Rattle.std.specs.Prelude.{◌≡◌};
 ghost use Rattle.shape_buffer.specs.Outcome.{IsWithinLimit, Made, Outcome, step};
@@ -24,7 +24,7 @@ pub fn position_start<T: ShapingTypes>(
     T::Engine::position_start(face, buffer);
 }
 
-/// Positions by GPOS where the plan says so, else by kerx where it says that. Refuses as the engine does.
+/// Positions by GPOS if the plan says so, else by kerx if it says that. Refuses as the engine does.
 pub fn position_by_plan<T: ShapingTypes>(
     alloc: Global,
     plan: &PlanOf<'_, T>,
@@ -45,7 +45,7 @@ pub fn position_by_plan<T: ShapingTypes>(
     }
 }
 
-/// Kerns by the table `kern`, where the plan says so. Refuses as the engine does.
+/// Kerns by the table `kern`, if the plan says so. Refuses as the engine does.
 pub fn kern_by_plan<T: ShapingTypes>(
     alloc: Global,
     plan: &PlanOf<'_, T>,
@@ -75,7 +75,7 @@ pub fn position_finish_advances<T: ShapingTypes>(
     T::Engine::position_finish_advances(face, buffer);
 }
 
-/// Takes the width from glyphs that `morx` has deleted, where the plan applies it. Takes no memory.
+/// Takes the width from glyphs that `morx` has deleted, if the plan applies it. Takes no memory.
 pub fn zero_width_deleted<T: ShapingTypes>(
     plan: &PlanOf<'_, T>,
     face: &T::Face,
@@ -101,7 +101,7 @@ pub fn position_finish_offsets<T: ShapingTypes>(
     T::Engine::position_finish_offsets(face, buffer);
 }
 
-/// Takes out the glyphs that `morx` has deleted, where the plan applies it and not GPOS, before which
+/// Takes out the glyphs that `morx` has deleted, if the plan applies it and not GPOS, before which
 /// they would have gone. Takes no memory.
 pub fn remove_deleted<T: ShapingTypes>(
     plan: &PlanOf<'_, T>,

@@ -1,9 +1,9 @@
 //! Marks that lose their advances.
 //!
 //! A mark stands over the glyph before it and must not move the pen. Shapers say when its advance goes:
-//! before the tables place it, after, or never. Where no table moves marks, a mark of a forward line is
+//! before the tables place it, after, or never. If no table moves marks, a mark of a forward line is
 //! moved back by the advance that it loses, so that it hangs over the glyph before it; in a backward line
-//! it then hangs over the glyph that comes to stand before it when the line is turned.
+//! it then hangs over the glyph that comes to stand before it when the line is reversed.
 ghost use Rattle.std.specs.Prelude.{◌≡◌, ◌<◌, length, slice_index_or, slice_set};
 ghost use Rattle.shape_items.specs.Items.{Item};
 ghost use Rattle.shape_buffer.specs.Outcome.{Made};
@@ -58,7 +58,7 @@ fn without_advances(position: GlyphPosition) -> GlyphPosition
     }
 }
 
-/// Takes the advances from the glyph at a place where it is a mark, which is first moved back where it is
+/// Takes the advances from the glyph at a place if it is a mark, which is first moved back if it is
 /// to be adjusted. No other is written.
 fn zero_mark_at(buffer: &mut hb_buffer_t, place: usize, adjust: bool)
     requires { place < length buffer.old.items }
@@ -81,7 +81,7 @@ fn zero_mark_at(buffer: &mut hb_buffer_t, place: usize, adjust: bool)
     buffer.set_position(place, zeroed);
 }
 
-/// Takes the advances from the marks, which are first moved back where they are to be adjusted.
+/// Takes the advances from the marks, which are first moved back if they are to be adjusted.
 fn zero_marks(adjust: bool, buffer: &mut hb_buffer_t)
     ensures { Made (positions_mapped (zeroed_mark adjust)) buffer.old buffer.new }
 {
@@ -90,7 +90,7 @@ fn zero_marks(adjust: bool, buffer: &mut hb_buffer_t)
     }
 }
 
-/// Takes the advances from the marks; where `adjust_offsets` holds and the buffer is forward, they are
+/// Takes the advances from the marks; if `adjust_offsets` holds and the buffer is forward, they are
 /// first moved back by them. An offset that doesn't fit then wraps; one that fits is exact, by the clauses
 /// `exact_x` and `exact_y` of `move_back`. Takes no memory.
 #[tactic(auto, unfolding(crate::specs::Zeroing::marks_zeroed))]
@@ -101,7 +101,7 @@ pub fn zero_mark_widths_by_gdef(buffer: &mut hb_buffer_t, adjust_offsets: bool)
     zero_marks(adjust, buffer);
 }
 
-/// When marks lose their advances: by the shaper that the plan keeps, never where it keeps none.
+/// When marks lose their advances: by the shaper that the plan keeps, never if it keeps none.
 fn zero_width_time<T: ShapingTypes>(
     plan: &PlanOf<'_, T>,
     face: &T::Face,
@@ -115,7 +115,7 @@ fn zero_width_time<T: ShapingTypes>(
     }
 }
 
-/// Takes the advances from marks, where the plan's shaper says this time and the plan zeroes marks.
+/// Takes the advances from marks, if the plan's shaper says this time and the plan zeroes marks.
 fn zero_marks_at<T: ShapingTypes>(
     time: hb_ot_shape_zero_width_marks_type_t,
     plan: &PlanOf<'_, T>,
@@ -130,7 +130,7 @@ fn zero_marks_at<T: ShapingTypes>(
     }
 }
 
-/// Takes the advances from marks before tables place them, where the plan's shaper says so and the plan
+/// Takes the advances from marks before tables place them, if the plan's shaper says so and the plan
 /// zeroes marks. Takes no memory.
 pub fn zero_marks_early<T: ShapingTypes>(
     plan: &PlanOf<'_, T>,
@@ -144,7 +144,7 @@ pub fn zero_marks_early<T: ShapingTypes>(
     zero_marks_at::<T>(early, plan, face, buffer);
 }
 
-/// Takes the advances from marks after tables have placed them, where the plan's shaper says so and the
+/// Takes the advances from marks after tables have placed them, if the plan's shaper says so and the
 /// plan zeroes marks. Takes no memory.
 pub fn zero_marks_late<T: ShapingTypes>(
     plan: &PlanOf<'_, T>,

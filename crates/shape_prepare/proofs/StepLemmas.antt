@@ -100,7 +100,7 @@ merged_to_turn-cases P b same merged = at_level b.cluster_level
     at_level MonotoneCharacters = merged
     at_level Characters = same
 
--- clusters where no character past ASCII was seen, and where one was
+-- clusters if no character past ASCII was seen, and if one was
 pub clusters_formed-unseen : (b : Buffer) → (bit_and b.scratch_flags.0 1 == 1) ≡ false → clusters_formed b ≡ b
 unfolding clusters_formed
 clusters_formed-unseen b unseen = rw unseen refl
@@ -145,7 +145,7 @@ length-with_circle : (unicode : UnicodeMeaning) (items : List Item) (b : Buffer)
 length-with_circle unicode [] b some = absurd (omega arith)
 length-with_circle unicode (first ∷ rest) b some = omega arith
 
--- a circle is refused for its length only where the list is at its limit
+-- a circle is refused for its length only if the list is at its limit
 pub Refused-circle : (unicode : UnicodeMeaning) (b : Buffer) (error : ShapeError) → (error ≡ Length → limit_of b ≤ length b.items)
     → 0 < length b.items
     → Refused (step (λ b. with_circle unicode b.items b) ∷ []) b error
@@ -170,7 +170,7 @@ pub dotted_circled-no_mark : (unicode : UnicodeMeaning) (face : FaceMeaning) (b 
 unfolding dotted_circled
 dotted_circled-no_mark unicode face b takes mark = rw (takes, mark) refl
 
--- a text in its native direction stays, any other is turned
+-- a text in its native direction stays, any other is reversed
 pub natively_ordered-kept : (unicode : UnicodeMeaning) (b : Buffer) → is_against (native_direction unicode b) b.direction ≡ false
     → natively_ordered unicode b ≡ b
 unfolding natively_ordered

@@ -18,17 +18,17 @@ use Rattle.shape_plan.specs.Run.{Run}
 use Rattle.shape_prepare.specs.NativeOrder.{is_against, native_direction}
 use Rattle.shape_prepare.specs.PrepareSteps.{grapheme_steps, prepare_steps}
 
--- the direction where the list was turned, or not
+-- the direction if the list was reversed, or not
 abbrev pub direction_for : Bool → Direction → Direction
 direction_for turned direction = if turned then reverse_of direction else direction
 
--- whether the native order turns the list
+-- whether the native order reverses the list
 abbrev pub is_turned : Run → Buffer → Bool
 is_turned run b =
     let text = run_steps (grapheme_steps run) b in
     is_against (native_direction run.unicode text) text.direction
 
--- clusters are in order, and none is new; the direction tells whether the list was turned; flags and level stay
+-- clusters are in order, and none is new; the direction tells whether the list was reversed; flags and level stay
 pub record InOrderFor (turned : Bool) (old new : Buffer) : Type 0 where
   pub order : IsOrderedFor turned (clusters new.items)
   pub none_new : (k : ℕ) → Contains (clusters new.items) k → Contains (clusters old.items) k
@@ -36,7 +36,7 @@ pub record InOrderFor (turned : Bool) (old new : Buffer) : Type 0 where
   pub flags : new.flags ≡ old.flags
   pub level : new.cluster_level ≡ old.cluster_level
 
--- at the monotone levels, where the hooks keep clusters, a text whose clusters never fall is prepared in order
+-- at the monotone levels, if the hooks keep clusters, a text whose clusters never fall is prepared in order
 abbrev pub PreparingKeepsOrder : Type 0
 PreparingKeepsOrder =
     (run : Run) (target : Direction) (b : Buffer) → CallsKeepClusters run → IsMonotoneLevel b.cluster_level

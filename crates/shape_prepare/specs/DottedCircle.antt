@@ -14,7 +14,7 @@ abbrev pub is_empty : List ℕ → Bool
 is_empty [] = true
 is_empty (c ∷ cs) = false
 
--- a circle is put in where it isn't forbidden (32), nothing stands before the text, which begins here (2), and the face has U+25CC
+-- a circle is put in if it isn't forbidden (32), nothing stands before the text, which begins here (2), and the face has U+25CC
 abbrev pub takes_circle : FaceMeaning → Buffer → Bool
 takes_circle face b =
     not (bit_and b.flags.0 DO_NOT_INSERT_DOTTED_CIRCLE == DO_NOT_INSERT_DOTTED_CIRCLE)
@@ -33,6 +33,6 @@ with_circle unicode (first ∷ rest) b = record b {
   scratch_flags = with_scratch_of unicode 0x25CC b.scratch_flags;
 }
 
--- where the first item is a mark it gets a dotted circle before it
+-- if the first item is a mark it gets a dotted circle before it
 unfoldable pub dotted_circled : UnicodeMeaning → FaceMeaning → Buffer → Buffer
 dotted_circled unicode face b = if takes_circle face b && begins_with_mark is_mark_item b.items then with_circle unicode b.items b else b

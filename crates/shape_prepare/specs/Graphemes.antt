@@ -63,7 +63,7 @@ abbrev pub continues : UnicodeMeaning → Before → Item → Bool
 continues unicode before item = item.properties.continuation || is_joined unicode before item.codepoint || continues_by_rule before item
 
 -- what an item is to the next one: a regional indicator is open unless it continues, and a ZWJ joins unless it was itself joined or
--- passed
+-- is of a category that no rule asks about
 abbrev pub is_to_next : UnicodeMeaning → Before → Item → Before
 is_to_next unicode before item =
     if is_regional_indicator item.codepoint && not (continues unicode before item) then OpenIndicator
@@ -78,7 +78,7 @@ is_settled item = item.properties.continuation && not item.properties.zwj
 abbrev pub with_continuation : Bool → Item → Item
 with_continuation continuation item = record item { properties = record item.properties { continuation = continuation } }
 
--- each item marked as a continuation where it is one
+-- each item marked as a continuation if it is one
 abbrev pub continuations_marked : UnicodeMeaning → Before → List Item → List Item
 continuations_marked unicode before [] = []
 continuations_marked unicode before (item ∷ items) =

@@ -1,4 +1,4 @@
--- Where preparing leaves the characters of a text as they are.
+-- When preparing leaves the characters of a text as they are.
 use Rattle.std.specs.Prelude.{◌≡◌, ℕ, ◌&&◌, true, false, map, All, Some}
 use Rattle.canonical_form.specs.Expanded.{begins_with_mark}
 use Rattle.shape_items.specs.Buffer.{Buffer}
@@ -23,7 +23,7 @@ KeepsCharacters f = (b : Buffer) → map char_of (f b).items ≡ map char_of b.i
 abbrev pub rotated_char : UnicodeMeaning → FaceMeaning → Decisions → Direction → ℕ → ℕ
 rotated_char unicode face decisions target c = char_of (rotated_item unicode face decisions target (new_item c 0))
 
--- no dotted circle goes in, the list isn't turned, each character is its own form for the direction, and a given hook leaves characters
+-- no dotted circle goes in, the list isn't reversed, each character is its own form for the direction, and a given hook leaves characters
 pub record LeavesCharacters (run : Run) (target : Direction) (b : Buffer) : Type 0 where
   pub no_circle : (takes_circle run.face b && begins_with_mark (is_mark run.unicode) (map char_of b.items)) ≡ false
   pub not_turned : is_turned run b ≡ false

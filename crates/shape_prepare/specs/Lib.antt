@@ -10,7 +10,7 @@ pub mod WorkedUnicode
 pub mod WorkedBegun
 pub mod WorkedGraphemes
 pub mod WorkedOrder
-pub mod Keeping
+pub mod Keepers
 pub mod ClusterPoint
 pub mod PreparedPoint
 pub mod KeptCharacters

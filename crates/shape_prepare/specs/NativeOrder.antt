@@ -74,7 +74,7 @@ parted (size ∷ sizes) xs = take size xs ∷ parted sizes (drop size xs)
 abbrev pub from_last : {A : Type 0} → List (List A) → List A
 from_last parts = flat_map (λ part. part) (reverse parts)
 
--- the graphemes, with their positions, from the last to the first, and the direction turned
+-- the graphemes, with their positions, from the last to the first, and the opposite direction
 abbrev pub graphemes_turned : Buffer → Buffer
 graphemes_turned b = record b {
   items = from_last (graphemes b.items);
@@ -82,7 +82,7 @@ graphemes_turned b = record b {
   direction = reverse_of b.direction;
 }
 
--- at level MONOTONE_CHARACTERS each grapheme is merged before it is turned
+-- at level MONOTONE_CHARACTERS each grapheme is merged before it is reversed
 abbrev pub merged_to_turn : Buffer → Buffer
 merged_to_turn b = elim b.cluster_level [
   | MonotoneGraphemes ↦ b
@@ -90,6 +90,6 @@ merged_to_turn b = elim b.cluster_level [
   | Characters ↦ b
 ]
 
--- text against its native direction is turned
+-- text against its native direction is reversed
 unfoldable pub natively_ordered : UnicodeMeaning → Buffer → Buffer
 natively_ordered unicode b = if is_against (native_direction unicode b) b.direction then graphemes_turned (merged_to_turn b) else b

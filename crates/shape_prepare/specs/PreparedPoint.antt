@@ -13,7 +13,7 @@ use Rattle.shape_prepare.specs.PrepareSteps.{prepare_steps}
 abbrev pub KeepsPrepared : UnicodeMeaning → (Buffer → Buffer) → Type 0
 KeepsPrepared unicode f = (b : Buffer) → IsPrepared unicode b.items → IsPrepared unicode (f b).items
 
--- any text is prepared, where the shaper's hook leaves it so
+-- any text is prepared, if the shaper's hook leaves it so
 abbrev pub PreparingPrepares : Type 0
 PreparingPrepares = (run : Run) (target : Direction) (b : Buffer) → LawfulUnicode run.unicode
     → ((hooks : HookMeaning) → run.hooks ≡ Some hooks → run.constants.has_preprocess_text ≡ true

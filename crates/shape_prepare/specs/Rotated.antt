@@ -10,7 +10,7 @@ use Rattle.shape_buffer.specs.Walks.{items_mapped}
 use Rattle.shape_common.specs.declared.settings.Direction.{Direction}
 use Rattle.shape_plan.specs.declared.decisions.Decisions.{Decisions}
 
--- the form of a character, where the face has it
+-- the form of a character, if the face has it
 abbrev pub form_in : FaceMeaning → Option ℕ → Option ℕ
 form_in face None = None
 form_in face (Some c) = if is_some (face.nominal_glyph c) then Some c else None
@@ -26,13 +26,13 @@ mirrored_item unicode face rtlm_mask item = mirrored_or_masked rtlm_mask item (f
 abbrev pub vertical_item : UnicodeMeaning → FaceMeaning → Item → Item
 vertical_item unicode face item = record item { codepoint = unwrap_or (form_in face (unicode.vertical item.codepoint)) item.codepoint }
 
--- the mirrored form, where that is asked, and then the vertical form of what the item has become, where that is
+-- the mirrored form, if that is asked, and then the vertical form of what the item has become, if that is
 abbrev pub in_forms : UnicodeMeaning → FaceMeaning → Bool → ℕ → Bool → Item → Item
 in_forms unicode face mirrors rtlm_mask is_upright item =
     let mirrored = if mirrors then mirrored_item unicode face rtlm_mask item else item in
     if is_upright then vertical_item unicode face mirrored else mirrored
 
--- a backward direction mirrors, and a vertical one sets upright where no lookup does
+-- a backward direction mirrors, and a vertical one sets upright if no lookup does
 abbrev pub rotated_item : UnicodeMeaning → FaceMeaning → Decisions → Direction → Item → Item
 rotated_item unicode face decisions target =
     in_forms unicode face (is_backward target) decisions.rtlm_mask (is_vertical target && not decisions.has_vert)

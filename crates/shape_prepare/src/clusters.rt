@@ -1,4 +1,4 @@
-//! The fourth step: the clusters of graphemes.
+//! The clusters of graphemes.
 //!
 //! A caller who asks for graphemes gets one cluster for each. Any other is told that a line can't be
 //! broken inside one without shaping anew. Text of ASCII characters alone has graphemes of one item, so
@@ -13,7 +13,7 @@ use crate::grapheme_walk::{GraphemeChange, each_grapheme};
 use bitflags::Flags;
 use shape_buffer::buffer::{BufferClusterLevel, ScratchFlags, hb_buffer_t};
 
-/// Where a character past ASCII was seen, merges each grapheme at level MONOTONE_GRAPHEMES, and marks each
+/// If a character past ASCII was seen, merges each grapheme at level MONOTONE_GRAPHEMES, and marks each
 /// unsafe to break at the other levels. Takes no memory.
 pub fn form_clusters(buffer: &mut hb_buffer_t)
     ensures { Made clusters_formed buffer.old buffer.new }

@@ -1,6 +1,6 @@
-//! The third step: a base for a mark that begins a text.
+//! The dotted circle: a base for a mark that begins a text.
 //!
-//! A mark that nothing stands before would hang on what is printed beside it. So it gets a dotted circle to
+//! A mark with nothing before it would hang on whatever is printed beside it. So it gets a dotted circle to
 //! stand on, as code charts have it, unless the caller forbids it or the text goes on from another one.
 ghost use Rattle.std.specs.Prelude.{◌≡◌, ◌<◌, length, IsTrue};
 ghost use Rattle.shape_buffer.specs.Outcome.{Outcome, IsWithinLimit, step};
@@ -19,9 +19,9 @@ use shape_buffer::interfaces::{hb_font_t, hb_unicode_funcs_t};
 const DOTTED_CIRCLE: char = '\u{25CC}';
 
 /// Puts a dotted circle before a mark that begins the text, with its own properties and the mark's mask and
-/// cluster: where the flags say that the text begins here and don't forbid it, there is no pre-context, and
-/// the face has the character. Refuses with `Length` where the list has reached its limit, and with `Memory`
-/// where a growth was refused.
+/// cluster: if the flags say that the text begins here and don't forbid it, there is no pre-context, and
+/// the face has the character. Refuses with `Length` if the list has reached its limit, and with `Memory`
+/// if a growth was refused.
 pub fn insert_dotted_circle<U: hb_unicode_funcs_t, F: hb_font_t>(
     face: &F,
     buffer: &mut hb_buffer_t,
@@ -49,7 +49,7 @@ fn insert_circle<U: hb_unicode_funcs_t>(buffer: &mut hb_buffer_t) -> Result<(), 
     Ok(())
 }
 
-/// Whether the first item is a mark; not so where there is none.
+/// Whether there is a first item and it is a mark.
 fn begins_with_mark(infos: &[hb_glyph_info_t]) -> bool
     ensures mark { result ≡ begins_with_mark_of is_mark_item infos.now }
     ensures some { IsTrue result → 0 < length infos.now }

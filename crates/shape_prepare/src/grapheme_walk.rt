@@ -13,7 +13,7 @@ use shape_buffer::buffer::{hb_buffer_t, hb_glyph_info_t};
 pub(crate) enum GraphemeChange {
     /// It is marked unsafe to break.
     Mark,
-    /// The order of its items is turned.
+    /// The order of its items is reversed.
     Turn,
 }
 
@@ -32,7 +32,7 @@ impl GraphemeChange {
 }
 
 /// Marks the items from place `start` up to `end` unsafe to break. One item has no place inside it where a
-/// line could be broken, and is left before the call.
+/// line could be broken, so it is left out before the call.
 fn mark_unsafe(buffer: &mut hb_buffer_t, start: usize, end: usize)
     requires ordered { start ≤ end }
     requires within { end ≤ length buffer.old.items }

@@ -1,7 +1,7 @@
-//! The second step: properties of the characters, and which items continue a grapheme.
+//! Graphemes: properties of the characters, and which items continue a grapheme.
 //!
 //! A grapheme is what a reader takes for one character: a letter with its marks, a flag of two regional
-//! indicators, an emoji with its skin tone, or several emoji joined by ZERO WIDTH JOINER. Turning a text must
+//! indicators, an emoji with its skin tone, or several emoji joined by ZERO WIDTH JOINER. Reversing a text must
 //! not part one, so each item that belongs to what stands before it is marked as a continuation. The rules
 //! are those of UAX 29 that shaping needs: marks and extenders (GB9), emoji after a ZWJ (GB11), pairs
 //! of regional indicators (GB12, GB13).
@@ -35,7 +35,7 @@ pub(crate) enum Before {
     Zwj,
 }
 
-/// Sets the properties of each item that go by its character, marks the items that continue a grapheme, and
+/// Sets the properties of each item that depend on its character, marks the items that continue a grapheme, and
 /// sets the scratch flags that the characters show. Takes no memory.
 pub fn set_unicode_props<U: hb_unicode_funcs_t>(buffer: &mut hb_buffer_t)
     ensures { Made (graphemes_marked U.unicode) buffer.old buffer.new }
@@ -50,7 +50,7 @@ pub fn set_unicode_props<U: hb_unicode_funcs_t>(buffer: &mut hb_buffer_t)
     buffer.set_scratch_flags(scratch_flags);
 }
 
-/// Sets an item's properties that go by its character, marks it as a continuation if it is one, and says what
+/// Sets an item's properties that depend on its character, marks it as a continuation if it is one, and says what
 /// it is to the next one. No rule is asked about an ASCII character that doesn't follow a ZWJ.
 fn mark_item<U: hb_unicode_funcs_t>(
     before: Before,

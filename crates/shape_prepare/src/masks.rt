@@ -1,4 +1,4 @@
-//! The first step: masks and positions as a run begins with them.
+//! The beginning of a run: its masks and positions.
 //!
 //! A buffer may come with masks and positions of an earlier use. Features that are on for the whole text
 //! stand in every item's mask from here on; positions are set anew once there are glyphs.

@@ -1,8 +1,8 @@
-//! The fifth step: the native order.
+//! The native order: a text runs the way its script is written.
 //!
 //! Lookups are made for text in the direction in which its script is written, so a text that was handed
-//! over against it is turned. Each grapheme stays as it was: its marks must stand after their base. The
-//! reversal goes in place: first each grapheme is turned, then the whole list.
+//! over against it is reversed. Each grapheme stays as it was: its marks must stand after their base. The
+//! reversal goes in place: first each grapheme is reversed, then the whole list.
 ghost use Rattle.std.specs.Prelude.{◌≡◌, length};
 ghost use Rattle.std.specs.List.{list_any};
 ghost use Rattle.shape_buffer.specs.Outcome.{Made};
@@ -25,8 +25,8 @@ use shape_buffer::buffer::{
 };
 use shape_buffer::interfaces::hb_unicode_funcs_t;
 
-/// Turns a text that runs against its native direction, and its direction with it: horizontal text unlike
-/// the direction of its script, where that is known, and vertical text that runs to the top. Graphemes
+/// Reverses a text that runs against its native direction, and its direction with it: horizontal text unlike
+/// the direction of its script, if that is known, and vertical text that runs to the top. Graphemes
 /// stay as they are; at level MONOTONE_CHARACTERS each is merged first. Text from left to right that has
 /// numbers and no letter stays so under a script that is written from right to left. Takes no memory.
 pub fn ensure_native_direction<U: hb_unicode_funcs_t>(buffer: &mut hb_buffer_t)
@@ -42,7 +42,7 @@ pub fn ensure_native_direction<U: hb_unicode_funcs_t>(buffer: &mut hb_buffer_t)
     turn_graphemes(buffer);
 }
 
-/// The direction that the text is written in, where it is known.
+/// The direction that the text is written in, if it is known.
 fn native_direction<U: hb_unicode_funcs_t>(buffer: &hb_buffer_t) -> Option<Direction>
     ensures { result ≡ native_direction_of U.unicode buffer.now }
 {
@@ -54,7 +54,7 @@ fn native_direction<U: hb_unicode_funcs_t>(buffer: &hb_buffer_t) -> Option<Direc
     }
 }
 
-/// The direction that a script is written in, where it is known.
+/// The direction that a script is written in, if it is known.
 fn direction_of_script<U: hb_unicode_funcs_t>(script: Option<Script>) -> Option<Direction>
     ensures { result ≡ direction_of_script_of U.unicode script }
 {
@@ -64,7 +64,7 @@ fn direction_of_script<U: hb_unicode_funcs_t>(script: Option<Script>) -> Option<
     }
 }
 
-/// Whether text of this direction is turned to run in its native direction.
+/// Whether text of this direction is reversed to run in its native direction.
 fn is_against(native: Option<Direction>, direction: Direction) -> bool
     ensures { result ≡ is_against_of native direction }
 {
@@ -121,7 +121,7 @@ fn is_number(info: &hb_glyph_info_t) -> bool
     ) || is_regional_indicator(info.codepoint)
 }
 
-/// Turns the order of the graphemes, each of which stays as it is, and the direction.
+/// Reverses the order of the graphemes, each of which stays as it is, and the direction.
 fn turn_graphemes(buffer: &mut hb_buffer_t)
     ensures { Made graphemes_turned buffer.old buffer.new }
 {
@@ -131,7 +131,7 @@ fn turn_graphemes(buffer: &mut hb_buffer_t)
     buffer.set_direction(direction);
 }
 
-/// Turns the items of each grapheme.
+/// Reverses the items of each grapheme.
 fn reverse_graphemes(buffer: &mut hb_buffer_t)
     ensures reversed { Made (over_graphemes reverse_span) buffer.old buffer.new }
     ensures as_many { length buffer.old.positions ≡ length buffer.old.items }

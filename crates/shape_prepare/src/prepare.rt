@@ -21,7 +21,7 @@ use std::alloc::Global;
 /// Prepares a text for normalising: masks and positions anew, properties and graphemes, a dotted circle
 /// before a mark that begins the text, clusters, the native order, the shaper's `preprocess_text`, and the
 /// forms for the target direction, which is the one that the text was handed over in. Refuses with
-/// `Length` where a step would make the list longer than the buffer's limit, and with `Memory` where a
+/// `Length` if a step would make the list longer than the buffer's limit, and with `Memory` if a
 /// growth was refused; nothing is said of the buffer then.
 pub fn prepare<T: ShapingTypes>(
     alloc: Global,

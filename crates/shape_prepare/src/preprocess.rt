@@ -1,4 +1,4 @@
-//! The sixth step: what the script shaper makes of the text.
+//! The hook `preprocess_text`: what the script shaper makes of the text.
 ghost use Rattle.shape_buffer.specs.Outcome.{Outcome, IsWithinLimit, step};
 ghost use Rattle.shape_plan.specs.Run.{hook_if};
 
@@ -8,7 +8,7 @@ use shape_plan::ot_shaper::hb_ot_shaper_t;
 use shape_plan::shaping_types::{Meaning, PlanOf, ShapingTypes};
 use std::alloc::Global;
 
-/// Runs the hook `preprocess_text` of the plan's shaper, where it is given. Refuses where the hook does.
+/// Runs the hook `preprocess_text` of the plan's shaper, if it is given. Refuses if the hook does.
 pub fn preprocess_text<T: ShapingTypes>(
     alloc: Global,
     plan: &PlanOf<'_, T>,

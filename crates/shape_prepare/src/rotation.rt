@@ -1,8 +1,8 @@
-//! The seventh step: characters that have another form in the direction of the text.
+//! Mirrored and vertical forms: characters that have another form in the direction of the text.
 //!
 //! A parenthesis that opens a text from right to left is drawn as the mirror image of the one that opens a
 //! text from left to right (UAX 9, rule L4), and a dash that stands in a vertical line is drawn upright.
-//! Where Unicode has a character of that look and the face has a glyph for it, the character becomes that
+//! If Unicode has a character of that look and the face has a glyph for it, the character becomes that
 //! one; else lookups get the chance, by the mask of `rtlm`, or by `vert`.
 ghost use Rattle.std.specs.Prelude.{◌≡◌, ◌&&◌, not};
 ghost use Rattle.shape_common.specs.Direction.{is_backward, is_vertical};
@@ -15,9 +15,9 @@ use shape_buffer::walks::update_items;
 use shape_plan::ot_shape_plan::hb_ot_shape_plan_t;
 use shape_plan::shaping_types::{PlanOf, ShapingTypes};
 
-/// With a backward target direction, makes each character the mirrored one, where the face has that, and adds
-/// the mask of the feature `rtlm` to every other item. With a vertical target direction, where no lookup makes
-/// vertical forms, makes each character its vertical form, where the face has that. Properties stay. Takes
+/// With a backward target direction, makes each character the mirrored one, if the face has that, and adds
+/// the mask of the feature `rtlm` to every other item. With a vertical target direction, if no lookup makes
+/// vertical forms, makes each character its vertical form, if the face has that. Properties stay. Takes
 /// no memory.
 pub fn rotate_chars<T: ShapingTypes>(
     plan: &PlanOf<'_, T>,
@@ -91,7 +91,7 @@ impl Forms {
     }
 }
 
-/// An item with its mirrored character, where the face has that, else with the mask added.
+/// An item with its mirrored character, if the face has that, else with the mask added.
 fn mirrored<U: hb_unicode_funcs_t, F: hb_font_t>(
     face: &F,
     info: &hb_glyph_info_t,
@@ -107,7 +107,7 @@ fn mirrored<U: hb_unicode_funcs_t, F: hb_font_t>(
     result
 }
 
-/// An item with the vertical form of its character, where the face has that.
+/// An item with the vertical form of its character, if the face has that.
 fn upright<U: hb_unicode_funcs_t, F: hb_font_t>(face: &F, info: &hb_glyph_info_t) -> hb_glyph_info_t
     ensures { result ≡ vertical_item U.unicode (F.face face.now) info.now }
 {

@@ -1,4 +1,4 @@
--- What the lists of steps of masks and substitution keep, clusters and flags told at once: of any property of steps that holds where
+-- What the lists of steps of masks and substitution keep, clusters and flags told at once: of any property of steps that holds if
 -- nothing is done, if each step that is no call has it.
 use Rattle.std.proofs.Common.{◌≡◌, ◌&&◌, ◌≤◌, ◌<◌, ℕ, zero, suc, Bool, true, false, [], ◌∷◌, Option, Some, None, refl, arith}
 use Rattle.std.specs.Prelude.{if◌then◌else◌}
@@ -13,7 +13,7 @@ use Rattle.shape_plan.specs.Keepers.{EachCall}
 use Rattle.shape_plan.specs.Run.{Run, hook_if}
 use Rattle.shape_substitute.specs.Classes.{glyphs_mapped, classes_synthesised}
 use Rattle.shape_substitute.specs.Fractions.{fractions_masked}
-use Rattle.shape_substitute.specs.Kept.{EachSubstitutionStep, SubstitutionKeepsClusters, SubstitutionKeepsFlags}
+use Rattle.shape_substitute.specs.Keepers.{EachSubstitutionStep, SubstitutionKeepsClusters, SubstitutionKeepsFlags}
 use Rattle.shape_substitute.specs.Ranges.{ranges_masked}
 use Rattle.shape_substitute.specs.Substitution.{stage_steps, lookup_steps}
 use Rattle.shape_substitute.proofs.StepKeepers.{order-fractions_masked, order-ranges_masked, order-glyphs_mapped, order-classes_synthesised, flags-fractions_masked, flags-ranges_masked, flags-glyphs_mapped, flags-classes_synthesised}

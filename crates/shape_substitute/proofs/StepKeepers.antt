@@ -19,7 +19,7 @@ use Rattle.shape_plan.specs.Shaper.{without_mask}
 use Rattle.shape_plan.specs.declared.decisions.Decisions.{Decisions}
 use Rattle.shape_substitute.specs.Classes.{glyphs_mapped, classes_synthesised, with_nominal_glyph, with_class}
 use Rattle.shape_substitute.specs.Fractions.{with_features, features_added, has_whole, whole_start, whole_end, slash_masked, slash_places, next_place, slashes_masked, fraction_masks, may_have_fractions, fractions_masked}
-use Rattle.shape_substitute.specs.Kept.{FractionsAreFeatures}
+use Rattle.shape_substitute.specs.Keepers.{FractionsAreFeatures}
 use Rattle.shape_plan.specs.Requests.{is_global}
 use Rattle.shape_substitute.specs.Ranges.{shifted, with_feature, range_masked, ranges_masked}
 use Rattle.shape_substitute.specs.declared.fractions.FractionMasks.{FractionMasks}

@@ -13,7 +13,7 @@ use Rattle.shape_plan.specs.declared.decisions.Decisions.{Decisions}
 use Rattle.shape_substitute.specs.declared.fractions.FractionMasks.{FractionMasks}
 use Rattle.shape_common.specs.FlagNames.{HAS_NON_ASCII}
 
--- before the slash stands the numerator where text runs forward, else the denominator
+-- before the slash stands the numerator if text runs forward, else the denominator
 abbrev pub fraction_masks : Decisions → Direction → FractionMasks
 fraction_masks decisions direction =
     let numerator = bit_or decisions.numr_mask decisions.frac_mask in

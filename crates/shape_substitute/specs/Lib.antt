@@ -2,7 +2,7 @@ pub mod Fractions
 pub mod Ranges
 pub mod Classes
 pub mod Substitution
-pub mod Kept
+pub mod Keepers
 pub mod WorkedFractions
 pub mod WorkedRanges
 pub mod WorkedSteps

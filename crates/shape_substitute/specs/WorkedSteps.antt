@@ -130,7 +130,7 @@ pub record RunsOfPauses (run : Run) : Type 0 where
   pub behind_second : glyphs_paused run 1 ≡ 1018 ∷ []
   pub behind_last : glyphs_paused run 2 ≡ 2018 ∷ []
 
--- before the lookups: the glyph of the index, doubled by `substitute_start`, in class 4; another class in its place where the plan says so
+-- before the lookups: the glyph of the index, doubled by `substitute_start`, in class 4; another class in its place if the plan says so
 pub record RunsOfGlyphs (run : Run) : Type 0 where
   pub mapped_first : glyphs (run_steps (glyph_steps (record run { decisions = with_fractions true })) glyph_5) ≡ 12 ∷ []
   pub classes_of_face : map (λ item. item.properties.glyph_class.0)
@@ -154,7 +154,7 @@ pub record RunsOfMasks (run : Run) : Type 0 where
   pub hook_not_given : masks_after (hooked (masking run (constants true false) (first_feature ∷ []))) glyph_5 ≡ 0x200 ∷ []
   pub without_shaper : masks_after (unhooked (masking run (constants true true) [])) glyph_5 ≡ 0 ∷ []
 
--- whatever else a run goes by
+-- whatever else a run depends on
 pub record WorkedSteps : Type 0 where
   pub lookups : (run : Run) → RunsOfLookups (record run { lookups = adding })
   pub pauses : (run : Run) → RunsOfPauses (record run { lookups = adding })

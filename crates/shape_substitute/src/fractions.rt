@@ -33,7 +33,7 @@ pub struct FractionMasks {
     pub after: hb_mask_t,
 }
 
-/// The features of fractions: the numerator comes first where text runs forward, else the denominator.
+/// The features of fractions: the numerator comes first if text runs forward, else the denominator.
 fn fraction_masks<S, P, D>(
     plan: &hb_ot_shape_plan_t<'_, S, P, D>,
     direction: Direction,
@@ -89,7 +89,7 @@ fn digits_at_end(infos: &[hb_glyph_info_t]) -> usize
     infos.iter().rev().take_while(|info| is_digit(info)).count()
 }
 
-/// Where the digits directly before a slash begin: at the slash itself where there are none.
+/// Where the digits directly before a slash begin: at the slash itself if there are none.
 fn whole_start(infos: &[hb_glyph_info_t], slash: usize) -> usize
     requires { slash < length infos.now }
     ensures value { result ≡ whole_start_of infos.now slash }
@@ -98,7 +98,7 @@ fn whole_start(infos: &[hb_glyph_info_t], slash: usize) -> usize
     slash - digits_at_end(&infos[..slash])
 }
 
-/// Where the digits directly after a slash end: right after the slash where there are none.
+/// Where the digits directly after a slash end: right after the slash if there are none.
 fn whole_end(infos: &[hb_glyph_info_t], slash: usize) -> usize
     requires { slash < length infos.now }
     ensures value { result ≡ whole_end_of infos.now slash }
@@ -151,7 +151,7 @@ fn mask_slash(buffer: &mut hb_buffer_t, masks: FractionMasks, slash: usize) -> u
     end
 }
 
-/// Masks the wholes from left to right. A slash that stands among the digits of a whole is passed by.
+/// Masks the wholes from left to right. A slash that stands among the digits of a whole is skipped.
 fn mask_slashes(buffer: &mut hb_buffer_t, masks: FractionMasks)
     ensures { Made (λ b. slashes_masked masks 0 (slash_places 0 b.items) b) buffer.old buffer.new }
 {
@@ -170,7 +170,7 @@ fn may_have_fractions<S, P, D>(plan: &hb_ot_shape_plan_t<'_, S, P, D>, buffer: &
     plan.has_frac() && buffer.scratch_flags().contains(ScratchFlags::HAS_NON_ASCII)
 }
 
-/// Adds the features of fractions, where the plan has lookups for them and a character past ASCII was
+/// Adds the features of fractions, if the plan has lookups for them and a character past ASCII was
 /// seen: to the digits before a fraction slash, to the slash, and to those after it. The whole is marked
 /// unsafe to break; a slash without digits on one side is marked unsafe to concat and gets no feature.
 /// Takes no memory.

@@ -1,6 +1,6 @@
 //! Glyphs, as substitution finds them: the ones that the face answered, with a class each.
 //!
-//! Lookups may pass by glyphs of a class. Where a face doesn't say which glyphs are marks, the characters
+//! Lookups may skip glyphs of a class. If a face doesn't say which glyphs are marks, the characters
 //! do: a nonspacing mark is one, except for default ignorables, which lookups are to see.
 ghost use Rattle.std.specs.Prelude.{◌≡◌};
 ghost use Rattle.shape_buffer.specs.Outcome.{IsWithinLimit, Made, Ran};
@@ -69,7 +69,7 @@ pub fn hb_synthesize_glyph_classes(buffer: &mut hb_buffer_t)
     update_items(buffer, |info| with_class(info));
 }
 
-/// Makes up the classes, where the plan says so, since the face has none.
+/// Makes up the classes, if the plan says so, since the face has none.
 pub fn synthesize_classes<S, P, D>(plan: &hb_ot_shape_plan_t<'_, S, P, D>, buffer: &mut hb_buffer_t)
     ensures { Made (step_if plan.now.decisions.fallback_glyph_classes classes_synthesised)
         buffer.old buffer.new }
@@ -90,7 +90,7 @@ pub fn substitute_start<T: ShapingTypes>(
     T::Engine::substitute_start(face, buffer);
 }
 
-/// Makes glyphs of the items, prepares the buffer for substitution, and makes up the classes where the
+/// Makes glyphs of the items, prepares the buffer for substitution, and makes up the classes if the
 /// face has none. Takes no memory.
 pub fn setup_glyphs<T: ShapingTypes>(plan: &PlanOf<'_, T>, face: &T::Face, buffer: &mut hb_buffer_t)
     requires { IsWithinLimit buffer.old }

@@ -3,10 +3,10 @@
 //! A step that keeps clusters leaves them in order, rising or falling, and brings none; one that keeps flags
 //! sets none on a glyph without the run's noting it. So what is asked of hooks and lookups is all that is
 //! asked.
-ghost use Rattle.shape_substitute.specs.Kept.{SubstitutionKeepsClusters, SubstitutionKeepsFlags};
+ghost use Rattle.shape_substitute.specs.Keepers.{SubstitutionKeepsClusters, SubstitutionKeepsFlags};
 
-/// Every step keeps clusters at the monotone levels, where the lookups and the hooks do; and every one keeps
-/// the flags of glyphs, where besides no mask of the plan or of its features has the bit of a flag.
+/// Every step keeps clusters at the monotone levels, if the lookups and the hooks do; and every one keeps
+/// the flags of glyphs, if no mask of the plan or of its features has the bit of a flag, too.
 pub fn substitution_keeps_clusters_and_flags()
     ensures clusters { SubstitutionKeepsClusters }
     ensures flags { SubstitutionKeepsFlags }

@@ -1,6 +1,6 @@
 //! Masks, classes of glyphs and substitution: what a run does between normalising and positions.
 //!
-//! The mask of an item says which features are on for it. [`masks`] sets what goes by the text, its shaper
+//! The mask of an item says which features are on for it. [`masks`] sets what depends on the text, its shaper
 //! and its user, [`glyphs`] makes glyphs of characters, and [`substitution`] runs the lookups on them.
 #![tactic(auto)]
 #![allow(non_camel_case_types)]

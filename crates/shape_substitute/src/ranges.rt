@@ -22,7 +22,7 @@ fn with_value(bits: hb_mask_t, value: u32, mask: hb_mask_t) -> hb_mask_t
     (mask & !bits) | (value & bits)
 }
 
-/// An item with the value of a feature, where its cluster is in the feature's range.
+/// An item with the value of a feature, if its cluster is in the feature's range.
 fn with_feature(
     feature: &Feature,
     bits: hb_mask_t,
@@ -48,7 +48,7 @@ fn set_masks(buffer: &mut hb_buffer_t, feature: &Feature, bits: hb_mask_t, shift
     update_items(buffer, |info| with_feature(feature, bits, shift, info));
 }
 
-/// Sets one of the user's features, where it isn't asked for over the whole text.
+/// Sets one of the user's features, if it isn't asked for over the whole text.
 fn set_feature<T: ShapingTypes>(plan: &PlanOf<'_, T>, buffer: &mut hb_buffer_t, feature: &Feature)
     ensures { Made (λ b. range_masked (T.Engine.masks plan.now.ot_map) b feature.now)
         buffer.old buffer.new }

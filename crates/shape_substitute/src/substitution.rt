@@ -35,7 +35,7 @@ fn run_lookups<T: ShapingTypes>(
     T::Engine::substitute_stage(alloc, plan.ot_map(), i, face, buffer)
 }
 
-/// Runs the pause after stage `i`, where it has one, the plan keeps the shaper, and the shaper gives
+/// Runs the pause after stage `i`, if it has one, the plan keeps the shaper, and the shaper gives
 /// pauses.
 fn pause_after<T: ShapingTypes>(
     alloc: Global,
@@ -105,7 +105,7 @@ fn substitute_aat<T: ShapingTypes>(
     T::Engine::aat_substitute(alloc, plan.ot_map(), plan.user_features(), face, buffer)
 }
 
-/// Runs the lookups: by the table `morx` where the plan says so, else the stages.
+/// Runs the lookups: by the table `morx` if the plan says so, else the stages.
 fn substitute_complex<T: ShapingTypes>(
     alloc: Global,
     plan: &PlanOf<'_, T>,
@@ -130,7 +130,7 @@ fn deletes_before_gpos<T: ShapingTypes>(plan: &PlanOf<'_, T>) -> bool
     plan.apply_morx() && plan.apply_gpos()
 }
 
-/// Takes out the glyphs that `morx` has deleted, where the table `GPOS` is to see the rest.
+/// Takes out the glyphs that `morx` has deleted, if the table `GPOS` is to see the rest.
 fn remove_deleted_before_gpos<T: ShapingTypes>(
     plan: &PlanOf<'_, T>,
     face: &T::Face,
@@ -144,9 +144,9 @@ fn remove_deleted_before_gpos<T: ShapingTypes>(
     }
 }
 
-/// Substitutes glyphs: the lookups, and the deletion that follows those of `morx` where the table `GPOS`
-/// is to position the rest. Refuses with `Length` where a stage, a pause or `morx` would leave a list past
-/// the buffer's limit, and with `Memory` where a growth was refused; nothing is said of the buffer then.
+/// Substitutes glyphs: the lookups, and the deletion that follows those of `morx` if the table `GPOS`
+/// is to position the rest. Refuses with `Length` if a stage, a pause or `morx` would leave a list past
+/// the buffer's limit, and with `Memory` if a growth was refused; nothing is said of the buffer then.
 pub fn substitute<T: ShapingTypes>(
     alloc: Global,
     plan: &PlanOf<'_, T>,

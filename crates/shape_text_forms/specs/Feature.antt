@@ -6,12 +6,12 @@ use Rattle.shape_common.specs.declared.settings.Feature.{Feature}
 use Rattle.shape_text_forms.specs.Scan.{is_of, without_spaces, after_first, after_byte, number_of}
 use Rattle.shape_text_forms.specs.declared.scan.Kind.TheVariants.{Letter, Tag}
 
--- four bytes, the first one highest; spaces (32) where there are fewer
+-- four bytes, the first one highest; spaces (32) if there are fewer
 abbrev pub tag_value : List ℕ → ℕ
 tag_value bytes =
     get_or bytes 0 32 * 16777216 + get_or bytes 1 32 * 65536 + get_or bytes 2 32 * 256 + get_or bytes 3 32
 
--- a minus (45) turns a feature off; without a sign, and after a plus (43), it is on
+-- a minus (45) switches a feature off; without a sign, and after a plus (43), it is on
 abbrev pub sign_of : List ℕ → ℕ × List ℕ
 sign_of text = option_map_or (λ rest. (0, rest)) (after_byte 45 text)
     (option_map_or (λ rest. (1, rest)) (after_byte 43 text) (1, text))
@@ -26,7 +26,7 @@ abbrev pub plain_tag_of : List ℕ → Option (ℕ × List ℕ)
 plain_tag_of text = let count = prefix_len (is_of (Tag 0)) text in
     if count == 0 || nat_lt 4 count then None else Some (tag_value (take count text), drop count text)
 
--- the tag of four bytes between quotes, and the text after them; the first quote is passed
+-- the tag of four bytes between quotes, and the text after them; the first quote is skipped
 abbrev pub quoted_tag_of : ℕ → List ℕ → Option (ℕ × List ℕ)
 quoted_tag_of quote text = let count = prefix_len (is_of (Tag quote)) text in
     if count == 4 then option_map (λ rest. (tag_value (take 4 text), rest)) (after_first quote (drop 4 text)) else None

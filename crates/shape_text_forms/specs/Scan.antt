@@ -18,7 +18,7 @@ is_of (Tag quote) b = not (b == 32) && not (b == 61) && not (b == 91) && not (b 
 abbrev pub without_spaces : List ℕ → List ℕ
 without_spaces text = drop (prefix_len (is_of Space) text) text
 
--- the text after its first byte, where it is this one
+-- the text after its first byte, if it is this one
 abbrev pub after_first : ℕ → List ℕ → Option (List ℕ)
 after_first byte [] = None
 after_first byte (b ∷ rest) = if b == byte then Some rest else None

@@ -11,7 +11,7 @@ use Rattle.shape_common.specs.declared.settings.GlyphId.{GlyphId}
 use Rattle.shape_common.specs.declared.face.hb_glyph_extents_t.{hb_glyph_extents_t}
 use Rattle.shape_text_forms.specs.declared.glyph_text.Pen.{Pen}
 
--- what a text of glyphs goes by: what is asked for, the names of glyphs, their boxes
+-- what a text of glyphs depends on: what is asked for, the names of glyphs, their boxes
 pub record Form : Type 0 where
   pub flags : ℕ
   pub name : ℕ → Option (List ℕ)
@@ -39,7 +39,7 @@ NO_ADVANCES = 32
 abbrev pub asks : ℕ → ℕ → Bool
 asks flag flags = nat_lt 0 (bit_and flags flag)
 
--- the glyph's name, `gid` and its number where it has none; its number alone where names aren't asked for
+-- the glyph's name, `gid` and its number if it has none; its number alone if names aren't asked for
 abbrev pub glyph_word : ℕ → (ℕ → Option (List ℕ)) → ℕ → List ℕ
 glyph_word flags name glyph =
     if asks NO_GLYPH_NAMES flags then decimal glyph
@@ -53,22 +53,22 @@ cluster_word flags cluster = if asks NO_CLUSTERS flags then [] else 61 ∷ decim
 abbrev pub pair_word : ℤ → ℤ → List ℕ
 pair_word x y = signed_decimal x ++ 44 ∷ signed_decimal y
 
--- `@` (64) and where the glyph is moved to, where it is moved
+-- `@` (64) and where the glyph is moved to, if it is moved
 abbrev pub offset_word : ℤ → ℤ → List ℕ
 offset_word x y = if int_eq x (pos 0) && int_eq y (pos 0) then [] else 64 ∷ pair_word x y
 
--- `+` (43) and how far the pen moves on, upwards only where it does
+-- `+` (43) and how far the pen moves on, upwards only if it does
 abbrev pub advance_word : ℤ → ℤ → List ℕ
 advance_word x y = 43 ∷ (if int_eq y (pos 0) then signed_decimal x else pair_word x y)
 
--- the pen counts where advances aren't written
+-- the pen counts if advances aren't written
 abbrev pub position_word : ℕ → Pen → GlyphPosition → List ℕ
 position_word flags pen p =
     if asks NO_POSITIONS flags then []
     else offset_word (pen.x +ʷ p.x_offset) (pen.y +ʷ p.y_offset)
     ++ (if asks NO_ADVANCES flags then [] else advance_word p.x_advance p.y_advance)
 
--- `#` (35) and the defined flags of the glyph, where it has any
+-- `#` (35) and the defined flags of the glyph, if it has any
 abbrev pub flags_word : ℕ → ℕ → List ℕ
 flags_word flags mask =
     if asks GLYPH_FLAGS flags && nat_lt 0 (mask % 8) then 35 ∷ decimal (mask % 8) else []
@@ -80,7 +80,7 @@ corner_word x y = 60 ∷ pair_word x y
 abbrev pub size_word : ℤ → ℤ → List ℕ
 size_word width height = 44 ∷ pair_word width height ++ 62 ∷ []
 
--- all zeros where the face knows none
+-- all zeros if the face knows none
 abbrev pub box_word : Option hb_glyph_extents_t → List ℕ
 box_word None = codes "<0,0,0,0>"
 box_word (Some box) = corner_word box.x_bearing box.y_bearing ++ size_word box.width box.height
@@ -103,7 +103,7 @@ entry_text form first pen item p =
     ++ flags_word form.flags item.mask
     ++ extents_word form.flags form.extents item.glyph_id
 
--- where the pen stands after a glyph: it moves only where advances aren't written
+-- where the pen stands after a glyph: it moves only if advances aren't written
 abbrev pub pen_after : ℕ → Pen → GlyphPosition → Pen
 pen_after flags pen p =
     if asks NO_ADVANCES flags then record { x = pen.x +ʷ p.x_advance; y = pen.y +ʷ p.y_advance } else pen

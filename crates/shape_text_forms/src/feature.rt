@@ -12,7 +12,7 @@ ghost use Rattle.shape_text_forms.specs.Feature.{switch_value, switch_of, given_
 use crate::scan::{Kind, count, number, skip_byte, skip_first, skip_spaces};
 use shape_buffer::{Feature, hb_tag_t};
 
-/// The byte at this place, a space where there are fewer.
+/// The byte at this place, a space if there are fewer.
 fn byte_or_space(bytes: &[u8], at: usize) -> u8
     ensures { result ≡ slice_index_or bytes.now at 32 }
 {
@@ -197,7 +197,7 @@ fn given_value(text: &[u8]) -> Option<(u32, &[u8])>
     }
 }
 
-/// The value of a feature, and the text after it: the given one, else that of its sign. None where nothing is given
+/// The value of a feature, and the text after it: the given one, else that of its sign. None if nothing is given
 /// after an equals sign.
 fn value(by_sign: u32, text: &[u8]) -> Option<(u32, &[u8])>
     ensures { option_map (λ r. (r.0, r.1.now)) result ≡ value_of by_sign text.now }
@@ -211,7 +211,7 @@ fn value(by_sign: u32, text: &[u8]) -> Option<(u32, &[u8])>
     }
 }
 
-/// The feature that a text asks for, as `hb_feature_from_string` reads it. None where the text is no feature.
+/// The feature that a text asks for, as `hb_feature_from_string` reads it. None if the text is no feature.
 pub fn feature_from_string(text: &str) -> Option<Feature>
     ensures { result ≡ feature_of text.now }
 {

@@ -1,7 +1,7 @@
 //! Glyphs as text, as `hb-shape` writes them: `[A=0+600|B=1@-50,0+640]`.
 //!
 //! A glyph is its name or number, `=` and its cluster, `@` and where it is moved to, `+` and how far the pen moves
-//! on, and where that is asked for `#` and its flags, and its box.
+//! on; if they are asked for, also `#` and its flags, and its box.
 ghost use Rattle.std.specs.Prelude.{◌≡◌, ◌++◌, true, pos, length, string_bytes, IfOk};
 ghost use Rattle.std.specs.Option.{option_map};
 ghost use Rattle.shape_text_forms.specs.Serialize.{asks, cluster_word, offset_word, advance_word};
@@ -31,10 +31,10 @@ impl SerializeFlags {
     /// The box of each glyph is written.
     pub const GLYPH_EXTENTS: u32 = 8;
 
-    /// The flags of each glyph are written, where it has any.
+    /// The flags of each glyph are written, if it has any.
     pub const GLYPH_FLAGS: u32 = 16;
 
-    /// No advance is written, and offsets count from the begin of the line.
+    /// No advance is written, and offsets count from the start of the line.
     pub const NO_ADVANCES: u32 = 32;
 
     /// Whether this one, one of the constants, is asked for.
@@ -49,10 +49,10 @@ impl SerializeFlags {
 pub trait glyph_names {
     ghost use Rattle.std.specs.Prelude.{ℕ, List, Option};
 
-    /// The bytes of each glyph's name, where it has one.
+    /// The bytes of each glyph's name, if it has one.
     ghost name: { Self → ℕ → Option (List ℕ) };
 
-    /// The name of a glyph, where it has one.
+    /// The name of a glyph, if it has one.
     fn glyph_name(&self, glyph: GlyphId) -> Option<&str>
         ensures { option_map (λ t. t.now) result ≡ name self.now glyph.0 };
 }
@@ -87,7 +87,7 @@ fn append_cluster(out: &mut String, flags: SerializeFlags, cluster: u32) -> Resu
     write!(out, "={cluster}")
 }
 
-/// Appends where a glyph is moved to, where it is moved.
+/// Appends where a glyph is moved to, if it is moved.
 fn append_offset(out: &mut String, x: i32, y: i32) -> Result<(), AllocError>
     ensures { IfOk result (λ _. string_bytes out.new ≡ string_bytes out.old ++ offset_word x y) }
 {
@@ -133,7 +133,7 @@ fn append_position(
     Ok(())
 }
 
-/// Appends the defined flags of a glyph, where they are asked for and it has any.
+/// Appends the defined flags of a glyph, if they are asked for and it has any.
 fn append_flags(out: &mut String, flags: SerializeFlags, mask: u32) -> Result<(), AllocError>
     ensures { IfOk result (λ _. string_bytes out.new ≡ string_bytes out.old ++ flags_word flags.0 mask) }
 {
@@ -144,7 +144,7 @@ fn append_flags(out: &mut String, flags: SerializeFlags, mask: u32) -> Result<()
     Ok(())
 }
 
-/// Appends the begin of a box: its left and upper sides.
+/// Appends the start of a box: its left and upper sides.
 fn append_corner(out: &mut String, x: i32, y: i32) -> Result<(), AllocError>
     ensures { IfOk result (λ _. string_bytes out.new ≡ string_bytes out.old ++ corner_word x y) }
 {
@@ -172,7 +172,7 @@ fn append_box(out: &mut String, extents: Option<hb_glyph_extents_t>) -> Result<(
     }
 }
 
-/// Appends a glyph's box, where boxes are asked for.
+/// Appends a glyph's box, if boxes are asked for.
 fn append_extents<F: hb_font_t>(
     out: &mut String,
     flags: SerializeFlags,
@@ -297,7 +297,7 @@ fn append_glyphs<F: hb_font_t, N: glyph_names>(
     Ok(())
 }
 
-/// The glyphs as text, as `hb-shape` writes them: an empty text for no glyphs. Refuses where a growth was refused.
+/// The glyphs as text, as `hb-shape` writes them: an empty text for no glyphs. Refuses if a growth was refused.
 pub fn serialize<F: hb_font_t, N: glyph_names>(
     alloc: Global,
     glyphs: &GlyphBuffer,

@@ -28,7 +28,7 @@ pub fn script_from_string(text: &str) -> Option<Script>
     Script::from_iso15924_tag(tag_from_string(text))
 }
 
-/// The direction by its first letter in any case, as of `ltr` or `left-to-right`; Invalid where it names none
+/// The direction by its first letter in any case, as of `ltr` or `left-to-right`; Invalid if it names none
 /// (HarfBuzz, `hb_direction_from_string`).
 pub fn direction_from_string(text: &str) -> Direction
     ensures { result ≡ direction_of_text text.now }
@@ -42,7 +42,7 @@ pub fn direction_from_string(text: &str) -> Direction
     }
 }
 
-/// How a byte of a language's name is spelled, 0 where it ends the name.
+/// How a byte of a language's name is spelled, 0 if it ends the name.
 fn spelled(byte: u8) -> u8
     ensures value { result ≡ spelled byte }
     ensures ascii { result < 128 }
@@ -75,8 +75,8 @@ fn respelled(alloc: Global, bytes: &[u8]) -> Result<String, AllocError>
 }
 
 /// The language of a name of BCP 47 or of POSIX, in HarfBuzz's spelling: small letters, `-` for `_`, and nothing from
-/// the first other byte on, so that `fa_IR.UTF-8` is `fa-ir`. None where no name is left (HarfBuzz,
-/// `hb_language_from_string`). Refuses where a growth was refused.
+/// the first other byte on, so that `fa_IR.UTF-8` is `fa-ir`. None if no name is left (HarfBuzz,
+/// `hb_language_from_string`). Refuses if a growth was refused.
 pub fn language_from_string(alloc: Global, text: &str) -> Result<Option<Language>, AllocError>
     ensures { IfOk result (λ r. option_map (λ l. string_bytes l.0) r ≡ language_of_text text.now) }
 {

@@ -12,7 +12,7 @@ pub enum Kind {
     Digit,
     /// A letter of ASCII.
     Letter,
-    /// A byte of a tag that ends at this quote, or at a byte 0 where there is none.
+    /// A byte of a tag that ends at this quote, or at a byte 0 if there is none.
     Tag(u8),
 }
 
@@ -43,7 +43,7 @@ pub fn skip_spaces(text: &[u8]) -> &[u8]
     &text[count(text, Kind::Space)..]
 }
 
-/// The text after its first byte, where it is this one.
+/// The text after its first byte, if it is this one.
 pub fn skip_first(text: &[u8], byte: u8) -> Option<&[u8]>
     ensures { option_map (λ t. t.now) result ≡ after_first byte text.now }
 {
@@ -53,7 +53,7 @@ pub fn skip_first(text: &[u8], byte: u8) -> Option<&[u8]>
     }
 }
 
-/// The text after this byte, where it is the first one that is no space.
+/// The text after this byte, if it is the first one that is no space.
 pub fn skip_byte(text: &[u8], byte: u8) -> Option<&[u8]>
     ensures { option_map (λ t. t.now) result ≡ after_byte byte text.now }
 {
@@ -90,7 +90,7 @@ fn skip_sign(text: &[u8]) -> (bool, &[u8])
     }
 }
 
-/// The number of 32 bits that a number of 64 bits and a sign stand for, modulo 2^32. None where the number is too
+/// The number of 32 bits that a number of 64 bits and a sign stand for, modulo 2^32. None if the number is too
 /// great for 64 bits with a sign.
 fn number_value(minus: bool, number: u64) -> Option<u32>
     ensures { result ≡ number_value minus number }
@@ -106,8 +106,8 @@ fn number_value(minus: bool, number: u64) -> Option<u32>
     }
 }
 
-/// The number at the front of a text, after spaces and a sign, modulo 2^32, and the text after it. None where no
-/// digit stands there, and where it is 2^63 or more.
+/// The number at the front of a text, after spaces and a sign, modulo 2^32, and the text after it. None if no
+/// digit stands there, or if it is 2^63 or more.
 pub fn number(text: &[u8]) -> Option<(u32, &[u8])>
     ensures { option_map (λ r. (r.0, r.1.now)) result ≡ number_of text.now }
 {

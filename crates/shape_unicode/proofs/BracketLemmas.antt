@@ -1,4 +1,4 @@
--- Brackets turn: computed over the rows of the database.
+-- Brackets are mirrored: computed over the rows of the database.
 use Rattle.std.proofs.Common.{◌≡◌, ℕ, Bool, true, false, not, ◌||◌, Option, Some, None, refl, sym, ap, ◌∙◌, inl, inr}
 use Rattle.std.proofs.lemmas.Bool.{or_cases, cond-true}
 use Rattle.std.specs.Option.{option_map_or}
@@ -15,7 +15,7 @@ use Rattle.shape_unicode.specs.Mirror.{other_of_pair}
 use Rattle.shape_unicode.specs.SplitLaws.{not_true, true_is_false}
 use Rattle.shape_unicode.specs.Tables.{Tables, by_rows, by_trees, same_tables}
 
--- the image is one that category k turns to
+-- the image is one that category k is mirrored to
 abbrev turns : Tables → GeneralCategory → Option ℕ → Bool
 turns t k image = option_map_or (λ d. is_counterpart (category_from k) (category_from (t.category d))) image false
 

@@ -1,4 +1,4 @@
--- Where equivalence by shaping's ccc is canonical equivalence (UAX 15), which goes by combining classes.
+-- When equivalence by shaping's ccc is canonical equivalence (UAX 15), which is by combining classes.
 use Rattle.std.specs.Prelude.{◌≡◌, ℕ, ◌↔◌, not, is_some, Bool, true, List}
 use Rattle.std.specs.List.{list_all}
 use Rattle.ucd_normal.specs.CanonicalCombiningClass.{canonical_combining_class as ccc}

@@ -5,7 +5,7 @@ use Rattle.std.specs.Option.{option_map_or}
 use Rattle.unicode_normalization.specs.Compose.{or_else}
 use Rattle.shape_unicode.specs.declared.split.TheConstants.{EXCLUDED_HEADS}
 
--- the last step that leads to `first` and `second`: where these compose to another character, c is a singleton of that one
+-- the last step that leads to `first` and `second`: if these compose to another character, c is a singleton of that one
 abbrev pub last_step : (ℕ → ℕ → Option ℕ) → ℕ → ℕ → ℕ → ℕ × ℕ
 last_step compose c first second = option_map_or (λ d. if d == c then (first, second) else (d, 0)) (compose first second) (first, second)
 
@@ -17,7 +17,7 @@ excluded_head a b = option_map (λ entry. entry.2) (find (λ entry. entry.0 == a
 abbrev pub head_of : (ℕ → ℕ → Option ℕ) → ℕ → ℕ → Option ℕ
 head_of compose a b = or_else (compose a b) (excluded_head a b)
 
--- the last step of the decomposition of c, by its full decomposition, which is empty where it is c
+-- the last step of the decomposition of c, by its full decomposition, which is empty if it is c
 abbrev pub split_by : (ℕ → ℕ → Option ℕ) → ℕ → List ℕ → Option (ℕ × ℕ)
 split_by compose c [] = None
 split_by compose c (a ∷ []) = Some (a, 0)

@@ -15,7 +15,7 @@ pub mod SplitLaws
 pub mod CccLaws
 pub mod ComposeLaws
 pub mod FormLaws
-pub mod Laws
+pub mod DatabaseLaws
 pub mod Canonical
 pub mod OfDatabase
 pub mod MarkOrder

@@ -1,4 +1,4 @@
--- The order that shaping puts marks in, where it is not that of combining classes: by the marks themselves.
+-- The order that shaping puts marks in, if it is not that of combining classes: by the marks themselves.
 use Rattle.std.specs.Prelude.{◌≡◌, ◌≢◌, ◌<◌, ℕ, nat_lt, ◌&&◌, Bool, true, List, [], ◌∷◌}
 use Rattle.shape_unicode.specs.Ccc.{modified_ccc_of}
 

@@ -30,7 +30,7 @@ split_cases c a b splits =
       | inr h ↦ inr (h, sym (cond-false (is_syllable c) _ _ h) ∙ splits)
     ]
 
--- where there are parts, there is a mapping
+-- if there are parts, there is a mapping
 pub has_mapping : (c a b : ℕ) → parts_of (canonical_mapping c) ≡ Some (a, b) → is_empty (canonical_mapping c) ≡ false
 has_mapping c a b splits =
     elim (cases_Bool (is_empty (canonical_mapping c))) [

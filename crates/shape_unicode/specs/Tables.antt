@@ -56,6 +56,6 @@ same_tables =
       pairs = tree_value-tree_of compositions compositions_stepped i;
     }
 
--- the canonical mapping, empty where there is none
+-- the canonical mapping, empty if there is none
 abbrev pub mapping : Tables → ℕ → List ℕ
 mapping t c = if_canonical (t.entry c)

@@ -1,4 +1,4 @@
--- The forms that characters have in vertical text (UAX 44, Decomposition_Mapping with the tag `<vertical>`, turned round).
+-- The forms that characters have in vertical text (UAX 44, Decomposition_Mapping with the tag `<vertical>`, inverted).
 use Rattle.std.specs.Prelude.{ℕ, ◌==◌, Option, option_map}
 use Rattle.std.specs.List.{find}
 use Rattle.shape_unicode.specs.declared.vertical.TheConstants.{VERTICAL_FORMS}

@@ -1,7 +1,7 @@
 //! The ccc that marks are ordered by: combining classes (The Unicode Standard, section 4.3), some of
 //! them changed.
 //!
-//! Combining classes are fixed for ever, and some of them order the marks of a script otherwise than its
+//! Combining classes are fixed for ever, and some of them order the marks of a script in another way than its
 //! fonts do. So shaping takes others in their place, as HarfBuzz does (`hb-unicode.hh`, "modified
 //! combining class"). No two ccc become one, and none becomes 0, so that marks of two ccc still
 //! have two: the order of marks changes, and what is equivalent doesn't

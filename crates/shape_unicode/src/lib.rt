@@ -1,6 +1,6 @@
-//! The functions of Unicode that shaping asks for, over the whole Unicode Character Database.
+//! The Unicode functions that shaping asks for, over the whole Unicode Character Database.
 //!
-//! [`UnicodeDatabase`] is the type to give to a shaper as its functions of Unicode. Categories, splits,
+//! [`UnicodeDatabase`] is the type to give to a shaper as its Unicode functions. Categories, splits,
 //! composites, scripts and properties are those of the database (UAX 44), looked up in the tables of the
 //! kit; where shaping differs from the database, as HarfBuzz does, a short table says so, in the module
 //! that its function stands in.

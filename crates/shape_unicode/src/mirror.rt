@@ -37,7 +37,7 @@ fn is_before_angles(c: char) -> bool
     '\u{1FFF}' < c && c < '\u{2039}'
 }
 
-/// The mirror image of `c`, where one is encoded. Few characters have the property Bidi_Mirrored, and the
+/// The mirror image of `c`, if one is encoded. Few characters have the property Bidi_Mirrored, and the
 /// pairs are walked through for these alone.
 pub(crate) fn mirrored_of(c: char) -> Option<char>
     ensures { result ≡ mirrored_of c }

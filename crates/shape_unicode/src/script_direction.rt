@@ -35,7 +35,7 @@ fn is_either_way(tag: hb_tag_t) -> bool
         .any(|letters| hb_tag_t::from_bytes(letters) == tag)
 }
 
-/// The direction of a script, where it has one; left to right for one that is not known.
+/// The direction of a script, if it has one; left to right for one that is not known.
 pub(crate) fn direction_of(script: Script) -> Option<Direction>
     ensures { result ≡ direction_of script }
 {

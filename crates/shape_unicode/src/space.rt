@@ -28,7 +28,7 @@ pub const SPACES: [(char, space_t); 16] = [
     ('\u{3000}', SPACE_EM),
 ];
 
-/// How wide `c` is, `NOT_SPACE` if it is no space that other glyphs can stand in for. Total.
+/// How wide `c` is, `NOT_SPACE` if it is no space that other glyphs can replace. Total.
 pub fn space_of(c: char) -> space_t
     ensures { result ≡ space_of c }
 {

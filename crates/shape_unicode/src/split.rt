@@ -2,7 +2,7 @@
 //!
 //! The kit's compiled tables have full decompositions and primary composites, and no single steps. The
 //! last step of a character is found from these: its full decomposition, all but the last character of it
-//! composed again, and that last one. Where the two compose to another character, this one is a singleton
+//! composed again, and that last one. If the two compose to another character, this one is a singleton
 //! of it. Few characters begin with a pair that is excluded from composition; a table has their heads.
 //! That the mapping of the database comes out, of every character, is computed over its rows
 //! (`proofs/LastStepLemmas.antt`).
@@ -14,7 +14,7 @@ ghost use Rattle.shape_unicode.specs.LastStep.{last_step, excluded_head, head_of
 use crate::hangul::{is_syllable, split_syllable};
 use ucd_normal::{canonical_decomposition, composite};
 
-/// Two characters that don't compose, and the one that splits into them, where this one is a first part
+/// Two characters that don't compose, and the one that splits into them, if this one is a first part
 /// itself (the pairs of DerivedNormalizationProps.txt, Full_Composition_Exclusion, that UnicodeData.txt
 /// names in a mapping).
 pub const EXCLUDED_HEADS: [(char, char, char); 4] = [
@@ -54,7 +54,7 @@ fn head_of(a: char, b: char) -> Option<char>
     }
 }
 
-/// The last step of the decomposition of `c`, whose full decomposition is `full`, empty where it is `c`.
+/// The last step of the decomposition of `c`, whose full decomposition is `full`, empty if it is `c`.
 fn split_by(c: char, full: &[char]) -> Option<(char, char)>
     ensures { result ≡ split_by composite c full.now }
 {
@@ -83,7 +83,7 @@ fn is_whole_early(c: char) -> bool
         || '\u{2001}' < c && c < '\u{2126}'
 }
 
-/// The parts that `c` splits into in one step; the second one is U+0000 where there is one part alone.
+/// The parts that `c` splits into in one step; the second one is U+0000 if there is one part alone.
 pub(crate) fn split(c: char) -> Option<(char, char)>
     ensures { result ≡ split_of c }
 {

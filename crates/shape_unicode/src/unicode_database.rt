@@ -1,4 +1,4 @@
-//! The type that has the functions of Unicode.
+//! The type that has the Unicode functions.
 ghost use Rattle.std.specs.Prelude.{◌≡◌};
 ghost use Rattle.shape_unicode.specs.Meaning.{unicode_database};
 
@@ -16,12 +16,12 @@ use shape_buffer::interfaces::space_types::space_t;
 use shape_buffer::interfaces::{hb_unicode_funcs_t, hb_unicode_general_category_t};
 use ucd_category::GeneralCategory;
 
-/// The functions of Unicode over the whole database. It has no value: its functions are called as
-/// `UnicodeDatabase::decompose(c)`, and it is passed as a type.
+/// The Unicode functions over the whole database. It has no value: its functions are called as
+/// `UnicodeDatabase::decompose(c)`, and it is given as a type.
 pub struct UnicodeDatabase;
 
 impl hb_unicode_funcs_t for UnicodeDatabase {
-    ghost use Rattle.shape_unicode.specs.Laws.{unicode_database-lawful};
+    ghost use Rattle.shape_unicode.specs.DatabaseLaws.{unicode_database-lawful};
     ghost use Rattle.shape_unicode.specs.TableFacts.{cccs_ok, mirrors_ok, verticals_ok};
 
     ghost unicode = { unicode_database };
@@ -53,7 +53,7 @@ impl hb_unicode_funcs_t for UnicodeDatabase {
         mirrored_of(c)
     }
 
-    /// Decomposition_Mapping with the tag `<vertical>`, turned round, from wide forms.
+    /// Decomposition_Mapping with the tag `<vertical>`, inverted, from wide forms.
     fn vertical(c: char) -> Option<char> {
         vertical_of(c)
     }

@@ -3,7 +3,7 @@ ghost use Rattle.std.specs.Prelude.{◌≡◌};
 ghost use Rattle.shape_unicode.specs.Vertical.{vertical_of};
 
 /// A character and the one that stands for it in vertical text (UnicodeData.txt, Decomposition_Mapping
-/// with the tag `<vertical>`, turned round). Where that mapping names an ASCII character, the wide form of
+/// with the tag `<vertical>`, inverted). If that mapping names an ASCII character, the wide form of
 /// this one is meant, and U+FE4F for the wavy low line, as in HarfBuzz (`hb-ot-shape.cc`): a vertical text
 /// has narrow ASCII characters lying on their side.
 pub const VERTICAL_FORMS: [(char, char); 33] = [
@@ -42,7 +42,7 @@ pub const VERTICAL_FORMS: [(char, char); 33] = [
     ('\u{FF5D}', '\u{FE38}'),
 ];
 
-/// The vertical form of `c`, where there is one.
+/// The vertical form of `c`, if there is one.
 pub(crate) fn vertical_of(c: char) -> Option<char>
     ensures { result ≡ vertical_of c }
 {

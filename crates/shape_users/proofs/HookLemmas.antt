@@ -32,7 +32,7 @@ abbrev pub KeepsRuns : (Buffer → ℕ → ℕ → Buffer) → Type 0
 KeepsRuns reorder = (b : Buffer) (start end : ℕ) → IsMonotoneLevel b.cluster_level → IsRunInOrder b.items start end
     → KeepsClusters (clusters b.items) (clusters (reorder b start end).items)
 
--- so it does under every plan, where the plan keeps the shaper
+-- so it does under every plan, if the plan keeps the shaper
 reordering-keeps : (own : Buffer → ℕ → ℕ → Buffer) → KeepsRuns own → (hooks : Option HookMeaning)
     → ((h : HookMeaning) → hooks ≡ Some h → h.reorder ≡ own)
     → (reorder : Buffer → ℕ → ℕ → Buffer) → option_map (λ (h : HookMeaning). h.reorder) hooks ≡ Some reorder → KeepsRuns reorder

@@ -60,7 +60,7 @@ limit-few n few = omega arith
 pub limit-many : (n : ℕ) → 256 ≤ n → run_limit n ≤ n * 64
 limit-many n many = omega arith
 
--- where no step passes its limit, none after some others does
+-- if no step passes its limit, none after some others does
 within-at : (before : List Step) (one : Step) (behind : List Step) (b : Buffer) → EachWithin (before ++ (one ∷ behind)) b
     → one.counts (run_steps before b) ≤ limit_of (run_steps before b)
 within-at [] one behind b each = each.0
@@ -72,7 +72,7 @@ none_passes run text each at =
     within-at at.before at.one at.behind (entered (guessed run.unicode text))
     (subst (λ (steps : List Step). EachWithin steps (entered (guessed run.unicode text))) at.of_run each)
 
--- where some step does, it stands after some others
+-- if some step does, it stands after some others
 record Passing (steps : List Step) (b : Buffer) : Type 0 where
   before : List Step
   one : Step

@@ -54,7 +54,7 @@ LiesIn glyphs from to k = (from ≤ cluster_at glyphs k) × (cluster_at glyphs k
 abbrev IsTheirs : List Item → ℕ → ℕ → ℕ → ℕ → ℕ → Type 0
 IsTheirs glyphs start end from to k = start ≤ k → k < end → LiesIn glyphs from to k
 
--- a glyph of the range has its cluster, where that lies in the span
+-- a glyph of the range has its cluster, if that lies in the span
 abbrev IsShown : List Item → ℕ → ℕ → ℕ → ℕ → ℕ → Type 0
 IsShown glyphs start end from to k =
     from ≤ cluster_at glyphs k → cluster_at glyphs k < to
@@ -126,7 +126,7 @@ worked_text_of_glyphs = record {
 
 -- ---- glyphs of a text
 
--- the place is in a range, where its cluster lies in the span
+-- the place is in a range, if its cluster lies in the span
 abbrev IsInside : List Item → ℕ → ℕ → ℕ → ℕ → ℕ → Type 0
 IsInside glyphs from to start end k = from ≤ cluster_at glyphs k → cluster_at glyphs k < to → (start ≤ k) × (k < end)
 

@@ -39,7 +39,7 @@ module _ (run : Run) (words : List Word) (place : ℕ) (x : Word) (known spellin
         (ap (λ (i : ℕ). string_bytes (get_or words i d).spelling) same ∙ sym (read_at d)) alike)
   ]
 
-  -- where it is compared, it is too long or the spelling is
+  -- if it is compared, it is too long or the spelling is
   pub too_long_at : IsNowhere run words place spelling → IsTooLong run known ⊎ IsTooLong run spelling
       → FindsTooLong run words spelling
   too_long_at nowhere long = (
@@ -82,7 +82,7 @@ refused_for (Err other) error gave is =
     let same : other ≡ Length = cc in
     sym gave ∙ same
 
--- where each step is within the limit none passes it
+-- if each step is within the limit none passes it
 pub none_past : (steps : List Step) (b : Buffer) → EachWithin steps b → SomePast steps b → ⊥
 none_past [] b within past = past
 none_past (step ∷ steps) b within past = elim past [
@@ -98,7 +98,7 @@ place_of run xs ys same (Some k) place spelling is found =
     let here : k ≡ place = cc in
     subst (λ (words : List Word). IsPlaceOf run words place spelling) same (subst (λ (i : ℕ). IsPlaceOf run xs i spelling) here found)
 
--- where none was found there is none, in the list that was looked at
+-- if none was found there is none, in the list that was looked at
 pub none_of : (run : Run) (xs ys : List Word) → xs ≡ ys → (o : Option ℕ) (spelling : List ℕ) → o ≡ None
     → IfNone o (IsNowhere run xs (length xs) spelling) → IsNowhere run ys (length ys) spelling
 none_of run xs ys same None spelling is nowhere = subst (λ (words : List Word). IsNowhere run words (length words) spelling) same nowhere

@@ -43,7 +43,7 @@ brought_before ccc zero n place b = b
 brought_before ccc (suc count) n place b = brought_before ccc count n (place + 1) (reclassed ccc place (stepped_before place n b))
 
 -- the modifier marks that begin the marks of a ccc step to the front of the run and get another ccc, once they are in one cluster with
--- those that they pass
+-- those that they move past
 abbrev pub modifiers_moved : (ccc other : ℕ) → Buffer → (start end : ℕ) → Buffer
 modifiers_moved ccc other b start end =
     let run = slice_range b.items start end in
@@ -110,7 +110,7 @@ length-modifiers_moved ccc other b start end =
       | false ↦ length-brought_before other count n start merged ∙ length-merge_clusters start (start + n + count) b
     ]
 
--- the marks that are passed and those that step are in the run
+-- the marks that are moved past and those that step are in the run
 pub counts_within : (ccc : ℕ) (xs : List Item) (start end : ℕ) → start ≤ end → end ≤ length xs
     → start + count_below ccc (slice_range xs start end) + count_modifiers ccc (slice_range xs start end) ≤ end
 counts_within ccc xs start end ordered within =

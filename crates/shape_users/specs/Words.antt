@@ -50,7 +50,7 @@ abbrev pub IsNowhere : Run → List Word → ℕ → List ℕ → Type 0
 IsNowhere run words count spelling =
     (k : ℕ) (d : Word) → k < count → AreSpelledAlike run (string_bytes (slice_index_or words k d).spelling) spelling → ⊥
 
--- a spelling is compared with each word in turn until it is found: this comes to a word where that or the spelling is too long
+-- a spelling is compared with one word after the other until it is found: this comes to a word if that or the spelling is too long
 abbrev pub FindsTooLong : Run → List Word → List ℕ → Type 0
 FindsTooLong run words spelling =
     SomeIndex words (λ k. IsNowhere run words k spelling
@@ -64,7 +64,7 @@ pub record IsOneWordMore (run : Run) (old new : List Word) (spelling : List ℕ)
   pub spelling_is : string_bytes word.spelling ≡ spelling
   pub glyphs_are : word.glyphs ≡ shaped run (spelled spelling)
 
--- the words once one was asked for and is at a place: the old ones where the place is one of theirs, else one word more, at its end
+-- the words once one was asked for and is at a place: the old ones if the place is one of theirs, else one word more, at its end
 abbrev pub KeepsWords : Run → List Word → List Word → ℕ → List ℕ → Type 0
 KeepsWords run old new place spelling =
     ((place < length old) × (new ≡ old)) ⊎ ((place ≡ length old) × IsOneWordMore run old new spelling)

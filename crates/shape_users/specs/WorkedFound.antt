@@ -25,7 +25,7 @@ pub record WordsFound (run : Run) (a b : Word) (spelling : List ℕ) : Type 0 wh
   -- the first alone is asked
   pub first_alone : (IsLike run a spelling → ⊥) → IsNowhere run (a ∷ b ∷ []) 1 spelling
 
--- the prepared text passes its limit where it is expanded
+-- the prepared text passes its limit if it is expanded
 abbrev pub ExpandsPastLimit : Run → List ℕ → Type 0
 ExpandsPastLimit run spelling =
     let text = prepared_text run (spelled spelling) in

@@ -49,7 +49,7 @@ begun_text run text = entered (guessed run.unicode text)
 abbrev pub HasSteps : Run → Buffer → List Step → Type 0
 HasSteps run text steps = all_steps run (target_of run text) ≡ steps
 
--- one step, and another behind it, go past the limits that they find
+-- one step, and another after it, go past the limits that they find
 abbrev pub FirstPasses : Run → Buffer → Step → Type 0
 FirstPasses run text one = limit_of (begun_text run text) < one.counts (begun_text run text)
 

@@ -26,7 +26,7 @@ pub record WordsRefused : Type 0 where
   -- a word that goes, and one that is put before the others
   pub lost : (run : Run) (a b : Word) (s : List ℕ) → KeepsWords run (a ∷ []) (b ∷ []) 1 s → ⊥
   pub before : (run : Run) (a b : Word) (s : List ℕ) → KeepsWords run (a ∷ []) (b ∷ a ∷ []) 0 s → ⊥
-  -- one more where one was found, and two more
+  -- one more if one was found, and two more
   pub twice : (run : Run) (a b : Word) → KeepsWords run (a ∷ []) (a ∷ b ∷ []) 1 (bytes_of a) → ⊥
   pub two_more : (run : Run) (a b : Word) (s : List ℕ) → KeepsWords run [] (a ∷ b ∷ []) 0 s → ⊥
   -- another spelling than was asked for, and other glyphs than its own

@@ -1,6 +1,6 @@
 //! A script shaper for Arabic. Modifier combining marks that come first among the marks of their ccc, such as
 //! a hamza above, are put before every other mark of their letter, since they are read as a part of it
-//! (UTR 53); at the levels that merge, in one cluster with those that they pass.
+//! (UTR 53); at the levels that merge, in one cluster with those that they move past.
 //!
 //! The shaper gives one of the ten hooks; `no_hook` stands for the others. What a run by it owes is what its
 //! engine's lookups owe, and no more: [`arabic_runs_keep`]. It asks for no features of joining letters: these
@@ -15,8 +15,6 @@ ghost use Rattle.shape_users.specs.declared.arabic.ArabicShaper.{ArabicShaper as
 ghost use Rattle.shape_pipeline.specs.Order.{RunKeepsClusters};
 
 mod modifiers;
-#[cfg(test)]
-mod tests;
 
 use modifiers::reorder_modifiers;
 use shape_buffer::buffer::{hb_buffer_t, hb_tag_t};
@@ -103,8 +101,8 @@ impl<U: hb_unicode_funcs_t, F, M: hb_ot_layout_t<F>> reorder_marks_hook<ArabicSh
     ghost reorders = { λ _ _. modifiers_reordered-reorders };
 }
 
-/// A run by this shaper keeps clusters where its engine's lookups do, and flags where they do, whatever the
-/// functions of Unicode, the plan and the face.
+/// A run by this shaper keeps clusters if its engine's lookups do, and flags if they do, whatever the
+/// Unicode functions, the plan and the face.
 pub fn arabic_runs_keep<U: hb_unicode_funcs_t, F: hb_font_t, M: hb_ot_layout_t<F>>()
     ensures clusters { (plan : Plan AnyShaper M.Map Unit) (face : F)
         → let run = ⟦<ArabicShaper as Runs<U, F, M>>⟧.run plan face in

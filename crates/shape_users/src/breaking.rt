@@ -1,17 +1,12 @@
 //! From a string to its lines: a paragraph is shaped once, and its glyphs are cut where lines end.
 //!
 //! A line is laid out by the glyphs of the whole text; or its piece of the text is shaped again,
-//! with what stands before and after it as context, told to begin the text where it is the first
-//! and to end it where it is the last. That a piece shaped alone looks as it does in the whole is
+//! with what stands before and after it as context, told to begin the text if it is the first
+//! and to end it if it is the last. That a piece shaped alone looks as it does in the whole is
 //! tested, not promised: no law speaks of two runs. The tests compare the two over marks, ligatures
 //! and two script shapers, in both directions.
 ghost use Rattle.std.specs.Prelude.{◌<◌, ◌^◌, pos, length, IfOk};
 ghost use Rattle.shape_lines.specs.RightLines.{AreRightLines};
-
-#[cfg(test)]
-mod rows;
-#[cfg(test)]
-mod tests;
 
 use shape_pipeline::laws::{glyphs_can_be_cut, plain_runs_owe_nothing};
 use shape_pipeline::lines::{Line, cut_lines};
@@ -30,8 +25,8 @@ pub struct ShapedLines {
 
 /// The lines of a text by the default shaper, without lookups: right ones, of a width in units of
 /// the face. They are in the order of the text, and the last one ends with its last byte. The text
-/// has fewer than 2^32 bytes, since clusters are 32 bits. Refuses with `Length` where a step would
-/// leave a list past the run's limit, and with `Memory` where a growth was refused.
+/// has fewer than 2^32 bytes, since clusters are 32 bits. Refuses with `Length` if a step would
+/// leave a list past the run's limit, and with `Memory` if a growth was refused.
 pub fn lines_of_text<U, F>(
     alloc: Global,
     face: &F,

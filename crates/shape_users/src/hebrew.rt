@@ -1,4 +1,4 @@
-//! A script shaper for Hebrew: points are composed with their letters where the face has a glyph for the two
+//! A script shaper for Hebrew: points are composed with their letters if the face has a glyph for the two
 //! as one character, and a mark below steps before the point that it stands beside.
 //!
 //! The shaper gives two of the ten hooks; `no_hook` stands for the others. What a run by it owes is what
@@ -15,12 +15,8 @@ ghost use Rattle.shape_users.specs.WorkedForms.{WorkedForms};
 ghost use Rattle.shape_users.specs.Points.{points_reordered, points_reordered-reorders};
 ghost use Rattle.shape_users.specs.WorkedPoints.{WorkedPoints};
 
-#[cfg(test)]
-mod every_form;
-mod forms;
+pub mod forms;
 mod points;
-#[cfg(test)]
-mod tests;
 
 use forms::form;
 use points::reorder_points;
@@ -127,8 +123,8 @@ impl<U: hb_unicode_funcs_t, F, M: hb_ot_layout_t<F>> reorder_marks_hook<HebrewSh
     ghost reorders = { λ _ _. points_reordered-reorders };
 }
 
-/// A run by this shaper keeps clusters where its engine's lookups do, and flags where they do, whatever the
-/// functions of Unicode, the plan and the face.
+/// A run by this shaper keeps clusters if its engine's lookups do, and flags if they do, whatever the
+/// Unicode functions, the plan and the face.
 pub fn hebrew_runs_keep<U: hb_unicode_funcs_t, F: hb_font_t, M: hb_ot_layout_t<F>>()
     ensures clusters { (plan : Plan AnyShaper M.Map Unit) (face : F)
         → let run = ⟦<HebrewShaper as Runs<U, F, M>>⟧.run plan face in

@@ -11,14 +11,10 @@
 
 pub mod arabic;
 pub mod breaking;
-#[cfg(test)]
-mod cuts;
 pub mod hebrew;
 pub mod ligatures;
 pub mod lines;
 mod marks;
 pub mod paragraph;
 pub mod plain_glyphs;
-#[cfg(test)]
-mod shaping;
 pub mod words;

@@ -2,7 +2,7 @@
 //! ligature in place of two, whatever the face.
 //!
 //! What it owes a run is that its one stage keeps clusters and flags, which [`ligatures_keep`] says of all its
-//! calls; what a run by it owes then is nothing, where the shaper gives no hook: [`ligature_runs_owe_nothing`].
+//! calls; what a run by it owes then is nothing, if the shaper gives no hook: [`ligature_runs_owe_nothing`].
 ghost use Rattle.shape_buffer.specs.Keepers.{LookupsKeepClusters, LookupsKeepFlags};
 ghost use Rattle.shape_buffer.specs.NoLookups.{no_layout};
 ghost use Rattle.shape_plan.specs.Plan.{Plan};
@@ -13,8 +13,6 @@ ghost use Rattle.shape_users.specs.Ligatures.{ligature_masks-lawful, ligature_lo
 ghost use Rattle.shape_users.specs.WorkedPoints.{WorkedLigatures};
 
 mod substitution;
-#[cfg(test)]
-mod tests;
 
 use shape_buffer::buffer::{
     Feature, Language, Script, ShapeError, hb_buffer_t, hb_mask_t, hb_tag_t,

@@ -1,8 +1,8 @@
 //! Where a line may end: the question that a line breaker asks of a shaped text.
 //!
-//! A line breaker shapes a paragraph once and cuts it where lines end. Where a glyph lacks
+//! A line breaker shapes a paragraph once and cuts it where lines end. If a glyph lacks
 //! `UNSAFE_TO_BREAK`, the part before it and the part from it on are meant to look alone as they do together;
-//! elsewhere they are to be shaped again. That they do is not proved; the tests of `cuts` try it at the two levels
+//! otherwise they are to be shaped again. That they do is not proved; the tests of `cuts` try it at the two levels
 //! that keep clusters in order, on every short text of a few alphabets. At level CHARACTERS it is not always
 //! so: U+05B4 U+05E9 U+200D, in Hebrew and left to right, look different cut after the first character. The
 //! caller speaks of the text by clusters, which lead back to it.
@@ -17,13 +17,10 @@ ghost use Rattle.shape_items.specs.ClusterOrder.{IsOrderedFor};
 ghost use Rattle.shape_users.specs.Lines.{cut_at, lacks_break};
 ghost use Rattle.shape_users.specs.WorkedShown.{WorkedCuts};
 
-#[cfg(test)]
-mod tests;
-
 use shape_buffer::{GlyphBuffer, UNSAFE_TO_BREAK, hb_glyph_info_t};
 
 /// Whether a line may end before the character of a cluster: glyphs of that cluster are there, and the
-/// first of them in the list lacks `UNSAFE_TO_BREAK`. Where the clusters stand in the order of the text's
+/// first of them in the list lacks `UNSAFE_TO_BREAK`. If the clusters stand in the order of the text's
 /// direction, and each has one set of flags, as `shape` promises, each glyph of the cluster answers the
 /// same. A number inside a character is the cluster of no glyph: no line may end there.
 pub fn may_cut(glyphs: &GlyphBuffer, cluster: u32) -> bool
@@ -35,7 +32,7 @@ pub fn may_cut(glyphs: &GlyphBuffer, cluster: u32) -> bool
     first_lacks_break(glyphs.glyph_infos(), cluster).unwrap_or(false)
 }
 
-/// Whether the first glyph of a cluster lacks `UNSAFE_TO_BREAK`, where there is one.
+/// Whether the first glyph of a cluster lacks `UNSAFE_TO_BREAK`, if there is one.
 fn first_lacks_break(glyphs: &[hb_glyph_info_t], cluster: u32) -> Option<bool>
     ensures { result ≡ option_map lacks_break (find (has_cluster cluster) glyphs.now) }
 {

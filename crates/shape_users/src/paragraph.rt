@@ -10,9 +10,6 @@ ghost use Rattle.shape_items.specs.ClusterOrder.{IsOrderedFor};
 ghost use Rattle.shape_users.specs.Paragraph.{cluster_at, EndsIn, FirstToLast, ShowsExactly};
 ghost use Rattle.shape_users.specs.WorkedShown.{WorkedShown};
 
-#[cfg(test)]
-mod tests;
-
 use shape_buffer::buffer::{GlyphBuffer, hb_glyph_info_t};
 
 /// The text from one cluster up to another.
@@ -30,7 +27,7 @@ pub struct GlyphSpan {
 }
 
 /// The text that the glyphs from place `start` up to `end` show: from the least of their clusters up to the
-/// next cluster after the greatest, or to `text_len` where there is none. Where the clusters stand in the
+/// next cluster after the greatest, or to `text_len` if there is none. If the clusters stand in the
 /// order of the text's direction, and each is below `text_len`, the clusters in it are those of the range.
 /// The range must hold a glyph.
 pub fn text_of_glyphs(glyphs: &GlyphBuffer, start: usize, end: usize, text_len: u32) -> TextSpan
@@ -52,7 +49,7 @@ pub fn text_of_glyphs(glyphs: &GlyphBuffer, start: usize, end: usize, text_len: 
     }
 }
 
-/// The least cluster above another, or `text_len` where there is none below that.
+/// The least cluster above another, or `text_len` if there is none below that.
 fn next_cluster(glyphs: &[hb_glyph_info_t], cluster: u32, text_len: u32) -> u32
     ensures ends { EndsIn glyphs.now text_len result }
     ensures above { cluster < text_len → cluster < result }
@@ -68,7 +65,7 @@ fn next_cluster(glyphs: &[hb_glyph_info_t], cluster: u32, text_len: u32) -> u32
     next
 }
 
-/// The glyphs that show the text of a span: where the clusters stand in the order of the text's direction,
+/// The glyphs that show the text of a span: if the clusters stand in the order of the text's direction,
 /// those whose cluster lies in it.
 pub fn glyphs_of_text(glyphs: &GlyphBuffer, text: TextSpan) -> GlyphSpan
     ensures ordered { result.start ≤ result.end }

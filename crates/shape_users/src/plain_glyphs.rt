@@ -34,8 +34,6 @@ ghost use Rattle.shape_users.specs.PlainGlyphs.{IsTextOf, IsPlaceIn};
 ghost use Rattle.shape_users.specs.WorkedPlain.{WorkedPlain};
 
 pub mod by_shape;
-#[cfg(test)]
-mod tests;
 
 use crate::arabic::{ArabicShaper, arabic_runs_keep};
 use crate::ligatures::{Ligatures, ligatures_keep};
@@ -108,7 +106,7 @@ where
 }
 
 /// The glyphs of a text, with what was counted on the way: no step of the run made a list past the limit that
-/// it found, and a text is refused for its length only where one would have.
+/// it found, and a text is refused for its length only if one would have.
 pub fn plain_glyphs_counted<U, F>(
     alloc: Global,
     face: &F,
@@ -130,10 +128,10 @@ where
 }
 
 /// The glyphs of a text, with what is known of the normalised list that they are made of: each character that
-/// the text hasn't has a glyph, each item has the glyph of its character or of what stands in for it, feature
+/// the text hasn't has a glyph, each item has the glyph of its character or of what replaces it, feature
 /// bits and places are those of the text's items, and marks were composed by the standard's rule. Without a
-/// variation selector the list is equivalent to the text; where canonical form is asked of both, the lists
-/// of two texts have the same characters exactly where the texts are equivalent.
+/// variation selector the list is equivalent to the text; if canonical form is asked of both, the lists
+/// of two texts have the same characters exactly when the texts are equivalent.
 pub fn plain_glyphs_formed<U, F>(
     alloc: Global,
     face: &F,
@@ -205,7 +203,7 @@ where
 
 /// The text of a string: its characters in the clusters of their first bytes, by the settings of a
 /// new buffer. Refuses with `Length` a string of 2^32 bytes and more, since clusters are 32 bits, and
-/// with `Memory` where a growth was refused; the buffer that comes back is new.
+/// with `Memory` if a growth was refused; the buffer that comes back is new.
 fn text_of_str(alloc: Global, string: &str) -> Result<UnicodeBuffer, ShapeFault>
     ensures ok { IfOk result (λ text. IsTextOf string.now text) }
     ensures refused { IfErr result (λ fault. fault.buffer ≡ new_buffer) }
@@ -235,7 +233,7 @@ fn append(buffer: &mut UnicodeBuffer, string: &str) -> Result<(), ShapeError>
 /// order in which the glyphs run, neighbours in one cluster have the same flags, no glyph is unsafe to
 /// concat, and a string of at most 256 characters has at most 16384 glyphs, a longer one at most 64
 /// for each. Refuses with `Length` a longer result or a string of 2^32 bytes and more, and with
-/// `Memory` where a growth was refused; a new buffer comes back then.
+/// `Memory` if a growth was refused; a new buffer comes back then.
 pub fn glyphs_of_str<U, F>(alloc: Global, face: &F, string: &str) -> Result<GlyphBuffer, ShapeFault>
 where
     U: hb_unicode_funcs_t,

@@ -1,7 +1,7 @@
 //! A cache of shaped words, which finds a word under each spelling with the same normalised characters.
 //!
 //! A plan serves every text that it fits, so plans are kept and found by `fits`. A word is found by its
-//! normalised characters; where `equivalent_spellings` can tell, these are the equivalent spellings, so that
+//! normalised characters; if `equivalent_spellings` can tell, these are the equivalent spellings, so that
 //! U+0071 U+0301 U+00E9 and U+0071 U+0301 U+0065 U+0301 are kept once. A cache that must never show one word
 //! for another needs no more than that; it may use any mode.
 ghost use Rattle.std.specs.Prelude.{◌≡◌, length, Err, IsErr, IfOk, OnErr, IfSome, IfNone};
@@ -12,8 +12,6 @@ ghost use Rattle.shape_users.specs.WorkedFound.{WorkedFound};
 ghost use Rattle.shape_users.specs.WorkedWords.{WorkedWords};
 
 mod spellings;
-#[cfg(test)]
-mod tests;
 
 use shape_buffer::buffer::{GlyphBuffer, ShapeError, UnicodeBuffer};
 use shape_buffer::interfaces::{hb_font_t, hb_ot_layout_t, hb_unicode_funcs_t};
@@ -47,8 +45,8 @@ pub fn find_plan<U: hb_unicode_funcs_t, S, P, D>(
 }
 
 /// The place of a word that was shaped under a spelling with the same normalised characters: the first such.
-/// Refuses as `same_word` does for the spelling and one of the words, in turn up to that place: with `Length`
-/// where one of the two is too long, and always then.
+/// Refuses as `same_word` does for the spelling and a word up to that place: with `Length`
+/// if one of the two is too long, and always then.
 pub fn find_word<U, F, M, S>(
     alloc: Global,
     face: &F,
@@ -81,9 +79,9 @@ where
 }
 
 /// The place of a word under a spelling with the same normalised characters; it is shaped, and kept after
-/// the others, where there is none yet. The words that were there stay as they were, at their places. `words`
+/// the others, if there is none yet. The words that were there stay as they were, at their places. `words`
 /// must hold words of this plan and face alone. The plan must fit the spelling's text. Refuses as `find_word`
-/// does and, where there is none yet, as `spelled` and `shape_with_plan` do, or with `Memory` where a growth
+/// does and, if there is none yet, as `spelled` and `shape_with_plan` do, or with `Memory` if a growth
 /// was refused; then keeps nothing.
 pub fn keep_word<U, F, M, S>(
     alloc: Global,

@@ -63,7 +63,7 @@ words-split line (Some parts) whole result begins some is_line is_empty =
     let same : line ≡ parts.0.now ++ 32 ∷ parts.1.now = cut.0 in
     ap words same ∙ words-before parts.0.now parts.1.now (letters_of parts.0.now cut.1) (λ rest e. begins rest (same ∙ e))
 
--- ---- the first `/` (47) of a line, where it is a word by itself
+-- ---- the first `/` (47) of a line, if it is a word by itself
 
 abbrev pub NoSlash : List ℕ → Type 0
 NoSlash text = All (λ b. b ≢ 47) text
@@ -159,7 +159,7 @@ parted_behind b bs first second (is, none, ends, begins) unlike clear =
 abbrev Parts : List ℕ → Type 0
 Parts line = (first : List ℕ) × (second : List ℕ) × IsPartedAt line first second
 
--- where a word `/` stands after words without one, the line is parted there
+-- if a word `/` stands after words without one, the line is parted there
 abbrev FindsSlash : List ℕ → Type 0
 FindsSlash line = (before behind : List (List ℕ)) → All NoSlash before → words line ≡ before ++ (47 ∷ []) ∷ behind → Parts line
 
@@ -184,7 +184,7 @@ finds-lone b bs later clear first (w ∷ ws) behind none is =
           (ends_behind_letter b bs parts.0 parts.1 parts.2.0 (clear_front bs clear) parts.2.2),
     )
 
--- the first words where two letters stand at the front
+-- the first words if two letters stand at the front
 two_letters : (b c : ℕ) (parts : List (List ℕ))
     → (q : List ℕ) × (ws : List (List ℕ)) × (filter is_some_text (onto_first c parts) ≡ (c ∷ q) ∷ ws)
     × (filter is_some_text (onto_first b (onto_first c parts)) ≡ (b ∷ c ∷ q) ∷ ws)

@@ -5,7 +5,7 @@ use Rattle.std.specs.Option.{option_map}
 use Rattle.shapeline.specs.Category.{is_marked}
 use Rattle.shapeline.specs.declared.unicode_tables.ccc.TheConstants.{CCC}
 
--- the ccc that the table has for c, 0 where it has none
+-- the ccc that the table has for c, 0 if it has none
 abbrev pub ccc_in_table : ℕ → ℕ
 ccc_in_table c = unwrap_or (option_map (λ entry. entry.1) (find (λ entry. entry.0 == c) CCC)) 0
 

@@ -14,6 +14,6 @@ abbrev pub is_split_into : ℕ → ℕ → Option (ℕ × ℕ) → Bool
 is_split_into a b None = false
 is_split_into a b (Some parts) = parts.0 == a && parts.1 == b
 
--- the character of the table, where it splits into a and b again
+-- the character of the table, if it splits into a and b again
 abbrev pub compose_of : ℕ → ℕ → Option ℕ
 compose_of a b = option_and_then (λ c. if is_split_into a b (split_of c) then Some c else None) (compose_in_table a b)

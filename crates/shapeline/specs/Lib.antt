@@ -10,7 +10,7 @@ pub mod Pictograph
 pub mod Selector
 pub mod Scripts
 pub mod Meaning
-pub mod Laws
+pub mod TableLaws
 pub mod Words
 pub mod Modes
 pub mod Text

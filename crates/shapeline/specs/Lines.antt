@@ -9,7 +9,7 @@ use Rattle.shapeline.specs.declared.engine.command.Command.TheVariants.{Glyph, T
 use Rattle.shapeline.specs.declared.engine.outcome.Outcome.{Outcome}
 use Rattle.shapeline.specs.declared.engine.outcome.Outcome.TheVariants.{Done, Malformed, OutOfMemory, WriteFailed}
 
--- a text without one such byte at its end, where it ends with one
+-- a text without one such byte at its end, if it ends with one
 abbrev pub without_end : ℕ → List ℕ → List ℕ
 without_end end [] = []
 without_end end (b ∷ []) = if b == end then [] else b ∷ []
@@ -65,9 +65,9 @@ IsWellFormed (word ∷ rest) = (is_comment word ≡ true) ⊎ IsMeantByCommand (
 abbrev pub IsLine : List ℕ → Type 0
 IsLine line = IsUtf8 line × IsWellFormed (line_words line)
 
--- what has been done of a line about a command: malformed exactly where it isn't as it should be, and then the state stays; else the
+-- what has been done of a line about a command: malformed exactly when it isn't as it should be, and then the state stays; else the
 -- state is the one that it asks for. Only a line that takes memory is refused it, and then all stays but the metrics of glyphs; only
--- where a line asks for an answer a write fails
+-- if a line asks for an answer can a write fail
 abbrev pub IsObeyed : Option Command → Type 0 → State → State → Outcome → State → Type 0
 IsObeyed command Good old asked Malformed new = (¬ Good) × (new ≡ old)
 IsObeyed command Good old asked OutOfMemory new =
@@ -75,7 +75,7 @@ IsObeyed command Good old asked OutOfMemory new =
 IsObeyed command Good old asked Done new = Good × (new ≡ asked)
 IsObeyed command Good old asked WriteFailed new = Good × (asks_for_answer command ≡ true) × (new ≡ asked)
 
--- of a line that asks for an answer alone: malformed exactly where it isn't as it should be, and never out of memory, which is an answer
+-- of a line that asks for an answer alone: malformed exactly when it isn't as it should be, and never out of memory, which is an answer
 abbrev pub IsAnswered : Type 0 → Outcome → Type 0
 IsAnswered Good Malformed = ¬ Good
 IsAnswered Good OutOfMemory = ⊥

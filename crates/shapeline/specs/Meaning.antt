@@ -1,4 +1,4 @@
--- What the program's functions of Unicode answer.
+-- What the program's Unicode functions answer.
 use Rattle.shape_common.specs.Unicode.{UnicodeMeaning}
 use Rattle.shapeline.specs.Category.{category_of}
 use Rattle.shapeline.specs.Ccc.{ccc_of}

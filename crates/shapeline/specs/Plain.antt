@@ -7,6 +7,6 @@ use Rattle.shapeline.specs.Category.{category_of, is_marked}
 abbrev pub is_plain : ℕ → Bool
 is_plain c = not (is_marked c) && not (is_space_category (category_of c))
 
--- the form that a table has for c, where both are plain
+-- the form that a table has for c, if both are plain
 abbrev pub plain_form : ℕ → Option ℕ → Option ℕ
 plain_form c form = option_and_then (λ d. if is_plain c && is_plain d then Some d else None) form

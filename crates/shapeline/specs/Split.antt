@@ -13,7 +13,7 @@ split_in_table c = option_map (λ entry. (entry.1, entry.2)) (find (λ entry. en
 abbrev pub keeps_marks : ℕ → ℕ × ℕ → Bool
 keeps_marks c parts = (is_marked parts.0 && (parts.1 == 0 || is_marked parts.1)) || not (is_marked c)
 
--- the parts of c: those of the table, where they keep marks
+-- the parts of c: those of the table, if they keep marks
 abbrev pub split_of : ℕ → Option (ℕ × ℕ)
 split_of c = option_and_then (λ parts. if keeps_marks c parts then Some parts else None) (split_in_table c)
 

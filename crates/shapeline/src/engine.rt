@@ -31,7 +31,7 @@ const FAILED: u8 = 1;
 /// The status of a run that met a malformed line.
 const MALFORMED: u8 = 2;
 
-/// Obeys the lines of the reader and gives the exit status: 0 at the end of the input, 1 where a read or
+/// Obeys the lines of the reader and gives the exit status: 0 at the end of the input, 1 if a read or
 /// a write failed, 2 at a malformed line. Running out of memory outside shaping counts as a failed read.
 /// After a failed write nothing more is written.
 pub fn run<R: BufRead + Drop, W: Write + Drop>(alloc: Global, mut reader: R, mut writer: W) -> u8

@@ -1,7 +1,7 @@
 //! The words of a line, and the characters and numbers that they write.
 //!
-//! A space, and nothing else, parts words. A digit is an ASCII digit; leading zeros are fine, a sign
-//! is none but one minus before a signed number.
+//! Words are separated by spaces alone. A digit is an ASCII digit; leading zeros are fine, and the only
+//! sign is one minus before a signed number.
 ghost use Rattle.std.specs.Prelude.{◌≡◌, ◌≤◌, ◌≢◌, ℕ, List, [], ◌∷◌, ◌++◌, ◌^◌, ◌<◌, length};
 ghost use Rattle.std.specs.Prelude.{slice_index, All};
 ghost use Rattle.std.specs.Option.{SomeIff, MatchOption};
@@ -27,7 +27,7 @@ impl<'a> Words<'a> {
         Words { rest: line }
     }
 
-    /// The words before and after the first `/`, where that is a word by itself.
+    /// The words before and after the first `/`, if that is a word by itself.
     pub fn parted(self) -> Option<(Words<'a>, Words<'a>)>
         ensures { MatchOption result
             ((before behind : List (List ℕ)) → All (All (λ b. b ≢ 47)) before

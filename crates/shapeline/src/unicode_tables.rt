@@ -1,8 +1,8 @@
-//! The program's functions of Unicode: categories and scripts of the Unicode Character Database, widths of
+//! The program's Unicode functions: categories and scripts of the Unicode Character Database, widths of
 //! spaces as `shape_unicode` has them, and small tables for everything else.
 //!
 //! A file for each property. No proof of this program knows the value of a category, so the laws may not rest
-//! on one: where a law speaks of marks, the function asks for the category as it runs. A ccc counts only for
+//! on one: if a law speaks of marks, the function asks for the category as it runs. A ccc counts only for
 //! a mark, a mark splits only into marks, characters compose only into one that splits into them, mirror
 //! images and vertical forms are of characters that are neither marks nor spaces, and an ASCII character
 //! would be no mark whatever the database said. On these tables none of the tests changes an answer.
@@ -26,11 +26,11 @@ use shape_buffer::interfaces::space_types::space_t;
 use shape_buffer::interfaces::{hb_unicode_funcs_t, hb_unicode_general_category_t};
 use shape_unicode::space_of;
 
-/// The program's functions of Unicode.
+/// The program's Unicode functions.
 pub struct UnicodeTables;
 
 impl hb_unicode_funcs_t for UnicodeTables {
-    ghost use Rattle.shapeline.specs.Laws.{unicode_tables-lawful};
+    ghost use Rattle.shapeline.specs.TableLaws.{unicode_tables-lawful};
     ghost use Rattle.shapeline.specs.Meaning.{unicode_tables};
 
     ghost unicode = { unicode_tables };

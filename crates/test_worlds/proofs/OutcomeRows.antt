@@ -19,7 +19,7 @@ steps_within = record {
   limit_found = λ within. let le : 6 ≤ 3 = within.0 in omega (arith, le);
 }
 
--- where each step is within its limit, none is past it
+-- if each step is within its limit, none is past it
 not_past : (steps : List Step) (b : Buffer) → EachWithin steps b → SomePast steps b → ⊥
 not_past [] b within past = past
 not_past (one ∷ steps) b within (inl past) = let le = within.0 in omega (arith, le, past)

@@ -1,4 +1,4 @@
--- Functions of Unicode with the ten digits of ASCII, the fraction slash and two marks.
+-- Unicode functions with the ten digits of ASCII, the fraction slash and two marks.
 use Rattle.std.specs.Prelude.{◌≡◌, ◌≢◌, ℕ, ◌<◌, ◌==◌, ◌||◌, ◌&&◌, nat_le, true, false, if◌then◌else◌}
 use Rattle.std.proofs.Common.{arith}
 use Rattle.std.proofs.lemmas.Bool.Decides.{nat_tests}

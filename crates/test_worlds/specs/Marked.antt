@@ -1,4 +1,4 @@
--- Functions of Unicode with two marks, two variation selectors and three spaces.
+-- Unicode functions with two marks, two variation selectors and three spaces.
 use Rattle.std.specs.Prelude.{◌≡◌, ◌≢◌, ℕ, ◌<◌, ◌==◌, ◌||◌, Bool, true, false, if◌then◌else◌}
 use Rattle.std.proofs.Common.{arith}
 use Rattle.std.proofs.lemmas.Bool.Decides.{nat_tests}

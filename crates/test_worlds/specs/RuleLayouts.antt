@@ -21,7 +21,7 @@ layout_of face = record {
   has_cross_kerning = false;
 }
 
--- `frac` has 0x10, `numr` 0x20 and `dnom` 0x40 where there are lookups for fractions; `ss01` has 0x100
+-- `frac` has 0x10, `numr` 0x20 and `dnom` 0x40 if there are lookups for fractions; `ss01` has 0x100
 abbrev pub one_mask_of : Bool → ℕ → ℕ
 one_mask_of fractions tag =
     if tag == 0x66726163 then (if fractions then 0x10 else 0)

@@ -28,7 +28,7 @@ deep_face face = record bare_face {
       else None;
 }
 
--- it kerns where the face says so
+-- it kerns if the face says so
 abbrev pub adding_layout : TabledFace → LayoutMeaning Unit
 adding_layout face = record no_layout { has_kerning = face.kerning }
 

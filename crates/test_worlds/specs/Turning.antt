@@ -1,4 +1,4 @@
--- The `preprocess_text` hook that turns characters.
+-- The `preprocess_text` hook that changes characters.
 use Rattle.std.specs.Prelude.{◌==◌, if◌then◌else◌}
 use Rattle.shape_items.specs.Buffer.{Buffer}
 use Rattle.shape_items.specs.Items.{Item}

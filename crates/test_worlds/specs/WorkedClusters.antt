@@ -54,7 +54,7 @@ pub record NoOrderOfClusters : Type 0 where
   pub inside_a_grapheme : ComeNot MonotoneGraphemes LeftToRight (0 ∷ 1 ∷ 3 ∷ [])
   pub inside_leftward : ComeNot MonotoneGraphemes RightToLeft (3 ∷ 1 ∷ [])
 
--- where clusters aren't merged nothing is promised
+-- if clusters aren't merged nothing is promised
 pub record AtNoMonotoneLevel : Type 0 where
   pub anything : (run : Run) (ks : List ℕ) → ClustersComeInOrder run LeftToRight (accented Characters) (glyphs_in ks)
 

@@ -86,7 +86,7 @@ FitsText direction script text_direction text_script =
 
 pub record TextsOfPlans : Type 0 where
   pub same : FitsText LeftToRight latin LeftToRight latin
-  -- Hebrew runs to the left where nothing is set, and a text without a script to the right
+  -- Hebrew runs to the left if nothing is set, and a text without a script to the right
   pub guessed : FitsText RightToLeft hebrew Invalid hebrew
   pub guessed_without_script : FitsText LeftToRight None Invalid None
   pub unknown_is_none : FitsText LeftToRight None LeftToRight unknown

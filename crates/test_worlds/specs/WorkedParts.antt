@@ -130,7 +130,7 @@ pub record HonestBuffers : Type 0 where
 
 -- ---- preparing and positions
 
--- a character in its form for a direction, where the face has glyphs for all, or no lookup to set upright
+-- a character in its form for a direction, if the face has glyphs for all, or no lookup to set upright
 abbrev pub turned : Bool → Direction → ℕ → ℕ
 turned has_vert target c = rotated_char worked_unicode (face_with (λ _. true)) (decisions_with 16 has_vert) target c
 

@@ -1,4 +1,4 @@
-//! Functions of Unicode with the ten digits of ASCII, the fraction slash, a mark, and a mark that is ignorable.
+//! Unicode functions with the ten digits of ASCII, the fraction slash, a mark, and a mark that is ignorable.
 ghost use Rattle.test_worlds.specs.Digits.{digit_unicode, digit_unicode-lawful};
 
 use shape_buffer::buffer::{Direction, Script};

@@ -1,6 +1,6 @@
 //! What tests bring to shaping: small Unicode functions, faces of a few characters, engines that add to
 //! advances or substitute by the rules that their face lists, and shapers that split, compose, reorder,
-//! turn or double characters, or have wishes for marks. And definitions computed on cases over them.
+//! change or double characters, or have wishes for marks. And definitions computed on cases over them.
 #![tactic(auto)]
 #![allow(non_camel_case_types)]
 

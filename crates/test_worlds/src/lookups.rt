@@ -100,7 +100,7 @@ fn make_one(rule: &Ligature, start: usize, end: usize, buffer: &mut hb_buffer_t)
     buffer.remove(end - 1);
 }
 
-/// Makes one item of those at `i` and after it, where the rule takes them.
+/// Makes one item of those at `i` and after it, if the rule takes them.
 fn ligate_at(rule: &Ligature, i: usize, buffer: &mut hb_buffer_t)
     ensures { Made (ligated_at rule.now i) buffer.old buffer.new }
 {

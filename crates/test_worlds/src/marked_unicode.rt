@@ -1,4 +1,4 @@
-//! Functions of Unicode with two marks, two variation selectors and three spaces, none of which splits or
+//! Unicode functions with two marks, two variation selectors and three spaces, none of which splits or
 //! composes.
 ghost use Rattle.test_worlds.specs.Marked.{marked_unicode, marked_unicode-lawful};
 

@@ -18,7 +18,7 @@ pub trait Marking {
 
     ghost FALLBACK_POSITION: { Bool };
 
-    /// Whether marks are placed by their extents where no table places them.
+    /// Whether marks are placed by their extents if no table places them.
     const FALLBACK_POSITION: bool;
 
     ghost GPOS_TAG: { Option AnyTag };

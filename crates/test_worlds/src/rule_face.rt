@@ -10,7 +10,7 @@ use shape_buffer::interfaces::{hb_font_t, hb_glyph_extents_t, hb_tables_t};
 pub struct RuleFace {
     /// The stages of substitution, in order.
     pub stages: &'static [Stage],
-    /// The number of the pause after the first stage, where there is one.
+    /// The number of the pause after the first stage, if there is one.
     pub pause: Option<u32>,
     /// Whether there are lookups for fractions.
     pub fractions: bool,

@@ -26,7 +26,7 @@ pub fn premises_meet_worked_cases()
     ensures { WorkedPremises }
 {}
 
-/// What a character says of its item and of a text: which are hidden, all properties and scratch flags that go by
+/// What a character says of its item and of a text: which are hidden, all properties and scratch flags that depend on
 /// it; beside that new items, the categories of marks and spaces, and directions.
 pub fn characters_meet_worked_cases()
     ensures { WorkedCharacters }

@@ -25,7 +25,7 @@ with_edit (edits.Character c) item = record item { codepoint = c }
 with_edit (edits.Class class) item =
     record item { properties = record item.properties { glyph_class = record { 0 = bit_and class.0 14 } } }
 
--- where it has the character
+-- if it has the character
 abbrev pub edited : ℕ → Edit → Item → Item
 edited c edit item = if item.codepoint == c then with_edit edit item else item
 

@@ -47,7 +47,7 @@ pub enum Change {
     NotFound(Option<GlyphId>),
     /// Merges all clusters.
     Merged,
-    /// Turns the order of the items.
+    /// Reverses the order of the items.
     Turned,
     /// Marks the whole list unsafe to break.
     Unsafe,
@@ -59,13 +59,13 @@ pub enum Call {
     Keep(Change),
     /// Puts so many copies of each item in place of it.
     Times(u16),
-    /// The same, but says that memory was refused where the list would pass the limit.
+    /// The same, but says that memory was refused if the list would pass the limit.
     Quietly(u16),
     /// Says that memory was refused.
     Refuse,
 }
 
-/// The item with its edit, where it has the character.
+/// The item with its edit, if it has the character.
 fn edited(character: char, edit: Edit, info: &hb_glyph_info_t) -> hb_glyph_info_t
     ensures { result ≡ edited_of character edit info.now }
 {

@@ -45,7 +45,7 @@ fn counted(tally: Tally, number: u64, verdict: Verdict) -> Tally {
     tally
 }
 
-/// Looks at the first universes of a seed, up to one that breaks a promise. Refuses with `Memory` where a growth of
+/// Looks at the first universes of a seed, up to one that breaks a promise. Refuses with `Memory` if a growth of
 /// the search's own was refused.
 fn searched(alloc: Global, seed: u64, count: u64) -> Result<Tally, ShapeError> {
     let mut tally = Tally {

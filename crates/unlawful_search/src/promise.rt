@@ -30,7 +30,7 @@ use test_worlds::{Automatic, Marking};
 /// What a run answers, and the promise that it breaks.
 #[derive(Clone, Copy)]
 pub struct Verdict {
-    /// The refusal, where it was refused.
+    /// The refusal, if it was refused.
     pub refusal: Option<ShapeError>,
     pub broken: Option<&'static str>,
 }
@@ -185,7 +185,7 @@ fn broken_clusters(
     None
 }
 
-/// Neighbours in one cluster have one set of flags, and UNSAFE_TO_CONCAT stands where it is asked for alone.
+/// Neighbours in one cluster have one set of flags, and UNSAFE_TO_CONCAT stands only if it is asked for.
 fn broken_flags(flags: BufferFlags, infos: &[hb_glyph_info_t]) -> Option<&'static str> {
     for (first, second) in infos.iter().zip(infos.iter().skip(1)) {
         if first.cluster == second.cluster && (first.mask ^ second.mask) & DEFINED != 0 {
@@ -228,7 +228,7 @@ fn broken_clearing(buffer: &hb_buffer_t) -> Option<&'static str> {
     if is_cleared { None } else { Some("cleared") }
 }
 
-/// A call that says nothing of the length where it passes the limit.
+/// A call that says nothing of the length if it passes the limit.
 fn quiet(call: Call) -> Call {
     match call {
         Call::Times(count) => Call::Quietly(count),
@@ -257,8 +257,8 @@ fn multiplies(call: Call) -> bool {
     }
 }
 
-/// The same run over calls that say `Memory` where they pass the limit: it is refused exactly where the first one is,
-/// and with `Length` only where the text was multiplied before it is normalised, since no text here is expanded past
+/// The same run over calls that say `Memory` if they pass the limit: it is refused exactly when the first one is,
+/// and with `Length` only if the text was multiplied before it is normalised, since no text here is expanded past
 /// the limit by itself.
 fn broken_by_twin<S>(
     alloc: Global,
@@ -346,7 +346,7 @@ where
     })
 }
 
-/// Characters that normalising brought in have glyphs, items have the glyphs of their characters where no variation
+/// Characters that normalising brought in have glyphs, items have the glyphs of their characters if no variation
 /// selector stands, and feature bits come from the items before.
 fn broken_list(
     universe: &Universe,

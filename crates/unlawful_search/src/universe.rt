@@ -346,7 +346,7 @@ impl Dice {
         }
     }
 
-    /// Up to six characters, in clusters that never fall where the premise is of clusters.
+    /// Up to six characters, in clusters that never fall if the premise is of clusters.
     fn items(&mut self, alloc: Global, premise: Premise) -> Result<Vec<(char, u32)>, AllocError> {
         let mut items = Vec::new(alloc);
         let mut cluster: u32 = 0;

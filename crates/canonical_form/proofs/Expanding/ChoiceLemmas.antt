@@ -97,7 +97,7 @@ module _ (split : ℕ → Option (ℕ × ℕ)) (has_glyph : ℕ → Bool) where
         | inr (none, later) ↦ (suc n, omega arith, omega arith, later, λ j above below. least-none n c j none above (omega arith))
       ]
 
-  -- what was found at length k, and is there nowhere where `rest` is none
+  -- what was found at length k, and is there nowhere if `rest` is none
   found_at_length : (c k : ℕ) (l : List ℕ) → at_length k c ≡ Some l
       → (expansion split k c ≡ Some l) × (is_supported has_glyph (expansion split k c) ≡ true)
   found_at_length c k l e =

@@ -6,7 +6,7 @@ use Rattle.std.specs.List.{AllByRecursion}
 use Rattle.canonical_form.specs.Expanded.{begins_with_mark, expanded_from, expanded_in_sequences}
 
 module _ {A B : Type 0} (is_mark : A → Bool) (become : Bool → A → List B) where
-  -- where nothing goes by clusters, each item becomes what it does by itself
+  -- if nothing depends on clusters, each item becomes what it does by itself
   expanded_from-plain : (by_itself : A → List B) → ((with_marks : Bool) (x : A) → become with_marks x ≡ by_itself x)
       → (first : Bool) (xs : List A) → expanded_from is_mark become first xs ≡ flat_map by_itself xs
   expanded_from-plain by_itself same first [] = refl
@@ -32,7 +32,7 @@ module _ {A B : Type 0} (is_mark : A → Bool) (become : Bool → A → List B) 
       → flat_map parts (expanded_in_sequences is_mark become xs) ≡ flat_map whole xs
   expanded-parts parts whole keeps xs = expanded_from-parts parts whole keeps true xs
 
-  -- the first item of a list counts as first or not alike where it is no mark
+  -- the first item of a list counts as first or not alike if it is no mark
   first_alike : (xs : List A) → begins_with_mark is_mark xs ≡ false → (first : Bool)
       → expanded_from is_mark become first xs ≡ expanded_from is_mark become true xs
   first_alike [] none first = refl
@@ -60,7 +60,7 @@ module _ {A B : Type 0} (is_mark : A → Bool) (become : Bool → A → List B) 
       ≡ expanded_in_sequences is_mark become xs ++ expanded_in_sequences is_mark become ys
   expanded-cut xs ys none = cut_from true xs ys none
 
--- from items to their characters: where the marks and what an item becomes agree, so does the expanded list
+-- from items to their characters: if the marks and what an item becomes agree, so does the expanded list
 module _ {A B C D : Type 0} (IsItem : A → Type 0) (f : A → C) (g : B → D) (is_mark : A → Bool) (is_mark' : C → Bool)
     (become : Bool → A → List B) (become' : Bool → C → List D) (marks : (x : A) → IsItem x → is_mark' (f x) ≡ is_mark x)
     (becomes : (with_marks : Bool) (x : A) → IsItem x → map g (become with_marks x) ≡ become' with_marks (f x)) where

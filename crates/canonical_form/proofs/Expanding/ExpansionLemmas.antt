@@ -67,7 +67,7 @@ is_supported-extended has_glyph b (Some xs) = list_all-append has_glyph xs (kept
 
 -- ---- the supported expansions of a character that splits
 
--- an expansion of a first part, with the second part b put after it where that has a glyph
+-- an expansion of a first part, with the second part b put after it if that has a glyph
 abbrev pub put_behind : Bool → ℕ → Option (List ℕ) → Option (List ℕ)
 put_behind false b o = None
 put_behind true b o = option_map (λ xs. xs ++ kept_part b) o

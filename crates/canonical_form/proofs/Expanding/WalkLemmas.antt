@@ -49,7 +49,7 @@ module _ (split : ℕ → Option (ℕ × ℕ)) (has_glyph : ℕ → Bool) where
   walked-step found seconds a b (Some ys) =
       ap Some (append_assoc ys (kept_part b) (reverse seconds) ∙ ap (λ xs. ys ++ xs) (sym (reverse-more seconds b)))
 
-  -- where the chain ends, what was found is the expansion
+  -- if the chain ends, what was found is the expansion
   pub walk_ended : (start found : Option (List ℕ)) (seconds : List ℕ) (n c : ℕ)
       → start ≡ walked found seconds (greatest_supported split has_glyph n c) → None ≡ split c → found ≡ start
   walk_ended start found seconds n c inv e = sym (inv ∙ ap (walked found seconds) (greatest-end split has_glyph n c (sym e)))
@@ -78,7 +78,7 @@ module _ (D : Decompositions) (has_glyph : ℕ → Bool) (falling : FallsAlong D
       ∙ ap (λ t. walked (found_at t a (seconds ++ kept_part b) found) (seconds ++ kept_part b)
       (greatest_supported D.split has_glyph (D.height a) a)) (sym glyph))
 
-  -- the same, where a has none
+  -- the same, if a has none
   pub walk_passed : (start : Option (List ℕ)) (seconds after : List ℕ) (found : Option (ℕ × ℕ)) (c a b : ℕ) →
       start ≡ walked (found_parts found seconds) seconds (greatest_supported D.split has_glyph (D.height c) c)
       → IfSome found (λ f. f.1 ≤ length seconds) → Some (a, b) ≡ D.split c → true ≡ list_all has_glyph (kept_part b)

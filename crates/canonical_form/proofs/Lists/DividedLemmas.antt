@@ -107,7 +107,7 @@ module _ {A : Type 0} (belongs : A → Bool) where
       bits-put_first x [] = refl
       bits-put_first x (part ∷ parts) = refl
 
-  -- so how long the parts are goes by that alone
+  -- so how long the parts are depends on that alone
   pub sizes-bits : (xs : List A) → map length (divided belongs xs) ≡ map length (divided (λ b. b) (map belongs xs))
   sizes-bits xs = same (divided belongs xs) ∙ sym (ap (map length) (bits-divided xs))
     where

@@ -1,4 +1,4 @@
--- The tests of blocking agree: the greatest ccc always, and the last one where the marks rise.
+-- The tests of blocking agree: the greatest ccc always, and the last one if the marks rise.
 use Rattle.std.proofs.Common.{◌≡◌, ℕ, ◌<◌, ◌≤◌, Bool, true, false, not, ◌==◌, ◌&&◌, ◌||◌, nat_lt, nat_le, max, cond, List, [], ◌∷◌, ◌++◌, Option, None, refl, sym, ap, subst, ◌∙◌, arith}
 use Rattle.std.proofs.lemmas.Bool.Decides.{nat_tests}
 use Rattle.std.specs.List.{AllByRecursion}
@@ -17,7 +17,7 @@ module _ {A : Type 0} (ccc : A → ℕ) where
       let rest = greatest_blocks (n ∷ ms) c marks.1 in
       ap (λ b. (ccc m == 0 || nat_le (ccc c) (ccc m)) || b) rest ∙ grind (arith, nat_tests)
 
-  -- so one number is enough to know of them, 0 where there are none
+  -- so one number is enough to know of them, 0 if there are none
   pub blocked_by_number : (ms : List A) (c : A) → AllByRecursion (λ m. 0 < ccc m) ms
       → is_blocked ccc ms c ≡ (nat_lt 0 (greatest_ccc ccc ms) && nat_le (ccc c) (greatest_ccc ccc ms))
   blocked_by_number [] c marks = refl
@@ -118,7 +118,7 @@ module _ {A : Type 0} (ccc : A → ℕ) (is_mark : A → Bool) (compose : A → 
   last_below [] c h = omega arith
   last_below (m ∷ ms) c h = grind (arith, nat_tests)
 
-  -- for an ordered list, the ccc that was put out last alone decides
+  -- for an ordered list, the ccc that was emitted last alone decides
   pub recomposed_by_last : (xs : List A) → IsOrdered ccc xs
       → recomposed ccc (is_blocked ccc) is_mark compose xs ≡ recomposed ccc (is_blocked_by_last ccc) is_mark compose xs
   recomposed_by_last [] up = refl

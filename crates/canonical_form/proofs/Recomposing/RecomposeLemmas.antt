@@ -43,8 +43,8 @@ module _ {A : Type 0} (ccc : A → ℕ) (blocks : List A → A → Bool) (is_mar
       → recomposed_from ccc blocks is_mark compose s ms (c ∷ rest) ≡ recomposed_from ccc blocks is_mark compose s (ms ++ c ∷ []) rest
   recomposed_from-mark s ms c rest h mark = rw (h, mark, recomposed_from)
 
-  -- what each step keeps: it is said of a starter, the marks that were put out since, what is still to come,
-  -- and what is put out of these
+  -- what each step keeps: it is said of a starter, the marks that were emitted since, what is still to come,
+  -- and what is emitted of these
   pub record IsKeptByEachStep (P : A → List A → List A → List A → Type 0) : Type 0 where
     pub ends : (s : A) (ms : List A) → P s ms [] (s ∷ ms)
     pub composes : (s : A) (ms : List A) (c d : A) (rest out : List A) → composed ccc blocks is_mark compose s ms c ≡ Some d
@@ -54,7 +54,7 @@ module _ {A : Type 0} (ccc : A → ℕ) (blocks : List A → A → Bool) (is_mar
     pub passes : (s : A) (ms : List A) (c : A) (rest out : List A) → composed ccc blocks is_mark compose s ms c ≡ None
         → (ccc c == 0) ≡ false → P s (ms ++ c ∷ []) rest out → P s ms (c ∷ rest) out
 
-  -- holds of all that recomposing puts out: the one induction on its walk
+  -- holds of all that recomposing emits: the one induction on its walk
   pub by_steps : (P : A → List A → List A → List A → Type 0) → IsKeptByEachStep P → (s : A) (ms rest : List A)
       → P s ms rest (recomposed_from ccc blocks is_mark compose s ms rest)
   by_steps P kept s ms [] = kept.ends s ms

@@ -1,4 +1,4 @@
--- Flags are seen: where the run has not seen flags, no item has one.
+-- Flags are seen: if the run has not seen flags, no item has one.
 use Rattle.std.proofs.Common.{◌≡◌, ◌==◌, ◌||◌, ℕ, zero, suc, ◌≤◌, Bool, true, false, inl, inr, List, [], ◌∷◌, refl, sym, ◌∙◌, arith, None, bit_and}
 use Rattle.std.proofs.lemmas.Bool.{cases_Bool}
 use Rattle.std.proofs.lemmas.Bool.Decides.{nat_tests}

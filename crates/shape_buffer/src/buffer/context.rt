@@ -59,7 +59,7 @@ impl Context {
         self.len -= 1;
     }
 
-    /// Appends a character to the `kept` ones; the first one goes where all places are taken.
+    /// Appends a character to the `kept` ones; the first one goes if all places are taken.
     fn push_last(&mut self, c: char, kept: usize)
         requires all { kept ≡ length self.old }
         requires fit { kept ≤ 5 }

@@ -82,7 +82,7 @@ impl GlyphBuffer {
     }
 
     /// The clusters in the order of the text, each with its glyphs, how far they move the pen, and whether a
-    /// line may be cut before its text. Neighbours in one cluster stand as one. Refuses with `Memory` where a
+    /// line may be cut before its text. Neighbours in one cluster stand as one. Refuses with `Memory` if a
     /// growth was refused.
     pub fn clusters(&self, alloc: Global) -> Result<Vec<GlyphCluster>, ShapeError>
         ensures clusters { IfOk result (λ clusters. clusters.items
@@ -105,14 +105,14 @@ impl GlyphBuffer {
         self.buffer.direction()
     }
 
-    /// The script of the text, where it was set or guessed.
+    /// The script of the text, if it was set or guessed.
     pub fn script(&self) -> Option<Script>
         ensures { result ≡ self.now.script }
     {
         self.buffer.script()
     }
 
-    /// The language of the text, where it was set.
+    /// The language of the text, if it was set.
     pub fn language(&self) -> Option<&Language>
         ensures { option_map (λ language. string_bytes language.now.0) result ≡ self.now.language }
     {

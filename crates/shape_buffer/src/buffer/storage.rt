@@ -29,7 +29,7 @@ const MAX_LEN_MIN: usize = 16384;
 pub struct hb_buffer_t {
     infos: Vec<hb_glyph_info_t>,
     positions: Vec<GlyphPosition>,
-    /// Whether some position may be other than zeros. Where none is, nothing is written to make them zeros.
+    /// Whether some position may be other than zeros. If none is, nothing is written to make them zeros.
     has_positions: bool,
     /// Room for deletion and for merging many spans, which take no memory: a number for each item, at least.
     run_starts: Vec<usize>,
@@ -135,7 +135,7 @@ impl hb_buffer_t {
         self.positions.as_slice()
     }
 
-    /// The most items that the run may make, `usize::MAX` where no run has set a limit.
+    /// The most items that the run may make, `usize::MAX` if no run has set a limit.
     pub fn length_limit(&self) -> usize
         ensures { result ≡ limit_of self.now }
     {
@@ -143,7 +143,7 @@ impl hb_buffer_t {
     }
 
     /// Begins a run: no scratch flag, and a limit of 64 times as many items as there are, or of 16384
-    /// where that is more.
+    /// if that is more.
     pub fn enter(&mut self)
         ensures { self.new ≡ record self.old {
           scratch_flags = record { 0 = 0 };

@@ -78,7 +78,7 @@ impl UnicodeBuffer {
         self.buffer.is_empty()
     }
 
-    /// Appends a character, whose cluster leads back to the caller's text. Refuses with `Memory` where a
+    /// Appends a character, whose cluster leads back to the caller's text. Refuses with `Memory` if a
     /// growth was refused; a refused call changes nothing.
     pub fn add(&mut self, c: char, cluster: u32) -> Result<(), ShapeError>
         ensures ok { OnOk result (self.new ≡ record self.old {
@@ -93,7 +93,7 @@ impl UnicodeBuffer {
 
     /// Appends the characters of a text, whose clusters are the offsets of their first bytes in it: there the
     /// text may be cut, they never fall, and each is below the text's length. The text has fewer than 2^32
-    /// bytes, since clusters are 32 bits. Refuses with `Memory` where a growth was refused; a refused call
+    /// bytes, since clusters are 32 bits. Refuses with `Memory` if a growth was refused; a refused call
     /// changes nothing.
     pub fn push_str(&mut self, text: &str) -> Result<(), ShapeError>
         requires { length text.now < 2 ^ 32 }
@@ -111,7 +111,7 @@ impl UnicodeBuffer {
     }
 
     /// Makes room for so many more characters, so that appending them isn't refused. Changes nothing that is
-    /// seen. Refuses with `Memory` where a growth was refused.
+    /// seen. Refuses with `Memory` if a growth was refused.
     pub fn reserve(&mut self, additional: usize) -> Result<(), ShapeError>
         ensures same { self.new ≡ self.old }
         ensures memory { IsOkUnless result ShapeError.Memory }
@@ -143,7 +143,7 @@ impl UnicodeBuffer {
         self.buffer.set_direction(direction);
     }
 
-    /// Reads the script of the text, where it is set.
+    /// Reads the script of the text, if it is set.
     pub fn script(&self) -> Option<Script>
         ensures { result ≡ self.now.script }
     {
@@ -157,7 +157,7 @@ impl UnicodeBuffer {
         self.buffer.set_script(script);
     }
 
-    /// Reads the language of the text, where it is set.
+    /// Reads the language of the text, if it is set.
     pub fn language(&self) -> Option<&Language>
         ensures { option_map (λ language. string_bytes language.now.0) result ≡ self.now.language }
     {
@@ -202,28 +202,28 @@ impl UnicodeBuffer {
         self.buffer.set_cluster_level(cluster_level);
     }
 
-    /// Reads the glyph that stands in for default ignorables, where it is set.
+    /// Reads the glyph that replaces default ignorables, if it is set.
     pub fn invisible_glyph(&self) -> Option<GlyphId>
         ensures { result ≡ self.now.invisible_glyph }
     {
         self.buffer.invisible_glyph()
     }
 
-    /// Sets or unsets the glyph that stands in for default ignorables, and nothing else.
+    /// Sets or unsets the glyph that replaces default ignorables, and nothing else.
     pub fn set_invisible_glyph(&mut self, invisible_glyph: Option<GlyphId>)
         ensures { self.new ≡ record self.old { invisible_glyph = invisible_glyph } }
     {
         self.buffer.set_invisible_glyph(invisible_glyph);
     }
 
-    /// Reads the glyph that stands in for variation selectors without a variation glyph, where it is set.
+    /// Reads the glyph that replaces variation selectors without a variation glyph, if it is set.
     pub fn not_found_variation_selector_glyph(&self) -> Option<GlyphId>
         ensures { result ≡ self.now.not_found_variation_selector_glyph }
     {
         self.buffer.not_found_variation_selector_glyph()
     }
 
-    /// Sets or unsets the glyph that stands in for variation selectors without a variation glyph, and
+    /// Sets or unsets the glyph that replaces variation selectors without a variation glyph, and
     /// nothing else.
     pub fn set_not_found_variation_selector_glyph(
         &mut self,
@@ -268,7 +268,7 @@ impl UnicodeBuffer {
         self.buffer.set_post_context(text);
     }
 
-    /// Sets script and direction by guessing, where they aren't set: the script becomes the first of the
+    /// Sets script and direction by guessing, if they aren't set: the script becomes the first of the
     /// characters' scripts that is neither Common nor Inherited nor Unknown, the direction that of the
     /// script, else left to right.
     pub fn guess_segment_properties<U: hb_unicode_funcs_t>(&mut self)

@@ -13,8 +13,8 @@ use std::alloc::Global;
 /// The lookups of faces of type `F`. Its functions have no receiver.
 ///
 /// A call that changes a buffer stands for its meaning, a function from buffer to buffer; what it may be
-/// depends on the map and the face. A call that answers a `Result` refuses with `Length` where the list
-/// that it would leave passes the buffer's limit, and with `Memory` where a growth was refused; nothing is
+/// depends on the map and the face. A call that answers a `Result` refuses with `Length` if the list
+/// that it would leave passes the buffer's limit, and with `Memory` if a growth was refused; nothing is
 /// said of the buffer then. No other call is refused, and none of these makes the list longer.
 pub trait hb_ot_layout_t<F> {
     /// What the requests of a plan are compiled to.
@@ -39,7 +39,7 @@ pub trait hb_ot_layout_t<F> {
         ensures { result ≡ (layout face.now).chosen_script script
             (option_map (λ l. string_bytes l.now.0) language.entry) table };
 
-    /// Compiles requests. Refuses with `Memory` alone, where a growth was refused.
+    /// Compiles requests. Refuses with `Memory` alone, if a growth was refused.
     fn compile(
         alloc: Global,
         face: &F,
@@ -68,7 +68,7 @@ pub trait hb_ot_layout_t<F> {
     fn global_mask(map: &Self::Map) -> hb_mask_t
         ensures { result ≡ (masks map.now).global_mask };
 
-    /// The mask that turns a feature on with value 1; 0 where the feature has none.
+    /// The mask that switches a feature on with value 1; 0 if the feature has none.
     fn get_1_mask(map: &Self::Map, tag: hb_tag_t) -> hb_mask_t
         ensures { result ≡ (masks map.now).one_mask tag };
 
@@ -76,7 +76,7 @@ pub trait hb_ot_layout_t<F> {
     fn get_mask(map: &Self::Map, tag: hb_tag_t) -> (hb_mask_t, u32)
         ensures { result ≡ (masks map.now).mask tag };
 
-    /// The index of a feature in the list of a table, where the table has it.
+    /// The index of a feature in the list of a table, if the table has it.
     fn get_feature_index(map: &Self::Map, table: TableIndex, tag: hb_tag_t) -> Option<u16>
         ensures { result ≡ (masks map.now).feature_index table tag };
 
@@ -101,7 +101,7 @@ pub trait hb_ot_layout_t<F> {
         ensures { Outcome (step ((lookups map.now face.now).stage i))
             buffer.old buffer.new result };
 
-    /// The number of the pause after stage `i`, where it has one.
+    /// The number of the pause after stage `i`, if it has one.
     fn pause_after(map: &Self::Map, i: usize) -> Option<u32>
         ensures { result ≡ (masks map.now).pause_after i };
 

@@ -66,7 +66,7 @@ impl hb_ot_map_builder_t {
         self.requests.as_slice()
     }
 
-    /// Whether nobody but the planner asks for features: begins true, and is false where a shaper's hook
+    /// Whether nobody but the planner asks for features: begins true, and is false if a shaper's hook
     /// collects features or the user asks for some.
     pub fn is_simple(&self) -> bool
         ensures { result ≡ self.now.is_simple }
@@ -82,7 +82,7 @@ impl hb_ot_map_builder_t {
     }
 
     /// Makes room for so many more requests, so that making them isn't refused. Changes nothing that is seen.
-    /// Refuses with `Memory` where a growth was refused.
+    /// Refuses with `Memory` if a growth was refused.
     pub fn reserve(&mut self, additional: usize) -> Result<(), ShapeError>
         ensures same { self.new ≡ self.old }
         ensures memory { IsOkUnless result ShapeError.Memory }
@@ -91,8 +91,8 @@ impl hb_ot_map_builder_t {
         Ok(())
     }
 
-    /// Asks for a feature. `value` is what it is set to: 0 turns a feature off, 1 turns it on; a greater
-    /// value picks an alternate. Refuses with `Memory` where a growth was refused; a refused call changes
+    /// Asks for a feature. `value` is what it is set to: 0 switches a feature off, 1 switches it on; a greater
+    /// value picks an alternate. Refuses with `Memory` if a growth was refused; a refused call changes
     /// nothing.
     pub fn add_feature(
         &mut self,
@@ -124,7 +124,7 @@ impl hb_ot_map_builder_t {
         self.add_feature(tag, F_GLOBAL | flags, value)
     }
 
-    /// Turns a feature off over the whole text: `add_feature` with value 0 and `F_GLOBAL`. Refuses as
+    /// Switches a feature off over the whole text: `add_feature` with value 0 and `F_GLOBAL`. Refuses as
     /// `add_feature` does.
     pub fn disable_feature(&mut self, tag: hb_tag_t) -> Result<(), ShapeError>
         ensures ok { OnOk result (self.new ≡ with_request self.old (feature_off tag)) }
@@ -134,8 +134,8 @@ impl hb_ot_map_builder_t {
         self.add_feature(tag, F_GLOBAL, 0)
     }
 
-    /// Asks for a pause of substitution between the features before and those after. Where it has a
-    /// number, the shaper's hook `pause` is called with it there. Refuses with `Memory` where a growth was
+    /// Asks for a pause of substitution between the features before and those after. If it has a
+    /// number, the shaper's hook `pause` is called with it there. Refuses with `Memory` if a growth was
     /// refused; a refused call changes nothing.
     pub fn add_gsub_pause(&mut self, number: Option<u32>) -> Result<(), ShapeError>
         ensures ok { OnOk result (self.new ≡ with_request self.old (pause number)) }

@@ -11,7 +11,7 @@ pub const F_NONE: hb_ot_map_feature_flags_t = 0;
 /// The feature is on over the whole text.
 pub const F_GLOBAL: hb_ot_map_feature_flags_t = 1;
 
-/// Something stands in for the feature: it gets a mask even where the face lacks it.
+/// The feature has a fallback: it gets a mask even if the face lacks it.
 pub const F_HAS_FALLBACK: hb_ot_map_feature_flags_t = 2;
 
 /// Lookups don't skip U+200C when they match context.
@@ -23,7 +23,7 @@ pub const F_MANUAL_ZWJ: hb_ot_map_feature_flags_t = 8;
 /// Both of these: lookups don't skip the joiners.
 pub const F_MANUAL_JOINERS: hb_ot_map_feature_flags_t = 12;
 
-/// The feature is taken from any script of the table where the chosen one lacks it.
+/// The feature is taken from any script of the table if the chosen one lacks it.
 pub const F_GLOBAL_SEARCH: hb_ot_map_feature_flags_t = 16;
 
 /// Alternates are chosen at random.
@@ -35,7 +35,7 @@ pub const F_PER_SYLLABLE: hb_ot_map_feature_flags_t = 64;
 /// On over the whole text, and lookups don't skip the joiners.
 pub const F_GLOBAL_MANUAL_JOINERS: hb_ot_map_feature_flags_t = 13;
 
-/// On over the whole text, and something stands in for it.
+/// On over the whole text, with a fallback.
 pub const F_GLOBAL_HAS_FALLBACK: hb_ot_map_feature_flags_t = 3;
 
 /// The greatest value that a feature is asked for with.

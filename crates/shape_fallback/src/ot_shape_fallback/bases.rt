@@ -1,6 +1,6 @@
 //! All bases of a buffer, each with its marks.
 //!
-//! One walk finds the marks, and looks at the item before each first one: where it is no mark it is a base, and
+//! One walk finds the marks, and looks at the item before each first one: if that is no mark it is a base, and
 //! its marks are counted. The span is marked unsafe to break, since it can't be shaped in parts, and its marks
 //! are placed.
 ghost use Rattle.std.specs.Prelude.{◌≡◌, ◌+◌, ◌-◌, ◌<◌, ◌≤◌, length, drop};
@@ -109,8 +109,8 @@ fn position_before<F: hb_font_t>(
     position_at(face, setting, buffer, i - 1)
 }
 
-/// Places the marks of all bases. A base is looked for where a mark stands after it, and marks that were placed are
-/// passed by.
+/// Places the marks of all bases. A base is looked for before a mark alone, and marks that were placed are
+/// skipped.
 pub(crate) fn position_bases<F: hb_font_t>(face: &F, setting: Setting, buffer: &mut hb_buffer_t)
     ensures { Made (bases_positioned (F.face face.now) setting) buffer.old buffer.new }
 {

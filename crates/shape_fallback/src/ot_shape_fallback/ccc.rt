@@ -2,8 +2,8 @@
 //!
 //! The ccc of 200 and more name a side of the base (UAX 44, section 5.7.4). Those below
 //! only keep marks of one script apart when they are put in order, so they say nothing of a place; each
-//! gets the side that marks of the ccc stand at. Marks of Thai and Lao often have ccc 0, and go by
-//! their character.
+//! gets the side that marks of the ccc stand at. Marks of Thai and Lao often have ccc 0, and get
+//! theirs by their character.
 ghost use Rattle.std.specs.Prelude.{◌≡◌};
 ghost use Rattle.shape_fallback.specs.Ccc.{ccc_in_thai_or_lao as ccc_in_thai_or_lao_of};
 ghost use Rattle.shape_fallback.specs.Ccc.{recategorized_ccc as recategorized_ccc_of};

@@ -18,7 +18,7 @@ use shape_buffer::buffer::{GlyphId, GlyphPosition, hb_glyph_info_t};
 use shape_buffer::interfaces::{hb_font_t, hb_glyph_extents_t};
 use shape_buffer::wrapping::{difference, product, quotient, sum};
 
-/// Stands for the last ccc where no mark of the component has been placed yet.
+/// Stands for the last ccc if no mark of the component has been placed yet.
 pub const NO_LAST_CCC: u8 = 255;
 
 /// What the marks of a base are placed by.
@@ -114,7 +114,7 @@ fn at_component(base: &Base, info: &hb_glyph_info_t, state: &mut MarkState)
     state.ccc = NO_LAST_CCC;
 }
 
-/// The same, where the base has several components.
+/// The same, if the base has several components.
 #[tactic(auto, using(shape_common::proofs::WrappingLemmas::kept_bits), unfolding(crate::specs::MarkState::with_component))]
 fn with_component(base: &Base, info: &hb_glyph_info_t, state: &mut MarkState)
     ensures { state.new ≡ with_component_of base.now info.now state.old }
@@ -136,7 +136,7 @@ fn at_ccc(ccc: u8, state: &mut MarkState)
     state.extents = state.component_extents;
 }
 
-/// Passes by a mark without a ccc.
+/// Moves past a mark without a ccc.
 #[tactic(auto, using(shape_common::proofs::WrappingLemmas::kept_bits), unfolding(crate::specs::MarkState::passed))]
 fn pass(forward: bool, position: GlyphPosition, state: &mut MarkState)
     ensures { state.new ≡ passed_of forward position state.old }
@@ -182,7 +182,7 @@ fn place_in<F: hb_font_t>(face: &F, base: &Base, info: &hb_glyph_info_t, step: &
     step.state.extents = placed.base;
 }
 
-/// Places a mark of a base, or passes it by. The step comes with the mark's position and the state before it.
+/// Places a mark of a base, or moves past it. The step comes with the mark's position and the state before it.
 #[tactic(auto, using(shape_common::proofs::WrappingLemmas::kept_bits), unfolding(crate::specs::MarkState::place_mark))]
 pub fn place_mark<F: hb_font_t>(face: &F, base: &Base, info: &hb_glyph_info_t, step: &mut MarkStep)
     ensures { step.new

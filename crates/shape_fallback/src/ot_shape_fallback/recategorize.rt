@@ -19,7 +19,7 @@ pub(crate) fn is_nonspacing(info: &hb_glyph_info_t) -> bool
     )
 }
 
-/// Gives the item at a place the ccc that it is placed by, where it is a nonspacing mark; no other is written.
+/// Gives the item at a place the ccc that it is placed by, if it is a nonspacing mark; no other is written.
 #[tactic(auto, unfolding(crate::specs::Recategorized::recategorized_item))]
 fn recategorize_at(buffer: &mut hb_buffer_t, i: usize)
     requires { i < length buffer.old.items }

@@ -20,8 +20,8 @@ fn is_left_to_right(direction: Direction) -> bool
     matches!(direction, Direction::LeftToRight)
 }
 
-/// Whether the components of a ligature run to the right: in the direction where that is horizontal,
-/// else in the script's, and to the right where none is known.
+/// Whether the components of a ligature run to the right: by the direction if that is horizontal,
+/// else by the script's; to the right if none is known.
 #[tactic(auto, unfolding(crate::specs::Bases::runs_to_right))]
 fn runs_to_right<U: hb_unicode_funcs_t>(direction: Direction, script: Option<Script>) -> bool
     ensures { result ≡ runs_to_right_of U.unicode direction script }

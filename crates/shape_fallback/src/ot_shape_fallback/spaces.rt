@@ -89,7 +89,7 @@ fn first_glyph<F: hb_font_t>(face: &F, characters: &[char]) -> Option<GlyphId>
     None
 }
 
-/// The advance of the first of some characters that has a glyph; where none has, the one before.
+/// The advance of the first of some characters that has a glyph; if none has, the one before.
 #[tactic(auto, using(shape_common::proofs::WrappingLemmas::kept_bits), unfolding(crate::specs::Spaces::as_wide_as))]
 fn as_wide_as<F: hb_font_t>(face: &F, horizontal: bool, characters: &[char], before: i32) -> i32
     ensures { result ≡ as_wide_as_of (F.face face.now) horizontal characters.now before }

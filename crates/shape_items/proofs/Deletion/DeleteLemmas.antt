@@ -115,7 +115,7 @@ cond-append : (b : Bool) (f : Item → Item) (a k : ℕ) (xs ys : List Item) →
 cond-append true f a k xs ys le e = map_range-append f a k xs ys le e
 cond-append false f a k xs ys le e = refl
 
--- what the kept items take, where others come after them
+-- what the kept items take, if others come after them
 pub give-append : (k : ℕ) (x : Item) (xs ys : List Item) → 0 < k → k ≡ length xs → give_to_kept k x (xs ++ ys) ≡ give_to_kept k x xs ++ ys
 give-append k x xs ys some e =
     let n : length (clusters xs) ≡ length xs = length-map xs (λ y. y.cluster) in

@@ -49,7 +49,7 @@ first_run c x (y ∷ ys) is = elim (cases_Bool (has_cluster c y)) [
   | inr here ↦ let ends : has_cluster x.cluster y ≡ false = grind (arith, nat_tests) in rw (ends, here) refl
 ]
 
--- what is made of the runs of a list, where its first run goes on with one of this mask
+-- what is made of the runs of a list, if its first run goes on with one of this mask
 abbrev pub spread : BufferFlags → ℕ → Bool → List (List Item) → List Item
 spread flags mask goes_on [] = []
 spread flags mask true (run ∷ runs) = map (with_mask mask) run ++ flat_map (run_flagged flags) runs
@@ -106,7 +106,7 @@ flagged-runs flags (x ∷ xs) =
     ∙ spread-more flags 0 now x (begins_in x.cluster xs) false (cluster_runs xs) (ap (handed_flags flags) (united-first x xs))
     ∙ spread-apart flags 0 (one_more x xs) ∙ ap (flat_map (run_flagged flags)) (runs-more x xs)
 
--- ---- where unsafe to concat isn't asked for, no item has it
+-- ---- if unsafe to concat isn't asked for, no item has it
 
 handed-concat : (flags : BufferFlags) (united : ℕ) → (bit_and flags.0 64 == 64) ≡ false
     → nat_lt 0 (bit_and (handed_flags flags united) 2) ≡ false

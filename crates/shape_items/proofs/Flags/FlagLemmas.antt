@@ -51,7 +51,7 @@ take_in p a xs some = ap (list_any p) (sym (take-append-drop a xs)) ∙ append-l
 pub drop_in : (p : Item → Bool) (a : ℕ) (xs : List Item) → list_any p (drop a xs) ≡ true → list_any p xs ≡ true
 drop_in p a xs some = ap (list_any p) (sym (take-append-drop a xs)) ∙ append-right p (take a xs) (drop a xs) some
 
--- where f brings a test to an item only if q holds, so it does to a list
+-- if f brings a test to an item only if q holds, so it does to a list
 map_brings : (f : Item → Item) (p : Item → Bool) (q : Bool) → ((x : Item) → p (f x) ≡ true → (p x ≡ true) ⊎ (q ≡ true))
     → (xs : List Item) → list_any p (map f xs) ≡ true → (list_any p xs ≡ true) ⊎ (q ≡ true)
 map_brings f p q h [] some = inl some

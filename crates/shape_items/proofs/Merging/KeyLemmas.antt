@@ -1,4 +1,4 @@
--- What goes by neither clusters nor the defined flags: merging keeps it, and ordering goes by it. Merging keeps the settings too.
+-- What depends on neither clusters nor the defined flags: merging keeps it, and ordering depends on it. Merging keeps the settings too.
 use Rattle.std.proofs.Common.{◌≡◌, ℕ, ◌≤◌, Bool, true, false, if◌then◌else◌, ◌==◌, ◌&&◌, bit_or, nat_lt, List, [], ◌∷◌, ◌++◌, map, length, take, drop, slice_range, refl, sym, ap, ap₂, ◌∙◌, arith}
 use Rattle.std.proofs.lemmas.Nat.{and_assoc, and_or_apart}
 use Rattle.std.proofs.lemmas.List.{length-map, map-append, take-append-drop}
@@ -22,7 +22,7 @@ module _ {A B : Type 0} (ccc : A → ℕ) (ccc' : B → ℕ) (f : A → B) (same
       ∙ ap₂ (λ a b. if (nat_lt 0 b && nat_lt b a) then f y ∷ map f (sink ccc x ys) else f x ∷ f y ∷ map f ys) (sym (same x)) (sym (same y))
       ∙ ap (λ l. if falls ccc' (f x) (f y) then f y ∷ l else f x ∷ f y ∷ map f ys) (sink-map x ys)
 
-  -- the order goes by the ccc alone
+  -- the order depends on the ccc alone
   pub in_order-map : (xs : List A) → map f (in_order ccc xs) ≡ in_order ccc' (map f xs)
   in_order-map [] = refl
   in_order-map (x ∷ xs) = sink-map x (in_order ccc xs) ∙ ap (sink ccc' (f x)) (in_order-map xs)
@@ -55,14 +55,14 @@ module _ {B : Type 0} (key : Item → B) where
           | false ↦ by_break item
         ]
 
-    -- marking keeps what goes by no flag
+    -- marking keeps what depends on no flag
     pub keys-unsafe_to_break : (start end : ℕ) (b : Buffer) → map key (unsafe_to_break start end b).items ≡ map key b.items
     keys-unsafe_to_break start end b =
         let least = least_cluster (slice_range b.items start end) in
         unsafe_to_break-cases (λ c. map key c.items ≡ map key b.items) start end b
         (λ long. keys-map_range (mark_break least) (key-mark_break least) start end b.items (omega arith)) refl
 
--- a part of items that goes by neither their clusters nor the defined flags of their masks
+-- a part of items that depends on neither their clusters nor the defined flags of their masks
 pub record IsKey {B : Type 0} (key : Item → B) : Type 0 where
   pub by_cluster : (item : Item) (cluster : ℕ) → key (record item { cluster = cluster; mask = feature_bits item.mask }) ≡ key item
   pub by_break : (item : Item) → key (record item { mask = bit_or item.mask 3 }) ≡ key item

@@ -44,7 +44,7 @@ put_range-behind k b c xs lt within is =
     ∙ sym (append_assoc (take k xs) (x ∷ []) later)
     ∙ ap (λ l. l ++ later) (sym front)
 
--- where the first of the items isn't in the least cluster the growth is one more from the next one
+-- if the first of the items isn't in the least cluster the growth is one more from the next one
 growth_left-behind : (xs : List Item) (k least : ℕ) → k + 1 < length xs → Joined xs k → (cluster_at xs k == least) ≡ false
     → growth_left xs (k + 1) least ≡ 1 + growth_left xs k least
 growth_left-behind xs k least lt joined not_least =

@@ -69,7 +69,7 @@ length-spans_merged_out (span ∷ spans) b =
 
 -- ---- the rest of the buffer
 
--- what goes by neither clusters nor the defined flags stays
+-- what depends on neither clusters nor the defined flags stays
 pub keys-all_merged : {B : Type 0} (key : Item → B) → IsKey key → (spans : List (ℕ × ℕ)) (b : Buffer)
     → map key (all_merged spans b).items ≡ map key b.items
 keys-all_merged key is_key [] b = refl

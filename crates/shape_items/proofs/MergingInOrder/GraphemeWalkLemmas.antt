@@ -132,7 +132,7 @@ grapheme_spans-in_order (x ∷ xs) =
 pub IsKey-continuation : IsKey is_continuation
 IsKey-continuation = record { by_cluster = λ item cluster. refl; by_break = λ item. refl }
 
--- merging a span changes nothing of what continues after it, where the items before it stand for others
+-- merging a span changes nothing of what continues after it, if the items before it stand for others
 pub merged-continuations : (xs new given left : List Item) (kept start end : ℕ) → kept ≤ start → start ≤ end → length given ≡ kept
     → length left ≡ start → left ++ drop start new ≡ merge start end (given ++ drop kept xs)
     → drop end (map is_continuation new) ≡ drop end (map is_continuation xs)

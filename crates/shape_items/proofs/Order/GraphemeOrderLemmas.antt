@@ -1,4 +1,4 @@
--- The order of clusters where graphemes are turned.
+-- The order of clusters if graphemes are reversed.
 use Rattle.std.proofs.Common.{◌≡◌, ℕ, zero, suc, ◌-◌, ◌<◌, List, [], ◌∷◌, ◌++◌, length, reverse, replicate, refl, ap, sym, ◌∙◌, arith, subst}
 use Rattle.std.proofs.lemmas.List.{get_or-reverse, length-reverse, reverse-append, map-append, append-nil}
 use Rattle.std.proofs.lemmas.Grind.{flat_map-append}
@@ -53,7 +53,7 @@ falls-reverse xs rising i j d le lt =
     rw (get_or-reverse xs j d short, get_or-reverse xs i d first)
     (rising (length xs - 1 - j) (length xs - 1 - i) d (omega arith) (omega arith))
 
--- rising clusters fall once the parts are turned
+-- rising clusters fall once the parts are reversed
 pub falls-turned : (parts : List (List Item)) → AreOneCluster parts → IsNonDecreasing (clusters (whole parts))
     → IsNonIncreasing (clusters (whole (reverse parts)))
 falls-turned parts one rising =

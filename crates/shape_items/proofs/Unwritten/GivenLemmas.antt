@@ -68,7 +68,7 @@ map_range-end f xs ys n m en em =
     ∙ ap (λ z. xs ++ (map f z ++ drop m (xs ++ ys))) part
     ∙ ap (λ z. xs ++ (map f ys ++ z)) none ∙ ap (λ z. xs ++ z) (append-nil (map f ys))
 
--- what the kept items take, where the last run takes it
+-- what the kept items take, if the last run takes it
 pub give_runs : (p : Item) (run : UnwrittenRun) (before : List UnwrittenRun) (k : ℕ) → AreAbove run.last.cluster run.front → IsApart run before
     → p.cluster < run.last.cluster
     → k ≡ length (written_runs (run ∷ before))
@@ -204,7 +204,7 @@ give_nothing items places given p x n size ex le s = unchanged s.runs s.items_ar
       let not_smaller : nat_lt p.cluster run.last.cluster ≡ false = grind (arith, nat_tests) in
       rw (read, not_smaller) refl
 
--- what a picked item of a smaller cluster leaves, where the last run begins the list or the item before it is in another cluster
+-- what a picked item of a smaller cluster leaves, if the last run begins the list or the item before it is in another cluster
 pub give_apart : (items : List Item) (places : List ℕ) (given : List Item) (p x d : Item) (n m : ℕ) → n + 1 ≡ length items
     → m + 1 ≡ length places
     → x ≡ get_or items n x → p.cluster < x.cluster
@@ -239,7 +239,7 @@ give_apart items places given p x d n m size count ex lt apart s = given_to s.ru
           ∙ before_last other rest (run.front ++ hand_over p run.last ∷ []) d in
           apart (omega arith) (ap (λ y. y.cluster) read ∙ sym same)
 
--- and where the item before it is in that cluster, the two runs are one
+-- and if the item before it is in that cluster, the two runs are one
 pub give_joins : (items : List Item) (places : List ℕ) (given : List Item) (p x d : Item) (n m : ℕ) → n + 1 ≡ length items
     → m + 1 ≡ length places
     → x ≡ get_or items n x → p.cluster < x.cluster

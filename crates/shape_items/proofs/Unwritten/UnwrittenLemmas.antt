@@ -164,7 +164,7 @@ write_ends infos given places e (run ∷ before) le ei ep eg =
     let none : 0 ≡ length (starts (run ∷ before)) = ap length ep in
     absurd (omega arith)
 
--- the same, where the list was written in place
+-- the same, if the list was written in place
 pub write_last-in_place : (infos given w : List Item) (places : List ℕ) (e c : ℕ) (runs : List UnwrittenRun) → e ≤ length infos
     → c + 1 ≤ length places
     → take e infos ≡ stored_runs runs → take (c + 1) places ≡ starts runs → given ≡ written_runs runs ++ drop e infos

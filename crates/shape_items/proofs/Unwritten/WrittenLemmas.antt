@@ -25,7 +25,7 @@ hand_over-from p x y = ap (λ b. record x { cluster = p.cluster; mask = bit_or (
 hand_over-again : (p x y : Item) → hand_over p (hand_over y x) ≡ hand_over p x
 hand_over-again p x y = ap (λ f. record x { cluster = p.cluster; mask = bit_or f (bit_and p.mask 7) }) (twice_features x.mask y.mask)
 
--- where what comes next has no smaller cluster, an item stays
+-- if what comes next has no smaller cluster, an item stays
 pub follow_stays : (x y : Item) (ys : List Item) → x.cluster ≤ y.cluster → follow x (y ∷ ys) ≡ x
 follow_stays x y ys le = grind (arith, nat_tests)
 

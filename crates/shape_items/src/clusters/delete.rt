@@ -40,7 +40,7 @@ fn merge_first_two(
     }
 }
 
-/// Hands the cluster of the picked glyph at `i` on, where the first `kept` items stand as runs that begin
+/// Hands the cluster of the picked glyph at `i` on, if the first `kept` items stand as runs that begin
 /// at `starts`; gives how many runs there are.
 fn hand_on(
     infos: &mut [hb_glyph_info_t],

@@ -14,7 +14,7 @@ use crate::clusters::unwritten::{give_to_last, open_run, write_runs};
 use crate::clusters::{growth_right, least_cluster, put_all_in};
 use crate::items::hb_glyph_info_t;
 
-/// Notes the runs of the items from `kept` up to `start`, where those before them are so many runs; gives
+/// Notes the runs of the items from `kept` up to `start`, if those before them are so many runs; gives
 /// how many runs there are.
 fn open_runs(
     infos: &[hb_glyph_info_t],
@@ -41,7 +41,7 @@ fn open_runs(
     count
 }
 
-/// Puts the last run into the least cluster of a span that comes next, where the run ends in the cluster
+/// Puts the last run into the least cluster of a span that comes next, if the run ends in the cluster
 /// of the span's first item and the least is below that; gives how many runs there are.
 fn grow_left(kept: &mut [hb_glyph_info_t], starts: &[usize], first: u32, least: u32) -> usize
     requires { (given : List Item) × StandsFor kept.old starts.now given }
@@ -67,7 +67,7 @@ fn grow_left(kept: &mut [hb_glyph_info_t], starts: &[usize], first: u32, least: 
     give_to_last(kept, starts, &taken)
 }
 
-/// Merges a span, where the items before it stand as these runs; gives how many runs there are.
+/// Merges a span, if the items before it stand as these runs; gives how many runs there are.
 fn merge_behind(infos: &mut [hb_glyph_info_t], starts: &[usize], start: usize, end: usize) -> usize
     requires ordered { start ≤ end }
     requires within { end ≤ length infos.old }

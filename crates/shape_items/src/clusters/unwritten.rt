@@ -18,7 +18,7 @@ fn hand_over(info: &mut hb_glyph_info_t, picked: &hb_glyph_info_t)
     info.mask = (info.mask & !DEFINED) | (picked.mask & DEFINED);
 }
 
-/// Writes the item before one that is written: it takes that one's cluster where it is smaller.
+/// Writes the item before one that is written: it takes that one's cluster if it is smaller.
 fn follow(info: &mut hb_glyph_info_t, next: &hb_glyph_info_t)
     ensures { info.new ≡ follow_of info.old (next.now ∷ []) }
 {
@@ -80,8 +80,8 @@ pub(super) fn open_run(
     count + 1
 }
 
-/// Gives the picked item's cluster and flags to the last run, where that is below its own; gives how many
-/// runs there are, one fewer where the last one joins the one before it.
+/// Gives the picked item's cluster and flags to the last run, if that is below its own; gives how many
+/// runs there are, one fewer if the last one joins the one before it.
 pub(super) fn give_to_last(
     infos: &mut [hb_glyph_info_t],
     starts: &[usize],

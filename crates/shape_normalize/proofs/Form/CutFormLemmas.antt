@@ -38,7 +38,7 @@ module _ (rules : Rules) where
   Settles old new = AreRunsSettled rules.unicode.ccc max_run [] old new
 
   module _ (lawful : LawfulUnicode rules.unicode) where
-    -- settling and recomposing go part by part, where the second part begins with no mark or is empty
+    -- settling and recomposing go part by part, if the second part begins with no mark or is empty
     cut_text : (front back new other : List ℕ) → begins_with_mark (is_mark rules.unicode) back ≡ false → Settles front new
         → Settles back other
         → Settles (front ++ back) (new ++ other)

@@ -175,7 +175,7 @@ module _ (ccc : ℕ → ℕ) (glyph : ℕ → Bool) where
 
 module _ (D : Decompositions) (glyph : ℕ → Bool) where
   module _ (falls : FallsAlong D.split D.height) where
-    -- the last part of Full comes in front first, where it isn't U+0000
+    -- the last part of Full comes in front first, if it isn't U+0000
     row_before-split : (c a b : ℕ) (row : Option ℕ) → D.split c ≡ Some (a, b)
         → row_before D.ccc glyph (full D c) row
         ≡ row_before D.ccc glyph (full D a) (row_before D.ccc glyph (kept_part b) row)
@@ -217,7 +217,7 @@ module _ (D : Decompositions) (glyph : ℕ → Bool) where
       ∙ ap (λ cs. parts (map char_of before) ++ cs) (append-nil last) in
       ap (λ cs. row_before D.ccc glyph cs row) full_of ∙ row_before-append D.ccc glyph (parts (map char_of before)) last row
 
-  -- where the last item is refused, so are all
+  -- if the last item is refused, so are all
   pub row_before-last_refused : (items before : List Item) (item : Item) (row : Option ℕ) → items ≡ before ++ item ∷ []
       → row_before D.ccc glyph (full D item.codepoint) row ≡ None → row_before_items items row ≡ None
   row_before-last_refused items before item row is refused =
@@ -268,7 +268,7 @@ item-plain unicode item prepared no_selector =
     marks false true e = cc
     marks false false e = refl
 
--- items are plain where they are prepared and their characters no selectors
+-- items are plain if they are prepared and their characters no selectors
 abbrev ArePlain : UnicodeMeaning → List Item → Type 0
 ArePlain unicode items = ArePrepared unicode items × AllByRecursion (λ c. unicode.selector c ≡ false) (map char_of items)
 

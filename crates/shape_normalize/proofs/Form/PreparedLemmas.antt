@@ -1,4 +1,4 @@
--- Prepared lists stay prepared in round one and where CGJ are unhidden.
+-- Prepared lists stay prepared in round one and when CGJ are unhidden.
 use Rattle.std.proofs.Common.{ℕ, List, [], ◌∷◌, map, Option, None, Some, refl}
 use Rattle.std.specs.Option.{option_map_or}
 use Rattle.shape_items.specs.Buffer.{Buffer}
@@ -8,7 +8,8 @@ use Rattle.shape_common.specs.declared.settings.GlyphId.{GlyphId}
 use Rattle.shape_items.specs.Prepared.{IsPreparedItem}
 pub use Rattle.shape_items.proofs.PreparedLemmas.{ArePrepared, unmarked_ccc, ccc_with_props, prepared-with_props, PreparedKey, prepared_key, IsKey-prepared_key, IsPreparedKey, chars_of_keys, prepared_keys, prepared_from_keys, prepared_by_keys}
 use Rattle.shape_plan.specs.Rules.{Rules}
-use Rattle.shape_normalize.specs.RoundOne.{part_item, whole_item, expansion_of, variation_sequences_merged, round_one}
+use Rattle.shape_normalize.specs.Part.{part_item}
+use Rattle.shape_normalize.specs.RoundOne.{whole_item, expansion_of, variation_sequences_merged, round_one}
 use Rattle.shape_normalize.specs.RoundTwo.{cgj_unhidden_where_seen}
 use Rattle.shape_normalize.proofs.RoundTwo.CgjLemmas.{keys-cgj_unhidden_where_seen}
 use Rattle.shape_normalize.proofs.RoundOne.RoundOneLemmas.{whole_item_is, expanded_all, keys-variation_sequences_merged}

@@ -13,7 +13,7 @@ use Rattle.shape_items.proofs.Merging.KeyLemmas.{IsKey, keys-merge_clusters, wit
 use Rattle.shape_plan.specs.Reorder.{exchanged, with_ccc, ccc_set, Reorders, done, exchange, merge, set_ccc, ReordersRanges}
 use Rattle.shape_normalize.proofs.RoundTwo.SpanLemmas.{map-slice_range}
 
--- what `reorder_marks` owes, where it is given
+-- what `reorder_marks` owes, if it is given
 abbrev pub LawfulReorder : Option (Buffer → ℕ → ℕ → Buffer) → Type 0
 LawfulReorder reorder = (f : Buffer → ℕ → ℕ → Buffer) → reorder ≡ Some f → ReordersRanges f
 
@@ -128,11 +128,11 @@ module _ (start end : ℕ) (P : Buffer → Type 0)
   kept_by_steps {b} (set_ccc i item ccc low high is mark byte rest) within h =
       kept_by_steps rest (rw (length-set b.items i (with_ccc ccc item)) within) (by_set_ccc b i item ccc low high within is mark h)
 
--- what goes by no ccc, where a hook is given that may set ccc
+-- what depends on no ccc, if a hook is given that may set ccc
 abbrev pub GoesByNoCcc : {B : Type 0} → Option (Buffer → ℕ → ℕ → Buffer) → (Item → B) → Type 0
 GoesByNoCcc reorder key = (f : Buffer → ℕ → ℕ → Buffer) → reorder ≡ Some f → (item : Item) (ccc : ℕ) → key (with_ccc ccc item) ≡ key item
 
--- the items of which one has another ccc, by what goes by none
+-- the items of which one has another ccc, by what depends on none
 pub keys-ccc_set : {B : Type 0} (key : Item → B) → ((item : Item) (ccc : ℕ) → key (with_ccc ccc item) ≡ key item)
     → (i : ℕ) (item : Item) (ccc : ℕ) (b : Buffer) → item ≡ get_or b.items i item → map key (ccc_set i item ccc b).items ≡ map key b.items
 keys-ccc_set key free i item ccc b is = map-set_same key b.items i (with_ccc ccc item) item (free item ccc ∙ ap key is)
@@ -153,7 +153,7 @@ module _ (start end : ℕ) (b : Buffer) (within : end ≤ length b.items) where
       (λ x from to low ordered high inside so_far. without_items-merge_clusters from to x ∙ so_far)
       (λ x i item ccc low high inside is mark so_far. so_far) steps within refl
 
-  -- what goes by neither clusters nor the defined flags stays after the range
+  -- what depends on neither clusters nor the defined flags stays after the range
   pub Reorders-behind : {B : Type 0} (key : Item → B) → IsKey key → {c : Buffer} → Reorders start end b c
       → drop end (map key c.items) ≡ drop end (map key b.items)
   Reorders-behind key is_key steps =
@@ -179,7 +179,7 @@ module _ (start end : ℕ) (b : Buffer) (within : end ≤ length b.items) where
       take-map key start (set x.items i (with_ccc ccc item)) ∙ ap (map key) (take-set-le start x.items i (with_ccc ccc item) low)
       ∙ sym (take-map key start x.items) ∙ so_far) steps within refl
 
-  -- what goes by no ccc either is permuted in the range
+  -- what depends on no ccc either is permuted in the range
   pub Reorders-permutes : {B : Type 0} (key : Item → B) → IsKey key → ((item : Item) (ccc : ℕ) → key (with_ccc ccc item) ≡ key item)
       → {c : Buffer} → Reorders start end b c → PermutesRange start end (map key b.items) (map key c.items)
   Reorders-permutes key is_key free steps =

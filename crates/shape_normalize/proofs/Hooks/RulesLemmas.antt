@@ -9,7 +9,7 @@ use Rattle.shape_plan.specs.Rules.{used_split, used_height, used_reorder}
 use Rattle.shape_plan.specs.Shaper.{HookMeaning, OwedHooks}
 use Rattle.shape_normalize.proofs.Hooks.ReorderLemmas.{LawfulReorder}
 
--- a height falls along the split in use where one falls along Unicode's and along the hook's
+-- a height falls along the split in use if one falls along Unicode's and along the hook's
 FallsAlong-used : {unicode : UnicodeMeaning} → LawfulUnicode unicode → (given : Bool) (hooks : Option HookMeaning) → IfSome hooks OwedHooks
     → FallsAlong (used_split unicode given hooks) (used_height unicode given hooks)
 FallsAlong-used lawful given None owed = lawful.splits_fall.height_falls
@@ -27,7 +27,7 @@ FallsAlong-planned lawful given hooks owed plan face =
     (elim plan.shaper as (λ v. IfSome (option_map
     (λ shaper. hooks shaper plan face) v) OwedHooks) [ None ↦ tt | Some shaper ↦ owed shaper plan face ])
 
--- the reordering in use puts ranges in another order where that of each shaper does
+-- the reordering in use puts ranges in another order if that of each shaper does
 used-reorder : (given : Bool) (hooks : Option HookMeaning) → IfSome hooks OwedHooks → LawfulReorder (used_reorder given hooks)
 used-reorder true (Some hooks) owed f is = let same : hooks.reorder ≡ f = cc in subst ReordersRanges same owed.reorders
 used-reorder true None owed f is = cc

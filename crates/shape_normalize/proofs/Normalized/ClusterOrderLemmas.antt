@@ -15,7 +15,8 @@ use Rattle.shape_buffer.proofs.Steps.KeeperLemmas.{KeepsClusters-then}
 use Rattle.shape_items.proofs.MergingInOrder.EachSpanLemmas.{all_merged_keep}
 use Rattle.shape_plan.specs.Rules.{Rules}
 use Rattle.shape_normalize.proofs.RoundOne.SelectorLemmas.{variation_sequences_in_order}
-use Rattle.shape_normalize.specs.RoundOne.{part_item, whole_item, expansion_of, expanded_item, passed_item, marked_selector, variant_items, variants, is_selector_item, is_selector_sequence, is_with_marks, variation_sequences_from, variation_sequences_merged, sequences, sequence_items, expanded, round_one}
+use Rattle.shape_normalize.specs.Part.{part_item}
+use Rattle.shape_normalize.specs.RoundOne.{whole_item, expansion_of, expanded_item, passed_item, marked_selector, variant_items, variants, is_selector_item, is_selector_sequence, is_with_marks, variation_sequences_from, variation_sequences_merged, sequences, sequence_items, expanded, round_one}
 use Rattle.shape_normalize.specs.RoundTwo.{cgj_unhidden_where_seen}
 use Rattle.shape_normalize.specs.Normalized.{normalized, HookKeepsClusters}
 use Rattle.shape_normalize.proofs.RoundOne.DrawnLemmas.{DrawsBefore, DrawsBefore-same, draws_whole, draws_pieces}
@@ -122,7 +123,7 @@ pub cgj_unhidden_where_seen_clusters : (b : Buffer) → clusters (cgj_unhidden_w
 cgj_unhidden_where_seen_clusters b = keys-cgj_unhidden_where_seen (λ item. item.cluster) (λ item. refl) b
 
 module _ (rules : Rules) (lawful : LawfulReorder rules.reorder) where
-  -- normalising keeps the order of clusters at the monotone levels, and brings no new one, where the reorder hook does
+  -- normalising keeps the order of clusters at the monotone levels, and brings no new one, if the reorder hook does
   pub normalized_keeps : (b new : Buffer) → new ≡ normalized rules b → IsMonotoneLevel b.cluster_level → HookKeepsClusters rules
       → KeepsClusters (clusters b.items) (clusters new.items)
   normalized_keeps b new is monotone hook =

@@ -10,7 +10,8 @@ use Rattle.shape_items.specs.Items.{Item}
 use Rattle.shape_common.specs.declared.settings.GlyphId.{GlyphId}
 use Rattle.shape_items.proofs.Merging.KeyLemmas.{IsKey, keys-merge_out}
 use Rattle.shape_normalize.specs.Normalized.{normalized, features_of, KeepsFeatures}
-use Rattle.shape_normalize.specs.RoundOne.{part_item, whole_item, expansion_of, variation_sequences_merged, round_one}
+use Rattle.shape_normalize.specs.Part.{part_item}
+use Rattle.shape_normalize.specs.RoundOne.{whole_item, expansion_of, variation_sequences_merged, round_one}
 use Rattle.shape_items.specs.Spans.{spans_merged_out}
 use Rattle.shape_normalize.specs.RoundThree.{Placed, recomposed_items, absorbed_spans, with_cluster_at, round_three}
 use Rattle.shape_normalize.specs.RoundTwo.{marks_ordered, cgj_unhidden_where_seen}

@@ -1,4 +1,4 @@
--- Where no CGJ was seen by the end of round one, none is unhidden: hidden bits are those of characters, or of the text.
+-- If no CGJ was seen by the end of round one, none is unhidden: hidden bits are those of characters, or of the text.
 use Rattle.std.proofs.Common.{◌≡◌, ℕ, ◌+◌, ◌≤◌, ◌==◌, ◌&&◌, bit_and, Bool, true, false, if◌then◌else◌, ◌⊎◌, inl, inr, List, [], ◌∷◌, map, fold, length, slice_range, Option, None, Some, refl, sym, ap, subst, ◌∙◌}
 use Rattle.std.specs.List.{AllByRecursion, Contains}
 use Rattle.std.specs.Option.{option_map_or}
@@ -13,7 +13,8 @@ use Rattle.shape_common.specs.declared.settings.GlyphId.{GlyphId}
 use Rattle.shape_items.proofs.Merging.ClusterLemmas.{unsafe_to_break-cases, merge_clusters-cases}
 use Rattle.shape_items.proofs.Merging.KeyLemmas.{IsKey}
 use Rattle.shape_normalize.specs.Normalized.{ordered, normalized, hidden_char, KeepsHidden}
-use Rattle.shape_normalize.specs.RoundOne.{part_item, whole_item, expansion_of, variation_sequences_merged, round_one}
+use Rattle.shape_normalize.specs.Part.{part_item}
+use Rattle.shape_normalize.specs.RoundOne.{whole_item, expansion_of, variation_sequences_merged, round_one}
 use Rattle.shape_normalize.specs.RoundThree.{round_three}
 use Rattle.shape_normalize.specs.RoundTwo.{spans, run_cccs, run_settled, marks_ordered, has_mark_past_first, has_seen_cgj, cgj_unhidden, cgj_unhidden_where_seen}
 use Rattle.shape_plan.specs.Rules.{Rules}
@@ -57,10 +58,10 @@ module _ (reorder : Option (Buffer → ℕ → ℕ → Buffer)) (lawful : Lawful
 
   pub flag-marks_ordered : (b : Buffer) → cgj_flag (marks_ordered reorder b) ≡ cgj_flag b
   flag-marks_ordered b =
-      kept_by_marks_ordered reorder lawful (λ c. cgj_flag c ≡ cgj_flag b)
-      (λ start end c rising within marks so_far. flag-run_settled start end c rising within marks ∙ so_far) b refl
+      kept_by_marks_ordered reorder lawful b (λ c. cgj_flag c ≡ cgj_flag b)
+      (λ start end c run within marks so_far. flag-run_settled start end c run.ordered within marks ∙ so_far) refl
 
--- where no CGJ was seen, none is unhidden
+-- if no CGJ was seen, none is unhidden
 pub cgj_unseen : (b : Buffer) → has_seen_cgj b ≡ false → cgj_unhidden_where_seen b ≡ b
 cgj_unseen b unseen = cond-false _ (record b { items = cgj_unhidden b.items }) b unseen
 
@@ -118,7 +119,7 @@ module _ (rules : Rules) (those : List (ℕ × Bool)) where
         recomposed_hides (has_mark_past_first b.items && rules.recomposes) (ordered rules b)
         (ordered_hides (round_one rules b) (has_mark_past_first b.items) unseen (round_one_hides b each))
 
--- where no CGJ was seen, hidden bits are those of characters, or of the text
+-- if no CGJ was seen, hidden bits are those of characters, or of the text
 pub normalized_keeps_hidden : (rules : Rules) → LawfulReorder rules.reorder → (b new : Buffer) → new ≡ normalized rules b
     → KeepsHidden rules b new
 normalized_keeps_hidden rules lawful b new is = λ unseen.

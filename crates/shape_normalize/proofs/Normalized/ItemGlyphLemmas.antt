@@ -1,4 +1,4 @@
--- Each item of a normalised list has the glyph of its character, or what stands in for it, or comes of a sequence with a variation
+-- Each item of a normalised list has the glyph of its character, or what replaces it, or comes of a sequence with a variation
 -- selector.
 use Rattle.std.proofs.Common.{◌≡◌, ◌⊎◌, ℕ, Bool, true, false, List, [], ◌∷◌, ◌++◌, length, map, Option, None, Some, is_some, unwrap_or, refl, arith, inl, inr}
 use Rattle.std.specs.List.{All, AllByRecursion, Contains, flat_map, filter}
@@ -12,7 +12,8 @@ use Rattle.shape_common.specs.declared.settings.GlyphId.{GlyphId}
 use Rattle.canonical_form.proofs.Expanding.ChoiceLemmas.{chosen_glyphs}
 use Rattle.canonical_form.proofs.Lists.EveryLemmas.{append_all}
 use Rattle.shape_plan.specs.Rules.{Rules, decompositions, has_glyph}
-use Rattle.shape_normalize.specs.RoundOne.{item_glyph, remembers_space, part_item, whole_item, expanded_item, expansion_of, sequences, is_selector_sequence, is_with_marks, variation_sequences_merged, sequence_items, round_one}
+use Rattle.shape_normalize.specs.Part.{part_item}
+use Rattle.shape_normalize.specs.RoundOne.{item_glyph, remembers_space, whole_item, expanded_item, expansion_of, sequences, is_selector_sequence, is_with_marks, variation_sequences_merged, sequence_items, round_one}
 use Rattle.shape_normalize.specs.Normalized.{normalized, content, selector_items, HasItemGlyph}
 use Rattle.shape_normalize.proofs.Normalized.NormalizedLemmas.{normalized_all}
 use Rattle.shape_normalize.proofs.Hooks.ReorderLemmas.{LawfulReorder}
@@ -22,7 +23,7 @@ use Rattle.shape_normalize.proofs.RoundOne.SequenceLemmas.{each_of_values, each_
 pub all_of_none : {X : Type 0} (P : X → Type 0) (xs : List X) → length xs ≡ 0 → All P xs
 all_of_none P xs none = λ k d h. absurd (omega arith)
 
--- where there is a glyph, no other stands in for it
+-- if there is a glyph, no other replaces it
 index_of_glyph : (found : Option GlyphId) (n : ℕ) → is_some found ≡ true
     → unwrap_or (option_map (λ g. g.0) found) 0 ≡ option_map_or (λ g. g.0) found n
 index_of_glyph None n has = absurd (cc)

@@ -21,7 +21,8 @@ use Rattle.canonical_form.proofs.Ordering.OrderLemmas.{Swaps-in_order}
 use Rattle.canonical_form.proofs.Ordering.SwapLemmas.{all-swaps}
 use Rattle.shape_normalize.specs.Normalized.{normalized}
 use Rattle.shape_plan.specs.Reorder.{exchanged, ccc_set, Reorders}
-use Rattle.shape_normalize.specs.RoundOne.{part_item, whole_item, expansion_of, variation_sequences_merged, variation_sequences_from, sequences, round_one, remembers_space, seen_chars, seen_expanded, seen_variant, seen_sequence, variants, is_selector_sequence, is_with_marks, with_space_fallback, with_selector_fallback}
+use Rattle.shape_normalize.specs.Part.{part_item, seen_chars}
+use Rattle.shape_normalize.specs.RoundOne.{whole_item, expansion_of, variation_sequences_merged, variation_sequences_from, sequences, round_one, remembers_space, seen_expanded, seen_variant, seen_sequence, variants, is_selector_sequence, is_with_marks, with_space_fallback, with_selector_fallback}
 use Rattle.shape_items.specs.Spans.{spans_merged_out}
 use Rattle.shape_normalize.specs.RoundThree.{Placed, recomposed_items, absorbed_spans, with_cluster_at, round_three, composed_chars}
 use Rattle.shape_normalize.specs.RoundTwo.{spans, run_cccs, spans_merged, run_in_order, run_reordered, run_settled, marks_ordered, cgj_unhidden_where_seen, cgj_unhidden}
@@ -232,10 +233,10 @@ module _ (reorder : Option (Buffer → ℕ → ℕ → Buffer)) (lawful : Lawful
 
   flags-marks_ordered : (b : Buffer) → KeepsFlags b (marks_ordered reorder b)
   flags-marks_ordered b =
-      kept_by_marks_ordered reorder lawful (λ c. KeepsFlags b c)
-      (λ start end c ordered within marks so_far. KeepsFlags-then b c (run_settled reorder c (start, end)) so_far
-      (flags-run_settled start end c ordered within marks))
-      b (KeepsFlags-same b)
+      kept_by_marks_ordered reorder lawful b (λ c. KeepsFlags b c)
+      (λ start end c run within marks so_far. KeepsFlags-then b c (run_settled reorder c (start, end)) so_far
+      (flags-run_settled start end c run.ordered within marks))
+      (KeepsFlags-same b)
 
 flags-cgj : (b : Buffer) → KeepsFlags b (cgj_unhidden_where_seen b)
 flags-cgj b =

@@ -9,7 +9,8 @@ use Rattle.shape_items.specs.Buffer.{Buffer}
 use Rattle.shape_common.specs.declared.positions.GlyphPosition.{GlyphPosition}
 use Rattle.shape_items.proofs.Merging.KeyLemmas.{IsKey, IsKey-unflagged}
 use Rattle.shape_plan.specs.Rules.{Rules, has_glyph}
-use Rattle.shape_normalize.specs.RoundOne.{round_one, part_item}
+use Rattle.shape_normalize.specs.Part.{part_item}
+use Rattle.shape_normalize.specs.RoundOne.{round_one}
 use Rattle.shape_normalize.specs.RoundTwo.{has_mark_past_first, marks_ordered, unhidden, cgj_unhidden_where_seen, without_place, OrdersMarks}
 use Rattle.shape_normalize.specs.RoundThree.{round_three}
 use Rattle.shape_normalize.specs.Normalized.{ordered, normalized, content, BroughtInHaveGlyphs, OrdersExpanded}
@@ -24,7 +25,7 @@ use Rattle.shape_normalize.proofs.RoundTwo.SettleLemmas.{length-marks_ordered, k
 -- ---- the rounds by their tests
 
 module _ (rules : Rules) where
-  -- marks in order where the test says so
+  -- marks in order if the test says so
   abbrev ordered_where : Bool → Buffer → Buffer
   ordered_where test b = if test then marks_ordered rules.reorder b else b
 
@@ -72,14 +73,14 @@ module _ (rules : Rules) (lawful : LawfulReorder rules.reorder) where
 IsKey-content : (rules : Rules) → IsKey (content rules)
 IsKey-content rules = record { by_cluster = λ item cluster. refl; by_break = λ item. refl }
 
--- a hook may set ccc, so that content goes by none where one is given
+-- a hook may set ccc, so that content depends on none if one is given
 content-without_ccc : (rules : Rules) → GoesByNoCcc rules.reorder (content rules)
 content-without_ccc rules f is item ccc = rw is refl
 
 module _ (rules : Rules) (lawful : LawfulReorder rules.reorder) (P : Item → Type 0)
     (composes : (item : Item) (c : ℕ) → has_glyph rules.face.nominal_glyph c ≡ true
     → P (content rules (part_item rules.unicode rules.face.nominal_glyph item c))) where
-  -- what goes by an item's content, and holds of each composed item, holds of each item of the normalised list where it does of the
+  -- what depends on an item's content, and holds of each composed item, holds of each item of the normalised list if it does of the
   -- expanded one
   pub normalized_all : (b : Buffer) → AllByRecursion (λ item. P (content rules item)) (round_one rules b).items
       → AllByRecursion (λ item. P (content rules item)) (normalized rules b).items

@@ -98,7 +98,7 @@ module _ (rules : Rules) (one : Buffer) where
       let hook = is_some rules.reorder in
       inr (seen, sym (lasting_char hook item from same) ∙ unhides.0, ap (lasting rules) unhides.1 ∙ lasting_unhidden hook item from same)
 
-  -- with CGJ unhidden, where one was seen
+  -- with CGJ unhidden, if one was seen
   settled_by_place : (c : Buffer) (places : List ℕ) → bit_and c.scratch_flags.0 8 ≡ bit_and one.scratch_flags.0 8
       → map (lasting rules) c.items ≡ map (λ place. lasting rules (item_at one.items place)) places
       → AllZip (IsFromPlace rules one) places (cgj_unhidden_where_seen c).items

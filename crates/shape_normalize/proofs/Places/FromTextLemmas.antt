@@ -17,7 +17,8 @@ use Rattle.shape_plan.specs.Rules.{Rules}
 use Rattle.shape_normalize.specs.Normalized.{ordered, hidden_char}
 use Rattle.shape_normalize.specs.Origins.{item_at, Origin, origin_at, origins, HasOfOrigin, all_places, PermutesRuns, IsFromPlace, IsOnceComposed, IsFromStarter, is_recomposed, new_origins}
 use Rattle.shape_normalize.specs.Reordered.{unmerged, without_ccc}
-use Rattle.shape_normalize.specs.RoundOne.{item_glyph, part_item, round_one}
+use Rattle.shape_normalize.specs.Part.{part_item}
+use Rattle.shape_normalize.specs.RoundOne.{item_glyph, round_one}
 use Rattle.shape_normalize.specs.RoundTwo.{max_run, unhidden, has_seen_cgj}
 use Rattle.shape_normalize.specs.RoundThree.{Absorbed, Placed, recomposed_items}
 use Rattle.shape_normalize.proofs.Normalized.ItemGlyphLemmas.{part_has_glyph}

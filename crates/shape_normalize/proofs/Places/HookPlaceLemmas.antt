@@ -1,27 +1,27 @@
--- Round two by places, where a reorder hook is given: each run of at most 32 marks of the expanded list is in another order.
+-- Round two by places, if a reorder hook is given: each run of at most 32 marks of the expanded list is in another order.
 use Rattle.std.proofs.Common.{◌≡◌, ◌⊎◌, ℕ, zero, suc, ◌+◌, ◌-◌, ◌<◌, ◌≤◌, List, [], ◌∷◌, ◌++◌, map, take, drop, length, get_or, set, slice_range, Some, refl, sym, ap, ap₂, subst, ◌∙◌, arith, inl, inr}
 use Rattle.std.specs.List.{All, swap}
 use Rattle.std.specs.List.Sorted.{IsPermutation, SwapsInRange, apply_swaps}
 use Rattle.std.proofs.Math.Seq.{take-append_seam}
 use Rattle.std.proofs.lemmas.Bool.{cases_lt}
-use Rattle.std.proofs.lemmas.List.{length-map, length-take-le, length-drop, map-append, map-set, take-map, drop-map, get_or-take, get_or-drop}
+use Rattle.std.proofs.lemmas.List.{length-map, length-take, length-take-le, length-drop, map-append, map-set, take-map, drop-map, get_or-take, get_or-drop}
 use Rattle.std.proofs.lemmas.List.Edits.{split_between}
 use Rattle.std.proofs.lemmas.List.FromFn.{length-range_with_len, get_or-range_with_len}
 use Rattle.std.proofs.lemmas.List.Sorted.{All-permutation, IsPermutation-refl, IsPermutation-trans, IsPermutation-swap, IsPermutation-cons, length_permutation}
 use Rattle.canonical_form.specs.Order.{IsSwap, Swaps, in_order}
 use Rattle.canonical_form.proofs.Ordering.OrderLemmas.{Swaps-in_order}
 use Rattle.shape_items.specs.Buffer.{Buffer}
-use Rattle.shape_items.specs.Items.{Item, ccc_of_item}
+use Rattle.shape_items.specs.Items.{Item, ccc_of_item, new_item}
 use Rattle.shape_items.proofs.Merging.KeyLemmas.{IsKey}
 use Rattle.shape_normalize.specs.Origins.{item_at, all_places, IsShortRun, AreInOneRun, PermutesRuns}
 use Rattle.shape_normalize.specs.Reordered.{without_ccc}
 use Rattle.shape_normalize.specs.RoundTwo.{max_run, spans_merged, run_reordered, run_settled, marks_ordered}
 use Rattle.shape_normalize.proofs.Places.PlaceLemmas.{by_places}
-use Rattle.shape_normalize.proofs.Places.WholeRunLemmas.{kept_by_whole_runs}
 use Rattle.shape_normalize.proofs.Hooks.ReorderLemmas.{LawfulReorder, PermutesRange, PermutesRange-trans, PermutesRange-map, IsPermutation-range, Reorders-permutes, range_get}
 use Rattle.shape_normalize.proofs.Hooks.ReorderedLemmas.{IsKey-without_ccc}
 use Rattle.shape_normalize.proofs.RoundTwo.RunMarkLemmas.{AreMarks, written_part}
-use Rattle.shape_normalize.proofs.RoundTwo.SettleLemmas.{drop_behind, run_placed, merged_length, length-run_placed, settled_cases, Reorders-run_reordered, run_placed-in_order}
+use Rattle.shape_normalize.proofs.RoundTwo.RunsLemmas.{IsRun}
+use Rattle.shape_normalize.proofs.RoundTwo.SettleLemmas.{drop_behind, run_placed, merged_length, length-run_placed, settled_cases, kept_by_marks_ordered, Reorders-run_reordered, run_placed-in_order}
 use Rattle.shape_normalize.proofs.RoundTwo.SpanLemmas.{keys-spans_merged, map-slice_range}
 
 -- ---- permutations
@@ -70,7 +70,7 @@ module _ {A : Type 0} (xs ys : List A) (start end : ℕ) (ordered : start ≤ en
         behind = drop_behind xs ys start end end ordered within as_many (omega arith);
       }
 
--- where values are permuted in a range, so are the things that they are values of
+-- if values are permuted in a range, so are the things that they are values of
 module _ {A B : Type 0} (f : A → B) (xs : List A) (values : List B) (start end : ℕ) (ordered : start ≤ end)
     (within : end ≤ length xs) where
   things_permuted : PermutesRange start end (map f xs) values → (new : List A) × PermutesRange start end xs new × (map f new ≡ values)
@@ -160,6 +160,21 @@ module _ (items : List Item) (start end : ℕ) (run : IsShortRun items start end
 
 -- ---- a run that the hook reorders
 
+-- a run of at most 32 marks, by the ccc of the items in it and beside it
+short_run : (items : List Item) (start end : ℕ) → IsRun (map ccc_of_item items) start end → end - start ≤ max_run → IsShortRun items start end
+short_run items start end run few = record {
+  short = few;
+  marks = λ k from to.
+      let own = map ccc_of_item items in
+      let sum : start + (k - start) ≡ k = omega arith in
+      let at : get_or (slice_range own start end) (k - start) 0 ≡ ccc_of_item (item_at items k) =
+      get_or-take (end - start) (drop start own) (k - start) 0 (omega arith) ∙ get_or-drop start own (k - start) 0
+      ∙ ap (λ j. get_or own j 0) sum ∙ value_at ccc_of_item items k (new_item 0 0) in
+      rw (← at) (run.marks (k - start) 0 (omega (arith, length-take (end - start) (drop start own), length-drop start own, run.within)));
+  before = λ k is. sym (value_at ccc_of_item items k (new_item 0 0)) ∙ run.before k is;
+  behind = sym (value_at ccc_of_item items end (new_item 0 0)) ∙ run.behind;
+}
+
 -- a run with its spans merged, in order, is permuted
 placed_permutes : {B : Type 0} (key : Item → B) → IsKey key → (start end : ℕ) (b : Buffer) → start ≤ end → end ≤ length b.items
     → PermutesRange start end (map key b.items) (map key (run_placed start end b).items)
@@ -180,8 +195,7 @@ module _ (f : Buffer → ℕ → ℕ → Buffer) (lawful : LawfulReorder (Some f
     pub same : map without_ccc c.items ≡ map (λ place. without_ccc (item_at one.items place)) places
 
   module _ (start end : ℕ) (c : Buffer) (ordered : start ≤ end) (within : end ≤ length c.items)
-      (marks : AreMarks (slice_range c.items start end)) (run : end - start ≤ max_run → IsShortRun one.items start end)
-      (so_far : IsPlaced c) where
+      (marks : AreMarks (slice_range c.items start end)) (run : IsRun (map ccc_of_item one.items) start end) (so_far : IsPlaced c) where
     long : length so_far.places ≡ length c.items
     long = sym (length-map so_far.places (λ place. without_ccc (item_at one.items place))) ∙ ap length (sym so_far.same)
         ∙ length-map c.items without_ccc
@@ -206,7 +220,7 @@ module _ (f : Buffer → ℕ → ℕ → Buffer) (lawful : LawfulReorder (Some f
           order = record {
             all = IsPermutation-trans (all_places one.items) so_far.places lifted.0 so_far.order.all
                 (IsPermutation-range start end so_far.places lifted.0 ordered lifted.1);
-            runs = λ i d lt. runs_permuted one.items start end (run few) so_far.places lifted.0 ordered fits lifted.1
+            runs = λ i d lt. runs_permuted one.items start end (short_run one.items start end run few) so_far.places lifted.0 ordered fits lifted.1
                 (λ j e below. so_far.order.runs j e (omega (arith, as_long))) i d (omega (arith, as_long));
           };
           same = sym lifted.2;
@@ -217,7 +231,8 @@ module _ (f : Buffer → ℕ → ℕ → Buffer) (lawful : LawfulReorder (Some f
 
   pub marks_placed : IsPlaced (marks_ordered (Some f) one)
   marks_placed =
-      kept_by_whole_runs (Some f) lawful one IsPlaced settled_place
+      kept_by_marks_ordered (Some f) lawful one IsPlaced
+      (λ start end c run within marks so_far. settled_place start end c run.ordered within marks run so_far)
       (record {
         places = all_places one.items;
         order = record {

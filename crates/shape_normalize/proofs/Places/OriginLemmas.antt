@@ -14,7 +14,8 @@ use Rattle.shape_plan.specs.Rules.{Rules, decompositions, has_glyph}
 use Rattle.shape_normalize.specs.Normalized.{features_of, hidden_char}
 use Rattle.shape_normalize.specs.Origins.{item_at, Origin, origin_at, origins_from, variant_origins, expansion_origins, origins_of_parts, sequence_origins, origins, HasOfOrigin}
 use Rattle.shape_normalize.specs.Reordered.{unmerged}
-use Rattle.shape_normalize.specs.RoundOne.{passed_item, part_item, whole_item, expanded_item, expansion_of, is_selector_item, is_selector_sequence, is_with_marks, marked_selector, variant_items, variants, sequences, sequence_items, variation_sequences_merged, round_one}
+use Rattle.shape_normalize.specs.Part.{part_item}
+use Rattle.shape_normalize.specs.RoundOne.{passed_item, whole_item, expanded_item, expansion_of, is_selector_item, is_selector_sequence, is_with_marks, marked_selector, variant_items, variants, sequences, sequence_items, variation_sequences_merged, round_one}
 use Rattle.shape_normalize.proofs.Normalized.ItemGlyphLemmas.{part_has_glyph, whole_has_glyph}
 use Rattle.shape_normalize.proofs.RoundOne.RoundOneLemmas.{keys-variation_sequences_merged, whole_item_is}
 

@@ -9,7 +9,7 @@ use Rattle.shape_plan.specs.Rules.{Rules, has_glyph}
 use Rattle.shape_normalize.specs.Normalized.{features_of}
 use Rattle.shape_normalize.specs.Origins.{item_at, last_char, IsOnceComposed, IsFromStarter}
 use Rattle.shape_normalize.specs.Reordered.{unmerged}
-use Rattle.shape_normalize.specs.RoundOne.{part_item}
+use Rattle.shape_normalize.specs.Part.{part_item}
 use Rattle.shape_items.specs.Spans.{spans_merged_out}
 use Rattle.shape_normalize.specs.RoundThree.{Absorbed, Placed, placed, ccc_of_placed, is_mark_placed, compose_placed, recomposed_items, absorbed_spans, with_cluster_at, round_three}
 use Rattle.shape_normalize.proofs.Normalized.FeatureLemmas.{features-spans_merged_out}
@@ -73,7 +73,7 @@ module _ (rules : Rules) where
       )
 
   module _ (items : List Item) where
-    -- an item that was put out, before it takes the cluster and the mask at its place
+    -- an item that was emitted, before it takes the cluster and the mask at its place
     abbrev IsPutOut : Placed → Type 0
     IsPutOut p = (p.item ≡ once_composed (item_at items p.place) p.absorbed p.item.codepoint) × HasGlyphOnceComposed p.absorbed p.item.codepoint
 

@@ -1,16 +1,18 @@
 -- The parts of an expansion, each with the glyph of its character.
 use Rattle.std.proofs.Common.{◌≡◌, ℕ, ◌≤◌, Bool, true, false, if◌then◌else◌, List, [], ◌∷◌, ◌++◌, map, reverse, take, Option, None, Some, unwrap_or, IfSome, refl, sym, ap, ap₂, ◌∙◌}
 use Rattle.std.proofs.lemmas.List.{take-map, map-append, reverse-append}
-use Rattle.std.specs.Option.{option_map, option_map_or}
+use Rattle.std.specs.Option.{option_map, option_map_or, is_some}
 use Rattle.canonical_form.specs.Chain.{kept_part}
-use Rattle.canonical_form.proofs.Expanding.WalkLemmas.{found_parts}
+use Rattle.canonical_form.specs.Decompositions.{Decompositions}
+use Rattle.canonical_form.specs.Expansion.{least_supported, chosen_expansion}
+use Rattle.canonical_form.proofs.Expanding.ShortestWalkLemmas.{sought_ended}
+use Rattle.canonical_form.proofs.Expanding.WalkLemmas.{found_parts, walked}
 use Rattle.shape_items.specs.Items.{Item}
 use Rattle.shape_common.specs.Unicode.{UnicodeMeaning}
 use Rattle.shape_common.specs.declared.flags.ScratchFlags.{ScratchFlags}
 use Rattle.shape_common.specs.declared.settings.GlyphId.{GlyphId}
-use Rattle.shape_normalize.specs.RoundOne.{part_item, seen_chars}
-use Rattle.shape_normalize.specs.OneWalk.{part_of_char, with_part, seen_parts}
-use Rattle.shape_normalize.specs.declared.ot_shape_normalize.decompose.Part.{Part}
+use Rattle.shape_normalize.specs.Part.{part_item, seen_chars, part_of_char, with_part, seen_parts}
+use Rattle.shape_normalize.specs.declared.ot_shape_normalize.part.Part.{Part}
 
 -- the characters of parts
 abbrev pub chars_of : List Part → List ℕ
@@ -39,6 +41,26 @@ part_is p q false e = absurd (cc)
 pub none_is : (q : Part) (t : Bool) → None ≡ (if t then Some q else None) → false ≡ t
 none_is q true e = absurd (cc)
 none_is q false e = refl
+
+nothing : {X : Type 0} (o : Option X) → is_some o ≡ false → None ≡ o
+nothing None e = refl
+nothing (Some x) e = absurd (cc)
+
+-- a walk that has found nothing, and finds nothing
+walked_nothing : (r : Option (List ℕ)) → None ≡ walked None [] r → r ≡ None
+walked_nothing None e = refl
+walked_nothing (Some ys) e = absurd (cc)
+
+-- a character that doesn't split has no expansion
+pub chosen-unsplit : (D : Decompositions) (test : ℕ → Bool) (short : Bool) (c : ℕ) → is_some (D.split c) ≡ false
+    → chosen_expansion D test short c ≡ None
+chosen-unsplit D test false c unsplit =
+    walked_nothing _ (sought_ended D.split test false _ None [] (D.height c) c refl (nothing (D.split c) unsplit))
+chosen-unsplit D test true c unsplit =
+    elim (test c) as (λ t. (if t then None else least_supported D.split test (D.height c) c) ≡ None) [
+      | true ↦ refl
+      | false ↦ walked_nothing _ (sought_ended D.split test true _ None [] (D.height c) c refl (nothing (D.split c) unsplit))
+    ]
 
 module _ (glyph : ℕ → Option GlyphId) where
   pub chars-parts : (cs : List ℕ) → chars_of (map (part_of_char glyph) cs) ≡ cs
@@ -92,7 +114,7 @@ module _ (glyph : ℕ → Option GlyphId) where
         let are : parts ≡ map (part_of_char glyph) cs = ap (λ o. unwrap_or o []) e in
         sym (ap (seen_chars unicode flags) (ap chars_of are ∙ chars-parts cs))
 
-  -- where none is kept, none is chosen
+  -- if none is kept, none is chosen
   pub none_chosen : (chosen : Option (List ℕ)) → None ≡ option_map (map (part_of_char glyph)) chosen → chosen ≡ None
   none_chosen None e = refl
   none_chosen (Some cs) e = absurd (cc)

@@ -6,7 +6,7 @@ use Rattle.shape_items.specs.Clusters.{clusters}
 use Rattle.shape_items.specs.Items.{Item}
 use Rattle.shape_items.proofs.Order.DrawsInOrder.{DrawsInOrder, DrawsInOrder-same, DrawsInOrder-behind, DrawsInOrder-again}
 
--- what is drawn in order from a list stays so where the first list goes before that one, and the second before it
+-- what is drawn in order from a list stays so if the first list goes before that one, and the second before it
 abbrev pub DrawsBefore : List ℕ → List ℕ → Type 0
 DrawsBefore xs ys = (from drawn : List ℕ) → DrawsInOrder from drawn → DrawsInOrder (xs ++ from) (ys ++ drawn)
 
@@ -26,7 +26,7 @@ draws_whole xs ys h = rw (append-nil xs, append-nil ys) at (h [] [] (DrawsInOrde
 pub draws_without : (xs : List ℕ) (x : ℕ) (ys : List ℕ) → DrawsInOrder (xs ++ x ∷ ys) (xs ++ ys)
 draws_without xs x ys = DrawsBefore-same xs (x ∷ ys) ys (DrawsInOrder-behind x ys ys (DrawsInOrder-same ys))
 
--- where each becomes a list whose clusters are drawn from its own, so does the whole
+-- if each becomes a list whose clusters are drawn from its own, so does the whole
 pub draws_pieces : {A : Type 0} (become : A → List Item) (own : A → List ℕ) → ((x : A) → DrawsBefore (own x) (clusters (become x)))
     → (xs : List A) → DrawsBefore (flat_map own xs) (clusters (flat_map become xs))
 draws_pieces become own each [] = DrawsBefore-same []

@@ -70,7 +70,7 @@ module _ (rules : Rules) (invisible : Option GlyphId) where
       let back : drop (i + 1) (set items i w) ≡ drop (i + 1) items = drop-set-lt (i + 1) items i w (omega arith) in
       rw back (sym (seen_here items i x flags within at))
 
-  -- where nothing stands after a place
+  -- if nothing stands after a place
   pub placed_all : (items : List Item) (n : ℕ) (first : Bool) → length items ≤ n
       → take n items ++ expanded_behind rules invisible first (drop n items) ≡ items
   placed_all items n first all = rw (take_all n items all, drop_all n items all) (append-nil items)

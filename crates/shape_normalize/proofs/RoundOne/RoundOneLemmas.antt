@@ -19,14 +19,15 @@ use Rattle.shape_common.specs.declared.settings.GlyphId.{GlyphId}
 use Rattle.shape_normalize.specs.Normalized.{BroughtInHaveGlyphs}
 use Rattle.shape_items.specs.Prepared.{IsPreparedItem}
 use Rattle.shape_items.specs.Spans.{all_merged}
-use Rattle.shape_normalize.specs.RoundOne.{item_glyph, passed_item, part_item, whole_item, remembers_space, expanded_item, expanded, expansion_of, is_selector_item, is_selector_sequence, is_with_marks, marked_selector, variant_items, variants, sequences, sequence_items, variation_sequences_from, variation_sequences_merged, round_one}
+use Rattle.shape_normalize.specs.Part.{part_item}
+use Rattle.shape_normalize.specs.RoundOne.{item_glyph, passed_item, whole_item, remembers_space, expanded_item, expanded, expansion_of, is_selector_item, is_selector_sequence, is_with_marks, marked_selector, variant_items, variants, sequences, sequence_items, variation_sequences_from, variation_sequences_merged, round_one}
 use Rattle.shape_plan.specs.Rules.{Rules, decompositions, has_glyph}
 use Rattle.shape_normalize.proofs.RoundOne.SequenceLemmas.{each_part, each_of_values, each_value, each_weaker, flat_map_all, flat_map_same, flat_map_parts_all, sequence_becomes, sequences-expanded}
 
 -- ---- merging variation sequences
 
 module _ (rules : Rules) where
-  -- what goes by neither clusters nor the defined flags stays
+  -- what depends on neither clusters nor the defined flags stays
   pub keys-variation_sequences_merged : {B : Type 0} (key : Item → B) → IsKey key → (b : Buffer) → map key (variation_sequences_merged rules b).items ≡ map key b.items
   keys-variation_sequences_merged key is_key b = keys-all_merged key is_key (variation_sequences_from rules.unicode rules.face 0 (sequences b.items)) b
 

@@ -14,7 +14,7 @@ use Rattle.shape_items.proofs.MergingInOrder.EachSpanLemmas.{AreSpansInOrder-low
 use Rattle.shape_plan.specs.Rules.{Rules}
 use Rattle.shape_normalize.specs.RoundOne.{is_with_marks, is_selector_item, is_selector_sequence, variants, sequences, variation_sequence_glyph, variation_sequence_spans, variation_sequences_from, variation_sequences_merged, expanded, seen_sequence, round_one}
 
--- a sequence has marks where it has more than one item
+-- a sequence has marks if it has more than one item
 pub is_with_marks-length : (sequence : List Item) → is_with_marks sequence ≡ nat_lt 1 (length sequence)
 is_with_marks-length [] = refl
 is_with_marks-length (x ∷ []) = refl

@@ -1,4 +1,4 @@
--- Sequences: what holds of a list holds of its parts, and an item stands in a sequence with marks exactly where a mark stands at it of
+-- Sequences: what holds of a list holds of its parts, and an item stands in a sequence with marks exactly when a mark stands at it of
 -- the list.
 use Rattle.std.proofs.Common.{◌≡◌, Bool, true, false, if◌then◌else◌, ◌&&◌, ◌||◌, List, [], ◌∷◌, ◌++◌, map, flat_map, refl, sym, ap, ap₂, ◌∙◌, inl, inr, append_assoc, append-nil}
 use Rattle.std.proofs.lemmas.Bool.{cases_Bool, and_right, or_right}
@@ -34,7 +34,7 @@ pub each_value : {A B : Type 0} (f : A → B) (P : B → Type 0) (items : List A
 each_value f P [] each = tt
 each_value f P (x ∷ items) each = (each.0, each_value f P items each.1)
 
--- what holds where something else does, item by item
+-- what holds if something else does, item by item
 pub each_weaker : {A : Type 0} (P Q : A → Type 0) → ((x : A) → P x → Q x) → (items : List A) → AllByRecursion P items
     → AllByRecursion Q items
 each_weaker P Q weaker [] each = tt
@@ -131,7 +131,7 @@ module _ {B : Type 0} (become : Bool → Item → List B) where
             )
       ]
 
-  -- each item stands in a sequence with marks exactly where a mark stands at it
+  -- each item stands in a sequence with marks exactly when a mark stands at it
   pub sequences-expanded : (items : List Item)
       → flat_map sequence_becomes (sequences items) ≡ expanded_in_sequences is_mark_item become items
   sequences-expanded [] = refl

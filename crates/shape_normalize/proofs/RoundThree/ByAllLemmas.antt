@@ -1,4 +1,4 @@
--- What recomposing puts out; and where marks are ordered, the mark that was put out last decides too.
+-- What recomposing emits; and if marks are ordered, the mark that was emitted last decides too.
 use Rattle.std.proofs.Common.{◌≡◌, ℕ, suc, true, List, [], ◌∷◌, map, None, refl, sym, ap, subst, arith, ◌∙◌}
 use Rattle.std.proofs.lemmas.Bool.{cond-true, and_from}
 use Rattle.shape_items.specs.Buffer.{Buffer}

@@ -46,7 +46,7 @@ pub AreFrom-fit : (n k : ℕ) (rest : List Placed) → AreFrom n k rest → k �
 AreFrom-fit n k [] from = omega arith
 AreFrom-fit n k (p ∷ ps) from = let later = AreFrom-fit n (suc k) ps from.2 in omega arith
 
--- those of a starter and of what comes after it, once all of that is put out
+-- those of a starter and of what comes after it, once all of that is emitted
 abbrev IsChained : ℕ → Placed → List Placed → List Placed → List Placed → Type 0
 IsChained n s ms rest out =
     (k : ℕ) → s.place < k → AreAbsorbedInOrder s.place k s.absorbed → AreUnabsorbed ms → AreFrom n k rest
@@ -96,7 +96,7 @@ chained_in_order rules (x ∷ items) =
 
 -- ---- merging them
 
--- the spans of one starter from `from` on, where the items from `place` up to it share their cluster
+-- the spans of one starter from `from` on, if the items from `place` up to it share their cluster
 one_chained : (place from : ℕ) (absorbed : List Absorbed) (xs : List Item) → place ≤ from → AreAbsorbedInOrder from (length xs) absorbed
     → ((k : ℕ) → place ≤ k → k < from → SharesCluster xs k)
     → merge_each (map (λ (mark : Absorbed). (place, mark.place + 1)) absorbed) xs ≡ merge_each (spans_between from absorbed) xs

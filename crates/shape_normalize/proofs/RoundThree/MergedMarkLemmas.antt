@@ -1,4 +1,4 @@
--- Merging goes by the clusters and the masks of items, and leaves all else of them.
+-- Merging depends on the clusters and the masks of items, and leaves all else of them.
 use Rattle.std.proofs.Common.{◌≡◌, ℕ, true, false, if◌then◌else◌, ◌==◌, List, [], ◌∷◌, map, refl, sym, ap, ap₂, ◌∙◌, inl, inr}
 use Rattle.std.specs.List.{zip}
 use Rattle.shape_items.specs.Buffer.{Buffer}

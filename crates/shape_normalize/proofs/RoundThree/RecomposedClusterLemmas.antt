@@ -21,7 +21,7 @@ use Rattle.shape_normalize.proofs.RoundOne.DrawnLemmas.{DrawsBefore-same, draws_
 -- ---- recomposing, of anything
 
 module _ {A : Type 0} (ccc : A → ℕ) (blocks : List A → A → Bool) (is_mark : A → Bool) (compose : A → A → Option A) where
-  -- where what is absorbed has the number of the starter, the numbers are drawn in order
+  -- if what is absorbed has the number of the starter, the numbers are drawn in order
   module _ (number : A → ℕ) (composes : (s c d : A) → compose s c ≡ Some d → number d ≡ number s) where
     recomposed_from_draws : (s : A) (ms rest : List A)
         → DrawsInOrder (number s ∷ map number ms ++ map number rest)
@@ -45,7 +45,7 @@ module _ {A : Type 0} (ccc : A → ℕ) (blocks : List A → A → Bool) (is_mar
     recomposed_draws [] = DrawsInOrder-same []
     recomposed_draws (x ∷ xs) = recomposed_from_draws x [] xs
 
--- ---- the clusters of the items that are put out
+-- ---- the clusters of the items that are emitted
 
 abbrev cluster_at_place : List ℕ → Placed → ℕ
 cluster_at_place cs p = get_or cs p.place p.item.cluster

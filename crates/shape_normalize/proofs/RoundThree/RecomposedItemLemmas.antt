@@ -9,7 +9,7 @@ use Rattle.shape_items.specs.Items.{Item}
 use Rattle.canonical_form.specs.Recompose.{is_blocked}
 use Rattle.canonical_form.proofs.Recomposing.RecomposeLemmas.{recomposed-all}
 use Rattle.shape_plan.specs.Rules.{Rules, has_glyph}
-use Rattle.shape_normalize.specs.RoundOne.{part_item}
+use Rattle.shape_normalize.specs.Part.{part_item}
 use Rattle.shape_normalize.proofs.RoundThree.RoundThreePlaceLemmas.{absorbed_is, length-recomposed}
 use Rattle.shape_items.specs.Spans.{spans_merged_out}
 use Rattle.shape_normalize.specs.RoundThree.{Placed, placed, ccc_of_placed, is_mark_placed, compose_placed, recomposed_items, absorbed_spans, with_cluster_at, round_three}
@@ -24,7 +24,7 @@ glyph_of_composed has (Some d) c is =
       | inr has_none ↦ let none : None ≡ Some c = sym (cond-false _ (Some d) None has_none) ∙ is in absurd (cc)
     ]
 
--- what holds of each item, and of what a starter becomes that has it, holds of each item that is put out, before it takes the cluster and
+-- what holds of each item, and of what a starter becomes that has it, holds of each item that is emitted, before it takes the cluster and
 -- the mask at its place
 module _ (rules : Rules) (P : Item → Type 0) (composes : (item : Item) (c : ℕ) → has_glyph rules.face.nominal_glyph c ≡ true → P item
     → P (part_item rules.unicode rules.face.nominal_glyph item c)) where
@@ -45,7 +45,7 @@ module _ (rules : Rules) (P : Item → Type 0) (composes : (item : Item) (c : �
       recomposed-all ccc_of_placed (is_blocked ccc_of_placed) is_mark_placed (compose_placed rules)
       (λ (p : Placed). P p.item) each_composed (placed 0 items) (each_placed 0 items each)
 
--- what holds of an item whatever its cluster and its mask, and of what a starter becomes that has it, holds of each item that is put out
+-- what holds of an item whatever its cluster and its mask, and of what a starter becomes that has it, holds of each item that is emitted
 module _ (rules : Rules) (P : Item → Type 0)
     (anywhere : (item : Item) (cluster mask : ℕ) → P item → P (record item { cluster = cluster; mask = mask }))
     (composes : (item : Item) (c : ℕ) → has_glyph rules.face.nominal_glyph c ≡ true → P item

@@ -8,7 +8,7 @@ use Rattle.shape_items.specs.Items.{Item}
 use Rattle.shape_common.specs.Positions.{zero_position}
 use Rattle.shape_common.specs.declared.flags.ScratchFlags.{ScratchFlags}
 use Rattle.shape_items.proofs.MergingInOrder.EachSpanLemmas.{spans_merged_out_is, length-spans_merged_out}
-use Rattle.shape_normalize.specs.RoundOne.{seen_chars}
+use Rattle.shape_normalize.specs.Part.{seen_chars}
 use Rattle.shape_items.specs.Spans.{AreSpansInOrder, spans_merged_out}
 use Rattle.shape_normalize.specs.RoundThree.{Placed, recomposed_items, absorbed_spans, chained_spans, composed_chars, with_cluster_at, round_three, cluster_and_mask, AreComposedInPlace, without_ends, ends_taken_out}
 use Rattle.shape_plan.specs.Rules.{Rules}
@@ -34,7 +34,7 @@ walked_spans_in_order rules old new spans items_are spans_are =
     subst (AreSpansInOrder 0 (length new)) (sym spans_are)
     (subst (λ n. AreSpansInOrder 0 n (chained_spans (recomposed_items rules old))) size (chained_in_order rules old))
 
--- ---- the items that are put out, once the clusters are merged
+-- ---- the items that are emitted, once the clusters are merged
 
 module _ (now merged settled : List Item) (bares : map bare settled ≡ map bare now)
     (marks : map cluster_and_mask settled ≡ map cluster_and_mask merged) where

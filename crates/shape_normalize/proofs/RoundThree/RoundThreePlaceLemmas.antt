@@ -1,4 +1,4 @@
--- The places of what round three puts out.
+-- The places of what round three emits.
 use Rattle.std.proofs.Common.{◌≡◌, ℕ, suc, ◌+◌, ◌<◌, ◌≤◌, List, [], ◌∷◌, ◌++◌, length, Option, None, Some, refl, sym, subst, arith}
 use Rattle.std.specs.Option.{option_map}
 use Rattle.std.specs.List.{AllByRecursion}
@@ -51,7 +51,7 @@ pub AreRising-fit : (low high : ℕ) (xs : List Placed) → AreRising low high x
 AreRising-fit low high [] up = omega arith
 AreRising-fit low high (x ∷ xs) up = omega (arith, up.0, AreRising-fit (x.place + 1) high xs up.1)
 
--- what was put out of the places from `low` on and below `high`
+-- what was emitted of the places from `low` on and below `high`
 pub record ArePlaced (low high : ℕ) (xs : List Placed) : Type 0 where
   pub rising : AreRising low high xs
   pub in_order : AllByRecursion (InOrder high) xs
@@ -126,14 +126,14 @@ module _ (rules : Rules) where
             later low (suc k) (ArePlaced-append low k (suc k) (s ∷ ms) (c ∷ []) h (ArePlaced-once k c from.0 from.1)) from.2;
       })
 
-  -- what is put out has rising places of the list, and so have the marks that were composed
+  -- what is emitted has rising places of the list, and so have the marks that were composed
   pub recomposed_placed : (items : List Item) → ArePlaced 0 (length items) (recomposed_items rules items)
   recomposed_placed [] = record { rising = omega arith; in_order = tt }
   recomposed_placed (x ∷ items) =
       after_placed (suc (length items)) (item_at rules 0 x) [] (placed 1 items) 0 1
       (ArePlaced-once 0 (item_at rules 0 x) refl refl) (AreFrom-placed (suc (length items)) 1 items (omega arith))
 
-  -- no more items are put out than there were
+  -- no more items are emitted than there were
   pub length-recomposed : (items : List Item) → length (recomposed_items rules items) ≤ length items
   length-recomposed items =
       omega (arith, AreRising-fit 0 (length items) (recomposed_items rules items) (recomposed_placed items).rising)

@@ -14,7 +14,7 @@ use Rattle.shape_common.specs.declared.flags.ScratchFlags.{ScratchFlags}
 use Rattle.canonical_form.proofs.Lists.EveryLemmas.{append_all, push_all}
 use Rattle.canonical_form.proofs.Recomposing.BlockLemmas.{blocked_by_number, greatest_ccc-push}
 use Rattle.canonical_form.proofs.Recomposing.RecomposeLemmas.{recomposed_from-some, recomposed_from-starter, recomposed_from-mark}
-use Rattle.shape_normalize.specs.RoundOne.{part_item, seen_chars}
+use Rattle.shape_normalize.specs.Part.{part_item, seen_chars}
 use Rattle.shape_normalize.specs.RoundThree.{Absorbed, Placed, placed, ccc_of_placed, is_mark_placed, compose_placed, recomposed_items, spans_between, chained_spans, composed_chars, composed_char, cluster_and_mask, AreComposedInPlace}
 use Rattle.shape_plan.specs.Rules.{Rules, has_glyph}
 
@@ -35,7 +35,7 @@ same_tail x y xs ys same = cc
 
 -- ---- items in their places
 
--- an item that is put out stands at its place
+-- an item that is emitted stands at its place
 abbrev pub IsInPlace : List Item → Placed → Type 0
 IsInPlace items p = (p.place < length items) × (get_or items p.place p.item ≡ p.item)
 
@@ -59,7 +59,7 @@ each_in_place items (p ∷ out) same =
 -- ---- lists that each item adds to
 
 module _ {B : Type 0} (f : Placed → List B) where
-  -- those of the marks, where there are none
+  -- those of the marks, if there are none
   adds_to_starter : (before : List Placed) (at : Placed) (marks : List Placed) → flat_map f marks ≡ []
       → flat_map f (before ++ at ∷ marks) ≡ flat_map f (before ++ at ∷ [])
   adds_to_starter before at marks none =
@@ -86,7 +86,7 @@ spans_of p = spans_between p.place p.absorbed
 abbrev chars_of : Placed → List ℕ
 chars_of p = map (λ mark. mark.char) p.absorbed
 
--- the place of the last of these marks, or this one where there are none
+-- the place of the last of these marks, or this one if there are none
 abbrev pub last_absorbed : ℕ → List Absorbed → ℕ
 last_absorbed from [] = from
 last_absorbed from (mark ∷ absorbed) = last_absorbed mark.place absorbed
@@ -131,7 +131,7 @@ module _ (rules : Rules) where
       → placed i (drop i items) ≡ item_at i x ∷ placed (i + 1) (drop (i + 1) items)
   placed-next i items x lt is = rw (add-one, drop-cons items i x) (ap (λ y. item_at i y ∷ placed (suc i) (drop (suc i) items)) (sym is))
 
-  -- an item that is put out stands at its place, before place n
+  -- an item that is emitted stands at its place, before place n
   abbrev IsBefore : ℕ → List Item → Placed → Type 0
   IsBefore n now p = (p.place < n) × IsInPlace now p
 
@@ -176,7 +176,7 @@ module _ (rules : Rules) where
   before_in_place n now [] each = tt
   before_in_place n now (p ∷ ps) each = (each.0.1, before_in_place n now ps each.1)
 
-  -- the items before place i were walked over: those that are put out stand in their places, with the starter at its place, the others as they
+  -- the items before place i were walked over: those that are emitted stand in their places, with the starter at its place, the others as they
   -- were; these are the spans and the flags, and the next span begins at `from`; the marks after the starter have this greatest ccc
   pub record IsRecomposedTo (items : List Item) (flags : ScratchFlags) (i : ℕ) (now : List Item) (spans : List (ℕ × ℕ))
       (seen : ScratchFlags) (starter from greatest : ℕ) : Type 0 where
@@ -327,7 +327,7 @@ module _ (rules : Rules) where
           same = map-set_same cluster_and_mask now h.at.place d.item h.at.item (sym (ap cluster_and_mask h.at_in_place.1)) ∙ h.same;
         })
 
-    -- the next item is put out, and is the starter from then on
+    -- the next item is emitted, and is the starter from then on
     pub IsRecomposedTo-starter : None ≡ composed_char rules s greatest x → ccc_of_item x ≡ 0
         → IsRecomposedTo items flags (i + 1) now spans seen i i 0
     IsRecomposedTo-starter was zero_ccc =
@@ -362,7 +362,7 @@ module _ (rules : Rules) where
           same = h.same;
         }
 
-    -- the next item is put out after the starter
+    -- the next item is emitted after the starter
     pub IsRecomposedTo-mark : None ≡ composed_char rules s greatest x → (ccc_of_item x ≡ 0 → ⊥)
         → IsRecomposedTo items flags (i + 1) now spans seen starter from (max greatest (ccc_of_item x))
     IsRecomposedTo-mark was some_ccc =

@@ -1,4 +1,4 @@
--- Taking out the last item of each of many spans: what the walk keeps, and that it leaves the items at the places of what is put out.
+-- Taking out the last item of each of many spans: what the walk keeps, and that it leaves the items at the places of what is emitted.
 use Rattle.std.proofs.Common.{◌≡◌, ℕ, zero, suc, ◌+◌, ◌-◌, ◌<◌, ◌≤◌, ◌==◌, true, false, List, [], ◌∷◌, ◌++◌, length, map, get_or, take, drop, set, replicate, Some, None, refl, sym, ap, ap₂, subst, ◌∙◌, arith, add-one, append_assoc, append-nil, drop-cons, drop-drop, drop-set-lt, eq-eqb, ne_eqb}
 use Rattle.std.specs.List.{slice_get}
 use Rattle.std.proofs.lemmas.Bool.{cond-true, cond-false}
@@ -27,7 +27,7 @@ kept-here place spans x items goes_on = cond-false _ _ _ goes_on
 
 -- ---- the walk of the code
 
--- where there is no span all stay
+-- if there is no span all stay
 without-none : (place : ℕ) (items : List Item) → without_ends place [] items ≡ items
 without-none place [] = refl
 without-none place (x ∷ items) = ap (λ l. x ∷ l) (without-none (suc place) items)
@@ -136,11 +136,11 @@ own_end_after from k [] more h later = later
 own_end_after from k (mark ∷ absorbed) more h later = omega (arith, h.0)
 
 module _ (rules : Rules) (n : ℕ) (ys : List Item) (size : length ys ≡ n) where
-  -- the item at the place of one that is put out
+  -- the item at the place of one that is emitted
   abbrev there : Placed → Item
   there p = get_or ys p.place p.item
 
-  -- the items from a starter up to place k, where the spans of the starter come first
+  -- the items from a starter up to place k, if the spans of the starter come first
   abbrev AreKeptTo : Placed → List Placed → ℕ → Type 0
   AreKeptTo s ms k = (more : List (ℕ × ℕ)) → EndsAfter k more
       → without_ends s.place (spans_of s ++ more) (drop s.place ys) ≡ there s ∷ map there ms ++ without_ends k more (drop k ys)
@@ -230,7 +230,7 @@ module _ (rules : Rules) (n : ℕ) (ys : List Item) (size : length ys ≡ n) whe
         passes = λ s ms c rest out none mark later. left_passes s c ms rest out later;
       })
 
--- the items at the places of those that are put out are left
+-- the items at the places of those that are emitted are left
 pub left_in_place : (rules : Rules) (items ys : List Item) → length ys ≡ length items
     → without_ends 0 (chained_spans (recomposed_items rules items)) ys
     ≡ map (λ (p : Placed). get_or ys p.place p.item) (recomposed_items rules items)

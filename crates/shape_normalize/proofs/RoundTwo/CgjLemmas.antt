@@ -22,7 +22,7 @@ module _ {B : Type 0} (key : Item → B) (same : (item : Item) → key (unhidden
   keys-cgj_unhidden [] = refl
   keys-cgj_unhidden (first ∷ rest) = ap (λ l. key first ∷ l) (keys-cgj_unhidden_after first rest)
 
-  -- what doesn't go by the hidden bit stays
+  -- what doesn't depend on the hidden bit stays
   pub keys-cgj_unhidden_where_seen : (b : Buffer) → map key (cgj_unhidden_where_seen b).items ≡ map key b.items
   keys-cgj_unhidden_where_seen b =
       elim (bit_and b.scratch_flags.0 8 == 8) as (λ t. map key (if t then record b { items = cgj_unhidden b.items } else b).items
@@ -53,7 +53,7 @@ unhidden_step zero (x ∷ y ∷ z ∷ rest) a b c within at_a at_b at_c =
 unhidden_step (suc k) (x ∷ y ∷ z ∷ rest) a b c within at_a at_b at_c =
     ap (λ zs. x ∷ zs) (unhidden_step k (y ∷ z ∷ rest) a b c (omega arith) at_a at_b at_c)
 
--- a walk unhides the item after place k, whose neighbours are a and c, where that is to be
+-- a walk unhides the item after place k, whose neighbours are a and c, if that is to be
 pub unhidden_more : (k : ℕ) (items : List Item) (a b c : Item) → k + 2 < length items → a ≡ get_or items k a → b ≡ get_or items (k + 1) b
     → c ≡ get_or items (k + 2) c
     → take (k + 1) (set items (k + 1) (one_cgj_unhidden a b c)) ++ cgj_unhidden (drop (k + 1) (set items (k + 1) (one_cgj_unhidden a b c)))

@@ -18,7 +18,7 @@ fn keeps_nothing_apart(before: &hb_glyph_info_t, after: &hb_glyph_info_t) -> boo
     ccc == 0 || before._hb_glyph_info_get_modified_combining_class() <= ccc
 }
 
-/// An item between two others, unhidden where it is a CGJ that keeps nothing apart.
+/// An item between two others, unhidden if it is a CGJ that keeps nothing apart.
 fn unhide_one_cgj(
     before: &hb_glyph_info_t,
     info: &hb_glyph_info_t,
@@ -33,7 +33,7 @@ fn unhide_one_cgj(
     info
 }
 
-/// Unhides each CGJ that keeps nothing apart, where the run has seen one; the first and the last
+/// Unhides each CGJ that keeps nothing apart, if the run has seen one; the first and the last
 /// item stay.
 pub(crate) fn unhide_cgj(buffer: &mut hb_buffer_t)
     ensures { buffer.new ≡ cgj_unhidden_where_seen buffer.old }

@@ -20,7 +20,7 @@ use std::alloc::Global;
 /// Normalises two buffers and says whether they have the same characters then.
 ///
 /// In the two modes that decompose fully, this tells whether two prepared texts are canonically equivalent
-/// (UAX 15): where the shaper's hooks are lawful and don't reorder, there is no variation selector, the face
+/// (UAX 15): if the shaper's hooks are lawful and don't reorder, there is no variation selector, the face
 /// has a glyph for each character of the full decompositions, no run of marks in these is longer than 32,
 /// and each text has a mark past its first character.
 ///

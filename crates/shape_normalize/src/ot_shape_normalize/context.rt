@@ -5,7 +5,7 @@ use shape_plan::ot_shape_plan::hb_ot_shape_plan_t;
 use shape_plan::ot_shaper::hb_ot_shaper_t;
 use shape_plan::shaping_types::ShapingTypes;
 
-/// A buffer that is being normalised, with the plan and the face that this goes by. `S` is the type of the
+/// A buffer that is being normalised, with the plan and the face that it is normalised by. `S` is the type of the
 /// shaper, `P` that of the compiled lookups, `D` that of the shaper's data.
 #[derive(Drop)]
 pub struct hb_ot_shape_normalize_context_t<'a, F, S, P, D> {

@@ -1,7 +1,7 @@
 //! The expansion of one character along its chain.
 //!
 //! In the modes for composed diacritics a character without marks takes the shortest expansion that the face
-//! has glyphs for, so itself where it can: who drew a glyph for the whole drew it as it should look, and most
+//! has glyphs for, so itself if it can: whoever drew a glyph for the whole drew it as it should look, and most
 //! text then stays as it is. With marks beside it the longest is taken, since each part that is a mark has a
 //! place among them.
 //!
@@ -10,7 +10,7 @@
 //! aren't marks, and faces don't mix them with whole syllables.
 //!
 //! The chain is walked in a loop that keeps the second parts in a list, so its depth is bounded by
-//! memory alone and the length of the expansion is known before any of it is put out. Each part is kept with
+//! memory alone and the length of the expansion is known before any of it is emitted. Each part is kept with
 //! its glyph, so that the face is asked once about it.
 ghost use Rattle.std.specs.Prelude.{◌≡◌, [], ◌∷◌, ◌++◌, reverse, take, map, IfOk, IsTrue, Ok};
 ghost use Rattle.std.specs.Prelude.{if◌then◌else◌, Some, None, true, false};
@@ -20,20 +20,13 @@ ghost use Rattle.canonical_form.specs.Chain.{kept_part};
 ghost use Rattle.canonical_form.specs.Expansion.{chosen_expansion};
 ghost use Rattle.shape_plan.specs.Plan.{hooks_of};
 ghost use Rattle.shape_plan.specs.Rules.{decompositions, has_glyph};
-ghost use Rattle.shape_normalize.specs.OneWalk.{part_of_char};
+ghost use Rattle.shape_normalize.specs.Part.{part_of_char};
 
-use shape_buffer::buffer::GlyphId;
+use crate::ot_shape_normalize::part::{Part, part_with_glyph};
 use shape_buffer::interfaces::{hb_font_t, hb_ot_layout_t, hb_unicode_funcs_t};
 use shape_plan::ot_shaper::hb_ot_shaper_t;
 use shape_plan::shaping_types::{Meaning, PlanOf, ShapingTypes};
 use std::alloc::{AllocError, Global};
-
-/// A character of an expansion, with the index of its glyph.
-#[derive(Clone, Copy)]
-pub(crate) struct Part {
-    pub(crate) c: char,
-    pub(crate) glyph: u32,
-}
 
 /// What a character becomes: `first`, and after it `seconds` from the last to the first. One of these serves
 /// the whole text, so that the second parts of all its characters take memory once.
@@ -43,7 +36,7 @@ pub(crate) struct Expansion {
     pub(crate) seconds: Vec<Part>,
 }
 
-/// The split of a character: the hook's where it is given and the plan keeps the shaper, else Unicode's.
+/// The split of a character: the hook's if it is given and the plan keeps the shaper, else Unicode's.
 pub(crate) fn split_of<T: ShapingTypes>(
     plan: &PlanOf<'_, T>,
     face: &T::Face,
@@ -54,17 +47,6 @@ pub(crate) fn split_of<T: ShapingTypes>(
     match plan.shaper() {
         Some(shaper) if T::Shaper::HAS_DECOMPOSE => shaper.decompose(plan, face, c),
         _ => T::Unicode::decompose(c),
-    }
-}
-
-/// The character with its glyph, where the face has one.
-fn part_with_glyph<F: hb_font_t>(face: &F, c: char) -> Option<Part>
-    ensures { result ≡ (if has_glyph (F.face face.now).nominal_glyph c
-        then Some (part_of_char (F.face face.now).nominal_glyph c) else None) }
-{
-    match face.get_nominal_glyph(c) {
-        Some(GlyphId(glyph)) => Some(Part { c, glyph }),
-        None => None,
     }
 }
 
@@ -87,7 +69,7 @@ fn keep_second<F: hb_font_t>(face: &F, b: char, seconds: &mut Vec<Part>) -> Resu
 }
 
 /// Walks along the chain of a character and keeps its second parts. Answers the last point that has a
-/// glyph and after which every second part has one, and how many these are; where the shortest expansion
+/// glyph and after which every second part has one, and how many these are; if the shortest expansion
 /// is asked, of a character without a glyph, the first such point.
 fn walk_chain<T: ShapingTypes>(
     plan: &PlanOf<'_, T>,
@@ -131,9 +113,33 @@ impl Expansion {
     }
 }
 
-/// Keeps the supported expansion of greatest length and says whether one is supported. Where the shortest is
-/// asked, of a character without a glyph, the one of least length.
+/// Keeps the supported expansion of greatest length and says whether one is supported. If the shortest is
+/// asked, of a character without a glyph, the one of least length. Most characters don't split, so that is asked
+/// first.
 pub(crate) fn decompose<T: ShapingTypes>(
+    plan: &PlanOf<'_, T>,
+    face: &T::Face,
+    c: char,
+    shortest: bool,
+    expansion: &mut Expansion,
+) -> Result<bool, AllocError>
+    requires { IsTrue shortest → has_glyph (T.Face.face face.now).nominal_glyph c ≡ false }
+    ensures { IfOk result (λ found. (if found
+        then Some (expansion.new.first ∷ reverse expansion.new.seconds.items) else None)
+        ≡ option_map (map (part_of_char (T.Face.face face.now).nominal_glyph))
+        (chosen_expansion (decompositions (⟦<T as Meaning>⟧.rules plan.now face.now))
+        (has_glyph (T.Face.face face.now).nominal_glyph) shortest c)) }
+{
+    if split_of::<T>(plan, face, c).is_none() {
+        return Ok(false);
+    }
+    keep_expansion::<T>(plan, face, c, shortest, expansion)
+}
+
+/// Decomposes by the walk along the chain. A call of its own, so that a character that doesn't split is not
+/// charged for what the walk keeps.
+#[inline(never)]
+fn keep_expansion<T: ShapingTypes>(
     plan: &PlanOf<'_, T>,
     face: &T::Face,
     c: char,

@@ -1,4 +1,4 @@
-//! Rounds one and two: in one walk, or one after the other where a sequence holds a variation selector or a
+//! Rounds one and two: in one walk, or one after the other if a sequence holds a variation selector or a
 //! shaper reorders marks.
 //!
 //! A variation sequence is merged before it becomes one item, and a shaper that reorders may merge what a
@@ -71,7 +71,7 @@ fn take_two_rounds<T: ShapingTypes>(
     Ok(())
 }
 
-/// The same in one walk, where each sequence is expanded and no shaper reorders.
+/// The same in one walk, if each sequence is expanded and no shaper reorders.
 fn take_one_walk<T: ShapingTypes>(
     alloc: Global,
     plan: &PlanOf<'_, T>,
@@ -97,8 +97,8 @@ fn take_one_walk<T: ShapingTypes>(
     expand_in_one_walk::<T>(alloc, plan, buffer, face, false, &mut runs)
 }
 
-/// Expands the items and puts the marks in order, where some stand past the first item, as `has_marks` says.
-/// Refuses with `Length` where the expanded list passes the limit; after a refusal the settings that
+/// Expands the items and puts the marks in order, if some stand past the first item, as `has_marks` says.
+/// Refuses with `Length` if the expanded list passes the limit; after a refusal the settings that
 /// clearing keeps are as they were.
 pub(crate) fn expand_and_order<T: ShapingTypes>(
     alloc: Global,

@@ -32,7 +32,7 @@ fn stands_with_marks_at(infos: &[hb_glyph_info_t], i: usize) -> bool
     is_behind || i + 1 < infos.len() && infos[i + 1]._hb_glyph_info_is_unicode_mark()
 }
 
-/// Gives each item its glyph, up to the first that expands, and follows the runs, where `follows` says so.
+/// Gives each item its glyph, up to the first that expands, and follows the runs, if `follows` says so.
 /// Answers the place of that one, or the length.
 #[inline(always)]
 fn place_glyphs<T: ShapingTypes>(
@@ -89,7 +89,7 @@ fn place_glyphs<T: ShapingTypes>(
 }
 
 /// What the items before `from` are, which have their glyphs, and then what the others become, whose runs
-/// are followed. Refuses with `Length` where that passes the limit.
+/// are followed. Refuses with `Length` if that passes the limit.
 fn expand_on<T: ShapingTypes>(
     alloc: Global,
     plan: &PlanOf<'_, T>,
@@ -141,9 +141,9 @@ fn expand_on<T: ShapingTypes>(
     Ok(out)
 }
 
-/// Puts what the items become in their place, where each sequence is expanded, and follows the runs of that,
-/// where `follows` says so. Refuses with `Length` where that passes the limit; after a refusal the settings
-/// that clearing keeps are as they were. It is made for each of the two by itself.
+/// Puts what the items become in their place, if each sequence is expanded, and follows the runs of that, if
+/// `follows` says so. Refuses with `Length` if that passes the limit; after a refusal the settings that
+/// clearing keeps are as they were. It is compiled for each of the two by itself.
 #[inline(always)]
 pub(crate) fn expand_in_one_walk<T: ShapingTypes>(
     alloc: Global,

@@ -23,8 +23,8 @@ use shape_plan::ot_shape_plan::hb_ot_shape_plan_t;
 use shape_plan::ot_shaper::{MAX_COMBINING_MARKS, Runs, hb_ot_shaper_t};
 use shape_plan::shaping_types::{Meaning, PlanOf, ShapingTypes, TypesOf};
 
-/// How many marks a text begins with once `c` came in front of it, where it began with `row` of them.
-/// `None` where these are more than 32, or where the face has no glyph for `c`.
+/// How many marks a text begins with once `c` came in front of it, if it began with `row` of them.
+/// `None` if these are more than 32, or if the face has no glyph for `c`.
 fn with_char<U: hb_unicode_funcs_t, F: hb_font_t>(
     face: &F,
     row: Option<usize>,

@@ -1,7 +1,7 @@
 //! Round one: each item becomes the items of its character's expansion, or takes a glyph with the variation
 //! selector after it.
 //!
-//! Whether the shortest or the longest expansion is taken goes by the mode, and whether the item stands in
+//! Whether the shortest or the longest expansion is taken depends on the mode, and whether the item stands in
 //! a sequence with marks. A sequence with marks that holds a variation selector isn't expanded.
 ghost use Rattle.std.specs.Prelude.{◌≡◌, ◌<◌, ◌≤◌, ◌++◌, length, fold, vec_len, OnOk, IfOk};
 ghost use Rattle.std.specs.Prelude.{Err};
@@ -21,7 +21,7 @@ use crate::ot_shape_normalize::round_one::sequences::{
     first_sequence, is_selector_sequence, is_with_marks,
 };
 use crate::ot_shape_normalize::round_one::variation_sequences::merge_variation_sequences;
-pub(crate) use expanded::{Expanded, part_of, unexpanded};
+pub(crate) use expanded::{Expanded, unexpanded};
 pub(crate) use sequences::holds_selector;
 use shape_buffer::buffer::{ShapeError, hb_buffer_t, hb_glyph_info_t};
 use shape_buffer::interfaces::{hb_font_t, hb_ot_layout_t, hb_unicode_funcs_t};
@@ -30,7 +30,7 @@ use shape_plan::shaping_types::{Meaning, PlanOf, ShapingTypes};
 use std::alloc::Global;
 
 impl Expanded {
-    /// Puts out what the items of a sequence become, each by itself. Refuses with `Length` where that passes
+    /// Emits what the items of a sequence become, each by itself. Refuses with `Length` if that passes
     /// the buffer's limit.
     fn put_items<T: ShapingTypes>(
         &mut self,
@@ -62,7 +62,7 @@ impl Expanded {
         Ok(())
     }
 
-    /// Puts out what a sequence becomes. Refuses with `Length` where that passes the buffer's limit.
+    /// Emits what a sequence becomes. Refuses with `Length` if that passes the buffer's limit.
     fn put_sequence<T: ShapingTypes>(
         &mut self,
         plan: &PlanOf<'_, T>,
@@ -91,7 +91,7 @@ impl Expanded {
     }
 }
 
-/// What the items of a list become, in order. Refuses with `Length` where that passes the limit.
+/// What the items of a list become, in order. Refuses with `Length` if that passes the limit.
 fn expand_all<T: ShapingTypes>(
     alloc: Global,
     plan: &PlanOf<'_, T>,
@@ -122,7 +122,7 @@ fn expand_all<T: ShapingTypes>(
     Ok(out)
 }
 
-/// Puts what the items become in their place. Refuses with `Length` where that passes the limit; after a
+/// Puts what the items become in their place. Refuses with `Length` if that passes the limit; after a
 /// refusal the settings that clearing keeps are as they were.
 pub(crate) fn expand<T: ShapingTypes>(
     alloc: Global,

@@ -1,35 +1,35 @@
 //! Round three: marks are composed with their starters again.
 //!
-//! A face may have one glyph for what was split into a starter and its marks, so each mark that nothing
-//! keeps from its starter makes one character with it, where there is one with a glyph (The Unicode
-//! Standard, D115 to D117). Marks may stand out of order, in a run too long to be put in order or where a
-//! hook has turned them. So the greatest ccc since the starter decides, and not that of the last mark.
+//! A face may have one glyph for what was split into a starter and its marks, so each mark that isn't
+//! blocked is composed with its starter, if the face has a glyph for the two as one (The Unicode
+//! Standard, D115 to D117). Marks may stand out of order, in a run too long to be put in order or if a
+//! hook has reordered them. So the greatest ccc since the starter decides, and not that of the last mark.
 //!
 //! A walk puts each composed character in its starter's place, and notes the span that ends with the mark. In most
-//! texts nothing composes, and nothing is written. Else the clusters of the spans are merged while all items still
+//! texts nothing composes, and nothing is written. Otherwise the clusters of the spans are merged while all items still
 //! stand in the list, and then the marks are taken out of it in place: no list of items is made.
-ghost use Rattle.std.specs.Prelude.{◌≡◌, ◌<◌, ◌≤◌, [], length, set, take, drop, slice_index_or};
+ghost use Rattle.std.specs.Prelude.{◌≡◌, ◌<◌, ◌≤◌, length, set, drop, slice_index_or};
 ghost use Rattle.std.specs.Prelude.{IfOk, IsOkUnless, OnOk};
 ghost use Rattle.canonical_form.specs.Recompose.{compose_with_glyph};
 ghost use Rattle.shape_items.specs.Buffer.{cleared};
 ghost use Rattle.shape_items.specs.Items.{Item};
 ghost use Rattle.shape_items.specs.Spans.{AreSpansInOrder, spans_merged_out};
 ghost use Rattle.shape_items.specs.UnicodeProps.{with_scratch_of};
-ghost use Rattle.shape_normalize.specs.RoundOne.{part_item, seen_chars};
+ghost use Rattle.shape_normalize.specs.Part.{part_item, seen_chars};
 ghost use Rattle.shape_normalize.specs.RoundThree.{recomposed_items, chained_spans, composed_chars};
 ghost use Rattle.shape_normalize.specs.RoundThree.{is_blocked_behind, composed_char};
 ghost use Rattle.shape_normalize.specs.RoundThree.{AreComposedInPlace, ends_at, ends_taken_out};
 ghost use Rattle.shape_normalize.specs.RoundThree.{round_three};
 ghost use Rattle.shape_plan.specs.Rules.{has_glyph};
 
-use crate::ot_shape_normalize::round_one::part_of;
+use crate::ot_shape_normalize::part::part_of;
 use shape_buffer::buffer::{ScratchFlags, ShapeError, hb_buffer_t, hb_glyph_info_t};
 use shape_buffer::interfaces::{hb_font_t, hb_ot_layout_t, hb_unicode_funcs_t};
 use shape_plan::ot_shaper::hb_ot_shaper_t;
 use shape_plan::shaping_types::{Meaning, PlanOf, ShapingTypes};
 use std::alloc::{AllocError, Global};
 
-/// What two characters compose to: the hook's where it is given and the plan keeps the shaper, else Unicode's.
+/// What two characters compose to: the hook's if it is given and the plan keeps the shaper, else Unicode's.
 fn compose_of<T: ShapingTypes>(
     plan: &PlanOf<'_, T>,
     face: &T::Face,
@@ -44,7 +44,7 @@ fn compose_of<T: ShapingTypes>(
     }
 }
 
-/// What two characters compose to, where the face has a glyph for it.
+/// What two characters compose to, if the face has a glyph for it.
 fn compose_with_glyph_of<T: ShapingTypes>(
     plan: &PlanOf<'_, T>,
     face: &T::Face,
@@ -59,14 +59,14 @@ fn compose_with_glyph_of<T: ShapingTypes>(
 }
 
 /// Whether an item of this ccc is blocked from its starter by marks between them of this greatest ccc, 0
-/// where there are none.
+/// if there are none.
 fn is_blocked(greatest: u8, ccc: u8) -> bool
     ensures { result ≡ is_blocked_behind greatest ccc }
 {
     greatest > 0 && ccc <= greatest
 }
 
-/// The character that a starter makes with an item after it, past marks of this greatest ccc, where the two
+/// The character that a starter makes with an item after it, past marks of this greatest ccc, if the two
 /// compose.
 fn composed_of<T: ShapingTypes>(
     plan: &PlanOf<'_, T>,
@@ -112,7 +112,7 @@ fn put_composed<U: hb_unicode_funcs_t, F: hb_font_t>(
 ///
 /// A span goes from a starter to the first mark that was composed with it, or from each such mark to the
 /// next: merged in order they do what spans that all begin at the starter do, and their lengths stay linear
-/// where a starter takes many marks.
+/// if a starter takes many marks.
 fn compose_in_place<T: ShapingTypes>(
     alloc: Global,
     plan: &PlanOf<'_, T>,
@@ -194,18 +194,6 @@ fn ends_next(spans: &[(usize, usize)], taken: usize, end: usize) -> bool
     taken < spans.len() && spans[taken].1 == end
 }
 
-/// Takes out the items from `len` on.
-fn cut(buffer: &mut hb_buffer_t, len: usize)
-    ensures { record buffer.new { positions = [] }
-        ≡ record buffer.old { items = take len buffer.old.items; positions = [] } }
-{
-    let mut last = buffer.len();
-    while len < last {
-        last -= 1;
-        buffer.remove(last);
-    }
-}
-
 /// Takes out the last item of each of these spans, and leaves the others at positions of zeros.
 fn take_out_ends(buffer: &mut hb_buffer_t, spans: &[(usize, usize)])
     ensures { buffer.new ≡ ends_taken_out spans.now buffer.old }
@@ -224,11 +212,11 @@ fn take_out_ends(buffer: &mut hb_buffer_t, spans: &[(usize, usize)])
             kept += 1;
         }
     }
-    cut(buffer, kept);
+    buffer.truncate(kept);
     buffer.clear_positions();
 }
 
-/// Composes marks with their starters. Refuses with `Memory` where a growth was refused; the settings that
+/// Composes marks with their starters. Refuses with `Memory` if a growth was refused; the settings that
 /// clearing keeps are then as they were.
 pub(crate) fn recompose<T: ShapingTypes>(
     alloc: Global,

@@ -4,7 +4,7 @@
 //! caller's buffer cleared, so these settings are put back as the caller had them.
 ghost use Rattle.std.specs.Prelude.{◌≡◌};
 ghost use Rattle.shape_items.specs.Buffer.{Buffer, new_buffer};
-ghost use Rattle.shape_pipeline.specs.Kept.{kept_settings, cleared_with};
+ghost use Rattle.shape_pipeline.specs.SettingsPutBack.{kept_settings, cleared_with};
 
 use shape_buffer::buffer::{BufferClusterLevel, BufferFlags, GlyphId, hb_buffer_t};
 

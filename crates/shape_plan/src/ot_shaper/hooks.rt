@@ -1,7 +1,7 @@
 //! The hooks of a script shaper: what each is called for, what it means and what its author owes.
 //!
 //! A hook is a trait of its own, implemented for a type that the shaper names: the shaper itself as a rule,
-//! or [`no_hook`](crate::ot_shaper::no_hook) where it gives none. `S` is the shaper, `D` what it keeps in
+//! or [`no_hook`](crate::ot_shaper::no_hook) if it gives none. `S` is the shaper, `D` what it keeps in
 //! a plan.
 ghost use Rattle.std.specs.Prelude.{◌≡◌, ◌<◌, ◌≤◌, ℕ, Bool, Option, List, length, MatchResult};
 ghost use Rattle.std.specs.Prelude.{OnOk, IfErr};
@@ -34,7 +34,7 @@ pub trait decompose_hook<S, D, U: hb_unicode_funcs_t, F, M: hb_ot_layout_t<F>> {
     /// Whether the hook is called.
     const GIVEN: bool;
 
-    /// The two parts that a character splits into in one step; the second one is U+0000 where it has one
+    /// The two parts that a character splits into in one step; the second one is U+0000 if it has one
     /// part alone.
     fn decompose(
         shaper: &S,
@@ -133,8 +133,8 @@ pub trait preprocess_text_hook<S, D, U: hb_unicode_funcs_t, F, M: hb_ot_layout_t
     /// Whether the hook is called.
     const GIVEN: bool;
 
-    /// Changes anything but the limit. Refuses with `Length` where the list would pass the limit, with
-    /// `Memory` where a growth was refused.
+    /// Changes anything but the limit. Refuses with `Length` if the list would pass the limit, with
+    /// `Memory` if a growth was refused.
     fn preprocess_text(
         shaper: &S,
         alloc: Global,
@@ -157,8 +157,8 @@ pub trait postprocess_glyphs_hook<S, D, U: hb_unicode_funcs_t, F, M: hb_ot_layou
     /// Whether the hook is called.
     const GIVEN: bool;
 
-    /// Changes anything but the limit. Refuses with `Length` where the list would pass the limit, with
-    /// `Memory` where a growth was refused.
+    /// Changes anything but the limit. Refuses with `Length` if the list would pass the limit, with
+    /// `Memory` if a growth was refused.
     fn postprocess_glyphs(
         shaper: &S,
         alloc: Global,
@@ -181,8 +181,8 @@ pub trait pause_hook<S, D, U: hb_unicode_funcs_t, F, M: hb_ot_layout_t<F>> {
     /// Whether the hook is called.
     const GIVEN: bool;
 
-    /// Runs the pause of number `n`, as it was requested of the planner. Refuses with `Length` where the
-    /// list would pass the limit, with `Memory` where a growth was refused.
+    /// Runs the pause of number `n`, as it was requested of the planner. Refuses with `Length` if the
+    /// list would pass the limit, with `Memory` if a growth was refused.
     fn pause(
         shaper: &S,
         alloc: Global,

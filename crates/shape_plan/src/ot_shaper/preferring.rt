@@ -24,7 +24,7 @@ pub trait Preference {
     ghost lawful: { is_preference PREFERENCE ≡ true };
 }
 
-/// A character is split only where the face lacks it, and then no further than the face asks for.
+/// A character is split only if the face lacks it, and then no further than the face asks for.
 pub struct Shortest;
 
 impl Preference for Shortest {
@@ -47,7 +47,7 @@ impl Preference for Decomposed {
 }
 
 /// A character with marks after it is split as far as the face allows, and composed with them again;
-/// every other one is split only where the face lacks it.
+/// every other one is split only if the face lacks it.
 pub struct ComposedDiacritics;
 
 impl Preference for ComposedDiacritics {

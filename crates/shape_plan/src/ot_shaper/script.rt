@@ -73,7 +73,7 @@ pub trait script_shaper<U: hb_unicode_funcs_t, F: hb_font_t, M: hb_ot_layout_t<F
 
     ghost FALLBACK_POSITION: { Bool };
 
-    /// Whether marks are placed by their extents where neither `GPOS` nor `kerx` nor a `kern` across the
+    /// Whether marks are placed by their extents if neither `GPOS` nor `kerx` nor a `kern` across the
     /// line is applied.
     const FALLBACK_POSITION: bool;
 

@@ -1,7 +1,7 @@
 //! What a plan decides of what its planner knows and of the answers of face and engine.
 //!
-//! First all that the decisions go by is asked, once; then each decision is a formula over it. They build
-//! on one another in this order: who positions (`GPOS` or `kerx`), who kerns where that leaves kerning out,
+//! First all that the decisions depend on is asked, once; then each decision is a formula over it. They build
+//! on one another in this order: who positions (`GPOS` or `kerx`), who kerns if that leaves kerning out,
 //! and, since whoever positions or kerns may place marks, what is left to do for marks.
 ghost use Rattle.std.specs.Prelude.{◌≡◌};
 ghost use Rattle.shape_plan.specs.Decisions.{
@@ -58,7 +58,7 @@ fn disables_gpos<S>(
 }
 
 impl<'a, F, S> hb_ot_shape_planner_t<'a, F, S> {
-    /// All that the decisions go by, with the compiled requests.
+    /// All that the decisions depend on, with the compiled requests.
     #[tactic(auto, unfolding(crate::specs::Planner::facts_of))]
     pub(crate) fn facts<U, M>(&self, map: &M::Map) -> PlanFacts
     where
@@ -118,7 +118,7 @@ impl PlanFacts {
         is_on(self.trak_mask) && self.tables.trak
     }
 
-    /// `GSUB` substitutes where `morx` doesn't.
+    /// `GSUB` substitutes if `morx` doesn't.
     fn has_gsub(&self) -> bool
         ensures { result ≡ has_gsub_of self.now }
     {

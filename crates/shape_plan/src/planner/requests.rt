@@ -2,8 +2,8 @@
 //!
 //! An engine is to run lookups in the order of the features that asked for them, so the order of the
 //! requests is their meaning: variations of the face come before everything, a direction's forms and
-//! fractions before a script's features, those of every text and of a direction after them, the user's
-//! after these, and what a shaper overrides last, where it wins. Each function here appends one row of
+//! fractions before a script's features, those of every text and of a direction after them, then the
+//! user's, and last what a shaper overrides, which wins. Each function here appends one row of
 //! the order to a builder; what it appends stands in its contract.
 ghost use Rattle.std.specs.Prelude.{◌≡◌, OnOk, IsOkUnless, map};
 ghost use Rattle.shape_buffer.specs.MapBuilder.{with_requests};
@@ -107,7 +107,7 @@ fn add_random(builder: &mut hb_ot_map_builder_t) -> Result<(), ShapeError>
     builder.enable_feature(tags::RAND, F_RANDOM, MAX_VALUE)
 }
 
-/// Tracking, which a user turns off like a feature though a table of its own does it, and two features of
+/// Tracking, which a user switches off like a feature though a table of its own does it, and two features of
 /// faces.
 fn add_tracking(builder: &mut hb_ot_map_builder_t) -> Result<(), ShapeError>
     ensures ok { OnOk result (builder.new ≡ with_requests builder.old tracking) }
@@ -134,7 +134,7 @@ pub(crate) fn begin(
     add_tracking(builder)
 }
 
-/// A script's own features, where the shaper is kept and collects some. The builder is no longer simple
+/// A script's own features, if the shaper is kept and collects some. The builder is no longer simple
 /// when the hook sees it.
 pub(crate) fn collect<U, F, M, S>(
     alloc: Global,
@@ -207,7 +207,7 @@ fn add_directed(builder: &mut hb_ot_map_builder_t, direction: Direction) -> Resu
     }
 }
 
-/// Those that the user asks for, in order. One over the whole text is on; any other is turned on by masks.
+/// Those that the user asks for, in order. One over the whole text is on; any other is switched on by masks.
 fn add_user_features(
     builder: &mut hb_ot_map_builder_t,
     features: &[Feature],
@@ -227,7 +227,7 @@ fn add_user_features(
     Ok(())
 }
 
-/// All that comes after a script's own features. Where the user asks for some the builder is no longer
+/// All that comes after a script's own features. If the user asks for some the builder is no longer
 /// simple.
 pub(crate) fn widen(
     builder: &mut hb_ot_map_builder_t,
@@ -246,7 +246,7 @@ pub(crate) fn widen(
     add_user_features(builder, features)
 }
 
-/// What the shaper asks for last, where it is kept and does.
+/// What the shaper asks for last, if it is kept and does.
 pub(crate) fn override_features<U, F, M, S>(
     alloc: Global,
     shaper: ChosenShaper<'_, S>,

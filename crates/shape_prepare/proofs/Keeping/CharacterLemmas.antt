@@ -1,4 +1,4 @@
--- Preparing leaves the characters of a text where no circle goes in, nothing is turned, and no character has another form.
+-- Preparing leaves the characters of a text if no circle goes in, nothing is reversed, and no character has another form.
 use Rattle.std.proofs.Common.{◌≡◌, ℕ, ◌&&◌, Bool, true, false, List, [], ◌∷◌, map, Option, None, Some, unwrap_or, refl, sym, ap, ap₂, ◌∙◌, subst}
 use Rattle.std.proofs.lemmas.List.Elements.{recursion_from_All}
 use Rattle.std.specs.Prelude.{All}
@@ -82,7 +82,7 @@ not_turned-same : (unicode : UnicodeMeaning) (b : Buffer) → is_against (native
 unfolding natively_ordered
 not_turned-same unicode b off = rw off refl
 
--- ---- forms go by characters alone
+-- ---- forms depend on characters alone
 
 mirrored-char : (mask : ℕ) (item : Item) (answer : Option ℕ)
     → char_of (mirrored_or_masked mask item answer) ≡ char_of (mirrored_or_masked mask (new_item item.codepoint 0) answer)

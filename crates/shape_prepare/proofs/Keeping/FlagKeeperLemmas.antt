@@ -30,7 +30,7 @@ use Rattle.shape_prepare.specs.ClustersFormed.{clusters_formed, over_graphemes}
 use Rattle.shape_prepare.specs.DottedCircle.{dotted_circled, with_circle, takes_circle}
 use Rattle.shape_items.specs.GraphemeSpans.{graphemes, is_continuation}
 use Rattle.shape_prepare.specs.Graphemes.{graphemes_marked, continuations_marked, seen_item, is_to_next}
-use Rattle.shape_prepare.specs.Keeping.{PreparingKeepsFlags}
+use Rattle.shape_prepare.specs.Keepers.{PreparingKeepsFlags}
 use Rattle.shape_prepare.specs.NativeOrder.{natively_ordered, native_direction, is_against, graphemes_turned, merged_to_turn, from_last}
 use Rattle.shape_prepare.specs.PrepareSteps.{order_steps}
 use Rattle.shape_prepare.specs.Rotated.{rotated, rotated_item, in_forms, mirrored_or_masked, form_in}

@@ -1,4 +1,4 @@
--- Each step of preparing keeps the order of clusters, except for the native order, which may turn it.
+-- Each step of preparing keeps the order of clusters, except for the native order, which may reverse it.
 use Rattle.std.proofs.Common.{◌≡◌, ℕ, ◌+◌, ◌-◌, ◌<◌, ◌≤◌, ◌==◌, ◌&&◌, ◌||◌, Bool, true, false, not, List, [], ◌∷◌, Option, Some, None, length, map, fold, reverse, refl, sym, ap, ◌∙◌, arith, inl, inr, subst, bit_and}
 use Rattle.std.proofs.lemmas.Bool.{cases_Bool}
 use Rattle.std.proofs.lemmas.Bool.Decides.{nat_tests}
@@ -144,7 +144,7 @@ rotated-keeps_order unicode face decisions target b = record {
   level = refl;
 }
 
--- ---- graphemes of one item, where no character past ASCII was seen
+-- ---- graphemes of one item, if no character past ASCII was seen
 
 abbrev pub seen_past : ScratchFlags → Bool
 seen_past flags = bit_and flags.0 1 == 1
@@ -194,7 +194,7 @@ ascii-continues unicode item within =
     (is_regional_indicator c) (c == 0x200D) (is_extender c) (is_mark unicode c) within
     (grind (arith, nat_tests)) (grind (arith, nat_tests)) (grind (arith, nat_tests)) (grind (arith, nat_tests))
 
--- where no character past ASCII was seen no item continues a grapheme
+-- if no character past ASCII was seen no item continues a grapheme
 none-marked : (unicode : UnicodeMeaning) (items : List Item) (flags : ScratchFlags)
     → seen_past (fold (seen_item unicode) flags items) ≡ false
     → NoneContinues (continuations_marked unicode Plain (map (with_unicode_props unicode) items))
@@ -238,7 +238,7 @@ contains-reverse xs x (k, lt, e) =
     let short : k < length xs = rw (← length-reverse xs) lt in
     (length xs - 1 - k, omega arith, sym (get_or-reverse xs k x short) ∙ e)
 
--- graphemes of one cluster each, turned
+-- graphemes of one cluster each, reversed
 turned-in_order : (b : Buffer) → AreOneCluster (graphemes b.items) → IsNonDecreasing (clusters b.items) → InOrderFor true b (graphemes_turned b)
 turned-in_order b one rising =
     let parts = graphemes b.items in
@@ -253,7 +253,7 @@ turned-in_order b one rising =
       level = refl;
     }
 
--- a buffer whose graphemes stand in one cluster each once they are to be turned
+-- a buffer whose graphemes stand in one cluster each once they are to be reversed
 pub record IsReadyToTurn (b : Buffer) : Type 0 where
   pub rising : IsNonDecreasing (clusters b.items)
   pub monotone : IsMonotoneLevel b.cluster_level

@@ -1,4 +1,4 @@
--- Parts turned one by one, and then the whole list.
+-- Parts reversed one by one, and then the whole list.
 use Rattle.std.proofs.Common.{◌≡◌, ℕ, ◌+◌, ◌-◌, ◌≤◌, List, [], ◌∷◌, ◌++◌, length, take, drop, map, fold, reverse, slice_range, refl, sym, ap, ap₂, ◌∙◌, arith, append_assoc}
 use Rattle.std.proofs.lemmas.List.{reverse-append, reverse-reverse, length-append, length-drop, length-take-le, append-nil, take-append-drop, take_at, drop_at, drop-map}
 use Rattle.std.proofs.lemmas.Grind.{flat_map-append, common_steps}
@@ -13,7 +13,7 @@ use Rattle.shape_prepare.specs.ClustersFormed.{over_graphemes}
 use Rattle.shape_prepare.specs.GraphemeWalk.{reverse_span}
 use Rattle.shape_prepare.specs.NativeOrder.{parted, from_last, graphemes_turned}
 
--- one part turned in place
+-- one part reversed in place
 reversed_range-at : {A : Type 0} (pre part behind : List A)
     → reversed_range (length pre) (length pre + length part) (pre ++ (part ++ behind)) ≡ pre ++ (reverse part ++ behind)
 reversed_range-at {A} pre part behind =
@@ -30,7 +30,7 @@ reversed_range-at {A} pre part behind =
     ++ (reverse (take (length pre + length part - length pre) (drop (length pre) (pre ++ (part ++ behind)))) ++ b)) first last
     ∙ ap (λ (m : List A). pre ++ (reverse m ++ behind)) middle
 
--- each part turned in place
+-- each part reversed in place
 spans-reversed : {A : Type 0} (pre : List A) (parts : List (List A))
     → fold (λ xs span. reversed_range span.0 span.1 xs) (pre ++ whole parts) (spans_from (length pre) (map length parts))
     ≡ pre ++ whole (map reverse parts)
@@ -44,7 +44,7 @@ spans-reversed {A} pre (part ∷ parts) =
     ∙ spans-reversed (pre ++ reverse part) parts
     ∙ append_assoc pre (reverse part) (whole (map reverse parts))
 
--- turned parts turned as a whole are the parts from the last
+-- reversed parts reversed as a whole are the parts from the last
 reverse-parts : {A : Type 0} (parts : List (List A)) → reverse (whole (map reverse parts)) ≡ from_last parts
 reverse-parts [] = refl
 reverse-parts {A} (part ∷ parts) =
@@ -54,7 +54,7 @@ reverse-parts {A} (part ∷ parts) =
     ∙ sym (flat_map-append (λ (p : List A). p) (reverse parts) (part ∷ []))
     ∙ ap (λ (l : List (List A)). whole l) (sym (reverse-append (part ∷ []) parts))
 
--- the walk over a list in parts, and the list turned then
+-- the walk over a list in parts, and the list reversed then
 pub turned-parts : {A : Type 0} (parts : List (List A))
     → reverse (fold (λ xs span. reversed_range span.0 span.1 xs) (whole parts) (spans_from 0 (map length parts))) ≡ from_last parts
 turned-parts parts = ap reverse (spans-reversed [] parts) ∙ reverse-parts parts
@@ -101,7 +101,7 @@ pub reverse_spans : (spans : List (ℕ × ℕ)) (b : Buffer)
 reverse_spans [] b = refl
 reverse_spans (span ∷ spans) b = reverse_spans spans (reverse_span span.0 span.1 b)
 
--- a part that was turned in place changes nothing after it
+-- a part that was reversed in place changes nothing after it
 pub behind-reversed : {A B : Type 0} (f : A → B) (start end : ℕ) (xs : List A) → start ≤ end → end ≤ length xs
     → drop end (map f (reversed_range start end xs)) ≡ drop end (map f xs)
 behind-reversed {A} f start end xs le within =
@@ -117,11 +117,11 @@ pub length-reversed_range : {A : Type 0} (start end : ℕ) (xs : List A) → sta
     → length (reversed_range start end xs) ≡ length xs
 length-reversed_range start end xs le within = grind (arith, common_steps)
 
--- a buffer turned as a whole, and its direction
+-- a buffer reversed as a whole, and its direction
 abbrev pub turned_over : Buffer → Buffer
 turned_over b = record b { items = reverse b.items; positions = reverse b.positions; direction = reverse_of b.direction }
 
--- the walk over the parts of a buffer, and the buffer turned then, leaves the parts from the last
+-- the walk over the parts of a buffer, and the buffer reversed then, leaves the parts from the last
 pub turned-whole : (b : Buffer) → length b.positions ≡ length b.items → turned_over (over_graphemes reverse_span b) ≡ graphemes_turned b
 turned-whole b as_many =
     let parts = graphemes b.items in

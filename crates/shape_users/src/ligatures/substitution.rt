@@ -13,7 +13,7 @@ pub const SINGLE: (u32, u32) = (1, 11);
 /// Two glyphs side by side, and the one that takes their place.
 pub const LIGATURE: (u32, u32, u32) = (2, 3, 23);
 
-/// An item with the other form of its glyph, where that has one.
+/// An item with the other form of its glyph, if that has one.
 fn single_of(info: &hb_glyph_info_t) -> hb_glyph_info_t
     ensures { result ≡ single info.now }
 {
@@ -31,7 +31,7 @@ fn put_singles(buffer: &mut hb_buffer_t)
     update_items(buffer, |info| single_of(info));
 }
 
-/// Puts the ligature in place of the two glyphs from a place on, where they are its parts. They are one
+/// Puts the ligature in place of the two glyphs from a place on, if they are its parts. They are one
 /// cluster first, so that the text of both is that of the ligature.
 fn put_ligature(buffer: &mut hb_buffer_t, i: usize)
     ensures made { buffer.new ≡ ligated_at i buffer.old }

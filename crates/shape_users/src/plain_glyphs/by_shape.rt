@@ -43,7 +43,7 @@ where
 }
 
 /// The glyphs of a text: each character of their normalised list that the prepared text hasn't has a glyph, each
-/// item has the glyph of its character or of what stands in for it, feature bits and places are those of the
+/// item has the glyph of its character or of what replaces it, feature bits and places are those of the
 /// prepared text's items, and marks were composed by the standard's rule. Without a variation selector the list is
 /// equivalent to the text.
 pub fn glyphs_formed<U, F>(

@@ -17,7 +17,7 @@ use shape_pipeline::ot_shaper::hb_ot_shaper_t;
 use shape_pipeline::shape_with_plan;
 use std::alloc::Global;
 
-/// Sets a text's direction and script by guessing, where they aren't set.
+/// Sets a text's direction and script by guessing, if they aren't set.
 pub fn guess(text: &mut UnicodeBuffer)
     ensures guessed { text.new ≡ guessed unicode_tables text.old }
     ensures known { text.new.direction ≢ Direction.Invalid }
@@ -25,7 +25,7 @@ pub fn guess(text: &mut UnicodeBuffer)
     text.guess_segment_properties::<UnicodeTables>();
 }
 
-/// Guesses what a text leaves open, and plans for it. Refuses with `Memory` where a growth was refused.
+/// Guesses what a text leaves open, and plans for it. Refuses with `Memory` if a growth was refused.
 #[tactic(auto, using(crate::proofs::PlanLemmas::planned_direction, crate::proofs::PlanLemmas::planned_script, crate::proofs::PlanLemmas::script_guessed_again, crate::proofs::PlanLemmas::direction_guessed_again))]
 pub fn planned<'a, S>(
     alloc: Global,

@@ -19,8 +19,8 @@ use shape_pipeline::ot_shaper::hb_ot_shaper_t;
 use std::alloc::Global;
 use std::io::Write;
 
-/// Shapes a text and writes the lines that it is cut into, or the number of the refusal. Malformed where the
-/// first word is no width, where another is no character, and where 32 bits can't count the bytes in UTF-8.
+/// Shapes a text and writes the lines that it is cut into, or the number of the refusal. Malformed if the
+/// first word is no width, if another is no character, or if 32 bits can't count the bytes in UTF-8.
 #[tactic(auto, using(crate::proofs::WidthLemmas::no_width, crate::proofs::WidthLemmas::other_width, crate::proofs::WidthLemmas::other_text, crate::proofs::WidthLemmas::width_and_text))]
 pub fn answer<W: Write>(
     alloc: Global,

@@ -2,7 +2,7 @@
 
 /// What a line leads to.
 pub enum Outcome {
-    /// What it asks for is done; where shaping was refused, the refusal is written.
+    /// What it asks for is done; if shaping was refused, the refusal is written.
     Done,
     /// It can't be read, and nothing is done.
     Malformed,

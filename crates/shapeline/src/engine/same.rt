@@ -16,8 +16,8 @@ use shape_pipeline::ot_shaper::hb_ot_shaper_t;
 use std::alloc::Global;
 use std::io::Write;
 
-/// Compares two texts and writes the answer, or the number of the refusal. Malformed where no word `/` parts
-/// the two, where a word of theirs is no character, and where 32 bits can't count the bytes of one in UTF-8.
+/// Compares two texts and writes the answer, or the number of the refusal. Malformed if no word `/` parts
+/// the two, if a word of theirs is no character, or if 32 bits can't count the bytes of one in UTF-8.
 pub fn answer<W: Write>(
     alloc: Global,
     face: &MapFace,
@@ -60,7 +60,7 @@ fn are_same(
     manner.mode.with_shaper(Comparing { alloc, face, a, b })
 }
 
-/// A buffer with a text in the script Common, which runs from left to right where lines have left it open.
+/// A buffer with a text in the script Common, which runs from left to right if lines have left it open.
 fn in_common(alloc: Global, manner: Manner, words: Words) -> Result<UnicodeBuffer, ShapeError>
     requires { IsText (words_of words.rest.now) }
 {

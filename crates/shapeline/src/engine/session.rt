@@ -24,7 +24,7 @@ use std::str;
 /// The units per em of the face at the start.
 const UNITS_PER_EM: u16 = 1000;
 
-/// How texts are shaped, as lines have set it. The direction is Invalid where it is to be guessed.
+/// How texts are shaped, as lines have set it. The direction is Invalid if it is to be guessed.
 #[derive(Clone, Copy)]
 pub struct Manner {
     pub mode: Mode,
@@ -87,7 +87,7 @@ impl Session {
     }
 
     /// Does what one line says, and writes what it asks for. A malformed line changes nothing. A `glyph` line is
-    /// out of memory where a growth was refused, and then changes at most the metrics of glyphs.
+    /// out of memory if a growth was refused, and then changes at most the metrics of glyphs.
     pub fn obey<W: Write>(&mut self, alloc: Global, line: &[u8], writer: &mut W) -> Outcome
         ensures { IsObeyed (command_of_words (line_words line.now)) (IsLine line.now) self.old
             (obeyed (line_words line.now) self.old) result self.new }
@@ -145,7 +145,7 @@ impl Session {
     }
 
     /// `glyph C I A ..`: the character C has glyph I, whose advance is A, and perhaps its extents. Out of memory
-    /// where a growth was refused; then the character keeps the glyph that it had.
+    /// if a growth was refused; then the character keeps the glyph that it had.
     fn set_glyph(&mut self, words: Words) -> Outcome
         ensures { IsObeyed (Some Command.Glyph)
             (IsMeant Command.Glyph (words_of words.entry.rest.now)) self.old

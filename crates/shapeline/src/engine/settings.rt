@@ -76,7 +76,7 @@ pub fn flags(words: Words) -> Option<BufferFlags>
     BufferFlags::from_bits(number(words, u32::MAX)?)
 }
 
-/// The direction that texts are to run in; Invalid where it is to be guessed.
+/// The direction that texts are to run in; Invalid if it is to be guessed.
 pub fn direction(mut words: Words) -> Option<Direction>
     ensures { SomeIff result (IsDirection (words_of words.entry.rest.now))
         (direction_said (words_of words.entry.rest.now)) }
@@ -88,7 +88,7 @@ pub fn direction(mut words: Words) -> Option<Direction>
     Some(direction)
 }
 
-/// The extents of a glyph; none are said where there are no words.
+/// The extents of a glyph; none are said if there are no words.
 fn extents(mut words: Words) -> Option<Option<hb_glyph_extents_t>>
     ensures { SomeIff result (IsExtents (words_of words.entry.rest.now))
         (extents_of (words_of words.entry.rest.now)) }

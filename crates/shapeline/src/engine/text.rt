@@ -21,8 +21,8 @@ use std::alloc::Global;
 use std::io;
 use std::io::Write;
 
-/// Shapes a text and writes its answer, or the number of the refusal. Malformed where a word is no
-/// character, and where 32 bits can't count the bytes in UTF-8.
+/// Shapes a text and writes its answer, or the number of the refusal. Malformed if a word is no
+/// character, or if 32 bits can't count the bytes in UTF-8.
 pub fn answer<W: Write>(
     alloc: Global,
     face: &MapFace,
@@ -53,7 +53,7 @@ pub(super) fn write_refusal<W: Write>(cause: ShapeError, writer: &mut W) -> io::
     }
 }
 
-/// How many bytes a text takes in UTF-8, where each word is a character and 32 bits can count them. Takes
+/// How many bytes a text takes in UTF-8, if each word is a character and 32 bits can count them. Takes
 /// no memory, so that a malformed text is malformed however little there is.
 pub(super) fn text_len(words: Words) -> Option<u32>
     ensures { SomeIff result (IsText (words_of words.entry.rest.now))
@@ -67,7 +67,7 @@ pub(super) fn text_len(words: Words) -> Option<u32>
 }
 
 /// A buffer with a text, whose clusters are byte offsets in UTF-8, to be shaped as lines have set it. Refuses
-/// with `Memory` where a growth was refused.
+/// with `Memory` if a growth was refused.
 pub(super) fn filled(
     alloc: Global,
     manner: Manner,

@@ -25,7 +25,7 @@ fn compose_in_table(a: char, b: char) -> Option<char>
         .map(|entry| entry.2)
 }
 
-/// The character of the table, where it splits into the two again.
+/// The character of the table, if it splits into the two again.
 pub fn compose(a: char, b: char) -> Option<char>
     ensures { result ≡ compose_of a b }
 {

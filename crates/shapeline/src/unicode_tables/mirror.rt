@@ -25,7 +25,7 @@ fn mirror_in_table(c: char) -> Option<char>
         .map(|entry| entry.1)
 }
 
-/// The mirror image of the table, where it and the character are plain.
+/// The mirror image of the table, if it and the character are plain.
 pub fn mirrored(c: char) -> Option<char>
     ensures { result ≡ mirror_of c }
 {

@@ -1,4 +1,4 @@
-//! Which characters may take another's place as a run turns a text: plain ones, of both sides.
+//! Which characters may take another's place as a run mirrors a text or sets it upright: plain ones, of both sides.
 ghost use Rattle.std.specs.Prelude.{◌≡◌};
 ghost use Rattle.shapeline.specs.Plain.{is_plain, plain_form};
 
@@ -13,7 +13,7 @@ fn is_plain(c: char) -> bool
     !category.is_mark() && !matches!(category, hb_unicode_general_category_t::SpaceSeparator)
 }
 
-/// The form that a table has for a character, where both are plain.
+/// The form that a table has for a character, if both are plain.
 pub fn plain_form(c: char, form: Option<char>) -> Option<char>
     ensures { result ≡ plain_form c form }
 {

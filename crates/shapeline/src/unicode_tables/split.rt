@@ -4,7 +4,7 @@ ghost use Rattle.shapeline.specs.Split.{split_in_table, split_of};
 
 use crate::unicode_tables::category::is_mark;
 
-/// A character and its two parts; the second one is U+0000 where there is one part alone.
+/// A character and its two parts; the second one is U+0000 if there is one part alone.
 const SPLITS: [(char, char, char); 14] = [
     ('\u{00C2}', '\u{0041}', '\u{0302}'),
     ('\u{00C5}', '\u{0041}', '\u{030A}'),

@@ -16,7 +16,7 @@ fn vertical_in_table(c: char) -> Option<char>
         .map(|entry| entry.1)
 }
 
-/// The vertical form of the table, where it and the character are plain.
+/// The vertical form of the table, if it and the character are plain.
 pub fn vertical(c: char) -> Option<char>
     ensures { result ≡ vertical_of c }
 {

@@ -1,6 +1,4 @@
 //! Every combination of the questions that a plan asks, against a table of who positions.
-ghost use Rattle.std.specs.Prelude.{◌≢◌};
-
 use super::shapers::{ScriptShaper, WishingShaper};
 use super::support::{
     BitLayout, Bits, CROSS_KERNING, GLYPH_CLASSES, GPOS, GPOS_KERNS, GSUB, KERNING, KERX,
@@ -10,10 +8,18 @@ use crate::comparing::{assert_same, assert_that};
 use shape_buffer::buffer::{Direction, Feature, Script, UnicodeBuffer, hb_tag_t};
 use shape_buffer::interfaces::PlainUnicode;
 use shape_plan::ot_shape_plan::hb_ot_shape_plan_t;
-use shape_plan::ot_shaper::{DEFAULT_SHAPER, hb_ot_shaper_t};
+use shape_plan::ot_shaper::{DEFAULT_SHAPER, hb_default_shaper_t, hb_ot_shaper_t};
 use std::alloc::Global;
 use std::process::Abort;
 use std::test::Fail;
+
+/// A plan of a shaper.
+type Plan<'a, S> = hb_ot_shape_plan_t<
+    'a,
+    S,
+    u32,
+    <S as hb_ot_shaper_t<PlainUnicode, Bits, BitLayout>>::Data,
+>;
 
 /// Who positions and kerns.
 #[derive(Clone, Copy, PartialEq, Eq, Debug)]
@@ -149,6 +155,31 @@ fn spread(i: u32) -> u32 {
     (i & 15) | ((i & 1008) << 1)
 }
 
+/// A plan without a script and without features.
+fn planned<'a, S>(
+    alloc: Global,
+    face: &'a Bits,
+    shaper: &'a S,
+    direction: Direction,
+) -> Result<Plan<'a, S>, Fail>
+where
+    S: hb_ot_shaper_t<PlainUnicode, Bits, BitLayout>,
+{
+    if direction == Direction::Invalid {
+        return Err(Fail::from("no direction"));
+    }
+    let plan = hb_ot_shape_plan_t::new::<PlainUnicode, Bits, BitLayout>(
+        alloc,
+        face,
+        shaper,
+        direction,
+        None,
+        None,
+        &[],
+    )?;
+    Ok(plan)
+}
+
 /// Compares the plans of a shaper in one direction with the table, for every answer of face and engine.
 fn assert_by_table<S>(
     rt: &impl Abort,
@@ -159,20 +190,11 @@ fn assert_by_table<S>(
 ) -> Result<(), Fail>
 where
     S: hb_ot_shaper_t<PlainUnicode, Bits, BitLayout>,
-    requires { direction ≢ Direction.Invalid }
 {
     let horizontal = matches!(direction, Direction::LeftToRight | Direction::RightToLeft);
     for i in 0..1024 {
         let face = Bits(spread(i));
-        let plan = hb_ot_shape_plan_t::new::<PlainUnicode, Bits, BitLayout>(
-            alloc,
-            &face,
-            shaper,
-            direction,
-            None,
-            None,
-            &[],
-        )?;
+        let plan = planned(alloc, &face, shaper, direction)?;
         let kept = brings.is_default || !plan.apply_morx();
         assert_eq!(rt; decided(&plan), expected(face.0, horizontal, brings));
         assert_eq!(rt; plan.fallback_glyph_classes(), face.0 & GLYPH_CLASSES == 0);
@@ -206,15 +228,7 @@ fn by_a_shaper_of_a_script(rt: HostRuntime) -> Result<(), Fail> {
 #[test]
 fn gpos_then_kerx(rt: HostRuntime) -> Result<(), Fail> {
     let face = Bits(KERX | GSUB | GPOS);
-    let plan = hb_ot_shape_plan_t::new::<PlainUnicode, Bits, BitLayout>(
-        rt.alloc(),
-        &face,
-        &DEFAULT_SHAPER,
-        Direction::LeftToRight,
-        None,
-        None,
-        &[],
-    )?;
+    let plan = planned(rt.alloc(), &face, &DEFAULT_SHAPER, Direction::LeftToRight)?;
     assert_that(&rt, plan.apply_gpos() && plan.apply_kerx());
     assert_that(&rt, !plan.apply_kern() && !plan.apply_fallback_kern());
     assert_that(&rt, !plan.zero_marks() && !plan.fallback_mark_positioning());
@@ -227,30 +241,37 @@ fn gpos_then_kerx(rt: HostRuntime) -> Result<(), Fail> {
 fn wishes_of_a_replaced_shaper(rt: HostRuntime) -> Result<(), Fail> {
     let (morx, both) = (Bits(MORX), Bits(MORX | GSUB));
     let shaper = WishingShaper::new();
-    let plan = hb_ot_shape_plan_t::new::<PlainUnicode, Bits, BitLayout>(
-        rt.alloc(),
-        &morx,
-        &shaper,
-        Direction::LeftToRight,
-        None,
-        None,
-        &[],
-    )?;
+    let plan = planned(rt.alloc(), &morx, &shaper, Direction::LeftToRight)?;
     assert_that(&rt, plan.shaper().is_none() && plan.data().is_none());
     assert_that(&rt, plan.apply_morx() && plan.apply_fallback_kern());
     assert_that(&rt, plan.zero_marks() && plan.fallback_mark_positioning());
     assert_that(&rt, !plan.adjust_mark_positioning_when_zeroing());
-    let vertical = hb_ot_shape_plan_t::new::<PlainUnicode, Bits, BitLayout>(
-        rt.alloc(),
-        &both,
-        &shaper,
-        Direction::TopToBottom,
-        None,
-        None,
-        &[],
-    )?;
+    let vertical = planned(rt.alloc(), &both, &shaper, Direction::TopToBottom)?;
     assert_that(&rt, vertical.shaper().is_some() && !vertical.apply_morx());
     Ok(())
+}
+
+/// Compares the masks of a plan of the default shaper, each of which is this one, and what follows of them.
+fn assert_masks(rt: &impl Abort, plan: &Plan<'_, hb_default_shaper_t>, mask: u32, tracked: bool) {
+    let side = (plan.numr_mask(), plan.dnom_mask(), plan.rtlm_mask());
+    assert_same(
+        rt,
+        (plan.frac_mask(), plan.kern_mask(), plan.trak_mask()),
+        (mask, mask, mask),
+    );
+    assert_same(rt, side, (mask, mask, mask));
+    assert_same(
+        rt,
+        (plan.has_frac(), plan.has_vert(), plan.has_gpos_mark()),
+        (mask != 0, mask != 0, mask != 0),
+    );
+    assert_same(
+        rt,
+        (plan.requested_kerning(), plan.apply_trak()),
+        (mask != 0, tracked),
+    );
+    plan.masks_are_features();
+    plan.positions_by_one_table();
 }
 
 #[test]
@@ -262,42 +283,51 @@ fn masks(rt: HostRuntime) -> Result<(), Fail> {
         (TRAK, 0, false),
     ] {
         let face = Bits(bits);
-        let plan = hb_ot_shape_plan_t::new::<PlainUnicode, Bits, BitLayout>(
-            rt.alloc(),
-            &face,
-            &DEFAULT_SHAPER,
-            Direction::LeftToRight,
-            None,
-            None,
-            &[],
-        )?;
-        let side = (plan.numr_mask(), plan.dnom_mask(), plan.rtlm_mask());
-        assert_same(
-            &rt,
-            (plan.frac_mask(), plan.kern_mask(), plan.trak_mask()),
-            (mask, mask, mask),
-        );
-        assert_same(&rt, side, (mask, mask, mask));
-        assert_same(
-            &rt,
-            (plan.has_frac(), plan.has_vert(), plan.has_gpos_mark()),
-            (mask != 0, mask != 0, mask != 0),
-        );
-        assert_same(
-            &rt,
-            (plan.requested_kerning(), plan.apply_trak()),
-            (mask != 0, tracked),
-        );
-        plan.masks_are_features();
-        plan.positions_by_one_table();
+        let plan = planned(rt.alloc(), &face, &DEFAULT_SHAPER, Direction::LeftToRight)?;
+        assert_masks(&rt, &plan, mask, tracked);
     }
+    Ok(())
+}
+
+fn latin() -> Option<Script> {
+    Some(Script(hb_tag_t::from_bytes(b"Latn")))
+}
+
+/// A plan for texts in Latin by a script's shaper, with the user's features.
+fn planned_for_latin<'a>(
+    alloc: Global,
+    face: &'a Bits,
+    features: &[Feature],
+) -> Result<Plan<'a, ScriptShaper>, Fail> {
+    let plan = hb_ot_shape_plan_t::new::<PlainUnicode, Bits, BitLayout>(
+        alloc,
+        face,
+        &ScriptShaper,
+        Direction::LeftToRight,
+        latin(),
+        None,
+        features,
+    )?;
+    Ok(plan)
+}
+
+/// Compares of a letter whether the plan fits it: without a script, with it, and in the other direction.
+fn assert_fits(rt: &impl Abort, alloc: Global, plan: &Plan<'_, ScriptShaper>) -> Result<(), Fail> {
+    let mut text = UnicodeBuffer::new(alloc);
+    text.add('a', 0)?;
+    assert_that(rt, !plan.fits::<PlainUnicode>(&text));
+    text.set_script(latin());
+    text.set_direction(Direction::LeftToRight);
+    assert_that(rt, plan.fits::<PlainUnicode>(&text));
+    text.set_direction(Direction::RightToLeft);
+    assert_that(rt, !plan.fits::<PlainUnicode>(&text));
     Ok(())
 }
 
 /// A plan has what it was asked for, a copy of the user's features, and the data of its shaper.
 #[test]
 fn parts(rt: HostRuntime) -> Result<(), Fail> {
-    let latin = Some(Script(hb_tag_t::from_bytes(b"Latn")));
+    let alloc = rt.alloc();
     let liga = Feature {
         tag: hb_tag_t::from_bytes(b"liga"),
         value: 2,
@@ -305,39 +335,15 @@ fn parts(rt: HostRuntime) -> Result<(), Fail> {
         end: 3,
     };
     let (plain, morx) = (Bits(0), Bits(MORX));
-    let plan = hb_ot_shape_plan_t::new::<PlainUnicode, Bits, BitLayout>(
-        rt.alloc(),
-        &plain,
-        &ScriptShaper,
-        Direction::LeftToRight,
-        latin,
-        None,
-        &[liga, liga],
-    )?;
+    let plan = planned_for_latin(alloc, &plain, &[liga, liga])?;
     assert_same(
         &rt,
         (plan.direction(), plan.script()),
-        (Direction::LeftToRight, latin),
+        (Direction::LeftToRight, latin()),
     );
     assert_same(&rt, plan.user_features(), [liga, liga].as_slice());
     assert_same(&rt, plan.data().copied(), Some(2));
-    let replaced = hb_ot_shape_plan_t::new::<PlainUnicode, Bits, BitLayout>(
-        rt.alloc(),
-        &morx,
-        &ScriptShaper,
-        Direction::LeftToRight,
-        latin,
-        None,
-        &[liga],
-    )?;
+    let replaced = planned_for_latin(alloc, &morx, &[liga])?;
     assert_that(&rt, replaced.data().is_none());
-    let mut text = UnicodeBuffer::new(rt.alloc());
-    text.add('a', 0)?;
-    assert_that(&rt, !plan.fits::<PlainUnicode>(&text));
-    text.set_script(latin);
-    text.set_direction(Direction::LeftToRight);
-    assert_that(&rt, plan.fits::<PlainUnicode>(&text));
-    text.set_direction(Direction::RightToLeft);
-    assert_that(&rt, !plan.fits::<PlainUnicode>(&text));
-    Ok(())
+    assert_fits(&rt, alloc, &plan)
 }

@@ -8,6 +8,7 @@ use shape_plan::ot_shape_plan::ChosenShaper;
 use shape_plan::ot_shaper::{DEFAULT_SHAPER, DUMBER_SHAPER, hb_default_shaper_t};
 use shape_plan::planner::hb_ot_shape_planner_t;
 use std::alloc::Global;
+use std::process::Abort;
 use std::test::Fail;
 
 fn ask(letters: &[u8; 4], flags: u32, value: u32) -> MapRequest {
@@ -92,6 +93,21 @@ fn collected(
     Ok(planner.ot_map)
 }
 
+/// Compares the requests of a direction.
+fn assert_collected(
+    rt: &impl Abort,
+    alloc: Global,
+    direction: Direction,
+    count: usize,
+) -> Result<(), Fail> {
+    let builder = collected(alloc, direction, &[])?;
+    let wanted = expected(alloc, direction)?;
+    assert_same(rt, builder.requests().len(), count);
+    assert_same(rt, builder.requests(), wanted.as_slice());
+    assert_that(rt, builder.is_simple());
+    Ok(())
+}
+
 #[test]
 fn directions(rt: HostRuntime) -> Result<(), Fail> {
     let counts = [
@@ -101,11 +117,7 @@ fn directions(rt: HostRuntime) -> Result<(), Fail> {
         (Direction::BottomToTop, 19),
     ];
     for (direction, count) in counts {
-        let builder = collected(rt.alloc(), direction, &[])?;
-        let wanted = expected(rt.alloc(), direction)?;
-        assert_same(&rt, builder.requests().len(), count);
-        assert_same(&rt, builder.requests(), wanted.as_slice());
-        assert_that(&rt, builder.is_simple());
+        assert_collected(&rt, rt.alloc(), direction, count)?;
     }
     Ok(())
 }
@@ -139,6 +151,11 @@ fn a_planner_is_compiled(rt: HostRuntime) -> Result<(), Fail> {
     Ok(())
 }
 
+/// Compares the request at a place.
+fn assert_request(rt: &impl Abort, builder: &hb_ot_map_builder_t, at: usize, wanted: MapRequest) {
+    assert_same(rt, builder.requests().get(at).copied(), Some(wanted));
+}
+
 #[test]
 fn of_the_user(rt: HostRuntime) -> Result<(), Fail> {
     let kern = Feature {
@@ -155,68 +172,49 @@ fn of_the_user(rt: HostRuntime) -> Result<(), Fail> {
     };
     let builder = collected(rt.alloc(), Direction::LeftToRight, &[kern, part])?;
     assert_same(&rt, builder.requests().len(), 29);
-    assert_same(
-        &rt,
-        builder.requests().get(27).copied(),
-        Some(ask(b"kern", 1, 0)),
-    );
-    assert_same(
-        &rt,
-        builder.requests().get(28).copied(),
-        Some(ask(b"liga", 0, 2)),
-    );
+    assert_request(&rt, &builder, 27, ask(b"kern", 1, 0));
+    assert_request(&rt, &builder, 28, ask(b"liga", 0, 2));
     assert_that(&rt, !builder.is_simple());
     Ok(())
+}
+
+/// The planner of a script's shaper with all requests made.
+fn collected_by_script<'a>(
+    alloc: Global,
+    face: &'a Bits,
+) -> Result<hb_ot_shape_planner_t<'a, Bits, ScriptShaper>, Fail> {
+    let mut planner = hb_ot_shape_planner_t::<Bits, ScriptShaper>::new::<PlainUnicode, BitLayout>(
+        alloc,
+        face,
+        &ScriptShaper,
+        Direction::TopToBottom,
+        None,
+        None,
+    );
+    planner.collect_features::<PlainUnicode, BitLayout>(alloc, &[])?;
+    Ok(planner)
 }
 
 /// A script's shaper asks between `HARF` and `Buzz`, and once more at last; under `morx` it is not asked.
 #[test]
 fn of_a_shaper(rt: HostRuntime) -> Result<(), Fail> {
     let (plain, morx) = (Bits(0), Bits(MORX));
-    let mut planner = hb_ot_shape_planner_t::<Bits, ScriptShaper>::new::<PlainUnicode, BitLayout>(
-        rt.alloc(),
-        &plain,
-        &ScriptShaper,
-        Direction::TopToBottom,
-        None,
-        None,
-    );
-    planner.collect_features::<PlainUnicode, BitLayout>(rt.alloc(), &[])?;
-    let requests = planner.ot_map.requests();
-    assert_same(&rt, requests.len(), 22);
-    assert_same(&rt, requests.get(8).copied(), Some(ask(b"HARF", 1, 1)));
-    assert_same(
-        &rt,
-        requests.get(9).copied(),
-        Some(ask(&[0, 0, 0, 3], 1, 1)),
-    );
-    assert_same(
-        &rt,
-        requests.get(10).copied(),
-        Some(MapRequest::Pause(Some(9))),
-    );
-    assert_same(&rt, requests.get(11).copied(), Some(ask(b"Buzz", 1, 1)));
-    assert_same(
-        &rt,
-        requests.get(21).copied(),
-        Some(ask(&[0, 0, 0, 4], 64, 1)),
-    );
-    assert_that(&rt, !planner.ot_map.is_simple());
-    let mut replaced = hb_ot_shape_planner_t::<Bits, ScriptShaper>::new::<PlainUnicode, BitLayout>(
-        rt.alloc(),
-        &morx,
-        &ScriptShaper,
-        Direction::TopToBottom,
-        None,
-        None,
-    );
-    replaced.collect_features::<PlainUnicode, BitLayout>(rt.alloc(), &[])?;
+    let planner = collected_by_script(rt.alloc(), &plain)?;
+    let builder = &planner.ot_map;
+    assert_same(&rt, builder.requests().len(), 22);
+    assert_request(&rt, builder, 8, ask(b"HARF", 1, 1));
+    assert_request(&rt, builder, 9, ask(&[0, 0, 0, 3], 1, 1));
+    assert_request(&rt, builder, 10, MapRequest::Pause(Some(9)));
+    assert_request(&rt, builder, 11, ask(b"Buzz", 1, 1));
+    assert_request(&rt, builder, 21, ask(&[0, 0, 0, 4], 64, 1));
+    assert_that(&rt, !builder.is_simple());
+    let replaced = collected_by_script(rt.alloc(), &morx)?;
     assert_same(&rt, replaced.ot_map.requests().len(), 19);
     assert_that(&rt, matches!(replaced.shaper, ChosenShaper::Dumber));
     Ok(())
 }
 
-/// The shaper that knows no script is kept as such where a shaper is replaced, and else like any other.
+/// The shaper that knows no script is kept as such if a shaper is replaced, and else like any other.
 #[test]
 fn dumber(rt: HostRuntime) -> Result<(), Fail> {
     let (plain, morx) = (Bits(0), Bits(MORX));

@@ -19,7 +19,7 @@ use test_worlds::{Automatic, EarlyHanging};
 /// Wants marks zeroed early and placed by their extents; gives no hook.
 pub type WishingShaper = test_worlds::WishingShaper<Automatic, EarlyHanging>;
 
-/// Is made for script 2, wants nothing for marks, asks for feature 3 and pause 9 after it, turns feature 4
+/// Is made for script 2, wants nothing for marks, asks for feature 3 and pause 9 after it, switches feature 4
 /// on for each syllable at last, and keeps how many features the user asks for.
 #[derive(Clone, Copy, Debug)]
 pub struct ScriptShaper;

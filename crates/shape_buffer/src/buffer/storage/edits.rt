@@ -19,7 +19,7 @@ use shape_items::hb_glyph_info_t;
 use std::alloc::AllocError;
 
 impl hb_buffer_t {
-    /// Turns the order of the items, and that of their positions with it.
+    /// Reverses the order of the items, and that of their positions with it.
     pub fn reverse(&mut self)
         ensures { self.new ≡ record self.old {
           items = reverse self.old.items;
@@ -44,7 +44,7 @@ impl hb_buffer_t {
         self.positions.swap(i, j);
     }
 
-    /// Exchanges two items; positions stay, as where a hook reorders marks.
+    /// Exchanges two items; positions stay, as when a hook reorders marks.
     pub fn swap_infos(&mut self, i: usize, j: usize)
         requires { (i < length self.old.items) × (j < length self.old.items) }
         ensures { self.new ≡ record self.old { items = swap self.old.items i j } }
@@ -65,8 +65,20 @@ impl hb_buffer_t {
         self.positions.remove(i);
     }
 
-    /// Puts an item in before the one at `i`, at the end where `i` is the length, at a position of zeros.
-    /// Refuses with `Length` where the list has reached its limit, and with `Memory` where a growth was
+    /// Takes out the items from `len` on, and their positions; where there are no more than `len` items nothing
+    /// changes. Takes no memory.
+    pub fn truncate(&mut self, len: usize)
+        ensures { self.new ≡ record self.old {
+          items = take len self.old.items;
+          positions = take len self.old.positions;
+        } }
+    {
+        self.infos.truncate(len);
+        truncate_positions(&mut self.positions, len);
+    }
+
+    /// Puts an item in before the one at `i`, at the end if `i` is the length, at a position of zeros.
+    /// Refuses with `Length` if the list has reached its limit, and with `Memory` if a growth was
     /// refused; a refused call changes nothing.
     pub fn insert(&mut self, i: usize, item: hb_glyph_info_t) -> Result<(), ShapeError>
         requires { i ≤ length self.old.items }
@@ -88,8 +100,8 @@ impl hb_buffer_t {
         Ok(())
     }
 
-    /// Makes these the items, at positions of zeros. Refuses with `Length` where there are more than the
-    /// limit, and with `Memory` where a growth was refused; a refused call drops what it was given and
+    /// Makes these the items, at positions of zeros. Refuses with `Length` if there are more than the
+    /// limit, and with `Memory` if a growth was refused; a refused call drops what it was given and
     /// changes nothing.
     pub fn replace_infos(&mut self, infos: Vec<hb_glyph_info_t>) -> Result<(), ShapeError>
         ensures ok { OnOk result (self.new ≡ record self.old {
@@ -175,7 +187,7 @@ impl hb_buffer_t {
     }
 }
 
-/// Makes a list so long, with zeros behind what it has: one of zeros alone stays that.
+/// Makes a list so long, with zeros after what it has: one of zeros alone stays that.
 fn resize_zeros(positions: &mut Vec<GlyphPosition>, count: usize) -> Result<(), AllocError>
     ensures items { OnOk result (positions.new.items ≡ take count positions.old.items
         ++ replicate (count - length positions.old.items) zero_position) }
@@ -187,7 +199,16 @@ fn resize_zeros(positions: &mut Vec<GlyphPosition>, count: usize) -> Result<(), 
     positions.resize(count, GlyphPosition::zero())
 }
 
-/// Makes every position zeros: nothing is written where they are.
+/// Makes a list no longer than this: one of zeros alone stays that.
+fn truncate_positions(positions: &mut Vec<GlyphPosition>, len: usize)
+    ensures items { positions.new.items ≡ take len positions.old.items }
+    ensures zeros { positions.old.items ≡ replicate (length positions.old.items) zero_position
+        → positions.new.items ≡ replicate (length positions.new.items) zero_position }
+{
+    positions.truncate(len);
+}
+
+/// Makes every position zeros: nothing is written if they are.
 pub(super) fn make_zeros(has_positions: bool, positions: &mut [GlyphPosition])
     requires { has_positions ≡ false
         → positions.old ≡ replicate (length positions.old) zero_position }
@@ -198,7 +219,7 @@ pub(super) fn make_zeros(has_positions: bool, positions: &mut [GlyphPosition])
     }
 }
 
-/// Sets every position to zeros. A call of its own: where LLVM inlines it into a large function, the loop does not
+/// Sets every position to zeros. A call of its own: if LLVM inlines it into a large function, the loop does not
 /// become one fill of memory.
 #[inline(never)]
 fn zero_positions(positions: &mut [GlyphPosition])
@@ -209,7 +230,7 @@ fn zero_positions(positions: &mut [GlyphPosition])
     }
 }
 
-/// Makes a list at least so long. It gets no shorter, also where memory is refused.
+/// Makes a list at least so long. It gets no shorter, even if memory is refused.
 fn make_room(numbers: &mut Vec<usize>, count: usize) -> Result<(), AllocError>
     ensures room { OnOk result (count ≤ length numbers.new.items) }
     ensures longer { length numbers.old.items ≤ length numbers.new.items }

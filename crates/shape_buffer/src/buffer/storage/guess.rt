@@ -29,7 +29,7 @@ impl hb_buffer_t {
         self.direction_by::<U>(self.guessed_script::<U>())
     }
 
-    /// The direction of the text as guessing would set it, where its guessed script is known: the one that is
+    /// The direction of the text as guessing would set it, if its guessed script is known: the one that is
     /// set, else that of the script, else left to right. The characters aren't gone over again.
     pub fn direction_by<U: hb_unicode_funcs_t>(&self, script: Option<Script>) -> Direction
         ensures { result ≡ direction_or self.now.direction (script_or_ltr U.unicode script) }
@@ -40,7 +40,7 @@ impl hb_buffer_t {
         native_direction::<U>(script)
     }
 
-    /// Sets script and direction by guessing, where they aren't set.
+    /// Sets script and direction by guessing, if they aren't set.
     pub fn guess_segment_properties<U: hb_unicode_funcs_t>(&mut self)
         ensures { self.new ≡ guessed U.unicode self.old }
     {
@@ -61,7 +61,7 @@ fn first_script<U: hb_unicode_funcs_t>(infos: &[hb_glyph_info_t]) -> Option<Scri
         .find(|script| script.is_specific())
 }
 
-/// The direction of a script, left to right where none is known.
+/// The direction of a script, left to right if none is known.
 fn native_direction<U: hb_unicode_funcs_t>(script: Option<Script>) -> Direction
     ensures { result ≡ script_or_ltr U.unicode script }
 {

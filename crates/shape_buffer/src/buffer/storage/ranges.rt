@@ -8,7 +8,7 @@ impl hb_buffer_t {
     ghost use Rattle.shape_common.specs.Positions.{zero_position};
     ghost use Rattle.shape_buffer.specs.Ranges.{reversed_range};
 
-    /// Turns the order of the items from `start` up to `end`, and that of their positions with it. Takes no
+    /// Reverses the order of the items from `start` up to `end`, and that of their positions with it. Takes no
     /// memory.
     pub fn reverse_range(&mut self, start: usize, end: usize)
         requires ordered { start ≤ end }
@@ -23,7 +23,7 @@ impl hb_buffer_t {
         self.positions[start..end].reverse();
     }
 
-    /// Makes every position zeros. Takes no memory, and writes nothing where all of them are.
+    /// Makes every position zeros. Takes no memory, and writes nothing if all of them are.
     pub fn clear_positions(&mut self)
         ensures { self.new ≡ record self.old {
           positions = replicate (length self.old.items) zero_position;

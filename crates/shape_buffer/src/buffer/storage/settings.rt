@@ -24,7 +24,7 @@ impl hb_buffer_t {
         self.direction = direction;
     }
 
-    /// Reads the script of the text, where it is set.
+    /// Reads the script of the text, if it is set.
     pub fn script(&self) -> Option<Script>
         ensures { result ≡ self.now.script }
     {
@@ -38,7 +38,7 @@ impl hb_buffer_t {
         self.script = script;
     }
 
-    /// Reads the language of the text, where it is set.
+    /// Reads the language of the text, if it is set.
     pub fn language(&self) -> Option<&Language>
         ensures { option_map (λ language. string_bytes language.now.0) result ≡ self.now.language }
     {
@@ -83,28 +83,28 @@ impl hb_buffer_t {
         self.cluster_level = cluster_level;
     }
 
-    /// Reads the glyph that stands in for default ignorables, where it is set.
+    /// Reads the glyph that replaces default ignorables, if it is set.
     pub fn invisible_glyph(&self) -> Option<GlyphId>
         ensures { result ≡ self.now.invisible_glyph }
     {
         self.invisible_glyph
     }
 
-    /// Sets or unsets the glyph that stands in for default ignorables, and nothing else.
+    /// Sets or unsets the glyph that replaces default ignorables, and nothing else.
     pub fn set_invisible_glyph(&mut self, invisible_glyph: Option<GlyphId>)
         ensures { self.new ≡ record self.old { invisible_glyph = invisible_glyph } }
     {
         self.invisible_glyph = invisible_glyph;
     }
 
-    /// Reads the glyph that stands in for variation selectors without a variation glyph, where it is set.
+    /// Reads the glyph that replaces variation selectors without a variation glyph, if it is set.
     pub fn not_found_variation_selector_glyph(&self) -> Option<GlyphId>
         ensures { result ≡ self.now.not_found_variation_selector_glyph }
     {
         self.not_found_variation_selector_glyph
     }
 
-    /// Sets or unsets the glyph that stands in for variation selectors without a variation glyph, and
+    /// Sets or unsets the glyph that replaces variation selectors without a variation glyph, and
     /// nothing else.
     pub fn set_not_found_variation_selector_glyph(
         &mut self,

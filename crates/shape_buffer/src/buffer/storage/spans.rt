@@ -159,7 +159,7 @@ impl hb_buffer_t {
     }
 
     /// Marks the items from `start` up to `end` unsafe to concat and sets the scratch flag
-    /// HAS_GLYPH_FLAGS, where the flag PRODUCE_UNSAFE_TO_CONCAT asks for it.
+    /// HAS_GLYPH_FLAGS, if the flag PRODUCE_UNSAFE_TO_CONCAT asks for it.
     pub fn unsafe_to_concat(&mut self, start: usize, end: usize)
         requires ordered { start ≤ end }
         requires within { end ≤ length self.old.items }
@@ -176,7 +176,7 @@ impl hb_buffer_t {
     /// Deletes the glyphs that the test picks, from left to right, each with its position. The test is
     /// asked of an item as it stands when it is reached. Before a glyph of cluster `c` goes, the first
     /// case that holds decides: the next item, picked or not, has cluster `c`, and nothing is done; items
-    /// were kept, and where `c` is below the last kept one's cluster, the last kept items with that
+    /// were kept, and if `c` is below the last kept one's cluster, the last kept items with that
     /// cluster get the picked item's cluster and its defined flags in place of theirs; there is a next
     /// item, and the two are merged as `merge_clusters` does. Takes no memory; the time is in step with
     /// the list, whatever the clusters are (measured, not proved).

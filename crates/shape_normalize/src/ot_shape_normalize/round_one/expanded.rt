@@ -7,16 +7,16 @@ ghost use Rattle.std.specs.Prelude.{◌≡◌, ◌<◌, ◌≤◌, [], ◌∷◌
 ghost use Rattle.std.specs.Prelude.{if◌then◌else◌, OnOk, IfOk, IfSome, IfNone, Err, None};
 ghost use Rattle.shape_items.specs.UnicodeProps.{with_scratch_of};
 ghost use Rattle.shape_plan.specs.Rules.{rules_without_shaper};
-ghost use Rattle.shape_normalize.specs.RoundOne.{part_item, remembers_space as remembers_space_of};
+ghost use Rattle.shape_normalize.specs.Part.{with_part as with_part_of, seen_parts};
+ghost use Rattle.shape_normalize.specs.RoundOne.{remembers_space as remembers_space_of};
 ghost use Rattle.shape_normalize.specs.RoundOne.{whole_item as whole_item_of, expanded_item};
 ghost use Rattle.shape_normalize.specs.RoundOne.{with_space_fallback, seen_expanded};
-ghost use Rattle.shape_normalize.specs.RoundOne.{glyph_index as glyph_index_of};
 ghost use Rattle.shape_normalize.specs.RoundOne.{space_glyph as space_glyph_of};
 ghost use Rattle.shape_normalize.specs.RoundOne.{is_fallback_space as is_fallback_space_of};
 ghost use Rattle.shape_normalize.specs.RoundOne.{fallback_index as fallback_index_of};
-ghost use Rattle.shape_normalize.specs.OneWalk.{with_part as with_part_of, seen_parts};
 
-use crate::ot_shape_normalize::decompose::{Expansion, Part, decompose};
+use crate::ot_shape_normalize::decompose::{Expansion, decompose};
+use crate::ot_shape_normalize::part::{Part, glyph_index, with_part};
 use bitflags::Flags;
 use shape_buffer::buffer::{
     GlyphId, ScratchFlags, ShapeError, hb_glyph_info_t, hb_unicode_general_category_t,
@@ -33,47 +33,7 @@ const HYPHEN: char = '\u{2010}';
 
 const NON_BREAKING_HYPHEN: char = '\u{2011}';
 
-/// The index of the glyph of a character, 0 where the face has none.
-fn glyph_index<F: hb_font_t>(face: &F, c: char) -> u32
-    ensures { result ≡ glyph_index_of (F.face face.now).nominal_glyph c }
-{
-    match face.get_nominal_glyph(c) {
-        Some(GlyphId(glyph)) => glyph,
-        None => 0,
-    }
-}
-
-/// A copy of an item with the character and the glyph of a part, and the properties of that character.
-fn with_part<U: hb_unicode_funcs_t>(
-    info: &hb_glyph_info_t,
-    part: Part,
-    scratch_flags: &mut ScratchFlags,
-) -> hb_glyph_info_t
-    ensures item { result ≡ with_part_of U.unicode info.now part }
-    ensures flags { scratch_flags.new ≡ with_scratch_of U.unicode part.c scratch_flags.old }
-{
-    let mut copy = *info;
-    copy.codepoint = part.c;
-    copy.glyph_index = part.glyph;
-    copy.init_unicode_props::<U>(scratch_flags);
-    copy
-}
-
-/// A copy of an item with another character, its glyph, and the properties of that character.
-pub(crate) fn part_of<U: hb_unicode_funcs_t, F: hb_font_t>(
-    face: &F,
-    info: &hb_glyph_info_t,
-    c: char,
-    scratch_flags: &mut ScratchFlags,
-) -> hb_glyph_info_t
-    ensures item { result ≡ part_item U.unicode (F.face face.now).nominal_glyph info.now c }
-    ensures flags { scratch_flags.new ≡ with_scratch_of U.unicode c scratch_flags.old }
-{
-    let glyph = glyph_index(face, c);
-    with_part::<U>(info, Part { c, glyph }, scratch_flags)
-}
-
-/// The glyph that stands in for a space: that of U+0020, else the invisible one.
+/// The glyph that replaces a space: that of U+0020, else the invisible one.
 fn space_glyph<U: hb_unicode_funcs_t, F: hb_font_t>(
     face: &F,
     invisible: Option<GlyphId>,
@@ -83,7 +43,7 @@ fn space_glyph<U: hb_unicode_funcs_t, F: hb_font_t>(
     face.get_nominal_glyph(SPACE).or(invisible)
 }
 
-/// Whether an item is a space that a glyph stands in for. Its own category counts, which a shaper may have
+/// Whether an item is a space that another glyph replaces. Its own category counts, which a shaper may have
 /// set.
 fn is_fallback_space<U: hb_unicode_funcs_t, F: hb_font_t>(
     face: &F,
@@ -103,7 +63,7 @@ fn is_fallback_space<U: hb_unicode_funcs_t, F: hb_font_t>(
         && space_glyph::<U, F>(face, invisible).is_some()
 }
 
-/// The index of the glyph of an item whose character has none, 0 where nothing stands in for it.
+/// The index of the glyph of an item whose character has none, 0 if nothing replaces it.
 fn fallback_index<U: hb_unicode_funcs_t, F: hb_font_t>(
     face: &F,
     info: &hb_glyph_info_t,
@@ -145,7 +105,7 @@ fn lacking_item<U: hb_unicode_funcs_t, F: hb_font_t>(
     whole
 }
 
-/// An item that keeps its character, with its glyph, or what stands in for that.
+/// An item that keeps its character, with its glyph, or with what replaces that.
 fn kept_item<U: hb_unicode_funcs_t, F: hb_font_t>(
     face: &F,
     info: &hb_glyph_info_t,
@@ -166,7 +126,7 @@ fn kept_item<U: hb_unicode_funcs_t, F: hb_font_t>(
     lacking_item::<U, F>(face, info, invisible, scratch_flags)
 }
 
-/// The item with its glyph, where it keeps its character; none where it expands, and then `expansion` is
+/// The item with its glyph, if it keeps its character; none if it expands, and then `expansion` is
 /// what it becomes. The face is asked once about an item that has a glyph and keeps it.
 pub(crate) fn unexpanded<T: ShapingTypes>(
     plan: &PlanOf<'_, T>,
@@ -209,7 +169,7 @@ pub(crate) fn unexpanded<T: ShapingTypes>(
     Ok(Some(lacking_item::<T::Unicode, T::Face>(face, info, invisible, scratch_flags)))
 }
 
-/// The items that were put out, and the scratch flags that their characters show.
+/// The items that were emitted, and the scratch flags that their characters show.
 #[derive(Drop)]
 pub(crate) struct Expanded {
     pub(crate) infos: Vec<hb_glyph_info_t>,
@@ -219,7 +179,7 @@ pub(crate) struct Expanded {
 }
 
 impl Expanded {
-    /// Puts out an item of an expansion.
+    /// Emits an item of an expansion.
     fn put_part<U: hb_unicode_funcs_t>(
         &mut self,
         info: &hb_glyph_info_t,
@@ -236,7 +196,7 @@ impl Expanded {
         Ok(())
     }
 
-    /// Puts out the items of the expansion, which keeps no second part.
+    /// Emits the items of the expansion, which keeps no second part.
     fn put_parts<U: hb_unicode_funcs_t>(&mut self, info: &hb_glyph_info_t) -> Result<(), AllocError>
         ensures infos { OnOk result (self.new.infos.items ≡ self.old.infos.items
             ++ map (with_part_of U.unicode info.now)
@@ -252,7 +212,7 @@ impl Expanded {
         Ok(())
     }
 
-    /// Puts out what an item becomes. Refuses with `Length` where that passes the limit.
+    /// Emits what an item becomes. Refuses with `Length` if that passes the limit.
     pub(crate) fn put_item<T: ShapingTypes>(
         &mut self,
         plan: &PlanOf<'_, T>,

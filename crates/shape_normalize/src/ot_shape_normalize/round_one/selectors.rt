@@ -1,5 +1,5 @@
-//! Sequences that hold a variation selector: an item and its selector become one item where the face has a
-//! glyph for the two; all other items pass.
+//! Sequences that hold a variation selector: an item and its selector become one item if the face has a
+//! glyph for the two; all other items stay.
 ghost use Rattle.std.specs.Prelude.{◌≡◌, ◌<◌, ◌≤◌, ◌∷◌, ◌++◌, length, map, fold, vec_len, OnOk};
 ghost use Rattle.std.specs.Prelude.{Err};
 ghost use Rattle.std.specs.List.{flat_map};
@@ -14,7 +14,7 @@ use shape_buffer::buffer::{GlyphId, ScratchFlags, ShapeError, hb_buffer_t, hb_gl
 use shape_buffer::interfaces::{hb_font_t, hb_unicode_funcs_t};
 use std::alloc::AllocError;
 
-/// The item with the glyph of its character, or as it is where it has none.
+/// The item with the glyph of its character, or as it is if it has none.
 fn passed<F: hb_font_t>(face: &F, info: &hb_glyph_info_t) -> hb_glyph_info_t
     ensures { result ≡ passed_item (F.face face.now).nominal_glyph info.now }
 {
@@ -25,7 +25,7 @@ fn passed<F: hb_font_t>(face: &F, info: &hb_glyph_info_t) -> hb_glyph_info_t
     passed
 }
 
-/// Adds items that pass.
+/// Adds items that stay.
 fn push_passed<F: hb_font_t>(
     out: &mut Vec<hb_glyph_info_t>,
     face: &F,
@@ -40,7 +40,7 @@ fn push_passed<F: hb_font_t>(
     Ok(())
 }
 
-/// Marks a selector that made no glyph with its item; where the buffer has a not-found glyph for
+/// Marks a selector that made no glyph with its item; if the buffer has a not-found glyph for
 /// selectors, it is no longer ignorable.
 fn mark_selector(info: &mut hb_glyph_info_t, not_found: Option<GlyphId>)
     ensures { info.new ≡ marked_selector not_found info.old }
@@ -52,7 +52,7 @@ fn mark_selector(info: &mut hb_glyph_info_t, not_found: Option<GlyphId>)
 }
 
 impl Expanded {
-    /// Puts out an item that became one with its selector, and those after them.
+    /// Emits an item that became one with its selector, and those after them.
     fn put_variation_sequence<F: hb_font_t>(
         &mut self,
         face: &F,
@@ -72,7 +72,7 @@ impl Expanded {
         Ok(())
     }
 
-    /// Puts out an item, its selector that no glyph came of, and those after them.
+    /// Emits an item, its selector that no glyph came of, and those after them.
     fn put_apart<F: hb_font_t>(
         &mut self,
         face: &F,
@@ -97,7 +97,7 @@ impl Expanded {
         Ok(())
     }
 
-    /// Puts out what an item and the selectors directly after it become. Refuses with `Length` where that
+    /// Emits what an item and the selectors directly after it become. Refuses with `Length` if that
     /// passes the limit.
     fn put_variant<F: hb_font_t>(
         &mut self,
@@ -135,7 +135,7 @@ impl Expanded {
         Ok(())
     }
 
-    /// Puts out what a sequence that holds a variation selector becomes. Refuses with `Length` where that
+    /// Emits what a sequence that holds a variation selector becomes. Refuses with `Length` if that
     /// passes the buffer's limit.
     pub(super) fn put_variants<U: hb_unicode_funcs_t, F: hb_font_t>(
         &mut self,

@@ -32,7 +32,7 @@ fn count_selectors<U: hb_unicode_funcs_t>(infos: &[hb_glyph_info_t]) -> usize
         .count()
 }
 
-/// The first sequence, and the items after it; nothing where there is no item. The first item may be a mark
+/// The first sequence, and the items after it; nothing if there is no item. The first item may be a mark
 /// itself.
 pub(super) fn first_sequence(
     infos: &[hb_glyph_info_t],
@@ -44,7 +44,7 @@ pub(super) fn first_sequence(
     Some(infos.split_at(1 + count_marks(behind)))
 }
 
-/// The first item with the variation selectors directly after it, and the items after them; nothing where
+/// The first item with the variation selectors directly after it, and the items after them; nothing if
 /// there is no item. The first item may be a selector itself.
 pub(super) fn first_variant<U: hb_unicode_funcs_t>(
     infos: &[hb_glyph_info_t],

@@ -12,7 +12,7 @@ use shape_buffer::buffer::{GlyphId, hb_buffer_t, hb_glyph_info_t};
 use shape_buffer::interfaces::{hb_font_t, hb_unicode_funcs_t};
 use std::alloc::{AllocError, Global};
 
-/// The glyph of the first two of these items, where the face has one for the two.
+/// The glyph of the first two of these items, if the face has one for the two.
 fn variation_sequence_glyph<F: hb_font_t>(face: &F, part: &[hb_glyph_info_t]) -> Option<GlyphId>
     ensures { result ≡ variation_sequence_glyph_of (F.face face.now) part.now }
 {
@@ -44,7 +44,7 @@ fn push_variation_sequences<U: hb_unicode_funcs_t, F: hb_font_t>(
     Ok(())
 }
 
-/// The spans of all items that become one with the selector after them. Takes no memory where there are
+/// The spans of all items that become one with the selector after them. Takes no memory if there are
 /// none.
 fn variation_sequences<U: hb_unicode_funcs_t, F: hb_font_t>(
     alloc: Global,

@@ -128,8 +128,8 @@ fn thirty_two_through_the_library(rt: HostRuntime) -> Result<(), Fail> {
     Ok(())
 }
 
-/// Whether the third of the characters is hidden once they are shaped, over a face with the space that stands
-/// in for what isn't shown.
+/// Whether the third of the characters is hidden once they are shaped, over a face with the space that
+/// replaces what isn't shown.
 fn third_is_hidden(alloc: Global, text: &[char]) -> Result<bool, Fail> {
     let face = face_of(alloc, &[' '])?;
     let glyphs = shaped_in_places(alloc, &face, Mode::Decomposed, text)?;

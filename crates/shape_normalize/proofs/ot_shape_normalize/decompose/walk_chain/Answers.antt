@@ -6,8 +6,8 @@ use Rattle.canonical_form.specs.Chain.{kept_part}
 use Rattle.canonical_form.proofs.Expanding.ShortestWalkLemmas.{sought, sought_ended, sought_first, sought_found, sought_passed, sought_broken}
 use Rattle.canonical_form.proofs.Expanding.WalkLemmas.{found_parts, walked}
 use Rattle.shape_plan.specs.Rules.{rules_of, decompositions, has_glyph}
-use Rattle.shape_normalize.specs.OneWalk.{part_of_char}
-use Rattle.shape_normalize.specs.declared.ot_shape_normalize.decompose.Part.{Part}
+use Rattle.shape_normalize.specs.Part.{part_of_char}
+use Rattle.shape_normalize.specs.declared.ot_shape_normalize.part.Part.{Part}
 use Rattle.shape_normalize.proofs.Hooks.RulesLemmas.{FallsAlong-planned}
 use Rattle.shape_normalize.proofs.RoundOne.ChainPartLemmas.{chars_of, found_chars, found_within, part_is, none_is, grown_chars, grown_parts, parts_found}
 use Rattle.shape_normalize.proofs.ot_shape_normalize.decompose.walk_chain.Goals as goal

@@ -4,7 +4,7 @@ use Rattle.canonical_form.proofs.Expanding.ShortestWalkLemmas.{sought}
 use Rattle.canonical_form.proofs.Expanding.WalkLemmas.{found_parts, walked}
 use Rattle.shape_plan.specs.Plan.{hooks_of}
 use Rattle.shape_plan.specs.Rules.{used_height, used_decompositions, has_glyph}
-use Rattle.shape_normalize.specs.OneWalk.{part_of_char}
+use Rattle.shape_normalize.specs.Part.{part_of_char}
 use Rattle.shape_normalize.proofs.RoundOne.ChainPartLemmas.{chars_of, found_chars}
 use Rattle.shape_normalize.proofs.ot_shape_normalize.decompose.walk_chain.Given as goal
 

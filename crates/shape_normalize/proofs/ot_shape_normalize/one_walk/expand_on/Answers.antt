@@ -32,7 +32,7 @@ loop-i-preserved g c =
       runs = search (rules, c.in_ok-follow_from.ensures.runs);
     }
 
--- what was put out, and what this item becomes, is a part of the whole
+-- what was emitted, and what this item becomes, is a part of the whole
 pub returns-in_err-put_item-clause-length : goal.returns-in_err-put_item-clause-length
 returns-in_err-put_item-clause-length g c is_length =
     let shaper = g.T.Shaper.hb_ot_shaper_t in

@@ -4,7 +4,7 @@ use Rattle.shape_plan.specs.Rules.{rules_of}
 use Rattle.shape_normalize.specs.OneWalk.{expanded_behind, seen_behind, FollowsRuns}
 use Rattle.shape_normalize.proofs.ot_shape_normalize.one_walk.expand_on.Given as goal
 
--- what was put out, then what is left expanded, is what the list becomes
+-- what was emitted, then what is left expanded, is what the list becomes
 abbrev pub invariant-loop-i : goal.invariant-loop-i
 invariant-loop-i g l =
     let shaper = g.T.Shaper.hb_ot_shaper_t in

@@ -5,7 +5,7 @@ use Rattle.shape_items.specs.Items.{Item, ccc_of_item}
 use Rattle.shape_items.specs.UnicodeProps.{with_scratch_of}
 use Rattle.shape_common.specs.declared.flags.ScratchFlags.{ScratchFlags}
 use Rattle.shape_plan.specs.Rules.{rules_of}
-use Rattle.shape_normalize.specs.RoundOne.{part_item}
+use Rattle.shape_normalize.specs.Part.{part_item}
 use Rattle.shape_normalize.proofs.RoundThree.RoundThreeWalkLemmas.{some_items, IsRecomposedTo-first, IsRecomposedTo-absorbed, IsRecomposedTo-starter, IsRecomposedTo-mark, walked_items}
 use Rattle.shape_normalize.proofs.ot_shape_normalize.round_three.compose_in_place.Goals as goal
 use Rattle.shape_normalize.proofs.ot_shape_normalize.round_three.compose_in_place.Goals.{then-ccc-eq0, else-ccc-eq0}

@@ -4,7 +4,7 @@ use Rattle.shapeline.proofs.PairLemmas.{no_slash-no_pair, pair-sides}
 use Rattle.shapeline.proofs.engine.same.answer.Goals.{then-is_none-via-then-is_none, then-is_none-via-else-is_none+then-is_none-2}
 use Rattle.shapeline.proofs.engine.same.answer.Goals as goal
 
--- where there is no answer, what it would stand for fails
+-- if there is no answer, what it would stand for fails
 none-fails : {Holds : Type 0} (len : Option ℕ) (bytes : ℕ) → SomeIff len Holds bytes → is_some len ≡ false → ¬ Holds
 none-fails None bytes answer none holds = answer holds
 none-fails (Some n) bytes answer none holds = absurd cc

@@ -3,7 +3,7 @@ use Rattle.std.specs.List.{AllByRecursion}
 use Rattle.shapeline.specs.Text.{IsCharacterWord, IsText, utf8_len}
 use Rattle.shapeline.proofs.engine.text.text_len.Goals as goal
 
--- where no word is left, all were counted
+-- if no word is left, all were counted
 counted_all : (left all : List (List ℕ)) (len : ℕ) → left ≡ [] → (AllByRecursion IsCharacterWord left → AllByRecursion IsCharacterWord all)
     → len + utf8_len left ≡ utf8_len all → len < 2 ^ 32 → IsText all × (len ≡ utf8_len all)
 counted_all [] all len none so_far counted small = ((so_far tt, omega arith), omega arith)

@@ -1,9 +1,9 @@
 use Rattle.std.proofs.Common.{◌≡◌, Bool, true, false, if◌then◌else◌, List, [], ◌∷◌, map, reverse, Some, None, sym, ap, ◌∙◌}
 use Rattle.std.specs.Option.{option_map}
 use Rattle.shape_plan.specs.Rules.{rules_of}
-use Rattle.shape_normalize.specs.OneWalk.{part_of_char}
+use Rattle.shape_normalize.specs.Part.{part_of_char}
 use Rattle.shape_normalize.specs.RoundOne.{expansion_of, expanded_item, seen_expanded, whole_item, remembers_space, with_space_fallback}
-use Rattle.shape_normalize.specs.declared.ot_shape_normalize.decompose.Part.{Part}
+use Rattle.shape_normalize.specs.declared.ot_shape_normalize.part.Part.{Part}
 use Rattle.shape_normalize.proofs.RoundOne.ChainPartLemmas.{parts_put, parts_seen}
 use Rattle.shape_normalize.proofs.ot_shape_normalize.round_one.expanded.unexpanded.Goals as goal
 

@@ -1,5 +1,5 @@
 use Rattle.std.proofs.Common.{◌≡◌, ◌++◌, reverse, map, vec_len}
-use Rattle.shape_normalize.specs.OneWalk.{with_part, seen_parts}
+use Rattle.shape_normalize.specs.Part.{with_part, seen_parts}
 use Rattle.shape_normalize.proofs.ot_shape_normalize.round_one.expanded.Expanded.put_parts.Given as goal
 
 abbrev pub invariant-loop-part : goal.invariant-loop-part

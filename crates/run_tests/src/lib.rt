@@ -1,0 +1,39 @@
+//! Tests that cross the crates: texts shaped with faces, Unicode functions and shapers of the tests'
+//! own, whose answers are worked out by hand.
+#![tactic(auto)]
+#![allow(non_camel_case_types)]
+
+#[cfg(test)]
+mod calls;
+#[cfg(test)]
+mod comparing;
+#[cfg(test)]
+mod emoji;
+#[cfg(test)]
+mod ligatures;
+#[cfg(test)]
+mod limits;
+#[cfg(test)]
+mod long_runs;
+#[cfg(test)]
+mod modes;
+#[cfg(test)]
+mod no_memory;
+#[cfg(test)]
+mod normalising;
+#[cfg(test)]
+mod placing;
+#[cfg(test)]
+mod premises;
+#[cfg(test)]
+mod preparing;
+#[cfg(test)]
+mod refusals;
+#[cfg(test)]
+mod rows;
+#[cfg(test)]
+mod texts;
+#[cfg(test)]
+mod unlawful;
+#[cfg(test)]
+mod wishes;

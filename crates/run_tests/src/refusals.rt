@@ -1,0 +1,368 @@
+//! Runs that are refused for memory, planning included. With memory at hand each test passes; if one growth of
+//! its call is refused it says so, after comparisons of the buffer that is handed back, and of the glyphs that this
+//! buffer gives once it is filled again.
+
+use crate::comparing::{assert_same, assert_that};
+use crate::texts::{
+    BY_CHARACTER, Manner, PLAINLY, PlacedGlyph, assert_characters, assert_glyphs, face_of, planned,
+    prepared, text_of,
+};
+use shape_buffer::buffer::{
+    BufferFlags, Direction, GlyphId, Language, ShapeError, UnicodeBuffer, hb_buffer_t,
+};
+use shape_buffer::interfaces::{MapFace, NoLookups, hb_font_t};
+use shape_pipeline::ot_shape_normalize::normalized_equal;
+use shape_pipeline::ot_shaper::{
+    ComposedDiacriticsNoShortCircuit, DEFAULT_SHAPER, Decomposed, Preferring, hb_ot_shaper_t,
+};
+use shape_pipeline::{ShapePlan, normalised_characters, shape};
+use shape_unicode::UnicodeDatabase;
+use std::alloc::Global;
+use std::process::Abort;
+use std::test::Fail;
+use test_worlds::{EVERY_GLYPH, RowFace};
+
+/// A text, and its glyphs.
+#[derive(Clone, Copy)]
+struct Row<'a> {
+    manner: Manner,
+    text: &'a [char],
+    glyphs: &'a [PlacedGlyph],
+}
+
+/// A glyph of no width, with its cluster and flags.
+const fn bare(glyph: u32, cluster: u32, flags: u32) -> PlacedGlyph {
+    (glyph, cluster, (0, 0, 0, 0), flags)
+}
+
+/// A text with every setting, except for a context before the beginning of one.
+fn text_set(alloc: Global, row: Row<'_>) -> Result<UnicodeBuffer, Fail> {
+    let mut text = text_of(alloc, row.manner, row.text)?;
+    text.set_language(Some(Language(String::from_str(alloc, "fr")?)));
+    text.set_invisible_glyph(Some(GlyphId(3)));
+    text.set_not_found_variation_selector_glyph(Some(GlyphId(4)));
+    if row.manner.flags != BufferFlags::BEGINNING_OF_TEXT {
+        text.set_pre_context("before");
+    }
+    text.set_post_context("behind");
+    Ok(text)
+}
+
+/// Compares what is left of a text with what clearing leaves: flags, level and the two glyphs.
+fn assert_cleared(rt: &impl Abort, row: Row<'_>, text: &UnicodeBuffer) {
+    assert!(rt; text.is_empty());
+    assert_eq!(rt;
+        (text.direction(), text.script()),
+        (Direction::Invalid, None)
+    );
+    assert!(rt; text.language().is_none());
+    assert!(rt; text.pre_context().is_empty() && text.post_context().is_empty());
+    assert_eq!(rt; text.flags(), row.manner.flags);
+    assert_eq!(rt; text.cluster_level(), row.manner.level);
+    assert_eq!(rt; text.invisible_glyph(), Some(GlyphId(3)));
+    assert_eq!(rt; text.not_found_variation_selector_glyph(), Some(GlyphId(4)));
+}
+
+/// Compares the glyphs of a row. If its run is refused, compares what is left, and the glyphs of the same text in
+/// the buffer that is handed back.
+fn assert_row<F, S>(
+    rt: &impl Abort,
+    alloc: Global,
+    face: &F,
+    shaper: &S,
+    row: Row<'_>,
+) -> Result<(), Fail>
+where
+    F: hb_font_t,
+    S: hb_ot_shaper_t<UnicodeDatabase, F, NoLookups, Data = ()>,
+{
+    let text = text_set(alloc, row)?;
+    match shape::<UnicodeDatabase, F, NoLookups, S>(alloc, face, shaper, &[], text) {
+        Ok(glyphs) => {
+            assert_glyphs(rt, &glyphs, row.glyphs);
+            Ok(())
+        }
+        Err(fault) => {
+            assert_eq!(rt; fault.cause, ShapeError::Memory);
+            assert_cleared(rt, row, &fault.buffer);
+            assert_filled_again(rt, alloc, face, shaper, row, fault.buffer)?;
+            Err(Fail::from("refused"))
+        }
+    }
+}
+
+/// A text in a buffer that is left of a refused call.
+fn filled(mut left: UnicodeBuffer, text: &[char]) -> Result<UnicodeBuffer, Fail> {
+    let mut offset: u32 = 0;
+    for c in text {
+        left.add(*c, offset)?;
+        offset = offset.saturating_add(c.len_utf8() as u32);
+    }
+    Ok(left)
+}
+
+/// Compares the glyphs of the row's text in a buffer that is left of a run.
+fn assert_filled_again<F, S>(
+    rt: &impl Abort,
+    alloc: Global,
+    face: &F,
+    shaper: &S,
+    row: Row<'_>,
+    text: UnicodeBuffer,
+) -> Result<(), Fail>
+where
+    F: hb_font_t,
+    S: hb_ot_shaper_t<UnicodeDatabase, F, NoLookups, Data = ()>,
+{
+    let text = filled(text, row.text)?;
+    match shape::<UnicodeDatabase, F, NoLookups, S>(alloc, face, shaper, &[], text) {
+        Ok(glyphs) => {
+            assert_glyphs(rt, &glyphs, row.glyphs);
+            Ok(())
+        }
+        Err(_) => Err(Fail::from("refused twice")),
+    }
+}
+
+/// Compares the glyphs of a row by the default shaper, over a face of these characters.
+fn assert_default_row(
+    rt: &impl Abort,
+    alloc: Global,
+    face: &[char],
+    row: Row<'_>,
+) -> Result<(), Fail> {
+    assert_row(rt, alloc, &RowFace::of(face), &DEFAULT_SHAPER, row)
+}
+
+#[test]
+fn e_acute(rt: HostRuntime) -> Result<(), Fail> {
+    let row = Row {
+        manner: PLAINLY,
+        text: &['\u{E9}'],
+        glyphs: &[bare(0x65, 0, 0), bare(0x301, 0, 0)],
+    };
+    assert_default_row(&rt, rt.alloc(), &['e', '\u{301}'], row)
+}
+
+#[test]
+fn shortest_expansion(rt: HostRuntime) -> Result<(), Fail> {
+    let face = ['A', '\u{302}', '\u{301}', '\u{C2}'];
+    let row = Row {
+        manner: PLAINLY,
+        text: &['\u{1EA4}'],
+        glyphs: &[bare(0xC2, 0, 0), bare(0x301, 0, 0)],
+    };
+    assert_default_row(&rt, rt.alloc(), &face, row)
+}
+
+#[test]
+fn ordering_merges(rt: HostRuntime) -> Result<(), Fail> {
+    let row = Row {
+        manner: BY_CHARACTER,
+        text: &['a', '\u{301}', '\u{323}'],
+        glyphs: &[bare(0x61, 0, 0), bare(0x323, 1, 1), bare(0x301, 1, 1)],
+    };
+    let decomposed = Preferring::<Decomposed>::new();
+    assert_row(&rt, rt.alloc(), &EVERY_GLYPH, &decomposed, row)
+}
+
+/// Compares the glyphs of a text that is composed again.
+fn assert_composed(rt: &impl Abort, alloc: Global, text: &[char]) -> Result<(), Fail> {
+    let shaper = Preferring::<ComposedDiacriticsNoShortCircuit>::new();
+    let face = RowFace::of(&['e', '\u{301}', '\u{323}', '\u{1EB9}', '\u{E9}']);
+    let row = Row {
+        manner: PLAINLY,
+        text,
+        glyphs: &[bare(0x1EB9, 0, 0), bare(0x301, 0, 0)],
+    };
+    assert_row(rt, alloc, &face, &shaper, row)
+}
+
+#[test]
+fn three_spellings(rt: HostRuntime) -> Result<(), Fail> {
+    let alloc = rt.alloc();
+    assert_composed(&rt, alloc, &['\u{E9}', '\u{323}'])?;
+    assert_composed(&rt, alloc, &['e', '\u{301}', '\u{323}'])?;
+    assert_composed(&rt, alloc, &['\u{1EB9}', '\u{301}'])
+}
+
+#[test]
+fn dotted_circle(rt: HostRuntime) -> Result<(), Fail> {
+    let row = Row {
+        manner: Manner {
+            flags: BufferFlags::BEGINNING_OF_TEXT,
+            ..PLAINLY
+        },
+        text: &['\u{301}'],
+        glyphs: &[bare(0x25CC, 0, 0), bare(0x301, 0, 0)],
+    };
+    assert_default_row(&rt, rt.alloc(), &['\u{25CC}', '\u{301}'], row)
+}
+
+/// Compares the glyphs of a row by the default shaper, over a face with widths and boxes.
+fn assert_mapped_row(
+    rt: &impl Abort,
+    alloc: Global,
+    face: &MapFace,
+    row: Row<'_>,
+) -> Result<(), Fail> {
+    assert_row(rt, alloc, face, &DEFAULT_SHAPER, row)
+}
+
+#[test]
+fn mark_above_and_below(rt: HostRuntime) -> Result<(), Fail> {
+    let alloc = rt.alloc();
+    let face = face_of(
+        alloc,
+        &[
+            ('a', 1, 600, Some((0, 700, 600, -700))),
+            ('\u{301}', 2, 200, Some((50, 800, 200, -150))),
+            ('\u{323}', 4, 200, Some((50, -50, 200, -100))),
+        ],
+    )?;
+    let above = Row {
+        manner: PLAINLY,
+        text: &['a', '\u{301}'],
+        glyphs: &[(1, 0, (600, 0, 0, 0), 0), (2, 0, (0, 0, -450, 112), 0)],
+    };
+    assert_mapped_row(&rt, alloc, &face, above)?;
+    let below = Row {
+        manner: PLAINLY,
+        text: &['a', '\u{323}'],
+        glyphs: &[(1, 0, (600, 0, 0, 0), 0), (4, 0, (0, 0, -450, -12), 0)],
+    };
+    assert_mapped_row(&rt, alloc, &face, below)
+}
+
+type Comparing = Preferring<Decomposed>;
+
+type ComparingPlan<'a> = ShapePlan<'a, Comparing, (), ()>;
+
+/// Two spellings, one composed and one with its marks out of order.
+const SPELLINGS: [&[char]; 2] = [
+    &['\u{FB2C}', '\u{323}'],
+    &['\u{5E9}', '\u{5BC}', '\u{5C1}', '\u{323}'],
+];
+
+/// What both are normalised to.
+const NORMALISED: [char; 4] = ['\u{5E9}', '\u{5C1}', '\u{5BC}', '\u{323}'];
+
+/// Compares the two spellings in two buffers, and the characters that both have then.
+fn compare(
+    rt: &impl Abort,
+    alloc: Global,
+    face: &RowFace<'_>,
+    plan: &ComparingPlan<'_>,
+    a: &mut hb_buffer_t,
+    b: &mut hb_buffer_t,
+) -> Result<(), ShapeError> {
+    let same = normalized_equal::<UnicodeDatabase, RowFace<'_>, NoLookups, _>(
+        alloc, plan, face, a, b,
+    )?;
+    assert!(rt; same);
+    assert_characters(rt, a, &NORMALISED);
+    assert_characters(rt, b, &NORMALISED);
+    Ok(())
+}
+
+/// A spelling in a buffer that is left of a refused call, prepared again.
+fn again(
+    alloc: Global,
+    face: &RowFace<'_>,
+    shaper: &Comparing,
+    left: hb_buffer_t,
+    text: &[char],
+) -> Result<hb_buffer_t, Fail> {
+    let mut text = filled(left.clear(), text)?;
+    text.guess_segment_properties::<UnicodeDatabase>();
+    prepared(alloc, face, shaper, text)
+}
+
+/// Compares what a refused call leaves of a buffer.
+fn assert_left_empty(rt: &impl Abort, left: &hb_buffer_t) {
+    assert_that(rt, left.is_empty() && left.positions().is_empty());
+    assert_that(
+        rt,
+        left.direction() == Direction::Invalid && left.script().is_none(),
+    );
+}
+
+/// Compares the two spellings again in the buffers that a refused call has left.
+fn compare_again(
+    rt: &impl Abort,
+    alloc: Global,
+    face: &RowFace<'_>,
+    shaper: &Comparing,
+    plan: &ComparingPlan<'_>,
+    (a, b): (hb_buffer_t, hb_buffer_t),
+) -> Result<(), Fail> {
+    assert_left_empty(rt, &a);
+    assert_left_empty(rt, &b);
+    let mut a = again(alloc, face, shaper, a, SPELLINGS[0])?;
+    let mut b = again(alloc, face, shaper, b, SPELLINGS[1])?;
+    compare(rt, alloc, face, plan, &mut a, &mut b)?;
+    Ok(())
+}
+
+/// Both buffers are cleared if one growth of either is refused.
+#[test]
+fn comparing(rt: HostRuntime) -> Result<(), Fail> {
+    let alloc = rt.alloc();
+    let face = RowFace::of(&['\u{5E9}', '\u{5BC}', '\u{5C1}', '\u{323}']);
+    let shaper = Comparing::new();
+    let first = text_of(alloc, PLAINLY, SPELLINGS[0])?;
+    let second = text_of(alloc, PLAINLY, SPELLINGS[1])?;
+    let plan = planned(alloc, &face, &shaper, &first)?;
+    let mut a = prepared(alloc, &face, &shaper, first)?;
+    let mut b = prepared(alloc, &face, &shaper, second)?;
+    let Err(cause) = compare(&rt, alloc, &face, &plan, &mut a, &mut b) else {
+        return Ok(());
+    };
+    assert_same(&rt, cause, ShapeError::Memory);
+    compare_again(&rt, alloc, &face, &shaper, &plan, (a, b))?;
+    Err(Fail::from("refused"))
+}
+
+/// Compares the key of a text. Where it is refused, hands back what is left of the text.
+fn key_or_left(
+    rt: &impl Abort,
+    alloc: Global,
+    face: &RowFace<'_>,
+    plan: &ComparingPlan<'_>,
+    text: UnicodeBuffer,
+) -> Option<UnicodeBuffer> {
+    match normalised_characters::<UnicodeDatabase, _, NoLookups, _>(alloc, face, plan, text) {
+        Ok(key) => {
+            assert_same(rt, key.as_slice(), &NORMALISED[..]);
+            None
+        }
+        Err(fault) => {
+            assert_same(rt, fault.cause, ShapeError::Memory);
+            Some(fault.buffer)
+        }
+    }
+}
+
+/// A text's key is refused with the text's buffer, cleared, which gives the key once it is filled again.
+#[test]
+fn a_key(rt: HostRuntime) -> Result<(), Fail> {
+    let alloc = rt.alloc();
+    let face = RowFace::of(&['\u{5E9}', '\u{5BC}', '\u{5C1}', '\u{323}']);
+    let shaper = Comparing::new();
+    let row = Row {
+        manner: BY_CHARACTER,
+        text: SPELLINGS[1],
+        glyphs: &[],
+    };
+    let text = text_set(alloc, row)?;
+    let plan = planned(alloc, &face, &shaper, &text)?;
+    let Some(left) = key_or_left(&rt, alloc, &face, &plan, text) else {
+        return Ok(());
+    };
+    assert_cleared(&rt, row, &left);
+    let left = filled(left, row.text)?;
+    if key_or_left(&rt, alloc, &face, &plan, left).is_some() {
+        return Err(Fail::from("refused twice"));
+    }
+    Err(Fail::from("refused"))
+}

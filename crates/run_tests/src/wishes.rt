@@ -1,0 +1,230 @@
+//! Shapers with wishes for marks, by themselves and beside tables that position.
+
+use crate::comparing::assert_same;
+use crate::texts::{GlyphOf, Manner, PLAINLY, PlacedGlyph, assert_glyphs, face_of, text_of};
+use shape_buffer::buffer::{Direction, GlyphBuffer, UnicodeBuffer};
+use shape_buffer::interfaces::hb_tables_t;
+use shape_pipeline::ot_shape_plan::hb_ot_shape_plan_t;
+use shape_pipeline::ot_shaper::{DEFAULT_SHAPER, hb_ot_shaper_t};
+use shape_pipeline::shape_with_plan;
+use shape_unicode::UnicodeDatabase;
+use std::alloc::Global;
+use std::process::Abort;
+use std::test::Fail;
+use test_worlds::{AddingLayout, EarlyShaper, HangingShaper, LateShaper, TabledFace};
+
+const NO_TABLES: hb_tables_t = hb_tables_t {
+    gsub: false,
+    gpos: false,
+    morx: false,
+    kerx: false,
+    trak: false,
+};
+
+const GPOS: hb_tables_t = hb_tables_t {
+    gpos: true,
+    ..NO_TABLES
+};
+
+const MORX: hb_tables_t = hb_tables_t {
+    morx: true,
+    ..NO_TABLES
+};
+
+/// A letter of each direction, and an acute that advances, none with a box.
+const GLYPHS: [GlyphOf; 3] = [
+    ('a', 1, 600, None),
+    ('\u{5D0}', 4, 500, None),
+    ('\u{301}', 2, 100, None),
+];
+
+/// A mark in forward text, and one in backward text.
+const RIGHTWARD: [char; 2] = ['a', '\u{301}'];
+
+const LEFTWARD: [char; 2] = ['\u{5D0}', '\u{301}'];
+
+/// A face with these tables.
+fn tabled(alloc: Global, tables: hb_tables_t, kerning: bool) -> Result<TabledFace, Fail> {
+    Ok(TabledFace {
+        glyphs: face_of(alloc, &GLYPHS)?,
+        tables,
+        kerning,
+    })
+}
+
+/// The plan for a text.
+fn planned<'a, S>(
+    alloc: Global,
+    face: &'a TabledFace,
+    shaper: &'a S,
+    text: &UnicodeBuffer,
+) -> Result<hb_ot_shape_plan_t<'a, S, (), ()>, Fail>
+where
+    S: hb_ot_shaper_t<UnicodeDatabase, TabledFace, AddingLayout, Data = ()>,
+{
+    if text.direction() == Direction::Invalid {
+        return Err(Fail::from("no direction"));
+    }
+    let plan = hb_ot_shape_plan_t::new::<UnicodeDatabase, TabledFace, AddingLayout>(
+        alloc,
+        face,
+        shaper,
+        text.direction(),
+        text.script(),
+        None,
+        &[],
+    )?;
+    Ok(plan)
+}
+
+fn shaped<S>(
+    alloc: Global,
+    face: &TabledFace,
+    shaper: &S,
+    text: UnicodeBuffer,
+) -> Result<GlyphBuffer, Fail>
+where
+    S: hb_ot_shaper_t<UnicodeDatabase, TabledFace, AddingLayout, Data = ()>,
+{
+    let plan = planned(alloc, face, shaper, &text)?;
+    if !plan.fits::<UnicodeDatabase>(&text) {
+        return Err(Fail::from("the plan doesn't fit"));
+    }
+    match shape_with_plan::<UnicodeDatabase, TabledFace, AddingLayout, S>(
+        alloc, face, &plan, text,
+    ) {
+        Ok(glyphs) => Ok(glyphs),
+        Err(_) => Err(Fail::from("refused")),
+    }
+}
+
+/// Compares the glyphs of a text.
+fn assert_shaped<S>(
+    rt: &impl Abort,
+    alloc: Global,
+    face: &TabledFace,
+    shaper: &S,
+    text: &[char],
+    placed: &[PlacedGlyph],
+) -> Result<(), Fail>
+where
+    S: hb_ot_shaper_t<UnicodeDatabase, TabledFace, AddingLayout, Data = ()>,
+{
+    let text = text_of(alloc, PLAINLY, text)?;
+    let glyphs = shaped(alloc, face, shaper, text)?;
+    assert_glyphs(rt, &glyphs, placed);
+    Ok(())
+}
+
+#[test]
+fn marks_of_a_base_without_a_box_are_zeroed(rt: HostRuntime) -> Result<(), Fail> {
+    let alloc = rt.alloc();
+    let face = tabled(alloc, NO_TABLES, false)?;
+    let hanging = HangingShaper::new();
+    let rightward = [(1, 0, (600, 0, 0, 0), 0), (2, 0, (0, 0, -100, 0), 0)];
+    assert_shaped(&rt, alloc, &face, &hanging, &RIGHTWARD, &rightward)?;
+    let leftward = [(2, 0, (0, 0, 0, 0), 0), (4, 0, (500, 0, 0, 0), 0)];
+    assert_shaped(&rt, alloc, &face, &hanging, &LEFTWARD, &leftward)
+}
+
+#[test]
+fn zeroing_alone_adjusts_in_forward_text(rt: HostRuntime) -> Result<(), Fail> {
+    let alloc = rt.alloc();
+    let face = tabled(alloc, NO_TABLES, false)?;
+    let (early, late) = (EarlyShaper::new(), LateShaper::new());
+    let rightward = [(1, 0, (600, 0, 0, 0), 0), (2, 0, (0, 0, -100, 0), 0)];
+    assert_shaped(&rt, alloc, &face, &early, &RIGHTWARD, &rightward)?;
+    assert_shaped(&rt, alloc, &face, &late, &RIGHTWARD, &rightward)?;
+    let leftward = [(2, 0, (0, 0, 0, 0), 0), (4, 0, (500, 0, 0, 0), 0)];
+    assert_shaped(&rt, alloc, &face, &early, &LEFTWARD, &leftward)?;
+    assert_shaped(&rt, alloc, &face, &late, &LEFTWARD, &leftward)
+}
+
+/// What `GPOS` adds to a mark stays if the mark was zeroed before, and goes if it is zeroed after.
+#[test]
+fn zeroing_comes_before_or_after_tables(rt: HostRuntime) -> Result<(), Fail> {
+    let alloc = rt.alloc();
+    let face = tabled(alloc, GPOS, false)?;
+    let early = [(1, 0, (601, 0, 0, 0), 0), (2, 0, (1, 0, 0, 0), 0)];
+    assert_shaped(&rt, alloc, &face, &EarlyShaper::new(), &RIGHTWARD, &early)?;
+    let late = [(1, 0, (601, 0, 0, 0), 0), (2, 0, (0, 0, 0, 0), 0)];
+    assert_shaped(&rt, alloc, &face, &LateShaper::new(), &RIGHTWARD, &late)?;
+    assert_shaped(&rt, alloc, &face, &DEFAULT_SHAPER, &RIGHTWARD, &late)?;
+    let never = [(1, 0, (601, 0, 0, 0), 0), (2, 0, (101, 0, 0, 0), 0)];
+    assert_shaped(&rt, alloc, &face, &HangingShaper::new(), &RIGHTWARD, &never)
+}
+
+/// Compares a letter with an acute that isn't zeroed, though the plan zeroes marks: its shaper gave way.
+fn assert_kept<S>(rt: &impl Abort, alloc: Global, shaper: &S) -> Result<(), Fail>
+where
+    S: hb_ot_shaper_t<UnicodeDatabase, TabledFace, AddingLayout, Data = ()>,
+{
+    let face = tabled(alloc, MORX, false)?;
+    let text = text_of(alloc, PLAINLY, &RIGHTWARD)?;
+    let plan = planned(alloc, &face, shaper, &text)?;
+    assert!(rt; plan.zero_marks() && plan.apply_morx() && plan.shaper().is_none());
+    assert!(rt; !plan.fallback_mark_positioning() && !plan.adjust_mark_positioning_when_zeroing());
+    let placed = [(1, 0, (600, 0, 0, 0), 0), (2, 0, (100, 0, 0, 0), 0)];
+    assert_shaped(rt, alloc, &face, shaper, &RIGHTWARD, &placed)
+}
+
+#[test]
+fn shaper_that_gave_way_zeroes_nothing(rt: HostRuntime) -> Result<(), Fail> {
+    let alloc = rt.alloc();
+    assert_kept(&rt, alloc, &EarlyShaper::new())?;
+    assert_kept(&rt, alloc, &LateShaper::new())?;
+    // its wish for boxes stays: the mark is zeroed since its base has none, and isn't moved
+    let face = tabled(alloc, MORX, false)?;
+    let placed = [(1, 0, (600, 0, 0, 0), 0), (2, 0, (0, 0, 0, 0), 0)];
+    let hanging = HangingShaper::new();
+    assert_shaped(&rt, alloc, &face, &hanging, &RIGHTWARD, &placed)
+}
+
+/// Compares the advance of a letter under tables, by the default shaper.
+fn assert_advance(
+    rt: &impl Abort,
+    alloc: Global,
+    (tables, kerning): (hb_tables_t, bool),
+    advance: i32,
+) -> Result<(), Fail> {
+    let face = tabled(alloc, tables, kerning)?;
+    let placed = [(1, 0, (advance, 0, 0, 0), 0)];
+    assert_shaped(rt, alloc, &face, &DEFAULT_SHAPER, &['a'], &placed)
+}
+
+/// Whether `GPOS`, `kerx` and `kern` are applied under a plan for a letter.
+fn applied(alloc: Global, tables: hb_tables_t) -> Result<(bool, bool, bool), Fail> {
+    let face = tabled(alloc, tables, false)?;
+    let text = text_of(alloc, PLAINLY, &['a'])?;
+    let plan = planned(alloc, &face, &DEFAULT_SHAPER, &text)?;
+    Ok((plan.apply_gpos(), plan.apply_kerx(), plan.apply_kern()))
+}
+
+/// `GPOS` adds 1, `kerx` 10 and `kern` 100. A plan may have both of the first two; then the first runs.
+#[test]
+fn one_table_positions(rt: HostRuntime) -> Result<(), Fail> {
+    let alloc = rt.alloc();
+    let kerx = hb_tables_t {
+        kerx: true,
+        ..NO_TABLES
+    };
+    let kerx_and_gpos = hb_tables_t { gpos: true, ..kerx };
+    let all = hb_tables_t {
+        gsub: true,
+        ..kerx_and_gpos
+    };
+    for (tables, kerning, advance) in [
+        (all, false, 601),
+        (all, true, 601),
+        (kerx_and_gpos, false, 610),
+        (kerx, true, 610),
+        (GPOS, false, 601),
+        (GPOS, true, 701),
+        (NO_TABLES, true, 700),
+        (NO_TABLES, false, 600),
+    ] {
+        assert_advance(&rt, alloc, (tables, kerning), advance)?;
+    }
+    assert_same(&rt, applied(alloc, all)?, (true, true, false));
+    Ok(())
+}

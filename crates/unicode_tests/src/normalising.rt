@@ -1,0 +1,85 @@
+//! What normalising makes of texts over the whole database, under a face that has every glyph.
+
+use crate::every_glyph::EveryGlyph;
+use shape_buffer::buffer::{Direction, ShapeError, UnicodeBuffer, hb_buffer_t};
+use shape_buffer::interfaces::NoLookups;
+use shape_pipeline::ot_shape::{hb_ot_shape_context_t, prepare_text};
+use shape_pipeline::ot_shape_normalize::_hb_ot_shape_normalize;
+use shape_pipeline::ot_shape_plan::hb_ot_shape_plan_t;
+use shape_pipeline::ot_shaper::hb_ot_shaper_t;
+use shape_unicode::UnicodeDatabase;
+use std::alloc::Global;
+
+/// A base and a mark to stand before a text, so that a mark stands past the first character whatever the
+/// text is, and all its marks are put in order. The two compose with nothing, and the mark has the lowest
+/// ccc.
+pub const BASE_WITH_MARK: [char; 2] = ['q', '\u{334}'];
+
+/// A text after a base with a mark.
+fn text_of(alloc: Global, text: &[char]) -> Result<UnicodeBuffer, ShapeError> {
+    let mut buffer = UnicodeBuffer::new(alloc);
+    let mut place: u32 = 0;
+    for c in BASE_WITH_MARK.iter().chain(text) {
+        buffer.add(*c, place)?;
+        place = place.saturating_add(1);
+    }
+    Ok(buffer)
+}
+
+/// The plan for texts to the right, without a script.
+fn planned<S>(alloc: Global, shaper: &S) -> Result<hb_ot_shape_plan_t<'_, S, (), ()>, ShapeError>
+where
+    S: hb_ot_shaper_t<UnicodeDatabase, EveryGlyph, NoLookups, Data = ()>,
+{
+    hb_ot_shape_plan_t::new::<UnicodeDatabase, EveryGlyph, NoLookups>(
+        alloc,
+        &EveryGlyph,
+        shaper,
+        Direction::LeftToRight,
+        None,
+        None,
+        &[],
+    )
+}
+
+/// A text to the right, prepared, then normalised.
+fn normalised_buffer<S>(
+    alloc: Global,
+    shaper: &S,
+    text: UnicodeBuffer,
+) -> Result<hb_buffer_t, ShapeError>
+where
+    S: hb_ot_shaper_t<UnicodeDatabase, EveryGlyph, NoLookups, Data = ()>,
+{
+    let plan = planned(alloc, shaper)?;
+    let mut buffer = text.into_inner();
+    buffer.set_direction(Direction::LeftToRight);
+    let mut ctx = hb_ot_shape_context_t {
+        plan: &plan,
+        face: &EveryGlyph,
+        buffer: &mut buffer,
+        target_direction: Direction::LeftToRight,
+    };
+    prepare_text::<UnicodeDatabase, EveryGlyph, NoLookups, S>(alloc, &mut ctx)?;
+    _hb_ot_shape_normalize::<UnicodeDatabase, EveryGlyph, NoLookups, S>(
+        alloc,
+        &plan,
+        &mut buffer,
+        &EveryGlyph,
+    )?;
+    Ok(buffer)
+}
+
+/// The characters of a text, after a base with a mark, once it is prepared and normalised by a shaper.
+/// Refuses as these two do: memory, or a text that grows too long.
+pub fn normalised<S>(alloc: Global, shaper: &S, text: &[char]) -> Result<Vec<char>, ShapeError>
+where
+    S: hb_ot_shaper_t<UnicodeDatabase, EveryGlyph, NoLookups, Data = ()>,
+{
+    let buffer = normalised_buffer(alloc, shaper, text_of(alloc, text)?)?;
+    let mut list = Vec::new(alloc);
+    for info in buffer.infos() {
+        list.push(info.codepoint)?;
+    }
+    Ok(list)
+}

@@ -1,0 +1,144 @@
+//! Words under one spelling and another.
+use crate::shaping::{assert_same, assert_that, face_of, planned};
+use shape_buffer::buffer::Direction;
+use shape_buffer::interfaces::{MapFace, NoLookups};
+use shape_pipeline::ot_shape_plan::hb_ot_shape_plan_t;
+use shape_pipeline::ot_shaper::{Decomposed, Preferring};
+use shape_unicode::UnicodeDatabase;
+use shape_users::words::{Word, equivalent_spellings, find_plan, keep_word, spelled};
+use std::alloc::Global;
+use std::process::Abort;
+use std::test::Fail;
+
+/// A plan in the mode that decomposes fully.
+type Plan<'a> = hb_ot_shape_plan_t<'a, Preferring<Decomposed>, (), ()>;
+
+/// The place of the plan for a word.
+fn plan_for(alloc: Global, plans: &[Plan<'_>], spelling: &str) -> Result<Option<usize>, Fail> {
+    let text = spelled(alloc, spelling)?;
+    Ok(find_plan::<UnicodeDatabase, _, _, _>(plans, &text))
+}
+
+/// The place that a word is kept at.
+fn kept(
+    alloc: Global,
+    face: &MapFace,
+    plan: &Plan<'_>,
+    words: &mut Vec<Word>,
+    spelling: &str,
+) -> Result<usize, Fail> {
+    let text = spelled(alloc, spelling)?;
+    if !plan.fits::<UnicodeDatabase>(&text) {
+        return Err(Fail::from("the plan doesn't fit"));
+    }
+    let place = keep_word::<UnicodeDatabase, MapFace, NoLookups, _>(
+        alloc, face, plan, words, spelling,
+    )?;
+    Ok(place)
+}
+
+/// Compares a word's spelling and its glyphs.
+fn assert_word(rt: &impl Abort, word: &Word, spelling: &str, glyphs: &[u32]) {
+    assert_that(rt, word.spelling.as_str() == spelling);
+    assert_same(rt, word.glyphs.len(), glyphs.len());
+    for (info, glyph) in word.glyphs.glyph_infos().iter().zip(glyphs) {
+        assert_same(rt, info.glyph_id, *glyph);
+    }
+}
+
+/// The words that are kept of some spellings. Asserts that each is kept at its place, and that of a plan for Hebrew and
+/// one for Latin the second one serves it.
+fn words_of(
+    rt: &impl Abort,
+    alloc: Global,
+    face: &MapFace,
+    spellings: &[(&str, usize)],
+) -> Result<Vec<Word>, Fail> {
+    let shaper = Preferring::<Decomposed>::new();
+    let plans = [
+        planned(alloc, face, &shaper, Direction::RightToLeft, b"Hebr")?,
+        planned(alloc, face, &shaper, Direction::LeftToRight, b"Latn")?,
+    ];
+    let mut words: Vec<Word> = Vec::new(alloc);
+    for (spelling, place) in spellings {
+        assert_same(rt, plan_for(alloc, &plans, spelling)?, Some(1));
+        assert_same(
+            rt,
+            kept(alloc, face, &plans[1], &mut words, spelling)?,
+            *place,
+        );
+    }
+    Ok(words)
+}
+
+/// Compares words with their spellings and their glyphs.
+fn assert_words(rt: &impl Abort, words: &[Word], wants: &[(&str, &[u32])]) {
+    assert_same(rt, words.len(), wants.len());
+    for (word, (spelling, glyphs)) in words.iter().zip(wants) {
+        assert_word(rt, word, spelling, glyphs);
+    }
+}
+
+#[test]
+fn equivalent_spellings_are_one_word(rt: HostRuntime) -> Result<(), Fail> {
+    let alloc = rt.alloc();
+    let face = face_of(alloc, &[('q', 1), ('e', 2), ('\u{301}', 3), ('\u{E9}', 4)])?;
+    // one letter more with an accent, spelled as one character and as two, and without the accent
+    let spellings = [
+        ("q\u{301}\u{E9}", 0),
+        ("q\u{301}e\u{301}", 0),
+        ("q\u{301}e", 1),
+    ];
+    let words = words_of(&rt, alloc, &face, &spellings)?;
+    // the second call kept what the first had shaped
+    let wants: [(&str, &[u32]); 2] = [("q\u{301}\u{E9}", &[1, 3, 2, 3]), ("q\u{301}e", &[1, 3, 2])];
+    assert_words(&rt, words.as_slice(), &wants);
+    Ok(())
+}
+
+/// Whether two spellings are equivalent, if this can be told.
+fn told(
+    alloc: Global,
+    face: &MapFace,
+    plan: &Plan<'_>,
+    (first, second): (&str, &str),
+) -> Result<Option<bool>, Fail> {
+    let told = equivalent_spellings::<UnicodeDatabase, MapFace, NoLookups, _>(
+        alloc, face, plan, first, second,
+    )?;
+    Ok(told)
+}
+
+/// Compares what is told of pairs of spellings.
+fn assert_told(
+    rt: &impl Abort,
+    alloc: Global,
+    face: &MapFace,
+    cases: &[(&str, &str, Option<bool>)],
+) -> Result<(), Fail> {
+    let shaper = Preferring::<Decomposed>::new();
+    let plan = planned(alloc, face, &shaper, Direction::LeftToRight, b"Latn")?;
+    for (first, second, want) in cases {
+        assert_same(rt, told(alloc, face, &plan, (first, second))?, *want);
+    }
+    Ok(())
+}
+
+/// What the face's glyphs and the text leave open isn't answered.
+#[test]
+fn spellings_that_can_be_told(rt: HostRuntime) -> Result<(), Fail> {
+    let alloc = rt.alloc();
+    let face = face_of(
+        alloc,
+        &[('q', 1), ('e', 2), ('\u{301}', 3), ('\u{FE00}', 4)],
+    )?;
+    let cases = [
+        ("q\u{301}\u{E9}", "q\u{301}e\u{301}", Some(true)),
+        ("q\u{301}\u{E9}", "q\u{301}e", Some(false)),
+        // no mark past the first character, no glyph for x, a variation selector
+        ("qe", "q\u{301}e", None),
+        ("q\u{301}x", "q\u{301}e", None),
+        ("q\u{301}e", "q\u{301}e\u{FE00}", None),
+    ];
+    assert_told(&rt, alloc, &face, &cases)
+}
