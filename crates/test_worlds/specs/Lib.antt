@@ -12,7 +12,7 @@ pub mod WorkedPremises
 pub mod WorkedCharacters
 pub mod WorkedTexts
 pub mod Tabled
-pub mod Turning
+pub mod Changing
 pub mod Digits
 pub mod Rules
 pub mod RuleFaces

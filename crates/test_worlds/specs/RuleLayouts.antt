@@ -6,7 +6,7 @@ use Rattle.shape_items.specs.Items.{Item}
 use Rattle.shape_buffer.specs.Layout.{LayoutMeaning, MapMeaning, LookupMeaning, LawfulMasks, LawfulLookups, HasNoDefinedFlag}
 use Rattle.shape_buffer.specs.NoLookups.{no_lookups}
 use Rattle.shape_buffer.specs.Walks.{items_mapped}
-use Rattle.shape_common.specs.declared.settings.Feature.{Feature}
+use Rattle.shape_common.specs.declared.text_types.Feature.{Feature}
 use Rattle.test_worlds.specs.Rules.{with_glyph, first_made}
 use Rattle.test_worlds.specs.declared.rule_face.RuleFace.{RuleFace}
 use Rattle.test_worlds.specs.declared.rule_layout.RuleMap.{RuleMap}

@@ -5,6 +5,7 @@
 #![allow(non_camel_case_types)]
 
 mod absorbing;
+mod changing;
 mod digit_unicode;
 mod doubling;
 mod faces;
@@ -18,11 +19,11 @@ mod rules;
 mod splitting;
 mod swapping;
 mod tabled;
-mod turning;
 mod wishing;
 pub mod worked;
 
 pub use absorbing::AbsorbingShaper;
+pub use changing::ChangingShaper;
 pub use digit_unicode::DigitUnicode;
 pub use doubling::DoublingShaper;
 pub use faces::{EVERY_GLYPH, RowFace};
@@ -35,5 +36,4 @@ pub use rules::{Ligature, Multiple, Single, Stage};
 pub use splitting::{DeepShaper, StackedShaper};
 pub use swapping::SwappingShaper;
 pub use tabled::{AddingLayout, DeepFace, TabledFace};
-pub use turning::TurningShaper;
 pub use wishing::{Automatic, EarlyShaper, HangingShaper, LateShaper, WishingShaper};
