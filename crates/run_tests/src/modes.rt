@@ -14,7 +14,7 @@ use std::alloc::Global;
 use std::process::Abort;
 use std::test::Fail;
 use test_worlds::{
-    AbsorbingShaper, DeepShaper, EVERY_GLYPH, MarkedUnicode, ReversingShaper, RowFace,
+    AbsorbingShaper, DeepShaper, EVERY_GLYPH, SmallUnicode, ReversingShaper, RowFace,
 };
 
 /// A text whose items have the properties of their characters, each in the cluster of its place.
@@ -26,7 +26,7 @@ fn prepared(alloc: Global, text: &[char]) -> Result<hb_buffer_t, Fail> {
         place = place.saturating_add(1);
     }
     let mut buffer = buffer.into_inner();
-    set_unicode_props::<MarkedUnicode>(&mut buffer);
+    set_unicode_props::<SmallUnicode>(&mut buffer);
     Ok(buffer)
 }
 
@@ -46,9 +46,9 @@ fn planned<'a, F, S>(
 ) -> Result<hb_ot_shape_plan_t<'a, S, (), ()>, Fail>
 where
     F: hb_font_t,
-    S: hb_ot_shaper_t<MarkedUnicode, F, NoLookups, Data = ()>,
+    S: hb_ot_shaper_t<SmallUnicode, F, NoLookups, Data = ()>,
 {
-    let plan = hb_ot_shape_plan_t::new::<MarkedUnicode, F, NoLookups>(
+    let plan = hb_ot_shape_plan_t::new::<SmallUnicode, F, NoLookups>(
         alloc,
         face,
         shaper,
@@ -69,10 +69,10 @@ fn normalize<F, S>(
 ) -> Result<(), Fail>
 where
     F: hb_font_t,
-    S: hb_ot_shaper_t<MarkedUnicode, F, NoLookups, Data = ()>,
+    S: hb_ot_shaper_t<SmallUnicode, F, NoLookups, Data = ()>,
 {
     let plan = planned(alloc, face, shaper)?;
-    _hb_ot_shape_normalize::<MarkedUnicode, F, NoLookups, S>(alloc, &plan, buffer, face)?;
+    _hb_ot_shape_normalize::<SmallUnicode, F, NoLookups, S>(alloc, &plan, buffer, face)?;
     Ok(())
 }
 
@@ -156,7 +156,7 @@ fn masked(alloc: Global, rows: &[(char, u32, u32)]) -> Result<hb_buffer_t, Fail>
     }
     let mut buffer = hb_buffer_t::new(alloc);
     buffer.replace_infos(items)?;
-    set_unicode_props::<MarkedUnicode>(&mut buffer);
+    set_unicode_props::<SmallUnicode>(&mut buffer);
     Ok(buffer)
 }
 
@@ -291,7 +291,7 @@ fn assert_equal(
 ) -> Result<(), Fail> {
     let mut a = prepared(alloc, &['a', '\u{301}', '\u{323}'])?;
     let mut b = prepared(alloc, text)?;
-    let answer = normalized_equal::<MarkedUnicode, RowFace<'_>, NoLookups, hb_default_shaper_t>(
+    let answer = normalized_equal::<SmallUnicode, RowFace<'_>, NoLookups, hb_default_shaper_t>(
         alloc, plan, face, &mut a, &mut b,
     )?;
     assert_same(rt, answer, equal);
@@ -319,7 +319,7 @@ fn assert_too_long(
 ) -> Result<(), Fail> {
     let mut a = entered(alloc, first)?;
     let mut b = entered(alloc, second)?;
-    let answer = normalized_equal::<MarkedUnicode, RowFace<'_>, NoLookups, DeepShaper>(
+    let answer = normalized_equal::<SmallUnicode, RowFace<'_>, NoLookups, DeepShaper>(
         alloc,
         plan,
         &EVERY_GLYPH,

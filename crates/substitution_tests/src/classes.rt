@@ -10,7 +10,7 @@ use shape_substitute::glyphs::setup_glyphs;
 use std::alloc::Global;
 use std::process::Abort;
 use std::test::Fail;
-use test_worlds::{DigitUnicode, RuleFace, RuleLayout};
+use test_worlds::{SmallUnicode, RuleFace, RuleLayout};
 
 fn assert_classes(rt: &impl Abort, infos: &[hb_glyph_info_t], classes: &[u32]) {
     assert_same(rt, infos.len(), classes.len());
@@ -76,7 +76,7 @@ fn replaced_with_glyphs(alloc: Global, face: &RuleFace) -> Result<hb_buffer_t, F
     if buffer.length_limit() < buffer.len() {
         return Err(Fail::from("past the limit"));
     }
-    setup_glyphs::<TypesOf<DigitUnicode, RuleFace, RuleLayout, hb_default_shaper_t>>(
+    setup_glyphs::<TypesOf<SmallUnicode, RuleFace, RuleLayout, hb_default_shaper_t>>(
         &plan,
         face,
         &mut buffer,

@@ -7,7 +7,7 @@ use shape_pipeline::shape;
 use std::alloc::Global;
 use std::process::Abort;
 use std::test::Fail;
-use test_worlds::{DigitUnicode, Multiple, RuleFace, RuleLayout, Single, Stage};
+use test_worlds::{SmallUnicode, Multiple, RuleFace, RuleLayout, Single, Stage};
 
 /// Two of a in place of one.
 const DOUBLED: Stage = Stage::Multiple(Multiple {
@@ -47,7 +47,7 @@ fn assert_length(
 ) -> Result<(), Fail> {
     let text = many(alloc, count)?;
     let face = RuleFace::of(stages);
-    let answer = shape::<DigitUnicode, RuleFace, RuleLayout, hb_default_shaper_t>(
+    let answer = shape::<SmallUnicode, RuleFace, RuleLayout, hb_default_shaper_t>(
         alloc,
         &face,
         &DEFAULT_SHAPER,

@@ -10,7 +10,7 @@ use shape_substitute::masks::setup_masks;
 use std::alloc::Global;
 use std::process::Abort;
 use std::test::Fail;
-use test_worlds::{DigitUnicode, DoublingShaper, RuleFace, RuleLayout, Single, Stage};
+use test_worlds::{SmallUnicode, DoublingShaper, RuleFace, RuleLayout, Single, Stage};
 
 /// Sets masks in a text whose masks are 0.
 fn set_from_0(
@@ -24,7 +24,7 @@ fn set_from_0(
     if buffer.length_limit() < buffer.len() {
         return Err(Fail::from("past the limit"));
     }
-    setup_masks::<TypesOf<DigitUnicode, RuleFace, RuleLayout, hb_default_shaper_t>>(
+    setup_masks::<TypesOf<SmallUnicode, RuleFace, RuleLayout, hb_default_shaper_t>>(
         &plan,
         &face,
         &mut buffer,

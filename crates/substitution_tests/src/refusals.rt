@@ -12,7 +12,7 @@ use shape_substitute::substitution::substitute;
 use std::alloc::Global;
 use std::process::Abort;
 use std::test::Fail;
-use test_worlds::{DigitUnicode, Multiple, RuleFace, RuleLayout, Single, Stage};
+use test_worlds::{SmallUnicode, Multiple, RuleFace, RuleLayout, Single, Stage};
 
 /// Two of a in place of one.
 const DOUBLED: Stage = Stage::Multiple(Multiple {
@@ -33,12 +33,12 @@ fn stages_run(alloc: Global, face: &RuleFace) -> Result<Result<usize, ShapeError
     if buffer.length_limit() < buffer.len() {
         return Err(Fail::from("past the limit"));
     }
-    setup_glyphs::<TypesOf<DigitUnicode, RuleFace, RuleLayout, hb_default_shaper_t>>(
+    setup_glyphs::<TypesOf<SmallUnicode, RuleFace, RuleLayout, hb_default_shaper_t>>(
         &plan,
         face,
         &mut buffer,
     );
-    match substitute::<TypesOf<DigitUnicode, RuleFace, RuleLayout, hb_default_shaper_t>>(
+    match substitute::<TypesOf<SmallUnicode, RuleFace, RuleLayout, hb_default_shaper_t>>(
         alloc,
         &plan,
         face,
@@ -84,7 +84,7 @@ fn assert_run(
     glyphs: &[(u32, u32, u32)],
 ) -> Result<(), Fail> {
     let whole = text_of(alloc, FORWARD, text)?;
-    let answer = shape::<DigitUnicode, RuleFace, RuleLayout, hb_default_shaper_t>(
+    let answer = shape::<SmallUnicode, RuleFace, RuleLayout, hb_default_shaper_t>(
         alloc,
         face,
         &DEFAULT_SHAPER,
@@ -104,7 +104,7 @@ fn assert_run(
     assert_same(rt, again.len(), 0);
     assert_same(rt, again.direction(), Direction::Invalid);
     fill(&mut again, text)?;
-    match shape::<DigitUnicode, RuleFace, RuleLayout, hb_default_shaper_t>(
+    match shape::<SmallUnicode, RuleFace, RuleLayout, hb_default_shaper_t>(
         alloc,
         face,
         &DEFAULT_SHAPER,

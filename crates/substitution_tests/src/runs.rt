@@ -17,7 +17,7 @@ use std::alloc::Global;
 use std::fmt::Debug;
 use std::process::Abort;
 use std::test::Fail;
-use test_worlds::{DigitUnicode, DoublingShaper, RuleFace, RuleLayout, RuleMap};
+use test_worlds::{SmallUnicode, DoublingShaper, RuleFace, RuleLayout, RuleMap};
 
 /// What is set of a text before it is shaped.
 #[derive(Clone, Copy)]
@@ -84,12 +84,12 @@ pub fn planned<'a, S>(
     text: &UnicodeBuffer,
 ) -> Result<hb_ot_shape_plan_t<'a, S, RuleMap, ()>, Fail>
 where
-    S: hb_ot_shaper_t<DigitUnicode, RuleFace, RuleLayout, Data = ()>,
+    S: hb_ot_shaper_t<SmallUnicode, RuleFace, RuleLayout, Data = ()>,
 {
     if text.direction() == Direction::Invalid {
         return Err(Fail::from("no direction"));
     }
-    let plan = hb_ot_shape_plan_t::new::<DigitUnicode, RuleFace, RuleLayout>(
+    let plan = hb_ot_shape_plan_t::new::<SmallUnicode, RuleFace, RuleLayout>(
         alloc,
         face,
         shaper,
@@ -110,7 +110,7 @@ fn normalised<S>(
     text: UnicodeBuffer,
 ) -> Result<hb_buffer_t, Fail>
 where
-    S: hb_ot_shaper_t<DigitUnicode, RuleFace, RuleLayout, Data = ()>,
+    S: hb_ot_shaper_t<SmallUnicode, RuleFace, RuleLayout, Data = ()>,
 {
     let plan = planned(alloc, face, shaper, features, &text)?;
     let mut buffer = text.into_inner();
@@ -124,8 +124,8 @@ where
         buffer: &mut buffer,
         target_direction,
     };
-    prepare_text::<DigitUnicode, RuleFace, RuleLayout, S>(alloc, &mut ctx)?;
-    _hb_ot_shape_normalize::<DigitUnicode, RuleFace, RuleLayout, S>(
+    prepare_text::<SmallUnicode, RuleFace, RuleLayout, S>(alloc, &mut ctx)?;
+    _hb_ot_shape_normalize::<SmallUnicode, RuleFace, RuleLayout, S>(
         alloc,
         &plan,
         &mut buffer,
@@ -143,14 +143,14 @@ pub fn masked<S>(
     text: UnicodeBuffer,
 ) -> Result<hb_buffer_t, Fail>
 where
-    S: hb_ot_shaper_t<DigitUnicode, RuleFace, RuleLayout, Data = ()>,
+    S: hb_ot_shaper_t<SmallUnicode, RuleFace, RuleLayout, Data = ()>,
 {
     let plan = planned(alloc, face, shaper, features, &text)?;
     let mut buffer = normalised(alloc, face, shaper, features, text)?;
     if buffer.length_limit() < buffer.len() {
         return Err(Fail::from("past the limit"));
     }
-    setup_masks::<TypesOf<DigitUnicode, RuleFace, RuleLayout, S>>(&plan, face, &mut buffer);
+    setup_masks::<TypesOf<SmallUnicode, RuleFace, RuleLayout, S>>(&plan, face, &mut buffer);
     Ok(buffer)
 }
 
@@ -163,15 +163,15 @@ pub fn substituted<S>(
     text: UnicodeBuffer,
 ) -> Result<hb_buffer_t, Fail>
 where
-    S: hb_ot_shaper_t<DigitUnicode, RuleFace, RuleLayout, Data = ()>,
+    S: hb_ot_shaper_t<SmallUnicode, RuleFace, RuleLayout, Data = ()>,
 {
     let plan = planned(alloc, face, shaper, features, &text)?;
     let mut buffer = masked(alloc, face, shaper, features, text)?;
     if buffer.length_limit() < buffer.len() {
         return Err(Fail::from("past the limit"));
     }
-    setup_glyphs::<TypesOf<DigitUnicode, RuleFace, RuleLayout, S>>(&plan, face, &mut buffer);
-    substitute::<TypesOf<DigitUnicode, RuleFace, RuleLayout, S>>(alloc, &plan, face, &mut buffer)?;
+    setup_glyphs::<TypesOf<SmallUnicode, RuleFace, RuleLayout, S>>(&plan, face, &mut buffer);
+    substitute::<TypesOf<SmallUnicode, RuleFace, RuleLayout, S>>(alloc, &plan, face, &mut buffer)?;
     Ok(buffer)
 }
 
@@ -184,9 +184,9 @@ pub fn shaped<S>(
     text: UnicodeBuffer,
 ) -> Result<GlyphBuffer, Fail>
 where
-    S: hb_ot_shaper_t<DigitUnicode, RuleFace, RuleLayout, Data = ()>,
+    S: hb_ot_shaper_t<SmallUnicode, RuleFace, RuleLayout, Data = ()>,
 {
-    match shape::<DigitUnicode, RuleFace, RuleLayout, S>(alloc, face, shaper, features, text) {
+    match shape::<SmallUnicode, RuleFace, RuleLayout, S>(alloc, face, shaper, features, text) {
         Ok(glyphs) => Ok(glyphs),
         Err(_) => Err(Fail::from("refused")),
     }
