@@ -20,7 +20,7 @@ use Rattle.shape_font.specs.declared.face.FontFace.{FontFace}
 use Rattle.kern_table.specs.Walk.{kerned}
 use Rattle.kern_table.specs.StepLaws.{step-kerned}
 use Rattle.kern_table.specs.CountLaws.{clusters-concat}
-use Rattle.kern_table.specs.Tables.{parts_of, is_read, turned, part_kerned, kerned_from, table_kerned}
+use Rattle.kern_table.specs.Tables.{parts_of, is_read, reversed, part_kerned, kerned_from, table_kerned}
 use Rattle.kern_table.specs.Engine.{kern_lookups}
 
 -- ---- one part, in the order of the buffer
@@ -105,12 +105,12 @@ some_has-reverse flag (x ∷ xs) =
     or_comm false true = refl
     or_comm false false = refl
 
-flags-turned : IsFlagKeeper turned
-flags-turned b = record { flags = refl; stays_set = λ e. e; none_new = λ flag d some. inl (sym (some_has-reverse flag b.items) ∙ some) }
+flags-reversed : IsFlagKeeper reversed
+flags-reversed b = record { flags = refl; stays_set = λ e. e; none_new = λ flag d some. inl (sym (some_has-reverse flag b.items) ∙ some) }
 
-clusters-turned : (t : List ℕ) (start mask : ℕ) (b : Buffer) → clusters (turned (kerned t start mask (turned b))).items ≡ clusters b.items
-clusters-turned t start mask b =
-    clusters-reverse (kerned t start mask (turned b)).items ∙ ap reverse (clusters-kerned t start mask (turned b))
+clusters-reversed : (t : List ℕ) (start mask : ℕ) (b : Buffer) → clusters (reversed (kerned t start mask (reversed b))).items ≡ clusters b.items
+clusters-reversed t start mask b =
+    clusters-reverse (kerned t start mask (reversed b)).items ∙ ap reverse (clusters-kerned t start mask (reversed b))
     ∙ ap reverse (clusters-reverse b.items) ∙ reverse-reverse (clusters b.items)
 
 -- ---- a part
@@ -118,13 +118,13 @@ clusters-turned t start mask b =
 order-part_kerned : (t : List ℕ) (start mask : ℕ) (b : Buffer) → KeepsOrder b (part_kerned t start mask b)
 order-part_kerned t start mask b =
     elim (is_read t start (is_horizontal b.direction)) as (λ r.
-    KeepsOrder b (if r then (if is_backward b.direction then turned (kerned t start mask (turned b)) else kerned t start mask b) else b)) [
+    KeepsOrder b (if r then (if is_backward b.direction then reversed (kerned t start mask (reversed b)) else kerned t start mask b) else b)) [
       | true ↦ elim (is_backward b.direction) as (λ r.
-          KeepsOrder b (if r then turned (kerned t start mask (turned b)) else kerned t start mask b)) [
+          KeepsOrder b (if r then reversed (kerned t start mask (reversed b)) else kerned t start mask b)) [
             | true ↦
-                let settings = settings-kerned t start mask (turned b) in
+                let settings = settings-kerned t start mask (reversed b) in
                 record {
-                  clusters = KeepsClusters-equal _ _ (clusters-turned t start mask b);
+                  clusters = KeepsClusters-equal _ _ (clusters-reversed t start mask b);
                   direction = settings.direction;
                   flags = settings.flags;
                   level = settings.level;
@@ -144,13 +144,13 @@ order-part_kerned t start mask b =
 flags-part_kerned : (t : List ℕ) (start mask : ℕ) (b : Buffer) → KeepsFlags b (part_kerned t start mask b)
 flags-part_kerned t start mask b =
     elim (is_read t start (is_horizontal b.direction)) as (λ r.
-    KeepsFlags b (if r then (if is_backward b.direction then turned (kerned t start mask (turned b)) else kerned t start mask b) else b)) [
+    KeepsFlags b (if r then (if is_backward b.direction then reversed (kerned t start mask (reversed b)) else kerned t start mask b) else b)) [
       | true ↦ elim (is_backward b.direction) as (λ r.
-          KeepsFlags b (if r then turned (kerned t start mask (turned b)) else kerned t start mask b)) [
+          KeepsFlags b (if r then reversed (kerned t start mask (reversed b)) else kerned t start mask b)) [
             | true ↦
-                let there = kerned t start mask (turned b) in
-                KeepsFlags-then b (turned b) (turned there) (flags-turned b)
-                (KeepsFlags-then (turned b) there (turned there) (flags-kerned t start mask (turned b)) (flags-turned there))
+                let there = kerned t start mask (reversed b) in
+                KeepsFlags-then b (reversed b) (reversed there) (flags-reversed b)
+                (KeepsFlags-then (reversed b) there (reversed there) (flags-kerned t start mask (reversed b)) (flags-reversed there))
             | false ↦ flags-kerned t start mask b
           ]
       | false ↦ KeepsFlags-same b

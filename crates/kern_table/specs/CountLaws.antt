@@ -12,7 +12,7 @@ use Rattle.shape_items.proofs.Merging.KeyLemmas.{keys-map_range, length-map_rang
 use Rattle.shape_font.specs.Bytes.{u16_of}
 use Rattle.kern_table.specs.Walk.{pair_moved, kerned}
 use Rattle.kern_table.specs.StepLaws.{step-pair_moved, step-kerned}
-use Rattle.kern_table.specs.Tables.{parts_of, is_read, turned, part_kerned, kerned_from, table_kerned}
+use Rattle.kern_table.specs.Tables.{parts_of, is_read, reversed, part_kerned, kerned_from, table_kerned}
 
 -- ---- unsafe to concat
 
@@ -47,11 +47,11 @@ length_kerned = step-kerned (λ b c. length c.items ≡ length b.items) (λ b. r
 pub length-part_kerned : (t : List ℕ) (start mask : ℕ) (b : Buffer) → length (part_kerned t start mask b).items ≡ length b.items
 length-part_kerned t start mask b =
     elim (is_read t start (is_horizontal b.direction)) as (λ r.
-    length (if r then (if is_backward b.direction then turned (kerned t start mask (turned b)) else kerned t start mask b) else b).items
+    length (if r then (if is_backward b.direction then reversed (kerned t start mask (reversed b)) else kerned t start mask b) else b).items
     ≡ length b.items) [
       | true ↦ elim (is_backward b.direction) as (λ r.
-          length (if r then turned (kerned t start mask (turned b)) else kerned t start mask b).items ≡ length b.items) [
-            | true ↦ length-reverse (kerned t start mask (turned b)).items ∙ length_kerned t start mask (turned b) ∙ length-reverse b.items
+          length (if r then reversed (kerned t start mask (reversed b)) else kerned t start mask b).items ≡ length b.items) [
+            | true ↦ length-reverse (kerned t start mask (reversed b)).items ∙ length_kerned t start mask (reversed b) ∙ length-reverse b.items
             | false ↦ length_kerned t start mask b
           ]
       | false ↦ refl

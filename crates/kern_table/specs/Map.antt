@@ -3,7 +3,7 @@ use Rattle.std.specs.Prelude.{◌≡◌, ℕ, ◌%◌, ◌*◌, ◌&&◌, ◌||�
 use Rattle.std.specs.Int.RustNames.{bit_and}
 use Rattle.shape_common.specs.FlagNames.{F_GLOBAL, F_HAS_FALLBACK}
 use Rattle.shape_buffer.specs.Layout.{MapMeaning}
-use Rattle.shape_common.specs.declared.settings.hb_tag_t.{hb_tag_t}
+use Rattle.shape_common.specs.declared.text_types.hb_tag_t.{hb_tag_t}
 use Rattle.shape_buffer.specs.declared.interfaces.map_request.MapRequest.{MapRequest}
 use Rattle.shape_buffer.specs.declared.interfaces.map_request.MapRequest.TheVariants.{Feature, Pause}
 use Rattle.kern_table.specs.declared.map.KernMap.{KernMap}

@@ -3,7 +3,7 @@ use Rattle.std.proofs.Common.{◌≡◌, ℕ, ◌+◌, ◌*◌, ◌%◌, ◌<◌
 use Rattle.std.proofs.lemmas.Nat.{and_mask}
 use Rattle.std.specs.Int.RustNames.{bit_and}
 use Rattle.shape_buffer.specs.Layout.{HasNoDefinedFlag}
-use Rattle.shape_common.specs.declared.settings.hb_tag_t.{hb_tag_t}
+use Rattle.shape_common.specs.declared.text_types.hb_tag_t.{hb_tag_t}
 use Rattle.kern_table.specs.Map.{kern_masks, kern_mask, is_kern}
 use Rattle.kern_table.specs.declared.map.KernMap.{KernMap}
 

@@ -11,7 +11,7 @@ use Rattle.shape_common.specs.Direction.{is_horizontal}
 use Rattle.shape_common.specs.declared.positions.GlyphPosition.{GlyphPosition}
 use Rattle.shape_font.specs.Metrics.{half_down}
 use Rattle.kern_table.specs.Pairs.{value_of}
-use Rattle.kern_table.specs.Walk.{moved_on, moved, position_at, position_put, pair_moved, pair_kerned, item_at, is_passed_by, kerned_with, kerned_at, kerned_to, kerned}
+use Rattle.kern_table.specs.Walk.{moved_on, moved, position_at, position_put, pair_moved, pair_kerned, item_at, is_skipped_by, kerned_with, kerned_at, kerned_to, kerned}
 
 module _ (P : Buffer → Buffer → Type 0) (same : (b : Buffer) → P b b) (after : (a b c : Buffer) → P a b → P b c → P a c)
     (by_break : (start end : ℕ) (b : Buffer) → P b (unsafe_to_break start end b))
@@ -42,7 +42,7 @@ module _ (P : Buffer → Buffer → Type 0) (same : (b : Buffer) → P b b) (aft
       let item = item_at b.items j in
       let off = nat_eq (bit_and item.mask mask) 0 in
       let kerning = kerned_with t start j left b in
-      step-if (is_passed_by left item) b b (if off then b else kerning) (same b)
+      step-if (is_skipped_by left item) b b (if off then b else kerning) (same b)
       (step-if off b b kerning (same b) (step-with t start j left b))
 
   step-to : (t : List ℕ) (start mask j : ℕ) (b : Buffer) → P b (kerned_to t start mask j b).buffer

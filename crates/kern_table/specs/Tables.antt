@@ -15,13 +15,13 @@ abbrev pub is_read : List ℕ → ℕ → Bool → Bool
 is_read t start horizontal = let coverage = slice_index t (start + 5) in
     nat_eq (slice_index t (start + 4)) 0 && nat_eq (coverage % 2) (if horizontal then 1 else 0) && nat_eq (coverage / 4 % 2) 0
 
-abbrev pub turned : Buffer → Buffer
-turned b = record b { items = reverse b.items; positions = reverse b.positions }
+abbrev pub reversed : Buffer → Buffer
+reversed b = record b { items = reverse b.items; positions = reverse b.positions }
 
 -- a part kerns from the left of the line to its right
 abbrev pub part_kerned : List ℕ → ℕ → ℕ → Buffer → Buffer
 part_kerned t start mask b = if is_read t start (is_horizontal b.direction)
-    then (if is_backward b.direction then turned (kerned t start mask (turned b)) else kerned t start mask b)
+    then (if is_backward b.direction then reversed (kerned t start mask (reversed b)) else kerned t start mask b)
     else b
 
 -- so many parts from a place on; a part that says that it is shorter than its header ends the table

@@ -15,8 +15,8 @@ use Rattle.shape_font.specs.Metrics.{half_down}
 use Rattle.kern_table.specs.Pairs.{value_of}
 
 -- a glyph between two others that doesn't part them: a mark, or one of a default ignorable
-abbrev pub is_passed : Item → Bool
-is_passed item = (bit_and item.properties.glyph_class.0 MARK == MARK) || is_ignorable_item item
+abbrev pub is_skipped : Item → Bool
+is_skipped item = (bit_and item.properties.glyph_class.0 MARK == MARK) || is_ignorable_item item
 
 abbrev pub moved_on : Bool → ℤ → GlyphPosition → GlyphPosition
 moved_on true by p = record p { x_advance = p.x_advance +ʷ by }
@@ -48,13 +48,13 @@ abbrev pub pair_kerned : List ℕ → ℕ → ℕ → ℕ → Buffer → Buffer
 pair_kerned t start i j b = pair_moved i j (value_of t start (item_at b.items i).glyph_id (item_at b.items j).glyph_id) b
 
 -- a glyph is skipped if one waits at its left
-abbrev pub is_passed_by : Option ℕ → Item → Bool
-is_passed_by left item = is_some left && is_passed item
+abbrev pub is_skipped_by : Option ℕ → Item → Bool
+is_skipped_by left item = is_some left && is_skipped item
 
 -- which glyph waits after glyph `j`, where `left` waited before it: the same if `j` is skipped, none if kerning is off for it
 abbrev pub left_after : ℕ → ℕ → Option ℕ → List Item → Option ℕ
 left_after mask j left items =
-    if is_passed_by left (item_at items j) then left
+    if is_skipped_by left (item_at items j) then left
     else (if nat_eq (bit_and (item_at items j).mask mask) 0 then None else Some j)
 
 -- glyph `j` with the one that waits
@@ -64,7 +64,7 @@ kerned_with t start j (Some i) b = pair_kerned t start i j b
 
 abbrev pub kerned_at : List ℕ → ℕ → ℕ → ℕ → Option ℕ → Buffer → Buffer
 kerned_at t start mask j left b =
-    if is_passed_by left (item_at b.items j) then b
+    if is_skipped_by left (item_at b.items j) then b
     else (if nat_eq (bit_and (item_at b.items j).mask mask) 0 then b else kerned_with t start j left b)
 
 -- a buffer, and the glyph that waits

@@ -3,7 +3,7 @@ use Rattle.std.specs.Prelude.{◌≡◌, pos, negsuc, [], ◌∷◌, true, false
 use Rattle.std.specs.Int.{int_wrap}
 use Rattle.shape_buffer.specs.MapBuilder.{Builder}
 use Rattle.shape_common.specs.Wrapping.{◌+ʷ◌, ◌-ʷ◌}
-use Rattle.shape_common.specs.declared.settings.Direction.TheVariants.{LeftToRight}
+use Rattle.shape_common.specs.declared.text_types.Direction.TheVariants.{LeftToRight}
 use Rattle.shape_font.specs.Bytes.{i16_of}
 use Rattle.shape_font.specs.declared.face.FontFace.{FontFace}
 use Rattle.kern_table.specs.Engine.{kern_layout, kern_lookups}

@@ -5,9 +5,9 @@ use Rattle.shape_items.specs.Items.{Item, new_item, new_properties}
 use Rattle.shape_common.specs.Positions.{zero_position}
 use Rattle.shape_common.specs.Wrapping.{◌+ʷ◌, ◌-ʷ◌}
 use Rattle.shape_common.specs.declared.positions.GlyphPosition.{GlyphPosition}
-use Rattle.shape_common.specs.declared.settings.Direction.{Direction}
-use Rattle.shape_common.specs.declared.settings.Direction.TheVariants.{LeftToRight, RightToLeft, TopToBottom, BottomToTop}
-use Rattle.shape_common.specs.declared.settings.hb_tag_t.{hb_tag_t}
+use Rattle.shape_common.specs.declared.text_types.Direction.{Direction}
+use Rattle.shape_common.specs.declared.text_types.Direction.TheVariants.{LeftToRight, RightToLeft, TopToBottom, BottomToTop}
+use Rattle.shape_common.specs.declared.text_types.hb_tag_t.{hb_tag_t}
 use Rattle.shape_buffer.specs.declared.interfaces.map_request.MapRequest.{MapRequest}
 use Rattle.shape_buffer.specs.declared.interfaces.map_request.MapRequest.TheVariants.{Feature, Pause}
 use Rattle.std.specs.Int.{int_wrap}
@@ -173,7 +173,7 @@ range value = Feature KERN 0 value
 
 pub record WorkedMaps : Type 0 where
   pub everywhere : map_of (whole 1 ∷ []) ≡ record { is_on = true; everywhere = 1 }
-  pub turned_off : map_of (whole 1 ∷ whole 0 ∷ []) ≡ record { is_on = false; everywhere = 0 }
+  pub switched_off : map_of (whole 1 ∷ whole 0 ∷ []) ≡ record { is_on = false; everywhere = 0 }
   pub off_in_a_range : map_of (whole 1 ∷ range 0 ∷ []) ≡ record { is_on = true; everywhere = 1 }
   pub on_in_a_range : map_of (whole 0 ∷ range 1 ∷ []) ≡ record { is_on = true; everywhere = 0 }
   pub nothing_stands_in : map_of (range 1 ∷ []) ≡ record { is_on = false; everywhere = 0 }
@@ -188,7 +188,7 @@ pub record WorkedMaps : Type 0 where
 pub worked_maps : WorkedMaps
 worked_maps = record {
   everywhere = refl;
-  turned_off = refl;
+  switched_off = refl;
   off_in_a_range = refl;
   on_in_a_range = refl;
   nothing_stands_in = refl;

@@ -3,7 +3,7 @@ ghost use Rattle.std.specs.Prelude.{◌≡◌, ◌+◌, ◌<◌, ◌^◌, ◌≤
 ghost use Rattle.std.specs.Option.{IfSome};
 ghost use Rattle.std.specs.Int.RustNames.{bit_and};
 ghost use Rattle.shape_items.specs.Buffer.{limit_of};
-ghost use Rattle.kern_table.specs.Walk.{is_passed as is_passed_of, moved_on as moved_on_of, moved as moved_of, position_at, position_put, pair_moved, pair_kerned, kerned_at, left_after, kerned as kerned_of};
+ghost use Rattle.kern_table.specs.Walk.{is_skipped as is_skipped_of, moved_on as moved_on_of, moved as moved_of, position_at, position_put, pair_moved, pair_kerned, kerned_at, left_after, kerned as kerned_of};
 
 use crate::pairs::value;
 use bitflags::Flags;
@@ -14,8 +14,8 @@ use shape_buffer::wrapping::{difference, sum};
 use shape_font::metrics::half_below;
 
 /// Whether a glyph between two others doesn't part them: a mark, or one of a default ignorable.
-fn is_passed(item: &hb_glyph_info_t) -> bool
-    ensures { result ≡ is_passed_of item.now }
+fn is_skipped(item: &hb_glyph_info_t) -> bool
+    ensures { result ≡ is_skipped_of item.now }
 {
     item._hb_glyph_info_get_glyph_class()
         .contains(GlyphPropsFlags::MARK)
@@ -133,7 +133,7 @@ fn kern_at(
     ensures limit { limit_of buffer.new ≡ limit_of buffer.old }
 {
     let item = buffer.infos()[j];
-    if left.is_some() && is_passed(&item) {
+    if left.is_some() && is_skipped(&item) {
         return left;
     }
     if item.mask & mask == 0 {

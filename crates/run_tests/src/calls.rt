@@ -201,7 +201,7 @@ fn two_in_place(alloc: Global, plan: &Plan<'_>, face: &RowFace<'_>) -> Result<hb
 }
 
 /// Compares glyphs and their clusters.
-fn assert_turned(rt: &impl Abort, buffer: &hb_buffer_t, wanted: &[(u32, u32)]) {
+fn assert_list_reversed(rt: &impl Abort, buffer: &hb_buffer_t, wanted: &[(u32, u32)]) {
     assert_same(rt, buffer.len(), wanted.len());
     for (info, (glyph, cluster)) in buffer.infos().iter().zip(wanted) {
         assert_same(rt, info.glyph_id, *glyph);
@@ -218,6 +218,6 @@ fn a_buffer_is_shaped_in_place(rt: HostRuntime) -> Result<(), Fail> {
     let buffer = two_in_place(alloc, &plan, &face)?;
     assert_same(&rt, buffer.direction(), Direction::RightToLeft);
     assert_same(&rt, buffer.length_limit(), usize::MAX);
-    assert_turned(&rt, &buffer, &[(0x62, 1), (0x61, 0)]);
+    assert_list_reversed(&rt, &buffer, &[(0x62, 1), (0x61, 0)]);
     Ok(())
 }

@@ -130,7 +130,7 @@ fn tags_and_keycaps(rt: HostRuntime) -> Result<(), Fail> {
 
 /// A sequence stays as it is if its text is reversed.
 #[test]
-fn emoji_in_a_turned_text(rt: HostRuntime) -> Result<(), Fail> {
+fn emoji_in_a_reversed_text(rt: HostRuntime) -> Result<(), Fail> {
     let alloc = rt.alloc();
     let manner = Manner {
         direction: Direction::RightToLeft,

@@ -261,7 +261,7 @@ fn steps_are_made(rt: HostRuntime) -> Result<(), Fail> {
     assert_no_requests(&rt, alloc, &face);
     assert_premises(&rt, &plain, &full, &face, &mut spelled);
     steps::form_graphemes(&plain, &mut text);
-    steps::turn(&plain, &face, &mut text);
+    steps::reverse(&plain, &face, &mut text);
     set_items(&mut text);
     divide(&rt, &dividing, &mut text);
     steps::make_glyphs(&plain, &face, &mut text)?;

@@ -144,7 +144,7 @@ fn mirrored(rt: HostRuntime) -> Result<(), Fail> {
 }
 
 #[test]
-fn a_text_against_its_script_is_turned(rt: HostRuntime) -> Result<(), Fail> {
+fn a_text_against_its_script_is_reversed(rt: HostRuntime) -> Result<(), Fail> {
     let manner = towards(Direction::LeftToRight);
     let items = [('1', 2), ('\u{5D0}', 0)];
     assert_prepared(&rt, rt.alloc(), &[], manner, &['\u{5D0}', '1'], &items)
@@ -159,7 +159,7 @@ fn digits_in_hebrew(alloc: Global) -> Result<hb_buffer_t, Fail> {
 
 /// Digits without a letter run from left to right in a script that is written right to left.
 #[test]
-fn digits_of_a_text_are_not_turned(rt: HostRuntime) -> Result<(), Fail> {
+fn digits_of_a_text_are_not_reversed(rt: HostRuntime) -> Result<(), Fail> {
     let list = digits_in_hebrew(rt.alloc())?;
     assert_items(&rt, &list, &[('1', 0), ('2', 1)]);
     assert_same(&rt, list.direction(), Direction::LeftToRight);

@@ -9,7 +9,7 @@ use shape_unicode::UnicodeDatabase;
 use std::alloc::Global;
 use std::process::Abort;
 use std::test::Fail;
-use test_worlds::{AbsorbingShaper, EVERY_GLYPH, RowFace, TurningShaper};
+use test_worlds::{AbsorbingShaper, ChangingShaper, EVERY_GLYPH, RowFace};
 
 /// A glyph of no width and without flags, with its cluster.
 const fn bare(glyph: u32, cluster: u32) -> PlacedGlyph {
@@ -63,5 +63,5 @@ fn characters_change_without_their_properties(rt: HostRuntime) -> Result<(), Fai
     let alloc = rt.alloc();
     let text = text_of(alloc, PLAINLY, &['b', 'a', '\u{323}'])?;
     let placed = [bare(0x62, 0), bare(0x301, 1), bare(0x323, 1)];
-    assert_shaped(&rt, alloc, &EVERY_GLYPH, &TurningShaper, text, &placed)
+    assert_shaped(&rt, alloc, &EVERY_GLYPH, &ChangingShaper, text, &placed)
 }

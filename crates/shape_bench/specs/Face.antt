@@ -1,7 +1,7 @@
 -- What the tables of a face answer.
 use Rattle.std.specs.Prelude.{ℕ, ℤ, pos, false, List, Option, Some, None, ◌==◌, ◌&&◌, length, nat_lt, slice_get, slice_index, unwrap_or, if◌then◌else◌}
 use Rattle.shape_common.specs.Face.{FaceMeaning}
-use Rattle.shape_common.specs.declared.settings.GlyphId.{GlyphId}
+use Rattle.shape_common.specs.declared.text_types.GlyphId.{GlyphId}
 use Rattle.shape_common.specs.declared.face.hb_glyph_extents_t.{hb_glyph_extents_t}
 
 -- 0 stands for no glyph

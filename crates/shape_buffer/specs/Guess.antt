@@ -4,9 +4,9 @@ pub use Rattle.shape_common.specs.ScriptTags.{is_specific}
 use Rattle.shape_items.specs.Items.{Item}
 use Rattle.shape_items.specs.Buffer.{Buffer}
 use Rattle.shape_common.specs.Unicode.{UnicodeMeaning}
-use Rattle.shape_common.specs.declared.settings.Script.{Script}
-use Rattle.shape_common.specs.declared.settings.Direction.{Direction}
-use Rattle.shape_common.specs.declared.settings.Direction.TheVariants.{Invalid, LeftToRight}
+use Rattle.shape_common.specs.declared.text_types.Script.{Script}
+use Rattle.shape_common.specs.declared.text_types.Direction.{Direction}
+use Rattle.shape_common.specs.declared.text_types.Direction.TheVariants.{Invalid, LeftToRight}
 
 -- the first specific script of the characters
 abbrev pub first_script : UnicodeMeaning → List Item → Option Script

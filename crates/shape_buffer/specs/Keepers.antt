@@ -6,7 +6,7 @@ use Rattle.shape_items.specs.Clusters.{clusters}
 use Rattle.shape_items.specs.KeepsFlags.{KeepsFlags}
 use Rattle.shape_buffer.specs.Layout.{LookupMeaning}
 use Rattle.shape_buffer.specs.Outcome.{Step}
-use Rattle.shape_common.specs.declared.settings.Feature.{Feature}
+use Rattle.shape_common.specs.declared.text_types.Feature.{Feature}
 
 -- the clusters keep their order and none is new, and direction, flags and level stay
 pub record KeepsOrder (before after : Buffer) : Type 0 where

@@ -1,7 +1,7 @@
 -- The requests of a plan.
 use Rattle.std.specs.Prelude.{ℕ, Bool, true, List, [], ◌∷◌, ◌++◌, Option}
 use Rattle.std.specs.Int.RustNames.{bit_or}
-use Rattle.shape_common.specs.declared.settings.hb_tag_t.{hb_tag_t}
+use Rattle.shape_common.specs.declared.text_types.hb_tag_t.{hb_tag_t}
 use Rattle.shape_buffer.specs.declared.interfaces.map_request.MapRequest.{MapRequest}
 use Rattle.shape_buffer.specs.declared.interfaces.map_request.MapRequest.TheVariants.{Feature, Pause}
 use Rattle.shape_buffer.specs.declared.interfaces.map_request.TableIndex.{TableIndex}

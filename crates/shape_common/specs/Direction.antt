@@ -1,7 +1,7 @@
 -- Directions of text.
 use Rattle.std.specs.Prelude.{Bool, true, false}
-use Rattle.shape_common.specs.declared.settings.Direction.{Direction}
-use Rattle.shape_common.specs.declared.settings.Direction.TheVariants.{Invalid, LeftToRight, RightToLeft, TopToBottom, BottomToTop}
+use Rattle.shape_common.specs.declared.text_types.Direction.{Direction}
+use Rattle.shape_common.specs.declared.text_types.Direction.TheVariants.{Invalid, LeftToRight, RightToLeft, TopToBottom, BottomToTop}
 
 -- lines of text run to the right or to the left
 abbrev pub is_horizontal : Direction → Bool

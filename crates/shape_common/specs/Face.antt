@@ -1,6 +1,6 @@
 -- What a face answers.
 use Rattle.std.specs.Prelude.{ℕ, ℤ, Option}
-use Rattle.shape_common.specs.declared.settings.GlyphId.{GlyphId}
+use Rattle.shape_common.specs.declared.text_types.GlyphId.{GlyphId}
 use Rattle.shape_common.specs.declared.face.hb_glyph_extents_t.{hb_glyph_extents_t}
 use Rattle.shape_common.specs.declared.face.hb_tables_t.{hb_tables_t}
 

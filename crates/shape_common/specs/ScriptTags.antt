@@ -1,7 +1,7 @@
 -- Scripts by their tags of ISO 15924.
 use Rattle.std.specs.Prelude.{ℕ, ◌==◌, ◌||◌, Bool, not, Option, Some, None, if◌then◌else◌}
 use Rattle.std.specs.Int.RustNames.{bit_and, bit_or}
-use Rattle.shape_common.specs.declared.settings.Script.{Script}
+use Rattle.shape_common.specs.declared.text_types.Script.{Script}
 
 -- the tag with one capital letter and three small ones, as the standard writes them
 abbrev pub in_standard_case : ℕ → ℕ

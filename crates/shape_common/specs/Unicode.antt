@@ -5,8 +5,8 @@ use Rattle.canonical_form.specs.SplitsFall.{SplitsFall}
 use Rattle.canonical_form.specs.Equivalent.{ComposesSoundly}
 use Rattle.shape_common.specs.Category.{is_mark_category, is_space_category}
 use Rattle.shape_common.specs.declared.general_category.hb_unicode_general_category_t.{hb_unicode_general_category_t}
-use Rattle.shape_common.specs.declared.settings.Direction.{Direction}
-use Rattle.shape_common.specs.declared.settings.Script.{Script}
+use Rattle.shape_common.specs.declared.text_types.Direction.{Direction}
+use Rattle.shape_common.specs.declared.text_types.Script.{Script}
 
 -- what the functions answer for each character, and a height that falls along splits
 pub record UnicodeMeaning : Type 0 where

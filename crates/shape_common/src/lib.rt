@@ -15,8 +15,8 @@ pub mod modified_combining_class;
 mod plain_unicode;
 mod positions;
 mod scripts;
-mod settings;
 pub mod space_types;
+mod text_types;
 mod unicode_funcs;
 pub mod wrapping;
 
@@ -26,5 +26,5 @@ pub use general_category::hb_unicode_general_category_t;
 pub use map_face::{MapFace, Metrics};
 pub use plain_unicode::PlainUnicode;
 pub use positions::GlyphPosition;
-pub use settings::{BufferClusterLevel, Direction, Feature, GlyphId, Language, Script, hb_tag_t};
+pub use text_types::{BufferClusterLevel, Direction, Feature, GlyphId, Language, Script, hb_tag_t};
 pub use unicode_funcs::hb_unicode_funcs_t;

@@ -10,20 +10,20 @@ use Rattle.shape_items.specs.Items.{Item, is_mark_item, new_item}
 use Rattle.shape_items.specs.Buffer.{Buffer}
 use Rattle.shape_common.specs.Face.{FaceMeaning}
 use Rattle.shape_items.proofs.Merging.KeyLemmas.{keys-unsafe_to_break, without_items-unsafe_to_break}
-use Rattle.shape_fallback.specs.declared.ot_shape_fallback.marks.Setting.{Setting}
+use Rattle.shape_fallback.specs.declared.ot_shape_fallback.marks.MarkFrame.{MarkFrame}
 use Rattle.shape_fallback.specs.Bases.{begins_with_mark, Span, marks_of, marks_from, position_span, base_at, bases, with_marks, positioned_at}
 
 -- placing the marks of a span leaves which items are marks
-marks_of-span : (face : FaceMeaning) (s : Setting) (b : Buffer) (span : Span) → marks_of (position_span face s b span) ≡ marks_of b
+marks_of-span : (face : FaceMeaning) (s : MarkFrame) (b : Buffer) (span : Span) → marks_of (position_span face s b span) ≡ marks_of b
 unfolding position_span
 marks_of-span face s b span = keys-unsafe_to_break is_mark_item (λ x. refl) span.start span.end b
 
-with_marks_keeps : (face : FaceMeaning) (s : Setting) (i : ℕ) (b : Buffer) (n : ℕ)
+with_marks_keeps : (face : FaceMeaning) (s : MarkFrame) (i : ℕ) (b : Buffer) (n : ℕ)
     → marks_of (fold (position_span face s) b (with_marks i n)) ≡ marks_of b
 with_marks_keeps face s i b zero = refl
 with_marks_keeps face s i b (suc n) = marks_of-span face s b (record { start = i; end = i + 1 + suc n })
 
-base_at_keeps : (face : FaceMeaning) (s : Setting) (i : ℕ) (b : Buffer) (ms : List Bool)
+base_at_keeps : (face : FaceMeaning) (s : MarkFrame) (i : ℕ) (b : Buffer) (ms : List Bool)
     → marks_of (fold (position_span face s) b (base_at i ms)) ≡ marks_of b
 unfolding base_at
 base_at_keeps face s i b [] = refl
@@ -31,18 +31,18 @@ base_at_keeps face s i b (true ∷ ms) = refl
 base_at_keeps face s i b (false ∷ ms) = with_marks_keeps face s i b (prefix_len (λ mark. mark) ms)
 
 -- placing the marks of a base leaves which items are marks
-pub marks_of-positioned_at : (face : FaceMeaning) (s : Setting) (i : ℕ) (b : Buffer) → marks_of (positioned_at face s i b) ≡ marks_of b
+pub marks_of-positioned_at : (face : FaceMeaning) (s : MarkFrame) (i : ℕ) (b : Buffer) → marks_of (positioned_at face s i b) ≡ marks_of b
 unfolding positioned_at
 marks_of-positioned_at face s i b = base_at_keeps face s i b (drop i (marks_of b))
 
 -- placing the marks of a span leaves the limit
-limit-with_marks : (face : FaceMeaning) (s : Setting) (i : ℕ) (b : Buffer) (n : ℕ)
+limit-with_marks : (face : FaceMeaning) (s : MarkFrame) (i : ℕ) (b : Buffer) (n : ℕ)
     → (fold (position_span face s) b (with_marks i n)).length_limit ≡ b.length_limit
 unfolding position_span
 limit-with_marks face s i b zero = refl
 limit-with_marks face s i b (suc n) = ap (λ (c : Buffer). c.length_limit) (without_items-unsafe_to_break i (i + 1 + suc n) b)
 
-limit-base_at : (face : FaceMeaning) (s : Setting) (i : ℕ) (b : Buffer) (ms : List Bool)
+limit-base_at : (face : FaceMeaning) (s : MarkFrame) (i : ℕ) (b : Buffer) (ms : List Bool)
     → (fold (position_span face s) b (base_at i ms)).length_limit ≡ b.length_limit
 unfolding base_at
 limit-base_at face s i b [] = refl
@@ -50,7 +50,7 @@ limit-base_at face s i b (true ∷ ms) = refl
 limit-base_at face s i b (false ∷ ms) = limit-with_marks face s i b (prefix_len (λ mark. mark) ms)
 
 -- and so does placing the marks of a base
-pub limit-positioned_at : (face : FaceMeaning) (s : Setting) (i : ℕ) (b : Buffer) → (positioned_at face s i b).length_limit ≡ b.length_limit
+pub limit-positioned_at : (face : FaceMeaning) (s : MarkFrame) (i : ℕ) (b : Buffer) → (positioned_at face s i b).length_limit ≡ b.length_limit
 unfolding positioned_at
 limit-positioned_at face s i b = limit-base_at face s i b (drop i (marks_of b))
 
@@ -61,7 +61,7 @@ bases_split i ms within =
     let next : suc i ≡ i + 1 = omega arith in
     rw (drop-cons ms i true within, ← next) refl
 
-pub bases_step : (face : FaceMeaning) (s : Setting) (i : ℕ) (b : Buffer) → i < length b.items
+pub bases_step : (face : FaceMeaning) (s : MarkFrame) (i : ℕ) (b : Buffer) → i < length b.items
     → fold (position_span face s) b (bases i (drop i (marks_of b)))
     ≡ fold (position_span face s) (positioned_at face s i b) (bases (i + 1) (drop (i + 1) (marks_of (positioned_at face s i b))))
 unfolding positioned_at
@@ -73,14 +73,14 @@ bases_step face s i b within =
     ∙ ap (λ (ms : List Bool). fold (position_span face s) (positioned_at face s i b) (bases (i + 1) (drop (i + 1) ms))) (sym same)
 
 -- as many items as before
-pub length-positioned_at : (face : FaceMeaning) (s : Setting) (i : ℕ) (b : Buffer)
+pub length-positioned_at : (face : FaceMeaning) (s : MarkFrame) (i : ℕ) (b : Buffer)
     → length (positioned_at face s i b).items ≡ length b.items
 length-positioned_at face s i b =
     sym (length-map (positioned_at face s i b).items is_mark_item) ∙ ap length (marks_of-positioned_at face s i b)
     ∙ length-map b.items is_mark_item
 
 -- every place visited
-pub bases_end : (face : FaceMeaning) (s : Setting) (i : ℕ) (b : Buffer) → length b.items ≤ i
+pub bases_end : (face : FaceMeaning) (s : MarkFrame) (i : ℕ) (b : Buffer) → length b.items ≤ i
     → fold (position_span face s) b (bases i (drop i (marks_of b))) ≡ b
 unfolding bases
 bases_end face s i b over =
@@ -101,30 +101,30 @@ prefix_of_marks [] = refl
 prefix_of_marks (x ∷ xs) = ap (λ (n : ℕ). cond (is_mark_item x) (1 + n) 0) (prefix_of_marks xs)
 
 -- a mark is no base
-pub at_mark : (face : FaceMeaning) (s : Setting) (i : ℕ) (b : Buffer) (x : Item) → i < length b.items → x ≡ get_or b.items i x
+pub at_mark : (face : FaceMeaning) (s : MarkFrame) (i : ℕ) (b : Buffer) (x : Item) → i < length b.items → x ≡ get_or b.items i x
     → is_mark_item x ≡ true → positioned_at face s i b ≡ b
 unfolding positioned_at base_at
 at_mark face s i b x within is mark = rw (marks_at i b x within is, mark) refl
 
 -- another item with n marks after it
-at_other : (face : FaceMeaning) (s : Setting) (i n : ℕ) (b : Buffer) (x : Item) → i < length b.items → x ≡ get_or b.items i x
+at_other : (face : FaceMeaning) (s : MarkFrame) (i n : ℕ) (b : Buffer) (x : Item) → i < length b.items → x ≡ get_or b.items i x
     → is_mark_item x ≡ false → n ≡ prefix_len is_mark_item (drop (i + 1) b.items)
     → positioned_at face s i b ≡ fold (position_span face s) b (with_marks i n)
 unfolding positioned_at base_at
 at_other face s i n b x within is mark count =
     rw (marks_at i b x within is, mark, prefix_of_marks (drop (i + 1) b.items), ← count) refl
 
-pub at_bare : (face : FaceMeaning) (s : Setting) (i n : ℕ) (b : Buffer) (x : Item) → i < length b.items → x ≡ get_or b.items i x
+pub at_bare : (face : FaceMeaning) (s : MarkFrame) (i n : ℕ) (b : Buffer) (x : Item) → i < length b.items → x ≡ get_or b.items i x
     → is_mark_item x ≡ false → n ≡ prefix_len is_mark_item (drop (i + 1) b.items) → n ≡ 0 → positioned_at face s i b ≡ b
 at_bare face s i n b x within is mark count none =
     at_other face s i n b x within is mark count ∙ ap (λ (k : ℕ). fold (position_span face s) b (with_marks i k)) none
 
-with_some : (face : FaceMeaning) (s : Setting) (i n : ℕ) (b : Buffer) → 0 < n
+with_some : (face : FaceMeaning) (s : MarkFrame) (i n : ℕ) (b : Buffer) → 0 < n
     → fold (position_span face s) b (with_marks i n) ≡ position_span face s b (record { start = i; end = i + 1 + n })
 with_some face s i zero b some = absurd (omega arith)
 with_some face s i (suc n) b some = refl
 
-pub at_base : (face : FaceMeaning) (s : Setting) (i n : ℕ) (b : Buffer) (x : Item) → i < length b.items → x ≡ get_or b.items i x
+pub at_base : (face : FaceMeaning) (s : MarkFrame) (i n : ℕ) (b : Buffer) (x : Item) → i < length b.items → x ≡ get_or b.items i x
     → is_mark_item x ≡ false → n ≡ prefix_len is_mark_item (drop (i + 1) b.items) → 0 < n
     → positioned_at face s i b ≡ position_span face s b (record { start = i; end = i + 1 + n })
 at_base face s i n b x within is mark count some = at_other face s i n b x within is mark count ∙ with_some face s i n b some
@@ -139,12 +139,12 @@ some_by_first [] first = absurd (let e : false ≡ true = first in cc)
 some_by_first (x ∷ xs) first = rw first (omega arith)
 
 -- an item without a mark after it, whatever it is
-unfollowed : (face : FaceMeaning) (s : Setting) (i : ℕ) (b : Buffer) (x : Item) → i < length b.items → x ≡ get_or b.items i x
+unfollowed : (face : FaceMeaning) (s : MarkFrame) (i : ℕ) (b : Buffer) (x : Item) → i < length b.items → x ≡ get_or b.items i x
     → 0 ≡ prefix_len is_mark_item (drop (i + 1) b.items) → (mark : Bool) → is_mark_item x ≡ mark → positioned_at face s i b ≡ b
 unfollowed face s i b x within is none true mark = at_mark face s i b x within is mark
 unfollowed face s i b x within is none false mark = at_bare face s i 0 b x within is mark none refl
 
-pub at_unfollowed : (face : FaceMeaning) (s : Setting) (i : ℕ) (b : Buffer) → i < length b.items
+pub at_unfollowed : (face : FaceMeaning) (s : MarkFrame) (i : ℕ) (b : Buffer) → i < length b.items
     → begins_with_mark (drop (i + 1) b.items) ≡ false → positioned_at face s i b ≡ b
 at_unfollowed face s i b within first =
     let x : Item = get_or b.items i (new_item 0 0) in
@@ -177,7 +177,7 @@ begins_by_count (x ∷ xs) some = elim (cases_Bool (is_mark_item x)) [
 ]
 
 -- a place where a mark stands is no base
-pub at_counted : (face : FaceMeaning) (s : Setting) (i : ℕ) (b : Buffer) → i < length b.items → 0 < marks_from i b
+pub at_counted : (face : FaceMeaning) (s : MarkFrame) (i : ℕ) (b : Buffer) → i < length b.items → 0 < marks_from i b
     → positioned_at face s i b ≡ b
 at_counted face s i b within some =
     let x : Item = get_or b.items i (new_item 0 0) in
@@ -187,7 +187,7 @@ at_counted face s i b within some =
     at_mark face s i b x within read (sym (ap begins_with_mark here) ∙ first)
 
 -- every place visited but the last, which has nothing after it
-pub bases_last : (face : FaceMeaning) (s : Setting) (i : ℕ) (b : Buffer) → length b.items ≤ i + 1
+pub bases_last : (face : FaceMeaning) (s : MarkFrame) (i : ℕ) (b : Buffer) → length b.items ≤ i + 1
     → fold (position_span face s) b (bases i (drop i (marks_of b))) ≡ b
 bases_last face s i b over = elim (cases_lt i (length b.items)) [
   | inl within ↦

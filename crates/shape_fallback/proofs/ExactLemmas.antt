@@ -11,13 +11,13 @@ use Rattle.shape_items.specs.Items.{Item}
 use Rattle.shape_common.specs.declared.positions.GlyphPosition.{GlyphPosition}
 use Rattle.shape_fallback.specs.Exact.{Fits32, exact_x_offset, XOffsetFits, hung_at, exact_hung, piled_at, pushed_up, exact_piled, StackedFits, exact_component, ExactRound, ExactMarks, ExactSpaces}
 use Rattle.shape_fallback.specs.Extents.{Extents}
-use Rattle.shape_fallback.specs.MarkState.{component_of, place_of, component_extents, passed, moved}
+use Rattle.shape_fallback.specs.MarkState.{component_of, place_of, component_extents, moved_past, moved}
 use Rattle.shape_fallback.specs.Marks.{base_of, first_state, zeroed_position}
 use Rattle.shape_fallback.specs.OneMark.{mark_x_offset, is_double, is_left, is_right, is_attached, agree, hung, piled, lowered, raised}
 use Rattle.shape_fallback.specs.Spaces.{em_part, em_advance}
 use Rattle.shape_fallback.specs.declared.ot_shape_fallback.mark_state.Base.{Base}
 use Rattle.shape_fallback.specs.declared.ot_shape_fallback.mark_state.MarkState.{MarkState}
-use Rattle.shape_fallback.specs.declared.ot_shape_fallback.marks.Setting.{Setting}
+use Rattle.shape_fallback.specs.declared.ot_shape_fallback.marks.MarkFrame.{MarkFrame}
 use Rattle.shape_fallback.specs.declared.ot_shape_fallback.one_mark.Stacked.{Stacked}
 
 -- ---- sums of three and four: it is enough that the last one fits
@@ -127,9 +127,9 @@ piled_of-exact E B false y k fits =
 
 pub piled-exact : (gap : ℤ) (E B : Extents) → Fits32 (piled_at E B) → Fits32 (neg_ℤ (piled_at E B)) → StackedFits (exact_piled gap E B)
     → piled gap E B ≡ exact_piled gap E B
-piled-exact gap E B unmoved turned fits =
+piled-exact gap E B unmoved reversed fits =
     ap (λ (y : ℤ). piled_of E B (agree gap y) y (int_div (neg_w y) (pos 2))) (difference_of_sum B.y_bearing E.y_bearing E.height unmoved)
-    ∙ ap (λ (z : ℤ). piled_of E B (agree gap (piled_at E B)) (piled_at E B) (int_div z (pos 2))) (neg_w-exact (piled_at E B) turned)
+    ∙ ap (λ (z : ℤ). piled_of E B (agree gap (piled_at E B)) (piled_at E B) (int_div z (pos 2))) (neg_w-exact (piled_at E B) reversed)
     ∙ piled_of-exact E B (agree gap (piled_at E B)) (piled_at E B) (pushed_up E B) fits
 
 gap_below-exact : (gap : ℤ) (ccc : ℕ) (B : Extents) → is_attached ccc ≡ false → Fits32 (B.height -ℤ gap)
@@ -188,7 +188,7 @@ marks-exact = record {
 
 -- ---- round a base
 
-base_above-exact : (face : FaceMeaning) (s : Setting) (x : Item) (p : GlyphPosition) (E : Extents) → Fits32 (E.y_bearing +ℤ p.y_offset)
+base_above-exact : (face : FaceMeaning) (s : MarkFrame) (x : Item) (p : GlyphPosition) (E : Extents) → Fits32 (E.y_bearing +ℤ p.y_offset)
     → (base_of face s x p E).extents.y_bearing ≡ E.y_bearing +ℤ p.y_offset
 unfolding base_of
 base_above-exact face s x p E fits = +ʷ-exact E.y_bearing p.y_offset fits
@@ -204,23 +204,23 @@ unfolding first_state
 first_up-exact base p forward fits = rw forward (neg_w-exact p.y_advance fits)
 
 forward_across-exact : (p : GlyphPosition) (s : MarkState) → Fits32 (s.x_offset -ℤ p.x_advance)
-    → (passed true p s).x_offset ≡ s.x_offset -ℤ p.x_advance
-unfolding passed
+    → (moved_past true p s).x_offset ≡ s.x_offset -ℤ p.x_advance
+unfolding moved_past
 forward_across-exact p s fits = -ʷ-exact s.x_offset p.x_advance fits
 
 forward_up-exact : (p : GlyphPosition) (s : MarkState) → Fits32 (s.y_offset -ℤ p.y_advance)
-    → (passed true p s).y_offset ≡ s.y_offset -ℤ p.y_advance
-unfolding passed
+    → (moved_past true p s).y_offset ≡ s.y_offset -ℤ p.y_advance
+unfolding moved_past
 forward_up-exact p s fits = -ʷ-exact s.y_offset p.y_advance fits
 
 backward_across-exact : (p : GlyphPosition) (s : MarkState) → Fits32 (s.x_offset +ℤ p.x_advance)
-    → (passed false p s).x_offset ≡ s.x_offset +ℤ p.x_advance
-unfolding passed
+    → (moved_past false p s).x_offset ≡ s.x_offset +ℤ p.x_advance
+unfolding moved_past
 backward_across-exact p s fits = +ʷ-exact s.x_offset p.x_advance fits
 
 backward_up-exact : (p : GlyphPosition) (s : MarkState) → Fits32 (s.y_offset +ℤ p.y_advance)
-    → (passed false p s).y_offset ≡ s.y_offset +ℤ p.y_advance
-unfolding passed
+    → (moved_past false p s).y_offset ≡ s.y_offset +ℤ p.y_advance
+unfolding moved_past
 backward_up-exact p s fits = +ʷ-exact s.y_offset p.y_advance fits
 
 -- a number of u8 less 1 always fits

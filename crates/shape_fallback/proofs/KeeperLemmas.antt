@@ -12,8 +12,8 @@ use Rattle.shape_items.specs.KeepsFlags.{KeepsFlags, has_flag, some_has}
 use Rattle.shape_buffer.specs.PositionWalks.{positions_mapped}
 use Rattle.shape_common.specs.Unicode.{UnicodeMeaning}
 use Rattle.shape_buffer.specs.Walks.{items_mapped}
-use Rattle.shape_common.specs.declared.settings.Direction.{Direction}
-use Rattle.shape_common.specs.declared.settings.Script.{Script}
+use Rattle.shape_common.specs.declared.text_types.Direction.{Direction}
+use Rattle.shape_common.specs.declared.text_types.Script.{Script}
 use Rattle.shape_items.proofs.Flags.FlagLemmas.{KeepsFlags-same, KeepsFlags-then, KeepsFlags-items, unsafe_to_break_keeps}
 use Rattle.shape_buffer.proofs.Steps.KeeperLemmas.{KeepsClusters-equal}
 use Rattle.shape_plan.specs.Run.{step_if}
@@ -23,7 +23,7 @@ use Rattle.shape_fallback.specs.Keepers.{EachFallback}
 use Rattle.shape_fallback.specs.Recategorized.{recategorized, recategorized_item, is_nonspacing}
 use Rattle.shape_fallback.specs.Spaces.{spaces_placed}
 use Rattle.shape_fallback.specs.Steps.{spaces_step, marks_adjusted}
-use Rattle.shape_fallback.specs.declared.ot_shape_fallback.marks.Setting.{Setting}
+use Rattle.shape_fallback.specs.declared.ot_shape_fallback.marks.MarkFrame.{MarkFrame}
 use Rattle.shape_items.proofs.Merging.KeyLemmas.{keys-unsafe_to_break, without_items-unsafe_to_break}
 
 -- ---- what leaves clusters, settings and flags alone
@@ -66,7 +66,7 @@ leaves-break start end b =
       kept = unsafe_to_break_keeps start end b;
     }
 
-leaves-span : (face : FaceMeaning) (s : Setting) (b : Buffer) (span : Span) → Leaves b (position_span face s b span)
+leaves-span : (face : FaceMeaning) (s : MarkFrame) (b : Buffer) (span : Span) → Leaves b (position_span face s b span)
 unfolding position_span
 leaves-span face s b span =
     let break = leaves-break span.start span.end b in
@@ -78,7 +78,7 @@ leaves-span face s b span =
       kept = record { flags = kept.flags; stays_set = kept.stays_set; none_new = kept.none_new };
     }
 
-leaves-spans : (face : FaceMeaning) (s : Setting) (spans : List Span) (b : Buffer) → Leaves b (fold (position_span face s) b spans)
+leaves-spans : (face : FaceMeaning) (s : MarkFrame) (spans : List Span) (b : Buffer) → Leaves b (fold (position_span face s) b spans)
 leaves-spans face s [] b = Leaves-same b
 leaves-spans face s (span ∷ spans) b =
     Leaves-then b (position_span face s b span) _ (leaves-span face s b span) (leaves-spans face s spans (position_span face s b span))
@@ -88,7 +88,7 @@ break-without_positions : (start end : ℕ) (b : Buffer)
     → without_positions (unsafe_to_break start end b) ≡ unsafe_to_break start end (without_positions b)
 break-without_positions start end b = elim (cases_Bool (nat_lt (start + 1) end)) [ inl long ↦ rw long refl | inr short ↦ rw short refl ]
 
-spans-marked : (face : FaceMeaning) (s : Setting) (spans : List Span) (b c : Buffer) → without_positions b ≡ without_positions c
+spans-marked : (face : FaceMeaning) (s : MarkFrame) (spans : List Span) (b c : Buffer) → without_positions b ≡ without_positions c
     → without_positions (fold (position_span face s) b spans)
     ≡ without_positions (fold (λ d span. unsafe_to_break span.start span.end d) c spans)
 unfolding position_span
@@ -99,7 +99,7 @@ spans-marked face s (span ∷ spans) b c same =
     ∙ sym (break-without_positions span.start span.end c))
 
 -- beside positions, the marks of all bases are placed by marking their spans
-pub bases-marked : (face : FaceMeaning) (s : Setting) (b : Buffer)
+pub bases-marked : (face : FaceMeaning) (s : MarkFrame) (b : Buffer)
     → without_positions (bases_positioned face s b) ≡ without_positions (bases_marked b)
 unfolding bases_positioned bases_marked
 bases-marked face s b = spans-marked face s (bases 0 (marks_of b)) b b refl

@@ -10,7 +10,7 @@ use Rattle.shape_buffer.specs.PositionWalks.{positions_over}
 use Rattle.shape_common.specs.Positions.{zero_position}
 use Rattle.shape_common.specs.Face.{FaceMeaning}
 use Rattle.shape_fallback.specs.MarkState.{place_mark}
-use Rattle.shape_fallback.specs.declared.ot_shape_fallback.marks.Setting.{Setting}
+use Rattle.shape_fallback.specs.declared.ot_shape_fallback.marks.MarkFrame.{MarkFrame}
 use Rattle.shape_fallback.specs.Marks.{marks_placed, zeroed, around_base, behind_base, base_of, first_state}
 use Rattle.shape_fallback.specs.Positions.{with_positions}
 use Rattle.shape_fallback.proofs.PositionsLemmas.{slice_range-cons, placed_step}
@@ -49,7 +49,7 @@ marks_end face base s i to b over within =
     ap (λ (list : List GlyphPosition). record b { positions = list }) (rw (none, same) (take-append-drop i b.positions))
 
 -- the base of a span keeps its position
-pub span_start : (face : FaceMeaning) (s : Setting) (i to : ℕ) (b : Buffer) (x : Item) (p : GlyphPosition)
+pub span_start : (face : FaceMeaning) (s : MarkFrame) (i to : ℕ) (b : Buffer) (x : Item) (p : GlyphPosition)
     → i < to → i < length b.items → i < length b.positions → x ≡ get_or b.items i x → p ≡ get_or b.positions i zero_position
     → with_positions (around_base face s) i to b
     ≡ with_positions (behind_base face s x p (face.extents (record { 0 = x.glyph_id }))) (i + 1) to b
@@ -62,7 +62,7 @@ span_start face s i to b x p lt items positions is_x is_p =
     ap (λ (list : List GlyphPosition). record b { positions = list }) (rw (xs, ps, more, append_assoc) refl)
 
 -- a span whose base has extents
-pub span_some : (face : FaceMeaning) (s : Setting) (i to : ℕ) (b : Buffer) (x : Item) (p : GlyphPosition) (E : Extents)
+pub span_some : (face : FaceMeaning) (s : MarkFrame) (i to : ℕ) (b : Buffer) (x : Item) (p : GlyphPosition) (E : Extents)
     → i < to → i < length b.items → i < length b.positions → x ≡ get_or b.items i x → p ≡ get_or b.positions i zero_position
     → face.extents (record { 0 = x.glyph_id }) ≡ Some E
     → with_positions (around_base face s) i to b
@@ -72,7 +72,7 @@ span_some face s i to b x p E lt items positions is_x is_p e =
     ∙ ap (λ (o : Option Extents). with_positions (behind_base face s x p o) (i + 1) to b) e
 
 -- a span whose base has none
-pub span_none : (face : FaceMeaning) (s : Setting) (i to : ℕ) (b : Buffer) (x : Item) (p : GlyphPosition)
+pub span_none : (face : FaceMeaning) (s : MarkFrame) (i to : ℕ) (b : Buffer) (x : Item) (p : GlyphPosition)
     → i < to → i < length b.items → i < length b.positions → x ≡ get_or b.items i x → p ≡ get_or b.positions i zero_position
     → face.extents (record { 0 = x.glyph_id }) ≡ None
     → with_positions (around_base face s) i to b ≡ with_positions (positions_over (zeroed s.adjust)) (i + 1) to b

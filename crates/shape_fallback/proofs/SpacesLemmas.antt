@@ -5,7 +5,7 @@ use Rattle.std.specs.Option.{option_or}
 use Rattle.std.proofs.lemmas.Bool.Decides.{nat_tests}
 use Rattle.std.proofs.lemmas.List.{drop_more, drop_all}
 use Rattle.shape_common.specs.Face.{FaceMeaning}
-use Rattle.shape_common.specs.declared.settings.GlyphId.{GlyphId}
+use Rattle.shape_common.specs.declared.text_types.GlyphId.{GlyphId}
 use Rattle.shape_fallback.specs.Spaces.{first_glyph, is_em_part}
 
 -- a part of the em square is named by a number that isn't 0
@@ -27,9 +27,9 @@ first-found face cs i c glyph within is has =
     first-from face cs i c within is ∙ ap (λ (o : Option GlyphId). option_or o (first_glyph face (drop (i + 1) cs))) has
 
 -- it has none
-pub first-passed : (face : FaceMeaning) (cs : List ℕ) (i c : ℕ) → i < length cs → c ≡ get_or cs i c
+pub first-skipped : (face : FaceMeaning) (cs : List ℕ) (i c : ℕ) → i < length cs → c ≡ get_or cs i c
     → face.nominal_glyph c ≡ None → first_glyph face (drop i cs) ≡ first_glyph face (drop (i + 1) cs)
-first-passed face cs i c within is has =
+first-skipped face cs i c within is has =
     first-from face cs i c within is ∙ ap (λ (o : Option GlyphId). option_or o (first_glyph face (drop (i + 1) cs))) has
 
 -- no character is left

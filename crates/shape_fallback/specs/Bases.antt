@@ -9,12 +9,12 @@ use Rattle.shape_buffer.specs.Guess.{script_or_ltr}
 use Rattle.shape_items.specs.Items.{Item}
 use Rattle.shape_items.specs.Items.{is_mark_item}
 use Rattle.shape_common.specs.Unicode.{UnicodeMeaning}
-use Rattle.shape_common.specs.declared.settings.Direction.{Direction}
-use Rattle.shape_common.specs.declared.settings.Direction.TheVariants.{LeftToRight}
-use Rattle.shape_common.specs.declared.settings.Script.{Script}
+use Rattle.shape_common.specs.declared.text_types.Direction.{Direction}
+use Rattle.shape_common.specs.declared.text_types.Direction.TheVariants.{LeftToRight}
+use Rattle.shape_common.specs.declared.text_types.Script.{Script}
 use Rattle.shape_fallback.specs.Marks.{around_base}
 use Rattle.shape_fallback.specs.Positions.{with_positions}
-use Rattle.shape_fallback.specs.declared.ot_shape_fallback.marks.Setting.{Setting}
+use Rattle.shape_fallback.specs.declared.ot_shape_fallback.marks.MarkFrame.{MarkFrame}
 
 -- a base with its marks
 pub record Span : Type 0 where
@@ -22,7 +22,7 @@ pub record Span : Type 0 where
   pub end : ℕ
 
 -- the span of one base
-unfoldable pub position_span : FaceMeaning → Setting → Buffer → Span → Buffer
+unfoldable pub position_span : FaceMeaning → MarkFrame → Buffer → Span → Buffer
 position_span face s b span = with_positions (around_base face s) span.start span.end (unsafe_to_break span.start span.end b)
 
 -- the base at place i, if it has n marks
@@ -55,11 +55,11 @@ abbrev pub marks_from : ℕ → Buffer → ℕ
 marks_from i b = prefix_len (λ mark. mark) (drop i (marks_of b))
 
 -- the buffer with the marks of the base at place i placed, if there is one with marks
-unfoldable pub positioned_at : FaceMeaning → Setting → ℕ → Buffer → Buffer
+unfoldable pub positioned_at : FaceMeaning → MarkFrame → ℕ → Buffer → Buffer
 positioned_at face s i b = fold (position_span face s) b (base_at i (drop i (marks_of b)))
 
 -- the buffer with the marks of all its bases placed
-unfoldable pub bases_positioned : FaceMeaning → Setting → Buffer → Buffer
+unfoldable pub bases_positioned : FaceMeaning → MarkFrame → Buffer → Buffer
 bases_positioned face s b = fold (position_span face s) b (bases 0 (marks_of b))
 
 -- the spans of all bases marked unsafe to break, and nothing else
@@ -83,8 +83,8 @@ runs_to_right unicode direction script =
     is_left_to_right (if is_horizontal direction then direction else script_or_ltr unicode script)
 
 -- the gap between marks is a sixteenth of the em square; the line's direction is the buffer's
-unfoldable pub setting_of : UnicodeMeaning → FaceMeaning → Direction → Option Script → Bool → Buffer → Setting
-setting_of unicode face direction script adjust b = record {
+unfoldable pub frame_of : UnicodeMeaning → FaceMeaning → Direction → Option Script → Bool → Buffer → MarkFrame
+frame_of unicode face direction script adjust b = record {
   surroundings = record {
     horizontal = is_horizontal b.direction;
     forward = is_forward b.direction;
@@ -97,4 +97,4 @@ setting_of unicode face direction script adjust b = record {
 -- every mark of the buffer, under a plan of this direction and script
 unfoldable pub marks_positioned : UnicodeMeaning → FaceMeaning → Direction → Option Script → Bool → Buffer → Buffer
 marks_positioned unicode face direction script adjust b =
-    bases_positioned face (setting_of unicode face direction script adjust b) b
+    bases_positioned face (frame_of unicode face direction script adjust b) b

@@ -5,13 +5,13 @@ use Rattle.shape_common.specs.Face.{FaceMeaning}
 use Rattle.shape_items.specs.Items.{Item}
 use Rattle.shape_common.specs.declared.positions.GlyphPosition.{GlyphPosition}
 use Rattle.shape_fallback.specs.Extents.{Extents}
-use Rattle.shape_fallback.specs.MarkState.{component_of, place_of, component_extents, passed, moved}
+use Rattle.shape_fallback.specs.MarkState.{component_of, place_of, component_extents, moved_past, moved}
 use Rattle.shape_fallback.specs.Marks.{base_of, first_state, zeroed_position}
 use Rattle.shape_fallback.specs.OneMark.{mark_x_offset, is_double, is_left, is_right, is_attached, agree, hung, piled, lowered, raised}
 use Rattle.shape_fallback.specs.Spaces.{em_part, em_advance}
 use Rattle.shape_fallback.specs.declared.ot_shape_fallback.mark_state.Base.{Base}
 use Rattle.shape_fallback.specs.declared.ot_shape_fallback.mark_state.MarkState.{MarkState}
-use Rattle.shape_fallback.specs.declared.ot_shape_fallback.marks.Setting.{Setting}
+use Rattle.shape_fallback.specs.declared.ot_shape_fallback.marks.MarkFrame.{MarkFrame}
 use Rattle.shape_fallback.specs.declared.ot_shape_fallback.one_mark.Stacked.{Stacked}
 
 -- the number is one of i32
@@ -82,20 +82,20 @@ exact_component base item =
 -- first mark and past each mark of ccc 0, and which component a mark belongs to, if the numbers of
 -- components are of u8
 pub record ExactRound : Type 0 where
-  pub base_above : (face : FaceMeaning) (s : Setting) (x : Item) (p : GlyphPosition) (E : Extents) → Fits32 (E.y_bearing +ℤ p.y_offset)
+  pub base_above : (face : FaceMeaning) (s : MarkFrame) (x : Item) (p : GlyphPosition) (E : Extents) → Fits32 (E.y_bearing +ℤ p.y_offset)
       → (base_of face s x p E).extents.y_bearing ≡ E.y_bearing +ℤ p.y_offset
   pub first_across : (base : Base) (p : GlyphPosition) → base.surroundings.forward ≡ true → Fits32 (neg_ℤ p.x_advance)
       → (first_state base p).x_offset ≡ neg_ℤ p.x_advance
   pub first_up : (base : Base) (p : GlyphPosition) → base.surroundings.forward ≡ true → Fits32 (neg_ℤ p.y_advance)
       → (first_state base p).y_offset ≡ neg_ℤ p.y_advance
   pub forward_across : (p : GlyphPosition) (s : MarkState) → Fits32 (s.x_offset -ℤ p.x_advance)
-      → (passed true p s).x_offset ≡ s.x_offset -ℤ p.x_advance
+      → (moved_past true p s).x_offset ≡ s.x_offset -ℤ p.x_advance
   pub forward_up : (p : GlyphPosition) (s : MarkState) → Fits32 (s.y_offset -ℤ p.y_advance)
-      → (passed true p s).y_offset ≡ s.y_offset -ℤ p.y_advance
+      → (moved_past true p s).y_offset ≡ s.y_offset -ℤ p.y_advance
   pub backward_across : (p : GlyphPosition) (s : MarkState) → Fits32 (s.x_offset +ℤ p.x_advance)
-      → (passed false p s).x_offset ≡ s.x_offset +ℤ p.x_advance
+      → (moved_past false p s).x_offset ≡ s.x_offset +ℤ p.x_advance
   pub backward_up : (p : GlyphPosition) (s : MarkState) → Fits32 (s.y_offset +ℤ p.y_advance)
-      → (passed false p s).y_offset ≡ s.y_offset +ℤ p.y_advance
+      → (moved_past false p s).y_offset ≡ s.y_offset +ℤ p.y_advance
   pub component : (base : Base) (x : Item) → base.number_of_components < 256 → x.properties.ligature_component < 256
       → component_of base x ≡ exact_component base x
   pub from_left : (base : Base) (c : ℤ) → base.left_to_right ≡ false → Fits32 (pos base.number_of_components -ℤ pos 1 -ℤ c)

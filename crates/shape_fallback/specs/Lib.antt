@@ -15,4 +15,4 @@ pub mod WorkedSpaces
 pub mod WorkedOneMark
 pub mod WorkedMarks
 pub mod WorkedBuffers
-pub mod WorkedTurns
+pub mod WorkedDirections

@@ -49,8 +49,8 @@ unfoldable pub at_ccc : ℕ → MarkState → MarkState
 at_ccc ccc s = if ccc == s.ccc then s else record s { ccc = ccc; extents = s.component_extents }
 
 -- the state past a mark without a ccc
-unfoldable pub passed : Bool → GlyphPosition → MarkState → MarkState
-passed forward p s =
+unfoldable pub moved_past : Bool → GlyphPosition → MarkState → MarkState
+moved_past forward p s =
     if forward then record s { x_offset = s.x_offset -ʷ p.x_advance; y_offset = s.y_offset -ʷ p.y_advance }
     else record s { x_offset = s.x_offset +ʷ p.x_advance; y_offset = s.y_offset +ʷ p.y_advance }
 
@@ -73,5 +73,5 @@ place_in face base s item p =
 -- a mark of a base
 unfoldable pub place_mark : FaceMeaning → Base → MarkState → Item → GlyphPosition → MarkStep
 place_mark face base s item p =
-    if item.properties.modified_ccc == 0 then record { position = p; state = passed base.surroundings.forward p s }
+    if item.properties.modified_ccc == 0 then record { position = p; state = moved_past base.surroundings.forward p s }
     else place_in face base (at_ccc item.properties.modified_ccc (with_component base item s)) item p

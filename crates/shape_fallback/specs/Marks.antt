@@ -11,7 +11,7 @@ use Rattle.shape_fallback.specs.Recategorized.{is_nonspacing}
 use Rattle.shape_fallback.specs.declared.ot_shape_fallback.mark_state.Base.{Base}
 use Rattle.shape_fallback.specs.declared.ot_shape_fallback.mark_state.MarkState.{MarkState}
 use Rattle.shape_fallback.specs.declared.ot_shape_fallback.mark_state.TheConstants.{NO_LAST_CCC}
-use Rattle.shape_fallback.specs.declared.ot_shape_fallback.marks.Setting.{Setting}
+use Rattle.shape_fallback.specs.declared.ot_shape_fallback.marks.MarkFrame.{MarkFrame}
 
 -- the positions of the marks of a base: each is placed in the state that the one before it leaves
 unfoldable pub marks_placed : FaceMeaning → Base → MarkState → List Item → List GlyphPosition → List GlyphPosition
@@ -37,7 +37,7 @@ unfoldable pub zeroed : Bool → Item → GlyphPosition → GlyphPosition
 zeroed adjust x p = if is_nonspacing x then zeroed_position adjust p else p
 
 -- a base with these extents of its glyph
-unfoldable pub base_of : FaceMeaning → Setting → Item → GlyphPosition → Extents → Base
+unfoldable pub base_of : FaceMeaning → MarkFrame → Item → GlyphPosition → Extents → Base
 base_of face s item p E = record {
   surroundings = s.surroundings;
   left_to_right = s.left_to_right;
@@ -62,13 +62,13 @@ first_state base p = record {
 }
 
 -- the positions of the marks after a base, if the face has these extents for its glyph
-abbrev pub behind_base : FaceMeaning → Setting → Item → GlyphPosition → Option Extents → List Item → List GlyphPosition → List GlyphPosition
+abbrev pub behind_base : FaceMeaning → MarkFrame → Item → GlyphPosition → Option Extents → List Item → List GlyphPosition → List GlyphPosition
 behind_base face s x p None xs ps = positions_over (zeroed s.adjust) xs ps
 behind_base face s x p (Some E) xs ps =
     let base = base_of face s x p E in
     marks_placed face base (first_state base p) xs ps
 
 -- the positions of a base and its marks
-unfoldable pub around_base : FaceMeaning → Setting → List Item → List GlyphPosition → List GlyphPosition
+unfoldable pub around_base : FaceMeaning → MarkFrame → List Item → List GlyphPosition → List GlyphPosition
 around_base face s (x ∷ xs) (p ∷ ps) = p ∷ behind_base face s x p (face.extents (record { 0 = x.glyph_id })) xs ps
 around_base face s xs ps = ps

@@ -5,8 +5,8 @@ use Rattle.shape_items.specs.Buffer.{Buffer}
 use Rattle.shape_common.specs.Direction.{is_forward}
 use Rattle.shape_common.specs.Face.{FaceMeaning}
 use Rattle.shape_common.specs.Unicode.{UnicodeMeaning}
-use Rattle.shape_common.specs.declared.settings.Direction.{Direction}
-use Rattle.shape_common.specs.declared.settings.Script.{Script}
+use Rattle.shape_common.specs.declared.text_types.Direction.{Direction}
+use Rattle.shape_common.specs.declared.text_types.Script.{Script}
 use Rattle.shape_plan.specs.Run.{step_if}
 use Rattle.shape_plan.specs.declared.decisions.Decisions.{Decisions}
 use Rattle.shape_fallback.specs.Bases.{marks_positioned}

@@ -9,13 +9,13 @@ use Rattle.shape_common.specs.Wrapping.{◌+ʷ◌, ◌-ʷ◌, ◌*ʷ◌, neg_w}
 use Rattle.shape_common.specs.declared.general_category.hb_unicode_general_category_t.{hb_unicode_general_category_t}
 use Rattle.shape_common.specs.declared.general_category.hb_unicode_general_category_t.TheVariants.{LowercaseLetter, NonspacingMark, SpacingMark}
 use Rattle.shape_common.specs.declared.positions.GlyphPosition.{GlyphPosition}
-use Rattle.shape_common.specs.declared.settings.Direction.{Direction}
-use Rattle.shape_common.specs.declared.settings.Direction.TheVariants.{LeftToRight, RightToLeft, TopToBottom}
+use Rattle.shape_common.specs.declared.text_types.Direction.{Direction}
+use Rattle.shape_common.specs.declared.text_types.Direction.TheVariants.{LeftToRight, RightToLeft, TopToBottom}
 use Rattle.shape_plan.specs.WorkedDecisions.{no_decisions}
 use Rattle.shape_plan.specs.declared.decisions.Decisions.{Decisions}
-use Rattle.shape_fallback.specs.Bases.{position_span, base_at, bases, bases_positioned, bases_marked, runs_to_right, setting_of, marks_positioned}
+use Rattle.shape_fallback.specs.Bases.{position_span, base_at, bases, bases_positioned, bases_marked, runs_to_right, frame_of, marks_positioned}
 use Rattle.shape_fallback.specs.Extents.{Extents}
-use Rattle.shape_fallback.specs.MarkState.{component_of, place_of, component_extents, at_component, with_component, at_ccc, passed, moved, place_in, place_mark}
+use Rattle.shape_fallback.specs.MarkState.{component_of, place_of, component_extents, at_component, with_component, at_ccc, moved_past, moved, place_in, place_mark}
 use Rattle.shape_fallback.specs.Marks.{marks_placed, zeroed_position, zeroed, base_of, first_state, around_base}
 use Rattle.shape_fallback.specs.OneMark.{is_double, is_left, is_right, is_below, is_above, is_attached, agree, lowered, raised, mark_placed}
 use Rattle.shape_fallback.specs.Recategorized.{is_nonspacing, recategorized_item}
@@ -100,7 +100,7 @@ pub record AboveAndBelow : Type 0 where
       ≡ at (pos 0) (negsuc 999) (negsuc 299) (negsuc 999) ∷ at (pos 0) (pos 0) (pos 150) (pos 556) ∷ []
 
 above_and_below : AboveAndBelow
-unfolding marks_positioned setting_of runs_to_right bases_positioned bases base_at position_span around_base base_of first_state
+unfolding marks_positioned frame_of runs_to_right bases_positioned bases base_at position_span around_base base_of first_state
     marks_placed place_mark place_in at_ccc with_component moved mark_placed is_double is_left is_right is_below is_above is_attached
     agree lowered raised ◌+ʷ◌ ◌-ʷ◌ neg_w int_wrap
 above_and_below =
@@ -141,7 +141,7 @@ pub record OnLigatures : Type 0 where
       ∷ at (pos 0) (pos 0) (negsuc 599) (pos 324) ∷ []
 
 on_ligatures : OnLigatures
-unfolding marks_positioned setting_of runs_to_right bases_positioned bases base_at position_span around_base base_of first_state
+unfolding marks_positioned frame_of runs_to_right bases_positioned bases base_at position_span around_base base_of first_state
     marks_placed place_mark place_in at_ccc with_component at_component component_of place_of component_extents moved
     mark_placed is_double is_left is_right is_below is_above is_attached agree lowered raised ◌+ʷ◌ ◌-ʷ◌ ◌*ʷ◌ neg_w int_wrap
 on_ligatures = record { second = refl; first = refl; none = refl; first_from_the_right = refl; downwards = refl; two_components = refl }
@@ -162,8 +162,8 @@ pub record MarksOfCcc0 : Type 0 where
       ≡ at (pos 600) (pos 0) (pos 0) (pos 0) ∷ at (pos 0) (pos 0) (negsuc 598) (pos 2) ∷ []
 
 marks_of_ccc_0 : MarksOfCcc0
-unfolding marks_positioned setting_of runs_to_right bases_positioned bases base_at position_span around_base base_of first_state
-    marks_placed place_mark place_in at_ccc with_component passed moved mark_placed is_double is_left is_right is_below is_above
+unfolding marks_positioned frame_of runs_to_right bases_positioned bases base_at position_span around_base base_of first_state
+    marks_placed place_mark place_in at_ccc with_component moved_past moved mark_placed is_double is_left is_right is_below is_above
     is_attached agree lowered raised ◌+ʷ◌ ◌-ʷ◌ neg_w int_wrap
 marks_of_ccc_0 = record { forward = refl; backward = refl; without_extents = refl }
 
@@ -180,7 +180,7 @@ pub record BasesWithoutExtents : Type 0 where
       ≡ at (pos 600) (pos 0) (pos 0) (pos 0) ∷ at (pos 0) (pos 0) (negsuc 2147483647) (pos 0) ∷ []
 
 bases_without_extents : BasesWithoutExtents
-unfolding marks_positioned setting_of runs_to_right bases_positioned bases base_at position_span around_base zeroed is_nonspacing
+unfolding marks_positioned frame_of runs_to_right bases_positioned bases base_at position_span around_base zeroed is_nonspacing
     zeroed_position ◌-ʷ◌ int_wrap
 bases_without_extents = record { adjusted = refl; not_adjusted = refl; least_advance = refl }
 
@@ -199,7 +199,7 @@ pub record WidestMark : Type 0 where
       ≡ at (pos 2147483647) (pos 0) (pos 0) (pos 0) ∷ at (pos 0) (pos 0) (negsuc 2147483646) (pos 62) ∷ []
 
 widest_mark : WidestMark
-unfolding marks_positioned setting_of runs_to_right bases_positioned bases base_at position_span around_base base_of first_state
+unfolding marks_positioned frame_of runs_to_right bases_positioned bases base_at position_span around_base base_of first_state
     marks_placed place_mark place_in at_ccc with_component moved mark_placed is_double is_left is_right is_below is_above is_attached
     agree lowered raised ◌+ʷ◌ ◌-ʷ◌ neg_w int_wrap
 widest_mark = record { widest = refl }
@@ -237,7 +237,7 @@ pub record DueSteps : Type 0 where
       (record new_buffer { items = worked_mark 0xE34 NonspacingMark 0 ∷ [] })).items ≡ worked_mark 0xE34 NonspacingMark 0 ∷ []
 
 due_steps : DueSteps
-unfolding marks_adjusted marks_positioned setting_of runs_to_right bases_positioned bases base_at position_span around_base zeroed
+unfolding marks_adjusted marks_positioned frame_of runs_to_right bases_positioned bases base_at position_span around_base zeroed
     is_nonspacing zeroed_position recategorized_item items_mapped ◌-ʷ◌ int_wrap
 due_steps = record { to_the_right = refl; to_the_left = refl; not_adjusted = refl; not_due = refl; cccs_due = refl; cccs_not_due = refl }
 
@@ -255,7 +255,7 @@ pub record MarkedSpans : Type 0 where
       (at (pos 600) (pos 0) (pos 0) (pos 0) ∷ at (pos 100) (pos 0) (pos 0) (pos 0) ∷ []))).items ≡ 0 ∷ 3 ∷ []
 
 marked_spans : MarkedSpans
-unfolding marks_positioned setting_of runs_to_right bases_positioned bases_marked bases base_at position_span
+unfolding marks_positioned frame_of runs_to_right bases_positioned bases_marked bases base_at position_span
 marked_spans = record { masks = refl; bit = refl; no_base = refl; placed_too = refl }
 
 pub record WorkedBuffers : Type 0 where

@@ -8,13 +8,13 @@ use Rattle.shape_common.specs.Unicode.{UnicodeMeaning}
 use Rattle.shape_common.specs.Wrapping.{◌+ʷ◌, ◌-ʷ◌, ◌*ʷ◌, neg_w}
 use Rattle.shape_common.specs.declared.general_category.hb_unicode_general_category_t.TheVariants.{LowercaseLetter, OtherLetter, NonspacingMark, SpacingMark, EnclosingMark, Format}
 use Rattle.shape_common.specs.declared.positions.GlyphPosition.{GlyphPosition}
-use Rattle.shape_common.specs.declared.settings.Direction.{Direction}
-use Rattle.shape_common.specs.declared.settings.Direction.TheVariants.{Invalid, LeftToRight, RightToLeft, TopToBottom, BottomToTop}
-use Rattle.shape_common.specs.declared.settings.Script.{Script}
+use Rattle.shape_common.specs.declared.text_types.Direction.{Direction}
+use Rattle.shape_common.specs.declared.text_types.Direction.TheVariants.{Invalid, LeftToRight, RightToLeft, TopToBottom, BottomToTop}
+use Rattle.shape_common.specs.declared.text_types.Script.{Script}
 use Rattle.shape_common.specs.PlainUnicode.{plain_unicode}
 use Rattle.shape_fallback.specs.Bases.{base_at, bases, marks_of, runs_to_right}
 use Rattle.shape_fallback.specs.Extents.{Extents}
-use Rattle.shape_fallback.specs.MarkState.{component_of, place_of, component_extents, at_component, with_component, at_ccc, passed, moved}
+use Rattle.shape_fallback.specs.MarkState.{component_of, place_of, component_extents, at_component, with_component, at_ccc, moved_past, moved}
 use Rattle.shape_fallback.specs.Marks.{zeroed_position, first_state}
 use Rattle.shape_fallback.specs.WorkedCcc.{worked_mark}
 use Rattle.shape_fallback.specs.WorkedOneMark.{extents}
@@ -59,7 +59,7 @@ pub record Components : Type 0 where
       ∷ extents (pos 666) (pos 700) (pos 333) (negsuc 699) ∷ []
   pub thirds_from_the_right : component_extents (worked_base false 1 3 (pos 1000)) (pos 0)
       ≡ extents (pos 666) (pos 700) (pos 333) (negsuc 699)
-  pub turned : component_extents (worked_base true 1 3 (negsuc 999)) (pos 1) ≡ extents (negsuc 332) (pos 700) (negsuc 332) (negsuc 699)
+  pub reversed : component_extents (worked_base true 1 3 (negsuc 999)) (pos 1) ≡ extents (negsuc 332) (pos 700) (negsuc 332) (negsuc 699)
   pub widest : component_extents (worked_base true 1 3 (pos 2147483647)) (pos 2) ≡ extents (pos 0) (pos 700) (pos 715827882) (negsuc 699)
 
 components : Components
@@ -73,7 +73,7 @@ components =
       places_from_the_right = refl;
       thirds = refl;
       thirds_from_the_right = refl;
-      turned = refl;
+      reversed = refl;
       widest = refl;
     }
 
@@ -127,8 +127,8 @@ running x y =
     (extents (pos 0) (pos 0) (pos 0) (pos 0))) { x_offset = x; y_offset = y }
 
 pub record RunningOffsets : Type 0 where
-  pub passed_forward : passed true (at (pos 30) (pos 4) (pos 1) (pos 2)) (running (negsuc 599) (pos 0)) ≡ running (negsuc 629) (negsuc 3)
-  pub passed_backward : passed false (at (pos 30) (pos 4) (pos 1) (pos 2)) (running (pos 0) (pos 0)) ≡ running (pos 30) (pos 4)
+  pub past_forward : moved_past true (at (pos 30) (pos 4) (pos 1) (pos 2)) (running (negsuc 599) (pos 0)) ≡ running (negsuc 629) (negsuc 3)
+  pub past_backward : moved_past false (at (pos 30) (pos 4) (pos 1) (pos 2)) (running (pos 0) (pos 0)) ≡ running (pos 30) (pos 4)
   pub added : moved (at (pos 30) (pos 4) (pos 150) (pos 112)) (running (negsuc 599) (pos 5)) ≡ at (pos 0) (pos 0) (negsuc 449) (pos 117)
   pub first_forward : first_state (worked_base true 1 3 (pos 900)) (at (pos 600) (negsuc 6) (pos 1) (pos 2))
       ≡ record (worked_state (negsuc 0) 255 (extents (pos 0) (pos 700) (pos 900) (negsuc 699))
@@ -143,11 +143,11 @@ pub record RunningOffsets : Type 0 where
       ≡ at (pos 0) (pos 0) (negsuc 2147483647) (pos 0)
 
 running_offsets : RunningOffsets
-unfolding passed moved first_state zeroed_position ◌+ʷ◌ ◌-ʷ◌ neg_w int_wrap
+unfolding moved_past moved first_state zeroed_position ◌+ʷ◌ ◌-ʷ◌ neg_w int_wrap
 running_offsets =
     record {
-      passed_forward = refl;
-      passed_backward = refl;
+      past_forward = refl;
+      past_backward = refl;
       added = refl;
       first_forward = refl;
       first_backward = refl;

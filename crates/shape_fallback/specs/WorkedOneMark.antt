@@ -34,7 +34,7 @@ pub record XOffsets : Type 0 where
   -- halves drop the rest towards zero: of -201, and of a mark's width of -201
   pub narrow_base : mark_x_offset true true 230 (extents (pos 10) (pos 0) (pos 200) (pos 0)) (extents (pos 50) (pos 0) (pos 401) (pos 0))
       ≡ negsuc 139
-  pub turned_mark : mark_x_offset true true 233 (extents (pos 10) (pos 0) (pos 600) (pos 0)) (extents (pos 50) (pos 0) (negsuc 200) (pos 0))
+  pub reversed_mark : mark_x_offset true true 233 (extents (pos 10) (pos 0) (pos 600) (pos 0)) (extents (pos 50) (pos 0) (negsuc 200) (pos 0))
       ≡ pos 660
   -- the widest base and the least width: their difference is -1
   pub widest : mark_x_offset true true 230 (extents (pos 0) (pos 0) (pos 2147483647) (pos 0))
@@ -52,7 +52,7 @@ x_offsets =
       right = refl;
       centred = refl;
       narrow_base = refl;
-      turned_mark = refl;
+      reversed_mark = refl;
       widest = refl;
     }
 

@@ -10,8 +10,8 @@ use Rattle.shape_common.specs.Wrapping.{neg_w}
 use Rattle.shape_common.specs.declared.general_category.hb_unicode_general_category_t.{hb_unicode_general_category_t}
 use Rattle.shape_common.specs.declared.general_category.hb_unicode_general_category_t.TheVariants.{SpaceSeparator, LineSeparator}
 use Rattle.shape_common.specs.declared.positions.GlyphPosition.{GlyphPosition}
-use Rattle.shape_common.specs.declared.settings.Direction.{Direction}
-use Rattle.shape_common.specs.declared.settings.Direction.TheVariants.{Invalid, LeftToRight, RightToLeft, TopToBottom}
+use Rattle.shape_common.specs.declared.text_types.Direction.{Direction}
+use Rattle.shape_common.specs.declared.text_types.Direction.TheVariants.{Invalid, LeftToRight, RightToLeft, TopToBottom}
 use Rattle.shape_plan.specs.WorkedFaces.{bare_face}
 use Rattle.shape_fallback.specs.Spaces.{is_em_part, em_part, em_advance, first_glyph, figures, stops, as_wide_as, space_advance, space_positioned, is_lone_space, item_spaced, spaces_placed}
 use Rattle.shape_fallback.specs.Steps.{spaces_step}

@@ -17,16 +17,16 @@ ghost use Rattle.shape_fallback.specs.Spaces.{spaces_placed};
 
 mod bases;
 mod ccc;
+mod frame;
 mod mark_state;
 mod marks;
 mod one_mark;
 mod recategorize;
-mod setting;
 mod spaces;
 
 use crate::ot_shape_fallback::bases::position_bases;
+use crate::ot_shape_fallback::frame::make_frame;
 use crate::ot_shape_fallback::recategorize::recategorize_items;
-use crate::ot_shape_fallback::setting::make_setting;
 use crate::ot_shape_fallback::spaces::put_space_advances;
 use shape_buffer::buffer::hb_buffer_t;
 use shape_buffer::interfaces::{hb_font_t, hb_unicode_funcs_t};
@@ -66,8 +66,8 @@ pub fn position_marks<U: hb_unicode_funcs_t, F: hb_font_t, S, P, D>(
         adjust_offsets_when_zeroing) buffer.old buffer.new }
     ensures marked { without_positions buffer.new ≡ without_positions (bases_marked buffer.old) }
 {
-    let setting = make_setting::<U, F, S, P, D>(plan, face, buffer, adjust_offsets_when_zeroing);
-    position_bases(face, setting, buffer);
+    let frame = make_frame::<U, F, S, P, D>(plan, face, buffer, adjust_offsets_when_zeroing);
+    position_bases(face, frame, buffer);
 }
 
 /// Gives each space separator that no lookup has ligated the advance of its remembered type, in units of

@@ -4,7 +4,7 @@ ghost use Rattle.shape_fallback.specs.WorkedCcc.{WorkedCcc};
 ghost use Rattle.shape_fallback.specs.WorkedMarks.{WorkedMarks};
 ghost use Rattle.shape_fallback.specs.WorkedOneMark.{WorkedOneMark};
 ghost use Rattle.shape_fallback.specs.WorkedSpaces.{WorkedSpaces};
-ghost use Rattle.shape_fallback.specs.WorkedTurns.{WorkedTurns};
+ghost use Rattle.shape_fallback.specs.WorkedDirections.{WorkedDirections};
 
 /// The ccc that marks are placed by: each row of the rules for Thai and Lao and for other scripts, the
 /// characters and ccc beside them, and the categories that don't change.
@@ -37,6 +37,6 @@ pub fn buffers_meet_worked_cases()
 
 /// What depends on the buffer alone: marks of ccc 0 in text of either way, which stay where they are, the
 /// line that marks stand along, and the flag that says that spaces are due.
-pub fn turns_meet_worked_cases()
-    ensures { WorkedTurns }
+pub fn directions_meet_worked_cases()
+    ensures { WorkedDirections }
 {}

@@ -2,12 +2,12 @@
 use Rattle.std.specs.Prelude.{ℕ, ◌*◌, min, max, List, [], Option, None, unwrap_or}
 use Rattle.shape_items.specs.Items.{Item}
 use Rattle.shape_common.specs.declared.positions.GlyphPosition.{GlyphPosition}
-use Rattle.shape_common.specs.declared.settings.Direction.{Direction}
-use Rattle.shape_common.specs.declared.settings.Direction.TheVariants.{Invalid}
-use Rattle.shape_common.specs.declared.settings.BufferClusterLevel.{BufferClusterLevel}
-use Rattle.shape_common.specs.declared.settings.BufferClusterLevel.TheVariants.{MonotoneGraphemes}
-use Rattle.shape_common.specs.declared.settings.Script.{Script}
-use Rattle.shape_common.specs.declared.settings.GlyphId.{GlyphId}
+use Rattle.shape_common.specs.declared.text_types.Direction.{Direction}
+use Rattle.shape_common.specs.declared.text_types.Direction.TheVariants.{Invalid}
+use Rattle.shape_common.specs.declared.text_types.BufferClusterLevel.{BufferClusterLevel}
+use Rattle.shape_common.specs.declared.text_types.BufferClusterLevel.TheVariants.{MonotoneGraphemes}
+use Rattle.shape_common.specs.declared.text_types.Script.{Script}
+use Rattle.shape_common.specs.declared.text_types.GlyphId.{GlyphId}
 use Rattle.shape_common.specs.declared.flags.BufferFlags.{BufferFlags}
 use Rattle.shape_common.specs.declared.flags.ScratchFlags.{ScratchFlags}
 

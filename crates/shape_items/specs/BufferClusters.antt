@@ -3,7 +3,7 @@ use Rattle.std.specs.Prelude.{ℕ, ◌+◌, ◌==◌, nat_lt, if◌then◌else�
 use Rattle.std.specs.Int.RustNames.{bit_and, bit_or}
 use Rattle.shape_items.specs.Clusters.{merge, least_cluster, map_range, mark_break, mark_concat}
 use Rattle.shape_items.specs.Buffer.{Buffer}
-use Rattle.shape_common.specs.declared.settings.BufferClusterLevel.TheVariants.{MonotoneGraphemes, MonotoneCharacters, Characters}
+use Rattle.shape_common.specs.declared.text_types.BufferClusterLevel.TheVariants.{MonotoneGraphemes, MonotoneCharacters, Characters}
 use Rattle.shape_common.specs.FlagNames.{PRODUCE_UNSAFE_TO_CONCAT, HAS_GLYPH_FLAGS}
 
 -- the buffer with the scratch flag HAS_GLYPH_FLAGS set

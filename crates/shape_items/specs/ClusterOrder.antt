@@ -1,8 +1,8 @@
 -- The order of clusters, and what keeps it.
 use Rattle.std.specs.Prelude.{ℕ, ◌<◌, ◌≤◌, ⊤, Bool, true, false, List, length, slice_index_or, Contains}
 use Rattle.std.specs.List.Sorted.{IsNonDecreasing}
-use Rattle.shape_common.specs.declared.settings.BufferClusterLevel.{BufferClusterLevel}
-use Rattle.shape_common.specs.declared.settings.BufferClusterLevel.TheVariants.{MonotoneGraphemes, MonotoneCharacters, Characters}
+use Rattle.shape_common.specs.declared.text_types.BufferClusterLevel.{BufferClusterLevel}
+use Rattle.shape_common.specs.declared.text_types.BufferClusterLevel.TheVariants.{MonotoneGraphemes, MonotoneCharacters, Characters}
 
 -- a level at which clusters are merged
 abbrev pub IsMonotoneLevel : BufferClusterLevel → Type 0

@@ -10,7 +10,7 @@ use Rattle.shape_items.specs.KeepsFlags.{some_has}
 use Rattle.shape_common.specs.Wrapping.{◌+ʷ◌}
 use Rattle.shape_items.specs.declared.clusters.glyph_clusters.GlyphCluster.{GlyphCluster}
 use Rattle.shape_common.specs.declared.positions.GlyphPosition.{GlyphPosition}
-use Rattle.shape_common.specs.declared.settings.Direction.{Direction}
+use Rattle.shape_common.specs.declared.text_types.Direction.{Direction}
 
 -- how far a position moves the pen along the line
 abbrev pub advance_along : Direction → GlyphPosition → ℤ

@@ -7,7 +7,7 @@ use Rattle.shape_common.specs.FlagNames.{UNSAFE_TO_BREAK}
 use Rattle.shape_items.specs.Items.{Item}
 use Rattle.shape_items.specs.KeepsFlags.{has_flag}
 use Rattle.shape_common.specs.declared.positions.GlyphPosition.{GlyphPosition}
-use Rattle.shape_common.specs.declared.settings.Direction.{Direction}
+use Rattle.shape_common.specs.declared.text_types.Direction.{Direction}
 use Rattle.shape_lines.specs.Parts.{parts_after, parts_from, parts_of, is_end, total, width_between}
 use Rattle.shape_lines.specs.Places.{cluster_at, lacks_break_at}
 use Rattle.shape_lines.specs.RightLines.{total_width, width_from}

@@ -12,7 +12,7 @@ use Rattle.shape_items.specs.Flags.{flags_of, HasOneSetOfFlags}
 use Rattle.shape_items.specs.Items.{Item, new_item}
 use Rattle.shape_items.specs.KeepsFlags.{has_flag}
 use Rattle.shape_common.specs.declared.positions.GlyphPosition.{GlyphPosition}
-use Rattle.shape_common.specs.declared.settings.Direction.{Direction}
+use Rattle.shape_common.specs.declared.text_types.Direction.{Direction}
 use Rattle.shape_lines.specs.CanCut.{IsMonotone}
 use Rattle.shape_lines.specs.Places.{cluster_at, lacks_break_at}
 use Rattle.shape_lines.specs.TextOrder.{Glyph, glyphs_of, falls, text_order, place_in}
@@ -66,21 +66,21 @@ pub place_in-within : (back : Bool) (n k : ℕ) → k < n → place_in back n k 
 place_in-within true n k lt = omega arith
 place_in-within false n k lt = lt
 
-abbrev pub turned_if : Bool → List Glyph → List Glyph
-turned_if back gs = if back then reverse gs else gs
+abbrev pub reversed_if : Bool → List Glyph → List Glyph
+reversed_if back gs = if back then reverse gs else gs
 
-length-turned : (back : Bool) (gs : List Glyph) → length (turned_if back gs) ≡ length gs
-length-turned true gs = length-reverse gs
-length-turned false gs = refl
+length-reversed : (back : Bool) (gs : List Glyph) → length (reversed_if back gs) ≡ length gs
+length-reversed true gs = length-reverse gs
+length-reversed false gs = refl
 
-turned-at : (back : Bool) (gs : List Glyph) (k : ℕ) (g : Glyph) → k < length gs
-    → get_or (turned_if back gs) k g ≡ get_or gs (place_in back (length gs) k) g
-turned-at true gs k g lt = get_or-reverse gs k g lt
-turned-at false gs k g lt = refl
+reversed-at : (back : Bool) (gs : List Glyph) (k : ℕ) (g : Glyph) → k < length gs
+    → get_or (reversed_if back gs) k g ≡ get_or gs (place_in back (length gs) k) g
+reversed-at true gs k g lt = get_or-reverse gs k g lt
+reversed-at false gs k g lt = refl
 
 pub length-text : (b : Buffer) → length (text_order b) ≡ length b.items
 length-text b =
-    length-turned (falls (clusters b.items)) (glyphs_of b.direction b.items b.positions) ∙ length-glyphs b.direction b.items b.positions
+    length-reversed (falls (clusters b.items)) (glyphs_of b.direction b.items b.positions) ∙ length-glyphs b.direction b.items b.positions
 
 -- the glyph of a place of the text, in the list
 pub listed : (b : Buffer) (k : ℕ) (g : Glyph) → k < length b.items
@@ -90,7 +90,7 @@ listed b k g lt =
     let gs = glyphs_of b.direction b.items b.positions in
     let long = length-glyphs b.direction b.items b.positions in
     let short : k < length gs = omega (arith, long, lt) in
-    turned-at (falls (clusters b.items)) gs k g short
+    reversed-at (falls (clusters b.items)) gs k g short
     ∙ ap (λ n. get_or gs (place_in (falls (clusters b.items)) n k) g) long
 
 pub no_glyph : Glyph

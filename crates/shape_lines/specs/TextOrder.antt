@@ -8,7 +8,7 @@ use Rattle.shape_items.specs.Items.{Item}
 use Rattle.shape_items.specs.KeepsFlags.{has_flag}
 use Rattle.shape_common.specs.Positions.{zero_position}
 use Rattle.shape_common.specs.declared.positions.GlyphPosition.{GlyphPosition}
-use Rattle.shape_common.specs.declared.settings.Direction.{Direction}
+use Rattle.shape_common.specs.declared.text_types.Direction.{Direction}
 
 -- a glyph as a line breaker sees it: its cluster, whether it lacks UNSAFE_TO_BREAK, and its width
 pub record Glyph : Type 0 where

@@ -4,8 +4,8 @@ use Rattle.shape_items.specs.Buffer.{Buffer}
 use Rattle.shape_items.specs.Items.{Item}
 use Rattle.shape_common.specs.Positions.{zero_position}
 use Rattle.shape_common.specs.declared.positions.GlyphPosition.{GlyphPosition}
-use Rattle.shape_common.specs.declared.settings.Direction.{Direction}
-use Rattle.shape_common.specs.declared.settings.Direction.TheVariants.{LeftToRight, RightToLeft, TopToBottom}
+use Rattle.shape_common.specs.declared.text_types.Direction.{Direction}
+use Rattle.shape_common.specs.declared.text_types.Direction.TheVariants.{LeftToRight, RightToLeft, TopToBottom}
 use Rattle.shape_lines.specs.RightLines.{AreRightLines}
 use Rattle.shape_lines.specs.WorkedCanCut.{marked, of_items}
 use Rattle.shape_lines.specs.declared.cutting.Line.{Line}
@@ -44,8 +44,8 @@ abbrev pub text : Buffer
 text = laid LeftToRight (cell 0 0 (pos 600) ∷ cell 1 0 (pos 500) ∷ cell 2 0 (pos 250) ∷ cell 3 0 (pos 300) ∷ [])
 
 -- the same as it runs to the left
-abbrev pub turned : Buffer
-turned = laid RightToLeft (cell 3 0 (pos 300) ∷ cell 2 0 (pos 250) ∷ cell 1 0 (pos 500) ∷ cell 0 0 (pos 600) ∷ [])
+abbrev pub reversed : Buffer
+reversed = laid RightToLeft (cell 3 0 (pos 300) ∷ cell 2 0 (pos 250) ∷ cell 1 0 (pos 500) ∷ cell 0 0 (pos 600) ∷ [])
 
 abbrev pub downward : Buffer
 downward = record text { direction = TopToBottom }
@@ -55,8 +55,8 @@ abbrev pub joined : Buffer
 joined = laid LeftToRight (cell 0 0 (pos 10) ∷ cell 1 1 (pos 20) ∷ cell 4 0 (pos 40) ∷ cell 4 0 (pos 80) ∷ [])
 
 -- running to the left, not to be broken before the last cluster of the text
-abbrev pub joined_turned : Buffer
-joined_turned = laid RightToLeft (cell 4 1 (pos 40) ∷ cell 1 0 (pos 20) ∷ cell 0 1 (pos 10) ∷ [])
+abbrev pub joined_reversed : Buffer
+joined_reversed = laid RightToLeft (cell 4 1 (pos 40) ∷ cell 1 0 (pos 20) ∷ cell 0 1 (pos 10) ∷ [])
 
 -- they end at 600, 1100 and 400
 abbrev pub wide_then_narrow : Buffer
@@ -78,10 +78,10 @@ pub record WorkedLines : Type 0 where
   pub whole : AreRightLines text 9 (pos 1650) (line 0 4 0 9 ∷ [])
   pub one_less_than_whole : AreRightLines text 9 (pos 1649) (line 0 3 0 3 ∷ line 3 4 3 9 ∷ [])
   pub shortest_as_none_fits : AreRightLines text 4 (pos 100) each_alone
-  pub from_the_end_where_clusters_fall : AreRightLines turned 4 (pos 1200) (line 2 4 0 2 ∷ line 0 2 2 4 ∷ [])
+  pub from_the_end_where_clusters_fall : AreRightLines reversed 4 (pos 1200) (line 2 4 0 2 ∷ line 0 2 2 4 ∷ [])
   pub vertical : AreRightLines downward 4 (pos 1101) (line 0 1 0 1 ∷ line 1 4 1 4 ∷ [])
   pub not_before_an_unsafe_cluster : AreRightLines joined 5 (pos 10) (line 0 2 0 4 ∷ line 2 4 4 5 ∷ [])
-  pub nor_where_clusters_fall : AreRightLines joined_turned 5 (pos 30) (line 2 3 0 1 ∷ line 0 2 1 5 ∷ [])
+  pub nor_where_clusters_fall : AreRightLines joined_reversed 5 (pos 30) (line 2 3 0 1 ∷ line 0 2 1 5 ∷ [])
   pub not_inside_a_cluster : AreRightLines joined 5 (pos 70) (line 0 2 0 4 ∷ line 2 4 4 5 ∷ [])
   pub nor_as_none_fits : AreRightLines one_cluster 8 (pos 0) (line 0 2 7 8 ∷ [])
   pub fits_again : AreRightLines wide_then_narrow 3 (pos 400) (line 0 3 0 3 ∷ [])

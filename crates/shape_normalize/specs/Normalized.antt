@@ -5,7 +5,7 @@ use Rattle.shape_items.specs.Clusters.{clusters}
 use Rattle.shape_items.specs.ClusterOrder.{KeepsClusters, IsMonotoneLevel}
 use Rattle.shape_items.specs.Items.{Item, ccc_of_item, feature_bits}
 use Rattle.shape_items.specs.UnicodeProps.{is_hidden_char}
-use Rattle.shape_common.specs.declared.settings.GlyphId.{GlyphId}
+use Rattle.shape_common.specs.declared.text_types.GlyphId.{GlyphId}
 use Rattle.canonical_form.specs.Runs.{HasNoLongerRun}
 use Rattle.shape_plan.specs.Reorder.{IsRunInOrder}
 use Rattle.shape_plan.specs.Rules.{Rules, has_glyph}

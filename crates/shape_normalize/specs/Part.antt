@@ -3,7 +3,7 @@ use Rattle.std.specs.Prelude.{ℕ, List, map, fold, Option, unwrap_or}
 use Rattle.std.specs.Option.{option_map}
 use Rattle.shape_common.specs.Unicode.{UnicodeMeaning}
 use Rattle.shape_common.specs.declared.flags.ScratchFlags.{ScratchFlags}
-use Rattle.shape_common.specs.declared.settings.GlyphId.{GlyphId}
+use Rattle.shape_common.specs.declared.text_types.GlyphId.{GlyphId}
 use Rattle.shape_items.specs.Items.{Item}
 use Rattle.shape_items.specs.UnicodeProps.{with_unicode_props, with_scratch_of}
 use Rattle.shape_normalize.specs.declared.ot_shape_normalize.part.Part.{Part}

@@ -5,7 +5,7 @@ use Rattle.std.specs.List.Sorted.{IsPermutation}
 use Rattle.shape_items.specs.Buffer.{Buffer}
 use Rattle.shape_items.specs.Items.{Item, ccc_of_item, feature_bits}
 use Rattle.shape_items.specs.KeepsFlags.{KeepsFlags}
-use Rattle.shape_common.specs.declared.settings.BufferClusterLevel.TheVariants.{Characters}
+use Rattle.shape_common.specs.declared.text_types.BufferClusterLevel.TheVariants.{Characters}
 use Rattle.shape_plan.specs.Reorder.{with_ccc}
 use Rattle.shape_common.specs.FlagNames.{HAS_GLYPH_FLAGS}
 

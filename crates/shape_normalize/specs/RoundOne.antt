@@ -14,7 +14,7 @@ use Rattle.canonical_form.specs.Expansion.{chosen_expansion}
 use Rattle.shape_common.specs.Face.{FaceMeaning}
 use Rattle.shape_common.specs.Unicode.{UnicodeMeaning}
 use Rattle.shape_common.specs.declared.flags.ScratchFlags.{ScratchFlags}
-use Rattle.shape_common.specs.declared.settings.GlyphId.{GlyphId}
+use Rattle.shape_common.specs.declared.text_types.GlyphId.{GlyphId}
 use Rattle.shape_plan.specs.Rules.{Rules, decompositions, has_glyph}
 use Rattle.shape_common.specs.FlagNames.{HAS_SPACE_FALLBACK, HAS_VARIATION_SELECTOR_FALLBACK}
 use Rattle.shape_normalize.specs.Part.{glyph_index, part_item, seen_chars}
@@ -82,8 +82,8 @@ abbrev pub is_selector_item : UnicodeMeaning → Item → Bool
 is_selector_item unicode item = unicode.selector item.codepoint
 
 -- an item that stays: it has the glyph of its character, or keeps the index that it had
-abbrev pub passed_item : (ℕ → Option GlyphId) → Item → Item
-passed_item glyph item = record item { glyph_index = option_map_or (λ g. g.0) (glyph item.codepoint) item.glyph_index }
+abbrev pub skipped_item : (ℕ → Option GlyphId) → Item → Item
+skipped_item glyph item = record item { glyph_index = option_map_or (λ g. g.0) (glyph item.codepoint) item.glyph_index }
 
 -- a selector that no glyph came of: it is marked, and no longer ignorable if there is a glyph for such
 abbrev pub marked_selector : Option GlyphId → Item → Item
@@ -97,12 +97,12 @@ marked_selector not_found item = record item {
 -- an item with the selectors directly after it: of the item and the first of them becomes one item, if the face has a glyph for the two
 abbrev pub variant_items : FaceMeaning → Option GlyphId → List Item → List Item
 variant_items face not_found [] = []
-variant_items face not_found (x ∷ []) = passed_item face.nominal_glyph x ∷ []
+variant_items face not_found (x ∷ []) = skipped_item face.nominal_glyph x ∷ []
 variant_items face not_found (x ∷ v ∷ rest) =
-    let passed = passed_item face.nominal_glyph in
+    let skipped = skipped_item face.nominal_glyph in
     elim (face.variation_glyph x.codepoint v.codepoint) [
-      | Some g ↦ record x { glyph_index = g.0 } ∷ map passed rest
-      | None ↦ passed x ∷ marked_selector not_found (passed v) ∷ map passed rest
+      | Some g ↦ record x { glyph_index = g.0 } ∷ map skipped rest
+      | None ↦ skipped x ∷ marked_selector not_found (skipped v) ∷ map skipped rest
     ]
 
 -- scratch flags with "has variation selector fallback"

@@ -55,8 +55,8 @@ abbrev pub first_of_ccc : ℕ → Buffer → ℕ → ℕ → Buffer
 first_of_ccc ccc b start end = if start == 1 then ccc_set 1 (get_or b.items 1 (new_item 0 0)) ccc b else b
 
 -- the first two items of a run change places
-abbrev pub first_two_turned : Buffer → ℕ → ℕ → Buffer
-first_two_turned b start end = exchanged start (start + 1) b
+abbrev pub first_two_reversed : Buffer → ℕ → ℕ → Buffer
+first_two_reversed b start end = exchanged start (start + 1) b
 
 -- in a mode, with such a hook
 abbrev pub reordering : ℕ → (Buffer → ℕ → ℕ → Buffer) → Rules
@@ -69,7 +69,7 @@ hidden_by rules items =
 
 pub record CccOfReorderedMarks : Type 0 where
   -- the hook is handed the run in its order, and has the last word on it
-  pub after_the_order : cccs_by (reordering 1 first_two_turned) (item 0x61 0 ∷ item 0x301 0 ∷ item 0x323 0 ∷ [])
+  pub after_the_order : cccs_by (reordering 1 first_two_reversed) (item 0x61 0 ∷ item 0x301 0 ∷ item 0x323 0 ∷ [])
       ≡ (0x61, 0) ∷ (0x301, 230) ∷ (0x323, 220) ∷ []
   pub keeps_what_it_set : cccs_by (reordering 1 (first_of_ccc 10)) (item 0x61 0 ∷ item 0x301 0 ∷ item 0x323 0 ∷ [])
       ≡ (0x61, 0) ∷ (0x323, 10) ∷ (0x301, 230) ∷ []
@@ -79,7 +79,7 @@ pub record CccOfReorderedMarks : Type 0 where
   pub lets_pass : cccs_by (reordering 3 (first_of_ccc 220)) (item 0x61 0 ∷ item 0x308 0 ∷ item 0x301 0 ∷ [])
       ≡ (0xE1, 0) ∷ (0x308, 220) ∷ []
   -- U+0308 comes to stand before U+0323, and keeps U+0301 from the letter
-  pub blocks_before_smaller : cccs_by (reordering 3 first_two_turned) (item 0x61 0 ∷ item 0x323 0 ∷ item 0x308 0 ∷ item 0x301 0 ∷ [])
+  pub blocks_before_smaller : cccs_by (reordering 3 first_two_reversed) (item 0x61 0 ∷ item 0x323 0 ∷ item 0x308 0 ∷ item 0x301 0 ∷ [])
       ≡ (0x61, 0) ∷ (0x308, 230) ∷ (0x323, 220) ∷ (0x301, 230) ∷ []
   -- CGJ: what stands before it is of a greater ccc than what stands after, or of a smaller one, once the hook has set it
   pub keeps_apart : hidden_by (reordering 1 (first_of_ccc 240)) (item 0x61 0 ∷ item 0x323 0 ∷ item 0x34F 0 ∷ item 0x301 0 ∷ [])

@@ -3,10 +3,10 @@ use Rattle.std.specs.Prelude.{◌≡◌, ℕ, pos, Bool, true, false, [], ◌∷
 use Rattle.shape_items.specs.Clusters.{merge}
 use Rattle.shape_items.specs.Items.{Item, new_item}
 use Rattle.shape_common.specs.declared.general_category.hb_unicode_general_category_t.TheVariants.{OtherLetter, SpaceSeparator}
-use Rattle.shape_common.specs.declared.settings.BufferClusterLevel.TheVariants.{Characters}
+use Rattle.shape_common.specs.declared.text_types.BufferClusterLevel.TheVariants.{Characters}
 use Rattle.shape_plan.specs.Plan.{Plan}
 use Rattle.shape_plan.specs.Rules.{goes_short, mode_recomposes, used_mode}
-use Rattle.shape_normalize.specs.RoundOne.{is_fallback_space, item_glyph, expanded_item, passed_item, variant_items, sequences, is_selector_sequence, variation_sequence_spans, variation_sequences_from, variation_sequences_merged, round_one}
+use Rattle.shape_normalize.specs.RoundOne.{is_fallback_space, item_glyph, expanded_item, skipped_item, variant_items, sequences, is_selector_sequence, variation_sequence_spans, variation_sequences_from, variation_sequences_merged, round_one}
 use Rattle.shape_normalize.specs.WorkedWorld.{world, face_of, rules_in, item, buffer_of, at, glyph, marked}
 
 -- which modes go short, by themselves and in a sequence, and which compose
@@ -172,9 +172,9 @@ selects one = (one.properties.selector_mark, one.properties.ignorable)
 
 -- items with their selectors
 pub record VariantsWorked : Type 0 where
-  pub passes_with_glyph : glyph (passed_item (face_of (0x62 ∷ [])).nominal_glyph (indexed 0x62 5)) ≡ (0x62, 0x62)
+  pub skipped_with_glyph : glyph (skipped_item (face_of (0x62 ∷ [])).nominal_glyph (indexed 0x62 5)) ≡ (0x62, 0x62)
   -- without a glyph an item keeps the index that it had
-  pub passes_without : glyph (passed_item (face_of []).nominal_glyph (indexed 0x62 5)) ≡ (0x62, 5)
+  pub skipped_without : glyph (skipped_item (face_of []).nominal_glyph (indexed 0x62 5)) ≡ (0x62, 5)
   pub variation_sequence : map glyph (variant_items (face_of (0xFE00 ∷ [])) None (item 0x61 0 ∷ item 0xFE00 1 ∷ item 0xFE00 2 ∷ []))
       ≡ (0x61, 7) ∷ (0xFE00, 0xFE00) ∷ []
   pub no_variation_sequence : map glyph
@@ -210,8 +210,8 @@ pub record VariantsWorked : Type 0 where
 variants_worked : VariantsWorked
 unfolding merge
 variants_worked = record {
-  passes_with_glyph = refl;
-  passes_without = refl;
+  skipped_with_glyph = refl;
+  skipped_without = refl;
   variation_sequence = refl;
   no_variation_sequence = refl;
   marks_selector = refl;

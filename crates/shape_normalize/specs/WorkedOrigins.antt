@@ -109,7 +109,7 @@ pub record OrderWorked : Type 0 where
   pub not_with_starter : AreInOneRun runs_of_marks 1 0 → ⊥
   pub not_past_starter : AreInOneRun runs_of_marks 3 5 → ⊥
   -- a hook may reverse the run, and move no starter, nor a mark to another run, nor leave one out
-  pub turned : IsOrderOf hooked runs_of_marks (0 ∷ 3 ∷ 2 ∷ 1 ∷ 4 ∷ 5 ∷ [])
+  pub reversed : IsOrderOf hooked runs_of_marks (0 ∷ 3 ∷ 2 ∷ 1 ∷ 4 ∷ 5 ∷ [])
   pub starter_moved : IsOrderOf hooked runs_of_marks (1 ∷ 0 ∷ 2 ∷ 3 ∷ 4 ∷ 5 ∷ []) → ⊥
   pub other_run : IsOrderOf hooked runs_of_marks (0 ∷ 1 ∷ 2 ∷ 5 ∷ 4 ∷ 3 ∷ []) → ⊥
   pub left_out : IsOrderOf hooked runs_of_marks (0 ∷ 1 ∷ 2 ∷ 4 ∷ 5 ∷ []) → ⊥

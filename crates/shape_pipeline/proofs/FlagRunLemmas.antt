@@ -7,7 +7,7 @@ use Rattle.shape_buffer.specs.Keepers.{IsFlagKeeper, EachStep}
 use Rattle.shape_buffer.specs.Layout.{LawfulMasks}
 use Rattle.shape_buffer.specs.Outcome.{Step, step, run_steps}
 use Rattle.shape_common.specs.declared.flags.BufferFlags.{BufferFlags}
-use Rattle.shape_common.specs.declared.settings.Direction.{Direction}
+use Rattle.shape_common.specs.declared.text_types.Direction.{Direction}
 use Rattle.shape_buffer.proofs.Flags.HonestLemmas.{IsHonest, honest-kept, one_set-propagated, concat-propagated}
 use Rattle.shape_buffer.proofs.Steps.KeeperLemmas.{EachStep-front}
 use Rattle.shape_fallback.proofs.KeeperLemmas.{fallback-keeps_flags}
@@ -17,7 +17,7 @@ use Rattle.shape_plan.specs.Decisions.{MasksAreFeatures}
 use Rattle.shape_plan.specs.Keepers.{RunKeepsFlags}
 use Rattle.shape_plan.specs.Run.{Run}
 use Rattle.shape_position.specs.Steps.{show_steps, finish_steps}
-use Rattle.shape_position.specs.Reversal.{turned}
+use Rattle.shape_position.specs.Reversal.{reversed}
 use Rattle.shape_position.proofs.StepKeepers.{steps_keep_flags}
 use Rattle.shape_prepare.specs.Begun.{begun}
 use Rattle.shape_prepare.specs.ClustersFormed.{clusters_formed}
@@ -93,9 +93,9 @@ module _ (run : Run) (target : Direction) (flags : BufferFlags) (lawful : Lawful
   }
 
   flagged-finished : Leads (IsSeen flags) (finish_steps run) (IsFlagged flags)
-  flagged-finished = Leads-then {steps = step turned ∷ show_steps run} {more = step flags_propagated ∷ []}
-      (seen-run flags (step turned ∷ show_steps run)
-      (EachStep-front IsFlagKeeper (step turned ∷ show_steps run) (step flags_propagated ∷ []) (steps_keep_flags.finish run keeps)))
+  flagged-finished = Leads-then {steps = step reversed ∷ show_steps run} {more = step flags_propagated ∷ []}
+      (seen-run flags (step reversed ∷ show_steps run)
+      (EachStep-front IsFlagKeeper (step reversed ∷ show_steps run) (step flags_propagated ∷ []) (steps_keep_flags.finish run keeps)))
       flagged-last
 
   flagged-shaped : Leads (IsSeen flags) (shaped_steps run) (IsFlagged flags)

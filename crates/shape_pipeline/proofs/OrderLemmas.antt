@@ -13,19 +13,19 @@ use Rattle.shape_items.specs.Items.{Item}
 use Rattle.shape_buffer.specs.Keepers.{KeepsOrder, IsClusterKeeper, EachStep}
 use Rattle.shape_buffer.specs.Outcome.{Step, step, run_steps}
 use Rattle.shape_common.specs.Unicode.{UnicodeMeaning}
-use Rattle.shape_common.specs.declared.settings.Script.{Script}
-use Rattle.shape_common.specs.declared.settings.BufferClusterLevel.TheVariants.{MonotoneGraphemes}
-use Rattle.shape_common.specs.declared.settings.Direction.{Direction}
-use Rattle.shape_common.specs.declared.settings.Direction.TheVariants.{Invalid, LeftToRight, RightToLeft, TopToBottom, BottomToTop}
+use Rattle.shape_common.specs.declared.text_types.Script.{Script}
+use Rattle.shape_common.specs.declared.text_types.BufferClusterLevel.TheVariants.{MonotoneGraphemes}
+use Rattle.shape_common.specs.declared.text_types.Direction.{Direction}
+use Rattle.shape_common.specs.declared.text_types.Direction.TheVariants.{Invalid, LeftToRight, RightToLeft, TopToBottom, BottomToTop}
 use Rattle.shape_buffer.proofs.Steps.KeeperLemmas.{EachStep-append}
 use Rattle.shape_fallback.proofs.KeeperLemmas.{fallback-keeps_clusters}
 use Rattle.shape_normalize.proofs.Normalized.ClusterOrderLemmas.{KeepsOrder-normalized}
 use Rattle.shape_normalize.proofs.Hooks.ReorderLemmas.{LawfulReorder}
 use Rattle.shape_plan.specs.Run.{Run}
 use Rattle.shape_position.specs.Steps.{show_steps, finish_steps}
-use Rattle.shape_position.specs.Reversal.{turned}
+use Rattle.shape_position.specs.Reversal.{reversed}
 use Rattle.shape_position.proofs.StepKeepers.{steps_keep_clusters}
-use Rattle.shape_prepare.specs.ClusterPoint.{InOrderFor, direction_for, is_turned}
+use Rattle.shape_prepare.specs.ClusterPoint.{InOrderFor, direction_for, is_reversed}
 use Rattle.shape_prepare.specs.PrepareSteps.{prepare_steps}
 use Rattle.shape_prepare.proofs.Keeping.FirstLemmas.{preparing_keeps_firsts}
 use Rattle.shape_prepare.proofs.Keeping.OrderKeeperLemmas.{preparing_keeps_order}
@@ -45,9 +45,9 @@ record Comes (From : ℕ → Type 0) (b : Buffer) : Type 0 where
 -- reversed against the target direction exactly when the clusters fall
 record IsFacing (From : ℕ → Type 0) (target : Direction) (b : Buffer) : Type 0 where
   comes : Comes From b
-  turned : Bool
-  direction : b.direction ≡ direction_for turned target
-  ordered : IsOrderedFor turned (clusters b.items)
+  reversed : Bool
+  direction : b.direction ≡ direction_for reversed target
+  ordered : IsOrderedFor reversed (clusters b.items)
 
 -- in the order that the target direction asks
 record IsShown (From : ℕ → Type 0) (target : Direction) (b : Buffer) : Type 0 where
@@ -75,9 +75,9 @@ IsKept-facing From target = record {
   monotone = λ b state. state.comes.monotone;
   kept = λ old new state keeps. record {
     comes = comes-kept state.comes keeps;
-    turned = state.turned;
+    reversed = state.reversed;
     direction = keeps.direction ∙ state.direction;
-    ordered = ordered-kept state.turned state.ordered keeps;
+    ordered = ordered-kept state.reversed state.ordered keeps;
   };
 }
 
@@ -109,38 +109,38 @@ back_again RightToLeft valid = refl
 back_again TopToBottom valid = refl
 back_again BottomToTop valid = refl
 
-shown-turned : {From : ℕ → Type 0} (target : Direction) → target ≢ Invalid → (b : Buffer) → IsFacing From target b
-    → IsShown From target (turned b)
-shown-turned {From} target valid b state =
-    let turns = steps_keep_clusters.turning b in
+shown-reversed : {From : ℕ → Type 0} (target : Direction) → target ≢ Invalid → (b : Buffer) → IsFacing From target b
+    → IsShown From target (reversed b)
+shown-reversed {From} target valid b state =
+    let reverses = steps_keep_clusters.reversal b in
     record {
       comes = record {
-        from = λ k is. state.comes.from k (turns.none_new k is);
-        monotone = subst IsMonotoneLevel (sym turns.level) state.comes.monotone;
+        from = λ k is. state.comes.from k (reverses.none_new k is);
+        monotone = subst IsMonotoneLevel (sym reverses.level) state.comes.monotone;
       };
-      ordered = by_turn state.turned state.direction state.ordered;
+      ordered = by_reversal state.reversed state.direction state.ordered;
     }
   where
-    by_turn : (once : Bool) → b.direction ≡ direction_for once target → IsOrderedFor once (clusters b.items)
-        → IsOrderedFor (is_backward target) (clusters (turned b).items)
-    by_turn true is falls =
-        subst (λ (t : Bool). IsOrderedFor t (clusters (turned b).items)) (ap (λ d. not (is_backward d)) is ∙ back_again target valid)
-        ((steps_keep_clusters.turning b).falling falls)
-    by_turn false is rises =
-        subst (λ (t : Bool). IsOrderedFor t (clusters (turned b).items)) (ap is_backward is) ((steps_keep_clusters.turning b).rising rises)
+    by_reversal : (once : Bool) → b.direction ≡ direction_for once target → IsOrderedFor once (clusters b.items)
+        → IsOrderedFor (is_backward target) (clusters (reversed b).items)
+    by_reversal true is falls =
+        subst (λ (t : Bool). IsOrderedFor t (clusters (reversed b).items)) (ap (λ d. not (is_backward d)) is ∙ back_again target valid)
+        ((steps_keep_clusters.reversal b).falling falls)
+    by_reversal false is rises =
+        subst (λ (t : Bool). IsOrderedFor t (clusters (reversed b).items)) (ap is_backward is) ((steps_keep_clusters.reversal b).rising rises)
 
 -- ---- the parts
 
 module _ (run : Run) (target : Direction) (valid : target ≢ Invalid) (From : ℕ → Type 0)
     (lawful : LawfulReorder run.rules.reorder) (keeps : RunKeepsClusters run) where
   -- a text as preparing leaves it
-  facing-prepared : (turned : Bool) (old new : Buffer) → InOrderFor turned old new → old.direction ≡ target
+  facing-prepared : (reversed : Bool) (old new : Buffer) → InOrderFor reversed old new → old.direction ≡ target
       → IsMonotoneLevel old.cluster_level
       → ((k : ℕ) → Contains (clusters new.items) k → From k) → IsFacing From target new
-  facing-prepared turned old new order is monotone from = record {
+  facing-prepared reversed old new order is monotone from = record {
     comes = record { from = from; monotone = subst IsMonotoneLevel (sym order.level) monotone };
-    turned = turned;
-    direction = order.direction ∙ ap (direction_for turned) is;
+    reversed = reversed;
+    direction = order.direction ∙ ap (direction_for reversed) is;
     ordered = order.order;
   }
 
@@ -160,10 +160,10 @@ module _ (run : Run) (target : Direction) (valid : target ≢ Invalid) (From : �
 
   shown-finished : Leads (IsFacing From target) (finish_steps run) (IsShown From target)
   shown-finished =
-      let turn : Leads (IsFacing From target) (step turned ∷ [])
-      (IsShown From target) = record { leads = λ b state. shown-turned target valid b state } in
+      let reversal : Leads (IsFacing From target) (step reversed ∷ [])
+      (IsShown From target) = record { leads = λ b state. shown-reversed target valid b state } in
       let flags : EachStep IsClusterKeeper (step flags_propagated ∷ []) = (steps_keep_clusters.flags, tt) in
-      Leads-then {steps = step turned ∷ []} {more = show_steps run ++ step flags_propagated ∷ []} turn
+      Leads-then {steps = step reversed ∷ []} {more = show_steps run ++ step flags_propagated ∷ []} reversal
       (Leads-keepers (IsKept-shown From target) (show_steps run ++ step flags_propagated ∷ [])
       (EachStep-append IsClusterKeeper (show_steps run) (step flags_propagated ∷ []) (steps_keep_clusters.showing run keeps.calls) flags))
 
@@ -178,7 +178,7 @@ module _ (run : Run) (target : Direction) (valid : target ≢ Invalid) (From : �
       → IsShown From target (run_steps (all_steps run target) b)
   shown-all b is monotone rising from =
       let prepares : Leads (λ c. c ≡ b) (prepare_steps run target) (IsFacing From target) = record {
-        leads = λ c same. rw same (facing-prepared (is_turned run b) b (run_steps (prepare_steps run target) b)
+        leads = λ c same. rw same (facing-prepared (is_reversed run b) b (run_steps (prepare_steps run target) b)
             (preparing_keeps_order run target b keeps.calls monotone rising) is monotone from);
       } in
       (Leads-then {steps = prepare_steps run target} {more = normalising run.rules

@@ -1,7 +1,7 @@
 -- The rows of texts that are prepared, normalised and shaped.
 use Rattle.std.proofs.Common.{◌≡◌, length, inl, inr, refl, ap, arith}
 use Rattle.shape_items.specs.Buffer.{new_buffer}
-use Rattle.shape_common.specs.declared.settings.Direction.{Direction}
+use Rattle.shape_common.specs.declared.text_types.Direction.{Direction}
 use Rattle.shape_plan.specs.Run.{Run}
 use Rattle.shape_pipeline.specs.Shaped.{HasItems}
 use Rattle.shape_pipeline.specs.WorkedPasses.{one_item, TextsPrepared, TextsShaped, ListsOfGlyphs, LimitsPassed, data_of_texts, WorkedPasses}

@@ -8,7 +8,7 @@ use Rattle.shape_items.specs.Flags.{HasOneSetOfFlags}
 use Rattle.shape_buffer.specs.Guess.{guessed, guessed_direction}
 use Rattle.shape_items.specs.KeepsFlags.{some_has}
 use Rattle.shape_buffer.specs.Outcome.{run_steps}
-use Rattle.shape_common.specs.declared.settings.Direction.{Direction}
+use Rattle.shape_common.specs.declared.text_types.Direction.{Direction}
 use Rattle.shape_normalize.specs.CanonicalForm.{text_of, NormalizesCanonically}
 use Rattle.shape_normalize.specs.Normalized.{normalized, BroughtInHaveGlyphs, HasItemGlyph, HookKeepsClusters, KeepsFeatures, Recomposes}
 use Rattle.shape_normalize.specs.Origins.{ComesByPlace}

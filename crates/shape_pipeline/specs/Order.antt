@@ -5,8 +5,8 @@ use Rattle.shape_items.specs.Buffer.{Buffer}
 use Rattle.shape_items.specs.ClusterOrder.{IsMonotoneLevel, IsOrderedFor}
 use Rattle.shape_items.specs.Clusters.{clusters}
 use Rattle.shape_common.specs.Direction.{is_backward}
-use Rattle.shape_common.specs.declared.settings.BufferClusterLevel.TheVariants.{MonotoneGraphemes}
-use Rattle.shape_common.specs.declared.settings.Direction.{Direction}
+use Rattle.shape_common.specs.declared.text_types.BufferClusterLevel.TheVariants.{MonotoneGraphemes}
+use Rattle.shape_common.specs.declared.text_types.Direction.{Direction}
 use Rattle.shape_normalize.specs.Normalized.{HookKeepsClusters}
 use Rattle.shape_plan.specs.Keepers.{CallsKeepClusters}
 use Rattle.shape_plan.specs.Run.{Run}

@@ -3,7 +3,7 @@ use Rattle.std.specs.Prelude.{◌≡◌, ◌≢◌, ◌<◌, ◌≤◌, ◌⊎�
 use Rattle.shape_items.specs.Buffer.{Buffer, limit_of, run_limit}
 use Rattle.shape_buffer.specs.Guess.{guessed, guessed_direction}
 use Rattle.shape_buffer.specs.Outcome.{Step, step, run_steps, EachWithin, SomePast}
-use Rattle.shape_common.specs.declared.settings.Direction.{Direction}
+use Rattle.shape_common.specs.declared.text_types.Direction.{Direction}
 use Rattle.shape_fallback.specs.Steps.{recategorize_step, spaces_step, marks_step}
 use Rattle.shape_normalize.specs.Normalized.{normalized}
 use Rattle.shape_normalize.specs.RoundOne.{round_one}

@@ -10,9 +10,9 @@ use Rattle.shape_items.specs.Flags.{HasOneSetOfFlags}
 use Rattle.shape_buffer.specs.MapBuilder.{Builder}
 use Rattle.shape_common.specs.MapFace.{map_face, advance_of}
 use Rattle.shape_common.specs.PlainUnicode.{plain_unicode}
-use Rattle.shape_common.specs.declared.settings.Direction.TheVariants.{LeftToRight, RightToLeft, TopToBottom, BottomToTop}
-use Rattle.shape_common.specs.declared.settings.Direction.{Direction}
-use Rattle.shape_common.specs.declared.settings.GlyphId.{GlyphId}
+use Rattle.shape_common.specs.declared.text_types.Direction.TheVariants.{LeftToRight, RightToLeft, TopToBottom, BottomToTop}
+use Rattle.shape_common.specs.declared.text_types.Direction.{Direction}
+use Rattle.shape_common.specs.declared.text_types.GlyphId.{GlyphId}
 use Rattle.shape_common.specs.declared.map_face.MapFace.{MapFace}
 use Rattle.shape_plan.specs.Decisions.{decided}
 use Rattle.shape_plan.specs.Keepers.{RunKeepsFlags}

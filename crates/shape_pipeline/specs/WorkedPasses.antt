@@ -8,7 +8,7 @@ use Rattle.shape_buffer.specs.MapBuilder.{Builder}
 use Rattle.shape_buffer.specs.Outcome.{run_steps, EachWithin, SomePast}
 use Rattle.shape_common.specs.PlainUnicode.{plain_unicode}
 use Rattle.shape_common.specs.declared.face.hb_tables_t.{hb_tables_t}
-use Rattle.shape_common.specs.declared.settings.Direction.{Direction}
+use Rattle.shape_common.specs.declared.text_types.Direction.{Direction}
 use Rattle.shape_normalize.specs.RoundOne.{round_one}
 use Rattle.shape_plan.specs.Decisions.{decided}
 use Rattle.shape_plan.specs.Planner.{Planning, begun_planner, collected_planner, facts_of, compiled_plan, planned}

@@ -2,14 +2,14 @@
 use Rattle.std.specs.Prelude.{◌≡◌, ◌&&◌, List, [], ◌∷◌, ◌++◌}
 use Rattle.shape_items.specs.Flags.{flags_propagated}
 use Rattle.shape_buffer.specs.Outcome.{Step, step}
-use Rattle.shape_common.specs.declared.settings.Direction.{Direction}
+use Rattle.shape_common.specs.declared.text_types.Direction.{Direction}
 use Rattle.shape_fallback.specs.Steps.{recategorize_step, spaces_step, marks_step}
 use Rattle.shape_plan.specs.Run.{Run, step_if, hook_if}
 use Rattle.shape_position.specs.Advances.{positions_cleared, advanced}
 use Rattle.shape_position.specs.Ignorables.{ignorables_zeroed, ignorables_hidden}
 use Rattle.shape_position.specs.Selectors.{selectors_replaced}
 use Rattle.shape_position.specs.Tables.{table_positioned, kerned, deleted_narrowed, deleted_removed}
-use Rattle.shape_position.specs.Reversal.{turned}
+use Rattle.shape_position.specs.Reversal.{reversed}
 use Rattle.shape_position.specs.Zeroing.{zeroed_early, zeroed_late}
 use Rattle.shape_prepare.specs.Begun.{begun}
 use Rattle.shape_prepare.specs.ClustersFormed.{clusters_formed}
@@ -60,7 +60,7 @@ steps_from_lookups run =
     ∷ step (deleted_narrowed run.lookups run.decisions)
     ∷ step run.lookups.position_finish_offsets
     ∷ step (marks_step run.unicode run.face run.direction run.script run.decisions)
-    ∷ step turned
+    ∷ step reversed
     ∷ step (deleted_removed run.lookups run.decisions)
     ∷ step selectors_replaced
     ∷ step (ignorables_hidden run.face)

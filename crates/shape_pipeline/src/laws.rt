@@ -14,7 +14,7 @@ ghost use Rattle.shape_buffer.specs.Guess.{guessed};
 ghost use Rattle.shape_buffer.specs.Keepers.{IsClusterKeeper, IsFlagKeeper};
 ghost use Rattle.shape_buffer.specs.Keepers.{LookupsKeepClusters, LookupsKeepFlags};
 ghost use Rattle.shape_buffer.specs.NoLookups.{no_lookups};
-ghost use Rattle.shape_common.specs.declared.settings.Direction.{Direction};
+ghost use Rattle.shape_common.specs.declared.text_types.Direction.{Direction};
 ghost use Rattle.shape_normalize.specs.CanonicalForm.{text_of};
 ghost use Rattle.shape_lines.specs.CanCut.{CanCut};
 ghost use Rattle.shape_normalize.specs.Normalized.{normalized, HookKeepsClusters};

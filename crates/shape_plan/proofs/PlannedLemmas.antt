@@ -1,9 +1,9 @@
 -- What a plan has of what it was asked for.
 use Rattle.std.proofs.Common.{◌≡◌, ℕ, List, Option, Result, Ok, Err, refl, sym, subst}
 use Rattle.std.specs.Prelude.{IfOk}
-use Rattle.shape_common.specs.declared.settings.Direction.{Direction}
-use Rattle.shape_common.specs.declared.settings.Feature.{Feature}
-use Rattle.shape_common.specs.declared.settings.Script.{Script}
+use Rattle.shape_common.specs.declared.text_types.Direction.{Direction}
+use Rattle.shape_common.specs.declared.text_types.Feature.{Feature}
+use Rattle.shape_common.specs.declared.text_types.Script.{Script}
 use Rattle.shape_plan.specs.Plan.{Plan}
 use Rattle.shape_plan.specs.Planner.{Planning, Planner, begun_planner, collected_planner, compiled_plan, planned, own_data}
 

@@ -4,9 +4,9 @@ use Rattle.std.specs.Option.{option_map}
 use Rattle.shape_items.specs.Buffer.{Buffer}
 use Rattle.shape_buffer.specs.Guess.{guessed_direction, guessed_script}
 use Rattle.shape_common.specs.Unicode.{UnicodeMeaning}
-use Rattle.shape_common.specs.declared.settings.Direction.{Direction}
-use Rattle.shape_common.specs.declared.settings.Feature.{Feature}
-use Rattle.shape_common.specs.declared.settings.Script.{Script}
+use Rattle.shape_common.specs.declared.text_types.Direction.{Direction}
+use Rattle.shape_common.specs.declared.text_types.Feature.{Feature}
+use Rattle.shape_common.specs.declared.text_types.Script.{Script}
 use Rattle.shape_plan.specs.declared.decisions.Decisions.{Decisions}
 use Rattle.shape_plan.specs.declared.ot_shape_plan.ChosenShaper.{ChosenShaper}
 use Rattle.shape_plan.specs.declared.ot_shape_plan.ChosenShaper.TheVariants.{Given, Dumber}

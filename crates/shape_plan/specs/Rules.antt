@@ -6,7 +6,7 @@ use Rattle.canonical_form.specs.Decompositions.{Decompositions}
 use Rattle.shape_items.specs.Buffer.{Buffer}
 use Rattle.shape_common.specs.Unicode.{UnicodeMeaning}
 use Rattle.shape_common.specs.Face.{FaceMeaning}
-use Rattle.shape_common.specs.declared.settings.GlyphId.{GlyphId}
+use Rattle.shape_common.specs.declared.text_types.GlyphId.{GlyphId}
 use Rattle.shape_plan.specs.ModeNames.{MODE_NONE, MODE_COMPOSED_DIACRITICS, MODE_COMPOSED_DIACRITICS_NO_SHORT_CIRCUIT, MODE_AUTO}
 use Rattle.shape_plan.specs.Plan.{Plan, hooks_of}
 use Rattle.shape_plan.specs.Shaper.{ShaperConstants, HookMeaning}

@@ -4,7 +4,7 @@ use Rattle.std.specs.Int.RustNames.{bit_or}
 use Rattle.shape_items.specs.Buffer.{Buffer}
 use Rattle.shape_items.specs.Items.{Item}
 use Rattle.canonical_form.specs.Chain.{FallsAlong}
-use Rattle.shape_common.specs.declared.settings.hb_tag_t.{hb_tag_t}
+use Rattle.shape_common.specs.declared.text_types.hb_tag_t.{hb_tag_t}
 use Rattle.shape_plan.specs.ModeNames.{MODE_NONE, MODE_AUTO}
 use Rattle.shape_plan.specs.Reorder.{ReordersRanges}
 use Rattle.shape_common.specs.FlagNames.{HAS_GLYPH_FLAGS}

@@ -1,6 +1,6 @@
 -- The tags of the features that a planner asks for: four letters each, the first one highest.
 use Rattle.std.specs.Prelude.{ℕ}
-use Rattle.shape_common.specs.declared.settings.hb_tag_t.{hb_tag_t}
+use Rattle.shape_common.specs.declared.text_types.hb_tag_t.{hb_tag_t}
 
 -- a tag by its number
 abbrev pub tag : ℕ → hb_tag_t

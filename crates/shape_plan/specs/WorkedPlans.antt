@@ -3,9 +3,9 @@ use Rattle.std.specs.Prelude.{◌≡◌, ◌+◌, ◌*◌, ℕ, pos, Bool, true,
 use Rattle.shape_common.specs.Face.{FaceMeaning}
 use Rattle.shape_buffer.specs.Layout.{LayoutMeaning, MapMeaning}
 use Rattle.shape_buffer.specs.MapBuilder.{Builder}
-use Rattle.shape_common.specs.declared.settings.Direction.{Direction}
-use Rattle.shape_common.specs.declared.settings.Direction.TheVariants.{LeftToRight, RightToLeft, TopToBottom}
-use Rattle.shape_common.specs.declared.settings.Feature.{Feature}
+use Rattle.shape_common.specs.declared.text_types.Direction.{Direction}
+use Rattle.shape_common.specs.declared.text_types.Direction.TheVariants.{LeftToRight, RightToLeft, TopToBottom}
+use Rattle.shape_common.specs.declared.text_types.Feature.{Feature}
 use Rattle.shape_common.specs.declared.face.hb_tables_t.{hb_tables_t}
 use Rattle.shape_buffer.specs.declared.interfaces.map_request.TableIndex.TheVariants.{GSUB, GPOS}
 use Rattle.shape_plan.specs.WorkedFaces.{bare_face}

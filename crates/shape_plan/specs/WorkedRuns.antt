@@ -6,7 +6,7 @@ use Rattle.shape_common.specs.Face.{FaceMeaning}
 use Rattle.shape_buffer.specs.Layout.{LookupMeaning}
 use Rattle.shape_common.specs.PlainUnicode.{plain_unicode}
 use Rattle.shape_common.specs.Unicode.{UnicodeMeaning}
-use Rattle.shape_common.specs.declared.settings.Direction.TheVariants.{RightToLeft}
+use Rattle.shape_common.specs.declared.text_types.Direction.TheVariants.{RightToLeft}
 use Rattle.shape_plan.specs.Keepers.{has_steps}
 use Rattle.shape_plan.specs.ModeNames.{MODE_DECOMPOSED}
 use Rattle.shape_plan.specs.Plan.{Plan}

@@ -3,9 +3,9 @@ use Rattle.std.specs.Prelude.{◌≡◌, ◌+◌, ◌==◌, ℕ, true, false, Li
 use Rattle.std.specs.Option.{option_map_or}
 use Rattle.shape_buffer.specs.Layout.{LayoutMeaning, MapMeaning}
 use Rattle.shape_buffer.specs.MapBuilder.{Builder}
-use Rattle.shape_common.specs.declared.settings.Direction.{Direction}
-use Rattle.shape_common.specs.declared.settings.Direction.TheVariants.{LeftToRight, TopToBottom}
-use Rattle.shape_common.specs.declared.settings.Script.{Script}
+use Rattle.shape_common.specs.declared.text_types.Direction.{Direction}
+use Rattle.shape_common.specs.declared.text_types.Direction.TheVariants.{LeftToRight, TopToBottom}
+use Rattle.shape_common.specs.declared.text_types.Script.{Script}
 use Rattle.shape_buffer.specs.declared.interfaces.map_request.TableIndex.TheVariants.{GSUB, GPOS}
 use Rattle.shape_plan.specs.Plan.{known_script}
 use Rattle.shape_plan.specs.Planner.{begun_planner, facts_of}

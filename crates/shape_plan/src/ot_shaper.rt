@@ -7,9 +7,9 @@ ghost use Rattle.std.specs.Prelude.{◌≡◌, ◌<◌, ◌≤◌, ℕ, ℤ, Boo
 ghost use Rattle.std.specs.Prelude.{OnOk, IfErr};
 ghost use Rattle.shape_buffer.specs.MapBuilder.{Builder, with_requests};
 ghost use Rattle.shape_buffer.specs.Outcome.{IsWithinLimit, Made, Outcome, step};
-ghost use Rattle.shape_common.specs.declared.settings.Direction.{Direction as AnyDirection};
-ghost use Rattle.shape_common.specs.declared.settings.Script.{Script as AnyScript};
-ghost use Rattle.shape_common.specs.declared.settings.hb_tag_t.{hb_tag_t as AnyTag};
+ghost use Rattle.shape_common.specs.declared.text_types.Direction.{Direction as AnyDirection};
+ghost use Rattle.shape_common.specs.declared.text_types.Script.{Script as AnyScript};
+ghost use Rattle.shape_common.specs.declared.text_types.hb_tag_t.{hb_tag_t as AnyTag};
 ghost use Rattle.shape_buffer.specs.declared.interfaces.map_request.MapRequest.{MapRequest as AnyRequest};
 ghost use Rattle.shape_plan.specs.Plan.{Plan};
 ghost use Rattle.shape_plan.specs.Reorder.{IsRunInOrder};

@@ -13,7 +13,7 @@ use Rattle.shape_items.specs.Items.{Item, has_cluster, is_ignorable_item}
 use Rattle.shape_items.specs.KeepsFlags.{has_glyph_flags}
 use Rattle.shape_buffer.specs.Walks.{items_mapped}
 use Rattle.shape_common.specs.declared.flags.BufferFlags.{BufferFlags}
-use Rattle.shape_common.specs.declared.settings.GlyphId.{GlyphId}
+use Rattle.shape_common.specs.declared.text_types.GlyphId.{GlyphId}
 use Rattle.shape_items.proofs.Flags.ClusterRunLemmas.{flagged-runs}
 use Rattle.shape_items.proofs.Deletion.DeleteLemmas.{hand_on-cases, kept_by_deletion}
 use Rattle.shape_items.proofs.Merging.KeyLemmas.{length-map_range, length-merge_clusters, without_items-merge_clusters}

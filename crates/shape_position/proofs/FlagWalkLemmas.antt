@@ -6,22 +6,22 @@ use Rattle.std.specs.List.{prefix_len}
 use Rattle.shape_items.specs.Items.{Item, has_cluster}
 use Rattle.shape_items.specs.Flags.{with_mask, mask_after, flagged_from}
 use Rattle.shape_common.specs.declared.flags.BufferFlags.{BufferFlags}
-use Rattle.shape_position.specs.FlagWalk.{passed_by, passed_run}
-use Rattle.shape_position.specs.declared.flags.Passed.{Passed}
+use Rattle.shape_position.specs.FlagWalk.{handed_by, handed_by_run}
+use Rattle.shape_position.specs.declared.flags.HandedOn.{HandedOn}
 
 -- the items with the masks that the walk gives them, after one that hands this on
-unfoldable pub walked : BufferFlags → Passed → List Item → List Item
+unfoldable pub walked : BufferFlags → HandedOn → List Item → List Item
 walked flags before [] = []
 walked flags before (x ∷ xs) =
-    let passed = passed_by flags before x.cluster (x ∷ xs) in
-    with_mask passed.mask x ∷ walked flags passed xs
+    let handed = handed_by flags before x.cluster (x ∷ xs) in
+    with_mask handed.mask x ∷ walked flags handed xs
 
 -- an item of a cluster with this mask, and what is left of its run
-abbrev behind : ℕ → ℕ → List Item → Passed
+abbrev behind : ℕ → ℕ → List Item → HandedOn
 behind cluster mask xs = record { mask = mask; left = prefix_len (has_cluster cluster) xs }
 
 run-left : (flags : BufferFlags) (x : Item) (xs : List Item)
-    → passed_run flags x.cluster (x ∷ xs) ≡ behind x.cluster (mask_after flags None x (x ∷ xs)) xs
+    → handed_by_run flags x.cluster (x ∷ xs) ≡ behind x.cluster (mask_after flags None x (x ∷ xs)) xs
 run-left flags x xs =
     let own : has_cluster x.cluster x ≡ true = grind (arith, nat_tests) in
     let one_less : (1 + prefix_len (has_cluster x.cluster) xs) - 1 ≡ prefix_len (has_cluster x.cluster) xs = omega arith in

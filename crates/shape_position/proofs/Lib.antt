@@ -5,6 +5,6 @@ mod KeeperLemmas
 mod DeletionLemmas
 mod CountLemmas
 mod ExactLemmas
-mod TurnLemmas
+mod ReversalLemmas
 pub mod StepKeepers
 mod OneTableLemmas

@@ -16,7 +16,7 @@ use Rattle.shape_items.specs.KeepsFlags.{KeepsFlags, has_glyph_flags}
 use Rattle.shape_common.specs.declared.flags.BufferFlags.{BufferFlags}
 use Rattle.shape_buffer.specs.PositionWalks.{positions_mapped}
 use Rattle.shape_common.specs.declared.positions.GlyphPosition.{GlyphPosition}
-use Rattle.shape_common.specs.declared.settings.GlyphId.{GlyphId}
+use Rattle.shape_common.specs.declared.text_types.GlyphId.{GlyphId}
 use Rattle.shape_buffer.specs.Outcome.{step as plain_step}
 use Rattle.shape_items.proofs.Flags.ClusterRunLemmas.{flagged-runs}
 use Rattle.shape_items.proofs.Deletion.DeleteKeeps.{deleted_keeps_clusters, deleted_keeps_flags}
@@ -36,7 +36,7 @@ use Rattle.shape_position.specs.Zeroing.{marks_zeroed, zeroed_mark, zeroed_at, z
 use Rattle.shape_position.proofs.CountLemmas.{as_many-hidden, as_many-flags}
 use Rattle.shape_position.proofs.DeletionLemmas.{settings-deleted}
 use Rattle.shape_position.proofs.KeeperLemmas.{some_has-map, order-positions_mapped, flags-items_mapped, flags-positions_mapped, as_many-positions_mapped}
-use Rattle.shape_position.proofs.TurnLemmas.{turns-turned, flags-turned, as_many-turned}
+use Rattle.shape_position.proofs.ReversalLemmas.{reversal-reverses, flags-reversed, as_many-reversed}
 use Rattle.shape_plan.proofs.KeeperLemmas.{keeper-hook, keeper-step_if, keeper-step_due}
 
 -- ---- relations of a buffer before and after
@@ -269,7 +269,7 @@ pub steps_keep_clusters : StepsKeepClusters
 steps_keep_clusters = record {
   advances = λ run. (order-positions_mapped _, (leads-advanced _ order run.face, tt));
   tables = leads-table_steps _ order;
-  turning = turns-turned;
+  reversal = reversal-reverses;
   showing = leads-show_steps _ order;
   flags = order-flags;
 }
@@ -279,7 +279,7 @@ steps_keep_flags = record {
   advances = λ run. (flags-positions_mapped _, (leads-advanced _ flags run.face, tt));
   tables = leads-table_steps _ flags;
   finish = λ run keeps. (
-    flags-turned,
+    flags-reversed,
     EachStep-append IsFlagKeeper (show_steps run) (plain_step flags_propagated ∷ [])
         (leads-show_steps _ flags run keeps) (flags-flags, tt),
   );
@@ -320,7 +320,7 @@ steps_keep_count = record {
   advances = as_many-advanced;
   marks = as_many-marks_zeroed;
   ignorables = as_many-ignorables_zeroed;
-  turning = as_many-turned;
+  reversal = as_many-reversed;
   selectors = as_many-selectors;
   hiding = as_many-hidden;
   flags = as_many-flags;

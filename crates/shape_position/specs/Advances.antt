@@ -9,7 +9,7 @@ use Rattle.shape_buffer.specs.PositionWalks.{positions_mapped}
 use Rattle.shape_common.specs.Positions.{zero_position}
 use Rattle.shape_common.specs.Wrapping.{◌-ʷ◌}
 use Rattle.shape_common.specs.declared.positions.GlyphPosition.{GlyphPosition}
-use Rattle.shape_common.specs.declared.settings.GlyphId.{GlyphId}
+use Rattle.shape_common.specs.declared.text_types.GlyphId.{GlyphId}
 
 -- each position with all six numbers 0
 abbrev pub positions_cleared : Buffer → Buffer

@@ -9,7 +9,7 @@ use Rattle.shape_items.specs.Items.{Item, is_ignorable_item}
 use Rattle.shape_buffer.specs.PositionWalks.{positions_mapped}
 use Rattle.shape_buffer.specs.Walks.{items_mapped}
 use Rattle.shape_common.specs.declared.positions.GlyphPosition.{GlyphPosition}
-use Rattle.shape_common.specs.declared.settings.GlyphId.{GlyphId}
+use Rattle.shape_common.specs.declared.text_types.GlyphId.{GlyphId}
 use Rattle.shape_common.specs.FlagNames.{PRESERVE_DEFAULT_IGNORABLES, REMOVE_DEFAULT_IGNORABLES, HAS_DEFAULT_IGNORABLES}
 
 -- the run has seen default ignorables (scratch flag 2)

@@ -8,17 +8,17 @@ use Rattle.shape_plan.specs.Keepers.{CallsKeepClusters, RunKeepsFlags}
 use Rattle.shape_plan.specs.Run.{Run}
 use Rattle.shape_position.specs.Advances.{positions_cleared, advanced}
 use Rattle.shape_position.specs.Ignorables.{ignorables_zeroed, ignorables_hidden}
-use Rattle.shape_position.specs.StepEffects.{KeepsAsMany, TurnsOrder}
+use Rattle.shape_position.specs.StepEffects.{KeepsAsMany, ReversesOrder}
 use Rattle.shape_position.specs.Selectors.{selectors_replaced}
 use Rattle.shape_position.specs.Steps.{advance_steps, table_steps, show_steps, finish_steps}
-use Rattle.shape_position.specs.Reversal.{turned}
+use Rattle.shape_position.specs.Reversal.{reversed}
 use Rattle.shape_position.specs.Zeroing.{marks_zeroed}
 
 -- every step keeps the order of clusters, except the reversal, which inverts it if the text runs backward
 pub record StepsKeepClusters : Type 0 where
   pub advances : (run : Run) → EachStep IsClusterKeeper (advance_steps run)
   pub tables : (run : Run) → CallsKeepClusters run → EachStep IsClusterKeeper (table_steps run)
-  pub turning : (b : Buffer) → TurnsOrder b (turned b)
+  pub reversal : (b : Buffer) → ReversesOrder b (reversed b)
   pub showing : (run : Run) → CallsKeepClusters run → EachStep IsClusterKeeper (show_steps run)
   pub flags : IsClusterKeeper flags_propagated
 
@@ -34,7 +34,7 @@ pub record StepsKeepCount : Type 0 where
   pub advances : (face : FaceMeaning) → KeepsAsMany (advanced face)
   pub marks : (adjust : Bool) → KeepsAsMany (marks_zeroed adjust)
   pub ignorables : KeepsAsMany ignorables_zeroed
-  pub turning : KeepsAsMany turned
+  pub reversal : KeepsAsMany reversed
   pub selectors : KeepsAsMany selectors_replaced
   pub hiding : (face : FaceMeaning) → KeepsAsMany (ignorables_hidden face)
   pub flags : KeepsAsMany flags_propagated

@@ -4,6 +4,6 @@ use Rattle.shape_items.specs.Buffer.{Buffer}
 use Rattle.shape_common.specs.Direction.{is_backward}
 
 -- glyphs and positions in the other order, if the text runs to the left or to the top
-unfoldable pub turned : Buffer → Buffer
-turned b =
+unfoldable pub reversed : Buffer → Buffer
+reversed b =
     if is_backward b.direction then record b { items = reverse b.items; positions = reverse b.positions } else b

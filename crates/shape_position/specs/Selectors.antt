@@ -5,7 +5,7 @@ use Rattle.shape_items.specs.Buffer.{Buffer}
 use Rattle.shape_items.specs.Items.{Item}
 use Rattle.shape_buffer.specs.PositionWalks.{positions_over}
 use Rattle.shape_common.specs.declared.positions.GlyphPosition.{GlyphPosition}
-use Rattle.shape_common.specs.declared.settings.GlyphId.{GlyphId}
+use Rattle.shape_common.specs.declared.text_types.GlyphId.{GlyphId}
 use Rattle.shape_position.specs.Ignorables.{without_values}
 use Rattle.shape_common.specs.FlagNames.{HAS_VARIATION_SELECTOR_FALLBACK}
 

@@ -11,8 +11,8 @@ abbrev pub KeepsAsMany : (Buffer → Buffer) → Type 0
 KeepsAsMany f = (b : Buffer) → length b.positions ≡ length b.items → length (f b).positions ≡ length (f b).items
 
 -- what the reversal does: clusters are in the other order if the text runs backward, none is new, and direction, flags and level stay
-pub record TurnsOrder (before after : Buffer) : Type 0 where
-  pub turned : clusters after.items ≡ (if is_backward before.direction then reverse (clusters before.items) else clusters before.items)
+pub record ReversesOrder (before after : Buffer) : Type 0 where
+  pub reversed : clusters after.items ≡ (if is_backward before.direction then reverse (clusters before.items) else clusters before.items)
   pub rising : IsNonDecreasing (clusters before.items) → IsOrderedFor (is_backward before.direction) (clusters after.items)
   pub falling : IsNonIncreasing (clusters before.items) → IsOrderedFor (not (is_backward before.direction)) (clusters after.items)
   pub none_new : (k : ℕ) → Contains (clusters after.items) k → Contains (clusters before.items) k

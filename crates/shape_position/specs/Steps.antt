@@ -7,7 +7,7 @@ use Rattle.shape_position.specs.Advances.{positions_cleared, advanced}
 use Rattle.shape_position.specs.Ignorables.{ignorables_zeroed, ignorables_hidden}
 use Rattle.shape_position.specs.Selectors.{selectors_replaced}
 use Rattle.shape_position.specs.Tables.{table_positioned, kerned, deleted_narrowed, deleted_removed}
-use Rattle.shape_position.specs.Reversal.{turned}
+use Rattle.shape_position.specs.Reversal.{reversed}
 use Rattle.shape_position.specs.Zeroing.{zeroed_early, zeroed_late}
 
 -- what the face says of each glyph; fallback spaces come after
@@ -48,4 +48,4 @@ show_steps run =
 
 -- from positions to the flags
 abbrev pub finish_steps : Run → List Step
-finish_steps run = step turned ∷ (show_steps run ++ step flags_propagated ∷ [])
+finish_steps run = step reversed ∷ (show_steps run ++ step flags_propagated ∷ [])

@@ -10,8 +10,8 @@ use Rattle.shape_buffer.specs.PositionWalks.{positions_mapped}
 use Rattle.shape_common.specs.Positions.{zero_position}
 use Rattle.shape_common.specs.Wrapping.{◌+ʷ◌, ◌-ʷ◌}
 use Rattle.shape_common.specs.declared.positions.GlyphPosition.{GlyphPosition}
-use Rattle.shape_common.specs.declared.settings.Direction.{Direction}
-use Rattle.shape_common.specs.declared.settings.Direction.TheVariants.{Invalid, LeftToRight, RightToLeft, TopToBottom, BottomToTop}
+use Rattle.shape_common.specs.declared.text_types.Direction.{Direction}
+use Rattle.shape_common.specs.declared.text_types.Direction.TheVariants.{Invalid, LeftToRight, RightToLeft, TopToBottom, BottomToTop}
 use Rattle.shape_common.specs.PlainUnicode.{plain_unicode}
 use Rattle.shape_plan.specs.WorkedFaces.{bare_face}
 use Rattle.shape_plan.specs.WorkedPlans.{constants_of}
@@ -21,7 +21,7 @@ use Rattle.shape_plan.specs.WorkedDecisions.{no_decisions}
 use Rattle.shape_plan.specs.declared.decisions.Decisions.{Decisions}
 use Rattle.shape_position.specs.Advances.{positions_cleared, advanced, advanced_position}
 use Rattle.shape_position.specs.Tables.{table_positioned, kerned, deleted_narrowed, deleted_removed}
-use Rattle.shape_position.specs.Reversal.{turned}
+use Rattle.shape_position.specs.Reversal.{reversed}
 use Rattle.shape_position.specs.Zeroing.{marks_zeroed, zeroed_mark, zeroed_at}
 
 -- the four values of a position
@@ -231,23 +231,23 @@ two_glyphs direction = record new_buffer {
   direction = direction;
 }
 
-abbrev two_turned : Direction → Buffer
-two_turned direction = record new_buffer {
+abbrev two_reversed : Direction → Buffer
+two_reversed direction = record new_buffer {
   items = glyph_at 2 1 ∷ glyph_at 1 0 ∷ [];
   positions = at (pos 20) (pos 0) (pos 0) (pos 0) ∷ at (pos 10) (pos 0) (pos 0) (pos 0) ∷ [];
   direction = direction;
 }
 
-pub record TurningOfTwo : Type 0 where
-  pub rightward : turned (two_glyphs LeftToRight) ≡ two_glyphs LeftToRight
-  pub leftward : turned (two_glyphs RightToLeft) ≡ two_turned RightToLeft
-  pub downward : turned (two_glyphs TopToBottom) ≡ two_glyphs TopToBottom
-  pub upward : turned (two_glyphs BottomToTop) ≡ two_turned BottomToTop
-  pub directionless : turned (two_glyphs Invalid) ≡ two_glyphs Invalid
+pub record ReversalOfTwo : Type 0 where
+  pub rightward : reversed (two_glyphs LeftToRight) ≡ two_glyphs LeftToRight
+  pub leftward : reversed (two_glyphs RightToLeft) ≡ two_reversed RightToLeft
+  pub downward : reversed (two_glyphs TopToBottom) ≡ two_glyphs TopToBottom
+  pub upward : reversed (two_glyphs BottomToTop) ≡ two_reversed BottomToTop
+  pub directionless : reversed (two_glyphs Invalid) ≡ two_glyphs Invalid
 
-turning_of_two : TurningOfTwo
-unfolding turned
-turning_of_two = record { rightward = refl; leftward = refl; downward = refl; upward = refl; directionless = refl }
+reversal_of_two : ReversalOfTwo
+unfolding reversed
+reversal_of_two = record { rightward = refl; leftward = refl; downward = refl; upward = refl; directionless = refl }
 
 -- ---- glyphs that lookups left
 
@@ -279,7 +279,7 @@ pub record WorkedPositions : Type 0 where
   pub marks : ZeroingOfMarks
   pub times : TimesOfZeroing
   pub tables : TablesOfAPlan
-  pub turning : TurningOfTwo
+  pub reversal : ReversalOfTwo
 
 pub worked_positions : WorkedPositions
 worked_positions = record {
@@ -288,5 +288,5 @@ worked_positions = record {
   marks = zeroing_of_marks;
   times = times_of_zeroing;
   tables = tables_of_a_plan;
-  turning = turning_of_two;
+  reversal = reversal_of_two;
 }

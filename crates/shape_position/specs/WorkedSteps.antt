@@ -12,7 +12,7 @@ use Rattle.shape_common.specs.Positions.{zero_position}
 use Rattle.shape_buffer.specs.Walks.{items_mapped}
 use Rattle.shape_common.specs.Wrapping.{◌-ʷ◌}
 use Rattle.shape_common.specs.declared.positions.GlyphPosition.{GlyphPosition}
-use Rattle.shape_common.specs.declared.settings.Direction.TheVariants.{LeftToRight, RightToLeft}
+use Rattle.shape_common.specs.declared.text_types.Direction.TheVariants.{LeftToRight, RightToLeft}
 use Rattle.shape_common.specs.PlainUnicode.{plain_unicode}
 use Rattle.shape_plan.specs.Run.{Run}
 use Rattle.shape_plan.specs.Shapers.{no_hooks}
@@ -21,7 +21,7 @@ use Rattle.shape_position.specs.Advances.{advanced}
 use Rattle.shape_position.specs.Ignorables.{ignorables_zeroed, ignorables_hidden}
 use Rattle.shape_position.specs.Selectors.{selectors_replaced}
 use Rattle.shape_position.specs.Steps.{advance_steps, table_steps, show_steps, finish_steps}
-use Rattle.shape_position.specs.Reversal.{turned}
+use Rattle.shape_position.specs.Reversal.{reversed}
 use Rattle.shape_position.specs.WorkedGlyphs.{ignored, selecting}
 use Rattle.shape_position.specs.WorkedPositions.{at, glyph_at, with_class, face_of, decided, shaper_with}
 use Rattle.shape_position.specs.Zeroing.{marks_zeroed}
@@ -148,7 +148,7 @@ pub record OrderOfTheEnd : Type 0 where
   -- a selector that is ignorable too is hidden after the glyph that it took
   pub hiding_after_selector : (run : Run)
       → glyphs (shown (counted run counting 0 (decided false false false false false false)) (ignored (selecting (glyph_at 1 0)))) ≡ 30 ∷ []
-  pub turned_first : (run : Run)
+  pub reversed_first : (run : Run)
       → glyphs (run_steps (finish_steps (counted run beheading 0 (decided false false false false false true))) leftward) ≡ 10 ∷ []
   -- the hook's mask 9 loses the bit that is no flag
   pub flags_last : (run : Run)
@@ -156,13 +156,13 @@ pub record OrderOfTheEnd : Type 0 where
       (seen (glyph_at 1 0))).items ≡ 1 ∷ []
 
 order_of_the_end : OrderOfTheEnd
-unfolding positions_mapped items_mapped turned selectors_replaced ignorables_hidden flags_propagated
+unfolding positions_mapped items_mapped reversed selectors_replaced ignorables_hidden flags_propagated
 order_of_the_end = record {
   hook_after_deletion = λ run. refl;
   selector_after_deletion = λ run. refl;
   hook_after_selector = λ run. refl;
   hiding_after_selector = λ run. refl;
-  turned_first = λ run. refl;
+  reversed_first = λ run. refl;
   flags_last = λ run. refl;
 }
 

@@ -6,7 +6,7 @@ ghost use Rattle.std.specs.Prelude.{◌≡◌};
 ghost use Rattle.shape_buffer.specs.Outcome.{IsWithinLimit, Made, Outcome, RunOutcome, step};
 ghost use Rattle.shape_plan.specs.Run.{hook_if};
 ghost use Rattle.shape_position.specs.Steps.{show_steps, finish_steps};
-ghost use Rattle.shape_position.specs.Reversal.{turned};
+ghost use Rattle.shape_position.specs.Reversal.{reversed};
 
 use crate::flags::propagate_flags;
 use crate::ignorables::hide_default_ignorables;
@@ -19,9 +19,9 @@ use shape_plan::shaping_types::{Meaning, PlanOf, ShapingTypes};
 use std::alloc::Global;
 
 /// Reverses glyphs and positions, if the buffer's direction is backward. Takes no memory.
-#[tactic(auto, unfolding(crate::specs::Reversal::turned))]
+#[tactic(auto, unfolding(crate::specs::Reversal::reversed))]
 pub fn reverse_backward(buffer: &mut hb_buffer_t)
-    ensures { Made turned buffer.old buffer.new }
+    ensures { Made reversed buffer.old buffer.new }
 {
     if buffer.direction().is_backward() {
         buffer.reverse();

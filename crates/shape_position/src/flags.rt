@@ -9,7 +9,7 @@ ghost use Rattle.std.specs.Int.RustNames.{bit_and};
 ghost use Rattle.shape_items.specs.Flags.{first_united, handed_flags as handed_flags_of};
 ghost use Rattle.shape_items.specs.Flags.{with_tatweel as with_tatweel_of};
 ghost use Rattle.shape_items.specs.Flags.{flags_propagated};
-ghost use Rattle.shape_position.specs.FlagWalk.{passed_by, passed_run};
+ghost use Rattle.shape_position.specs.FlagWalk.{handed_by, handed_by_run};
 ghost use Rattle.shape_common.specs.FlagNames.{PRODUCE_UNSAFE_TO_CONCAT, UNSAFE_TO_CONCAT};
 ghost use Rattle.shape_items.specs.Flags.{HasOneSetOfFlags};
 ghost use Rattle.shape_items.specs.KeepsFlags.{some_has};
@@ -80,39 +80,44 @@ fn handed_flags(flags: BufferFlags, united: hb_mask_t) -> hb_mask_t
 
 /// What the walk over the items hands on: the mask that an item got, and how many of those after it get it, too.
 #[derive(Clone, Copy, Debug)]
-pub struct Passed {
+pub struct HandedOn {
     pub mask: hb_mask_t,
     pub left: usize,
 }
 
 /// What the first items hand on, if they are in the cluster. A call of its own: most clusters have one item.
 #[inline(never)]
-fn pass_run(flags: BufferFlags, infos: &[hb_glyph_info_t], cluster: u32) -> Passed
-    ensures { result ≡ passed_run flags cluster infos.now }
+fn hand_run_on(flags: BufferFlags, infos: &[hb_glyph_info_t], cluster: u32) -> HandedOn
+    ensures { result ≡ handed_by_run flags cluster infos.now }
 {
-    Passed {
+    HandedOn {
         mask: handed_flags(flags, united_flags(infos, cluster)),
         left: count_in(infos, cluster).saturating_sub(1),
     }
 }
 
 /// What the first of these items gets, which is of the cluster, and how many after it.
-fn pass(flags: BufferFlags, before: Passed, infos: &[hb_glyph_info_t], cluster: u32) -> Passed
-    ensures { result ≡ passed_by flags before cluster infos.now }
+fn hand_on(
+    flags: BufferFlags,
+    before: HandedOn,
+    infos: &[hb_glyph_info_t],
+    cluster: u32,
+) -> HandedOn
+    ensures { result ≡ handed_by flags before cluster infos.now }
 {
     if before.left > 0 {
-        return Passed {
+        return HandedOn {
             left: before.left - 1,
             ..before
         };
     }
     if is_alone(infos, cluster) {
-        return Passed {
+        return HandedOn {
             mask: handed_flags(flags, infos[0].mask & DEFINED),
             left: 0,
         };
     }
-    pass_run(flags, infos, cluster)
+    hand_run_on(flags, infos, cluster)
 }
 
 /// Gives the items of each cluster the flags of all, if the run has seen flags.
@@ -126,11 +131,11 @@ fn share_flags(buffer: &mut hb_buffer_t)
         return;
     }
     let flags = buffer.flags();
-    let mut passed = Passed { mask: 0, left: 0 };
+    let mut handed = HandedOn { mask: 0, left: 0 };
     for i in 0..buffer.len() {
         let mut info = buffer.infos()[i];
-        passed = pass(flags, passed, &buffer.infos()[i..], info.cluster);
-        info.mask = passed.mask;
+        handed = hand_on(flags, handed, &buffer.infos()[i..], info.cluster);
+        info.mask = handed.mask;
         buffer.set_info(i, info);
     }
 }

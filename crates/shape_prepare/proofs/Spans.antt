@@ -1,5 +1,5 @@
 -- The spans of graphemes, and the walk over them.
-pub mod TurnLemmas
+pub mod ReversalLemmas
 pub mod WalkedLemmas
 pub mod RisingMergeLemmas
 pub mod GraphemeClusterLemmas

@@ -15,14 +15,14 @@ use Rattle.shape_prepare.specs.DottedCircle.{dotted_circled, with_circle, takes_
 use Rattle.shape_common.specs.Positions.{zero_position}
 use Rattle.shape_common.specs.Unicode.{UnicodeMeaning}
 use Rattle.shape_buffer.specs.Walks.{items_mapped}
-use Rattle.shape_common.specs.declared.settings.BufferClusterLevel.{BufferClusterLevel}
-use Rattle.shape_common.specs.declared.settings.BufferClusterLevel.TheVariants.{MonotoneGraphemes, MonotoneCharacters, Characters}
-use Rattle.shape_common.specs.declared.settings.Direction.{Direction}
+use Rattle.shape_common.specs.declared.text_types.BufferClusterLevel.{BufferClusterLevel}
+use Rattle.shape_common.specs.declared.text_types.BufferClusterLevel.TheVariants.{MonotoneGraphemes, MonotoneCharacters, Characters}
+use Rattle.shape_common.specs.declared.text_types.Direction.{Direction}
 use Rattle.shape_plan.specs.declared.decisions.Decisions.{Decisions}
 use Rattle.shape_prepare.specs.Begun.{begun}
 use Rattle.shape_items.specs.GraphemeSpans.{grapheme_spans}
 use Rattle.shape_prepare.specs.ClustersFormed.{clusters_formed, over_graphemes}
-use Rattle.shape_prepare.specs.NativeOrder.{natively_ordered, native_direction, is_against, merged_to_turn, graphemes_turned}
+use Rattle.shape_prepare.specs.NativeOrder.{natively_ordered, native_direction, is_against, merged_to_reverse, graphemes_reversed}
 use Rattle.shape_prepare.specs.Rotated.{rotated, rotated_item, in_forms}
 use Rattle.shape_common.specs.Direction.{is_backward, is_vertical}
 
@@ -89,13 +89,13 @@ clusters_formed-cases P b merged marked same = elim (cases_Bool (bit_and b.scrat
     at_level MonotoneCharacters = marked
     at_level Characters = marked
 
-abbrev pub at_level_to_turn : Buffer → BufferClusterLevel → Buffer
-at_level_to_turn b level = elim level [ MonotoneGraphemes ↦ b | MonotoneCharacters ↦ over_graphemes merge_clusters b | Characters ↦ b ]
+abbrev pub at_level_to_reverse : Buffer → BufferClusterLevel → Buffer
+at_level_to_reverse b level = elim level [ MonotoneGraphemes ↦ b | MonotoneCharacters ↦ over_graphemes merge_clusters b | Characters ↦ b ]
 
-pub merged_to_turn-cases : (P : Buffer → Type 0) (b : Buffer) → P b → P (over_graphemes merge_clusters b) → P (merged_to_turn b)
-merged_to_turn-cases P b same merged = at_level b.cluster_level
+pub merged_to_reverse-cases : (P : Buffer → Type 0) (b : Buffer) → P b → P (over_graphemes merge_clusters b) → P (merged_to_reverse b)
+merged_to_reverse-cases P b same merged = at_level b.cluster_level
   where
-    at_level : (level : BufferClusterLevel) → P (at_level_to_turn b level)
+    at_level : (level : BufferClusterLevel) → P (at_level_to_reverse b level)
     at_level MonotoneGraphemes = same
     at_level MonotoneCharacters = merged
     at_level Characters = same
@@ -176,18 +176,18 @@ pub natively_ordered-kept : (unicode : UnicodeMeaning) (b : Buffer) → is_again
 unfolding natively_ordered
 natively_ordered-kept unicode b native = rw native refl
 
-pub natively_ordered-turned : (unicode : UnicodeMeaning) (b : Buffer) → is_against (native_direction unicode b) b.direction ≡ true
-    → natively_ordered unicode b ≡ graphemes_turned (merged_to_turn b)
+pub natively_ordered-reversed : (unicode : UnicodeMeaning) (b : Buffer) → is_against (native_direction unicode b) b.direction ≡ true
+    → natively_ordered unicode b ≡ graphemes_reversed (merged_to_reverse b)
 unfolding natively_ordered
-natively_ordered-turned unicode b against = rw against refl
+natively_ordered-reversed unicode b against = rw against refl
 
-pub merged_to_turn-merged : (b : Buffer) → b.cluster_level ≡ MonotoneCharacters → merged_to_turn b ≡ over_graphemes merge_clusters b
-merged_to_turn-merged b level = ap (at_level_to_turn b) level
+pub merged_to_reverse-merged : (b : Buffer) → b.cluster_level ≡ MonotoneCharacters → merged_to_reverse b ≡ over_graphemes merge_clusters b
+merged_to_reverse-merged b level = ap (at_level_to_reverse b) level
 
-pub merged_to_turn-kept : (b : Buffer) → b.cluster_level ≢ MonotoneCharacters → merged_to_turn b ≡ b
-merged_to_turn-kept b level = kept b.cluster_level level
+pub merged_to_reverse-kept : (b : Buffer) → b.cluster_level ≢ MonotoneCharacters → merged_to_reverse b ≡ b
+merged_to_reverse-kept b level = kept b.cluster_level level
   where
-    kept : (l : BufferClusterLevel) → l ≢ MonotoneCharacters → at_level_to_turn b l ≡ b
+    kept : (l : BufferClusterLevel) → l ≢ MonotoneCharacters → at_level_to_reverse b l ≡ b
     kept MonotoneGraphemes other = refl
     kept MonotoneCharacters other = absurd (other refl)
     kept Characters other = refl

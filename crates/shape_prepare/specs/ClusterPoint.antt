@@ -2,7 +2,7 @@
 use Rattle.std.specs.Prelude.{◌≡◌, ℕ, Bool, if◌then◌else◌, List, take, Contains}
 use Rattle.std.specs.List.{flat_map}
 use Rattle.shape_items.specs.Items.{Item}
-use Rattle.shape_common.specs.declared.settings.BufferClusterLevel.TheVariants.{MonotoneGraphemes}
+use Rattle.shape_common.specs.declared.text_types.BufferClusterLevel.TheVariants.{MonotoneGraphemes}
 use Rattle.shape_prepare.specs.Begun.{begun}
 use Rattle.shape_items.specs.GraphemeSpans.{graphemes}
 use Rattle.shape_prepare.specs.Graphemes.{graphemes_marked}
@@ -12,7 +12,7 @@ use Rattle.shape_items.specs.Clusters.{clusters}
 use Rattle.shape_items.specs.ClusterOrder.{IsMonotoneLevel, IsOrderedFor}
 use Rattle.shape_common.specs.Direction.{reverse_of}
 use Rattle.shape_buffer.specs.Outcome.{run_steps}
-use Rattle.shape_common.specs.declared.settings.Direction.{Direction}
+use Rattle.shape_common.specs.declared.text_types.Direction.{Direction}
 use Rattle.shape_plan.specs.Keepers.{CallsKeepClusters}
 use Rattle.shape_plan.specs.Run.{Run}
 use Rattle.shape_prepare.specs.NativeOrder.{is_against, native_direction}
@@ -20,19 +20,19 @@ use Rattle.shape_prepare.specs.PrepareSteps.{grapheme_steps, prepare_steps}
 
 -- the direction if the list was reversed, or not
 abbrev pub direction_for : Bool → Direction → Direction
-direction_for turned direction = if turned then reverse_of direction else direction
+direction_for reversed direction = if reversed then reverse_of direction else direction
 
 -- whether the native order reverses the list
-abbrev pub is_turned : Run → Buffer → Bool
-is_turned run b =
+abbrev pub is_reversed : Run → Buffer → Bool
+is_reversed run b =
     let text = run_steps (grapheme_steps run) b in
     is_against (native_direction run.unicode text) text.direction
 
 -- clusters are in order, and none is new; the direction tells whether the list was reversed; flags and level stay
-pub record InOrderFor (turned : Bool) (old new : Buffer) : Type 0 where
-  pub order : IsOrderedFor turned (clusters new.items)
+pub record InOrderFor (reversed : Bool) (old new : Buffer) : Type 0 where
+  pub order : IsOrderedFor reversed (clusters new.items)
   pub none_new : (k : ℕ) → Contains (clusters new.items) k → Contains (clusters old.items) k
-  pub direction : new.direction ≡ direction_for turned old.direction
+  pub direction : new.direction ≡ direction_for reversed old.direction
   pub flags : new.flags ≡ old.flags
   pub level : new.cluster_level ≡ old.cluster_level
 
@@ -41,7 +41,7 @@ abbrev pub PreparingKeepsOrder : Type 0
 PreparingKeepsOrder =
     (run : Run) (target : Direction) (b : Buffer) → CallsKeepClusters run → IsMonotoneLevel b.cluster_level
     → IsNonDecreasing (clusters b.items)
-    → InOrderFor (is_turned run b) b (run_steps (prepare_steps run target) b)
+    → InOrderFor (is_reversed run b) b (run_steps (prepare_steps run target) b)
 
 -- the clusters of the first characters of a list's graphemes
 abbrev pub first_clusters : List Item → List ℕ

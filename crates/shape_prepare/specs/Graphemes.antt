@@ -11,13 +11,13 @@ use Rattle.shape_prepare.specs.declared.graphemes.Before.{Before}
 use Rattle.shape_prepare.specs.declared.graphemes.Before.TheVariants.{Plain, OpenIndicator, Zwj}
 
 -- the categories that no rule on continuations asks about: letters but modifier letters, and space separators
-abbrev pub is_passed : hb_unicode_general_category_t → Bool
-is_passed LowercaseLetter = true
-is_passed UppercaseLetter = true
-is_passed TitlecaseLetter = true
-is_passed OtherLetter = true
-is_passed SpaceSeparator = true
-is_passed _ = false
+abbrev pub is_unasked : hb_unicode_general_category_t → Bool
+is_unasked LowercaseLetter = true
+is_unasked UppercaseLetter = true
+is_unasked TitlecaseLetter = true
+is_unasked OtherLetter = true
+is_unasked SpaceSeparator = true
+is_unasked _ = false
 
 abbrev pub is_modifier_symbol : hb_unicode_general_category_t → Bool
 is_modifier_symbol ModifierSymbol = true
@@ -54,7 +54,7 @@ is_joining _ = false
 abbrev pub continues_by_rule : Before → Item → Bool
 continues_by_rule before item =
     let c = item.codepoint in
-    not (is_passed item.properties.general_category)
+    not (is_unasked item.properties.general_category)
     && ((is_modifier_symbol item.properties.general_category && is_skin_tone c) || (is_regional_indicator c && is_open before)
     || item.properties.zwj || is_extender c)
 
@@ -68,7 +68,7 @@ abbrev pub is_to_next : UnicodeMeaning → Before → Item → Before
 is_to_next unicode before item =
     if is_regional_indicator item.codepoint && not (continues unicode before item) then OpenIndicator
     else if item.properties.zwj && not (is_joined unicode before item.codepoint)
-    && not (is_passed item.properties.general_category) then Zwj
+    && not (is_unasked item.properties.general_category) then Zwj
     else Plain
 
 -- no rule has a say: the item continues already, as a mark does, and is no ZWJ

@@ -1,7 +1,7 @@
 -- What preparing keeps.
 use Rattle.shape_buffer.specs.Keepers.{IsFlagKeeper, EachStep}
 use Rattle.shape_buffer.specs.Layout.{HasNoDefinedFlag}
-use Rattle.shape_common.specs.declared.settings.Direction.{Direction}
+use Rattle.shape_common.specs.declared.text_types.Direction.{Direction}
 use Rattle.shape_plan.specs.Keepers.{RunKeepsFlags}
 use Rattle.shape_plan.specs.Run.{Run}
 use Rattle.shape_prepare.specs.PrepareSteps.{prepare_steps}

@@ -6,11 +6,11 @@ use Rattle.shape_common.specs.Face.{FaceMeaning}
 use Rattle.shape_items.specs.Items.{char_of, new_item}
 use Rattle.shape_buffer.specs.Outcome.{run_steps}
 use Rattle.shape_common.specs.Unicode.{UnicodeMeaning, is_mark}
-use Rattle.shape_common.specs.declared.settings.Direction.{Direction}
+use Rattle.shape_common.specs.declared.text_types.Direction.{Direction}
 use Rattle.shape_plan.specs.Run.{Run}
 use Rattle.shape_plan.specs.Shaper.{HookMeaning}
 use Rattle.shape_plan.specs.declared.decisions.Decisions.{Decisions}
-use Rattle.shape_prepare.specs.ClusterPoint.{is_turned}
+use Rattle.shape_prepare.specs.ClusterPoint.{is_reversed}
 use Rattle.shape_prepare.specs.DottedCircle.{takes_circle}
 use Rattle.shape_prepare.specs.PrepareSteps.{prepare_steps}
 use Rattle.shape_prepare.specs.Rotated.{rotated_item}
@@ -26,7 +26,7 @@ rotated_char unicode face decisions target c = char_of (rotated_item unicode fac
 -- no dotted circle goes in, the list isn't reversed, each character is its own form for the direction, and a given hook leaves characters
 pub record LeavesCharacters (run : Run) (target : Direction) (b : Buffer) : Type 0 where
   pub no_circle : (takes_circle run.face b && begins_with_mark (is_mark run.unicode) (map char_of b.items)) ≡ false
-  pub not_turned : is_turned run b ≡ false
+  pub not_reversed : is_reversed run b ≡ false
   pub own_forms : All (λ c. rotated_char run.unicode run.face run.decisions target c ≡ c) (map char_of b.items)
   pub preprocess : (hooks : HookMeaning) → run.hooks ≡ Some hooks → run.constants.has_preprocess_text ≡ true
       → KeepsCharacters hooks.preprocess

@@ -9,10 +9,10 @@ use Rattle.shape_items.specs.Items.{Item}
 use Rattle.shape_common.specs.Unicode.{UnicodeMeaning}
 use Rattle.shape_common.specs.declared.general_category.hb_unicode_general_category_t.{hb_unicode_general_category_t}
 use Rattle.shape_common.specs.declared.general_category.hb_unicode_general_category_t.TheVariants.{UppercaseLetter, LowercaseLetter, TitlecaseLetter, ModifierLetter, OtherLetter}
-use Rattle.shape_common.specs.declared.settings.BufferClusterLevel.TheVariants.{MonotoneGraphemes, MonotoneCharacters, Characters}
-use Rattle.shape_common.specs.declared.settings.Direction.{Direction}
-use Rattle.shape_common.specs.declared.settings.Direction.TheVariants.{Invalid, LeftToRight, RightToLeft, TopToBottom, BottomToTop}
-use Rattle.shape_common.specs.declared.settings.Script.{Script}
+use Rattle.shape_common.specs.declared.text_types.BufferClusterLevel.TheVariants.{MonotoneGraphemes, MonotoneCharacters, Characters}
+use Rattle.shape_common.specs.declared.text_types.Direction.{Direction}
+use Rattle.shape_common.specs.declared.text_types.Direction.TheVariants.{Invalid, LeftToRight, RightToLeft, TopToBottom, BottomToTop}
+use Rattle.shape_common.specs.declared.text_types.Script.{Script}
 use Rattle.shape_items.specs.GraphemeSpans.{graphemes}
 use Rattle.shape_prepare.specs.Graphemes.{is_regional_indicator}
 use Rattle.shape_prepare.specs.ClustersFormed.{over_graphemes}
@@ -75,16 +75,16 @@ abbrev pub from_last : {A : Type 0} → List (List A) → List A
 from_last parts = flat_map (λ part. part) (reverse parts)
 
 -- the graphemes, with their positions, from the last to the first, and the opposite direction
-abbrev pub graphemes_turned : Buffer → Buffer
-graphemes_turned b = record b {
+abbrev pub graphemes_reversed : Buffer → Buffer
+graphemes_reversed b = record b {
   items = from_last (graphemes b.items);
   positions = from_last (parted (map length (graphemes b.items)) b.positions);
   direction = reverse_of b.direction;
 }
 
 -- at level MONOTONE_CHARACTERS each grapheme is merged before it is reversed
-abbrev pub merged_to_turn : Buffer → Buffer
-merged_to_turn b = elim b.cluster_level [
+abbrev pub merged_to_reverse : Buffer → Buffer
+merged_to_reverse b = elim b.cluster_level [
   | MonotoneGraphemes ↦ b
   | MonotoneCharacters ↦ over_graphemes merge_clusters b
   | Characters ↦ b
@@ -92,4 +92,4 @@ merged_to_turn b = elim b.cluster_level [
 
 -- text against its native direction is reversed
 unfoldable pub natively_ordered : UnicodeMeaning → Buffer → Buffer
-natively_ordered unicode b = if is_against (native_direction unicode b) b.direction then graphemes_turned (merged_to_turn b) else b
+natively_ordered unicode b = if is_against (native_direction unicode b) b.direction then graphemes_reversed (merged_to_reverse b) else b

@@ -1,7 +1,7 @@
 -- The steps that prepare a text, in their order.
 use Rattle.std.specs.Prelude.{List, [], ◌∷◌, ◌++◌}
 use Rattle.shape_buffer.specs.Outcome.{Step, step}
-use Rattle.shape_common.specs.declared.settings.Direction.{Direction}
+use Rattle.shape_common.specs.declared.text_types.Direction.{Direction}
 use Rattle.shape_plan.specs.Run.{Run, hook_if}
 use Rattle.shape_prepare.specs.Begun.{begun}
 use Rattle.shape_prepare.specs.Graphemes.{graphemes_marked}

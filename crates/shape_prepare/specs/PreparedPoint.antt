@@ -4,7 +4,7 @@ use Rattle.shape_items.specs.Buffer.{Buffer}
 use Rattle.shape_buffer.specs.Outcome.{run_steps}
 use Rattle.shape_items.specs.Prepared.{IsPrepared}
 use Rattle.shape_common.specs.Unicode.{UnicodeMeaning, LawfulUnicode}
-use Rattle.shape_common.specs.declared.settings.Direction.{Direction}
+use Rattle.shape_common.specs.declared.text_types.Direction.{Direction}
 use Rattle.shape_plan.specs.Run.{Run}
 use Rattle.shape_plan.specs.Shaper.{HookMeaning}
 use Rattle.shape_prepare.specs.PrepareSteps.{prepare_steps}

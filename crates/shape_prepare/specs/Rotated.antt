@@ -7,7 +7,7 @@ use Rattle.shape_common.specs.Face.{FaceMeaning}
 use Rattle.shape_items.specs.Items.{Item}
 use Rattle.shape_common.specs.Unicode.{UnicodeMeaning}
 use Rattle.shape_buffer.specs.Walks.{items_mapped}
-use Rattle.shape_common.specs.declared.settings.Direction.{Direction}
+use Rattle.shape_common.specs.declared.text_types.Direction.{Direction}
 use Rattle.shape_plan.specs.declared.decisions.Decisions.{Decisions}
 
 -- the form of a character, if the face has it

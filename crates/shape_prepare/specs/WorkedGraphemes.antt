@@ -5,7 +5,7 @@ use Rattle.shape_items.specs.Items.{Item, new_item}
 use Rattle.shape_common.specs.Unicode.{UnicodeMeaning}
 use Rattle.shape_common.specs.declared.general_category.hb_unicode_general_category_t.{hb_unicode_general_category_t}
 use Rattle.shape_common.specs.declared.general_category.hb_unicode_general_category_t.TheVariants.{UppercaseLetter, LowercaseLetter, TitlecaseLetter, ModifierLetter, OtherLetter, SpaceSeparator, LineSeparator, ModifierSymbol, OtherSymbol, Format}
-use Rattle.shape_prepare.specs.Graphemes.{graphemes_marked, is_passed, is_skin_tone, is_extender, continues_by_rule, is_to_next}
+use Rattle.shape_prepare.specs.Graphemes.{graphemes_marked, is_unasked, is_skin_tone, is_extender, continues_by_rule, is_to_next}
 use Rattle.shape_prepare.specs.DottedCircle.{circle_before, dotted_circled}
 use Rattle.shape_prepare.specs.declared.graphemes.Before.TheVariants.{Plain, Zwj}
 use Rattle.shape_prepare.specs.WorkedUnicode.{worked_unicode, face_with, text_of, shown, continued}
@@ -82,7 +82,7 @@ pictures = record worked_unicode { pictographic = λ c. true }
 
 -- each rule with the characters and categories beside it
 pub record RulesByThemselves : Type 0 where
-  pub passed : map is_passed (UppercaseLetter ∷ LowercaseLetter ∷ TitlecaseLetter ∷ ModifierLetter ∷ OtherLetter
+  pub unasked : map is_unasked (UppercaseLetter ∷ LowercaseLetter ∷ TitlecaseLetter ∷ ModifierLetter ∷ OtherLetter
       ∷ SpaceSeparator ∷ LineSeparator ∷ ModifierSymbol ∷ Format ∷ [])
       ≡ true ∷ true ∷ true ∷ false ∷ true ∷ true ∷ false ∷ false ∷ false ∷ []
   pub skin_tones : map is_skin_tone (0x1F3FA ∷ 0x1F3FB ∷ 0x1F3FF ∷ 0x1F400 ∷ []) ≡ false ∷ true ∷ true ∷ false ∷ []
@@ -91,18 +91,18 @@ pub record RulesByThemselves : Type 0 where
   pub tone_of_no_modifier : continues_by_rule Plain (of_category OtherSymbol 0x1F3FB) ≡ false
   pub joiner : is_to_next worked_unicode Plain (joiner_of Format) ≡ Zwj
   pub joined_joiner : is_to_next pictures Zwj (joiner_of Format) ≡ Plain
-  pub passed_joiner : is_to_next worked_unicode Plain (joiner_of OtherLetter) ≡ Plain
+  pub plain_joiner : is_to_next worked_unicode Plain (joiner_of OtherLetter) ≡ Plain
 
 rules_by_themselves : RulesByThemselves
 rules_by_themselves = record {
-  passed = refl;
+  unasked = refl;
   skin_tones = refl;
   extenders = refl;
   circumflex = refl;
   tone_of_no_modifier = refl;
   joiner = refl;
   joined_joiner = refl;
-  passed_joiner = refl;
+  plain_joiner = refl;
 }
 
 -- a text that begins here with a mark

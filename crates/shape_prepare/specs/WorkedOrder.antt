@@ -5,18 +5,18 @@ use Rattle.shape_items.specs.Items.{Item, new_item}
 use Rattle.shape_common.specs.Positions.{zero_position}
 use Rattle.shape_common.specs.declared.positions.GlyphPosition.{GlyphPosition}
 use Rattle.shape_common.specs.declared.general_category.hb_unicode_general_category_t.TheVariants.{UppercaseLetter, LowercaseLetter, TitlecaseLetter, ModifierLetter, OtherLetter, OtherSymbol, NonspacingMark, DecimalNumber, LetterNumber}
-use Rattle.shape_common.specs.declared.settings.BufferClusterLevel.{BufferClusterLevel}
-use Rattle.shape_common.specs.declared.settings.BufferClusterLevel.TheVariants.{MonotoneGraphemes, MonotoneCharacters, Characters}
-use Rattle.shape_common.specs.declared.settings.Direction.{Direction}
-use Rattle.shape_common.specs.declared.settings.Direction.TheVariants.{Invalid, LeftToRight, RightToLeft, TopToBottom, BottomToTop}
-use Rattle.shape_common.specs.declared.settings.Script.{Script}
+use Rattle.shape_common.specs.declared.text_types.BufferClusterLevel.{BufferClusterLevel}
+use Rattle.shape_common.specs.declared.text_types.BufferClusterLevel.TheVariants.{MonotoneGraphemes, MonotoneCharacters, Characters}
+use Rattle.shape_common.specs.declared.text_types.Direction.{Direction}
+use Rattle.shape_common.specs.declared.text_types.Direction.TheVariants.{Invalid, LeftToRight, RightToLeft, TopToBottom, BottomToTop}
+use Rattle.shape_common.specs.declared.text_types.Script.{Script}
 use Rattle.shape_items.specs.Clusters.{merge}
 use Rattle.shape_buffer.specs.Walks.{items_mapped}
 use Rattle.shape_plan.specs.WorkedDecisions.{no_decisions}
 use Rattle.shape_plan.specs.declared.decisions.Decisions.{Decisions}
 use Rattle.shape_prepare.specs.Graphemes.{graphemes_marked}
 use Rattle.shape_prepare.specs.ClustersFormed.{clusters_formed}
-use Rattle.shape_prepare.specs.NativeOrder.{is_letter_category, is_against, natively_ordered, graphemes_turned}
+use Rattle.shape_prepare.specs.NativeOrder.{is_letter_category, is_against, natively_ordered, graphemes_reversed}
 use Rattle.shape_prepare.specs.Rotated.{rotated, mirrored_or_masked}
 use Rattle.shape_prepare.specs.WorkedUnicode.{worked_unicode, face_with, text_of, shown, masks, hebrew, latin, mongolian, common}
 
@@ -82,7 +82,7 @@ pub record RulesOfOrder : Type 0 where
       ≡ true ∷ true ∷ false ∷ true ∷ []
   pub against_up : map (is_against (Some BottomToTop)) (LeftToRight ∷ RightToLeft ∷ TopToBottom ∷ BottomToTop ∷ [])
       ≡ true ∷ true ∷ false ∷ true ∷ []
-  pub positions_too : (graphemes_turned three_placed).positions ≡ advanced_by 3 ∷ advanced_by 1 ∷ advanced_by 2 ∷ []
+  pub positions_too : (graphemes_reversed three_placed).positions ≡ advanced_by 3 ∷ advanced_by 1 ∷ advanced_by 2 ∷ []
 
 rules_of_order : RulesOfOrder
 unfolding graphemes_marked
@@ -90,12 +90,12 @@ rules_of_order = record { letters = refl; against_down = refl; against_up = refl
 
 pub record NativeOrders : Type 0 where
   pub bottom_to_top : shown (ordered BottomToTop None (at_level MonotoneCharacters accented)) ≡ (0x62, 3) ∷ (0x61, 0) ∷ (0x301, 0) ∷ []
-  pub turned_down : (ordered BottomToTop None (at_level MonotoneCharacters accented)).direction ≡ TopToBottom
+  pub reversed_down : (ordered BottomToTop None (at_level MonotoneCharacters accented)).direction ≡ TopToBottom
   pub merged_before : shown (ordered BottomToTop None (at_level MonotoneGraphemes accented)) ≡ (0x62, 3) ∷ (0x61, 0) ∷ (0x301, 0) ∷ []
   pub not_merged : shown (ordered BottomToTop None (at_level Characters accented)) ≡ (0x62, 3) ∷ (0x61, 0) ∷ (0x301, 1) ∷ []
   pub top_to_bottom : shown (ordered TopToBottom hebrew (at_level MonotoneCharacters accented)) ≡ accented
   pub letter_and_digit : shown (ordered LeftToRight hebrew (at_level MonotoneGraphemes alef_one)) ≡ (0x31, 2) ∷ (0x5D0, 0) ∷ []
-  pub turned_left : (ordered LeftToRight hebrew (at_level MonotoneGraphemes alef_one)).direction ≡ RightToLeft
+  pub reversed_left : (ordered LeftToRight hebrew (at_level MonotoneGraphemes alef_one)).direction ≡ RightToLeft
   pub digits : shown (ordered LeftToRight hebrew (at_level MonotoneGraphemes one_two)) ≡ one_two
   pub digits_direction : (ordered LeftToRight hebrew (at_level MonotoneGraphemes one_two)).direction ≡ LeftToRight
   pub digits_right_to_left : shown (ordered RightToLeft hebrew (at_level MonotoneGraphemes one_two)) ≡ one_two
@@ -116,12 +116,12 @@ native_orders : NativeOrders
 unfolding graphemes_marked clusters_formed natively_ordered merge
 native_orders = record {
   bottom_to_top = refl;
-  turned_down = refl;
+  reversed_down = refl;
   merged_before = refl;
   not_merged = refl;
   top_to_bottom = refl;
   letter_and_digit = refl;
-  turned_left = refl;
+  reversed_left = refl;
   digits = refl;
   digits_direction = refl;
   digits_right_to_left = refl;

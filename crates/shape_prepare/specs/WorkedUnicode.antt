@@ -7,9 +7,9 @@ use Rattle.shape_common.specs.Positions.{zero_position}
 use Rattle.shape_common.specs.Unicode.{UnicodeMeaning}
 use Rattle.shape_common.specs.declared.general_category.hb_unicode_general_category_t.{hb_unicode_general_category_t}
 use Rattle.shape_common.specs.declared.general_category.hb_unicode_general_category_t.TheVariants.{LowercaseLetter, OtherLetter, ModifierLetter, NonspacingMark, DecimalNumber, ModifierSymbol, OtherSymbol, OpenPunctuation, Format, SpaceSeparator}
-use Rattle.shape_common.specs.declared.settings.Direction.{Direction}
-use Rattle.shape_common.specs.declared.settings.Direction.TheVariants.{LeftToRight, RightToLeft, TopToBottom}
-use Rattle.shape_common.specs.declared.settings.Script.{Script}
+use Rattle.shape_common.specs.declared.text_types.Direction.{Direction}
+use Rattle.shape_common.specs.declared.text_types.Direction.TheVariants.{LeftToRight, RightToLeft, TopToBottom}
+use Rattle.shape_common.specs.declared.text_types.Script.{Script}
 use Rattle.shape_common.specs.PlainUnicode.{plain_unicode}
 use Rattle.shape_plan.specs.WorkedFaces.{bare_face}
 

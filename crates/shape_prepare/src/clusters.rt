@@ -6,7 +6,7 @@
 ghost use Rattle.std.specs.Prelude.{◌≡◌, ◌≢◌};
 ghost use Rattle.shape_items.specs.BufferClusters.{merge_clusters, unsafe_to_break};
 ghost use Rattle.shape_buffer.specs.Outcome.{Made};
-ghost use Rattle.shape_common.specs.declared.settings.BufferClusterLevel.TheVariants.{Characters};
+ghost use Rattle.shape_common.specs.declared.text_types.BufferClusterLevel.TheVariants.{Characters};
 ghost use Rattle.shape_prepare.specs.ClustersFormed.{clusters_formed, over_graphemes};
 
 use crate::grapheme_walk::{GraphemeChange, each_grapheme};

@@ -13,7 +13,7 @@ ghost use Rattle.shape_prepare.specs.Graphemes.{graphemes_marked, with_continuat
 ghost use Rattle.shape_prepare.specs.Graphemes.{continues_by_rule as continues_by_rule_of};
 ghost use Rattle.shape_prepare.specs.Graphemes.{is_to_next, is_joined as is_joined_of};
 ghost use Rattle.shape_prepare.specs.Graphemes.{is_settled as is_settled_of};
-ghost use Rattle.shape_prepare.specs.Graphemes.{is_passed as is_passed_of};
+ghost use Rattle.shape_prepare.specs.Graphemes.{is_unasked as is_unasked_of};
 ghost use Rattle.shape_prepare.specs.Graphemes.{is_modifier_symbol as is_modifier_symbol_of};
 ghost use Rattle.shape_prepare.specs.Graphemes.{is_skin_tone as is_skin_tone_of};
 ghost use Rattle.shape_prepare.specs.Graphemes.{is_regional_indicator as is_regional_indicator_of};
@@ -88,7 +88,7 @@ fn mark_continuation<U: hb_unicode_funcs_t>(before: Before, info: &mut hb_glyph_
     let joined = is_joined::<U>(before, info.codepoint);
     let joins = info._hb_glyph_info_get_zwj()
         && !joined
-        && !is_passed(info._hb_glyph_info_get_general_category());
+        && !is_unasked(info._hb_glyph_info_get_general_category());
     let continuation = info._hb_glyph_info_get_continuation()
         || joined
         || continues_by_rule(before, info);
@@ -119,7 +119,7 @@ fn continues_by_rule(before: Before, info: &hb_glyph_info_t) -> bool
 {
     let c = info.codepoint;
     let category = info._hb_glyph_info_get_general_category();
-    if is_passed(category) {
+    if is_unasked(category) {
         return false;
     }
     is_modifier_symbol(category) && is_skin_tone(c)
@@ -145,8 +145,8 @@ impl Before {
 }
 
 /// Whether no rule asks about this category: most letters, and spaces, which are the most common.
-fn is_passed(category: hb_unicode_general_category_t) -> bool
-    ensures { result ≡ is_passed_of category }
+fn is_unasked(category: hb_unicode_general_category_t) -> bool
+    ensures { result ≡ is_unasked_of category }
 {
     matches!(
         category,

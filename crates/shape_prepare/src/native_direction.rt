@@ -14,7 +14,7 @@ ghost use Rattle.shape_prepare.specs.NativeOrder.{direction_of_script as directi
 ghost use Rattle.shape_prepare.specs.NativeOrder.{is_against as is_against_of};
 ghost use Rattle.shape_prepare.specs.NativeOrder.{has_numbers_alone as has_numbers_alone_of};
 ghost use Rattle.shape_prepare.specs.NativeOrder.{is_letter as is_letter_of};
-ghost use Rattle.shape_prepare.specs.NativeOrder.{is_number as is_number_of, graphemes_turned};
+ghost use Rattle.shape_prepare.specs.NativeOrder.{is_number as is_number_of, graphemes_reversed};
 
 use crate::clusters::merge_graphemes;
 use crate::grapheme_walk::{GraphemeChange, each_grapheme};
@@ -39,7 +39,7 @@ pub fn ensure_native_direction<U: hb_unicode_funcs_t>(buffer: &mut hb_buffer_t)
     if buffer.cluster_level() == BufferClusterLevel::MonotoneCharacters {
         merge_graphemes(buffer);
     }
-    turn_graphemes(buffer);
+    reverse_graphemes(buffer);
 }
 
 /// The direction that the text is written in, if it is known.
@@ -122,19 +122,19 @@ fn is_number(info: &hb_glyph_info_t) -> bool
 }
 
 /// Reverses the order of the graphemes, each of which stays as it is, and the direction.
-fn turn_graphemes(buffer: &mut hb_buffer_t)
-    ensures { Made graphemes_turned buffer.old buffer.new }
+fn reverse_graphemes(buffer: &mut hb_buffer_t)
+    ensures { Made graphemes_reversed buffer.old buffer.new }
 {
-    reverse_graphemes(buffer);
+    reverse_within_graphemes(buffer);
     buffer.reverse();
     let direction = buffer.direction().reverse();
     buffer.set_direction(direction);
 }
 
 /// Reverses the items of each grapheme.
-fn reverse_graphemes(buffer: &mut hb_buffer_t)
+fn reverse_within_graphemes(buffer: &mut hb_buffer_t)
     ensures reversed { Made (over_graphemes reverse_span) buffer.old buffer.new }
     ensures as_many { length buffer.old.positions ≡ length buffer.old.items }
 {
-    each_grapheme(buffer, GraphemeChange::Turn);
+    each_grapheme(buffer, GraphemeChange::Reversal);
 }

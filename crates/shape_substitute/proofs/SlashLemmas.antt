@@ -13,9 +13,9 @@ module _ (masks : FractionMasks) (next i : ℕ) (item : Item) (rest : List Item)
   slashes-reached slash reached = rw (slash, reached) refl
 
   -- one in the whole of an earlier one
-  pub slashes-passed : is_slash item ≡ true → nat_lt i next ≡ true
+  pub slashes-skipped : is_slash item ≡ true → nat_lt i next ≡ true
       → slashes_masked masks next (slash_places (i + 1) rest) b ≡ slashes_masked masks next (slash_places i (item ∷ rest)) b
-  slashes-passed slash passed = rw (slash, passed) refl
+  slashes-skipped slash passed = rw (slash, passed) refl
 
   -- another item
   pub slashes-other : is_slash item ≡ false

@@ -10,8 +10,8 @@ use Rattle.shape_buffer.specs.Keepers.{IsClusterKeeper, IsFlagKeeper}
 use Rattle.shape_items.specs.KeepsFlags.{IsDefinedFlag, has_flag, KeepsFlags}
 use Rattle.shape_buffer.specs.Layout.{MapMeaning, LawfulMasks, HasNoDefinedFlag}
 use Rattle.shape_buffer.specs.Walks.{items_mapped}
-use Rattle.shape_common.specs.declared.settings.Direction.{Direction}
-use Rattle.shape_common.specs.declared.settings.Feature.{Feature}
+use Rattle.shape_common.specs.declared.text_types.Direction.{Direction}
+use Rattle.shape_common.specs.declared.text_types.Feature.{Feature}
 use Rattle.shape_items.proofs.Flags.FlagLemmas.{glyph_flags_set, the_first, range_brings, unsafe_to_break_keeps, KeepsFlags-items, KeepsFlags-same, KeepsFlags-then}
 use Rattle.shape_buffer.proofs.Steps.KeeperLemmas.{order-items_mapped}
 use Rattle.shape_items.proofs.Merging.KeyLemmas.{keys-map}

@@ -8,7 +8,7 @@ use Rattle.shape_common.specs.Category.{is_digit_category}
 use Rattle.shape_items.specs.Clusters.{map_range}
 use Rattle.shape_common.specs.Direction.{is_forward}
 use Rattle.shape_items.specs.Items.{Item}
-use Rattle.shape_common.specs.declared.settings.Direction.{Direction}
+use Rattle.shape_common.specs.declared.text_types.Direction.{Direction}
 use Rattle.shape_plan.specs.declared.decisions.Decisions.{Decisions}
 use Rattle.shape_substitute.specs.declared.fractions.FractionMasks.{FractionMasks}
 use Rattle.shape_common.specs.FlagNames.{HAS_NON_ASCII}

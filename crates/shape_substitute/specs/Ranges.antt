@@ -5,7 +5,7 @@ use Rattle.shape_items.specs.Buffer.{Buffer}
 use Rattle.shape_items.specs.Items.{Item}
 use Rattle.shape_buffer.specs.Layout.{MapMeaning}
 use Rattle.shape_buffer.specs.Walks.{items_mapped}
-use Rattle.shape_common.specs.declared.settings.Feature.{Feature}
+use Rattle.shape_common.specs.declared.text_types.Feature.{Feature}
 use Rattle.shape_plan.specs.Requests.{is_global}
 
 -- a value at its place in a mask, bits past 32 dropped

@@ -4,8 +4,8 @@ use Rattle.shape_items.specs.Buffer.{Buffer, new_buffer}
 use Rattle.shape_items.specs.Items.{Item, new_item}
 use Rattle.shape_common.specs.declared.general_category.hb_unicode_general_category_t.{hb_unicode_general_category_t}
 use Rattle.shape_common.specs.declared.general_category.hb_unicode_general_category_t.TheVariants.{DecimalNumber, OtherNumber, OtherLetter, MathSymbol}
-use Rattle.shape_common.specs.declared.settings.Direction.{Direction}
-use Rattle.shape_common.specs.declared.settings.Direction.TheVariants.{Invalid, LeftToRight, RightToLeft, TopToBottom, BottomToTop}
+use Rattle.shape_common.specs.declared.text_types.Direction.{Direction}
+use Rattle.shape_common.specs.declared.text_types.Direction.TheVariants.{Invalid, LeftToRight, RightToLeft, TopToBottom, BottomToTop}
 use Rattle.shape_plan.specs.WorkedDecisions.{no_decisions}
 use Rattle.shape_plan.specs.declared.decisions.Decisions.{Decisions}
 use Rattle.shape_substitute.specs.Fractions.{features_added, slash_masked, slash_places, whole_start, whole_end, next_place, fractions_masked}
@@ -111,11 +111,11 @@ pub record WalkOverSlashes : Type 0 where
   pub behind_whole : next_place (digit 0 ∷ slash 1 ∷ digit 4 ∷ digit 5 ∷ []) 1 ≡ 4
   pub behind_slash : next_place (letter 0 ∷ slash 1 ∷ digit 4 ∷ digit 5 ∷ []) 1 ≡ 2
   -- the first slash has nothing before it; the second has the first and the third as digits, and the walk goes on after the third
-  pub passed_by : masked_for_concat (digit_slash ∷ digit_slash ∷ digit_slash ∷ []) ≡ 0x302 ∷ 0x100 ∷ 0x500 ∷ []
+  pub skipped_by : masked_for_concat (digit_slash ∷ digit_slash ∷ digit_slash ∷ []) ≡ 0x302 ∷ 0x100 ∷ 0x500 ∷ []
 
 walk_over_slashes : WalkOverSlashes
 unfolding fractions_masked slash_masked features_added
-walk_over_slashes = record { places = refl; start = refl; end = refl; behind_whole = refl; behind_slash = refl; passed_by = refl }
+walk_over_slashes = record { places = refl; start = refl; end = refl; behind_whole = refl; behind_slash = refl; skipped_by = refl }
 
 pub record WorkedFractions : Type 0 where
   pub masks : MasksOfFractions

@@ -6,7 +6,7 @@ use Rattle.shape_buffer.specs.Layout.{MapMeaning}
 use Rattle.shape_buffer.specs.Walks.{items_mapped}
 use Rattle.shape_common.specs.declared.general_category.hb_unicode_general_category_t.{hb_unicode_general_category_t}
 use Rattle.shape_common.specs.declared.general_category.hb_unicode_general_category_t.TheVariants.{NonspacingMark, SpacingMark, EnclosingMark, OtherLetter}
-use Rattle.shape_common.specs.declared.settings.Feature.{Feature}
+use Rattle.shape_common.specs.declared.text_types.Feature.{Feature}
 use Rattle.shape_substitute.specs.Classes.{class_of_glyph, with_class, with_nominal_glyph, without_syllable, glyphs_mapped, classes_synthesised, syllables_cleared}
 use Rattle.shape_plan.specs.Requests.{is_global}
 use Rattle.shape_substitute.specs.Ranges.{shifted, with_value, ranges_masked}

@@ -2,9 +2,9 @@
 use Rattle.std.specs.Prelude.{ℕ, List, [], ◌∷◌, Bool, not, Option, Some, None, ◌+◌, ◌==◌, ◌||◌, length, map, take, if◌then◌else◌}
 use Rattle.std.specs.List.{prefix_len}
 use Rattle.shape_common.specs.ScriptTags.{script_of_tag}
-use Rattle.shape_common.specs.declared.settings.Script.{Script}
-use Rattle.shape_common.specs.declared.settings.Direction.{Direction}
-use Rattle.shape_common.specs.declared.settings.Direction.TheVariants.{Invalid, LeftToRight, RightToLeft, TopToBottom, BottomToTop}
+use Rattle.shape_common.specs.declared.text_types.Script.{Script}
+use Rattle.shape_common.specs.declared.text_types.Direction.{Direction}
+use Rattle.shape_common.specs.declared.text_types.Direction.TheVariants.{Invalid, LeftToRight, RightToLeft, TopToBottom, BottomToTop}
 use Rattle.shape_text_forms.specs.Feature.{tag_value, is_letter}
 use Rattle.shape_text_forms.specs.Scan.{is_between}
 

@@ -7,7 +7,7 @@ use Rattle.std.specs.Option.{option_map_or}
 use Rattle.shape_items.specs.Items.{Item}
 use Rattle.shape_common.specs.Wrapping.{◌+ʷ◌}
 use Rattle.shape_common.specs.declared.positions.GlyphPosition.{GlyphPosition}
-use Rattle.shape_common.specs.declared.settings.GlyphId.{GlyphId}
+use Rattle.shape_common.specs.declared.text_types.GlyphId.{GlyphId}
 use Rattle.shape_common.specs.declared.face.hb_glyph_extents_t.{hb_glyph_extents_t}
 use Rattle.shape_text_forms.specs.declared.glyph_text.Pen.{Pen}
 

@@ -1,6 +1,6 @@
 -- Features, on texts that were read by hand: the first are the table of HarfBuzz's own documentation.
 use Rattle.std.specs.Prelude.{◌≡◌, ℕ, [], ◌∷◌, Option, Some, None, codes, refl}
-use Rattle.shape_common.specs.declared.settings.Feature.{Feature}
+use Rattle.shape_common.specs.declared.text_types.Feature.{Feature}
 use Rattle.shape_text_forms.specs.Feature.{feature_of}
 
 abbrev pub of : ℕ → ℕ → ℕ → ℕ → Option Feature

@@ -5,8 +5,8 @@ use Rattle.std.specs.Int.{int_wrap}
 use Rattle.shape_items.specs.Items.{Item, new_item}
 use Rattle.shape_common.specs.Wrapping.{◌+ʷ◌}
 use Rattle.shape_common.specs.declared.positions.GlyphPosition.{GlyphPosition}
-use Rattle.shape_common.specs.declared.settings.Script.{Script}
-use Rattle.shape_common.specs.declared.settings.Direction.TheVariants.{Invalid, LeftToRight, RightToLeft, TopToBottom, BottomToTop}
+use Rattle.shape_common.specs.declared.text_types.Script.{Script}
+use Rattle.shape_common.specs.declared.text_types.Direction.TheVariants.{Invalid, LeftToRight, RightToLeft, TopToBottom, BottomToTop}
 use Rattle.shape_text_forms.specs.Names.{direction_of_text, language_of_text, tag_of_text, script_of_text}
 use Rattle.shape_text_forms.specs.Serialize.{Form, serialized}
 

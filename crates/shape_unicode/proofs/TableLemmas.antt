@@ -47,8 +47,8 @@ unfolding tables is_bidi_mirrored bidi_mirrored_ranges
 mutual_ok = refl
 
 -- the image of c is mirrored, and c is its image
-turned : (c d : ℕ) → other_of_pair c ≡ Some d → (is_bidi_mirrored d ≡ true) × (other_of_pair d ≡ Some c)
-turned c d found =
+mirrored_back : (c d : ℕ) → other_of_pair c ≡ Some d → (is_bidi_mirrored d ≡ true) × (other_of_pair d ≡ Some c)
+mirrored_back c d found =
     let at = found_pair is_mutual mutual_ok c d found in
     let parts = and_parts _ _ at.passes in
     let has = and_parts _ _ parts.0 in
@@ -60,9 +60,9 @@ turned c d found =
 
 pub mirrors_are_mutual : MirrorsAreMutual
 mirrors_are_mutual = record {
-  mirrored = λ c d found. (turned c d (mirrored_cases c d found).1).0;
+  mirrored = λ c d found. (mirrored_back c d (mirrored_cases c d found).1).0;
   back = λ c d found.
-      let image = turned c d (mirrored_cases c d found).1 in
+      let image = mirrored_back c d (mirrored_cases c d found).1 in
       cond-true (is_bidi_mirrored d) (other_of_pair d) None image.0 ∙ image.1;
 }
 

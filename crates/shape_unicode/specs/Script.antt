@@ -2,7 +2,7 @@
 use Rattle.std.specs.Prelude.{ℕ, ◌+◌, ◌*◌, List, codes, slice_index}
 use Rattle.ucd_script.specs.declared.Script.{Script as DatabaseScript}
 use Rattle.ucd_script.specs.declared.Script.TheVariants as database
-use Rattle.shape_common.specs.declared.settings.Script.{Script}
+use Rattle.shape_common.specs.declared.text_types.Script.{Script}
 
 -- four bytes as one number, the first byte highest
 abbrev pub tag_of : List ℕ → ℕ

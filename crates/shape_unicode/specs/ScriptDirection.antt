@@ -1,10 +1,10 @@
 -- The directions that scripts are written in.
 use Rattle.std.specs.Prelude.{◌==◌, Bool, Option, Some, None, if◌then◌else◌}
 use Rattle.std.specs.List.{list_any}
-use Rattle.shape_common.specs.declared.settings.hb_tag_t.{hb_tag_t}
-use Rattle.shape_common.specs.declared.settings.Script.{Script}
-use Rattle.shape_common.specs.declared.settings.Direction.{Direction}
-use Rattle.shape_common.specs.declared.settings.Direction.TheVariants.{LeftToRight, RightToLeft}
+use Rattle.shape_common.specs.declared.text_types.hb_tag_t.{hb_tag_t}
+use Rattle.shape_common.specs.declared.text_types.Script.{Script}
+use Rattle.shape_common.specs.declared.text_types.Direction.{Direction}
+use Rattle.shape_common.specs.declared.text_types.Direction.TheVariants.{LeftToRight, RightToLeft}
 use Rattle.shape_unicode.specs.Script.{tag_of}
 use Rattle.shape_unicode.specs.declared.script_direction.TheConstants.{RIGHT_TO_LEFT, EITHER_WAY}
 

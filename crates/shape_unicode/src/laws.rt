@@ -3,7 +3,7 @@
 //!
 //! They tie the small tables to the character database, for every character, so that a wrong entry is
 //! refused and not only tested for.
-ghost use Rattle.shape_unicode.specs.Brackets.{BracketsTurn};
+ghost use Rattle.shape_unicode.specs.Brackets.{BracketsMirror};
 ghost use Rattle.shape_unicode.specs.Canonical.{EquivalenceIsCanonical};
 ghost use Rattle.shape_unicode.specs.MarkOrder.{MarksAreInOrder};
 ghost use Rattle.shape_unicode.specs.OfDatabase.{MirrorsAreMutual, VerticalsAreMapped};
@@ -30,8 +30,8 @@ pub fn mirrors_are_mutual()
 /// Each bracket and quotation mark with the property Bidi_Mirrored has a mirror image: an opening one has a
 /// closing one, and the other way round (UAX 9; General_Category Ps, Pe, Pi and Pf). U+2E62 and U+2E63 are
 /// newer than the pairs, and have none.
-pub fn brackets_turn()
-    ensures { BracketsTurn }
+pub fn brackets_mirror()
+    ensures { BracketsMirror }
 {}
 
 /// Vertical forms are those of the database: the mapping of a form has the tag `<vertical>`, and names the

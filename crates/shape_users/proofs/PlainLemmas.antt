@@ -14,13 +14,13 @@ use Rattle.shape_common.specs.FlagNames.{PRODUCE_UNSAFE_TO_CONCAT}
 use Rattle.shape_items.specs.Items.{Item, new_item}
 use Rattle.shape_buffer.specs.Text.{items_from, text_items, IsFirstByte}
 use Rattle.shape_common.specs.Unicode.{UnicodeMeaning}
-use Rattle.shape_common.specs.declared.settings.Feature.{Feature}
-use Rattle.shape_common.specs.declared.settings.Script.{Script}
+use Rattle.shape_common.specs.declared.text_types.Feature.{Feature}
+use Rattle.shape_common.specs.declared.text_types.Script.{Script}
 use Rattle.shape_buffer.specs.Guess.{guessed}
 use Rattle.shape_buffer.specs.Outcome.{Step, run_steps, EachWithin, SomePast}
 use Rattle.shape_common.specs.declared.positions.GlyphPosition.{GlyphPosition}
-use Rattle.shape_common.specs.declared.settings.Direction.{Direction}
-use Rattle.shape_common.specs.declared.settings.Direction.TheVariants.{Invalid, LeftToRight, RightToLeft, TopToBottom, BottomToTop}
+use Rattle.shape_common.specs.declared.text_types.Direction.{Direction}
+use Rattle.shape_common.specs.declared.text_types.Direction.TheVariants.{Invalid, LeftToRight, RightToLeft, TopToBottom, BottomToTop}
 use Rattle.shape_buffer.specs.Guess.{direction_or, guessed_direction, guessed_script, script_or, first_script, script_or_ltr}
 use Rattle.shape_pipeline.specs.Headline.{target_of}
 use Rattle.shape_pipeline.specs.Order.{ClustersComeInOrder, ComesInOrder, RunKeepsClusters}

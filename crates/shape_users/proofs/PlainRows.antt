@@ -9,7 +9,7 @@ use Rattle.shape_items.specs.Items.{Item, new_item}
 use Rattle.shape_buffer.specs.Outcome.{Step, run_steps}
 use Rattle.shape_common.specs.Face.{FaceMeaning}
 use Rattle.shape_common.specs.declared.flags.BufferFlags.{BufferFlags}
-use Rattle.shape_common.specs.declared.settings.GlyphId.{GlyphId}
+use Rattle.shape_common.specs.declared.text_types.GlyphId.{GlyphId}
 use Rattle.shape_lines.specs.WorkedCanCut.{in_clusters}
 use Rattle.shape_plan.specs.Rules.{has_glyph}
 use Rattle.shape_plan.specs.Run.{Run}

@@ -173,7 +173,7 @@ worked_glyphs_of_text = record {
   last_too_early = λ is. let place = is.inside 2 (omega arith) (omega arith) (omega arith) in let lt : 2 < 2 = place.1 in omega (arith, lt);
   last_too_late = λ is. let last = is.last (omega arith) in let lt : 5 < 5 = last.1 in omega (arith, lt);
   past_the_count = λ is. let le : 3 ≤ 2 = is.within in omega (arith, le);
-  turned = λ is. let le : 2 ≤ 1 = is.ordered in omega (arith, le);
+  reversed = λ is. let le : 2 ≤ 1 = is.ordered in omega (arith, le);
 }
 
 pub worked_shown : WorkedShown

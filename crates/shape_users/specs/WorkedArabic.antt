@@ -3,7 +3,7 @@ use Rattle.std.specs.Prelude.{◌≡◌, ℕ, List, [], ◌∷◌, map, refl}
 use Rattle.shape_items.specs.Buffer.{Buffer, new_buffer}
 use Rattle.shape_items.specs.Clusters.{merge}
 use Rattle.shape_items.specs.Items.{Item, new_item, ccc_of_item}
-use Rattle.shape_common.specs.declared.settings.BufferClusterLevel.TheVariants.{Characters}
+use Rattle.shape_common.specs.declared.text_types.BufferClusterLevel.TheVariants.{Characters}
 use Rattle.shape_plan.specs.Reorder.{with_ccc}
 use Rattle.shape_users.specs.Arabic.{modifiers_reordered}
 

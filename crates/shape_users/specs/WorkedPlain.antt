@@ -8,9 +8,9 @@ use Rattle.shape_buffer.specs.Guess.{guessed}
 use Rattle.shape_buffer.specs.Outcome.{Step}
 use Rattle.shape_common.specs.Face.{FaceMeaning}
 use Rattle.shape_common.specs.Positions.{zero_position}
-use Rattle.shape_common.specs.declared.settings.BufferClusterLevel.TheVariants.{MonotoneGraphemes, Characters}
-use Rattle.shape_common.specs.declared.settings.Direction.TheVariants.{RightToLeft}
-use Rattle.shape_common.specs.declared.settings.GlyphId.{GlyphId}
+use Rattle.shape_common.specs.declared.text_types.BufferClusterLevel.TheVariants.{MonotoneGraphemes, Characters}
+use Rattle.shape_common.specs.declared.text_types.Direction.TheVariants.{RightToLeft}
+use Rattle.shape_common.specs.declared.text_types.GlyphId.{GlyphId}
 use Rattle.shape_lines.specs.WorkedCanCut.{in_clusters}
 use Rattle.shape_pipeline.specs.Headline.{target_of}
 use Rattle.shape_pipeline.specs.Shaped.{all_steps, entered}

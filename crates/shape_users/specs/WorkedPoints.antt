@@ -4,7 +4,7 @@ use Rattle.shape_items.specs.Buffer.{Buffer, new_buffer}
 use Rattle.shape_items.specs.Clusters.{merge}
 use Rattle.shape_items.specs.Items.{new_item}
 use Rattle.shape_common.specs.Positions.{zero_position}
-use Rattle.shape_common.specs.declared.settings.BufferClusterLevel.TheVariants.{Characters}
+use Rattle.shape_common.specs.declared.text_types.BufferClusterLevel.TheVariants.{Characters}
 use Rattle.shape_plan.specs.Reorder.{with_ccc}
 use Rattle.shape_users.specs.Ligatures.{with_glyph, substituted}
 use Rattle.shape_users.specs.Points.{is_triple, third_place, points_reordered}
@@ -110,7 +110,7 @@ pub record WorkedSubstitutions : Type 0 where
   pub longer_cluster : shown_glyphs (substituted (glyphs_of ((2, 0) ∷ (3, 1) ∷ (7, 1) ∷ (8, 2) ∷ []))) ≡ (23, 0) ∷ (7, 0) ∷ (8, 2) ∷ []
   pub apart : shown_glyphs (substituted (glyphs_of ((2, 0) ∷ (4, 1) ∷ (3, 2) ∷ (2, 3) ∷ [])))
       ≡ (2, 0) ∷ (4, 1) ∷ (3, 2) ∷ (2, 3) ∷ []
-  pub turned : shown_glyphs (substituted (glyphs_of ((3, 0) ∷ (2, 1) ∷ []))) ≡ (3, 0) ∷ (2, 1) ∷ []
+  pub reversed : shown_glyphs (substituted (glyphs_of ((3, 0) ∷ (2, 1) ∷ []))) ≡ (3, 0) ∷ (2, 1) ∷ []
   pub by_character : shown_glyphs (substituted (record (glyphs_of ((2, 1) ∷ (3, 0) ∷ [])) { cluster_level = Characters })) ≡ (23, 1) ∷ []
   pub none : substituted (glyphs_of []) ≡ glyphs_of []
 
@@ -123,7 +123,7 @@ worked_substitutions = record {
   two_pairs = refl;
   longer_cluster = refl;
   apart = refl;
-  turned = refl;
+  reversed = refl;
   by_character = refl;
   none = refl;
 }

@@ -60,7 +60,7 @@ pub record WorkedGlyphsOfText : Type 0 where
   pub last_too_early : FirstToLast rising 2 5 4 1 2 → ⊥
   pub last_too_late : FirstToLast rising 2 5 4 1 4 → ⊥
   pub past_the_count : FirstToLast rising 7 9 2 3 3 → ⊥
-  pub turned : FirstToLast rising 7 9 4 2 1 → ⊥
+  pub reversed : FirstToLast rising 7 9 4 2 1 → ⊥
 
 pub record WorkedShown : Type 0 where
   pub ends : WorkedEnds

@@ -4,11 +4,11 @@ use Rattle.std.specs.BTreeMap.{insert_entry}
 use Rattle.std.specs.Ordering.{nat_cmp}
 use Rattle.std.specs.Str.Parse.{digits_value, signed_digits_value}
 use Rattle.shape_common.specs.declared.flags.BufferFlags.{BufferFlags}
-use Rattle.shape_common.specs.declared.settings.BufferClusterLevel.{BufferClusterLevel}
-use Rattle.shape_common.specs.declared.settings.BufferClusterLevel.TheVariants.{MonotoneGraphemes}
-use Rattle.shape_common.specs.declared.settings.Direction.{Direction}
-use Rattle.shape_common.specs.declared.settings.Direction.TheVariants.{Invalid}
-use Rattle.shape_common.specs.declared.settings.GlyphId.{GlyphId}
+use Rattle.shape_common.specs.declared.text_types.BufferClusterLevel.{BufferClusterLevel}
+use Rattle.shape_common.specs.declared.text_types.BufferClusterLevel.TheVariants.{MonotoneGraphemes}
+use Rattle.shape_common.specs.declared.text_types.Direction.{Direction}
+use Rattle.shape_common.specs.declared.text_types.Direction.TheVariants.{Invalid}
+use Rattle.shape_common.specs.declared.text_types.GlyphId.{GlyphId}
 use Rattle.shape_common.specs.declared.map_face.Metrics.{Metrics}
 use Rattle.shapeline.specs.Modes.{mode_of}
 use Rattle.shapeline.specs.Settings.{IsNumber, IsUnits, IsGlyph, IsDirection, IsFlags, number, direction_said, extents_of, level_of}

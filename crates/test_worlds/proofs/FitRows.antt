@@ -1,6 +1,6 @@
 -- The rows of decisions, and of texts that a plan fits.
 use Rattle.std.proofs.Common.{◌≡◌, ℕ, true, false, refl, ap, arith}
-use Rattle.shape_common.specs.declared.settings.Script.{Script}
+use Rattle.shape_common.specs.declared.text_types.Script.{Script}
 use Rattle.test_worlds.specs.WorkedFits.{MasksOfPlans, TablesOfPlans, TextsOfPlans, WorkedFits}
 
 masks_of_plans : MasksOfPlans

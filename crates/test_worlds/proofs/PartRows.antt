@@ -32,7 +32,7 @@ spans_in_order = record {
   );
   back = λ are. let le : 2 ≤ 1 = are.3.0 in omega (arith, le);
   before_the_place = λ are. let le : 1 ≤ 0 = are.0 in omega (arith, le);
-  turned = λ are. let le : 2 ≤ 1 = are.1 in omega (arith, le);
+  reversed = λ are. let le : 2 ≤ 1 = are.1 in omega (arith, le);
   past_the_items = λ are. let le : 6 ≤ 5 = are.3.2 in omega (arith, le);
 }
 

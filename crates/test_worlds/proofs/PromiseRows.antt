@@ -11,10 +11,10 @@ use Rattle.std.specs.List.Sorted.{IsNonDecreasing}
 use Rattle.shape_items.specs.Clusters.{clusters}
 use Rattle.shape_items.specs.ClusterOrder.{IsNonIncreasing, IsOrderedFor}
 use Rattle.shape_common.specs.Direction.{is_backward}
-use Rattle.shape_common.specs.declared.settings.BufferClusterLevel.{BufferClusterLevel}
-use Rattle.shape_common.specs.declared.settings.BufferClusterLevel.TheVariants.{MonotoneGraphemes, MonotoneCharacters}
-use Rattle.shape_common.specs.declared.settings.Direction.{Direction}
-use Rattle.shape_common.specs.declared.settings.Direction.TheVariants.{LeftToRight, RightToLeft, TopToBottom, BottomToTop}
+use Rattle.shape_common.specs.declared.text_types.BufferClusterLevel.{BufferClusterLevel}
+use Rattle.shape_common.specs.declared.text_types.BufferClusterLevel.TheVariants.{MonotoneGraphemes, MonotoneCharacters}
+use Rattle.shape_common.specs.declared.text_types.Direction.{Direction}
+use Rattle.shape_common.specs.declared.text_types.Direction.TheVariants.{LeftToRight, RightToLeft, TopToBottom, BottomToTop}
 use Rattle.shape_pipeline.specs.Order.{grapheme_clusters}
 use Rattle.shape_plan.specs.Run.{Run}
 use Rattle.shape_prepare.specs.Begun.{begun}

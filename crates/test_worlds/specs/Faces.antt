@@ -3,7 +3,7 @@ use Rattle.std.specs.Prelude.{ℕ, ℤ, List, ◌==◌, ◌&&◌, Option, Some, 
 use Rattle.std.specs.Option.{option_map, option_and_then, option_or, unwrap_or}
 use Rattle.shape_common.specs.Face.{FaceMeaning}
 use Rattle.shape_common.specs.declared.face.hb_glyph_extents_t.{hb_glyph_extents_t}
-use Rattle.shape_common.specs.declared.settings.GlyphId.{GlyphId}
+use Rattle.shape_common.specs.declared.text_types.GlyphId.{GlyphId}
 use Rattle.test_worlds.specs.declared.face.KnownGlyph.{KnownGlyph}
 use Rattle.test_worlds.specs.declared.face.TestFace.{TestFace}
 
@@ -29,7 +29,7 @@ glyph_among characters c = option_map (λ known. record { 0 = known }) (find (λ
 abbrev pub glyph_in : TestFace → ℕ → Option GlyphId
 glyph_in face c =
     option_or (glyph_known face.known.now c)
-        (if face.every then Some (record { 0 = c }) else glyph_among face.characters.now c)
+    (if face.every then Some (record { 0 = c }) else glyph_among face.characters.now c)
 
 -- U+0061 with U+FE00 after it has glyph 7 in a face with a variant
 abbrev pub variant_in : TestFace → ℕ → ℕ → Option GlyphId

@@ -10,7 +10,7 @@ use Rattle.shape_buffer.specs.Walks.{items_mapped}
 use Rattle.shape_buffer.specs.declared.interfaces.map_request.TableIndex.TheVariants.{GSUB, GPOS}
 use Rattle.shape_common.specs.Wrapping.{◌+ʷ◌}
 use Rattle.shape_common.specs.declared.positions.GlyphPosition.{GlyphPosition}
-use Rattle.shape_common.specs.declared.settings.Feature.{Feature}
+use Rattle.shape_common.specs.declared.text_types.Feature.{Feature}
 use Rattle.test_worlds.specs.Rules.{with_glyph, first_made}
 use Rattle.test_worlds.specs.declared.face.TestFace.{TestFace}
 use Rattle.test_worlds.specs.declared.layout.TestMap.{TestMap}
@@ -118,7 +118,7 @@ pub masks_of-lawful : (map : TestMap) → LawfulMasks (masks_of map)
 masks_of-lawful map = record {
   global_mask = refl;
   one_mask = λ tag. no_flag map.every_feature (tag.0 == 0x66726163 && map.fractions) (tag.0 == 0x6E756D72 && map.fractions)
-    (tag.0 == 0x646E6F6D && map.fractions) (tag.0 == 0x73733031);
+      (tag.0 == 0x646E6F6D && map.fractions) (tag.0 == 0x73733031);
   mask = λ tag. no_bit map.every_feature (tag.0 == 0x73733031);
   shift = λ tag. within map.every_feature (tag.0 == 0x73733031);
 }

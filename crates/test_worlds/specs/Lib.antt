@@ -11,7 +11,7 @@ pub mod WorkedParts
 pub mod WorkedPremises
 pub mod WorkedCharacters
 pub mod WorkedTexts
-pub mod Turning
+pub mod Changing
 pub mod Rules
 pub mod Layouts
 pub mod Doubling

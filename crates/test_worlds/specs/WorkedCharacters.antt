@@ -8,7 +8,7 @@ use Rattle.shape_items.specs.UnicodeProps.{is_hidden_char, with_unicode_props, w
 use Rattle.shape_common.specs.declared.flags.ScratchFlags.{ScratchFlags}
 use Rattle.shape_common.specs.declared.general_category.hb_unicode_general_category_t.{hb_unicode_general_category_t}
 use Rattle.shape_common.specs.declared.general_category.hb_unicode_general_category_t.TheVariants.{UppercaseLetter, LowercaseLetter, OtherLetter, NonspacingMark, SpacingMark, EnclosingMark, DecimalNumber, OtherSymbol, SpaceSeparator, LineSeparator}
-use Rattle.shape_common.specs.declared.settings.Direction.TheVariants.{Invalid, LeftToRight, RightToLeft, TopToBottom, BottomToTop}
+use Rattle.shape_common.specs.declared.text_types.Direction.TheVariants.{Invalid, LeftToRight, RightToLeft, TopToBottom, BottomToTop}
 use Rattle.shape_common.specs.PlainUnicode.{plain_unicode}
 
 -- ---- hidden characters

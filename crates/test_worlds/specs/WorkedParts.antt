@@ -13,9 +13,9 @@ use Rattle.shape_buffer.specs.Text.{IsFirstByte}
 use Rattle.shape_buffer.specs.declared.interfaces.map_request.MapRequest.TheVariants.{Feature}
 use Rattle.shape_buffer.specs.declared.interfaces.map_request.TableIndex.TheVariants.{GSUB, GPOS}
 use Rattle.shape_common.specs.Positions.{zero_position}
-use Rattle.shape_common.specs.declared.settings.Direction.{Direction}
-use Rattle.shape_common.specs.declared.settings.Direction.TheVariants.{LeftToRight, RightToLeft, TopToBottom}
-use Rattle.shape_common.specs.declared.settings.hb_tag_t.{hb_tag_t}
+use Rattle.shape_common.specs.declared.text_types.Direction.{Direction}
+use Rattle.shape_common.specs.declared.text_types.Direction.TheVariants.{LeftToRight, RightToLeft, TopToBottom}
+use Rattle.shape_common.specs.declared.text_types.hb_tag_t.{hb_tag_t}
 use Rattle.shape_fallback.specs.Bases.{without_positions}
 use Rattle.shape_prepare.specs.KeptCharacters.{rotated_char}
 use Rattle.shape_prepare.specs.WorkedOrder.{decisions_with}
@@ -90,7 +90,7 @@ pub record SpansInOrder : Type 0 where
   pub all_kinds : AreSpansInOrder 0 5 ((0, 2) ∷ (2, 4) ∷ (3, 5) ∷ (3, 4) ∷ (5, 5) ∷ [])
   pub back : AreSpansInOrder 0 5 ((2, 3) ∷ (1, 5) ∷ []) → ⊥
   pub before_the_place : AreSpansInOrder 1 5 ((0, 2) ∷ []) → ⊥
-  pub turned : AreSpansInOrder 0 5 ((2, 1) ∷ []) → ⊥
+  pub reversed : AreSpansInOrder 0 5 ((2, 1) ∷ []) → ⊥
   pub past_the_items : AreSpansInOrder 0 5 ((0, 2) ∷ (2, 6) ∷ []) → ⊥
 
 pub record RunsOfClusters : Type 0 where
@@ -131,14 +131,14 @@ pub record HonestBuffers : Type 0 where
 -- ---- preparing and positions
 
 -- a character in its form for a direction, if the face has glyphs for all, or no lookup to set upright
-abbrev pub turned : Bool → Direction → ℕ → ℕ
-turned has_vert target c = rotated_char worked_unicode (face_with (λ _. true)) (decisions_with 16 has_vert) target c
+abbrev pub reversed : Bool → Direction → ℕ → ℕ
+reversed has_vert target c = rotated_char worked_unicode (face_with (λ _. true)) (decisions_with 16 has_vert) target c
 
 pub record FormsOfCharacters : Type 0 where
-  pub leftward : map (turned false RightToLeft) (0x28 ∷ 0x29 ∷ 0x61 ∷ 0x2014 ∷ []) ≡ 0x29 ∷ 0x28 ∷ 0x61 ∷ 0x2014 ∷ []
-  pub rightward : map (turned false LeftToRight) (0x28 ∷ 0x2014 ∷ []) ≡ 0x28 ∷ 0x2014 ∷ []
-  pub downward : map (turned false TopToBottom) (0x28 ∷ 0x29 ∷ 0x2014 ∷ []) ≡ 0x28 ∷ 0xFE36 ∷ 0xFE31 ∷ []
-  pub by_lookups : map (turned true TopToBottom) (0x29 ∷ 0x2014 ∷ []) ≡ 0x29 ∷ 0x2014 ∷ []
+  pub leftward : map (reversed false RightToLeft) (0x28 ∷ 0x29 ∷ 0x61 ∷ 0x2014 ∷ []) ≡ 0x29 ∷ 0x28 ∷ 0x61 ∷ 0x2014 ∷ []
+  pub rightward : map (reversed false LeftToRight) (0x28 ∷ 0x2014 ∷ []) ≡ 0x28 ∷ 0x2014 ∷ []
+  pub downward : map (reversed false TopToBottom) (0x28 ∷ 0x29 ∷ 0x2014 ∷ []) ≡ 0x28 ∷ 0xFE36 ∷ 0xFE31 ∷ []
+  pub by_lookups : map (reversed true TopToBottom) (0x29 ∷ 0x2014 ∷ []) ≡ 0x29 ∷ 0x2014 ∷ []
 
 pub forms_of_characters : FormsOfCharacters
 forms_of_characters = record { leftward = refl; rightward = refl; downward = refl; by_lookups = refl }

@@ -7,10 +7,10 @@ use Rattle.shape_buffer.specs.Guess.{is_specific, guessed_script, guessed_direct
 use Rattle.shape_items.specs.Items.{Item, new_item}
 use Rattle.shape_buffer.specs.Text.{text_items, context_before, context_after}
 use Rattle.shape_common.specs.Unicode.{UnicodeMeaning}
-use Rattle.shape_common.specs.declared.settings.BufferClusterLevel.TheVariants.{MonotoneGraphemes, Characters}
-use Rattle.shape_common.specs.declared.settings.Direction.{Direction}
-use Rattle.shape_common.specs.declared.settings.Direction.TheVariants.{Invalid, LeftToRight, RightToLeft, TopToBottom, BottomToTop}
-use Rattle.shape_common.specs.declared.settings.Script.{Script}
+use Rattle.shape_common.specs.declared.text_types.BufferClusterLevel.TheVariants.{MonotoneGraphemes, Characters}
+use Rattle.shape_common.specs.declared.text_types.Direction.{Direction}
+use Rattle.shape_common.specs.declared.text_types.Direction.TheVariants.{Invalid, LeftToRight, RightToLeft, TopToBottom, BottomToTop}
+use Rattle.shape_common.specs.declared.text_types.Script.{Script}
 use Rattle.shape_common.specs.PlainUnicode.{plain_unicode}
 
 -- ---- characters of a text

@@ -10,8 +10,8 @@ ghost use Rattle.test_worlds.specs.Layouts.{struck as struck_of, is_struck as is
 use crate::face::TestFace;
 use crate::lookups::run_stage;
 use shape_buffer::buffer::{
-    Feature, GlyphPosition, GlyphPropsFlags, Language, Script, ShapeError, hb_buffer_t, hb_glyph_info_t,
-    hb_mask_t, hb_tag_t,
+    Feature, GlyphPosition, GlyphPropsFlags, Language, Script, ShapeError, hb_buffer_t,
+    hb_glyph_info_t, hb_mask_t, hb_tag_t,
 };
 use shape_buffer::interfaces::{TableIndex, hb_ot_layout_t, hb_ot_map_builder_t};
 use shape_buffer::position_walks::update_positions;

@@ -5,6 +5,7 @@
 #![allow(non_camel_case_types)]
 
 mod absorbing;
+mod changing;
 mod doubling;
 mod face;
 mod layout;
@@ -15,11 +16,11 @@ mod rules;
 mod small_unicode;
 mod splitting;
 mod swapping;
-mod turning;
 mod wishing;
 pub mod worked;
 
 pub use absorbing::AbsorbingShaper;
+pub use changing::ChangingShaper;
 pub use doubling::DoublingShaper;
 pub use face::{EVERY_GLYPH, KnownGlyph, PLAIN_FACE, TestFace};
 pub use layout::{TestLayout, TestMap};
@@ -29,5 +30,4 @@ pub use rules::{Ligature, Multiple, Single, Stage};
 pub use small_unicode::SmallUnicode;
 pub use splitting::{DeepShaper, StackedShaper};
 pub use swapping::SwappingShaper;
-pub use turning::TurningShaper;
 pub use wishing::{Automatic, EarlyShaper, HangingShaper, LateShaper, WishingShaper};

@@ -1,6 +1,6 @@
 //! How shapers want marks to be treated, as types, since a shaper's wish is a constant.
 ghost use Rattle.std.specs.Prelude.{◌≡◌, ℕ, Bool, Option, true, false, None, refl};
-ghost use Rattle.shape_common.specs.declared.settings.hb_tag_t.{hb_tag_t as AnyTag};
+ghost use Rattle.shape_common.specs.declared.text_types.hb_tag_t.{hb_tag_t as AnyTag};
 ghost use Rattle.shape_plan.specs.Shaper.{is_zero_width_type};
 
 use shape_buffer::buffer::hb_tag_t;

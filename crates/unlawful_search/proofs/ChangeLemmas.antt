@@ -23,7 +23,7 @@ limit_of-kept (changes.Scratch flags) b = refl
 limit_of-kept (changes.Invisible glyph) b = refl
 limit_of-kept (changes.NotFound glyph) b = refl
 limit_of-kept changes.Merged b = ap limit_of (without_items-merge_clusters 0 (length b.items) b)
-limit_of-kept changes.Turned b = refl
+limit_of-kept changes.Reversed b = refl
 limit_of-kept changes.Unsafe b = ap limit_of (without_items-unsafe_to_break 0 (length b.items) b)
 
 -- a change that was made

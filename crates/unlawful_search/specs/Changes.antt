@@ -45,7 +45,7 @@ kept (changes.Scratch flags) b = record b { scratch_flags = flags }
 kept (changes.Invisible glyph) b = record b { invisible_glyph = glyph }
 kept (changes.NotFound glyph) b = record b { not_found_variation_selector_glyph = glyph }
 kept changes.Merged b = merge_clusters 0 (length b.items) b
-kept changes.Turned b = record b { items = reverse b.items; positions = reverse b.positions }
+kept changes.Reversed b = record b { items = reverse b.items; positions = reverse b.positions }
 kept changes.Unsafe b = unsafe_to_break 0 (length b.items) b
 
 -- what one makes that may be refused

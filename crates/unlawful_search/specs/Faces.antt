@@ -1,7 +1,7 @@
 -- What an odd face answers.
 use Rattle.std.specs.Prelude.{ℕ, ◌==◌, ◌||◌, ◌&&◌, Option, Some, None, if◌then◌else◌}
 use Rattle.shape_common.specs.Face.{FaceMeaning}
-use Rattle.shape_common.specs.declared.settings.GlyphId.{GlyphId}
+use Rattle.shape_common.specs.declared.text_types.GlyphId.{GlyphId}
 use Rattle.unlawful_search.specs.declared.face.OddFace.{OddFace}
 
 -- the glyph of its own number, except for two characters

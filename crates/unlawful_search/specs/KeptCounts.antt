@@ -25,7 +25,7 @@ length-kept (changes.Scratch flags) b = refl
 length-kept (changes.Invisible glyph) b = refl
 length-kept (changes.NotFound glyph) b = refl
 length-kept changes.Merged b = length-merge_clusters 0 (length b.items) b
-length-kept changes.Turned b = length-reverse b.items
+length-kept changes.Reversed b = length-reverse b.items
 length-kept changes.Unsafe b = length-unsafe_to_break 0 (length b.items) b
 
 pub length-placed : (change : Option Change) (b : Buffer) → length (placed change b).items ≡ length b.items

@@ -48,7 +48,7 @@ pub enum Change {
     /// Merges all clusters.
     Merged,
     /// Reverses the order of the items.
-    Turned,
+    Reversed,
     /// Marks the whole list unsafe to break.
     Unsafe,
 }
@@ -113,7 +113,7 @@ fn make_change(what: Change, buffer: &mut hb_buffer_t)
         Change::Invisible(glyph) => buffer.set_invisible_glyph(glyph),
         Change::NotFound(glyph) => buffer.set_not_found_variation_selector_glyph(glyph),
         Change::Merged => buffer.merge_clusters(0, buffer.len()),
-        Change::Turned => buffer.reverse(),
+        Change::Reversed => buffer.reverse(),
         Change::Unsafe => buffer.unsafe_to_break(0, buffer.len()),
     }
 }

@@ -213,7 +213,7 @@ impl Dice {
             0 => Change::Items(character, Edit::Cluster(self.below(8))),
             1 => Change::Direction(self.pick(&DIRECTIONS)),
             2 => Change::Level(self.pick(&LEVELS)),
-            3 => Change::Turned,
+            3 => Change::Reversed,
             _ => Change::Unsafe,
         }
     }

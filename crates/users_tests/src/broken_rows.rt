@@ -188,7 +188,7 @@ fn letters(rt: HostRuntime) -> Result<(), Fail> {
 
 #[test]
 fn letters_to_the_left(rt: HostRuntime) -> Result<(), Fail> {
-    let turned: [Row<'_>; 2] = [
+    let reversed: [Row<'_>; 2] = [
         (2, 4, &[(2, 1), (1, 0)], (0, 2)),
         (0, 2, &[(1, 3), (3, 2)], (2, 4)),
     ];
@@ -199,7 +199,7 @@ fn letters_to_the_left(rt: HostRuntime) -> Result<(), Fail> {
         &WIDE,
         to_the_left,
         "ab a",
-        &[(1200, &turned)],
+        &[(1200, &reversed)],
     )
 }
 

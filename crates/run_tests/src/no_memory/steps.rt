@@ -43,7 +43,7 @@ pub fn form_graphemes(plan: &Plan<'_>, buffer: &mut hb_buffer_t) {
 }
 
 /// Reverses the text and its characters if that is asked.
-pub fn turn(plan: &Plan<'_>, face: &MapFace, buffer: &mut hb_buffer_t) {
+pub fn reverse(plan: &Plan<'_>, face: &MapFace, buffer: &mut hb_buffer_t) {
     ensure_native_direction::<UnicodeDatabase>(buffer);
     rotate_chars::<Types>(plan, face, buffer, Direction::RightToLeft);
 }

@@ -11,7 +11,7 @@ ghost use Rattle.shape_fallback.specs.Bases.{bases_positioned, position_span as 
 ghost use Rattle.shape_fallback.specs.Bases.{positioned_at, begins_with_mark, marks_from};
 
 use crate::ot_shape_fallback::marks::{
-    Setting, first_state, make_base, place_marks_of_base, zero_marks,
+    MarkFrame, first_state, make_base, place_marks_of_base, zero_marks,
 };
 use shape_buffer::buffer::{GlyphId, hb_buffer_t, hb_glyph_info_t};
 use shape_buffer::interfaces::hb_font_t;
@@ -19,23 +19,23 @@ use shape_buffer::interfaces::hb_font_t;
 /// Places the marks of one base, from its place up to another.
 fn position_span<F: hb_font_t>(
     face: &F,
-    setting: Setting,
+    frame: MarkFrame,
     buffer: &mut hb_buffer_t,
     start: usize,
     end: usize,
 )
     requires ordered { start + 1 < end }
     requires within { end ≤ length buffer.old.items }
-    ensures { buffer.new ≡ position_span_of (F.face face.now) setting buffer.old
+    ensures { buffer.new ≡ position_span_of (F.face face.now) frame buffer.old
         (record { start = start; end = end }) }
 {
     buffer.unsafe_to_break(start, end);
     let info = buffer.infos()[start];
     let position = buffer.positions()[start];
     match face.glyph_extents(GlyphId(info.glyph_id)) {
-        None => zero_marks(setting.adjust, buffer, start + 1, end),
+        None => zero_marks(frame.adjust, buffer, start + 1, end),
         Some(extents) => {
-            let base = make_base(face, setting, &info, position, extents);
+            let base = make_base(face, frame, &info, position, extents);
             let first = first_state(base, position);
             place_marks_of_base(face, base, first, buffer, start + 1, end);
         }
@@ -65,12 +65,12 @@ fn is_mark_at(infos: &[hb_glyph_info_t], i: usize) -> bool
 /// these marks, else after the item.
 fn position_at<F: hb_font_t>(
     face: &F,
-    setting: Setting,
+    frame: MarkFrame,
     buffer: &mut hb_buffer_t,
     i: usize,
 ) -> usize
     requires { i < length buffer.old.items }
-    ensures placed { buffer.new ≡ positioned_at (F.face face.now) setting i buffer.old }
+    ensures placed { buffer.new ≡ positioned_at (F.face face.now) frame i buffer.old }
     ensures end { result ≤ i + 1 + marks_from (i + 1) buffer.old }
 {
     if buffer.infos()[i]._hb_glyph_info_is_unicode_mark() {
@@ -81,7 +81,7 @@ fn position_at<F: hb_font_t>(
         return i + 1;
     }
     let end = i + 1 + marks;
-    position_span(face, setting, buffer, i, end);
+    position_span(face, frame, buffer, i, end);
     end
 }
 
@@ -89,7 +89,7 @@ fn position_at<F: hb_font_t>(
 /// are. Answers where what is done ends.
 fn position_before<F: hb_font_t>(
     face: &F,
-    setting: Setting,
+    frame: MarkFrame,
     buffer: &mut hb_buffer_t,
     done: usize,
     i: usize,
@@ -97,7 +97,7 @@ fn position_before<F: hb_font_t>(
     requires after { 0 < i }
     requires within { i < length buffer.old.items }
     requires marks { done ≤ i - 1 + marks_from (i - 1) buffer.old }
-    ensures placed { buffer.new ≡ positioned_at (F.face face.now) setting (i - 1) buffer.old }
+    ensures placed { buffer.new ≡ positioned_at (F.face face.now) frame (i - 1) buffer.old }
     ensures end { result ≤ i + marks_from i buffer.old }
 {
     if i < done {
@@ -106,16 +106,16 @@ fn position_before<F: hb_font_t>(
     if !is_mark_at(buffer.infos(), i) {
         return done;
     }
-    position_at(face, setting, buffer, i - 1)
+    position_at(face, frame, buffer, i - 1)
 }
 
 /// Places the marks of all bases. A base is looked for before a mark alone, and marks that were placed are
 /// skipped.
-pub(crate) fn position_bases<F: hb_font_t>(face: &F, setting: Setting, buffer: &mut hb_buffer_t)
-    ensures { Made (bases_positioned (F.face face.now) setting) buffer.old buffer.new }
+pub(crate) fn position_bases<F: hb_font_t>(face: &F, frame: MarkFrame, buffer: &mut hb_buffer_t)
+    ensures { Made (bases_positioned (F.face face.now) frame) buffer.old buffer.new }
 {
     let mut done = 0;
     for i in 1..buffer.len() {
-        done = position_before(face, setting, buffer, done, i);
+        done = position_before(face, frame, buffer, done, i);
     }
 }

@@ -9,7 +9,7 @@ ghost use Rattle.shape_fallback.specs.MarkState.{component_of, place_of};
 ghost use Rattle.shape_fallback.specs.MarkState.{component_extents as component_extents_of};
 ghost use Rattle.shape_fallback.specs.MarkState.{at_component as at_component_of};
 ghost use Rattle.shape_fallback.specs.MarkState.{with_component as with_component_of};
-ghost use Rattle.shape_fallback.specs.MarkState.{at_ccc as at_ccc_of, passed as passed_of};
+ghost use Rattle.shape_fallback.specs.MarkState.{at_ccc as at_ccc_of, moved_past as moved_past_of};
 ghost use Rattle.shape_fallback.specs.MarkState.{moved as moved_of, place_in as place_in_of};
 ghost use Rattle.shape_fallback.specs.MarkState.{place_mark as place_mark_of};
 
@@ -137,9 +137,9 @@ fn at_ccc(ccc: u8, state: &mut MarkState)
 }
 
 /// Moves past a mark without a ccc.
-#[tactic(auto, using(shape_common::proofs::WrappingLemmas::kept_bits), unfolding(crate::specs::MarkState::passed))]
-fn pass(forward: bool, position: GlyphPosition, state: &mut MarkState)
-    ensures { state.new ≡ passed_of forward position state.old }
+#[tactic(auto, using(shape_common::proofs::WrappingLemmas::kept_bits), unfolding(crate::specs::MarkState::moved_past))]
+fn move_past(forward: bool, position: GlyphPosition, state: &mut MarkState)
+    ensures { state.new ≡ moved_past_of forward position state.old }
 {
     if forward {
         state.x_offset = difference(state.x_offset, position.x_advance);
@@ -190,7 +190,7 @@ pub fn place_mark<F: hb_font_t>(face: &F, base: &Base, info: &hb_glyph_info_t, s
 {
     let ccc = info._hb_glyph_info_get_modified_combining_class();
     if ccc == 0 {
-        pass(base.surroundings.forward, step.position, &mut step.state);
+        move_past(base.surroundings.forward, step.position, &mut step.state);
         return;
     }
     with_component(base, info, &mut step.state);

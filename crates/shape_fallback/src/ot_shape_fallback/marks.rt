@@ -16,9 +16,9 @@ use shape_buffer::buffer::{GlyphId, GlyphPosition, hb_buffer_t, hb_glyph_info_t}
 use shape_buffer::interfaces::{hb_font_t, hb_glyph_extents_t};
 use shape_buffer::wrapping::{difference, negative, sum};
 
-/// What fallback positions are placed by, beside the face.
+/// The frame that marks are placed in: what their positions depend on, beside the face.
 #[derive(Clone, Copy, Debug)]
-pub struct Setting {
+pub struct MarkFrame {
     pub surroundings: Surroundings,
     pub left_to_right: bool,
     pub adjust: bool,
@@ -95,19 +95,19 @@ pub(crate) fn zero_marks(adjust: bool, buffer: &mut hb_buffer_t, from: usize, to
 #[tactic(auto, using(shape_common::proofs::WrappingLemmas::kept_bits), unfolding(crate::specs::Marks::base_of))]
 pub(crate) fn make_base<F: hb_font_t>(
     face: &F,
-    setting: Setting,
+    frame: MarkFrame,
     info: &hb_glyph_info_t,
     position: GlyphPosition,
     mut extents: hb_glyph_extents_t,
 ) -> Base
-    ensures { result ≡ base_of (F.face face.now) setting info.now position extents }
+    ensures { result ≡ base_of (F.face face.now) frame info.now position extents }
 {
     extents.x_bearing = 0;
     extents.y_bearing = sum(extents.y_bearing, position.y_offset);
     extents.width = face.glyph_h_advance(GlyphId(info.glyph_id));
     Base {
-        surroundings: setting.surroundings,
-        left_to_right: setting.left_to_right,
+        surroundings: frame.surroundings,
+        left_to_right: frame.left_to_right,
         ligature_id: info._hb_glyph_info_get_ligature_id(),
         number_of_components: info._hb_glyph_info_get_number_of_components(),
         extents,

@@ -10,7 +10,7 @@ use Rattle.shape_items.specs.GlyphClusters.{cluster_of, clusters_of, run_length}
 use Rattle.shape_items.specs.Items.{Item, has_cluster}
 use Rattle.shape_items.specs.declared.clusters.glyph_clusters.GlyphCluster.{GlyphCluster}
 use Rattle.shape_common.specs.declared.positions.GlyphPosition.{GlyphPosition}
-use Rattle.shape_common.specs.declared.settings.Direction.{Direction}
+use Rattle.shape_common.specs.declared.text_types.Direction.{Direction}
 
 -- the first item has its own cluster
 own : (x : Item) → has_cluster x.cluster x ≡ true

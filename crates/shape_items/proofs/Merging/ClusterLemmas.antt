@@ -9,8 +9,8 @@ use Rattle.shape_items.specs.BufferClusters.{with_glyph_flags, merge_at, merge_c
 use Rattle.shape_items.specs.Clusters.{map_range, put_range, merge, mark_break, least_cluster, growth_left, growth_right}
 use Rattle.shape_items.specs.ClusterOrder.{IsMonotoneLevel}
 use Rattle.shape_items.specs.Items.{Item}
-use Rattle.shape_common.specs.declared.settings.BufferClusterLevel.{BufferClusterLevel}
-use Rattle.shape_common.specs.declared.settings.BufferClusterLevel.TheVariants.{MonotoneGraphemes, MonotoneCharacters, Characters}
+use Rattle.shape_common.specs.declared.text_types.BufferClusterLevel.{BufferClusterLevel}
+use Rattle.shape_common.specs.declared.text_types.BufferClusterLevel.TheVariants.{MonotoneGraphemes, MonotoneCharacters, Characters}
 
 -- what a write to a part leaves, where f goes over the part
 pub put_mid-map_range : (f : Item → Item) (a b : ℕ) (xs ys : List Item) → a ≤ b → ys ≡ map f (slice_range xs a b)

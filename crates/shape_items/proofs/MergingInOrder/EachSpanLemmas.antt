@@ -7,7 +7,7 @@ use Rattle.shape_items.specs.Clusters.{clusters, merge}
 use Rattle.shape_items.specs.ClusterOrder.{IsMonotoneLevel, KeepsClusters}
 use Rattle.shape_items.specs.KeepsFlags.{KeepsFlags}
 use Rattle.shape_items.specs.Spans.{AreSpansInOrder, merge_each, all_merged, spans_merged_out}
-use Rattle.shape_common.specs.declared.settings.BufferClusterLevel.TheVariants.{Characters}
+use Rattle.shape_common.specs.declared.text_types.BufferClusterLevel.TheVariants.{Characters}
 use Rattle.shape_items.proofs.Deletion.DeleteKeeps.{merged_keeps, merged_out_keeps}
 use Rattle.shape_items.proofs.Flags.FlagLemmas.{KeepsFlags-same, KeepsFlags-then}
 use Rattle.shape_items.proofs.Merging.ClusterLemmas.{merge_out-cases, merge_clusters-monotone, merge_out-monotone, level_cases}

@@ -35,13 +35,13 @@ whole-behind parts part =
     ∙ map-append (λ (item : Item). item.cluster) (whole parts) part
 
 -- parts in one cluster each, from the last to the first, have the clusters of the whole from its end
-pub clusters-turned : (parts : List (List Item)) → AreOneCluster parts
+pub clusters-reversed : (parts : List (List Item)) → AreOneCluster parts
     → clusters (whole (reverse parts)) ≡ reverse (clusters (whole parts))
-clusters-turned [] one = refl
-clusters-turned (part ∷ parts) one =
+clusters-reversed [] one = refl
+clusters-reversed (part ∷ parts) one =
     ap (λ (ps : List (List Item)). clusters (whole ps)) (reverse-append (part ∷ []) parts)
     ∙ whole-behind (reverse parts) part
-    ∙ ap (λ (cs : List ℕ). cs ++ clusters part) (clusters-turned parts one.1)
+    ∙ ap (λ (cs : List ℕ). cs ++ clusters part) (clusters-reversed parts one.1)
     ∙ ap (λ (cs : List ℕ). reverse (clusters (whole parts)) ++ cs) (sym (one_cluster-reverse part one.0))
     ∙ sym (reverse-append (clusters part) (clusters (whole parts)))
     ∙ ap (λ (cs : List ℕ). reverse cs) (sym (map-append (λ (item : Item). item.cluster) part (whole parts)))
@@ -54,7 +54,7 @@ falls-reverse xs rising i j d le lt =
     (rising (length xs - 1 - j) (length xs - 1 - i) d (omega arith) (omega arith))
 
 -- rising clusters fall once the parts are reversed
-pub falls-turned : (parts : List (List Item)) → AreOneCluster parts → IsNonDecreasing (clusters (whole parts))
+pub falls-reversed : (parts : List (List Item)) → AreOneCluster parts → IsNonDecreasing (clusters (whole parts))
     → IsNonIncreasing (clusters (whole (reverse parts)))
-falls-turned parts one rising =
-    subst (λ (cs : List ℕ). IsNonIncreasing cs) (sym (clusters-turned parts one)) (falls-reverse (clusters (whole parts)) rising)
+falls-reversed parts one rising =
+    subst (λ (cs : List ℕ). IsNonIncreasing cs) (sym (clusters-reversed parts one)) (falls-reverse (clusters (whole parts)) rising)

@@ -4,7 +4,7 @@ use Rattle.std.specs.Option.{option_map_or}
 use Rattle.shape_items.specs.Buffer.{Buffer}
 use Rattle.shape_items.specs.Items.{Item}
 use Rattle.shape_common.specs.Unicode.{UnicodeMeaning, LawfulUnicode}
-use Rattle.shape_common.specs.declared.settings.GlyphId.{GlyphId}
+use Rattle.shape_common.specs.declared.text_types.GlyphId.{GlyphId}
 use Rattle.shape_items.specs.Prepared.{IsPreparedItem}
 pub use Rattle.shape_items.proofs.PreparedLemmas.{ArePrepared, unmarked_ccc, ccc_with_props, prepared-with_props, PreparedKey, prepared_key, IsKey-prepared_key, IsPreparedKey, chars_of_keys, prepared_keys, prepared_from_keys, prepared_by_keys}
 use Rattle.shape_plan.specs.Rules.{Rules}

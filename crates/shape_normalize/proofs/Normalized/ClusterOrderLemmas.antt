@@ -8,7 +8,7 @@ use Rattle.shape_items.specs.Clusters.{clusters}
 use Rattle.shape_items.specs.ClusterOrder.{KeepsClusters, IsMonotoneLevel}
 use Rattle.shape_buffer.specs.Keepers.{IsClusterKeeper}
 use Rattle.shape_items.specs.Items.{Item, is_mark_item}
-use Rattle.shape_common.specs.declared.settings.GlyphId.{GlyphId}
+use Rattle.shape_common.specs.declared.text_types.GlyphId.{GlyphId}
 use Rattle.canonical_form.proofs.Lists.DividedLemmas.{values-divided}
 use Rattle.shape_items.proofs.Order.DrawsInOrder.{DrawsInOrder, DrawsInOrder-behind, DrawsInOrder-again, KeepsClusters-from_draws}
 use Rattle.shape_buffer.proofs.Steps.KeeperLemmas.{KeepsClusters-then}
@@ -16,7 +16,7 @@ use Rattle.shape_items.proofs.MergingInOrder.EachSpanLemmas.{all_merged_keep}
 use Rattle.shape_plan.specs.Rules.{Rules}
 use Rattle.shape_normalize.proofs.RoundOne.SelectorLemmas.{variation_sequences_in_order}
 use Rattle.shape_normalize.specs.Part.{part_item}
-use Rattle.shape_normalize.specs.RoundOne.{whole_item, expansion_of, expanded_item, passed_item, marked_selector, variant_items, variants, is_selector_item, is_selector_sequence, is_with_marks, variation_sequences_from, variation_sequences_merged, sequences, sequence_items, expanded, round_one}
+use Rattle.shape_normalize.specs.RoundOne.{whole_item, expansion_of, expanded_item, skipped_item, marked_selector, variant_items, variants, is_selector_item, is_selector_sequence, is_with_marks, variation_sequences_from, variation_sequences_merged, sequences, sequence_items, expanded, round_one}
 use Rattle.shape_normalize.specs.RoundTwo.{cgj_unhidden_where_seen}
 use Rattle.shape_normalize.specs.Normalized.{normalized, HookKeepsClusters}
 use Rattle.shape_normalize.proofs.RoundOne.DrawnLemmas.{DrawsBefore, DrawsBefore-same, draws_whole, draws_pieces}
@@ -57,9 +57,9 @@ module _ (rules : Rules) where
       (draws_pieces (expanded_item rules invisible short) (λ (item : Item). item.cluster ∷ [])
       (λ item. draws_found invisible item (expansion_of rules short item)) items)
 
-  clusters-passed : (items : List Item) → clusters (map (passed_item rules.face.nominal_glyph) items) ≡ clusters items
-  clusters-passed [] = refl
-  clusters-passed (item ∷ items) = ap (λ l. item.cluster ∷ l) (clusters-passed items)
+  clusters-skipped : (items : List Item) → clusters (map (skipped_item rules.face.nominal_glyph) items) ≡ clusters items
+  clusters-skipped [] = refl
+  clusters-skipped (item ∷ items) = ap (λ l. item.cluster ∷ l) (clusters-skipped items)
 
   -- of an item and its selectors the first selector may go
   draws_variant : (not_found : Option GlyphId) (part : List Item)
@@ -70,13 +70,13 @@ module _ (rules : Rules) where
       elim (rules.face.variation_glyph x.codepoint v.codepoint) as (λ o. DrawsBefore (clusters (x ∷ v ∷ rest)) (clusters
       (elim o [
         | Some g ↦ record x { glyph_index = g.0 }
-            ∷ map (passed_item rules.face.nominal_glyph) rest
-        | None ↦ passed_item rules.face.nominal_glyph x
-            ∷ marked_selector not_found (passed_item rules.face.nominal_glyph v) ∷ map (passed_item rules.face.nominal_glyph) rest
+            ∷ map (skipped_item rules.face.nominal_glyph) rest
+        | None ↦ skipped_item rules.face.nominal_glyph x
+            ∷ marked_selector not_found (skipped_item rules.face.nominal_glyph v) ∷ map (skipped_item rules.face.nominal_glyph) rest
       ]))) [
-        | Some g ↦ rw (clusters-passed rest) (λ from drawn h. DrawsInOrder-again x.cluster _ _
+        | Some g ↦ rw (clusters-skipped rest) (λ from drawn h. DrawsInOrder-again x.cluster _ _
             (DrawsInOrder-behind x.cluster _ _ (DrawsInOrder-behind v.cluster _ _ (DrawsBefore-same (clusters rest) from drawn h))))
-        | None ↦ rw (clusters-passed rest) (DrawsBefore-same (clusters (x ∷ v ∷ rest)))
+        | None ↦ rw (clusters-skipped rest) (DrawsBefore-same (clusters (x ∷ v ∷ rest)))
       ]
 
   draws_variants : (not_found : Option GlyphId) (sequence : List Item)

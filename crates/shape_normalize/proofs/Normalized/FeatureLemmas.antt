@@ -7,7 +7,7 @@ use Rattle.std.proofs.lemmas.Nat.{and_assoc, and_or_apart}
 use Rattle.shape_items.specs.Buffer.{Buffer}
 use Rattle.shape_items.specs.BufferClusters.{merge_out_clusters}
 use Rattle.shape_items.specs.Items.{Item}
-use Rattle.shape_common.specs.declared.settings.GlyphId.{GlyphId}
+use Rattle.shape_common.specs.declared.text_types.GlyphId.{GlyphId}
 use Rattle.shape_items.proofs.Merging.KeyLemmas.{IsKey, keys-merge_out}
 use Rattle.shape_normalize.specs.Normalized.{normalized, features_of, KeepsFeatures}
 use Rattle.shape_normalize.specs.Part.{part_item}

@@ -8,7 +8,7 @@ use Rattle.std.proofs.lemmas.List.Elements.{All-from_recursion, recursion_from_A
 use Rattle.std.proofs.lemmas.List.Sums.{AllPass-from_list_all}
 use Rattle.shape_items.specs.Items.{Item}
 use Rattle.shape_items.specs.Buffer.{Buffer}
-use Rattle.shape_common.specs.declared.settings.GlyphId.{GlyphId}
+use Rattle.shape_common.specs.declared.text_types.GlyphId.{GlyphId}
 use Rattle.canonical_form.proofs.Expanding.ChoiceLemmas.{chosen_glyphs}
 use Rattle.canonical_form.proofs.Lists.EveryLemmas.{append_all}
 use Rattle.shape_plan.specs.Rules.{Rules, decompositions, has_glyph}

@@ -15,7 +15,7 @@ use Rattle.shape_items.specs.UnicodeProps.{with_scratch_of, flag_if, beyond_asci
 use Rattle.shape_common.specs.Unicode.{UnicodeMeaning}
 use Rattle.shape_common.specs.Face.{FaceMeaning}
 use Rattle.shape_common.specs.declared.flags.ScratchFlags.{ScratchFlags}
-use Rattle.shape_common.specs.declared.settings.GlyphId.{GlyphId}
+use Rattle.shape_common.specs.declared.text_types.GlyphId.{GlyphId}
 use Rattle.shape_items.proofs.Flags.FlagLemmas.{append-cases, take_in, drop_in, KeepsFlags-items, KeepsFlags-same, KeepsFlags-then, merge_clusters_keeps, merge_out_clusters_keeps}
 use Rattle.canonical_form.proofs.Ordering.OrderLemmas.{Swaps-in_order}
 use Rattle.canonical_form.proofs.Ordering.SwapLemmas.{all-swaps}

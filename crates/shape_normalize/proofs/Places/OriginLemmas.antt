@@ -8,14 +8,14 @@ use Rattle.canonical_form.specs.Divided.{put_first, divided}
 use Rattle.canonical_form.proofs.Expanding.ChoiceLemmas.{chosen_glyphs}
 use Rattle.shape_items.specs.Buffer.{Buffer}
 use Rattle.shape_items.specs.Items.{Item, is_mark_item}
-use Rattle.shape_common.specs.declared.settings.GlyphId.{GlyphId}
+use Rattle.shape_common.specs.declared.text_types.GlyphId.{GlyphId}
 use Rattle.shape_items.proofs.Merging.KeyLemmas.{IsKey-unflagged}
 use Rattle.shape_plan.specs.Rules.{Rules, decompositions, has_glyph}
 use Rattle.shape_normalize.specs.Normalized.{features_of, hidden_char}
 use Rattle.shape_normalize.specs.Origins.{item_at, Origin, origin_at, origins_from, variant_origins, expansion_origins, origins_of_parts, sequence_origins, origins, HasOfOrigin}
 use Rattle.shape_normalize.specs.Reordered.{unmerged}
 use Rattle.shape_normalize.specs.Part.{part_item}
-use Rattle.shape_normalize.specs.RoundOne.{passed_item, whole_item, expanded_item, expansion_of, is_selector_item, is_selector_sequence, is_with_marks, marked_selector, variant_items, variants, sequences, sequence_items, variation_sequences_merged, round_one}
+use Rattle.shape_normalize.specs.RoundOne.{skipped_item, whole_item, expanded_item, expansion_of, is_selector_item, is_selector_sequence, is_with_marks, marked_selector, variant_items, variants, sequences, sequence_items, variation_sequences_merged, round_one}
 use Rattle.shape_normalize.proofs.Normalized.ItemGlyphLemmas.{part_has_glyph, whole_has_glyph}
 use Rattle.shape_normalize.proofs.RoundOne.RoundOneLemmas.{keys-variation_sequences_merged, whole_item_is}
 
@@ -115,31 +115,31 @@ module _ (rules : Rules) (text : Buffer) where
     hidden = inl (hidden ∙ same_hidden place item stood);
   }
 
-  passed_zip : (place : ℕ) (rest : List Item) → AllAt Stood place rest
-      → AllZip Has (origins_from true place rest) (map (passed_item rules.face.nominal_glyph) rest)
-  passed_zip place [] each = tt
-  passed_zip place (item ∷ rest) each =
-      (kept_there place item (passed_item rules.face.nominal_glyph item) each.0 refl refl, passed_zip (suc place) rest each.1)
+  skipped_zip : (place : ℕ) (rest : List Item) → AllAt Stood place rest
+      → AllZip Has (origins_from true place rest) (map (skipped_item rules.face.nominal_glyph) rest)
+  skipped_zip place [] each = tt
+  skipped_zip place (item ∷ rest) each =
+      (kept_there place item (skipped_item rules.face.nominal_glyph item) each.0 refl refl, skipped_zip (suc place) rest each.1)
 
   variant_zip : (not_found : Option GlyphId) (place : ℕ) (part : List Item) → AllAt Stood place part
       → AllZip Has (variant_origins rules.face place part) (variant_items rules.face not_found part)
   variant_zip not_found place [] each = tt
-  variant_zip not_found place (x ∷ []) each = (kept_there place x (passed_item rules.face.nominal_glyph x) each.0 refl refl, tt)
+  variant_zip not_found place (x ∷ []) each = (kept_there place x (skipped_item rules.face.nominal_glyph x) each.0 refl refl, tt)
   variant_zip not_found place (x ∷ v ∷ rest) each =
-      let passed = passed_item rules.face.nominal_glyph in
+      let skipped = skipped_item rules.face.nominal_glyph in
       let behind = origins_from true (suc (suc place)) rest in
-      let later = passed_zip (suc (suc place)) rest each.1.1 in
+      let later = skipped_zip (suc (suc place)) rest each.1.1 in
       elim (rules.face.variation_glyph x.codepoint v.codepoint) as
       (λ o. AllZip Has (origin_at true place ∷ (if is_some o then behind else (origin_at true (suc place) ∷ behind)))
       (elim o [
-        | Some g ↦ record x { glyph_index = g.0 } ∷ map passed rest
+        | Some g ↦ record x { glyph_index = g.0 } ∷ map skipped rest
         | None ↦
-            passed x ∷ marked_selector not_found (passed v) ∷ map passed rest
+            skipped x ∷ marked_selector not_found (skipped v) ∷ map skipped rest
       ])) [
         | Some g ↦ (kept_there place x (record x { glyph_index = g.0 }) each.0 refl refl, later)
         | None ↦ (
-          kept_there place x (passed x) each.0 refl refl,
-          (kept_there (suc place) v (marked_selector not_found (passed v)) each.1.0 refl refl, later),
+          kept_there place x (skipped x) each.0 refl refl,
+          (kept_there (suc place) v (marked_selector not_found (skipped v)) each.1.0 refl refl, later),
         )
       ]
 

@@ -99,14 +99,14 @@ starter_apart = parted runs_of_marks 0 refl 0 1 (omega arith) (omega arith) (ome
 runs_apart : AreInOneRun runs_of_marks 3 5 → ⊥
 runs_apart = parted runs_of_marks 4 refl 3 5 (omega arith) (omega arith) (omega arith)
 
-turned_runs : (i d : ℕ) → i < 6 → AreInOneRun runs_of_marks i (get_or (0 ∷ 3 ∷ 2 ∷ 1 ∷ 4 ∷ 5 ∷ []) i d)
-turned_runs zero d lt = inl refl
-turned_runs (suc zero) d lt = in_first_run 1 3 (omega arith) (omega arith) (omega arith) (omega arith)
-turned_runs (suc (suc zero)) d lt = inl refl
-turned_runs (suc (suc (suc zero))) d lt = in_first_run 3 1 (omega arith) (omega arith) (omega arith) (omega arith)
-turned_runs (suc (suc (suc (suc zero)))) d lt = inl refl
-turned_runs (suc (suc (suc (suc (suc zero))))) d lt = inl refl
-turned_runs (suc (suc (suc (suc (suc (suc i)))))) d lt = absurd (omega arith)
+reversed_runs : (i d : ℕ) → i < 6 → AreInOneRun runs_of_marks i (get_or (0 ∷ 3 ∷ 2 ∷ 1 ∷ 4 ∷ 5 ∷ []) i d)
+reversed_runs zero d lt = inl refl
+reversed_runs (suc zero) d lt = in_first_run 1 3 (omega arith) (omega arith) (omega arith) (omega arith)
+reversed_runs (suc (suc zero)) d lt = inl refl
+reversed_runs (suc (suc (suc zero))) d lt = in_first_run 3 1 (omega arith) (omega arith) (omega arith) (omega arith)
+reversed_runs (suc (suc (suc (suc zero)))) d lt = inl refl
+reversed_runs (suc (suc (suc (suc (suc zero))))) d lt = inl refl
+reversed_runs (suc (suc (suc (suc (suc (suc i)))))) d lt = absurd (omega arith)
 
 -- so many marks after the first item
 mark_of : (n k : ℕ) → k < n → 0 < ccc_of_item (get_or (replicate n (item 0x301 1)) k (new_item 0 0))
@@ -179,7 +179,7 @@ order_worked = record {
         omega (arith, no)
   ];
   not_past_starter = runs_apart;
-  turned = record { all = record { moves = (1, 3) ∷ []; below = (omega arith, omega arith, tt); is = refl }; runs = turned_runs };
+  reversed = record { all = record { moves = (1, 3) ∷ []; below = (omega arith, omega arith, tt); is = refl }; runs = reversed_runs };
   starter_moved = λ h. starter_apart (h.runs 0 0 (omega arith));
   other_run = λ h. runs_apart (h.runs 3 0 (omega arith));
   left_out = λ h. let no : 5 ≡ 6 = length_permutation (0 ∷ 1 ∷ 2 ∷ 3 ∷ 4 ∷ 5 ∷ []) (0 ∷ 1 ∷ 2 ∷ 4 ∷ 5 ∷ []) h.all in omega (arith, no);

@@ -10,7 +10,7 @@ use Rattle.canonical_form.proofs.Expanding.WalkLemmas.{found_parts, walked}
 use Rattle.shape_items.specs.Items.{Item}
 use Rattle.shape_common.specs.Unicode.{UnicodeMeaning}
 use Rattle.shape_common.specs.declared.flags.ScratchFlags.{ScratchFlags}
-use Rattle.shape_common.specs.declared.settings.GlyphId.{GlyphId}
+use Rattle.shape_common.specs.declared.text_types.GlyphId.{GlyphId}
 use Rattle.shape_normalize.specs.Part.{part_item, seen_chars, part_of_char, with_part, seen_parts}
 use Rattle.shape_normalize.specs.declared.ot_shape_normalize.part.Part.{Part}
 

@@ -14,7 +14,7 @@ use Rattle.shape_common.specs.Positions.{zero_position}
 use Rattle.shape_items.specs.Spans.{all_merged}
 use Rattle.shape_common.specs.Unicode.{UnicodeMeaning}
 use Rattle.shape_common.specs.declared.flags.ScratchFlags.{ScratchFlags}
-use Rattle.shape_common.specs.declared.settings.GlyphId.{GlyphId}
+use Rattle.shape_common.specs.declared.text_types.GlyphId.{GlyphId}
 use Rattle.shape_plan.specs.Rules.{Rules}
 use Rattle.shape_normalize.specs.RoundOne.{expanded_item, seen_expanded, sequences, is_with_marks, is_selector_item, is_selector_sequence, sequence_items, seen_sequence, variation_sequences_from, variation_sequences_merged, expanded, round_one}
 use Rattle.shape_normalize.specs.OneWalk.{HasNoSelectorSequence, item_becomes, stands_with_marks, expanded_behind, seen_behind}
@@ -32,7 +32,7 @@ behind_first i = grind (arith, nat_tests)
 
 -- a limit that a part passes is passed by the whole
 pub passed_by_more : (front back whole : List Item) (limit : ℕ) → front ++ back ≡ whole → limit < length front → limit < length whole
-passed_by_more front back whole limit is passed = omega (arith, ap length is, length-append front back)
+passed_by_more front back whole limit is skipped = omega (arith, ap length is, length-append front back)
 
 module _ (rules : Rules) (invisible : Option GlyphId) where
   -- the items after a place become what the item there becomes, and then what those after it become
@@ -173,7 +173,7 @@ module _ (rules : Rules) (old placed : Buffer) (n : ℕ) (none : HasNoSelectorSe
 
   -- it came to the end
   pub counts_whole : length placed.items ≤ n → (limit : ℕ) → limit < length placed.items → limit < length (round_one rules old).items
-  counts_whole all limit passed =
+  counts_whole all limit skipped =
       let whole : placed.items ≡ (round_one rules old).items =
       sym (placed_all rules old.invisible_glyph placed.items n (n == 0) all) ∙ is ∙ sym (items_round_one-one_walk rules old none) in
       omega (arith, ap length whole)
@@ -195,7 +195,7 @@ module _ (rules : Rules) (old placed : Buffer) (n : ℕ) (none : HasNoSelectorSe
 
   pub counts_on : limit_of placed < length (take n placed.items ++ expanded_behind rules placed.invisible_glyph (n == 0) (drop n placed.items))
       → limit_of old < length (round_one rules old).items
-  counts_on passed =
+  counts_on skipped =
       let whole = on ∙ sym (items_round_one-one_walk rules old none) in
       omega (arith, ap length whole, limit-placed)
 

@@ -15,12 +15,12 @@ use Rattle.canonical_form.specs.Expanded.{expanded_in_sequences, expanded_text}
 use Rattle.canonical_form.specs.Expansion.{choice}
 use Rattle.shape_items.specs.Items.{Item, char_of, is_mark_item}
 use Rattle.shape_common.specs.Unicode.{is_mark}
-use Rattle.shape_common.specs.declared.settings.GlyphId.{GlyphId}
+use Rattle.shape_common.specs.declared.text_types.GlyphId.{GlyphId}
 use Rattle.shape_normalize.specs.Normalized.{BroughtInHaveGlyphs}
 use Rattle.shape_items.specs.Prepared.{IsPreparedItem}
 use Rattle.shape_items.specs.Spans.{all_merged}
 use Rattle.shape_normalize.specs.Part.{part_item}
-use Rattle.shape_normalize.specs.RoundOne.{item_glyph, passed_item, whole_item, remembers_space, expanded_item, expanded, expansion_of, is_selector_item, is_selector_sequence, is_with_marks, marked_selector, variant_items, variants, sequences, sequence_items, variation_sequences_from, variation_sequences_merged, round_one}
+use Rattle.shape_normalize.specs.RoundOne.{item_glyph, skipped_item, whole_item, remembers_space, expanded_item, expanded, expansion_of, is_selector_item, is_selector_sequence, is_with_marks, marked_selector, variant_items, variants, sequences, sequence_items, variation_sequences_from, variation_sequences_merged, round_one}
 use Rattle.shape_plan.specs.Rules.{Rules, decompositions, has_glyph}
 use Rattle.shape_normalize.proofs.RoundOne.SequenceLemmas.{each_part, each_of_values, each_value, each_weaker, flat_map_all, flat_map_same, flat_map_parts_all, sequence_becomes, sequences-expanded}
 
@@ -69,9 +69,9 @@ module _ (rules : Rules) (invisible not_found : Option GlyphId) (P Q : Item → 
     → Q (record item { glyph_index = glyph })) (is_marked : (item : Item) (glyph : ℕ) → P item
     → Q (marked_selector not_found (record item { glyph_index = glyph })))
     (expands : (short : Bool) (item : Item) → P item → AllByRecursion Q (expanded_item rules invisible short item)) where
-  passed_all : (rest : List Item) → AllByRecursion P rest → AllByRecursion Q (map (passed_item rules.face.nominal_glyph) rest)
-  passed_all [] each = tt
-  passed_all (item ∷ rest) each = (takes_glyph item _ each.0, passed_all rest each.1)
+  skipped_all : (rest : List Item) → AllByRecursion P rest → AllByRecursion Q (map (skipped_item rules.face.nominal_glyph) rest)
+  skipped_all [] each = tt
+  skipped_all (item ∷ rest) each = (takes_glyph item _ each.0, skipped_all rest each.1)
 
   variant_all : (part : List Item) → AllByRecursion P part → AllByRecursion Q (variant_items rules.face not_found part)
   variant_all [] each = tt
@@ -79,12 +79,12 @@ module _ (rules : Rules) (invisible not_found : Option GlyphId) (P Q : Item → 
   variant_all (x ∷ v ∷ rest) each =
       elim (rules.face.variation_glyph x.codepoint v.codepoint) as (λ o. AllByRecursion Q (elim o [
         | Some g ↦ record x { glyph_index = g.0 }
-            ∷ map (passed_item rules.face.nominal_glyph) rest
-        | None ↦ passed_item rules.face.nominal_glyph x
-            ∷ marked_selector not_found (passed_item rules.face.nominal_glyph v) ∷ map (passed_item rules.face.nominal_glyph) rest
+            ∷ map (skipped_item rules.face.nominal_glyph) rest
+        | None ↦ skipped_item rules.face.nominal_glyph x
+            ∷ marked_selector not_found (skipped_item rules.face.nominal_glyph v) ∷ map (skipped_item rules.face.nominal_glyph) rest
       ])) [
-        | Some g ↦ (takes_glyph x g.0 each.0, passed_all rest each.1.1)
-        | None ↦ (takes_glyph x _ each.0, (is_marked v _ each.1.0, passed_all rest each.1.1))
+        | Some g ↦ (takes_glyph x g.0 each.0, skipped_all rest each.1.1)
+        | None ↦ (takes_glyph x _ each.0, (is_marked v _ each.1.0, skipped_all rest each.1.1))
       ]
 
   sequence_all : (sequence : List Item) → AllByRecursion P sequence → AllByRecursion Q (sequence_items rules invisible not_found sequence)

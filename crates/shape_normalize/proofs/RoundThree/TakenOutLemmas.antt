@@ -210,8 +210,8 @@ module _ (rules : Rules) (n : ℕ) (ys : List Item) (size : length ys ≡ n) whe
             (ends_after-lower (suc s.place) (suc c.place) (chained_spans out) (omega (arith, from.0, behind)) others.1)),
       )
 
-  left_passes : (s c : Placed) (ms rest out : List Placed) → AreLeft s (ms ++ c ∷ []) rest out → AreLeft s ms (c ∷ rest) out
-  left_passes s c ms rest out later k behind absorbed none from kept =
+  left_skips : (s c : Placed) (ms rest out : List Placed) → AreLeft s (ms ++ c ∷ []) rest out → AreLeft s ms (c ∷ rest) out
+  left_skips s c ms rest out later k behind absorbed none from kept =
       let fit = AreFrom-fit n (suc k) rest from.2 in
       let more_kept : AreKeptTo s (ms ++ c ∷ []) (suc k) = λ more after_k.
       kept more (ends_after-lower k (suc k) more (omega arith) after_k)
@@ -227,7 +227,7 @@ module _ (rules : Rules) (n : ℕ) (ys : List Item) (size : length ys ≡ n) whe
         ends = left_ends;
         composes = λ s ms c d rest out found free made later. left_absorbs s c d ms rest out made later;
         starts = λ s ms c rest out none start later. left_starts s c ms rest out later;
-        passes = λ s ms c rest out none mark later. left_passes s c ms rest out later;
+        passes = λ s ms c rest out none mark later. left_skips s c ms rest out later;
       })
 
 -- the items at the places of those that are emitted are left

@@ -1,7 +1,7 @@
 //! What the author of a script shaper writes.
 ghost use Rattle.std.specs.Prelude.{◌≡◌, ℕ, ℤ, Bool, true, Option};
 ghost use Rattle.shape_plan.specs.Shaper.{is_preference, is_zero_width_type};
-ghost use Rattle.shape_common.specs.declared.settings.hb_tag_t.{hb_tag_t as AnyTag};
+ghost use Rattle.shape_common.specs.declared.text_types.hb_tag_t.{hb_tag_t as AnyTag};
 
 use crate::ot_shaper::hb_ot_shape_zero_width_marks_type_t;
 use crate::ot_shaper::hooks::{

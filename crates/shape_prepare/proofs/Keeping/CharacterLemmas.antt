@@ -13,7 +13,7 @@ use Rattle.shape_items.specs.Items.{Item, new_item, char_of, is_mark_item}
 use Rattle.shape_common.specs.Unicode.{UnicodeMeaning, is_mark}
 use Rattle.shape_items.specs.UnicodeProps.{with_unicode_props}
 use Rattle.shape_buffer.specs.Walks.{items_mapped}
-use Rattle.shape_common.specs.declared.settings.Direction.{Direction}
+use Rattle.shape_common.specs.declared.text_types.Direction.{Direction}
 use Rattle.shape_items.proofs.Merging.KeyLemmas.{IsKey, keys-merge_clusters, keys-unsafe_to_break}
 use Rattle.shape_plan.specs.Run.{hook_if}
 use Rattle.shape_plan.specs.declared.decisions.Decisions.{Decisions}
@@ -77,10 +77,10 @@ formed-chars b =
     (over-chars merge_clusters (keys-merge_clusters char_of IsKey-char) b)
     (over-chars unsafe_to_break (keys-unsafe_to_break char_of IsKey-char.by_break) b) refl
 
-not_turned-same : (unicode : UnicodeMeaning) (b : Buffer) → is_against (native_direction unicode b) b.direction ≡ false
+not_reversed-same : (unicode : UnicodeMeaning) (b : Buffer) → is_against (native_direction unicode b) b.direction ≡ false
     → natively_ordered unicode b ≡ b
 unfolding natively_ordered
-not_turned-same unicode b off = rw off refl
+not_reversed-same unicode b off = rw off refl
 
 -- ---- forms depend on characters alone
 
@@ -123,7 +123,7 @@ preparing_keeps_characters run target b leaves =
     let processed = hook_if run.constants.has_preprocess_text run.hooks (λ h. h.preprocess) ordered in
     let no_circle : circled ≡ marked =
     no_circle-same unicode run.face marked (circle-test unicode run.face run.map.global_mask b ∙ leaves.no_circle) in
-    let same : ordered ≡ formed = not_turned-same unicode formed leaves.not_turned in
+    let same : ordered ≡ formed = not_reversed-same unicode formed leaves.not_reversed in
     let hook = keeper-hook KeepsCharacters (λ c. refl) run.constants.has_preprocess_text run.hooks (λ h. h.preprocess) leaves.preprocess in
     let before_forms : map char_of processed.items ≡ map char_of b.items =
     hook ordered ∙ ap (λ (c : Buffer). map char_of c.items) same ∙ formed-chars circled

@@ -22,7 +22,7 @@ use Rattle.shape_prepare.specs.ClustersFormed.{clusters_formed}
 use Rattle.shape_prepare.specs.NativeOrder.{natively_ordered}
 use Rattle.shape_plan.specs.Run.{hook_if}
 use Rattle.shape_buffer.specs.Keepers.{IsClusterKeeper}
-use Rattle.shape_common.specs.declared.settings.BufferClusterLevel.TheVariants.{MonotoneGraphemes}
+use Rattle.shape_common.specs.declared.text_types.BufferClusterLevel.TheVariants.{MonotoneGraphemes}
 use Rattle.shape_buffer.proofs.Steps.KeeperLemmas.{KeepsOrder-same, KeepsOrder-then}
 use Rattle.shape_prepare.proofs.Keeping.OrderKeeperLemmas.{begun-keeps_order, graphemes_marked-keeps_order, dotted_circled-keeps_order, rotated-keeps_order, natively-in_order, formed-ready, circled-unseen, marked-unseen, seen_past}
 use Rattle.shape_prepare.proofs.StepLemmas.{clusters_formed-unseen, clusters_formed-merged}
@@ -160,12 +160,12 @@ preparing_keeps_firsts run target b keeps graphemes_level rising k contains =
     let ordered = natively_ordered run.unicode formed in
     let level : start.cluster_level ≡ MonotoneGraphemes = first.level ∙ graphemes_level in
     let ready = formed-ready run.unicode run.face start (subst IsMonotoneLevel (sym level) tt) (first.clusters.rising rising) in
-    let turns = natively-in_order run.unicode formed ready in
+    let reverses = natively-in_order run.unicode formed ready in
     let hook = keeper-hook IsClusterKeeper (λ c _. KeepsOrder-same c) run.constants.has_preprocess_text run.hooks (λ h. h.preprocess)
     (λ h is. (keeps.hooks h is).preprocess) in
     let processed = hook_if run.constants.has_preprocess_text run.hooks (λ h. h.preprocess) ordered in
-    let ordered_level : IsMonotoneLevel ordered.cluster_level = subst IsMonotoneLevel (sym turns.level) ready.monotone in
+    let ordered_level : IsMonotoneLevel ordered.cluster_level = subst IsMonotoneLevel (sym reverses.level) ready.monotone in
     let by_hook = hook ordered ordered_level in
     let by_forms = rotated-keeps_order run.unicode run.face run.decisions target processed in
     formed-firsts run.unicode run.face start level (first.clusters.rising rising) k
-    (turns.none_new k (by_hook.clusters.none_new k (by_forms.clusters.none_new k contains)))
+    (reverses.none_new k (by_hook.clusters.none_new k (by_forms.clusters.none_new k contains)))

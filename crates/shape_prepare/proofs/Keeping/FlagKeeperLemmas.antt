@@ -20,7 +20,7 @@ use Rattle.shape_common.specs.Unicode.{UnicodeMeaning}
 use Rattle.shape_items.specs.UnicodeProps.{with_unicode_props, with_scratch_of, flag_if, beyond_ascii}
 use Rattle.shape_buffer.specs.Walks.{items_mapped}
 use Rattle.shape_common.specs.declared.flags.ScratchFlags.{ScratchFlags}
-use Rattle.shape_common.specs.declared.settings.Direction.{Direction}
+use Rattle.shape_common.specs.declared.text_types.Direction.{Direction}
 use Rattle.shape_common.specs.Direction.{is_backward}
 use Rattle.shape_items.proofs.Flags.FlagLemmas.{KeepsFlags-same, KeepsFlags-then, KeepsFlags-items, merge_clusters_keeps, unsafe_to_break_keeps}
 use Rattle.shape_buffer.proofs.Flags.HonestLemmas.{IsHonest}
@@ -31,13 +31,13 @@ use Rattle.shape_prepare.specs.DottedCircle.{dotted_circled, with_circle, takes_
 use Rattle.shape_items.specs.GraphemeSpans.{graphemes, is_continuation}
 use Rattle.shape_prepare.specs.Graphemes.{graphemes_marked, continuations_marked, seen_item, is_to_next}
 use Rattle.shape_prepare.specs.Keepers.{PreparingKeepsFlags}
-use Rattle.shape_prepare.specs.NativeOrder.{natively_ordered, native_direction, is_against, graphemes_turned, merged_to_turn, from_last}
+use Rattle.shape_prepare.specs.NativeOrder.{natively_ordered, native_direction, is_against, graphemes_reversed, merged_to_reverse, from_last}
 use Rattle.shape_prepare.specs.PrepareSteps.{order_steps}
 use Rattle.shape_prepare.specs.Rotated.{rotated, rotated_item, in_forms, mirrored_or_masked, form_in}
 use Rattle.shape_prepare.specs.declared.graphemes.Before.{Before}
 use Rattle.shape_prepare.specs.declared.graphemes.Before.TheVariants.{Plain}
 use Rattle.shape_plan.proofs.KeeperLemmas.{keeper-hook}
-use Rattle.shape_prepare.proofs.StepLemmas.{over_graphemes-kept, clusters_formed-cases, merged_to_turn-cases}
+use Rattle.shape_prepare.proofs.StepLemmas.{over_graphemes-kept, clusters_formed-cases, merged_to_reverse-cases}
 
 -- a mask without a defined flag
 no_flag_in : (mask flag : ℕ) → IsDefinedFlag flag → HasNoDefinedFlag mask → bit_and mask flag ≡ 0
@@ -152,23 +152,23 @@ any-from_last p (part ∷ parts) some =
       | inr here ↦ list_any-append p part (whole parts) ∙ ap (λ t. t || list_any p (whole parts)) here
     ]
 
-turned-keeps_flags : IsFlagKeeper graphemes_turned
-turned-keeps_flags b = record {
+reversed-keeps_flags : IsFlagKeeper graphemes_reversed
+reversed-keeps_flags b = record {
   flags = refl;
   stays_set = λ e. e;
   none_new = λ flag d some. inl (ap (some_has flag) (sym (whole-divided is_continuation b.items))
       ∙ any-from_last (has_flag flag) (graphemes b.items) some);
 }
 
-merged_to_turn-keeps_flags : IsFlagKeeper merged_to_turn
-merged_to_turn-keeps_flags b =
-    merged_to_turn-cases (KeepsFlags b) b (KeepsFlags-same b) (over-keeps_flags merge_clusters merge_clusters_keeps b)
+merged_to_reverse-keeps_flags : IsFlagKeeper merged_to_reverse
+merged_to_reverse-keeps_flags b =
+    merged_to_reverse-cases (KeepsFlags b) b (KeepsFlags-same b) (over-keeps_flags merge_clusters merge_clusters_keeps b)
 
 pub natively_ordered-keeps_flags : (unicode : UnicodeMeaning) → IsFlagKeeper (natively_ordered unicode)
 unfolding natively_ordered
 natively_ordered-keeps_flags unicode b = elim (cases_Bool (is_against (native_direction unicode b) b.direction)) [
-  | inl on ↦ rw on (KeepsFlags-then b (merged_to_turn b) (graphemes_turned (merged_to_turn b)) (merged_to_turn-keeps_flags b)
-      (turned-keeps_flags (merged_to_turn b)))
+  | inl on ↦ rw on (KeepsFlags-then b (merged_to_reverse b) (graphemes_reversed (merged_to_reverse b)) (merged_to_reverse-keeps_flags b)
+      (reversed-keeps_flags (merged_to_reverse b)))
   | inr off ↦ rw off (KeepsFlags-same b)
 ]
 

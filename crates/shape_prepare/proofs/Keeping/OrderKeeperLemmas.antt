@@ -21,11 +21,11 @@ use Rattle.shape_common.specs.Unicode.{UnicodeMeaning, is_mark}
 use Rattle.shape_items.specs.UnicodeProps.{with_unicode_props, with_scratch_of, flag_if, beyond_ascii}
 use Rattle.shape_buffer.specs.Walks.{items_mapped}
 use Rattle.shape_common.specs.declared.flags.ScratchFlags.{ScratchFlags}
-use Rattle.shape_common.specs.declared.settings.BufferClusterLevel.{BufferClusterLevel}
-use Rattle.shape_common.specs.declared.settings.BufferClusterLevel.TheVariants.{MonotoneGraphemes, MonotoneCharacters, Characters}
-use Rattle.shape_common.specs.declared.settings.Direction.{Direction}
+use Rattle.shape_common.specs.declared.text_types.BufferClusterLevel.{BufferClusterLevel}
+use Rattle.shape_common.specs.declared.text_types.BufferClusterLevel.TheVariants.{MonotoneGraphemes, MonotoneCharacters, Characters}
+use Rattle.shape_common.specs.declared.text_types.Direction.{Direction}
 use Rattle.shape_items.proofs.Order.DrawsInOrder.{KeepsClusters-from_draws, DrawsInOrder-same, DrawsInOrder-again}
-use Rattle.shape_items.proofs.Order.GraphemeOrderLemmas.{AreOneCluster, clusters-turned, falls-turned}
+use Rattle.shape_items.proofs.Order.GraphemeOrderLemmas.{AreOneCluster, clusters-reversed, falls-reversed}
 use Rattle.shape_buffer.proofs.Steps.KeeperLemmas.{KeepsClusters-equal, KeepsClusters-then, KeepsOrder-same, KeepsOrder-then, clusters-map, order-unsafe_to_break}
 use Rattle.shape_items.proofs.Merging.MergeOrder.{merge_keeps}
 use Rattle.shape_items.proofs.Merging.KeyLemmas.{length-merge}
@@ -37,15 +37,15 @@ use Rattle.shape_plan.proofs.KeeperLemmas.{keeper-hook}
 use Rattle.shape_items.specs.GraphemeSpans.{grapheme_spans, spans_from, graphemes, is_continuation}
 use Rattle.shape_prepare.specs.ClustersFormed.{clusters_formed, over_graphemes}
 use Rattle.shape_prepare.specs.DottedCircle.{dotted_circled, with_circle, takes_circle}
-use Rattle.shape_prepare.specs.Graphemes.{graphemes_marked, continuations_marked, continues, seen_item, is_to_next, is_skin_tone, is_regional_indicator, is_extender, is_passed, is_modifier_symbol}
-use Rattle.shape_prepare.specs.NativeOrder.{natively_ordered, native_direction, is_against, graphemes_turned, merged_to_turn, from_last}
+use Rattle.shape_prepare.specs.Graphemes.{graphemes_marked, continuations_marked, continues, seen_item, is_to_next, is_skin_tone, is_regional_indicator, is_extender, is_unasked, is_modifier_symbol}
+use Rattle.shape_prepare.specs.NativeOrder.{natively_ordered, native_direction, is_against, graphemes_reversed, merged_to_reverse, from_last}
 use Rattle.shape_prepare.specs.Rotated.{rotated, rotated_item, in_forms, mirrored_or_masked, form_in}
 use Rattle.shape_prepare.specs.declared.graphemes.Before.{Before}
 use Rattle.shape_prepare.specs.declared.graphemes.Before.TheVariants.{Plain}
 use Rattle.shape_prepare.proofs.Spans.GraphemeClusterLemmas.{spans-merged, merged-one_cluster, total-graphemes, NoneContinues, single-one_cluster}
 use Rattle.shape_prepare.proofs.Spans.RisingMergeLemmas.{all_merged}
-use Rattle.shape_prepare.proofs.StepLemmas.{over_graphemes-kept, clusters_formed-cases, clusters_formed-unseen, clusters_formed-merged, at_level_to_turn, merged_to_turn-cases, merged_to_turn-merged}
-use Rattle.shape_prepare.proofs.Spans.TurnLemmas.{total}
+use Rattle.shape_prepare.proofs.StepLemmas.{over_graphemes-kept, clusters_formed-cases, clusters_formed-unseen, clusters_formed-merged, at_level_to_reverse, merged_to_reverse-cases, merged_to_reverse-merged}
+use Rattle.shape_prepare.proofs.Spans.ReversalLemmas.{total}
 
 -- ---- masks, properties, the circle
 
@@ -178,9 +178,9 @@ all-stay-seen unicode [] flags seen = seen
 all-stay-seen unicode (item ∷ items) flags seen =
     all-stay-seen unicode items (seen_item unicode flags item) (stays-seen unicode item.codepoint flags seen)
 
-no_rule : (passed symbol mark skin regional zwj extender : Bool) (t : Bool) → mark ≡ false → skin ≡ false → regional ≡ false
+no_rule : (unasked symbol mark skin regional zwj extender : Bool) (t : Bool) → mark ≡ false → skin ≡ false → regional ≡ false
     → zwj ≡ false → extender ≡ false
-    → (mark && t || false || (not passed && ((symbol && skin) || (regional && false) || zwj || extender))) ≡ false
+    → (mark && t || false || (not unasked && ((symbol && skin) || (regional && false) || zwj || extender))) ≡ false
 no_rule true symbol mark skin regional zwj extender t m s r j e = rw m refl
 no_rule false true mark skin regional zwj extender t m s r j e = rw (m, s, r, j, e) refl
 no_rule false false mark skin regional zwj extender t m s r j e = rw (m, r, j, e) refl
@@ -190,7 +190,7 @@ ascii-continues : (unicode : UnicodeMeaning) (item : Item) → beyond_ascii item
 ascii-continues unicode item within =
     let c = item.codepoint in
     let small : c < 128 = grind (arith, nat_tests) in
-    no_rule (is_passed (unicode.category c)) (is_modifier_symbol (unicode.category c)) (beyond_ascii c) (is_skin_tone c)
+    no_rule (is_unasked (unicode.category c)) (is_modifier_symbol (unicode.category c)) (beyond_ascii c) (is_skin_tone c)
     (is_regional_indicator c) (c == 0x200D) (is_extender c) (is_mark unicode c) within
     (grind (arith, nat_tests)) (grind (arith, nat_tests)) (grind (arith, nat_tests)) (grind (arith, nat_tests))
 
@@ -239,14 +239,14 @@ contains-reverse xs x (k, lt, e) =
     (length xs - 1 - k, omega arith, sym (get_or-reverse xs k x short) ∙ e)
 
 -- graphemes of one cluster each, reversed
-turned-in_order : (b : Buffer) → AreOneCluster (graphemes b.items) → IsNonDecreasing (clusters b.items) → InOrderFor true b (graphemes_turned b)
-turned-in_order b one rising =
+reversed-in_order : (b : Buffer) → AreOneCluster (graphemes b.items) → IsNonDecreasing (clusters b.items) → InOrderFor true b (graphemes_reversed b)
+reversed-in_order b one rising =
     let parts = graphemes b.items in
     let together : whole parts ≡ b.items = whole-divided is_continuation b.items in
-    let reversed : clusters (from_last parts) ≡ reverse (clusters b.items) = clusters-turned parts one
+    let reversed : clusters (from_last parts) ≡ reverse (clusters b.items) = clusters-reversed parts one
     ∙ ap (λ (l : List Item). reverse (clusters l)) together in
     record {
-      order = falls-turned parts one (subst (λ (l : List Item). IsNonDecreasing (clusters l)) (sym together) rising);
+      order = falls-reversed parts one (subst (λ (l : List Item). IsNonDecreasing (clusters l)) (sym together) rising);
       none_new = λ k c. contains-reverse (clusters b.items) k (subst (λ (l : List ℕ). Contains l k) reversed c);
       direction = refl;
       flags = refl;
@@ -254,55 +254,55 @@ turned-in_order b one rising =
     }
 
 -- a buffer whose graphemes stand in one cluster each once they are to be reversed
-pub record IsReadyToTurn (b : Buffer) : Type 0 where
+pub record IsReadyToReverse (b : Buffer) : Type 0 where
   pub rising : IsNonDecreasing (clusters b.items)
   pub monotone : IsMonotoneLevel b.cluster_level
   pub one : b.cluster_level ≡ MonotoneGraphemes → AreOneCluster (graphemes b.items)
 
-to_turn-one : (b : Buffer) (level : BufferClusterLevel) → b.cluster_level ≡ level → IsReadyToTurn b
-    → AreOneCluster (graphemes (merged_to_turn b).items)
-to_turn-one b MonotoneGraphemes is ready =
-    subst (λ (c : Buffer). AreOneCluster (graphemes c.items)) (sym (ap (at_level_to_turn b) is)) (ready.one is)
-to_turn-one b MonotoneCharacters is ready =
+to_reverse-one : (b : Buffer) (level : BufferClusterLevel) → b.cluster_level ≡ level → IsReadyToReverse b
+    → AreOneCluster (graphemes (merged_to_reverse b).items)
+to_reverse-one b MonotoneGraphemes is ready =
+    subst (λ (c : Buffer). AreOneCluster (graphemes c.items)) (sym (ap (at_level_to_reverse b) is)) (ready.one is)
+to_reverse-one b MonotoneCharacters is ready =
     subst (λ (c : Buffer). AreOneCluster (graphemes c.items))
-    (sym (merged_to_turn-merged b is ∙ spans-merged (grapheme_spans b.items) b ready.monotone))
+    (sym (merged_to_reverse-merged b is ∙ spans-merged (grapheme_spans b.items) b ready.monotone))
     (merged-one_cluster b.items ready.rising)
-to_turn-one b Characters is ready = absurd (subst IsMonotoneLevel is ready.monotone)
+to_reverse-one b Characters is ready = absurd (subst IsMonotoneLevel is ready.monotone)
 
-to_turn-keeps_order : IsClusterKeeper merged_to_turn
-to_turn-keeps_order b monotone = merged_to_turn-cases (KeepsOrder b) b (KeepsOrder-same b) (merged-keeps_order b monotone)
+to_reverse-keeps_order : IsClusterKeeper merged_to_reverse
+to_reverse-keeps_order b monotone = merged_to_reverse-cases (KeepsOrder b) b (KeepsOrder-same b) (merged-keeps_order b monotone)
 
-in_order-behind : (turned : Bool) (a b c : Buffer) → KeepsOrder a b → InOrderFor turned b c → InOrderFor turned a c
-in_order-behind turned a b c first last = record {
+in_order-behind : (reversed : Bool) (a b c : Buffer) → KeepsOrder a b → InOrderFor reversed b c → InOrderFor reversed a c
+in_order-behind reversed a b c first last = record {
   order = last.order;
   none_new = λ k x. first.clusters.none_new k (last.none_new k x);
-  direction = last.direction ∙ ap (direction_for turned) first.direction;
+  direction = last.direction ∙ ap (direction_for reversed) first.direction;
   flags = last.flags ∙ first.flags;
   level = last.level ∙ first.level;
 }
 
-ordered-kept : (turned : Bool) (xs ys : List ℕ) → KeepsClusters xs ys → IsOrderedFor turned xs → IsOrderedFor turned ys
+ordered-kept : (reversed : Bool) (xs ys : List ℕ) → KeepsClusters xs ys → IsOrderedFor reversed xs → IsOrderedFor reversed ys
 ordered-kept true xs ys keeps falls = keeps.falling falls
 ordered-kept false xs ys keeps rises = keeps.rising rises
 
-pub in_order-kept : (turned : Bool) (a b c : Buffer) → InOrderFor turned a b → KeepsOrder b c → InOrderFor turned a c
-in_order-kept turned a b c first last = record {
-  order = ordered-kept turned (clusters b.items) (clusters c.items) last.clusters first.order;
+pub in_order-kept : (reversed : Bool) (a b c : Buffer) → InOrderFor reversed a b → KeepsOrder b c → InOrderFor reversed a c
+in_order-kept reversed a b c first last = record {
+  order = ordered-kept reversed (clusters b.items) (clusters c.items) last.clusters first.order;
   none_new = λ k x. first.none_new k (last.clusters.none_new k x);
   direction = last.direction ∙ first.direction;
   flags = last.flags ∙ first.flags;
   level = last.level ∙ first.level;
 }
 
-pub natively-in_order : (unicode : UnicodeMeaning) (b : Buffer) → IsReadyToTurn b
+pub natively-in_order : (unicode : UnicodeMeaning) (b : Buffer) → IsReadyToReverse b
     → InOrderFor (is_against (native_direction unicode b) b.direction) b (natively_ordered unicode b)
 unfolding natively_ordered
 natively-in_order unicode b ready = elim (cases_Bool (is_against (native_direction unicode b) b.direction)) [
   | inl on ↦ rw on (
-      let merged = merged_to_turn b in
-      let keeps : KeepsOrder b merged = to_turn-keeps_order b ready.monotone in
-      in_order-behind true b merged (graphemes_turned merged) keeps
-      (turned-in_order merged (to_turn-one b b.cluster_level refl ready) (keeps.clusters.rising ready.rising))
+      let merged = merged_to_reverse b in
+      let keeps : KeepsOrder b merged = to_reverse-keeps_order b ready.monotone in
+      in_order-behind true b merged (graphemes_reversed merged) keeps
+      (reversed-in_order merged (to_reverse-one b b.cluster_level refl ready) (keeps.clusters.rising ready.rising))
       )
   | inr off ↦ rw off (record { order = ready.rising; none_new = λ k c. c; direction = refl; flags = refl; level = refl })
 ]
@@ -311,7 +311,7 @@ natively-in_order unicode b ready = elim (cases_Bool (is_against (native_directi
 
 pub formed-ready : (unicode : UnicodeMeaning) (face : FaceMeaning) (b : Buffer) → IsMonotoneLevel b.cluster_level
     → IsNonDecreasing (clusters b.items)
-    → IsReadyToTurn (clusters_formed (dotted_circled unicode face (graphemes_marked unicode b)))
+    → IsReadyToReverse (clusters_formed (dotted_circled unicode face (graphemes_marked unicode b)))
 formed-ready unicode face b monotone rising =
     let marked = graphemes_marked unicode b in
     let circled = dotted_circled unicode face marked in
@@ -355,11 +355,11 @@ preparing_keeps_order run target b keeps monotone rising =
     (KeepsOrder-then start circled formed to_circle (clusters_formed-keeps_order circled formed_level)) in
     let ready = formed-ready run.unicode run.face start level (first.clusters.rising rising) in
     let against = is_against (native_direction run.unicode formed) formed.direction in
-    let turns = in_order-behind against b formed ordered to_formed (natively-in_order run.unicode formed ready) in
+    let reverses = in_order-behind against b formed ordered to_formed (natively-in_order run.unicode formed ready) in
     let hook = keeper-hook IsClusterKeeper (λ c _. KeepsOrder-same c) run.constants.has_preprocess_text run.hooks (λ h. h.preprocess)
     (λ h is. (keeps.hooks h is).preprocess) in
     let processed = hook_if run.constants.has_preprocess_text run.hooks (λ h. h.preprocess) ordered in
-    let ordered_level : IsMonotoneLevel ordered.cluster_level = subst IsMonotoneLevel (sym turns.level) monotone in
-    let to_processed = in_order-kept against b ordered processed turns (hook ordered ordered_level) in
+    let ordered_level : IsMonotoneLevel ordered.cluster_level = subst IsMonotoneLevel (sym reverses.level) monotone in
+    let to_processed = in_order-kept against b ordered processed reverses (hook ordered ordered_level) in
     in_order-kept against b processed (rotated run.unicode run.face run.decisions target processed) to_processed
     (rotated-keeps_order run.unicode run.face run.decisions target processed)

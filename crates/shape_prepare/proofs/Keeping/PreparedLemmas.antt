@@ -13,7 +13,7 @@ use Rattle.shape_items.specs.Prepared.{IsPreparedItem}
 use Rattle.shape_common.specs.Unicode.{UnicodeMeaning, LawfulUnicode, FormsArePlain}
 use Rattle.shape_items.specs.UnicodeProps.{with_unicode_props}
 use Rattle.shape_buffer.specs.Walks.{items_mapped}
-use Rattle.shape_common.specs.declared.settings.Direction.{Direction}
+use Rattle.shape_common.specs.declared.text_types.Direction.{Direction}
 use Rattle.shape_items.proofs.Merging.KeyLemmas.{keys-merge_clusters, keys-unsafe_to_break}
 use Rattle.shape_items.proofs.PreparedLemmas.{ArePrepared, unmarked_ccc, ccc_with_props, prepared_key, IsKey-prepared_key, prepared_by_keys}
 use Rattle.shape_plan.specs.Run.{hook_if}
@@ -23,13 +23,13 @@ use Rattle.shape_prepare.specs.ClustersFormed.{clusters_formed, over_graphemes}
 use Rattle.shape_prepare.specs.DottedCircle.{dotted_circled, with_circle, takes_circle}
 use Rattle.shape_items.specs.GraphemeSpans.{graphemes, is_continuation}
 use Rattle.shape_prepare.specs.Graphemes.{graphemes_marked, continuations_marked, is_to_next}
-use Rattle.shape_prepare.specs.NativeOrder.{natively_ordered, native_direction, is_against, merged_to_turn, from_last}
+use Rattle.shape_prepare.specs.NativeOrder.{natively_ordered, native_direction, is_against, merged_to_reverse, from_last}
 use Rattle.shape_prepare.specs.PreparedPoint.{KeepsPrepared, PreparingPrepares}
 use Rattle.shape_prepare.specs.Rotated.{rotated, rotated_item, in_forms, mirrored_or_masked, mirrored_item, form_in}
 use Rattle.shape_prepare.specs.declared.graphemes.Before.{Before}
 use Rattle.shape_prepare.specs.declared.graphemes.Before.TheVariants.{Plain}
 use Rattle.shape_prepare.proofs.Keeping.FlagKeeperLemmas.{from_last-first}
-use Rattle.shape_prepare.proofs.StepLemmas.{over_graphemes-kept, clusters_formed-cases, merged_to_turn-cases}
+use Rattle.shape_prepare.proofs.StepLemmas.{over_graphemes-kept, clusters_formed-cases, merged_to_reverse-cases}
 use Rattle.shape_plan.proofs.KeeperLemmas.{keeper-hook}
 
 append-prepared : (unicode : UnicodeMeaning) (xs ys : List Item) → ArePrepared unicode xs → ArePrepared unicode ys
@@ -145,17 +145,17 @@ formed-prepared unicode b all =
     clusters_formed-cases (λ c. ArePrepared unicode c.items) b (merged-prepared unicode b all)
     (over-prepared unicode unsafe_to_break (keys-unsafe_to_break prepared_key IsKey-prepared_key.by_break) b all) all
 
-to_turn-prepared : (unicode : UnicodeMeaning) (b : Buffer) → ArePrepared unicode b.items → ArePrepared unicode (merged_to_turn b).items
-to_turn-prepared unicode b all = merged_to_turn-cases (λ c. ArePrepared unicode c.items) b all (merged-prepared unicode b all)
+to_reverse-prepared : (unicode : UnicodeMeaning) (b : Buffer) → ArePrepared unicode b.items → ArePrepared unicode (merged_to_reverse b).items
+to_reverse-prepared unicode b all = merged_to_reverse-cases (λ c. ArePrepared unicode c.items) b all (merged-prepared unicode b all)
 
 ordered-prepared : (unicode : UnicodeMeaning) (b : Buffer) → ArePrepared unicode b.items
     → ArePrepared unicode (natively_ordered unicode b).items
 unfolding natively_ordered
 ordered-prepared unicode b all = elim (cases_Bool (is_against (native_direction unicode b) b.direction)) [
   | inl on ↦ rw on (
-      let merged = merged_to_turn b in
+      let merged = merged_to_reverse b in
       from_last-prepared unicode (graphemes merged.items)
-      (subst (λ (l : List Item). ArePrepared unicode l) (sym (whole-divided is_continuation merged.items)) (to_turn-prepared unicode b all))
+      (subst (λ (l : List Item). ArePrepared unicode l) (sym (whole-divided is_continuation merged.items)) (to_reverse-prepared unicode b all))
       )
   | inr off ↦ rw off all
 ]

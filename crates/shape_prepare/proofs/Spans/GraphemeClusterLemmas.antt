@@ -17,7 +17,7 @@ use Rattle.shape_items.specs.GraphemeSpans.{grapheme_spans, graphemes, is_contin
 use Rattle.shape_prepare.specs.NativeOrder.{parted}
 use Rattle.shape_items.proofs.MergingInOrder.GraphemeWalkLemmas.{IsKey-continuation}
 use Rattle.shape_prepare.proofs.Spans.RisingMergeLemmas.{all_merged, parts-merged, parts-one_cluster, SomeEach, Merged}
-use Rattle.shape_prepare.proofs.Spans.TurnLemmas.{total, total-lengths}
+use Rattle.shape_prepare.proofs.Spans.ReversalLemmas.{total, total-lengths}
 
 -- at a monotone level a walk that merges changes items alone
 pub spans-merged : (spans : List (ℕ × ℕ)) (b : Buffer) → IsMonotoneLevel b.cluster_level

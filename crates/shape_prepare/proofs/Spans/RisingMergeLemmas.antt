@@ -13,7 +13,7 @@ use Rattle.shape_items.proofs.Merging.KeyLemmas.{length-merge}
 use Rattle.shape_items.proofs.Merging.MergeOrder.{least_of_span_reached, put_range_below, put_range_inside, put_range_above, growth_right-within, place_cases, merge_keeps}
 use Rattle.shape_items.specs.GraphemeSpans.{spans_from}
 use Rattle.shape_prepare.specs.NativeOrder.{parted}
-use Rattle.shape_prepare.proofs.Spans.TurnLemmas.{total}
+use Rattle.shape_prepare.proofs.Spans.ReversalLemmas.{total}
 
 -- what a merge leaves: the span in the cluster of its first item, what stands before it as it was, and after it that cluster or the old
 -- one

@@ -9,9 +9,9 @@ use Rattle.shape_prepare.specs.ClustersFormed.{over_graphemes}
 use Rattle.shape_items.specs.GraphemeSpans.{is_continuation, ends}
 use Rattle.shape_prepare.specs.GraphemeWalk.{reverse_span, changed}
 use Rattle.shape_prepare.specs.declared.grapheme_walk.GraphemeChange.{GraphemeChange}
-use Rattle.shape_prepare.specs.declared.grapheme_walk.GraphemeChange.TheVariants.{Mark, Turn}
+use Rattle.shape_prepare.specs.declared.grapheme_walk.GraphemeChange.TheVariants.{Mark, Reversal}
 use Rattle.shape_items.proofs.MergingInOrder.GraphemeWalkLemmas.{walk-spans, walk_ends, walk_goes_on, left_to_do, IsKey-continuation}
-use Rattle.shape_prepare.proofs.Spans.TurnLemmas.{behind-reversed, length-reversed_range}
+use Rattle.shape_prepare.proofs.Spans.ReversalLemmas.{behind-reversed, length-reversed_range}
 
 -- what is done with a span changes no bit after it, nor how many items there are, nor the limit
 pub record LeavesRest (f : ℕ → ℕ → Buffer → Buffer) : Type 0 where
@@ -92,8 +92,8 @@ marking_leaves = record {
   limit = λ start end b. ap limit_of (without_items-unsafe_to_break start end b);
 }
 
-turning_leaves : LeavesRest reverse_span
-turning_leaves = record {
+reversal_leaves : LeavesRest reverse_span
+reversal_leaves = record {
   bits = λ start end b ordered within. behind-reversed is_continuation start end b.items ordered within;
   as_many = λ start end b ordered within. length-reversed_range start end b.items ordered within;
   limit = λ start end b. refl;
@@ -101,4 +101,4 @@ turning_leaves = record {
 
 pub change_leaves : (change : GraphemeChange) → LeavesRest (changed change)
 change_leaves Mark = marking_leaves
-change_leaves Turn = turning_leaves
+change_leaves Reversal = reversal_leaves

@@ -6,4 +6,4 @@ use Rattle.shape_fallback.proofs.ot_shape_fallback.position_marks.Goals as goal
 pub returns-clause-marked : goal.returns-clause-marked
 returns-clause-marked g c =
     ap without_positions c.position_bases.ensures.made
-    ∙ bases-marked (g.F.hb_font_t.face c.args.face.now) c.make_setting-setting.result c.args.buffer.now
+    ∙ bases-marked (g.F.hb_font_t.face c.args.face.now) c.make_frame-frame.result c.args.buffer.now

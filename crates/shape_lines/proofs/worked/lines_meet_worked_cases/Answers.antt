@@ -1,6 +1,6 @@
 use Rattle.std.proofs.Common.{pos, [], ◌∷◌, refl}
-use Rattle.shape_common.specs.declared.settings.Direction.TheVariants.{LeftToRight}
-use Rattle.shape_lines.specs.WorkedLines.{laid, text, turned, downward, joined, joined_turned, wide_then_narrow, one_cluster}
+use Rattle.shape_common.specs.declared.text_types.Direction.TheVariants.{LeftToRight}
+use Rattle.shape_lines.specs.WorkedLines.{laid, text, reversed, downward, joined, joined_reversed, wide_then_narrow, one_cluster}
 use Rattle.shape_lines.proofs.DecideLemmas.{right_rising, right_falling}
 use Rattle.shape_lines.proofs.worked.lines_meet_worked_cases.Goals as goal
 
@@ -14,10 +14,10 @@ returns c = record {
   whole = right_rising text 9 (pos 1650) (4 ∷ []) refl refl refl refl;
   one_less_than_whole = right_rising text 9 (pos 1649) (3 ∷ 4 ∷ []) refl refl refl refl;
   shortest_as_none_fits = right_rising text 4 (pos 100) (1 ∷ 2 ∷ 3 ∷ 4 ∷ []) refl refl refl refl;
-  from_the_end_where_clusters_fall = right_falling turned 4 (pos 1200) (2 ∷ 4 ∷ []) refl refl refl refl;
+  from_the_end_where_clusters_fall = right_falling reversed 4 (pos 1200) (2 ∷ 4 ∷ []) refl refl refl refl;
   vertical = right_rising downward 4 (pos 1101) (1 ∷ 4 ∷ []) refl refl refl refl;
   not_before_an_unsafe_cluster = right_rising joined 5 (pos 10) (2 ∷ 4 ∷ []) refl refl refl refl;
-  nor_where_clusters_fall = right_falling joined_turned 5 (pos 30) (1 ∷ 3 ∷ []) refl refl refl refl;
+  nor_where_clusters_fall = right_falling joined_reversed 5 (pos 30) (1 ∷ 3 ∷ []) refl refl refl refl;
   not_inside_a_cluster = right_rising joined 5 (pos 70) (2 ∷ 4 ∷ []) refl refl refl refl;
   nor_as_none_fits = right_rising one_cluster 8 (pos 0) (2 ∷ []) refl refl refl refl;
   fits_again = right_rising wide_then_narrow 3 (pos 400) (3 ∷ []) refl refl refl refl;

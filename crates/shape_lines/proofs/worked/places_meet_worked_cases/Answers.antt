@@ -20,7 +20,7 @@ returns-clause-places c = record {
     behind = omega arith;
     before = omega arith;
     differ = λ e. let same : 1 ≡ 0 = e in absurd (omega arith);
-    safe = turned;
+    safe = reversed;
   };
   before_the_text = λ is. let some = is.behind in absurd (omega arith);
   after_the_text = λ is. let lt : 2 < 2 = is.before in absurd (omega arith);
@@ -36,8 +36,8 @@ returns-clause-places c = record {
     rising (suc zero) lt e = refl
     rising (suc (suc k)) lt e = absurd (omega arith)
 
-    turned : (k : ℕ) → k < 2 → cluster_at (glyph_in 1 true ∷ glyph_in 0 false ∷ []) k ≡ 1
+    reversed : (k : ℕ) → k < 2 → cluster_at (glyph_in 1 true ∷ glyph_in 0 false ∷ []) k ≡ 1
         → lacks_break_at (glyph_in 1 true ∷ glyph_in 0 false ∷ []) k ≡ true
-    turned zero lt e = refl
-    turned (suc zero) lt e = let same : 0 ≡ 1 = e in absurd (omega arith)
-    turned (suc (suc k)) lt e = absurd (omega arith)
+    reversed zero lt e = refl
+    reversed (suc zero) lt e = let same : 0 ≡ 1 = e in absurd (omega arith)
+    reversed (suc (suc k)) lt e = absurd (omega arith)

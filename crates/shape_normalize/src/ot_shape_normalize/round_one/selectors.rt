@@ -4,7 +4,7 @@ ghost use Rattle.std.specs.Prelude.{◌≡◌, ◌<◌, ◌≤◌, ◌∷◌, �
 ghost use Rattle.std.specs.Prelude.{Err};
 ghost use Rattle.std.specs.List.{flat_map};
 ghost use Rattle.shape_items.specs.Buffer.{limit_of};
-ghost use Rattle.shape_normalize.specs.RoundOne.{marked_selector, passed_item, seen_variant};
+ghost use Rattle.shape_normalize.specs.RoundOne.{marked_selector, skipped_item, seen_variant};
 ghost use Rattle.shape_normalize.specs.RoundOne.{variant_items, variants, with_selector_fallback};
 
 use crate::ot_shape_normalize::round_one::expanded::Expanded;
@@ -15,27 +15,27 @@ use shape_buffer::interfaces::{hb_font_t, hb_unicode_funcs_t};
 use std::alloc::AllocError;
 
 /// The item with the glyph of its character, or as it is if it has none.
-fn passed<F: hb_font_t>(face: &F, info: &hb_glyph_info_t) -> hb_glyph_info_t
-    ensures { result ≡ passed_item (F.face face.now).nominal_glyph info.now }
+fn skipped<F: hb_font_t>(face: &F, info: &hb_glyph_info_t) -> hb_glyph_info_t
+    ensures { result ≡ skipped_item (F.face face.now).nominal_glyph info.now }
 {
-    let mut passed = *info;
+    let mut skipped = *info;
     if let Some(GlyphId(glyph)) = face.get_nominal_glyph(info.codepoint) {
-        passed.glyph_index = glyph;
+        skipped.glyph_index = glyph;
     }
-    passed
+    skipped
 }
 
 /// Adds items that stay.
-fn push_passed<F: hb_font_t>(
+fn push_skipped<F: hb_font_t>(
     out: &mut Vec<hb_glyph_info_t>,
     face: &F,
     infos: &[hb_glyph_info_t],
 ) -> Result<(), AllocError>
     ensures { OnOk result (out.new.items
-        ≡ out.old.items ++ map (passed_item (F.face face.now).nominal_glyph) infos.now) }
+        ≡ out.old.items ++ map (skipped_item (F.face face.now).nominal_glyph) infos.now) }
 {
     for info in infos {
-        out.push(passed(face, info))?;
+        out.push(skipped(face, info))?;
     }
     Ok(())
 }
@@ -62,13 +62,13 @@ impl Expanded {
     ) -> Result<(), AllocError>
         ensures infos { OnOk result (self.new.infos.items ≡ self.old.infos.items
             ++ record info.now { glyph_index = glyph.0 }
-            ∷ map (passed_item (F.face face.now).nominal_glyph) rest.now) }
+            ∷ map (skipped_item (F.face face.now).nominal_glyph) rest.now) }
         ensures flags { self.new.scratch_flags ≡ self.old.scratch_flags }
     {
         let mut one = *info;
         one.glyph_index = glyph.0;
         self.infos.push(one)?;
-        push_passed(&mut self.infos, face, rest)?;
+        push_skipped(&mut self.infos, face, rest)?;
         Ok(())
     }
 
@@ -82,18 +82,18 @@ impl Expanded {
         not_found: Option<GlyphId>,
     ) -> Result<(), AllocError>
         ensures infos { OnOk result (self.new.infos.items ≡ self.old.infos.items
-            ++ passed_item (F.face face.now).nominal_glyph info.now
-            ∷ marked_selector not_found (passed_item (F.face face.now).nominal_glyph selector.now)
-            ∷ map (passed_item (F.face face.now).nominal_glyph) rest.now) }
+            ++ skipped_item (F.face face.now).nominal_glyph info.now
+            ∷ marked_selector not_found (skipped_item (F.face face.now).nominal_glyph selector.now)
+            ∷ map (skipped_item (F.face face.now).nominal_glyph) rest.now) }
         ensures flags { self.new.scratch_flags ≡ with_selector_fallback self.old.scratch_flags }
     {
         self.scratch_flags
             .insert(ScratchFlags::HAS_VARIATION_SELECTOR_FALLBACK);
-        let mut marked = passed(face, selector);
+        let mut marked = skipped(face, selector);
         mark_selector(&mut marked, not_found);
-        self.infos.push(passed(face, info))?;
+        self.infos.push(skipped(face, info))?;
         self.infos.push(marked)?;
-        push_passed(&mut self.infos, face, rest)?;
+        push_skipped(&mut self.infos, face, rest)?;
         Ok(())
     }
 
@@ -121,7 +121,7 @@ impl Expanded {
             if room < part.len() {
                 return Err(ShapeError::Length);
             }
-            push_passed(&mut self.infos, face, part)?;
+            push_skipped(&mut self.infos, face, part)?;
             return Ok(());
         };
         let glyph = face.glyph_variation_index(info.codepoint, selector.codepoint);

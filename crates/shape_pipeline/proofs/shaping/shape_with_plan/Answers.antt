@@ -1,7 +1,7 @@
 use Rattle.std.proofs.Common.{◌≡◌, ◌∙◌, ap, sym, subst, refl, rules, Err}
 use Rattle.shape_items.specs.Buffer.{Buffer}
 use Rattle.shape_buffer.specs.Guess.{guessed, guessed_direction}
-use Rattle.shape_common.specs.declared.settings.Direction.{Direction}
+use Rattle.shape_common.specs.declared.text_types.Direction.{Direction}
 use Rattle.shape_normalize.proofs.Hooks.RulesLemmas.{used_reorder-lawful}
 use Rattle.shape_plan.specs.Run.{run_of}
 use Rattle.shape_pipeline.specs.Headline.{prepared_text, IsMadeOfNormalisedList, HasFlagsByCluster}

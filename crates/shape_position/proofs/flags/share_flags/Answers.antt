@@ -8,7 +8,7 @@ use Rattle.shape_common.specs.declared.flags.BufferFlags.{BufferFlags}
 use Rattle.shape_items.specs.Flags.{flagged_from, with_mask, flags_propagated}
 use Rattle.shape_items.proofs.Flags.ClusterRunLemmas.{flagged-runs}
 use Rattle.shape_buffer.proofs.Loops.WalkOverLemmas.{with_rest, walk_step, walk_end}
-use Rattle.shape_position.specs.FlagWalk.{passed_by}
+use Rattle.shape_position.specs.FlagWalk.{handed_by}
 use Rattle.shape_position.proofs.FlagWalkLemmas.{walked, walked-flagged}
 use Rattle.shape_position.proofs.flags.share_flags.Goals as goal
 
@@ -30,28 +30,28 @@ loop-i-preserved c =
     let b = c.loop-i.buffer in
     let i = c.loop-i.i in
     let flags = c.flags-flags.result in
-    let before = c.loop-i.passed in
+    let before = c.loop-i.handed in
     let x = c.index-infos-i.result in
-    let passed = c.pass-passed.result in
+    let handed = c.hand_on-handed.result in
     let within : i < length b.items = grind (arith, common_steps) in
     let read : x ≡ get_or b.items i x = c.index-infos-i.is ∙ ap (λ xs. get_or xs i x) c.infos.ensures in
     let here : drop i b.items ≡ x ∷ drop (i + 1) b.items = drop_more b.items i x within ∙ ap (λ z. z ∷ drop (i + 1) b.items) (sym read) in
     let all : slice_range b.items i (length b.items) ≡ drop i b.items = grind (arith, common_steps) in
-    let told : passed ≡ passed_by flags before x.cluster (x ∷ drop (i + 1) b.items) =
-    c.pass-passed.ensures
-    ∙ ap (passed_by flags before x.cluster) (ap (λ xs. slice_range xs i (length xs)) c.infos-in-loop-i.ensures ∙ all ∙ here) in
-    let step = walk_step (walked flags before) (walked flags passed) i b x
-    (with_mask passed.mask x) within read (rw (← told) refl) in
+    let told : handed ≡ handed_by flags before x.cluster (x ∷ drop (i + 1) b.items) =
+    c.hand_on-handed.ensures
+    ∙ ap (handed_by flags before x.cluster) (ap (λ xs. slice_range xs i (length xs)) c.infos-in-loop-i.ensures ∙ all ∙ here) in
+    let step = walk_step (walked flags before) (walked flags handed) i b x
+    (with_mask handed.mask x) within read (rw (← told) refl) in
     record {
       as_many = grind (arith, common_steps);
-      rest = ap (with_rest (walked flags passed) (i + 1)) c.set_info.ensures ∙ step ∙ c.loop-i.invariant.rest;
+      rest = ap (with_rest (walked flags handed) (i + 1)) c.set_info.ensures ∙ step ∙ c.loop-i.invariant.rest;
     }
 
 pub returns : goal.returns
 unfolding flags_propagated walked flagged_from
 returns c =
     let flags = c.flags-flags.result in
-    let end = walk_end (walked flags c.loop-i.passed) c.loop-i.i c.loop-i.buffer (omega (arith, c.loop-i.invariant.as_many)) refl in
+    let end = walk_end (walked flags c.loop-i.handed) c.loop-i.i c.loop-i.buffer (omega (arith, c.loop-i.invariant.as_many)) refl in
     let on : has_glyph_flags c.args.buffer.now ≡ true = search rules in
     let all = sym end ∙ c.loop-i.invariant.rest in
     record {

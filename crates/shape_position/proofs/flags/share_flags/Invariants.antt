@@ -8,5 +8,5 @@ use Rattle.shape_position.proofs.flags.share_flags.Given as goal
 abbrev pub invariant-loop-i : goal.invariant-loop-i
 invariant-loop-i l = record {
   as_many : length l.buffer.items ≡ length l.fn.buffer.items;
-  rest : with_rest (walked l.flags l.passed) l.i l.buffer ≡ with_rest (flagged_from l.flags None) 0 l.fn.buffer;
+  rest : with_rest (walked l.flags l.handed) l.i l.buffer ≡ with_rest (flagged_from l.flags None) 0 l.fn.buffer;
 }

@@ -1,5 +1,5 @@
 use Rattle.std.proofs.Common.{◌≡◌, ◌≢◌, ◌==◌, true, false, sym, ◌∙◌, bit_and, rules}
-use Rattle.shape_common.specs.declared.settings.BufferClusterLevel.TheVariants.{MonotoneGraphemes}
+use Rattle.shape_common.specs.declared.text_types.BufferClusterLevel.TheVariants.{MonotoneGraphemes}
 use Rattle.shape_prepare.specs.ClustersFormed.{clusters_formed}
 use Rattle.shape_prepare.proofs.StepLemmas.{Made-same, clusters_formed-unseen, clusters_formed-merged, clusters_formed-marked}
 use Rattle.shape_prepare.proofs.clusters.form_clusters.Goals as goal

@@ -1,8 +1,8 @@
 use Rattle.std.proofs.Common.{◌≡◌, ◌≢◌, ◌≤◌, true, false, length, sym, ap, ap₂, ◌∙◌, rules, arith}
 use Rattle.shape_items.specs.Buffer.{Buffer, limit_of}
-use Rattle.shape_common.specs.declared.settings.BufferClusterLevel.TheVariants.{MonotoneCharacters}
-use Rattle.shape_prepare.specs.NativeOrder.{natively_ordered, is_against, graphemes_turned}
-use Rattle.shape_prepare.proofs.StepLemmas.{Made-same, natively_ordered-kept, natively_ordered-turned, merged_to_turn-merged, merged_to_turn-kept}
+use Rattle.shape_common.specs.declared.text_types.BufferClusterLevel.TheVariants.{MonotoneCharacters}
+use Rattle.shape_prepare.specs.NativeOrder.{natively_ordered, is_against, graphemes_reversed}
+use Rattle.shape_prepare.proofs.StepLemmas.{Made-same, natively_ordered-kept, natively_ordered-reversed, merged_to_reverse-merged, merged_to_reverse-kept}
 use Rattle.shape_prepare.proofs.native_direction.ensure_native_direction.Goals as goal
 use Rattle.shape_prepare.proofs.native_direction.ensure_native_direction.Goals.{then-eq, else-eq}
 
@@ -20,23 +20,23 @@ returns g c =
     let b = c.args.buffer.now in
     let told = sym (ap₂ is_against c.native_direction-native.ensures c.direction.ensures) ∙ sym c.is_against.ensures in
     let on : c.is_against.result ≡ true = search rules in
-    let turns = sym (natively_ordered-turned unicode b (told ∙ on)) in
+    let reverses = sym (natively_ordered-reversed unicode b (told ∙ on)) in
     elim c.if-eq.branch [
       | then-eq w ↦
           let level : b.cluster_level ≡ MonotoneCharacters = search rules in
-          let merged = w.buffer-is ∙ w.merge_graphemes.ensures.made ∙ sym (merged_to_turn-merged b level) in
+          let merged = w.buffer-is ∙ w.merge_graphemes.ensures.made ∙ sym (merged_to_reverse-merged b level) in
           let size : length c.if-eq.buffer.items ≤ length b.items = rw w.buffer-is w.merge_graphemes.ensures.no_longer in
           record {
-            made = c.turn_graphemes.ensures.made ∙ ap graphemes_turned merged ∙ turns;
-            no_longer = omega (arith, c.turn_graphemes.ensures.no_longer);
-            same_limit = c.turn_graphemes.ensures.same_limit ∙ ap limit_of w.buffer-is ∙ w.merge_graphemes.ensures.same_limit;
+            made = c.reverse_graphemes.ensures.made ∙ ap graphemes_reversed merged ∙ reverses;
+            no_longer = omega (arith, c.reverse_graphemes.ensures.no_longer);
+            same_limit = c.reverse_graphemes.ensures.same_limit ∙ ap limit_of w.buffer-is ∙ w.merge_graphemes.ensures.same_limit;
           }
       | else-eq w ↦
           let level : b.cluster_level ≢ MonotoneCharacters = search rules in
           let size : length c.if-eq.buffer.items ≡ length b.items = ap (λ (b : Buffer). length b.items) w.buffer-is in
           record {
-            made = c.turn_graphemes.ensures.made ∙ ap graphemes_turned (w.buffer-is ∙ sym (merged_to_turn-kept b level)) ∙ turns;
-            no_longer = omega (arith, c.turn_graphemes.ensures.no_longer);
-            same_limit = c.turn_graphemes.ensures.same_limit ∙ ap limit_of w.buffer-is;
+            made = c.reverse_graphemes.ensures.made ∙ ap graphemes_reversed (w.buffer-is ∙ sym (merged_to_reverse-kept b level)) ∙ reverses;
+            no_longer = omega (arith, c.reverse_graphemes.ensures.no_longer);
+            same_limit = c.reverse_graphemes.ensures.same_limit ∙ ap limit_of w.buffer-is;
           }
     ]

@@ -5,7 +5,7 @@ use Rattle.shape_items.specs.Buffer.{Buffer}
 use Rattle.shape_items.specs.Items.{Item}
 use Rattle.shape_substitute.specs.Fractions.{is_slash, slash_places, slashes_masked}
 use Rattle.shape_substitute.proofs.MaskLemmas.{MasksAlone-then, alone-slash_masked, same_slash}
-use Rattle.shape_substitute.proofs.SlashLemmas.{slashes-reached, slashes-passed, slashes-other}
+use Rattle.shape_substitute.proofs.SlashLemmas.{slashes-reached, slashes-skipped, slashes-other}
 use Rattle.shape_substitute.proofs.fractions.mask_slashes.Goals as goal
 use Rattle.shape_substitute.proofs.fractions.mask_slashes.Goals.{then-is_slash+then-next-i, else-is_slash, else-is_slash-via-then-is_slash+else-next-i, else-is_slash-via-else-is_slash}
 
@@ -42,7 +42,7 @@ loop-i-preserved c =
             record {
               same_length = as_many;
               alone = c.loop-i.invariant.alone;
-              walk = slashes-passed masks next i item rest b slash passed
+              walk = slashes-skipped masks next i item rest b slash passed
                   ∙ walk;
             }
         | else-is_slash-via-else-is_slash v ↦

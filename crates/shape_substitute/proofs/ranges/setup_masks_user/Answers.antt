@@ -1,7 +1,7 @@
 use Rattle.std.proofs.Common.{◌≡◌, List, take, fold, length, subst, ap, arith}
 use Rattle.std.proofs.lemmas.List.{take_all}
 use Rattle.shape_buffer.specs.Outcome.{Made}
-use Rattle.shape_common.specs.declared.settings.Feature.{Feature}
+use Rattle.shape_common.specs.declared.text_types.Feature.{Feature}
 use Rattle.shape_substitute.specs.Ranges.{range_masked, ranges_masked}
 use Rattle.shape_substitute.proofs.ranges.setup_masks_user.Goals as goal
 

@@ -2,7 +2,7 @@ use Rattle.std.proofs.Common.{sym, subst}
 use Rattle.shape_items.specs.ClusterOrder.{IsOrderedFor}
 use Rattle.shape_items.specs.Clusters.{clusters}
 use Rattle.shape_common.specs.Direction.{is_backward}
-use Rattle.shape_common.specs.declared.settings.Direction.{Direction}
+use Rattle.shape_common.specs.declared.text_types.Direction.{Direction}
 use Rattle.shape_users.proofs.PlainLemmas.{if_ok-then, if_ok-both}
 use Rattle.shape_users.proofs.plain_glyphs.ligated_glyphs_in_order.Goals as goal
 

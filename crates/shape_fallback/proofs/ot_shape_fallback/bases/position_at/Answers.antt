@@ -9,7 +9,7 @@ pub returns-then-hb_glyph_info_is_unicode_mark-clause-placed : goal.returns-then
 returns-then-hb_glyph_info_is_unicode_mark-clause-placed g c =
     let item : c.index-infos-i.result ≡ get_or c.args.buffer.now.items c.args.i c.index-infos-i.result = cc in
     let mark : is_mark_item c.index-infos-i.result ≡ true = cc in
-    sym (at_mark (g.F.hb_font_t.face c.args.face.now) c.args.setting c.args.i c.args.buffer.now c.index-infos-i.result c.requires item mark)
+    sym (at_mark (g.F.hb_font_t.face c.args.face.now) c.args.frame c.args.i c.args.buffer.now c.index-infos-i.result c.requires item mark)
 
 pub returns-then-marks-eq0-clause-placed : goal.returns-then-marks-eq0-clause-placed
 returns-then-marks-eq0-clause-placed g c =
@@ -18,7 +18,7 @@ returns-then-marks-eq0-clause-placed g c =
     let count : c.marks_at_start-marks.result
     ≡ prefix_len is_mark_item (drop (c.args.i + 1) c.args.buffer.now.items) = grind (arith, common_steps) in
     let none : c.marks_at_start-marks.result ≡ 0 = omega arith in
-    sym (at_bare (g.F.hb_font_t.face c.args.face.now) c.args.setting c.args.i c.marks_at_start-marks.result c.args.buffer.now c.index-infos-i.result c.requires item mark count none)
+    sym (at_bare (g.F.hb_font_t.face c.args.face.now) c.args.frame c.args.i c.marks_at_start-marks.result c.args.buffer.now c.index-infos-i.result c.requires item mark count none)
 
 pub returns-clause-placed : goal.returns-clause-placed
 returns-clause-placed g c =
@@ -28,7 +28,7 @@ returns-clause-placed g c =
     ≡ prefix_len is_mark_item (drop (c.args.i + 1) c.args.buffer.now.items) = grind (arith, common_steps) in
     let some : 0 < c.marks_at_start-marks.result = omega arith in
     c.position_span.ensures
-    ∙ sym (at_base (g.F.hb_font_t.face c.args.face.now) c.args.setting c.args.i c.marks_at_start-marks.result c.args.buffer.now c.index-infos-i.result c.requires item mark count some)
+    ∙ sym (at_base (g.F.hb_font_t.face c.args.face.now) c.args.frame c.args.i c.marks_at_start-marks.result c.args.buffer.now c.index-infos-i.result c.requires item mark count some)
 
 pub returns-clause-end : goal.returns-clause-end
 returns-clause-end g c =

@@ -13,7 +13,7 @@ loop-i-init g c = record { after = omega arith; as_many = refl; same_limit = ref
 pub loop-i-preserved : goal.loop-i-preserved
 loop-i-preserved g c =
     let face = g.F.hb_font_t.face c.args.face.now in
-    let s = c.args.setting in
+    let s = c.args.frame in
     let b = c.loop-i.buffer in
     let i = c.loop-i.i in
     let base = i - 1 in
@@ -40,7 +40,7 @@ loop-i-preserved g c =
 pub returns : goal.returns
 returns g c =
     let over : length c.loop-i.buffer.items ≤ c.loop-i.i - 1 + 1 = grind (arith, common_steps) in
-    let end = bases_last (g.F.hb_font_t.face c.args.face.now) c.args.setting (c.loop-i.i - 1) c.loop-i.buffer over in
+    let end = bases_last (g.F.hb_font_t.face c.args.face.now) c.args.frame (c.loop-i.i - 1) c.loop-i.buffer over in
     record {
       made = sym end ∙ c.loop-i.invariant.rest;
       no_longer = grind (arith, common_steps);

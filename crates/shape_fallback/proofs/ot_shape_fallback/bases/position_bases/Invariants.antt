@@ -10,6 +10,6 @@ invariant-loop-i g l = record {
   as_many : length l.buffer.items ≡ length l.fn.buffer.items;
   same_limit : l.buffer.length_limit ≡ l.fn.buffer.length_limit;
   marks : l.done ≤ l.i - 1 + marks_from (l.i - 1) l.buffer;
-  rest : fold (position_span (g.F.hb_font_t.face l.face) l.setting) l.buffer (bases (l.i - 1) (drop (l.i - 1) (marks_of l.buffer)))
-      ≡ bases_positioned (g.F.hb_font_t.face l.face) l.setting l.fn.buffer;
+  rest : fold (position_span (g.F.hb_font_t.face l.face) l.frame) l.buffer (bases (l.i - 1) (drop (l.i - 1) (marks_of l.buffer)))
+      ≡ bases_positioned (g.F.hb_font_t.face l.face) l.frame l.fn.buffer;
 }

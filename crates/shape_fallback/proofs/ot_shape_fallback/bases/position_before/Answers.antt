@@ -8,7 +8,7 @@ returns-then-i-done-clause-placed g c =
     let base = c.args.i - 1 in
     let within : base < length c.args.buffer.now.items = omega arith in
     let some : 0 < marks_from base c.args.buffer.now = omega arith in
-    sym (at_counted (g.F.hb_font_t.face c.args.face.now) c.args.setting base c.args.buffer.now within some)
+    sym (at_counted (g.F.hb_font_t.face c.args.face.now) c.args.frame base c.args.buffer.now within some)
 
 pub returns-then-i-done-clause-end : goal.returns-then-i-done-clause-end
 returns-then-i-done-clause-end g c =
@@ -25,7 +25,7 @@ returns-then-not-is_mark_at-clause-placed g c =
     let within : base < length c.args.buffer.now.items = omega arith in
     let here : base + 1 ≡ c.args.i = omega arith in
     let first : begins_with_mark (drop c.args.i c.args.buffer.now.items) ≡ false = cc in
-    sym (at_unfollowed (g.F.hb_font_t.face c.args.face.now) c.args.setting base c.args.buffer.now within
+    sym (at_unfollowed (g.F.hb_font_t.face c.args.face.now) c.args.frame base c.args.buffer.now within
     (ap (λ n. begins_with_mark (drop n c.args.buffer.now.items)) here ∙ first))
 
 pub returns-clause-end : goal.returns-clause-end

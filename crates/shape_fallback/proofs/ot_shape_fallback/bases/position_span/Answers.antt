@@ -17,7 +17,7 @@ returns-in-None g c =
     let item : c.index-infos-start.result ≡ get_or b.items c.args.start c.index-infos-start.result = cc in
     let position : get_or c.positions.result.now c.args.start zero_position ≡ get_or b.positions c.args.start zero_position = cc in
     let known : face.extents (record { 0 = c.index-infos-start.result.glyph_id }) ≡ None = sym c.glyph_extents.ensures ∙ c.in-None.is in
-    let span = span_none face c.args.setting c.args.start c.args.end b c.index-infos-start.result _ lt items positions item position known in
+    let span = span_none face c.args.frame c.args.start c.args.end b c.index-infos-start.result _ lt items positions item position known in
     cc
 
 pub returns-in-Some : goal.returns-in-Some
@@ -32,5 +32,5 @@ returns-in-Some g c =
     let position : get_or c.positions.result.now c.args.start zero_position ≡ get_or b.positions c.args.start zero_position = cc in
     let known : face.extents (record { 0 = c.index-infos-start.result.glyph_id }) ≡ Some c.in-Some.extents = sym c.glyph_extents.ensures
     ∙ c.in-Some.is in
-    let span = span_some face c.args.setting c.args.start c.args.end b c.index-infos-start.result _ c.in-Some.extents lt items positions item position known in
+    let span = span_some face c.args.frame c.args.start c.args.end b c.index-infos-start.result _ c.in-Some.extents lt items positions item position known in
     cc

@@ -8,10 +8,10 @@ returns-then-agree-clause-value c = grind (arith, kept_bits)
 
 pub returns-then-agree-clause-exact : goal.returns-then-agree-clause-exact
 returns-then-agree-clause-exact c =
-    λ unmoved turned fits. returns-then-agree-clause-value c ∙ piled-exact c.args.gap c.args.mark c.args.base unmoved turned fits
+    λ unmoved reversed fits. returns-then-agree-clause-value c ∙ piled-exact c.args.gap c.args.mark c.args.base unmoved reversed fits
 
 pub returns-clause-value : goal.returns-clause-value
 returns-clause-value c = grind (arith, kept_bits)
 
 pub returns-clause-exact : goal.returns-clause-exact
-returns-clause-exact c = λ unmoved turned fits. returns-clause-value c ∙ piled-exact c.args.gap c.args.mark c.args.base unmoved turned fits
+returns-clause-exact c = λ unmoved reversed fits. returns-clause-value c ∙ piled-exact c.args.gap c.args.mark c.args.base unmoved reversed fits

@@ -1,6 +1,6 @@
 use Rattle.std.proofs.Common.{◌≡◌, ◌≤◌, ◌∙◌, sym, get_or, length}
 use Rattle.std.specs.Prelude.{Some, None}
-use Rattle.shape_fallback.proofs.SpacesLemmas.{first-found, first-passed, first-none}
+use Rattle.shape_fallback.proofs.SpacesLemmas.{first-found, first-skipped, first-none}
 use Rattle.shape_fallback.proofs.ot_shape_fallback.spaces.first_glyph.Goals as goal
 
 pub returns-in-Some : goal.returns-in-Some
@@ -16,7 +16,7 @@ loop-c-preserved g c =
     let face = g.F.hb_font_t.face c.args.face.now in
     let here : c.c-item.result ≡ get_or c.args.characters.now c.loop-c.c-index c.c-item.result = cc in
     let has : face.nominal_glyph c.c-item.result ≡ None = cc in
-    sym (first-passed face c.args.characters.now c.loop-c.c-index c.c-item.result c.loop-c-test.true here has) ∙ c.loop-c.invariant
+    sym (first-skipped face c.args.characters.now c.loop-c.c-index c.c-item.result c.loop-c-test.true here has) ∙ c.loop-c.invariant
 
 pub returns : goal.returns
 returns g c =

@@ -14,9 +14,9 @@ returns-then-length_limit-from-clause-length g c is_length =
     let n = c.in_ok-from.from in
     let all : length placed.items ≤ n = omega (arith, c.len.ensures.items, c.if-from-len.true) in
     let limit : limit_of placed ≡ limit_of old = limit-placed planned old placed n c.requires.expands c.in_ok-from.ensures.placed c.in_ok-from.ensures.rest in
-    let passed : limit_of old < length placed.items =
+    let skipped : limit_of old < length placed.items =
     omega (arith, c.len.ensures.items, c.if-from-len.true, limit, c.length_limit.ensures, c.if-length_limit-from.true) in
-    counts_whole planned old placed n c.requires.expands c.in_ok-from.ensures.placed c.in_ok-from.ensures.rest all (limit_of old) passed
+    counts_whole planned old placed n c.requires.expands c.in_ok-from.ensures.placed c.in_ok-from.ensures.rest all (limit_of old) skipped
 
 pub returns-then-from-len-clause-ok : goal.returns-then-from-len-clause-ok
 returns-then-from-len-clause-ok g c =

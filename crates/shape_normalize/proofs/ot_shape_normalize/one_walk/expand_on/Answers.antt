@@ -46,11 +46,11 @@ returns-in_err-put_item-clause-length g c is_length =
     c.is_asked-shortest.ensures planned.short c.requires.shortest ∙ ap planned.short c.stands_with_marks_at.ensures in
     let becomes = expanded_item planned invisible (planned.short (stands_with_marks (i == 0) (drop i items))) item in
     let later = expanded_behind planned invisible (i + 1 == 0) (drop (i + 1) items) in
-    let passed : c.length_limit-limit.result < length (out ++ becomes) = rw (← short) (c.in_err-put_item.ensures.length (search rules)) in
+    let skipped : c.length_limit-limit.result < length (out ++ becomes) = rw (← short) (c.in_err-put_item.ensures.length (search rules)) in
     rw (← c.infos-infos.ensures, ← c.length_limit-limit.ensures, ← c.invisible_glyph-invisible.ensures)
     (passed_by_more (out ++ becomes) later _ c.length_limit-limit.result (append_assoc out becomes later
     ∙ ap (λ xs. out ++ xs) (sym (behind_here planned invisible items i item (omega (arith, c.loop-i-test.true)) c.index-infos-i.is))
-    ∙ c.loop-i.invariant.infos) passed)
+    ∙ c.loop-i.invariant.infos) skipped)
 
 pub follow_from-requires-clause-runs : goal.follow_from-requires-clause-runs
 follow_from-requires-clause-runs g c =

@@ -1,7 +1,7 @@
 use Rattle.std.proofs.Common.{◌≡◌, false, true, Err, inr, ap, subst, ◌∙◌}
 use Rattle.shape_items.specs.Buffer.{Buffer}
 use Rattle.shape_buffer.specs.Guess.{guessed}
-use Rattle.shape_common.specs.declared.settings.Direction.{Direction}
+use Rattle.shape_common.specs.declared.text_types.Direction.{Direction}
 use Rattle.shape_pipeline.specs.Shaped.{PreparingPasses}
 use Rattle.shape_plan.specs.Run.{run_of}
 use Rattle.shape_users.specs.Words.{spelled}

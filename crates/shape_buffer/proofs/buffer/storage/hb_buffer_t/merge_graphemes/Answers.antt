@@ -1,7 +1,7 @@
 use Rattle.std.proofs.Common.{◌≡◌, ◌≢◌, length, ap, sym, ◌∙◌, rules}
 use Rattle.shape_items.specs.Buffer.{Buffer}
 use Rattle.shape_items.specs.GraphemeSpans.{grapheme_spans}
-use Rattle.shape_common.specs.declared.settings.BufferClusterLevel.TheVariants.{Characters}
+use Rattle.shape_common.specs.declared.text_types.BufferClusterLevel.TheVariants.{Characters}
 use Rattle.shape_items.proofs.MergingInOrder.EachSpanLemmas.{length-merge_each, spans_merged_out_keep, spans_merged_out-characters, merged_out_at_once}
 use Rattle.shape_items.proofs.MergingInOrder.GraphemeWalkLemmas.{grapheme_spans-in_order}
 use Rattle.shape_buffer.proofs.buffer.storage.hb_buffer_t.merge_graphemes.Goals as goal

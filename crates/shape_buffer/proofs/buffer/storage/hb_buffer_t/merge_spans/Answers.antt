@@ -1,6 +1,6 @@
 use Rattle.std.proofs.Common.{◌≢◌, length, ap, ◌∙◌, rules}
 use Rattle.shape_items.specs.Buffer.{Buffer}
-use Rattle.shape_common.specs.declared.settings.BufferClusterLevel.TheVariants.{Characters}
+use Rattle.shape_common.specs.declared.text_types.BufferClusterLevel.TheVariants.{Characters}
 use Rattle.shape_items.proofs.MergingInOrder.EachSpanLemmas.{length-merge_each, length-all_merged, all_merged_keep, merged_at_once}
 use Rattle.shape_buffer.proofs.buffer.storage.hb_buffer_t.merge_spans.Goals as goal
 

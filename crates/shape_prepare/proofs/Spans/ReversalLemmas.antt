@@ -11,7 +11,7 @@ use Rattle.shape_common.specs.declared.positions.GlyphPosition.{GlyphPosition}
 use Rattle.shape_items.specs.GraphemeSpans.{graphemes, is_continuation, spans_from}
 use Rattle.shape_prepare.specs.ClustersFormed.{over_graphemes}
 use Rattle.shape_prepare.specs.GraphemeWalk.{reverse_span}
-use Rattle.shape_prepare.specs.NativeOrder.{parted, from_last, graphemes_turned}
+use Rattle.shape_prepare.specs.NativeOrder.{parted, from_last, graphemes_reversed}
 
 -- one part reversed in place
 reversed_range-at : {A : Type 0} (pre part behind : List A)
@@ -55,9 +55,9 @@ reverse-parts {A} (part ∷ parts) =
     ∙ ap (λ (l : List (List A)). whole l) (sym (reverse-append (part ∷ []) parts))
 
 -- the walk over a list in parts, and the list reversed then
-pub turned-parts : {A : Type 0} (parts : List (List A))
+pub reversed-parts : {A : Type 0} (parts : List (List A))
     → reverse (fold (λ xs span. reversed_range span.0 span.1 xs) (whole parts) (spans_from 0 (map length parts))) ≡ from_last parts
-turned-parts parts = ap reverse (spans-reversed [] parts) ∙ reverse-parts parts
+reversed-parts parts = ap reverse (spans-reversed [] parts) ∙ reverse-parts parts
 
 -- what parts of these sizes hold together
 abbrev pub total : List ℕ → ℕ
@@ -83,12 +83,12 @@ sizes-parted (size ∷ sizes) xs e =
     let first : length (take size xs) ≡ size = length-take-le size xs (omega (arith, e)) in
     ap₂ (λ (n : ℕ) (ns : List ℕ). n ∷ ns) first (sizes-parted sizes (drop size xs) rest)
 
-pub turned-sizes : {A : Type 0} (sizes : List ℕ) (xs : List A) → total sizes ≡ length xs
+pub reversed-sizes : {A : Type 0} (sizes : List ℕ) (xs : List A) → total sizes ≡ length xs
     → reverse (fold (λ xs span. reversed_range span.0 span.1 xs) xs (spans_from 0 sizes)) ≡ from_last (parted sizes xs)
-turned-sizes {A} sizes xs e =
+reversed-sizes {A} sizes xs e =
     ap₂ (λ (l : List A) (ns : List ℕ). reverse (fold (λ (xs : List A) (span : ℕ × ℕ). reversed_range span.0 span.1 xs) l (spans_from 0 ns)))
     (sym (whole-parted sizes xs e)) (sym (sizes-parted sizes xs e))
-    ∙ turned-parts (parted sizes xs)
+    ∙ reversed-parts (parted sizes xs)
 
 -- the walk over a buffer goes over its items and over its positions
 pub reverse_spans : (spans : List (ℕ × ℕ)) (b : Buffer)
@@ -118,12 +118,12 @@ pub length-reversed_range : {A : Type 0} (start end : ℕ) (xs : List A) → sta
 length-reversed_range start end xs le within = grind (arith, common_steps)
 
 -- a buffer reversed as a whole, and its direction
-abbrev pub turned_over : Buffer → Buffer
-turned_over b = record b { items = reverse b.items; positions = reverse b.positions; direction = reverse_of b.direction }
+abbrev pub reversed_over : Buffer → Buffer
+reversed_over b = record b { items = reverse b.items; positions = reverse b.positions; direction = reverse_of b.direction }
 
 -- the walk over the parts of a buffer, and the buffer reversed then, leaves the parts from the last
-pub turned-whole : (b : Buffer) → length b.positions ≡ length b.items → turned_over (over_graphemes reverse_span b) ≡ graphemes_turned b
-turned-whole b as_many =
+pub reversed-whole : (b : Buffer) → length b.positions ≡ length b.items → reversed_over (over_graphemes reverse_span b) ≡ graphemes_reversed b
+reversed-whole b as_many =
     let parts = graphemes b.items in
     let sizes = map length parts in
     let spans = spans_from 0 sizes in
@@ -131,7 +131,7 @@ turned-whole b as_many =
     let full : total sizes ≡ length b.positions = total-lengths parts ∙ ap length together ∙ sym as_many in
     let items : reverse (fold (λ xs span. reversed_range span.0 span.1 xs) b.items spans) ≡ from_last parts =
     ap (λ (l : List Item). reverse (fold (λ (xs : List Item) (span : ℕ × ℕ). reversed_range span.0 span.1 xs) l spans)) (sym together)
-    ∙ turned-parts parts in
-    ap turned_over (reverse_spans spans b)
+    ∙ reversed-parts parts in
+    ap reversed_over (reverse_spans spans b)
     ∙ ap₂ (λ (is : List Item) (ps : List GlyphPosition). record b { items = is; positions = ps; direction = reverse_of b.direction }) items
-    (turned-sizes sizes b.positions full)
+    (reversed-sizes sizes b.positions full)

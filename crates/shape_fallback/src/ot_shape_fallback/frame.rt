@@ -1,10 +1,10 @@
-//! What the marks of a buffer are placed by, beside the face: how the line runs, how the components of
+//! The frame that the marks of a buffer are placed in: how the line runs, how the components of
 //! ligatures run, and the gap between marks.
 ghost use Rattle.std.specs.Prelude.{◌≡◌};
 ghost use Rattle.shape_fallback.specs.Bases.{is_left_to_right as is_left_to_right_of};
-ghost use Rattle.shape_fallback.specs.Bases.{runs_to_right as runs_to_right_of, setting_of};
+ghost use Rattle.shape_fallback.specs.Bases.{runs_to_right as runs_to_right_of, frame_of};
 
-use crate::ot_shape_fallback::marks::Setting;
+use crate::ot_shape_fallback::marks::MarkFrame;
 use crate::ot_shape_fallback::one_mark::Surroundings;
 use shape_buffer::buffer::{Direction, Script, hb_buffer_t};
 use shape_buffer::interfaces::{hb_font_t, hb_unicode_funcs_t};
@@ -38,19 +38,19 @@ fn runs_to_right<U: hb_unicode_funcs_t>(direction: Direction, script: Option<Scr
     }
 }
 
-/// What the marks of a buffer are placed by under a plan.
-#[tactic(auto, unfolding(crate::specs::Bases::setting_of))]
-pub(crate) fn make_setting<U: hb_unicode_funcs_t, F: hb_font_t, S, P, D>(
+/// The frame of the marks of a buffer under a plan.
+#[tactic(auto, unfolding(crate::specs::Bases::frame_of))]
+pub(crate) fn make_frame<U: hb_unicode_funcs_t, F: hb_font_t, S, P, D>(
     plan: &hb_ot_shape_plan_t<'_, S, P, D>,
     face: &F,
     buffer: &hb_buffer_t,
     adjust: bool,
-) -> Setting
-    ensures { result ≡ setting_of U.unicode (F.face face.now) plan.now.direction plan.now.script
+) -> MarkFrame
+    ensures { result ≡ frame_of U.unicode (F.face face.now) plan.now.direction plan.now.script
         adjust buffer.now }
 {
     let direction = buffer.direction();
-    Setting {
+    MarkFrame {
         surroundings: Surroundings {
             horizontal: direction.is_horizontal(),
             forward: direction.is_forward(),

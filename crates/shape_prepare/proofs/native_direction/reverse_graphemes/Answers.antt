@@ -2,14 +2,14 @@ use Rattle.std.proofs.Common.{◌≡◌, length, ap, ◌∙◌, arith}
 use Rattle.std.proofs.lemmas.List.{length-reverse}
 use Rattle.shape_items.specs.Buffer.{Buffer, limit_of}
 use Rattle.shape_common.specs.Direction.{reverse_of}
-use Rattle.shape_common.specs.declared.settings.Direction.{Direction}
-use Rattle.shape_prepare.proofs.Spans.TurnLemmas.{turned_over, turned-whole}
-use Rattle.shape_prepare.proofs.native_direction.turn_graphemes.Goals as goal
+use Rattle.shape_common.specs.declared.text_types.Direction.{Direction}
+use Rattle.shape_prepare.proofs.Spans.ReversalLemmas.{reversed_over, reversed-whole}
+use Rattle.shape_prepare.proofs.native_direction.reverse_graphemes.Goals as goal
 
 pub returns : goal.returns
 returns c =
     let b = c.args.buffer.now in
-    let mid = c.reverse_graphemes.new.buffer in
+    let mid = c.reverse_within_graphemes.new.buffer in
     let rev = c.reverse.new.self in
     let over = c.set_direction.ensures
     ∙ ap (λ (d : Direction). record rev { direction = d }) (c.reverse-direction.ensures ∙ ap reverse_of c.direction.ensures)
@@ -17,7 +17,7 @@ returns c =
     let size : length c.set_direction.new.self.items ≡ length mid.items = ap (λ (r : Buffer). length r.items) over
     ∙ length-reverse mid.items in
     record {
-      made = over ∙ ap turned_over c.reverse_graphemes.ensures.reversed.made ∙ turned-whole b c.reverse_graphemes.ensures.as_many;
-      no_longer = omega (arith, c.reverse_graphemes.ensures.reversed.no_longer);
-      same_limit = ap limit_of over ∙ c.reverse_graphemes.ensures.reversed.same_limit;
+      made = over ∙ ap reversed_over c.reverse_within_graphemes.ensures.reversed.made ∙ reversed-whole b c.reverse_within_graphemes.ensures.as_many;
+      no_longer = omega (arith, c.reverse_within_graphemes.ensures.reversed.no_longer);
+      same_limit = ap limit_of over ∙ c.reverse_within_graphemes.ensures.reversed.same_limit;
     }

@@ -10,10 +10,10 @@ use Rattle.shape_common.specs.Positions.{zero_position}
 use Rattle.shape_common.specs.Unicode.{UnicodeMeaning}
 use Rattle.shape_common.specs.Wrapping.{◌+ʷ◌, ◌-ʷ◌}
 use Rattle.shape_common.specs.declared.general_category.hb_unicode_general_category_t.TheVariants.{SpaceSeparator}
-use Rattle.shape_common.specs.declared.settings.Direction.{Direction}
-use Rattle.shape_common.specs.declared.settings.Direction.TheVariants.{LeftToRight, RightToLeft, TopToBottom, BottomToTop}
-use Rattle.shape_fallback.specs.Bases.{setting_of}
-use Rattle.shape_fallback.specs.MarkState.{place_mark, passed}
+use Rattle.shape_common.specs.declared.text_types.Direction.{Direction}
+use Rattle.shape_common.specs.declared.text_types.Direction.TheVariants.{LeftToRight, RightToLeft, TopToBottom, BottomToTop}
+use Rattle.shape_fallback.specs.Bases.{frame_of}
+use Rattle.shape_fallback.specs.MarkState.{place_mark, moved_past}
 use Rattle.shape_fallback.specs.Spaces.{spaces_placed, item_spaced, is_lone_space, space_positioned, space_advance, is_em_part, em_part, em_advance}
 use Rattle.shape_fallback.specs.Steps.{spaces_step}
 use Rattle.shape_fallback.specs.WorkedMarks.{worked_base, component_mark, at, running}
@@ -34,13 +34,13 @@ pub record MarksWithoutCcc : Type 0 where
       ≡ record { position = at (pos 20) (pos 3) (pos 1) (pos 2); state = running (pos 50) (pos 7) }
 
 marks_without_ccc : MarksWithoutCcc
-unfolding place_mark passed ◌+ʷ◌ ◌-ʷ◌ int_wrap
+unfolding place_mark moved_past ◌+ʷ◌ ◌-ʷ◌ int_wrap
 marks_without_ccc = record { forward = λ face. refl; backward = λ face. refl }
 
 -- what marks stand along in a buffer of a direction, under a plan of another one
 abbrev pub along : UnicodeMeaning → FaceMeaning → Direction → Direction → ℕ → Surroundings
 along unicode face plan buffer units =
-    (setting_of unicode (record face { units_per_em = units }) plan None false (record new_buffer { direction = buffer })).surroundings
+    (frame_of unicode (record face { units_per_em = units }) plan None false (record new_buffer { direction = buffer })).surroundings
 
 pub record LinesOfMarks : Type 0 where
   pub rightward : (unicode : UnicodeMeaning) (face : FaceMeaning)
@@ -53,7 +53,7 @@ pub record LinesOfMarks : Type 0 where
       → along unicode face LeftToRight BottomToTop 15 ≡ record { horizontal = false; forward = false; gap = pos 0 }
 
 lines_of_marks : LinesOfMarks
-unfolding setting_of
+unfolding frame_of
 lines_of_marks =
     record {
       rightward = λ unicode face. refl;
@@ -82,10 +82,10 @@ flag_of_spaces : FlagOfSpaces
 unfolding spaces_step spaces_placed positions_mapped item_spaced is_lone_space space_positioned space_advance is_em_part em_part em_advance
 flag_of_spaces = record { seen = λ face. refl; unseen = λ face. refl }
 
-pub record WorkedTurns : Type 0 where
+pub record WorkedDirections : Type 0 where
   pub marks : MarksWithoutCcc
   pub lines : LinesOfMarks
   pub spaces : FlagOfSpaces
 
-pub worked_turns : WorkedTurns
-worked_turns = record { marks = marks_without_ccc; lines = lines_of_marks; spaces = flag_of_spaces }
+pub worked_directions : WorkedDirections
+worked_directions = record { marks = marks_without_ccc; lines = lines_of_marks; spaces = flag_of_spaces }

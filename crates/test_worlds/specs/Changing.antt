@@ -5,8 +5,8 @@ use Rattle.shape_items.specs.Items.{Item}
 use Rattle.shape_buffer.specs.Walks.{items_mapped}
 
 -- U+0061 becomes U+0301, with the properties that it has
-abbrev pub turned : Item → Item
-turned item = if item.codepoint == 0x61 then record item { codepoint = 0x301 } else item
+abbrev pub changed : Item → Item
+changed item = if item.codepoint == 0x61 then record item { codepoint = 0x301 } else item
 
-abbrev pub all_turned : Buffer → Buffer
-all_turned b = items_mapped turned b
+abbrev pub all_changed : Buffer → Buffer
+all_changed b = items_mapped changed b

@@ -50,7 +50,7 @@ pub struct Feature {
 }
 
 impl Default for Direction {
-    ghost use Rattle.shape_common.specs.declared.settings.Direction.TheVariants.{Invalid};
+    ghost use Rattle.shape_common.specs.declared.text_types.Direction.TheVariants.{Invalid};
 
     ghost is_default = { λ direction. direction ≡ Invalid };
 
@@ -60,7 +60,7 @@ impl Default for Direction {
 }
 
 impl Default for BufferClusterLevel {
-    ghost use Rattle.shape_common.specs.declared.settings.BufferClusterLevel.TheVariants.{MonotoneGraphemes};
+    ghost use Rattle.shape_common.specs.declared.text_types.BufferClusterLevel.TheVariants.{MonotoneGraphemes};
 
     ghost is_default = { λ level. level ≡ MonotoneGraphemes };
 

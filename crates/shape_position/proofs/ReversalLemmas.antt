@@ -11,8 +11,8 @@ use Rattle.shape_items.specs.Items.{Item}
 use Rattle.shape_buffer.specs.Keepers.{IsFlagKeeper}
 use Rattle.shape_items.specs.KeepsFlags.{KeepsFlags, has_flag, some_has}
 use Rattle.shape_items.proofs.Flags.FlagLemmas.{append-cases, KeepsFlags-same}
-use Rattle.shape_position.specs.StepEffects.{TurnsOrder, KeepsAsMany}
-use Rattle.shape_position.specs.Reversal.{turned}
+use Rattle.shape_position.specs.StepEffects.{ReversesOrder, KeepsAsMany}
+use Rattle.shape_position.specs.Reversal.{reversed}
 
 clusters-reverse : (xs : List Item) → clusters (reverse xs) ≡ reverse (clusters xs)
 clusters-reverse [] = refl
@@ -58,71 +58,71 @@ some_has-reverse flag (x ∷ xs) some =
     only true some = refl
     only false some = some
 
-abbrev turned_if : Bool → Buffer → Buffer
-turned_if backward b = if backward then record b { items = reverse b.items; positions = reverse b.positions } else b
+abbrev reversed_if : Bool → Buffer → Buffer
+reversed_if backward b = if backward then record b { items = reverse b.items; positions = reverse b.positions } else b
 
 -- the reversal inverts the order of clusters exactly when the text runs backward
-pub turns-turned : (b : Buffer) → TurnsOrder b (turned b)
-unfolding turned
-turns-turned b = record {
-  turned = turned_clusters (is_backward b.direction);
-  rising = λ rising. turned_rising (is_backward b.direction) rising;
-  falling = λ falling. turned_falling (is_backward b.direction) falling;
-  none_new = λ k is. turned_none_new (is_backward b.direction) k is;
-  direction = turned_direction (is_backward b.direction);
-  flags = turned_flags (is_backward b.direction);
-  level = turned_level (is_backward b.direction);
+pub reversal-reverses : (b : Buffer) → ReversesOrder b (reversed b)
+unfolding reversed
+reversal-reverses b = record {
+  reversed = reversed_clusters (is_backward b.direction);
+  rising = λ rising. reversed_rising (is_backward b.direction) rising;
+  falling = λ falling. reversed_falling (is_backward b.direction) falling;
+  none_new = λ k is. reversed_none_new (is_backward b.direction) k is;
+  direction = reversed_direction (is_backward b.direction);
+  flags = reversed_flags (is_backward b.direction);
+  level = reversed_level (is_backward b.direction);
 }
   where
-    turned_clusters : (backward : Bool)
-        → clusters (turned_if backward b).items ≡ (if backward then reverse (clusters b.items) else clusters b.items)
-    turned_clusters true = clusters-reverse b.items
-    turned_clusters false = refl
+    reversed_clusters : (backward : Bool)
+        → clusters (reversed_if backward b).items ≡ (if backward then reverse (clusters b.items) else clusters b.items)
+    reversed_clusters true = clusters-reverse b.items
+    reversed_clusters false = refl
 
-    turned_rising : (backward : Bool) → IsNonDecreasing (clusters b.items) → IsOrderedFor backward (clusters (turned_if backward b).items)
-    turned_rising true rising =
+    reversed_rising : (backward : Bool) → IsNonDecreasing (clusters b.items) → IsOrderedFor backward (clusters (reversed_if backward b).items)
+    reversed_rising true rising =
         let P : List ℕ
         → Type 0 = λ xs. IsNonIncreasing xs in subst P (sym (clusters-reverse b.items)) (falls-reverse (clusters b.items) rising)
-    turned_rising false rising = rising
+    reversed_rising false rising = rising
 
-    turned_falling : (backward : Bool) → IsNonIncreasing (clusters b.items)
-        → IsOrderedFor (not backward) (clusters (turned_if backward b).items)
-    turned_falling true falling =
+    reversed_falling : (backward : Bool) → IsNonIncreasing (clusters b.items)
+        → IsOrderedFor (not backward) (clusters (reversed_if backward b).items)
+    reversed_falling true falling =
         let P : List ℕ
         → Type 0 = λ xs. IsNonDecreasing xs in subst P (sym (clusters-reverse b.items)) (rises-reverse (clusters b.items) falling)
-    turned_falling false falling = falling
+    reversed_falling false falling = falling
 
-    turned_none_new : (backward : Bool) (k : ℕ) → Contains (clusters (turned_if backward b).items) k → Contains (clusters b.items) k
-    turned_none_new true k is =
+    reversed_none_new : (backward : Bool) (k : ℕ) → Contains (clusters (reversed_if backward b).items) k → Contains (clusters b.items) k
+    reversed_none_new true k is =
         Contains-reverse (clusters b.items) k (let P : List ℕ → Type 0 = λ xs. Contains xs k in subst P (clusters-reverse b.items) is)
-    turned_none_new false k is = is
+    reversed_none_new false k is = is
 
-    turned_direction : (backward : Bool) → (turned_if backward b).direction ≡ b.direction
-    turned_direction true = refl
-    turned_direction false = refl
+    reversed_direction : (backward : Bool) → (reversed_if backward b).direction ≡ b.direction
+    reversed_direction true = refl
+    reversed_direction false = refl
 
-    turned_flags : (backward : Bool) → (turned_if backward b).flags ≡ b.flags
-    turned_flags true = refl
-    turned_flags false = refl
+    reversed_flags : (backward : Bool) → (reversed_if backward b).flags ≡ b.flags
+    reversed_flags true = refl
+    reversed_flags false = refl
 
-    turned_level : (backward : Bool) → (turned_if backward b).cluster_level ≡ b.cluster_level
-    turned_level true = refl
-    turned_level false = refl
+    reversed_level : (backward : Bool) → (reversed_if backward b).cluster_level ≡ b.cluster_level
+    reversed_level true = refl
+    reversed_level false = refl
 
-flags-turned_if : (backward : Bool) (b : Buffer) → KeepsFlags b (turned_if backward b)
-flags-turned_if true b =
+flags-reversed_if : (backward : Bool) (b : Buffer) → KeepsFlags b (reversed_if backward b)
+flags-reversed_if true b =
     record { flags = refl; stays_set = λ set. set; none_new = λ flag defined some. inl (some_has-reverse flag b.items some) }
-flags-turned_if false b = KeepsFlags-same b
+flags-reversed_if false b = KeepsFlags-same b
 
-pub flags-turned : IsFlagKeeper turned
-unfolding turned
-flags-turned b = flags-turned_if (is_backward b.direction) b
+pub flags-reversed : IsFlagKeeper reversed
+unfolding reversed
+flags-reversed b = flags-reversed_if (is_backward b.direction) b
 
-as_many-turned_if : (backward : Bool) (b : Buffer) → length b.positions ≡ length b.items
-    → length (turned_if backward b).positions ≡ length (turned_if backward b).items
-as_many-turned_if true b as_many = length-reverse b.positions ∙ as_many ∙ sym (length-reverse b.items)
-as_many-turned_if false b as_many = as_many
+as_many-reversed_if : (backward : Bool) (b : Buffer) → length b.positions ≡ length b.items
+    → length (reversed_if backward b).positions ≡ length (reversed_if backward b).items
+as_many-reversed_if true b as_many = length-reverse b.positions ∙ as_many ∙ sym (length-reverse b.items)
+as_many-reversed_if false b as_many = as_many
 
-pub as_many-turned : KeepsAsMany turned
-unfolding turned
-as_many-turned b as_many = as_many-turned_if (is_backward b.direction) b as_many
+pub as_many-reversed : KeepsAsMany reversed
+unfolding reversed
+as_many-reversed b as_many = as_many-reversed_if (is_backward b.direction) b as_many

@@ -1,6 +1,6 @@
 //! A shaper whose `preprocess_text` hook changes characters, and not their properties.
 ghost use Rattle.std.specs.Prelude.{◌≡◌, true, false, None, pos, refl};
-ghost use Rattle.test_worlds.specs.Turning.{turned as turned_of, all_turned};
+ghost use Rattle.test_worlds.specs.Changing.{changed as changed_of, all_changed};
 
 use shape_buffer::buffer::{ShapeError, hb_buffer_t, hb_glyph_info_t, hb_tag_t};
 use shape_buffer::interfaces::{hb_font_t, hb_ot_layout_t, hb_unicode_funcs_t};
@@ -12,10 +12,10 @@ use std::alloc::Global;
 
 /// Makes each U+0061 U+0301, which stays a letter without a ccc.
 #[derive(Clone, Copy, Debug)]
-pub struct TurningShaper;
+pub struct ChangingShaper;
 
-fn turned(info: &hb_glyph_info_t) -> hb_glyph_info_t
-    ensures { result ≡ turned_of info.now }
+fn changed(info: &hb_glyph_info_t) -> hb_glyph_info_t
+    ensures { result ≡ changed_of info.now }
 {
     let mut info = *info;
     if info.codepoint == 'a' {
@@ -25,7 +25,7 @@ fn turned(info: &hb_glyph_info_t) -> hb_glyph_info_t
 }
 
 impl<U: hb_unicode_funcs_t, F: hb_font_t, M: hb_ot_layout_t<F>> script_shaper<U, F, M>
-    for TurningShaper {
+    for ChangingShaper {
     type Data = ();
 
     type CollectFeatures = no_hook;
@@ -74,26 +74,26 @@ impl<U: hb_unicode_funcs_t, F: hb_font_t, M: hb_ot_layout_t<F>> script_shaper<U,
 }
 
 impl<U: hb_unicode_funcs_t, F, M: hb_ot_layout_t<F>> preprocess_text_hook<
-    TurningShaper,
+    ChangingShaper,
     (),
     U,
     F,
     M,
-> for TurningShaper {
-    ghost preprocessed = { λ _ _ _. all_turned };
+> for ChangingShaper {
+    ghost preprocessed = { λ _ _ _. all_changed };
 
     ghost GIVEN = { true };
 
     const GIVEN: bool = true;
 
     fn preprocess_text(
-        _shaper: &TurningShaper,
+        _shaper: &ChangingShaper,
         _alloc: Global,
-        _plan: &hb_ot_shape_plan_t<'_, TurningShaper, M::Map, ()>,
+        _plan: &hb_ot_shape_plan_t<'_, ChangingShaper, M::Map, ()>,
         _face: &F,
         buffer: &mut hb_buffer_t,
     ) -> Result<(), ShapeError> {
-        update_items(buffer, |info| turned(info));
+        update_items(buffer, |info| changed(info));
         Ok(())
     }
 }
