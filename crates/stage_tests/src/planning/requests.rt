@@ -184,7 +184,10 @@ fn collected_by_script<'a>(
     alloc: Global,
     face: &'a TestFace<'static>,
 ) -> Result<hb_ot_shape_planner_t<'a, TestFace<'static>, ScriptShaper>, Fail> {
-    let mut planner = hb_ot_shape_planner_t::<TestFace<'static>, ScriptShaper>::new::<PlainUnicode, TestLayout>(
+    let mut planner = hb_ot_shape_planner_t::<TestFace<'static>, ScriptShaper>::new::<
+        PlainUnicode,
+        TestLayout,
+    >(
         alloc,
         face,
         &ScriptShaper,
@@ -246,7 +249,12 @@ fn dumber(rt: HostRuntime) -> Result<(), Fail> {
 
 #[test]
 fn builder_calls(rt: HostRuntime) -> Result<(), Fail> {
-    let mut builder = hb_ot_map_builder_t::new::<TestFace<'static>, TestLayout>(rt.alloc(), &face_with(0), None, None);
+    let mut builder = hb_ot_map_builder_t::new::<TestFace<'static>, TestLayout>(
+        rt.alloc(),
+        &face_with(0),
+        None,
+        None,
+    );
     builder.add_feature(hb_tag_t::from_bytes(b"liga"), 4, 5)?;
     builder.enable_feature(hb_tag_t::from_bytes(b"kern"), 2, 1)?;
     builder.reserve(1)?;
