@@ -128,11 +128,12 @@ where
 fn begin<'a>(
     alloc: Global,
     face: &'a MapFace,
+    dividing: &'a TestFace<'static>,
     decomposing: &'a Preferring<Decomposed>,
 ) -> Result<Begun<'a>, Fail> {
     Ok(Begun {
         plain: planned::<MapFace, NoLookups, _>(alloc, face, &DEFAULT_SHAPER)?,
-        dividing: planned::<TestFace<'static>, TestLayout, _>(alloc, &DIVIDING, &DEFAULT_SHAPER)?,
+        dividing: planned::<TestFace<'static>, TestLayout, _>(alloc, dividing, &DEFAULT_SHAPER)?,
         full: planned::<MapFace, NoLookups, _>(alloc, face, decomposing)?,
         text: entered(alloc, &TEXT)?,
         spelled: entered(alloc, &SPELLED)?,
@@ -232,7 +233,7 @@ fn text_is_begun(rt: HostRuntime) -> Result<(), Fail> {
     let alloc = rt.alloc();
     let face = face(alloc)?;
     let decomposing = Preferring::<Decomposed>::new();
-    let begun = begin(alloc, &face, &decomposing)?;
+    let begun = begin(alloc, &face, &DIVIDING, &decomposing)?;
     assert_same(&rt, (begun.text.len(), begun.spelled.len()), (16, 4));
     Ok(())
 }
@@ -248,7 +249,7 @@ fn steps_are_made(rt: HostRuntime) -> Result<(), Fail> {
         dividing,
         mut text,
         mut spelled,
-    } = begin(alloc, &face, &decomposing)?;
+    } = begin(alloc, &face, &DIVIDING, &decomposing)?;
     let mut empty = UnicodeBuffer::new(alloc);
     empty.guess_segment_properties::<UnicodeDatabase>();
     assert_that(&rt, plain.fits::<UnicodeDatabase>(&empty));
@@ -305,7 +306,7 @@ fn empty_text_is_shaped(rt: HostRuntime) -> Result<(), Fail> {
     let alloc = rt.alloc();
     let face = face(alloc)?;
     let decomposing = Preferring::<Decomposed>::new();
-    let begun = begin(alloc, &face, &decomposing)?;
+    let begun = begin(alloc, &face, &DIVIDING, &decomposing)?;
     assert_same(&rt, begun.text.len(), 16);
     shape_in_place(alloc, &begun.plain, &face)?;
     assert_same(&rt, shape_nothing(alloc, &begun.plain, &face)?, 0);

@@ -21,6 +21,7 @@ layout_of face = record {
   compiled = λ _. record {
     stages = length face.stages.now;
     pause = face.pause;
+    global_bit = face.global_bit;
     fractions = face.fractions;
     every_feature = face.every_feature;
     gpos_kerns = face.gpos_kerns;
@@ -45,10 +46,9 @@ one_mask map tag =
 abbrev pub mask : TestMap → ℕ → ℕ × ℕ
 mask map tag = if map.every_feature then (8, 3) else (if tag == 0x73733031 then (0x300, 8) else (0, 0))
 
--- 8 is on for every item
 abbrev pub masks_of : TestMap → MapMeaning
 masks_of map = record {
-  global_mask = 8;
+  global_mask = if map.global_bit then 8 else 0;
   one_mask = λ tag. one_mask map tag.0;
   mask = λ tag. mask map tag.0;
   feature_index = λ table _. elim table [ GSUB ↦ None | GPOS ↦ (if map.gpos_kerns then Some 0 else None) ];
@@ -88,6 +88,10 @@ lookups_of face = record no_lookups {
   kern = λ _. positions_mapped (wider_by face.kern_adds);
 }
 
+no_global_flag : (on : Bool) → HasNoDefinedFlag (if on then 8 else 0)
+no_global_flag true = refl
+no_global_flag false = refl
+
 no_flag : (every frac numr dnom ss01 : Bool) → HasNoDefinedFlag
     (if every then 8
     else (if frac then 0x10
@@ -116,7 +120,7 @@ within false false = Prim.search rules
 
 pub masks_of-lawful : (map : TestMap) → LawfulMasks (masks_of map)
 masks_of-lawful map = record {
-  global_mask = refl;
+  global_mask = no_global_flag map.global_bit;
   one_mask = λ tag. no_flag map.every_feature (tag.0 == 0x66726163 && map.fractions) (tag.0 == 0x6E756D72 && map.fractions)
       (tag.0 == 0x646E6F6D && map.fractions) (tag.0 == 0x73733031);
   mask = λ tag. no_bit map.every_feature (tag.0 == 0x73733031);

@@ -39,6 +39,8 @@ pub struct TestFace<'a> {
     pub stages: &'a [Stage],
     /// The number of the pause after the first stage, if there is one.
     pub pause: Option<u32>,
+    /// Whether bit 3 is on in the mask of every item.
+    pub global_bit: bool,
     /// Whether there are lookups for fractions.
     pub fractions: bool,
     /// Whether there are lookups for each feature, which then has mask 8.
@@ -79,6 +81,7 @@ pub const PLAIN_FACE: TestFace<'static> = TestFace {
     },
     stages: &[],
     pause: None,
+    global_bit: false,
     fractions: false,
     every_feature: false,
     classes: false,
@@ -116,10 +119,11 @@ impl<'a> TestFace<'a> {
         }
     }
 
-    /// Every character has the glyph of its own number, and `GSUB` these stages.
+    /// Every character has the glyph of its own number, and `GSUB` these stages; bit 3 is on for every item.
     pub fn ruled(stages: &'a [Stage]) -> TestFace<'a> {
         TestFace {
             stages,
+            global_bit: true,
             tables: hb_tables_t {
                 gsub: true,
                 ..PLAIN_FACE.tables

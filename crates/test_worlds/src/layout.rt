@@ -24,6 +24,7 @@ use std::alloc::Global;
 pub struct TestMap {
     stages: usize,
     pause: Option<u32>,
+    global_bit: bool,
     fractions: bool,
     every_feature: bool,
     gpos_kerns: bool,
@@ -40,7 +41,7 @@ const SS01: u32 = 0x73733031;
 /// Stands for a glyph that `morx` has deleted.
 const STRUCK: u32 = 0xFFFF;
 
-/// Does what a [`TestFace`] says. 8 is on for every item; the feature `ss01` has two bits from bit 8 on.
+/// Does what a [`TestFace`] says. The feature `ss01` has two bits from bit 8 on.
 pub struct TestLayout;
 
 /// The mask of a feature's value 1.
@@ -136,6 +137,7 @@ impl hb_ot_layout_t<TestFace<'_>> for TestLayout {
         Ok(TestMap {
             stages: face.stages.len(),
             pause: face.pause,
+            global_bit: face.global_bit,
             fractions: face.fractions,
             every_feature: face.every_feature,
             gpos_kerns: face.gpos_kerns,
@@ -158,8 +160,8 @@ impl hb_ot_layout_t<TestFace<'_>> for TestLayout {
         face.cross_kerning
     }
 
-    fn global_mask(_map: &TestMap) -> hb_mask_t {
-        8
+    fn global_mask(map: &TestMap) -> hb_mask_t {
+        if map.global_bit { 8 } else { 0 }
     }
 
     fn get_1_mask(map: &TestMap, tag: hb_tag_t) -> hb_mask_t {

@@ -5,7 +5,7 @@ use test_worlds::{PLAIN_FACE, TestFace};
 pub const ADVANCE: i32 = 600;
 
 /// The glyph of a character has its number and is [`ADVANCE`] wide. The em square has 1000 units.
-pub const EVERY_GLYPH: TestFace<'static> = TestFace {
+pub static EVERY_GLYPH: TestFace<'static> = TestFace {
     every: true,
     h_advance: ADVANCE,
     ..PLAIN_FACE
