@@ -42,15 +42,15 @@ one_mask map tag =
     else (if tag == 0x646E6F6D && map.fractions then 0x40
     else (if tag == 0x73733031 then 0x100 else 0))))
 
--- the same bit, from bit 3 on; else `ss01` has two bits from bit 8 on
-abbrev pub mask : TestMap → ℕ → ℕ × ℕ
-mask map tag = if map.every_feature then (8, 3) else (if tag == 0x73733031 then (0x300, 8) else (0, 0))
+-- the bits of a value, and the first of them: for each feature the same bit, else for `ss01` two of its own
+abbrev pub bits : Bool → Bool → ℕ × ℕ
+bits every ss01 = if every then (8, 3) else (if ss01 then (0x300, 8) else (0, 0))
 
 abbrev pub masks_of : TestMap → MapMeaning
 masks_of map = record {
   global_mask = if map.global_bit then 8 else 0;
   one_mask = λ tag. one_mask map tag.0;
-  mask = λ tag. mask map tag.0;
+  mask = λ tag. bits map.every_feature (tag.0 == 0x73733031);
   feature_index = λ table _. elim table [ GSUB ↦ None | GPOS ↦ (if map.gpos_kerns then Some 0 else None) ];
   stages = map.stages;
   pause_after = λ i. if i == 0 then map.pause else None;
@@ -105,15 +105,12 @@ no_flag false false false true _ = refl
 no_flag false false false false true = refl
 no_flag false false false false false = refl
 
-abbrev two_bits : Bool → Bool → ℕ × ℕ
-two_bits every ss01 = if every then (8, 3) else (if ss01 then (0x300, 8) else (0, 0))
-
-no_bit : (every ss01 : Bool) → HasNoDefinedFlag (two_bits every ss01).0
+no_bit : (every ss01 : Bool) → HasNoDefinedFlag (bits every ss01).0
 no_bit true _ = refl
 no_bit false true = refl
 no_bit false false = refl
 
-within : (every ss01 : Bool) → (two_bits every ss01).1 < 32
+within : (every ss01 : Bool) → (bits every ss01).1 < 32
 within true _ = Prim.search rules
 within false true = Prim.search rules
 within false false = Prim.search rules

@@ -1,10 +1,13 @@
-//! The engine of tests: it substitutes by the stages that its face lists, adds to advances what the face says,
-//! and else answers what the face says.
+//! The engine of tests: it substitutes by the stages that its face lists, and adds to advances and answers
+//! what the face says.
 ghost use Rattle.std.specs.Prelude.{◌≡◌};
 ghost use Rattle.shape_buffer.specs.Outcome.{Made};
-ghost use Rattle.test_worlds.specs.Layouts.{layout_of, masks_of, masks_of-lawful};
-ghost use Rattle.test_worlds.specs.Layouts.{lookups_of, lookups_of-lawful, wider_by, with_class_of_face};
-ghost use Rattle.test_worlds.specs.Layouts.{one_mask as one_mask_of, struck_glyph as struck_glyph_of};
+ghost use Rattle.test_worlds.specs.declared.face.TestFace.{TestFace as Face};
+ghost use Rattle.test_worlds.specs.declared.layout.TestMap.{TestMap as Compiled};
+ghost use Rattle.test_worlds.specs.Layouts.{layout_of, masks_of, masks_of-lawful, lookups_of};
+ghost use Rattle.test_worlds.specs.Layouts.{lookups_of-lawful, wider_by, with_class_of_face};
+ghost use Rattle.test_worlds.specs.Layouts.{one_mask as one_mask_of};
+ghost use Rattle.test_worlds.specs.Layouts.{struck_glyph as struck_glyph_of};
 ghost use Rattle.test_worlds.specs.Layouts.{struck as struck_of, is_struck as is_struck_of};
 
 use crate::face::TestFace;
@@ -108,7 +111,7 @@ fn wider(n: i32, info: &hb_glyph_info_t, position: GlyphPosition) -> GlyphPositi
     }
 }
 
-impl hb_ot_layout_t<TestFace<'_>> for TestLayout {
+impl<'a> hb_ot_layout_t<TestFace<'a>> for TestLayout {
     type Map = TestMap;
 
     ghost layout = { layout_of };
@@ -118,7 +121,7 @@ impl hb_ot_layout_t<TestFace<'_>> for TestLayout {
     ghost lookups = { λ _. lookups_of };
 
     fn chosen_script(
-        face: &TestFace<'_>,
+        face: &TestFace<'a>,
         _script: Option<Script>,
         _language: Option<&Language>,
         table: TableIndex,
@@ -131,7 +134,7 @@ impl hb_ot_layout_t<TestFace<'_>> for TestLayout {
 
     fn compile(
         _alloc: Global,
-        face: &TestFace<'_>,
+        face: &TestFace<'a>,
         _builder: &hb_ot_map_builder_t,
     ) -> Result<TestMap, ShapeError> {
         Ok(TestMap {
@@ -144,31 +147,37 @@ impl hb_ot_layout_t<TestFace<'_>> for TestLayout {
         })
     }
 
-    fn has_glyph_classes(face: &TestFace<'_>) -> bool {
+    fn has_glyph_classes(face: &TestFace<'a>) -> bool {
         face.classes
     }
 
-    fn has_kerning(face: &TestFace<'_>) -> bool {
+    fn has_kerning(face: &TestFace<'a>) -> bool {
         face.kerning
     }
 
-    fn has_machine_kerning(face: &TestFace<'_>) -> bool {
+    fn has_machine_kerning(face: &TestFace<'a>) -> bool {
         face.machine_kerning
     }
 
-    fn has_cross_kerning(face: &TestFace<'_>) -> bool {
+    fn has_cross_kerning(face: &TestFace<'a>) -> bool {
         face.cross_kerning
     }
 
-    fn global_mask(map: &TestMap) -> hb_mask_t {
+    fn global_mask(map: &TestMap) -> hb_mask_t
+        ensures { result ≡ (masks_of map.now).global_mask }
+    {
         if map.global_bit { 8 } else { 0 }
     }
 
-    fn get_1_mask(map: &TestMap, tag: hb_tag_t) -> hb_mask_t {
+    fn get_1_mask(map: &TestMap, tag: hb_tag_t) -> hb_mask_t
+        ensures { result ≡ (masks_of map.now).one_mask tag }
+    {
         one_mask(map, tag.0)
     }
 
-    fn get_mask(map: &TestMap, tag: hb_tag_t) -> (hb_mask_t, u32) {
+    fn get_mask(map: &TestMap, tag: hb_tag_t) -> (hb_mask_t, u32)
+        ensures { result ≡ (masks_of map.now).mask tag }
+    {
         match tag.0 {
             _ if map.every_feature => (8, 3),
             SS01 => (0x300, 8),
@@ -176,18 +185,22 @@ impl hb_ot_layout_t<TestFace<'_>> for TestLayout {
         }
     }
 
-    fn get_feature_index(map: &TestMap, table: TableIndex, _tag: hb_tag_t) -> Option<u16> {
+    fn get_feature_index(map: &TestMap, table: TableIndex, tag: hb_tag_t) -> Option<u16>
+        ensures { result ≡ (masks_of map.now).feature_index table tag }
+    {
         match table {
             TableIndex::GPOS if map.gpos_kerns => Some(0),
             _ => None,
         }
     }
 
-    fn substitute_start(_face: &TestFace<'_>, buffer: &mut hb_buffer_t) {
+    fn substitute_start(_face: &TestFace<'a>, buffer: &mut hb_buffer_t) {
         update_items(buffer, |info| with_class(info));
     }
 
-    fn stages(map: &TestMap) -> usize {
+    fn stages(map: &TestMap) -> usize
+        ensures { result ≡ (masks_of map.now).stages }
+    {
         map.stages
     }
 
@@ -195,7 +208,7 @@ impl hb_ot_layout_t<TestFace<'_>> for TestLayout {
         alloc: Global,
         _map: &TestMap,
         i: usize,
-        face: &TestFace<'_>,
+        face: &TestFace<'a>,
         buffer: &mut hb_buffer_t,
     ) -> Result<(), ShapeError> {
         if i < face.stages.len() {
@@ -205,7 +218,9 @@ impl hb_ot_layout_t<TestFace<'_>> for TestLayout {
         }
     }
 
-    fn pause_after(map: &TestMap, i: usize) -> Option<u32> {
+    fn pause_after(map: &TestMap, i: usize) -> Option<u32>
+        ensures { result ≡ (masks_of map.now).pause_after i }
+    {
         if i == 0 { map.pause } else { None }
     }
 
@@ -213,7 +228,7 @@ impl hb_ot_layout_t<TestFace<'_>> for TestLayout {
         _alloc: Global,
         _map: &TestMap,
         user_features: &[Feature],
-        _face: &TestFace<'_>,
+        _face: &TestFace<'a>,
         buffer: &mut hb_buffer_t,
     ) -> Result<(), ShapeError> {
         let glyph = struck_glyph(user_features);
@@ -221,18 +236,24 @@ impl hb_ot_layout_t<TestFace<'_>> for TestLayout {
         Ok(())
     }
 
-    fn aat_remove_deleted(buffer: &mut hb_buffer_t) {
+    fn aat_remove_deleted(buffer: &mut hb_buffer_t)
+        ensures { (map : Compiled) (face : Face)
+            → Made (lookups_of face).aat_remove_deleted buffer.old buffer.new }
+    {
         buffer.delete_glyphs_inplace(|info| is_struck(info));
     }
 
-    fn aat_zero_width_deleted(_buffer: &mut hb_buffer_t) {}
+    fn aat_zero_width_deleted(buffer: &mut hb_buffer_t)
+        ensures { (map : Compiled) (face : Face)
+            → Made (lookups_of face).aat_zero_width_deleted buffer.old buffer.new }
+    {}
 
-    fn position_start(_face: &TestFace<'_>, _buffer: &mut hb_buffer_t) {}
+    fn position_start(_face: &TestFace<'a>, _buffer: &mut hb_buffer_t) {}
 
     fn position(
         _alloc: Global,
         _map: &TestMap,
-        face: &TestFace<'_>,
+        face: &TestFace<'a>,
         buffer: &mut hb_buffer_t,
     ) -> Result<(), ShapeError> {
         let more = face.gpos_adds;
@@ -240,15 +261,15 @@ impl hb_ot_layout_t<TestFace<'_>> for TestLayout {
         Ok(())
     }
 
-    fn position_finish_advances(_face: &TestFace<'_>, _buffer: &mut hb_buffer_t) {}
+    fn position_finish_advances(_face: &TestFace<'a>, _buffer: &mut hb_buffer_t) {}
 
-    fn position_finish_offsets(_face: &TestFace<'_>, _buffer: &mut hb_buffer_t) {}
+    fn position_finish_offsets(_face: &TestFace<'a>, _buffer: &mut hb_buffer_t) {}
 
     fn aat_position(
         _alloc: Global,
         _map: &TestMap,
         _kern_mask: hb_mask_t,
-        face: &TestFace<'_>,
+        face: &TestFace<'a>,
         buffer: &mut hb_buffer_t,
     ) -> Result<(), ShapeError> {
         let more = face.kerx_adds;
@@ -259,7 +280,7 @@ impl hb_ot_layout_t<TestFace<'_>> for TestLayout {
     fn kern(
         _alloc: Global,
         _kern_mask: hb_mask_t,
-        face: &TestFace<'_>,
+        face: &TestFace<'a>,
         buffer: &mut hb_buffer_t,
     ) -> Result<(), ShapeError> {
         let more = face.kern_adds;
