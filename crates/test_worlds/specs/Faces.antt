@@ -1,6 +1,6 @@
 -- What the face of tests answers.
 use Rattle.std.specs.Prelude.{ℕ, ℤ, List, ◌==◌, ◌&&◌, Option, Some, None, find, if◌then◌else◌}
-use Rattle.std.specs.Option.{option_map, option_and_then, option_or, unwrap_or}
+use Rattle.std.specs.Option.{option_map, option_flatten, option_or, unwrap_or}
 use Rattle.shape_common.specs.Face.{FaceMeaning}
 use Rattle.shape_common.specs.declared.face.hb_glyph_extents_t.{hb_glyph_extents_t}
 use Rattle.shape_common.specs.declared.text_types.GlyphId.{GlyphId}
@@ -18,8 +18,8 @@ entry_of known glyph = find (λ entry. entry.glyph.0 == glyph.0) known
 abbrev pub advance_known : List KnownGlyph → GlyphId → Option ℤ
 advance_known known glyph = option_map (λ entry. entry.advance) (entry_of known glyph)
 
-abbrev pub extents_known : List KnownGlyph → GlyphId → Option hb_glyph_extents_t
-extents_known known glyph = option_and_then (λ entry. entry.extents) (entry_of known glyph)
+abbrev pub extents_known : List KnownGlyph → GlyphId → Option (Option hb_glyph_extents_t)
+extents_known known glyph = option_map (λ entry. entry.extents) (entry_of known glyph)
 
 -- the glyph of its own number, for those of the list
 abbrev pub glyph_among : List ℕ → ℕ → Option GlyphId
@@ -43,7 +43,7 @@ test_face face = record {
   v_advance = λ _. face.v_advance;
   h_origin = λ _. face.h_origin;
   v_origin = λ _. face.v_origin;
-  extents = extents_known face.known.now;
+  extents = λ glyph. option_flatten (extents_known face.known.now glyph);
   units_per_em = face.units_per_em;
   tables = face.tables;
 }

@@ -153,14 +153,14 @@ fn advance_of(known: &[KnownGlyph], glyph: GlyphId) -> Option<i32>
         .map(|entry| entry.advance)
 }
 
-/// The box that is told of a glyph.
-fn extents_of(known: &[KnownGlyph], glyph: GlyphId) -> Option<hb_glyph_extents_t>
+/// What is told of the box of a glyph, if the glyph is told.
+fn extents_of(known: &[KnownGlyph], glyph: GlyphId) -> Option<Option<hb_glyph_extents_t>>
     ensures { result ≡ extents_known known.now glyph }
 {
     known
         .iter()
         .find(|entry| entry.glyph.0 == glyph.0)
-        .and_then(|entry| entry.extents)
+        .map(|entry| entry.extents)
 }
 
 /// The glyph of a character that is one of these.
@@ -213,7 +213,7 @@ impl hb_font_t for TestFace<'_> {
     }
 
     fn glyph_extents(&self, glyph: GlyphId) -> Option<hb_glyph_extents_t> {
-        extents_of(self.known, glyph)
+        extents_of(self.known, glyph).flatten()
     }
 
     fn units_per_em(&self) -> u16 {
