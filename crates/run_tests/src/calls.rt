@@ -16,7 +16,7 @@ use shape_unicode::UnicodeDatabase;
 use std::alloc::Global;
 use std::process::Abort;
 use std::test::Fail;
-use test_worlds::RowFace;
+use test_worlds::TestFace;
 
 /// A plan of the default shaper.
 type Plan<'a> = hb_ot_shape_plan_t<'a, hb_default_shaper_t, (), ()>;
@@ -26,7 +26,7 @@ fn latin() -> Option<Script> {
 }
 
 /// The plan for texts in Latin and in English, without kerning, by functions that know no script.
-fn english<'a>(alloc: Global, face: &'a RowFace<'a>) -> Result<Plan<'a>, Fail> {
+fn english<'a>(alloc: Global, face: &'a TestFace<'a>) -> Result<Plan<'a>, Fail> {
     let language = Language(String::from_str(alloc, "en")?);
     let feature = Feature {
         tag: hb_tag_t::from_bytes(b"kern"),
@@ -34,7 +34,7 @@ fn english<'a>(alloc: Global, face: &'a RowFace<'a>) -> Result<Plan<'a>, Fail> {
         start: 0,
         end: u32::MAX,
     };
-    let plan = hb_ot_shape_plan_t::new::<PlainUnicode, RowFace<'a>, NoLookups>(
+    let plan = hb_ot_shape_plan_t::new::<PlainUnicode, TestFace<'a>, NoLookups>(
         alloc,
         face,
         &DEFAULT_SHAPER,
@@ -57,8 +57,8 @@ fn assert_fits(rt: &impl Abort, alloc: Global, plan: &Plan<'_>) {
 }
 
 /// Compares what a builder of requests knows before there are any.
-fn assert_no_requests(rt: &impl Abort, alloc: Global, face: &RowFace<'_>) {
-    let builder = hb_ot_map_builder_t::new::<RowFace<'_>, NoLookups>(alloc, face, latin(), None);
+fn assert_no_requests(rt: &impl Abort, alloc: Global, face: &TestFace<'_>) {
+    let builder = hb_ot_map_builder_t::new::<TestFace<'_>, NoLookups>(alloc, face, latin(), None);
     assert_that(rt, builder.requests().is_empty() && builder.is_simple());
     assert_same(rt, builder.chosen_script(TableIndex::GPOS), None);
 }
@@ -66,7 +66,7 @@ fn assert_no_requests(rt: &impl Abort, alloc: Global, face: &RowFace<'_>) {
 #[test]
 fn a_plan_fits_by_direction_and_script(rt: HostRuntime) -> Result<(), Fail> {
     let alloc = rt.alloc();
-    let face = RowFace::of(&['a']);
+    let face = TestFace::of(&['a']);
     let plan = english(alloc, &face)?;
     assert_fits(&rt, alloc, &plan);
     assert_same(&rt, plan.direction(), Direction::LeftToRight);
@@ -77,8 +77,8 @@ fn a_plan_fits_by_direction_and_script(rt: HostRuntime) -> Result<(), Fail> {
 }
 
 /// The plan for texts in Latin, by the whole database of Unicode.
-fn planned_for_latin<'a>(alloc: Global, face: &'a RowFace<'a>) -> Result<Plan<'a>, Fail> {
-    let plan = hb_ot_shape_plan_t::new::<UnicodeDatabase, RowFace<'a>, NoLookups>(
+fn planned_for_latin<'a>(alloc: Global, face: &'a TestFace<'a>) -> Result<Plan<'a>, Fail> {
+    let plan = hb_ot_shape_plan_t::new::<UnicodeDatabase, TestFace<'a>, NoLookups>(
         alloc,
         face,
         &DEFAULT_SHAPER,
@@ -94,7 +94,7 @@ fn planned_for_latin<'a>(alloc: Global, face: &'a RowFace<'a>) -> Result<Plan<'a
 #[test]
 fn a_plan_fits_what_is_guessed(rt: HostRuntime) -> Result<(), Fail> {
     let alloc = rt.alloc();
-    let face = RowFace::of(&['a']);
+    let face = TestFace::of(&['a']);
     let plan = planned_for_latin(alloc, &face)?;
     let mut text = UnicodeBuffer::new(alloc);
     text.push_str("a")?;
@@ -129,13 +129,13 @@ fn plain_characters_are_letters(rt: HostRuntime) {
 /// The plan for texts of a direction without a script, by functions that know none.
 fn planned_towards<'a>(
     alloc: Global,
-    face: &'a RowFace<'a>,
+    face: &'a TestFace<'a>,
     direction: Direction,
 ) -> Result<Plan<'a>, Fail> {
     if direction == Direction::Invalid {
         return Err(Fail::from("no direction"));
     }
-    let plan = hb_ot_shape_plan_t::new::<PlainUnicode, RowFace<'a>, NoLookups>(
+    let plan = hb_ot_shape_plan_t::new::<PlainUnicode, TestFace<'a>, NoLookups>(
         alloc,
         face,
         &DEFAULT_SHAPER,
@@ -148,11 +148,15 @@ fn planned_towards<'a>(
 }
 
 /// A buffer of two letters, normalised.
-fn two_normalised(alloc: Global, plan: &Plan<'_>, face: &RowFace<'_>) -> Result<hb_buffer_t, Fail> {
+fn two_normalised(
+    alloc: Global,
+    plan: &Plan<'_>,
+    face: &TestFace<'_>,
+) -> Result<hb_buffer_t, Fail> {
     let mut text = UnicodeBuffer::new(alloc);
     text.push_str("a\u{e9}")?;
     let mut buffer = text.into_inner();
-    _hb_ot_shape_normalize::<PlainUnicode, RowFace<'_>, NoLookups, hb_default_shaper_t>(
+    _hb_ot_shape_normalize::<PlainUnicode, TestFace<'_>, NoLookups, hb_default_shaper_t>(
         alloc,
         plan,
         &mut buffer,
@@ -173,7 +177,7 @@ fn assert_found(rt: &impl Abort, buffer: &hb_buffer_t, wanted: &[(char, u32)]) {
 #[test]
 fn normalising_keeps_what_is_not_split(rt: HostRuntime) -> Result<(), Fail> {
     let alloc = rt.alloc();
-    let face = RowFace::of(&['a']);
+    let face = TestFace::of(&['a']);
     let plan = planned_towards(alloc, &face, Direction::LeftToRight)?;
     let buffer = two_normalised(alloc, &plan, &face)?;
     assert_found(&rt, &buffer, &[('a', 0x61), ('\u{e9}', 0)]);
@@ -181,7 +185,7 @@ fn normalising_keeps_what_is_not_split(rt: HostRuntime) -> Result<(), Fail> {
 }
 
 /// A buffer of two letters that run from right to left, shaped.
-fn two_in_place(alloc: Global, plan: &Plan<'_>, face: &RowFace<'_>) -> Result<hb_buffer_t, Fail> {
+fn two_in_place(alloc: Global, plan: &Plan<'_>, face: &TestFace<'_>) -> Result<hb_buffer_t, Fail> {
     let mut text = UnicodeBuffer::new(alloc);
     text.push_str("ab")?;
     text.set_direction(Direction::RightToLeft);
@@ -196,7 +200,7 @@ fn two_in_place(alloc: Global, plan: &Plan<'_>, face: &RowFace<'_>) -> Result<hb
         buffer: &mut buffer,
         target_direction,
     };
-    shape_internal::<PlainUnicode, RowFace<'_>, NoLookups, _>(alloc, &mut ctx)?;
+    shape_internal::<PlainUnicode, TestFace<'_>, NoLookups, _>(alloc, &mut ctx)?;
     Ok(buffer)
 }
 
@@ -213,7 +217,7 @@ fn assert_list_reversed(rt: &impl Abort, buffer: &hb_buffer_t, wanted: &[(u32, u
 #[test]
 fn a_buffer_is_shaped_in_place(rt: HostRuntime) -> Result<(), Fail> {
     let alloc = rt.alloc();
-    let face = RowFace::of(&['a', 'b']);
+    let face = TestFace::of(&['a', 'b']);
     let plan = planned_towards(alloc, &face, Direction::RightToLeft)?;
     let buffer = two_in_place(alloc, &plan, &face)?;
     assert_same(&rt, buffer.direction(), Direction::RightToLeft);

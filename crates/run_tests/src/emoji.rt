@@ -10,7 +10,7 @@ use shape_pipeline::ot_shaper::DEFAULT_SHAPER;
 use std::alloc::Global;
 use std::process::Abort;
 use std::test::Fail;
-use test_worlds::RowFace;
+use test_worlds::TestFace;
 
 /// Compares what a text is prepared as, by a face without glyphs.
 fn assert_prepared(
@@ -21,7 +21,7 @@ fn assert_prepared(
     items: &[(char, u32)],
 ) -> Result<(), Fail> {
     let text = text_of(alloc, manner, text)?;
-    let list = prepared(alloc, &RowFace::of(&[]), &DEFAULT_SHAPER, text)?;
+    let list = prepared(alloc, &TestFace::of(&[]), &DEFAULT_SHAPER, text)?;
     assert_items(rt, &list, items);
     Ok(())
 }

@@ -9,7 +9,7 @@ use shape_pipeline::ot_shaper::DEFAULT_SHAPER;
 use std::alloc::Global;
 use std::process::Abort;
 use std::test::Fail;
-use test_worlds::DeepFace;
+use test_worlds::{EVERY_GLYPH, KnownGlyph, TestFace};
 
 const DOWNWARD: Manner = Manner {
     direction: Direction::TopToBottom,
@@ -117,11 +117,27 @@ fn gap_between_marks_is_a_sixteenth(rt: HostRuntime) -> Result<(), Fail> {
     Ok(())
 }
 
+/// Every character has the glyph of its own number; that of b alone has a box, of no size.
+const DEEP_FACE: TestFace<'static> = TestFace {
+    known: &[KnownGlyph {
+        character: 'b',
+        glyph: GlyphId(0x62),
+        advance: 0,
+        extents: Some(hb_glyph_extents_t {
+            x_bearing: 0,
+            y_bearing: 0,
+            width: 0,
+            height: 0,
+        }),
+    }],
+    ..EVERY_GLYPH
+};
+
 /// Compares a b and an acute down the page, with a face whose glyphs all have these numbers.
 fn assert_down(
     rt: &impl Abort,
     alloc: Global,
-    face: DeepFace,
+    face: TestFace<'static>,
     placed: &[PlacedGlyph],
 ) -> Result<(), Fail> {
     let text = text_of(alloc, DOWNWARD, &['b', '\u{301}'])?;
@@ -133,10 +149,11 @@ fn assert_down(
 #[test]
 fn numbers_down_the_page_wrap(rt: HostRuntime) -> Result<(), Fail> {
     let alloc = rt.alloc();
-    let least = DeepFace {
+    let least = TestFace {
         v_advance: i32::MIN,
         h_origin: i32::MIN,
         v_origin: i32::MIN,
+        ..DEEP_FACE
     };
     // 0 less the least number is the least number; the mark loses its own advance, then the base's
     let placed = [
@@ -144,10 +161,11 @@ fn numbers_down_the_page_wrap(rt: HostRuntime) -> Result<(), Fail> {
         (0x301, 0, (0, 0, i32::MIN, i32::MIN), 0),
     ];
     assert_down(&rt, alloc, least, &placed)?;
-    let greatest = DeepFace {
+    let greatest = TestFace {
         v_advance: i32::MAX,
         h_origin: i32::MAX,
         v_origin: i32::MAX,
+        ..DEEP_FACE
     };
     // three times 2147483647 back from 0, and 4294967296 forward, since it wraps
     let placed = [
@@ -159,10 +177,11 @@ fn numbers_down_the_page_wrap(rt: HostRuntime) -> Result<(), Fail> {
 
 #[test]
 fn numbers_down_the_page_that_fit(rt: HostRuntime) -> Result<(), Fail> {
-    let face = DeepFace {
+    let face = TestFace {
         v_advance: -1000,
         h_origin: 300,
         v_origin: 880,
+        ..DEEP_FACE
     };
     // the mark is moved by the 1000 of its own advance, and by the 1000 of the base's
     let placed = [

@@ -12,7 +12,7 @@ use shape_unicode::UnicodeDatabase;
 use std::alloc::Global;
 use std::process::Abort;
 use std::test::Fail;
-use test_worlds::{RowFace, SwappingShaper};
+use test_worlds::{SwappingShaper, TestFace};
 
 /// U+00E1 and its parts, with two marks that no letter of the face has in it.
 const FEW: [char; 5] = ['a', '\u{301}', '\u{308}', '\u{323}', '\u{E1}'];
@@ -53,13 +53,13 @@ fn assert_glyphs_of(rt: &impl Abort, glyphs: &GlyphBuffer, characters: &[char]) 
 fn assert_list<'a, S>(
     rt: &impl Abort,
     alloc: Global,
-    face: RowFace<'a>,
+    face: TestFace<'a>,
     shaper: &S,
     text: &[char],
     list: &[char],
 ) -> Result<(), Fail>
 where
-    S: hb_ot_shaper_t<UnicodeDatabase, RowFace<'a>, NoLookups, Data = ()>,
+    S: hb_ot_shaper_t<UnicodeDatabase, TestFace<'a>, NoLookups, Data = ()>,
 {
     let normal = normalised(alloc, &face, shaper, text_of(alloc, PLAINLY, text)?)?;
     assert_characters(rt, &normal, list);
@@ -77,7 +77,7 @@ fn assert_composed(
     list: &[char],
 ) -> Result<(), Fail> {
     let shaper = Preferring::<ComposedDiacriticsNoShortCircuit>::new();
-    assert_list(rt, alloc, RowFace::of(face), &shaper, text, list)
+    assert_list(rt, alloc, TestFace::of(face), &shaper, text, list)
 }
 
 /// Compares a text, a mark so many times between other characters, with its list, which has that mark between
@@ -132,7 +132,7 @@ fn split_marks_count_twice(rt: HostRuntime) -> Result<(), Fail> {
             list.extend_from_slice(&['\u{308}', '\u{301}'])?;
         }
         list.extend_from_slice(last)?;
-        assert_list(&rt, alloc, RowFace::of(&SPLIT), &shaper, &text, &list)?;
+        assert_list(&rt, alloc, TestFace::of(&SPLIT), &shaper, &text, &list)?;
     }
     Ok(())
 }
@@ -156,7 +156,7 @@ fn assert_swapped(
     text: &[char],
     list: &[char],
 ) -> Result<(), Fail> {
-    assert_list(rt, alloc, RowFace::of(&FEW), &SwappingShaper, text, list)
+    assert_list(rt, alloc, TestFace::of(&FEW), &SwappingShaper, text, list)
 }
 
 /// The hook brings U+0308 before U+0323: after the two U+0301 stays. Of U+0323 U+0301 it makes U+0301 U+0323, and

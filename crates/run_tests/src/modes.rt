@@ -14,7 +14,7 @@ use std::alloc::Global;
 use std::process::Abort;
 use std::test::Fail;
 use test_worlds::{
-    AbsorbingShaper, DeepShaper, EVERY_GLYPH, MarkedUnicode, ReversingShaper, RowFace,
+    AbsorbingShaper, DeepShaper, EVERY_GLYPH, ReversingShaper, SmallUnicode, TestFace,
 };
 
 /// A text whose items have the properties of their characters, each in the cluster of its place.
@@ -26,7 +26,7 @@ fn prepared(alloc: Global, text: &[char]) -> Result<hb_buffer_t, Fail> {
         place = place.saturating_add(1);
     }
     let mut buffer = buffer.into_inner();
-    set_unicode_props::<MarkedUnicode>(&mut buffer);
+    set_unicode_props::<SmallUnicode>(&mut buffer);
     Ok(buffer)
 }
 
@@ -46,9 +46,9 @@ fn planned<'a, F, S>(
 ) -> Result<hb_ot_shape_plan_t<'a, S, (), ()>, Fail>
 where
     F: hb_font_t,
-    S: hb_ot_shaper_t<MarkedUnicode, F, NoLookups, Data = ()>,
+    S: hb_ot_shaper_t<SmallUnicode, F, NoLookups, Data = ()>,
 {
-    let plan = hb_ot_shape_plan_t::new::<MarkedUnicode, F, NoLookups>(
+    let plan = hb_ot_shape_plan_t::new::<SmallUnicode, F, NoLookups>(
         alloc,
         face,
         shaper,
@@ -69,10 +69,10 @@ fn normalize<F, S>(
 ) -> Result<(), Fail>
 where
     F: hb_font_t,
-    S: hb_ot_shaper_t<MarkedUnicode, F, NoLookups, Data = ()>,
+    S: hb_ot_shaper_t<SmallUnicode, F, NoLookups, Data = ()>,
 {
     let plan = planned(alloc, face, shaper)?;
-    _hb_ot_shape_normalize::<MarkedUnicode, F, NoLookups, S>(alloc, &plan, buffer, face)?;
+    _hb_ot_shape_normalize::<SmallUnicode, F, NoLookups, S>(alloc, &plan, buffer, face)?;
     Ok(())
 }
 
@@ -82,7 +82,7 @@ type Plan<'a> = hb_ot_shape_plan_t<'a, hb_default_shaper_t, (), ()>;
 /// Normalises a prepared buffer by the default shaper.
 fn normalize_by_default(
     alloc: Global,
-    face: &RowFace<'_>,
+    face: &TestFace<'_>,
     buffer: &mut hb_buffer_t,
 ) -> Result<(), Fail> {
     normalize(alloc, face, &DEFAULT_SHAPER, buffer)
@@ -90,7 +90,7 @@ fn normalize_by_default(
 
 /// Normalises a prepared buffer by the shaper whose hook composes all, over a face of U+0061 alone.
 fn absorb(alloc: Global, buffer: &mut hb_buffer_t) -> Result<(), Fail> {
-    normalize(alloc, &RowFace::of(&['a']), &AbsorbingShaper, buffer)
+    normalize(alloc, &TestFace::of(&['a']), &AbsorbingShaper, buffer)
 }
 
 /// Compares characters, glyphs and clusters.
@@ -118,7 +118,7 @@ fn assert_reversed(
     text: &[char],
     (acute, dot_below): (u32, u32),
 ) -> Result<(), Fail> {
-    let face = RowFace::of(&['a', '\u{301}', '\u{323}']);
+    let face = TestFace::of(&['a', '\u{301}', '\u{323}']);
     let mut buffer = prepared(alloc, text)?;
     normalize(alloc, &face, &ReversingShaper, &mut buffer)?;
     let items = [
@@ -156,7 +156,7 @@ fn masked(alloc: Global, rows: &[(char, u32, u32)]) -> Result<hb_buffer_t, Fail>
     }
     let mut buffer = hb_buffer_t::new(alloc);
     buffer.replace_infos(items)?;
-    set_unicode_props::<MarkedUnicode>(&mut buffer);
+    set_unicode_props::<SmallUnicode>(&mut buffer);
     Ok(buffer)
 }
 
@@ -182,7 +182,7 @@ fn a_selector_takes_part_in_the_choice_of_a_glyph(rt: HostRuntime) -> Result<(),
     let alloc = rt.alloc();
     let text = ['a', '\u{FE00}', '\u{FE01}', 'a', '\u{FE01}', 'b'];
     let mut buffer = prepared(alloc, &text)?;
-    normalize_by_default(alloc, &RowFace::with_variant(&['a', 'b']), &mut buffer)?;
+    normalize_by_default(alloc, &TestFace::with_variant(&['a', 'b']), &mut buffer)?;
     assert_items(
         &rt,
         &buffer,
@@ -214,7 +214,7 @@ fn a_selector_without_a_variant_is_marked(rt: HostRuntime) -> Result<(), Fail> {
     let alloc = rt.alloc();
     let mut buffer = prepared(alloc, &['a', '\u{FE00}', '\u{FE01}'])?;
     buffer.set_not_found_variation_selector_glyph(Some(GlyphId(9)));
-    normalize_by_default(alloc, &RowFace::of(&['a']), &mut buffer)?;
+    normalize_by_default(alloc, &TestFace::of(&['a']), &mut buffer)?;
     assert_items(
         &rt,
         &buffer,
@@ -231,7 +231,7 @@ fn a_selector_without_a_variant_is_marked(rt: HostRuntime) -> Result<(), Fail> {
 /// The glyph and the remembered space type of one character, and whether the run has seen such a space.
 fn space_of(
     alloc: Global,
-    face: &RowFace<'_>,
+    face: &TestFace<'_>,
     invisible: Option<GlyphId>,
     c: char,
 ) -> Result<(u32, u8, bool), Fail> {
@@ -254,7 +254,7 @@ fn assert_space(
     c: char,
     becomes: (u32, u8, bool),
 ) -> Result<(), Fail> {
-    let found = space_of(alloc, &RowFace::of(face), invisible, c)?;
+    let found = space_of(alloc, &TestFace::of(face), invisible, c)?;
     assert_same(rt, found, becomes);
     Ok(())
 }
@@ -276,7 +276,7 @@ fn spaces_without_a_glyph(rt: HostRuntime) -> Result<(), Fail> {
 fn no_break_hyphen(rt: HostRuntime) -> Result<(), Fail> {
     let alloc = rt.alloc();
     let mut buffer = prepared(alloc, &['\u{2011}'])?;
-    normalize_by_default(alloc, &RowFace::of(&['\u{2010}']), &mut buffer)?;
+    normalize_by_default(alloc, &TestFace::of(&['\u{2010}']), &mut buffer)?;
     assert_items(&rt, &buffer, &[('\u{2011}', 0x2010, 0)]);
     Ok(())
 }
@@ -285,13 +285,13 @@ fn no_break_hyphen(rt: HostRuntime) -> Result<(), Fail> {
 fn assert_equal(
     rt: &impl Abort,
     alloc: Global,
-    (plan, face): (&Plan<'_>, &RowFace<'_>),
+    (plan, face): (&Plan<'_>, &TestFace<'_>),
     text: &[char],
     equal: bool,
 ) -> Result<(), Fail> {
     let mut a = prepared(alloc, &['a', '\u{301}', '\u{323}'])?;
     let mut b = prepared(alloc, text)?;
-    let answer = normalized_equal::<MarkedUnicode, RowFace<'_>, NoLookups, hb_default_shaper_t>(
+    let answer = normalized_equal::<SmallUnicode, TestFace<'_>, NoLookups, hb_default_shaper_t>(
         alloc, plan, face, &mut a, &mut b,
     )?;
     assert_same(rt, answer, equal);
@@ -301,7 +301,7 @@ fn assert_equal(
 #[test]
 fn two_texts_are_compared(rt: HostRuntime) -> Result<(), Fail> {
     let alloc = rt.alloc();
-    let face = RowFace::of(&['a', '\u{301}', '\u{323}']);
+    let face = TestFace::of(&['a', '\u{301}', '\u{323}']);
     let plan = planned(alloc, &face, &DEFAULT_SHAPER)?;
     let by = (&plan, &face);
     assert_equal(&rt, alloc, by, &['a', '\u{301}', '\u{323}'], true)?;
@@ -319,7 +319,7 @@ fn assert_too_long(
 ) -> Result<(), Fail> {
     let mut a = entered(alloc, first)?;
     let mut b = entered(alloc, second)?;
-    let answer = normalized_equal::<MarkedUnicode, RowFace<'_>, NoLookups, DeepShaper>(
+    let answer = normalized_equal::<SmallUnicode, TestFace<'_>, NoLookups, DeepShaper>(
         alloc,
         plan,
         &EVERY_GLYPH,

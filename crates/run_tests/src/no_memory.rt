@@ -26,7 +26,7 @@ use shape_unicode::UnicodeDatabase;
 use std::alloc::Global;
 use std::process::Abort;
 use std::test::Fail;
-use test_worlds::{AddingLayout, TabledFace};
+use test_worlds::{PLAIN_FACE, TestFace, TestLayout, TestMap};
 
 mod steps;
 
@@ -35,6 +35,9 @@ type Types = TypesOf<UnicodeDatabase, MapFace, NoLookups, hb_default_shaper_t>;
 
 /// A plan of the default shaper.
 type Plan<'a> = hb_ot_shape_plan_t<'a, hb_default_shaper_t, (), ()>;
+
+/// The same with masks for the features of fractions.
+type DividingPlan<'a> = hb_ot_shape_plan_t<'a, hb_default_shaper_t, TestMap, ()>;
 
 /// A plan of the shaper that decomposes fully.
 type FullPlan<'a> = hb_ot_shape_plan_t<'a, Preferring<Decomposed>, (), ()>;
@@ -45,7 +48,7 @@ struct Begun<'a> {
     /// Without lookups.
     plain: Plan<'a>,
     /// With masks for fractions.
-    dividing: Plan<'a>,
+    dividing: DividingPlan<'a>,
     full: FullPlan<'a>,
     text: hb_buffer_t,
     spelled: hb_buffer_t,
@@ -74,16 +77,11 @@ fn face(alloc: Global) -> Result<MapFace, Fail> {
     )
 }
 
-/// The same face for the engine that has masks.
-fn tabled(alloc: Global) -> Result<TabledFace, Fail> {
-    let glyphs = face(alloc)?;
-    let tables = glyphs.tables();
-    Ok(TabledFace {
-        glyphs,
-        tables,
-        kerning: false,
-    })
-}
+/// A face with lookups for fractions.
+const DIVIDING: TestFace<'static> = TestFace {
+    fractions: true,
+    ..PLAIN_FACE
+};
 
 /// The characters in a run, each in a cluster of its own. The lists have room for so many items and
 /// no more, so that a growth by one is seen.
@@ -130,12 +128,12 @@ where
 fn begin<'a>(
     alloc: Global,
     face: &'a MapFace,
-    tabled: &'a TabledFace,
+    dividing: &'a TestFace<'static>,
     decomposing: &'a Preferring<Decomposed>,
 ) -> Result<Begun<'a>, Fail> {
     Ok(Begun {
         plain: planned::<MapFace, NoLookups, _>(alloc, face, &DEFAULT_SHAPER)?,
-        dividing: planned::<TabledFace, AddingLayout, _>(alloc, tabled, &DEFAULT_SHAPER)?,
+        dividing: planned::<TestFace<'static>, TestLayout, _>(alloc, dividing, &DEFAULT_SHAPER)?,
         full: planned::<MapFace, NoLookups, _>(alloc, face, decomposing)?,
         text: entered(alloc, &TEXT)?,
         spelled: entered(alloc, &SPELLED)?,
@@ -222,7 +220,7 @@ fn assert_premises(
 }
 
 /// Digits and the slash between them get the features of fractions.
-fn divide(rt: &impl Abort, plan: &Plan<'_>, buffer: &mut hb_buffer_t) {
+fn divide(rt: &impl Abort, plan: &DividingPlan<'_>, buffer: &mut hb_buffer_t) {
     setup_masks_fraction(plan, buffer);
     for info in buffer.infos().iter() {
         let is_part = matches!(info.codepoint, '1' | '2' | '\u{2044}');
@@ -234,9 +232,8 @@ fn divide(rt: &impl Abort, plan: &Plan<'_>, buffer: &mut hb_buffer_t) {
 fn text_is_begun(rt: HostRuntime) -> Result<(), Fail> {
     let alloc = rt.alloc();
     let face = face(alloc)?;
-    let tabled = tabled(alloc)?;
     let decomposing = Preferring::<Decomposed>::new();
-    let begun = begin(alloc, &face, &tabled, &decomposing)?;
+    let begun = begin(alloc, &face, &DIVIDING, &decomposing)?;
     assert_same(&rt, (begun.text.len(), begun.spelled.len()), (16, 4));
     Ok(())
 }
@@ -245,7 +242,6 @@ fn text_is_begun(rt: HostRuntime) -> Result<(), Fail> {
 fn steps_are_made(rt: HostRuntime) -> Result<(), Fail> {
     let alloc = rt.alloc();
     let face = face(alloc)?;
-    let tabled = tabled(alloc)?;
     let decomposing = Preferring::<Decomposed>::new();
     let Begun {
         plain,
@@ -253,7 +249,7 @@ fn steps_are_made(rt: HostRuntime) -> Result<(), Fail> {
         dividing,
         mut text,
         mut spelled,
-    } = begin(alloc, &face, &tabled, &decomposing)?;
+    } = begin(alloc, &face, &DIVIDING, &decomposing)?;
     let mut empty = UnicodeBuffer::new(alloc);
     empty.guess_segment_properties::<UnicodeDatabase>();
     assert_that(&rt, plain.fits::<UnicodeDatabase>(&empty));
@@ -309,9 +305,8 @@ fn shape_nothing(alloc: Global, plan: &Plan<'_>, face: &MapFace) -> Result<usize
 fn empty_text_is_shaped(rt: HostRuntime) -> Result<(), Fail> {
     let alloc = rt.alloc();
     let face = face(alloc)?;
-    let tabled = tabled(alloc)?;
     let decomposing = Preferring::<Decomposed>::new();
-    let begun = begin(alloc, &face, &tabled, &decomposing)?;
+    let begun = begin(alloc, &face, &DIVIDING, &decomposing)?;
     assert_same(&rt, begun.text.len(), 16);
     shape_in_place(alloc, &begun.plain, &face)?;
     assert_same(&rt, shape_nothing(alloc, &begun.plain, &face)?, 0);

@@ -16,12 +16,12 @@ use shape_unicode::UnicodeDatabase;
 use std::alloc::Global;
 use std::process::Abort;
 use std::test::Fail;
-use test_worlds::{EVERY_GLYPH, RowFace};
+use test_worlds::{EVERY_GLYPH, TestFace};
 
 /// The list of a text by the default shaper.
 fn by_default(
     alloc: Global,
-    face: RowFace<'_>,
+    face: TestFace<'_>,
     manner: Manner,
     text: &[char],
 ) -> Result<hb_buffer_t, Fail> {
@@ -32,7 +32,7 @@ fn by_default(
 /// The list of a text that is decomposed fully.
 fn decomposed(
     alloc: Global,
-    face: RowFace<'_>,
+    face: TestFace<'_>,
     manner: Manner,
     text: &[char],
 ) -> Result<hb_buffer_t, Fail> {
@@ -43,7 +43,7 @@ fn decomposed(
 /// The list of a text that is decomposed fully, then composed.
 fn composed(
     alloc: Global,
-    face: RowFace<'_>,
+    face: TestFace<'_>,
     manner: Manner,
     text: &[char],
 ) -> Result<hb_buffer_t, Fail> {
@@ -56,7 +56,7 @@ fn composed(
 fn assert_decomposed(
     rt: &impl Abort,
     alloc: Global,
-    face: RowFace<'_>,
+    face: TestFace<'_>,
     manner: Manner,
     text: &[char],
     items: &[(char, u32)],
@@ -76,7 +76,7 @@ fn assert_composed(
 ) -> Result<(), Fail> {
     assert_items(
         rt,
-        &composed(alloc, RowFace::of(face), manner, text)?,
+        &composed(alloc, TestFace::of(face), manner, text)?,
         items,
     );
     Ok(())
@@ -91,7 +91,7 @@ fn assert_all_composed(
     characters: &[char],
 ) -> Result<(), Fail> {
     for text in texts {
-        let list = composed(alloc, RowFace::of(face), PLAINLY, text)?;
+        let list = composed(alloc, TestFace::of(face), PLAINLY, text)?;
         assert_characters(rt, &list, characters);
     }
     Ok(())
@@ -99,7 +99,7 @@ fn assert_all_composed(
 
 #[test]
 fn e_acute(rt: HostRuntime) -> Result<(), Fail> {
-    let face = RowFace::of(&['e', '\u{301}']);
+    let face = TestFace::of(&['e', '\u{301}']);
     let list = by_default(rt.alloc(), face, PLAINLY, &['\u{E9}'])?;
     assert_items(&rt, &list, &[('e', 0), ('\u{301}', 0)]);
     Ok(())
@@ -107,7 +107,7 @@ fn e_acute(rt: HostRuntime) -> Result<(), Fail> {
 
 #[test]
 fn shortest_expansion(rt: HostRuntime) -> Result<(), Fail> {
-    let face = RowFace::of(&['A', '\u{302}', '\u{301}', '\u{C2}']);
+    let face = TestFace::of(&['A', '\u{302}', '\u{301}', '\u{C2}']);
     let list = by_default(rt.alloc(), face, PLAINLY, &['\u{1EA4}'])?;
     assert_items(&rt, &list, &[('\u{C2}', 0), ('\u{301}', 0)]);
     Ok(())
@@ -115,14 +115,14 @@ fn shortest_expansion(rt: HostRuntime) -> Result<(), Fail> {
 
 #[test]
 fn greatest_expansion(rt: HostRuntime) -> Result<(), Fail> {
-    let face = RowFace::of(&['A', '\u{302}', '\u{301}', '\u{C2}']);
+    let face = TestFace::of(&['A', '\u{302}', '\u{301}', '\u{C2}']);
     let items = [('A', 0), ('\u{302}', 0), ('\u{301}', 0)];
     assert_decomposed(&rt, rt.alloc(), face, PLAINLY, &['\u{1EA4}'], &items)
 }
 
 #[test]
 fn half_supported_chain(rt: HostRuntime) -> Result<(), Fail> {
-    let face = RowFace::of(&['A', '\u{302}', '\u{C2}']);
+    let face = TestFace::of(&['A', '\u{302}', '\u{C2}']);
     let list = by_default(rt.alloc(), face, PLAINLY, &['\u{1EA4}'])?;
     assert_items(&rt, &list, &[('\u{1EA4}', 0)]);
     assert_without_glyphs(&rt, &list);
@@ -158,7 +158,7 @@ const SHIN: [char; 4] = ['\u{5E9}', '\u{5BC}', '\u{5C1}', '\u{323}'];
 
 /// Whether two spellings are normalised alike over the face of that letter, in the mode that decomposes fully.
 fn are_normalised_alike(alloc: Global, first: &[char], second: &[char]) -> Result<bool, Fail> {
-    let face = RowFace::of(&SHIN);
+    let face = TestFace::of(&SHIN);
     let shaper = Preferring::<Decomposed>::new();
     let first = text_of(alloc, PLAINLY, first)?;
     let plan = planned(alloc, &face, &shaper, &first)?;
@@ -166,7 +166,7 @@ fn are_normalised_alike(alloc: Global, first: &[char], second: &[char]) -> Resul
     let mut b = prepared(alloc, &face, &shaper, text_of(alloc, PLAINLY, second)?)?;
     let answer = normalized_equal::<
         UnicodeDatabase,
-        RowFace<'_>,
+        TestFace<'_>,
         NoLookups,
         Preferring<Decomposed>,
     >(alloc, &plan, &face, &mut a, &mut b)?;
@@ -177,9 +177,9 @@ fn are_normalised_alike(alloc: Global, first: &[char], second: &[char]) -> Resul
 fn no_mark_past_first(rt: HostRuntime) -> Result<(), Fail> {
     let alloc = rt.alloc();
     let spelled = ['\u{5E9}', '\u{5BC}', '\u{5C1}'];
-    let list = decomposed(alloc, RowFace::of(&SHIN), PLAINLY, &['\u{FB2C}'])?;
+    let list = decomposed(alloc, TestFace::of(&SHIN), PLAINLY, &['\u{FB2C}'])?;
     assert_characters(&rt, &list, &spelled);
-    let list = decomposed(alloc, RowFace::of(&SHIN), PLAINLY, &spelled)?;
+    let list = decomposed(alloc, TestFace::of(&SHIN), PLAINLY, &spelled)?;
     assert_characters(&rt, &list, &['\u{5E9}', '\u{5C1}', '\u{5BC}']);
     assert_same(
         &rt,
@@ -216,14 +216,14 @@ const DOUBLY_MARKED: [char; 5] = ['e', '\u{301}', '\u{323}', '\u{1EB9}', '\u{E9}
 fn shortest(alloc: Global, text: &[char]) -> Result<hb_buffer_t, Fail> {
     let text = text_of(alloc, PLAINLY, text)?;
     let shaper = Preferring::<Shortest>::new();
-    normalised(alloc, &RowFace::of(&DOUBLY_MARKED), &shaper, text)
+    normalised(alloc, &TestFace::of(&DOUBLY_MARKED), &shaper, text)
 }
 
 /// The list of a text in the mode that composes diacritics, short of characters that the face shows.
 fn composed_diacritics(alloc: Global, text: &[char]) -> Result<hb_buffer_t, Fail> {
     let text = text_of(alloc, PLAINLY, text)?;
     let shaper = Preferring::<ComposedDiacritics>::new();
-    normalised(alloc, &RowFace::of(&DOUBLY_MARKED), &shaper, text)
+    normalised(alloc, &TestFace::of(&DOUBLY_MARKED), &shaper, text)
 }
 
 #[test]
@@ -233,7 +233,7 @@ fn a_composite_by_mode(rt: HostRuntime) -> Result<(), Fail> {
     let recomposed = ['\u{1EB9}', '\u{301}'];
     assert_characters(&rt, &shortest(alloc, &text)?, &text);
     assert_characters(&rt, &composed_diacritics(alloc, &text)?, &recomposed);
-    let list = by_default(alloc, RowFace::of(&DOUBLY_MARKED), PLAINLY, &text)?;
+    let list = by_default(alloc, TestFace::of(&DOUBLY_MARKED), PLAINLY, &text)?;
     assert_characters(&rt, &list, &recomposed);
     Ok(())
 }
@@ -248,7 +248,7 @@ fn merge_grows_right(rt: HostRuntime) -> Result<(), Fail> {
 
 #[test]
 fn merge_grows_left(rt: HostRuntime) -> Result<(), Fail> {
-    let face = RowFace::of(&['a', '\u{301}', '\u{323}']);
+    let face = TestFace::of(&['a', '\u{301}', '\u{323}']);
     let manner = Manner {
         direction: Direction::RightToLeft,
         ..BY_CHARACTER

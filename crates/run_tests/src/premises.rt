@@ -12,7 +12,7 @@ use shape_unicode::UnicodeDatabase;
 use std::alloc::Global;
 use std::process::Abort;
 use std::test::Fail;
-use test_worlds::{EVERY_GLYPH, RowFace};
+use test_worlds::{EVERY_GLYPH, TestFace};
 
 /// Whether a text, once prepared, meets them under a plan of its own.
 fn meets<F, S>(alloc: Global, face: &F, shaper: &S, text: &[char]) -> Result<bool, Fail>
@@ -30,7 +30,7 @@ where
 fn assert_meets(
     rt: &impl Abort,
     alloc: Global,
-    face: RowFace<'_>,
+    face: TestFace<'_>,
     text: &[char],
     want: bool,
 ) -> Result<(), Fail> {
@@ -52,7 +52,7 @@ fn stacked(alloc: Global, letter: char, mark: char, marks: usize) -> Result<Vec<
 #[test]
 fn spellings(rt: HostRuntime) -> Result<(), Fail> {
     let alloc = rt.alloc();
-    let face = RowFace::of(&['q', 'e', '\u{301}']);
+    let face = TestFace::of(&['q', 'e', '\u{301}']);
     let cases: [(&[char], bool); 6] = [
         (&['q', '\u{301}', '\u{E9}'], true),
         (&['q', '\u{301}', 'e', '\u{301}'], true),
@@ -110,7 +110,7 @@ fn marks_in_a_row(rt: HostRuntime) -> Result<(), Fail> {
 /// Compares whether a text meets them by a shaper.
 fn assert_mode<S>(rt: &impl Abort, alloc: Global, shaper: &S, want: bool) -> Result<(), Fail>
 where
-    S: hb_ot_shaper_t<UnicodeDatabase, RowFace<'static>, NoLookups, Data = ()>,
+    S: hb_ot_shaper_t<UnicodeDatabase, TestFace<'static>, NoLookups, Data = ()>,
 {
     let text = ['q', '\u{301}', '\u{E9}'];
     assert_same(rt, meets(alloc, &EVERY_GLYPH, shaper, &text)?, want);

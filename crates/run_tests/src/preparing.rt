@@ -9,7 +9,7 @@ use shape_pipeline::ot_shaper::DEFAULT_SHAPER;
 use std::alloc::Global;
 use std::process::Abort;
 use std::test::Fail;
-use test_worlds::RowFace;
+use test_worlds::TestFace;
 
 /// What a text is prepared as by the default shaper, over a face of these characters.
 fn prepared_over(
@@ -19,7 +19,7 @@ fn prepared_over(
     text: &[char],
 ) -> Result<hb_buffer_t, Fail> {
     let text = text_of(alloc, manner, text)?;
-    prepared(alloc, &RowFace::of(face), &DEFAULT_SHAPER, text)
+    prepared(alloc, &TestFace::of(face), &DEFAULT_SHAPER, text)
 }
 
 /// Compares what a text is prepared as.
@@ -43,7 +43,7 @@ fn shaped_over(
     text: &[char],
 ) -> Result<GlyphBuffer, Fail> {
     let text = text_of(alloc, manner, text)?;
-    shaped(alloc, &RowFace::of(face), &DEFAULT_SHAPER, text)
+    shaped(alloc, &TestFace::of(face), &DEFAULT_SHAPER, text)
 }
 
 /// Nothing is set but a direction.
@@ -88,7 +88,7 @@ fn assert_acute(
     flags: BufferFlags,
     items: &[(char, u32)],
 ) -> Result<(), Fail> {
-    let face = RowFace::of(&['\u{25CC}', '\u{301}']);
+    let face = TestFace::of(&['\u{25CC}', '\u{301}']);
     let text = text_of(alloc, Manner { flags, ..PLAINLY }, &['\u{301}'])?;
     let list = normalised(alloc, &face, &DEFAULT_SHAPER, text)?;
     assert_items(rt, &list, items);
@@ -154,7 +154,7 @@ fn a_text_against_its_script_is_reversed(rt: HostRuntime) -> Result<(), Fail> {
 fn digits_in_hebrew(alloc: Global) -> Result<hb_buffer_t, Fail> {
     let mut text = text_of(alloc, PLAINLY, &['1', '2'])?;
     text.set_script(Some(Script(hb_tag_t::from_bytes(b"Hebr"))));
-    prepared(alloc, &RowFace::of(&[]), &DEFAULT_SHAPER, text)
+    prepared(alloc, &TestFace::of(&[]), &DEFAULT_SHAPER, text)
 }
 
 /// Digits without a letter run from left to right in a script that is written right to left.

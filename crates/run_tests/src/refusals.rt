@@ -20,7 +20,7 @@ use shape_unicode::UnicodeDatabase;
 use std::alloc::Global;
 use std::process::Abort;
 use std::test::Fail;
-use test_worlds::{EVERY_GLYPH, RowFace};
+use test_worlds::{EVERY_GLYPH, TestFace};
 
 /// A text, and its glyphs.
 #[derive(Clone, Copy)]
@@ -131,7 +131,7 @@ fn assert_default_row(
     face: &[char],
     row: Row<'_>,
 ) -> Result<(), Fail> {
-    assert_row(rt, alloc, &RowFace::of(face), &DEFAULT_SHAPER, row)
+    assert_row(rt, alloc, &TestFace::of(face), &DEFAULT_SHAPER, row)
 }
 
 #[test]
@@ -169,7 +169,7 @@ fn ordering_merges(rt: HostRuntime) -> Result<(), Fail> {
 /// Compares the glyphs of a text that is composed again.
 fn assert_composed(rt: &impl Abort, alloc: Global, text: &[char]) -> Result<(), Fail> {
     let shaper = Preferring::<ComposedDiacriticsNoShortCircuit>::new();
-    let face = RowFace::of(&['e', '\u{301}', '\u{323}', '\u{1EB9}', '\u{E9}']);
+    let face = TestFace::of(&['e', '\u{301}', '\u{323}', '\u{1EB9}', '\u{E9}']);
     let row = Row {
         manner: PLAINLY,
         text,
@@ -251,12 +251,12 @@ const NORMALISED: [char; 4] = ['\u{5E9}', '\u{5C1}', '\u{5BC}', '\u{323}'];
 fn compare(
     rt: &impl Abort,
     alloc: Global,
-    face: &RowFace<'_>,
+    face: &TestFace<'_>,
     plan: &ComparingPlan<'_>,
     a: &mut hb_buffer_t,
     b: &mut hb_buffer_t,
 ) -> Result<(), ShapeError> {
-    let same = normalized_equal::<UnicodeDatabase, RowFace<'_>, NoLookups, _>(
+    let same = normalized_equal::<UnicodeDatabase, TestFace<'_>, NoLookups, _>(
         alloc, plan, face, a, b,
     )?;
     assert!(rt; same);
@@ -268,7 +268,7 @@ fn compare(
 /// A spelling in a buffer that is left of a refused call, prepared again.
 fn again(
     alloc: Global,
-    face: &RowFace<'_>,
+    face: &TestFace<'_>,
     shaper: &Comparing,
     left: hb_buffer_t,
     text: &[char],
@@ -291,7 +291,7 @@ fn assert_left_empty(rt: &impl Abort, left: &hb_buffer_t) {
 fn compare_again(
     rt: &impl Abort,
     alloc: Global,
-    face: &RowFace<'_>,
+    face: &TestFace<'_>,
     shaper: &Comparing,
     plan: &ComparingPlan<'_>,
     (a, b): (hb_buffer_t, hb_buffer_t),
@@ -308,7 +308,7 @@ fn compare_again(
 #[test]
 fn comparing(rt: HostRuntime) -> Result<(), Fail> {
     let alloc = rt.alloc();
-    let face = RowFace::of(&['\u{5E9}', '\u{5BC}', '\u{5C1}', '\u{323}']);
+    let face = TestFace::of(&['\u{5E9}', '\u{5BC}', '\u{5C1}', '\u{323}']);
     let shaper = Comparing::new();
     let first = text_of(alloc, PLAINLY, SPELLINGS[0])?;
     let second = text_of(alloc, PLAINLY, SPELLINGS[1])?;
@@ -327,7 +327,7 @@ fn comparing(rt: HostRuntime) -> Result<(), Fail> {
 fn key_or_left(
     rt: &impl Abort,
     alloc: Global,
-    face: &RowFace<'_>,
+    face: &TestFace<'_>,
     plan: &ComparingPlan<'_>,
     text: UnicodeBuffer,
 ) -> Option<UnicodeBuffer> {
@@ -347,7 +347,7 @@ fn key_or_left(
 #[test]
 fn a_key(rt: HostRuntime) -> Result<(), Fail> {
     let alloc = rt.alloc();
-    let face = RowFace::of(&['\u{5E9}', '\u{5BC}', '\u{5C1}', '\u{323}']);
+    let face = TestFace::of(&['\u{5E9}', '\u{5BC}', '\u{5C1}', '\u{323}']);
     let shaper = Comparing::new();
     let row = Row {
         manner: BY_CHARACTER,

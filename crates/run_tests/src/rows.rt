@@ -9,7 +9,7 @@ use shape_pipeline::shape_with_plan;
 use std::alloc::Global;
 use std::process::Abort;
 use std::test::Fail;
-use test_worlds::{DeepShaper, EVERY_GLYPH, RowFace, StackedShaper};
+use test_worlds::{DeepShaper, EVERY_GLYPH, StackedShaper, TestFace};
 
 /// Shapes one character, in cluster 7.
 fn shaped<F, S>(
@@ -59,7 +59,7 @@ fn assert_stacked(
     face: &[char],
     chars: &[char],
 ) -> Result<(), Fail> {
-    let answer = shaped(alloc, &RowFace::of(face), &StackedShaper, '\u{1EA4}')?;
+    let answer = shaped(alloc, &TestFace::of(face), &StackedShaper, '\u{1EA4}')?;
     assert_glyphs(rt, answer, chars);
     Ok(())
 }
@@ -143,7 +143,7 @@ fn a_deep_chain_is_walked(rt: HostRuntime) -> Result<(), Fail> {
 
 /// Asserts that U+F0000 stays where the face has it and no deeper part of it.
 fn assert_left(rt: &impl Abort, alloc: Global, shaper: &DeepShaper) -> Result<(), Fail> {
-    let face = RowFace::of(&['\u{F0000}', 'a']);
+    let face = TestFace::of(&['\u{F0000}', 'a']);
     let answer = shaped(alloc, &face, shaper, '\u{F0000}')?;
     assert_glyphs(rt, answer, &['\u{F0000}']);
     Ok(())

@@ -9,7 +9,7 @@ use shape_unicode::UnicodeDatabase;
 use std::alloc::Global;
 use std::process::Abort;
 use std::test::Fail;
-use test_worlds::{AbsorbingShaper, ChangingShaper, EVERY_GLYPH, RowFace};
+use test_worlds::{AbsorbingShaper, ChangingShaper, EVERY_GLYPH, TestFace};
 
 /// A glyph of no width and without flags, with its cluster.
 const fn bare(glyph: u32, cluster: u32) -> PlacedGlyph {
@@ -42,7 +42,7 @@ where
 #[test]
 fn a_variant_takes_its_selector_in(rt: HostRuntime) -> Result<(), Fail> {
     let alloc = rt.alloc();
-    let face = RowFace::with_variant(&['a']);
+    let face = TestFace::with_variant(&['a']);
     let mut text = text_of(alloc, PLAINLY, &['a', '\u{FE00}', '\u{FE01}'])?;
     text.set_invisible_glyph(Some(GlyphId(3)));
     let placed = [bare(7, 0), bare(3, 0)];
@@ -52,7 +52,7 @@ fn a_variant_takes_its_selector_in(rt: HostRuntime) -> Result<(), Fail> {
 #[test]
 fn a_starter_swallows_its_marks(rt: HostRuntime) -> Result<(), Fail> {
     let alloc = rt.alloc();
-    let face = RowFace::of(&['a', '\u{301}']);
+    let face = TestFace::of(&['a', '\u{301}']);
     let text = text_of(alloc, PLAINLY, &['a', '\u{301}', '\u{301}'])?;
     assert_shaped(&rt, alloc, &face, &AbsorbingShaper, text, &[bare(0x61, 0)])
 }

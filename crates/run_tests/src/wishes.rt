@@ -1,8 +1,8 @@
 //! Shapers with wishes for marks, by themselves and beside tables that position.
 
 use crate::comparing::assert_same;
-use crate::texts::{GlyphOf, Manner, PLAINLY, PlacedGlyph, assert_glyphs, face_of, text_of};
-use shape_buffer::buffer::{Direction, GlyphBuffer, UnicodeBuffer};
+use crate::texts::{Manner, PLAINLY, PlacedGlyph, assert_glyphs, text_of};
+use shape_buffer::buffer::{Direction, GlyphBuffer, GlyphId, UnicodeBuffer};
 use shape_buffer::interfaces::hb_tables_t;
 use shape_pipeline::ot_shape_plan::hb_ot_shape_plan_t;
 use shape_pipeline::ot_shaper::{DEFAULT_SHAPER, hb_ot_shaper_t};
@@ -11,7 +11,9 @@ use shape_unicode::UnicodeDatabase;
 use std::alloc::Global;
 use std::process::Abort;
 use std::test::Fail;
-use test_worlds::{AddingLayout, EarlyShaper, HangingShaper, LateShaper, TabledFace};
+use test_worlds::{
+    EarlyShaper, HangingShaper, KnownGlyph, LateShaper, PLAIN_FACE, TestFace, TestLayout, TestMap,
+};
 
 const NO_TABLES: hb_tables_t = hb_tables_t {
     gsub: false,
@@ -32,10 +34,25 @@ const MORX: hb_tables_t = hb_tables_t {
 };
 
 /// A letter of each direction, and an acute that advances, none with a box.
-const GLYPHS: [GlyphOf; 3] = [
-    ('a', 1, 600, None),
-    ('\u{5D0}', 4, 500, None),
-    ('\u{301}', 2, 100, None),
+const GLYPHS: [KnownGlyph; 3] = [
+    KnownGlyph {
+        character: 'a',
+        glyph: GlyphId(1),
+        advance: 600,
+        extents: None,
+    },
+    KnownGlyph {
+        character: '\u{5D0}',
+        glyph: GlyphId(4),
+        advance: 500,
+        extents: None,
+    },
+    KnownGlyph {
+        character: '\u{301}',
+        glyph: GlyphId(2),
+        advance: 100,
+        extents: None,
+    },
 ];
 
 /// A mark in forward text, and one in backward text.
@@ -43,29 +60,33 @@ const RIGHTWARD: [char; 2] = ['a', '\u{301}'];
 
 const LEFTWARD: [char; 2] = ['\u{5D0}', '\u{301}'];
 
-/// A face with these tables.
-fn tabled(alloc: Global, tables: hb_tables_t, kerning: bool) -> Result<TabledFace, Fail> {
-    Ok(TabledFace {
-        glyphs: face_of(alloc, &GLYPHS)?,
+/// A face with these tables, of which `GPOS` adds 1 to each advance, `kerx` 10 and `kern` 100.
+fn tabled(tables: hb_tables_t, kerning: bool) -> TestFace<'static> {
+    TestFace {
+        known: &GLYPHS,
         tables,
         kerning,
-    })
+        gpos_adds: 1,
+        kerx_adds: 10,
+        kern_adds: 100,
+        ..PLAIN_FACE
+    }
 }
 
 /// The plan for a text.
 fn planned<'a, S>(
     alloc: Global,
-    face: &'a TabledFace,
+    face: &'a TestFace<'static>,
     shaper: &'a S,
     text: &UnicodeBuffer,
-) -> Result<hb_ot_shape_plan_t<'a, S, (), ()>, Fail>
+) -> Result<hb_ot_shape_plan_t<'a, S, TestMap, ()>, Fail>
 where
-    S: hb_ot_shaper_t<UnicodeDatabase, TabledFace, AddingLayout, Data = ()>,
+    S: hb_ot_shaper_t<UnicodeDatabase, TestFace<'static>, TestLayout, Data = ()>,
 {
     if text.direction() == Direction::Invalid {
         return Err(Fail::from("no direction"));
     }
-    let plan = hb_ot_shape_plan_t::new::<UnicodeDatabase, TabledFace, AddingLayout>(
+    let plan = hb_ot_shape_plan_t::new::<UnicodeDatabase, TestFace<'static>, TestLayout>(
         alloc,
         face,
         shaper,
@@ -79,18 +100,18 @@ where
 
 fn shaped<S>(
     alloc: Global,
-    face: &TabledFace,
+    face: &TestFace<'static>,
     shaper: &S,
     text: UnicodeBuffer,
 ) -> Result<GlyphBuffer, Fail>
 where
-    S: hb_ot_shaper_t<UnicodeDatabase, TabledFace, AddingLayout, Data = ()>,
+    S: hb_ot_shaper_t<UnicodeDatabase, TestFace<'static>, TestLayout, Data = ()>,
 {
     let plan = planned(alloc, face, shaper, &text)?;
     if !plan.fits::<UnicodeDatabase>(&text) {
         return Err(Fail::from("the plan doesn't fit"));
     }
-    match shape_with_plan::<UnicodeDatabase, TabledFace, AddingLayout, S>(
+    match shape_with_plan::<UnicodeDatabase, TestFace<'static>, TestLayout, S>(
         alloc, face, &plan, text,
     ) {
         Ok(glyphs) => Ok(glyphs),
@@ -102,13 +123,13 @@ where
 fn assert_shaped<S>(
     rt: &impl Abort,
     alloc: Global,
-    face: &TabledFace,
+    face: &TestFace<'static>,
     shaper: &S,
     text: &[char],
     placed: &[PlacedGlyph],
 ) -> Result<(), Fail>
 where
-    S: hb_ot_shaper_t<UnicodeDatabase, TabledFace, AddingLayout, Data = ()>,
+    S: hb_ot_shaper_t<UnicodeDatabase, TestFace<'static>, TestLayout, Data = ()>,
 {
     let text = text_of(alloc, PLAINLY, text)?;
     let glyphs = shaped(alloc, face, shaper, text)?;
@@ -119,7 +140,7 @@ where
 #[test]
 fn marks_of_a_base_without_a_box_are_zeroed(rt: HostRuntime) -> Result<(), Fail> {
     let alloc = rt.alloc();
-    let face = tabled(alloc, NO_TABLES, false)?;
+    let face = tabled(NO_TABLES, false);
     let hanging = HangingShaper::new();
     let rightward = [(1, 0, (600, 0, 0, 0), 0), (2, 0, (0, 0, -100, 0), 0)];
     assert_shaped(&rt, alloc, &face, &hanging, &RIGHTWARD, &rightward)?;
@@ -130,7 +151,7 @@ fn marks_of_a_base_without_a_box_are_zeroed(rt: HostRuntime) -> Result<(), Fail>
 #[test]
 fn zeroing_alone_adjusts_in_forward_text(rt: HostRuntime) -> Result<(), Fail> {
     let alloc = rt.alloc();
-    let face = tabled(alloc, NO_TABLES, false)?;
+    let face = tabled(NO_TABLES, false);
     let (early, late) = (EarlyShaper::new(), LateShaper::new());
     let rightward = [(1, 0, (600, 0, 0, 0), 0), (2, 0, (0, 0, -100, 0), 0)];
     assert_shaped(&rt, alloc, &face, &early, &RIGHTWARD, &rightward)?;
@@ -144,7 +165,7 @@ fn zeroing_alone_adjusts_in_forward_text(rt: HostRuntime) -> Result<(), Fail> {
 #[test]
 fn zeroing_comes_before_or_after_tables(rt: HostRuntime) -> Result<(), Fail> {
     let alloc = rt.alloc();
-    let face = tabled(alloc, GPOS, false)?;
+    let face = tabled(GPOS, false);
     let early = [(1, 0, (601, 0, 0, 0), 0), (2, 0, (1, 0, 0, 0), 0)];
     assert_shaped(&rt, alloc, &face, &EarlyShaper::new(), &RIGHTWARD, &early)?;
     let late = [(1, 0, (601, 0, 0, 0), 0), (2, 0, (0, 0, 0, 0), 0)];
@@ -157,9 +178,9 @@ fn zeroing_comes_before_or_after_tables(rt: HostRuntime) -> Result<(), Fail> {
 /// Compares a letter with an acute that isn't zeroed, though the plan zeroes marks: its shaper gave way.
 fn assert_kept<S>(rt: &impl Abort, alloc: Global, shaper: &S) -> Result<(), Fail>
 where
-    S: hb_ot_shaper_t<UnicodeDatabase, TabledFace, AddingLayout, Data = ()>,
+    S: hb_ot_shaper_t<UnicodeDatabase, TestFace<'static>, TestLayout, Data = ()>,
 {
-    let face = tabled(alloc, MORX, false)?;
+    let face = tabled(MORX, false);
     let text = text_of(alloc, PLAINLY, &RIGHTWARD)?;
     let plan = planned(alloc, &face, shaper, &text)?;
     assert!(rt; plan.zero_marks() && plan.apply_morx() && plan.shaper().is_none());
@@ -174,7 +195,7 @@ fn shaper_that_gave_way_zeroes_nothing(rt: HostRuntime) -> Result<(), Fail> {
     assert_kept(&rt, alloc, &EarlyShaper::new())?;
     assert_kept(&rt, alloc, &LateShaper::new())?;
     // its wish for boxes stays: the mark is zeroed since its base has none, and isn't moved
-    let face = tabled(alloc, MORX, false)?;
+    let face = tabled(MORX, false);
     let placed = [(1, 0, (600, 0, 0, 0), 0), (2, 0, (0, 0, 0, 0), 0)];
     let hanging = HangingShaper::new();
     assert_shaped(&rt, alloc, &face, &hanging, &RIGHTWARD, &placed)
@@ -187,20 +208,20 @@ fn assert_advance(
     (tables, kerning): (hb_tables_t, bool),
     advance: i32,
 ) -> Result<(), Fail> {
-    let face = tabled(alloc, tables, kerning)?;
+    let face = tabled(tables, kerning);
     let placed = [(1, 0, (advance, 0, 0, 0), 0)];
     assert_shaped(rt, alloc, &face, &DEFAULT_SHAPER, &['a'], &placed)
 }
 
 /// Whether `GPOS`, `kerx` and `kern` are applied under a plan for a letter.
 fn applied(alloc: Global, tables: hb_tables_t) -> Result<(bool, bool, bool), Fail> {
-    let face = tabled(alloc, tables, false)?;
+    let face = tabled(tables, false);
     let text = text_of(alloc, PLAINLY, &['a'])?;
     let plan = planned(alloc, &face, &DEFAULT_SHAPER, &text)?;
     Ok((plan.apply_gpos(), plan.apply_kerx(), plan.apply_kern()))
 }
 
-/// `GPOS` adds 1, `kerx` 10 and `kern` 100. A plan may have both of the first two; then the first runs.
+/// A plan may have both of the first two; then the first runs.
 #[test]
 fn one_table_positions(rt: HostRuntime) -> Result<(), Fail> {
     let alloc = rt.alloc();

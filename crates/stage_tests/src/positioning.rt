@@ -3,7 +3,6 @@ use crate::comparing::assert_same;
 use shape_buffer::buffer::{
     BufferFlags, Direction, GlyphId, GlyphPropsFlags, ScratchFlags, hb_buffer_t, hb_glyph_info_t,
 };
-use shape_buffer::interfaces::{hb_font_t, hb_glyph_extents_t, hb_tables_t};
 use shape_position::advances::{clear_positions, put_advances};
 use shape_position::finishing::reverse_backward;
 use shape_position::flags::propagate_flags;
@@ -12,6 +11,7 @@ use shape_position::selectors::deal_with_variation_selectors;
 use shape_position::zeroing::zero_mark_widths_by_gdef;
 use std::alloc::Global;
 use std::test::Fail;
+use test_worlds::{KnownGlyph, PLAIN_FACE, TestFace};
 
 /// The glyph of a mark.
 const MARK: u32 = 2;
@@ -23,62 +23,19 @@ const JOINER: u32 = 7;
 const SELECTOR: u32 = 8;
 
 /// Every glyph has advance 600 and goes down by an em; U+0020 has glyph 3.
-#[derive(Clone, Copy)]
-struct EvenFace {
-    units: u16,
-}
-
-impl hb_font_t for EvenFace {
-    ghost use Rattle.shape_position.specs.WorkedPositions.{face_of};
-
-    ghost face = { λ f. face_of f.units };
-
-    fn get_nominal_glyph(&self, c: char) -> Option<GlyphId> {
-        if c == ' ' { Some(GlyphId(3)) } else { None }
-    }
-
-    fn has_glyph(&self, c: char) -> bool {
-        self.get_nominal_glyph(c).is_some()
-    }
-
-    fn glyph_variation_index(&self, _c: char, _selector: char) -> Option<GlyphId> {
-        None
-    }
-
-    fn glyph_h_advance(&self, _glyph: GlyphId) -> i32 {
-        600
-    }
-
-    fn glyph_v_advance(&self, _glyph: GlyphId) -> i32 {
-        -i32::from(self.units)
-    }
-
-    fn glyph_h_origin(&self, _glyph: GlyphId) -> i32 {
-        300
-    }
-
-    fn glyph_v_origin(&self, _glyph: GlyphId) -> i32 {
-        i32::from(self.units)
-    }
-
-    fn glyph_extents(&self, _glyph: GlyphId) -> Option<hb_glyph_extents_t> {
-        None
-    }
-
-    fn units_per_em(&self) -> u16 {
-        self.units
-    }
-
-    fn tables(&self) -> hb_tables_t {
-        hb_tables_t {
-            gsub: false,
-            gpos: false,
-            morx: false,
-            kerx: false,
-            trak: false,
-        }
-    }
-}
+const EVEN_FACE: TestFace<'static> = TestFace {
+    known: &[KnownGlyph {
+        character: ' ',
+        glyph: GlyphId(3),
+        advance: 600,
+        extents: None,
+    }],
+    h_advance: 600,
+    v_advance: -1000,
+    h_origin: 300,
+    v_origin: 1000,
+    ..PLAIN_FACE
+};
 
 /// A buffer in a direction, of glyphs in clusters, all of whose scratch flags are set; the three glyphs
 /// above have the properties that they stand for.
@@ -126,7 +83,7 @@ fn values(alloc: Global, buffer: &hb_buffer_t) -> Result<Vec<(i32, i32, i32, i32
 fn downward_glyph_is_moved_by_its_origin(rt: HostRuntime) -> Result<(), Fail> {
     let mut buffer = filled(rt.alloc(), Direction::TopToBottom, &[(1, 0)])?;
     clear_positions(&mut buffer);
-    put_advances(&EvenFace { units: 1000 }, &mut buffer);
+    put_advances(&EVEN_FACE, &mut buffer);
     let found = values(rt.alloc(), &buffer)?;
     assert_same(&rt, found.as_slice(), [(0, -1000, -300, -1000)].as_slice());
     Ok(())
@@ -134,7 +91,7 @@ fn downward_glyph_is_moved_by_its_origin(rt: HostRuntime) -> Result<(), Fail> {
 
 #[test]
 fn joiner_takes_the_glyph_of_a_space(rt: HostRuntime) -> Result<(), Fail> {
-    let face = EvenFace { units: 1000 };
+    let face = EVEN_FACE;
     let mut buffer = filled(rt.alloc(), Direction::LeftToRight, &[(1, 0), (JOINER, 1)])?;
     put_advances(&face, &mut buffer);
     zero_width_default_ignorables(&mut buffer);
@@ -152,7 +109,7 @@ fn joiner_takes_the_glyph_of_a_space(rt: HostRuntime) -> Result<(), Fail> {
 
 #[test]
 fn removed_joiner_leaves_its_cluster(rt: HostRuntime) -> Result<(), Fail> {
-    let face = EvenFace { units: 1000 };
+    let face = EVEN_FACE;
     let mut buffer = filled(rt.alloc(), Direction::RightToLeft, &[(JOINER, 0), (1, 3)])?;
     buffer.set_flags(BufferFlags::REMOVE_DEFAULT_IGNORABLES);
     put_advances(&face, &mut buffer);
@@ -169,7 +126,7 @@ fn removed_joiner_leaves_its_cluster(rt: HostRuntime) -> Result<(), Fail> {
 #[test]
 fn mark_hangs_over_the_glyph_before_it(rt: HostRuntime) -> Result<(), Fail> {
     let mut buffer = filled(rt.alloc(), Direction::LeftToRight, &[(1, 0), (MARK, 0)])?;
-    put_advances(&EvenFace { units: 1000 }, &mut buffer);
+    put_advances(&EVEN_FACE, &mut buffer);
     zero_mark_widths_by_gdef(&mut buffer, true);
     let placed = values(rt.alloc(), &buffer)?;
     assert_same(
@@ -183,7 +140,7 @@ fn mark_hangs_over_the_glyph_before_it(rt: HostRuntime) -> Result<(), Fail> {
 #[test]
 fn selector_without_variant_is_seen(rt: HostRuntime) -> Result<(), Fail> {
     let mut buffer = filled(rt.alloc(), Direction::LeftToRight, &[(1, 0), (SELECTOR, 0)])?;
-    put_advances(&EvenFace { units: 1000 }, &mut buffer);
+    put_advances(&EVEN_FACE, &mut buffer);
     buffer.set_not_found_variation_selector_glyph(Some(GlyphId(9)));
     deal_with_variation_selectors(&mut buffer);
     let found = glyphs(rt.alloc(), &buffer)?;

@@ -10,7 +10,7 @@ use shape_substitute::glyphs::setup_glyphs;
 use std::alloc::Global;
 use std::process::Abort;
 use std::test::Fail;
-use test_worlds::{DigitUnicode, RuleFace, RuleLayout};
+use test_worlds::{SmallUnicode, TestFace, TestLayout};
 
 fn assert_classes(rt: &impl Abort, infos: &[hb_glyph_info_t], classes: &[u32]) {
     assert_same(rt, infos.len(), classes.len());
@@ -24,10 +24,10 @@ fn assert_classes(rt: &impl Abort, infos: &[hb_glyph_info_t], classes: &[u32]) {
 }
 
 /// A face without stages, with classes of its own or without.
-fn face_with(classes: bool) -> RuleFace {
-    RuleFace {
+fn face_with(classes: bool) -> TestFace<'static> {
+    TestFace {
         classes,
-        ..RuleFace::of(&[])
+        ..TestFace::ruled(&[])
     }
 }
 
@@ -69,14 +69,14 @@ fn replaced(alloc: Global) -> Result<hb_buffer_t, Fail> {
 }
 
 /// The two marks with their glyphs.
-fn replaced_with_glyphs(alloc: Global, face: &RuleFace) -> Result<hb_buffer_t, Fail> {
+fn replaced_with_glyphs(alloc: Global, face: &TestFace<'static>) -> Result<hb_buffer_t, Fail> {
     let text = text_of(alloc, FORWARD, "a")?;
     let plan = planned(alloc, face, &DEFAULT_SHAPER, &[], &text)?;
     let mut buffer = replaced(alloc)?;
     if buffer.length_limit() < buffer.len() {
         return Err(Fail::from("past the limit"));
     }
-    setup_glyphs::<TypesOf<DigitUnicode, RuleFace, RuleLayout, hb_default_shaper_t>>(
+    setup_glyphs::<TypesOf<SmallUnicode, TestFace<'static>, TestLayout, hb_default_shaper_t>>(
         &plan,
         face,
         &mut buffer,

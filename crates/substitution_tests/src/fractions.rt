@@ -10,13 +10,13 @@ use shape_pipeline::ot_shaper::DEFAULT_SHAPER;
 use std::alloc::Global;
 use std::process::Abort;
 use std::test::Fail;
-use test_worlds::{RuleFace, Single, Stage};
+use test_worlds::{Single, Stage, TestFace};
 
 /// A face with lookups for fractions.
-fn with_fractions(stages: &'static [Stage]) -> RuleFace {
-    RuleFace {
+fn with_fractions(stages: &'static [Stage]) -> TestFace<'static> {
+    TestFace {
         fractions: true,
-        ..RuleFace::of(stages)
+        ..TestFace::ruled(stages)
     }
 }
 
@@ -101,7 +101,7 @@ fn slash_with_one_side_gets_no_feature(rt: HostRuntime) -> Result<(), Fail> {
 fn face_without_lookups_for_fractions(rt: HostRuntime) -> Result<(), Fail> {
     let alloc = rt.alloc();
     let text = text_of(alloc, FORWARD, "1\u{2044}2")?;
-    let buffer = masked(alloc, &RuleFace::of(&[]), &DEFAULT_SHAPER, &[], text)?;
+    let buffer = masked(alloc, &TestFace::ruled(&[]), &DEFAULT_SHAPER, &[], text)?;
     assert_masks(&rt, &buffer, &[8, 8, 8]);
     assert_seen_flags(&rt, &buffer, false);
     Ok(())

@@ -7,7 +7,7 @@ use shape_pipeline::shape;
 use std::alloc::Global;
 use std::process::Abort;
 use std::test::Fail;
-use test_worlds::{DigitUnicode, Multiple, RuleFace, RuleLayout, Single, Stage};
+use test_worlds::{Multiple, Single, SmallUnicode, Stage, TestFace, TestLayout};
 
 /// Two of a in place of one.
 const DOUBLED: Stage = Stage::Multiple(Multiple {
@@ -46,8 +46,8 @@ fn assert_length(
     glyphs: Option<usize>,
 ) -> Result<(), Fail> {
     let text = many(alloc, count)?;
-    let face = RuleFace::of(stages);
-    let answer = shape::<DigitUnicode, RuleFace, RuleLayout, hb_default_shaper_t>(
+    let face = TestFace::ruled(stages);
+    let answer = shape::<SmallUnicode, TestFace<'static>, TestLayout, hb_default_shaper_t>(
         alloc,
         &face,
         &DEFAULT_SHAPER,

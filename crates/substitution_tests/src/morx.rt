@@ -11,11 +11,11 @@ use shape_pipeline::ot_shaper::DEFAULT_SHAPER;
 use std::alloc::Global;
 use std::process::Abort;
 use std::test::Fail;
-use test_worlds::{RuleFace, Stage};
+use test_worlds::{Stage, TestFace};
 
 /// A face with both tables of substitution, and stages that are seen if they run.
-fn with_morx(gpos: bool) -> RuleFace {
-    RuleFace {
+fn with_morx(gpos: bool) -> TestFace<'static> {
+    TestFace {
         pause: Some(7),
         tables: hb_tables_t {
             gsub: true,
@@ -24,7 +24,7 @@ fn with_morx(gpos: bool) -> RuleFace {
             kerx: false,
             trak: false,
         },
-        ..RuleFace::of(&[Stage::Add(0x100)])
+        ..TestFace::ruled(&[Stage::Add(0x100)])
     }
 }
 

@@ -10,7 +10,7 @@ use shape_substitute::masks::setup_masks;
 use std::alloc::Global;
 use std::process::Abort;
 use std::test::Fail;
-use test_worlds::{DigitUnicode, DoublingShaper, RuleFace, RuleLayout, Single, Stage};
+use test_worlds::{DoublingShaper, Single, SmallUnicode, Stage, TestFace, TestLayout};
 
 /// Sets masks in a text whose masks are 0.
 fn set_from_0(
@@ -18,13 +18,13 @@ fn set_from_0(
     features: &[Feature],
     text: UnicodeBuffer,
 ) -> Result<hb_buffer_t, Fail> {
-    let face = RuleFace::of(&[]);
+    let face = TestFace::ruled(&[]);
     let plan = planned(alloc, &face, &DEFAULT_SHAPER, features, &text)?;
     let mut buffer = text.into_inner();
     if buffer.length_limit() < buffer.len() {
         return Err(Fail::from("past the limit"));
     }
-    setup_masks::<TypesOf<DigitUnicode, RuleFace, RuleLayout, hb_default_shaper_t>>(
+    setup_masks::<TypesOf<SmallUnicode, TestFace<'static>, TestLayout, hb_default_shaper_t>>(
         &plan,
         &face,
         &mut buffer,
@@ -96,7 +96,7 @@ fn unknown_feature_sets_nothing(rt: HostRuntime) -> Result<(), Fail> {
 #[test]
 fn user_comes_after_the_shaper(rt: HostRuntime) -> Result<(), Fail> {
     let alloc = rt.alloc();
-    let face = RuleFace::of(&[]);
+    let face = TestFace::ruled(&[]);
     let text = text_of(alloc, FORWARD, "ab")?;
     let buffer = masked(alloc, &face, &DoublingShaper, &[ss01(2, 1, 2)], text)?;
     assert_masks(&rt, &buffer, &[0x808, 0xA08]);
@@ -105,7 +105,7 @@ fn user_comes_after_the_shaper(rt: HostRuntime) -> Result<(), Fail> {
 
 #[test]
 fn glyphs_in_the_range_are_substituted(rt: HostRuntime) -> Result<(), Fail> {
-    let face = RuleFace::of(&[Stage::Single(Single {
+    let face = TestFace::ruled(&[Stage::Single(Single {
         feature: 0x200,
         from: 0x62,
         to: 0x42,

@@ -12,7 +12,7 @@ use shape_substitute::substitution::substitute;
 use std::alloc::Global;
 use std::process::Abort;
 use std::test::Fail;
-use test_worlds::{DigitUnicode, Multiple, RuleFace, RuleLayout, Single, Stage};
+use test_worlds::{Multiple, Single, SmallUnicode, Stage, TestFace, TestLayout};
 
 /// Two of a in place of one.
 const DOUBLED: Stage = Stage::Multiple(Multiple {
@@ -26,19 +26,19 @@ const DOUBLED: Stage = Stage::Multiple(Multiple {
 const STAGES: [Stage; 4] = [Stage::Add(0), DOUBLED, DOUBLED, DOUBLED];
 
 /// How many glyphs the stages make of a text, or why they are refused.
-fn stages_run(alloc: Global, face: &RuleFace) -> Result<Result<usize, ShapeError>, Fail> {
+fn stages_run(alloc: Global, face: &TestFace<'static>) -> Result<Result<usize, ShapeError>, Fail> {
     let text = text_of(alloc, FORWARD, "abab")?;
     let plan = planned(alloc, face, &DEFAULT_SHAPER, &[], &text)?;
     let mut buffer = masked(alloc, face, &DEFAULT_SHAPER, &[], text)?;
     if buffer.length_limit() < buffer.len() {
         return Err(Fail::from("past the limit"));
     }
-    setup_glyphs::<TypesOf<DigitUnicode, RuleFace, RuleLayout, hb_default_shaper_t>>(
+    setup_glyphs::<TypesOf<SmallUnicode, TestFace<'static>, TestLayout, hb_default_shaper_t>>(
         &plan,
         face,
         &mut buffer,
     );
-    match substitute::<TypesOf<DigitUnicode, RuleFace, RuleLayout, hb_default_shaper_t>>(
+    match substitute::<TypesOf<SmallUnicode, TestFace<'static>, TestLayout, hb_default_shaper_t>>(
         alloc,
         &plan,
         face,
@@ -51,7 +51,7 @@ fn stages_run(alloc: Global, face: &RuleFace) -> Result<Result<usize, ShapeError
 
 #[test]
 fn growths_in_a_stage(rt: HostRuntime) -> Result<(), Fail> {
-    match stages_run(rt.alloc(), &RuleFace::of(&STAGES))? {
+    match stages_run(rt.alloc(), &TestFace::ruled(&STAGES))? {
         Ok(count) => {
             assert_same(&rt, count, 18);
             Ok(())
@@ -78,13 +78,13 @@ fn fill(buffer: &mut UnicodeBuffer, text: &str) -> Result<(), Fail> {
 fn assert_run(
     rt: &impl Abort,
     alloc: Global,
-    face: &RuleFace,
+    face: &TestFace<'static>,
     features: &[Feature],
     text: &str,
     glyphs: &[(u32, u32, u32)],
 ) -> Result<(), Fail> {
     let whole = text_of(alloc, FORWARD, text)?;
-    let answer = shape::<DigitUnicode, RuleFace, RuleLayout, hb_default_shaper_t>(
+    let answer = shape::<SmallUnicode, TestFace<'static>, TestLayout, hb_default_shaper_t>(
         alloc,
         face,
         &DEFAULT_SHAPER,
@@ -104,7 +104,7 @@ fn assert_run(
     assert_same(rt, again.len(), 0);
     assert_same(rt, again.direction(), Direction::Invalid);
     fill(&mut again, text)?;
-    match shape::<DigitUnicode, RuleFace, RuleLayout, hb_default_shaper_t>(
+    match shape::<SmallUnicode, TestFace<'static>, TestLayout, hb_default_shaper_t>(
         alloc,
         face,
         &DEFAULT_SHAPER,
@@ -143,7 +143,7 @@ fn growths_in_a_run(rt: HostRuntime) -> Result<(), Fail> {
     assert_run(
         &rt,
         rt.alloc(),
-        &RuleFace::of(&STAGES),
+        &TestFace::ruled(&STAGES),
         &[],
         "abab",
         &glyphs,
@@ -166,7 +166,7 @@ const BY_VALUE: [Stage; 2] = [
 
 #[test]
 fn growths_with_two_features(rt: HostRuntime) -> Result<(), Fail> {
-    let face = RuleFace::of(&BY_VALUE);
+    let face = TestFace::ruled(&BY_VALUE);
     let features = [ss01(1, 1, 2), ss01(2, 3, 4)];
     let glyphs = [
         (0x62, 0, 8),

@@ -17,7 +17,7 @@ use std::alloc::Global;
 use std::fmt::Debug;
 use std::process::Abort;
 use std::test::Fail;
-use test_worlds::{DigitUnicode, DoublingShaper, RuleFace, RuleLayout, RuleMap};
+use test_worlds::{DoublingShaper, SmallUnicode, TestFace, TestLayout, TestMap};
 
 /// What is set of a text before it is shaped.
 #[derive(Clone, Copy)]
@@ -78,18 +78,18 @@ pub fn text_in_clusters(
 /// The plan for a text.
 pub fn planned<'a, S>(
     alloc: Global,
-    face: &'a RuleFace,
+    face: &'a TestFace<'static>,
     shaper: &'a S,
     features: &[Feature],
     text: &UnicodeBuffer,
-) -> Result<hb_ot_shape_plan_t<'a, S, RuleMap, ()>, Fail>
+) -> Result<hb_ot_shape_plan_t<'a, S, TestMap, ()>, Fail>
 where
-    S: hb_ot_shaper_t<DigitUnicode, RuleFace, RuleLayout, Data = ()>,
+    S: hb_ot_shaper_t<SmallUnicode, TestFace<'static>, TestLayout, Data = ()>,
 {
     if text.direction() == Direction::Invalid {
         return Err(Fail::from("no direction"));
     }
-    let plan = hb_ot_shape_plan_t::new::<DigitUnicode, RuleFace, RuleLayout>(
+    let plan = hb_ot_shape_plan_t::new::<SmallUnicode, TestFace<'static>, TestLayout>(
         alloc,
         face,
         shaper,
@@ -104,13 +104,13 @@ where
 /// A text prepared, then normalised.
 fn normalised<S>(
     alloc: Global,
-    face: &RuleFace,
+    face: &TestFace<'static>,
     shaper: &S,
     features: &[Feature],
     text: UnicodeBuffer,
 ) -> Result<hb_buffer_t, Fail>
 where
-    S: hb_ot_shaper_t<DigitUnicode, RuleFace, RuleLayout, Data = ()>,
+    S: hb_ot_shaper_t<SmallUnicode, TestFace<'static>, TestLayout, Data = ()>,
 {
     let plan = planned(alloc, face, shaper, features, &text)?;
     let mut buffer = text.into_inner();
@@ -124,8 +124,8 @@ where
         buffer: &mut buffer,
         target_direction,
     };
-    prepare_text::<DigitUnicode, RuleFace, RuleLayout, S>(alloc, &mut ctx)?;
-    _hb_ot_shape_normalize::<DigitUnicode, RuleFace, RuleLayout, S>(
+    prepare_text::<SmallUnicode, TestFace<'static>, TestLayout, S>(alloc, &mut ctx)?;
+    _hb_ot_shape_normalize::<SmallUnicode, TestFace<'static>, TestLayout, S>(
         alloc,
         &plan,
         &mut buffer,
@@ -137,56 +137,71 @@ where
 /// A text with the masks that a run sets before its glyphs are substituted.
 pub fn masked<S>(
     alloc: Global,
-    face: &RuleFace,
+    face: &TestFace<'static>,
     shaper: &S,
     features: &[Feature],
     text: UnicodeBuffer,
 ) -> Result<hb_buffer_t, Fail>
 where
-    S: hb_ot_shaper_t<DigitUnicode, RuleFace, RuleLayout, Data = ()>,
+    S: hb_ot_shaper_t<SmallUnicode, TestFace<'static>, TestLayout, Data = ()>,
 {
     let plan = planned(alloc, face, shaper, features, &text)?;
     let mut buffer = normalised(alloc, face, shaper, features, text)?;
     if buffer.length_limit() < buffer.len() {
         return Err(Fail::from("past the limit"));
     }
-    setup_masks::<TypesOf<DigitUnicode, RuleFace, RuleLayout, S>>(&plan, face, &mut buffer);
+    setup_masks::<TypesOf<SmallUnicode, TestFace<'static>, TestLayout, S>>(
+        &plan,
+        face,
+        &mut buffer,
+    );
     Ok(buffer)
 }
 
 /// A text as substitution leaves it.
 pub fn substituted<S>(
     alloc: Global,
-    face: &RuleFace,
+    face: &TestFace<'static>,
     shaper: &S,
     features: &[Feature],
     text: UnicodeBuffer,
 ) -> Result<hb_buffer_t, Fail>
 where
-    S: hb_ot_shaper_t<DigitUnicode, RuleFace, RuleLayout, Data = ()>,
+    S: hb_ot_shaper_t<SmallUnicode, TestFace<'static>, TestLayout, Data = ()>,
 {
     let plan = planned(alloc, face, shaper, features, &text)?;
     let mut buffer = masked(alloc, face, shaper, features, text)?;
     if buffer.length_limit() < buffer.len() {
         return Err(Fail::from("past the limit"));
     }
-    setup_glyphs::<TypesOf<DigitUnicode, RuleFace, RuleLayout, S>>(&plan, face, &mut buffer);
-    substitute::<TypesOf<DigitUnicode, RuleFace, RuleLayout, S>>(alloc, &plan, face, &mut buffer)?;
+    setup_glyphs::<TypesOf<SmallUnicode, TestFace<'static>, TestLayout, S>>(
+        &plan,
+        face,
+        &mut buffer,
+    );
+    substitute::<TypesOf<SmallUnicode, TestFace<'static>, TestLayout, S>>(
+        alloc,
+        &plan,
+        face,
+        &mut buffer,
+    )?;
     Ok(buffer)
 }
 
 /// The glyphs of a text.
 pub fn shaped<S>(
     alloc: Global,
-    face: &RuleFace,
+    face: &TestFace<'static>,
     shaper: &S,
     features: &[Feature],
     text: UnicodeBuffer,
 ) -> Result<GlyphBuffer, Fail>
 where
-    S: hb_ot_shaper_t<DigitUnicode, RuleFace, RuleLayout, Data = ()>,
+    S: hb_ot_shaper_t<SmallUnicode, TestFace<'static>, TestLayout, Data = ()>,
 {
-    match shape::<DigitUnicode, RuleFace, RuleLayout, S>(alloc, face, shaper, features, text) {
+    match shape::<SmallUnicode, TestFace<'static>, TestLayout, S>(
+        alloc, face, shaper, features, text,
+    ) {
         Ok(glyphs) => Ok(glyphs),
         Err(_) => Err(Fail::from("refused")),
     }
@@ -223,7 +238,7 @@ pub fn assert_glyphs(rt: &impl Abort, infos: &[hb_glyph_info_t], glyphs: &[Glyph
 pub fn assert_shaped(
     rt: &impl Abort,
     alloc: Global,
-    face: &RuleFace,
+    face: &TestFace<'static>,
     features: &[Feature],
     (manner, text): (Manner, &str),
     glyphs: &[Glyph],
@@ -238,7 +253,7 @@ pub fn assert_shaped(
 pub fn assert_doubled(
     rt: &impl Abort,
     alloc: Global,
-    face: &RuleFace,
+    face: &TestFace<'static>,
     (manner, text): (Manner, &str),
     glyphs: &[Glyph],
 ) -> Result<(), Fail> {

@@ -9,19 +9,19 @@ use shape_pipeline::ot_shaper::DEFAULT_SHAPER;
 use std::alloc::Global;
 use std::process::Abort;
 use std::test::Fail;
-use test_worlds::{Ligature, Multiple, RuleFace, Single, Stage};
+use test_worlds::{Ligature, Multiple, Single, Stage, TestFace};
 
 #[test]
 fn pause_stands_between_two_stages(rt: HostRuntime) -> Result<(), Fail> {
     let alloc = rt.alloc();
-    let plain = RuleFace::of(&[Stage::Add(1), Stage::Add(3)]);
+    let plain = TestFace::ruled(&[Stage::Add(1), Stage::Add(3)]);
     // 5 and 1, twice if pause 7 is run, and 3
     for (pause, glyph) in [(Some(7), 15), (Some(8), 9), (None, 9)] {
-        let face = RuleFace { pause, ..plain };
+        let face = TestFace { pause, ..plain };
         let want = [(glyph, 0, 0x808)];
         assert_doubled(&rt, alloc, &face, (FORWARD, "\u{5}"), &want)?;
     }
-    let face = RuleFace {
+    let face = TestFace {
         pause: Some(7),
         ..plain
     };
@@ -63,7 +63,7 @@ fn assert_letters(
     want: &[Glyph],
 ) -> Result<(), Fail> {
     let text = text_of(alloc, manner, text)?;
-    let face = RuleFace::of(&LETTER_RULES);
+    let face = TestFace::ruled(&LETTER_RULES);
     let glyphs = shaped(alloc, &face, &DEFAULT_SHAPER, &[], text)?;
     assert_glyphs(rt, glyphs.glyph_infos(), want);
     assert_same(rt, glyphs.glyph_positions().len(), want.len());
@@ -111,7 +111,7 @@ fn stages_make_glyphs_of_glyphs(rt: HostRuntime) -> Result<(), Fail> {
 
 #[test]
 fn ligature_is_no_part_of_the_next_at_its_place(rt: HostRuntime) -> Result<(), Fail> {
-    let face = RuleFace::of(&[Stage::Ligature(Ligature {
+    let face = TestFace::ruled(&[Stage::Ligature(Ligature {
         feature: 0,
         first: 0x61,
         second: 0x61,
@@ -130,7 +130,7 @@ fn assert_merged(
 ) -> Result<(), Fail> {
     let items = [('o', 0), ('f', 1), ('i', 2), ('x', 2)];
     let text = text_in_clusters(alloc, Manner { level, ..FORWARD }, &items)?;
-    let face = RuleFace::of(&LETTER_RULES);
+    let face = TestFace::ruled(&LETTER_RULES);
     let glyphs = shaped(alloc, &face, &DEFAULT_SHAPER, &[], text)?;
     assert_glyphs(rt, glyphs.glyph_infos(), want);
     Ok(())

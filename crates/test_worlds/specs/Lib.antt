@@ -1,4 +1,4 @@
-pub mod Marked
+pub mod SmallUnicode
 pub mod Faces
 pub mod Splitting
 pub mod Reversing
@@ -11,11 +11,8 @@ pub mod WorkedParts
 pub mod WorkedPremises
 pub mod WorkedCharacters
 pub mod WorkedTexts
-pub mod Tabled
 pub mod Changing
-pub mod Digits
 pub mod Rules
-pub mod RuleFaces
-pub mod RuleLayouts
+pub mod Layouts
 pub mod Doubling
 pub mod WorkedResults

@@ -131,14 +131,14 @@ pub record HonestBuffers : Type 0 where
 -- ---- preparing and positions
 
 -- a character in its form for a direction, if the face has glyphs for all, or no lookup to set upright
-abbrev pub reversed : Bool → Direction → ℕ → ℕ
-reversed has_vert target c = rotated_char worked_unicode (face_with (λ _. true)) (decisions_with 16 has_vert) target c
+abbrev pub rotated : Bool → Direction → ℕ → ℕ
+rotated has_vert target c = rotated_char worked_unicode (face_with (λ _. true)) (decisions_with 16 has_vert) target c
 
 pub record FormsOfCharacters : Type 0 where
-  pub leftward : map (reversed false RightToLeft) (0x28 ∷ 0x29 ∷ 0x61 ∷ 0x2014 ∷ []) ≡ 0x29 ∷ 0x28 ∷ 0x61 ∷ 0x2014 ∷ []
-  pub rightward : map (reversed false LeftToRight) (0x28 ∷ 0x2014 ∷ []) ≡ 0x28 ∷ 0x2014 ∷ []
-  pub downward : map (reversed false TopToBottom) (0x28 ∷ 0x29 ∷ 0x2014 ∷ []) ≡ 0x28 ∷ 0xFE36 ∷ 0xFE31 ∷ []
-  pub by_lookups : map (reversed true TopToBottom) (0x29 ∷ 0x2014 ∷ []) ≡ 0x29 ∷ 0x2014 ∷ []
+  pub leftward : map (rotated false RightToLeft) (0x28 ∷ 0x29 ∷ 0x61 ∷ 0x2014 ∷ []) ≡ 0x29 ∷ 0x28 ∷ 0x61 ∷ 0x2014 ∷ []
+  pub rightward : map (rotated false LeftToRight) (0x28 ∷ 0x2014 ∷ []) ≡ 0x28 ∷ 0x2014 ∷ []
+  pub downward : map (rotated false TopToBottom) (0x28 ∷ 0x29 ∷ 0x2014 ∷ []) ≡ 0x28 ∷ 0xFE36 ∷ 0xFE31 ∷ []
+  pub by_lookups : map (rotated true TopToBottom) (0x29 ∷ 0x2014 ∷ []) ≡ 0x29 ∷ 0x2014 ∷ []
 
 pub forms_of_characters : FormsOfCharacters
 forms_of_characters = record { leftward = refl; rightward = refl; downward = refl; by_lookups = refl }

@@ -1,6 +1,6 @@
 //! What normalising makes of texts over the whole database, under a face that has every glyph.
 
-use crate::every_glyph::EveryGlyph;
+use crate::every_glyph::EVERY_GLYPH;
 use shape_buffer::buffer::{Direction, ShapeError, UnicodeBuffer, hb_buffer_t};
 use shape_buffer::interfaces::NoLookups;
 use shape_pipeline::ot_shape::{hb_ot_shape_context_t, prepare_text};
@@ -9,6 +9,7 @@ use shape_pipeline::ot_shape_plan::hb_ot_shape_plan_t;
 use shape_pipeline::ot_shaper::hb_ot_shaper_t;
 use shape_unicode::UnicodeDatabase;
 use std::alloc::Global;
+use test_worlds::TestFace;
 
 /// A base and a mark to stand before a text, so that a mark stands past the first character whatever the
 /// text is, and all its marks are put in order. The two compose with nothing, and the mark has the lowest
@@ -29,11 +30,11 @@ fn text_of(alloc: Global, text: &[char]) -> Result<UnicodeBuffer, ShapeError> {
 /// The plan for texts to the right, without a script.
 fn planned<S>(alloc: Global, shaper: &S) -> Result<hb_ot_shape_plan_t<'_, S, (), ()>, ShapeError>
 where
-    S: hb_ot_shaper_t<UnicodeDatabase, EveryGlyph, NoLookups, Data = ()>,
+    S: hb_ot_shaper_t<UnicodeDatabase, TestFace<'static>, NoLookups, Data = ()>,
 {
-    hb_ot_shape_plan_t::new::<UnicodeDatabase, EveryGlyph, NoLookups>(
+    hb_ot_shape_plan_t::new::<UnicodeDatabase, TestFace<'static>, NoLookups>(
         alloc,
-        &EveryGlyph,
+        &EVERY_GLYPH,
         shaper,
         Direction::LeftToRight,
         None,
@@ -49,23 +50,23 @@ fn normalised_buffer<S>(
     text: UnicodeBuffer,
 ) -> Result<hb_buffer_t, ShapeError>
 where
-    S: hb_ot_shaper_t<UnicodeDatabase, EveryGlyph, NoLookups, Data = ()>,
+    S: hb_ot_shaper_t<UnicodeDatabase, TestFace<'static>, NoLookups, Data = ()>,
 {
     let plan = planned(alloc, shaper)?;
     let mut buffer = text.into_inner();
     buffer.set_direction(Direction::LeftToRight);
     let mut ctx = hb_ot_shape_context_t {
         plan: &plan,
-        face: &EveryGlyph,
+        face: &EVERY_GLYPH,
         buffer: &mut buffer,
         target_direction: Direction::LeftToRight,
     };
-    prepare_text::<UnicodeDatabase, EveryGlyph, NoLookups, S>(alloc, &mut ctx)?;
-    _hb_ot_shape_normalize::<UnicodeDatabase, EveryGlyph, NoLookups, S>(
+    prepare_text::<UnicodeDatabase, TestFace<'static>, NoLookups, S>(alloc, &mut ctx)?;
+    _hb_ot_shape_normalize::<UnicodeDatabase, TestFace<'static>, NoLookups, S>(
         alloc,
         &plan,
         &mut buffer,
-        &EveryGlyph,
+        &EVERY_GLYPH,
     )?;
     Ok(buffer)
 }
@@ -74,7 +75,7 @@ where
 /// Refuses as these two do: memory, or a text that grows too long.
 pub fn normalised<S>(alloc: Global, shaper: &S, text: &[char]) -> Result<Vec<char>, ShapeError>
 where
-    S: hb_ot_shaper_t<UnicodeDatabase, EveryGlyph, NoLookups, Data = ()>,
+    S: hb_ot_shaper_t<UnicodeDatabase, TestFace<'static>, NoLookups, Data = ()>,
 {
     let buffer = normalised_buffer(alloc, shaper, text_of(alloc, text)?)?;
     let mut list = Vec::new(alloc);

@@ -1,8 +1,8 @@
 //! Every combination of the questions that a plan asks, against a table of who positions.
 use super::shapers::{ScriptShaper, WishingShaper};
 use super::support::{
-    BitLayout, Bits, CROSS_KERNING, GLYPH_CLASSES, GPOS, GPOS_KERNS, GSUB, KERNING, KERX,
-    MACHINE_KERNING, MASKS, MORX, SCRIPT_TWO, TRAK,
+    CROSS_KERNING, GLYPH_CLASSES, GPOS, GPOS_KERNS, GSUB, KERNING, KERX, MACHINE_KERNING, MASKS,
+    MORX, SCRIPT_TWO, TRAK, face_with,
 };
 use crate::comparing::{assert_same, assert_that};
 use shape_buffer::buffer::{Direction, Feature, Script, UnicodeBuffer, hb_tag_t};
@@ -12,13 +12,14 @@ use shape_plan::ot_shaper::{DEFAULT_SHAPER, hb_default_shaper_t, hb_ot_shaper_t}
 use std::alloc::Global;
 use std::process::Abort;
 use std::test::Fail;
+use test_worlds::{TestFace, TestLayout, TestMap};
 
 /// A plan of a shaper.
 type Plan<'a, S> = hb_ot_shape_plan_t<
     'a,
     S,
-    u32,
-    <S as hb_ot_shaper_t<PlainUnicode, Bits, BitLayout>>::Data,
+    TestMap,
+    <S as hb_ot_shaper_t<PlainUnicode, TestFace<'static>, TestLayout>>::Data,
 >;
 
 /// Who positions and kerns.
@@ -70,7 +71,7 @@ struct Row {
 }
 
 /// The row of a plan.
-fn decided<S, D>(plan: &hb_ot_shape_plan_t<'_, S, u32, D>) -> Row {
+fn decided<S, D>(plan: &hb_ot_shape_plan_t<'_, S, TestMap, D>) -> Row {
     Row {
         gpos: plan.apply_gpos(),
         kerx: plan.apply_kerx(),
@@ -158,17 +159,17 @@ fn spread(i: u32) -> u32 {
 /// A plan without a script and without features.
 fn planned<'a, S>(
     alloc: Global,
-    face: &'a Bits,
+    face: &'a TestFace<'static>,
     shaper: &'a S,
     direction: Direction,
 ) -> Result<Plan<'a, S>, Fail>
 where
-    S: hb_ot_shaper_t<PlainUnicode, Bits, BitLayout>,
+    S: hb_ot_shaper_t<PlainUnicode, TestFace<'static>, TestLayout>,
 {
     if direction == Direction::Invalid {
         return Err(Fail::from("no direction"));
     }
-    let plan = hb_ot_shape_plan_t::new::<PlainUnicode, Bits, BitLayout>(
+    let plan = hb_ot_shape_plan_t::new::<PlainUnicode, TestFace<'static>, TestLayout>(
         alloc,
         face,
         shaper,
@@ -189,15 +190,16 @@ fn assert_by_table<S>(
     brings: Brings,
 ) -> Result<(), Fail>
 where
-    S: hb_ot_shaper_t<PlainUnicode, Bits, BitLayout>,
+    S: hb_ot_shaper_t<PlainUnicode, TestFace<'static>, TestLayout>,
 {
     let horizontal = matches!(direction, Direction::LeftToRight | Direction::RightToLeft);
     for i in 0..1024 {
-        let face = Bits(spread(i));
+        let bits = spread(i);
+        let face = face_with(bits);
         let plan = planned(alloc, &face, shaper, direction)?;
         let kept = brings.is_default || !plan.apply_morx();
-        assert_eq!(rt; decided(&plan), expected(face.0, horizontal, brings));
-        assert_eq!(rt; plan.fallback_glyph_classes(), face.0 & GLYPH_CLASSES == 0);
+        assert_eq!(rt; decided(&plan), expected(bits, horizontal, brings));
+        assert_eq!(rt; plan.fallback_glyph_classes(), bits & GLYPH_CLASSES == 0);
         assert_eq!(rt; plan.shaper().is_some(), kept);
         assert_eq!(rt; plan.data().is_some(), kept && brings.makes_data);
     }
@@ -227,7 +229,7 @@ fn by_a_shaper_of_a_script(rt: HostRuntime) -> Result<(), Fail> {
 
 #[test]
 fn gpos_then_kerx(rt: HostRuntime) -> Result<(), Fail> {
-    let face = Bits(KERX | GSUB | GPOS);
+    let face = face_with(KERX | GSUB | GPOS);
     let plan = planned(rt.alloc(), &face, &DEFAULT_SHAPER, Direction::LeftToRight)?;
     assert_that(&rt, plan.apply_gpos() && plan.apply_kerx());
     assert_that(&rt, !plan.apply_kern() && !plan.apply_fallback_kern());
@@ -239,7 +241,7 @@ fn gpos_then_kerx(rt: HostRuntime) -> Result<(), Fail> {
 /// it stays.
 #[test]
 fn wishes_of_a_replaced_shaper(rt: HostRuntime) -> Result<(), Fail> {
-    let (morx, both) = (Bits(MORX), Bits(MORX | GSUB));
+    let (morx, both) = (face_with(MORX), face_with(MORX | GSUB));
     let shaper = WishingShaper::new();
     let plan = planned(rt.alloc(), &morx, &shaper, Direction::LeftToRight)?;
     assert_that(&rt, plan.shaper().is_none() && plan.data().is_none());
@@ -282,7 +284,7 @@ fn masks(rt: HostRuntime) -> Result<(), Fail> {
         (MASKS | TRAK, 8, true),
         (TRAK, 0, false),
     ] {
-        let face = Bits(bits);
+        let face = face_with(bits);
         let plan = planned(rt.alloc(), &face, &DEFAULT_SHAPER, Direction::LeftToRight)?;
         assert_masks(&rt, &plan, mask, tracked);
     }
@@ -296,10 +298,10 @@ fn latin() -> Option<Script> {
 /// A plan for texts in Latin by a script's shaper, with the user's features.
 fn planned_for_latin<'a>(
     alloc: Global,
-    face: &'a Bits,
+    face: &'a TestFace<'static>,
     features: &[Feature],
 ) -> Result<Plan<'a, ScriptShaper>, Fail> {
-    let plan = hb_ot_shape_plan_t::new::<PlainUnicode, Bits, BitLayout>(
+    let plan = hb_ot_shape_plan_t::new::<PlainUnicode, TestFace<'static>, TestLayout>(
         alloc,
         face,
         &ScriptShaper,
@@ -334,7 +336,7 @@ fn parts(rt: HostRuntime) -> Result<(), Fail> {
         start: 1,
         end: 3,
     };
-    let (plain, morx) = (Bits(0), Bits(MORX));
+    let (plain, morx) = (face_with(0), face_with(MORX));
     let plan = planned_for_latin(alloc, &plain, &[liga, liga])?;
     assert_same(
         &rt,

@@ -1,6 +1,6 @@
 //! The requests, as the builder of a planner shows them, against lists spelled by letters.
 use super::shapers::ScriptShaper;
-use super::support::{BitLayout, Bits, MORX};
+use super::support::{MORX, face_with};
 use crate::comparing::{assert_same, assert_that};
 use shape_buffer::buffer::{Direction, Feature, hb_tag_t};
 use shape_buffer::interfaces::{MapRequest, PlainUnicode, hb_ot_map_builder_t};
@@ -10,6 +10,7 @@ use shape_plan::planner::hb_ot_shape_planner_t;
 use std::alloc::Global;
 use std::process::Abort;
 use std::test::Fail;
+use test_worlds::{TestFace, TestLayout};
 
 fn ask(letters: &[u8; 4], flags: u32, value: u32) -> MapRequest {
     MapRequest::Feature {
@@ -84,12 +85,12 @@ fn collected(
     direction: Direction,
     features: &[Feature],
 ) -> Result<hb_ot_map_builder_t, Fail> {
-    let face = Bits(0);
-    let mut planner = hb_ot_shape_planner_t::<Bits, hb_default_shaper_t>::new::<
+    let face = face_with(0);
+    let mut planner = hb_ot_shape_planner_t::<TestFace<'static>, hb_default_shaper_t>::new::<
         PlainUnicode,
-        BitLayout,
+        TestLayout,
     >(alloc, &face, &DEFAULT_SHAPER, direction, None, None);
-    planner.collect_features::<PlainUnicode, BitLayout>(alloc, features)?;
+    planner.collect_features::<PlainUnicode, TestLayout>(alloc, features)?;
     Ok(planner.ot_map)
 }
 
@@ -125,16 +126,16 @@ fn directions(rt: HostRuntime) -> Result<(), Fail> {
 /// A planner that has collected what it asks is compiled: a plan for its direction, with the user's features.
 #[test]
 fn a_planner_is_compiled(rt: HostRuntime) -> Result<(), Fail> {
-    let face = Bits(0);
+    let face = face_with(0);
     let kern = Feature {
         tag: hb_tag_t::from_bytes(b"kern"),
         value: 0,
         start: 0,
         end: u32::MAX,
     };
-    let mut planner = hb_ot_shape_planner_t::<Bits, hb_default_shaper_t>::new::<
+    let mut planner = hb_ot_shape_planner_t::<TestFace<'static>, hb_default_shaper_t>::new::<
         PlainUnicode,
-        BitLayout,
+        TestLayout,
     >(
         rt.alloc(),
         &face,
@@ -143,8 +144,8 @@ fn a_planner_is_compiled(rt: HostRuntime) -> Result<(), Fail> {
         None,
         None,
     );
-    planner.collect_features::<PlainUnicode, BitLayout>(rt.alloc(), &[kern])?;
-    let plan = planner.compile::<PlainUnicode, BitLayout>(rt.alloc(), &[kern])?;
+    planner.collect_features::<PlainUnicode, TestLayout>(rt.alloc(), &[kern])?;
+    let plan = planner.compile::<PlainUnicode, TestLayout>(rt.alloc(), &[kern])?;
     assert_same(&rt, plan.direction(), Direction::TopToBottom);
     assert_same(&rt, plan.user_features().len(), 1);
     assert_that(&rt, plan.shaper().is_some() && !plan.apply_gpos());
@@ -181,9 +182,12 @@ fn of_the_user(rt: HostRuntime) -> Result<(), Fail> {
 /// The planner of a script's shaper with all requests made.
 fn collected_by_script<'a>(
     alloc: Global,
-    face: &'a Bits,
-) -> Result<hb_ot_shape_planner_t<'a, Bits, ScriptShaper>, Fail> {
-    let mut planner = hb_ot_shape_planner_t::<Bits, ScriptShaper>::new::<PlainUnicode, BitLayout>(
+    face: &'a TestFace<'static>,
+) -> Result<hb_ot_shape_planner_t<'a, TestFace<'static>, ScriptShaper>, Fail> {
+    let mut planner = hb_ot_shape_planner_t::<TestFace<'static>, ScriptShaper>::new::<
+        PlainUnicode,
+        TestLayout,
+    >(
         alloc,
         face,
         &ScriptShaper,
@@ -191,14 +195,14 @@ fn collected_by_script<'a>(
         None,
         None,
     );
-    planner.collect_features::<PlainUnicode, BitLayout>(alloc, &[])?;
+    planner.collect_features::<PlainUnicode, TestLayout>(alloc, &[])?;
     Ok(planner)
 }
 
 /// A script's shaper asks between `HARF` and `Buzz`, and once more at last; under `morx` it is not asked.
 #[test]
 fn of_a_shaper(rt: HostRuntime) -> Result<(), Fail> {
-    let (plain, morx) = (Bits(0), Bits(MORX));
+    let (plain, morx) = (face_with(0), face_with(MORX));
     let planner = collected_by_script(rt.alloc(), &plain)?;
     let builder = &planner.ot_map;
     assert_same(&rt, builder.requests().len(), 22);
@@ -217,8 +221,8 @@ fn of_a_shaper(rt: HostRuntime) -> Result<(), Fail> {
 /// The shaper that knows no script is kept as such if a shaper is replaced, and else like any other.
 #[test]
 fn dumber(rt: HostRuntime) -> Result<(), Fail> {
-    let (plain, morx) = (Bits(0), Bits(MORX));
-    let kept = hb_ot_shape_planner_t::new::<PlainUnicode, BitLayout>(
+    let (plain, morx) = (face_with(0), face_with(MORX));
+    let kept = hb_ot_shape_planner_t::new::<PlainUnicode, TestLayout>(
         rt.alloc(),
         &plain,
         &DUMBER_SHAPER,
@@ -227,7 +231,7 @@ fn dumber(rt: HostRuntime) -> Result<(), Fail> {
         None,
     );
     assert_that(&rt, matches!(kept.shaper, ChosenShaper::Given(_)));
-    let replaced = hb_ot_shape_planner_t::new::<PlainUnicode, BitLayout>(
+    let replaced = hb_ot_shape_planner_t::new::<PlainUnicode, TestLayout>(
         rt.alloc(),
         &morx,
         &DUMBER_SHAPER,
@@ -245,7 +249,12 @@ fn dumber(rt: HostRuntime) -> Result<(), Fail> {
 
 #[test]
 fn builder_calls(rt: HostRuntime) -> Result<(), Fail> {
-    let mut builder = hb_ot_map_builder_t::new::<Bits, BitLayout>(rt.alloc(), &Bits(0), None, None);
+    let mut builder = hb_ot_map_builder_t::new::<TestFace<'static>, TestLayout>(
+        rt.alloc(),
+        &face_with(0),
+        None,
+        None,
+    );
     builder.add_feature(hb_tag_t::from_bytes(b"liga"), 4, 5)?;
     builder.enable_feature(hb_tag_t::from_bytes(b"kern"), 2, 1)?;
     builder.reserve(1)?;

@@ -1,7 +1,6 @@
 //! Lines of Unicode's test through the normaliser, in the two modes that split fully: mode 1 composes
 //! nothing, mode 3 composes again.
 
-use crate::every_glyph::EveryGlyph;
 use crate::moved_rows::{MOVED_ROWS, MovedRow};
 use crate::normalising::{BASE_WITH_MARK, normalised};
 use crate::normalization_rows::NORMALIZATION_ROWS;
@@ -14,6 +13,7 @@ use shape_unicode::UnicodeDatabase;
 use std::alloc::Global;
 use std::process::Abort;
 use std::test::Fail;
+use test_worlds::TestFace;
 
 /// The mode that composes nothing.
 fn splitting() -> Preferring<Decomposed> {
@@ -28,7 +28,7 @@ fn composing() -> Preferring<ComposedDiacriticsNoShortCircuit> {
 /// The normalised lists of texts, in order.
 fn lists_of<S>(alloc: Global, shaper: &S, texts: &[&str]) -> Result<Vec<Vec<char>>, Fail>
 where
-    S: hb_ot_shaper_t<UnicodeDatabase, EveryGlyph, NoLookups, Data = ()>,
+    S: hb_ot_shaper_t<UnicodeDatabase, TestFace<'static>, NoLookups, Data = ()>,
 {
     let mut lists = Vec::new(alloc);
     for text in texts {

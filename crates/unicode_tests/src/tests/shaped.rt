@@ -1,7 +1,7 @@
 //! The texts through whole runs of the default shaper.
 
 use crate::comparing::assert_same;
-use crate::every_glyph::{ADVANCE, EveryGlyph};
+use crate::every_glyph::{ADVANCE, EVERY_GLYPH};
 use crate::texts::{TEXTS, Text};
 use shape_buffer::buffer::{Direction, GlyphBuffer, Script, UnicodeBuffer, hb_tag_t};
 use shape_buffer::interfaces::{NoLookups, hb_unicode_funcs_t, hb_unicode_general_category_t};
@@ -12,6 +12,7 @@ use shape_unicode::UnicodeDatabase;
 use std::alloc::Global;
 use std::process::Abort;
 use std::test::Fail;
+use test_worlds::TestFace;
 
 /// A plan of the default shaper.
 type Plan<'a> = hb_ot_shape_plan_t<'a, hb_default_shaper_t, (), ()>;
@@ -34,9 +35,9 @@ fn planned(alloc: Global, buffer: &UnicodeBuffer) -> Result<Plan<'static>, Fail>
     if direction == Direction::Invalid {
         return Err(Fail::from("no direction"));
     }
-    let plan = hb_ot_shape_plan_t::new::<UnicodeDatabase, EveryGlyph, NoLookups>(
+    let plan = hb_ot_shape_plan_t::new::<UnicodeDatabase, TestFace<'static>, NoLookups>(
         alloc,
-        &EveryGlyph,
+        &EVERY_GLYPH,
         &DEFAULT_SHAPER,
         direction,
         buffer.script(),
@@ -56,9 +57,9 @@ fn shaped(alloc: Global, text: &Text) -> Result<GlyphBuffer, Fail> {
     if !plan.fits::<UnicodeDatabase>(&buffer) {
         return Err(Fail::from("the plan doesn't fit"));
     }
-    match shape_with_plan::<UnicodeDatabase, EveryGlyph, NoLookups, _>(
+    match shape_with_plan::<UnicodeDatabase, TestFace<'static>, NoLookups, _>(
         alloc,
-        &EveryGlyph,
+        &EVERY_GLYPH,
         &plan,
         buffer,
     ) {

@@ -2,8 +2,8 @@ use Rattle.std.proofs.Common.{ℕ, rules, subst}
 use Rattle.shape_buffer.specs.Outcome.{Made}
 use Rattle.shape_buffer.specs.Walks.{items_mapped}
 use Rattle.shape_buffer.proofs.Steps.Runs.{Ran-made}
-use Rattle.test_worlds.specs.RuleLayouts.{struck}
-use Rattle.test_worlds.proofs.rule_layout.RuleLayouthb_ot_layout_tRuleFace.aat_substitute.Goals as goal
+use Rattle.test_worlds.specs.Layouts.{struck}
+use Rattle.test_worlds.proofs.layout.TestLayouthb_ot_layout_tTestFace.aat_substitute.Goals as goal
 
 pub returns : goal.returns
 returns c =

@@ -1,23 +1,26 @@
-//! Unicode functions with two marks, two variation selectors and three spaces, none of which splits or
-//! composes.
-ghost use Rattle.test_worlds.specs.Marked.{marked_unicode, marked_unicode-lawful};
+//! The Unicode functions of tests: a few characters of each sort, none of which splits or composes.
+ghost use Rattle.test_worlds.specs.SmallUnicode.{small_unicode, small_unicode-lawful};
 
 use shape_buffer::buffer::{Direction, Script};
 use shape_buffer::interfaces::space_types::{NOT_SPACE, SPACE_EM, SPACE_FIGURE, space_t};
 use shape_buffer::interfaces::{hb_unicode_funcs_t, hb_unicode_general_category_t};
 
-pub struct MarkedUnicode;
+/// The ten digits of ASCII and the fraction slash, a mark above and one below, a mark that is ignorable, two
+/// variation selectors, and three spaces. Every other character is a letter.
+pub struct SmallUnicode;
 
-impl hb_unicode_funcs_t for MarkedUnicode {
-    ghost unicode = { marked_unicode };
+impl hb_unicode_funcs_t for SmallUnicode {
+    ghost unicode = { small_unicode };
 
-    ghost lawful = { marked_unicode-lawful };
+    ghost lawful = { small_unicode-lawful };
 
     fn general_category(c: char) -> hb_unicode_general_category_t {
         match c {
-            '\u{301}' | '\u{323}' | '\u{FE00}' | '\u{FE01}' => {
+            '0'..='9' => hb_unicode_general_category_t::DecimalNumber,
+            '\u{301}' | '\u{323}' | '\u{34F}' | '\u{FE00}' | '\u{FE01}' => {
                 hb_unicode_general_category_t::NonspacingMark
             }
+            '\u{2044}' => hb_unicode_general_category_t::MathSymbol,
             ' ' | '\u{2003}' | '\u{2007}' => hb_unicode_general_category_t::SpaceSeparator,
             _ => hb_unicode_general_category_t::OtherLetter,
         }
@@ -56,7 +59,7 @@ impl hb_unicode_funcs_t for MarkedUnicode {
     }
 
     fn is_default_ignorable(c: char) -> bool {
-        Self::is_variation_selector(c)
+        c == '\u{34F}' || Self::is_variation_selector(c)
     }
 
     fn is_emoji_extended_pictographic(_c: char) -> bool {
