@@ -1,6 +1,7 @@
 //! Calls on their happy path whose answers no clause of another test shows.
 
 use crate::comparing::{assert_same, assert_that};
+use crate::runs;
 use shape_buffer::buffer::{
     Direction, Feature, Language, ScratchFlags, Script, UnicodeBuffer, hb_buffer_t,
     hb_glyph_info_t, hb_tag_t, hb_unicode_general_category_t,
@@ -8,8 +9,6 @@ use shape_buffer::buffer::{
 use shape_buffer::interfaces::{
     NoLookups, PlainUnicode, TableIndex, hb_ot_map_builder_t, hb_unicode_funcs_t,
 };
-use shape_pipeline::ot_shape::{hb_ot_shape_context_t, shape_internal};
-use shape_pipeline::ot_shape_normalize::_hb_ot_shape_normalize;
 use shape_pipeline::ot_shape_plan::hb_ot_shape_plan_t;
 use shape_pipeline::ot_shaper::{DEFAULT_SHAPER, hb_default_shaper_t};
 use shape_unicode::UnicodeDatabase;
@@ -25,15 +24,19 @@ fn latin() -> Option<Script> {
     Some(Script(hb_tag_t::from_bytes(b"Latn")))
 }
 
-/// The plan for texts in Latin and in English, without kerning, by functions that know no script.
-fn english<'a>(alloc: Global, face: &'a TestFace<'a>) -> Result<Plan<'a>, Fail> {
-    let language = Language(String::from_str(alloc, "en")?);
-    let feature = Feature {
+/// Asks for no kerning, of the whole text.
+fn without_kerning() -> Feature {
+    Feature {
         tag: hb_tag_t::from_bytes(b"kern"),
         value: 0,
         start: 0,
         end: u32::MAX,
-    };
+    }
+}
+
+/// The plan for texts in Latin and in English, without kerning, by functions that know no script.
+fn english<'a>(alloc: Global, face: &'a TestFace<'a>) -> Result<Plan<'a>, Fail> {
+    let language = Language(String::from_str(alloc, "en")?);
     let plan = hb_ot_shape_plan_t::new::<PlainUnicode, TestFace<'a>, NoLookups>(
         alloc,
         face,
@@ -41,26 +44,51 @@ fn english<'a>(alloc: Global, face: &'a TestFace<'a>) -> Result<Plan<'a>, Fail> 
         Direction::LeftToRight,
         latin(),
         Some(&language),
-        &[feature],
+        &[without_kerning()],
     )?;
     Ok(plan)
 }
 
-/// Compares of an empty text whether the plan fits it: without a script, with it, and in the other direction.
-fn assert_fits(rt: &impl Abort, alloc: Global, plan: &Plan<'_>) {
+/// An empty text with this script, if there is one, that runs in this direction.
+fn empty(alloc: Global, script: Option<Script>, direction: Direction) -> UnicodeBuffer {
     let mut text = UnicodeBuffer::new(alloc);
-    assert!(rt; !plan.fits::<PlainUnicode>(&text), "no script is Unknown");
-    text.set_script(latin());
-    assert_that(rt, plan.fits::<PlainUnicode>(&text));
-    text.set_direction(Direction::RightToLeft);
-    assert_that(rt, !plan.fits::<PlainUnicode>(&text));
+    text.set_script(script);
+    text.set_direction(direction);
+    text
 }
 
-/// Compares what a builder of requests knows before there are any.
-fn assert_no_requests(rt: &impl Abort, alloc: Global, face: &TestFace<'_>) {
+/// Whether a plan fits an empty text.
+fn fits(alloc: Global, plan: &Plan<'_>, script: Option<Script>, direction: Direction) -> bool {
+    plan.fits::<PlainUnicode>(&empty(alloc, script, direction))
+}
+
+/// Compares of an empty text whether the plan fits it: without a script, which is Unknown then, with it, and in the
+/// other direction.
+fn assert_fits(rt: &impl Abort, alloc: Global, plan: &Plan<'_>) {
+    assert_same(rt, fits(alloc, plan, None, Direction::Invalid), false);
+    assert_same(rt, fits(alloc, plan, latin(), Direction::Invalid), true);
+    assert_same(
+        rt,
+        fits(alloc, plan, latin(), Direction::RightToLeft),
+        false,
+    );
+}
+
+/// What a builder of requests knows before there are any: how many there are, whether it is simple, and whether it
+/// chose a script.
+fn without_requests(alloc: Global, face: &TestFace<'_>) -> (usize, bool, bool) {
     let builder = hb_ot_map_builder_t::new::<TestFace<'_>, NoLookups>(alloc, face, latin(), None);
-    assert_that(rt, builder.requests().is_empty() && builder.is_simple());
-    assert_same(rt, builder.chosen_script(TableIndex::GPOS), None);
+    let chosen = builder.chosen_script(TableIndex::GPOS);
+    (
+        builder.requests().len(),
+        builder.is_simple(),
+        chosen.is_some(),
+    )
+}
+
+/// Whether a plan has a shaper, and whether it has data.
+fn has_shaper_and_data(plan: &Plan<'_>) -> (bool, bool) {
+    (plan.shaper().is_some(), plan.data().is_some())
 }
 
 #[test]
@@ -71,23 +99,37 @@ fn a_plan_fits_by_direction_and_script(rt: HostRuntime) -> Result<(), Fail> {
     assert_fits(&rt, alloc, &plan);
     assert_same(&rt, plan.direction(), Direction::LeftToRight);
     assert_same(&rt, plan.script(), latin());
-    assert_that(&rt, plan.shaper().is_some() && plan.data().is_none());
-    assert_no_requests(&rt, alloc, &face);
+    assert_same(&rt, has_shaper_and_data(&plan), (true, false));
+    assert_same(&rt, without_requests(alloc, &face), (0, true, false));
     Ok(())
 }
 
 /// The plan for texts in Latin, by the whole database of Unicode.
 fn planned_for_latin<'a>(alloc: Global, face: &'a TestFace<'a>) -> Result<Plan<'a>, Fail> {
-    let plan = hb_ot_shape_plan_t::new::<UnicodeDatabase, TestFace<'a>, NoLookups>(
+    runs::plan_for::<UnicodeDatabase, TestFace<'a>, NoLookups, hb_default_shaper_t>(
         alloc,
         face,
         &DEFAULT_SHAPER,
         Direction::LeftToRight,
         latin(),
-        None,
-        &[],
-    )?;
-    Ok(plan)
+    )
+}
+
+/// A text in which nothing is set.
+fn text_of(alloc: Global, text: &str) -> Result<UnicodeBuffer, Fail> {
+    let mut buffer = UnicodeBuffer::new(alloc);
+    buffer.push_str(text)?;
+    Ok(buffer)
+}
+
+/// Has a text run to the left.
+fn run_left(text: &mut UnicodeBuffer) {
+    text.set_direction(Direction::RightToLeft);
+}
+
+/// Whether a plan fits a text, by the whole database of Unicode.
+fn fits_text(plan: &Plan<'_>, text: &UnicodeBuffer) -> bool {
+    plan.fits::<UnicodeDatabase>(text)
 }
 
 /// A Latin letter with nothing set, as guessing has it.
@@ -96,26 +138,36 @@ fn a_plan_fits_what_is_guessed(rt: HostRuntime) -> Result<(), Fail> {
     let alloc = rt.alloc();
     let face = TestFace::of(&['a']);
     let plan = planned_for_latin(alloc, &face)?;
-    let mut text = UnicodeBuffer::new(alloc);
-    text.push_str("a")?;
-    assert_that(&rt, plan.fits::<UnicodeDatabase>(&text));
-    text.set_direction(Direction::RightToLeft);
-    assert_that(&rt, !plan.fits::<UnicodeDatabase>(&text));
+    let mut text = text_of(alloc, "a")?;
+    assert_that(&rt, fits_text(&plan, &text));
+    run_left(&mut text);
+    assert_same(&rt, fits_text(&plan, &text), false);
     Ok(())
+}
+
+/// An item with the properties that functions without tables give it.
+fn item_of(c: char) -> hb_glyph_info_t {
+    let mut seen = ScratchFlags(0);
+    let mut info = hb_glyph_info_t::new(c, 0);
+    info.init_unicode_props::<PlainUnicode>(&mut seen);
+    info
+}
+
+/// Whether functions without tables know a character as an emoji, and as a variation selector.
+fn is_special(c: char) -> (bool, bool) {
+    let is_emoji = PlainUnicode::is_emoji_extended_pictographic(c);
+    (is_emoji, PlainUnicode::is_variation_selector(c))
 }
 
 /// Compares what functions without tables say of a character.
 fn assert_plain(rt: &impl Abort, c: char) {
-    let mut seen = ScratchFlags(0);
-    let mut info = hb_glyph_info_t::new(c, 0);
-    info.init_unicode_props::<PlainUnicode>(&mut seen);
+    let info = item_of(c);
     let letter = hb_unicode_general_category_t::OtherLetter;
     assert_same(rt, info._hb_glyph_info_get_general_category(), letter);
-    assert_that(rt, !info._hb_glyph_info_get_ignorable());
+    assert_same(rt, info._hb_glyph_info_get_ignorable(), false);
     assert_same(rt, PlainUnicode::mirrored(c), None);
     assert_same(rt, PlainUnicode::script(c), Script::UNKNOWN);
-    assert_that(rt, !PlainUnicode::is_emoji_extended_pictographic(c));
-    assert_that(rt, !PlainUnicode::is_variation_selector(c));
+    assert_same(rt, is_special(c), (false, false));
 }
 
 /// A bracket, a soft hyphen, an accent, an emoji and a variation selector, which Unicode's own functions tell apart.
@@ -132,35 +184,27 @@ fn planned_towards<'a>(
     face: &'a TestFace<'a>,
     direction: Direction,
 ) -> Result<Plan<'a>, Fail> {
-    if direction == Direction::Invalid {
-        return Err(Fail::from("no direction"));
-    }
-    let plan = hb_ot_shape_plan_t::new::<PlainUnicode, TestFace<'a>, NoLookups>(
+    runs::plan_for::<PlainUnicode, TestFace<'a>, NoLookups, hb_default_shaper_t>(
         alloc,
         face,
         &DEFAULT_SHAPER,
         direction,
         None,
-        None,
-        &[],
-    )?;
-    Ok(plan)
+    )
 }
 
 /// A buffer of two letters, normalised.
-fn two_normalised(
+fn two_normalised<'a>(
     alloc: Global,
     plan: &Plan<'_>,
-    face: &TestFace<'_>,
+    face: &TestFace<'a>,
 ) -> Result<hb_buffer_t, Fail> {
-    let mut text = UnicodeBuffer::new(alloc);
-    text.push_str("a\u{e9}")?;
-    let mut buffer = text.into_inner();
-    _hb_ot_shape_normalize::<PlainUnicode, TestFace<'_>, NoLookups, hb_default_shaper_t>(
+    let mut buffer = text_of(alloc, "a\u{e9}")?.into_inner();
+    runs::normalise::<PlainUnicode, TestFace<'a>, NoLookups, hb_default_shaper_t>(
         alloc,
         plan,
-        &mut buffer,
         face,
+        &mut buffer,
     )?;
     Ok(buffer)
 }
@@ -168,9 +212,8 @@ fn two_normalised(
 /// Compares characters and the glyphs that were found for them.
 fn assert_found(rt: &impl Abort, buffer: &hb_buffer_t, wanted: &[(char, u32)]) {
     assert_same(rt, buffer.len(), wanted.len());
-    for (info, (c, glyph)) in buffer.infos().iter().zip(wanted) {
-        assert_same(rt, info.codepoint, *c);
-        assert_same(rt, info.glyph_index, *glyph);
+    for (info, item) in buffer.infos().iter().zip(wanted) {
+        assert_same(rt, (info.codepoint, info.glyph_index), *item);
     }
 }
 
@@ -185,31 +228,28 @@ fn normalising_keeps_what_is_not_split(rt: HostRuntime) -> Result<(), Fail> {
 }
 
 /// A buffer of two letters that run from right to left, shaped.
-fn two_in_place(alloc: Global, plan: &Plan<'_>, face: &TestFace<'_>) -> Result<hb_buffer_t, Fail> {
-    let mut text = UnicodeBuffer::new(alloc);
-    text.push_str("ab")?;
-    text.set_direction(Direction::RightToLeft);
+fn two_in_place<'a>(
+    alloc: Global,
+    plan: &Plan<'_>,
+    face: &TestFace<'a>,
+) -> Result<hb_buffer_t, Fail> {
+    let mut text = text_of(alloc, "ab")?;
+    run_left(&mut text);
     let mut buffer = text.into_inner();
-    let target_direction = buffer.direction();
-    if target_direction != Direction::RightToLeft {
-        return Err(Fail::from("another direction"));
-    }
-    let mut ctx = hb_ot_shape_context_t {
+    runs::shape_in_place::<PlainUnicode, TestFace<'a>, NoLookups, hb_default_shaper_t>(
+        alloc,
         plan,
         face,
-        buffer: &mut buffer,
-        target_direction,
-    };
-    shape_internal::<PlainUnicode, TestFace<'_>, NoLookups, _>(alloc, &mut ctx)?;
+        &mut buffer,
+    )?;
     Ok(buffer)
 }
 
 /// Compares glyphs and their clusters.
 fn assert_list_reversed(rt: &impl Abort, buffer: &hb_buffer_t, wanted: &[(u32, u32)]) {
     assert_same(rt, buffer.len(), wanted.len());
-    for (info, (glyph, cluster)) in buffer.infos().iter().zip(wanted) {
-        assert_same(rt, info.glyph_id, *glyph);
-        assert_same(rt, info.cluster, *cluster);
+    for (info, item) in buffer.infos().iter().zip(wanted) {
+        assert_same(rt, (info.glyph_id, info.cluster), *item);
     }
 }
 

@@ -32,6 +32,8 @@ mod refusals;
 #[cfg(test)]
 mod rows;
 #[cfg(test)]
+mod runs;
+#[cfg(test)]
 mod texts;
 #[cfg(test)]
 mod unlawful;

@@ -2,6 +2,7 @@
 //! marks are placed by. The em square has 1000 units, so that the gap is 62.
 
 use crate::comparing::assert_same;
+use crate::runs;
 use crate::texts::face_of;
 use shape_buffer::buffer::{
     Direction, GlyphPosition, hb_buffer_t, hb_glyph_info_t, hb_unicode_general_category_t,
@@ -34,19 +35,13 @@ fn ligature_face(alloc: Global) -> Result<MapFace, Fail> {
 }
 
 fn planned(alloc: Global, face: &MapFace, direction: Direction) -> Result<Plan<'_>, Fail> {
-    if direction == Direction::Invalid {
-        return Err(Fail::from("no direction"));
-    }
-    let plan = hb_ot_shape_plan_t::new::<PlainUnicode, MapFace, NoLookups>(
+    runs::plan_for::<PlainUnicode, MapFace, NoLookups, hb_default_shaper_t>(
         alloc,
         face,
         &DEFAULT_SHAPER,
         direction,
         None,
-        None,
-        &[],
-    )?;
-    Ok(plan)
+    )
 }
 
 /// An item of a glyph in a ligature.
@@ -59,6 +54,54 @@ fn ligated(c: char, glyph: u32, component: Component) -> hb_glyph_info_t {
     info
 }
 
+/// A base of a ligature with as many components.
+fn ligature_of(base: Component) -> hb_glyph_info_t {
+    let mut info = ligated('f', 1, (base.0, 0));
+    info._hb_glyph_info_set_general_category(hb_unicode_general_category_t::LowercaseLetter);
+    info._hb_glyph_info_set_number_of_components(base.1);
+    info
+}
+
+/// A mark of ccc 230.
+fn mark_of(component: Component) -> hb_glyph_info_t {
+    let mut info = ligated('\u{301}', 2, component);
+    info._hb_glyph_info_set_general_category(hb_unicode_general_category_t::NonspacingMark);
+    info._hb_glyph_info_set_modified_combining_class(230);
+    info
+}
+
+/// A base, and after it marks.
+fn items_of(
+    alloc: Global,
+    base: Component,
+    marks: &[Component],
+) -> Result<Vec<hb_glyph_info_t>, Fail> {
+    let mut infos = Vec::new(alloc);
+    infos.push(ligature_of(base))?;
+    for mark in marks {
+        infos.push(mark_of(*mark))?;
+    }
+    Ok(infos)
+}
+
+/// A buffer of these items.
+fn buffer_of(alloc: Global, infos: Vec<hb_glyph_info_t>) -> Result<hb_buffer_t, Fail> {
+    let mut buffer = hb_buffer_t::new(alloc);
+    buffer.replace_infos(infos)?;
+    Ok(buffer)
+}
+
+/// Gives the first item an advance.
+fn advance_first(buffer: &mut hb_buffer_t, x_advance: i32) {
+    if buffer.len() > 0 {
+        let advance = GlyphPosition {
+            x_advance,
+            ..GlyphPosition::zero()
+        };
+        buffer.set_position(0, advance);
+    }
+}
+
 /// A base of a ligature with as many components, and after it marks of ccc 230.
 fn with_marks(
     alloc: Global,
@@ -66,28 +109,15 @@ fn with_marks(
     base: Component,
     marks: &[Component],
 ) -> Result<hb_buffer_t, Fail> {
-    let mut infos = Vec::new(alloc);
-    let mut first = ligated('f', 1, (base.0, 0));
-    first._hb_glyph_info_set_general_category(hb_unicode_general_category_t::LowercaseLetter);
-    first._hb_glyph_info_set_number_of_components(base.1);
-    infos.push(first)?;
-    for mark in marks {
-        let mut info = ligated('\u{301}', 2, *mark);
-        info._hb_glyph_info_set_general_category(hb_unicode_general_category_t::NonspacingMark);
-        info._hb_glyph_info_set_modified_combining_class(230);
-        infos.push(info)?;
-    }
-    let mut buffer = hb_buffer_t::new(alloc);
-    buffer.replace_infos(infos)?;
+    let mut buffer = buffer_of(alloc, items_of(alloc, base, marks)?)?;
     buffer.set_direction(direction);
-    if buffer.len() > 0 {
-        let advance = GlyphPosition {
-            x_advance: 900,
-            ..GlyphPosition::zero()
-        };
-        buffer.set_position(0, advance);
-    }
+    advance_first(&mut buffer, 900);
     Ok(buffer)
+}
+
+/// Places the marks of a buffer.
+fn place(plan: &Plan<'_>, face: &MapFace, buffer: &mut hb_buffer_t) {
+    position_marks::<PlainUnicode, MapFace, hb_default_shaper_t, (), ()>(plan, face, buffer, false);
 }
 
 /// The offsets of the last mark of a base of three components of ligature 1, under a plan and in a buffer
@@ -100,12 +130,7 @@ fn last_offsets(
     let face = ligature_face(alloc)?;
     let plan = planned(alloc, &face, directions.0)?;
     let mut buffer = with_marks(alloc, directions.1, (1, 3), marks)?;
-    position_marks::<PlainUnicode, MapFace, hb_default_shaper_t, (), ()>(
-        &plan,
-        &face,
-        &mut buffer,
-        false,
-    );
+    place(&plan, &face, &mut buffer);
     Ok(buffer.positions().last().map(|p| (p.x_offset, p.y_offset)))
 }
 
@@ -124,7 +149,11 @@ fn assert_components(
 ) -> Result<(), Fail> {
     for (directions, component, x_offset) in rows {
         let offsets = last_offsets(alloc, *directions, &[(1, *component)])?;
-        assert_eq!(rt; offsets, Some((*x_offset, 112)), "{component}");
+        assert_same(
+            rt,
+            (*component, offsets),
+            (*component, Some((*x_offset, 112))),
+        );
     }
     Ok(())
 }
@@ -195,6 +224,20 @@ fn marks_of_a_component_pile_up(rt: HostRuntime) -> Result<(), Fail> {
     assert_last(&rt, alloc, RIGHTWARD, &[(1, 2), (1, 0)], (-1200, 112))
 }
 
+/// An item of this category and ccc.
+fn classed(c: char, category: hb_unicode_general_category_t, ccc: u8) -> hb_glyph_info_t {
+    let mut info = hb_glyph_info_t::new(c, 0);
+    info._hb_glyph_info_set_general_category(category);
+    info._hb_glyph_info_set_modified_combining_class(ccc);
+    info
+}
+
+/// The ccc of the first item.
+fn first_class(buffer: &hb_buffer_t) -> Option<u8> {
+    let first = buffer.infos().first();
+    first.map(|info| info._hb_glyph_info_get_modified_combining_class())
+}
+
 /// The ccc of a character that has this category and ccc, once marks are recategorised.
 fn recategorised(
     alloc: Global,
@@ -204,31 +247,19 @@ fn recategorised(
 ) -> Result<Option<u8>, Fail> {
     let face = ligature_face(alloc)?;
     let plan = planned(alloc, &face, Direction::LeftToRight)?;
-    let mut info = hb_glyph_info_t::new(c, 0);
-    info._hb_glyph_info_set_general_category(category);
-    info._hb_glyph_info_set_modified_combining_class(ccc);
     let mut infos = Vec::new(alloc);
-    infos.push(info)?;
-    let mut buffer = hb_buffer_t::new(alloc);
-    buffer.replace_infos(infos)?;
+    infos.push(classed(c, category, ccc))?;
+    let mut buffer = buffer_of(alloc, infos)?;
     _hb_ot_shape_fallback_mark_position_recategorize_marks(&plan, &face, &mut buffer);
-    Ok(
-        buffer
-            .infos()
-            .first()
-            .map(|info| info._hb_glyph_info_get_modified_combining_class()),
-    )
+    Ok(first_class(&buffer))
 }
 
 /// Compares what the ccc of marks becomes.
 fn assert_classes(rt: &impl Abort, alloc: Global, rows: &[(char, u8, u8)]) -> Result<(), Fail> {
     let mark = hb_unicode_general_category_t::NonspacingMark;
     for (c, ccc, becomes) in rows {
-        assert_eq!(rt;
-            recategorised(alloc, *c, mark, *ccc)?,
-            Some(*becomes),
-            "{ccc}"
-        );
+        let found = recategorised(alloc, *c, mark, *ccc)?;
+        assert_same(rt, (*ccc, found), (*ccc, Some(*becomes)));
     }
     Ok(())
 }
@@ -261,11 +292,8 @@ fn classes_of_single_characters(rt: HostRuntime) -> Result<(), Fail> {
 fn assert_classes_of_acute(rt: &impl Abort, alloc: Global, rows: &[(u8, u8)]) -> Result<(), Fail> {
     let mark = hb_unicode_general_category_t::NonspacingMark;
     for (ccc, becomes) in rows {
-        assert_eq!(rt;
-            recategorised(alloc, '\u{301}', mark, *ccc)?,
-            Some(*becomes),
-            "{ccc}"
-        );
+        let found = recategorised(alloc, '\u{301}', mark, *ccc)?;
+        assert_same(rt, (*ccc, found), (*ccc, Some(*becomes)));
     }
     Ok(())
 }

@@ -1,12 +1,12 @@
 //! Normalised lists of texts with marks, selectors and spaces, over hooks and faces of the tests' own.
 
 use crate::comparing::{assert_same, assert_that};
+use crate::runs;
 use shape_buffer::buffer::{
     Direction, GlyphId, ScratchFlags, ShapeError, UnicodeBuffer, hb_buffer_t, hb_glyph_info_t,
 };
+use shape_buffer::interfaces::NoLookups;
 use shape_buffer::interfaces::space_types::{SPACE_EM, SPACE_FIGURE};
-use shape_buffer::interfaces::{NoLookups, hb_font_t};
-use shape_pipeline::ot_shape_normalize::{_hb_ot_shape_normalize, normalized_equal};
 use shape_pipeline::ot_shape_plan::hb_ot_shape_plan_t;
 use shape_pipeline::ot_shaper::{DEFAULT_SHAPER, hb_default_shaper_t, hb_ot_shaper_t};
 use shape_prepare::graphemes::set_unicode_props;
@@ -17,62 +17,67 @@ use test_worlds::{
     AbsorbingShaper, DeepShaper, EVERY_GLYPH, ReversingShaper, SmallUnicode, TestFace,
 };
 
-/// A text whose items have the properties of their characters, each in the cluster of its place.
-fn prepared(alloc: Global, text: &[char]) -> Result<hb_buffer_t, Fail> {
+/// Each character in the cluster of its place.
+fn filled(alloc: Global, text: &[char]) -> Result<UnicodeBuffer, Fail> {
     let mut buffer = UnicodeBuffer::new(alloc);
     let mut place: u32 = 0;
     for c in text {
         buffer.add(*c, place)?;
         place = place.saturating_add(1);
     }
-    let mut buffer = buffer.into_inner();
-    set_unicode_props::<SmallUnicode>(&mut buffer);
     Ok(buffer)
+}
+
+/// Sets the properties of all items.
+fn set_properties(buffer: &mut hb_buffer_t) {
+    set_unicode_props::<SmallUnicode>(buffer);
+}
+
+/// A text whose items have the properties of their characters, each in the cluster of its place.
+fn prepared(alloc: Global, text: &[char]) -> Result<hb_buffer_t, Fail> {
+    let mut buffer = filled(alloc, text)?.into_inner();
+    set_properties(&mut buffer);
+    Ok(buffer)
+}
+
+/// Begins a run from left to right.
+fn enter(buffer: &mut hb_buffer_t) {
+    buffer.set_direction(Direction::LeftToRight);
+    buffer.enter();
 }
 
 /// A prepared buffer of one character, in a direction, whose run has begun.
 fn entered(alloc: Global, c: char) -> Result<hb_buffer_t, Fail> {
     let mut buffer = prepared(alloc, &[c])?;
-    buffer.set_direction(Direction::LeftToRight);
-    buffer.enter();
+    enter(&mut buffer);
     Ok(buffer)
 }
 
 /// A plan that runs to the right.
-fn planned<'a, F, S>(
+fn planned<'a, S>(
     alloc: Global,
-    face: &'a F,
+    face: &'a TestFace<'a>,
     shaper: &'a S,
 ) -> Result<hb_ot_shape_plan_t<'a, S, (), ()>, Fail>
 where
-    F: hb_font_t,
-    S: hb_ot_shaper_t<SmallUnicode, F, NoLookups, Data = ()>,
+    S: hb_ot_shaper_t<SmallUnicode, TestFace<'a>, NoLookups, Data = ()>,
 {
-    let plan = hb_ot_shape_plan_t::new::<SmallUnicode, F, NoLookups>(
-        alloc,
-        face,
-        shaper,
-        Direction::LeftToRight,
-        None,
-        None,
-        &[],
-    )?;
-    Ok(plan)
+    let direction = Direction::LeftToRight;
+    runs::plan_for::<SmallUnicode, TestFace<'a>, NoLookups, S>(alloc, face, shaper, direction, None)
 }
 
 /// Normalises a prepared buffer under a plan of its own.
-fn normalize<F, S>(
+fn normalize<'a, S>(
     alloc: Global,
-    face: &F,
-    shaper: &S,
+    face: &'a TestFace<'a>,
+    shaper: &'a S,
     buffer: &mut hb_buffer_t,
 ) -> Result<(), Fail>
 where
-    F: hb_font_t,
-    S: hb_ot_shaper_t<SmallUnicode, F, NoLookups, Data = ()>,
+    S: hb_ot_shaper_t<SmallUnicode, TestFace<'a>, NoLookups, Data = ()>,
 {
     let plan = planned(alloc, face, shaper)?;
-    _hb_ot_shape_normalize::<SmallUnicode, F, NoLookups, S>(alloc, &plan, buffer, face)?;
+    runs::normalise::<SmallUnicode, TestFace<'a>, NoLookups, S>(alloc, &plan, face, buffer)?;
     Ok(())
 }
 
@@ -90,24 +95,37 @@ fn normalize_by_default(
 
 /// Normalises a prepared buffer by the shaper whose hook composes all, over a face of U+0061 alone.
 fn absorb(alloc: Global, buffer: &mut hb_buffer_t) -> Result<(), Fail> {
-    normalize(alloc, &TestFace::of(&['a']), &AbsorbingShaper, buffer)
+    let face = TestFace::of(&['a']);
+    normalize(alloc, &face, &AbsorbingShaper, buffer)
+}
+
+/// Normalises a prepared buffer by the shaper whose hook reverses marks, over a face of U+0061 and two marks.
+fn reverse_marks(alloc: Global, buffer: &mut hb_buffer_t) -> Result<(), Fail> {
+    let face = TestFace::of(&['a', '\u{301}', '\u{323}']);
+    normalize(alloc, &face, &ReversingShaper, buffer)
 }
 
 /// Compares characters, glyphs and clusters.
 fn assert_items(rt: &impl Abort, buffer: &hb_buffer_t, items: &[(char, u32, u32)]) {
     assert_same(rt, buffer.len(), items.len());
-    for (info, (c, glyph, cluster)) in buffer.infos().iter().zip(items) {
-        assert_same(rt, info.codepoint, *c);
-        assert_same(rt, info.glyph_index, *glyph);
-        assert_same(rt, info.cluster, *cluster);
+    for (info, item) in buffer.infos().iter().zip(items) {
+        let found = (info.codepoint, info.glyph_index, info.cluster);
+        assert_same(rt, found, *item);
     }
+}
+
+/// Whether an item is a marked selector, and whether it is ignorable.
+fn selector_of(info: &hb_glyph_info_t) -> (bool, bool) {
+    (
+        info._hb_glyph_info_get_selector_mark(),
+        info._hb_glyph_info_get_ignorable(),
+    )
 }
 
 /// Compares of each item whether it is a marked selector, and whether it is ignorable.
 fn assert_selectors(rt: &impl Abort, buffer: &hb_buffer_t, items: &[(bool, bool)]) {
-    for (info, (marked, ignorable)) in buffer.infos().iter().zip(items) {
-        assert_same(rt, info._hb_glyph_info_get_selector_mark(), *marked);
-        assert_same(rt, info._hb_glyph_info_get_ignorable(), *ignorable);
+    for (info, item) in buffer.infos().iter().zip(items) {
+        assert_same(rt, selector_of(info), *item);
     }
 }
 
@@ -118,9 +136,8 @@ fn assert_reversed(
     text: &[char],
     (acute, dot_below): (u32, u32),
 ) -> Result<(), Fail> {
-    let face = TestFace::of(&['a', '\u{301}', '\u{323}']);
     let mut buffer = prepared(alloc, text)?;
-    normalize(alloc, &face, &ReversingShaper, &mut buffer)?;
+    reverse_marks(alloc, &mut buffer)?;
     let items = [
         ('a', 0x61, 0),
         ('\u{301}', 0x301, acute),
@@ -146,17 +163,27 @@ fn a_compose_hook_is_asked(rt: HostRuntime) -> Result<(), Fail> {
     Ok(())
 }
 
-/// Items of these characters, clusters and masks, prepared.
-fn masked(alloc: Global, rows: &[(char, u32, u32)]) -> Result<hb_buffer_t, Fail> {
+/// An item with a mask.
+fn item(c: char, cluster: u32, mask: u32) -> hb_glyph_info_t {
+    let mut item = hb_glyph_info_t::new(c, cluster);
+    item.mask = mask;
+    item
+}
+
+/// Items of these characters, clusters and masks.
+fn items_of(alloc: Global, rows: &[(char, u32, u32)]) -> Result<Vec<hb_glyph_info_t>, Fail> {
     let mut items = Vec::new(alloc);
     for (c, cluster, mask) in rows {
-        let mut item = hb_glyph_info_t::new(*c, *cluster);
-        item.mask = *mask;
-        items.push(item)?;
+        items.push(item(*c, *cluster, *mask))?;
     }
+    Ok(items)
+}
+
+/// Items of these characters, clusters and masks, prepared.
+fn masked(alloc: Global, rows: &[(char, u32, u32)]) -> Result<hb_buffer_t, Fail> {
     let mut buffer = hb_buffer_t::new(alloc);
-    buffer.replace_infos(items)?;
-    set_unicode_props::<SmallUnicode>(&mut buffer);
+    buffer.replace_infos(items_of(alloc, rows)?)?;
+    set_properties(&mut buffer);
     Ok(buffer)
 }
 
@@ -228,7 +255,16 @@ fn a_selector_without_a_variant_is_marked(rt: HostRuntime) -> Result<(), Fail> {
     Ok(())
 }
 
-/// The glyph and the remembered space type of one character, and whether the run has seen such a space.
+/// The glyph and the remembered space type of the first item, and whether the run has seen such a space.
+fn first_space(buffer: &hb_buffer_t) -> Result<(u32, u8, bool), Fail> {
+    let Some(info) = buffer.infos().first() else {
+        return Err(Fail::from("no item"));
+    };
+    let seen = buffer.scratch_flags().0 & 4 == 4;
+    Ok((info.glyph_index, info._hb_glyph_info_get_space_type(), seen))
+}
+
+/// What a run makes of one character: see [`first_space`].
 fn space_of(
     alloc: Global,
     face: &TestFace<'_>,
@@ -238,11 +274,7 @@ fn space_of(
     let mut buffer = prepared(alloc, &[c])?;
     buffer.set_invisible_glyph(invisible);
     normalize_by_default(alloc, face, &mut buffer)?;
-    let Some(info) = buffer.infos().first() else {
-        return Err(Fail::from("no item"));
-    };
-    let seen = buffer.scratch_flags().0 & 4 == 4;
-    Ok((info.glyph_index, info._hb_glyph_info_get_space_type(), seen))
+    first_space(&buffer)
 }
 
 /// Compares what a space becomes over a face of these characters.
@@ -291,7 +323,7 @@ fn assert_equal(
 ) -> Result<(), Fail> {
     let mut a = prepared(alloc, &['a', '\u{301}', '\u{323}'])?;
     let mut b = prepared(alloc, text)?;
-    let answer = normalized_equal::<SmallUnicode, TestFace<'_>, NoLookups, hb_default_shaper_t>(
+    let answer = runs::are_alike::<SmallUnicode, TestFace<'_>, NoLookups, hb_default_shaper_t>(
         alloc, plan, face, &mut a, &mut b,
     )?;
     assert_same(rt, answer, equal);
@@ -310,6 +342,12 @@ fn two_texts_are_compared(rt: HostRuntime) -> Result<(), Fail> {
     assert_equal(&rt, alloc, by, &['a', '\u{323}'], false)
 }
 
+/// Asserts that a buffer is cleared.
+fn assert_cleared(rt: &impl Abort, buffer: &hb_buffer_t) {
+    assert_that(rt, buffer.is_empty());
+    assert_same(rt, buffer.direction(), Direction::Invalid);
+}
+
 /// Asserts that two characters are refused for length, and that both buffers are cleared then.
 fn assert_too_long(
     rt: &impl Abort,
@@ -319,7 +357,7 @@ fn assert_too_long(
 ) -> Result<(), Fail> {
     let mut a = entered(alloc, first)?;
     let mut b = entered(alloc, second)?;
-    let answer = normalized_equal::<SmallUnicode, TestFace<'_>, NoLookups, DeepShaper>(
+    let answer = runs::are_alike::<SmallUnicode, TestFace<'_>, NoLookups, DeepShaper>(
         alloc,
         plan,
         &EVERY_GLYPH,
@@ -327,12 +365,8 @@ fn assert_too_long(
         &mut b,
     );
     assert_same(rt, answer, Err(ShapeError::Length));
-    assert_that(rt, a.is_empty() && b.is_empty());
-    assert_same(
-        rt,
-        (a.direction(), b.direction()),
-        (Direction::Invalid, Direction::Invalid),
-    );
+    assert_cleared(rt, &a);
+    assert_cleared(rt, &b);
     Ok(())
 }
 

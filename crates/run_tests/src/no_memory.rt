@@ -3,25 +3,20 @@
 //! both, which must be as many.
 
 use crate::comparing::{assert_same, assert_that};
-use crate::texts::face_of;
+use crate::runs;
+use crate::texts::{face_of, guess};
 use shape_buffer::buffer::{
-    BufferFlags, Direction, GlyphId, ScratchFlags, Script, UnicodeBuffer, hb_buffer_t,
-    hb_glyph_info_t, hb_tag_t,
+    BufferFlags, Direction, GlyphId, Script, UnicodeBuffer, hb_buffer_t, hb_glyph_info_t, hb_tag_t,
 };
 use shape_buffer::interfaces::{
     MapFace, NoLookups, TableIndex, hb_font_t, hb_ot_layout_t, hb_ot_map_builder_t,
 };
-use shape_buffer::walks::update_items;
-use shape_pipeline::ot_shape::{hb_ot_shape_context_t, prepare_text, shape_internal};
-use shape_pipeline::ot_shape_normalize::{_hb_ot_shape_normalize, meets_canonical_premises};
 use shape_pipeline::ot_shape_plan::hb_ot_shape_plan_t;
 use shape_pipeline::ot_shaper::{
     DEFAULT_SHAPER, Decomposed, Preferring, hb_default_shaper_t, hb_ot_shaper_t,
 };
-use shape_pipeline::shape_with_plan;
 use shape_plan::shaping_types::TypesOf;
 use shape_prepare::graphemes::set_unicode_props;
-use shape_substitute::fractions::setup_masks_fraction;
 use shape_unicode::UnicodeDatabase;
 use std::alloc::Global;
 use std::process::Abort;
@@ -33,10 +28,13 @@ mod steps;
 /// The types of a run with the default shaper.
 type Types = TypesOf<UnicodeDatabase, MapFace, NoLookups, hb_default_shaper_t>;
 
+/// The same with masks for the features of fractions.
+type DividingTypes = TypesOf<UnicodeDatabase, TestFace<'static>, TestLayout, hb_default_shaper_t>;
+
 /// A plan of the default shaper.
 type Plan<'a> = hb_ot_shape_plan_t<'a, hb_default_shaper_t, (), ()>;
 
-/// The same with masks for the features of fractions.
+/// A plan with masks for fractions.
 type DividingPlan<'a> = hb_ot_shape_plan_t<'a, hb_default_shaper_t, TestMap, ()>;
 
 /// A plan of the shaper that decomposes fully.
@@ -83,22 +81,32 @@ const DIVIDING: TestFace<'static> = TestFace {
     ..PLAIN_FACE
 };
 
-/// The characters in a run, each in a cluster of its own. The lists have room for so many items and
-/// no more, so that a growth by one is seen.
-fn entered(alloc: Global, text: &[char]) -> Result<hb_buffer_t, Fail> {
+/// Items of these characters, each in a cluster of its own.
+fn items_of(alloc: Global, text: &[char]) -> Result<Vec<hb_glyph_info_t>, Fail> {
     let mut infos: Vec<hb_glyph_info_t> = Vec::new(alloc);
     let mut cluster: u32 = 0;
     for c in text.iter() {
         infos.push(hb_glyph_info_t::new(*c, cluster))?;
         cluster = cluster.saturating_add(1);
     }
-    let mut buffer = UnicodeBuffer::new(alloc).into_inner();
-    buffer.replace_infos(infos)?;
+    Ok(infos)
+}
+
+/// Sets what a run depends on, and begins it.
+fn set_and_enter(buffer: &mut hb_buffer_t) {
     buffer.set_direction(Direction::LeftToRight);
     buffer.set_script(Some(Script(hb_tag_t::from_bytes(b"Hebr"))));
     buffer.set_flags(BufferFlags::REMOVE_DEFAULT_IGNORABLES);
     buffer.set_not_found_variation_selector_glyph(Some(GlyphId(4)));
     buffer.enter();
+}
+
+/// The characters in a run, each in a cluster of its own. The lists have room for so many items and
+/// no more, so that a growth by one is seen.
+fn entered(alloc: Global, text: &[char]) -> Result<hb_buffer_t, Fail> {
+    let mut buffer = UnicodeBuffer::new(alloc).into_inner();
+    buffer.replace_infos(items_of(alloc, text)?)?;
+    set_and_enter(&mut buffer);
     Ok(buffer)
 }
 
@@ -113,16 +121,8 @@ where
     M: hb_ot_layout_t<F>,
     S: hb_ot_shaper_t<UnicodeDatabase, F, M, Data = ()>,
 {
-    let plan = hb_ot_shape_plan_t::new::<UnicodeDatabase, F, M>(
-        alloc,
-        face,
-        shaper,
-        Direction::LeftToRight,
-        None,
-        None,
-        &[],
-    )?;
-    Ok(plan)
+    let direction = Direction::LeftToRight;
+    runs::plan_for::<UnicodeDatabase, F, M, S>(alloc, face, shaper, direction, None)
 }
 
 fn begin<'a>(
@@ -140,92 +140,119 @@ fn begin<'a>(
     })
 }
 
-/// The answers of a plan by a face without tables, an engine without masks, and a shaper with both wishes for
-/// marks.
-fn assert_plain(rt: &impl Abort, plan: &Plan<'_>) {
-    plan.masks_are_features();
-    plan.positions_by_one_table();
-    assert!(rt; plan.direction() == Direction::LeftToRight && plan.script().is_none());
-    assert!(rt; plan.shaper().is_some() && plan.data().is_none());
-    assert!(rt; plan.user_features().is_empty());
+/// What a plan is for: its direction, whether it has a script, a shaper and data, and how many features users asked
+/// for.
+fn made_for(plan: &Plan<'_>) -> (Direction, [bool; 3], usize) {
     let () = *plan.ot_map();
-    let fractions = [plan.frac_mask(), plan.numr_mask(), plan.dnom_mask()];
-    let others = [plan.rtlm_mask(), plan.kern_mask(), plan.trak_mask()];
-    assert_eq!(rt; (fractions, others), ([0; 3], [0; 3]));
-    let applied = [
+    (
+        plan.direction(),
+        [
+            plan.script().is_some(),
+            plan.shaper().is_some(),
+            plan.data().is_some(),
+        ],
+        plan.user_features().len(),
+    )
+}
+
+/// The masks of fractions, and others.
+fn masks_of(plan: &Plan<'_>) -> [u32; 6] {
+    [
+        plan.frac_mask(),
+        plan.numr_mask(),
+        plan.dnom_mask(),
+        plan.rtlm_mask(),
+        plan.kern_mask(),
+        plan.trak_mask(),
+    ]
+}
+
+/// Which tables are applied.
+fn applied(plan: &Plan<'_>) -> [bool; 5] {
+    [
         plan.apply_morx(),
         plan.apply_gpos(),
         plan.apply_kerx(),
         plan.apply_kern(),
         plan.apply_trak(),
-    ];
-    assert_eq!(rt; applied, [false; 5]);
-    let found = [plan.has_frac(), plan.has_vert(), plan.has_gpos_mark()];
-    assert_eq!(rt; (found, plan.requested_kerning()), ([false; 3], false));
-    let in_their_place = [
+    ]
+}
+
+/// Which features were found.
+fn found(plan: &Plan<'_>) -> [bool; 4] {
+    [
+        plan.has_frac(),
+        plan.has_vert(),
+        plan.has_gpos_mark(),
+        plan.requested_kerning(),
+    ]
+}
+
+/// What stands in the place of tables.
+fn in_their_place(plan: &Plan<'_>) -> [bool; 5] {
+    [
         plan.fallback_glyph_classes(),
         plan.apply_fallback_kern(),
         plan.zero_marks(),
         plan.fallback_mark_positioning(),
         plan.adjust_mark_positioning_when_zeroing(),
-    ];
-    assert_eq!(rt; in_their_place, [true; 5]);
+    ]
 }
 
-/// A builder of requests, asked and set before there are any.
-fn assert_no_requests(rt: &impl Abort, alloc: Global, face: &MapFace) {
+/// Calls that say something of a plan to a prover alone.
+fn say(plan: &Plan<'_>) {
+    plan.masks_are_features();
+    plan.positions_by_one_table();
+}
+
+/// The answers of a plan by a face without tables, an engine without masks, and a shaper with both wishes for
+/// marks.
+fn assert_plain(rt: &impl Abort, plan: &Plan<'_>) {
+    say(plan);
+    let made_for_all = (Direction::LeftToRight, [false, true, false], 0);
+    assert_same(rt, made_for(plan), made_for_all);
+    assert_same(rt, masks_of(plan), [0; 6]);
+    assert_same(rt, applied(plan), [false; 5]);
+    assert_same(rt, found(plan), [false; 4]);
+    assert_same(rt, in_their_place(plan), [true; 5]);
+}
+
+/// What a builder of requests says that is told to be no simple one: how many requests it has, whether it is simple,
+/// and whether it chose a script.
+fn without_requests(alloc: Global, face: &MapFace) -> (usize, bool, bool) {
     let mut builder = hb_ot_map_builder_t::new::<MapFace, NoLookups>(alloc, face, None, None);
     builder.set_simple(false);
-    assert!(rt; builder.requests().is_empty() && !builder.is_simple());
-    assert!(rt; builder.chosen_script(TableIndex::GSUB).is_none());
+    let chosen = builder.chosen_script(TableIndex::GSUB);
+    (
+        builder.requests().len(),
+        builder.is_simple(),
+        chosen.is_some(),
+    )
 }
 
-/// An item as normalising may leave it: with a glyph and a flag, and marked if it is a selector.
-fn normalised(info: &hb_glyph_info_t) -> hb_glyph_info_t {
-    let mut info = *info;
-    info.glyph_index = match info.codepoint {
-        'a' | 'b' => 1,
-        '\u{301}' => 2,
-        '\u{323}' => 3,
-        _ => 4,
-    };
-    info.mask |= 1;
-    let is_selector = info.codepoint == '\u{FE00}';
-    info._hb_glyph_info_set_selector_mark(is_selector);
-    info
+/// Sets the properties of all items.
+fn set_properties(buffer: &mut hb_buffer_t) {
+    set_unicode_props::<UnicodeDatabase>(buffer);
 }
 
-/// Sets all items so, and each scratch flag.
-fn set_items(buffer: &mut hb_buffer_t) {
-    update_items(buffer, |info| normalised(info));
-    buffer.set_scratch_flags(ScratchFlags(63));
+/// Whether a text meets the premises of canonical form in a mode.
+fn meets<S>(plan: &hb_ot_shape_plan_t<'_, S, (), ()>, face: &MapFace, text: &hb_buffer_t) -> bool
+where
+    S: hb_ot_shaper_t<UnicodeDatabase, MapFace, NoLookups, Data = ()>,
+{
+    runs::meets_premises::<UnicodeDatabase, MapFace, NoLookups, S>(plan, face, text)
 }
 
-/// Prepares a text, and asks for the premises in a mode that misses the first of them and in one in which the
-/// text meets all.
-fn assert_premises(
-    rt: &impl Abort,
-    plain: &Plan<'_>,
-    full: &FullPlan<'_>,
-    face: &MapFace,
-    text: &mut hb_buffer_t,
-) {
-    set_unicode_props::<UnicodeDatabase>(text);
-    assert!(rt;
-        !meets_canonical_premises::<UnicodeDatabase, MapFace, NoLookups, _>(plain, face, text)
-    );
-    assert!(rt;
-        meets_canonical_premises::<UnicodeDatabase, MapFace, NoLookups, _>(full, face, text)
-    );
+/// An empty text.
+fn nothing(alloc: Global) -> UnicodeBuffer {
+    let mut empty = UnicodeBuffer::new(alloc);
+    guess(&mut empty);
+    empty
 }
 
-/// Digits and the slash between them get the features of fractions.
-fn divide(rt: &impl Abort, plan: &DividingPlan<'_>, buffer: &mut hb_buffer_t) {
-    setup_masks_fraction(plan, buffer);
-    for info in buffer.infos().iter() {
-        let is_part = matches!(info.codepoint, '1' | '2' | '\u{2044}');
-        assert_eq!(rt; info.mask & plan.frac_mask() != 0, is_part);
-    }
+/// Whether a plan fits an empty text.
+fn fits(plan: &Plan<'_>, alloc: Global) -> bool {
+    plan.fits::<UnicodeDatabase>(&nothing(alloc))
 }
 
 #[test]
@@ -250,52 +277,52 @@ fn steps_are_made(rt: HostRuntime) -> Result<(), Fail> {
         mut text,
         mut spelled,
     } = begin(alloc, &face, &DIVIDING, &decomposing)?;
-    let mut empty = UnicodeBuffer::new(alloc);
-    empty.guess_segment_properties::<UnicodeDatabase>();
-    assert_that(&rt, plain.fits::<UnicodeDatabase>(&empty));
+    assert_that(&rt, fits(&plain, alloc));
     assert_plain(&rt, &plain);
-    assert_no_requests(&rt, alloc, &face);
-    assert_premises(&rt, &plain, &full, &face, &mut spelled);
-    steps::form_graphemes(&plain, &mut text);
-    steps::reverse(&plain, &face, &mut text);
-    set_items(&mut text);
-    divide(&rt, &dividing, &mut text);
-    steps::make_glyphs(&plain, &face, &mut text)?;
-    steps::place(&plain, &face, &mut text);
-    assert_same(&rt, text.len(), 16);
-    steps::order(&mut text);
-    steps::hide(&plain, &face, &mut text);
-    assert_same(&rt, text.len(), 12);
-    Ok(())
+    assert_same(&rt, without_requests(alloc, &face), (0, false, false));
+    set_properties(&mut spelled);
+    // the default mode misses the first premise, and in the other one the text meets all
+    assert_same(&rt, meets(&plain, &face, &spelled), false);
+    assert_same(&rt, meets(&full, &face, &spelled), true);
+    steps::make_all::<_, Types, DividingTypes>(&rt, (&plain, &dividing), &face, &mut text)
 }
 
-/// Prepares and shapes a buffer without items.
-fn shape_in_place(alloc: Global, plan: &Plan<'_>, face: &MapFace) -> Result<(), Fail> {
+/// A buffer without items that runs to the right.
+fn empty(alloc: Global) -> hb_buffer_t {
     let mut buffer = UnicodeBuffer::new(alloc).into_inner();
     buffer.set_direction(Direction::LeftToRight);
-    _hb_ot_shape_normalize::<UnicodeDatabase, _, NoLookups, _>(alloc, plan, &mut buffer, face)?;
-    let target_direction = buffer.direction();
-    if target_direction != Direction::LeftToRight {
-        return Err(Fail::from("another direction"));
-    }
-    let mut ctx = hb_ot_shape_context_t {
+    buffer
+}
+
+/// Normalises, shapes and prepares a buffer without items.
+fn shape_in_place(alloc: Global, plan: &Plan<'_>, face: &MapFace) -> Result<(), Fail> {
+    let mut buffer = empty(alloc);
+    runs::normalise::<UnicodeDatabase, MapFace, NoLookups, hb_default_shaper_t>(
+        alloc,
         plan,
         face,
-        buffer: &mut buffer,
-        target_direction,
-    };
-    shape_internal::<UnicodeDatabase, MapFace, NoLookups, _>(alloc, &mut ctx)?;
-    prepare_text::<UnicodeDatabase, MapFace, NoLookups, _>(alloc, &mut ctx)?;
-    Ok(())
+        &mut buffer,
+    )?;
+    runs::shape_in_place::<UnicodeDatabase, MapFace, NoLookups, hb_default_shaper_t>(
+        alloc,
+        plan,
+        face,
+        &mut buffer,
+    )?;
+    runs::prepare::<UnicodeDatabase, MapFace, NoLookups, hb_default_shaper_t>(
+        alloc,
+        plan,
+        face,
+        &mut buffer,
+    )
 }
 
 /// How many glyphs an empty text has.
 fn shape_nothing(alloc: Global, plan: &Plan<'_>, face: &MapFace) -> Result<usize, Fail> {
     let text = UnicodeBuffer::new(alloc);
-    if !plan.fits::<UnicodeDatabase>(&text) {
-        return Err(Fail::from("the plan doesn't fit"));
-    }
-    match shape_with_plan::<UnicodeDatabase, MapFace, NoLookups, _>(alloc, face, plan, text) {
+    match runs::glyphs_under::<UnicodeDatabase, MapFace, NoLookups, hb_default_shaper_t>(
+        alloc, plan, face, text,
+    )? {
         Ok(glyphs) => Ok(glyphs.len()),
         Err(_) => Err(Fail::from("refused")),
     }

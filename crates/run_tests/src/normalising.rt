@@ -1,13 +1,13 @@
 //! Normalised lists of texts over the whole database of Unicode.
 
 use crate::comparing::assert_same;
+use crate::runs;
 use crate::texts::{
     BY_CHARACTER, Manner, PLAINLY, assert_characters, assert_items, normalised, planned, prepared,
     text_of,
 };
 use shape_buffer::buffer::{Direction, hb_buffer_t};
 use shape_buffer::interfaces::NoLookups;
-use shape_pipeline::ot_shape_normalize::normalized_equal;
 use shape_pipeline::ot_shaper::{
     ComposedDiacritics, ComposedDiacriticsNoShortCircuit, DEFAULT_SHAPER, Decomposed, Preferring,
     Shortest,
@@ -164,7 +164,7 @@ fn are_normalised_alike(alloc: Global, first: &[char], second: &[char]) -> Resul
     let plan = planned(alloc, &face, &shaper, &first)?;
     let mut a = prepared(alloc, &face, &shaper, first)?;
     let mut b = prepared(alloc, &face, &shaper, text_of(alloc, PLAINLY, second)?)?;
-    let answer = normalized_equal::<
+    let answer = runs::are_alike::<
         UnicodeDatabase,
         TestFace<'_>,
         NoLookups,

@@ -2,7 +2,8 @@
 
 use crate::comparing::{assert_same, assert_that};
 use crate::texts::{
-    BY_CHARACTER, GlyphOf, Manner, PLAINLY, PlacedGlyph, assert_glyphs, face_of, shaped, text_of,
+    BY_CHARACTER, GlyphOf, Manner, PLAINLY, PlacedGlyph, assert_glyphs, face_of, guess, shaped,
+    text_of,
 };
 use shape_buffer::buffer::{
     BufferFlags, Direction, GlyphBuffer, GlyphId, ScratchFlags, UnicodeBuffer, hb_buffer_t,
@@ -10,7 +11,6 @@ use shape_buffer::buffer::{
 };
 use shape_pipeline::ot_shaper::DEFAULT_SHAPER;
 use shape_position::flags::propagate_flags;
-use shape_unicode::UnicodeDatabase;
 use std::alloc::Global;
 use std::process::Abort;
 use std::test::Fail;
@@ -188,7 +188,7 @@ fn two_letters_again(rt: &impl Abort, glyphs: GlyphBuffer) -> Result<UnicodeBuff
     let mut again = glyphs.clear();
     assert_that(rt, again.is_empty());
     again.push_str("\u{5D0}\u{5D1}")?;
-    again.guess_segment_properties::<UnicodeDatabase>();
+    guess(&mut again);
     Ok(again)
 }
 
@@ -208,23 +208,43 @@ fn a_cleared_buffer_serves_again(rt: HostRuntime) -> Result<(), Fail> {
     Ok(())
 }
 
-/// The masks of two glyphs of one cluster after the flags were handed out.
-fn handed_out(alloc: Global, flags: BufferFlags, masks: [u32; 2]) -> Result<[u32; 2], Fail> {
+/// An item with a mask.
+fn masked(mask: u32) -> hb_glyph_info_t {
+    let mut item = hb_glyph_info_t::new('a', 0);
+    item.mask = mask;
+    item
+}
+
+/// Items of one cluster with these masks.
+fn items_of(alloc: Global, masks: [u32; 2]) -> Result<Vec<hb_glyph_info_t>, Fail> {
     let mut items = Vec::new(alloc);
     for mask in masks {
-        let mut item = hb_glyph_info_t::new('a', 0);
-        item.mask = mask;
-        items.push(item)?;
+        items.push(masked(mask))?;
     }
-    let mut buffer = hb_buffer_t::new(alloc);
-    buffer.replace_infos(items)?;
+    Ok(items)
+}
+
+/// Hands the flags of glyphs out over their clusters, as these flags of a text ask for it.
+fn hand_out(buffer: &mut hb_buffer_t, flags: BufferFlags) {
     buffer.set_flags(flags);
     buffer.set_scratch_flags(ScratchFlags::HAS_GLYPH_FLAGS);
-    propagate_flags(&mut buffer);
+    propagate_flags(buffer);
+}
+
+/// The masks of two items.
+fn two_masks(buffer: &hb_buffer_t) -> Result<[u32; 2], Fail> {
     let [first, second] = buffer.infos() else {
         return Err(Fail::from("not two items"));
     };
     Ok([first.mask, second.mask])
+}
+
+/// The masks of two glyphs of one cluster after the flags were handed out.
+fn handed_out(alloc: Global, flags: BufferFlags, masks: [u32; 2]) -> Result<[u32; 2], Fail> {
+    let mut buffer = hb_buffer_t::new(alloc);
+    buffer.replace_infos(items_of(alloc, masks)?)?;
+    hand_out(&mut buffer, flags);
+    two_masks(&buffer)
 }
 
 #[test]

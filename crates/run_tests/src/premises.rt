@@ -1,9 +1,9 @@
 //! Texts that meet the premises of canonical form, and texts that miss one of them.
 
 use crate::comparing::assert_same;
-use crate::texts::{PLAINLY, planned, prepared, text_of};
+use crate::runs;
+use crate::texts::{PLAINLY, planned, text_of};
 use shape_buffer::interfaces::{NoLookups, hb_font_t};
-use shape_pipeline::ot_shape_normalize::meets_canonical_premises;
 use shape_pipeline::ot_shaper::{
     ComposedDiacritics, ComposedDiacriticsNoShortCircuit, DEFAULT_SHAPER, Decomposed, Preferring,
     Shortest, hb_ot_shaper_t,
@@ -22,8 +22,9 @@ where
 {
     let text = text_of(alloc, PLAINLY, text)?;
     let plan = planned(alloc, face, shaper, &text)?;
-    let buffer = prepared(alloc, face, shaper, text)?;
-    Ok(meets_canonical_premises::<UnicodeDatabase, F, NoLookups, S>(&plan, face, &buffer))
+    let mut buffer = text.into_inner();
+    runs::prepare::<UnicodeDatabase, F, NoLookups, S>(alloc, &plan, face, &mut buffer)?;
+    Ok(runs::meets_premises::<UnicodeDatabase, F, NoLookups, S>(&plan, face, &buffer))
 }
 
 /// Compares whether a text meets them in the mode that decomposes fully.

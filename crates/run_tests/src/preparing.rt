@@ -107,9 +107,8 @@ fn dotted_circle(rt: HostRuntime) -> Result<(), Fail> {
 /// Compares the characters of glyphs, and their clusters.
 fn assert_glyphs_of(rt: &impl Abort, glyphs: &GlyphBuffer, items: &[(char, u32)]) {
     assert_same(rt, glyphs.len(), items.len());
-    for (info, (c, cluster)) in glyphs.glyph_infos().iter().zip(items) {
-        assert_same(rt, info.codepoint, *c);
-        assert_same(rt, info.cluster, *cluster);
+    for (info, item) in glyphs.glyph_infos().iter().zip(items) {
+        assert_same(rt, (info.codepoint, info.cluster), *item);
     }
 }
 

@@ -3,126 +3,24 @@
 //! buffer gives once it is filled again.
 
 use crate::comparing::{assert_same, assert_that};
+use crate::refusals::runs_of_rows::{Row, assert_cleared, assert_row, bare, text_set};
+use crate::runs;
 use crate::texts::{
-    BY_CHARACTER, Manner, PLAINLY, PlacedGlyph, assert_characters, assert_glyphs, face_of, planned,
-    prepared, text_of,
+    BY_CHARACTER, Manner, PLAINLY, assert_characters, face_of, filled, guess, planned, text_of,
 };
-use shape_buffer::buffer::{
-    BufferFlags, Direction, GlyphId, Language, ShapeError, UnicodeBuffer, hb_buffer_t,
-};
-use shape_buffer::interfaces::{MapFace, NoLookups, hb_font_t};
-use shape_pipeline::ot_shape_normalize::normalized_equal;
+use shape_buffer::buffer::{BufferFlags, Direction, ShapeError, UnicodeBuffer, hb_buffer_t};
+use shape_buffer::interfaces::{MapFace, NoLookups};
 use shape_pipeline::ot_shaper::{
-    ComposedDiacriticsNoShortCircuit, DEFAULT_SHAPER, Decomposed, Preferring, hb_ot_shaper_t,
+    ComposedDiacriticsNoShortCircuit, DEFAULT_SHAPER, Decomposed, Preferring,
 };
-use shape_pipeline::{ShapePlan, normalised_characters, shape};
+use shape_pipeline::{ShapePlan, normalised_characters};
 use shape_unicode::UnicodeDatabase;
 use std::alloc::Global;
 use std::process::Abort;
 use std::test::Fail;
 use test_worlds::{EVERY_GLYPH, TestFace};
 
-/// A text, and its glyphs.
-#[derive(Clone, Copy)]
-struct Row<'a> {
-    manner: Manner,
-    text: &'a [char],
-    glyphs: &'a [PlacedGlyph],
-}
-
-/// A glyph of no width, with its cluster and flags.
-const fn bare(glyph: u32, cluster: u32, flags: u32) -> PlacedGlyph {
-    (glyph, cluster, (0, 0, 0, 0), flags)
-}
-
-/// A text with every setting, except for a context before the beginning of one.
-fn text_set(alloc: Global, row: Row<'_>) -> Result<UnicodeBuffer, Fail> {
-    let mut text = text_of(alloc, row.manner, row.text)?;
-    text.set_language(Some(Language(String::from_str(alloc, "fr")?)));
-    text.set_invisible_glyph(Some(GlyphId(3)));
-    text.set_not_found_variation_selector_glyph(Some(GlyphId(4)));
-    if row.manner.flags != BufferFlags::BEGINNING_OF_TEXT {
-        text.set_pre_context("before");
-    }
-    text.set_post_context("behind");
-    Ok(text)
-}
-
-/// Compares what is left of a text with what clearing leaves: flags, level and the two glyphs.
-fn assert_cleared(rt: &impl Abort, row: Row<'_>, text: &UnicodeBuffer) {
-    assert!(rt; text.is_empty());
-    assert_eq!(rt;
-        (text.direction(), text.script()),
-        (Direction::Invalid, None)
-    );
-    assert!(rt; text.language().is_none());
-    assert!(rt; text.pre_context().is_empty() && text.post_context().is_empty());
-    assert_eq!(rt; text.flags(), row.manner.flags);
-    assert_eq!(rt; text.cluster_level(), row.manner.level);
-    assert_eq!(rt; text.invisible_glyph(), Some(GlyphId(3)));
-    assert_eq!(rt; text.not_found_variation_selector_glyph(), Some(GlyphId(4)));
-}
-
-/// Compares the glyphs of a row. If its run is refused, compares what is left, and the glyphs of the same text in
-/// the buffer that is handed back.
-fn assert_row<F, S>(
-    rt: &impl Abort,
-    alloc: Global,
-    face: &F,
-    shaper: &S,
-    row: Row<'_>,
-) -> Result<(), Fail>
-where
-    F: hb_font_t,
-    S: hb_ot_shaper_t<UnicodeDatabase, F, NoLookups, Data = ()>,
-{
-    let text = text_set(alloc, row)?;
-    match shape::<UnicodeDatabase, F, NoLookups, S>(alloc, face, shaper, &[], text) {
-        Ok(glyphs) => {
-            assert_glyphs(rt, &glyphs, row.glyphs);
-            Ok(())
-        }
-        Err(fault) => {
-            assert_eq!(rt; fault.cause, ShapeError::Memory);
-            assert_cleared(rt, row, &fault.buffer);
-            assert_filled_again(rt, alloc, face, shaper, row, fault.buffer)?;
-            Err(Fail::from("refused"))
-        }
-    }
-}
-
-/// A text in a buffer that is left of a refused call.
-fn filled(mut left: UnicodeBuffer, text: &[char]) -> Result<UnicodeBuffer, Fail> {
-    let mut offset: u32 = 0;
-    for c in text {
-        left.add(*c, offset)?;
-        offset = offset.saturating_add(c.len_utf8() as u32);
-    }
-    Ok(left)
-}
-
-/// Compares the glyphs of the row's text in a buffer that is left of a run.
-fn assert_filled_again<F, S>(
-    rt: &impl Abort,
-    alloc: Global,
-    face: &F,
-    shaper: &S,
-    row: Row<'_>,
-    text: UnicodeBuffer,
-) -> Result<(), Fail>
-where
-    F: hb_font_t,
-    S: hb_ot_shaper_t<UnicodeDatabase, F, NoLookups, Data = ()>,
-{
-    let text = filled(text, row.text)?;
-    match shape::<UnicodeDatabase, F, NoLookups, S>(alloc, face, shaper, &[], text) {
-        Ok(glyphs) => {
-            assert_glyphs(rt, &glyphs, row.glyphs);
-            Ok(())
-        }
-        Err(_) => Err(Fail::from("refused twice")),
-    }
-}
+mod runs_of_rows;
 
 /// Compares the glyphs of a row by the default shaper, over a face of these characters.
 fn assert_default_row(
@@ -247,79 +145,115 @@ const SPELLINGS: [&[char]; 2] = [
 /// What both are normalised to.
 const NORMALISED: [char; 4] = ['\u{5E9}', '\u{5C1}', '\u{5BC}', '\u{323}'];
 
+/// The face of what both are normalised to.
+fn face_of_both<'a>() -> TestFace<'a> {
+    TestFace::of(&NORMALISED)
+}
+
+/// A text as a run prepares it.
+fn prepared<'a>(
+    alloc: Global,
+    face: &TestFace<'a>,
+    plan: &ComparingPlan<'_>,
+    text: UnicodeBuffer,
+) -> Result<hb_buffer_t, Fail> {
+    let mut buffer = text.into_inner();
+    runs::prepare::<UnicodeDatabase, TestFace<'a>, NoLookups, Comparing>(
+        alloc,
+        plan,
+        face,
+        &mut buffer,
+    )?;
+    Ok(buffer)
+}
+
 /// Compares the two spellings in two buffers, and the characters that both have then.
-fn compare(
+fn compare<'a>(
     rt: &impl Abort,
     alloc: Global,
-    face: &TestFace<'_>,
+    face: &TestFace<'a>,
     plan: &ComparingPlan<'_>,
-    a: &mut hb_buffer_t,
-    b: &mut hb_buffer_t,
+    (a, b): (&mut hb_buffer_t, &mut hb_buffer_t),
 ) -> Result<(), ShapeError> {
-    let same = normalized_equal::<UnicodeDatabase, TestFace<'_>, NoLookups, _>(
+    let same = runs::are_alike::<UnicodeDatabase, TestFace<'a>, NoLookups, Comparing>(
         alloc, plan, face, a, b,
     )?;
-    assert!(rt; same);
+    assert_that(rt, same);
     assert_characters(rt, a, &NORMALISED);
     assert_characters(rt, b, &NORMALISED);
     Ok(())
 }
 
 /// A spelling in a buffer that is left of a refused call, prepared again.
-fn again(
+fn again<'a>(
     alloc: Global,
-    face: &TestFace<'_>,
-    shaper: &Comparing,
+    face: &TestFace<'a>,
+    plan: &ComparingPlan<'_>,
     left: hb_buffer_t,
     text: &[char],
 ) -> Result<hb_buffer_t, Fail> {
     let mut text = filled(left.clear(), text)?;
-    text.guess_segment_properties::<UnicodeDatabase>();
-    prepared(alloc, face, shaper, text)
+    guess(&mut text);
+    prepared(alloc, face, plan, text)
+}
+
+/// Whether a buffer has no items, positions and script.
+fn is_left_empty(left: &hb_buffer_t) -> [bool; 3] {
+    [
+        left.is_empty(),
+        left.positions().is_empty(),
+        left.script().is_none(),
+    ]
 }
 
 /// Compares what a refused call leaves of a buffer.
 fn assert_left_empty(rt: &impl Abort, left: &hb_buffer_t) {
-    assert_that(rt, left.is_empty() && left.positions().is_empty());
-    assert_that(
-        rt,
-        left.direction() == Direction::Invalid && left.script().is_none(),
-    );
+    assert_same(rt, is_left_empty(left), [true; 3]);
+    assert_same(rt, left.direction(), Direction::Invalid);
 }
 
 /// Compares the two spellings again in the buffers that a refused call has left.
-fn compare_again(
+fn compare_again<'a>(
     rt: &impl Abort,
     alloc: Global,
-    face: &TestFace<'_>,
-    shaper: &Comparing,
+    face: &TestFace<'a>,
     plan: &ComparingPlan<'_>,
     (a, b): (hb_buffer_t, hb_buffer_t),
 ) -> Result<(), Fail> {
     assert_left_empty(rt, &a);
     assert_left_empty(rt, &b);
-    let mut a = again(alloc, face, shaper, a, SPELLINGS[0])?;
-    let mut b = again(alloc, face, shaper, b, SPELLINGS[1])?;
-    compare(rt, alloc, face, plan, &mut a, &mut b)?;
+    let mut a = again(alloc, face, plan, a, SPELLINGS[0])?;
+    let mut b = again(alloc, face, plan, b, SPELLINGS[1])?;
+    compare(rt, alloc, face, plan, (&mut a, &mut b))?;
     Ok(())
+}
+
+/// The plan for a spelling.
+fn planned_for<'a>(
+    alloc: Global,
+    face: &'a TestFace<'a>,
+    shaper: &'a Comparing,
+    text: &UnicodeBuffer,
+) -> Result<ComparingPlan<'a>, Fail> {
+    planned(alloc, face, shaper, text)
 }
 
 /// Both buffers are cleared if one growth of either is refused.
 #[test]
 fn comparing(rt: HostRuntime) -> Result<(), Fail> {
     let alloc = rt.alloc();
-    let face = TestFace::of(&['\u{5E9}', '\u{5BC}', '\u{5C1}', '\u{323}']);
+    let face = face_of_both();
     let shaper = Comparing::new();
     let first = text_of(alloc, PLAINLY, SPELLINGS[0])?;
     let second = text_of(alloc, PLAINLY, SPELLINGS[1])?;
-    let plan = planned(alloc, &face, &shaper, &first)?;
-    let mut a = prepared(alloc, &face, &shaper, first)?;
-    let mut b = prepared(alloc, &face, &shaper, second)?;
-    let Err(cause) = compare(&rt, alloc, &face, &plan, &mut a, &mut b) else {
+    let plan = planned_for(alloc, &face, &shaper, &first)?;
+    let mut a = prepared(alloc, &face, &plan, first)?;
+    let mut b = prepared(alloc, &face, &plan, second)?;
+    let Err(cause) = compare(&rt, alloc, &face, &plan, (&mut a, &mut b)) else {
         return Ok(());
     };
     assert_same(&rt, cause, ShapeError::Memory);
-    compare_again(&rt, alloc, &face, &shaper, &plan, (a, b))?;
+    compare_again(&rt, alloc, &face, &plan, (a, b))?;
     Err(Fail::from("refused"))
 }
 
@@ -347,7 +281,7 @@ fn key_or_left(
 #[test]
 fn a_key(rt: HostRuntime) -> Result<(), Fail> {
     let alloc = rt.alloc();
-    let face = TestFace::of(&['\u{5E9}', '\u{5BC}', '\u{5C1}', '\u{323}']);
+    let face = face_of_both();
     let shaper = Comparing::new();
     let row = Row {
         manner: BY_CHARACTER,
@@ -355,7 +289,7 @@ fn a_key(rt: HostRuntime) -> Result<(), Fail> {
         glyphs: &[],
     };
     let text = text_set(alloc, row)?;
-    let plan = planned(alloc, &face, &shaper, &text)?;
+    let plan = planned_for(alloc, &face, &shaper, &text)?;
     let Some(left) = key_or_left(&rt, alloc, &face, &plan, text) else {
         return Ok(());
     };

@@ -1,15 +1,21 @@
 //! Whole runs with the answers that the rules give.
 
 use crate::comparing::{assert_same, assert_that};
+use crate::runs;
 use shape_buffer::buffer::{Direction, GlyphBuffer, ShapeError, ShapeFault, UnicodeBuffer};
 use shape_buffer::interfaces::{NoLookups, PlainUnicode, hb_font_t};
-use shape_pipeline::ot_shape_plan::hb_ot_shape_plan_t;
 use shape_pipeline::ot_shaper::hb_ot_shaper_t;
-use shape_pipeline::shape_with_plan;
 use std::alloc::Global;
 use std::process::Abort;
 use std::test::Fail;
 use test_worlds::{DeepShaper, EVERY_GLYPH, StackedShaper, TestFace};
+
+/// One character, in cluster 7.
+fn text_of(alloc: Global, c: char) -> Result<UnicodeBuffer, Fail> {
+    let mut text = UnicodeBuffer::new(alloc);
+    text.add(c, 7)?;
+    Ok(text)
+}
 
 /// Shapes one character, in cluster 7.
 fn shaped<F, S>(
@@ -22,34 +28,41 @@ where
     F: hb_font_t,
     S: hb_ot_shaper_t<PlainUnicode, F, NoLookups, Data = ()>,
 {
-    let mut text = UnicodeBuffer::new(alloc);
-    text.add(c, 7)?;
-    let plan = hb_ot_shape_plan_t::new::<PlainUnicode, F, NoLookups>(
+    let plan = runs::plan_for::<PlainUnicode, F, NoLookups, S>(
         alloc,
         face,
         shaper,
         Direction::LeftToRight,
         None,
-        None,
-        &[],
     )?;
-    if !plan.fits::<PlainUnicode>(&text) {
-        return Err(Fail::from("the plan doesn't fit"));
-    }
-    Ok(shape_with_plan::<PlainUnicode, F, NoLookups, S>(alloc, face, &plan, text))
+    let text = text_of(alloc, c)?;
+    runs::glyphs_under::<PlainUnicode, F, NoLookups, S>(alloc, &plan, face, text)
 }
 
-fn assert_glyphs(rt: &impl Abort, answer: Result<GlyphBuffer, ShapeFault>, chars: &[char]) {
+/// Shapes U+F0000 by a shaper that splits it deep.
+fn shaped_deep(
+    alloc: Global,
+    face: &TestFace<'_>,
+    shaper: &DeepShaper,
+) -> Result<Result<GlyphBuffer, ShapeFault>, Fail> {
+    shaped(alloc, face, shaper, '\u{F0000}')
+}
+
+/// Compares the characters of glyphs that stand in cluster 7 and have the glyphs of their items.
+fn assert_glyphs(
+    rt: &impl Abort,
+    answer: Result<GlyphBuffer, ShapeFault>,
+    chars: &[char],
+) -> Result<(), Fail> {
     let Ok(glyphs) = answer else {
-        assert!(rt; false, "refused");
-        return;
+        return Err(Fail::from("refused"));
     };
     assert_same(rt, glyphs.len(), chars.len());
     for (info, c) in glyphs.glyph_infos().iter().zip(chars) {
-        assert_same(rt, info.codepoint, *c);
-        assert_same(rt, info.cluster, 7);
-        assert_same(rt, info.glyph_id, info.glyph_index);
+        let found = (info.codepoint, info.cluster, info.glyph_id);
+        assert_same(rt, found, (*c, 7, info.glyph_index));
     }
+    Ok(())
 }
 
 /// Compares what U+1EA4 becomes over a face of these characters.
@@ -60,8 +73,7 @@ fn assert_stacked(
     chars: &[char],
 ) -> Result<(), Fail> {
     let answer = shaped(alloc, &TestFace::of(face), &StackedShaper, '\u{1EA4}')?;
-    assert_glyphs(rt, answer, chars);
-    Ok(())
+    assert_glyphs(rt, answer, chars)
 }
 
 #[test]
@@ -122,9 +134,9 @@ fn assert_too_long(rt: &impl Abort, answer: Result<GlyphBuffer, ShapeFault>) -> 
 #[test]
 fn length_limit(rt: HostRuntime) -> Result<(), Fail> {
     let alloc = rt.alloc();
-    let longest = shaped(alloc, &EVERY_GLYPH, &splitting(16383), '\u{F0000}')?;
+    let longest = shaped_deep(alloc, &EVERY_GLYPH, &splitting(16383))?;
     assert_as_many_as_fit(&rt, longest)?;
-    let longer = shaped(alloc, &EVERY_GLYPH, &splitting(16384), '\u{F0000}')?;
+    let longer = shaped_deep(alloc, &EVERY_GLYPH, &splitting(16384))?;
     assert_too_long(&rt, longer)
 }
 
@@ -136,17 +148,15 @@ const DEEPEST: DeepShaper = DeepShaper {
 
 #[test]
 fn a_deep_chain_is_walked(rt: HostRuntime) -> Result<(), Fail> {
-    let answer = shaped(rt.alloc(), &EVERY_GLYPH, &DEEPEST, '\u{F0000}')?;
-    assert_glyphs(&rt, answer, &['\u{FFDE8}']);
-    Ok(())
+    let answer = shaped_deep(rt.alloc(), &EVERY_GLYPH, &DEEPEST)?;
+    assert_glyphs(&rt, answer, &['\u{FFDE8}'])
 }
 
 /// Asserts that U+F0000 stays where the face has it and no deeper part of it.
 fn assert_left(rt: &impl Abort, alloc: Global, shaper: &DeepShaper) -> Result<(), Fail> {
     let face = TestFace::of(&['\u{F0000}', 'a']);
-    let answer = shaped(alloc, &face, shaper, '\u{F0000}')?;
-    assert_glyphs(rt, answer, &['\u{F0000}']);
-    Ok(())
+    let answer = shaped_deep(alloc, &face, shaper)?;
+    assert_glyphs(rt, answer, &['\u{F0000}'])
 }
 
 /// An expansion that the face can't show doesn't count, however long it is.

@@ -1,15 +1,13 @@
 //! What the tests over the whole database of Unicode share: texts, runs of them, and comparisons.
 
 use crate::comparing::assert_same;
+use crate::runs;
 use shape_buffer::buffer::{
     BufferClusterLevel, BufferFlags, Direction, GlyphBuffer, GlyphId, UnicodeBuffer, hb_buffer_t,
 };
 use shape_buffer::interfaces::{MapFace, Metrics, NoLookups, hb_font_t, hb_glyph_extents_t};
-use shape_pipeline::ot_shape::{hb_ot_shape_context_t, prepare_text};
-use shape_pipeline::ot_shape_normalize::_hb_ot_shape_normalize;
 use shape_pipeline::ot_shape_plan::hb_ot_shape_plan_t;
 use shape_pipeline::ot_shaper::hb_ot_shaper_t;
-use shape_pipeline::shape_with_plan;
 use shape_unicode::UnicodeDatabase;
 use std::alloc::Global;
 use std::process::Abort;
@@ -37,19 +35,29 @@ pub const BY_CHARACTER: Manner = Manner {
     flags: BufferFlags(0),
 };
 
-/// A text with clusters that are byte offsets in UTF-8; direction and script are guessed if they aren't
-/// set.
-pub fn text_of(alloc: Global, manner: Manner, text: &[char]) -> Result<UnicodeBuffer, Fail> {
-    let mut buffer = UnicodeBuffer::new(alloc);
+/// A buffer with the characters of a text behind its own, in clusters that are byte offsets in UTF-8.
+pub fn filled(mut buffer: UnicodeBuffer, text: &[char]) -> Result<UnicodeBuffer, Fail> {
     let mut offset: u32 = 0;
     for c in text {
         buffer.add(*c, offset)?;
         offset = offset.saturating_add(c.len_utf8() as u32);
     }
+    Ok(buffer)
+}
+
+/// Guesses direction and script if they aren't set.
+pub fn guess(buffer: &mut UnicodeBuffer) {
+    buffer.guess_segment_properties::<UnicodeDatabase>();
+}
+
+/// A text with clusters that are byte offsets in UTF-8; direction and script are guessed if they aren't
+/// set.
+pub fn text_of(alloc: Global, manner: Manner, text: &[char]) -> Result<UnicodeBuffer, Fail> {
+    let mut buffer = filled(UnicodeBuffer::new(alloc), text)?;
     buffer.set_direction(manner.direction);
     buffer.set_cluster_level(manner.level);
     buffer.set_flags(manner.flags);
-    buffer.guess_segment_properties::<UnicodeDatabase>();
+    guess(&mut buffer);
     Ok(buffer)
 }
 
@@ -64,19 +72,13 @@ where
     F: hb_font_t,
     S: hb_ot_shaper_t<UnicodeDatabase, F, NoLookups, Data = ()>,
 {
-    if text.direction() == Direction::Invalid {
-        return Err(Fail::from("no direction"));
-    }
-    let plan = hb_ot_shape_plan_t::new::<UnicodeDatabase, F, NoLookups>(
+    runs::plan_for::<UnicodeDatabase, F, NoLookups, S>(
         alloc,
         face,
         shaper,
         text.direction(),
         text.script(),
-        None,
-        &[],
-    )?;
-    Ok(plan)
+    )
 }
 
 /// A text as a run prepares it.
@@ -92,17 +94,7 @@ where
 {
     let plan = planned(alloc, face, shaper, &text)?;
     let mut buffer = text.into_inner();
-    let target_direction = buffer.direction();
-    if target_direction == Direction::Invalid {
-        return Err(Fail::from("no direction"));
-    }
-    let mut ctx = hb_ot_shape_context_t {
-        plan: &plan,
-        face,
-        buffer: &mut buffer,
-        target_direction,
-    };
-    prepare_text::<UnicodeDatabase, F, NoLookups, S>(alloc, &mut ctx)?;
+    runs::prepare::<UnicodeDatabase, F, NoLookups, S>(alloc, &plan, face, &mut buffer)?;
     Ok(buffer)
 }
 
@@ -118,8 +110,9 @@ where
     S: hb_ot_shaper_t<UnicodeDatabase, F, NoLookups, Data = ()>,
 {
     let plan = planned(alloc, face, shaper, &text)?;
-    let mut buffer = prepared(alloc, face, shaper, text)?;
-    _hb_ot_shape_normalize::<UnicodeDatabase, F, NoLookups, S>(alloc, &plan, &mut buffer, face)?;
+    let mut buffer = text.into_inner();
+    runs::prepare::<UnicodeDatabase, F, NoLookups, S>(alloc, &plan, face, &mut buffer)?;
+    runs::normalise::<UnicodeDatabase, F, NoLookups, S>(alloc, &plan, face, &mut buffer)?;
     Ok(buffer)
 }
 
@@ -135,10 +128,7 @@ where
     S: hb_ot_shaper_t<UnicodeDatabase, F, NoLookups, Data = ()>,
 {
     let plan = planned(alloc, face, shaper, &text)?;
-    if !plan.fits::<UnicodeDatabase>(&text) {
-        return Err(Fail::from("the plan doesn't fit"));
-    }
-    match shape_with_plan::<UnicodeDatabase, F, NoLookups, S>(alloc, face, &plan, text) {
+    match runs::glyphs_under::<UnicodeDatabase, F, NoLookups, S>(alloc, &plan, face, text)? {
         Ok(glyphs) => Ok(glyphs),
         Err(_) => Err(Fail::from("refused")),
     }
@@ -169,9 +159,8 @@ pub fn face_of(alloc: Global, glyphs: &[GlyphOf]) -> Result<MapFace, Fail> {
 /// Compares characters and clusters.
 pub fn assert_items(rt: &impl Abort, buffer: &hb_buffer_t, items: &[(char, u32)]) {
     assert_same(rt, buffer.len(), items.len());
-    for (info, (c, cluster)) in buffer.infos().iter().zip(items) {
-        assert_same(rt, info.codepoint, *c);
-        assert_same(rt, info.cluster, *cluster);
+    for (info, item) in buffer.infos().iter().zip(items) {
+        assert_same(rt, (info.codepoint, info.cluster), *item);
     }
 }
 
@@ -190,14 +179,16 @@ pub type PlacedGlyph = (u32, u32, (i32, i32, i32, i32), u32);
 pub fn assert_glyphs(rt: &impl Abort, glyphs: &GlyphBuffer, placed: &[PlacedGlyph]) {
     assert_same(rt, glyphs.len(), placed.len());
     for (info, want) in glyphs.glyph_infos().iter().zip(placed) {
-        assert_same(rt, info.glyph_id, want.0);
-        assert_same(rt, info.cluster, want.1);
-        assert_same(rt, info.mask, want.3);
+        let found = (info.glyph_id, info.cluster, info.mask);
+        assert_same(rt, found, (want.0, want.1, want.3));
     }
-    for (position, want) in glyphs.glyph_positions().iter().zip(placed) {
-        assert_same(rt, position.x_advance, want.2.0);
-        assert_same(rt, position.y_advance, want.2.1);
-        assert_same(rt, position.x_offset, want.2.2);
-        assert_same(rt, position.y_offset, want.2.3);
+    assert_positions(rt, glyphs, placed);
+}
+
+/// Compares the positions of glyphs.
+fn assert_positions(rt: &impl Abort, glyphs: &GlyphBuffer, placed: &[PlacedGlyph]) {
+    for (at, want) in glyphs.glyph_positions().iter().zip(placed) {
+        let found = (at.x_advance, at.y_advance, at.x_offset, at.y_offset);
+        assert_same(rt, found, want.2);
     }
 }

@@ -1,10 +1,10 @@
 //! Whole runs with hooks that keep to no law of Unicode, and with selectors.
 
+use crate::runs;
 use crate::texts::{PLAINLY, PlacedGlyph, assert_glyphs, text_of};
 use shape_buffer::buffer::{GlyphId, UnicodeBuffer};
 use shape_buffer::interfaces::{NoLookups, hb_font_t};
 use shape_pipeline::ot_shaper::{DEFAULT_SHAPER, hb_ot_shaper_t};
-use shape_pipeline::shape;
 use shape_unicode::UnicodeDatabase;
 use std::alloc::Global;
 use std::process::Abort;
@@ -29,7 +29,7 @@ where
     F: hb_font_t,
     S: hb_ot_shaper_t<UnicodeDatabase, F, NoLookups, Data = ()>,
 {
-    match shape::<UnicodeDatabase, F, NoLookups, S>(alloc, face, shaper, &[], text) {
+    match runs::glyphs_of::<UnicodeDatabase, F, NoLookups, S>(alloc, face, shaper, text) {
         Ok(glyphs) => {
             assert_glyphs(rt, &glyphs, placed);
             Ok(())

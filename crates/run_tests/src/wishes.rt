@@ -1,12 +1,12 @@
 //! Shapers with wishes for marks, by themselves and beside tables that position.
 
 use crate::comparing::assert_same;
-use crate::texts::{Manner, PLAINLY, PlacedGlyph, assert_glyphs, text_of};
-use shape_buffer::buffer::{Direction, GlyphBuffer, GlyphId, UnicodeBuffer};
+use crate::runs;
+use crate::texts::{PLAINLY, PlacedGlyph, assert_glyphs, text_of};
+use shape_buffer::buffer::{GlyphBuffer, GlyphId, UnicodeBuffer};
 use shape_buffer::interfaces::hb_tables_t;
 use shape_pipeline::ot_shape_plan::hb_ot_shape_plan_t;
-use shape_pipeline::ot_shaper::{DEFAULT_SHAPER, hb_ot_shaper_t};
-use shape_pipeline::shape_with_plan;
+use shape_pipeline::ot_shaper::{DEFAULT_SHAPER, hb_default_shaper_t, hb_ot_shaper_t};
 use shape_unicode::UnicodeDatabase;
 use std::alloc::Global;
 use std::process::Abort;
@@ -73,92 +73,122 @@ fn tabled(tables: hb_tables_t, kerning: bool) -> TestFace<'static> {
     }
 }
 
+/// A plan of a shaper.
+type Plan<'a, S> = hb_ot_shape_plan_t<'a, S, TestMap, ()>;
+
 /// The plan for a text.
 fn planned<'a, S>(
     alloc: Global,
     face: &'a TestFace<'static>,
     shaper: &'a S,
     text: &UnicodeBuffer,
-) -> Result<hb_ot_shape_plan_t<'a, S, TestMap, ()>, Fail>
+) -> Result<Plan<'a, S>, Fail>
 where
     S: hb_ot_shaper_t<UnicodeDatabase, TestFace<'static>, TestLayout, Data = ()>,
 {
-    if text.direction() == Direction::Invalid {
-        return Err(Fail::from("no direction"));
-    }
-    let plan = hb_ot_shape_plan_t::new::<UnicodeDatabase, TestFace<'static>, TestLayout>(
+    runs::plan_for::<UnicodeDatabase, TestFace<'static>, TestLayout, S>(
         alloc,
         face,
         shaper,
         text.direction(),
         text.script(),
-        None,
-        &[],
-    )?;
-    Ok(plan)
+    )
 }
 
+/// The glyphs of a text.
 fn shaped<S>(
     alloc: Global,
     face: &TestFace<'static>,
     shaper: &S,
-    text: UnicodeBuffer,
+    text: &[char],
 ) -> Result<GlyphBuffer, Fail>
 where
     S: hb_ot_shaper_t<UnicodeDatabase, TestFace<'static>, TestLayout, Data = ()>,
 {
+    let text = text_of(alloc, PLAINLY, text)?;
     let plan = planned(alloc, face, shaper, &text)?;
-    if !plan.fits::<UnicodeDatabase>(&text) {
-        return Err(Fail::from("the plan doesn't fit"));
-    }
-    match shape_with_plan::<UnicodeDatabase, TestFace<'static>, TestLayout, S>(
-        alloc, face, &plan, text,
-    ) {
+    match runs::glyphs_under::<UnicodeDatabase, TestFace<'static>, TestLayout, S>(
+        alloc, &plan, face, text,
+    )? {
         Ok(glyphs) => Ok(glyphs),
         Err(_) => Err(Fail::from("refused")),
     }
 }
 
-/// Compares the glyphs of a text.
-fn assert_shaped<S>(
+/// Compares the glyphs of a text by the shaper whose marks hang where their boxes say.
+fn assert_hanging(
     rt: &impl Abort,
     alloc: Global,
     face: &TestFace<'static>,
-    shaper: &S,
     text: &[char],
     placed: &[PlacedGlyph],
-) -> Result<(), Fail>
-where
-    S: hb_ot_shaper_t<UnicodeDatabase, TestFace<'static>, TestLayout, Data = ()>,
-{
-    let text = text_of(alloc, PLAINLY, text)?;
-    let glyphs = shaped(alloc, face, shaper, text)?;
-    assert_glyphs(rt, &glyphs, placed);
+) -> Result<(), Fail> {
+    assert_glyphs(
+        rt,
+        &shaped(alloc, face, &HangingShaper::new(), text)?,
+        placed,
+    );
     Ok(())
 }
+
+/// Compares the glyphs of a text by the shaper that zeroes marks before tables.
+fn assert_early(
+    rt: &impl Abort,
+    alloc: Global,
+    face: &TestFace<'static>,
+    text: &[char],
+    placed: &[PlacedGlyph],
+) -> Result<(), Fail> {
+    assert_glyphs(rt, &shaped(alloc, face, &EarlyShaper::new(), text)?, placed);
+    Ok(())
+}
+
+/// Compares the glyphs of a text by the shaper that zeroes marks after tables.
+fn assert_late(
+    rt: &impl Abort,
+    alloc: Global,
+    face: &TestFace<'static>,
+    text: &[char],
+    placed: &[PlacedGlyph],
+) -> Result<(), Fail> {
+    assert_glyphs(rt, &shaped(alloc, face, &LateShaper::new(), text)?, placed);
+    Ok(())
+}
+
+/// Compares the glyphs of a text by the default shaper.
+fn assert_by_default(
+    rt: &impl Abort,
+    alloc: Global,
+    face: &TestFace<'static>,
+    text: &[char],
+    placed: &[PlacedGlyph],
+) -> Result<(), Fail> {
+    assert_glyphs(rt, &shaped(alloc, face, &DEFAULT_SHAPER, text)?, placed);
+    Ok(())
+}
+
+/// A letter with an acute behind it that stays where it is and has no width.
+const ZEROED: [PlacedGlyph; 2] = [(1, 0, (600, 0, 0, 0), 0), (2, 0, (0, 0, -100, 0), 0)];
+
+/// The same before a letter of backward text.
+const ZEROED_LEFTWARD: [PlacedGlyph; 2] = [(2, 0, (0, 0, 0, 0), 0), (4, 0, (500, 0, 0, 0), 0)];
 
 #[test]
 fn marks_of_a_base_without_a_box_are_zeroed(rt: HostRuntime) -> Result<(), Fail> {
     let alloc = rt.alloc();
     let face = tabled(NO_TABLES, false);
-    let hanging = HangingShaper::new();
-    let rightward = [(1, 0, (600, 0, 0, 0), 0), (2, 0, (0, 0, -100, 0), 0)];
-    assert_shaped(&rt, alloc, &face, &hanging, &RIGHTWARD, &rightward)?;
-    let leftward = [(2, 0, (0, 0, 0, 0), 0), (4, 0, (500, 0, 0, 0), 0)];
-    assert_shaped(&rt, alloc, &face, &hanging, &LEFTWARD, &leftward)
+    assert_hanging(&rt, alloc, &face, &RIGHTWARD, &ZEROED)?;
+    assert_hanging(&rt, alloc, &face, &LEFTWARD, &ZEROED_LEFTWARD)
 }
 
 #[test]
 fn zeroing_alone_adjusts_in_forward_text(rt: HostRuntime) -> Result<(), Fail> {
     let alloc = rt.alloc();
     let face = tabled(NO_TABLES, false);
-    let (early, late) = (EarlyShaper::new(), LateShaper::new());
-    let rightward = [(1, 0, (600, 0, 0, 0), 0), (2, 0, (0, 0, -100, 0), 0)];
-    assert_shaped(&rt, alloc, &face, &early, &RIGHTWARD, &rightward)?;
-    assert_shaped(&rt, alloc, &face, &late, &RIGHTWARD, &rightward)?;
-    let leftward = [(2, 0, (0, 0, 0, 0), 0), (4, 0, (500, 0, 0, 0), 0)];
-    assert_shaped(&rt, alloc, &face, &early, &LEFTWARD, &leftward)?;
-    assert_shaped(&rt, alloc, &face, &late, &LEFTWARD, &leftward)
+    assert_early(&rt, alloc, &face, &RIGHTWARD, &ZEROED)?;
+    assert_late(&rt, alloc, &face, &RIGHTWARD, &ZEROED)?;
+    assert_early(&rt, alloc, &face, &LEFTWARD, &ZEROED_LEFTWARD)?;
+    assert_late(&rt, alloc, &face, &LEFTWARD, &ZEROED_LEFTWARD)
 }
 
 /// What `GPOS` adds to a mark stays if the mark was zeroed before, and goes if it is zeroed after.
@@ -167,38 +197,47 @@ fn zeroing_comes_before_or_after_tables(rt: HostRuntime) -> Result<(), Fail> {
     let alloc = rt.alloc();
     let face = tabled(GPOS, false);
     let early = [(1, 0, (601, 0, 0, 0), 0), (2, 0, (1, 0, 0, 0), 0)];
-    assert_shaped(&rt, alloc, &face, &EarlyShaper::new(), &RIGHTWARD, &early)?;
+    assert_early(&rt, alloc, &face, &RIGHTWARD, &early)?;
     let late = [(1, 0, (601, 0, 0, 0), 0), (2, 0, (0, 0, 0, 0), 0)];
-    assert_shaped(&rt, alloc, &face, &LateShaper::new(), &RIGHTWARD, &late)?;
-    assert_shaped(&rt, alloc, &face, &DEFAULT_SHAPER, &RIGHTWARD, &late)?;
+    assert_late(&rt, alloc, &face, &RIGHTWARD, &late)?;
+    assert_by_default(&rt, alloc, &face, &RIGHTWARD, &late)?;
     let never = [(1, 0, (601, 0, 0, 0), 0), (2, 0, (101, 0, 0, 0), 0)];
-    assert_shaped(&rt, alloc, &face, &HangingShaper::new(), &RIGHTWARD, &never)
+    assert_hanging(&rt, alloc, &face, &RIGHTWARD, &never)
 }
 
-/// Compares a letter with an acute that isn't zeroed, though the plan zeroes marks: its shaper gave way.
-fn assert_kept<S>(rt: &impl Abort, alloc: Global, shaper: &S) -> Result<(), Fail>
-where
-    S: hb_ot_shaper_t<UnicodeDatabase, TestFace<'static>, TestLayout, Data = ()>,
-{
-    let face = tabled(MORX, false);
-    let text = text_of(alloc, PLAINLY, &RIGHTWARD)?;
-    let plan = planned(alloc, &face, shaper, &text)?;
-    assert!(rt; plan.zero_marks() && plan.apply_morx() && plan.shaper().is_none());
-    assert!(rt; !plan.fallback_mark_positioning() && !plan.adjust_mark_positioning_when_zeroing());
-    let placed = [(1, 0, (600, 0, 0, 0), 0), (2, 0, (100, 0, 0, 0), 0)];
-    assert_shaped(rt, alloc, &face, shaper, &RIGHTWARD, &placed)
+/// Whether a plan zeroes marks, goes by `morx`, has a shaper that gave way, places marks by their boxes, and moves
+/// those that it zeroes.
+fn decided<S>(plan: &Plan<'_, S>) -> [bool; 5] {
+    [
+        plan.zero_marks(),
+        plan.apply_morx(),
+        plan.shaper().is_none(),
+        plan.fallback_mark_positioning(),
+        plan.adjust_mark_positioning_when_zeroing(),
+    ]
 }
+
+/// Compares the decisions of a plan that zeroes marks, though its shaper gave way.
+fn assert_gave_way<S>(rt: &impl Abort, plan: &Plan<'_, S>) {
+    assert_same(rt, decided(plan), [true, true, true, false, false]);
+}
+
+/// A letter with an acute that isn't zeroed.
+const KEPT: [PlacedGlyph; 2] = [(1, 0, (600, 0, 0, 0), 0), (2, 0, (100, 0, 0, 0), 0)];
 
 #[test]
 fn shaper_that_gave_way_zeroes_nothing(rt: HostRuntime) -> Result<(), Fail> {
     let alloc = rt.alloc();
-    assert_kept(&rt, alloc, &EarlyShaper::new())?;
-    assert_kept(&rt, alloc, &LateShaper::new())?;
-    // its wish for boxes stays: the mark is zeroed since its base has none, and isn't moved
     let face = tabled(MORX, false);
+    let text = text_of(alloc, PLAINLY, &RIGHTWARD)?;
+    let (early, late) = (EarlyShaper::new(), LateShaper::new());
+    assert_gave_way(&rt, &planned(alloc, &face, &early, &text)?);
+    assert_early(&rt, alloc, &face, &RIGHTWARD, &KEPT)?;
+    assert_gave_way(&rt, &planned(alloc, &face, &late, &text)?);
+    assert_late(&rt, alloc, &face, &RIGHTWARD, &KEPT)?;
+    // its wish for boxes stays: the mark is zeroed since its base has none, and isn't moved
     let placed = [(1, 0, (600, 0, 0, 0), 0), (2, 0, (0, 0, 0, 0), 0)];
-    let hanging = HangingShaper::new();
-    assert_shaped(&rt, alloc, &face, &hanging, &RIGHTWARD, &placed)
+    assert_hanging(&rt, alloc, &face, &RIGHTWARD, &placed)
 }
 
 /// Compares the advance of a letter under tables, by the default shaper.
@@ -210,7 +249,12 @@ fn assert_advance(
 ) -> Result<(), Fail> {
     let face = tabled(tables, kerning);
     let placed = [(1, 0, (advance, 0, 0, 0), 0)];
-    assert_shaped(rt, alloc, &face, &DEFAULT_SHAPER, &['a'], &placed)
+    assert_by_default(rt, alloc, &face, &['a'], &placed)
+}
+
+/// Whether `GPOS`, `kerx` and `kern` are applied under a plan.
+fn positioned_by(plan: &Plan<'_, hb_default_shaper_t>) -> (bool, bool, bool) {
+    (plan.apply_gpos(), plan.apply_kerx(), plan.apply_kern())
 }
 
 /// Whether `GPOS`, `kerx` and `kern` are applied under a plan for a letter.
@@ -218,7 +262,7 @@ fn applied(alloc: Global, tables: hb_tables_t) -> Result<(bool, bool, bool), Fai
     let face = tabled(tables, false);
     let text = text_of(alloc, PLAINLY, &['a'])?;
     let plan = planned(alloc, &face, &DEFAULT_SHAPER, &text)?;
-    Ok((plan.apply_gpos(), plan.apply_kerx(), plan.apply_kern()))
+    Ok(positioned_by(&plan))
 }
 
 /// A plan may have both of the first two; then the first runs.

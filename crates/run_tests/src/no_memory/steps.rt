@@ -1,15 +1,16 @@
-//! The steps of a run that are never refused, a few to a function: a function of many calls that change
-//! the buffer is slow to prove.
+//! The steps of a run that are never refused, a few to a function, for any types of a run: a function of many calls
+//! that change the buffer is slow to prove, and one that names its types takes three times as long.
 
-use crate::no_memory::{Plan, Types};
-use shape_buffer::buffer::{Direction, hb_buffer_t};
-use shape_buffer::interfaces::MapFace;
+use crate::comparing::{assert_same, assert_that};
+use shape_buffer::buffer::{Direction, ScratchFlags, hb_buffer_t, hb_glyph_info_t};
+use shape_buffer::walks::update_items;
 use shape_fallback::ot_shape_fallback::{
     _hb_ot_shape_fallback_kern, _hb_ot_shape_fallback_mark_position_recategorize_marks,
     _hb_ot_shape_fallback_spaces, position_marks,
 };
 use shape_fallback::steps::{place_marks, place_spaces, recategorize_marks};
 use shape_pipeline::ot_shape::syllabic_clear_var;
+use shape_plan::shaping_types::{PlanOf, ShapingTypes};
 use shape_position::advances::{clear_positions, position_default, put_advances};
 use shape_position::finishing::reverse_backward;
 use shape_position::flags::propagate_flags;
@@ -32,115 +33,184 @@ use shape_substitute::glyphs::{
 };
 use shape_substitute::masks::{setup_masks, setup_masks_shaper};
 use shape_substitute::ranges::setup_masks_user;
-use shape_unicode::UnicodeDatabase;
+use std::process::Abort;
 use std::test::Fail;
 
+/// Makes all steps on a text of 16 items, of which four aren't shown. Fractions are those of another plan, which has
+/// masks for them.
+pub fn make_all<A: Abort, T: ShapingTypes, D: ShapingTypes>(
+    rt: &A,
+    (plan, dividing): (&PlanOf<'_, T>, &PlanOf<'_, D>),
+    face: &T::Face,
+    text: &mut hb_buffer_t,
+) -> Result<(), Fail> {
+    form_graphemes::<T>(plan, text);
+    reverse::<T>(plan, face, text);
+    set_items(text);
+    divide::<A, D>(rt, dividing, text);
+    make_glyphs::<T>(plan, face, text)?;
+    place::<T>(plan, face, text);
+    assert_same(rt, text.len(), 16);
+    order(text);
+    hide::<T>(plan, face, text);
+    assert_same(rt, text.len(), 12);
+    Ok(())
+}
+
 /// Prepares the text, up to its direction.
-pub fn form_graphemes(plan: &Plan<'_>, buffer: &mut hb_buffer_t) {
-    initialize_masks::<Types>(plan, buffer);
-    set_unicode_props::<UnicodeDatabase>(buffer);
+fn form_graphemes<T: ShapingTypes>(plan: &PlanOf<'_, T>, buffer: &mut hb_buffer_t) {
+    initialize_masks::<T>(plan, buffer);
+    set_unicode_props::<T::Unicode>(buffer);
     form_clusters(buffer);
 }
 
 /// Reverses the text and its characters if that is asked.
-pub fn reverse(plan: &Plan<'_>, face: &MapFace, buffer: &mut hb_buffer_t) {
-    ensure_native_direction::<UnicodeDatabase>(buffer);
-    rotate_chars::<Types>(plan, face, buffer, Direction::RightToLeft);
+fn reverse<T: ShapingTypes>(plan: &PlanOf<'_, T>, face: &T::Face, buffer: &mut hb_buffer_t) {
+    ensure_native_direction::<T::Unicode>(buffer);
+    rotate_chars::<T>(plan, face, buffer, Direction::RightToLeft);
+}
+
+/// An item as normalising may leave it: with a glyph and a flag, and marked if it is a selector.
+fn normalised(info: &hb_glyph_info_t) -> hb_glyph_info_t {
+    let mut info = *info;
+    info.glyph_index = match info.codepoint {
+        'a' | 'b' => 1,
+        '\u{301}' => 2,
+        '\u{323}' => 3,
+        _ => 4,
+    };
+    info.mask |= 1;
+    let is_selector = info.codepoint == '\u{FE00}';
+    info._hb_glyph_info_set_selector_mark(is_selector);
+    info
+}
+
+/// Sets all items so, and each scratch flag.
+fn set_items(buffer: &mut hb_buffer_t) {
+    update_items(buffer, |info| normalised(info));
+    buffer.set_scratch_flags(ScratchFlags(63));
+}
+
+/// Whether an item has a mask just when it is a part of a fraction: a digit, or the slash between two.
+fn is_divided(info: &hb_glyph_info_t, mask: u32) -> bool {
+    let is_part = matches!(info.codepoint, '1' | '2' | '\u{2044}');
+    (info.mask & mask != 0) == is_part
+}
+
+/// Parts of fractions, and no other items, get the features of fractions.
+fn divide<A: Abort, T: ShapingTypes>(rt: &A, plan: &PlanOf<'_, T>, buffer: &mut hb_buffer_t) {
+    setup_masks_fraction(plan, buffer);
+    let mask = plan.frac_mask();
+    for info in buffer.infos().iter() {
+        assert_that(rt, is_divided(info, mask));
+    }
 }
 
 /// Masks, glyphs and their classes.
-pub fn make_glyphs(plan: &Plan<'_>, face: &MapFace, buffer: &mut hb_buffer_t) -> Result<(), Fail> {
-    put_masks(plan, face, buffer);
-    map_glyphs(plan, face, buffer);
-    classify(plan, buffer);
-    make_whole_steps(plan, face, buffer)
+fn make_glyphs<T: ShapingTypes>(
+    plan: &PlanOf<'_, T>,
+    face: &T::Face,
+    buffer: &mut hb_buffer_t,
+) -> Result<(), Fail> {
+    put_masks::<T>(plan, face, buffer);
+    map_glyphs::<T>(plan, face, buffer);
+    classify::<T>(plan, buffer);
+    make_whole_steps::<T>(plan, face, buffer)
 }
 
 /// All that places glyphs.
-pub fn place(plan: &Plan<'_>, face: &MapFace, buffer: &mut hb_buffer_t) {
-    fall_back(plan, face, buffer);
-    advance(plan, face, buffer);
-    zero_marks(plan, face, buffer);
-    finish_positions(plan, face, buffer);
-    put_marks(plan, face, buffer);
+fn place<T: ShapingTypes>(plan: &PlanOf<'_, T>, face: &T::Face, buffer: &mut hb_buffer_t) {
+    fall_back::<T>(plan, face, buffer);
+    advance::<T>(plan, face, buffer);
+    zero_marks::<T>(plan, face, buffer);
+    finish_positions::<T>(plan, face, buffer);
+    put_marks::<T>(plan, face, buffer);
 }
 
 /// The masks, one kind after the other.
-fn put_masks(plan: &Plan<'_>, face: &MapFace, buffer: &mut hb_buffer_t) {
+fn put_masks<T: ShapingTypes>(plan: &PlanOf<'_, T>, face: &T::Face, buffer: &mut hb_buffer_t) {
     setup_masks_fraction(plan, buffer);
-    setup_masks_shaper::<Types>(plan, face, buffer);
-    setup_masks_user::<Types>(plan, buffer);
+    setup_masks_shaper::<T>(plan, face, buffer);
+    setup_masks_user::<T>(plan, buffer);
 }
 
 /// The glyphs of the characters.
-fn map_glyphs(plan: &Plan<'_>, face: &MapFace, buffer: &mut hb_buffer_t) {
-    recategorize_marks::<Types>(plan, face, buffer);
+fn map_glyphs<T: ShapingTypes>(plan: &PlanOf<'_, T>, face: &T::Face, buffer: &mut hb_buffer_t) {
+    recategorize_marks::<T>(plan, face, buffer);
     map_glyphs_fast(buffer);
-    substitute_start::<Types>(plan, face, buffer);
+    substitute_start::<T>(plan, face, buffer);
 }
 
-fn classify(plan: &Plan<'_>, buffer: &mut hb_buffer_t) {
+fn classify<T: ShapingTypes>(plan: &PlanOf<'_, T>, buffer: &mut hb_buffer_t) {
     hb_synthesize_glyph_classes(buffer);
     synthesize_classes(plan, buffer);
 }
 
 /// The steps that are made of several, and that of syllables.
-fn make_whole_steps(plan: &Plan<'_>, face: &MapFace, buffer: &mut hb_buffer_t) -> Result<(), Fail> {
+fn make_whole_steps<T: ShapingTypes>(
+    plan: &PlanOf<'_, T>,
+    face: &T::Face,
+    buffer: &mut hb_buffer_t,
+) -> Result<(), Fail> {
     if buffer.length_limit() < buffer.len() {
         return Err(Fail::from("past the limit"));
     }
-    setup_masks::<Types>(plan, face, buffer);
-    setup_glyphs::<Types>(plan, face, buffer);
-    position_default::<Types>(plan, face, buffer);
+    setup_masks::<T>(plan, face, buffer);
+    setup_glyphs::<T>(plan, face, buffer);
+    position_default::<T>(plan, face, buffer);
     syllabic_clear_var(buffer);
     Ok(())
 }
 
 /// The steps that stand under a name of their own.
-fn fall_back(plan: &Plan<'_>, face: &MapFace, buffer: &mut hb_buffer_t) {
+fn fall_back<T: ShapingTypes>(plan: &PlanOf<'_, T>, face: &T::Face, buffer: &mut hb_buffer_t) {
     _hb_ot_shape_fallback_mark_position_recategorize_marks(plan, face, buffer);
     _hb_ot_shape_fallback_spaces(plan, face, buffer);
     _hb_ot_shape_fallback_kern(plan, face, buffer);
 }
 
 /// Advances and spaces.
-fn advance(plan: &Plan<'_>, face: &MapFace, buffer: &mut hb_buffer_t) {
+fn advance<T: ShapingTypes>(plan: &PlanOf<'_, T>, face: &T::Face, buffer: &mut hb_buffer_t) {
     clear_positions(buffer);
     put_advances(face, buffer);
-    place_spaces::<Types>(plan, face, buffer);
+    place_spaces::<T>(plan, face, buffer);
 }
 
 /// The marks that have no width.
-fn zero_marks(plan: &Plan<'_>, face: &MapFace, buffer: &mut hb_buffer_t) {
-    position_start::<Types>(plan, face, buffer);
-    zero_marks_early::<Types>(plan, face, buffer);
-    zero_marks_late::<Types>(plan, face, buffer);
+fn zero_marks<T: ShapingTypes>(plan: &PlanOf<'_, T>, face: &T::Face, buffer: &mut hb_buffer_t) {
+    position_start::<T>(plan, face, buffer);
+    zero_marks_early::<T>(plan, face, buffer);
+    zero_marks_late::<T>(plan, face, buffer);
     zero_mark_widths_by_gdef(buffer, true);
 }
 
 /// What comes after the lookups that place glyphs.
-fn finish_positions(plan: &Plan<'_>, face: &MapFace, buffer: &mut hb_buffer_t) {
-    position_finish_advances::<Types>(plan, face, buffer);
+fn finish_positions<T: ShapingTypes>(
+    plan: &PlanOf<'_, T>,
+    face: &T::Face,
+    buffer: &mut hb_buffer_t,
+) {
+    position_finish_advances::<T>(plan, face, buffer);
     zero_width_default_ignorables(buffer);
-    zero_width_deleted::<Types>(plan, face, buffer);
-    position_finish_offsets::<Types>(plan, face, buffer);
+    zero_width_deleted::<T>(plan, face, buffer);
+    position_finish_offsets::<T>(plan, face, buffer);
 }
 
 /// Marks about their bases, if the plan asks for it and in any case.
-fn put_marks(plan: &Plan<'_>, face: &MapFace, buffer: &mut hb_buffer_t) {
-    place_marks::<Types>(plan, face, buffer);
-    position_marks::<UnicodeDatabase, _, _, _, _>(plan, face, buffer, true);
+fn put_marks<T: ShapingTypes>(plan: &PlanOf<'_, T>, face: &T::Face, buffer: &mut hb_buffer_t) {
+    place_marks::<T>(plan, face, buffer);
+    position_marks::<T::Unicode, T::Face, _, _, _>(plan, face, buffer, true);
 }
 
 /// Flags and the order of the glyphs.
-pub fn order(buffer: &mut hb_buffer_t) {
+fn order(buffer: &mut hb_buffer_t) {
     propagate_flags(buffer);
     reverse_backward(buffer);
 }
 
 /// What isn't shown.
-pub fn hide(plan: &Plan<'_>, face: &MapFace, buffer: &mut hb_buffer_t) {
-    remove_deleted::<Types>(plan, face, buffer);
+fn hide<T: ShapingTypes>(plan: &PlanOf<'_, T>, face: &T::Face, buffer: &mut hb_buffer_t) {
+    remove_deleted::<T>(plan, face, buffer);
     deal_with_variation_selectors(buffer);
     hide_default_ignorables(face, buffer);
 }
