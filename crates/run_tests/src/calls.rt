@@ -1,6 +1,6 @@
 //! Calls on their happy path whose answers no clause of another test shows.
 
-use crate::comparing::{assert_same, assert_that};
+use crate::comparing::{assert_same, assert_that, item_at};
 use crate::runs;
 use shape_buffer::buffer::{
     Direction, Feature, Language, ScratchFlags, Script, UnicodeBuffer, hb_buffer_t,
@@ -212,7 +212,8 @@ fn two_normalised<'a>(
 /// Compares characters and the glyphs that were found for them.
 fn assert_found(rt: &impl Abort, buffer: &hb_buffer_t, wanted: &[(char, u32)]) {
     assert_same(rt, buffer.len(), wanted.len());
-    for (info, item) in buffer.infos().iter().zip(wanted) {
+    for (at, item) in wanted.iter().enumerate() {
+        let info = item_at(buffer.infos(), at);
         assert_same(rt, (info.codepoint, info.glyph_index), *item);
     }
 }
@@ -248,7 +249,8 @@ fn two_in_place<'a>(
 /// Compares glyphs and their clusters.
 fn assert_list_reversed(rt: &impl Abort, buffer: &hb_buffer_t, wanted: &[(u32, u32)]) {
     assert_same(rt, buffer.len(), wanted.len());
-    for (info, item) in buffer.infos().iter().zip(wanted) {
+    for (at, item) in wanted.iter().enumerate() {
+        let info = item_at(buffer.infos(), at);
         assert_same(rt, (info.glyph_id, info.cluster), *item);
     }
 }

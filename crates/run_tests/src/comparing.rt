@@ -1,6 +1,8 @@
 //! What tests compare with. These functions have no contract, since no later call of a test relies on what
 //! they found: so the proof of a test takes next to nothing for a call, and a second for each `assert_eq!`
 //! of the test's own.
+
+use shape_buffer::buffer::{GlyphPosition, hb_glyph_info_t};
 use std::fmt::Debug;
 use std::process::Abort;
 
@@ -12,4 +14,21 @@ pub fn assert_same<T: Copy + PartialEq + Debug>(rt: &impl Abort, found: T, wante
 /// Asserts a condition.
 pub fn assert_that(rt: &impl Abort, condition: bool) {
     assert!(rt; condition);
+}
+
+/// The item at a place of a list. Past its end it is one of no text. A loop over places takes a fourth of the time to
+/// prove that one over two lists takes.
+pub fn item_at(infos: &[hb_glyph_info_t], at: usize) -> hb_glyph_info_t {
+    match infos.get(at) {
+        Some(info) => *info,
+        None => hb_glyph_info_t::new('\0', u32::MAX),
+    }
+}
+
+/// The position at a place of a list. Past its end it is zero.
+pub fn position_at(positions: &[GlyphPosition], at: usize) -> GlyphPosition {
+    match positions.get(at) {
+        Some(position) => *position,
+        None => GlyphPosition::zero(),
+    }
 }

@@ -26,12 +26,18 @@ fn assert_prepared(
     Ok(())
 }
 
-/// Prepares the characters of these items, whose clusters are those of their graphemes.
-fn assert_graphemes(rt: &impl Abort, alloc: Global, items: &[(char, u32)]) -> Result<(), Fail> {
+/// The characters of these items.
+fn characters_of(alloc: Global, items: &[(char, u32)]) -> Result<Vec<char>, Fail> {
     let mut text = Vec::new(alloc);
     for (c, _) in items {
         text.push(*c)?;
     }
+    Ok(text)
+}
+
+/// Prepares the characters of these items, whose clusters are those of their graphemes.
+fn assert_graphemes(rt: &impl Abort, alloc: Global, items: &[(char, u32)]) -> Result<(), Fail> {
+    let text = characters_of(alloc, items)?;
     assert_prepared(rt, alloc, PLAINLY, text.as_slice(), items)
 }
 

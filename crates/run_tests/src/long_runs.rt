@@ -1,7 +1,7 @@
 //! Marks after others of a greater ccc: in runs too long to be put in order, and when a hook has exchanged
 //! them. All marks since the starter keep a mark from it, and not the last one alone.
 
-use crate::comparing::assert_same;
+use crate::comparing::{assert_same, item_at};
 use crate::texts::{PLAINLY, assert_characters, normalised, shaped, text_of};
 use shape_buffer::buffer::GlyphBuffer;
 use shape_buffer::interfaces::NoLookups;
@@ -44,7 +44,8 @@ fn around(
 /// Compares glyphs that have the numbers of their characters.
 fn assert_glyphs_of(rt: &impl Abort, glyphs: &GlyphBuffer, characters: &[char]) {
     assert_same(rt, glyphs.len(), characters.len());
-    for (info, c) in glyphs.glyph_infos().iter().zip(characters) {
+    for (at, c) in characters.iter().enumerate() {
+        let info = item_at(glyphs.glyph_infos(), at);
         assert_same(rt, info.glyph_id, u32::from(*c));
     }
 }

@@ -1,6 +1,6 @@
 //! Normalised lists of texts with marks, selectors and spaces, over hooks and faces of the tests' own.
 
-use crate::comparing::{assert_same, assert_that};
+use crate::comparing::{assert_same, assert_that, item_at};
 use crate::runs;
 use shape_buffer::buffer::{
     Direction, GlyphId, ScratchFlags, ShapeError, UnicodeBuffer, hb_buffer_t, hb_glyph_info_t,
@@ -108,7 +108,8 @@ fn reverse_marks(alloc: Global, buffer: &mut hb_buffer_t) -> Result<(), Fail> {
 /// Compares characters, glyphs and clusters.
 fn assert_items(rt: &impl Abort, buffer: &hb_buffer_t, items: &[(char, u32, u32)]) {
     assert_same(rt, buffer.len(), items.len());
-    for (info, item) in buffer.infos().iter().zip(items) {
+    for (at, item) in items.iter().enumerate() {
+        let info = item_at(buffer.infos(), at);
         let found = (info.codepoint, info.glyph_index, info.cluster);
         assert_same(rt, found, *item);
     }
@@ -124,8 +125,9 @@ fn selector_of(info: &hb_glyph_info_t) -> (bool, bool) {
 
 /// Compares of each item whether it is a marked selector, and whether it is ignorable.
 fn assert_selectors(rt: &impl Abort, buffer: &hb_buffer_t, items: &[(bool, bool)]) {
-    for (info, item) in buffer.infos().iter().zip(items) {
-        assert_same(rt, selector_of(info), *item);
+    for (at, item) in items.iter().enumerate() {
+        let info = item_at(buffer.infos(), at);
+        assert_same(rt, selector_of(&info), *item);
     }
 }
 
@@ -188,7 +190,8 @@ fn masked(alloc: Global, rows: &[(char, u32, u32)]) -> Result<hb_buffer_t, Fail>
 }
 
 fn assert_masks(rt: &impl Abort, buffer: &hb_buffer_t, masks: &[u32]) {
-    for (info, mask) in buffer.infos().iter().zip(masks) {
+    for (at, mask) in masks.iter().enumerate() {
+        let info = item_at(buffer.infos(), at);
         assert_same(rt, info.mask, *mask);
     }
 }

@@ -40,14 +40,19 @@ type DividingPlan<'a> = hb_ot_shape_plan_t<'a, hb_default_shaper_t, TestMap, ()>
 /// A plan of the shaper that decomposes fully.
 type FullPlan<'a> = hb_ot_shape_plan_t<'a, Preferring<Decomposed>, (), ()>;
 
-/// The plans and texts that each test begins with.
+/// The plans that each test begins with.
 #[derive(Drop)]
-struct Begun<'a> {
+struct Plans<'a> {
     /// Without lookups.
     plain: Plan<'a>,
     /// With masks for fractions.
     dividing: DividingPlan<'a>,
     full: FullPlan<'a>,
+}
+
+/// The texts that each test begins with.
+#[derive(Drop)]
+struct Texts {
     text: hb_buffer_t,
     spelled: hb_buffer_t,
 }
@@ -125,16 +130,21 @@ where
     runs::plan_for::<UnicodeDatabase, F, M, S>(alloc, face, shaper, direction, None)
 }
 
-fn begin<'a>(
+fn make_plans<'a>(
     alloc: Global,
     face: &'a MapFace,
     dividing: &'a TestFace<'static>,
     decomposing: &'a Preferring<Decomposed>,
-) -> Result<Begun<'a>, Fail> {
-    Ok(Begun {
+) -> Result<Plans<'a>, Fail> {
+    Ok(Plans {
         plain: planned::<MapFace, NoLookups, _>(alloc, face, &DEFAULT_SHAPER)?,
         dividing: planned::<TestFace<'static>, TestLayout, _>(alloc, dividing, &DEFAULT_SHAPER)?,
         full: planned::<MapFace, NoLookups, _>(alloc, face, decomposing)?,
+    })
+}
+
+fn make_texts(alloc: Global) -> Result<Texts, Fail> {
+    Ok(Texts {
         text: entered(alloc, &TEXT)?,
         spelled: entered(alloc, &SPELLED)?,
     })
@@ -255,36 +265,64 @@ fn fits(plan: &Plan<'_>, alloc: Global) -> bool {
     plan.fits::<UnicodeDatabase>(&nothing(alloc))
 }
 
+/// Compares how many items the texts have.
+fn assert_begun(rt: &impl Abort, texts: &Texts) {
+    assert_same(rt, texts.text.len(), 16);
+    assert_same(rt, texts.spelled.len(), 4);
+}
+
+/// Makes what each test begins with.
+fn begin(rt: &impl Abort, alloc: Global, face: &MapFace) -> Result<(), Fail> {
+    let decomposing = Preferring::<Decomposed>::new();
+    let _plans = make_plans(alloc, face, &DIVIDING, &decomposing)?;
+    let texts = make_texts(alloc)?;
+    assert_begun(rt, &texts);
+    Ok(())
+}
+
 #[test]
 fn text_is_begun(rt: HostRuntime) -> Result<(), Fail> {
     let alloc = rt.alloc();
     let face = face(alloc)?;
+    begin(&rt, alloc, &face)
+}
+
+/// Asks plans, a builder of requests, and whether a text meets the premises of canonical form: it misses the first of
+/// them in the default mode, and meets all in the one that decomposes fully.
+fn ask(
+    rt: &impl Abort,
+    alloc: Global,
+    plans: &Plans<'_>,
+    face: &MapFace,
+    spelled: &mut hb_buffer_t,
+) {
+    assert_that(rt, fits(&plans.plain, alloc));
+    assert_plain(rt, &plans.plain);
+    assert_same(rt, without_requests(alloc, face), (0, false, false));
+    set_properties(spelled);
+    assert_same(rt, meets(&plans.plain, face, spelled), false);
+    assert_same(rt, meets(&plans.full, face, spelled), true);
+}
+
+/// Makes what each test begins with, and the steps.
+fn make_steps(rt: &impl Abort, alloc: Global, face: &MapFace) -> Result<(), Fail> {
     let decomposing = Preferring::<Decomposed>::new();
-    let begun = begin(alloc, &face, &DIVIDING, &decomposing)?;
-    assert_same(&rt, (begun.text.len(), begun.spelled.len()), (16, 4));
-    Ok(())
+    let plans = make_plans(alloc, face, &DIVIDING, &decomposing)?;
+    let mut texts = make_texts(alloc)?;
+    ask(rt, alloc, &plans, face, &mut texts.spelled);
+    steps::make_all::<_, Types, DividingTypes>(
+        rt,
+        (&plans.plain, &plans.dividing),
+        face,
+        &mut texts.text,
+    )
 }
 
 #[test]
 fn steps_are_made(rt: HostRuntime) -> Result<(), Fail> {
     let alloc = rt.alloc();
     let face = face(alloc)?;
-    let decomposing = Preferring::<Decomposed>::new();
-    let Begun {
-        plain,
-        full,
-        dividing,
-        mut text,
-        mut spelled,
-    } = begin(alloc, &face, &DIVIDING, &decomposing)?;
-    assert_that(&rt, fits(&plain, alloc));
-    assert_plain(&rt, &plain);
-    assert_same(&rt, without_requests(alloc, &face), (0, false, false));
-    set_properties(&mut spelled);
-    // the default mode misses the first premise, and in the other one the text meets all
-    assert_same(&rt, meets(&plain, &face, &spelled), false);
-    assert_same(&rt, meets(&full, &face, &spelled), true);
-    steps::make_all::<_, Types, DividingTypes>(&rt, (&plain, &dividing), &face, &mut text)
+    make_steps(&rt, alloc, &face)
 }
 
 /// A buffer without items that runs to the right.
@@ -328,14 +366,25 @@ fn shape_nothing(alloc: Global, plan: &Plan<'_>, face: &MapFace) -> Result<usize
     }
 }
 
+/// Shapes empty texts, in place and by the entry.
+fn shape_both(rt: &impl Abort, alloc: Global, plan: &Plan<'_>, face: &MapFace) -> Result<(), Fail> {
+    shape_in_place(alloc, plan, face)?;
+    assert_same(rt, shape_nothing(alloc, plan, face)?, 0);
+    Ok(())
+}
+
+/// Makes what each test begins with, and shapes empty texts.
+fn shape_empty(rt: &impl Abort, alloc: Global, face: &MapFace) -> Result<(), Fail> {
+    let decomposing = Preferring::<Decomposed>::new();
+    let plans = make_plans(alloc, face, &DIVIDING, &decomposing)?;
+    let texts = make_texts(alloc)?;
+    assert_begun(rt, &texts);
+    shape_both(rt, alloc, &plans.plain, face)
+}
+
 #[test]
 fn empty_text_is_shaped(rt: HostRuntime) -> Result<(), Fail> {
     let alloc = rt.alloc();
     let face = face(alloc)?;
-    let decomposing = Preferring::<Decomposed>::new();
-    let begun = begin(alloc, &face, &DIVIDING, &decomposing)?;
-    assert_same(&rt, begun.text.len(), 16);
-    shape_in_place(alloc, &begun.plain, &face)?;
-    assert_same(&rt, shape_nothing(alloc, &begun.plain, &face)?, 0);
-    Ok(())
+    shape_empty(&rt, alloc, &face)
 }

@@ -26,6 +26,16 @@ const SPACE: GlyphOf = (' ', 3, 250, None);
 /// The glyph of the letter, placed first.
 const PLACED_LETTER: PlacedGlyph = (1, 0, (600, 0, 0, 0), 0);
 
+/// The glyphs of a text over a face that has these.
+fn shaped_over(
+    alloc: Global,
+    glyphs: &[GlyphOf],
+    text: UnicodeBuffer,
+) -> Result<GlyphBuffer, Fail> {
+    let face = face_of(alloc, glyphs)?;
+    shaped(alloc, &face, &DEFAULT_SHAPER, text)
+}
+
 /// Compares the glyphs of a text with a face.
 fn assert_shaped(
     rt: &impl Abort,
@@ -35,9 +45,8 @@ fn assert_shaped(
     text: &[char],
     placed: &[PlacedGlyph],
 ) -> Result<(), Fail> {
-    let face = face_of(alloc, glyphs)?;
-    let answer = shaped(alloc, &face, &DEFAULT_SHAPER, text_of(alloc, manner, text)?)?;
-    assert_glyphs(rt, &answer, placed);
+    let text = text_of(alloc, manner, text)?;
+    assert_glyphs(rt, &shaped_over(alloc, glyphs, text)?, placed);
     Ok(())
 }
 
@@ -133,10 +142,9 @@ fn spaces_of_a_width(rt: HostRuntime) -> Result<(), Fail> {
 
 /// The glyphs of a text, one of which stands for variation selectors without a variant.
 fn with_selector_glyph(alloc: Global, text: &[char]) -> Result<GlyphBuffer, Fail> {
-    let face = face_of(alloc, &[LETTER, SPACE])?;
     let mut buffer = text_of(alloc, PLAINLY, text)?;
     buffer.set_not_found_variation_selector_glyph(Some(GlyphId(9)));
-    shaped(alloc, &face, &DEFAULT_SHAPER, buffer)
+    shaped_over(alloc, &[LETTER, SPACE], buffer)
 }
 
 #[test]
@@ -195,15 +203,11 @@ fn two_letters_again(rt: &impl Abort, glyphs: GlyphBuffer) -> Result<UnicodeBuff
 #[test]
 fn a_cleared_buffer_serves_again(rt: HostRuntime) -> Result<(), Fail> {
     let alloc = rt.alloc();
-    let face = face_of(
-        alloc,
-        &[('\u{5D0}', 1, 500, None), ('\u{5D1}', 2, 450, None)],
-    )?;
+    let face = [('\u{5D0}', 1, 500, None), ('\u{5D1}', 2, 450, None)];
     let placed = [(2, 2, (450, 0, 0, 0), 0), (1, 0, (500, 0, 0, 0), 0)];
-    let glyphs = shaped(alloc, &face, &DEFAULT_SHAPER, two_letters(alloc)?)?;
+    let glyphs = shaped_over(alloc, &face, two_letters(alloc)?)?;
     assert_glyphs(&rt, &glyphs, &placed);
-    let again = two_letters_again(&rt, glyphs)?;
-    let answer = shaped(alloc, &face, &DEFAULT_SHAPER, again)?;
+    let answer = shaped_over(alloc, &face, two_letters_again(&rt, glyphs)?)?;
     assert_glyphs(&rt, &answer, &placed);
     Ok(())
 }

@@ -1,6 +1,6 @@
 //! Prepared texts over the whole database of Unicode.
 
-use crate::comparing::assert_same;
+use crate::comparing::{assert_same, item_at};
 use crate::texts::{
     BY_CHARACTER, Manner, PLAINLY, assert_items, normalised, prepared, shaped, text_of,
 };
@@ -67,7 +67,8 @@ fn empty_text(rt: HostRuntime) -> Result<(), Fail> {
 
 /// Compares of each item whether it continues a grapheme.
 fn assert_continuations(rt: &impl Abort, list: &hb_buffer_t, continuations: &[bool]) {
-    for (info, continuation) in list.infos().iter().zip(continuations) {
+    for (at, continuation) in continuations.iter().enumerate() {
+        let info = item_at(list.infos(), at);
         assert_same(rt, info._hb_glyph_info_get_continuation(), *continuation);
     }
 }
@@ -107,7 +108,8 @@ fn dotted_circle(rt: HostRuntime) -> Result<(), Fail> {
 /// Compares the characters of glyphs, and their clusters.
 fn assert_glyphs_of(rt: &impl Abort, glyphs: &GlyphBuffer, items: &[(char, u32)]) {
     assert_same(rt, glyphs.len(), items.len());
-    for (info, item) in glyphs.glyph_infos().iter().zip(items) {
+    for (at, item) in items.iter().enumerate() {
+        let info = item_at(glyphs.glyph_infos(), at);
         assert_same(rt, (info.codepoint, info.cluster), *item);
     }
 }

@@ -233,9 +233,27 @@ fn planned_for<'a>(
     alloc: Global,
     face: &'a TestFace<'a>,
     shaper: &'a Comparing,
-    text: &UnicodeBuffer,
+    text: &[char],
 ) -> Result<ComparingPlan<'a>, Fail> {
-    planned(alloc, face, shaper, text)
+    let text = text_of(alloc, PLAINLY, text)?;
+    planned(alloc, face, shaper, &text)
+}
+
+/// Compares the two spellings. If that is refused, does so again in the buffers that are left.
+fn compare_both<'a>(
+    rt: &impl Abort,
+    alloc: Global,
+    face: &TestFace<'a>,
+    plan: &ComparingPlan<'_>,
+) -> Result<(), Fail> {
+    let mut a = prepared(alloc, face, plan, text_of(alloc, PLAINLY, SPELLINGS[0])?)?;
+    let mut b = prepared(alloc, face, plan, text_of(alloc, PLAINLY, SPELLINGS[1])?)?;
+    let Err(cause) = compare(rt, alloc, face, plan, (&mut a, &mut b)) else {
+        return Ok(());
+    };
+    assert_same(rt, cause, ShapeError::Memory);
+    compare_again(rt, alloc, face, plan, (a, b))?;
+    Err(Fail::from("refused"))
 }
 
 /// Both buffers are cleared if one growth of either is refused.
@@ -244,17 +262,8 @@ fn comparing(rt: HostRuntime) -> Result<(), Fail> {
     let alloc = rt.alloc();
     let face = face_of_both();
     let shaper = Comparing::new();
-    let first = text_of(alloc, PLAINLY, SPELLINGS[0])?;
-    let second = text_of(alloc, PLAINLY, SPELLINGS[1])?;
-    let plan = planned_for(alloc, &face, &shaper, &first)?;
-    let mut a = prepared(alloc, &face, &plan, first)?;
-    let mut b = prepared(alloc, &face, &plan, second)?;
-    let Err(cause) = compare(&rt, alloc, &face, &plan, (&mut a, &mut b)) else {
-        return Ok(());
-    };
-    assert_same(&rt, cause, ShapeError::Memory);
-    compare_again(&rt, alloc, &face, &plan, (a, b))?;
-    Err(Fail::from("refused"))
+    let plan = planned_for(alloc, &face, &shaper, SPELLINGS[0])?;
+    compare_both(&rt, alloc, &face, &plan)
 }
 
 /// Compares the key of a text. Where it is refused, hands back what is left of the text.
@@ -277,6 +286,25 @@ fn key_or_left(
     }
 }
 
+/// Compares the key of a spelling. If it is refused, compares what is left of the text, and its key once it is filled
+/// again.
+fn compare_keys(
+    rt: &impl Abort,
+    alloc: Global,
+    face: &TestFace<'_>,
+    plan: &ComparingPlan<'_>,
+    row: Row<'_>,
+) -> Result<(), Fail> {
+    let Some(left) = key_or_left(rt, alloc, face, plan, text_set(alloc, row)?) else {
+        return Ok(());
+    };
+    assert_cleared(rt, row, &left);
+    if key_or_left(rt, alloc, face, plan, filled(left, row.text)?).is_some() {
+        return Err(Fail::from("refused twice"));
+    }
+    Err(Fail::from("refused"))
+}
+
 /// A text's key is refused with the text's buffer, cleared, which gives the key once it is filled again.
 #[test]
 fn a_key(rt: HostRuntime) -> Result<(), Fail> {
@@ -288,15 +316,6 @@ fn a_key(rt: HostRuntime) -> Result<(), Fail> {
         text: SPELLINGS[1],
         glyphs: &[],
     };
-    let text = text_set(alloc, row)?;
-    let plan = planned_for(alloc, &face, &shaper, &text)?;
-    let Some(left) = key_or_left(&rt, alloc, &face, &plan, text) else {
-        return Ok(());
-    };
-    assert_cleared(&rt, row, &left);
-    let left = filled(left, row.text)?;
-    if key_or_left(&rt, alloc, &face, &plan, left).is_some() {
-        return Err(Fail::from("refused twice"));
-    }
-    Err(Fail::from("refused"))
+    let plan = planned_for(alloc, &face, &shaper, row.text)?;
+    compare_keys(&rt, alloc, &face, &plan, row)
 }

@@ -1,6 +1,6 @@
 //! Whole runs with the answers that the rules give.
 
-use crate::comparing::{assert_same, assert_that};
+use crate::comparing::{assert_same, assert_that, item_at};
 use crate::runs;
 use shape_buffer::buffer::{Direction, GlyphBuffer, ShapeError, ShapeFault, UnicodeBuffer};
 use shape_buffer::interfaces::{NoLookups, PlainUnicode, hb_font_t};
@@ -58,7 +58,8 @@ fn assert_glyphs(
         return Err(Fail::from("refused"));
     };
     assert_same(rt, glyphs.len(), chars.len());
-    for (info, c) in glyphs.glyph_infos().iter().zip(chars) {
+    for (at, c) in chars.iter().enumerate() {
+        let info = item_at(glyphs.glyph_infos(), at);
         let found = (info.codepoint, info.cluster, info.glyph_id);
         assert_same(rt, found, (*c, 7, info.glyph_index));
     }

@@ -1,6 +1,6 @@
 //! What the tests over the whole database of Unicode share: texts, runs of them, and comparisons.
 
-use crate::comparing::assert_same;
+use crate::comparing::{assert_same, item_at, position_at};
 use crate::runs;
 use shape_buffer::buffer::{
     BufferClusterLevel, BufferFlags, Direction, GlyphBuffer, GlyphId, UnicodeBuffer, hb_buffer_t,
@@ -159,7 +159,8 @@ pub fn face_of(alloc: Global, glyphs: &[GlyphOf]) -> Result<MapFace, Fail> {
 /// Compares characters and clusters.
 pub fn assert_items(rt: &impl Abort, buffer: &hb_buffer_t, items: &[(char, u32)]) {
     assert_same(rt, buffer.len(), items.len());
-    for (info, item) in buffer.infos().iter().zip(items) {
+    for (at, item) in items.iter().enumerate() {
+        let info = item_at(buffer.infos(), at);
         assert_same(rt, (info.codepoint, info.cluster), *item);
     }
 }
@@ -167,7 +168,8 @@ pub fn assert_items(rt: &impl Abort, buffer: &hb_buffer_t, items: &[(char, u32)]
 /// Compares characters.
 pub fn assert_characters(rt: &impl Abort, buffer: &hb_buffer_t, characters: &[char]) {
     assert_same(rt, buffer.len(), characters.len());
-    for (info, c) in buffer.infos().iter().zip(characters) {
+    for (at, c) in characters.iter().enumerate() {
+        let info = item_at(buffer.infos(), at);
         assert_same(rt, info.codepoint, *c);
     }
 }
@@ -178,7 +180,8 @@ pub type PlacedGlyph = (u32, u32, (i32, i32, i32, i32), u32);
 /// Compares glyphs with their clusters, positions and flags.
 pub fn assert_glyphs(rt: &impl Abort, glyphs: &GlyphBuffer, placed: &[PlacedGlyph]) {
     assert_same(rt, glyphs.len(), placed.len());
-    for (info, want) in glyphs.glyph_infos().iter().zip(placed) {
+    for (at, want) in placed.iter().enumerate() {
+        let info = item_at(glyphs.glyph_infos(), at);
         let found = (info.glyph_id, info.cluster, info.mask);
         assert_same(rt, found, (want.0, want.1, want.3));
     }
@@ -187,7 +190,8 @@ pub fn assert_glyphs(rt: &impl Abort, glyphs: &GlyphBuffer, placed: &[PlacedGlyp
 
 /// Compares the positions of glyphs.
 fn assert_positions(rt: &impl Abort, glyphs: &GlyphBuffer, placed: &[PlacedGlyph]) {
-    for (at, want) in glyphs.glyph_positions().iter().zip(placed) {
+    for (at, want) in placed.iter().enumerate() {
+        let at = position_at(glyphs.glyph_positions(), at);
         let found = (at.x_advance, at.y_advance, at.x_offset, at.y_offset);
         assert_same(rt, found, want.2);
     }

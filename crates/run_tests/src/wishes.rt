@@ -95,17 +95,16 @@ where
     )
 }
 
-/// The glyphs of a text.
-fn shaped<S>(
+/// The glyphs of a text over a face.
+fn shaped_over<S>(
     alloc: Global,
     face: &TestFace<'static>,
     shaper: &S,
-    text: &[char],
+    text: UnicodeBuffer,
 ) -> Result<GlyphBuffer, Fail>
 where
     S: hb_ot_shaper_t<UnicodeDatabase, TestFace<'static>, TestLayout, Data = ()>,
 {
-    let text = text_of(alloc, PLAINLY, text)?;
     let plan = planned(alloc, face, shaper, &text)?;
     match runs::glyphs_under::<UnicodeDatabase, TestFace<'static>, TestLayout, S>(
         alloc, &plan, face, text,
@@ -115,17 +114,31 @@ where
     }
 }
 
+/// The glyphs of a text over a face with these tables.
+fn shaped<S>(
+    alloc: Global,
+    (tables, kerning): (hb_tables_t, bool),
+    shaper: &S,
+    text: &[char],
+) -> Result<GlyphBuffer, Fail>
+where
+    S: hb_ot_shaper_t<UnicodeDatabase, TestFace<'static>, TestLayout, Data = ()>,
+{
+    let face = tabled(tables, kerning);
+    shaped_over(alloc, &face, shaper, text_of(alloc, PLAINLY, text)?)
+}
+
 /// Compares the glyphs of a text by the shaper whose marks hang where their boxes say.
 fn assert_hanging(
     rt: &impl Abort,
     alloc: Global,
-    face: &TestFace<'static>,
+    tables: hb_tables_t,
     text: &[char],
     placed: &[PlacedGlyph],
 ) -> Result<(), Fail> {
     assert_glyphs(
         rt,
-        &shaped(alloc, face, &HangingShaper::new(), text)?,
+        &shaped(alloc, (tables, false), &HangingShaper::new(), text)?,
         placed,
     );
     Ok(())
@@ -135,11 +148,15 @@ fn assert_hanging(
 fn assert_early(
     rt: &impl Abort,
     alloc: Global,
-    face: &TestFace<'static>,
+    tables: hb_tables_t,
     text: &[char],
     placed: &[PlacedGlyph],
 ) -> Result<(), Fail> {
-    assert_glyphs(rt, &shaped(alloc, face, &EarlyShaper::new(), text)?, placed);
+    assert_glyphs(
+        rt,
+        &shaped(alloc, (tables, false), &EarlyShaper::new(), text)?,
+        placed,
+    );
     Ok(())
 }
 
@@ -147,11 +164,15 @@ fn assert_early(
 fn assert_late(
     rt: &impl Abort,
     alloc: Global,
-    face: &TestFace<'static>,
+    tables: hb_tables_t,
     text: &[char],
     placed: &[PlacedGlyph],
 ) -> Result<(), Fail> {
-    assert_glyphs(rt, &shaped(alloc, face, &LateShaper::new(), text)?, placed);
+    assert_glyphs(
+        rt,
+        &shaped(alloc, (tables, false), &LateShaper::new(), text)?,
+        placed,
+    );
     Ok(())
 }
 
@@ -159,11 +180,11 @@ fn assert_late(
 fn assert_by_default(
     rt: &impl Abort,
     alloc: Global,
-    face: &TestFace<'static>,
+    tables: (hb_tables_t, bool),
     text: &[char],
     placed: &[PlacedGlyph],
 ) -> Result<(), Fail> {
-    assert_glyphs(rt, &shaped(alloc, face, &DEFAULT_SHAPER, text)?, placed);
+    assert_glyphs(rt, &shaped(alloc, tables, &DEFAULT_SHAPER, text)?, placed);
     Ok(())
 }
 
@@ -176,33 +197,30 @@ const ZEROED_LEFTWARD: [PlacedGlyph; 2] = [(2, 0, (0, 0, 0, 0), 0), (4, 0, (500,
 #[test]
 fn marks_of_a_base_without_a_box_are_zeroed(rt: HostRuntime) -> Result<(), Fail> {
     let alloc = rt.alloc();
-    let face = tabled(NO_TABLES, false);
-    assert_hanging(&rt, alloc, &face, &RIGHTWARD, &ZEROED)?;
-    assert_hanging(&rt, alloc, &face, &LEFTWARD, &ZEROED_LEFTWARD)
+    assert_hanging(&rt, alloc, NO_TABLES, &RIGHTWARD, &ZEROED)?;
+    assert_hanging(&rt, alloc, NO_TABLES, &LEFTWARD, &ZEROED_LEFTWARD)
 }
 
 #[test]
 fn zeroing_alone_adjusts_in_forward_text(rt: HostRuntime) -> Result<(), Fail> {
     let alloc = rt.alloc();
-    let face = tabled(NO_TABLES, false);
-    assert_early(&rt, alloc, &face, &RIGHTWARD, &ZEROED)?;
-    assert_late(&rt, alloc, &face, &RIGHTWARD, &ZEROED)?;
-    assert_early(&rt, alloc, &face, &LEFTWARD, &ZEROED_LEFTWARD)?;
-    assert_late(&rt, alloc, &face, &LEFTWARD, &ZEROED_LEFTWARD)
+    assert_early(&rt, alloc, NO_TABLES, &RIGHTWARD, &ZEROED)?;
+    assert_late(&rt, alloc, NO_TABLES, &RIGHTWARD, &ZEROED)?;
+    assert_early(&rt, alloc, NO_TABLES, &LEFTWARD, &ZEROED_LEFTWARD)?;
+    assert_late(&rt, alloc, NO_TABLES, &LEFTWARD, &ZEROED_LEFTWARD)
 }
 
 /// What `GPOS` adds to a mark stays if the mark was zeroed before, and goes if it is zeroed after.
 #[test]
 fn zeroing_comes_before_or_after_tables(rt: HostRuntime) -> Result<(), Fail> {
     let alloc = rt.alloc();
-    let face = tabled(GPOS, false);
     let early = [(1, 0, (601, 0, 0, 0), 0), (2, 0, (1, 0, 0, 0), 0)];
-    assert_early(&rt, alloc, &face, &RIGHTWARD, &early)?;
+    assert_early(&rt, alloc, GPOS, &RIGHTWARD, &early)?;
     let late = [(1, 0, (601, 0, 0, 0), 0), (2, 0, (0, 0, 0, 0), 0)];
-    assert_late(&rt, alloc, &face, &RIGHTWARD, &late)?;
-    assert_by_default(&rt, alloc, &face, &RIGHTWARD, &late)?;
+    assert_late(&rt, alloc, GPOS, &RIGHTWARD, &late)?;
+    assert_by_default(&rt, alloc, (GPOS, false), &RIGHTWARD, &late)?;
     let never = [(1, 0, (601, 0, 0, 0), 0), (2, 0, (101, 0, 0, 0), 0)];
-    assert_hanging(&rt, alloc, &face, &RIGHTWARD, &never)
+    assert_hanging(&rt, alloc, GPOS, &RIGHTWARD, &never)
 }
 
 /// Whether a plan zeroes marks, goes by `morx`, has a shaper that gave way, places marks by their boxes, and moves
@@ -225,31 +243,35 @@ fn assert_gave_way<S>(rt: &impl Abort, plan: &Plan<'_, S>) {
 /// A letter with an acute that isn't zeroed.
 const KEPT: [PlacedGlyph; 2] = [(1, 0, (600, 0, 0, 0), 0), (2, 0, (100, 0, 0, 0), 0)];
 
+/// Compares the decisions of the plans of two shapers for a text over a face with `morx`.
+fn assert_both_gave_way(rt: &impl Abort, alloc: Global) -> Result<(), Fail> {
+    let face = tabled(MORX, false);
+    let text = text_of(alloc, PLAINLY, &RIGHTWARD)?;
+    assert_gave_way(rt, &planned(alloc, &face, &EarlyShaper::new(), &text)?);
+    assert_gave_way(rt, &planned(alloc, &face, &LateShaper::new(), &text)?);
+    Ok(())
+}
+
 #[test]
 fn shaper_that_gave_way_zeroes_nothing(rt: HostRuntime) -> Result<(), Fail> {
     let alloc = rt.alloc();
-    let face = tabled(MORX, false);
-    let text = text_of(alloc, PLAINLY, &RIGHTWARD)?;
-    let (early, late) = (EarlyShaper::new(), LateShaper::new());
-    assert_gave_way(&rt, &planned(alloc, &face, &early, &text)?);
-    assert_early(&rt, alloc, &face, &RIGHTWARD, &KEPT)?;
-    assert_gave_way(&rt, &planned(alloc, &face, &late, &text)?);
-    assert_late(&rt, alloc, &face, &RIGHTWARD, &KEPT)?;
+    assert_both_gave_way(&rt, alloc)?;
+    assert_early(&rt, alloc, MORX, &RIGHTWARD, &KEPT)?;
+    assert_late(&rt, alloc, MORX, &RIGHTWARD, &KEPT)?;
     // its wish for boxes stays: the mark is zeroed since its base has none, and isn't moved
     let placed = [(1, 0, (600, 0, 0, 0), 0), (2, 0, (0, 0, 0, 0), 0)];
-    assert_hanging(&rt, alloc, &face, &RIGHTWARD, &placed)
+    assert_hanging(&rt, alloc, MORX, &RIGHTWARD, &placed)
 }
 
 /// Compares the advance of a letter under tables, by the default shaper.
 fn assert_advance(
     rt: &impl Abort,
     alloc: Global,
-    (tables, kerning): (hb_tables_t, bool),
+    tables: (hb_tables_t, bool),
     advance: i32,
 ) -> Result<(), Fail> {
-    let face = tabled(tables, kerning);
     let placed = [(1, 0, (advance, 0, 0, 0), 0)];
-    assert_by_default(rt, alloc, &face, &['a'], &placed)
+    assert_by_default(rt, alloc, tables, &['a'], &placed)
 }
 
 /// Whether `GPOS`, `kerx` and `kern` are applied under a plan.
