@@ -3,9 +3,9 @@ use crate::support::{
     with_every_property,
 };
 use shape_buffer::buffer::{
-    BufferClusterLevel, BufferFlags, Direction, GlyphId, GlyphPosition, GlyphPropsFlags, Language,
-    ScratchFlags, Script, ShapeError, UnicodeBuffer, hb_buffer_t, hb_glyph_info_t, hb_tag_t,
-    hb_unicode_general_category_t,
+    BufferClusterLevel, BufferFlags, Direction, GlyphBuffer, GlyphId, GlyphPosition,
+    GlyphPropsFlags, Language, ScratchFlags, Script, ShapeError, UnicodeBuffer, hb_buffer_t,
+    hb_glyph_info_t, hb_tag_t, hb_unicode_general_category_t,
 };
 use std::alloc::Global;
 use std::process::Abort;
@@ -148,16 +148,17 @@ fn lists(rt: HostRuntime) -> Result<(), Fail> {
     Ok(())
 }
 
+/// How many glyphs there are, by themselves, as items and as positions.
+fn lengths(glyphs: &GlyphBuffer) -> (usize, usize, usize) {
+    let (infos, positions) = (glyphs.glyph_infos(), glyphs.glyph_positions());
+    (glyphs.len(), infos.len(), positions.len())
+}
+
 #[test]
 fn glyphs(rt: HostRuntime) -> Result<(), Fail> {
     let text = text_of(rt.alloc(), "a\u{301}bc")?;
     let glyphs = text.into_inner().into_glyphs();
-    let lengths = (
-        glyphs.len(),
-        glyphs.glyph_infos().len(),
-        glyphs.glyph_positions().len(),
-    );
-    assert_same(&rt, lengths, (4, 4, 4));
+    assert_same(&rt, lengths(&glyphs), (4, 4, 4));
     assert_same(&rt, glyphs.clear().len(), 0);
     Ok(())
 }
@@ -248,24 +249,13 @@ fn exchange_infos(buffer: &mut hb_buffer_t, i: usize, j: usize) {
     }
 }
 
-/// Compares which items are unsafe to break.
-fn assert_breaks(rt: &impl Abort, buffer: &hb_buffer_t, flags: &[bool]) {
+/// Compares of each item whether it is unsafe to break, whether it is unsafe to concat, and whether a tatweel is safe
+/// before it.
+fn assert_flags(rt: &impl Abort, buffer: &hb_buffer_t, flags: &[(bool, bool, bool)]) {
     for (item, wanted) in buffer.infos().iter().zip(flags) {
-        assert_same(rt, item.unsafe_to_break(), *wanted);
-    }
-}
-
-/// Compares which items are unsafe to concat.
-fn assert_concats(rt: &impl Abort, buffer: &hb_buffer_t, flags: &[bool]) {
-    for (item, wanted) in buffer.infos().iter().zip(flags) {
-        assert_same(rt, item.unsafe_to_concat(), *wanted);
-    }
-}
-
-/// Compares before which items a tatweel is safe.
-fn assert_tatweels(rt: &impl Abort, buffer: &hb_buffer_t, flags: &[bool]) {
-    for (item, wanted) in buffer.infos().iter().zip(flags) {
-        assert_same(rt, item.safe_to_insert_tatweel(), *wanted);
+        let (breaks, concats) = (item.unsafe_to_break(), item.unsafe_to_concat());
+        let found = (breaks, concats, item.safe_to_insert_tatweel());
+        assert_same(rt, found, *wanted);
     }
 }
 
@@ -281,8 +271,11 @@ fn items_are_exchanged_with_their_positions(rt: HostRuntime) -> Result<(), Fail>
     assert_rows(&rt, &buffer, &[(2, 4), (0, 1), (1, 2)]);
     exchange_infos(&mut buffer, 2, 1);
     assert_advances(&rt, &buffer, &[0, 0, 7]);
-    assert_tatweels(&rt, &buffer, &[true, false, false]);
-    assert_concats(&rt, &buffer, &[false, true, false]);
-    assert_breaks(&rt, &buffer, &[false, false, true]);
+    let flags = [
+        (false, false, true),
+        (false, true, false),
+        (true, false, false),
+    ];
+    assert_flags(&rt, &buffer, &flags);
     Ok(())
 }

@@ -1,7 +1,5 @@
-use crate::support::{assert_advances, assert_rows, assert_same, filled};
-use shape_buffer::buffer::{
-    BufferClusterLevel, GlyphPosition, ScratchFlags, hb_buffer_t, hb_glyph_info_t,
-};
+use crate::support::{assert_advances, assert_rows, assert_scratch, filled};
+use shape_buffer::buffer::{BufferClusterLevel, GlyphPosition, hb_buffer_t, hb_glyph_info_t};
 use std::alloc::Global;
 use std::process::Abort;
 use std::test::Fail;
@@ -25,149 +23,191 @@ fn glyphs(
     Ok(buffer)
 }
 
-/// Deletes the items of glyph 1 from a list of glyphs, clusters and masks: what that leaves, and whether
-/// HAS_GLYPH_FLAGS is set.
-fn leaves(
-    rt: &impl Abort,
-    alloc: Global,
-    level: BufferClusterLevel,
-    before: &[(u32, u32, u32)],
-    after: &[(u32, u32)],
-    has_flags: bool,
-) -> Result<(), Fail> {
+/// A list of glyphs, clusters and masks at a level, what is left of it once the items of glyph 1 are deleted, and
+/// whether HAS_GLYPH_FLAGS is set.
+type Case<'a> = (
+    BufferClusterLevel,
+    &'a [(u32, u32, u32)],
+    &'a [(u32, u32)],
+    bool,
+);
+
+/// Compares what deleting leaves of a list.
+fn leaves(rt: &impl Abort, alloc: Global, case: &Case<'_>) -> Result<(), Fail> {
+    let (level, before, after, has_flags) = *case;
     let mut buffer = glyphs(alloc, level, before)?;
     buffer.delete_glyphs_inplace(|info| info.glyph_id == 1);
     assert_rows(rt, &buffer, after);
-    let scratch_flags = if has_flags {
-        ScratchFlags::HAS_GLYPH_FLAGS
-    } else {
-        ScratchFlags(0)
-    };
-    assert_same(rt, buffer.scratch_flags(), scratch_flags);
+    assert_scratch(rt, &buffer, has_flags);
     Ok(())
 }
 
+/// Compares it of some lists.
+fn assert_cases(rt: &impl Abort, alloc: Global, cases: &[Case<'_>]) -> Result<(), Fail> {
+    for case in cases {
+        leaves(rt, alloc, case)?;
+    }
+    Ok(())
+}
+
+const GRAPHEMES: BufferClusterLevel = BufferClusterLevel::MonotoneGraphemes;
+
+const MONOTONE: BufferClusterLevel = BufferClusterLevel::MonotoneCharacters;
+
+const CHARACTERS: BufferClusterLevel = BufferClusterLevel::Characters;
+
+/// Case 1: the next item has the cluster, picked or not.
+const NEXT_HAS_IT: [Case<'_>; 1] = [(
+    GRAPHEMES,
+    &[(0, 2, 8), (1, 1, 15), (1, 1, 7), (0, 1, 4)],
+    &[(2, 8), (1, 4)],
+    false,
+)];
+
 #[test]
 fn next_item_has_the_cluster(rt: HostRuntime) -> Result<(), Fail> {
-    // case 1: picked or not
-    leaves(
-        &rt,
-        rt.alloc(),
-        BufferClusterLevel::MonotoneGraphemes,
-        &[(0, 2, 8), (1, 1, 15), (1, 1, 7), (0, 1, 4)],
-        &[(2, 8), (1, 4)],
-        false,
-    )
+    assert_cases(&rt, rt.alloc(), &NEXT_HAS_IT)
 }
+
+/// Case 2: the last kept items of one cluster take a smaller one, with the flags; features stay.
+const SMALLER: [Case<'_>; 2] = [
+    (
+        MONOTONE,
+        &[(0, 4, 5), (0, 2, 9), (0, 2, 10), (1, 1, 20), (0, 3, 0)],
+        &[(4, 5), (1, 12), (1, 12), (3, 0)],
+        false,
+    ),
+    (
+        CHARACTERS,
+        &[(0, 4, 5), (0, 2, 9), (0, 2, 10), (1, 1, 20), (0, 3, 0)],
+        &[(4, 5), (1, 12), (1, 12), (3, 0)],
+        false,
+    ),
+];
 
 #[test]
 fn last_kept_take_a_smaller_cluster(rt: HostRuntime) -> Result<(), Fail> {
-    let alloc = rt.alloc();
-    let rt = &rt;
-    // case 2: the last kept items of one cluster take a smaller one, with the flags; features stay
-    let before = [(0, 4, 5), (0, 2, 9), (0, 2, 10), (1, 1, 20), (0, 3, 0)];
-    let after = [(4, 5), (1, 12), (1, 12), (3, 0)];
-    let monotone = BufferClusterLevel::MonotoneCharacters;
-    leaves(rt, alloc, monotone, &before, &after, false)?;
-    let characters = BufferClusterLevel::Characters;
-    leaves(rt, alloc, characters, &before, &after, false)
+    assert_cases(&rt, rt.alloc(), &SMALLER)
 }
+
+const NOT_SMALLER: [Case<'_>; 1] = [(
+    GRAPHEMES,
+    &[(0, 1, 3), (1, 1, 7), (0, 4, 0), (1, 9, 7)],
+    &[(1, 3), (4, 0)],
+    false,
+)];
 
 #[test]
 fn cluster_that_is_not_smaller_goes(rt: HostRuntime) -> Result<(), Fail> {
-    leaves(
-        &rt,
-        rt.alloc(),
-        BufferClusterLevel::MonotoneGraphemes,
-        &[(0, 1, 3), (1, 1, 7), (0, 4, 0), (1, 9, 7)],
-        &[(1, 3), (4, 0)],
-        false,
-    )
+    assert_cases(&rt, rt.alloc(), &NOT_SMALLER)
 }
 
-#[test]
-fn clusters_fall_with_each_picked_item(rt: HostRuntime) -> Result<(), Fail> {
-    let falling = [
+const FALLING: [Case<'_>; 1] = [(
+    GRAPHEMES,
+    &[
         (0, 9, 8),
         (0, 9, 16),
         (1, 8, 1),
         (1, 7, 2),
         (1, 5, 4),
         (0, 6, 1),
-    ];
-    leaves(
-        &rt,
-        rt.alloc(),
-        BufferClusterLevel::MonotoneGraphemes,
-        &falling,
-        &[(5, 12), (5, 20), (6, 1)],
-        false,
-    )
+    ],
+    &[(5, 12), (5, 20), (6, 1)],
+    false,
+)];
+
+#[test]
+fn clusters_fall_with_each_picked_item(rt: HostRuntime) -> Result<(), Fail> {
+    assert_cases(&rt, rt.alloc(), &FALLING)
 }
+
+/// The flags of the last kept item are its own until the next one falls.
+const JOINING: [Case<'_>; 2] = [
+    (
+        GRAPHEMES,
+        &[(0, 5, 1), (0, 7, 1), (1, 5, 4), (0, 9, 2)],
+        &[(5, 1), (5, 4), (9, 2)],
+        false,
+    ),
+    (
+        GRAPHEMES,
+        &[
+            (0, 5, 1),
+            (0, 7, 1),
+            (1, 5, 4),
+            (1, 4, 2),
+            (0, 9, 0),
+            (1, 4, 1),
+            (1, 3, 4),
+        ],
+        &[(3, 4), (3, 4), (3, 4)],
+        false,
+    ),
+];
 
 #[test]
 fn last_kept_joins_the_cluster_before(rt: HostRuntime) -> Result<(), Fail> {
-    let alloc = rt.alloc();
-    let rt = &rt;
-    let graphemes = BufferClusterLevel::MonotoneGraphemes;
-    // its flags are its own until the next one falls
-    let joining = [(0, 5, 1), (0, 7, 1), (1, 5, 4), (0, 9, 2)];
-    let after = [(5, 1), (5, 4), (9, 2)];
-    leaves(rt, alloc, graphemes, &joining, &after, false)?;
-    let joined = [
-        (0, 5, 1),
-        (0, 7, 1),
-        (1, 5, 4),
-        (1, 4, 2),
-        (0, 9, 0),
-        (1, 4, 1),
-        (1, 3, 4),
-    ];
-    let after = [(3, 4), (3, 4), (3, 4)];
-    leaves(rt, alloc, graphemes, &joined, &after, false)
+    assert_cases(&rt, rt.alloc(), &JOINING)
 }
+
+/// Case 3: none was kept.
+const MERGED: [Case<'_>; 3] = [
+    (
+        MONOTONE,
+        &[(1, 5, 7), (0, 3, 15), (0, 5, 1)],
+        &[(3, 15), (5, 1)],
+        false,
+    ),
+    (
+        GRAPHEMES,
+        &[(1, 3, 7), (0, 5, 15), (0, 5, 9), (0, 6, 1)],
+        &[(3, 8), (3, 8), (6, 1)],
+        false,
+    ),
+    (
+        GRAPHEMES,
+        &[(1, 3, 0), (1, 5, 0), (0, 7, 1)],
+        &[(3, 0)],
+        false,
+    ),
+];
 
 #[test]
 fn first_items_are_merged(rt: HostRuntime) -> Result<(), Fail> {
-    let alloc = rt.alloc();
-    let rt = &rt;
-    let graphemes = BufferClusterLevel::MonotoneGraphemes;
-    let monotone = BufferClusterLevel::MonotoneCharacters;
-    // case 3: none was kept
-    let rising = [(1, 5, 7), (0, 3, 15), (0, 5, 1)];
-    let after = [(3, 15), (5, 1)];
-    leaves(rt, alloc, monotone, &rising, &after, false)?;
-    let leading = [(1, 3, 7), (0, 5, 15), (0, 5, 9), (0, 6, 1)];
-    let after = [(3, 8), (3, 8), (6, 1)];
-    leaves(rt, alloc, graphemes, &leading, &after, false)?;
-    let twice = [(1, 3, 0), (1, 5, 0), (0, 7, 1)];
-    leaves(rt, alloc, graphemes, &twice, &[(3, 0)], false)
+    assert_cases(&rt, rt.alloc(), &MERGED)
 }
+
+/// Case 3 at this level: a list that is marked, one that isn't, and one whose picked cluster is greater.
+const MARKED: [Case<'_>; 3] = [
+    (
+        CHARACTERS,
+        &[(1, 3, 7), (0, 5, 15), (0, 5, 9), (0, 6, 1)],
+        &[(5, 15), (5, 9), (6, 1)],
+        true,
+    ),
+    (
+        CHARACTERS,
+        &[(1, 3, 0), (0, 5, 8), (0, 5, 8)],
+        &[(5, 11), (5, 8)],
+        true,
+    ),
+    (CHARACTERS, &[(1, 5, 0), (0, 3, 8)], &[(3, 8)], true),
+];
 
 #[test]
 fn first_items_are_marked_at_level_characters(rt: HostRuntime) -> Result<(), Fail> {
-    let alloc = rt.alloc();
-    let rt = &rt;
-    let level = BufferClusterLevel::Characters;
-    // case 3: none was kept
-    let leading = [(1, 3, 7), (0, 5, 15), (0, 5, 9), (0, 6, 1)];
-    let after = [(5, 15), (5, 9), (6, 1)];
-    leaves(rt, alloc, level, &leading, &after, true)?;
-    let unmarked = [(1, 3, 0), (0, 5, 8), (0, 5, 8)];
-    leaves(rt, alloc, level, &unmarked, &[(5, 11), (5, 8)], true)?;
-    let picked_is_greater = [(1, 5, 0), (0, 3, 8)];
-    leaves(rt, alloc, level, &picked_is_greater, &[(3, 8)], true)
+    assert_cases(&rt, rt.alloc(), &MARKED)
 }
+
+/// Case 4.
+const NOTHING: [Case<'_>; 2] = [
+    (GRAPHEMES, &[(1, 3, 7)], &[], false),
+    (GRAPHEMES, &[(0, 3, 7), (0, 2, 5)], &[(3, 7), (2, 5)], false),
+];
 
 #[test]
 fn nothing_is_left_or_picked(rt: HostRuntime) -> Result<(), Fail> {
-    let alloc = rt.alloc();
-    let rt = &rt;
-    let graphemes = BufferClusterLevel::MonotoneGraphemes;
-    // case 4
-    leaves(rt, alloc, graphemes, &[(1, 3, 7)], &[], false)?;
-    let kept = [(0, 3, 7), (0, 2, 5)];
-    leaves(rt, alloc, graphemes, &kept, &[(3, 7), (2, 5)], false)
+    assert_cases(&rt, rt.alloc(), &NOTHING)
 }
 
 /// Gives each item an advance, one more than the one before it.

@@ -24,17 +24,23 @@ fn filled(
     Ok(buffer)
 }
 
-/// Merges the graphemes of items: what it leaves.
-fn leaves(
-    rt: &impl Abort,
-    alloc: Global,
-    level: BufferClusterLevel,
-    before: &[(u32, u32, bool)],
-    after: &[(u32, u32)],
-) -> Result<(), Fail> {
+/// Items at a level, and the clusters and masks that merging their graphemes leaves.
+type Case<'a> = (BufferClusterLevel, &'a [(u32, u32, bool)], &'a [(u32, u32)]);
+
+/// Compares what merging leaves of some items.
+fn leaves(rt: &impl Abort, alloc: Global, case: &Case<'_>) -> Result<(), Fail> {
+    let (level, before, after) = *case;
     let mut buffer = filled(alloc, level, before)?;
     buffer.merge_graphemes();
     assert_rows(rt, &buffer, after);
+    Ok(())
+}
+
+/// Compares it of each of some lists.
+fn assert_cases(rt: &impl Abort, alloc: Global, cases: &[Case<'_>]) -> Result<(), Fail> {
+    for case in cases {
+        leaves(rt, alloc, case)?;
+    }
     Ok(())
 }
 
@@ -48,58 +54,57 @@ const CHAINED: [(u32, u32, bool); 6] = [
     (7, 9, true),
 ];
 
-#[test]
-fn graphemes_take_in_those_before_them(rt: HostRuntime) -> Result<(), Fail> {
-    let alloc = rt.alloc();
-    let after = [(7, 8), (7, 8), (7, 8), (7, 8), (7, 8), (7, 9)];
-    leaves(
-        &rt,
-        alloc,
+const TAKEN_IN: [Case<'_>; 2] = [
+    (
         BufferClusterLevel::MonotoneGraphemes,
         &CHAINED,
-        &after,
-    )?;
-    leaves(
-        &rt,
-        alloc,
+        &[(7, 8), (7, 8), (7, 8), (7, 8), (7, 8), (7, 9)],
+    ),
+    (
         BufferClusterLevel::MonotoneCharacters,
         &CHAINED,
-        &after,
-    )
+        &[(7, 8), (7, 8), (7, 8), (7, 8), (7, 8), (7, 9)],
+    ),
+];
+
+#[test]
+fn graphemes_take_in_those_before_them(rt: HostRuntime) -> Result<(), Fail> {
+    assert_cases(&rt, rt.alloc(), &TAKEN_IN)
 }
+
+/// The second list begins with a mark, the third one is empty.
+const APART: [Case<'_>; 3] = [
+    (
+        BufferClusterLevel::MonotoneGraphemes,
+        &[
+            (0, 1, false),
+            (1, 1, true),
+            (2, 1, false),
+            (3, 1, false),
+            (4, 1, true),
+        ],
+        &[(0, 1), (0, 0), (2, 1), (3, 1), (3, 0)],
+    ),
+    (
+        BufferClusterLevel::MonotoneGraphemes,
+        &[(5, 0, true), (6, 0, true), (7, 0, false)],
+        &[(5, 0), (5, 0), (7, 0)],
+    ),
+    (BufferClusterLevel::MonotoneGraphemes, &[], &[]),
+];
 
 #[test]
 fn graphemes_stay_apart(rt: HostRuntime) -> Result<(), Fail> {
-    let alloc = rt.alloc();
-    let level = BufferClusterLevel::MonotoneGraphemes;
-    let before = [
-        (0, 1, false),
-        (1, 1, true),
-        (2, 1, false),
-        (3, 1, false),
-        (4, 1, true),
-    ];
-    leaves(
-        &rt,
-        alloc,
-        level,
-        &before,
-        &[(0, 1), (0, 0), (2, 1), (3, 1), (3, 0)],
-    )?;
-    let begun_by_mark = [(5, 0, true), (6, 0, true), (7, 0, false)];
-    leaves(&rt, alloc, level, &begun_by_mark, &[(5, 0), (5, 0), (7, 0)])?;
-    leaves(&rt, alloc, level, &[], &[])
+    assert_cases(&rt, rt.alloc(), &APART)
 }
+
+const KEPT: [Case<'_>; 1] = [(
+    BufferClusterLevel::Characters,
+    &CHAINED,
+    &[(9, 9), (9, 9), (8, 9), (8, 9), (8, 9), (7, 9)],
+)];
 
 #[test]
 fn graphemes_stay_at_level_characters(rt: HostRuntime) -> Result<(), Fail> {
-    let alloc = rt.alloc();
-    let before = CHAINED.map(|(cluster, mask, _)| (cluster, mask));
-    leaves(
-        &rt,
-        alloc,
-        BufferClusterLevel::Characters,
-        &CHAINED,
-        &before,
-    )
+    assert_cases(&rt, rt.alloc(), &KEPT)
 }

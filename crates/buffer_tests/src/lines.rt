@@ -89,22 +89,35 @@ fn can_be_cut(alloc: Global, cells: &[Cell], text_end: u32) -> Result<bool, Fail
     Ok(can_cut(&glyphs, text_end))
 }
 
+/// Compares of some glyphs, each with the end of its text, whether they can be cut.
+fn assert_cuts(
+    rt: &impl Abort,
+    alloc: Global,
+    rows: &[(&[Cell], u32)],
+    cuts: bool,
+) -> Result<(), Fail> {
+    for (cells, text_end) in rows {
+        assert_same(rt, can_be_cut(alloc, cells, *text_end)?, cuts);
+    }
+    Ok(())
+}
+
+const CUT: [(&[Cell], u32); 3] = [
+    (&[], 0),
+    (&[(0, 1, 0), (0, 9, 0), (2, 0, 0)], 3),
+    (&[(2, 0, 0), (0, 1, 0)], 3),
+];
+
+const UNCUT: [(&[Cell], u32); 3] = [
+    (&[(0, 0, 0), (2, 0, 0), (1, 0, 0)], 3),
+    (&[(0, 1, 0), (0, 0, 0)], 3),
+    (&[(0, 0, 0), (2, 0, 0)], 2),
+];
+
 #[test]
 fn what_can_be_cut(rt: HostRuntime) -> Result<(), Fail> {
-    let alloc = rt.alloc();
-    assert_that(&rt, can_be_cut(alloc, &[], 0)?);
-    assert_that(
-        &rt,
-        can_be_cut(alloc, &[(0, 1, 0), (0, 9, 0), (2, 0, 0)], 3)?,
-    );
-    assert_that(&rt, can_be_cut(alloc, &[(2, 0, 0), (0, 1, 0)], 3)?);
-    assert_that(
-        &rt,
-        !can_be_cut(alloc, &[(0, 0, 0), (2, 0, 0), (1, 0, 0)], 3)?,
-    );
-    assert_that(&rt, !can_be_cut(alloc, &[(0, 1, 0), (0, 0, 0)], 3)?);
-    assert_that(&rt, !can_be_cut(alloc, &[(0, 0, 0), (2, 0, 0)], 2)?);
-    Ok(())
+    assert_cuts(&rt, rt.alloc(), &CUT, true)?;
+    assert_cuts(&rt, rt.alloc(), &UNCUT, false)
 }
 
 /// Glyphs that run in a direction, the end of their text with a width, and the lines.
@@ -119,59 +132,67 @@ fn assert_cases(rt: &impl Abort, alloc: Global, cases: &[Case<'_>]) -> Result<()
     Ok(())
 }
 
+/// Parts of the text that runs to the right.
+const LONGEST_PARTS: [Case<'_>; 4] = [
+    (
+        Direction::LeftToRight,
+        &TEXT,
+        (4, 1200),
+        &[(0, 2, 0, 2), (2, 4, 2, 4)],
+    ),
+    (
+        Direction::LeftToRight,
+        &TEXT,
+        (4, 749),
+        &[(0, 1, 0, 1), (1, 2, 1, 2), (2, 4, 2, 4)],
+    ),
+    (Direction::LeftToRight, &TEXT, (9, 1650), &[(0, 4, 0, 9)]),
+    // none fits: the shortest parts
+    (
+        Direction::LeftToRight,
+        &TEXT,
+        (4, 100),
+        &[(0, 1, 0, 1), (1, 2, 1, 2), (2, 3, 2, 3), (3, 4, 3, 4)],
+    ),
+];
+
 #[test]
 fn longest_part_that_fits(rt: HostRuntime) -> Result<(), Fail> {
-    let direction = Direction::LeftToRight;
-    let cases: [Case<'_>; 4] = [
-        (direction, &TEXT, (4, 1200), &[(0, 2, 0, 2), (2, 4, 2, 4)]),
-        (
-            direction,
-            &TEXT,
-            (4, 749),
-            &[(0, 1, 0, 1), (1, 2, 1, 2), (2, 4, 2, 4)],
-        ),
-        (direction, &TEXT, (9, 1650), &[(0, 4, 0, 9)]),
-        // none fits: the shortest parts
-        (
-            direction,
-            &TEXT,
-            (4, 100),
-            &[(0, 1, 0, 1), (1, 2, 1, 2), (2, 3, 2, 3), (3, 4, 3, 4)],
-        ),
-    ];
-    assert_cases(&rt, rt.alloc(), &cases)
+    assert_cases(&rt, rt.alloc(), &LONGEST_PARTS)
 }
+
+/// Texts that run in other directions.
+const IN_ORDER: [Case<'_>; 4] = [
+    (
+        Direction::RightToLeft,
+        &TURNED,
+        (4, 1200),
+        &[(2, 4, 0, 2), (0, 2, 2, 4)],
+    ),
+    (
+        Direction::BottomToTop,
+        &TURNED,
+        (4, 1200),
+        &[(2, 4, 0, 2), (0, 2, 2, 4)],
+    ),
+    // the order of clusters decides, not the direction
+    (
+        Direction::RightToLeft,
+        &TEXT,
+        (4, 1200),
+        &[(0, 2, 0, 2), (2, 4, 2, 4)],
+    ),
+    (
+        Direction::TopToBottom,
+        &TEXT,
+        (4, 1101),
+        &[(0, 1, 0, 1), (1, 4, 1, 4)],
+    ),
+];
 
 #[test]
 fn in_the_order_of_the_text(rt: HostRuntime) -> Result<(), Fail> {
-    let cases: [Case<'_>; 4] = [
-        (
-            Direction::RightToLeft,
-            &TURNED,
-            (4, 1200),
-            &[(2, 4, 0, 2), (0, 2, 2, 4)],
-        ),
-        (
-            Direction::BottomToTop,
-            &TURNED,
-            (4, 1200),
-            &[(2, 4, 0, 2), (0, 2, 2, 4)],
-        ),
-        // the order of clusters decides, not the direction
-        (
-            Direction::RightToLeft,
-            &TEXT,
-            (4, 1200),
-            &[(0, 2, 0, 2), (2, 4, 2, 4)],
-        ),
-        (
-            Direction::TopToBottom,
-            &TEXT,
-            (4, 1101),
-            &[(0, 1, 0, 1), (1, 4, 1, 4)],
-        ),
-    ];
-    assert_cases(&rt, rt.alloc(), &cases)
+    assert_cases(&rt, rt.alloc(), &IN_ORDER)
 }
 
 /// Not before the cluster 1, which is unsafe to break, and not inside the cluster 4 of two glyphs.
@@ -183,21 +204,37 @@ const JOINED_TO_THE_LEFT: [Cell; 3] = [(4, 1, 40), (1, 0, 20), (0, 1, 10)];
 /// One cluster.
 const ONE_CLUSTER: [Cell; 2] = [(7, 0, 10), (7, 0, 20)];
 
+/// Texts with clusters that are kept whole.
+const AT_CUTS: [Case<'_>; 4] = [
+    (
+        Direction::LeftToRight,
+        &JOINED,
+        (5, 10),
+        &[(0, 2, 0, 4), (2, 4, 4, 5)],
+    ),
+    (
+        Direction::LeftToRight,
+        &JOINED,
+        (5, 70),
+        &[(0, 2, 0, 4), (2, 4, 4, 5)],
+    ),
+    (
+        Direction::RightToLeft,
+        &JOINED_TO_THE_LEFT,
+        (5, 30),
+        &[(2, 3, 0, 1), (0, 2, 1, 5)],
+    ),
+    (
+        Direction::LeftToRight,
+        &ONE_CLUSTER,
+        (8, 0),
+        &[(0, 2, 7, 8)],
+    ),
+];
+
 #[test]
 fn at_places_of_a_cut_alone(rt: HostRuntime) -> Result<(), Fail> {
-    let right = Direction::LeftToRight;
-    let cases: [Case<'_>; 4] = [
-        (right, &JOINED, (5, 10), &[(0, 2, 0, 4), (2, 4, 4, 5)]),
-        (right, &JOINED, (5, 70), &[(0, 2, 0, 4), (2, 4, 4, 5)]),
-        (
-            Direction::RightToLeft,
-            &JOINED_TO_THE_LEFT,
-            (5, 30),
-            &[(2, 3, 0, 1), (0, 2, 1, 5)],
-        ),
-        (right, &ONE_CLUSTER, (8, 0), &[(0, 2, 7, 8)]),
-    ];
-    assert_cases(&rt, rt.alloc(), &cases)
+    assert_cases(&rt, rt.alloc(), &AT_CUTS)
 }
 
 /// Wide, then narrow: a longer part fits again.
@@ -212,28 +249,39 @@ const NARROWEST: [Cell; 3] = [(0, 0, i32::MIN), (1, 0, i32::MIN), (2, 0, 7)];
 /// Downwards it is the negative of the advance, here -2 ^ 31: 2 ^ 31, 2 ^ 31, 8.
 const DEEPEST: [Cell; 3] = [(0, 0, i32::MAX), (1, 0, i32::MAX), (2, 0, 7)];
 
+/// Texts some of whose parts are wider than the parts with them in front.
+const BELOW_ZERO: [Case<'_>; 6] = [
+    (Direction::LeftToRight, &NARROWER, (3, 400), &[(0, 3, 0, 3)]),
+    (
+        Direction::LeftToRight,
+        &NARROWER,
+        (3, 399),
+        &[(0, 1, 0, 1), (1, 3, 1, 3)],
+    ),
+    (
+        Direction::LeftToRight,
+        &WIDEST,
+        (3, 0),
+        &[(0, 1, 0, 1), (1, 2, 1, 2), (2, 3, 2, 3)],
+    ),
+    (
+        Direction::LeftToRight,
+        &WIDEST,
+        (3, u32::MAX),
+        &[(0, 2, 0, 2), (2, 3, 2, 3)],
+    ),
+    (Direction::LeftToRight, &NARROWEST, (3, 0), &[(0, 3, 0, 3)]),
+    (
+        Direction::TopToBottom,
+        &DEEPEST,
+        (3, u32::MAX),
+        &[(0, 1, 0, 1), (1, 3, 1, 3)],
+    ),
+];
+
 #[test]
 fn widths_below_zero(rt: HostRuntime) -> Result<(), Fail> {
-    let right = Direction::LeftToRight;
-    let cases: [Case<'_>; 6] = [
-        (right, &NARROWER, (3, 400), &[(0, 3, 0, 3)]),
-        (right, &NARROWER, (3, 399), &[(0, 1, 0, 1), (1, 3, 1, 3)]),
-        (
-            right,
-            &WIDEST,
-            (3, 0),
-            &[(0, 1, 0, 1), (1, 2, 1, 2), (2, 3, 2, 3)],
-        ),
-        (right, &WIDEST, (3, u32::MAX), &[(0, 2, 0, 2), (2, 3, 2, 3)]),
-        (right, &NARROWEST, (3, 0), &[(0, 3, 0, 3)]),
-        (
-            Direction::TopToBottom,
-            &DEEPEST,
-            (3, u32::MAX),
-            &[(0, 1, 0, 1), (1, 3, 1, 3)],
-        ),
-    ];
-    assert_cases(&rt, rt.alloc(), &cases)
+    assert_cases(&rt, rt.alloc(), &BELOW_ZERO)
 }
 
 /// Some glyphs, and none.

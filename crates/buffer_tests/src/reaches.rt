@@ -1,23 +1,15 @@
 //! What callers reach for beside filling and reading, each call once.
 
-use crate::support::{assert_list, assert_rows, assert_same, assert_that};
+use crate::support::{append, assert_list, assert_rows, assert_same, assert_that, filled};
 use shape_buffer::buffer::{
     BufferClusterLevel, BufferFlags, Direction, Feature, GlyphBuffer, GlyphCluster, GlyphPosition,
-    Language, Script, UnicodeBuffer, hb_buffer_t, hb_glyph_info_t, hb_tag_t,
+    Language, Script, UnicodeBuffer, hb_buffer_t, hb_tag_t,
 };
 use shape_buffer::cluster_laws::clusters_have_one_set_of_flags;
 use std::alloc::Global;
 use std::ops::Range;
+use std::process::Abort;
 use std::test::Fail;
-
-/// Appends a text. What it holds is told by no contract, so that the proof of a test doesn't compute with it.
-fn append(text: &mut UnicodeBuffer, more: &str) -> Result<(), Fail> {
-    if 100 < more.len() {
-        return Err(Fail::from("long"));
-    }
-    text.push_str(more)?;
-    Ok(())
-}
 
 #[test]
 fn numbered_clusters(rt: HostRuntime) -> Result<(), Fail> {
@@ -34,7 +26,7 @@ fn numbered_clusters(rt: HostRuntime) -> Result<(), Fail> {
 #[test]
 fn no_room_for_too_many(rt: HostRuntime) -> Result<(), Fail> {
     let mut text = UnicodeBuffer::new(rt.alloc());
-    text.push_str("a")?;
+    append(&mut text, "a")?;
     assert_that(&rt, text.reserve(usize::MAX).is_err());
     assert_same(&rt, text.len(), 1);
     Ok(())
@@ -42,24 +34,26 @@ fn no_room_for_too_many(rt: HostRuntime) -> Result<(), Fail> {
 
 #[test]
 fn defaults(rt: HostRuntime) {
-    assert_eq!(rt; Direction::default(), Direction::Invalid);
-    assert_eq!(rt;
-        BufferClusterLevel::default(),
-        BufferClusterLevel::MonotoneGraphemes
-    );
-    assert_eq!(rt; BufferFlags::default(), BufferFlags(0));
+    assert_same(&rt, Direction::default(), Direction::Invalid);
+    let level = BufferClusterLevel::default();
+    assert_same(&rt, level, BufferClusterLevel::MonotoneGraphemes);
+    assert_same(&rt, BufferFlags::default(), BufferFlags(0));
     let position = GlyphPosition::default();
-    assert!(rt; position.x_advance == 0 && position.y_offset == 0 && position.attach_type == 0);
+    let moves = (position.x_advance, position.y_offset);
+    assert_same(&rt, moves, (0, 0));
+    assert_same(&rt, position.attach_type, 0);
 }
 
 #[test]
 fn features(rt: HostRuntime) {
     let kern = hb_tag_t::from_bytes(b"kern");
     let part = Feature::new(kern, 0, 3..5);
-    assert!(rt; part.tag == kern && part.value == 0 && part.start == 3 && part.end == 5);
-    assert!(rt; !part.is_global());
+    let numbers = (part.value, part.start, part.end);
+    assert_same(&rt, (part.tag, numbers), (kern, (0, 3, 5)));
+    assert_that(&rt, !part.is_global());
     let whole = Feature::global(kern, 2);
-    assert!(rt; whole.tag == kern && whole.value == 2 && whole.is_global());
+    assert_same(&rt, (whole.tag, whole.value), (kern, 2));
+    assert_that(&rt, whole.is_global());
 }
 
 /// The script of a tag, by its tag; 0 for none.
@@ -70,66 +64,86 @@ fn script_of(tag: &[u8; 4]) -> u32 {
     }
 }
 
+/// Compares the scripts of tags with those of other tags, each of which is a script's own.
+fn assert_scripts(rt: &impl Abort, rows: &[(&[u8; 4], &[u8; 4])]) {
+    for (tag, script) in rows {
+        assert_same(rt, script_of(tag), hb_tag_t::from_bytes(script).0);
+    }
+}
+
+/// Compares scripts that have a name with those of tags.
+fn assert_named(rt: &impl Abort, rows: &[(Script, &[u8; 4])]) {
+    for (script, tag) in rows {
+        assert_same(rt, script_of(tag), script.tag().0);
+    }
+}
+
+const IN_ANY_CASE: [(&[u8; 4], &[u8; 4]); 9] = [
+    (b"Latn", b"Latn"),
+    (b"latn", b"Latn"),
+    (b"LATN", b"Latn"),
+    (b"lATN", b"Latn"),
+    (b"Latf", b"Latn"),
+    (b"latg", b"Latn"),
+    (b"1234", b"Zzzz"),
+    (b"La n", b"Zzzz"),
+    (b"zzzz", b"Zzzz"),
+];
+
+const BY_NAME: [(Script, &[u8; 4]); 21] = [
+    (Script::COMMON, b"Zyyy"),
+    (Script::INHERITED, b"Zinh"),
+    (Script::UNKNOWN, b"Zzzz"),
+    (Script::ARABIC, b"Arab"),
+    (Script::ARMENIAN, b"Armn"),
+    (Script::BENGALI, b"Beng"),
+    (Script::COPTIC, b"Copt"),
+    (Script::CYRILLIC, b"Cyrl"),
+    (Script::DEVANAGARI, b"Deva"),
+    (Script::ETHIOPIC, b"Ethi"),
+    (Script::GEORGIAN, b"Geor"),
+    (Script::GREEK, b"Grek"),
+    (Script::HAN, b"Hani"),
+    (Script::HANGUL, b"Hang"),
+    (Script::HEBREW, b"Hebr"),
+    (Script::HIRAGANA, b"Hira"),
+    (Script::KATAKANA, b"Kana"),
+    (Script::LATIN, b"Latn"),
+    (Script::SYRIAC, b"Syrc"),
+    (Script::TAMIL, b"Taml"),
+    (Script::THAI, b"Thai"),
+];
+
+const VARIANTS: [(&[u8; 4], &[u8; 4]); 13] = [
+    (b"Qaai", b"Zinh"),
+    (b"Qaac", b"Copt"),
+    (b"Aran", b"Arab"),
+    (b"Cyrs", b"Cyrl"),
+    (b"Geok", b"Geor"),
+    (b"Hans", b"Hani"),
+    (b"Hant", b"Hani"),
+    (b"Jamo", b"Hang"),
+    (b"Latf", b"Latn"),
+    (b"Latg", b"Latn"),
+    (b"Syre", b"Syrc"),
+    (b"Syrj", b"Syrc"),
+    (b"Syrn", b"Syrc"),
+];
+
 #[test]
 fn scripts_in_any_case(rt: HostRuntime) {
-    let latin = hb_tag_t::from_bytes(b"Latn").0;
-    for tag in [b"Latn", b"latn", b"LATN", b"lATN", b"Latf", b"latg"] {
-        assert_eq!(rt; script_of(tag), latin);
-    }
-    assert_eq!(rt; Script::from_iso15924_tag(hb_tag_t(0)), None);
-    for tag in [b"1234", b"La n", b"zzzz"] {
-        assert_eq!(rt; script_of(tag), Script::UNKNOWN.tag().0);
-    }
+    assert_scripts(&rt, &IN_ANY_CASE);
+    assert_same(&rt, Script::from_iso15924_tag(hb_tag_t(0)), None);
 }
 
 #[test]
 fn scripts_by_name(rt: HostRuntime) {
-    for (script, tag) in [
-        (Script::COMMON, b"Zyyy"),
-        (Script::INHERITED, b"Zinh"),
-        (Script::UNKNOWN, b"Zzzz"),
-        (Script::ARABIC, b"Arab"),
-        (Script::ARMENIAN, b"Armn"),
-        (Script::BENGALI, b"Beng"),
-        (Script::COPTIC, b"Copt"),
-        (Script::CYRILLIC, b"Cyrl"),
-        (Script::DEVANAGARI, b"Deva"),
-        (Script::ETHIOPIC, b"Ethi"),
-        (Script::GEORGIAN, b"Geor"),
-        (Script::GREEK, b"Grek"),
-        (Script::HAN, b"Hani"),
-        (Script::HANGUL, b"Hang"),
-        (Script::HEBREW, b"Hebr"),
-        (Script::HIRAGANA, b"Hira"),
-        (Script::KATAKANA, b"Kana"),
-        (Script::LATIN, b"Latn"),
-        (Script::SYRIAC, b"Syrc"),
-        (Script::TAMIL, b"Taml"),
-        (Script::THAI, b"Thai"),
-    ] {
-        assert_eq!(rt; script_of(tag), script.tag().0);
-    }
+    assert_named(&rt, &BY_NAME);
 }
 
 #[test]
 fn variants_of_scripts(rt: HostRuntime) {
-    for (tag, script) in [
-        (b"Qaai", b"Zinh"),
-        (b"Qaac", b"Copt"),
-        (b"Aran", b"Arab"),
-        (b"Cyrs", b"Cyrl"),
-        (b"Geok", b"Geor"),
-        (b"Hans", b"Hani"),
-        (b"Hant", b"Hani"),
-        (b"Jamo", b"Hang"),
-        (b"Latf", b"Latn"),
-        (b"Latg", b"Latn"),
-        (b"Syre", b"Syrc"),
-        (b"Syrj", b"Syrc"),
-        (b"Syrn", b"Syrc"),
-    ] {
-        assert_eq!(rt; script_of(tag), hb_tag_t::from_bytes(script).0);
-    }
+    assert_scripts(&rt, &VARIANTS);
 }
 
 /// Lets the glyph at place k move the pen by 10 ^ k to the right, and twice as far down.
@@ -153,14 +167,7 @@ fn glyphs_of(
     direction: Direction,
     rows: &[(u32, u32)],
 ) -> Result<GlyphBuffer, Fail> {
-    let mut infos: Vec<hb_glyph_info_t> = Vec::new(alloc);
-    for (cluster, mask) in rows.iter() {
-        let mut info = hb_glyph_info_t::new('a', *cluster);
-        info.mask = *mask;
-        infos.push(info)?;
-    }
-    let mut buffer = hb_buffer_t::new(alloc);
-    buffer.replace_infos(infos)?;
+    let mut buffer = filled(alloc, BufferClusterLevel::MonotoneGraphemes, rows)?;
     move_by_powers_of_ten(&mut buffer);
     buffer.set_direction(direction);
     buffer.set_script(Some(Script::HEBREW));

@@ -1,11 +1,16 @@
 ghost use Rattle.std.specs.Prelude.{length};
 ghost use Rattle.shape_items.specs.Spans.{AreSpansInOrder};
 
-use crate::support::{assert_rows, assert_same, filled};
-use shape_buffer::buffer::{BufferClusterLevel, ScratchFlags};
+use crate::support::{assert_rows, assert_scratch, filled};
+use shape_buffer::buffer::BufferClusterLevel;
 use std::alloc::Global;
 use std::process::Abort;
 use std::test::Fail;
+
+/// Whether items are marked in place of being merged.
+fn are_marked(level: BufferClusterLevel, spans: &[(usize, usize)]) -> bool {
+    level == BufferClusterLevel::Characters && !spans.is_empty()
+}
 
 /// Merges spans of a list of clusters and masks by `merge_spans`: what it leaves.
 fn leaves(
@@ -22,13 +27,7 @@ fn leaves(
     assert!(rt; buffer.len() == before.len());
     buffer.merge_spans(spans);
     assert_rows(rt, &buffer, after);
-    let marks = level == BufferClusterLevel::Characters && !spans.is_empty();
-    let scratch_flags = if marks {
-        ScratchFlags::HAS_GLYPH_FLAGS
-    } else {
-        ScratchFlags(0)
-    };
-    assert_same(rt, buffer.scratch_flags(), scratch_flags);
+    assert_scratch(rt, &buffer, are_marked(level, spans));
     Ok(())
 }
 
@@ -47,7 +46,7 @@ fn leaves_out(
     assert!(rt; buffer.len() == before.len());
     buffer.merge_spans_out(spans);
     assert_rows(rt, &buffer, after);
-    assert_same(rt, buffer.scratch_flags(), ScratchFlags(0));
+    assert_scratch(rt, &buffer, false);
     Ok(())
 }
 

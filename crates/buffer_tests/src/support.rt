@@ -4,7 +4,7 @@
 //! `assert_eq!` of its own, and next to nothing for a call.
 
 use shape_buffer::buffer::{
-    BufferClusterLevel, GlyphPropsFlags, UnicodeBuffer, hb_buffer_t, hb_glyph_info_t,
+    BufferClusterLevel, GlyphPropsFlags, ScratchFlags, UnicodeBuffer, hb_buffer_t, hb_glyph_info_t,
     hb_unicode_general_category_t,
 };
 use std::alloc::Global;
@@ -30,9 +30,8 @@ pub fn assert_that(rt: &impl Abort, condition: bool) {
 /// Compares clusters and masks.
 pub fn assert_rows(rt: &impl Abort, buffer: &hb_buffer_t, rows: &[(u32, u32)]) {
     assert_same(rt, buffer.len(), rows.len());
-    for (info, (cluster, mask)) in buffer.infos().iter().zip(rows) {
-        assert_same(rt, info.cluster, *cluster);
-        assert_same(rt, info.mask, *mask);
+    for (info, wanted) in buffer.infos().iter().zip(rows) {
+        assert_same(rt, (info.cluster, info.mask), *wanted);
     }
 }
 
@@ -76,6 +75,16 @@ pub fn filled(
     buffer.replace_infos(infos)?;
     buffer.set_cluster_level(level);
     Ok(buffer)
+}
+
+/// Compares the scratch flags, which are HAS_GLYPH_FLAGS or none.
+pub fn assert_scratch(rt: &impl Abort, buffer: &hb_buffer_t, has_flags: bool) {
+    let wanted = if has_flags {
+        ScratchFlags::HAS_GLYPH_FLAGS
+    } else {
+        ScratchFlags(0)
+    };
+    assert_same(rt, buffer.scratch_flags(), wanted);
 }
 
 /// An item with every property set.

@@ -3,9 +3,8 @@ ghost use Rattle.std.specs.Prelude.{◌<◌, length};
 
 use crate::comparing::assert_that;
 use crate::support::tiny_font;
-use shape_buffer::{GlyphId, hb_font_t};
 use shape_font::FontFace;
-use shape_pipeline::{DEFAULT_SHAPER, NoLookups, UnicodeBuffer, shape};
+use shape_pipeline::{DEFAULT_SHAPER, GlyphBuffer, NoLookups, UnicodeBuffer, shape};
 use shape_unicode::UnicodeDatabase;
 use std::alloc::Global;
 use std::test::Fail;
@@ -13,28 +12,39 @@ use std::test::Fail;
 /// Six characters, of which the first two compose and the last has no glyph.
 const TEXT: &str = "A\u{301}B \u{1F600}x";
 
+/// The text shaped; a refusal fails the test.
+fn shaped(alloc: Global, face: &FontFace<'_>) -> Result<GlyphBuffer, Fail> {
+    let mut text = UnicodeBuffer::new(alloc);
+    text.push_str(TEXT)?;
+    match shape::<UnicodeDatabase, FontFace, NoLookups, _>(
+        alloc,
+        face,
+        &DEFAULT_SHAPER,
+        &[],
+        text,
+    ) {
+        Ok(glyphs) => Ok(glyphs),
+        Err(_) => Err(Fail::from("refused")),
+    }
+}
+
+/// Fails if a glyph is none of the font's.
+fn check_glyphs(face: &FontFace<'_>, glyphs: &GlyphBuffer) -> Result<(), Fail> {
+    for info in glyphs.glyph_infos() {
+        if info.glyph_id != 0 && u32::from(face.glyph_count()) <= info.glyph_id {
+            return Err(Fail::from("a glyph that the font lacks"));
+        }
+    }
+    Ok(())
+}
+
 /// Whether the bytes are a font; then they shape the text, into a glyph for each character or one less.
 fn is_font(alloc: Global, bytes: &[u8]) -> Result<bool, Fail> {
     let Some(face) = FontFace::from_slice(bytes, 0) else {
         return Ok(false);
     };
-    let mut text = UnicodeBuffer::new(alloc);
-    text.push_str(TEXT)?;
-    let Ok(glyphs) = shape::<UnicodeDatabase, FontFace, NoLookups, _>(
-        alloc,
-        &face,
-        &DEFAULT_SHAPER,
-        &[],
-        text,
-    ) else {
-        return Err(Fail::from("refused"));
-    };
-    for info in glyphs.glyph_infos() {
-        let glyph = GlyphId(info.glyph_id);
-        if glyph != GlyphId(0) && u32::from(face.glyph_count()) <= glyph.0 {
-            return Err(Fail::from("a glyph that the font lacks"));
-        }
-    }
+    let glyphs = shaped(alloc, &face)?;
+    check_glyphs(&face, &glyphs)?;
     match glyphs.len() {
         5 | 6 => Ok(true),
         _ => Err(Fail::from("another length")),

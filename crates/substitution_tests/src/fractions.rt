@@ -76,23 +76,26 @@ fn digits_belong_to_the_wholes_on_both_sides(rt: HostRuntime) -> Result<(), Fail
     assert_divided(&rt, rt.alloc(), text, &masks)
 }
 
+/// Forward, with items marked that are unsafe to concat.
+const WITH_CONCAT: Manner = Manner {
+    flags: BufferFlags::PRODUCE_UNSAFE_TO_CONCAT,
+    ..FORWARD
+};
+
+/// Texts whose slashes have digits on one side alone or on none, with their masks.
+const ONE_SIDE: [((Manner, &str), &[u32]); 6] = [
+    ((FORWARD, "\u{2044}2"), &[8, 8]),
+    ((WITH_CONCAT, "\u{2044}2"), &[0xA, 8]),
+    ((WITH_CONCAT, "1\u{2044}"), &[8, 0xA]),
+    ((WITH_CONCAT, "1\u{2044}a2"), &[8, 0xA, 8, 8]),
+    ((WITH_CONCAT, "1a\u{2044}2"), &[8, 8, 0xA, 8]),
+    ((WITH_CONCAT, "\u{2044}\u{2044}"), &[0xA, 0xA]),
+];
+
 #[test]
 fn slash_with_one_side_gets_no_feature(rt: HostRuntime) -> Result<(), Fail> {
-    let alloc = rt.alloc();
-    let with_concat = Manner {
-        flags: BufferFlags::PRODUCE_UNSAFE_TO_CONCAT,
-        ..FORWARD
-    };
-    let cases: [((Manner, &str), &[u32]); 6] = [
-        ((FORWARD, "\u{2044}2"), &[8, 8]),
-        ((with_concat, "\u{2044}2"), &[0xA, 8]),
-        ((with_concat, "1\u{2044}"), &[8, 0xA]),
-        ((with_concat, "1\u{2044}a2"), &[8, 0xA, 8, 8]),
-        ((with_concat, "1a\u{2044}2"), &[8, 8, 0xA, 8]),
-        ((with_concat, "\u{2044}\u{2044}"), &[0xA, 0xA]),
-    ];
-    for (text, masks) in cases {
-        assert_divided(&rt, alloc, text, masks)?;
+    for (text, masks) in &ONE_SIDE {
+        assert_divided(&rt, rt.alloc(), *text, masks)?;
     }
     Ok(())
 }

@@ -2,7 +2,7 @@
 //! cleared buffer, which gives the run's glyphs once it is filled again. With memory at hand the tests pass; the
 //! gate's script refuses one growth after the other, and reads that it was so.
 
-use crate::runs::{FORWARD, assert_glyphs, assert_same, masked, planned, ss01, text_of};
+use crate::runs::{FORWARD, assert_glyphs, assert_same, fill, masked, planned, ss01, text_of};
 use shape_buffer::buffer::{Direction, Feature, ShapeError, UnicodeBuffer};
 use shape_pipeline::ot_shaper::{DEFAULT_SHAPER, hb_default_shaper_t};
 use shape_pipeline::shape;
@@ -61,16 +61,6 @@ fn growths_in_a_stage(rt: HostRuntime) -> Result<(), Fail> {
             Err(Fail::from("refused"))
         }
     }
-}
-
-/// Appends characters, with clusters that are byte offsets.
-fn fill(buffer: &mut UnicodeBuffer, text: &str) -> Result<(), Fail> {
-    let mut offset: u32 = 0;
-    for c in text.chars() {
-        buffer.add(c, offset)?;
-        offset = offset.saturating_add(c.len_utf8() as u32);
-    }
-    Ok(())
 }
 
 /// Compares the glyphs of a text, with their clusters and masks. If its run is refused, compares what is left, and

@@ -48,14 +48,20 @@ pub fn ss01(value: u32, start: u32, end: u32) -> Feature {
     }
 }
 
-/// A text with clusters that are byte offsets.
-pub fn text_of(alloc: Global, manner: Manner, text: &str) -> Result<UnicodeBuffer, Fail> {
-    let mut buffer = UnicodeBuffer::new(alloc);
+/// Appends characters, with clusters that are byte offsets.
+pub fn fill(buffer: &mut UnicodeBuffer, text: &str) -> Result<(), Fail> {
     let mut offset: u32 = 0;
     for c in text.chars() {
         buffer.add(c, offset)?;
         offset = offset.saturating_add(c.len_utf8() as u32);
     }
+    Ok(())
+}
+
+/// A text with clusters that are byte offsets.
+pub fn text_of(alloc: Global, manner: Manner, text: &str) -> Result<UnicodeBuffer, Fail> {
+    let mut buffer = UnicodeBuffer::new(alloc);
+    fill(&mut buffer, text)?;
     buffer.set_direction(manner.direction);
     buffer.set_cluster_level(manner.level);
     buffer.set_flags(manner.flags);
@@ -227,10 +233,8 @@ pub type Glyph = (u32, u32, u32);
 /// Compares glyphs, clusters and masks.
 pub fn assert_glyphs(rt: &impl Abort, infos: &[hb_glyph_info_t], glyphs: &[Glyph]) {
     assert_same(rt, infos.len(), glyphs.len());
-    for (info, (glyph, cluster, mask)) in infos.iter().zip(glyphs) {
-        assert_same(rt, info.glyph_id, *glyph);
-        assert_same(rt, info.cluster, *cluster);
-        assert_same(rt, info.mask, *mask);
+    for (info, wanted) in infos.iter().zip(glyphs) {
+        assert_same(rt, (info.glyph_id, info.cluster, info.mask), *wanted);
     }
 }
 

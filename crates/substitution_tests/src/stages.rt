@@ -70,41 +70,42 @@ fn assert_letters(
     Ok(())
 }
 
+/// Texts with their glyphs by these rules.
+const LETTERS: [(Manner, &str, &[Glyph]); 7] = [
+    (
+        FORWARD,
+        "ofix",
+        &[(0x6F, 0, 8), (0xFB01, 1, 8), (0x78, 3, 8)],
+    ),
+    (
+        FORWARD,
+        "ffifi",
+        &[(0x66, 0, 8), (0xFB01, 1, 8), (0xFB01, 3, 8)],
+    ),
+    (FORWARD, "if", &[(0x69, 0, 8), (0x66, 1, 8)]),
+    (
+        FORWARD,
+        "x\u{E6}z",
+        &[(0x78, 0, 8), (0x41, 1, 8), (0x65, 1, 8), (0x7A, 3, 8)],
+    ),
+    // the ligature of e and y takes in the cluster of y alone
+    (
+        FORWARD,
+        "x\u{E6}y",
+        &[(0x78, 0, 8), (0x41, 1, 8), (0x1F, 1, 8)],
+    ),
+    (
+        BACKWARD,
+        "x\u{E6}z",
+        &[(0x7A, 3, 8), (0x65, 1, 8), (0x41, 1, 8), (0x78, 0, 8)],
+    ),
+    (BACKWARD, "fia", &[(0x41, 2, 8), (0xFB01, 0, 8)]),
+];
+
 #[test]
 fn stages_make_glyphs_of_glyphs(rt: HostRuntime) -> Result<(), Fail> {
-    let alloc = rt.alloc();
-    let cases: [(Manner, &str, &[Glyph]); 7] = [
-        (
-            FORWARD,
-            "ofix",
-            &[(0x6F, 0, 8), (0xFB01, 1, 8), (0x78, 3, 8)],
-        ),
-        (
-            FORWARD,
-            "ffifi",
-            &[(0x66, 0, 8), (0xFB01, 1, 8), (0xFB01, 3, 8)],
-        ),
-        (FORWARD, "if", &[(0x69, 0, 8), (0x66, 1, 8)]),
-        (
-            FORWARD,
-            "x\u{E6}z",
-            &[(0x78, 0, 8), (0x41, 1, 8), (0x65, 1, 8), (0x7A, 3, 8)],
-        ),
-        // the ligature of e and y takes in the cluster of y alone
-        (
-            FORWARD,
-            "x\u{E6}y",
-            &[(0x78, 0, 8), (0x41, 1, 8), (0x1F, 1, 8)],
-        ),
-        (
-            BACKWARD,
-            "x\u{E6}z",
-            &[(0x7A, 3, 8), (0x65, 1, 8), (0x41, 1, 8), (0x78, 0, 8)],
-        ),
-        (BACKWARD, "fia", &[(0x41, 2, 8), (0xFB01, 0, 8)]),
-    ];
-    for (manner, text, want) in cases {
-        assert_letters(&rt, alloc, (manner, text), want)?;
+    for (manner, text, want) in &LETTERS {
+        assert_letters(&rt, rt.alloc(), (*manner, text), want)?;
     }
     Ok(())
 }
@@ -136,27 +137,28 @@ fn assert_merged(
     Ok(())
 }
 
+/// The glyphs of that text at each level.
+const MERGED: [(BufferClusterLevel, [Glyph; 3]); 3] = [
+    // the cluster of i is taken in whole
+    (
+        BufferClusterLevel::MonotoneGraphemes,
+        [(0x6F, 0, 8), (0xFB01, 1, 8), (0x78, 1, 8)],
+    ),
+    (
+        BufferClusterLevel::MonotoneCharacters,
+        [(0x6F, 0, 8), (0xFB01, 1, 8), (0x78, 1, 8)],
+    ),
+    // i alone is marked, and goes; with flags in the buffer masks become flags
+    (
+        BufferClusterLevel::Characters,
+        [(0x6F, 0, 0), (0xFB01, 1, 0), (0x78, 2, 0)],
+    ),
+];
+
 #[test]
 fn ligature_merges_by_the_level(rt: HostRuntime) -> Result<(), Fail> {
-    let alloc = rt.alloc();
-    let cases: [(BufferClusterLevel, [Glyph; 3]); 3] = [
-        // the cluster of i is taken in whole
-        (
-            BufferClusterLevel::MonotoneGraphemes,
-            [(0x6F, 0, 8), (0xFB01, 1, 8), (0x78, 1, 8)],
-        ),
-        (
-            BufferClusterLevel::MonotoneCharacters,
-            [(0x6F, 0, 8), (0xFB01, 1, 8), (0x78, 1, 8)],
-        ),
-        // i alone is marked, and goes; with flags in the buffer masks become flags
-        (
-            BufferClusterLevel::Characters,
-            [(0x6F, 0, 0), (0xFB01, 1, 0), (0x78, 2, 0)],
-        ),
-    ];
-    for (level, want) in cases {
-        assert_merged(&rt, alloc, level, &want)?;
+    for (level, want) in &MERGED {
+        assert_merged(&rt, rt.alloc(), *level, want)?;
     }
     Ok(())
 }

@@ -3,6 +3,7 @@
 mod normalised;
 mod shaped;
 
+use crate::comparing::assert_same;
 use crate::normalization_rows::NORMALIZATION_ROWS;
 use crate::ordering::{chars_of, decomposed, recomposed};
 use crate::texts::{TEXTS, Text};
@@ -25,7 +26,7 @@ fn agrees(alloc: Global, row: &[&str; 5]) -> Result<bool, Fail> {
 }
 
 fn assert_agrees(rt: &impl Abort, alloc: Global, row: &[&str; 5]) -> Result<(), Fail> {
-    assert!(rt; agrees(alloc, row)?, "{row:?}");
+    assert_same(rt, (row, agrees(alloc, row)?), (row, true));
     Ok(())
 }
 
@@ -38,13 +39,25 @@ fn equivalent_columns_give_one_list(rt: HostRuntime) -> Result<(), Fail> {
     Ok(())
 }
 
+/// Compares a list with the characters of a text.
+fn assert_chars(
+    rt: &impl Abort,
+    alloc: Global,
+    name: &str,
+    found: &[char],
+    text: &str,
+) -> Result<(), Fail> {
+    let want = chars_of(alloc, text)?;
+    assert_same(rt, (name, found), (name, want.as_slice()));
+    Ok(())
+}
+
 /// Compares what a text splits into, and what that composes to.
 fn assert_lists(rt: &impl Abort, alloc: Global, text: &Text) -> Result<(), Fail> {
-    let list = decomposed(alloc, text.typed)?;
-    assert_eq!(rt; list, chars_of(alloc, text.decomposed)?, "{}", text.name);
-    let list = recomposed(alloc, &list)?;
-    assert_eq!(rt; list, chars_of(alloc, text.recomposed)?, "{}", text.name);
-    Ok(())
+    let split = decomposed(alloc, text.typed)?;
+    assert_chars(rt, alloc, text.name, split.as_slice(), text.decomposed)?;
+    let composed = recomposed(alloc, split.as_slice())?;
+    assert_chars(rt, alloc, text.name, composed.as_slice(), text.recomposed)
 }
 
 #[test]

@@ -6,6 +6,7 @@ use crate::ordering::chars_of;
 use shape_buffer::buffer::{Direction, Script, hb_tag_t};
 use shape_buffer::interfaces::{hb_unicode_funcs_t, hb_unicode_general_category_t};
 use shape_unicode::UnicodeDatabase;
+use std::alloc::Global;
 use std::process::Abort;
 use std::test::Fail;
 use ucd_bidi::BidiClass;
@@ -50,7 +51,7 @@ fn mirror_images_are_those_of_the_standard(rt: HostRuntime) -> Result<(), Fail> 
 #[test]
 fn nothing_else_has_an_image(rt: HostRuntime) {
     let mut images: usize = 0;
-    for c in (0..=0x10FFFF).filter_map(char::from_u32) {
+    for c in '\0'..=char::MAX {
         images = images.saturating_add(usize::from(UnicodeDatabase::mirrored(c).is_some()));
     }
     assert_same(&rt, images, MIRRORED);
@@ -70,7 +71,7 @@ fn letters_of(script: Script) -> Option<[u8; 4]> {
 #[test]
 fn scripts_have_their_names(rt: HostRuntime) {
     let mut last = None;
-    for c in (0..=0x10FFFF).filter_map(char::from_u32) {
+    for c in '\0'..=char::MAX {
         let script = ucd_script::Script::for_char(c);
         if last != Some(script) {
             last = Some(script);
@@ -81,18 +82,28 @@ fn scripts_have_their_names(rt: HostRuntime) {
     }
 }
 
+/// Compares a character's category with that of its name.
+fn assert_named(
+    rt: &impl Abort,
+    alloc: Global,
+    c: char,
+    category: GeneralCategory,
+) -> Result<(), Fail> {
+    let name = format!(in alloc; "{:?}", UnicodeDatabase::general_category(c))?;
+    let name = ucd_sets::normalize(alloc, &chars_of(alloc, &name)?)?;
+    let named = ucd_sets::by_value(b"generalcategory", &name);
+    assert_same(rt, (c, named), (c, Ok(Set::Category(category))));
+    Ok(())
+}
+
 #[test]
 fn categories_have_their_names(rt: HostRuntime) -> Result<(), Fail> {
-    let alloc = rt.alloc();
     let mut last = None;
-    for c in (0..=0x10FFFF).filter_map(char::from_u32) {
+    for c in '\0'..=char::MAX {
         let category = GeneralCategory::for_char(c);
         if last != Some(category) {
             last = Some(category);
-            let name = format!(in alloc; "{:?}", UnicodeDatabase::general_category(c))?;
-            let name = ucd_sets::normalize(alloc, &chars_of(alloc, &name)?)?;
-            let named = ucd_sets::by_value(b"generalcategory", &name);
-            assert_same(&rt, (c, named), (c, Ok(Set::Category(category))));
+            assert_named(&rt, rt.alloc(), c, category)?;
         }
     }
     Ok(())
@@ -118,28 +129,41 @@ fn direction_of_class(c: char) -> Option<Direction> {
     }
 }
 
+/// Compares the direction of a letter's script with its own. A script that has none goes into a list, once.
+fn tell(
+    rt: &impl Abort,
+    c: char,
+    script: Script,
+    either_way: &mut Vec<Script>,
+) -> Result<(), Fail> {
+    let direction = UnicodeDatabase::script_direction(script);
+    match (direction, direction_of_class(c)) {
+        (Some(direction), Some(own)) => assert_same(rt, (c, direction), (c, own)),
+        (None, Some(_)) if !either_way.contains(&script) => either_way.push(script)?,
+        _ => {}
+    }
+    Ok(())
+}
+
+/// Compares scripts with those of some tags.
+fn assert_scripts(rt: &impl Abort, scripts: &[Script], tags: &[&[u8; 4]]) {
+    assert_same(rt, scripts.len(), tags.len());
+    for (script, letters) in scripts.iter().zip(tags) {
+        assert_same(rt, *script, Script(hb_tag_t::from_bytes(letters)));
+    }
+}
+
 /// A script runs as its letters do, except for four that have been written both ways.
 #[test]
 fn scripts_run_as_their_letters(rt: HostRuntime) -> Result<(), Fail> {
     let mut either_way = Vec::new(rt.alloc());
-    for c in (0..=0x10FFFF).filter_map(char::from_u32) {
+    for c in '\0'..=char::MAX {
         let script = UnicodeDatabase::script(c);
-        if !script.is_specific() || !is_letter(c) {
-            continue;
-        }
-        match (
-            UnicodeDatabase::script_direction(script),
-            direction_of_class(c),
-        ) {
-            (Some(direction), Some(own)) => assert_same(&rt, (c, direction), (c, own)),
-            (None, Some(_)) if !either_way.contains(&script) => either_way.push(script)?,
-            _ => {}
+        if script.is_specific() && is_letter(c) {
+            tell(&rt, c, script, &mut either_way)?;
         }
     }
-    let letters = [b"Runr", b"Tfng", b"Ital", b"Hung"];
-    assert_same(&rt, either_way.len(), letters.len());
-    for (script, letters) in either_way.iter().zip(letters) {
-        assert_same(&rt, *script, Script(hb_tag_t::from_bytes(letters)));
-    }
+    let tags = [b"Runr", b"Tfng", b"Ital", b"Hung"];
+    assert_scripts(&rt, either_way.as_slice(), &tags);
     Ok(())
 }

@@ -1,9 +1,6 @@
-//! Texts in Arabic, shaped with a face that has a glyph for these characters alone.
-use crate::shaping::assert_shaped;
-use shape_buffer::interfaces::NoLookups;
-use shape_users::arabic::ArabicShaper;
-use std::alloc::Global;
-use std::process::Abort;
+//! Texts in Arabic, shaped with a face that has a glyph for these characters alone. The line runs right to left, and
+//! its glyphs are compared from the left.
+use crate::shaping::{Row, Shaper, assert_rows};
 use std::test::Fail;
 
 /// Beh, fatha, shadda, and a hamza above and below.
@@ -15,28 +12,32 @@ const KNOWN: [(char, u32); 5] = [
     ('\u{655}', 5),
 ];
 
-/// Compares the glyphs of a text with their clusters, from the left: the line runs right to left.
-fn assert_line(
-    rt: &impl Abort,
-    alloc: Global,
-    text: &[char],
-    glyphs: &[(u32, u32)],
-) -> Result<(), Fail> {
-    assert_shaped::<NoLookups, _>(rt, alloc, &KNOWN, &ArabicShaper, text, glyphs)
-}
+/// A hamza behind a fatha, and one before it.
+const HAMZAS: [Row<'_>; 2] = [
+    (
+        &KNOWN,
+        &['\u{628}', '\u{64E}', '\u{654}'],
+        &[(2, 0), (4, 0), (1, 0)],
+    ),
+    (
+        &KNOWN,
+        &['\u{628}', '\u{654}', '\u{64E}'],
+        &[(2, 0), (4, 0), (1, 0)],
+    ),
+];
 
 #[test]
 fn a_hamza_steps_before_a_fatha(rt: HostRuntime) -> Result<(), Fail> {
-    let wanted = [(2, 0), (4, 0), (1, 0)];
-    let before = ['\u{628}', '\u{64E}', '\u{654}'];
-    assert_line(&rt, rt.alloc(), &before, &wanted)?;
-    let behind = ['\u{628}', '\u{654}', '\u{64E}'];
-    assert_line(&rt, rt.alloc(), &behind, &wanted)
+    assert_rows(&rt, rt.alloc(), Shaper::Arabic, &HAMZAS)
 }
+
+const TWO_HAMZAS: [Row<'_>; 1] = [(
+    &KNOWN,
+    &['\u{628}', '\u{651}', '\u{654}', '\u{655}'],
+    &[(3, 0), (4, 0), (5, 0), (1, 0)],
+)];
 
 #[test]
 fn a_hamza_below_comes_before_one_above(rt: HostRuntime) -> Result<(), Fail> {
-    let text = ['\u{628}', '\u{651}', '\u{654}', '\u{655}'];
-    let wanted = [(3, 0), (4, 0), (5, 0), (1, 0)];
-    assert_line(&rt, rt.alloc(), &text, &wanted)
+    assert_rows(&rt, rt.alloc(), Shaper::Arabic, &TWO_HAMZAS)
 }

@@ -1,13 +1,10 @@
 //! Texts shaped and cut into lines, whose answers were worked out by hand.
-use crate::shaping::{append, assert_same, assert_that, shaped};
+use crate::shaping::{Shaper, append, assert_same, assert_that, shaped};
 use shape_buffer::interfaces::hb_glyph_extents_t;
 use shape_pipeline::lines::{Line, can_cut, cut_lines};
-use shape_pipeline::ot_shaper::Decomposed;
 use shape_pipeline::{
-    BufferClusterLevel, DEFAULT_SHAPER, Direction, GlyphBuffer, GlyphId, MapFace, Metrics,
-    NoLookups, Preferring, UnicodeBuffer, hb_ot_shaper_t,
+    BufferClusterLevel, Direction, GlyphBuffer, GlyphId, MapFace, Metrics, UnicodeBuffer,
 };
-use shape_unicode::UnicodeDatabase;
 use std::alloc::Global;
 use std::process::Abort;
 use std::test::Fail;
@@ -83,18 +80,15 @@ fn text_of(
 }
 
 /// A text shaped with a face of some characters.
-fn shaped_with<S>(
+fn shaped_with(
     alloc: Global,
     known: &[Known],
-    shaper: &S,
+    shaper: Shaper,
     manner: (Direction, BufferClusterLevel),
     text: &str,
-) -> Result<GlyphBuffer, Fail>
-where
-    S: hb_ot_shaper_t<UnicodeDatabase, MapFace, NoLookups>,
-{
+) -> Result<GlyphBuffer, Fail> {
     let face = face_of(alloc, known)?;
-    shaped::<NoLookups, S>(alloc, &face, shaper, text_of(alloc, manner, text)?)
+    shaped(alloc, &face, shaper, text_of(alloc, manner, text)?)
 }
 
 /// Compares the glyphs from one place in the list up to another.
@@ -157,7 +151,7 @@ fn assert_text(
     if 1000 < text.len() {
         return Err(Fail::from("long"));
     }
-    let glyphs = shaped_with(alloc, known, &DEFAULT_SHAPER, manner, text)?;
+    let glyphs = shaped_with(alloc, known, Shaper::Default, manner, text)?;
     for (width, rows) in widths {
         assert_lines(rt, alloc, &glyphs, (text.len() as u32, *width), rows)?;
     }
@@ -169,75 +163,72 @@ const LEFT_TO_RIGHT: (Direction, BufferClusterLevel) = (
     BufferClusterLevel::MonotoneGraphemes,
 );
 
+/// Lines of two letters each.
+const HALVES: [Row<'_>; 2] = [
+    (0, 2, &[(1, 0), (2, 1)], (0, 2)),
+    (2, 4, &[(3, 2), (1, 3)], (2, 4)),
+];
+
+/// None fits.
+const SINGLE: [Row<'_>; 4] = [
+    (0, 1, &[(1, 0)], (0, 1)),
+    (1, 2, &[(2, 1)], (1, 2)),
+    (2, 3, &[(3, 2)], (2, 3)),
+    (3, 4, &[(1, 3)], (3, 4)),
+];
+
+const WIDTHS: [(u32, &[Row<'_>]); 2] = [(1200, &HALVES), (100, &SINGLE)];
+
 #[test]
 fn letters(rt: HostRuntime) -> Result<(), Fail> {
-    let halves: [Row<'_>; 2] = [
-        (0, 2, &[(1, 0), (2, 1)], (0, 2)),
-        (2, 4, &[(3, 2), (1, 3)], (2, 4)),
-    ];
-    // none fits
-    let single: [Row<'_>; 4] = [
-        (0, 1, &[(1, 0)], (0, 1)),
-        (1, 2, &[(2, 1)], (1, 2)),
-        (2, 3, &[(3, 2)], (2, 3)),
-        (3, 4, &[(1, 3)], (3, 4)),
-    ];
-    let widths: [(u32, &[Row<'_>]); 2] = [(1200, &halves), (100, &single)];
-    assert_text(&rt, rt.alloc(), &WIDE, LEFT_TO_RIGHT, "ab a", &widths)
+    assert_text(&rt, rt.alloc(), &WIDE, LEFT_TO_RIGHT, "ab a", &WIDTHS)
 }
+
+const TURNED: [(u32, &[Row<'_>]); 1] = [(
+    1200,
+    &[
+        (2, 4, &[(2, 1), (1, 0)], (0, 2)),
+        (0, 2, &[(1, 3), (3, 2)], (2, 4)),
+    ],
+)];
 
 #[test]
 fn letters_to_the_left(rt: HostRuntime) -> Result<(), Fail> {
-    let reversed: [Row<'_>; 2] = [
-        (2, 4, &[(2, 1), (1, 0)], (0, 2)),
-        (0, 2, &[(1, 3), (3, 2)], (2, 4)),
-    ];
     let to_the_left = (Direction::RightToLeft, LEFT_TO_RIGHT.1);
-    assert_text(
-        &rt,
-        rt.alloc(),
-        &WIDE,
-        to_the_left,
-        "ab a",
-        &[(1200, &reversed)],
-    )
+    assert_text(&rt, rt.alloc(), &WIDE, to_the_left, "ab a", &TURNED)
 }
+
+const LONGER_FITS: [(u32, &[Row<'_>]); 1] = [(600, &[(0, 3, &[(1, 0), (1, 1), (2, 2)], (0, 3))])];
 
 #[test]
 fn wide_then_narrow(rt: HostRuntime) -> Result<(), Fail> {
-    let one: [Row<'_>; 1] = [(0, 3, &[(1, 0), (1, 1), (2, 2)], (0, 3))];
-    assert_text(
-        &rt,
-        rt.alloc(),
-        &NARROW,
-        LEFT_TO_RIGHT,
-        "aab",
-        &[(600, &one)],
-    )
+    assert_text(&rt, rt.alloc(), &NARROW, LEFT_TO_RIGHT, "aab", &LONGER_FITS)
 }
+
+const BY_CHARACTER: (Direction, BufferClusterLevel) = (
+    Direction::LeftToRight,
+    BufferClusterLevel::MonotoneCharacters,
+);
+
+const ACCENTED: [(u32, &[Row<'_>]); 1] = [(100, &[(0, 2, &[(1, 0), (2, 1)], (0, 3))])];
 
 #[test]
 fn letters_with_marks(rt: HostRuntime) -> Result<(), Fail> {
-    let by_character = (
-        Direction::LeftToRight,
-        BufferClusterLevel::MonotoneCharacters,
-    );
-    let one: [Row<'_>; 1] = [(0, 2, &[(1, 0), (2, 1)], (0, 3))];
     assert_text(
         &rt,
         rt.alloc(),
         &MARKED,
-        by_character,
+        BY_CHARACTER,
         "a\u{301}",
-        &[(100, &one)],
+        &ACCENTED,
     )
 }
 
 /// The number of glyphs of a letter with two marks, whose clusters are kept apart, and whether they can be cut.
 fn marks_kept_apart(alloc: Global) -> Result<(usize, bool), Fail> {
     let manner = (Direction::LeftToRight, BufferClusterLevel::Characters);
-    let shaper = Preferring::<Decomposed>::new();
-    let glyphs = shaped_with(alloc, &MARKED, &shaper, manner, "a\u{301}\u{323}")?;
+    let text = "a\u{301}\u{323}";
+    let glyphs = shaped_with(alloc, &MARKED, Shaper::Decomposed, manner, text)?;
     Ok((glyphs.len(), can_cut(&glyphs, 5)))
 }
 

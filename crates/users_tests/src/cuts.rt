@@ -3,17 +3,10 @@
 //! What is tried: every text of two and three characters of a few alphabets, towards all four directions, at the
 //! two levels that keep clusters in order, over a face of a few glyphs, with the default shaper, the engine with
 //! ligatures, and both script shapers. A part is shaped in the direction and script of the whole.
-use crate::shaping::{Seen, assert_that, face_of, seen_of, shaped};
-use shape_buffer::interfaces::NoLookups;
-use shape_pipeline::{
-    BufferClusterLevel, DEFAULT_SHAPER, Direction, GlyphBuffer, MapFace, Script, UnicodeBuffer,
-    hb_ot_layout_t, hb_ot_shaper_t,
-};
-use shape_unicode::UnicodeDatabase;
-use shape_users::arabic::ArabicShaper;
-use shape_users::hebrew::HebrewShaper;
-use shape_users::ligatures::Ligatures;
+use crate::shaping::{Shaper, assert_that, face_of, see, shaped, text_in_places};
+use shape_pipeline::{BufferClusterLevel, Direction, GlyphBuffer, MapFace, Script, UnicodeBuffer};
 use std::alloc::Global;
+use std::process::Abort;
 use std::test::Fail;
 
 /// How a text and its parts are shaped.
@@ -24,17 +17,6 @@ struct Setting {
     script: Script,
 }
 
-/// The characters, each in the cluster of its place in the whole text, the first at `start`.
-fn part_of(alloc: Global, characters: &[char], start: u32) -> Result<UnicodeBuffer, Fail> {
-    let mut text = UnicodeBuffer::new(alloc);
-    let mut place = start;
-    for c in characters {
-        text.add(*c, place)?;
-        place = place.saturating_add(1);
-    }
-    Ok(text)
-}
-
 fn put(setting: Setting, text: &mut UnicodeBuffer) {
     text.set_direction(setting.direction);
     text.set_script(Some(setting.script));
@@ -42,29 +24,17 @@ fn put(setting: Setting, text: &mut UnicodeBuffer) {
 }
 
 /// The characters shaped.
-fn shaped_part<M, S>(
+fn shaped_part(
     alloc: Global,
     face: &MapFace,
-    shaper: &S,
+    shaper: Shaper,
     setting: Setting,
     characters: &[char],
     start: u32,
-) -> Result<GlyphBuffer, Fail>
-where
-    M: hb_ot_layout_t<MapFace>,
-    S: hb_ot_shaper_t<UnicodeDatabase, MapFace, M>,
-{
-    let mut text = part_of(alloc, characters, start)?;
+) -> Result<GlyphBuffer, Fail> {
+    let mut text = text_in_places(alloc, characters, start)?;
     put(setting, &mut text);
-    shaped::<M, S>(alloc, face, shaper, text)
-}
-
-/// Puts glyphs after others as they are seen.
-fn see(seen: &mut Vec<Seen>, glyphs: &GlyphBuffer) -> Result<(), Fail> {
-    for (info, position) in glyphs.iter() {
-        seen.push(seen_of(info, position, 0))?;
-    }
-    Ok(())
+    shaped(alloc, face, shaper, text)
 }
 
 /// Whether two parts look together as the whole does.
@@ -75,31 +45,27 @@ fn looks_same(
     back: &GlyphBuffer,
 ) -> Result<bool, Fail> {
     let mut together = Vec::new(alloc);
-    see(&mut together, whole)?;
+    see(&mut together, whole, (0, whole.len()), 0)?;
     let mut apart = Vec::new(alloc);
     if whole.direction().is_backward() {
-        see(&mut apart, back)?;
-        see(&mut apart, front)?;
+        see(&mut apart, back, (0, back.len()), 0)?;
+        see(&mut apart, front, (0, front.len()), 0)?;
     } else {
-        see(&mut apart, front)?;
-        see(&mut apart, back)?;
+        see(&mut apart, front, (0, front.len()), 0)?;
+        see(&mut apart, back, (0, back.len()), 0)?;
     }
     Ok(together.as_slice() == apart.as_slice())
 }
 
 /// How often a text may be cut. Fails if a part looks different then.
-fn cuts_of<M, S>(
+fn cuts_of(
     alloc: Global,
     face: &MapFace,
-    shaper: &S,
+    shaper: Shaper,
     setting: Setting,
     characters: &[char],
-) -> Result<u32, Fail>
-where
-    M: hb_ot_layout_t<MapFace>,
-    S: hb_ot_shaper_t<UnicodeDatabase, MapFace, M>,
-{
-    let whole = shaped_part::<M, S>(alloc, face, shaper, setting, characters, 0)?;
+) -> Result<u32, Fail> {
+    let whole = shaped_part(alloc, face, shaper, setting, characters, 0)?;
     let mut cuts: u32 = 0;
     for cluster in &whole.clusters(alloc)? {
         let place = cluster.cluster;
@@ -109,8 +75,8 @@ where
         let Some((front, back)) = characters.split_at_checked(place as usize) else {
             return Err(Fail::from("a cluster that isn't the text's"));
         };
-        let front = shaped_part::<M, S>(alloc, face, shaper, setting, front, 0)?;
-        let back = shaped_part::<M, S>(alloc, face, shaper, setting, back, place)?;
+        let front = shaped_part(alloc, face, shaper, setting, front, 0)?;
+        let back = shaped_part(alloc, face, shaper, setting, back, place)?;
         if !looks_same(alloc, &whole, &front, &back)? {
             return Err(Fail::from("a part looks different"));
         }
@@ -119,39 +85,74 @@ where
     Ok(cuts)
 }
 
-/// How often the texts may be cut, in all directions and at the two levels.
-fn cuts_of_all<M, S>(
+/// All directions, at the two levels that keep clusters in order.
+const MANNERS: [(Direction, BufferClusterLevel); 8] = [
+    (
+        Direction::LeftToRight,
+        BufferClusterLevel::MonotoneGraphemes,
+    ),
+    (
+        Direction::LeftToRight,
+        BufferClusterLevel::MonotoneCharacters,
+    ),
+    (
+        Direction::RightToLeft,
+        BufferClusterLevel::MonotoneGraphemes,
+    ),
+    (
+        Direction::RightToLeft,
+        BufferClusterLevel::MonotoneCharacters,
+    ),
+    (
+        Direction::TopToBottom,
+        BufferClusterLevel::MonotoneGraphemes,
+    ),
+    (
+        Direction::TopToBottom,
+        BufferClusterLevel::MonotoneCharacters,
+    ),
+    (
+        Direction::BottomToTop,
+        BufferClusterLevel::MonotoneGraphemes,
+    ),
+    (
+        Direction::BottomToTop,
+        BufferClusterLevel::MonotoneCharacters,
+    ),
+];
+
+/// How often a text may be cut, in all directions and at the two levels.
+fn cuts_of_text(
     alloc: Global,
     face: &MapFace,
-    shaper: &S,
+    shaper: Shaper,
+    script: Script,
+    text: &[char],
+) -> Result<u32, Fail> {
+    let mut cuts: u32 = 0;
+    for (direction, level) in &MANNERS {
+        let setting = Setting {
+            direction: *direction,
+            level: *level,
+            script,
+        };
+        cuts = cuts.saturating_add(cuts_of(alloc, face, shaper, setting, text)?);
+    }
+    Ok(cuts)
+}
+
+/// How often the texts may be cut.
+fn cuts_of_all(
+    alloc: Global,
+    face: &MapFace,
+    shaper: Shaper,
     script: Script,
     texts: &[Vec<char>],
-) -> Result<u32, Fail>
-where
-    M: hb_ot_layout_t<MapFace>,
-    S: hb_ot_shaper_t<UnicodeDatabase, MapFace, M>,
-{
+) -> Result<u32, Fail> {
     let mut cuts: u32 = 0;
     for text in texts {
-        for direction in [
-            Direction::LeftToRight,
-            Direction::RightToLeft,
-            Direction::TopToBottom,
-            Direction::BottomToTop,
-        ] {
-            for level in [
-                BufferClusterLevel::MonotoneGraphemes,
-                BufferClusterLevel::MonotoneCharacters,
-            ] {
-                let setting = Setting {
-                    direction,
-                    level,
-                    script,
-                };
-                let more = cuts_of::<M, S>(alloc, face, shaper, setting, text.as_slice())?;
-                cuts = cuts.saturating_add(more);
-            }
-        }
+        let more = cuts_of_text(alloc, face, shaper, script, text.as_slice())?;
+        cuts = cuts.saturating_add(more);
     }
     Ok(cuts)
 }
@@ -177,16 +178,12 @@ fn extended(
 }
 
 /// How often texts of two and three characters of an alphabet may be cut, over a face that has a glyph for each.
-fn cuts_of_alphabet<M, S>(
+fn cuts_of_alphabet(
     alloc: Global,
-    shaper: &S,
+    shaper: Shaper,
     script: Script,
     alphabet: &[(char, u32)],
-) -> Result<u32, Fail>
-where
-    M: hb_ot_layout_t<MapFace>,
-    S: hb_ot_shaper_t<UnicodeDatabase, MapFace, M>,
-{
+) -> Result<u32, Fail> {
     let face = face_of(alloc, alphabet)?;
     let mut texts: Vec<Vec<char>> = Vec::new(alloc);
     texts.push(Vec::new(alloc))?;
@@ -194,10 +191,23 @@ where
     let mut cuts: u32 = 0;
     for _ in 0..2 {
         texts = extended(alloc, texts.as_slice(), alphabet)?;
-        let more = cuts_of_all::<M, S>(alloc, &face, shaper, script, texts.as_slice())?;
+        let more = cuts_of_all(alloc, &face, shaper, script, texts.as_slice())?;
         cuts = cuts.saturating_add(more);
     }
     Ok(cuts)
+}
+
+/// Asserts that texts of an alphabet may be cut often.
+fn assert_cut(
+    rt: &impl Abort,
+    alloc: Global,
+    shaper: Shaper,
+    script: Script,
+    alphabet: &[(char, u32)],
+) -> Result<(), Fail> {
+    let cuts = cuts_of_alphabet(alloc, shaper, script, alphabet)?;
+    assert_that(rt, 200 < cuts);
+    Ok(())
 }
 
 #[test]
@@ -210,27 +220,13 @@ fn letters_and_accents(rt: HostRuntime) -> Result<(), Fail> {
         ('\u{323}', 5),
         ('\u{e9}', 6),
     ];
-    let cuts = cuts_of_alphabet::<NoLookups, _>(
-        rt.alloc(),
-        &DEFAULT_SHAPER,
-        Script::LATIN,
-        &alphabet,
-    )?;
-    assert_that(&rt, 200 < cuts);
-    Ok(())
+    assert_cut(&rt, rt.alloc(), Shaper::Default, Script::LATIN, &alphabet)
 }
 
 #[test]
 fn ligatures(rt: HostRuntime) -> Result<(), Fail> {
     let alphabet = [('a', 1), ('f', 2), ('i', 3), ('\u{301}', 4), ('x', 5)];
-    let cuts = cuts_of_alphabet::<Ligatures, _>(
-        rt.alloc(),
-        &DEFAULT_SHAPER,
-        Script::LATIN,
-        &alphabet,
-    )?;
-    assert_that(&rt, 200 < cuts);
-    Ok(())
+    assert_cut(&rt, rt.alloc(), Shaper::Ligatures, Script::LATIN, &alphabet)
 }
 
 #[test]
@@ -244,14 +240,7 @@ fn hebrew(rt: HostRuntime) -> Result<(), Fail> {
         ('\u{5C1}', 6),
         ('\u{FB1D}', 7),
     ];
-    let cuts = cuts_of_alphabet::<NoLookups, _>(
-        rt.alloc(),
-        &HebrewShaper,
-        Script::HEBREW,
-        &alphabet,
-    )?;
-    assert_that(&rt, 200 < cuts);
-    Ok(())
+    assert_cut(&rt, rt.alloc(), Shaper::Hebrew, Script::HEBREW, &alphabet)
 }
 
 #[test]
@@ -264,12 +253,5 @@ fn arabic(rt: HostRuntime) -> Result<(), Fail> {
         ('\u{655}', 5),
         ('\u{627}', 6),
     ];
-    let cuts = cuts_of_alphabet::<NoLookups, _>(
-        rt.alloc(),
-        &ArabicShaper,
-        Script::ARABIC,
-        &alphabet,
-    )?;
-    assert_that(&rt, 200 < cuts);
-    Ok(())
+    assert_cut(&rt, rt.alloc(), Shaper::Arabic, Script::ARABIC, &alphabet)
 }

@@ -1,14 +1,15 @@
 //! Words with a ligature.
-use crate::shaping::assert_shaped;
-use shape_pipeline::ot_shaper::DEFAULT_SHAPER;
-use shape_users::ligatures::Ligatures;
+use crate::shaping::{Row, Shaper, assert_rows};
 use std::test::Fail;
+
+/// The second pair begins with the third f.
+const PAIRS: [Row<'_>; 1] = [(
+    &[('a', 1), ('f', 2), ('i', 3)],
+    &['a', 'f', 'i', 'f', 'f', 'i'],
+    &[(11, 0), (23, 1), (2, 3), (23, 4)],
+)];
 
 #[test]
 fn a_ligature_has_the_cluster_of_its_first_letter(rt: HostRuntime) -> Result<(), Fail> {
-    let known = [('a', 1), ('f', 2), ('i', 3)];
-    let text = ['a', 'f', 'i', 'f', 'f', 'i'];
-    // the second pair begins with the third f
-    let wanted = [(11, 0), (23, 1), (2, 3), (23, 4)];
-    assert_shaped::<Ligatures, _>(&rt, rt.alloc(), &known, &DEFAULT_SHAPER, &text, &wanted)
+    assert_rows(&rt, rt.alloc(), Shaper::Ligatures, &PAIRS)
 }

@@ -1,8 +1,6 @@
 //! Spans of a text and of its glyphs, in both directions.
-use crate::shaping::{append, assert_same, face_of, shaped};
+use crate::shaping::{Shaper, append, assert_same, face_of, shaped};
 use shape_buffer::buffer::{Direction, GlyphBuffer, UnicodeBuffer};
-use shape_buffer::interfaces::NoLookups;
-use shape_pipeline::ot_shaper::DEFAULT_SHAPER;
 use shape_users::paragraph::{GlyphSpan, TextSpan, glyphs_of_text, text_of_glyphs};
 use std::alloc::Global;
 use std::process::Abort;
@@ -14,7 +12,7 @@ fn shaped_towards(alloc: Global, direction: Direction) -> Result<GlyphBuffer, Fa
     let mut text = UnicodeBuffer::new(alloc);
     append(&mut text, "ae\u{301}x")?;
     text.set_direction(direction);
-    shaped::<NoLookups, _>(alloc, &face, &DEFAULT_SHAPER, text)
+    shaped(alloc, &face, Shaper::Default, text)
 }
 
 /// The text that the glyphs from one place up to another show, and the glyphs that show a text.

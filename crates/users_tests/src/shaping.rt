@@ -1,11 +1,15 @@
 //! What these tests shape with: faces of a few characters, and the whole database of Unicode.
 use shape_buffer::buffer::{GlyphPosition, hb_glyph_info_t};
 use shape_pipeline::ot_shape_plan::hb_ot_shape_plan_t;
+use shape_pipeline::ot_shaper::Decomposed;
 use shape_pipeline::{
-    Direction, GlyphBuffer, GlyphId, MapFace, Metrics, NoLookups, Script, UnicodeBuffer,
-    hb_ot_layout_t, hb_ot_shaper_t, hb_tag_t, shape,
+    DEFAULT_SHAPER, Direction, GlyphBuffer, GlyphId, MapFace, Metrics, NoLookups, Preferring,
+    Script, UnicodeBuffer, hb_ot_layout_t, hb_ot_shaper_t, hb_tag_t, shape,
 };
 use shape_unicode::UnicodeDatabase;
+use shape_users::arabic::ArabicShaper;
+use shape_users::hebrew::HebrewShaper;
+use shape_users::ligatures::Ligatures;
 use std::alloc::Global;
 use std::fmt::Debug;
 use std::process::Abort;
@@ -26,7 +30,7 @@ pub fn assert_that(rt: &impl Abort, condition: bool) {
 pub type Seen = (u32, u32, (i32, i32, i32, i32));
 
 /// What is seen of a glyph of a text whose first cluster is at `start`.
-pub fn seen_of(info: &hb_glyph_info_t, position: &GlyphPosition, start: u32) -> Seen {
+fn seen_of(info: &hb_glyph_info_t, position: &GlyphPosition, start: u32) -> Seen {
     let placed = (
         position.x_advance,
         position.y_advance,
@@ -84,8 +88,21 @@ where
     Ok(plan)
 }
 
-/// The text shaped; a refusal fails the test.
-pub fn shaped<M, S>(
+/// Who shapes a text. The functions below take this and no type, since the proof of a generic function takes
+/// twice the time.
+#[derive(Clone, Copy)]
+pub enum Shaper {
+    Default,
+    /// The default shaper with the engine with ligatures.
+    Ligatures,
+    /// The default shaper in the mode that decomposes fully.
+    Decomposed,
+    Hebrew,
+    Arabic,
+}
+
+/// The text shaped by an engine and a shaper; a refusal fails the test.
+fn shaped_by<M, S>(
     alloc: Global,
     face: &MapFace,
     shaper: &S,
@@ -101,36 +118,90 @@ where
     }
 }
 
-/// Compares the glyphs of these characters with their clusters, in the order of the line; each character is in
-/// the cluster of its place. The face has a glyph for the characters of `known` alone.
-pub fn assert_shaped<M, S>(
-    rt: &impl Abort,
+/// The text shaped; a refusal fails the test.
+pub fn shaped(
     alloc: Global,
-    known: &[(char, u32)],
-    shaper: &S,
+    face: &MapFace,
+    shaper: Shaper,
+    text: UnicodeBuffer,
+) -> Result<GlyphBuffer, Fail> {
+    match shaper {
+        Shaper::Default => shaped_by::<NoLookups, _>(alloc, face, &DEFAULT_SHAPER, text),
+        Shaper::Ligatures => shaped_by::<Ligatures, _>(alloc, face, &DEFAULT_SHAPER, text),
+        Shaper::Decomposed => {
+            let shaper = Preferring::<Decomposed>::new();
+            shaped_by::<NoLookups, _>(alloc, face, &shaper, text)
+        }
+        Shaper::Hebrew => shaped_by::<NoLookups, _>(alloc, face, &HebrewShaper, text),
+        Shaper::Arabic => shaped_by::<NoLookups, _>(alloc, face, &ArabicShaper, text),
+    }
+}
+
+/// Puts the glyphs of a list from one place up to another after others, as they are seen in a text the first cluster
+/// of which is at `start`.
+pub fn see(
+    all: &mut Vec<Seen>,
+    glyphs: &GlyphBuffer,
+    (from, to): (usize, usize),
+    start: u32,
+) -> Result<(), Fail> {
+    for (info, position) in glyphs.iter().take(to).skip(from) {
+        all.push(seen_of(info, position, start))?;
+    }
+    Ok(())
+}
+
+/// The text of these characters, each in the cluster of its place, the first at `start`.
+pub fn text_in_places(
+    alloc: Global,
     characters: &[char],
-    glyphs: &[(u32, u32)],
-) -> Result<(), Fail>
-where
-    M: hb_ot_layout_t<MapFace>,
-    S: hb_ot_shaper_t<UnicodeDatabase, MapFace, M>,
-{
-    let face = face_of(alloc, known)?;
+    start: u32,
+) -> Result<UnicodeBuffer, Fail> {
     let mut text = UnicodeBuffer::new(alloc);
-    let mut place: u32 = 0;
+    let mut place = start;
     for c in characters {
         text.add(*c, place)?;
         place = place.saturating_add(1);
     }
-    assert_glyphs(rt, &shaped::<M, S>(alloc, &face, shaper, text)?, glyphs);
+    Ok(text)
+}
+
+/// Compares the glyphs of these characters with their clusters, in the order of the line; each character is in
+/// the cluster of its place. The face has a glyph for the characters of `known` alone.
+fn assert_shaped(
+    rt: &impl Abort,
+    alloc: Global,
+    known: &[(char, u32)],
+    shaper: Shaper,
+    characters: &[char],
+    glyphs: &[(u32, u32)],
+) -> Result<(), Fail> {
+    let face = face_of(alloc, known)?;
+    let text = text_in_places(alloc, characters, 0)?;
+    assert_glyphs(rt, &shaped(alloc, &face, shaper, text)?, glyphs);
+    Ok(())
+}
+
+/// The characters of a face with their glyphs, a text, and its glyphs with their clusters.
+pub type Row<'a> = (&'a [(char, u32)], &'a [char], &'a [(u32, u32)]);
+
+/// Compares the glyphs of some texts by a shaper.
+pub fn assert_rows(
+    rt: &impl Abort,
+    alloc: Global,
+    shaper: Shaper,
+    rows: &[Row<'_>],
+) -> Result<(), Fail> {
+    for (known, characters, glyphs) in rows {
+        assert_shaped(rt, alloc, known, shaper, characters, glyphs)?;
+    }
     Ok(())
 }
 
 /// Compares glyphs with their clusters.
 pub fn assert_glyphs(rt: &impl Abort, answer: &GlyphBuffer, glyphs: &[(u32, u32)]) {
     assert_same(rt, answer.len(), glyphs.len());
-    for (info, (glyph, cluster)) in answer.glyph_infos().iter().zip(glyphs) {
-        assert_same(rt, info.glyph_id, *glyph);
-        assert_same(rt, info.cluster, *cluster);
+    for (info, wanted) in answer.glyph_infos().iter().zip(glyphs) {
+        assert_same(rt, (info.glyph_id, info.cluster), *wanted);
     }
 }

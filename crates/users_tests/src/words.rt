@@ -79,20 +79,23 @@ fn assert_words(rt: &impl Abort, words: &[Word], wants: &[(&str, &[u32])]) {
     }
 }
 
+/// One letter more with an accent, spelled as one character and as two, and without the accent; and the places of
+/// their words.
+const SPELLINGS: [(&str, usize); 3] = [
+    ("q\u{301}\u{E9}", 0),
+    ("q\u{301}e\u{301}", 0),
+    ("q\u{301}e", 1),
+];
+
+/// What is kept: the second spelling has what the first one had shaped.
+const WORDS: [(&str, &[u32]); 2] = [("q\u{301}\u{E9}", &[1, 3, 2, 3]), ("q\u{301}e", &[1, 3, 2])];
+
 #[test]
 fn equivalent_spellings_are_one_word(rt: HostRuntime) -> Result<(), Fail> {
     let alloc = rt.alloc();
     let face = face_of(alloc, &[('q', 1), ('e', 2), ('\u{301}', 3), ('\u{E9}', 4)])?;
-    // one letter more with an accent, spelled as one character and as two, and without the accent
-    let spellings = [
-        ("q\u{301}\u{E9}", 0),
-        ("q\u{301}e\u{301}", 0),
-        ("q\u{301}e", 1),
-    ];
-    let words = words_of(&rt, alloc, &face, &spellings)?;
-    // the second call kept what the first had shaped
-    let wants: [(&str, &[u32]); 2] = [("q\u{301}\u{E9}", &[1, 3, 2, 3]), ("q\u{301}e", &[1, 3, 2])];
-    assert_words(&rt, words.as_slice(), &wants);
+    let words = words_of(&rt, alloc, &face, &SPELLINGS)?;
+    assert_words(&rt, words.as_slice(), &WORDS);
     Ok(())
 }
 

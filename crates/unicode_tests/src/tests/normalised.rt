@@ -1,6 +1,7 @@
 //! Lines of Unicode's test through the normaliser, in the two modes that split fully: mode 1 composes
 //! nothing, mode 3 composes again.
 
+use crate::comparing::assert_same;
 use crate::moved_rows::{MOVED_ROWS, MovedRow};
 use crate::normalising::{BASE_WITH_MARK, normalised};
 use crate::normalization_rows::NORMALIZATION_ROWS;
@@ -48,20 +49,42 @@ fn behind_base(alloc: Global, text: &str) -> Result<String, Fail> {
     Ok(whole)
 }
 
-/// Compares the lists of a row's columns that are canonically equivalent.
-fn assert_equivalent(rt: &impl Abort, lists: &[Vec<char>], row: &[&str; 5]) {
-    assert_eq!(rt; lists.len(), row.len());
-    assert!(rt; lists[0] == lists[1] && lists[1] == lists[2], "{row:?}");
-    assert!(rt; lists[3] == lists[4], "{row:?}");
+/// The lists of texts in the mode that composes nothing.
+fn split(alloc: Global, texts: &[&str]) -> Result<Vec<Vec<char>>, Fail> {
+    lists_of(alloc, &splitting(), texts)
+}
+
+/// The lists of texts in the mode that composes again.
+fn composed(alloc: Global, texts: &[&str]) -> Result<Vec<Vec<char>>, Fail> {
+    lists_of(alloc, &composing(), texts)
+}
+
+/// Whether the lists of a row's columns are the same where these are canonically equivalent.
+fn are_equivalent(lists: &[Vec<char>]) -> bool {
+    match lists {
+        [text, nfc, nfd, nfkc, nfkd] => text == nfc && nfc == nfd && nfkc == nfkd,
+        _ => false,
+    }
+}
+
+/// Compares the list of a column with what it splits into.
+fn assert_split_list(
+    rt: &impl Abort,
+    alloc: Global,
+    column: &str,
+    list: &[char],
+) -> Result<(), Fail> {
+    let want = decomposed(alloc, behind_base(alloc, column)?.as_str())?;
+    assert_same(rt, (column, list), (column, want.as_slice()));
+    Ok(())
 }
 
 /// Compares the lists of a row's columns in the mode that composes nothing.
 fn assert_split(rt: &impl Abort, alloc: Global, row: &[&str; 5]) -> Result<(), Fail> {
-    let lists = lists_of(alloc, &splitting(), row)?;
-    assert_equivalent(rt, lists.as_slice(), row);
+    let lists = split(alloc, row)?;
+    assert_same(rt, (row, are_equivalent(lists.as_slice())), (row, true));
     for (column, list) in row.iter().zip(&lists) {
-        let whole = behind_base(alloc, column)?;
-        assert_eq!(rt; *list, decomposed(alloc, whole.as_str())?, "{row:?}");
+        assert_split_list(rt, alloc, column, list.as_slice())?;
     }
     Ok(())
 }
@@ -75,13 +98,25 @@ fn equivalent_columns_split_alike(rt: HostRuntime) -> Result<(), Fail> {
     Ok(())
 }
 
+/// Compares the list of a column with what composes again of what it splits into.
+fn assert_composed_list(
+    rt: &impl Abort,
+    alloc: Global,
+    column: &str,
+    list: &[char],
+) -> Result<(), Fail> {
+    let split = decomposed(alloc, behind_base(alloc, column)?.as_str())?;
+    let want = recomposed(alloc, split.as_slice())?;
+    assert_same(rt, (column, list), (column, want.as_slice()));
+    Ok(())
+}
+
 /// Compares the lists of a row's columns in the mode that composes again.
 fn assert_composed(rt: &impl Abort, alloc: Global, row: &[&str; 5]) -> Result<(), Fail> {
-    let lists = lists_of(alloc, &composing(), row)?;
-    assert_equivalent(rt, lists.as_slice(), row);
+    let lists = composed(alloc, row)?;
+    assert_same(rt, (row, are_equivalent(lists.as_slice())), (row, true));
     for (column, list) in row.iter().zip(&lists) {
-        let split = decomposed(alloc, behind_base(alloc, column)?.as_str())?;
-        assert_eq!(rt; *list, recomposed(alloc, split.as_slice())?, "{row:?}");
+        assert_composed_list(rt, alloc, column, list.as_slice())?;
     }
     Ok(())
 }
@@ -106,13 +141,24 @@ fn canonical_forms(alloc: Global) -> Result<Vec<&'static str>, Fail> {
     Ok(forms)
 }
 
-/// Two texts have one list exactly when they have one canonical form.
+/// Compares a text and its list with others: two texts have one list exactly when they have one canonical form.
+fn assert_told_from(
+    rt: &impl Abort,
+    (form, list): (&str, &[char]),
+    forms: &[&str],
+    lists: &[Vec<char>],
+) {
+    for (other, others) in forms.iter().zip(lists) {
+        let is_one = list == others.as_slice();
+        assert_same(rt, (form, *other, is_one), (form, *other, form == *other));
+    }
+}
+
+/// Compares each text and its list with each.
 fn assert_told_apart(rt: &impl Abort, forms: &[&str], lists: &[Vec<char>]) {
-    assert_eq!(rt; lists.len(), forms.len());
+    assert_same(rt, lists.len(), forms.len());
     for (form, list) in forms.iter().zip(lists) {
-        for (other, others) in forms.iter().zip(lists) {
-            assert_eq!(rt; list == others, form == other, "{form:?} {other:?}");
-        }
+        assert_told_from(rt, (form, list.as_slice()), forms, lists);
     }
 }
 
@@ -120,9 +166,9 @@ fn assert_told_apart(rt: &impl Abort, forms: &[&str], lists: &[Vec<char>]) {
 fn other_forms_have_other_lists(rt: HostRuntime) -> Result<(), Fail> {
     let alloc = rt.alloc();
     let forms = canonical_forms(alloc)?;
-    let lists = lists_of(alloc, &splitting(), forms.as_slice())?;
+    let lists = split(alloc, forms.as_slice())?;
     assert_told_apart(&rt, forms.as_slice(), lists.as_slice());
-    let lists = lists_of(alloc, &composing(), forms.as_slice())?;
+    let lists = composed(alloc, forms.as_slice())?;
     assert_told_apart(&rt, forms.as_slice(), lists.as_slice());
     Ok(())
 }
@@ -130,19 +176,36 @@ fn other_forms_have_other_lists(rt: HostRuntime) -> Result<(), Fail> {
 /// Compares lists that are all the same.
 fn assert_all(rt: &impl Abort, lists: &[Vec<char>], want: &[char], row: &MovedRow) {
     for list in lists {
-        assert!(rt; list.as_slice() == want, "{:?}: {}", row.mark, row.reason);
+        assert_same(
+            rt,
+            (row.mark, row.reason, list.as_slice()),
+            (row.mark, row.reason, want),
+        );
     }
+}
+
+/// Whether the forms of a row are two that have its mark.
+fn is_moved(row: &MovedRow) -> bool {
+    let [form, other] = row.forms;
+    form != other && form.contains(row.mark)
 }
 
 /// Compares the lists of two forms, in both modes.
 fn assert_moved(rt: &impl Abort, alloc: Global, row: &MovedRow) -> Result<(), Fail> {
-    let [form, other] = row.forms;
-    assert!(rt; form != other && form.contains(row.mark), "{}", row.reason);
+    assert_same(rt, (row.mark, is_moved(row)), (row.mark, true));
     let want = chars_of(alloc, behind_base(alloc, row.normalised)?.as_str())?;
-    let split = lists_of(alloc, &splitting(), &row.forms)?;
-    assert_all(rt, split.as_slice(), want.as_slice(), row);
-    let composed = lists_of(alloc, &composing(), &row.forms)?;
-    assert_all(rt, composed.as_slice(), want.as_slice(), row);
+    assert_all(
+        rt,
+        split(alloc, &row.forms)?.as_slice(),
+        want.as_slice(),
+        row,
+    );
+    assert_all(
+        rt,
+        composed(alloc, &row.forms)?.as_slice(),
+        want.as_slice(),
+        row,
+    );
     Ok(())
 }
 

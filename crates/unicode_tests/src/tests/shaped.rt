@@ -3,7 +3,9 @@
 use crate::comparing::assert_same;
 use crate::every_glyph::{ADVANCE, EVERY_GLYPH};
 use crate::texts::{TEXTS, Text};
-use shape_buffer::buffer::{Direction, GlyphBuffer, Script, UnicodeBuffer, hb_tag_t};
+use shape_buffer::buffer::{
+    Direction, GlyphBuffer, GlyphPosition, Script, UnicodeBuffer, hb_glyph_info_t, hb_tag_t,
+};
 use shape_buffer::interfaces::{NoLookups, hb_unicode_funcs_t, hb_unicode_general_category_t};
 use shape_pipeline::ot_shape_plan::hb_ot_shape_plan_t;
 use shape_pipeline::ot_shaper::{DEFAULT_SHAPER, hb_default_shaper_t};
@@ -17,14 +19,20 @@ use test_worlds::TestFace;
 /// A plan of the default shaper.
 type Plan<'a> = hb_ot_shape_plan_t<'a, hb_default_shaper_t, (), ()>;
 
-/// A text whose script and direction are guessed.
-fn guessed(alloc: Global, text: &Text) -> Result<UnicodeBuffer, Fail> {
-    let mut buffer = UnicodeBuffer::new(alloc);
+/// Appends characters, with clusters that are byte offsets.
+fn fill(buffer: &mut UnicodeBuffer, text: &str) -> Result<(), Fail> {
     let mut offset: u32 = 0;
-    for c in text.typed.chars() {
+    for c in text.chars() {
         buffer.add(c, offset)?;
         offset = offset.saturating_add(c.len_utf8() as u32);
     }
+    Ok(())
+}
+
+/// A text whose script and direction are guessed.
+fn guessed(alloc: Global, text: &Text) -> Result<UnicodeBuffer, Fail> {
+    let mut buffer = UnicodeBuffer::new(alloc);
+    fill(&mut buffer, text.typed)?;
     buffer.guess_segment_properties::<UnicodeDatabase>();
     Ok(buffer)
 }
@@ -89,24 +97,26 @@ fn in_order(alloc: Global, text: &Text, direction: Direction) -> Result<Vec<(cha
     Ok(glyphs)
 }
 
-/// Compares glyphs, clusters and advances. Clusters are those of graphemes, and nothing went from one to
-/// another, so that no glyph has a flag.
+/// What is compared of a glyph: its number, cluster and mask, and its advances.
+type Seen = (u32, u32, u32, i32, i32);
+
+fn seen(info: &hb_glyph_info_t, position: &GlyphPosition) -> Seen {
+    let (across, along) = (position.x_advance, position.y_advance);
+    (info.glyph_id, info.cluster, info.mask, across, along)
+}
+
+/// The glyph of a character. Clusters are those of graphemes, and nothing went from one to another, so that no
+/// glyph has a flag.
+fn wanted(c: char, cluster: u32) -> Seen {
+    (u32::from(c), cluster, 0, width(c), 0)
+}
+
+/// Compares glyphs, clusters and advances.
 fn assert_glyphs(rt: &impl Abort, glyphs: &GlyphBuffer, want: &[(char, u32)], name: &str) {
     assert_same(rt, (name, glyphs.len()), (name, want.len()));
-    for (info, (c, cluster)) in glyphs.glyph_infos().iter().zip(want) {
-        assert_same(
-            rt,
-            (name, (info.glyph_id, info.cluster)),
-            (name, (u32::from(*c), *cluster)),
-        );
-        assert_same(rt, (name, info.mask), (name, 0));
-    }
-    for (position, (c, _)) in glyphs.glyph_positions().iter().zip(want) {
-        assert_same(
-            rt,
-            (name, (position.x_advance, position.y_advance)),
-            (name, (width(*c), 0)),
-        );
+    for ((info, position), (c, cluster)) in glyphs.iter().zip(want) {
+        let found = seen(info, position);
+        assert_same(rt, (name, found), (name, wanted(*c, *cluster)));
     }
 }
 
