@@ -120,10 +120,24 @@ fn planned_for_latin<'a>(alloc: Global, face: &'a RowFace<'a>) -> Result<Plan<'a
     )
 }
 
-/// A text in which nothing is set.
-fn text_of(alloc: Global, text: &str) -> Result<UnicodeBuffer, Fail> {
+/// A Latin letter in a text in which nothing is set.
+fn one_letter(alloc: Global) -> Result<UnicodeBuffer, Fail> {
     let mut buffer = UnicodeBuffer::new(alloc);
-    buffer.push_str(text)?;
+    buffer.push_str("a")?;
+    Ok(buffer)
+}
+
+/// Two letters, one with an accent.
+fn accented(alloc: Global) -> Result<UnicodeBuffer, Fail> {
+    let mut buffer = UnicodeBuffer::new(alloc);
+    buffer.push_str("a\u{e9}")?;
+    Ok(buffer)
+}
+
+/// Two letters.
+fn two_letters(alloc: Global) -> Result<UnicodeBuffer, Fail> {
+    let mut buffer = UnicodeBuffer::new(alloc);
+    buffer.push_str("ab")?;
     Ok(buffer)
 }
 
@@ -139,7 +153,7 @@ fn fits_text(plan: &Plan<'_>, text: &UnicodeBuffer) -> bool {
 
 /// Compares whether a plan fits a Latin letter: with nothing set, and from right to left.
 fn assert_fits_letter(rt: &impl Abort, alloc: Global, plan: &Plan<'_>) -> Result<(), Fail> {
-    let mut text = text_of(alloc, "a")?;
+    let mut text = one_letter(alloc)?;
     assert_same(rt, fits_text(plan, &text), true);
     run_left(&mut text);
     assert_same(rt, fits_text(plan, &text), false);
@@ -209,7 +223,7 @@ fn two_normalised<'a>(
     plan: &Plan<'_>,
     face: &RowFace<'a>,
 ) -> Result<hb_buffer_t, Fail> {
-    let mut buffer = text_of(alloc, "a\u{e9}")?.into_inner();
+    let mut buffer = accented(alloc)?.into_inner();
     runs::normalise::<PlainUnicode, RowFace<'a>, NoLookups, hb_default_shaper_t>(
         alloc,
         plan,
@@ -244,7 +258,7 @@ fn two_in_place<'a>(
     plan: &Plan<'_>,
     face: &RowFace<'a>,
 ) -> Result<hb_buffer_t, Fail> {
-    let mut text = text_of(alloc, "ab")?;
+    let mut text = two_letters(alloc)?;
     run_left(&mut text);
     let mut buffer = text.into_inner();
     runs::shape_in_place::<PlainUnicode, RowFace<'a>, NoLookups, hb_default_shaper_t>(
