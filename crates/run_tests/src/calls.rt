@@ -1,6 +1,6 @@
 //! Calls on their happy path whose answers no clause of another test shows.
 
-use crate::comparing::{assert_same, assert_that, item_at};
+use crate::comparing::{assert_same, item_at};
 use crate::runs;
 use shape_buffer::buffer::{
     Direction, Feature, Language, ScratchFlags, Script, UnicodeBuffer, hb_buffer_t,
@@ -91,16 +91,21 @@ fn has_shaper_and_data(plan: &Plan<'_>) -> (bool, bool) {
     (plan.shaper().is_some(), plan.data().is_some())
 }
 
+/// Compares what a plan in English is for.
+fn assert_english(rt: &impl Abort, plan: &Plan<'_>) {
+    assert_same(rt, plan.direction(), Direction::LeftToRight);
+    assert_same(rt, plan.script(), latin());
+    assert_same(rt, has_shaper_and_data(plan), (true, false));
+}
+
 #[test]
 fn a_plan_fits_by_direction_and_script(rt: HostRuntime) -> Result<(), Fail> {
     let alloc = rt.alloc();
     let face = TestFace::of(&['a']);
+    assert_same(&rt, without_requests(alloc, &face), (0, true, false));
     let plan = english(alloc, &face)?;
     assert_fits(&rt, alloc, &plan);
-    assert_same(&rt, plan.direction(), Direction::LeftToRight);
-    assert_same(&rt, plan.script(), latin());
-    assert_same(&rt, has_shaper_and_data(&plan), (true, false));
-    assert_same(&rt, without_requests(alloc, &face), (0, true, false));
+    assert_english(&rt, &plan);
     Ok(())
 }
 
@@ -115,10 +120,24 @@ fn planned_for_latin<'a>(alloc: Global, face: &'a TestFace<'a>) -> Result<Plan<'
     )
 }
 
-/// A text in which nothing is set.
-fn text_of(alloc: Global, text: &str) -> Result<UnicodeBuffer, Fail> {
+/// A Latin letter in a text in which nothing is set.
+fn one_letter(alloc: Global) -> Result<UnicodeBuffer, Fail> {
     let mut buffer = UnicodeBuffer::new(alloc);
-    buffer.push_str(text)?;
+    buffer.push_str("a")?;
+    Ok(buffer)
+}
+
+/// Two letters, one with an accent.
+fn accented(alloc: Global) -> Result<UnicodeBuffer, Fail> {
+    let mut buffer = UnicodeBuffer::new(alloc);
+    buffer.push_str("a\u{e9}")?;
+    Ok(buffer)
+}
+
+/// Two letters.
+fn two_letters(alloc: Global) -> Result<UnicodeBuffer, Fail> {
+    let mut buffer = UnicodeBuffer::new(alloc);
+    buffer.push_str("ab")?;
     Ok(buffer)
 }
 
@@ -132,17 +151,22 @@ fn fits_text(plan: &Plan<'_>, text: &UnicodeBuffer) -> bool {
     plan.fits::<UnicodeDatabase>(text)
 }
 
+/// Compares whether a plan fits a Latin letter: with nothing set, and from right to left.
+fn assert_fits_letter(rt: &impl Abort, alloc: Global, plan: &Plan<'_>) -> Result<(), Fail> {
+    let mut text = one_letter(alloc)?;
+    assert_same(rt, fits_text(plan, &text), true);
+    run_left(&mut text);
+    assert_same(rt, fits_text(plan, &text), false);
+    Ok(())
+}
+
 /// A Latin letter with nothing set, as guessing has it.
 #[test]
 fn a_plan_fits_what_is_guessed(rt: HostRuntime) -> Result<(), Fail> {
     let alloc = rt.alloc();
     let face = TestFace::of(&['a']);
     let plan = planned_for_latin(alloc, &face)?;
-    let mut text = text_of(alloc, "a")?;
-    assert_that(&rt, fits_text(&plan, &text));
-    run_left(&mut text);
-    assert_same(&rt, fits_text(&plan, &text), false);
-    Ok(())
+    assert_fits_letter(&rt, alloc, &plan)
 }
 
 /// An item with the properties that functions without tables give it.
@@ -199,7 +223,7 @@ fn two_normalised<'a>(
     plan: &Plan<'_>,
     face: &TestFace<'a>,
 ) -> Result<hb_buffer_t, Fail> {
-    let mut buffer = text_of(alloc, "a\u{e9}")?.into_inner();
+    let mut buffer = accented(alloc)?.into_inner();
     runs::normalise::<PlainUnicode, TestFace<'a>, NoLookups, hb_default_shaper_t>(
         alloc,
         plan,
@@ -234,7 +258,7 @@ fn two_in_place<'a>(
     plan: &Plan<'_>,
     face: &TestFace<'a>,
 ) -> Result<hb_buffer_t, Fail> {
-    let mut text = text_of(alloc, "ab")?;
+    let mut text = two_letters(alloc)?;
     run_left(&mut text);
     let mut buffer = text.into_inner();
     runs::shape_in_place::<PlainUnicode, TestFace<'a>, NoLookups, hb_default_shaper_t>(
@@ -255,15 +279,25 @@ fn assert_list_reversed(rt: &impl Abort, buffer: &hb_buffer_t, wanted: &[(u32, u
     }
 }
 
+/// Compares two letters that are shaped from right to left, and what the run leaves of their buffer.
+fn assert_in_place<'a>(
+    rt: &impl Abort,
+    alloc: Global,
+    plan: &Plan<'_>,
+    face: &TestFace<'a>,
+) -> Result<(), Fail> {
+    let buffer = two_in_place(alloc, plan, face)?;
+    assert_same(rt, buffer.direction(), Direction::RightToLeft);
+    assert_same(rt, buffer.length_limit(), usize::MAX);
+    assert_list_reversed(rt, &buffer, &[(0x62, 1), (0x61, 0)]);
+    Ok(())
+}
+
 /// Two letters without a script, from right to left: the run reverses them, and lifts the limit.
 #[test]
 fn a_buffer_is_shaped_in_place(rt: HostRuntime) -> Result<(), Fail> {
     let alloc = rt.alloc();
     let face = TestFace::of(&['a', 'b']);
     let plan = planned_towards(alloc, &face, Direction::RightToLeft)?;
-    let buffer = two_in_place(alloc, &plan, &face)?;
-    assert_same(&rt, buffer.direction(), Direction::RightToLeft);
-    assert_same(&rt, buffer.length_limit(), usize::MAX);
-    assert_list_reversed(&rt, &buffer, &[(0x62, 1), (0x61, 0)]);
-    Ok(())
+    assert_in_place(&rt, alloc, &plan, &face)
 }

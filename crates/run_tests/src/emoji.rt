@@ -43,6 +43,19 @@ fn assert_graphemes(rt: &impl Abort, alloc: Global, items: &[(char, u32)]) -> Re
 
 const JOINER: char = '\u{200D}';
 
+const HAND: char = '\u{1F44B}';
+
+const DARK: char = '\u{1F3FF}';
+
+/// The regional indicators of D, E, F and R.
+const D: char = '\u{1F1E9}';
+
+const E: char = '\u{1F1EA}';
+
+const F: char = '\u{1F1EB}';
+
+const R: char = '\u{1F1F7}';
+
 const MAN: char = '\u{1F468}';
 
 const WOMAN: char = '\u{1F469}';
@@ -87,29 +100,27 @@ fn joined_pictographs(rt: HostRuntime) -> Result<(), Fail> {
 #[test]
 fn skin_tones_and_flags(rt: HostRuntime) -> Result<(), Fail> {
     let alloc = rt.alloc();
-    let (hand, tone) = ('\u{1F44B}', '\u{1F3FF}');
     let tones = [
-        (hand, 0),
+        (HAND, 0),
         ('\u{1F3FB}', 0),
-        (hand, 8),
+        (HAND, 8),
         ('a', 12),
-        (tone, 12),
+        (DARK, 12),
     ];
     assert_graphemes(&rt, alloc, &tones)?;
     // Germany, France, half a flag, and half a one with an accent, which pairs with nothing after it.
-    let (d, e, f, r) = ('\u{1F1E9}', '\u{1F1EA}', '\u{1F1EB}', '\u{1F1F7}');
     let flags = [
-        (d, 0),
-        (e, 0),
-        (f, 8),
-        (r, 8),
-        (d, 16),
+        (D, 0),
+        (E, 0),
+        (F, 8),
+        (R, 8),
+        (D, 16),
         ('-', 20),
-        (d, 21),
+        (D, 21),
         ('\u{301}', 21),
-        (e, 27),
-        (f, 27),
-        (r, 35),
+        (E, 27),
+        (F, 27),
+        (R, 35),
     ];
     assert_graphemes(&rt, alloc, &flags)
 }
