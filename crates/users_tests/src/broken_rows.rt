@@ -184,7 +184,7 @@ fn letters(rt: HostRuntime) -> Result<(), Fail> {
     assert_text(&rt, rt.alloc(), &WIDE, LEFT_TO_RIGHT, "ab a", &WIDTHS)
 }
 
-const TURNED: [(u32, &[Row<'_>]); 1] = [(
+const REVERSED: [(u32, &[Row<'_>]); 1] = [(
     1200,
     &[
         (2, 4, &[(2, 1), (1, 0)], (0, 2)),
@@ -195,7 +195,7 @@ const TURNED: [(u32, &[Row<'_>]); 1] = [(
 #[test]
 fn letters_to_the_left(rt: HostRuntime) -> Result<(), Fail> {
     let to_the_left = (Direction::RightToLeft, LEFT_TO_RIGHT.1);
-    assert_text(&rt, rt.alloc(), &WIDE, to_the_left, "ab a", &TURNED)
+    assert_text(&rt, rt.alloc(), &WIDE, to_the_left, "ab a", &REVERSED)
 }
 
 const LONGER_FITS: [(u32, &[Row<'_>]); 1] = [(600, &[(0, 3, &[(1, 0), (1, 1), (2, 2)], (0, 3))])];

@@ -46,8 +46,32 @@ fn assert_word(rt: &impl Abort, word: &Word, spelling: &str, glyphs: &[u32]) {
     }
 }
 
-/// The words that are kept of some spellings. Asserts that each is kept at its place, and that of a plan for Hebrew and
-/// one for Latin the second one serves it.
+/// A plan for Hebrew and one for Latin.
+fn plans_of<'a>(
+    alloc: Global,
+    face: &'a MapFace,
+    shaper: &'a Preferring<Decomposed>,
+) -> Result<[Plan<'a>; 2], Fail> {
+    let hebrew = planned(alloc, face, shaper, Direction::RightToLeft, b"Hebr")?;
+    let latin = planned(alloc, face, shaper, Direction::LeftToRight, b"Latn")?;
+    Ok([hebrew, latin])
+}
+
+/// Asserts that a spelling is kept at a place, and that the second plan serves it.
+fn assert_kept(
+    rt: &impl Abort,
+    alloc: Global,
+    face: &MapFace,
+    plans: &[Plan<'_>; 2],
+    words: &mut Vec<Word>,
+    (spelling, place): (&str, usize),
+) -> Result<(), Fail> {
+    assert_same(rt, plan_for(alloc, plans, spelling)?, Some(1));
+    assert_same(rt, kept(alloc, face, &plans[1], words, spelling)?, place);
+    Ok(())
+}
+
+/// The words that are kept of some spellings, each of which must be kept at its place.
 fn words_of(
     rt: &impl Abort,
     alloc: Global,
@@ -55,18 +79,10 @@ fn words_of(
     spellings: &[(&str, usize)],
 ) -> Result<Vec<Word>, Fail> {
     let shaper = Preferring::<Decomposed>::new();
-    let plans = [
-        planned(alloc, face, &shaper, Direction::RightToLeft, b"Hebr")?,
-        planned(alloc, face, &shaper, Direction::LeftToRight, b"Latn")?,
-    ];
+    let plans = plans_of(alloc, face, &shaper)?;
     let mut words: Vec<Word> = Vec::new(alloc);
-    for (spelling, place) in spellings {
-        assert_same(rt, plan_for(alloc, &plans, spelling)?, Some(1));
-        assert_same(
-            rt,
-            kept(alloc, face, &plans[1], &mut words, spelling)?,
-            *place,
-        );
+    for row in spellings {
+        assert_kept(rt, alloc, face, &plans, &mut words, *row)?;
     }
     Ok(words)
 }

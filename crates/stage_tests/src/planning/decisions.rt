@@ -127,6 +127,22 @@ fn expected(bits: u32, horizontal: bool, brings: Brings) -> Row {
     }
 }
 
+/// Whether a plan has glyph classes to make up, a shaper, and data of it.
+fn held<S, D>(plan: &hb_ot_shape_plan_t<'_, S, u32, D>) -> (bool, bool, bool) {
+    let (shaper, data) = (plan.shaper(), plan.data());
+    (
+        plan.fallback_glyph_classes(),
+        shaper.is_some(),
+        data.is_some(),
+    )
+}
+
+/// The same of the answers: a shaper that gives way to `morx` has no data.
+fn expected_to_hold(bits: u32, morx: bool, brings: Brings) -> (bool, bool, bool) {
+    let kept = brings.is_default || !morx;
+    (bits & GLYPH_CLASSES == 0, kept, kept && brings.makes_data)
+}
+
 const DEFAULT_BRINGS: Brings = Brings {
     is_default: true,
     needs_script_two: false,
@@ -197,11 +213,9 @@ where
         let bits = spread(i);
         let face = face_with(bits);
         let plan = planned(alloc, &face, shaper, direction)?;
-        let kept = brings.is_default || !plan.apply_morx();
-        assert_eq!(rt; decided(&plan), expected(bits, horizontal, brings));
-        assert_eq!(rt; plan.fallback_glyph_classes(), bits & GLYPH_CLASSES == 0);
-        assert_eq!(rt; plan.shaper().is_some(), kept);
-        assert_eq!(rt; plan.data().is_some(), kept && brings.makes_data);
+        let want = expected(bits, horizontal, brings);
+        assert_same(rt, decided(&plan), want);
+        assert_same(rt, held(&plan), expected_to_hold(bits, want.morx, brings));
     }
     Ok(())
 }
