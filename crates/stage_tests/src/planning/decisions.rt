@@ -128,7 +128,7 @@ fn expected(bits: u32, horizontal: bool, brings: Brings) -> Row {
 }
 
 /// Whether a plan has glyph classes to make up, a shaper, and data of it.
-fn held<S, D>(plan: &hb_ot_shape_plan_t<'_, S, u32, D>) -> (bool, bool, bool) {
+fn held<S, D>(plan: &hb_ot_shape_plan_t<'_, S, TestMap, D>) -> (bool, bool, bool) {
     let (shaper, data) = (plan.shaper(), plan.data());
     (
         plan.fallback_glyph_classes(),
