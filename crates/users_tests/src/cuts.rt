@@ -3,8 +3,10 @@
 //! What is tried: every text of two and three characters of a few alphabets, towards all four directions, at the
 //! two levels that keep clusters in order, over a face of a few glyphs, with the default shaper, the engine with
 //! ligatures, and both script shapers. A part is shaped in the direction and script of the whole.
-use crate::shaping::{Shaper, assert_that, face_of, see, shaped, text_in_places};
-use shape_pipeline::{BufferClusterLevel, Direction, GlyphBuffer, MapFace, Script, UnicodeBuffer};
+use crate::shaping::{Seen, Shaper, assert_that, face_of, see, shaped, text_in_places};
+use shape_pipeline::{
+    BufferClusterLevel, Direction, GlyphBuffer, GlyphCluster, MapFace, Script, UnicodeBuffer,
+};
 use std::alloc::Global;
 use std::process::Abort;
 use std::test::Fail;
@@ -26,15 +28,49 @@ fn put(setting: Setting, text: &mut UnicodeBuffer) {
 /// The characters shaped.
 fn shaped_part(
     alloc: Global,
-    face: &MapFace,
-    shaper: Shaper,
-    setting: Setting,
+    how: Shaping<'_>,
     characters: &[char],
     start: u32,
 ) -> Result<GlyphBuffer, Fail> {
     let mut text = text_in_places(alloc, characters, start)?;
-    put(setting, &mut text);
-    shaped(alloc, face, shaper, text)
+    put(how.setting, &mut text);
+    shaped(alloc, how.face, how.shaper, text)
+}
+
+/// What is seen of two buffers of glyphs, one after the other.
+fn seen_of_both(
+    alloc: Global,
+    first: &GlyphBuffer,
+    second: &GlyphBuffer,
+) -> Result<Vec<Seen>, Fail> {
+    let mut seen = Vec::new(alloc);
+    see(&mut seen, first, (0, first.len()), 0)?;
+    see(&mut seen, second, (0, second.len()), 0)?;
+    Ok(seen)
+}
+
+/// What is seen of the glyphs of a text.
+fn seen_of_whole(alloc: Global, whole: &GlyphBuffer) -> Result<Vec<Seen>, Fail> {
+    let mut seen = Vec::new(alloc);
+    see(&mut seen, whole, (0, whole.len()), 0)?;
+    Ok(seen)
+}
+
+/// Whether two parts look together as what was seen of the whole.
+fn look_as(
+    alloc: Global,
+    seen: &[Seen],
+    is_backward: bool,
+    front: &GlyphBuffer,
+    back: &GlyphBuffer,
+) -> Result<bool, Fail> {
+    let (first, second) = if is_backward {
+        (back, front)
+    } else {
+        (front, back)
+    };
+    let apart = seen_of_both(alloc, first, second)?;
+    Ok(seen == apart.as_slice())
 }
 
 /// Whether two parts look together as the whole does.
@@ -44,45 +80,87 @@ fn looks_same(
     front: &GlyphBuffer,
     back: &GlyphBuffer,
 ) -> Result<bool, Fail> {
-    let mut together = Vec::new(alloc);
-    see(&mut together, whole, (0, whole.len()), 0)?;
-    let mut apart = Vec::new(alloc);
-    if whole.direction().is_backward() {
-        see(&mut apart, back, (0, back.len()), 0)?;
-        see(&mut apart, front, (0, front.len()), 0)?;
-    } else {
-        see(&mut apart, front, (0, front.len()), 0)?;
-        see(&mut apart, back, (0, back.len()), 0)?;
-    }
-    Ok(together.as_slice() == apart.as_slice())
+    let seen = seen_of_whole(alloc, whole)?;
+    look_as(
+        alloc,
+        seen.as_slice(),
+        whole.direction().is_backward(),
+        front,
+        back,
+    )
 }
 
-/// How often a text may be cut. Fails if a part looks different then.
-fn cuts_of(
-    alloc: Global,
-    face: &MapFace,
+/// How the texts of a setting are shaped.
+#[derive(Clone, Copy)]
+struct Shaping<'a> {
+    face: &'a MapFace,
     shaper: Shaper,
     setting: Setting,
+}
+
+/// Whether the front of a text and the back, which begins at a place, look together as the whole does.
+fn back_looks_same(
+    alloc: Global,
+    how: Shaping<'_>,
+    whole: &GlyphBuffer,
+    front: &GlyphBuffer,
+    (back, place): (&[char], u32),
+) -> Result<bool, Fail> {
+    let back = shaped_part(alloc, how, back, place)?;
+    looks_same(alloc, whole, front, &back)
+}
+
+/// Whether a text that is cut at a place looks as it does whole.
+fn looks_same_cut(
+    alloc: Global,
+    how: Shaping<'_>,
+    whole: &GlyphBuffer,
     characters: &[char],
+    place: u32,
+) -> Result<bool, Fail> {
+    let Some((front, back)) = characters.split_at_checked(place as usize) else {
+        return Err(Fail::from("a cluster that isn't the text's"));
+    };
+    let front = shaped_part(alloc, how, front, 0)?;
+    back_looks_same(alloc, how, whole, &front, (back, place))
+}
+
+/// How many of these clusters a text may be cut before. Fails if a part looks different then.
+fn cuts_before(
+    alloc: Global,
+    how: Shaping<'_>,
+    whole: &GlyphBuffer,
+    characters: &[char],
+    clusters: &[GlyphCluster],
 ) -> Result<u32, Fail> {
-    let whole = shaped_part(alloc, face, shaper, setting, characters, 0)?;
     let mut cuts: u32 = 0;
-    for cluster in &whole.clusters(alloc)? {
-        let place = cluster.cluster;
-        if place == 0 || cluster.unsafe_to_break {
+    for cluster in clusters {
+        if cluster.cluster == 0 || cluster.unsafe_to_break {
             continue;
         }
-        let Some((front, back)) = characters.split_at_checked(place as usize) else {
-            return Err(Fail::from("a cluster that isn't the text's"));
-        };
-        let front = shaped_part(alloc, face, shaper, setting, front, 0)?;
-        let back = shaped_part(alloc, face, shaper, setting, back, place)?;
-        if !looks_same(alloc, &whole, &front, &back)? {
+        if !looks_same_cut(alloc, how, whole, characters, cluster.cluster)? {
             return Err(Fail::from("a part looks different"));
         }
         cuts = cuts.saturating_add(1);
     }
     Ok(cuts)
+}
+
+/// The same, before the clusters of a text's glyphs.
+fn cuts_of_glyphs(
+    alloc: Global,
+    how: Shaping<'_>,
+    whole: &GlyphBuffer,
+    characters: &[char],
+) -> Result<u32, Fail> {
+    let clusters = whole.clusters(alloc)?;
+    cuts_before(alloc, how, whole, characters, clusters.as_slice())
+}
+
+/// How often a text may be cut. Fails if a part looks different then.
+fn cuts_of(alloc: Global, how: Shaping<'_>, characters: &[char]) -> Result<u32, Fail> {
+    let whole = shaped_part(alloc, how, characters, 0)?;
+    cuts_of_glyphs(alloc, how, &whole, characters)
 }
 
 /// All directions, at the two levels that keep clusters in order.
@@ -136,7 +214,12 @@ fn cuts_of_text(
             level: *level,
             script,
         };
-        cuts = cuts.saturating_add(cuts_of(alloc, face, shaper, setting, text)?);
+        let how = Shaping {
+            face,
+            shaper,
+            setting,
+        };
+        cuts = cuts.saturating_add(cuts_of(alloc, how, text)?);
     }
     Ok(cuts)
 }
