@@ -14,7 +14,7 @@ pub(crate) enum GraphemeChange {
     /// It is marked unsafe to break.
     Mark,
     /// The order of its items is reversed.
-    Reversal,
+    Reverse,
 }
 
 impl GraphemeChange {
@@ -26,7 +26,7 @@ impl GraphemeChange {
     {
         match self {
             GraphemeChange::Mark => mark_unsafe(buffer, start, end),
-            GraphemeChange::Reversal => buffer.reverse_range(start, end),
+            GraphemeChange::Reverse => buffer.reverse_range(start, end),
         }
     }
 }

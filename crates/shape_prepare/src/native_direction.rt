@@ -136,5 +136,5 @@ fn reverse_within_graphemes(buffer: &mut hb_buffer_t)
     ensures reversed { Made (over_graphemes reverse_span) buffer.old buffer.new }
     ensures as_many { length buffer.old.positions ≡ length buffer.old.items }
 {
-    each_grapheme(buffer, GraphemeChange::Reversal);
+    each_grapheme(buffer, GraphemeChange::Reverse);
 }

@@ -9,7 +9,7 @@ use Rattle.shape_prepare.specs.ClustersFormed.{over_graphemes}
 use Rattle.shape_items.specs.GraphemeSpans.{is_continuation, ends}
 use Rattle.shape_prepare.specs.GraphemeWalk.{reverse_span, changed}
 use Rattle.shape_prepare.specs.declared.grapheme_walk.GraphemeChange.{GraphemeChange}
-use Rattle.shape_prepare.specs.declared.grapheme_walk.GraphemeChange.TheVariants.{Mark, Reversal}
+use Rattle.shape_prepare.specs.declared.grapheme_walk.GraphemeChange.TheVariants.{Mark, Reverse}
 use Rattle.shape_items.proofs.MergingInOrder.GraphemeWalkLemmas.{walk-spans, walk_ends, walk_goes_on, left_to_do, IsKey-continuation}
 use Rattle.shape_prepare.proofs.Spans.ReversalLemmas.{behind-reversed, length-reversed_range}
 
@@ -101,4 +101,4 @@ reversal_leaves = record {
 
 pub change_leaves : (change : GraphemeChange) → LeavesRest (changed change)
 change_leaves Mark = marking_leaves
-change_leaves Reversal = reversal_leaves
+change_leaves Reverse = reversal_leaves
