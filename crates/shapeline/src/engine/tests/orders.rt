@@ -1,88 +1,13 @@
-//! Orders of marks.
+//! Orders of marks, through the library.
 
 use super::modes::face_of;
-use super::{expect_normal, shaped_in_places};
+use super::shaped_in_places;
 use crate::engine::mode::Mode;
 use shape_buffer::buffer::GlyphBuffer;
 use shape_buffer::interfaces::MapFace;
 use std::alloc::Global;
 use std::process::Abort;
 use std::test::Fail;
-
-/// The mode that decomposes, a level that keeps graphemes apart, and a face for U+0061 and the marks that
-/// the orders below are about.
-const MARKS: &[u8] =
-    b"mode 1\nlevel 1\nglyph 61 1 600\nglyph 5BC 2 0\nglyph 5C1 3 0\nglyph 301 4 0\nglyph 323 5 0\nglyph 34F 6 0\nglyph 5E9 7 500\n";
-
-/// Runs the program on the face of these marks and each of the lines.
-fn expect_orders(rt: &impl Abort, alloc: Global, cases: &[(&[u8], &[u8])]) -> Result<(), Fail> {
-    for (lines, output) in cases {
-        expect_normal(rt, alloc, MARKS, lines, output)?;
-    }
-    Ok(())
-}
-
-#[test]
-fn ordering_merges(rt: HostRuntime) -> Result<(), Fail> {
-    expect_orders(
-        &rt,
-        rt.alloc(),
-        &[
-            (b"text 61 301 323\n", b"normal 0061@0 0323@1 0301@1\n"),
-            // Each span of a run is merged by itself.
-            (
-                b"text 61 5BC 5C1 301 323\n",
-                b"normal 0061@0 05C1@1 05BC@1 0323@5 0301@5\n",
-            ),
-            // Marks of one ccc keep their order.
-            (
-                b"text 61 301 301 323 301\n",
-                b"normal 0061@0 0323@1 0301@1 0301@1 0301@7\n",
-            ),
-            // A merge grows to the left.
-            (
-                b"dir rtl\ntext 323 61 301\n",
-                b"normal 0061@0 0323@0 0301@0\n",
-            ),
-            // At this level nothing is merged.
-            (
-                b"level 2\ntext 61 301 323\n",
-                b"normal 0061@0 0323@3 0301@1\n",
-            ),
-        ],
-    )
-}
-
-#[test]
-fn no_mark_past_first(rt: HostRuntime) -> Result<(), Fail> {
-    expect_orders(
-        &rt,
-        rt.alloc(),
-        &[(
-            b"text FB2C\ntext 5E9 5BC 5C1\n",
-            b"normal 05E9@0 05BC@0 05C1@0\nnormal 05E9@0 05C1@2 05BC@2\n",
-        )],
-    )
-}
-
-#[test]
-fn thirty_two(rt: HostRuntime) -> Result<(), Fail> {
-    expect_orders(
-        &rt,
-        rt.alloc(),
-        &[
-            // A run of 33 marks stays, and one of 32 is put in order.
-            (
-                b"text 61 301 301 301 301 301 301 301 301 301 301 301 301 301 301 301 301 301 301 301 301 301 301 301 301 301 301 301 301 301 301 301 301 323",
-                b"normal 0061@0 0301@1 0301@3 0301@5 0301@7 0301@9 0301@11 0301@13 0301@15 0301@17 0301@19 0301@21 0301@23 0301@25 0301@27 0301@29 0301@31 0301@33 0301@35 0301@37 0301@39 0301@41 0301@43 0301@45 0301@47 0301@49 0301@51 0301@53 0301@55 0301@57 0301@59 0301@61 0301@63 0323@65\n",
-            ),
-            (
-                b"text 61 301 301 301 301 301 301 301 301 301 301 301 301 301 301 301 301 301 301 301 301 301 301 301 301 301 301 301 301 301 301 301 323",
-                b"normal 0061@0 0323@1 0301@1 0301@1 0301@1 0301@1 0301@1 0301@1 0301@1 0301@1 0301@1 0301@1 0301@1 0301@1 0301@1 0301@1 0301@1 0301@1 0301@1 0301@1 0301@1 0301@1 0301@1 0301@1 0301@1 0301@1 0301@1 0301@1 0301@1 0301@1 0301@1 0301@1 0301@1\n",
-            ),
-        ],
-    )
-}
 
 /// Shapes these characters in the mode that decomposes, over a face without glyphs.
 fn glyphs_of(alloc: Global, text: &[char]) -> Result<GlyphBuffer, Fail> {
@@ -139,14 +64,6 @@ fn third_is_hidden(alloc: Global, text: &[char]) -> Result<bool, Fail> {
 
 #[test]
 fn grapheme_joiner(rt: HostRuntime) -> Result<(), Fail> {
-    expect_orders(
-        &rt,
-        rt.alloc(),
-        &[(
-            b"text 61 301 34F 323\ntext 61 323 34F 301\n",
-            b"normal 0061@0 0301@1 034F@3 0323@5\nnormal 0061@0 0323@1 034F@3 0301@5\n",
-        )],
-    )?;
     assert!(rt; third_is_hidden(rt.alloc(), &['a', '\u{301}', '\u{34f}', '\u{323}'])?);
     assert!(rt; !third_is_hidden(rt.alloc(), &['a', '\u{323}', '\u{34f}', '\u{301}'])?);
     Ok(())

@@ -1,0 +1,201 @@
+#!/usr/bin/env python3
+"""Runs the built program on the sessions of tests/sessions, and compares what it writes and its status.
+
+    tests/sessions.py [FILE ..]
+
+tests/sessions/README.md says how a session is written. If no file is named it takes all, and then runs the program
+with each of its reads failing in turn, and with each of its writes, until a run has no such call. It ends with status
+1 if something isn't as it should be, and says at which case or call.
+"""
+import os
+import re
+import subprocess
+import sys
+import tempfile
+from pathlib import Path
+
+TESTS = Path(__file__).resolve().parent
+CRATE = TESTS.parent / "crates/shapeline"
+PROGRAM = CRATE / "out/shapeline"
+
+# How long a run may take, in seconds.
+LIMIT = 60
+
+# What a backslash and a letter stand for.
+LETTERS = {"r": b"\r", "t": b"\t", "\\": b"\\"}
+
+
+class Block:
+    """A case, or what a section says of all its cases."""
+
+    def __init__(self, number, title, section=None):
+        self.number, self.title = number, title
+        self.given = section.given if section else b""
+        self.wanted = section.wanted if section else b""
+        self.status = section.status if section else 0
+        self.left_out = section.left_out if section else []
+
+
+def line_of(text):
+    """The bytes that the text of a line stands for, with a line feed at their end unless a backslash ends the text."""
+    data, end = b"", b"\n"
+    for escape, other in re.findall(r"(\\x[0-9A-F]{2}|\\[rt\\]|\\$)|(.)", text):
+        if other == "\\":
+            raise ValueError("a backslash begins no escape")
+        if other:
+            data += other.encode()
+        elif escape == "\\":
+            end = b""
+        elif escape[1] == "x":
+            data += bytes.fromhex(escape[2:])
+        else:
+            data += LETTERS[escape[1]]
+    return data + end
+
+
+def read_line(block, text):
+    """Reads a line of a block, and refuses one that begins as none does."""
+    mark, _, rest = text.partition(" ")
+    if mark == "<":
+        block.given += line_of(rest)
+    elif mark == ">":
+        block.wanted += line_of(rest)
+    elif mark == "status":
+        block.status = int(rest)
+    elif mark == "without":
+        block.left_out = rest.split()
+    elif mark != "#":
+        raise ValueError(f"no line of a block begins so: {text}")
+
+
+def cases_of(file):
+    """The cases of a file, each with what its section says."""
+    cases, section, number = [], Block(0, ""), 1
+    for lines in (text.split("\n") for text in file.read_text().strip("\n").split("\n\n")):
+        titled = lines[0].startswith("= ")
+        if titled:
+            section = block = Block(number, lines[0][2:])
+        else:
+            block = Block(number, section.title, section)
+            if not all(line.startswith("#") for line in lines):
+                cases.append(block)
+        for place, line in enumerate(lines):
+            try:
+                if place or not titled:
+                    read_line(block, line)
+            except ValueError as fault:
+                sys.exit(f"{file}:{number + place}: {fault}")
+        number += len(lines) + 1
+    return cases
+
+
+def run(given):
+    """What a run on this input writes, and its status: that of a signal is negative, and a run that goes on has none."""
+    try:
+        ended = subprocess.run([PROGRAM], input=given, stdout=subprocess.PIPE, timeout=LIMIT, check=False)
+    except subprocess.TimeoutExpired as late:
+        return late.stdout or b"", None
+    return ended.stdout, ended.returncode
+
+
+def shown(data):
+    """Some bytes, a line for each of theirs."""
+    return "".join(f"    {line!r}\n" for line in data.splitlines(keepends=True)) or "    nothing\n"
+
+
+def compared(written, left_out):
+    """What is written, except for the lines that begin with these words."""
+    begins = tuple(word.encode() for word in left_out)
+    return b"".join(line for line in re.findall(rb"[^\n]*\n|[^\n]+$", written) if not line.startswith(begins))
+
+
+def fault_of(case):
+    """How a run of a case isn't as it should be, or nothing."""
+    written, status = run(case.given)
+    found = compared(written, case.left_out) if case.left_out else written
+    if found != case.wanted:
+        return f"it should write\n{shown(case.wanted)}  and writes\n{shown(found)}"
+    if status != case.status:
+        return f"it should end with status {case.status}, and ends with {status}\n"
+    return ""
+
+
+def run_sessions(files):
+    """Runs all cases, and says which aren't as they should be. Gives whether all are."""
+    count, bad = 0, 0
+    for file in files:
+        for case in cases_of(file):
+            count += 1
+            fault = fault_of(case)
+            if fault:
+                bad += 1
+                print(f"{file}:{case.number}: {case.title}\n  on\n{shown(case.given)}  {fault}", end="")
+    print(f"sessions: {count - bad} of {count} cases in {len(files)} files answer as they should")
+    return count > 0 and bad == 0
+
+
+# Lines that only set something: more than 8 reads take, so that some stand in two of them.
+SET = b"glyph 0041 1 600\nglyph 0302 2 0\nglyph 0301 3 0\nglyph 00C2 4 600\n" * 1100
+
+# A line of each kind that is answered, a malformed one, and what is written.
+ASKED = b"text 41\nsame 41 / 41\nlines 100 41\ntext\nword\n"
+ANSWERED = (b"prepared 0041@0\nnormal 0041@0\nglyphs 0@0(0,0,0,0)/0\nsame yes\nline 0-1 0@0\n"
+            b"prepared\nnormal\nglyphs\nerror: line 5\n")
+
+
+def run_failing(work, kind, number, given):
+    """A run in which the read or the write with this number fails, counted from 1. Gives what it writes, its status,
+    and how many such calls it makes."""
+    source, count = work / "given", work / "count"
+    source.write_bytes(given)
+    variables = {"LD_PRELOAD": work / "refuse.so", f"REFUSED_{kind}": number, f"COUNTED_{kind}S": count}
+    environment = os.environ | {name: str(value) for name, value in variables.items()}
+    with source.open("rb") as reader:
+        ended = subprocess.run([PROGRAM], stdin=reader, stdout=subprocess.PIPE, env=environment, timeout=LIMIT,
+                               check=False)
+    return ended.stdout, ended.returncode, int(count.read_text())
+
+
+def run_all_failing(work, kind, given, whole, least):
+    """Has each read or each write fail in turn, until a run has no such call. A failure ends a run with status 1:
+    that of a read says so and nothing else, after that of a write nothing more is written. Gives whether all is so, the
+    last run is whole, and at least so many calls were there to fail."""
+    for number in range(1, 1000):
+        written, status, calls = run_failing(work, kind, number, given)
+        if calls < number:
+            print(f"failing calls: {number - 1} of {kind.lower()}, each answered as it should be")
+            return (written, status) == whole and number > least
+        if kind == "READ":
+            right = written == b"error: input\n"
+        else:
+            right = calls == number and whole[0].startswith(written)
+        if status != 1 or not right:
+            print(f"call {number} of {kind.lower()} fails, of {calls}: status {status}, and this is written:")
+            print(shown(written), end="")
+            return False
+    print(f"no run was without the failing call of {kind.lower()}")
+    return False
+
+
+def run_failing_calls():
+    """Has each read and each write of a session fail in turn. Gives whether all is as it should be."""
+    with tempfile.TemporaryDirectory() as folder:
+        work = Path(folder)
+        build = ["gcc", "-O1", "-Wall", "-Werror", "-shared", "-fPIC", "-o", work / "refuse.so", TESTS / "refuse.c", "-ldl"]
+        subprocess.run(build, check=True)
+        reads = run_all_failing(work, "READ", SET, (b"", 0), 8)
+        return run_all_failing(work, "WRITE", ASKED, (ANSWERED, 2), 3) and reads
+
+
+def main():
+    if not PROGRAM.exists():
+        with (CRATE / "stdin").open("rb") as reader:
+            subprocess.run(["rt", "run"], cwd=CRATE, stdin=reader, stdout=subprocess.DEVNULL, check=True)
+    named = [Path(name) for name in sys.argv[1:]]
+    sessions = run_sessions(named or sorted((TESTS / "sessions").glob("*.txt")))
+    failing = named or run_failing_calls()
+    sys.exit(0 if sessions and failing else 1)
+
+
+if __name__ == "__main__":
+    main()
