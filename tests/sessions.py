@@ -37,7 +37,7 @@ class Block:
 
 
 def line_of(text):
-    """The bytes that the text of a line stands for, with a line feed at their end unless a backslash ends the text."""
+    """The bytes that a line stands for, with a line feed at their end unless a backslash ends it."""
     data, end = b"", b"\n"
     for escape, other in re.findall(r"(\\x[0-9A-F]{2}|\\[rt\\]|\\$)|(.)", text):
         if other == "\\":
@@ -68,29 +68,45 @@ def read_line(block, text):
         raise ValueError(f"no line of a block begins so: {text}")
 
 
+def blocks_of(file):
+    """The blocks of a file, each as its lines with their numbers."""
+    block = []
+    for number, line in enumerate([*file.read_text().split("\n"), ""], 1):
+        if line:
+            block.append((number, line))
+        elif block:
+            yield block
+            block = []
+
+
 def cases_of(file):
-    """The cases of a file, each with what its section says."""
-    cases, section, number = [], Block(0, ""), 1
-    for lines in (text.split("\n") for text in file.read_text().strip("\n").split("\n\n")):
-        titled = lines[0].startswith("= ")
-        if titled:
-            section = block = Block(number, lines[0][2:])
-        else:
-            block = Block(number, section.title, section)
-            if not all(line.startswith("#") for line in lines):
+    """The cases of a file, each with what its section says. A section that no case follows is a case itself."""
+    cases, section, place = [], Block(0, ""), file
+    try:
+        for lines in blocks_of(file):
+            number, first = lines[0]
+            place = f"{file}:{number}"
+            if first.startswith("= "):
+                section = block = Block(number, first[2:])
+                lines = lines[1:]
+                cases.append(section)
+            elif all(line.startswith("#") for _, line in lines):
+                continue
+            else:
+                block = Block(number, section.title, section)
+                if cases[-1:] == [section]:
+                    cases.pop()
                 cases.append(block)
-        for place, line in enumerate(lines):
-            try:
-                if place or not titled:
-                    read_line(block, line)
-            except ValueError as fault:
-                sys.exit(f"{file}:{number + place}: {fault}")
-        number += len(lines) + 1
+            for number, line in lines:
+                place = f"{file}:{number}"
+                read_line(block, line)
+    except ValueError as fault:
+        sys.exit(f"{place}: {fault}")
     return cases
 
 
 def run(given):
-    """What a run on this input writes, and its status: that of a signal is negative, and a run that goes on has none."""
+    """What a run on this input writes, and its status: negative after a signal, none if the run goes on too long."""
     try:
         ended = subprocess.run([PROGRAM], input=given, stdout=subprocess.PIPE, timeout=LIMIT, check=False)
     except subprocess.TimeoutExpired as late:
@@ -158,18 +174,15 @@ def run_failing(work, kind, number, given):
 
 def run_all_failing(work, kind, given, whole, least):
     """Has each read or each write fail in turn, until a run has no such call. A failure ends a run with status 1:
-    that of a read says so and nothing else, after that of a write nothing more is written. Gives whether all is so, the
-    last run is whole, and at least so many calls were there to fail."""
+    that of a read says so and nothing else, after that of a write nothing more is written. Gives whether all is so,
+    and the last run is whole and has more than so many calls."""
     for number in range(1, 1000):
         written, status, calls = run_failing(work, kind, number, given)
-        if calls < number:
-            print(f"failing calls: {number - 1} of {kind.lower()}, each answered as it should be")
-            return (written, status) == whole and number > least
-        if kind == "READ":
-            right = written == b"error: input\n"
-        else:
-            right = calls == number and whole[0].startswith(written)
-        if status != 1 or not right:
+        if calls < number and (written, status) == whole and calls > least:
+            print(f"failing calls: {calls} of {kind.lower()}, each answered as it should be")
+            return True
+        right = written == b"error: input\n" if kind == "READ" else whole[0].startswith(written)
+        if status != 1 or calls != number or not right:
             print(f"call {number} of {kind.lower()} fails, of {calls}: status {status}, and this is written:")
             print(shown(written), end="")
             return False
@@ -181,10 +194,11 @@ def run_failing_calls():
     """Has each read and each write of a session fail in turn. Gives whether all is as it should be."""
     with tempfile.TemporaryDirectory() as folder:
         work = Path(folder)
-        build = ["gcc", "-O1", "-Wall", "-Werror", "-shared", "-fPIC", "-o", work / "refuse.so", TESTS / "refuse.c", "-ldl"]
-        subprocess.run(build, check=True)
-        reads = run_all_failing(work, "READ", SET, (b"", 0), 8)
-        return run_all_failing(work, "WRITE", ASKED, (ANSWERED, 2), 3) and reads
+        library, source = work / "refuse.so", TESTS / "refuse.c"
+        flags = ["-O1", "-Wall", "-Werror", "-shared", "-fPIC"]
+        subprocess.run(["gcc", *flags, "-o", library, source, "-ldl"], check=True)
+        reads = run_all_failing(work, "READ", SET, (b"", 0), 7)
+        return run_all_failing(work, "WRITE", ASKED, (ANSWERED, 2), 2) and reads
 
 
 def main():
