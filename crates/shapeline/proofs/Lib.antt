@@ -1,6 +1,3 @@
-mod WordLemmas
 mod WidthLemmas
 mod PairLemmas
-mod LineLemmas
-mod FlagLemmas
 mod PlanLemmas

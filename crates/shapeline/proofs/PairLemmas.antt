@@ -7,9 +7,9 @@ use Rattle.std.proofs.lemmas.List.Splits.{slice_split-cons_yes, slice_split-cons
 use Rattle.std.specs.Char.{digit_value}
 use Rattle.std.specs.List.{All, AllByRecursion, slice_split, onto_first}
 use Rattle.std.specs.Str.Parse.{AllDigits}
-use Rattle.shapeline.proofs.WordLemmas.{NoSlash, LacksSlash}
-use Rattle.shapeline.specs.Text.{IsCharacterWord, IsText, IsPair}
-use Rattle.shapeline.specs.Words.{words, is_some_text}
+use Rattle.shape_sessions.proofs.WordLemmas.{NoSlash, LacksSlash}
+use Rattle.shape_sessions.specs.Text.{IsCharacterWord, IsText, IsPair}
+use Rattle.shape_sessions.specs.Words.{words, is_some_text}
 
 digit-lacks : (c : ℕ) → digit_value c < 16 → c ≢ 47
 digit-lacks c digit same = let none : digit_value 47 < 16 = subst (λ b. digit_value b < 16) same digit in grind (arith, nat_tests, none)

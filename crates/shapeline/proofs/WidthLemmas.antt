@@ -1,7 +1,7 @@
 -- A width and a text, by the first word and the others.
 use Rattle.std.proofs.Common.{◌≡◌, ℕ, ◌≤◌, List, [], ◌∷◌, sym, subst}
 use Rattle.std.specs.Str.Parse.{IsNumeral, digits_value}
-use Rattle.shapeline.specs.Text.{IsText, IsWidthAndText}
+use Rattle.shape_sessions.specs.Text.{IsText, IsWidthAndText}
 
 pub no_width : (words : List (List ℕ)) → words ≡ [] → ¬ IsWidthAndText words
 no_width words none both = subst IsWidthAndText none both

@@ -2,23 +2,22 @@
 //!
 //! Nothing is kept of a line but what it sets, and what a line answers is written before the next one is
 //! read. The first line that can't be obeyed ends the run, with a status that says why.
-ghost use Rattle.std.specs.Prelude.{◌≡◌, ◌≤◌};
+ghost use Rattle.std.specs.Prelude.{◌≡◌, ◌≤◌, Some};
+ghost use Rattle.shape_sessions.specs.Lines.{IsLine, IsObeyed, line_words, obeyed};
+ghost use Rattle.shape_sessions.specs.Lines.{command_of_words};
+ghost use Rattle.shape_sessions.specs.State.{IsMeant, set_by};
+ghost use Rattle.shape_sessions.specs.Words.{words as words_of};
 
 mod answers;
-mod command;
 mod lines;
-mod mode;
-mod outcome;
-mod printing;
 mod same;
-mod session;
-mod settings;
-#[cfg(test)]
-mod tests;
+mod shapers;
 mod text;
 
-use crate::engine::outcome::Outcome;
-use crate::engine::session::Session;
+use shape_sessions::command::Command;
+use shape_sessions::outcome::Outcome;
+use shape_sessions::parse::Words;
+use shape_sessions::session::{Session, words_of_line};
 use std::alloc::Global;
 use std::io::{BufRead, Write};
 
@@ -49,7 +48,7 @@ pub fn run<R: BufRead + Drop, W: Write + Drop>(alloc: Global, mut reader: R, mut
             Err(_) => return input_failed(&mut writer),
         }
         number = number.saturating_add(1);
-        match session.obey(alloc, line.as_slice(), &mut writer) {
+        match obey(alloc, &mut session, line.as_slice(), &mut writer) {
             Outcome::Done => {}
             Outcome::Malformed => return malformed(number, &mut writer),
             Outcome::OutOfMemory => return input_failed(&mut writer),
@@ -74,5 +73,50 @@ fn malformed<W: Write>(number: u64, writer: &mut W) -> u8
     match writeln!(writer, "error: line {number}") {
         Ok(()) => MALFORMED,
         Err(_) => FAILED,
+    }
+}
+
+/// Does what one line says, and writes what it asks for. A malformed line changes nothing. A `glyph` line is
+/// out of memory if a growth was refused, and then changes at most the metrics of glyphs.
+fn obey<W: Write>(alloc: Global, session: &mut Session, line: &[u8], writer: &mut W) -> Outcome
+    ensures { IsObeyed (command_of_words (line_words line.now)) (IsLine line.now) session.old
+        (obeyed (line_words line.now) session.old) result session.new }
+{
+    let Some(mut words) = words_of_line(line) else {
+        return Outcome::Malformed;
+    };
+    let Some(first) = words.next() else {
+        return Outcome::Done;
+    };
+    if first.starts_with('#') {
+        return Outcome::Done;
+    }
+    match Command::from_word(first) {
+        Some(command) => execute(alloc, session, command, words, writer),
+        None => Outcome::Malformed,
+    }
+}
+
+/// Does what a command with these words says.
+fn execute<W: Write>(
+    alloc: Global,
+    session: &mut Session,
+    command: Command,
+    words: Words,
+    writer: &mut W,
+) -> Outcome
+    ensures { IsObeyed (Some command) (IsMeant command (words_of words.entry.rest.now)) session.old
+        (set_by command (words_of words.entry.rest.now) session.old) result session.new }
+{
+    match command {
+        Command::Face => session.set_face(alloc, words),
+        Command::Glyph => session.set_glyph(words),
+        Command::Mode => session.set_mode(words),
+        Command::Level => session.set_level(words),
+        Command::Dir => session.set_direction(words),
+        Command::Flags => session.set_flags(words),
+        Command::Text => text::answer(alloc, session.face(), session.manner(), words, writer),
+        Command::Same => same::answer(alloc, session.face(), session.manner(), words, writer),
+        Command::Lines => lines::answer(alloc, session.face(), session.manner(), words, writer),
     }
 }

@@ -3,8 +3,6 @@
 #![allow(non_camel_case_types)]
 
 mod engine;
-mod parse;
-mod unicode_tables;
 
 use std::io::BufReader;
 use std::process::ExitCode;

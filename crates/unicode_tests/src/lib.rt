@@ -4,6 +4,7 @@
 //! The tests here split and order a text by the functions alone, as UAX 15 says it, and compare with the
 //! rows: what is wrong in a row or in a function shows before any shaping. Then they compare with what
 //! normalising and whole runs make of the texts. Single characters are beside the database's files and HarfBuzz.
+//! The small tables of the program `shapeline` are tested here, too, and what it prints.
 #![tactic(auto)]
 
 pub mod callers;
@@ -17,6 +18,10 @@ pub mod normalising;
 pub mod normalization_rows;
 #[cfg(test)]
 mod ordering;
+#[cfg(test)]
+mod printed;
+#[cfg(test)]
+mod small_tables;
 #[cfg(test)]
 mod tests;
 pub mod texts;

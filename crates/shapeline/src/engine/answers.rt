@@ -5,9 +5,8 @@
 ghost use Rattle.std.specs.Prelude.{◌≡◌, ◌≢◌, IfOk};
 ghost use Rattle.shape_buffer.specs.Guess.{guessed};
 ghost use Rattle.shape_plan.specs.Plan.{Fits};
-ghost use Rattle.shapeline.specs.Meaning.{unicode_tables};
+ghost use Rattle.shape_sessions.specs.Meaning.{unicode_tables};
 
-use crate::unicode_tables::UnicodeTables;
 use shape_buffer::buffer::{Direction, GlyphBuffer, ShapeError, UnicodeBuffer, hb_buffer_t};
 use shape_buffer::interfaces::{MapFace, NoLookups};
 use shape_pipeline::ot_shape::{hb_ot_shape_context_t, prepare_text};
@@ -15,6 +14,7 @@ use shape_pipeline::ot_shape_normalize::{_hb_ot_shape_normalize, normalized_equa
 use shape_pipeline::ot_shape_plan::hb_ot_shape_plan_t;
 use shape_pipeline::ot_shaper::hb_ot_shaper_t;
 use shape_pipeline::shape_with_plan;
+use shape_sessions::unicode_tables::UnicodeTables;
 use std::alloc::Global;
 
 /// Sets a text's direction and script by guessing, if they aren't set.

@@ -1,21 +1,21 @@
 //! The line `lines W C ..`: shapes the characters, and prints the lines that their glyphs are cut into.
 ghost use Rattle.shape_lines.specs.CanCut.{CanCut};
-ghost use Rattle.shapeline.specs.Lines.{IsAnswered};
-ghost use Rattle.shapeline.specs.Text.{IsText, IsWidthAndText};
-ghost use Rattle.shapeline.specs.Words.{words as words_of};
+ghost use Rattle.shape_sessions.specs.Lines.{IsAnswered};
+ghost use Rattle.shape_sessions.specs.Text.{IsText, IsWidthAndText};
+ghost use Rattle.shape_sessions.specs.Words.{words as words_of};
 
 use crate::engine::answers;
-use crate::engine::mode::ShaperTask;
-use crate::engine::outcome::Outcome;
-use crate::engine::printing::append_line;
-use crate::engine::session::Manner;
+use crate::engine::shapers::{ShaperTask, with_shaper};
 use crate::engine::text::{filled, text_len, write_refusal};
-use crate::parse::{Words, natural};
-use crate::unicode_tables::UnicodeTables;
 use shape_buffer::buffer::{GlyphBuffer, ShapeError, UnicodeBuffer};
 use shape_buffer::interfaces::{MapFace, NoLookups};
 use shape_pipeline::lines::{can_cut, cut_lines};
 use shape_pipeline::ot_shaper::hb_ot_shaper_t;
+use shape_sessions::outcome::Outcome;
+use shape_sessions::parse::{Words, natural};
+use shape_sessions::printing::append_line;
+use shape_sessions::session::Manner;
+use shape_sessions::unicode_tables::UnicodeTables;
 use std::alloc::Global;
 use std::io::Write;
 
@@ -62,13 +62,16 @@ fn lines(
     requires { IsText (words_of words.rest.now) }
 {
     let text = filled(alloc, manner, words)?;
-    manner.mode.with_shaper(Cutting {
-        alloc,
-        face,
-        text,
-        text_end,
-        width,
-    })
+    with_shaper(
+        manner.mode,
+        Cutting {
+            alloc,
+            face,
+            text,
+            text_end,
+            width,
+        },
+    )
 }
 
 /// A text that is to be shaped and cut into lines of some width.

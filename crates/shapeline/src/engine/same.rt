@@ -1,18 +1,18 @@
 //! The line `same C .. / C ..`: says whether two texts have the same normalised characters.
-ghost use Rattle.shapeline.specs.Lines.{IsAnswered};
-ghost use Rattle.shapeline.specs.Text.{IsText, IsPair};
-ghost use Rattle.shapeline.specs.Words.{words as words_of};
+ghost use Rattle.shape_sessions.specs.Lines.{IsAnswered};
+ghost use Rattle.shape_sessions.specs.Text.{IsText, IsPair};
+ghost use Rattle.shape_sessions.specs.Words.{words as words_of};
 
 use crate::engine::answers;
-use crate::engine::mode::ShaperTask;
-use crate::engine::outcome::Outcome;
-use crate::engine::session::Manner;
+use crate::engine::shapers::{ShaperTask, with_shaper};
 use crate::engine::text::{filled, text_len, write_refusal};
-use crate::parse::Words;
-use crate::unicode_tables::UnicodeTables;
 use shape_buffer::buffer::{Direction, Script, ShapeError, UnicodeBuffer};
 use shape_buffer::interfaces::{MapFace, NoLookups};
 use shape_pipeline::ot_shaper::hb_ot_shaper_t;
+use shape_sessions::outcome::Outcome;
+use shape_sessions::parse::Words;
+use shape_sessions::session::Manner;
+use shape_sessions::unicode_tables::UnicodeTables;
 use std::alloc::Global;
 use std::io::Write;
 
@@ -57,7 +57,7 @@ fn are_same(
 {
     let a = in_common(alloc, manner, first)?;
     let b = in_common(alloc, manner, second)?;
-    manner.mode.with_shaper(Comparing { alloc, face, a, b })
+    with_shaper(manner.mode, Comparing { alloc, face, a, b })
 }
 
 /// A buffer with a text in the script Common, which runs from left to right if lines have left it open.

@@ -3,20 +3,20 @@ ghost use Rattle.std.specs.Prelude.{◌≡◌, [], IfOk, IsOkUnless};
 ghost use Rattle.std.specs.Option.{SomeIff};
 ghost use Rattle.shape_items.specs.Buffer.{new_buffer};
 ghost use Rattle.shape_buffer.specs.Text.{items_from};
-ghost use Rattle.shapeline.specs.Lines.{IsAnswered};
-ghost use Rattle.shapeline.specs.Text.{IsText, characters, utf8_len};
-ghost use Rattle.shapeline.specs.Words.{words as words_of};
+ghost use Rattle.shape_sessions.specs.Lines.{IsAnswered};
+ghost use Rattle.shape_sessions.specs.Text.{IsText, characters, utf8_len};
+ghost use Rattle.shape_sessions.specs.Words.{words as words_of};
 
 use crate::engine::answers;
-use crate::engine::mode::ShaperTask;
-use crate::engine::outcome::Outcome;
-use crate::engine::printing::{append_glyphs, append_items};
-use crate::engine::session::Manner;
-use crate::parse::{Words, character};
-use crate::unicode_tables::UnicodeTables;
+use crate::engine::shapers::{ShaperTask, with_shaper};
 use shape_buffer::buffer::{ShapeError, UnicodeBuffer};
 use shape_buffer::interfaces::{MapFace, NoLookups};
 use shape_pipeline::ot_shaper::hb_ot_shaper_t;
+use shape_sessions::outcome::Outcome;
+use shape_sessions::parse::{Words, character};
+use shape_sessions::printing::{append_glyphs, append_items};
+use shape_sessions::session::Manner;
+use shape_sessions::unicode_tables::UnicodeTables;
 use std::alloc::Global;
 use std::io;
 use std::io::Write;
@@ -104,12 +104,15 @@ fn lines(alloc: Global, face: &MapFace, manner: Manner, words: Words) -> Result<
 {
     let text = filled(alloc, manner, words)?;
     let again = filled(alloc, manner, words)?;
-    manner.mode.with_shaper(Answering {
-        alloc,
-        face,
-        text,
-        again,
-    })
+    with_shaper(
+        manner.mode,
+        Answering {
+            alloc,
+            face,
+            text,
+            again,
+        },
+    )
 }
 
 /// A text whose lists are asked for, under a plan of its own, and the same text again, whose glyphs are: a

@@ -2,8 +2,8 @@ use Rattle.std.proofs.Common.{◌≡◌, ◌<◌, ◌+◌, ◌^◌, ◌++◌, []
 use Rattle.std.specs.List.{AllByRecursion}
 use Rattle.shape_items.specs.Buffer.{new_buffer}
 use Rattle.shape_buffer.specs.Text.{items_from}
-use Rattle.shapeline.specs.Text.{IsCharacterWord, characters, utf8_len}
-use Rattle.shapeline.specs.Words.{words}
+use Rattle.shape_sessions.specs.Text.{IsCharacterWord, characters, utf8_len}
+use Rattle.shape_sessions.specs.Words.{words}
 use Rattle.shapeline.proofs.engine.text.filled.Given as goal
 
 abbrev pub invariant-loop-word : goal.invariant-loop-word

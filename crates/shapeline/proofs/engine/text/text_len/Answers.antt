@@ -1,6 +1,6 @@
 use Rattle.std.proofs.Common.{◌≡◌, ℕ, ◌+◌, ◌<◌, ◌^◌, List, [], ◌∷◌, arith}
 use Rattle.std.specs.List.{AllByRecursion}
-use Rattle.shapeline.specs.Text.{IsCharacterWord, IsText, utf8_len}
+use Rattle.shape_sessions.specs.Text.{IsCharacterWord, IsText, utf8_len}
 use Rattle.shapeline.proofs.engine.text.text_len.Goals as goal
 
 -- if no word is left, all were counted

@@ -1,7 +1,7 @@
 use Rattle.std.proofs.Common.{◌≡◌, ◌+◌, ◌<◌, ◌^◌}
 use Rattle.std.specs.List.{AllByRecursion}
-use Rattle.shapeline.specs.Text.{IsCharacterWord, utf8_len}
-use Rattle.shapeline.specs.Words.{words}
+use Rattle.shape_sessions.specs.Text.{IsCharacterWord, utf8_len}
+use Rattle.shape_sessions.specs.Words.{words}
 use Rattle.shapeline.proofs.engine.text.text_len.Given as goal
 
 abbrev pub invariant-loop-word : goal.invariant-loop-word

@@ -1,0 +1,4 @@
+pub mod WordLemmas
+mod LineLemmas
+mod FlagLemmas
+mod PrintingLemmas

@@ -1,9 +1,0 @@
-use Rattle.shapeline.proofs.FlagLemmas.{flags_read}
-use Rattle.shapeline.specs.Settings.{number}
-use Rattle.shapeline.specs.Words.{words}
-use Rattle.shapeline.proofs.engine.settings.flags.Goals as goal
-
-pub returns : goal.returns
-returns c =
-    flags_read c.from_bits.result c.in_ok-number.field-0 (number (words c.args.words.rest.now)) c.in_ok-number.ensures.0 c.in_ok-number.ensures.1
-    (c.from_bits.ensures.value tt) (c.from_bits.ensures.known tt)
