@@ -1,161 +1,96 @@
 //! Texts shaped and cut into lines, whose answers were worked out by hand.
-use crate::shaping::{Shaper, append, assert_same, assert_that, shaped};
-use shape_buffer::interfaces::hb_glyph_extents_t;
-use shape_pipeline::lines::{Line, can_cut, cut_lines};
-use shape_pipeline::{
-    BufferClusterLevel, Direction, GlyphBuffer, GlyphId, MapFace, Metrics, UnicodeBuffer,
+use crate::shaping::{
+    Shaper, Shaping, assert_printed, assert_that, by_graphemes, glyphs_of, lines_of, print_glyphs,
 };
+use shape_buffer::interfaces::hb_glyph_extents_t;
+use shape_pipeline::lines::can_cut;
+use shape_pipeline::{BufferClusterLevel, Direction, GlyphBuffer, GlyphId, MapFace, Metrics};
 use std::alloc::Global;
+use std::fmt::Write;
 use std::process::Abort;
-use std::test::Fail;
 
-/// A character, its glyph, and what the face says of that.
-type Known = (char, u32, i32, Option<hb_glyph_extents_t>);
-
-/// A line: its glyphs from one place in the list up to another, each by its number and its cluster,
-/// and the text that they show.
-type Row<'a> = (usize, usize, &'a [(u32, u32)], (u32, u32));
-
-/// Two letters and a space.
-const WIDE: [Known; 3] = [
-    ('a', 1, 600, None),
-    ('b', 2, 500, None),
-    (' ', 3, 250, None),
-];
+/// Two letters and a space, with their advances.
+const WIDE: (&str, &str) = ("ab ", "600, 500, 250");
 
 /// A letter that is wide, and one that goes back.
-const NARROW: [Known; 2] = [('a', 1, 600, None), ('b', 2, -700, None)];
+const NARROW: (&str, &str) = ("ab", "600, -700");
 
-/// A letter and two marks.
-const MARKED: [Known; 3] = [
-    (
-        'a',
-        1,
-        600,
-        Some(hb_glyph_extents_t {
-            x_bearing: 0,
-            y_bearing: 700,
-            width: 600,
-            height: -700,
-        }),
-    ),
-    (
-        '\u{301}',
-        2,
-        200,
-        Some(hb_glyph_extents_t {
-            x_bearing: 50,
-            y_bearing: 800,
-            width: 200,
-            height: -150,
-        }),
-    ),
-    ('\u{323}', 3, 0, None),
-];
+/// A letter and two marks, of which the first two have boxes.
+const MARKED: (&str, &str) = (
+    "a\u{301}\u{323}",
+    "600 0 700 600 -700, 200 50 800 200 -150, 0",
+);
 
-/// A face of some characters.
-fn face_of(alloc: Global, known: &[Known]) -> Result<MapFace, Fail> {
+/// What a face says of a glyph: its advance, and its box by bearings, width and height, if these follow.
+fn metrics_of(rt: &impl Abort, words: &str) -> Metrics {
+    let mut numbers = [0; 5];
+    for (number, word) in numbers.iter_mut().zip(words.split(' ')) {
+        *number = word.parse().expect(rt, "a number");
+    }
+    let [advance, x_bearing, y_bearing, width, height] = numbers;
+    let inked = hb_glyph_extents_t {
+        x_bearing,
+        y_bearing,
+        width,
+        height,
+    };
+    let extents = if height == 0 { None } else { Some(inked) };
+    Metrics { advance, extents }
+}
+
+/// A face of some characters, whose glyphs are numbered from 1, and of what it says of each of these.
+fn face_with(rt: &impl Abort, alloc: Global, (known, metrics): (&str, &str)) -> MapFace {
     let mut face = MapFace::new(alloc, 1000);
-    for (c, glyph, advance, extents) in known {
-        let metrics = Metrics {
-            advance: *advance,
-            extents: *extents,
-        };
-        face.set_glyph(*c, GlyphId(*glyph), metrics)?;
+    let mut glyph: u32 = 0;
+    for (c, words) in known.chars().zip(metrics.split(", ")) {
+        glyph = glyph.saturating_add(1);
+        face.set_glyph(c, GlyphId(glyph), metrics_of(rt, words))
+            .expect(rt, "memory");
     }
-    Ok(face)
+    face
 }
 
-/// A text that runs in a direction, at a level.
-fn text_of(
-    alloc: Global,
-    (direction, level): (Direction, BufferClusterLevel),
-    text: &str,
-) -> Result<UnicodeBuffer, Fail> {
-    let mut buffer = UnicodeBuffer::new(alloc);
-    append(&mut buffer, text)?;
-    buffer.set_direction(direction);
-    buffer.set_cluster_level(level);
-    Ok(buffer)
-}
-
-/// A text shaped with a face of some characters.
-fn shaped_with(
-    alloc: Global,
-    known: &[Known],
-    shaper: Shaper,
-    manner: (Direction, BufferClusterLevel),
-    text: &str,
-) -> Result<GlyphBuffer, Fail> {
-    let face = face_of(alloc, known)?;
-    shaped(alloc, &face, shaper, text_of(alloc, manner, text)?)
-}
-
-/// Compares the glyphs from one place in the list up to another.
-fn assert_glyphs_between(
+/// Prints the lines of a width as `0..2 1@0 2@1 shows 0..2;`: glyphs from one place in the list up to another, each
+/// with its cluster, and the text that they show.
+fn printed_lines(
     rt: &impl Abort,
     alloc: Global,
     glyphs: &GlyphBuffer,
-    (start, end): (usize, usize),
-    shown: &[(u32, u32)],
-) -> Result<(), Fail> {
-    let mut seen = Vec::new(alloc);
-    for info in glyphs.glyph_infos().iter().take(end).skip(start) {
-        seen.push((info.glyph_id, info.cluster))?;
+    text: &str,
+    width: u32,
+) -> String {
+    let mut printed = String::new(alloc);
+    for line in &lines_of(rt, alloc, glyphs, text, width) {
+        write!(printed, " {}..{}", line.glyph_start, line.glyph_end).expect(rt, "memory");
+        print_glyphs(rt, &mut printed, glyphs, line.glyph_start, line.glyph_end);
+        write!(printed, " shows {}..{};", line.text_start, line.text_end).expect(rt, "memory");
     }
-    assert_that(rt, seen.as_slice() == shown);
-    Ok(())
+    printed
 }
 
-/// Compares a line.
-fn assert_line(
-    rt: &impl Abort,
-    alloc: Global,
-    glyphs: &GlyphBuffer,
-    line: Line,
-    (start, end, shown, text): Row<'_>,
-) -> Result<(), Fail> {
-    assert_same(rt, (line.glyph_start, line.glyph_end), (start, end));
-    assert_same(rt, (line.text_start, line.text_end), text);
-    assert_glyphs_between(rt, alloc, glyphs, (start, end), shown)
-}
-
-/// Compares the lines of a text whose length in bytes is `text_end`.
+/// Compares the lines of a text. A row is `WIDTH -> LINES`, as `printed_lines` prints them.
 fn assert_lines(
     rt: &impl Abort,
     alloc: Global,
-    glyphs: &GlyphBuffer,
-    (text_end, width): (u32, u32),
-    rows: &[Row<'_>],
-) -> Result<(), Fail> {
-    if !can_cut(glyphs, text_end) {
-        return Err(Fail::from("uncut"));
-    }
-    let lines = cut_lines(alloc, glyphs, text_end, width)?;
-    assert_same(rt, lines.len(), rows.len());
-    for (line, row) in lines.iter().zip(rows.iter()) {
-        assert_line(rt, alloc, glyphs, *line, *row)?;
-    }
-    Ok(())
-}
-
-/// Compares the lines of a text shaped with a face of some characters, for some widths.
-fn assert_text(
-    rt: &impl Abort,
-    alloc: Global,
-    known: &[Known],
-    manner: (Direction, BufferClusterLevel),
+    known: (&str, &str),
+    (direction, level): (Direction, BufferClusterLevel),
     text: &str,
-    widths: &[(u32, &[Row<'_>])],
-) -> Result<(), Fail> {
-    if 1000 < text.len() {
-        return Err(Fail::from("long"));
+    rows: &str,
+) {
+    let face = face_with(rt, alloc, known);
+    let how = Shaping {
+        direction,
+        level,
+        ..by_graphemes(&face, Shaper::Default)
+    };
+    let glyphs = glyphs_of(rt, alloc, how, text);
+    for row in rows.lines() {
+        let (width, wanted) = row.trim().split_once(" ->").expect(rt, "a row");
+        let width = width.parse().expect(rt, "a width");
+        let found = printed_lines(rt, alloc, &glyphs, text, width);
+        assert_printed(rt, found.as_str(), wanted);
     }
-    let glyphs = shaped_with(alloc, known, Shaper::Default, manner, text)?;
-    for (width, rows) in widths {
-        assert_lines(rt, alloc, &glyphs, (text.len() as u32, *width), rows)?;
-    }
-    Ok(())
+    assert_that(rt, !rows.is_empty());
 }
 
 const LEFT_TO_RIGHT: (Direction, BufferClusterLevel) = (
@@ -163,46 +98,26 @@ const LEFT_TO_RIGHT: (Direction, BufferClusterLevel) = (
     BufferClusterLevel::MonotoneGraphemes,
 );
 
-/// Lines of two letters each.
-const HALVES: [Row<'_>; 2] = [
-    (0, 2, &[(1, 0), (2, 1)], (0, 2)),
-    (2, 4, &[(3, 2), (1, 3)], (2, 4)),
-];
-
-/// None fits.
-const SINGLE: [Row<'_>; 4] = [
-    (0, 1, &[(1, 0)], (0, 1)),
-    (1, 2, &[(2, 1)], (1, 2)),
-    (2, 3, &[(3, 2)], (2, 3)),
-    (3, 4, &[(1, 3)], (3, 4)),
-];
-
-const WIDTHS: [(u32, &[Row<'_>]); 2] = [(1200, &HALVES), (100, &SINGLE)];
-
+/// Lines of two letters each, and lines of which none fits.
 #[test]
-fn letters(rt: HostRuntime) -> Result<(), Fail> {
-    assert_text(&rt, rt.alloc(), &WIDE, LEFT_TO_RIGHT, "ab a", &WIDTHS)
+fn letters(rt: HostRuntime) {
+    let rows = "1200 -> 0..2 1@0 2@1 shows 0..2; 2..4 3@2 1@3 shows 2..4;
+        100 -> 0..1 1@0 shows 0..1; 1..2 2@1 shows 1..2; 2..3 3@2 shows 2..3; 3..4 1@3 shows 3..4;";
+    assert_lines(&rt, rt.alloc(), WIDE, LEFT_TO_RIGHT, "ab a", rows);
 }
 
-const REVERSED: [(u32, &[Row<'_>]); 1] = [(
-    1200,
-    &[
-        (2, 4, &[(2, 1), (1, 0)], (0, 2)),
-        (0, 2, &[(1, 3), (3, 2)], (2, 4)),
-    ],
-)];
-
 #[test]
-fn letters_to_the_left(rt: HostRuntime) -> Result<(), Fail> {
+fn letters_to_the_left(rt: HostRuntime) {
+    let row = "1200 -> 2..4 2@1 1@0 shows 0..2; 0..2 1@3 3@2 shows 2..4;";
     let to_the_left = (Direction::RightToLeft, LEFT_TO_RIGHT.1);
-    assert_text(&rt, rt.alloc(), &WIDE, to_the_left, "ab a", &REVERSED)
+    assert_lines(&rt, rt.alloc(), WIDE, to_the_left, "ab a", row);
 }
 
-const LONGER_FITS: [(u32, &[Row<'_>]); 1] = [(600, &[(0, 3, &[(1, 0), (1, 1), (2, 2)], (0, 3))])];
-
+/// What is longer fits.
 #[test]
-fn wide_then_narrow(rt: HostRuntime) -> Result<(), Fail> {
-    assert_text(&rt, rt.alloc(), &NARROW, LEFT_TO_RIGHT, "aab", &LONGER_FITS)
+fn wide_then_narrow(rt: HostRuntime) {
+    let row = "600 -> 0..3 1@0 1@1 2@2 shows 0..3;";
+    assert_lines(&rt, rt.alloc(), NARROW, LEFT_TO_RIGHT, "aab", row);
 }
 
 const BY_CHARACTER: (Direction, BufferClusterLevel) = (
@@ -210,31 +125,27 @@ const BY_CHARACTER: (Direction, BufferClusterLevel) = (
     BufferClusterLevel::MonotoneCharacters,
 );
 
-const ACCENTED: [(u32, &[Row<'_>]); 1] = [(100, &[(0, 2, &[(1, 0), (2, 1)], (0, 3))])];
-
 #[test]
-fn letters_with_marks(rt: HostRuntime) -> Result<(), Fail> {
-    assert_text(
-        &rt,
-        rt.alloc(),
-        &MARKED,
-        BY_CHARACTER,
-        "a\u{301}",
-        &ACCENTED,
-    )
+fn letters_with_marks(rt: HostRuntime) {
+    let row = "100 -> 0..2 1@0 2@1 shows 0..3;";
+    assert_lines(&rt, rt.alloc(), MARKED, BY_CHARACTER, "a\u{301}", row);
 }
 
-/// The number of glyphs of a letter with two marks, whose clusters are kept apart, and whether they can be cut.
-fn marks_kept_apart(alloc: Global) -> Result<(usize, bool), Fail> {
-    let manner = (Direction::LeftToRight, BufferClusterLevel::Characters);
-    let text = "a\u{301}\u{323}";
-    let glyphs = shaped_with(alloc, &MARKED, Shaper::Decomposed, manner, text)?;
-    Ok((glyphs.len(), can_cut(&glyphs, 5)))
+/// Compares the number of glyphs of a letter with two marks, whose clusters are kept apart. They can't be cut.
+fn assert_marks_kept_apart(rt: &impl Abort, alloc: Global) {
+    let face = face_with(rt, alloc, MARKED);
+    let how = Shaping {
+        direction: Direction::LeftToRight,
+        level: BufferClusterLevel::Characters,
+        ..by_graphemes(&face, Shaper::Decomposed)
+    };
+    let glyphs = glyphs_of(rt, alloc, how, "a\u{301}\u{323}");
+    assert_that(rt, glyphs.len() == 3);
+    assert_that(rt, !can_cut(&glyphs, 5));
 }
 
+/// Their clusters are not in order then.
 #[test]
-fn marks_that_were_put_in_order(rt: HostRuntime) -> Result<(), Fail> {
-    // their clusters are not in order then
-    assert_same(&rt, marks_kept_apart(rt.alloc())?, (3, false));
-    Ok(())
+fn marks_that_were_put_in_order(rt: HostRuntime) {
+    assert_marks_kept_apart(&rt, rt.alloc());
 }
