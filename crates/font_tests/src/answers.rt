@@ -1,4 +1,5 @@
 use crate::comparing::{assert_same, assert_that};
+use crate::rows::{Asked, assert_rows, glyph, parts_of};
 use crate::support::{face_over, font_bytes};
 use shape_buffer::{GlyphId, hb_font_t, hb_glyph_extents_t};
 use shape_font::FontFace;
@@ -13,37 +14,25 @@ fn character(rt: &impl Abort, word: &str) -> char {
 }
 
 /// The glyph of a number, or none where it says `none`.
-fn glyph_of(rt: &impl Abort, word: &str) -> Option<GlyphId> {
-    match word {
-        "none" => None,
-        _ => Some(GlyphId(word.parse().expect(rt, "a glyph"))),
+fn glyph_or_none(rt: &impl Abort, word: &str) -> Option<GlyphId> {
+    if word == "none" {
+        return None;
     }
+    Some(glyph(rt, word))
 }
 
-/// Compares the glyphs of characters. A row is `CHARACTER -> GLYPH`.
-fn assert_glyphs(rt: &impl Abort, alloc: Global, rows: &str) {
-    let bytes = font_bytes(rt, alloc);
-    let face = face_over(rt, &bytes);
-    for row in rows.lines() {
-        let (word, wanted) = row.trim().split_once(" -> ").expect(rt, "a row");
-        let (c, glyph) = (character(rt, word), glyph_of(rt, wanted));
-        assert_that(rt, face.get_nominal_glyph(c) == glyph);
-        assert_that(rt, face.has_glyph(c) == glyph.is_some());
-    }
-    assert_that(rt, !rows.is_empty());
+/// Compares the glyph of a character: `41 -> 2`.
+pub fn assert_nominal(rt: &impl Abort, face: &FontFace<'_>, c: &str, wanted: &str) {
+    let (c, wanted) = (character(rt, c), glyph_or_none(rt, wanted));
+    assert_that(rt, face.get_nominal_glyph(c) == wanted);
+    assert_that(rt, face.has_glyph(c) == wanted.is_some());
 }
 
-/// Compares the glyphs of characters with variation selectors. A row is `CHARACTER SELECTOR -> GLYPH`.
-fn assert_variants(rt: &impl Abort, alloc: Global, rows: &str) {
-    let bytes = font_bytes(rt, alloc);
-    let face = face_over(rt, &bytes);
-    for row in rows.lines() {
-        let (words, wanted) = row.trim().split_once(" -> ").expect(rt, "a row");
-        let (c, selector) = words.split_once(' ').expect(rt, "a variant");
-        let found = face.glyph_variation_index(character(rt, c), character(rt, selector));
-        assert_that(rt, found == glyph_of(rt, wanted));
-    }
-    assert_that(rt, !rows.is_empty());
+/// Compares the glyph of a character with a variation selector: `41 FE00 -> 2`.
+pub fn assert_variant(rt: &impl Abort, face: &FontFace<'_>, case: &str, wanted: &str) {
+    let (c, selector) = parts_of(rt, case, " ");
+    let found = face.glyph_variation_index(character(rt, c), character(rt, selector));
+    assert_that(rt, found == glyph_or_none(rt, wanted));
 }
 
 #[test]
@@ -60,12 +49,12 @@ fn characters(rt: HostRuntime) {
         FFFF -> none
         1F601 -> none
         10041 -> none";
-    assert_glyphs(&rt, rt.alloc(), rows);
+    assert_rows(&rt, rt.alloc(), Asked::Nominal, rows);
     let rows = "41 FE00 -> 2
         41 FE01 -> 6
         42 FE00 -> none
         41 FE02 -> none";
-    assert_variants(&rt, rt.alloc(), rows);
+    assert_rows(&rt, rt.alloc(), Asked::Variant, rows);
 }
 
 /// Compares a name, or none where it says `none`.
@@ -76,16 +65,9 @@ fn assert_name(rt: &impl Abort, name: Option<&[u8]>, wanted: &str) {
     }
 }
 
-/// Compares the names of glyphs. A row is `GLYPH -> NAME`.
-fn assert_names(rt: &impl Abort, alloc: Global, rows: &str) {
-    let bytes = font_bytes(rt, alloc);
-    let face = face_over(rt, &bytes);
-    for row in rows.lines() {
-        let (glyph, wanted) = row.trim().split_once(" -> ").expect(rt, "a row");
-        let glyph = glyph.parse().expect(rt, "a glyph");
-        assert_name(rt, face.glyph_name(GlyphId(glyph)), wanted);
-    }
-    assert_that(rt, !rows.is_empty());
+/// Compares the name of a glyph: `0 -> .notdef`.
+pub fn assert_name_of(rt: &impl Abort, face: &FontFace<'_>, case: &str, wanted: &str) {
+    assert_name(rt, face.glyph_name(glyph(rt, case)), wanted);
 }
 
 #[test]
@@ -93,17 +75,12 @@ fn names(rt: HostRuntime) {
     let rows = "0 -> .notdef
         6 -> grinning
         7 -> none";
-    assert_names(&rt, rt.alloc(), rows);
+    assert_rows(&rt, rt.alloc(), Asked::Name, rows);
 }
 
-/// Compares names that a table of format 1 leaves out. A row is `GLYPH -> NAME`.
-fn assert_left_out(rt: &impl Abort, rows: &str) {
-    for row in rows.lines() {
-        let (glyph, wanted) = row.trim().split_once(" -> ").expect(rt, "a row");
-        let glyph = glyph.parse().expect(rt, "a glyph");
-        assert_name(rt, glyph_name(&[0, 1, 0, 0], glyph), wanted);
-    }
-    assert_that(rt, !rows.is_empty());
+/// Compares a name that a table of format 1 leaves out: `3 -> space`.
+pub fn assert_left_out(rt: &impl Abort, case: &str, wanted: &str) {
+    assert_name(rt, glyph_name(&[0, 1, 0, 0], glyph(rt, case).0), wanted);
 }
 
 #[test]
@@ -112,45 +89,38 @@ fn names_that_a_table_leaves_out(rt: HostRuntime) {
         3 -> space
         257 -> dcroat
         258 -> none";
-    assert_left_out(&rt, rows);
+    assert_rows(&rt, rt.alloc(), Asked::LeftOut, rows);
 }
 
-/// The six numbers of a row.
-fn numbers_of(rt: &impl Abort, words: &str) -> [i32; 6] {
-    let mut numbers = [0; 6];
-    for (number, word) in numbers.iter_mut().zip(words.split(' ')) {
-        *number = word.parse().expect(rt, "a number");
+/// A number.
+fn number(rt: &impl Abort, word: &str) -> i32 {
+    word.parse().expect(rt, "a number")
+}
+
+/// The box of two corners: `50,0..450,700`.
+fn box_of(rt: &impl Abort, words: &str) -> hb_glyph_extents_t {
+    let (first, last) = parts_of(rt, words, "..");
+    let (left, low) = parts_of(rt, first, ",");
+    let (right, high) = parts_of(rt, last, ",");
+    let (x_bearing, y_bearing) = (number(rt, left), number(rt, high));
+    hb_glyph_extents_t {
+        x_bearing,
+        y_bearing,
+        width: number(rt, right).saturating_sub(x_bearing),
+        height: number(rt, low).saturating_sub(y_bearing),
     }
-    assert_that(rt, words.split(' ').count() == numbers.len());
-    numbers
 }
 
-/// Compares the advance, the box and the origin of a glyph: half of the advance, and so far down.
-fn assert_glyph(rt: &impl Abort, face: &FontFace<'_>, glyph: u32, numbers: [i32; 6]) {
-    let [advance, left, low, right, high, origin] = numbers;
-    let inked = hb_glyph_extents_t {
-        x_bearing: left,
-        y_bearing: high,
-        width: right.saturating_sub(left),
-        height: low.saturating_sub(high),
-    };
-    assert_same(rt, face.glyph_h_advance(GlyphId(glyph)), advance);
-    assert_that(rt, face.glyph_extents(GlyphId(glyph)) == Some(inked));
-    assert_same(rt, face.glyph_h_origin(GlyphId(glyph)), advance / 2);
-    assert_same(rt, face.glyph_v_origin(GlyphId(glyph)), origin);
-}
-
-/// Compares what the font says of glyphs. A row is `GLYPH -> ADVANCE LEFT LOW RIGHT HIGH ORIGIN`, where the box of a
-/// glyph stands by two corners.
-fn assert_metrics(rt: &impl Abort, alloc: Global, rows: &str) {
-    let bytes = font_bytes(rt, alloc);
-    let face = face_over(rt, &bytes);
-    for row in rows.lines() {
-        let (glyph, words) = row.trim().split_once(" -> ").expect(rt, "a row");
-        let glyph = glyph.parse().expect(rt, "a glyph");
-        assert_glyph(rt, &face, glyph, numbers_of(rt, words));
-    }
-    assert_that(rt, !rows.is_empty());
+/// Compares the advance, the box and the origin of a glyph: half of the advance, and so far down. The case is
+/// `4 -> 300 1300 100,750..200,850`, where the box stands last.
+pub fn assert_metrics(rt: &impl Abort, face: &FontFace<'_>, case: &str, wanted: &str) {
+    let (advance, rest) = parts_of(rt, wanted, " ");
+    let (origin, inked) = parts_of(rt, rest, " ");
+    let (glyph, advance) = (glyph(rt, case), number(rt, advance));
+    assert_same(rt, face.glyph_h_advance(glyph), advance);
+    assert_that(rt, face.glyph_extents(glyph) == Some(box_of(rt, inked)));
+    assert_same(rt, face.glyph_h_origin(glyph), advance / 2);
+    assert_same(rt, face.glyph_v_origin(glyph), number(rt, origin));
 }
 
 /// Compares what is said of the face, and of a glyph that it lacks.
@@ -169,12 +139,12 @@ fn assert_face(rt: &impl Abort, alloc: Global) {
 /// A line is 1000 high: a box stands in its middle.
 #[test]
 fn metrics(rt: HostRuntime) {
-    let rows = "0 -> 500 50 0 450 700 850
-        1 -> 250 0 0 0 0 500
-        4 -> 300 100 750 200 850 1300
-        5 -> 610 20 0 600 900 950
-        6 -> 610 -30 -200 970 800 800";
-    assert_metrics(&rt, rt.alloc(), rows);
+    let rows = "0 -> 500 850 50,0..450,700
+        1 -> 250 500 0,0..0,0
+        4 -> 300 1300 100,750..200,850
+        5 -> 610 950 20,0..600,900
+        6 -> 610 800 -30,-200..970,800";
+    assert_rows(&rt, rt.alloc(), Asked::Metrics, rows);
     assert_face(&rt, rt.alloc());
 }
 

@@ -1,9 +1,8 @@
 //! Broken fonts: each shapes, with glyphs that the file has.
 use crate::comparing::assert_that;
-use crate::support::font_bytes;
+use crate::support::{font_bytes, shaped_by};
 use shape_font::FontFace;
-use shape_pipeline::{DEFAULT_SHAPER, NoLookups, UnicodeBuffer, shape};
-use shape_unicode::UnicodeDatabase;
+use shape_pipeline::{DEFAULT_SHAPER, NoLookups, UnicodeBuffer};
 use std::alloc::Global;
 use std::process::Abort;
 
@@ -14,13 +13,9 @@ const TEXT: &str = "A\u{301}B \u{1F600}x";
 fn assert_shapes(rt: &impl Abort, alloc: Global, face: &FontFace<'_>) {
     let mut text = UnicodeBuffer::new(alloc);
     text.push_str(TEXT).expect(rt, "memory");
-    let glyphs = shape::<UnicodeDatabase, FontFace, NoLookups, _>(
-        alloc,
-        face,
-        &DEFAULT_SHAPER,
-        &[],
-        text,
-    ).expect(rt, "glyphs");
+    let glyphs = shaped_by::<_, NoLookups, _>(alloc, face, &DEFAULT_SHAPER, &[], text).expect(
+        rt, "glyphs",
+    );
     let count = u32::from(face.glyph_count());
     for info in glyphs.glyph_infos() {
         assert_that(rt, info.glyph_id == 0 || info.glyph_id < count);

@@ -4,10 +4,31 @@
 //! two levels that keep clusters in order, over a face of a few glyphs, with the default shaper, the engine with
 //! ligatures, and both script shapers. A part is shaped in the direction and script of the whole.
 use crate::seen::assert_looks_alike;
-use crate::shaping::{IN_ORDER, Shaper, Shaping, assert_that, by_graphemes, face_of, glyphs_of};
+use crate::shaping::{
+    IN_ORDER, Shaper, Shaping, assert_that, by_graphemes, face_of, glyphs_of, split_at, towards,
+};
 use shape_pipeline::{Direction, GlyphBuffer, Script};
 use std::alloc::Global;
 use std::process::Abort;
+
+/// The number of glyphs of a part of a text, the first cluster of which is at `start`. They must look as the first or
+/// the last glyphs of the whole.
+fn part_len(
+    rt: &impl Abort,
+    alloc: Global,
+    how: Shaping<'_>,
+    whole: &GlyphBuffer,
+    (part, start): (&str, u32),
+    is_first: bool,
+) -> usize {
+    let part = glyphs_of(rt, alloc, how, part);
+    let from = match is_first {
+        true => 0,
+        false => whole.len().saturating_sub(part.len()),
+    };
+    assert_looks_alike(rt, whole, from, &part, start);
+    part.len()
+}
 
 /// Asserts that the parts of a text that is cut at a place look together as the whole does.
 fn assert_parts(
@@ -18,16 +39,11 @@ fn assert_parts(
     text: &str,
     place: u32,
 ) {
-    let (front, back) = text.split_at_checked(place as usize).expect(rt, "a place");
-    let front = glyphs_of(rt, alloc, how, front);
-    let back = glyphs_of(rt, alloc, how, back);
-    if how.direction.is_backward() {
-        assert_looks_alike(rt, whole, (0, back.len()), &back, place);
-        assert_looks_alike(rt, whole, (back.len(), whole.len()), &front, 0);
-    } else {
-        assert_looks_alike(rt, whole, (0, front.len()), &front, 0);
-        assert_looks_alike(rt, whole, (front.len(), whole.len()), &back, place);
-    }
+    let (front, back) = split_at(rt, text, place);
+    let is_forward = !how.direction.is_backward();
+    let front = part_len(rt, alloc, how, whole, (front, 0), is_forward);
+    let back = part_len(rt, alloc, how, whole, (back, place), !is_forward);
+    assert_that(rt, front.saturating_add(back) == whole.len());
 }
 
 /// How often a text may be cut. The parts must look as the whole does, wherever it is.
@@ -55,33 +71,32 @@ fn cuts_of_text(rt: &impl Abort, alloc: Global, how: Shaping<'_>, text: &str) ->
     let mut cuts: u32 = 0;
     for direction in DIRECTIONS {
         for level in IN_ORDER {
-            let how = Shaping {
-                direction,
-                level,
-                ..how
-            };
+            let how = towards(how, direction, level);
             cuts = cuts.saturating_add(cuts_of(rt, alloc, how, text));
         }
     }
     cuts
 }
 
-/// How often texts may be cut that have one or two characters of an alphabet after a beginning.
-fn cuts_after(
-    rt: &impl Abort,
-    alloc: Global,
-    how: Shaping<'_>,
-    first: char,
-    alphabet: &str,
-) -> u32 {
+/// How often the texts may be cut that have one character of an alphabet after a beginning.
+fn cuts_after(rt: &impl Abort, alloc: Global, how: Shaping<'_>, text: &str, alphabet: &str) -> u32 {
     let mut cuts: u32 = 0;
+    for c in alphabet.chars() {
+        let longer = format!(in alloc; "{text}{c}").expect(rt, "memory");
+        cuts = cuts.saturating_add(cuts_of_text(rt, alloc, how, longer.as_str()));
+    }
+    cuts
+}
+
+/// How often the texts of two and three characters may be cut that begin with one.
+fn cuts_from(rt: &impl Abort, alloc: Global, how: Shaping<'_>, first: char, alphabet: &str) -> u32 {
+    let mut text = String::new(alloc);
+    text.push(first).expect(rt, "memory");
+    let mut cuts = cuts_after(rt, alloc, how, text.as_str(), alphabet);
     for second in alphabet.chars() {
-        let text = format!(in alloc; "{first}{second}").expect(rt, "memory");
-        cuts = cuts.saturating_add(cuts_of_text(rt, alloc, how, text.as_str()));
-        for third in alphabet.chars() {
-            let text = format!(in alloc; "{first}{second}{third}").expect(rt, "memory");
-            cuts = cuts.saturating_add(cuts_of_text(rt, alloc, how, text.as_str()));
-        }
+        text.push(second).expect(rt, "memory");
+        cuts = cuts.saturating_add(cuts_after(rt, alloc, how, text.as_str(), alphabet));
+        text.pop();
     }
     cuts
 }
@@ -96,7 +111,7 @@ fn assert_cut(rt: &impl Abort, alloc: Global, shaper: Shaper, script: Script, al
     };
     let mut cuts: u32 = 0;
     for first in alphabet.chars() {
-        cuts = cuts.saturating_add(cuts_after(rt, alloc, how, first, alphabet));
+        cuts = cuts.saturating_add(cuts_from(rt, alloc, how, first, alphabet));
     }
     assert_that(rt, 200 < cuts);
 }

@@ -1,6 +1,6 @@
 //! Places of a cut in a letter with its accent and a letter after it.
-use crate::shaping::{Shaper, Shaping, assert_that, by_graphemes, face_of, glyphs_of};
-use shape_buffer::buffer::BufferClusterLevel;
+use crate::shaping::{Shaper, assert_that, by_graphemes, face_of, glyphs_of, towards};
+use shape_buffer::buffer::{BufferClusterLevel, Direction};
 use shape_users::lines::may_cut;
 use std::alloc::Global;
 use std::process::Abort;
@@ -9,10 +9,8 @@ use std::process::Abort;
 /// the cluster of its letter, or in one that is unsafe to break.
 fn assert_cuts(rt: &impl Abort, alloc: Global, level: BufferClusterLevel) {
     let face = face_of(rt, alloc, "e\u{301}x");
-    let how = Shaping {
-        level,
-        ..by_graphemes(&face, Shaper::Default)
-    };
+    let how = by_graphemes(&face, Shaper::Default);
+    let how = towards(how, Direction::Invalid, level);
     let glyphs = glyphs_of(rt, alloc, how, "e\u{301}x");
     assert_that(rt, may_cut(&glyphs, 0));
     assert_that(rt, !may_cut(&glyphs, 1));

@@ -1,62 +1,66 @@
 //! Spans of a text and of its glyphs, in both directions.
-use crate::shaping::{
-    Shaper, Shaping, assert_printed, assert_that, by_graphemes, face_of, glyphs_of,
-};
-use shape_buffer::buffer::{Direction, GlyphBuffer};
+use crate::rows::{Asked, assert_rows};
+use crate::shaping::{Shaper, by_graphemes, face_of, glyphs_of, towards};
+use shape_buffer::buffer::{BufferClusterLevel, Direction, GlyphBuffer};
 use shape_users::paragraph::{glyphs_of_text, text_of_glyphs};
 use std::alloc::Global;
+use std::fmt::Write;
 use std::process::Abort;
 
-/// A place of a range.
-fn place(rt: &impl Abort, word: &str) -> usize {
-    word.parse().expect(rt, "a place")
-}
-
-/// The text that the glyphs from one place up to another show, and the glyphs that show this text.
-fn printed_spans(
+/// Prints the text that the glyphs from one place up to another show, and the glyphs that show this text.
+fn print_shown(
     rt: &impl Abort,
-    alloc: Global,
+    printed: &mut String,
     glyphs: &GlyphBuffer,
     start: usize,
     end: usize,
-) -> String {
+) {
     assert!(rt; start < end && end <= glyphs.len());
     let text = text_of_glyphs(glyphs, start, end, 5);
     let back = glyphs_of_text(glyphs, text);
-    format!(in alloc;
-        "{}..{} -> {}..{}",
-        text.start, text.end, back.start, back.end
+    let (start, end) = (text.start, text.end);
+    write!(
+        printed,
+        " text {start}..{end}, glyphs {}..{}",
+        back.start, back.end
     )
-    .expect(rt, "memory")
+    .expect(rt, "memory");
 }
 
-/// Shapes the text `a`, `e`, U+0301, `x`, whose graphemes begin at 0, 1 and 4 of its 5 bytes, in a direction. A row
-/// is `GLYPHS -> TEXT -> GLYPHS`: some glyphs, the text that they show, and the glyphs that show this text.
-fn assert_spans(rt: &impl Abort, alloc: Global, direction: Direction, rows: &str) {
+/// Prints what the glyphs from one place up to another show, as ` text 1..4, glyphs 1..3`: their text, and the glyphs
+/// that show this text. The whole is `a`, `e`, U+0301, `x` in a direction, whose graphemes begin at 0, 1 and 4 of its
+/// 5 bytes.
+pub fn print_spans(
+    rt: &impl Abort,
+    alloc: Global,
+    printed: &mut String,
+    direction: Direction,
+    start: &str,
+    end: &str,
+) {
+    let (start, end) = (start.parse(), end.parse());
     let face = face_of(rt, alloc, "ae\u{301}x");
-    let how = Shaping {
-        direction,
-        ..by_graphemes(&face, Shaper::Default)
-    };
+    let how = by_graphemes(&face, Shaper::Default);
+    let how = towards(how, direction, BufferClusterLevel::MonotoneGraphemes);
     let glyphs = glyphs_of(rt, alloc, how, "ae\u{301}x");
-    for row in rows.lines() {
-        let (asked, wanted) = row.trim().split_once(" -> ").expect(rt, "a row");
-        let (start, end) = asked.split_once("..").expect(rt, "a range");
-        let found = printed_spans(rt, alloc, &glyphs, place(rt, start), place(rt, end));
-        assert_printed(rt, found.as_str(), wanted);
-    }
-    assert_that(rt, !rows.is_empty());
+    print_shown(
+        rt,
+        printed,
+        &glyphs,
+        start.expect(rt, "a place"),
+        end.expect(rt, "a place"),
+    );
 }
 
 /// The clusters are 0 1 1 4, and to the left 4 1 1 0: half of the accented letter shows all of it.
 #[test]
 fn spans_lead_there_and_back(rt: HostRuntime) {
-    let to_right = "0..1 -> 0..1 -> 0..1
-        1..2 -> 1..4 -> 1..3
-        2..4 -> 1..5 -> 1..4";
-    assert_spans(&rt, rt.alloc(), Direction::LeftToRight, to_right);
-    let to_left = "0..1 -> 4..5 -> 0..1
-        0..2 -> 1..5 -> 0..3
-        2..4 -> 0..4 -> 1..4";
-    assert_spans(&rt, rt.alloc(), Direction::RightToLeft, to_left);
+    let rows = "0 | 1 -> text 0..1, glyphs 0..1
+        1 | 2 -> text 1..4, glyphs 1..3
+        2 | 4 -> text 1..5, glyphs 1..4";
+    assert_rows(&rt, rt.alloc(), Asked::Spans(Direction::LeftToRight), rows);
+    let rows = "0 | 1 -> text 4..5, glyphs 0..1
+        0 | 2 -> text 1..5, glyphs 0..3
+        2 | 4 -> text 0..4, glyphs 1..4";
+    assert_rows(&rt, rt.alloc(), Asked::Spans(Direction::RightToLeft), rows);
 }

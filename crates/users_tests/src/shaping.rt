@@ -1,10 +1,12 @@
 //! What these tests shape with: faces of a few characters, and the whole database of Unicode.
+use bitflags::Flags;
 use shape_pipeline::lines::{Line, can_cut, cut_lines};
 use shape_pipeline::ot_shape_plan::hb_ot_shape_plan_t;
 use shape_pipeline::ot_shaper::Decomposed;
 use shape_pipeline::{
-    BufferClusterLevel, DEFAULT_SHAPER, Direction, GlyphBuffer, GlyphId, MapFace, Metrics,
-    NoLookups, Preferring, Script, UnicodeBuffer, hb_ot_layout_t, hb_ot_shaper_t, hb_tag_t, shape,
+    BufferClusterLevel, BufferFlags, DEFAULT_SHAPER, Direction, GlyphBuffer, GlyphId, MapFace,
+    Metrics, NoLookups, Preferring, Script, UnicodeBuffer, hb_ot_layout_t, hb_ot_shaper_t,
+    hb_tag_t, shape,
 };
 use shape_unicode::UnicodeDatabase;
 use shape_users::arabic::ArabicShaper;
@@ -14,13 +16,8 @@ use std::alloc::Global;
 use std::fmt::Write;
 use std::process::Abort;
 
-/// Compares what was printed with what was expected. The proof of a test takes a second for each `assert_eq!` of
-/// its own, and next to nothing for a call of this, since it has no contract.
-pub fn assert_printed(rt: &impl Abort, found: &str, wanted: &str) {
-    assert!(rt; found == wanted, "{found} in place of {wanted}");
-}
-
-/// Asserts what no later call of a test relies on.
+/// Asserts what no later call of a test relies on. The proof of a test takes a second for each `assert!` of its own,
+/// and next to nothing for a call of this, since it has no contract.
 pub fn assert_that(rt: &impl Abort, condition: bool) {
     assert!(rt; condition);
 }
@@ -93,6 +90,8 @@ pub struct Shaping<'a> {
     pub direction: Direction,
     pub level: BufferClusterLevel,
     pub script: Option<Script>,
+    /// What stands before and after a text, which begins or ends where nothing does.
+    pub around: Option<(&'a str, &'a str)>,
 }
 
 /// Shaping by graphemes, in the direction and the script of the text.
@@ -103,7 +102,31 @@ pub fn by_graphemes(face: &MapFace, shaper: Shaper) -> Shaping<'_> {
         direction: Direction::Invalid,
         level: BufferClusterLevel::MonotoneGraphemes,
         script: None,
+        around: None,
     }
+}
+
+/// The same in a direction and at a level.
+pub fn towards(how: Shaping<'_>, direction: Direction, level: BufferClusterLevel) -> Shaping<'_> {
+    Shaping {
+        direction,
+        level,
+        ..how
+    }
+}
+
+/// Tells a text what stands around it, and that it begins or ends where nothing does.
+fn put_around(text: &mut UnicodeBuffer, before: &str, after: &str) {
+    let mut flags = BufferFlags(0);
+    if before.is_empty() {
+        flags = flags.union(BufferFlags::BEGINNING_OF_TEXT);
+    }
+    if after.is_empty() {
+        flags = flags.union(BufferFlags::END_OF_TEXT);
+    }
+    text.set_pre_context(before);
+    text.set_post_context(after);
+    text.set_flags(flags);
 }
 
 /// A text to be shaped so. Its clusters are the places of its bytes.
@@ -114,47 +137,46 @@ pub fn text_of(rt: &impl Abort, alloc: Global, how: Shaping<'_>, text: &str) -> 
     buffer.set_direction(how.direction);
     buffer.set_script(how.script);
     buffer.set_cluster_level(how.level);
+    if let Some((before, after)) = how.around {
+        put_around(&mut buffer, before, after);
+    }
     buffer
 }
 
-/// The text shaped by an engine and a shaper.
+/// The glyphs of a text by an engine and a shaper.
 fn shaped_by<M, S>(
     rt: &impl Abort,
     alloc: Global,
-    face: &MapFace,
+    how: Shaping<'_>,
     shaper: &S,
-    text: UnicodeBuffer,
+    text: &str,
 ) -> GlyphBuffer
 where
     M: hb_ot_layout_t<MapFace>,
     S: hb_ot_shaper_t<UnicodeDatabase, MapFace, M>,
 {
-    shape::<UnicodeDatabase, MapFace, M, S>(alloc, face, shaper, &[], text).expect(rt, "glyphs")
-}
-
-/// The glyphs of a buffer.
-pub fn shaped(
-    rt: &impl Abort,
-    alloc: Global,
-    how: Shaping<'_>,
-    text: UnicodeBuffer,
-) -> GlyphBuffer {
-    let face = how.face;
-    match how.shaper {
-        Shaper::Default => shaped_by::<NoLookups, _>(rt, alloc, face, &DEFAULT_SHAPER, text),
-        Shaper::Ligatures => shaped_by::<Ligatures, _>(rt, alloc, face, &DEFAULT_SHAPER, text),
-        Shaper::Decomposed => {
-            let shaper = Preferring::<Decomposed>::new();
-            shaped_by::<NoLookups, _>(rt, alloc, face, &shaper, text)
-        }
-        Shaper::Hebrew => shaped_by::<NoLookups, _>(rt, alloc, face, &HebrewShaper, text),
-        Shaper::Arabic => shaped_by::<NoLookups, _>(rt, alloc, face, &ArabicShaper, text),
-    }
+    let text = text_of(rt, alloc, how, text);
+    shape::<UnicodeDatabase, MapFace, M, S>(alloc, how.face, shaper, &[], text).expect(rt, "glyphs")
 }
 
 /// The glyphs of a text.
 pub fn glyphs_of(rt: &impl Abort, alloc: Global, how: Shaping<'_>, text: &str) -> GlyphBuffer {
-    shaped(rt, alloc, how, text_of(rt, alloc, how, text))
+    match how.shaper {
+        Shaper::Default => shaped_by::<NoLookups, _>(rt, alloc, how, &DEFAULT_SHAPER, text),
+        Shaper::Ligatures => shaped_by::<Ligatures, _>(rt, alloc, how, &DEFAULT_SHAPER, text),
+        Shaper::Decomposed => {
+            let shaper = Preferring::<Decomposed>::new();
+            shaped_by::<NoLookups, _>(rt, alloc, how, &shaper, text)
+        }
+        Shaper::Hebrew => shaped_by::<NoLookups, _>(rt, alloc, how, &HebrewShaper, text),
+        Shaper::Arabic => shaped_by::<NoLookups, _>(rt, alloc, how, &ArabicShaper, text),
+    }
+}
+
+/// Two parts of a text, the second from a place on.
+pub fn split_at<'a>(rt: &impl Abort, text: &'a str, place: u32) -> (&'a str, &'a str) {
+    text.split_at_checked(place as usize)
+        .expect(rt, "a place between characters")
 }
 
 /// The lines of the glyphs of a text.
@@ -176,30 +198,24 @@ pub fn print_glyphs(
     rt: &impl Abort,
     printed: &mut String,
     glyphs: &GlyphBuffer,
-    start: usize,
-    end: usize,
+    (start, end): (usize, usize),
 ) {
-    for info in glyphs.glyph_infos().iter().take(end).skip(start) {
+    for place in start..end {
+        let info = glyphs.glyph_infos().get(place).expect(rt, "a glyph");
         write!(printed, " {}@{}", info.glyph_id, info.cluster).expect(rt, "memory");
     }
 }
 
-/// The same as a text of its own, of all glyphs.
-pub fn printed_glyphs(rt: &impl Abort, alloc: Global, glyphs: &GlyphBuffer) -> String {
-    let mut printed = String::new(alloc);
-    print_glyphs(rt, &mut printed, glyphs, 0, glyphs.len());
-    printed
-}
-
-/// Compares the glyphs of texts and their clusters, in the order of the line. A row is
-/// `KNOWN: TEXT -> 1@0 2@3`: the characters of a face (`face_of`), the text, and each glyph with its cluster.
-pub fn assert_shaped(rt: &impl Abort, alloc: Global, shaper: Shaper, rows: &str) {
-    for row in rows.lines() {
-        let (asked, wanted) = row.trim().split_once(" ->").expect(rt, "a row");
-        let (known, text) = asked.split_once(": ").expect(rt, "a face and a text");
-        let face = face_of(rt, alloc, known);
-        let glyphs = glyphs_of(rt, alloc, by_graphemes(&face, shaper), text);
-        assert_printed(rt, printed_glyphs(rt, alloc, &glyphs).as_str(), wanted);
-    }
-    assert_that(rt, !rows.is_empty());
+/// Prints the glyphs of a text over a face of some characters (`face_of`), in the order of the line.
+pub fn print_shaped(
+    rt: &impl Abort,
+    alloc: Global,
+    printed: &mut String,
+    shaper: Shaper,
+    known: &str,
+    text: &str,
+) {
+    let face = face_of(rt, alloc, known);
+    let glyphs = glyphs_of(rt, alloc, by_graphemes(&face, shaper), text);
+    print_glyphs(rt, printed, &glyphs, (0, glyphs.len()));
 }
