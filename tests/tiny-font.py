@@ -141,7 +141,7 @@ def font():
 
 def as_text(data):
     rows = [data[at:at + 32].hex() for at in range(0, len(data), 32)]
-    return "".join('    "%s",\n' % row for row in rows)
+    return "".join("    %s\\\n" % row for row in rows)
 
 
 def main():
@@ -150,8 +150,8 @@ def main():
     with open(os.path.join(top, "crates/fontshape/data/tiny.ttf"), "wb") as file:
         file.write(data)
     with open(os.path.join(top, "crates/font_tests/src/tiny.rt"), "w") as file:
-        file.write("//! The font that tests/tiny-font.py makes: its bytes, 32 a row.\n\n")
-        file.write("pub const ROWS: [&str; %d] = [\n%s];\n" % (-(-len(data) // 32), as_text(data)))
+        file.write("//! The font that tests/tiny-font.py makes: its bytes, 32 a row, by two digits each.\n\n")
+        file.write('pub const DIGITS: &str = "\\\n%s";\n' % as_text(data))
     print(len(data), "bytes")
 
 

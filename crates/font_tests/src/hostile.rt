@@ -1,116 +1,114 @@
 //! Broken fonts: each shapes, with glyphs that the file has.
-ghost use Rattle.std.specs.Prelude.{◌<◌, length};
-
 use crate::comparing::assert_that;
-use crate::support::tiny_font;
+use crate::support::{font_bytes, shaped_by};
 use shape_font::FontFace;
-use shape_pipeline::{DEFAULT_SHAPER, GlyphBuffer, NoLookups, UnicodeBuffer, shape};
-use shape_unicode::UnicodeDatabase;
+use shape_pipeline::{DEFAULT_SHAPER, NoLookups, UnicodeBuffer};
 use std::alloc::Global;
-use std::test::Fail;
+use std::process::Abort;
 
 /// Six characters, of which the first two compose and the last has no glyph.
 const TEXT: &str = "A\u{301}B \u{1F600}x";
 
-/// The text shaped; a refusal fails the test.
-fn shaped(alloc: Global, face: &FontFace<'_>) -> Result<GlyphBuffer, Fail> {
+/// Asserts that a font shapes the text into glyphs of its own, one for each character or one less.
+fn assert_shapes(rt: &impl Abort, alloc: Global, face: &FontFace<'_>) {
     let mut text = UnicodeBuffer::new(alloc);
-    text.push_str(TEXT)?;
-    match shape::<UnicodeDatabase, FontFace, NoLookups, _>(
-        alloc,
-        face,
-        &DEFAULT_SHAPER,
-        &[],
-        text,
-    ) {
-        Ok(glyphs) => Ok(glyphs),
-        Err(_) => Err(Fail::from("refused")),
-    }
-}
-
-/// Fails if a glyph is none of the font's.
-fn check_glyphs(face: &FontFace<'_>, glyphs: &GlyphBuffer) -> Result<(), Fail> {
+    text.push_str(TEXT).expect(rt, "memory");
+    let glyphs = shaped_by::<_, NoLookups, _>(alloc, face, &DEFAULT_SHAPER, &[], text).expect(
+        rt, "glyphs",
+    );
+    let count = u32::from(face.glyph_count());
     for info in glyphs.glyph_infos() {
-        if info.glyph_id != 0 && u32::from(face.glyph_count()) <= info.glyph_id {
-            return Err(Fail::from("a glyph that the font lacks"));
-        }
+        assert_that(rt, info.glyph_id == 0 || info.glyph_id < count);
     }
-    Ok(())
+    assert_that(rt, glyphs.len() == 5 || glyphs.len() == 6);
 }
 
-/// Whether the bytes are a font; then they shape the text, into a glyph for each character or one less.
-fn is_font(alloc: Global, bytes: &[u8]) -> Result<bool, Fail> {
-    let Some(face) = FontFace::from_slice(bytes, 0) else {
-        return Ok(false);
-    };
-    let glyphs = shaped(alloc, &face)?;
-    check_glyphs(&face, &glyphs)?;
-    match glyphs.len() {
-        5 | 6 => Ok(true),
-        _ => Err(Fail::from("another length")),
+/// Whether the bytes are a font, counted as 1. Then they must shape the text.
+fn count_font(rt: &impl Abort, alloc: Global, bytes: &[u8]) -> u32 {
+    match FontFace::from_slice(bytes, 0) {
+        Some(face) => {
+            assert_shapes(rt, alloc, &face);
+            1
+        }
+        None => 0,
     }
+}
+
+/// The same with another byte at a place.
+fn count_changed(rt: &impl Abort, alloc: Global, bytes: &mut [u8], at: usize, new: u8) -> u32 {
+    if let Some(byte) = bytes.get_mut(at) {
+        *byte = new;
+    }
+    count_font(rt, alloc, bytes)
 }
 
 /// How many of the changes of one byte leave a font: 0, 255, and each bit flipped.
-fn fonts_by_byte(alloc: Global, bytes: &mut [u8], at: usize) -> Result<u32, Fail>
-    requires { at < length bytes.old }
-{
-    let old = bytes[at];
-    let mut fonts: u32 = 0;
-    for new in [
-        0,
-        255,
-        old ^ 1,
-        old ^ 2,
-        old ^ 4,
-        old ^ 8,
-        old ^ 16,
-        old ^ 32,
-        old ^ 64,
-        old ^ 128,
-    ] {
-        bytes[at] = new;
-        fonts = fonts.saturating_add(u32::from(is_font(alloc, bytes)?));
+fn fonts_by_byte(rt: &impl Abort, alloc: Global, bytes: &mut [u8], at: usize, old: u8) -> u32 {
+    let mut fonts = count_changed(rt, alloc, bytes, at, 0);
+    fonts = fonts.saturating_add(count_changed(rt, alloc, bytes, at, 255));
+    for bit in 0..8 {
+        let new = old ^ 1u8.rotate_left(bit);
+        fonts = fonts.saturating_add(count_changed(rt, alloc, bytes, at, new));
     }
-    bytes[at] = old;
-    Ok(fonts)
+    count_changed(rt, alloc, bytes, at, old);
+    fonts
+}
+
+/// Asserts that the font with one byte changed is often still one, and then shapes.
+fn assert_bytes_changed(rt: &impl Abort, alloc: Global) {
+    let font = font_bytes(rt, alloc);
+    let mut bytes = font_bytes(rt, alloc);
+    assert_that(rt, count_font(rt, alloc, &font) == 1);
+    let mut fonts: u32 = 0;
+    for (at, old) in font.iter().enumerate() {
+        fonts = fonts.saturating_add(fonts_by_byte(rt, alloc, &mut bytes, at, *old));
+    }
+    assert_that(rt, 6000 < fonts);
 }
 
 #[test]
-fn each_byte_changed(rt: HostRuntime) -> Result<(), Fail> {
-    let mut bytes = tiny_font(rt.alloc())?;
-    assert_that(&rt, is_font(rt.alloc(), &bytes)?);
-    let mut fonts: u32 = 0;
-    for at in 0..bytes.len() {
-        fonts = fonts.saturating_add(fonts_by_byte(rt.alloc(), &mut bytes, at)?);
-    }
-    assert!(rt; 6000 < fonts, "{fonts}");
-    Ok(())
+fn each_byte_changed(rt: HostRuntime) {
+    assert_bytes_changed(&rt, rt.alloc());
 }
 
-#[test]
-fn each_prefix(rt: HostRuntime) -> Result<(), Fail> {
-    let bytes = tiny_font(rt.alloc())?;
+/// Asserts that a beginning of the font is seldom one, and then shapes.
+fn assert_prefixes(rt: &impl Abort, alloc: Global) {
+    let bytes = font_bytes(rt, alloc);
     let mut fonts: u32 = 0;
     for end in 0..bytes.len() {
-        fonts = fonts.saturating_add(u32::from(is_font(rt.alloc(), &bytes[..end])?));
+        fonts = fonts.saturating_add(count_font(rt, alloc, &bytes[..end]));
     }
-    assert!(rt; fonts < 300, "{fonts}");
-    Ok(())
+    assert_that(rt, fonts < 300);
 }
 
 #[test]
-fn many_bytes_changed(rt: HostRuntime) -> Result<(), Fail> {
+fn each_prefix(rt: HostRuntime) {
+    assert_prefixes(&rt, rt.alloc());
+}
+
+/// Changes a byte in 32, by a seed that it hands on.
+fn change(bytes: &mut [u8], seed: u32) -> u32 {
+    let mut seed = seed;
+    for byte in bytes {
+        seed = seed.wrapping_mul(1_664_525).wrapping_add(1_013_904_223);
+        if seed >> 27 == 0 {
+            *byte = (seed >> 16 & 255) as u8;
+        }
+    }
+    seed
+}
+
+/// Changes the font in many ways. Where it is still one, it shapes.
+fn assert_changed(rt: &impl Abort, alloc: Global) {
     let mut seed: u32 = 1;
     for _ in 0..500 {
-        let mut bytes = tiny_font(rt.alloc())?;
-        for byte in bytes.iter_mut() {
-            seed = seed.wrapping_mul(1_664_525).wrapping_add(1_013_904_223);
-            if seed >> 27 == 0 {
-                *byte = (seed >> 16 & 255) as u8;
-            }
-        }
-        is_font(rt.alloc(), &bytes)?;
+        let mut bytes = font_bytes(rt, alloc);
+        seed = change(&mut bytes, seed);
+        count_font(rt, alloc, &bytes);
     }
-    Ok(())
+}
+
+#[test]
+fn many_bytes_changed(rt: HostRuntime) {
+    assert_changed(&rt, rt.alloc());
 }

@@ -11,6 +11,8 @@ mod hostile;
 mod kerning;
 pub mod laws;
 #[cfg(test)]
+mod rows;
+#[cfg(test)]
 mod support;
 #[cfg(test)]
 mod tiny;

@@ -1,240 +1,170 @@
 //! Texts shaped and cut into lines, whose answers were worked out by hand.
-use crate::shaping::{Shaper, append, assert_same, assert_that, shaped};
-use shape_buffer::interfaces::hb_glyph_extents_t;
-use shape_pipeline::lines::{Line, can_cut, cut_lines};
-use shape_pipeline::{
-    BufferClusterLevel, Direction, GlyphBuffer, GlyphId, MapFace, Metrics, UnicodeBuffer,
+use crate::rows::{Asked, assert_rows};
+use crate::shaping::{
+    Shaper, assert_that, by_graphemes, glyphs_of, lines_of, print_glyphs, towards,
 };
+use shape_buffer::interfaces::hb_glyph_extents_t;
+use shape_pipeline::lines::{Line, can_cut};
+use shape_pipeline::{BufferClusterLevel, Direction, GlyphBuffer, GlyphId, MapFace, Metrics};
 use std::alloc::Global;
+use std::fmt::Write;
 use std::process::Abort;
-use std::test::Fail;
 
-/// A character, its glyph, and what the face says of that.
-type Known = (char, u32, i32, Option<hb_glyph_extents_t>);
+/// What characters a face has, and how wide.
+#[derive(Clone, Copy)]
+pub enum Known {
+    /// Two letters and a space.
+    Wide,
+    /// A letter that is wide, and one that goes back.
+    Narrow,
+    /// A letter and two marks.
+    Marked,
+}
 
-/// A line: its glyphs from one place in the list up to another, each by its number and its cluster,
-/// and the text that they show.
-type Row<'a> = (usize, usize, &'a [(u32, u32)], (u32, u32));
+/// Puts a glyph for a character into a face.
+fn put(
+    rt: &impl Abort,
+    face: &mut MapFace,
+    (c, glyph): (char, u32),
+    advance: i32,
+    extents: Option<hb_glyph_extents_t>,
+) {
+    let metrics = Metrics { advance, extents };
+    face.set_glyph(c, GlyphId(glyph), metrics)
+        .expect(rt, "memory");
+}
 
-/// Two letters and a space.
-const WIDE: [Known; 3] = [
-    ('a', 1, 600, None),
-    ('b', 2, 500, None),
-    (' ', 3, 250, None),
-];
+fn put_wide(rt: &impl Abort, face: &mut MapFace) {
+    put(rt, face, ('a', 1), 600, None);
+    put(rt, face, ('b', 2), 500, None);
+    put(rt, face, (' ', 3), 250, None);
+}
 
-/// A letter that is wide, and one that goes back.
-const NARROW: [Known; 2] = [('a', 1, 600, None), ('b', 2, -700, None)];
+fn put_narrow(rt: &impl Abort, face: &mut MapFace) {
+    put(rt, face, ('a', 1), 600, None);
+    put(rt, face, ('b', 2), -700, None);
+}
 
-/// A letter and two marks.
-const MARKED: [Known; 3] = [
-    (
-        'a',
-        1,
-        600,
-        Some(hb_glyph_extents_t {
-            x_bearing: 0,
-            y_bearing: 700,
-            width: 600,
-            height: -700,
-        }),
-    ),
-    (
-        '\u{301}',
-        2,
-        200,
-        Some(hb_glyph_extents_t {
-            x_bearing: 50,
-            y_bearing: 800,
-            width: 200,
-            height: -150,
-        }),
-    ),
-    ('\u{323}', 3, 0, None),
-];
+fn put_marked(rt: &impl Abort, face: &mut MapFace) {
+    let letter = hb_glyph_extents_t {
+        x_bearing: 0,
+        y_bearing: 700,
+        width: 600,
+        height: -700,
+    };
+    let above = hb_glyph_extents_t {
+        x_bearing: 50,
+        y_bearing: 800,
+        width: 200,
+        height: -150,
+    };
+    put(rt, face, ('a', 1), 600, Some(letter));
+    put(rt, face, ('\u{301}', 2), 200, Some(above));
+    put(rt, face, ('\u{323}', 3), 0, None);
+}
 
-/// A face of some characters.
-fn face_of(alloc: Global, known: &[Known]) -> Result<MapFace, Fail> {
+/// The face with such characters.
+fn face_with(rt: &impl Abort, alloc: Global, known: Known) -> MapFace {
     let mut face = MapFace::new(alloc, 1000);
-    for (c, glyph, advance, extents) in known {
-        let metrics = Metrics {
-            advance: *advance,
-            extents: *extents,
-        };
-        face.set_glyph(*c, GlyphId(*glyph), metrics)?;
+    match known {
+        Known::Wide => put_wide(rt, &mut face),
+        Known::Narrow => put_narrow(rt, &mut face),
+        Known::Marked => put_marked(rt, &mut face),
     }
-    Ok(face)
+    face
 }
 
-/// A text that runs in a direction, at a level.
-fn text_of(
-    alloc: Global,
-    (direction, level): (Direction, BufferClusterLevel),
-    text: &str,
-) -> Result<UnicodeBuffer, Fail> {
-    let mut buffer = UnicodeBuffer::new(alloc);
-    append(&mut buffer, text)?;
-    buffer.set_direction(direction);
-    buffer.set_cluster_level(level);
-    Ok(buffer)
+/// Prints the glyphs of a line and their places in the list, and the text that they show.
+fn print_line(rt: &impl Abort, printed: &mut String, glyphs: &GlyphBuffer, line: Line) {
+    let (start, end) = (line.glyph_start, line.glyph_end);
+    write!(printed, " {start}..{end}").expect(rt, "memory");
+    print_glyphs(rt, printed, glyphs, (start, end));
+    let (start, end) = (line.text_start, line.text_end);
+    write!(printed, " shows {start}..{end};").expect(rt, "memory");
 }
 
-/// A text shaped with a face of some characters.
-fn shaped_with(
-    alloc: Global,
-    known: &[Known],
-    shaper: Shaper,
-    manner: (Direction, BufferClusterLevel),
-    text: &str,
-) -> Result<GlyphBuffer, Fail> {
-    let face = face_of(alloc, known)?;
-    shaped(alloc, &face, shaper, text_of(alloc, manner, text)?)
-}
-
-/// Compares the glyphs from one place in the list up to another.
-fn assert_glyphs_between(
+/// Prints the lines of some glyphs.
+fn print_lines_of(
     rt: &impl Abort,
     alloc: Global,
+    printed: &mut String,
     glyphs: &GlyphBuffer,
-    (start, end): (usize, usize),
-    shown: &[(u32, u32)],
-) -> Result<(), Fail> {
-    let mut seen = Vec::new(alloc);
-    for info in glyphs.glyph_infos().iter().take(end).skip(start) {
-        seen.push((info.glyph_id, info.cluster))?;
+    (text, width): (&str, u32),
+) {
+    for line in &lines_of(rt, alloc, glyphs, text, width) {
+        print_line(rt, printed, glyphs, *line);
     }
-    assert_that(rt, seen.as_slice() == shown);
-    Ok(())
 }
 
-/// Compares a line.
-fn assert_line(
+/// Prints the lines of a width that a text has, as ` 0..2 1@0 2@1 shows 0..2;`: the glyphs from one place in the list
+/// up to another, each with its cluster, and the text that they show.
+pub fn print_lines(
     rt: &impl Abort,
     alloc: Global,
-    glyphs: &GlyphBuffer,
-    line: Line,
-    (start, end, shown, text): Row<'_>,
-) -> Result<(), Fail> {
-    assert_same(rt, (line.glyph_start, line.glyph_end), (start, end));
-    assert_same(rt, (line.text_start, line.text_end), text);
-    assert_glyphs_between(rt, alloc, glyphs, (start, end), shown)
-}
-
-/// Compares the lines of a text whose length in bytes is `text_end`.
-fn assert_lines(
-    rt: &impl Abort,
-    alloc: Global,
-    glyphs: &GlyphBuffer,
-    (text_end, width): (u32, u32),
-    rows: &[Row<'_>],
-) -> Result<(), Fail> {
-    if !can_cut(glyphs, text_end) {
-        return Err(Fail::from("uncut"));
-    }
-    let lines = cut_lines(alloc, glyphs, text_end, width)?;
-    assert_same(rt, lines.len(), rows.len());
-    for (line, row) in lines.iter().zip(rows.iter()) {
-        assert_line(rt, alloc, glyphs, *line, *row)?;
-    }
-    Ok(())
-}
-
-/// Compares the lines of a text shaped with a face of some characters, for some widths.
-fn assert_text(
-    rt: &impl Abort,
-    alloc: Global,
-    known: &[Known],
-    manner: (Direction, BufferClusterLevel),
+    printed: &mut String,
+    (known, direction, level): (Known, Direction, BufferClusterLevel),
     text: &str,
-    widths: &[(u32, &[Row<'_>])],
-) -> Result<(), Fail> {
-    if 1000 < text.len() {
-        return Err(Fail::from("long"));
-    }
-    let glyphs = shaped_with(alloc, known, Shaper::Default, manner, text)?;
-    for (width, rows) in widths {
-        assert_lines(rt, alloc, &glyphs, (text.len() as u32, *width), rows)?;
-    }
-    Ok(())
+    width: &str,
+) {
+    let width = width.parse().expect(rt, "a width");
+    let face = face_with(rt, alloc, known);
+    let how = towards(by_graphemes(&face, Shaper::Default), direction, level);
+    let glyphs = glyphs_of(rt, alloc, how, text);
+    print_lines_of(rt, alloc, printed, &glyphs, (text, width));
 }
 
-const LEFT_TO_RIGHT: (Direction, BufferClusterLevel) = (
-    Direction::LeftToRight,
-    BufferClusterLevel::MonotoneGraphemes,
-);
-
-/// Lines of two letters each.
-const HALVES: [Row<'_>; 2] = [
-    (0, 2, &[(1, 0), (2, 1)], (0, 2)),
-    (2, 4, &[(3, 2), (1, 3)], (2, 4)),
-];
-
-/// None fits.
-const SINGLE: [Row<'_>; 4] = [
-    (0, 1, &[(1, 0)], (0, 1)),
-    (1, 2, &[(2, 1)], (1, 2)),
-    (2, 3, &[(3, 2)], (2, 3)),
-    (3, 4, &[(1, 3)], (3, 4)),
-];
-
-const WIDTHS: [(u32, &[Row<'_>]); 2] = [(1200, &HALVES), (100, &SINGLE)];
-
-#[test]
-fn letters(rt: HostRuntime) -> Result<(), Fail> {
-    assert_text(&rt, rt.alloc(), &WIDE, LEFT_TO_RIGHT, "ab a", &WIDTHS)
-}
-
-const REVERSED: [(u32, &[Row<'_>]); 1] = [(
-    1200,
-    &[
-        (2, 4, &[(2, 1), (1, 0)], (0, 2)),
-        (0, 2, &[(1, 3), (3, 2)], (2, 4)),
-    ],
-)];
-
-#[test]
-fn letters_to_the_left(rt: HostRuntime) -> Result<(), Fail> {
-    let to_the_left = (Direction::RightToLeft, LEFT_TO_RIGHT.1);
-    assert_text(&rt, rt.alloc(), &WIDE, to_the_left, "ab a", &REVERSED)
-}
-
-const LONGER_FITS: [(u32, &[Row<'_>]); 1] = [(600, &[(0, 3, &[(1, 0), (1, 1), (2, 2)], (0, 3))])];
-
-#[test]
-fn wide_then_narrow(rt: HostRuntime) -> Result<(), Fail> {
-    assert_text(&rt, rt.alloc(), &NARROW, LEFT_TO_RIGHT, "aab", &LONGER_FITS)
-}
-
-const BY_CHARACTER: (Direction, BufferClusterLevel) = (
-    Direction::LeftToRight,
-    BufferClusterLevel::MonotoneCharacters,
-);
-
-const ACCENTED: [(u32, &[Row<'_>]); 1] = [(100, &[(0, 2, &[(1, 0), (2, 1)], (0, 3))])];
-
-#[test]
-fn letters_with_marks(rt: HostRuntime) -> Result<(), Fail> {
-    assert_text(
-        &rt,
-        rt.alloc(),
-        &MARKED,
-        BY_CHARACTER,
-        "a\u{301}",
-        &ACCENTED,
+/// Asks for the lines of texts that run to the right.
+const fn to_right(known: Known) -> Asked {
+    Asked::Lines(
+        known,
+        Direction::LeftToRight,
+        BufferClusterLevel::MonotoneGraphemes,
     )
 }
 
-/// The number of glyphs of a letter with two marks, whose clusters are kept apart, and whether they can be cut.
-fn marks_kept_apart(alloc: Global) -> Result<(usize, bool), Fail> {
-    let manner = (Direction::LeftToRight, BufferClusterLevel::Characters);
-    let text = "a\u{301}\u{323}";
-    let glyphs = shaped_with(alloc, &MARKED, Shaper::Decomposed, manner, text)?;
-    Ok((glyphs.len(), can_cut(&glyphs, 5)))
+/// Lines of two letters each, and lines of which none fits.
+#[test]
+fn letters(rt: HostRuntime) {
+    let rows = "ab a | 1200 -> 0..2 1@0 2@1 shows 0..2; 2..4 3@2 1@3 shows 2..4;
+        ab a | 100 -> 0..1 1@0 shows 0..1; 1..2 2@1 shows 1..2; 2..3 3@2 shows 2..3; 3..4 1@3 shows 3..4;";
+    assert_rows(&rt, rt.alloc(), to_right(Known::Wide), rows);
 }
 
 #[test]
-fn marks_that_were_put_in_order(rt: HostRuntime) -> Result<(), Fail> {
-    // their clusters are not in order then
-    assert_same(&rt, marks_kept_apart(rt.alloc())?, (3, false));
-    Ok(())
+fn letters_to_the_left(rt: HostRuntime) {
+    let level = BufferClusterLevel::MonotoneGraphemes;
+    let to_the_left = Asked::Lines(Known::Wide, Direction::RightToLeft, level);
+    let row = "ab a | 1200 -> 2..4 2@1 1@0 shows 0..2; 0..2 1@3 3@2 shows 2..4;";
+    assert_rows(&rt, rt.alloc(), to_the_left, row);
+}
+
+/// What is longer fits.
+#[test]
+fn wide_then_narrow(rt: HostRuntime) {
+    let row = "aab | 600 -> 0..3 1@0 1@1 2@2 shows 0..3;";
+    assert_rows(&rt, rt.alloc(), to_right(Known::Narrow), row);
+}
+
+#[test]
+fn letters_with_marks(rt: HostRuntime) {
+    let level = BufferClusterLevel::MonotoneCharacters;
+    let by_character = Asked::Lines(Known::Marked, Direction::LeftToRight, level);
+    let row = "a\u{301} | 100 -> 0..2 1@0 2@1 shows 0..3;";
+    assert_rows(&rt, rt.alloc(), by_character, row);
+}
+
+/// Compares the number of glyphs of a letter with two marks, whose clusters are kept apart. They can't be cut.
+fn assert_marks_kept_apart(rt: &impl Abort, alloc: Global) {
+    let face = face_with(rt, alloc, Known::Marked);
+    let how = by_graphemes(&face, Shaper::Decomposed);
+    let how = towards(how, Direction::LeftToRight, BufferClusterLevel::Characters);
+    let glyphs = glyphs_of(rt, alloc, how, "a\u{301}\u{323}");
+    assert_that(rt, glyphs.len() == 3);
+    assert_that(rt, !can_cut(&glyphs, 5));
+}
+
+/// Their clusters are not in order then.
+#[test]
+fn marks_that_were_put_in_order(rt: HostRuntime) {
+    assert_marks_kept_apart(&rt, rt.alloc());
 }

@@ -24,6 +24,10 @@ mod paragraph;
 #[cfg(test)]
 mod plain_glyphs;
 #[cfg(test)]
+mod rows;
+#[cfg(test)]
+mod seen;
+#[cfg(test)]
 mod shaping;
 #[cfg(test)]
 mod words;

@@ -1,53 +1,66 @@
 //! Spans of a text and of its glyphs, in both directions.
-use crate::shaping::{Shaper, append, assert_same, face_of, shaped};
-use shape_buffer::buffer::{Direction, GlyphBuffer, UnicodeBuffer};
-use shape_users::paragraph::{GlyphSpan, TextSpan, glyphs_of_text, text_of_glyphs};
+use crate::rows::{Asked, assert_rows};
+use crate::shaping::{Shaper, by_graphemes, face_of, glyphs_of, towards};
+use shape_buffer::buffer::{BufferClusterLevel, Direction, GlyphBuffer};
+use shape_users::paragraph::{glyphs_of_text, text_of_glyphs};
 use std::alloc::Global;
+use std::fmt::Write;
 use std::process::Abort;
-use std::test::Fail;
 
-/// The text `a`, `e`, U+0301, `x`, whose graphemes begin at 0, 1 and 4 of its 5 bytes, shaped in a direction.
-fn shaped_towards(alloc: Global, direction: Direction) -> Result<GlyphBuffer, Fail> {
-    let face = face_of(alloc, &[('a', 1), ('e', 2), ('\u{301}', 3), ('x', 4)])?;
-    let mut text = UnicodeBuffer::new(alloc);
-    append(&mut text, "ae\u{301}x")?;
-    text.set_direction(direction);
-    shaped(alloc, &face, Shaper::Default, text)
-}
-
-/// The text that the glyphs from one place up to another show, and the glyphs that show a text.
-fn assert_spans(
+/// Prints the text that the glyphs from one place up to another show, and the glyphs that show this text.
+fn print_shown(
     rt: &impl Abort,
+    printed: &mut String,
     glyphs: &GlyphBuffer,
-    places: (usize, usize),
-    text: (u32, u32),
-    back: (usize, usize),
+    start: usize,
+    end: usize,
 ) {
-    let span = TextSpan {
-        start: text.0,
-        end: text.1,
-    };
-    assert!(rt; places.0 < places.1 && places.1 <= glyphs.len());
-    assert_same(rt, text_of_glyphs(glyphs, places.0, places.1, 5), span);
-    let want = GlyphSpan {
-        start: back.0,
-        end: back.1,
-    };
-    assert_same(rt, glyphs_of_text(glyphs, span), want);
+    assert!(rt; start < end && end <= glyphs.len());
+    let text = text_of_glyphs(glyphs, start, end, 5);
+    let back = glyphs_of_text(glyphs, text);
+    let (start, end) = (text.start, text.end);
+    write!(
+        printed,
+        " text {start}..{end}, glyphs {}..{}",
+        back.start, back.end
+    )
+    .expect(rt, "memory");
 }
 
+/// Prints what the glyphs from one place up to another show, as ` text 1..4, glyphs 1..3`: their text, and the glyphs
+/// that show this text. The whole is `a`, `e`, U+0301, `x` in a direction, whose graphemes begin at 0, 1 and 4 of its
+/// 5 bytes.
+pub fn print_spans(
+    rt: &impl Abort,
+    alloc: Global,
+    printed: &mut String,
+    direction: Direction,
+    start: &str,
+    end: &str,
+) {
+    let (start, end) = (start.parse(), end.parse());
+    let face = face_of(rt, alloc, "ae\u{301}x");
+    let how = by_graphemes(&face, Shaper::Default);
+    let how = towards(how, direction, BufferClusterLevel::MonotoneGraphemes);
+    let glyphs = glyphs_of(rt, alloc, how, "ae\u{301}x");
+    print_shown(
+        rt,
+        printed,
+        &glyphs,
+        start.expect(rt, "a place"),
+        end.expect(rt, "a place"),
+    );
+}
+
+/// The clusters are 0 1 1 4, and to the left 4 1 1 0: half of the accented letter shows all of it.
 #[test]
-fn spans_lead_there_and_back(rt: HostRuntime) -> Result<(), Fail> {
-    let alloc = rt.alloc();
-    let to_right = shaped_towards(alloc, Direction::LeftToRight)?;
-    // the clusters are 0 1 1 4: half of the accented letter shows all of it
-    assert_spans(&rt, &to_right, (0, 1), (0, 1), (0, 1));
-    assert_spans(&rt, &to_right, (1, 2), (1, 4), (1, 3));
-    assert_spans(&rt, &to_right, (2, 4), (1, 5), (1, 4));
-    let to_left = shaped_towards(alloc, Direction::RightToLeft)?;
-    // the clusters are 4 1 1 0
-    assert_spans(&rt, &to_left, (0, 1), (4, 5), (0, 1));
-    assert_spans(&rt, &to_left, (0, 2), (1, 5), (0, 3));
-    assert_spans(&rt, &to_left, (2, 4), (0, 4), (1, 4));
-    Ok(())
+fn spans_lead_there_and_back(rt: HostRuntime) {
+    let rows = "0 | 1 -> text 0..1, glyphs 0..1
+        1 | 2 -> text 1..4, glyphs 1..3
+        2 | 4 -> text 1..5, glyphs 1..4";
+    assert_rows(&rt, rt.alloc(), Asked::Spans(Direction::LeftToRight), rows);
+    let rows = "0 | 1 -> text 4..5, glyphs 0..1
+        0 | 2 -> text 1..5, glyphs 0..3
+        2 | 4 -> text 0..4, glyphs 1..4";
+    assert_rows(&rt, rt.alloc(), Asked::Spans(Direction::RightToLeft), rows);
 }

@@ -1,82 +1,57 @@
 //! What these tests shape with: faces of a few characters, and the whole database of Unicode.
-use shape_buffer::buffer::{GlyphPosition, hb_glyph_info_t};
+use bitflags::Flags;
+use shape_pipeline::lines::{Line, can_cut, cut_lines};
 use shape_pipeline::ot_shape_plan::hb_ot_shape_plan_t;
 use shape_pipeline::ot_shaper::Decomposed;
 use shape_pipeline::{
-    DEFAULT_SHAPER, Direction, GlyphBuffer, GlyphId, MapFace, Metrics, NoLookups, Preferring,
-    Script, UnicodeBuffer, hb_ot_layout_t, hb_ot_shaper_t, hb_tag_t, shape,
+    BufferClusterLevel, BufferFlags, DEFAULT_SHAPER, Direction, GlyphBuffer, GlyphId, MapFace,
+    Metrics, NoLookups, Preferring, Script, UnicodeBuffer, hb_ot_layout_t, hb_ot_shaper_t,
+    hb_tag_t, shape,
 };
 use shape_unicode::UnicodeDatabase;
 use shape_users::arabic::ArabicShaper;
 use shape_users::hebrew::HebrewShaper;
 use shape_users::ligatures::Ligatures;
 use std::alloc::Global;
-use std::fmt::Debug;
+use std::fmt::Write;
 use std::process::Abort;
-use std::test::Fail;
 
-/// Compares two values. The proof of a test takes a second for each `assert_eq!` of its own, and next to nothing
-/// for a call of this, since it has no contract.
-pub fn assert_same<T: Copy + PartialEq + Debug>(rt: &impl Abort, found: T, wanted: T) {
-    assert_eq!(rt; found, wanted);
-}
-
-/// Asserts what no later call of a test relies on.
+/// Asserts what no later call of a test relies on. The proof of a test takes a second for each `assert!` of its own,
+/// and next to nothing for a call of this, since it has no contract.
 pub fn assert_that(rt: &impl Abort, condition: bool) {
     assert!(rt; condition);
 }
 
-/// A glyph as it is seen: its number, its cluster, and its position.
-pub type Seen = (u32, u32, (i32, i32, i32, i32));
-
-/// What is seen of a glyph of a text whose first cluster is at `start`.
-fn seen_of(info: &hb_glyph_info_t, position: &GlyphPosition, start: u32) -> Seen {
-    let placed = (
-        position.x_advance,
-        position.y_advance,
-        position.x_offset,
-        position.y_offset,
-    );
-    (info.glyph_id, info.cluster.wrapping_add(start), placed)
-}
-
-/// A face in which these characters have these glyphs, each 500 wide.
-pub fn face_of(alloc: Global, known: &[(char, u32)]) -> Result<MapFace, Fail> {
+/// A face in which the characters of a text have glyphs, which are numbered from 1 in their order and 500 wide.
+pub fn face_of(rt: &impl Abort, alloc: Global, known: &str) -> MapFace {
     let mut face = MapFace::new(alloc, 1000);
-    for (c, glyph) in known {
+    let mut glyph: u32 = 0;
+    for c in known.chars() {
+        glyph = glyph.saturating_add(1);
         let metrics = Metrics {
             advance: 500,
             extents: None,
         };
-        face.set_glyph(*c, GlyphId(*glyph), metrics)?;
+        face.set_glyph(c, GlyphId(glyph), metrics)
+            .expect(rt, "memory");
     }
-    Ok(face)
-}
-
-/// Appends a short text.
-pub fn append(text: &mut UnicodeBuffer, more: &str) -> Result<(), Fail> {
-    if 1000 < more.len() {
-        return Err(Fail::from("long"));
-    }
-    text.push_str(more)?;
-    Ok(())
+    face
 }
 
 /// The plan for texts of a direction and a script.
 pub fn planned<'a, S>(
+    rt: &impl Abort,
     alloc: Global,
     face: &'a MapFace,
     shaper: &'a S,
     direction: Direction,
     script: &[u8; 4],
-) -> Result<hb_ot_shape_plan_t<'a, S, (), ()>, Fail>
+) -> hb_ot_shape_plan_t<'a, S, (), ()>
 where
     S: hb_ot_shaper_t<UnicodeDatabase, MapFace, NoLookups, Data = ()>,
 {
-    if direction == Direction::Invalid {
-        return Err(Fail::from("no direction"));
-    }
-    let plan = hb_ot_shape_plan_t::new::<UnicodeDatabase, MapFace, NoLookups>(
+    assert!(rt; direction != Direction::Invalid);
+    hb_ot_shape_plan_t::new::<UnicodeDatabase, MapFace, NoLookups>(
         alloc,
         face,
         shaper,
@@ -84,8 +59,8 @@ where
         Some(Script(hb_tag_t::from_bytes(script))),
         None,
         &[],
-    )?;
-    Ok(plan)
+    )
+    .expect(rt, "memory")
 }
 
 /// Who shapes a text. The functions below take this and no type, since the proof of a generic function takes
@@ -101,107 +76,146 @@ pub enum Shaper {
     Arabic,
 }
 
-/// The text shaped by an engine and a shaper; a refusal fails the test.
+/// The two levels that keep clusters in order.
+pub const IN_ORDER: [BufferClusterLevel; 2] = [
+    BufferClusterLevel::MonotoneGraphemes,
+    BufferClusterLevel::MonotoneCharacters,
+];
+
+/// How texts are shaped.
+#[derive(Clone, Copy)]
+pub struct Shaping<'a> {
+    pub face: &'a MapFace,
+    pub shaper: Shaper,
+    pub direction: Direction,
+    pub level: BufferClusterLevel,
+    pub script: Option<Script>,
+    /// What stands before and after a text, which begins or ends where nothing does.
+    pub around: Option<(&'a str, &'a str)>,
+}
+
+/// Shaping by graphemes, in the direction and the script of the text.
+pub fn by_graphemes(face: &MapFace, shaper: Shaper) -> Shaping<'_> {
+    Shaping {
+        face,
+        shaper,
+        direction: Direction::Invalid,
+        level: BufferClusterLevel::MonotoneGraphemes,
+        script: None,
+        around: None,
+    }
+}
+
+/// The same in a direction and at a level.
+pub fn towards(how: Shaping<'_>, direction: Direction, level: BufferClusterLevel) -> Shaping<'_> {
+    Shaping {
+        direction,
+        level,
+        ..how
+    }
+}
+
+/// Tells a text what stands around it, and that it begins or ends where nothing does.
+fn put_around(text: &mut UnicodeBuffer, before: &str, after: &str) {
+    let mut flags = BufferFlags(0);
+    if before.is_empty() {
+        flags = flags.union(BufferFlags::BEGINNING_OF_TEXT);
+    }
+    if after.is_empty() {
+        flags = flags.union(BufferFlags::END_OF_TEXT);
+    }
+    text.set_pre_context(before);
+    text.set_post_context(after);
+    text.set_flags(flags);
+}
+
+/// A text to be shaped so. Its clusters are the places of its bytes.
+pub fn text_of(rt: &impl Abort, alloc: Global, how: Shaping<'_>, text: &str) -> UnicodeBuffer {
+    assert!(rt; text.len() <= 1000);
+    let mut buffer = UnicodeBuffer::new(alloc);
+    buffer.push_str(text).expect(rt, "memory");
+    buffer.set_direction(how.direction);
+    buffer.set_script(how.script);
+    buffer.set_cluster_level(how.level);
+    if let Some((before, after)) = how.around {
+        put_around(&mut buffer, before, after);
+    }
+    buffer
+}
+
+/// The glyphs of a text by an engine and a shaper.
 fn shaped_by<M, S>(
+    rt: &impl Abort,
     alloc: Global,
-    face: &MapFace,
+    how: Shaping<'_>,
     shaper: &S,
-    text: UnicodeBuffer,
-) -> Result<GlyphBuffer, Fail>
+    text: &str,
+) -> GlyphBuffer
 where
     M: hb_ot_layout_t<MapFace>,
     S: hb_ot_shaper_t<UnicodeDatabase, MapFace, M>,
 {
-    match shape::<UnicodeDatabase, MapFace, M, S>(alloc, face, shaper, &[], text) {
-        Ok(glyphs) => Ok(glyphs),
-        Err(_) => Err(Fail::from("refused")),
-    }
+    let text = text_of(rt, alloc, how, text);
+    shape::<UnicodeDatabase, MapFace, M, S>(alloc, how.face, shaper, &[], text).expect(rt, "glyphs")
 }
 
-/// The text shaped; a refusal fails the test.
-pub fn shaped(
-    alloc: Global,
-    face: &MapFace,
-    shaper: Shaper,
-    text: UnicodeBuffer,
-) -> Result<GlyphBuffer, Fail> {
-    match shaper {
-        Shaper::Default => shaped_by::<NoLookups, _>(alloc, face, &DEFAULT_SHAPER, text),
-        Shaper::Ligatures => shaped_by::<Ligatures, _>(alloc, face, &DEFAULT_SHAPER, text),
+/// The glyphs of a text.
+pub fn glyphs_of(rt: &impl Abort, alloc: Global, how: Shaping<'_>, text: &str) -> GlyphBuffer {
+    match how.shaper {
+        Shaper::Default => shaped_by::<NoLookups, _>(rt, alloc, how, &DEFAULT_SHAPER, text),
+        Shaper::Ligatures => shaped_by::<Ligatures, _>(rt, alloc, how, &DEFAULT_SHAPER, text),
         Shaper::Decomposed => {
             let shaper = Preferring::<Decomposed>::new();
-            shaped_by::<NoLookups, _>(alloc, face, &shaper, text)
+            shaped_by::<NoLookups, _>(rt, alloc, how, &shaper, text)
         }
-        Shaper::Hebrew => shaped_by::<NoLookups, _>(alloc, face, &HebrewShaper, text),
-        Shaper::Arabic => shaped_by::<NoLookups, _>(alloc, face, &ArabicShaper, text),
+        Shaper::Hebrew => shaped_by::<NoLookups, _>(rt, alloc, how, &HebrewShaper, text),
+        Shaper::Arabic => shaped_by::<NoLookups, _>(rt, alloc, how, &ArabicShaper, text),
     }
 }
 
-/// Puts the glyphs of a list from one place up to another after others, as they are seen in a text the first cluster
-/// of which is at `start`.
-pub fn see(
-    all: &mut Vec<Seen>,
+/// Two parts of a text, the second from a place on.
+pub fn split_at<'a>(rt: &impl Abort, text: &'a str, place: u32) -> (&'a str, &'a str) {
+    text.split_at_checked(place as usize)
+        .expect(rt, "a place between characters")
+}
+
+/// The lines of the glyphs of a text.
+pub fn lines_of(
+    rt: &impl Abort,
+    alloc: Global,
     glyphs: &GlyphBuffer,
-    (from, to): (usize, usize),
-    start: u32,
-) -> Result<(), Fail> {
-    for (info, position) in glyphs.iter().take(to).skip(from) {
-        all.push(seen_of(info, position, start))?;
-    }
-    Ok(())
+    text: &str,
+    width: u32,
+) -> Vec<Line> {
+    assert!(rt; text.len() <= 1000);
+    let text_end = text.len() as u32;
+    assert!(rt; can_cut(glyphs, text_end));
+    cut_lines(alloc, glyphs, text_end, width).expect(rt, "memory")
 }
 
-/// The text of these characters, each in the cluster of its place, the first at `start`.
-pub fn text_in_places(
-    alloc: Global,
-    characters: &[char],
-    start: u32,
-) -> Result<UnicodeBuffer, Fail> {
-    let mut text = UnicodeBuffer::new(alloc);
-    let mut place = start;
-    for c in characters {
-        text.add(*c, place)?;
-        place = place.saturating_add(1);
+/// Prints the glyphs of a list from one place up to another, each with its cluster, as ` 1@0 2@3`.
+pub fn print_glyphs(
+    rt: &impl Abort,
+    printed: &mut String,
+    glyphs: &GlyphBuffer,
+    (start, end): (usize, usize),
+) {
+    for place in start..end {
+        let info = glyphs.glyph_infos().get(place).expect(rt, "a glyph");
+        write!(printed, " {}@{}", info.glyph_id, info.cluster).expect(rt, "memory");
     }
-    Ok(text)
 }
 
-/// Compares the glyphs of these characters with their clusters, in the order of the line; each character is in
-/// the cluster of its place. The face has a glyph for the characters of `known` alone.
-fn assert_shaped(
+/// Prints the glyphs of a text over a face of some characters (`face_of`), in the order of the line.
+pub fn print_shaped(
     rt: &impl Abort,
     alloc: Global,
-    known: &[(char, u32)],
+    printed: &mut String,
     shaper: Shaper,
-    characters: &[char],
-    glyphs: &[(u32, u32)],
-) -> Result<(), Fail> {
-    let face = face_of(alloc, known)?;
-    let text = text_in_places(alloc, characters, 0)?;
-    assert_glyphs(rt, &shaped(alloc, &face, shaper, text)?, glyphs);
-    Ok(())
-}
-
-/// The characters of a face with their glyphs, a text, and its glyphs with their clusters.
-pub type Row<'a> = (&'a [(char, u32)], &'a [char], &'a [(u32, u32)]);
-
-/// Compares the glyphs of some texts by a shaper.
-pub fn assert_rows(
-    rt: &impl Abort,
-    alloc: Global,
-    shaper: Shaper,
-    rows: &[Row<'_>],
-) -> Result<(), Fail> {
-    for (known, characters, glyphs) in rows {
-        assert_shaped(rt, alloc, known, shaper, characters, glyphs)?;
-    }
-    Ok(())
-}
-
-/// Compares glyphs with their clusters.
-pub fn assert_glyphs(rt: &impl Abort, answer: &GlyphBuffer, glyphs: &[(u32, u32)]) {
-    assert_same(rt, answer.len(), glyphs.len());
-    for (info, wanted) in answer.glyph_infos().iter().zip(glyphs) {
-        assert_same(rt, (info.glyph_id, info.cluster), *wanted);
-    }
+    known: &str,
+    text: &str,
+) {
+    let face = face_of(rt, alloc, known);
+    let glyphs = glyphs_of(rt, alloc, by_graphemes(&face, shaper), text);
+    print_glyphs(rt, printed, &glyphs, (0, glyphs.len()));
 }

@@ -1,5 +1,6 @@
 //! Words under one spelling and another.
-use crate::shaping::{assert_same, assert_that, face_of, planned};
+use crate::rows::{Asked, assert_printed, assert_rows};
+use crate::shaping::{assert_that, face_of, planned};
 use shape_buffer::buffer::Direction;
 use shape_buffer::interfaces::{MapFace, NoLookups};
 use shape_pipeline::ot_shape_plan::hb_ot_shape_plan_t;
@@ -7,157 +8,122 @@ use shape_pipeline::ot_shaper::{Decomposed, Preferring};
 use shape_unicode::UnicodeDatabase;
 use shape_users::words::{Word, equivalent_spellings, find_plan, keep_word, spelled};
 use std::alloc::Global;
+use std::fmt::Write;
 use std::process::Abort;
-use std::test::Fail;
 
 /// A plan in the mode that decomposes fully.
 type Plan<'a> = hb_ot_shape_plan_t<'a, Preferring<Decomposed>, (), ()>;
 
-/// The place of the plan for a word.
-fn plan_for(alloc: Global, plans: &[Plan<'_>], spelling: &str) -> Result<Option<usize>, Fail> {
-    let text = spelled(alloc, spelling)?;
-    Ok(find_plan::<UnicodeDatabase, _, _, _>(plans, &text))
-}
-
-/// The place that a word is kept at.
+/// The place that a word is kept at by the plan for Latin, which is the second one.
 fn kept(
-    alloc: Global,
-    face: &MapFace,
-    plan: &Plan<'_>,
-    words: &mut Vec<Word>,
-    spelling: &str,
-) -> Result<usize, Fail> {
-    let text = spelled(alloc, spelling)?;
-    if !plan.fits::<UnicodeDatabase>(&text) {
-        return Err(Fail::from("the plan doesn't fit"));
-    }
-    let place = keep_word::<UnicodeDatabase, MapFace, NoLookups, _>(
-        alloc, face, plan, words, spelling,
-    )?;
-    Ok(place)
-}
-
-/// Compares a word's spelling and its glyphs.
-fn assert_word(rt: &impl Abort, word: &Word, spelling: &str, glyphs: &[u32]) {
-    assert_that(rt, word.spelling.as_str() == spelling);
-    assert_same(rt, word.glyphs.len(), glyphs.len());
-    for (info, glyph) in word.glyphs.glyph_infos().iter().zip(glyphs) {
-        assert_same(rt, info.glyph_id, *glyph);
-    }
-}
-
-/// A plan for Hebrew and one for Latin.
-fn plans_of<'a>(
-    alloc: Global,
-    face: &'a MapFace,
-    shaper: &'a Preferring<Decomposed>,
-) -> Result<[Plan<'a>; 2], Fail> {
-    let hebrew = planned(alloc, face, shaper, Direction::RightToLeft, b"Hebr")?;
-    let latin = planned(alloc, face, shaper, Direction::LeftToRight, b"Latn")?;
-    Ok([hebrew, latin])
-}
-
-/// Asserts that a spelling is kept at a place, and that the second plan serves it.
-fn assert_kept(
     rt: &impl Abort,
     alloc: Global,
     face: &MapFace,
     plans: &[Plan<'_>; 2],
     words: &mut Vec<Word>,
-    (spelling, place): (&str, usize),
-) -> Result<(), Fail> {
-    assert_same(rt, plan_for(alloc, plans, spelling)?, Some(1));
-    assert_same(rt, kept(alloc, face, &plans[1], words, spelling)?, place);
-    Ok(())
+    spelling: &str,
+) -> usize {
+    let text = spelled(alloc, spelling).expect(rt, "memory");
+    let place = find_plan::<UnicodeDatabase, _, _, _>(plans, &text);
+    assert_that(rt, place == Some(1));
+    let latin = &plans[1];
+    assert!(rt; latin.fits::<UnicodeDatabase>(&text));
+    keep_word::<UnicodeDatabase, MapFace, NoLookups, _>(alloc, face, latin, words, spelling).expect(
+        rt, "memory",
+    )
 }
 
-/// The words that are kept of some spellings, each of which must be kept at its place.
-fn words_of(
+/// The words that are kept of some spellings. Prints the place of each spelling's word.
+fn kept_words(
     rt: &impl Abort,
     alloc: Global,
+    printed: &mut String,
     face: &MapFace,
-    spellings: &[(&str, usize)],
-) -> Result<Vec<Word>, Fail> {
-    let shaper = Preferring::<Decomposed>::new();
-    let plans = plans_of(alloc, face, &shaper)?;
+    plans: &[Plan<'_>; 2],
+    spellings: &str,
+) -> Vec<Word> {
     let mut words: Vec<Word> = Vec::new(alloc);
-    for row in spellings {
-        assert_kept(rt, alloc, face, &plans, &mut words, *row)?;
+    for spelling in spellings.lines() {
+        let place = kept(rt, alloc, face, plans, &mut words, spelling.trim());
+        write!(printed, " {place}").expect(rt, "memory");
     }
-    Ok(words)
+    words
 }
 
-/// Compares words with their spellings and their glyphs.
-fn assert_words(rt: &impl Abort, words: &[Word], wants: &[(&str, &[u32])]) {
-    assert_same(rt, words.len(), wants.len());
-    for (word, (spelling, glyphs)) in words.iter().zip(wants) {
-        assert_word(rt, word, spelling, glyphs);
+/// Prints words with their glyphs, as `; SPELLING 1 3 2`.
+fn print_words(rt: &impl Abort, printed: &mut String, words: &[Word]) {
+    for word in words {
+        write!(printed, "; {}", word.spelling).expect(rt, "memory");
+        for info in word.glyphs.glyph_infos() {
+            write!(printed, " {}", info.glyph_id).expect(rt, "memory");
+        }
     }
 }
 
-/// One letter more with an accent, spelled as one character and as two, and without the accent; and the places of
-/// their words.
-const SPELLINGS: [(&str, usize); 3] = [
-    ("q\u{301}\u{E9}", 0),
-    ("q\u{301}e\u{301}", 0),
-    ("q\u{301}e", 1),
-];
+/// Prints the places at which spellings are kept, and the words that are kept.
+fn print_kept(
+    rt: &impl Abort,
+    alloc: Global,
+    printed: &mut String,
+    face: &MapFace,
+    spellings: &str,
+) {
+    let shaper = Preferring::<Decomposed>::new();
+    let plans = [
+        planned(rt, alloc, face, &shaper, Direction::RightToLeft, b"Hebr"),
+        planned(rt, alloc, face, &shaper, Direction::LeftToRight, b"Latn"),
+    ];
+    let words = kept_words(rt, alloc, printed, face, &plans, spellings);
+    print_words(rt, printed, words.as_slice());
+}
 
-/// What is kept: the second spelling has what the first one had shaped.
-const WORDS: [(&str, &[u32]); 2] = [("q\u{301}\u{E9}", &[1, 3, 2, 3]), ("q\u{301}e", &[1, 3, 2])];
+/// Compares the places at which spellings are kept, and the words that are kept.
+fn assert_kept(rt: &impl Abort, alloc: Global, spellings: &str, wanted: &str) {
+    let face = face_of(rt, alloc, "qe\u{301}\u{E9}");
+    let mut printed = String::new(alloc);
+    print_kept(rt, alloc, &mut printed, &face, spellings);
+    assert_printed(rt, printed.as_str(), wanted);
+}
 
+/// One letter more with an accent, spelled as one character and as two, and without the accent. The second spelling
+/// has what the first one had shaped.
 #[test]
-fn equivalent_spellings_are_one_word(rt: HostRuntime) -> Result<(), Fail> {
-    let alloc = rt.alloc();
-    let face = face_of(alloc, &[('q', 1), ('e', 2), ('\u{301}', 3), ('\u{E9}', 4)])?;
-    let words = words_of(&rt, alloc, &face, &SPELLINGS)?;
-    assert_words(&rt, words.as_slice(), &WORDS);
-    Ok(())
+fn equivalent_spellings_are_one_word(rt: HostRuntime) {
+    let spellings = "q\u{301}\u{E9}
+        q\u{301}e\u{301}
+        q\u{301}e";
+    let wanted = " 0 0 1; q\u{301}\u{E9} 1 3 2 3; q\u{301}e 1 3 2";
+    assert_kept(&rt, rt.alloc(), spellings, wanted);
 }
 
 /// Whether two spellings are equivalent, if this can be told.
-fn told(
-    alloc: Global,
-    face: &MapFace,
-    plan: &Plan<'_>,
-    (first, second): (&str, &str),
-) -> Result<Option<bool>, Fail> {
-    let told = equivalent_spellings::<UnicodeDatabase, MapFace, NoLookups, _>(
-        alloc, face, plan, first, second,
-    )?;
-    Ok(told)
-}
-
-/// Compares what is told of pairs of spellings.
-fn assert_told(
-    rt: &impl Abort,
-    alloc: Global,
-    face: &MapFace,
-    cases: &[(&str, &str, Option<bool>)],
-) -> Result<(), Fail> {
+fn told(rt: &impl Abort, alloc: Global, face: &MapFace, first: &str, second: &str) -> Option<bool> {
     let shaper = Preferring::<Decomposed>::new();
-    let plan = planned(alloc, face, &shaper, Direction::LeftToRight, b"Latn")?;
-    for (first, second, want) in cases {
-        assert_same(rt, told(alloc, face, &plan, (first, second))?, *want);
-    }
-    Ok(())
+    let plan = planned(rt, alloc, face, &shaper, Direction::LeftToRight, b"Latn");
+    equivalent_spellings::<UnicodeDatabase, MapFace, NoLookups, _>(
+        alloc, face, &plan, first, second,
+    ).expect(rt, "memory")
 }
 
-/// What the face's glyphs and the text leave open isn't answered.
+/// Prints whether two spellings are equivalent: ` yes`, ` no`, or ` open` if this can't be told.
+pub fn print_told(rt: &impl Abort, alloc: Global, printed: &mut String, first: &str, second: &str) {
+    let face = face_of(rt, alloc, "qe\u{301}\u{FE00}");
+    let answer = match told(rt, alloc, &face, first, second) {
+        Some(true) => " yes",
+        Some(false) => " no",
+        None => " open",
+    };
+    printed.push_str(answer).expect(rt, "memory");
+}
+
+/// What the face's glyphs and the text leave open isn't answered: no mark past the first character, no glyph for x, a
+/// variation selector.
 #[test]
-fn spellings_that_can_be_told(rt: HostRuntime) -> Result<(), Fail> {
-    let alloc = rt.alloc();
-    let face = face_of(
-        alloc,
-        &[('q', 1), ('e', 2), ('\u{301}', 3), ('\u{FE00}', 4)],
-    )?;
-    let cases = [
-        ("q\u{301}\u{E9}", "q\u{301}e\u{301}", Some(true)),
-        ("q\u{301}\u{E9}", "q\u{301}e", Some(false)),
-        // no mark past the first character, no glyph for x, a variation selector
-        ("qe", "q\u{301}e", None),
-        ("q\u{301}x", "q\u{301}e", None),
-        ("q\u{301}e", "q\u{301}e\u{FE00}", None),
-    ];
-    assert_told(&rt, alloc, &face, &cases)
+fn spellings_that_can_be_told(rt: HostRuntime) {
+    let rows = "q\u{301}\u{E9} | q\u{301}e\u{301} -> yes
+        q\u{301}\u{E9} | q\u{301}e -> no
+        qe | q\u{301}e -> open
+        q\u{301}x | q\u{301}e -> open
+        q\u{301}e | q\u{301}e\u{FE00} -> open";
+    assert_rows(&rt, rt.alloc(), Asked::Told, rows);
 }
