@@ -1,20 +1,18 @@
-use crate::support::{
-    append, assert_advances, assert_list, assert_rows, assert_same, assert_that, filled, text_of,
-    with_every_property,
-};
+//! Each call of a text, of its buffer and of glyphs.
+
+use crate::sessions::{check_lines, check_rows};
+use crate::support::{assert_chars, assert_same, assert_that, text_of, with_every_property};
 use shape_buffer::buffer::{
-    BufferClusterLevel, BufferFlags, Direction, GlyphBuffer, GlyphId, GlyphPosition,
-    GlyphPropsFlags, Language, ScratchFlags, Script, ShapeError, UnicodeBuffer, hb_buffer_t,
-    hb_glyph_info_t, hb_tag_t, hb_unicode_general_category_t,
+    BufferClusterLevel, BufferFlags, Direction, GlyphBuffer, GlyphId, GlyphPropsFlags, Language,
+    ScratchFlags, Script, ShapeError, UnicodeBuffer, hb_buffer_t, hb_glyph_info_t, hb_tag_t,
+    hb_unicode_general_category_t,
 };
-use std::alloc::Global;
 use std::process::Abort;
-use std::test::Fail;
 
 /// An empty text with all that can be set.
-fn set(alloc: Global) -> Result<UnicodeBuffer, Fail> {
-    let language = Language(String::from_str(alloc, "de")?);
-    let mut text = UnicodeBuffer::new(alloc);
+fn set(rt: &(impl Abort + AllocGlobal)) -> UnicodeBuffer {
+    let language = Language(String::from_str(rt.alloc(), "de").expect(rt, "memory"));
+    let mut text = UnicodeBuffer::new(rt.alloc());
     text.set_direction(Direction::RightToLeft);
     text.set_script(Some(Script(hb_tag_t::from_bytes(b"Latn"))));
     text.set_language(Some(language));
@@ -24,7 +22,7 @@ fn set(alloc: Global) -> Result<UnicodeBuffer, Fail> {
     text.set_not_found_variation_selector_glyph(Some(GlyphId(4)));
     text.set_pre_context("ä1234567");
     text.set_post_context("ß234567");
-    Ok(text)
+    text
 }
 
 /// Compares what is set of a text with that.
@@ -41,14 +39,13 @@ fn assert_set(rt: &impl Abort, text: &UnicodeBuffer) {
         text.not_found_variation_selector_glyph(),
         Some(GlyphId(4)),
     );
-    assert_list(rt, text.pre_context(), &['3', '4', '5', '6', '7']);
-    assert_list(rt, text.post_context(), &['ß', '2', '3', '4', '5']);
+    assert_chars(rt, text.pre_context(), "34567");
+    assert_chars(rt, text.post_context(), "ß2345");
 }
 
 #[test]
-fn settings(rt: HostRuntime) -> Result<(), Fail> {
-    assert_set(&rt, &set(rt.alloc())?);
-    Ok(())
+fn settings(rt: HostRuntime) {
+    assert_set(&rt, &set(&rt));
 }
 
 /// Sets all again, except the level.
@@ -66,7 +63,7 @@ fn set_again(buffer: &mut hb_buffer_t) {
 
 /// Compares what is set again, and the level.
 fn assert_set_again(rt: &impl Abort, buffer: &hb_buffer_t) {
-    assert_list(rt, buffer.pre_context(), &['ä', 'b']);
+    assert_chars(rt, buffer.pre_context(), "äb");
     assert_that(rt, buffer.post_context().is_empty());
     assert_same(rt, buffer.direction(), Direction::LeftToRight);
     assert_same(rt, buffer.script(), None);
@@ -79,73 +76,31 @@ fn assert_set_again(rt: &impl Abort, buffer: &hb_buffer_t) {
 }
 
 #[test]
-fn settings_of_a_buffer(rt: HostRuntime) -> Result<(), Fail> {
-    let mut buffer = set(rt.alloc())?.into_inner();
+fn settings_of_a_buffer(rt: HostRuntime) {
+    let mut buffer = set(&rt).into_inner();
     set_again(&mut buffer);
     assert_set_again(&rt, &buffer);
-    Ok(())
 }
 
-/// Four characters, the first one in cluster 9.
-fn four(alloc: Global) -> Result<UnicodeBuffer, Fail> {
-    let mut text = UnicodeBuffer::new(alloc);
-    text.add('x', 9)?;
-    append(&mut text, "a\u{301}b")?;
-    Ok(text)
-}
-
-/// Gives an item an advance of 7.
-fn advance_by_seven(buffer: &mut hb_buffer_t, i: usize) {
-    let mut position = GlyphPosition::zero();
-    position.x_advance = 7;
-    if i < buffer.len() {
-        buffer.set_position(i, position);
-    }
-}
-
-/// Puts another item in the place of the second.
-fn write_second(buffer: &mut hb_buffer_t) {
-    if 1 < buffer.len() {
-        buffer.set_info(1, hb_glyph_info_t::new('y', 5));
-    }
-}
-
-/// Puts an item after the first one.
-fn insert_second(buffer: &mut hb_buffer_t) -> Result<(), Fail> {
-    if 1 <= buffer.len() {
-        buffer.insert(1, hb_glyph_info_t::new('z', 2))?;
-    }
-    Ok(())
-}
-
-fn remove_first(buffer: &mut hb_buffer_t) {
-    if !buffer.is_empty() {
-        buffer.remove(0);
-    }
+/// The buffer of four characters, the first one in cluster 9.
+fn four(rt: &(impl Abort + AllocGlobal)) -> hb_buffer_t {
+    let mut text = UnicodeBuffer::new(rt.alloc());
+    text.add('x', 9).expect(rt, "memory");
+    text.push_str("a\u{301}b").expect(rt, "memory");
+    assert_same(rt, (text.len(), text.as_inner().len()), (4, 4));
+    text.into_inner()
 }
 
 #[test]
-fn lists(rt: HostRuntime) -> Result<(), Fail> {
-    let text = four(rt.alloc())?;
-    assert_same(&rt, (text.len(), text.as_inner().len()), (4, 4));
-    let mut buffer = text.into_inner();
-    assert_rows(&rt, &buffer, &[(9, 0), (0, 0), (1, 0), (3, 0)]);
-    buffer.enter();
-    assert_same(&rt, buffer.length_limit(), 16384);
-    assert_same(&rt, (buffer.is_empty(), buffer.len()), (false, 4));
-    advance_by_seven(&mut buffer, 1);
-    write_second(&mut buffer);
-    insert_second(&mut buffer)?;
-    assert_same(&rt, buffer.len(), 5);
-    remove_first(&mut buffer);
-    assert_rows(&rt, &buffer, &[(2, 0), (5, 0), (1, 0), (3, 0)]);
-    assert_advances(&rt, &buffer, &[0, 7, 0, 0]);
-    buffer.truncate(3);
-    assert_rows(&rt, &buffer, &[(2, 0), (5, 0), (1, 0)]);
-    assert_advances(&rt, &buffer, &[0, 7, 0]);
-    buffer.leave();
-    assert_same(&rt, buffer.length_limit(), usize::MAX);
-    Ok(())
+fn lists(rt: HostRuntime) {
+    check_lines(
+        &rt,
+        four(&rt),
+        "-> 9/0 0/0 1/0 3/0
+         enter, limit 16384, len 4, advance 1..7, write 1..5, insert 1..2, len 5, remove 0 -> 2/0 5/0+7 1/0 3/0
+         truncate 3 -> 2/0 5/0+7 1/0
+         leave, limit 18446744073709551615 -> 2/0 5/0+7 1/0",
+    );
 }
 
 /// How many glyphs there are, by themselves, as items and as positions.
@@ -155,19 +110,24 @@ fn lengths(glyphs: &GlyphBuffer) -> (usize, usize, usize) {
 }
 
 #[test]
-fn glyphs(rt: HostRuntime) -> Result<(), Fail> {
-    let text = text_of(rt.alloc(), "a\u{301}bc")?;
-    let glyphs = text.into_inner().into_glyphs();
+fn glyphs(rt: HostRuntime) {
+    let glyphs = text_of(&rt, "a\u{301}bc").into_inner().into_glyphs();
     assert_same(&rt, lengths(&glyphs), (4, 4, 4));
     assert_same(&rt, glyphs.clear().len(), 0);
-    Ok(())
 }
 
-/// The same item so many times.
-fn repeated(alloc: Global, count: usize) -> Result<Vec<hb_glyph_info_t>, Fail> {
-    let mut items: Vec<hb_glyph_info_t> = Vec::new(alloc);
-    items.resize(count, hb_glyph_info_t::new('a', 0))?;
-    Ok(items)
+/// Puts so many items in the place of all others: what that answers, and how many there are then.
+fn replaced(
+    rt: &(impl Abort + AllocGlobal),
+    buffer: &mut hb_buffer_t,
+    count: usize,
+) -> (Result<(), ShapeError>, usize) {
+    let mut items: Vec<hb_glyph_info_t> = Vec::new(rt.alloc());
+    items
+        .resize(count, hb_glyph_info_t::new('a', 0))
+        .expect(rt, "memory");
+    let answer = buffer.replace_infos(items);
+    (answer, buffer.len())
 }
 
 /// Puts an item before all others.
@@ -175,28 +135,19 @@ fn insert_first(buffer: &mut hb_buffer_t) -> Result<(), ShapeError> {
     buffer.insert(0, hb_glyph_info_t::new('b', 1))
 }
 
-/// Puts items in the place of all others.
-fn replace(buffer: &mut hb_buffer_t, items: Vec<hb_glyph_info_t>) -> Result<(), ShapeError> {
-    buffer.replace_infos(items)
-}
-
 #[test]
-fn limits(rt: HostRuntime) -> Result<(), Fail> {
+fn limits(rt: HostRuntime) {
     let mut buffer = hb_buffer_t::new(rt.alloc());
     buffer.enter();
-    replace(&mut buffer, repeated(rt.alloc(), 16384)?)?;
-    assert_same(&rt, buffer.len(), 16384);
-    let refused = insert_first(&mut buffer);
-    assert_that(&rt, refused == Err(ShapeError::Length));
-    let refused = replace(&mut buffer, repeated(rt.alloc(), 16385)?);
-    assert_that(&rt, refused == Err(ShapeError::Length));
-    assert_same(&rt, buffer.len(), 16384);
+    assert_same(&rt, replaced(&rt, &mut buffer, 16384), (Ok(()), 16384));
+    assert_same(&rt, insert_first(&mut buffer), Err(ShapeError::Length));
+    let refused = replaced(&rt, &mut buffer, 16385);
+    assert_same(&rt, refused, (Err(ShapeError::Length), 16384));
     buffer.set_cluster_level(BufferClusterLevel::Characters);
     buffer.reset();
     assert_that(&rt, buffer.is_empty());
     let text = buffer.clear();
     assert_same(&rt, text.cluster_level(), BufferClusterLevel::Characters);
-    Ok(())
 }
 
 #[test]
@@ -235,47 +186,27 @@ fn properties(rt: HostRuntime) {
     assert_same(&rt, item.cluster, 3);
 }
 
-/// Exchanges two items with their positions.
-fn exchange(buffer: &mut hb_buffer_t, i: usize, j: usize) {
-    if i < buffer.len() && j < buffer.len() {
-        buffer.swap(i, j);
-    }
-}
-
-/// Exchanges two items, and not their positions.
-fn exchange_infos(buffer: &mut hb_buffer_t, i: usize, j: usize) {
-    if i < buffer.len() && j < buffer.len() {
-        buffer.swap_infos(i, j);
-    }
-}
-
-/// Compares of each item whether it is unsafe to break, whether it is unsafe to concat, and whether a tatweel is safe
-/// before it.
-fn assert_flags(rt: &impl Abort, buffer: &hb_buffer_t, flags: &[(bool, bool, bool)]) {
-    for (item, wanted) in buffer.infos().iter().zip(flags) {
-        let (breaks, concats) = (item.unsafe_to_break(), item.unsafe_to_concat());
-        let found = (breaks, concats, item.safe_to_insert_tatweel());
-        assert_same(rt, found, *wanted);
-    }
+/// The masks say what is unsafe and safe at each item.
+fn assert_flags(rt: &impl Abort, mask: u32, flags: (bool, bool, bool)) {
+    let mut item = hb_glyph_info_t::new('a', 0);
+    item.mask = mask;
+    let found = (
+        item.unsafe_to_break(),
+        item.unsafe_to_concat(),
+        item.safe_to_insert_tatweel(),
+    );
+    assert_same(rt, found, flags);
 }
 
 #[test]
-fn items_are_exchanged_with_their_positions(rt: HostRuntime) -> Result<(), Fail> {
-    let level = BufferClusterLevel::Characters;
-    let mut buffer = filled(rt.alloc(), level, &[(0, 1), (1, 2), (2, 4)])?;
-    advance_by_seven(&mut buffer, 0);
-    exchange(&mut buffer, 0, 2);
-    assert_rows(&rt, &buffer, &[(2, 4), (1, 2), (0, 1)]);
-    assert_advances(&rt, &buffer, &[0, 0, 7]);
-    exchange_infos(&mut buffer, 1, 2);
-    assert_rows(&rt, &buffer, &[(2, 4), (0, 1), (1, 2)]);
-    exchange_infos(&mut buffer, 2, 1);
-    assert_advances(&rt, &buffer, &[0, 0, 7]);
-    let flags = [
-        (false, false, true),
-        (false, true, false),
-        (true, false, false),
-    ];
-    assert_flags(&rt, &buffer, &flags);
-    Ok(())
+fn items_are_exchanged_with_their_positions(rt: HostRuntime) {
+    check_rows(
+        &rt,
+        "characters | 0/1 1/2 2/4 | advance 0..7, swap 0..2 -> 2/4 1/2 0/1+7
+         characters | 2/4 1/2 0/1+7 | swap_infos 1..2 -> 2/4 0/1 1/2+7
+         characters | 2/4 0/1 1/2+7 | swap_infos 2..1 -> 2/4 1/2 0/1+7",
+    );
+    assert_flags(&rt, 4, (false, false, true));
+    assert_flags(&rt, 2, (false, true, false));
+    assert_flags(&rt, 1, (true, false, false));
 }

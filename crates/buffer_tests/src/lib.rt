@@ -22,6 +22,8 @@ mod reaches;
 #[cfg(test)]
 mod refusals;
 #[cfg(test)]
+mod sessions;
+#[cfg(test)]
 mod spans;
 #[cfg(test)]
 mod support;

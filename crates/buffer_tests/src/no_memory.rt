@@ -13,18 +13,19 @@ use shape_buffer::position_walks::update_positions;
 use shape_buffer::walks::update_items;
 use std::alloc::Global;
 use std::process::Abort;
-use std::test::Fail;
 
 /// A buffer of sixteen items, and a language to be set. The lists have room for so many items and no
 /// more, so that a growth by one is seen.
-fn begun(alloc: Global) -> Result<(hb_buffer_t, Language), Fail> {
+fn begun(rt: &impl Abort, alloc: Global) -> (hb_buffer_t, Language) {
     let mut infos: Vec<hb_glyph_info_t> = Vec::new(alloc);
     for cluster in 0..16 {
-        infos.push(hb_glyph_info_t::new('g', cluster))?;
+        let info = hb_glyph_info_t::new('g', cluster);
+        infos.push(info).expect(rt, "memory");
     }
     let mut buffer = UnicodeBuffer::new(alloc).into_inner();
-    buffer.replace_infos(infos)?;
-    Ok((buffer, Language(String::from_str(alloc, "de")?)))
+    buffer.replace_infos(infos).expect(rt, "memory");
+    let language = String::from_str(alloc, "de").expect(rt, "memory");
+    (buffer, Language(language))
 }
 
 /// Sets all that a run asks.
@@ -41,9 +42,18 @@ fn set_all(buffer: &mut hb_buffer_t, language: Language) {
     buffer.set_post_context("behind");
 }
 
+/// How many of some are true.
+fn count(all: &[bool]) -> usize {
+    let mut count: usize = 0;
+    for is_set in all {
+        count = count.saturating_add(usize::from(*is_set));
+    }
+    count
+}
+
 /// How many settings aren't those of a new buffer.
 fn count_settings(buffer: &hb_buffer_t) -> usize {
-    [
+    count(&[
         buffer.direction() != Direction::Invalid,
         buffer.script().is_some(),
         buffer.language().is_some(),
@@ -55,10 +65,7 @@ fn count_settings(buffer: &hb_buffer_t) -> usize {
         !buffer.pre_context().is_empty(),
         !buffer.post_context().is_empty(),
         buffer.length_limit() != usize::MAX,
-    ]
-    .iter()
-    .filter(|is_set| **is_set)
-    .count()
+    ])
 }
 
 /// Guesses script and direction, which are set, and then those of the text.
@@ -176,7 +183,7 @@ fn unmarked(info: &hb_glyph_info_t) -> hb_glyph_info_t {
 /// How many properties of an item aren't those of a new one, and how many flags it has.
 fn count_properties(item: &hb_glyph_info_t) -> usize {
     let letter = hb_unicode_general_category_t::UppercaseLetter;
-    [
+    count(&[
         item._hb_glyph_info_get_general_category() != letter,
         item._hb_glyph_info_is_unicode_mark(),
         item._hb_glyph_info_get_modified_combining_class() != 0,
@@ -199,10 +206,7 @@ fn count_properties(item: &hb_glyph_info_t) -> usize {
         item.unsafe_to_break(),
         item.unsafe_to_concat(),
         item.safe_to_insert_tatweel(),
-    ]
-    .iter()
-    .filter(|is_set| **is_set)
-    .count()
+    ])
 }
 
 /// Hands the items out as glyphs, and gives the buffer back for new text.
@@ -229,16 +233,15 @@ fn reset(mut text: UnicodeBuffer) -> UnicodeBuffer {
 }
 
 #[test]
-fn filled_is_begun(rt: HostRuntime) -> Result<(), Fail> {
-    let (buffer, language) = begun(rt.alloc())?;
+fn filled_is_begun(rt: HostRuntime) {
+    let (buffer, language) = begun(&rt, rt.alloc());
     assert_same(&rt, buffer.len(), 16);
     assert_that(&rt, language.0.as_str() == "de");
-    Ok(())
 }
 
 #[test]
-fn filled_and_used(rt: HostRuntime) -> Result<(), Fail> {
-    let (mut buffer, language) = begun(rt.alloc())?;
+fn filled_and_used(rt: HostRuntime) {
+    let (mut buffer, language) = begun(&rt, rt.alloc());
     buffer.enter();
     set_all(&mut buffer, language);
     assert_same(&rt, count_settings(&buffer), 11);
@@ -261,5 +264,4 @@ fn filled_and_used(rt: HostRuntime) -> Result<(), Fail> {
     buffer.leave();
     assert_that(&rt, reset(hand_out(&rt, buffer)).as_inner().is_empty());
     assert_that(&rt, hb_buffer_t::new(rt.alloc()).is_empty());
-    Ok(())
 }

@@ -3,71 +3,75 @@
 
 use crate::support::assert_same;
 use shape_buffer::buffer::{ShapeError, UnicodeBuffer, hb_buffer_t, hb_glyph_info_t};
-use std::alloc::Global;
+use std::alloc::{AllocError, Global};
 use std::process::Abort;
 use std::test::Fail;
 
-/// What a call on an empty buffer answers, and how many items there are after it.
-type Answer = (Result<(), ShapeError>, usize);
-
-/// Whether a call was refused. Compares how many items there are after it.
-fn is_refused(rt: &impl Abort, (answer, len): Answer, asked: usize) -> bool {
+/// Whether a call on an empty buffer was refused. Compares how many items there are after it.
+fn is_refused(
+    rt: &impl Abort,
+    answer: Result<(), ShapeError>,
+    buffer: hb_buffer_t,
+    asked: usize,
+) -> bool {
     match answer {
         Ok(()) => {
-            assert_same(rt, len, asked);
+            assert_same(rt, buffer.len(), asked);
             false
         }
         Err(error) => {
-            assert_same(rt, (error, len), (ShapeError::Memory, 0));
+            assert_same(rt, (error, buffer.len()), (ShapeError::Memory, 0));
             true
         }
     }
 }
 
-fn added(alloc: Global) -> Answer {
+fn add(rt: &impl Abort, alloc: Global) -> bool {
     let mut text = UnicodeBuffer::new(alloc);
     let answer = text.add('a', 0);
-    (answer, text.len())
+    is_refused(rt, answer, text.into_inner(), 1)
 }
 
-fn pushed(alloc: Global, characters: &str) -> Answer {
+fn push(rt: &impl Abort, alloc: Global) -> bool {
     let mut text = UnicodeBuffer::new(alloc);
-    if 100 < characters.len() {
-        return (Err(ShapeError::Length), 0);
-    }
-    let answer = text.push_str(characters);
-    (answer, text.len())
+    let answer = text.push_str("b\u{301}");
+    is_refused(rt, answer, text.into_inner(), 2)
 }
 
-fn reserved(alloc: Global) -> Answer {
+fn reserve(rt: &impl Abort, alloc: Global) -> bool {
     let mut text = UnicodeBuffer::new(alloc);
     let answer = text.reserve(2);
-    (answer, text.len())
+    is_refused(rt, answer, text.into_inner(), 0)
 }
 
-fn inserted(alloc: Global) -> Answer {
+fn insert(rt: &impl Abort, alloc: Global) -> bool {
     let mut buffer = UnicodeBuffer::new(alloc).into_inner();
     let answer = buffer.insert(0, hb_glyph_info_t::new('c', 0));
-    (answer, buffer.len())
+    is_refused(rt, answer, buffer, 1)
 }
 
-/// Fails if the list of items itself is refused.
-fn replaced(alloc: Global) -> Result<Answer, Fail> {
+/// Two items.
+fn two(alloc: Global) -> Result<Vec<hb_glyph_info_t>, AllocError> {
     let mut infos = Vec::new(alloc);
     infos.resize(2, hb_glyph_info_t::new('d', 0))?;
-    let mut buffer: hb_buffer_t = UnicodeBuffer::new(alloc).into_inner();
-    let answer = buffer.replace_infos(infos);
-    Ok((answer, buffer.len()))
+    Ok(infos)
 }
 
+fn replace(rt: &impl Abort, alloc: Global, infos: Vec<hb_glyph_info_t>) -> bool {
+    let mut buffer: hb_buffer_t = UnicodeBuffer::new(alloc).into_inner();
+    let answer = buffer.replace_infos(infos);
+    is_refused(rt, answer, buffer, 2)
+}
+
+/// Fails if the list of two items itself is refused.
 #[test]
 fn growths(rt: HostRuntime) -> Result<(), Fail> {
     let alloc = rt.alloc();
-    let mut refused = is_refused(&rt, added(alloc), 1);
-    refused |= is_refused(&rt, pushed(alloc, "b\u{301}"), 2);
-    refused |= is_refused(&rt, reserved(alloc), 0);
-    refused |= is_refused(&rt, inserted(alloc), 1);
-    refused |= is_refused(&rt, replaced(alloc)?, 2);
+    let mut refused = add(&rt, alloc);
+    refused |= push(&rt, alloc);
+    refused |= reserve(&rt, alloc);
+    refused |= insert(&rt, alloc);
+    refused |= replace(&rt, alloc, two(alloc)?);
     if refused {
         return Err(Fail::from("refused"));
     }

@@ -1,24 +1,19 @@
-//! Small buffers for the tests, and what they show.
+//! Small buffers for the tests, what they show, and calls on them, written in lines of text.
 //!
-//! Tests compare by the functions below, which have no contract: the proof of a test takes a second for each
-//! `assert_eq!` of its own, and next to nothing for a call.
+//! A test hands its rows to one function, which reads each row, does what it says and compares what is left, printed
+//! in one line: the proof of a test takes next to nothing for a text, and a good part of a second for each list of
+//! its own. The functions below have no contract. A row that can't be read ends the test, as does a text without rows.
 
 use shape_buffer::buffer::{
-    BufferClusterLevel, GlyphPropsFlags, ScratchFlags, UnicodeBuffer, hb_buffer_t, hb_glyph_info_t,
-    hb_unicode_general_category_t,
+    BufferClusterLevel, GlyphPosition, GlyphPropsFlags, ScratchFlags, ShapeError, UnicodeBuffer,
+    hb_buffer_t, hb_glyph_info_t, hb_unicode_general_category_t,
 };
-use std::alloc::Global;
-use std::fmt::Debug;
+use std::fmt::{Debug, Display};
 use std::process::Abort;
-use std::test::Fail;
+use std::str::FromStr;
 
 /// Compares two values.
 pub fn assert_same<T: Copy + PartialEq + Debug>(rt: &impl Abort, found: T, wanted: T) {
-    assert_eq!(rt; found, wanted);
-}
-
-/// Compares two lists.
-pub fn assert_list<T: PartialEq + Debug>(rt: &impl Abort, found: &[T], wanted: &[T]) {
     assert_eq!(rt; found, wanted);
 }
 
@@ -27,64 +22,139 @@ pub fn assert_that(rt: &impl Abort, condition: bool) {
     assert!(rt; condition);
 }
 
-/// Compares clusters and masks.
-pub fn assert_rows(rt: &impl Abort, buffer: &hb_buffer_t, rows: &[(u32, u32)]) {
-    assert_same(rt, buffer.len(), rows.len());
-    for (info, wanted) in buffer.infos().iter().zip(rows) {
-        assert_same(rt, (info.cluster, info.mask), *wanted);
+/// Compares what a row gives with what it says.
+pub fn assert_shown(rt: &impl Abort, row: &str, found: &String, wanted: &str) {
+    assert_eq!(rt; found.as_str().trim_end(), wanted, "in {row}");
+}
+
+/// Compares a list of characters with a text.
+pub fn assert_chars(rt: &impl Abort, found: &[char], wanted: &str) {
+    let mut chars = wanted.chars();
+    for c in found {
+        assert_same(rt, Some(*c), chars.next());
+    }
+    assert_same(rt, chars.next(), None);
+}
+
+/// The rows of a text, a line each.
+pub fn rows_of<'a>(rt: &impl Abort, text: &'a str) -> &'a str {
+    let rows = text.trim();
+    assert!(rt; !rows.is_empty());
+    rows
+}
+
+/// What stands before a mark and behind it.
+pub fn parts<'a>(rt: &impl Abort, text: &'a str, mark: &str) -> (&'a str, &'a str) {
+    match text.split_once(mark) {
+        Some((before, behind)) => (before.trim(), behind.trim()),
+        None => panic!(rt; "no {mark} in {text}"),
     }
 }
 
-/// Compares advances to the right.
-pub fn assert_advances(rt: &impl Abort, buffer: &hb_buffer_t, advances: &[i32]) {
-    assert_same(rt, buffer.len(), advances.len());
-    for (position, advance) in buffer.positions().iter().zip(advances) {
-        assert_same(rt, position.x_advance, *advance);
+/// The number that a word writes.
+pub fn number<T: FromStr>(rt: &impl Abort, word: &str) -> T
+where
+    T::Err: Drop,
+{
+    match word.parse::<T>() {
+        Ok(number) => number,
+        Err(_) => panic!(rt; "{word} is no number"),
     }
 }
 
-/// Appends a text.
-pub fn append(text: &mut UnicodeBuffer, more: &str) -> Result<(), Fail> {
-    if 100 < more.len() {
-        return Err(Fail::from("long"));
-    }
-    text.push_str(more)?;
-    Ok(())
+/// The item that a word writes: `CLUSTER/MASK`, after `GLYPH@` if it has one, and after `*` if it is a continuation.
+/// Advances may stand behind it.
+fn item(rt: &impl Abort, word: &str) -> hb_glyph_info_t {
+    let (word, _) = word.split_once('+').unwrap_or((word, ""));
+    let (glyph, place) = word.split_once('@').unwrap_or(("0", word));
+    let (cluster, mask) = parts(rt, place.trim_start_matches('*'), "/");
+    let mut info = hb_glyph_info_t::new('a', number(rt, cluster));
+    info.glyph_id = number(rt, glyph);
+    info.mask = number(rt, mask);
+    info._hb_glyph_info_set_continuation(word.starts_with('*'));
+    info
 }
 
-/// A text with nothing set.
-pub fn text_of(alloc: Global, characters: &str) -> Result<UnicodeBuffer, Fail> {
-    let mut text = UnicodeBuffer::new(alloc);
-    append(&mut text, characters)?;
-    Ok(text)
+/// The advances behind an item: `+RIGHT` or `+RIGHT,UP`; none is 0.
+fn position(rt: &impl Abort, word: &str) -> GlyphPosition {
+    let (_, advances) = word.split_once('+').unwrap_or((word, "0"));
+    let (right, up) = advances.split_once(',').unwrap_or((advances, "0"));
+    let mut position = GlyphPosition::zero();
+    position.x_advance = number(rt, right);
+    position.y_advance = number(rt, up);
+    position
 }
 
-/// A buffer of these clusters and masks.
-pub fn filled(
-    alloc: Global,
-    level: BufferClusterLevel,
-    rows: &[(u32, u32)],
-) -> Result<hb_buffer_t, Fail> {
-    let mut infos: Vec<hb_glyph_info_t> = Vec::new(alloc);
-    for row in rows.iter() {
-        let mut info = hb_glyph_info_t::new('a', row.0);
-        info.mask = row.1;
-        infos.push(info)?;
+/// Gives each item the advances behind it.
+fn place(rt: &impl Abort, buffer: &mut hb_buffer_t, items: &str) {
+    let mut at: usize = 0;
+    for word in items.split_whitespace() {
+        if at < buffer.len() {
+            buffer.set_position(at, position(rt, word));
+            at = at.saturating_add(1);
+        }
     }
-    let mut buffer = hb_buffer_t::new(alloc);
+}
+
+/// A buffer of these items. Refuses if memory is refused.
+pub fn filled(rt: &(impl Abort + AllocGlobal), items: &str) -> Result<hb_buffer_t, ShapeError> {
+    let mut infos: Vec<hb_glyph_info_t> = Vec::new(rt.alloc());
+    for word in items.split_whitespace() {
+        infos.push(item(rt, word))?;
+    }
+    let mut buffer = hb_buffer_t::new(rt.alloc());
     buffer.replace_infos(infos)?;
-    buffer.set_cluster_level(level);
+    place(rt, &mut buffer, items);
     Ok(buffer)
 }
 
-/// Compares the scratch flags, which are HAS_GLYPH_FLAGS or none.
-pub fn assert_scratch(rt: &impl Abort, buffer: &hb_buffer_t, has_flags: bool) {
-    let wanted = if has_flags {
-        ScratchFlags::HAS_GLYPH_FLAGS
-    } else {
-        ScratchFlags(0)
-    };
-    assert_same(rt, buffer.scratch_flags(), wanted);
+/// Appends a number or a text.
+pub fn push<T: Copy + Display>(rt: &impl Abort, text: &mut String, value: T) {
+    write!(text, "{value}").expect(rt, "memory");
+}
+
+/// Appends an item, with its advance to the right if that isn't 0.
+fn push_item(rt: &impl Abort, text: &mut String, info: &hb_glyph_info_t, advance: i32) {
+    push(rt, text, info.cluster);
+    push(rt, text, "/");
+    push(rt, text, info.mask);
+    if advance != 0 {
+        push(rt, text, "+");
+        push(rt, text, advance);
+    }
+    push(rt, text, " ");
+}
+
+/// The items of a buffer, and its scratch flags if there are any.
+pub fn shown(rt: &(impl Abort + AllocGlobal), buffer: &hb_buffer_t) -> String {
+    let mut text = String::new(rt.alloc());
+    for (info, position) in buffer.infos().iter().zip(buffer.positions()) {
+        push_item(rt, &mut text, info, position.x_advance);
+    }
+    let ScratchFlags(flags) = buffer.scratch_flags();
+    if flags != 0 {
+        push(rt, &mut text, "flags ");
+        push(rt, &mut text, flags);
+    }
+    text
+}
+
+/// A text with nothing set.
+pub fn text_of(rt: &(impl Abort + AllocGlobal), characters: &str) -> UnicodeBuffer {
+    let mut text = UnicodeBuffer::new(rt.alloc());
+    assert!(rt; characters.len() < 100);
+    text.push_str(characters).expect(rt, "memory");
+    text
+}
+
+/// The level of a word.
+pub fn level_of(rt: &impl Abort, word: &str) -> BufferClusterLevel {
+    match word {
+        "graphemes" => BufferClusterLevel::MonotoneGraphemes,
+        "monotone" => BufferClusterLevel::MonotoneCharacters,
+        "characters" => BufferClusterLevel::Characters,
+        _ => panic!(rt; "{word} is no level"),
+    }
 }
 
 /// An item with every property set.

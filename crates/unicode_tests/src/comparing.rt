@@ -1,5 +1,7 @@
-//! Comparisons of tests. The proof of a test takes a second for each `assert_eq!` of its own, and next to nothing
-//! for a call of a function without a contract.
+//! Comparisons of tests, and how rows of text are read.
+//!
+//! The proof of a test takes next to nothing for a text, and a good part of a second for each `assert_eq!` and for
+//! each list of its own. So rows are lines of text. A row that can't be read ends the test, as does a text without rows.
 
 use std::fmt::Debug;
 use std::process::Abort;
@@ -7,4 +9,54 @@ use std::process::Abort;
 /// Compares two values.
 pub fn assert_same<T: Copy + PartialEq + Debug>(rt: &impl Abort, found: T, wanted: T) {
     assert_eq!(rt; found, wanted);
+}
+
+/// The rows of a text, a line each.
+pub fn rows_of<'a>(rt: &impl Abort, text: &'a str) -> &'a str {
+    let rows = text.trim();
+    assert!(rt; !rows.is_empty());
+    rows
+}
+
+/// What stands before a mark and behind it.
+pub fn parts<'a>(rt: &impl Abort, text: &'a str, mark: &str) -> (&'a str, &'a str) {
+    match text.split_once(mark) {
+        Some((before, behind)) => (before.trim(), behind.trim()),
+        None => panic!(rt; "no {mark} in {text}"),
+    }
+}
+
+/// The character of a hexadecimal number.
+fn numbered(word: &str) -> Option<char> {
+    char::from_u32(u32::from_str_radix(word, 16).ok()?)
+}
+
+/// The character that a word names: itself, or the one of a hexadecimal number of two digits and more.
+pub fn character(rt: &impl Abort, word: &str) -> char {
+    let mut chars = word.chars();
+    let named = match (chars.next(), chars.next()) {
+        (Some(c), None) => Some(c),
+        _ => numbered(word),
+    };
+    match named {
+        Some(c) => c,
+        None => panic!(rt; "{word} is no character"),
+    }
+}
+
+/// The characters that words name.
+pub fn characters(rt: &(impl Abort + AllocGlobal), words: &str) -> Vec<char> {
+    let mut list = Vec::new(rt.alloc());
+    for word in words.split_whitespace() {
+        list.push(character(rt, word)).expect(rt, "memory");
+    }
+    list
+}
+
+/// The number that a word writes, below 2 to the 32.
+pub fn number(rt: &impl Abort, word: &str) -> u32 {
+    match word.parse::<u32>() {
+        Ok(number) => number,
+        Err(_) => panic!(rt; "{word} is no number"),
+    }
 }

@@ -6,44 +6,13 @@
 //! with these does not count. No mark has its ccc changed to 0, and no other two marks of one combining
 //! class have two ccc: lines without one of the three are equivalent exactly when Unicode says so.
 
-/// Two canonical forms that shaping has as one.
-pub struct MovedRow {
-    /// The mark that moves.
-    pub mark: char,
-    /// Why it does.
-    pub reason: &'static str,
-    /// The third columns of the two lines.
-    pub forms: [&'static str; 2],
-    /// Both in the order of shaping's ccc; no two characters of it compose.
-    pub normalised: &'static str,
-}
-
-pub const MOVED_ROWS: [MovedRow; 3] = [
-    MovedRow {
-        mark: '\u{F39}',
-        reason: "ccc 127, where U+031B and others of combining ccc 216 keep 216",
-        forms: [
-            "\u{61}\u{1DCE}\u{31B}\u{F39}\u{1DFA}\u{62}",
-            "\u{61}\u{1DCE}\u{F39}\u{31B}\u{1DFA}\u{62}",
-        ],
-        normalised: "\u{61}\u{F39}\u{1DCE}\u{31B}\u{1DFA}\u{62}",
-    },
-    MovedRow {
-        mark: '\u{FC6}',
-        reason: "ccc 254, where U+0316 and others of combining ccc 220 keep 220",
-        forms: [
-            "\u{61}\u{1DFA}\u{316}\u{FC6}\u{59A}\u{62}",
-            "\u{61}\u{1DFA}\u{FC6}\u{316}\u{59A}\u{62}",
-        ],
-        normalised: "\u{61}\u{1DFA}\u{316}\u{59A}\u{FC6}\u{62}",
-    },
-    MovedRow {
-        mark: '\u{1A60}',
-        reason: "ccc 254, where U+094D and others of combining ccc 9 keep 9",
-        forms: [
-            "\u{61}\u{3099}\u{94D}\u{1A60}\u{5B0}\u{62}",
-            "\u{61}\u{3099}\u{1A60}\u{94D}\u{5B0}\u{62}",
-        ],
-        normalised: "\u{61}\u{3099}\u{94D}\u{5B0}\u{1A60}\u{62}",
-    },
-];
+/// Two canonical forms that shaping has as one: the mark that moves, the third columns of the two lines, and both in
+/// the order of shaping's ccc; no two characters of it compose.
+///
+/// U+0F39 has ccc 127, where U+031B and others of combining ccc 216 keep 216; U+0FC6 has 254, where U+0316 and others
+/// of combining ccc 220 keep 220; and U+1A60 has 254, where U+094D and others of combining ccc 9 keep 9.
+pub const MOVED_ROWS: &str = "
+    0F39;0061 1DCE 031B 0F39 1DFA 0062;0061 1DCE 0F39 031B 1DFA 0062;0061 0F39 1DCE 031B 1DFA 0062
+    0FC6;0061 1DFA 0316 0FC6 059A 0062;0061 1DFA 0FC6 0316 059A 0062;0061 1DFA 0316 059A 0FC6 0062
+    1A60;0061 3099 094D 1A60 05B0 0062;0061 3099 1A60 094D 05B0 0062;0061 3099 094D 05B0 1A60 0062
+";

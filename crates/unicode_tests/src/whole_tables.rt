@@ -1,14 +1,13 @@
 //! Whole tables of the Unicode functions, each beside another source: names of scripts and categories as
 //! `ucd_sets` knows them, the bidirectional classes of letters, and the standard's list of mirror images.
 
+use crate::characters::{category_name, script_of};
 use crate::comparing::assert_same;
 use crate::ordering::chars_of;
-use shape_buffer::buffer::{Direction, Script, hb_tag_t};
+use shape_buffer::buffer::{Direction, Script};
 use shape_buffer::interfaces::{hb_unicode_funcs_t, hb_unicode_general_category_t};
 use shape_unicode::UnicodeDatabase;
-use std::alloc::Global;
 use std::process::Abort;
-use std::test::Fail;
 use ucd_bidi::BidiClass;
 use ucd_category::GeneralCategory;
 use ucd_sets::Set;
@@ -31,21 +30,21 @@ fn assert_image(rt: &impl Abort, c: char, image: char) {
 }
 
 #[test]
-fn mirror_images_are_those_of_the_standard(rt: HostRuntime) -> Result<(), Fail> {
-    let listed = chars_of(rt.alloc(), MIRROR_IMAGES)?;
-    assert_same(&rt, listed.len(), MIRRORED);
+fn mirror_images_are_those_of_the_standard(rt: HostRuntime) {
+    let mut listed: usize = 0;
     let mut first = None;
-    for c in &listed {
+    for c in MIRROR_IMAGES.chars() {
+        listed = listed.saturating_add(1);
         match first {
-            None => first = Some(*c),
+            None => first = Some(c),
             Some(a) => {
-                assert_image(&rt, a, *c);
-                assert_image(&rt, *c, a);
+                assert_image(&rt, a, c);
+                assert_image(&rt, c, a);
                 first = None;
             }
         }
     }
-    Ok(())
+    assert_same(&rt, listed, MIRRORED);
 }
 
 #[test]
@@ -83,30 +82,23 @@ fn scripts_have_their_names(rt: HostRuntime) {
 }
 
 /// Compares a character's category with that of its name.
-fn assert_named(
-    rt: &impl Abort,
-    alloc: Global,
-    c: char,
-    category: GeneralCategory,
-) -> Result<(), Fail> {
-    let name = format!(in alloc; "{:?}", UnicodeDatabase::general_category(c))?;
-    let name = ucd_sets::normalize(alloc, &chars_of(alloc, &name)?)?;
-    let named = ucd_sets::by_value(b"generalcategory", &name);
+fn assert_named(rt: &(impl Abort + AllocGlobal), c: char, category: GeneralCategory) {
+    let letters = chars_of(rt, category_name(rt, c).as_str());
+    let letters = ucd_sets::normalize(rt.alloc(), &letters).expect(rt, "memory");
+    let named = ucd_sets::by_value(b"generalcategory", &letters);
     assert_same(rt, (c, named), (c, Ok(Set::Category(category))));
-    Ok(())
 }
 
 #[test]
-fn categories_have_their_names(rt: HostRuntime) -> Result<(), Fail> {
+fn categories_have_their_names(rt: HostRuntime) {
     let mut last = None;
     for c in '\0'..=char::MAX {
         let category = GeneralCategory::for_char(c);
         if last != Some(category) {
             last = Some(category);
-            assert_named(&rt, rt.alloc(), c, category)?;
+            assert_named(&rt, c, category);
         }
     }
-    Ok(())
 }
 
 fn is_letter(c: char) -> bool {
@@ -130,40 +122,36 @@ fn direction_of_class(c: char) -> Option<Direction> {
 }
 
 /// Compares the direction of a letter's script with its own. A script that has none goes into a list, once.
-fn tell(
-    rt: &impl Abort,
-    c: char,
-    script: Script,
-    either_way: &mut Vec<Script>,
-) -> Result<(), Fail> {
+fn tell(rt: &impl Abort, c: char, script: Script, either_way: &mut Vec<Script>) {
     let direction = UnicodeDatabase::script_direction(script);
     match (direction, direction_of_class(c)) {
         (Some(direction), Some(own)) => assert_same(rt, (c, direction), (c, own)),
-        (None, Some(_)) if !either_way.contains(&script) => either_way.push(script)?,
+        (None, Some(_)) if !either_way.contains(&script) => {
+            either_way.push(script).expect(rt, "memory");
+        }
         _ => {}
     }
-    Ok(())
 }
 
-/// Compares scripts with those of some tags.
-fn assert_scripts(rt: &impl Abort, scripts: &[Script], tags: &[&[u8; 4]]) {
-    assert_same(rt, scripts.len(), tags.len());
-    for (script, letters) in scripts.iter().zip(tags) {
-        assert_same(rt, *script, Script(hb_tag_t::from_bytes(letters)));
+/// Compares scripts with those of tags.
+fn assert_scripts(rt: &impl Abort, scripts: &[Script], tags: &str) {
+    let mut words = tags.split_whitespace();
+    for script in scripts {
+        let word = words.next().expect(rt, "a tag");
+        assert_same(rt, *script, script_of(rt, word));
     }
+    assert_same(rt, words.next(), None);
 }
 
 /// A script runs as its letters do, except for four that have been written both ways.
 #[test]
-fn scripts_run_as_their_letters(rt: HostRuntime) -> Result<(), Fail> {
+fn scripts_run_as_their_letters(rt: HostRuntime) {
     let mut either_way = Vec::new(rt.alloc());
     for c in '\0'..=char::MAX {
         let script = UnicodeDatabase::script(c);
         if script.is_specific() && is_letter(c) {
-            tell(&rt, c, script, &mut either_way)?;
+            tell(&rt, c, script, &mut either_way);
         }
     }
-    let tags = [b"Runr", b"Tfng", b"Ital", b"Hung"];
-    assert_scripts(&rt, either_way.as_slice(), &tags);
-    Ok(())
+    assert_scripts(&rt, either_way.as_slice(), "Runr Tfng Ital Hung");
 }

@@ -1,236 +1,126 @@
 //! Spaces, forms, and what is unseen: the ends of each range, as HarfBuzz has them.
 
-use crate::comparing::assert_same;
-use shape_buffer::interfaces::hb_unicode_funcs_t;
-use shape_buffer::interfaces::space_types::{
-    NOT_SPACE, SPACE, SPACE_4_EM_18, SPACE_EM, SPACE_EM_2, SPACE_EM_3, SPACE_EM_4, SPACE_EM_5,
-    SPACE_EM_6, SPACE_EM_16, SPACE_FIGURE, SPACE_NARROW, SPACE_PUNCTUATION,
-};
-use shape_unicode::UnicodeDatabase;
-use std::process::Abort;
+use crate::characters::{check_answers, check_kind};
 
-/// Compares what characters are as spaces.
-fn assert_spaces(rt: &impl Abort, rows: &[(char, u8)]) {
-    for (c, want) in rows {
-        assert_same(rt, (*c, UnicodeDatabase::space_fallback(*c)), (*c, *want));
-    }
-}
-
-/// The whole table, and what stands beside its entries.
-const SPACES: [(char, u8); 19] = [
-    ('\u{1F}', NOT_SPACE),
-    (' ', SPACE),
-    ('\u{A0}', SPACE),
-    ('\u{1680}', NOT_SPACE),
-    ('\u{2000}', SPACE_EM_2),
-    ('\u{2001}', SPACE_EM),
-    ('\u{2002}', SPACE_EM_2),
-    ('\u{2003}', SPACE_EM),
-    ('\u{2004}', SPACE_EM_3),
-    ('\u{2005}', SPACE_EM_4),
-    ('\u{2006}', SPACE_EM_6),
-    ('\u{2007}', SPACE_FIGURE),
-    ('\u{2008}', SPACE_PUNCTUATION),
-    ('\u{2009}', SPACE_EM_5),
-    ('\u{200A}', SPACE_EM_16),
-    ('\u{200B}', NOT_SPACE),
-    ('\u{202F}', SPACE_NARROW),
-    ('\u{205F}', SPACE_4_EM_18),
-    ('\u{3000}', SPACE_EM),
-];
-
+/// The whole table, and what stands beside its entries: 0 is no space, 1 to 6 and 16 are an em and its parts, 17 is
+/// 4/18 em, 18 the ordinary space, and 19, 20 and 21 are as wide as a digit, as punctuation, and narrow.
 #[test]
 fn spaces(rt: HostRuntime) {
-    assert_spaces(&rt, &SPACES);
+    check_answers(
+        &rt,
+        "space",
+        "1F -> 0
+         0020 -> 18
+         A0 -> 18
+         1680 -> 0
+         2000 -> 2
+         2001 -> 1
+         2002 -> 2
+         2003 -> 1
+         2004 -> 3
+         2005 -> 4
+         2006 -> 6
+         2007 -> 19
+         2008 -> 20
+         2009 -> 5
+         200A -> 16
+         200B -> 0
+         202F -> 21
+         205F -> 17
+         3000 -> 1",
+    );
 }
 
-/// Compares which characters are unseen, with one answer for all.
-fn assert_ignorables(rt: &impl Abort, characters: &[char], unseen: bool) {
-    for c in characters {
-        let found = UnicodeDatabase::is_default_ignorable(*c);
-        assert_same(rt, (*c, found), (*c, unseen));
-    }
-}
-
-/// The ends of each range of what is unseen.
-const UNSEEN: [char; 27] = [
-    '\u{AD}',
-    '\u{34F}',
-    '\u{61C}',
-    '\u{17B4}',
-    '\u{17B5}',
-    '\u{180B}',
-    '\u{180E}',
-    '\u{200B}',
-    '\u{200C}',
-    '\u{200D}',
-    '\u{200F}',
-    '\u{202A}',
-    '\u{202E}',
-    '\u{2060}',
-    '\u{2065}',
-    '\u{206F}',
-    '\u{FE00}',
-    '\u{FE0F}',
-    '\u{FEFF}',
-    '\u{FFF0}',
-    '\u{FFF8}',
-    '\u{1D173}',
-    '\u{1D17A}',
-    '\u{E0000}',
-    '\u{E0001}',
-    '\u{E01EF}',
-    '\u{E0FFF}',
-];
-
-/// What stands beside the ranges, and characters in them that fonts draw.
-const DRAWN: [char; 19] = [
-    'a',
-    ' ',
-    '\u{AC}',
-    '\u{34E}',
-    '\u{115F}',
-    '\u{1160}',
-    '\u{180A}',
-    '\u{180F}',
-    '\u{200A}',
-    '\u{2010}',
-    '\u{202F}',
-    '\u{3164}',
-    '\u{FE10}',
-    '\u{FFA0}',
-    '\u{FFF9}',
-    '\u{1BCA0}',
-    '\u{1BCA3}',
-    '\u{1D17B}',
-    '\u{E1000}',
-];
-
+/// The ends of each range of what is unseen; then what stands beside the ranges, and characters in them that fonts
+/// draw.
 #[test]
 fn ignorables(rt: HostRuntime) {
-    assert_ignorables(&rt, &UNSEEN, true);
-    assert_ignorables(&rt, &DRAWN, false);
+    check_kind(
+        &rt,
+        "ignorable",
+        true,
+        "AD 34F 61C 17B4 17B5 180B 180E 200B 200C 200D 200F 202A 202E 2060 2065 206F FE00 FE0F FEFF FFF0
+         FFF8 1D173 1D17A E0000 E0001 E01EF E0FFF",
+    );
+    check_kind(
+        &rt,
+        "ignorable",
+        false,
+        "a 0020 AC 34E 115F 1160 180A 180F 200A 2010 202F 3164 FE10 FFA0 FFF9 1BCA0 1BCA3 1D17B E1000",
+    );
 }
-
-/// Compares which characters are variation selectors, with one answer for all.
-fn assert_selectors(rt: &impl Abort, characters: &[char], select: bool) {
-    for c in characters {
-        let found = UnicodeDatabase::is_variation_selector(*c);
-        assert_same(rt, (*c, found), (*c, select));
-    }
-}
-
-const SELECTORS: [char; 4] = ['\u{FE00}', '\u{FE0F}', '\u{E0100}', '\u{E01EF}'];
-
-const NO_SELECTORS: [char; 7] = [
-    '\u{180B}',
-    '\u{180D}',
-    '\u{180F}',
-    '\u{FDFF}',
-    '\u{FE10}',
-    '\u{E00FF}',
-    '\u{E01F0}',
-];
 
 #[test]
 fn selectors(rt: HostRuntime) {
-    assert_selectors(&rt, &SELECTORS, true);
-    assert_selectors(&rt, &NO_SELECTORS, false);
+    check_kind(&rt, "selector", true, "FE00 FE0F E0100 E01EF");
+    check_kind(
+        &rt,
+        "selector",
+        false,
+        "180B 180D 180F FDFF FE10 E00FF E01F0",
+    );
 }
-
-/// Compares which characters are pictographs, with one answer for all.
-fn assert_pictographs(rt: &impl Abort, characters: &[char], pictographs: bool) {
-    for c in characters {
-        let found = UnicodeDatabase::is_emoji_extended_pictographic(*c);
-        assert_same(rt, (*c, found), (*c, pictographs));
-    }
-}
-
-const PICTOGRAPHS: [char; 6] = [
-    '\u{A9}',
-    '\u{2764}',
-    '\u{1F468}',
-    '\u{1F600}',
-    '\u{1F9D1}',
-    '\u{1FFFD}',
-];
-
-const NO_PICTOGRAPHS: [char; 6] = ['#', '1', '\u{200D}', '\u{1F1E6}', '\u{1F3FB}', '\u{1FFFE}'];
 
 #[test]
 fn pictographs(rt: HostRuntime) {
-    assert_pictographs(&rt, &PICTOGRAPHS, true);
-    assert_pictographs(&rt, &NO_PICTOGRAPHS, false);
-}
-
-/// Compares the mirror images of characters.
-fn assert_mirrored(rt: &impl Abort, rows: &[(char, Option<char>)]) {
-    for (c, want) in rows {
-        assert_same(rt, (*c, UnicodeDatabase::mirrored(*c)), (*c, *want));
-    }
+    check_kind(&rt, "pictograph", true, "A9 2764 1F468 1F600 1F9D1 1FFFD");
+    check_kind(&rt, "pictograph", false, "# 1 200D 1F1E6 1F3FB 1FFFE");
 }
 
 /// Characters that mirror one another, and some that mirror none.
-const MIRRORED: [(char, Option<char>); 23] = [
-    ('(', Some(')')),
-    (')', Some('(')),
-    ('<', Some('>')),
-    ('>', Some('<')),
-    ('\u{AB}', Some('\u{BB}')),
-    ('\u{BB}', Some('\u{AB}')),
-    ('\u{2208}', Some('\u{220B}')),
-    ('\u{220B}', Some('\u{2208}')),
-    ('\u{2264}', Some('\u{2265}')),
-    ('\u{2265}', Some('\u{2264}')),
-    ('\u{298D}', Some('\u{2990}')),
-    ('\u{2990}', Some('\u{298D}')),
-    ('\u{2ADE}', Some('\u{22A6}')),
-    ('\u{22A6}', Some('\u{2ADE}')),
-    ('\u{300C}', Some('\u{300D}')),
-    ('\u{300D}', Some('\u{300C}')),
-    ('\u{FF62}', Some('\u{FF63}')),
-    ('\u{FF63}', Some('\u{FF62}')),
-    ('a', None),
-    ('/', None),
-    ('\u{221A}', None),
-    ('\u{2018}', None),
-    ('\u{201C}', None),
-];
-
 #[test]
 fn mirrors(rt: HostRuntime) {
-    assert_mirrored(&rt, &MIRRORED);
+    check_answers(
+        &rt,
+        "mirrored",
+        "( -> )
+         ) -> (
+         < -> >
+         > -> <
+         AB -> BB
+         BB -> AB
+         2208 -> 220B
+         220B -> 2208
+         2264 -> 2265
+         2265 -> 2264
+         298D -> 2990
+         2990 -> 298D
+         2ADE -> 22A6
+         22A6 -> 2ADE
+         300C -> 300D
+         300D -> 300C
+         FF62 -> FF63
+         FF63 -> FF62
+         a -> none
+         / -> none
+         221A -> none
+         2018 -> none
+         201C -> none",
+    );
 }
-
-/// Compares the forms of characters in vertical text.
-fn assert_vertical(rt: &impl Abort, rows: &[(char, Option<char>)]) {
-    for (c, want) in rows {
-        assert_same(rt, (*c, UnicodeDatabase::vertical(*c)), (*c, *want));
-    }
-}
-
-const VERTICAL: [(char, Option<char>); 18] = [
-    ('\u{2013}', Some('\u{FE32}')),
-    ('\u{2014}', Some('\u{FE31}')),
-    ('\u{2025}', Some('\u{FE30}')),
-    ('\u{2026}', Some('\u{FE19}')),
-    ('\u{3001}', Some('\u{FE11}')),
-    ('\u{3002}', Some('\u{FE12}')),
-    ('\u{300C}', Some('\u{FE41}')),
-    ('\u{FE4F}', Some('\u{FE34}')),
-    ('\u{FF01}', Some('\u{FE15}')),
-    ('\u{FF08}', Some('\u{FE35}')),
-    ('\u{FF5D}', Some('\u{FE38}')),
-    ('a', None),
-    ('(', None),
-    ('!', None),
-    ('_', None),
-    ('\u{2015}', None),
-    ('\u{30FF}', None),
-    ('\u{FE35}', None),
-];
 
 #[test]
 fn verticals(rt: HostRuntime) {
-    assert_vertical(&rt, &VERTICAL);
+    check_answers(
+        &rt,
+        "vertical",
+        "2013 -> FE32
+         2014 -> FE31
+         2025 -> FE30
+         2026 -> FE19
+         3001 -> FE11
+         3002 -> FE12
+         300C -> FE41
+         FE4F -> FE34
+         FF01 -> FE15
+         FF08 -> FE35
+         FF5D -> FE38
+         a -> none
+         ( -> none
+         ! -> none
+         _ -> none
+         2015 -> none
+         30FF -> none
+         FE35 -> none",
+    );
 }

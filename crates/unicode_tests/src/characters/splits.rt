@@ -1,118 +1,109 @@
 //! Splits and composites, as UnicodeData.txt and DerivedNormalizationProps.txt have them.
 
-use crate::comparing::assert_same;
+use crate::comparing::{assert_same, character, parts, rows_of};
 use shape_buffer::interfaces::hb_unicode_funcs_t;
 use shape_unicode::UnicodeDatabase;
 use std::process::Abort;
 
-/// What two characters that a character splits into compose to, if they do.
-fn composite(c: char, composes: bool) -> Option<char> {
-    if composes { Some(c) } else { None }
+/// Compares what a character splits into, and what that composes to: the character again, or none.
+fn assert_split(rt: &impl Abort, c: char, (a, b): (char, char), composes: bool) {
+    let composite = if composes { Some(c) } else { None };
+    assert_same(rt, (c, UnicodeDatabase::decompose(c)), (c, Some((a, b))));
+    assert_same(rt, (c, UnicodeDatabase::compose(a, b)), (c, composite));
 }
 
-/// Compares what characters split into, and what that composes to: each one again, or none.
-fn assert_splits(rt: &impl Abort, rows: &[(char, char, char)], composes: bool) {
-    for (c, a, b) in rows {
-        let parts = UnicodeDatabase::decompose(*c);
-        assert_same(rt, (*c, parts), (*c, Some((*a, *b))));
-        let whole = UnicodeDatabase::compose(*a, *b);
-        assert_same(rt, (*c, whole), (*c, composite(*c, composes)));
+/// Compares it of characters, each of which composes again, or none: `CHARACTER = FIRST SECOND`.
+fn check_splits(rt: &impl Abort, composes: bool, rows: &str) {
+    for row in rows_of(rt, rows).lines() {
+        let (whole, pair) = parts(rt, row, "= ");
+        let (a, b) = parts(rt, pair, " ");
+        let pair = (character(rt, a), character(rt, b));
+        assert_split(rt, character(rt, whole), pair, composes);
     }
 }
 
 /// Pairs that compose again: Latin with one and with two marks, Greek, Cyrillic, Arabic, Indic letters,
 /// kana, a musical symbol's neighbour in the supplementary planes, and Hangul.
-const PAIRS: [(char, char, char); 19] = [
-    ('\u{C5}', 'A', '\u{30A}'),
-    ('\u{E9}', 'e', '\u{301}'),
-    ('\u{1EA4}', '\u{C2}', '\u{301}'),
-    ('\u{1EC7}', '\u{1EB9}', '\u{302}'),
-    ('\u{226E}', '<', '\u{338}'),
-    ('\u{3AC}', '\u{3B1}', '\u{301}'),
-    ('\u{1F82}', '\u{1F02}', '\u{345}'),
-    ('\u{439}', '\u{438}', '\u{306}'),
-    ('\u{623}', '\u{627}', '\u{654}'),
-    ('\u{929}', '\u{928}', '\u{93C}'),
-    ('\u{9CB}', '\u{9C7}', '\u{9BE}'),
-    ('\u{DDD}', '\u{DDC}', '\u{DCA}'),
-    ('\u{1026}', '\u{1025}', '\u{102E}'),
-    ('\u{304C}', '\u{304B}', '\u{3099}'),
-    ('\u{1109A}', '\u{11099}', '\u{110BA}'),
-    ('\u{AC00}', '\u{1100}', '\u{1161}'),
-    ('\u{AC01}', '\u{AC00}', '\u{11A8}'),
-    ('\u{D788}', '\u{1112}', '\u{1175}'),
-    ('\u{D7A3}', '\u{D788}', '\u{11C2}'),
-];
-
 #[test]
 fn pairs_split_and_compose(rt: HostRuntime) {
-    assert_splits(&rt, &PAIRS, true);
+    check_splits(
+        &rt,
+        true,
+        "C5 = A 30A
+         E9 = e 301
+         1EA4 = C2 301
+         1EC7 = 1EB9 302
+         226E = < 338
+         3AC = 3B1 301
+         1F82 = 1F02 345
+         439 = 438 306
+         623 = 627 654
+         929 = 928 93C
+         9CB = 9C7 9BE
+         DDD = DDC DCA
+         1026 = 1025 102E
+         304C = 304B 3099
+         1109A = 11099 110BA
+         AC00 = 1100 1161
+         AC01 = AC00 11A8
+         D788 = 1112 1175
+         D7A3 = D788 11C2",
+    );
 }
 
 /// Singletons, whose second part is U+0000, and pairs that are excluded from composition.
-const OTHERS: [(char, char, char); 16] = [
-    ('\u{340}', '\u{300}', '\u{0}'),
-    ('\u{37E}', ';', '\u{0}'),
-    ('\u{1F71}', '\u{3AC}', '\u{0}'),
-    ('\u{1FEE}', '\u{385}', '\u{0}'),
-    ('\u{2126}', '\u{3A9}', '\u{0}'),
-    ('\u{212B}', '\u{C5}', '\u{0}'),
-    ('\u{F900}', '\u{8C48}', '\u{0}'),
-    ('\u{2F800}', '\u{4E3D}', '\u{0}'),
-    ('\u{344}', '\u{308}', '\u{301}'),
-    ('\u{958}', '\u{915}', '\u{93C}'),
-    ('\u{F73}', '\u{F71}', '\u{F72}'),
-    ('\u{FB1D}', '\u{5D9}', '\u{5B4}'),
-    ('\u{FB2C}', '\u{FB49}', '\u{5C1}'),
-    ('\u{FB49}', '\u{5E9}', '\u{5BC}'),
-    ('\u{1D160}', '\u{1D15F}', '\u{1D16E}'),
-    ('\u{1D1C0}', '\u{1D1BC}', '\u{1D16F}'),
-];
-
 #[test]
 fn others_split_and_stay_apart(rt: HostRuntime) {
-    assert_splits(&rt, &OTHERS, false);
+    check_splits(
+        &rt,
+        false,
+        "340 = 300 0000
+         37E = ; 0000
+         1F71 = 3AC 0000
+         1FEE = 385 0000
+         2126 = 3A9 0000
+         212B = C5 0000
+         F900 = 8C48 0000
+         2F800 = 4E3D 0000
+         344 = 308 301
+         958 = 915 93C
+         F73 = F71 F72
+         FB1D = 5D9 5B4
+         FB2C = FB49 5C1
+         FB49 = 5E9 5BC
+         1D160 = 1D15F 1D16E
+         1D1C0 = 1D1BC 1D16F",
+    );
 }
 
 /// Asserts that characters stay whole.
-fn assert_whole(rt: &impl Abort, characters: &[char]) {
-    for c in characters {
-        assert_same(rt, (*c, UnicodeDatabase::decompose(*c)), (*c, None));
+fn check_whole(rt: &impl Abort, words: &str) {
+    for word in rows_of(rt, words).split_whitespace() {
+        let c = character(rt, word);
+        assert_same(rt, (c, UnicodeDatabase::decompose(c)), (c, None));
     }
 }
 
-/// Asserts that characters don't compose with those after them.
-fn assert_apart(rt: &impl Abort, pairs: &[(char, char)]) {
-    for (a, b) in pairs {
-        assert_same(rt, (*a, UnicodeDatabase::compose(*a, *b)), (*a, None));
+/// Asserts that characters don't compose with those after them: `FIRST + SECOND`.
+fn check_apart(rt: &impl Abort, rows: &str) {
+    for row in rows_of(rt, rows).lines() {
+        let (a, b) = parts(rt, row, "+");
+        let composite = UnicodeDatabase::compose(character(rt, a), character(rt, b));
+        assert_same(rt, (row, composite), (row, None));
     }
 }
 
 /// Letters, jamo, what stands beside the syllables, compatibility characters, and the last character.
-const WHOLE: [char; 10] = [
-    '\u{0}',
-    'A',
-    '\u{301}',
-    '\u{1100}',
-    '\u{11A7}',
-    '\u{ABFF}',
-    '\u{D7A4}',
-    '\u{FB01}',
-    '\u{FDFA}',
-    '\u{10FFFF}',
-];
-
-const APART: [(char, char); 6] = [
-    ('A', 'B'),
-    ('\u{30A}', 'A'),
-    ('\u{AC01}', '\u{11A8}'),
-    ('\u{AC00}', '\u{11A7}'),
-    ('\u{1100}', '\u{11A8}'),
-    ('\u{1113}', '\u{1161}'),
-];
-
 #[test]
 fn others_stay_whole(rt: HostRuntime) {
-    assert_whole(&rt, &WHOLE);
-    assert_apart(&rt, &APART);
+    check_whole(&rt, "0000 A 301 1100 11A7 ABFF D7A4 FB01 FDFA 10FFFF");
+    check_apart(
+        &rt,
+        "A + B
+         30A + A
+         AC01 + 11A8
+         AC00 + 11A7
+         1100 + 11A8
+         1113 + 1161",
+    );
 }

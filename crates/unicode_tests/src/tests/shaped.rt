@@ -1,79 +1,62 @@
 //! The texts through whole runs of the default shaper.
 
-use crate::comparing::assert_same;
+use crate::characters::script_of;
+use crate::comparing::{assert_same, character, number, parts, rows_of};
 use crate::every_glyph::{ADVANCE, EVERY_GLYPH};
-use crate::texts::{TEXTS, Text};
-use shape_buffer::buffer::{
-    Direction, GlyphBuffer, GlyphPosition, Script, UnicodeBuffer, hb_glyph_info_t, hb_tag_t,
-};
+use crate::tests::{Text, text_of};
+use crate::texts::TEXTS;
+use shape_buffer::buffer::{Direction, GlyphBuffer, GlyphPosition, UnicodeBuffer, hb_glyph_info_t};
 use shape_buffer::interfaces::{NoLookups, hb_unicode_funcs_t, hb_unicode_general_category_t};
 use shape_pipeline::ot_shape_plan::hb_ot_shape_plan_t;
 use shape_pipeline::ot_shaper::{DEFAULT_SHAPER, hb_default_shaper_t};
 use shape_pipeline::shape_with_plan;
 use shape_unicode::UnicodeDatabase;
-use std::alloc::Global;
 use std::process::Abort;
-use std::test::Fail;
 use test_worlds::TestFace;
 
 /// A plan of the default shaper.
 type Plan<'a> = hb_ot_shape_plan_t<'a, hb_default_shaper_t, (), ()>;
 
-/// Appends characters, with clusters that are byte offsets.
-fn fill(buffer: &mut UnicodeBuffer, text: &str) -> Result<(), Fail> {
+/// A text whose script and direction are guessed. Clusters are byte offsets.
+fn guessed(rt: &(impl Abort + AllocGlobal), text: &str) -> UnicodeBuffer {
+    let mut buffer = UnicodeBuffer::new(rt.alloc());
     let mut offset: u32 = 0;
     for c in text.chars() {
-        buffer.add(c, offset)?;
+        buffer.add(c, offset).expect(rt, "memory");
         offset = offset.saturating_add(c.len_utf8() as u32);
     }
-    Ok(())
-}
-
-/// A text whose script and direction are guessed.
-fn guessed(alloc: Global, text: &Text) -> Result<UnicodeBuffer, Fail> {
-    let mut buffer = UnicodeBuffer::new(alloc);
-    fill(&mut buffer, text.typed)?;
     buffer.guess_segment_properties::<UnicodeDatabase>();
-    Ok(buffer)
+    buffer
 }
 
 /// The plan for a text.
-fn planned(alloc: Global, buffer: &UnicodeBuffer) -> Result<Plan<'static>, Fail> {
+fn planned(rt: &(impl Abort + AllocGlobal), buffer: &UnicodeBuffer) -> Plan<'static> {
     let direction = buffer.direction();
-    if direction == Direction::Invalid {
-        return Err(Fail::from("no direction"));
-    }
-    let plan = hb_ot_shape_plan_t::new::<UnicodeDatabase, TestFace<'static>, NoLookups>(
-        alloc,
+    assert!(rt; direction != Direction::Invalid);
+    hb_ot_shape_plan_t::new::<UnicodeDatabase, TestFace<'static>, NoLookups>(
+        rt.alloc(),
         &EVERY_GLYPH,
         &DEFAULT_SHAPER,
         direction,
         buffer.script(),
         None,
         &[],
-    )?;
-    Ok(plan)
+    )
+    .expect(rt, "memory")
 }
 
 /// The glyphs of a text, whose script and direction are guessed.
-fn shaped(alloc: Global, text: &Text) -> Result<GlyphBuffer, Fail> {
-    let buffer = guessed(alloc, text)?;
-    if buffer.script() != Some(Script(hb_tag_t::from_bytes(text.script))) {
-        return Err(Fail::from("another script"));
-    }
-    let plan = planned(alloc, &buffer)?;
-    if !plan.fits::<UnicodeDatabase>(&buffer) {
-        return Err(Fail::from("the plan doesn't fit"));
-    }
-    match shape_with_plan::<UnicodeDatabase, TestFace<'static>, NoLookups, _>(
-        alloc,
+fn shaped(rt: &(impl Abort + AllocGlobal), text: &Text<'_>) -> GlyphBuffer {
+    let buffer = guessed(rt, text.typed);
+    assert_same(rt, buffer.script(), Some(script_of(rt, text.script)));
+    let plan = planned(rt, &buffer);
+    assert!(rt; plan.fits::<UnicodeDatabase>(&buffer));
+    shape_with_plan::<UnicodeDatabase, TestFace<'static>, NoLookups, _>(
+        rt.alloc(),
         &EVERY_GLYPH,
         &plan,
         buffer,
-    ) {
-        Ok(glyphs) => Ok(glyphs),
-        Err(_) => Err(Fail::from("refused")),
-    }
+    ).expect(rt, "memory")
 }
 
 /// How wide the glyph of a character comes out: marks that take no space have no width.
@@ -86,15 +69,21 @@ fn width(c: char) -> i32 {
 }
 
 /// The glyphs of a text with their clusters, in the order that they run in.
-fn in_order(alloc: Global, text: &Text, direction: Direction) -> Result<Vec<(char, u32)>, Fail> {
-    let mut glyphs = Vec::new(alloc);
-    for glyph in text.shaped {
-        glyphs.push(*glyph)?;
+fn in_order(
+    rt: &(impl Abort + AllocGlobal),
+    text: &Text<'_>,
+    direction: Direction,
+) -> Vec<(char, u32)> {
+    let mut glyphs = Vec::new(rt.alloc());
+    for word in text.shaped.split_whitespace() {
+        let (c, cluster) = parts(rt, word, "@");
+        let glyph = (character(rt, c), number(rt, cluster));
+        glyphs.push(glyph).expect(rt, "memory");
     }
     if direction == Direction::RightToLeft {
         glyphs.reverse();
     }
-    Ok(glyphs)
+    glyphs
 }
 
 /// What is compared of a glyph: its number, cluster and mask, and its advances.
@@ -121,24 +110,26 @@ fn assert_glyphs(rt: &impl Abort, glyphs: &GlyphBuffer, want: &[(char, u32)], na
 }
 
 /// Compares the glyphs of a text, and that they run as its script does.
-fn assert_text(rt: &impl Abort, alloc: Global, text: &Text) -> Result<(), Fail> {
-    let direction = if text.script == b"Hebr" || text.script == b"Arab" {
+fn assert_text(rt: &(impl Abort + AllocGlobal), text: &Text<'_>) {
+    let direction = if text.script == "Hebr" || text.script == "Arab" {
         Direction::RightToLeft
     } else {
         Direction::LeftToRight
     };
-    let glyphs = shaped(alloc, text)?;
+    let glyphs = shaped(rt, text);
     assert_same(rt, (text.name, glyphs.direction()), (text.name, direction));
-    let want = in_order(alloc, text, direction)?;
+    let want = in_order(rt, text, direction);
     assert_glyphs(rt, &glyphs, want.as_slice(), text.name);
-    Ok(())
+}
+
+/// Does so for each text; an empty line stands between two.
+fn check_texts(rt: &(impl Abort + AllocGlobal), texts: &str) {
+    for paragraph in rows_of(rt, texts).split("\n\n") {
+        assert_text(rt, &text_of(rt, paragraph));
+    }
 }
 
 #[test]
-fn texts_of_seven_scripts(rt: HostRuntime) -> Result<(), Fail> {
-    let alloc = rt.alloc();
-    for text in &TEXTS {
-        assert_text(&rt, alloc, text)?;
-    }
-    Ok(())
+fn texts_of_seven_scripts(rt: HostRuntime) {
+    check_texts(&rt, TEXTS);
 }
