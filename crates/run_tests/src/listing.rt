@@ -115,18 +115,42 @@ fn set<'a>(
 fn manner_of(rt: &(impl Abort + AllocGlobal), words: &str) -> Manner {
     let mut manner = PLAINLY;
     for word in words.split_whitespace() {
-        match word {
-            "ltr" => manner.direction = Direction::LeftToRight,
-            "rtl" => manner.direction = Direction::RightToLeft,
-            "ttb" => manner.direction = Direction::TopToBottom,
-            "btt" => manner.direction = Direction::BottomToTop,
-            "by_character" => manner.level = BufferClusterLevel::MonotoneCharacters,
-            "beginning" => manner.flags.0 |= BufferFlags::BEGINNING_OF_TEXT.0,
-            "no_circle" => manner.flags.0 |= BufferFlags::DO_NOT_INSERT_DOTTED_CIRCLE.0,
-            _ => rt.panic(word),
-        }
+        manner = manner_with(rt, manner, word);
     }
     manner
+}
+
+/// A manner with one thing more that is set.
+fn manner_with(rt: &impl Abort, manner: Manner, word: &str) -> Manner {
+    match word {
+        "ltr" => towards(Direction::LeftToRight, manner),
+        "rtl" => towards(Direction::RightToLeft, manner),
+        "ttb" => towards(Direction::TopToBottom, manner),
+        "btt" => towards(Direction::BottomToTop, manner),
+        "by_character" => Manner {
+            level: BufferClusterLevel::MonotoneCharacters,
+            ..manner
+        },
+        "beginning" => flagged(BufferFlags::BEGINNING_OF_TEXT, manner),
+        "no_circle" => flagged(BufferFlags::DO_NOT_INSERT_DOTTED_CIRCLE, manner),
+        _ => rt.panic(word),
+    }
+}
+
+/// A manner with a direction.
+fn towards(direction: Direction, manner: Manner) -> Manner {
+    Manner {
+        direction,
+        ..manner
+    }
+}
+
+/// A manner with one more flag.
+fn flagged(flag: BufferFlags, manner: Manner) -> Manner {
+    Manner {
+        flags: BufferFlags(manner.flags.0 | flag.0),
+        ..manner
+    }
 }
 
 /// The character that a word writes.

@@ -30,14 +30,17 @@ type Types = TypesOf<UnicodeDatabase, MapFace, NoLookups, hb_default_shaper_t>;
 /// The same with masks for the features of fractions.
 type DividingTypes = TypesOf<UnicodeDatabase, TestFace<'static>, TestLayout, hb_default_shaper_t>;
 
+/// A plan without lookups.
+type PlainPlan<'a, S> = hb_ot_shape_plan_t<'a, S, (), ()>;
+
 /// A plan of the default shaper.
-type Plan<'a> = hb_ot_shape_plan_t<'a, hb_default_shaper_t, (), ()>;
+type Plan<'a> = PlainPlan<'a, hb_default_shaper_t>;
 
 /// A plan with masks for fractions.
 type DividingPlan<'a> = hb_ot_shape_plan_t<'a, hb_default_shaper_t, TestMap, ()>;
 
 /// A plan of the shaper that decomposes fully.
-type FullPlan<'a> = hb_ot_shape_plan_t<'a, Preferring<Decomposed>, (), ()>;
+type FullPlan<'a> = PlainPlan<'a, Preferring<Decomposed>>;
 
 /// The plans that each test begins with.
 #[derive(Drop)]
@@ -146,7 +149,7 @@ fn make_texts(rt: &(impl Abort + AllocGlobal)) -> Texts {
 
 /// What a plan is for: its direction, whether it has a script, a shaper and data, and how many features users asked
 /// for.
-fn made_for(plan: &Plan<'_>) -> (Direction, [bool; 3], usize) {
+fn made_for<S>(plan: &PlainPlan<'_, S>) -> (Direction, [bool; 3], usize) {
     let () = *plan.ot_map();
     (
         plan.direction(),
@@ -160,7 +163,7 @@ fn made_for(plan: &Plan<'_>) -> (Direction, [bool; 3], usize) {
 }
 
 /// The masks of fractions, and others.
-fn masks_of(plan: &Plan<'_>) -> [u32; 6] {
+fn masks_of<S>(plan: &PlainPlan<'_, S>) -> [u32; 6] {
     [
         plan.frac_mask(),
         plan.numr_mask(),
@@ -172,7 +175,7 @@ fn masks_of(plan: &Plan<'_>) -> [u32; 6] {
 }
 
 /// Which tables are applied.
-fn applied(plan: &Plan<'_>) -> [bool; 5] {
+fn applied<S>(plan: &PlainPlan<'_, S>) -> [bool; 5] {
     [
         plan.apply_morx(),
         plan.apply_gpos(),
@@ -183,7 +186,7 @@ fn applied(plan: &Plan<'_>) -> [bool; 5] {
 }
 
 /// Which features were found.
-fn found(plan: &Plan<'_>) -> [bool; 4] {
+fn found<S>(plan: &PlainPlan<'_, S>) -> [bool; 4] {
     [
         plan.has_frac(),
         plan.has_vert(),
@@ -193,7 +196,7 @@ fn found(plan: &Plan<'_>) -> [bool; 4] {
 }
 
 /// What stands in the place of tables.
-fn in_their_place(plan: &Plan<'_>) -> [bool; 5] {
+fn in_their_place<S>(plan: &PlainPlan<'_, S>) -> [bool; 5] {
     [
         plan.fallback_glyph_classes(),
         plan.apply_fallback_kern(),
@@ -204,14 +207,14 @@ fn in_their_place(plan: &Plan<'_>) -> [bool; 5] {
 }
 
 /// Calls that say something of a plan to a prover alone.
-fn say(plan: &Plan<'_>) {
+fn say<S>(plan: &PlainPlan<'_, S>) {
     plan.masks_are_features();
     plan.positions_by_one_table();
 }
 
 /// The answers of a plan by a face without tables, an engine without masks, and a shaper with both wishes for
 /// marks.
-fn assert_plain(rt: &impl Abort, plan: &Plan<'_>) {
+fn assert_plain<S>(rt: &impl Abort, plan: &PlainPlan<'_, S>) {
     say(plan);
     let made_for_all = (Direction::LeftToRight, [false, true, false], 0);
     assert_same(rt, made_for(plan), made_for_all);
@@ -223,8 +226,11 @@ fn assert_plain(rt: &impl Abort, plan: &Plan<'_>) {
 
 /// What a builder of requests says that is told to be no simple one: how many requests it has, whether it is simple,
 /// and whether it chose a script.
-fn without_requests(rt: &(impl Abort + AllocGlobal), face: &MapFace) -> (usize, bool, bool) {
-    let mut builder = hb_ot_map_builder_t::new::<MapFace, NoLookups>(rt.alloc(), face, None, None);
+fn without_requests<F: hb_font_t>(
+    rt: &(impl Abort + AllocGlobal),
+    face: &F,
+) -> (usize, bool, bool) {
+    let mut builder = hb_ot_map_builder_t::new::<F, NoLookups>(rt.alloc(), face, None, None);
     builder.set_simple(false);
     let chosen = builder.chosen_script(TableIndex::GSUB);
     (
@@ -240,18 +246,24 @@ fn set_properties(buffer: &mut hb_buffer_t) {
 }
 
 /// Whether a text meets the premises of canonical form in a mode.
-fn meets<S>(plan: &hb_ot_shape_plan_t<'_, S, (), ()>, face: &MapFace, text: &hb_buffer_t) -> bool
+fn meets<F, S>(plan: &PlainPlan<'_, S>, face: &F, text: &hb_buffer_t) -> bool
 where
-    S: hb_ot_shaper_t<UnicodeDatabase, MapFace, NoLookups, Data = ()>,
+    F: hb_font_t,
+    S: hb_ot_shaper_t<UnicodeDatabase, F, NoLookups, Data = ()>,
 {
-    runs::meets_premises::<UnicodeDatabase, MapFace, NoLookups, S>(plan, face, text)
+    runs::meets_premises::<UnicodeDatabase, F, NoLookups, S>(plan, face, text)
+}
+
+/// An empty text.
+fn nothing(rt: &(impl Abort + AllocGlobal)) -> UnicodeBuffer {
+    let mut empty = UnicodeBuffer::new(rt.alloc());
+    guess(&mut empty);
+    empty
 }
 
 /// Whether a plan fits an empty text.
-fn fits(rt: &(impl Abort + AllocGlobal), plan: &Plan<'_>) -> bool {
-    let mut empty = UnicodeBuffer::new(rt.alloc());
-    guess(&mut empty);
-    plan.fits::<UnicodeDatabase>(&empty)
+fn fits<S>(rt: &(impl Abort + AllocGlobal), plan: &PlainPlan<'_, S>) -> bool {
+    plan.fits::<UnicodeDatabase>(&nothing(rt))
 }
 
 /// Compares how many items the texts have.
@@ -318,37 +330,31 @@ fn empty(rt: &(impl Abort + AllocGlobal)) -> hb_buffer_t {
 }
 
 /// Normalises, shapes and prepares a buffer without items.
-fn shape_in_place(rt: &(impl Abort + AllocGlobal), plan: &Plan<'_>, face: &MapFace) {
-    let (alloc, mut buffer) = (rt.alloc(), empty(rt));
-    let normalised = runs::normalise::<UnicodeDatabase, MapFace, NoLookups, hb_default_shaper_t>(
-        alloc,
-        plan,
-        face,
-        &mut buffer,
+fn shape_in_place<F, S>(rt: &(impl Abort + AllocGlobal), plan: &PlainPlan<'_, S>, face: &F)
+where
+    F: hb_font_t,
+    S: hb_ot_shaper_t<UnicodeDatabase, F, NoLookups, Data = ()>,
+{
+    let (alloc, mut list) = (rt.alloc(), empty(rt));
+    runs::normalise::<UnicodeDatabase, F, NoLookups, S>(alloc, plan, face, &mut list).expect(
+        rt, "memory",
     );
-    normalised.expect(rt, "memory");
-    let shaped = runs::shape_in_place::<UnicodeDatabase, MapFace, NoLookups, hb_default_shaper_t>(
-        alloc,
-        plan,
-        face,
-        &mut buffer,
+    let shaped = runs::shape_in_place::<UnicodeDatabase, F, NoLookups, S>(
+        alloc, plan, face, &mut list,
     );
     passed(rt, shaped);
-    let prepared = runs::prepare::<UnicodeDatabase, MapFace, NoLookups, hb_default_shaper_t>(
-        alloc,
-        plan,
-        face,
-        &mut buffer,
-    );
+    let prepared = runs::prepare::<UnicodeDatabase, F, NoLookups, S>(alloc, plan, face, &mut list);
     passed(rt, prepared);
 }
 
 /// How many glyphs an empty text has.
-fn shape_nothing(rt: &(impl Abort + AllocGlobal), plan: &Plan<'_>, face: &MapFace) -> usize {
+fn shape_nothing<F, S>(rt: &(impl Abort + AllocGlobal), plan: &PlainPlan<'_, S>, face: &F) -> usize
+where
+    F: hb_font_t,
+    S: hb_ot_shaper_t<UnicodeDatabase, F, NoLookups, Data = ()>,
+{
     let (alloc, text) = (rt.alloc(), UnicodeBuffer::new(rt.alloc()));
-    let answer = runs::glyphs_under::<UnicodeDatabase, MapFace, NoLookups, hb_default_shaper_t>(
-        alloc, plan, face, text,
-    );
+    let answer = runs::glyphs_under::<UnicodeDatabase, F, NoLookups, S>(alloc, plan, face, text);
     passed(rt, answer).expect(rt, "shaped").len()
 }
 
