@@ -55,14 +55,14 @@ pub fn check<W: World>(rt: &(impl Abort + AllocGlobal), cases: &str) {
     let mut settings = UNSET;
     for line in cases.lines() {
         if let Some(case) = read(rt, &mut settings, line.trim()) {
-            assert_answer(rt, case, W::answer(rt, case).as_str());
+            assert_answer(rt, case, W::answer(rt, case));
         }
     }
 }
 
 /// Compares what was found with what a case wants.
-pub fn assert_answer(rt: &(impl Abort + AllocGlobal), case: Case<'_>, found: &str) {
-    assert_eq!(rt; found, case.wanted, "from {}", case.text);
+pub fn assert_answer(rt: &(impl Abort + AllocGlobal), case: Case<'_>, found: String) {
+    assert_eq!(rt; found.as_str(), case.wanted, "from {}", case.text);
 }
 
 /// What is set before anything is.

@@ -66,7 +66,7 @@ where
         "compare" => compared(rt, face, shaper, case),
         step => {
             let list = list_of(rt, face, shaper, step, text_of(rt, case));
-            printed_list(rt.alloc(), &list, case.wanted).expect(rt, "memory")
+            printed_list(rt.alloc(), list, case.wanted).expect(rt, "memory")
         }
     }
 }
@@ -104,7 +104,7 @@ where
     S: hb_ot_shaper_t<UnicodeDatabase, TestFace<'a>, NoLookups, Data = ()>,
 {
     let glyphs = passed(rt, shaped(rt.alloc(), face, shaper, text_of(rt, case)));
-    printed_items(rt.alloc(), &glyphs, case.wanted).expect(rt, "memory")
+    printed_items(rt.alloc(), glyphs, case.wanted).expect(rt, "memory")
 }
 
 /// A spelling, prepared.

@@ -272,20 +272,6 @@ fn assert_begun(rt: &impl Abort, texts: &Texts) {
     assert_same(rt, texts.spelled.len(), 4);
 }
 
-/// Makes what each test begins with.
-fn begin(rt: &(impl Abort + AllocGlobal)) {
-    let face = face(rt);
-    let decomposing = Preferring::<Decomposed>::new();
-    let _plans = make_plans(rt, &face, &DIVIDING, &decomposing);
-    let texts = make_texts(rt);
-    assert_begun(rt, &texts);
-}
-
-#[test]
-fn text_is_begun(rt: HostRuntime) {
-    begin(&rt);
-}
-
 /// Asks plans, a builder of requests, and whether a text meets the premises of canonical form: it misses the first of
 /// them in the default mode, and meets all in the one that decomposes fully.
 fn ask(
@@ -300,26 +286,6 @@ fn ask(
     set_properties(spelled);
     assert_same(rt, meets(&plans.plain, face, spelled), false);
     assert_same(rt, meets(&plans.full, face, spelled), true);
-}
-
-/// Makes what each test begins with, and the steps.
-fn make_steps(rt: &(impl Abort + AllocGlobal)) {
-    let face = face(rt);
-    let decomposing = Preferring::<Decomposed>::new();
-    let plans = make_plans(rt, &face, &DIVIDING, &decomposing);
-    let mut texts = make_texts(rt);
-    ask(rt, &plans, &face, &mut texts.spelled);
-    steps::make_all::<_, Types, DividingTypes>(
-        rt,
-        (&plans.plain, &plans.dividing),
-        &face,
-        &mut texts.text,
-    );
-}
-
-#[test]
-fn steps_are_made(rt: HostRuntime) {
-    make_steps(&rt);
 }
 
 /// A buffer without items that runs to the right.
@@ -358,18 +324,60 @@ where
     passed(rt, answer).expect(rt, "shaped").len()
 }
 
-/// Makes what each test begins with, and shapes empty texts, in place and by the entry.
-fn shape_empty(rt: &(impl Abort + AllocGlobal)) {
+/// What a test does besides.
+enum Besides {
+    Nothing,
+    Steps,
+    EmptyTexts,
+}
+
+/// Makes the steps, or shapes empty texts in place and by the entry.
+fn make(
+    rt: &(impl Abort + AllocGlobal),
+    plans: &Plans<'_>,
+    face: &MapFace,
+    texts: &mut Texts,
+    besides: Besides,
+) {
+    match besides {
+        Besides::Nothing => {}
+        Besides::Steps => {
+            ask(rt, plans, face, &mut texts.spelled);
+            steps::make_all::<_, Types, DividingTypes>(
+                rt,
+                (&plans.plain, &plans.dividing),
+                face,
+                &mut texts.text,
+            );
+        }
+        Besides::EmptyTexts => {
+            shape_in_place(rt, &plans.plain, face);
+            assert_same(rt, shape_nothing(rt, &plans.plain, face), 0);
+        }
+    }
+}
+
+/// Makes what each test begins with, and what one does besides.
+fn begin(rt: &(impl Abort + AllocGlobal), besides: Besides) {
     let face = face(rt);
     let decomposing = Preferring::<Decomposed>::new();
     let plans = make_plans(rt, &face, &DIVIDING, &decomposing);
-    let texts = make_texts(rt);
+    let mut texts = make_texts(rt);
     assert_begun(rt, &texts);
-    shape_in_place(rt, &plans.plain, &face);
-    assert_same(rt, shape_nothing(rt, &plans.plain, &face), 0);
+    make(rt, &plans, &face, &mut texts, besides);
+}
+
+#[test]
+fn text_is_begun(rt: HostRuntime) {
+    begin(&rt, Besides::Nothing);
+}
+
+#[test]
+fn steps_are_made(rt: HostRuntime) {
+    begin(&rt, Besides::Steps);
 }
 
 #[test]
 fn empty_text_is_shaped(rt: HostRuntime) {
-    shape_empty(&rt);
+    begin(&rt, Besides::EmptyTexts);
 }

@@ -2,7 +2,7 @@
 
 use crate::comparing::{assert_same, assert_that};
 use crate::listing::{Case, World, assert_answer, check, face_of, passed, text_of};
-use crate::printing::printed_glyphs;
+use crate::printing::{glyphs_printed, printed_glyphs};
 use crate::texts::{guess, shaped};
 use shape_buffer::buffer::{
     BufferFlags, GlyphBuffer, GlyphId, ScratchFlags, UnicodeBuffer, hb_buffer_t, hb_glyph_info_t,
@@ -17,7 +17,7 @@ struct Placing;
 impl World for Placing {
     fn answer(rt: &(impl Abort + AllocGlobal), case: Case<'_>) -> String {
         let glyphs = shaped_over(rt, case, text_of(rt, case));
-        printed_glyphs(rt.alloc(), &glyphs).expect(rt, "memory")
+        printed_glyphs(rt.alloc(), glyphs).expect(rt, "memory")
     }
 }
 
@@ -115,7 +115,7 @@ impl World for WithSelectorGlyph {
         let mut text = text_of(rt, case);
         text.set_not_found_variation_selector_glyph(Some(GlyphId(9)));
         let glyphs = shaped_over(rt, case, text);
-        printed_glyphs(rt.alloc(), &glyphs).expect(rt, "memory")
+        printed_glyphs(rt.alloc(), glyphs).expect(rt, "memory")
     }
 }
 
@@ -167,10 +167,10 @@ struct TwoLettersTwice;
 impl World for TwoLettersTwice {
     fn answer(rt: &(impl Abort + AllocGlobal), case: Case<'_>) -> String {
         let glyphs = shaped_over(rt, case, text_of(rt, case));
-        let first = printed_glyphs(rt.alloc(), &glyphs).expect(rt, "memory");
-        assert_answer(rt, case, first.as_str());
+        let first = glyphs_printed(rt.alloc(), &glyphs).expect(rt, "memory");
+        assert_answer(rt, case, first);
         let glyphs = shaped_over(rt, case, two_letters_again(rt, glyphs));
-        printed_glyphs(rt.alloc(), &glyphs).expect(rt, "memory")
+        printed_glyphs(rt.alloc(), glyphs).expect(rt, "memory")
     }
 }
 

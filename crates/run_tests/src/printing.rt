@@ -7,6 +7,8 @@
 //!
 //! A glyph is its number in base 16 and its cluster, its advances and offsets, x before y, and its flags if it has
 //! some: `2@1(0,0,-450,112)/1`.
+//!
+//! What is printed is handed over: a function that has to drop a list is slow to prove, and these do it once.
 
 use crate::comparing::position_at;
 use shape_buffer::buffer::{Direction, GlyphBuffer, GlyphPosition, hb_buffer_t, hb_glyph_info_t};
@@ -109,30 +111,49 @@ fn append_items(
     Ok(())
 }
 
-/// The items of a list, as an answer names them.
-pub fn printed_list(alloc: Global, list: &hb_buffer_t, wanted: &str) -> Result<String, AllocError> {
-    let mut line = beginning(alloc, list.direction(), wanted)?;
-    append_items(&mut line, list.infos(), wanted)?;
+/// Prints items behind a direction.
+fn items_printed(
+    alloc: Global,
+    direction: Direction,
+    infos: &[hb_glyph_info_t],
+    wanted: &str,
+) -> Result<String, AllocError> {
+    let mut line = beginning(alloc, direction, wanted)?;
+    append_items(&mut line, infos, wanted)?;
     Ok(line)
+}
+
+/// The items of a list, as an answer names them.
+pub fn printed_list(alloc: Global, list: hb_buffer_t, wanted: &str) -> Result<String, AllocError> {
+    items_printed(alloc, list.direction(), list.infos(), wanted)
 }
 
 /// The items that glyphs were made of, as an answer names them.
 pub fn printed_items(
     alloc: Global,
-    glyphs: &GlyphBuffer,
+    glyphs: GlyphBuffer,
     wanted: &str,
 ) -> Result<String, AllocError> {
-    let mut line = beginning(alloc, glyphs.direction(), wanted)?;
-    append_items(&mut line, glyphs.glyph_infos(), wanted)?;
+    items_printed(alloc, glyphs.direction(), glyphs.glyph_infos(), wanted)
+}
+
+/// Appends glyphs with their positions.
+fn append_glyphs(line: &mut String, glyphs: &GlyphBuffer) -> Result<(), AllocError> {
+    for (at, info) in glyphs.glyph_infos().iter().enumerate() {
+        append_space(line)?;
+        append_glyph(line, info, position_at(glyphs.glyph_positions(), at))?;
+    }
+    Ok(())
+}
+
+/// Glyphs with their positions, which are kept.
+pub fn glyphs_printed(alloc: Global, glyphs: &GlyphBuffer) -> Result<String, AllocError> {
+    let mut line = String::new(alloc);
+    append_glyphs(&mut line, glyphs)?;
     Ok(line)
 }
 
 /// Glyphs with their positions.
-pub fn printed_glyphs(alloc: Global, glyphs: &GlyphBuffer) -> Result<String, AllocError> {
-    let mut line = String::new(alloc);
-    for (at, info) in glyphs.glyph_infos().iter().enumerate() {
-        append_space(&mut line)?;
-        append_glyph(&mut line, info, position_at(glyphs.glyph_positions(), at))?;
-    }
-    Ok(line)
+pub fn printed_glyphs(alloc: Global, glyphs: GlyphBuffer) -> Result<String, AllocError> {
+    glyphs_printed(alloc, &glyphs)
 }

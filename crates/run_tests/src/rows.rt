@@ -54,7 +54,7 @@ where
     S: hb_ot_shaper_t<PlainUnicode, TestFace<'a>, NoLookups, Data = ()>,
 {
     match shaped(rt, face, shaper, character(rt, case.text)) {
-        Ok(glyphs) => printed(rt, &glyphs, case.wanted),
+        Ok(glyphs) => printed(rt, glyphs, case.wanted),
         Err(fault) => refusal(rt, &fault),
     }
 }
@@ -83,7 +83,7 @@ where
 }
 
 /// Glyphs that have the glyphs of their items, or how many they are, if all stand in cluster 7.
-fn printed(rt: &(impl Abort + AllocGlobal), glyphs: &GlyphBuffer, wanted: &str) -> String {
+fn printed(rt: &(impl Abort + AllocGlobal), glyphs: GlyphBuffer, wanted: &str) -> String {
     if glyphs.len() <= 100 {
         for info in glyphs.glyph_infos() {
             assert_same(rt, info.glyph_id, info.glyph_index);

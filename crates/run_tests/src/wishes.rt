@@ -130,7 +130,7 @@ where
         text,
     );
     let glyphs = passed(rt, answer).expect(rt, "shaped");
-    printed_glyphs(rt.alloc(), &glyphs).expect(rt, "memory")
+    printed_glyphs(rt.alloc(), glyphs).expect(rt, "memory")
 }
 
 /// Whether a plan zeroes marks, goes by `morx`, has a shaper that gave way, places marks by their boxes, and moves

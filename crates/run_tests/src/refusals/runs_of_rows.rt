@@ -77,11 +77,11 @@ fn filled_again(
 /// Compares glyphs with those of a case.
 fn compare(
     rt: &(impl Abort + AllocGlobal),
-    glyphs: &GlyphBuffer,
+    glyphs: GlyphBuffer,
     case: Case<'_>,
 ) -> Result<(), Fail> {
     let found = printed_glyphs(rt.alloc(), glyphs)?;
-    assert_answer(rt, case, found.as_str());
+    assert_answer(rt, case, found);
     Ok(())
 }
 
@@ -99,7 +99,7 @@ where
 {
     let text = text_set(rt, case)?;
     match runs::glyphs_of::<UnicodeDatabase, F, NoLookups, S>(rt.alloc(), face, shaper, text) {
-        Ok(glyphs) => compare(rt, &glyphs, case),
+        Ok(glyphs) => compare(rt, glyphs, case),
         Err(fault) => {
             let again = filled_again(rt, case, fault)?;
             run_again(rt, face, shaper, case, again)?;
@@ -121,7 +121,7 @@ where
     S: hb_ot_shaper_t<UnicodeDatabase, F, NoLookups, Data = ()>,
 {
     match runs::glyphs_of::<UnicodeDatabase, F, NoLookups, S>(rt.alloc(), face, shaper, text) {
-        Ok(glyphs) => compare(rt, &glyphs, case),
+        Ok(glyphs) => compare(rt, glyphs, case),
         Err(_) => Err(Fail::from("refused twice")),
     }
 }
