@@ -89,13 +89,17 @@ fn append_space(line: &mut String) -> Result<(), AllocError> {
     }
 }
 
-/// The beginning of an answer: a direction, if that is wanted.
-fn beginning(alloc: Global, direction: Direction, wanted: &str) -> Result<String, AllocError> {
-    let mut line = String::new(alloc);
+/// Appends a direction if one is wanted.
+fn append_direction(
+    line: &mut String,
+    direction: Direction,
+    wanted: &str,
+) -> Result<(), AllocError> {
     if begins_with_direction(wanted) {
-        line.push_str(name_of(direction))?;
+        line.push_str(name_of(direction))
+    } else {
+        Ok(())
     }
-    Ok(line)
 }
 
 /// Appends items.
@@ -111,16 +115,27 @@ fn append_items(
     Ok(())
 }
 
-/// Prints items behind a direction.
+/// Items, behind a direction if one is wanted.
 fn items_printed(
     alloc: Global,
     direction: Direction,
     infos: &[hb_glyph_info_t],
     wanted: &str,
 ) -> Result<String, AllocError> {
-    let mut line = beginning(alloc, direction, wanted)?;
-    append_items(&mut line, infos, wanted)?;
+    let mut line = String::new(alloc);
+    append_answer(&mut line, direction, infos, wanted)?;
     Ok(line)
+}
+
+/// Appends a direction if one is wanted, and items.
+fn append_answer(
+    line: &mut String,
+    direction: Direction,
+    infos: &[hb_glyph_info_t],
+    wanted: &str,
+) -> Result<(), AllocError> {
+    append_direction(line, direction, wanted)?;
+    append_items(line, infos, wanted)
 }
 
 /// The items of a list, as an answer names them.

@@ -154,15 +154,17 @@ fn face_of_both<'a>() -> TestFace<'a> {
     TestFace::of(&NORMALISED)
 }
 
-/// A text as a run prepares it.
+/// A spelling that fills an empty text, as a run prepares it.
 fn prepared<'a>(
     rt: &(impl Abort + AllocGlobal),
     face: &TestFace<'a>,
     plan: &ComparingPlan<'_>,
-    text: UnicodeBuffer,
+    mut text: UnicodeBuffer,
+    words: &str,
 ) -> Result<hb_buffer_t, Fail> {
-    let alloc = rt.alloc();
-    let mut list = text.into_inner();
+    add(rt, &mut text, words)?;
+    guess(&mut text);
+    let (alloc, mut list) = (rt.alloc(), text.into_inner());
     runs::prepare::<UnicodeDatabase, TestFace<'a>, NoLookups, Comparing>(
         alloc, plan, face, &mut list,
     )?;
@@ -184,31 +186,6 @@ fn compare<'a>(
     assert_characters(rt, a, &NORMALISED);
     assert_characters(rt, b, &NORMALISED);
     Ok(())
-}
-
-/// A spelling, prepared.
-fn spelled(
-    rt: &(impl Abort + AllocGlobal),
-    face: &TestFace<'_>,
-    plan: &ComparingPlan<'_>,
-    words: &str,
-) -> Result<hb_buffer_t, Fail> {
-    let text = text_in(rt, PLAINLY, words)?;
-    prepared(rt, face, plan, text)
-}
-
-/// A spelling in a buffer that is left of a refused call, prepared again.
-fn again(
-    rt: &(impl Abort + AllocGlobal),
-    face: &TestFace<'_>,
-    plan: &ComparingPlan<'_>,
-    left: hb_buffer_t,
-    words: &str,
-) -> Result<hb_buffer_t, Fail> {
-    let mut text = left.clear();
-    add(rt, &mut text, words)?;
-    guess(&mut text);
-    prepared(rt, face, plan, text)
 }
 
 /// Whether a buffer has no items, positions and script.
@@ -235,8 +212,8 @@ fn compare_again(
 ) -> Result<(), Fail> {
     assert_left_empty(rt, &a);
     assert_left_empty(rt, &b);
-    let mut a = again(rt, face, plan, a, COMPOSED)?;
-    let mut b = again(rt, face, plan, b, SPELLED)?;
+    let mut a = prepared(rt, face, plan, a.clear(), COMPOSED)?;
+    let mut b = prepared(rt, face, plan, b.clear(), SPELLED)?;
     compare(rt, face, plan, (&mut a, &mut b))?;
     Ok(())
 }
@@ -258,8 +235,8 @@ fn compare_both(
     face: &TestFace<'_>,
     plan: &ComparingPlan<'_>,
 ) -> Result<(), Fail> {
-    let mut a = spelled(rt, face, plan, COMPOSED)?;
-    let mut b = spelled(rt, face, plan, SPELLED)?;
+    let mut a = prepared(rt, face, plan, UnicodeBuffer::new(rt.alloc()), COMPOSED)?;
+    let mut b = prepared(rt, face, plan, UnicodeBuffer::new(rt.alloc()), SPELLED)?;
     let Err(cause) = compare(rt, face, plan, (&mut a, &mut b)) else {
         return Ok(());
     };
