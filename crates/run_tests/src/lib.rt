@@ -14,6 +14,10 @@ mod ligatures;
 #[cfg(test)]
 mod limits;
 #[cfg(test)]
+mod listing;
+#[cfg(test)]
+mod lists;
+#[cfg(test)]
 mod long_runs;
 #[cfg(test)]
 mod modes;
@@ -27,6 +31,8 @@ mod placing;
 mod premises;
 #[cfg(test)]
 mod preparing;
+#[cfg(test)]
+mod printing;
 #[cfg(test)]
 mod refusals;
 #[cfg(test)]

@@ -3,8 +3,9 @@
 //! both, which must be as many.
 
 use crate::comparing::{assert_same, assert_that};
+use crate::listing::{character, face_of, passed};
 use crate::runs;
-use crate::texts::{face_of, guess};
+use crate::texts::guess;
 use shape_buffer::buffer::{
     BufferFlags, Direction, GlyphId, Script, UnicodeBuffer, hb_buffer_t, hb_glyph_info_t, hb_tag_t,
 };
@@ -18,9 +19,7 @@ use shape_pipeline::ot_shaper::{
 use shape_plan::shaping_types::TypesOf;
 use shape_prepare::graphemes::set_unicode_props;
 use shape_unicode::UnicodeDatabase;
-use std::alloc::Global;
 use std::process::Abort;
-use std::test::Fail;
 use test_worlds::{PLAIN_FACE, TestFace, TestLayout, TestMap};
 
 mod steps;
@@ -31,14 +30,17 @@ type Types = TypesOf<UnicodeDatabase, MapFace, NoLookups, hb_default_shaper_t>;
 /// The same with masks for the features of fractions.
 type DividingTypes = TypesOf<UnicodeDatabase, TestFace<'static>, TestLayout, hb_default_shaper_t>;
 
+/// A plan without lookups.
+type PlainPlan<'a, S> = hb_ot_shape_plan_t<'a, S, (), ()>;
+
 /// A plan of the default shaper.
-type Plan<'a> = hb_ot_shape_plan_t<'a, hb_default_shaper_t, (), ()>;
+type Plan<'a> = PlainPlan<'a, hb_default_shaper_t>;
 
 /// A plan with masks for fractions.
 type DividingPlan<'a> = hb_ot_shape_plan_t<'a, hb_default_shaper_t, TestMap, ()>;
 
 /// A plan of the shaper that decomposes fully.
-type FullPlan<'a> = hb_ot_shape_plan_t<'a, Preferring<Decomposed>, (), ()>;
+type FullPlan<'a> = PlainPlan<'a, Preferring<Decomposed>>;
 
 /// The plans that each test begins with.
 #[derive(Drop)]
@@ -59,25 +61,16 @@ struct Texts {
 
 /// Letters with marks above and below, digits about a slash, a bracket, Hebrew with a point, joiners, a variation
 /// selector, a soft hyphen, and a space without a glyph.
-const TEXT: [char; 16] = [
-    'a', '\u{301}', '\u{323}', '1', '\u{2044}', '2', '(', '\u{5D0}', '\u{5B8}', '\u{200D}',
-    '\u{FE00}', '\u{AD}', '\u{2003}', '\u{34F}', 'b', '\u{301}',
-];
+const TEXT: &str = "a 0301 0323 1 2044 2 ( 05D0 05B8 200D FE00 00AD 2003 034F b 0301";
 
 /// A text that splits, with two marks in an order of their own, all of whose characters the face has.
-const SPELLED: [char; 4] = ['\u{E1}', '\u{323}', 'a', '\u{301}'];
+const SPELLED: &str = "00E1 0323 a 0301";
 
 /// A face with boxes for a letter and two marks.
-fn face(alloc: Global) -> Result<MapFace, Fail> {
-    face_of(
-        alloc,
-        &[
-            ('a', 1, 600, Some((0, 700, 600, -700))),
-            ('\u{301}', 2, 200, Some((50, 800, 200, -150))),
-            ('\u{323}', 3, 200, Some((50, -50, 200, -150))),
-            (' ', 4, 250, None),
-        ],
-    )
+fn face(rt: &(impl Abort + AllocGlobal)) -> MapFace {
+    let glyphs =
+        "a=1(600,0,700,600,-700) 0301=2(200,50,800,200,-150) 0323=3(200,50,-50,200,-150) 0020=4(250)";
+    face_of(rt, glyphs).expect(rt, "memory")
 }
 
 /// A face with lookups for fractions.
@@ -87,14 +80,15 @@ const DIVIDING: TestFace<'static> = TestFace {
 };
 
 /// Items of these characters, each in a cluster of its own.
-fn items_of(alloc: Global, text: &[char]) -> Result<Vec<hb_glyph_info_t>, Fail> {
-    let mut infos: Vec<hb_glyph_info_t> = Vec::new(alloc);
+fn items_of(rt: &(impl Abort + AllocGlobal), words: &str) -> Vec<hb_glyph_info_t> {
+    let mut infos: Vec<hb_glyph_info_t> = Vec::new(rt.alloc());
     let mut cluster: u32 = 0;
-    for c in text.iter() {
-        infos.push(hb_glyph_info_t::new(*c, cluster))?;
+    for word in words.split_whitespace() {
+        let item = hb_glyph_info_t::new(character(rt, word), cluster);
+        infos.push(item).expect(rt, "memory");
         cluster = cluster.saturating_add(1);
     }
-    Ok(infos)
+    infos
 }
 
 /// Sets what a run depends on, and begins it.
@@ -108,51 +102,54 @@ fn set_and_enter(buffer: &mut hb_buffer_t) {
 
 /// The characters in a run, each in a cluster of its own. The lists have room for so many items and
 /// no more, so that a growth by one is seen.
-fn entered(alloc: Global, text: &[char]) -> Result<hb_buffer_t, Fail> {
-    let mut buffer = UnicodeBuffer::new(alloc).into_inner();
-    buffer.replace_infos(items_of(alloc, text)?)?;
+fn entered(rt: &(impl Abort + AllocGlobal), words: &str) -> hb_buffer_t {
+    let mut buffer = UnicodeBuffer::new(rt.alloc()).into_inner();
+    buffer
+        .replace_infos(items_of(rt, words))
+        .expect(rt, "memory");
     set_and_enter(&mut buffer);
-    Ok(buffer)
+    buffer
 }
 
 /// A plan that runs to the right.
 fn planned<'a, F, M, S>(
-    alloc: Global,
+    rt: &(impl Abort + AllocGlobal),
     face: &'a F,
     shaper: &'a S,
-) -> Result<hb_ot_shape_plan_t<'a, S, M::Map, ()>, Fail>
+) -> hb_ot_shape_plan_t<'a, S, M::Map, ()>
 where
     F: hb_font_t,
     M: hb_ot_layout_t<F>,
     S: hb_ot_shaper_t<UnicodeDatabase, F, M, Data = ()>,
 {
-    let direction = Direction::LeftToRight;
-    runs::plan_for::<UnicodeDatabase, F, M, S>(alloc, face, shaper, direction, None)
+    let (alloc, direction) = (rt.alloc(), Direction::LeftToRight);
+    let plan = runs::plan_for::<UnicodeDatabase, F, M, S>(alloc, face, shaper, direction, None);
+    passed(rt, plan)
 }
 
 fn make_plans<'a>(
-    alloc: Global,
+    rt: &(impl Abort + AllocGlobal),
     face: &'a MapFace,
     dividing: &'a TestFace<'static>,
     decomposing: &'a Preferring<Decomposed>,
-) -> Result<Plans<'a>, Fail> {
-    Ok(Plans {
-        plain: planned::<MapFace, NoLookups, _>(alloc, face, &DEFAULT_SHAPER)?,
-        dividing: planned::<TestFace<'static>, TestLayout, _>(alloc, dividing, &DEFAULT_SHAPER)?,
-        full: planned::<MapFace, NoLookups, _>(alloc, face, decomposing)?,
-    })
+) -> Plans<'a> {
+    Plans {
+        plain: planned::<MapFace, NoLookups, _>(rt, face, &DEFAULT_SHAPER),
+        dividing: planned::<TestFace<'static>, TestLayout, _>(rt, dividing, &DEFAULT_SHAPER),
+        full: planned::<MapFace, NoLookups, _>(rt, face, decomposing),
+    }
 }
 
-fn make_texts(alloc: Global) -> Result<Texts, Fail> {
-    Ok(Texts {
-        text: entered(alloc, &TEXT)?,
-        spelled: entered(alloc, &SPELLED)?,
-    })
+fn make_texts(rt: &(impl Abort + AllocGlobal)) -> Texts {
+    Texts {
+        text: entered(rt, TEXT),
+        spelled: entered(rt, SPELLED),
+    }
 }
 
 /// What a plan is for: its direction, whether it has a script, a shaper and data, and how many features users asked
 /// for.
-fn made_for(plan: &Plan<'_>) -> (Direction, [bool; 3], usize) {
+fn made_for<S>(plan: &PlainPlan<'_, S>) -> (Direction, [bool; 3], usize) {
     let () = *plan.ot_map();
     (
         plan.direction(),
@@ -166,7 +163,7 @@ fn made_for(plan: &Plan<'_>) -> (Direction, [bool; 3], usize) {
 }
 
 /// The masks of fractions, and others.
-fn masks_of(plan: &Plan<'_>) -> [u32; 6] {
+fn masks_of<S>(plan: &PlainPlan<'_, S>) -> [u32; 6] {
     [
         plan.frac_mask(),
         plan.numr_mask(),
@@ -178,7 +175,7 @@ fn masks_of(plan: &Plan<'_>) -> [u32; 6] {
 }
 
 /// Which tables are applied.
-fn applied(plan: &Plan<'_>) -> [bool; 5] {
+fn applied<S>(plan: &PlainPlan<'_, S>) -> [bool; 5] {
     [
         plan.apply_morx(),
         plan.apply_gpos(),
@@ -189,7 +186,7 @@ fn applied(plan: &Plan<'_>) -> [bool; 5] {
 }
 
 /// Which features were found.
-fn found(plan: &Plan<'_>) -> [bool; 4] {
+fn found<S>(plan: &PlainPlan<'_, S>) -> [bool; 4] {
     [
         plan.has_frac(),
         plan.has_vert(),
@@ -199,7 +196,7 @@ fn found(plan: &Plan<'_>) -> [bool; 4] {
 }
 
 /// What stands in the place of tables.
-fn in_their_place(plan: &Plan<'_>) -> [bool; 5] {
+fn in_their_place<S>(plan: &PlainPlan<'_, S>) -> [bool; 5] {
     [
         plan.fallback_glyph_classes(),
         plan.apply_fallback_kern(),
@@ -210,14 +207,14 @@ fn in_their_place(plan: &Plan<'_>) -> [bool; 5] {
 }
 
 /// Calls that say something of a plan to a prover alone.
-fn say(plan: &Plan<'_>) {
+fn say<S>(plan: &PlainPlan<'_, S>) {
     plan.masks_are_features();
     plan.positions_by_one_table();
 }
 
 /// The answers of a plan by a face without tables, an engine without masks, and a shaper with both wishes for
 /// marks.
-fn assert_plain(rt: &impl Abort, plan: &Plan<'_>) {
+fn assert_plain<S>(rt: &impl Abort, plan: &PlainPlan<'_, S>) {
     say(plan);
     let made_for_all = (Direction::LeftToRight, [false, true, false], 0);
     assert_same(rt, made_for(plan), made_for_all);
@@ -229,8 +226,11 @@ fn assert_plain(rt: &impl Abort, plan: &Plan<'_>) {
 
 /// What a builder of requests says that is told to be no simple one: how many requests it has, whether it is simple,
 /// and whether it chose a script.
-fn without_requests(alloc: Global, face: &MapFace) -> (usize, bool, bool) {
-    let mut builder = hb_ot_map_builder_t::new::<MapFace, NoLookups>(alloc, face, None, None);
+fn without_requests<F: hb_font_t>(
+    rt: &(impl Abort + AllocGlobal),
+    face: &F,
+) -> (usize, bool, bool) {
+    let mut builder = hb_ot_map_builder_t::new::<F, NoLookups>(rt.alloc(), face, None, None);
     builder.set_simple(false);
     let chosen = builder.chosen_script(TableIndex::GSUB);
     (
@@ -246,23 +246,24 @@ fn set_properties(buffer: &mut hb_buffer_t) {
 }
 
 /// Whether a text meets the premises of canonical form in a mode.
-fn meets<S>(plan: &hb_ot_shape_plan_t<'_, S, (), ()>, face: &MapFace, text: &hb_buffer_t) -> bool
+fn meets<F, S>(plan: &PlainPlan<'_, S>, face: &F, text: &hb_buffer_t) -> bool
 where
-    S: hb_ot_shaper_t<UnicodeDatabase, MapFace, NoLookups, Data = ()>,
+    F: hb_font_t,
+    S: hb_ot_shaper_t<UnicodeDatabase, F, NoLookups, Data = ()>,
 {
-    runs::meets_premises::<UnicodeDatabase, MapFace, NoLookups, S>(plan, face, text)
+    runs::meets_premises::<UnicodeDatabase, F, NoLookups, S>(plan, face, text)
 }
 
 /// An empty text.
-fn nothing(alloc: Global) -> UnicodeBuffer {
-    let mut empty = UnicodeBuffer::new(alloc);
+fn nothing(rt: &(impl Abort + AllocGlobal)) -> UnicodeBuffer {
+    let mut empty = UnicodeBuffer::new(rt.alloc());
     guess(&mut empty);
     empty
 }
 
 /// Whether a plan fits an empty text.
-fn fits(plan: &Plan<'_>, alloc: Global) -> bool {
-    plan.fits::<UnicodeDatabase>(&nothing(alloc))
+fn fits<S>(rt: &(impl Abort + AllocGlobal), plan: &PlainPlan<'_, S>) -> bool {
+    plan.fits::<UnicodeDatabase>(&nothing(rt))
 }
 
 /// Compares how many items the texts have.
@@ -271,120 +272,112 @@ fn assert_begun(rt: &impl Abort, texts: &Texts) {
     assert_same(rt, texts.spelled.len(), 4);
 }
 
-/// Makes what each test begins with.
-fn begin(rt: &impl Abort, alloc: Global, face: &MapFace) -> Result<(), Fail> {
-    let decomposing = Preferring::<Decomposed>::new();
-    let _plans = make_plans(alloc, face, &DIVIDING, &decomposing)?;
-    let texts = make_texts(alloc)?;
-    assert_begun(rt, &texts);
-    Ok(())
-}
-
-#[test]
-fn text_is_begun(rt: HostRuntime) -> Result<(), Fail> {
-    let alloc = rt.alloc();
-    let face = face(alloc)?;
-    begin(&rt, alloc, &face)
-}
-
 /// Asks plans, a builder of requests, and whether a text meets the premises of canonical form: it misses the first of
 /// them in the default mode, and meets all in the one that decomposes fully.
 fn ask(
-    rt: &impl Abort,
-    alloc: Global,
+    rt: &(impl Abort + AllocGlobal),
     plans: &Plans<'_>,
     face: &MapFace,
     spelled: &mut hb_buffer_t,
 ) {
-    assert_that(rt, fits(&plans.plain, alloc));
+    assert_that(rt, fits(rt, &plans.plain));
     assert_plain(rt, &plans.plain);
-    assert_same(rt, without_requests(alloc, face), (0, false, false));
+    assert_same(rt, without_requests(rt, face), (0, false, false));
     set_properties(spelled);
     assert_same(rt, meets(&plans.plain, face, spelled), false);
     assert_same(rt, meets(&plans.full, face, spelled), true);
 }
 
-/// Makes what each test begins with, and the steps.
-fn make_steps(rt: &impl Abort, alloc: Global, face: &MapFace) -> Result<(), Fail> {
-    let decomposing = Preferring::<Decomposed>::new();
-    let plans = make_plans(alloc, face, &DIVIDING, &decomposing)?;
-    let mut texts = make_texts(alloc)?;
-    ask(rt, alloc, &plans, face, &mut texts.spelled);
-    steps::make_all::<_, Types, DividingTypes>(
-        rt,
-        (&plans.plain, &plans.dividing),
-        face,
-        &mut texts.text,
-    )
-}
-
-#[test]
-fn steps_are_made(rt: HostRuntime) -> Result<(), Fail> {
-    let alloc = rt.alloc();
-    let face = face(alloc)?;
-    make_steps(&rt, alloc, &face)
-}
-
 /// A buffer without items that runs to the right.
-fn empty(alloc: Global) -> hb_buffer_t {
-    let mut buffer = UnicodeBuffer::new(alloc).into_inner();
+fn empty(rt: &(impl Abort + AllocGlobal)) -> hb_buffer_t {
+    let mut buffer = UnicodeBuffer::new(rt.alloc()).into_inner();
     buffer.set_direction(Direction::LeftToRight);
     buffer
 }
 
 /// Normalises, shapes and prepares a buffer without items.
-fn shape_in_place(alloc: Global, plan: &Plan<'_>, face: &MapFace) -> Result<(), Fail> {
-    let mut buffer = empty(alloc);
-    runs::normalise::<UnicodeDatabase, MapFace, NoLookups, hb_default_shaper_t>(
-        alloc,
-        plan,
-        face,
-        &mut buffer,
-    )?;
-    runs::shape_in_place::<UnicodeDatabase, MapFace, NoLookups, hb_default_shaper_t>(
-        alloc,
-        plan,
-        face,
-        &mut buffer,
-    )?;
-    runs::prepare::<UnicodeDatabase, MapFace, NoLookups, hb_default_shaper_t>(
-        alloc,
-        plan,
-        face,
-        &mut buffer,
-    )
+fn shape_in_place<F, S>(rt: &(impl Abort + AllocGlobal), plan: &PlainPlan<'_, S>, face: &F)
+where
+    F: hb_font_t,
+    S: hb_ot_shaper_t<UnicodeDatabase, F, NoLookups, Data = ()>,
+{
+    let (alloc, mut list) = (rt.alloc(), empty(rt));
+    runs::normalise::<UnicodeDatabase, F, NoLookups, S>(alloc, plan, face, &mut list).expect(
+        rt, "memory",
+    );
+    let shaped = runs::shape_in_place::<UnicodeDatabase, F, NoLookups, S>(
+        alloc, plan, face, &mut list,
+    );
+    passed(rt, shaped);
+    let prepared = runs::prepare::<UnicodeDatabase, F, NoLookups, S>(alloc, plan, face, &mut list);
+    passed(rt, prepared);
 }
 
 /// How many glyphs an empty text has.
-fn shape_nothing(alloc: Global, plan: &Plan<'_>, face: &MapFace) -> Result<usize, Fail> {
-    let text = UnicodeBuffer::new(alloc);
-    match runs::glyphs_under::<UnicodeDatabase, MapFace, NoLookups, hb_default_shaper_t>(
-        alloc, plan, face, text,
-    )? {
-        Ok(glyphs) => Ok(glyphs.len()),
-        Err(_) => Err(Fail::from("refused")),
+fn shape_nothing<F, S>(rt: &(impl Abort + AllocGlobal), plan: &PlainPlan<'_, S>, face: &F) -> usize
+where
+    F: hb_font_t,
+    S: hb_ot_shaper_t<UnicodeDatabase, F, NoLookups, Data = ()>,
+{
+    let (alloc, text) = (rt.alloc(), UnicodeBuffer::new(rt.alloc()));
+    let answer = runs::glyphs_under::<UnicodeDatabase, F, NoLookups, S>(alloc, plan, face, text);
+    passed(rt, answer).expect(rt, "shaped").len()
+}
+
+/// What a test does besides.
+enum Besides {
+    Nothing,
+    Steps,
+    EmptyTexts,
+}
+
+/// Makes the steps, or shapes empty texts in place and by the entry.
+fn make(
+    rt: &(impl Abort + AllocGlobal),
+    plans: &Plans<'_>,
+    face: &MapFace,
+    texts: &mut Texts,
+    besides: Besides,
+) {
+    match besides {
+        Besides::Nothing => {}
+        Besides::Steps => {
+            ask(rt, plans, face, &mut texts.spelled);
+            steps::make_all::<_, Types, DividingTypes>(
+                rt,
+                (&plans.plain, &plans.dividing),
+                face,
+                &mut texts.text,
+            );
+        }
+        Besides::EmptyTexts => {
+            shape_in_place(rt, &plans.plain, face);
+            assert_same(rt, shape_nothing(rt, &plans.plain, face), 0);
+        }
     }
 }
 
-/// Shapes empty texts, in place and by the entry.
-fn shape_both(rt: &impl Abort, alloc: Global, plan: &Plan<'_>, face: &MapFace) -> Result<(), Fail> {
-    shape_in_place(alloc, plan, face)?;
-    assert_same(rt, shape_nothing(alloc, plan, face)?, 0);
-    Ok(())
-}
-
-/// Makes what each test begins with, and shapes empty texts.
-fn shape_empty(rt: &impl Abort, alloc: Global, face: &MapFace) -> Result<(), Fail> {
+/// Makes what each test begins with, and what one does besides.
+fn begin(rt: &(impl Abort + AllocGlobal), besides: Besides) {
+    let face = face(rt);
     let decomposing = Preferring::<Decomposed>::new();
-    let plans = make_plans(alloc, face, &DIVIDING, &decomposing)?;
-    let texts = make_texts(alloc)?;
+    let plans = make_plans(rt, &face, &DIVIDING, &decomposing);
+    let mut texts = make_texts(rt);
     assert_begun(rt, &texts);
-    shape_both(rt, alloc, &plans.plain, face)
+    make(rt, &plans, &face, &mut texts, besides);
 }
 
 #[test]
-fn empty_text_is_shaped(rt: HostRuntime) -> Result<(), Fail> {
-    let alloc = rt.alloc();
-    let face = face(alloc)?;
-    shape_empty(&rt, alloc, &face)
+fn text_is_begun(rt: HostRuntime) {
+    begin(&rt, Besides::Nothing);
+}
+
+#[test]
+fn steps_are_made(rt: HostRuntime) {
+    begin(&rt, Besides::Steps);
+}
+
+#[test]
+fn empty_text_is_shaped(rt: HostRuntime) {
+    begin(&rt, Besides::EmptyTexts);
 }

@@ -3,144 +3,148 @@
 //! buffer gives once it is filled again.
 
 use crate::comparing::{assert_same, assert_that};
-use crate::refusals::runs_of_rows::{Row, assert_cleared, assert_row, bare, text_set};
-use crate::runs;
-use crate::texts::{
-    BY_CHARACTER, Manner, PLAINLY, assert_characters, face_of, filled, guess, planned, text_of,
+use crate::listing::{
+    Case, Settings, UNSET, add, characters_of, face_of, face_over, read, text_in,
 };
-use shape_buffer::buffer::{BufferFlags, Direction, ShapeError, UnicodeBuffer, hb_buffer_t};
-use shape_buffer::interfaces::{MapFace, NoLookups};
+use crate::refusals::runs_of_rows::{assert_cleared, run_by, text_set};
+use crate::runs;
+use crate::texts::{BY_CHARACTER, PLAINLY, assert_characters, guess, planned};
+use shape_buffer::buffer::{Direction, ShapeError, UnicodeBuffer, hb_buffer_t};
+use shape_buffer::interfaces::NoLookups;
 use shape_pipeline::ot_shaper::{
     ComposedDiacriticsNoShortCircuit, DEFAULT_SHAPER, Decomposed, Preferring,
 };
 use shape_pipeline::{ShapePlan, normalised_characters};
 use shape_unicode::UnicodeDatabase;
-use std::alloc::Global;
 use std::process::Abort;
 use std::test::Fail;
-use test_worlds::{EVERY_GLYPH, TestFace};
+use test_worlds::TestFace;
 
 mod runs_of_rows;
 
-/// Compares the glyphs of a row by the default shaper, over a face of these characters.
-fn assert_default_row(
-    rt: &impl Abort,
-    alloc: Global,
-    face: &[char],
-    row: Row<'_>,
+/// Runs cases over the whole database of Unicode, by the shapers `default`, `decomposed` and `recomposed`, which
+/// composes again whatever the face shows.
+fn run_all(rt: &(impl Abort + AllocGlobal), cases: &str) -> Result<(), Fail> {
+    assert_that(rt, cases.contains("->"));
+    let mut settings = UNSET;
+    for line in cases.lines() {
+        if let Some(case) = read(rt, &mut settings, line.trim()) {
+            run(rt, case)?;
+        }
+    }
+    Ok(())
+}
+
+/// Runs a case.
+fn run(rt: &(impl Abort + AllocGlobal), case: Case<'_>) -> Result<(), Fail> {
+    if case.settings.face.contains('=') {
+        let face = face_of(rt, case.settings.face)?;
+        return run_by(rt, &face, &DEFAULT_SHAPER, case);
+    }
+    let characters = characters_of(rt, case.settings)?;
+    run_over(rt, &face_over(case.settings, characters.as_slice()), case)
+}
+
+/// Runs a case over a face of some characters.
+fn run_over(
+    rt: &(impl Abort + AllocGlobal),
+    face: &TestFace<'_>,
+    case: Case<'_>,
 ) -> Result<(), Fail> {
-    assert_row(rt, alloc, &TestFace::of(face), &DEFAULT_SHAPER, row)
+    match case.settings.shaper {
+        "default" => run_by(rt, face, &DEFAULT_SHAPER, case),
+        "decomposed" => run_by(rt, face, &Preferring::<Decomposed>::new(), case),
+        "recomposed" => {
+            let shaper = Preferring::<ComposedDiacriticsNoShortCircuit>::new();
+            run_by(rt, face, &shaper, case)
+        }
+        name => rt.panic(name),
+    }
 }
 
 #[test]
 fn e_acute(rt: HostRuntime) -> Result<(), Fail> {
-    let row = Row {
-        manner: PLAINLY,
-        text: &['\u{E9}'],
-        glyphs: &[bare(0x65, 0, 0), bare(0x301, 0, 0)],
-    };
-    assert_default_row(&rt, rt.alloc(), &['e', '\u{301}'], row)
+    run_all(
+        &rt,
+        "
+        face: e 0301
+        00E9 -> 65@0(0,0,0,0) 301@0(0,0,0,0)
+        ",
+    )
 }
 
 #[test]
 fn shortest_expansion(rt: HostRuntime) -> Result<(), Fail> {
-    let face = ['A', '\u{302}', '\u{301}', '\u{C2}'];
-    let row = Row {
-        manner: PLAINLY,
-        text: &['\u{1EA4}'],
-        glyphs: &[bare(0xC2, 0, 0), bare(0x301, 0, 0)],
-    };
-    assert_default_row(&rt, rt.alloc(), &face, row)
+    run_all(
+        &rt,
+        "
+        face: A 0302 0301 00C2
+        1EA4 -> C2@0(0,0,0,0) 301@0(0,0,0,0)
+        ",
+    )
 }
 
 #[test]
 fn ordering_merges(rt: HostRuntime) -> Result<(), Fail> {
-    let row = Row {
-        manner: BY_CHARACTER,
-        text: &['a', '\u{301}', '\u{323}'],
-        glyphs: &[bare(0x61, 0, 0), bare(0x323, 1, 1), bare(0x301, 1, 1)],
-    };
-    let decomposed = Preferring::<Decomposed>::new();
-    assert_row(&rt, rt.alloc(), &EVERY_GLYPH, &decomposed, row)
-}
-
-/// Compares the glyphs of a text that is composed again.
-fn assert_composed(rt: &impl Abort, alloc: Global, text: &[char]) -> Result<(), Fail> {
-    let shaper = Preferring::<ComposedDiacriticsNoShortCircuit>::new();
-    let face = TestFace::of(&['e', '\u{301}', '\u{323}', '\u{1EB9}', '\u{E9}']);
-    let row = Row {
-        manner: PLAINLY,
-        text,
-        glyphs: &[bare(0x1EB9, 0, 0), bare(0x301, 0, 0)],
-    };
-    assert_row(rt, alloc, &face, &shaper, row)
+    run_all(
+        &rt,
+        "
+        shaper: decomposed
+        face: every
+        manner: by_character
+        a 0301 0323 -> 61@0(0,0,0,0) 323@1(0,0,0,0)/1 301@1(0,0,0,0)/1
+        ",
+    )
 }
 
 #[test]
 fn three_spellings(rt: HostRuntime) -> Result<(), Fail> {
-    let alloc = rt.alloc();
-    assert_composed(&rt, alloc, &['\u{E9}', '\u{323}'])?;
-    assert_composed(&rt, alloc, &['e', '\u{301}', '\u{323}'])?;
-    assert_composed(&rt, alloc, &['\u{1EB9}', '\u{301}'])
+    run_all(
+        &rt,
+        "
+        shaper: recomposed
+        face: e 0301 0323 1EB9 00E9
+        00E9 0323 -> 1EB9@0(0,0,0,0) 301@0(0,0,0,0)
+        e 0301 0323 -> 1EB9@0(0,0,0,0) 301@0(0,0,0,0)
+        1EB9 0301 -> 1EB9@0(0,0,0,0) 301@0(0,0,0,0)
+        ",
+    )
 }
 
 #[test]
 fn dotted_circle(rt: HostRuntime) -> Result<(), Fail> {
-    let row = Row {
-        manner: Manner {
-            flags: BufferFlags::BEGINNING_OF_TEXT,
-            ..PLAINLY
-        },
-        text: &['\u{301}'],
-        glyphs: &[bare(0x25CC, 0, 0), bare(0x301, 0, 0)],
-    };
-    assert_default_row(&rt, rt.alloc(), &['\u{25CC}', '\u{301}'], row)
+    run_all(
+        &rt,
+        "
+        face: 25CC 0301
+        manner: beginning
+        0301 -> 25CC@0(0,0,0,0) 301@0(0,0,0,0)
+        ",
+    )
 }
 
-/// Compares the glyphs of a row by the default shaper, over a face with widths and boxes.
-fn assert_mapped_row(
-    rt: &impl Abort,
-    alloc: Global,
-    face: &MapFace,
-    row: Row<'_>,
-) -> Result<(), Fail> {
-    assert_row(rt, alloc, face, &DEFAULT_SHAPER, row)
-}
-
+/// Over a face with widths and boxes.
 #[test]
 fn mark_above_and_below(rt: HostRuntime) -> Result<(), Fail> {
-    let alloc = rt.alloc();
-    let face = face_of(
-        alloc,
-        &[
-            ('a', 1, 600, Some((0, 700, 600, -700))),
-            ('\u{301}', 2, 200, Some((50, 800, 200, -150))),
-            ('\u{323}', 4, 200, Some((50, -50, 200, -100))),
-        ],
-    )?;
-    let above = Row {
-        manner: PLAINLY,
-        text: &['a', '\u{301}'],
-        glyphs: &[(1, 0, (600, 0, 0, 0), 0), (2, 0, (0, 0, -450, 112), 0)],
-    };
-    assert_mapped_row(&rt, alloc, &face, above)?;
-    let below = Row {
-        manner: PLAINLY,
-        text: &['a', '\u{323}'],
-        glyphs: &[(1, 0, (600, 0, 0, 0), 0), (4, 0, (0, 0, -450, -12), 0)],
-    };
-    assert_mapped_row(&rt, alloc, &face, below)
+    run_all(
+        &rt,
+        "
+        face: a=1(600,0,700,600,-700) 0301=2(200,50,800,200,-150) 0323=4(200,50,-50,200,-100)
+        a 0301 -> 1@0(600,0,0,0) 2@0(0,0,-450,112)
+        a 0323 -> 1@0(600,0,0,0) 4@0(0,0,-450,-12)
+        ",
+    )
 }
 
 type Comparing = Preferring<Decomposed>;
 
 type ComparingPlan<'a> = ShapePlan<'a, Comparing, (), ()>;
 
-/// Two spellings, one composed and one with its marks out of order.
-const SPELLINGS: [&[char]; 2] = [
-    &['\u{FB2C}', '\u{323}'],
-    &['\u{5E9}', '\u{5BC}', '\u{5C1}', '\u{323}'],
-];
+/// A composed spelling.
+const COMPOSED: &str = "FB2C 0323";
+
+/// The same with its marks out of order.
+const SPELLED: &str = "05E9 05BC 05C1 0323";
 
 /// What both are normalised to.
 const NORMALISED: [char; 4] = ['\u{5E9}', '\u{5C1}', '\u{5BC}', '\u{323}'];
@@ -150,31 +154,31 @@ fn face_of_both<'a>() -> TestFace<'a> {
     TestFace::of(&NORMALISED)
 }
 
-/// A text as a run prepares it.
+/// A spelling that fills an empty text, as a run prepares it.
 fn prepared<'a>(
-    alloc: Global,
+    rt: &(impl Abort + AllocGlobal),
     face: &TestFace<'a>,
     plan: &ComparingPlan<'_>,
-    text: UnicodeBuffer,
+    mut text: UnicodeBuffer,
+    words: &str,
 ) -> Result<hb_buffer_t, Fail> {
-    let mut buffer = text.into_inner();
+    add(rt, &mut text, words)?;
+    guess(&mut text);
+    let (alloc, mut list) = (rt.alloc(), text.into_inner());
     runs::prepare::<UnicodeDatabase, TestFace<'a>, NoLookups, Comparing>(
-        alloc,
-        plan,
-        face,
-        &mut buffer,
+        alloc, plan, face, &mut list,
     )?;
-    Ok(buffer)
+    Ok(list)
 }
 
 /// Compares the two spellings in two buffers, and the characters that both have then.
 fn compare<'a>(
-    rt: &impl Abort,
-    alloc: Global,
+    rt: &(impl Abort + AllocGlobal),
     face: &TestFace<'a>,
     plan: &ComparingPlan<'_>,
     (a, b): (&mut hb_buffer_t, &mut hb_buffer_t),
 ) -> Result<(), ShapeError> {
+    let alloc = rt.alloc();
     let same = runs::are_alike::<UnicodeDatabase, TestFace<'a>, NoLookups, Comparing>(
         alloc, plan, face, a, b,
     )?;
@@ -182,19 +186,6 @@ fn compare<'a>(
     assert_characters(rt, a, &NORMALISED);
     assert_characters(rt, b, &NORMALISED);
     Ok(())
-}
-
-/// A spelling in a buffer that is left of a refused call, prepared again.
-fn again<'a>(
-    alloc: Global,
-    face: &TestFace<'a>,
-    plan: &ComparingPlan<'_>,
-    left: hb_buffer_t,
-    text: &[char],
-) -> Result<hb_buffer_t, Fail> {
-    let mut text = filled(left.clear(), text)?;
-    guess(&mut text);
-    prepared(alloc, face, plan, text)
 }
 
 /// Whether a buffer has no items, positions and script.
@@ -213,68 +204,64 @@ fn assert_left_empty(rt: &impl Abort, left: &hb_buffer_t) {
 }
 
 /// Compares the two spellings again in the buffers that a refused call has left.
-fn compare_again<'a>(
-    rt: &impl Abort,
-    alloc: Global,
-    face: &TestFace<'a>,
+fn compare_again(
+    rt: &(impl Abort + AllocGlobal),
+    face: &TestFace<'_>,
     plan: &ComparingPlan<'_>,
     (a, b): (hb_buffer_t, hb_buffer_t),
 ) -> Result<(), Fail> {
     assert_left_empty(rt, &a);
     assert_left_empty(rt, &b);
-    let mut a = again(alloc, face, plan, a, SPELLINGS[0])?;
-    let mut b = again(alloc, face, plan, b, SPELLINGS[1])?;
-    compare(rt, alloc, face, plan, (&mut a, &mut b))?;
+    let mut a = prepared(rt, face, plan, a.clear(), COMPOSED)?;
+    let mut b = prepared(rt, face, plan, b.clear(), SPELLED)?;
+    compare(rt, face, plan, (&mut a, &mut b))?;
     Ok(())
 }
 
 /// The plan for a spelling.
 fn planned_for<'a>(
-    alloc: Global,
+    rt: &(impl Abort + AllocGlobal),
     face: &'a TestFace<'a>,
     shaper: &'a Comparing,
-    text: &[char],
+    words: &str,
 ) -> Result<ComparingPlan<'a>, Fail> {
-    let text = text_of(alloc, PLAINLY, text)?;
-    planned(alloc, face, shaper, &text)
+    let text = text_in(rt, PLAINLY, words)?;
+    planned(rt.alloc(), face, shaper, &text)
 }
 
 /// Compares the two spellings. If that is refused, does so again in the buffers that are left.
-fn compare_both<'a>(
-    rt: &impl Abort,
-    alloc: Global,
-    face: &TestFace<'a>,
+fn compare_both(
+    rt: &(impl Abort + AllocGlobal),
+    face: &TestFace<'_>,
     plan: &ComparingPlan<'_>,
 ) -> Result<(), Fail> {
-    let mut a = prepared(alloc, face, plan, text_of(alloc, PLAINLY, SPELLINGS[0])?)?;
-    let mut b = prepared(alloc, face, plan, text_of(alloc, PLAINLY, SPELLINGS[1])?)?;
-    let Err(cause) = compare(rt, alloc, face, plan, (&mut a, &mut b)) else {
+    let mut a = prepared(rt, face, plan, UnicodeBuffer::new(rt.alloc()), COMPOSED)?;
+    let mut b = prepared(rt, face, plan, UnicodeBuffer::new(rt.alloc()), SPELLED)?;
+    let Err(cause) = compare(rt, face, plan, (&mut a, &mut b)) else {
         return Ok(());
     };
     assert_same(rt, cause, ShapeError::Memory);
-    compare_again(rt, alloc, face, plan, (a, b))?;
+    compare_again(rt, face, plan, (a, b))?;
     Err(Fail::from("refused"))
 }
 
 /// Both buffers are cleared if one growth of either is refused.
 #[test]
 fn comparing(rt: HostRuntime) -> Result<(), Fail> {
-    let alloc = rt.alloc();
     let face = face_of_both();
     let shaper = Comparing::new();
-    let plan = planned_for(alloc, &face, &shaper, SPELLINGS[0])?;
-    compare_both(&rt, alloc, &face, &plan)
+    let plan = planned_for(&rt, &face, &shaper, COMPOSED)?;
+    compare_both(&rt, &face, &plan)
 }
 
 /// Compares the key of a text. Where it is refused, hands back what is left of the text.
 fn key_or_left(
-    rt: &impl Abort,
-    alloc: Global,
+    rt: &(impl Abort + AllocGlobal),
     face: &TestFace<'_>,
     plan: &ComparingPlan<'_>,
     text: UnicodeBuffer,
 ) -> Option<UnicodeBuffer> {
-    match normalised_characters::<UnicodeDatabase, _, NoLookups, _>(alloc, face, plan, text) {
+    match normalised_characters::<UnicodeDatabase, _, NoLookups, _>(rt.alloc(), face, plan, text) {
         Ok(key) => {
             assert_same(rt, key.as_slice(), &NORMALISED[..]);
             None
@@ -289,17 +276,17 @@ fn key_or_left(
 /// Compares the key of a spelling. If it is refused, compares what is left of the text, and its key once it is filled
 /// again.
 fn compare_keys(
-    rt: &impl Abort,
-    alloc: Global,
+    rt: &(impl Abort + AllocGlobal),
     face: &TestFace<'_>,
     plan: &ComparingPlan<'_>,
-    row: Row<'_>,
+    case: Case<'_>,
 ) -> Result<(), Fail> {
-    let Some(left) = key_or_left(rt, alloc, face, plan, text_set(alloc, row)?) else {
+    let Some(mut left) = key_or_left(rt, face, plan, text_set(rt, case)?) else {
         return Ok(());
     };
-    assert_cleared(rt, row, &left);
-    if key_or_left(rt, alloc, face, plan, filled(left, row.text)?).is_some() {
+    assert_cleared(rt, case.settings.manner, &left);
+    add(rt, &mut left, case.text)?;
+    if key_or_left(rt, face, plan, left).is_some() {
         return Err(Fail::from("refused twice"));
     }
     Err(Fail::from("refused"))
@@ -308,14 +295,17 @@ fn compare_keys(
 /// A text's key is refused with the text's buffer, cleared, which gives the key once it is filled again.
 #[test]
 fn a_key(rt: HostRuntime) -> Result<(), Fail> {
-    let alloc = rt.alloc();
     let face = face_of_both();
     let shaper = Comparing::new();
-    let row = Row {
+    let settings = Settings {
         manner: BY_CHARACTER,
-        text: SPELLINGS[1],
-        glyphs: &[],
+        ..UNSET
     };
-    let plan = planned_for(alloc, &face, &shaper, row.text)?;
-    compare_keys(&rt, alloc, &face, &plan, row)
+    let case = Case {
+        settings,
+        text: SPELLED,
+        wanted: "",
+    };
+    let plan = planned_for(&rt, &face, &shaper, SPELLED)?;
+    compare_keys(&rt, &face, &plan, case)
 }

@@ -1,5 +1,6 @@
 //! The pipeline's calls, each in a function of its own without a contract. The proof of a function carries what its
-//! calls promise to its end: so the promises of one call end here, and tests make runs of many steps of these functions.
+//! calls promise to its end: so the promises of one call end here, and tests make runs of many steps of these
+//! functions.
 
 use shape_buffer::buffer::{
     Direction, GlyphBuffer, Script, ShapeError, ShapeFault, UnicodeBuffer, hb_buffer_t,
@@ -44,12 +45,13 @@ where
     Ok(plan)
 }
 
-/// Prepares the text of a buffer.
-pub fn prepare<U, F, M, S>(
+/// Prepares the text of a buffer, and shapes it in place if it is taken to the end.
+fn take<U, F, M, S>(
     alloc: Global,
     plan: &hb_ot_shape_plan_t<'_, S, M::Map, ()>,
     face: &F,
     buffer: &mut hb_buffer_t,
+    to_end: bool,
 ) -> Result<(), Fail>
 where
     U: hb_unicode_funcs_t,
@@ -67,8 +69,28 @@ where
         buffer,
         target_direction,
     };
-    prepare_text::<U, F, M, S>(alloc, &mut ctx)?;
-    Ok(())
+    let taken = if to_end {
+        shape_internal::<U, F, M, S>(alloc, &mut ctx)
+    } else {
+        prepare_text::<U, F, M, S>(alloc, &mut ctx)
+    };
+    Ok(taken?)
+}
+
+/// Prepares the text of a buffer.
+pub fn prepare<U, F, M, S>(
+    alloc: Global,
+    plan: &hb_ot_shape_plan_t<'_, S, M::Map, ()>,
+    face: &F,
+    buffer: &mut hb_buffer_t,
+) -> Result<(), Fail>
+where
+    U: hb_unicode_funcs_t,
+    F: hb_font_t,
+    M: hb_ot_layout_t<F>,
+    S: hb_ot_shaper_t<U, F, M, Data = ()>,
+{
+    take::<U, F, M, S>(alloc, plan, face, buffer, false)
 }
 
 /// Normalises the list of a buffer.
@@ -100,18 +122,7 @@ where
     M: hb_ot_layout_t<F>,
     S: hb_ot_shaper_t<U, F, M, Data = ()>,
 {
-    let target_direction = buffer.direction();
-    if target_direction == Direction::Invalid {
-        return Err(Fail::from("no direction"));
-    }
-    let mut ctx = hb_ot_shape_context_t {
-        plan,
-        face,
-        buffer,
-        target_direction,
-    };
-    shape_internal::<U, F, M, S>(alloc, &mut ctx)?;
-    Ok(())
+    take::<U, F, M, S>(alloc, plan, face, buffer, true)
 }
 
 /// The glyphs of a text under a plan.

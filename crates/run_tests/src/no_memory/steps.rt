@@ -34,7 +34,6 @@ use shape_substitute::glyphs::{
 use shape_substitute::masks::{setup_masks, setup_masks_shaper};
 use shape_substitute::ranges::setup_masks_user;
 use std::process::Abort;
-use std::test::Fail;
 
 /// Makes all steps on a text of 16 items, of which four aren't shown. Fractions are those of another plan, which has
 /// masks for them.
@@ -43,18 +42,17 @@ pub fn make_all<A: Abort, T: ShapingTypes, D: ShapingTypes>(
     (plan, dividing): (&PlanOf<'_, T>, &PlanOf<'_, D>),
     face: &T::Face,
     text: &mut hb_buffer_t,
-) -> Result<(), Fail> {
+) {
     form_graphemes::<T>(plan, text);
     reverse::<T>(plan, face, text);
     set_items(text);
     divide::<A, D>(rt, dividing, text);
-    make_glyphs::<T>(plan, face, text)?;
+    make_glyphs::<A, T>(rt, plan, face, text);
     place::<T>(plan, face, text);
     assert_same(rt, text.len(), 16);
     order(text);
     hide::<T>(plan, face, text);
     assert_same(rt, text.len(), 12);
-    Ok(())
 }
 
 /// Prepares the text, up to its direction.
@@ -107,15 +105,16 @@ fn divide<A: Abort, T: ShapingTypes>(rt: &A, plan: &PlanOf<'_, T>, buffer: &mut 
 }
 
 /// Masks, glyphs and their classes.
-fn make_glyphs<T: ShapingTypes>(
+fn make_glyphs<A: Abort, T: ShapingTypes>(
+    rt: &A,
     plan: &PlanOf<'_, T>,
     face: &T::Face,
     buffer: &mut hb_buffer_t,
-) -> Result<(), Fail> {
+) {
     put_masks::<T>(plan, face, buffer);
     map_glyphs::<T>(plan, face, buffer);
     classify::<T>(plan, buffer);
-    make_whole_steps::<T>(plan, face, buffer)
+    make_whole_steps::<A, T>(rt, plan, face, buffer);
 }
 
 /// All that places glyphs.
@@ -147,19 +146,17 @@ fn classify<T: ShapingTypes>(plan: &PlanOf<'_, T>, buffer: &mut hb_buffer_t) {
 }
 
 /// The steps that are made of several, and that of syllables.
-fn make_whole_steps<T: ShapingTypes>(
+fn make_whole_steps<A: Abort, T: ShapingTypes>(
+    rt: &A,
     plan: &PlanOf<'_, T>,
     face: &T::Face,
     buffer: &mut hb_buffer_t,
-) -> Result<(), Fail> {
-    if buffer.length_limit() < buffer.len() {
-        return Err(Fail::from("past the limit"));
-    }
+) {
+    assert!(rt; buffer.len() <= buffer.length_limit());
     setup_masks::<T>(plan, face, buffer);
     setup_glyphs::<T>(plan, face, buffer);
     position_default::<T>(plan, face, buffer);
     syllabic_clear_var(buffer);
-    Ok(())
 }
 
 /// The steps that stand under a name of their own.
