@@ -1,6 +1,6 @@
 //! What runs answer, for tests that end where memory is refused.
 
-use crate::cases::{character, number};
+use crate::cases::{character, cut, cut_off, number, repeated};
 use crate::texts::{Manner, guess};
 use shape_buffer::buffer::{
     Direction, GlyphBuffer, GlyphId, Script, UnicodeBuffer, hb_buffer_t, hb_glyph_info_t,
@@ -16,20 +16,42 @@ use shape_pipeline::shape_with_plan;
 use shape_unicode::UnicodeDatabase;
 use std::process::Abort;
 
-/// A text with clusters that are byte offsets in UTF-8; direction and script are guessed if they aren't
-/// set.
-pub fn text_of(rt: &(impl Abort + AllocGlobal), manner: Manner, text: &[char]) -> UnicodeBuffer {
-    let mut buffer = UnicodeBuffer::new(rt.alloc());
-    let mut offset: u32 = 0;
-    for c in text {
-        buffer.add(*c, offset).expect(rt, "memory");
-        offset = offset.saturating_add(c.len_utf8() as u32);
+/// Appends the characters of a word, the first one in a cluster. Gives the cluster after the last one.
+fn append(rt: &impl Abort, text: &mut UnicodeBuffer, word: &str, mut cluster: u32) -> u32 {
+    for part in word.split('+') {
+        let c = character(rt, part);
+        text.add(c, cluster).expect(rt, "memory");
+        cluster = cluster.saturating_add(c.len_utf8() as u32);
     }
-    buffer.set_direction(manner.direction);
-    buffer.set_cluster_level(manner.level);
-    buffer.set_flags(manner.flags);
-    guess(&mut buffer);
-    buffer
+    cluster
+}
+
+/// Appends a word of a text so many times as it says.
+fn append_all(rt: &impl Abort, text: &mut UnicodeBuffer, word: &str, mut cluster: u32) -> u32 {
+    let (parts, count) = repeated(rt, cut_off(word, "@").0);
+    for _ in 0..count {
+        cluster = append(rt, text, parts, cluster);
+    }
+    cluster
+}
+
+/// Sets what is set of a text; direction and script are guessed if they aren't.
+fn set(text: &mut UnicodeBuffer, manner: Manner) {
+    text.set_direction(manner.direction);
+    text.set_cluster_level(manner.level);
+    text.set_flags(manner.flags);
+    guess(text);
+}
+
+/// The text of a line, with clusters that are byte offsets in UTF-8.
+pub fn text_of(rt: &(impl Abort + AllocGlobal), manner: Manner, words: &str) -> UnicodeBuffer {
+    let mut text = UnicodeBuffer::new(rt.alloc());
+    let mut cluster: u32 = 0;
+    for word in words.split_whitespace() {
+        cluster = append_all(rt, &mut text, word, cluster);
+    }
+    set(&mut text, manner);
+    text
 }
 
 /// A buffer of these items.
@@ -83,7 +105,7 @@ where
         buffer,
         target_direction,
     };
-    prepare_text::<U, F, NoLookups, S>(rt.alloc(), &mut ctx).expect(rt, "memory");
+    prepare_text::<U, F, NoLookups, S>(rt.alloc(), &mut ctx).expect(rt, "a text");
 }
 
 /// Normalises the list of a buffer.
@@ -103,56 +125,63 @@ where
     );
 }
 
-/// A text as a run over the whole database of Unicode prepares it.
+/// The plan for a text, over the whole database of Unicode.
+pub fn planned<'a, F, S>(
+    rt: &(impl Abort + AllocGlobal),
+    by: (&'a F, &'a S),
+    text: &UnicodeBuffer,
+) -> hb_ot_shape_plan_t<'a, S, (), ()>
+where
+    F: hb_font_t,
+    S: hb_ot_shaper_t<UnicodeDatabase, F, NoLookups, Data = ()>,
+{
+    plan_for::<UnicodeDatabase, F, S>(rt, by, (text.direction(), text.script()))
+}
+
+/// A text as a run prepares it.
 pub fn prepared<F, S>(
     rt: &(impl Abort + AllocGlobal),
-    face: &F,
-    shaper: &S,
+    (face, shaper): (&F, &S),
     text: UnicodeBuffer,
 ) -> hb_buffer_t
 where
     F: hb_font_t,
     S: hb_ot_shaper_t<UnicodeDatabase, F, NoLookups, Data = ()>,
 {
-    let planned = (text.direction(), text.script());
-    let plan = plan_for::<UnicodeDatabase, F, S>(rt, (face, shaper), planned);
+    let plan = planned(rt, (face, shaper), &text);
     let mut buffer = text.into_inner();
     prepare::<UnicodeDatabase, F, S>(rt, &plan, face, &mut buffer);
     buffer
 }
 
-/// A text as a run over the whole database of Unicode prepares and normalises it.
+/// A text as a run prepares and normalises it.
 pub fn normalised<F, S>(
     rt: &(impl Abort + AllocGlobal),
-    face: &F,
-    shaper: &S,
+    (face, shaper): (&F, &S),
     text: UnicodeBuffer,
 ) -> hb_buffer_t
 where
     F: hb_font_t,
     S: hb_ot_shaper_t<UnicodeDatabase, F, NoLookups, Data = ()>,
 {
-    let planned = (text.direction(), text.script());
-    let plan = plan_for::<UnicodeDatabase, F, S>(rt, (face, shaper), planned);
+    let plan = planned(rt, (face, shaper), &text);
     let mut buffer = text.into_inner();
     prepare::<UnicodeDatabase, F, S>(rt, &plan, face, &mut buffer);
     normalise::<UnicodeDatabase, F, S>(rt, &plan, face, &mut buffer);
     buffer
 }
 
-/// The glyphs of a text, shaped under a plan of its own over the whole database of Unicode.
+/// The glyphs of a text, shaped under a plan of its own.
 pub fn shaped<F, S>(
     rt: &(impl Abort + AllocGlobal),
-    face: &F,
-    shaper: &S,
+    (face, shaper): (&F, &S),
     text: UnicodeBuffer,
 ) -> GlyphBuffer
 where
     F: hb_font_t,
     S: hb_ot_shaper_t<UnicodeDatabase, F, NoLookups, Data = ()>,
 {
-    let planned = (text.direction(), text.script());
-    let plan = plan_for::<UnicodeDatabase, F, S>(rt, (face, shaper), planned);
+    let plan = planned(rt, (face, shaper), &text);
     assert!(rt; plan.fits::<UnicodeDatabase>(&text));
     shape_with_plan::<UnicodeDatabase, F, NoLookups, S>(rt.alloc(), face, &plan, text).expect(
         rt, "glyphs",
@@ -160,46 +189,47 @@ where
 }
 
 /// The box of a glyph, by its bearings, width and height.
-fn box_of(rt: &(impl Abort + AllocGlobal), numbers: &str) -> hb_glyph_extents_t {
-    let mut read = numbers.split(',').map(|word| number(rt, word));
-    let [x_bearing, y_bearing, width, height] = [
-        read.next(),
-        read.next(),
-        read.next(),
-        read.next(),
-    ];
+fn box_of(rt: &impl Abort, numbers: &str) -> hb_glyph_extents_t {
+    let (x_bearing, rest) = cut(rt, numbers, ",");
+    let (y_bearing, rest) = cut(rt, rest, ",");
+    let (width, height) = cut(rt, rest, ",");
     hb_glyph_extents_t {
-        x_bearing: x_bearing.expect(rt, numbers),
-        y_bearing: y_bearing.expect(rt, numbers),
-        width: width.expect(rt, numbers),
-        height: height.expect(rt, numbers),
+        x_bearing: number(rt, x_bearing),
+        y_bearing: number(rt, y_bearing),
+        width: number(rt, width),
+        height: number(rt, height),
     }
 }
 
 /// The advance of a glyph, with a box behind it in brackets if it has one.
-fn metrics_of(rt: &(impl Abort + AllocGlobal), word: &str) -> Metrics {
-    match word.split_once('(') {
-        Some((advance, extents)) => Metrics {
-            advance: number(rt, advance),
-            extents: Some(box_of(rt, extents.trim_end_matches(')'))),
-        },
-        None => Metrics {
-            advance: number(rt, word),
-            extents: None,
-        },
+fn metrics_of(rt: &impl Abort, word: &str) -> Metrics {
+    let (advance, numbers) = cut_off(word.trim_end_matches(')'), "(");
+    let extents = if numbers.is_empty() {
+        None
+    } else {
+        Some(box_of(rt, numbers))
+    };
+    Metrics {
+        advance: number(rt, advance),
+        extents,
     }
 }
 
-/// A face of so many units that has the glyphs of some words: a character, its glyph, the advance of that, and its box
-/// if it has one, by bearings, width and height, as `a=1:600(0,700,600,-700)`.
+/// Gives a character a glyph.
+fn add_glyph(rt: &impl Abort, face: &mut MapFace, word: &str) {
+    let (c, rest) = cut(rt, word, "=");
+    let (glyph, metrics) = cut(rt, rest, ":");
+    let (glyph, metrics) = (GlyphId(number(rt, glyph)), metrics_of(rt, metrics));
+    face.set_glyph(character(rt, c), glyph, metrics)
+        .expect(rt, "memory");
+}
+
+/// A face of so many units that has the glyphs of some words: a character, its glyph, the advance of that, and its
+/// box if it has one, by bearings, width and height, as `a=1:600(0,700,600,-700)`.
 pub fn face_of(rt: &(impl Abort + AllocGlobal), units: u16, glyphs: &str) -> MapFace {
     let mut face = MapFace::new(rt.alloc(), units);
     for word in glyphs.split_whitespace() {
-        let (c, rest) = word.split_once('=').expect(rt, word);
-        let (glyph, metrics) = rest.split_once(':').expect(rt, word);
-        let glyph = GlyphId(glyph.parse::<u32>().expect(rt, word));
-        face.set_glyph(character(rt, c), glyph, metrics_of(rt, metrics))
-            .expect(rt, "memory");
+        add_glyph(rt, &mut face, word);
     }
     face
 }

@@ -1,7 +1,7 @@
 //! Calls on their happy path whose answers no clause of another test shows.
 
 use crate::answers::{normalise, plan_for};
-use crate::cases::{assert_case, characters, printed_found, printed_glyph_clusters, yes_or_no};
+use crate::cases::{assert_line, character, printed_found, printed_without_positions};
 use crate::comparing::assert_same;
 use shape_buffer::buffer::{
     Direction, Feature, Language, ScratchFlags, Script, UnicodeBuffer, hb_buffer_t,
@@ -49,31 +49,34 @@ fn english<'a>(rt: &(impl Abort + AllocGlobal), face: &'a TestFace<'a>) -> Plan<
     .expect(rt, "memory")
 }
 
-/// Whether a plan fits an empty text with this script, if there is one, that runs in this direction.
-fn fits(
-    rt: &(impl Abort + AllocGlobal),
-    plan: &Plan<'_>,
-    script: Option<Script>,
-    direction: Direction,
-) -> &'static str {
+/// An empty text with this script, if there is one, that runs in this direction.
+fn empty(rt: &impl AllocGlobal, script: Option<Script>, direction: Direction) -> UnicodeBuffer {
     let mut text = UnicodeBuffer::new(rt.alloc());
     text.set_script(script);
     text.set_direction(direction);
-    yes_or_no(plan.fits::<PlainUnicode>(&text))
+    text
+}
+
+/// Compares whether a plan fits a text.
+fn assert_fits<U: hb_unicode_funcs_t>(
+    rt: &impl Abort,
+    plan: &Plan<'_>,
+    text: UnicodeBuffer,
+    wanted: bool,
+) {
+    assert_same(rt, plan.fits::<U>(&text), wanted);
 }
 
 /// Compares of an empty text whether the plan fits it: without a script, which is Unknown then, with it, and in the
 /// other direction.
 fn check_fits(rt: &(impl Abort + AllocGlobal), plan: &Plan<'_>) {
-    let unknown = fits(rt, plan, None, Direction::Invalid);
-    let known = fits(rt, plan, latin(), Direction::Invalid);
-    let leftward = fits(rt, plan, latin(), Direction::RightToLeft);
-    let found = format!(in rt.alloc(); "{unknown} {known} {leftward}").expect(rt, "memory");
-    assert_case(rt, "empty texts", found.as_str(), "no yes no");
+    assert_fits::<PlainUnicode>(rt, plan, empty(rt, None, Direction::Invalid), false);
+    assert_fits::<PlainUnicode>(rt, plan, empty(rt, latin(), Direction::Invalid), true);
+    assert_fits::<PlainUnicode>(rt, plan, empty(rt, latin(), Direction::RightToLeft), false);
 }
 
-/// Compares what a builder of requests knows before there are any: how many there are, whether it is simple, and whether
-/// it chose a script.
+/// Compares what a builder of requests knows before there are any: how many there are, whether it is simple, and
+/// whether it chose a script.
 fn check_without_requests(rt: &(impl Abort + AllocGlobal), face: &TestFace<'_>) {
     let builder = hb_ot_map_builder_t::new::<TestFace<'_>, NoLookups>(
         rt.alloc(),
@@ -94,13 +97,17 @@ fn check_english(rt: &(impl Abort + AllocGlobal), plan: &Plan<'_>) {
     assert_same(rt, found, (true, false));
 }
 
+/// Compares what is known before there are requests, and a plan in English.
+fn check_planning(rt: &(impl Abort + AllocGlobal), face: &TestFace<'_>) {
+    check_without_requests(rt, face);
+    let plan = english(rt, face);
+    check_fits(rt, &plan);
+    check_english(rt, &plan);
+}
+
 #[test]
 fn a_plan_fits_by_direction_and_script(rt: HostRuntime) {
-    let face = TestFace::of(&['a']);
-    check_without_requests(&rt, &face);
-    let plan = english(&rt, &face);
-    check_fits(&rt, &plan);
-    check_english(&rt, &plan);
+    check_planning(&rt, &TestFace::of(&['a']));
 }
 
 /// A text in which nothing is set but a direction, if there is one.
@@ -111,19 +118,17 @@ fn text_of(rt: &(impl Abort + AllocGlobal), direction: Direction, text: &str) ->
     buffer
 }
 
-/// Compares whether the plan for texts in Latin that run to the right, by the whole database of Unicode, fits a letter:
-/// with nothing set, and from right to left.
+/// The plan for texts in Latin, by the whole database of Unicode.
+fn planned_for_latin<'a>(rt: &(impl Abort + AllocGlobal), face: &'a TestFace<'a>) -> Plan<'a> {
+    let (by, planned) = ((face, &DEFAULT_SHAPER), (Direction::LeftToRight, latin()));
+    plan_for::<UnicodeDatabase, TestFace<'a>, hb_default_shaper_t>(rt, by, planned)
+}
+
+/// Compares whether that plan fits a Latin letter: with nothing set, and from right to left.
 fn check_letter(rt: &(impl Abort + AllocGlobal), face: &TestFace<'_>) {
-    let planned = (Direction::LeftToRight, latin());
-    let plan = plan_for::<UnicodeDatabase, TestFace<'_>, hb_default_shaper_t>(
-        rt,
-        (face, &DEFAULT_SHAPER),
-        planned,
-    );
-    let text = text_of(rt, Direction::Invalid, "a");
-    assert_same(rt, plan.fits::<UnicodeDatabase>(&text), true);
-    let leftward = text_of(rt, Direction::RightToLeft, "a");
-    assert_same(rt, plan.fits::<UnicodeDatabase>(&leftward), false);
+    let plan = planned_for_latin(rt, face);
+    assert_fits::<UnicodeDatabase>(rt, &plan, text_of(rt, Direction::Invalid, "a"), true);
+    assert_fits::<UnicodeDatabase>(rt, &plan, text_of(rt, Direction::RightToLeft, "a"), false);
 }
 
 /// A Latin letter with nothing set, as guessing has it.
@@ -154,9 +159,9 @@ fn check_plain(rt: &impl Abort, c: char) {
 }
 
 /// Compares this of all characters of a text.
-fn check_all_plain(rt: &(impl Abort + AllocGlobal), text: &str) {
-    for c in characters(rt, text).iter() {
-        check_plain(rt, *c);
+fn check_all_plain(rt: &impl Abort, text: &str) {
+    for word in text.split_whitespace() {
+        check_plain(rt, character(rt, word));
     }
 }
 
@@ -176,39 +181,33 @@ fn planned<'a>(
     plan_for::<PlainUnicode, TestFace<'a>, hb_default_shaper_t>(rt, by, (direction, None))
 }
 
-/// Compares a text, normalised: its items with the glyphs that were found for them.
-fn check_normalised(rt: &(impl Abort + AllocGlobal), face: &TestFace<'_>, text: &str, list: &str) {
+/// The list of a text, normalised under a plan.
+fn normalised(rt: &(impl Abort + AllocGlobal), face: &TestFace<'_>, text: &str) -> hb_buffer_t {
     let plan = planned(rt, face, Direction::LeftToRight);
     let mut buffer = text_of(rt, Direction::Invalid, text).into_inner();
     normalise::<PlainUnicode, TestFace<'_>, hb_default_shaper_t>(rt, &plan, face, &mut buffer);
-    assert_case(rt, text, printed_found(rt, &buffer).as_str(), list);
+    buffer
+}
+
+/// Compares the items of such a list and the glyphs that were found for them.
+fn check_normalised(rt: &(impl Abort + AllocGlobal), face: &TestFace<'_>, text: &str, list: &str) {
+    assert_line(
+        rt,
+        text,
+        printed_found(rt, normalised(rt, face, text)),
+        list,
+    );
 }
 
 #[test]
 fn normalising_keeps_what_is_not_split(rt: HostRuntime) {
-    check_normalised(&rt, &TestFace::of(&['a']), "a\u{e9}", "a=61@0 00E9=0@1");
-}
-
-/// Compares the glyphs of a text that is shaped in place from right to left, and what the run leaves of its buffer.
-fn check_in_place(rt: &(impl Abort + AllocGlobal), face: &TestFace<'_>, text: &str, glyphs: &str) {
-    let plan = planned(rt, face, Direction::RightToLeft);
-    let mut buffer = text_of(rt, Direction::RightToLeft, text).into_inner();
-    shape_in_place(rt, &plan, face, &mut buffer);
-    assert_same(rt, buffer.direction(), Direction::RightToLeft);
-    assert_same(rt, buffer.length_limit(), usize::MAX);
-    assert_case(
-        rt,
-        text,
-        printed_glyph_clusters(rt, &buffer).as_str(),
-        glyphs,
-    );
+    check_normalised(&rt, &TestFace::of(&['a']), "a\u{e9}", "a@0=61 00E9@1=0");
 }
 
 /// Shapes the text of a buffer that runs from right to left in place.
 fn shape_in_place<'a>(
     rt: &(impl Abort + AllocGlobal),
-    plan: &Plan<'_>,
-    face: &TestFace<'a>,
+    (plan, face): (&Plan<'_>, &TestFace<'a>),
     buffer: &mut hb_buffer_t,
 ) {
     assert!(rt; buffer.direction() == Direction::RightToLeft);
@@ -222,6 +221,22 @@ fn shape_in_place<'a>(
         rt.alloc(),
         &mut ctx,
     ).expect(rt, "glyphs");
+}
+
+/// A text that is shaped in place from right to left, under a plan.
+fn shaped(rt: &(impl Abort + AllocGlobal), face: &TestFace<'_>, text: &str) -> hb_buffer_t {
+    let plan = planned(rt, face, Direction::RightToLeft);
+    let mut buffer = text_of(rt, Direction::RightToLeft, text).into_inner();
+    shape_in_place(rt, (&plan, face), &mut buffer);
+    buffer
+}
+
+/// Compares the glyphs of such a text, and what the run leaves of its buffer.
+fn check_in_place(rt: &(impl Abort + AllocGlobal), face: &TestFace<'_>, text: &str, glyphs: &str) {
+    let buffer = shaped(rt, face, text);
+    assert_same(rt, buffer.direction(), Direction::RightToLeft);
+    assert_same(rt, buffer.length_limit(), usize::MAX);
+    assert_line(rt, text, printed_without_positions(rt, buffer), glyphs);
 }
 
 /// Two letters without a script, from right to left: the run reverses them, and lifts the limit.

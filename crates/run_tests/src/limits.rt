@@ -2,11 +2,10 @@
 //! limits.
 
 use crate::answers::{face_of, shaped, text_of};
-use crate::cases::{assert_case, characters, first_word, lines, number, printed_glyphs, sides};
+use crate::cases::{assert_line, cut, lines, number, printed_glyphs, sides};
 use crate::texts::{Manner, PLAINLY};
 use shape_buffer::buffer::{Direction, GlyphId};
 use shape_buffer::interfaces::{hb_font_t, hb_glyph_extents_t};
-use shape_buffer::wrapping::negative;
 use shape_pipeline::ot_shaper::DEFAULT_SHAPER;
 use std::process::Abort;
 use test_worlds::{EVERY_GLYPH, KnownGlyph, TestFace};
@@ -21,31 +20,21 @@ fn check_glyphs<F: hb_font_t>(
     rt: &(impl Abort + AllocGlobal),
     face: &F,
     manner: Manner,
-    text: &str,
-    wanted: &str,
+    (text, wanted): (&str, &str),
 ) {
-    let text = text_of(rt, manner, characters(rt, text).as_slice());
-    let glyphs = shaped(rt, face, &DEFAULT_SHAPER, text);
-    assert_case(rt, wanted, printed_glyphs(rt, &glyphs).as_str(), wanted);
+    let text = text_of(rt, manner, text);
+    let glyphs = shaped(rt, (face, &DEFAULT_SHAPER), text);
+    assert_line(rt, wanted, printed_glyphs(rt, glyphs), wanted);
 }
 
-/// Compares a space of a width in an em square of so many units, across and down the page.
-fn check_space(rt: &(impl Abort + AllocGlobal), units: u16, space: &str, width: i32) {
+/// Compares the space of each line at an em square of so many units, across and down the page.
+fn check_spaces(rt: &(impl Abort + AllocGlobal), units: u16, cases: &str) {
     let face = face_of(rt, units, "0020=3:7");
-    let across = format!(in rt.alloc(); "3@0({width},0,0,0)").expect(rt, "memory");
-    check_glyphs(rt, &face, PLAINLY, space, across.as_str());
-    let advance = negative(width);
-    let down = format!(in rt.alloc(); "3@0(0,{advance},-3,-{units})").expect(rt, "memory");
-    check_glyphs(rt, &face, DOWNWARD, space, down.as_str());
-}
-
-/// Compares the spaces of lines, with their widths at the least and at the greatest em square.
-fn check_spaces(rt: &(impl Abort + AllocGlobal), cases: &str) {
     for line in lines(rt, cases) {
-        let (space, widths) = sides(rt, line);
-        let (least, greatest) = first_word(rt, widths);
-        check_space(rt, 1, space, number(rt, least));
-        check_space(rt, 65535, space, number(rt, greatest));
+        let (space, wanted) = sides(line);
+        let (across, down) = cut(rt, wanted, " | ");
+        check_glyphs(rt, &face, PLAINLY, (space, across));
+        check_glyphs(rt, &face, DOWNWARD, (space, down));
     }
 }
 
@@ -54,29 +43,37 @@ fn check_spaces(rt: &(impl Abort + AllocGlobal), cases: &str) {
 fn spaces_of_the_least_and_the_greatest_em(rt: HostRuntime) {
     check_spaces(
         &rt,
-        "2003 -> 1 65535
-        2002 -> 1 32768
-        2004 -> 0 21845
-        2005 -> 0 16384
-        2009 -> 0 13107
-        2006 -> 0 10923
-        200A -> 0 4096
-        205F -> 0 14563",
+        1,
+        "2003 -> 3@0(1,0,0,0) | 3@0(0,-1,-3,-1)
+        2002 -> 3@0(1,0,0,0) | 3@0(0,-1,-3,-1)
+        2004 -> 3@0(0,0,0,0) | 3@0(0,0,-3,-1)
+        2005 -> 3@0(0,0,0,0) | 3@0(0,0,-3,-1)
+        2009 -> 3@0(0,0,0,0) | 3@0(0,0,-3,-1)
+        2006 -> 3@0(0,0,0,0) | 3@0(0,0,-3,-1)
+        200A -> 3@0(0,0,0,0) | 3@0(0,0,-3,-1)
+        205F -> 3@0(0,0,0,0) | 3@0(0,0,-3,-1)",
+    );
+    check_spaces(
+        &rt,
+        65535,
+        "2003 -> 3@0(65535,0,0,0) | 3@0(0,-65535,-3,-65535)
+        2002 -> 3@0(32768,0,0,0) | 3@0(0,-32768,-3,-65535)
+        2004 -> 3@0(21845,0,0,0) | 3@0(0,-21845,-3,-65535)
+        2005 -> 3@0(16384,0,0,0) | 3@0(0,-16384,-3,-65535)
+        2009 -> 3@0(13107,0,0,0) | 3@0(0,-13107,-3,-65535)
+        2006 -> 3@0(10923,0,0,0) | 3@0(0,-10923,-3,-65535)
+        200A -> 3@0(4096,0,0,0) | 3@0(0,-4096,-3,-65535)
+        205F -> 3@0(14563,0,0,0) | 3@0(0,-14563,-3,-65535)",
     );
 }
 
-/// Compares how far up the mark of a letter goes in em squares of so many units.
+/// Compares the glyphs of a letter and a mark in an em square of the units of each line.
 fn check_gaps(rt: &(impl Abort + AllocGlobal), cases: &str) {
     for line in lines(rt, cases) {
-        let (units, up) = sides(rt, line);
-        let units = units.parse::<u16>().expect(rt, line);
-        let face = face_of(
-            rt,
-            units,
-            "a=1:600(0,700,600,-700) 0301=2:200(50,800,200,-150)",
-        );
-        let wanted = format!(in rt.alloc(); "1@0(600,0,0,0) 2@0(0,0,-450,{up})").expect(rt, line);
-        check_glyphs(rt, &face, PLAINLY, "a 0301", wanted.as_str());
+        let (units, wanted) = sides(line);
+        let glyphs = "a=1:600(0,700,600,-700) 0301=2:200(50,800,200,-150)";
+        let face = face_of(rt, number(rt, units), glyphs);
+        check_glyphs(rt, &face, PLAINLY, ("a 0301", wanted));
     }
 }
 
@@ -85,10 +82,10 @@ fn check_gaps(rt: &(impl Abort + AllocGlobal), cases: &str) {
 fn gap_between_marks_is_a_sixteenth(rt: HostRuntime) {
     check_gaps(
         &rt,
-        "1 -> 25
-        15 -> 25
-        16 -> 51
-        65535 -> 4145",
+        "1 -> 1@0(600,0,0,0) 2@0(0,0,-450,25)
+        15 -> 1@0(600,0,0,0) 2@0(0,0,-450,25)
+        16 -> 1@0(600,0,0,0) 2@0(0,0,-450,51)
+        65535 -> 1@0(600,0,0,0) 2@0(0,0,-450,4145)",
     );
 }
 
@@ -108,20 +105,24 @@ const DEEP_FACE: TestFace<'static> = TestFace {
     ..EVERY_GLYPH
 };
 
-/// Compares a b and an acute down the page, with faces whose glyphs all have the vertical advance, and the origin by x
-/// and by y, of a line.
+/// The face whose glyphs all have the vertical advance, and the origin by x and by y, that are written.
+fn deep_face(rt: &impl Abort, numbers: &str) -> TestFace<'static> {
+    let (advance, origin) = cut(rt, numbers, " ");
+    let (x, y) = cut(rt, origin, " ");
+    TestFace {
+        v_advance: number(rt, advance),
+        h_origin: number(rt, x),
+        v_origin: number(rt, y),
+        ..DEEP_FACE
+    }
+}
+
+/// Compares a b and an acute down the page, with the face of each line.
 fn check_down(rt: &(impl Abort + AllocGlobal), cases: &str) {
     for line in lines(rt, cases) {
-        let (numbers, wanted) = sides(rt, line);
-        let (advance, origin) = first_word(rt, numbers);
-        let (x, y) = first_word(rt, origin);
-        let face = TestFace {
-            v_advance: number(rt, advance),
-            h_origin: number(rt, x),
-            v_origin: number(rt, y),
-            ..DEEP_FACE
-        };
-        check_glyphs(rt, &face, DOWNWARD, "b 0301", wanted);
+        let (numbers, wanted) = sides(line);
+        let face = deep_face(rt, numbers);
+        check_glyphs(rt, &face, DOWNWARD, ("b 0301", wanted));
     }
 }
 

@@ -2,9 +2,7 @@
 //! them. All marks since the starter keep a mark from it, and not the last one alone.
 
 use crate::answers::{normalised, shaped, text_of};
-use crate::cases::{
-    assert_case, characters, lines, printed, printed_glyph_ids, printed_list, sides,
-};
+use crate::cases::{assert_line, lines, printed, printed_as_characters, sides};
 use crate::texts::PLAINLY;
 use shape_buffer::interfaces::NoLookups;
 use shape_pipeline::ot_shaper::{
@@ -25,41 +23,31 @@ const WITH_STARTERS: [char; 7] = [
 /// U+0344, the marks that it splits into, and a mark below.
 const SPLIT: [char; 5] = ['a', '\u{301}', '\u{308}', '\u{323}', '\u{344}'];
 
-/// Compares the normalised list of a text, and the glyphs of its whole run, which have the numbers of their
-/// characters.
-fn check_text<'a, S>(
-    rt: &(impl Abort + AllocGlobal),
-    face: &TestFace<'a>,
-    shaper: &S,
-    text: &[char],
-    list: &str,
-)
-where
-    S: hb_ot_shaper_t<UnicodeDatabase, TestFace<'a>, NoLookups, Data = ()>,
-{
-    let normal = normalised(rt, face, shaper, text_of(rt, PLAINLY, text));
-    assert_case(rt, "a list", printed_list(rt, &normal).as_str(), list);
-    let glyphs = shaped(rt, face, shaper, text_of(rt, PLAINLY, text));
-    assert_case(rt, "glyphs", printed_glyph_ids(rt, &glyphs).as_str(), list);
-}
-
-/// Compares the texts of lines with their lists.
-fn check<'a, S>(rt: &(impl Abort + AllocGlobal), face: &TestFace<'a>, shaper: &S, cases: &str)
+/// Compares the normalised list of the text of each line, and the glyphs of its whole run, which have the numbers of
+/// their characters.
+fn check<'a, S>(rt: &(impl Abort + AllocGlobal), by: (&TestFace<'a>, &S), cases: &str)
 where
     S: hb_ot_shaper_t<UnicodeDatabase, TestFace<'a>, NoLookups, Data = ()>,
 {
     for line in lines(rt, cases) {
-        let (text, list) = sides(rt, line);
-        let text = characters(rt, text);
-        let list = printed(rt, characters(rt, list).as_slice());
-        check_text(rt, face, shaper, text.as_slice(), list.as_str());
+        let (text, wanted) = sides(line);
+        let list = normalised(rt, by, text_of(rt, PLAINLY, text));
+        assert_list(rt, line, printed(rt, list), wanted);
+        let glyphs = shaped(rt, by, text_of(rt, PLAINLY, text));
+        assert_list(rt, line, printed_as_characters(rt, glyphs), wanted);
     }
+}
+
+/// Compares a list with the characters that a line wants.
+fn assert_list(rt: &(impl Abort + AllocGlobal), line: &str, found: String, wanted: &str) {
+    let characters = text_of(rt, PLAINLY, wanted).into_inner();
+    assert_line(rt, line, found, printed(rt, characters).as_str());
 }
 
 /// The same in the mode that composes again whatever it has split.
 fn check_composed(rt: &(impl Abort + AllocGlobal), face: &[char], cases: &str) {
     let shaper = Preferring::<ComposedDiacriticsNoShortCircuit>::new();
-    check(rt, &TestFace::of(face), &shaper, cases);
+    check(rt, (&TestFace::of(face), &shaper), cases);
 }
 
 /// U+0308 has the ccc of U+0301 and keeps it from the letter, after any number of marks below.
@@ -68,9 +56,9 @@ fn marks_of_a_long_run_stay(rt: HostRuntime) {
     check_composed(
         &rt,
         &FEW,
-        "a 0308 0323*31 0301 -> a 0308 0323*31 0301
-        a 0308 0323*32 0301 -> a 0308 0323*32 0301
-        a 0308 0323*1000 0301 -> a 0308 0323*1000 0301",
+        "a 0308 0323*31 0301
+        a 0308 0323*32 0301
+        a 0308 0323*1000 0301",
     );
 }
 
@@ -86,8 +74,7 @@ fn marks_of_a_shorter_run_are_put_in_order(rt: HostRuntime) {
 fn split_marks_count_twice(rt: HostRuntime) {
     check(
         &rt,
-        &TestFace::of(&SPLIT),
-        &Preferring::<Decomposed>::new(),
+        (&TestFace::of(&SPLIT), &Preferring::<Decomposed>::new()),
         "a 0344*15 0323 -> a 0323 0308+0301*15
         a 0344*16 -> a 0308+0301*16
         a 0344*16 0323 -> a 0308+0301*16 0323",
@@ -113,8 +100,7 @@ fn marks_below_let_pass(rt: HostRuntime) {
 fn a_hook_brings_a_greater_ccc_forward(rt: HostRuntime) {
     check(
         &rt,
-        &TestFace::of(&FEW),
-        &SwappingShaper,
+        (&TestFace::of(&FEW), &SwappingShaper),
         "a 0323 0308 0301 -> a 0308 0323 0301
         a 0323 0301 -> 00E1 0323",
     );
@@ -137,11 +123,11 @@ fn a_starter_between_keeps_apart(rt: HostRuntime) {
     check_composed(
         &rt,
         &WITH_STARTERS,
-        "a b 0323 0301 -> a b 0323 0301
-        a 0323 b 0323 0301 -> a 0323 b 0323 0301
-        a 0323*33 b 0323 0301 -> a 0323*33 b 0323 0301
-        a 20DD 0323 0301 -> a 20DD 0323 0301
-        a 0323 20DD 0323 0301 -> a 0323 20DD 0323 0301
-        a 0323*33 20DD 0323 0301 -> a 0323*33 20DD 0323 0301",
+        "a b 0323 0301
+        a 0323 b 0323 0301
+        a 0323*33 b 0323 0301
+        a 20DD 0323 0301
+        a 0323 20DD 0323 0301
+        a 0323*33 20DD 0323 0301",
     );
 }

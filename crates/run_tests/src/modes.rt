@@ -2,285 +2,293 @@
 
 use crate::answers::{buffer_of, normalise, plan_for};
 use crate::cases::{
-    assert_case, character, characters, first_word, lines, printed_found, sides, yes_or_no,
+    assert_line, character, cut, cut_off, lines, number_in_hex, print_hex, print_item, print_mask,
+    sides,
 };
-use crate::comparing::{assert_same, assert_that};
 use crate::runs;
-use shape_buffer::buffer::{Direction, GlyphId, ShapeError, hb_buffer_t, hb_glyph_info_t};
+use shape_buffer::buffer::{Direction, GlyphId, hb_buffer_t, hb_glyph_info_t};
 use shape_buffer::interfaces::NoLookups;
 use shape_buffer::interfaces::space_types::{NOT_SPACE, SPACE_EM, SPACE_FIGURE};
 use shape_pipeline::ot_shape_plan::hb_ot_shape_plan_t;
-use shape_pipeline::ot_shaper::{DEFAULT_SHAPER, hb_default_shaper_t, hb_ot_shaper_t};
+use shape_pipeline::ot_shaper::{DEFAULT_SHAPER, hb_ot_shaper_t};
 use shape_prepare::graphemes::set_unicode_props;
 use std::process::Abort;
 use test_worlds::{
     AbsorbingShaper, DeepShaper, EVERY_GLYPH, ReversingShaper, SmallUnicode, TestFace,
 };
 
-/// A text whose items have the properties of their characters, each in the cluster of its place. A word has the mask
-/// of its item behind a slash, in base 16, if that isn't 0.
-fn prepared(rt: &(impl Abort + AllocGlobal), text: &str) -> hb_buffer_t {
+/// The item that a word writes, with its mask behind a slash, in base 16, if that isn't 0.
+fn item_of(rt: &impl Abort, word: &str, cluster: u32) -> hb_glyph_info_t {
+    let (c, mask) = cut_off(word, "/");
+    let mut info = hb_glyph_info_t::new(character(rt, c), cluster);
+    if !mask.is_empty() {
+        info.mask = number_in_hex(rt, mask);
+    }
+    info
+}
+
+/// The items of a text, each in the cluster of its place.
+fn items_of(rt: &(impl Abort + AllocGlobal), text: &str) -> Vec<hb_glyph_info_t> {
     let mut infos = Vec::new(rt.alloc());
     let mut place: u32 = 0;
-    for item in text.split_whitespace() {
-        let (word, mask) = item.split_once('/').unwrap_or((item, "0"));
-        let mut info = hb_glyph_info_t::new(character(rt, word), place);
-        info.mask = u32::from_str_radix(mask, 16).expect(rt, item);
-        infos.push(info).expect(rt, "memory");
+    for word in text.split_whitespace() {
+        infos.push(item_of(rt, word, place)).expect(rt, "memory");
         place = place.saturating_add(1);
     }
-    let mut buffer = buffer_of(rt, infos);
+    infos
+}
+
+/// The glyphs of a text for what isn't shown, and for selectors without a variant.
+type StandIns = (Option<GlyphId>, Option<GlyphId>);
+
+const NO_STAND_INS: StandIns = (None, None);
+
+/// A text whose items have the properties of their characters.
+fn prepared(
+    rt: &(impl Abort + AllocGlobal),
+    (invisible, not_found): StandIns,
+    text: &str,
+) -> hb_buffer_t {
+    let mut buffer = buffer_of(rt, items_of(rt, text));
     set_unicode_props::<SmallUnicode>(&mut buffer);
+    buffer.set_invisible_glyph(invisible);
+    buffer.set_not_found_variation_selector_glyph(not_found);
     buffer
 }
 
 /// A plan that runs to the right.
 fn planned<'a, S>(
     rt: &(impl Abort + AllocGlobal),
-    face: &'a TestFace<'a>,
-    shaper: &'a S,
+    by: (&'a TestFace<'a>, &'a S),
 ) -> hb_ot_shape_plan_t<'a, S, (), ()>
 where
     S: hb_ot_shaper_t<SmallUnicode, TestFace<'a>, NoLookups, Data = ()>,
 {
-    let planned = (Direction::LeftToRight, None);
-    plan_for::<SmallUnicode, TestFace<'a>, S>(rt, (face, shaper), planned)
+    plan_for::<SmallUnicode, TestFace<'a>, S>(rt, by, (Direction::LeftToRight, None))
 }
 
-/// Normalises a prepared buffer under a plan of its own.
-fn normalise_by<'a, S>(
+/// The normalised list of a prepared buffer, under a plan of its own.
+fn normalised<'a, S>(
     rt: &(impl Abort + AllocGlobal),
-    face: &'a TestFace<'a>,
-    shaper: &'a S,
-    buffer: &mut hb_buffer_t,
+    (face, shaper): (&'a TestFace<'a>, &'a S),
+    mut buffer: hb_buffer_t,
+) -> hb_buffer_t
+where
+    S: hb_ot_shaper_t<SmallUnicode, TestFace<'a>, NoLookups, Data = ()>,
+{
+    let plan = planned(rt, (face, shaper));
+    normalise::<SmallUnicode, TestFace<'a>, S>(rt, &plan, face, &mut buffer);
+    buffer
+}
+
+/// Appends what an item is as a selector and as a space.
+fn print_kinds(rt: &impl Abort, line: &mut String, info: &hb_glyph_info_t) {
+    if info._hb_glyph_info_get_selector_mark() {
+        line.push_str(",marked").expect(rt, "memory");
+    }
+    if info._hb_glyph_info_get_ignorable() {
+        line.push_str(",ignorable").expect(rt, "memory");
+    }
+    let space = match info._hb_glyph_info_get_space_type() {
+        NOT_SPACE => "",
+        SPACE_EM => ",em",
+        SPACE_FIGURE => ",figure",
+        _ => ",other",
+    };
+    line.push_str(space).expect(rt, "memory");
+}
+
+/// Appends whether a run has seen spaces that it has to place, and selectors that it has marked.
+fn print_seen(rt: &impl Abort, line: &mut String, list: &hb_buffer_t) {
+    let seen = list.scratch_flags().0;
+    if seen & 4 == 4 {
+        line.push_str(" spaces").expect(rt, "memory");
+    }
+    if seen & 16 == 16 {
+        line.push_str(" selectors").expect(rt, "memory");
+    }
+}
+
+/// A list as this module has it: behind a character and its cluster the glyph that was found for it and its mask, then
+/// `,marked` if it is a marked selector, `,ignorable`, and the type of its space; at the end `spaces` and `selectors` if
+/// the run has seen some that have no glyph of their own.
+fn printed(rt: &(impl Abort + AllocGlobal), list: hb_buffer_t) -> String {
+    let mut line = String::new(rt.alloc());
+    for info in list.infos() {
+        print_item(rt, &mut line, info);
+        print_hex(rt, &mut line, '=', info.glyph_index);
+        print_mask(rt, &mut line, info.mask);
+        print_kinds(rt, &mut line, info);
+    }
+    print_seen(rt, &mut line, &list);
+    line
+}
+
+/// Compares the normalised lists of the texts of lines.
+fn check<'a, S>(
+    rt: &(impl Abort + AllocGlobal),
+    by: (&'a TestFace<'a>, &'a S),
+    stand_ins: StandIns,
+    cases: &str,
 )
 where
     S: hb_ot_shaper_t<SmallUnicode, TestFace<'a>, NoLookups, Data = ()>,
 {
-    let plan = planned(rt, face, shaper);
-    normalise::<SmallUnicode, TestFace<'a>, S>(rt, &plan, face, buffer);
-}
-
-/// Compares the normalised lists of the texts of lines.
-fn check<'a, S>(rt: &(impl Abort + AllocGlobal), face: &'a TestFace<'a>, shaper: &'a S, cases: &str)
-where
-    S: hb_ot_shaper_t<SmallUnicode, TestFace<'a>, NoLookups, Data = ()>,
-{
     for line in lines(rt, cases) {
-        let (text, wanted) = sides(rt, line);
-        let mut buffer = prepared(rt, text);
-        normalise_by(rt, face, shaper, &mut buffer);
-        assert_case(rt, line, printed_found(rt, &buffer).as_str(), wanted);
+        let (text, wanted) = sides(line);
+        let list = normalised(rt, by, prepared(rt, stand_ins, text));
+        assert_line(rt, line, printed(rt, list), wanted);
     }
 }
 
 #[test]
 fn a_reorder_hook_has_the_last_word(rt: HostRuntime) {
+    let face = TestFace::of(&['a', '\u{301}', '\u{323}']);
     check(
         &rt,
-        &TestFace::of(&['a', '\u{301}', '\u{323}']),
-        &ReversingShaper,
-        "a 0323 0301 -> a=61@0 0301=301@2 0323=323@1
-        a 0301 0323 -> a=61@0 0301=301@1 0323=323@1",
+        (&face, &ReversingShaper),
+        NO_STAND_INS,
+        "a 0323 0301 -> a@0=61 0301@2=301 0323@1=323
+        a 0301 0323 -> a@0=61 0301@1=301 0323@1=323",
     );
+}
+
+/// Compares the lists of lines by the shaper whose hook composes all, over a face of U+0061 alone.
+fn check_absorbed(rt: &(impl Abort + AllocGlobal), cases: &str) {
+    let face = TestFace::of(&['a']);
+    check(rt, (&face, &AbsorbingShaper), NO_STAND_INS, cases);
 }
 
 #[test]
 fn a_compose_hook_is_asked(rt: HostRuntime) {
-    check(
-        &rt,
-        &TestFace::of(&['a']),
-        &AbsorbingShaper,
-        "a 0301 0301 b -> a=61@0 b=0@3",
-    );
+    check_absorbed(&rt, "a 0301 0301 b -> a@0=61 b@3=0");
 }
 
 #[test]
 fn a_mask_survives_a_composition(rt: HostRuntime) {
-    check(
-        &rt,
-        &TestFace::of(&['a']),
-        &AbsorbingShaper,
-        "a/100 0301/200 b/400 -> a=61@0/100 b=0@2/400",
-    );
+    check_absorbed(&rt, "a/100 0301/200 b/400 -> a@0=61/100 b@2=0/400");
 }
 
-/// The selectors of a list: of each item whether it is a marked selector, and whether it is ignorable.
-fn selectors(rt: &(impl Abort + AllocGlobal), list: &hb_buffer_t) -> String {
-    let mut line = String::new(rt.alloc());
-    for info in list.infos() {
-        let word = match (
-            info._hb_glyph_info_get_selector_mark(),
-            info._hb_glyph_info_get_ignorable(),
-        ) {
-            (false, false) => "-",
-            (true, false) => "marked",
-            (false, true) => "ignorable",
-            (true, true) => "both",
-        };
-        write!(line, "{word} ").expect(rt, "memory");
-    }
-    line
-}
-
-/// Compares the lists of the texts of lines by the default shaper, with a glyph for selectors without a variant if
-/// there is one, and what their items are as selectors: `marked`, `ignorable`, `both` or `-`. Whether the run has seen
-/// a marked one is flag 16.
-fn check_selectors(
+/// Compares the lists of lines by the default shaper.
+fn check_by_default<'a>(
     rt: &(impl Abort + AllocGlobal),
-    face: &TestFace<'_>,
-    not_found: Option<GlyphId>,
+    face: &'a TestFace<'a>,
+    stand_ins: StandIns,
     cases: &str,
 ) {
-    for line in lines(rt, cases) {
-        let (text, wanted) = sides(rt, line);
-        let (items, kinds) = wanted.split_once(" | ").expect(rt, line);
-        let mut buffer = prepared(rt, text);
-        buffer.set_not_found_variation_selector_glyph(not_found);
-        normalise_by(rt, face, &DEFAULT_SHAPER, &mut buffer);
-        assert_case(rt, line, printed_found(rt, &buffer).as_str(), items);
-        assert_case(rt, line, selectors(rt, &buffer).as_str().trim(), kinds);
-        assert_same(rt, buffer.scratch_flags().0 & 16, 16);
-    }
+    check(rt, (face, &DEFAULT_SHAPER), stand_ins, cases);
 }
 
 #[test]
 fn a_selector_takes_part_in_the_choice_of_a_glyph(rt: HostRuntime) {
-    check_selectors(
+    check_by_default(
         &rt,
         &TestFace::with_variant(&['a', 'b']),
-        None,
-        "a FE00 FE01 a FE01 b -> a=7@0 FE01=0@2 a=61@3 FE01=0@4 b=62@5 | - ignorable - both -",
+        NO_STAND_INS,
+        "a FE00 FE01 a FE01 b -> a@0=7 FE01@2=0,ignorable a@3=61 FE01@4=0,marked,ignorable b@5=62 selectors",
     );
 }
 
 #[test]
 fn a_selector_without_a_variant_is_marked(rt: HostRuntime) {
-    check_selectors(
+    check_by_default(
         &rt,
         &TestFace::of(&['a']),
-        Some(GlyphId(9)),
-        "a FE00 FE01 -> a=61@0 FE00=0@1 FE01=0@2 | - marked ignorable",
+        (None, Some(GlyphId(9))),
+        "a FE00 FE01 -> a@0=61 FE00@1=0,marked FE01@2=0,ignorable selectors",
     );
 }
 
-/// The glyph and the remembered space type of the first item, and whether the run has seen such a space.
-fn first_space(rt: &(impl Abort + AllocGlobal), buffer: &hb_buffer_t) -> String {
-    let info = buffer.infos().first().expect(rt, "an item");
-    let space = match info._hb_glyph_info_get_space_type() {
-        NOT_SPACE => "none",
-        SPACE_EM => "em",
-        SPACE_FIGURE => "figure",
-        _ => "other",
-    };
-    let seen = yes_or_no(buffer.scratch_flags().0 & 4 == 4);
-    format!(in rt.alloc(); "{:x} {space} {seen}", info.glyph_index).expect(rt, "memory")
+/// Compares the lists of lines by the default shaper over a face of these characters, with glyph 5 for what isn't
+/// shown.
+fn check_invisible(rt: &(impl Abort + AllocGlobal), face: &[char], cases: &str) {
+    let face = TestFace::of(face);
+    check_by_default(rt, &face, (Some(GlyphId(5)), None), cases);
 }
 
-/// Compares what a run makes of the first character of a line, over a face of the second one, with the third as the
-/// invisible glyph; `none` is neither of these.
-fn check_spaces(rt: &(impl Abort + AllocGlobal), cases: &str) {
-    for line in lines(rt, cases) {
-        let (asked, wanted) = sides(rt, line);
-        let (space, set) = first_word(rt, asked);
-        let (known, invisible) = first_word(rt, set);
-        let known = characters(rt, if known == "none" { "" } else { known });
-        let mut buffer = prepared(rt, space);
-        if invisible != "none" {
-            let glyph = GlyphId(invisible.parse::<u32>().expect(rt, line));
-            buffer.set_invisible_glyph(Some(glyph));
-        }
-        let face = TestFace::of(known.as_slice());
-        normalise_by(rt, &face, &DEFAULT_SHAPER, &mut buffer);
-        assert_case(rt, line, first_space(rt, &buffer).as_str(), wanted);
-    }
+/// The same without such a glyph.
+fn check_visible(rt: &(impl Abort + AllocGlobal), face: &[char], cases: &str) {
+    check_by_default(rt, &TestFace::of(face), NO_STAND_INS, cases);
 }
 
 #[test]
 fn spaces_without_a_glyph(rt: HostRuntime) {
-    check_spaces(
-        &rt,
-        "2003 0020 none -> 20 em yes
-        2007 0020 5 -> 20 figure yes
-        2003 none 5 -> 5 em yes
-        2003 none none -> 0 none no
-        2003 2003 none -> 2003 none no",
-    );
+    check_visible(&rt, &[' '], "2003 -> 2003@0=20,em spaces");
+    check_invisible(&rt, &[' '], "2007 -> 2007@0=20,figure spaces");
+    check_invisible(&rt, &[], "2003 -> 2003@0=5,em spaces");
+    check_visible(&rt, &[], "2003 -> 2003@0=0");
+    check_visible(&rt, &['\u{2003}'], "2003 -> 2003@0=2003");
 }
 
 #[test]
 fn no_break_hyphen(rt: HostRuntime) {
-    check(
-        &rt,
-        &TestFace::of(&['\u{2010}']),
-        &DEFAULT_SHAPER,
-        "2011 -> 2011=2010@0",
-    );
+    check_visible(&rt, &['\u{2010}'], "2011 -> 2011@0=2010");
 }
 
-/// Whether two buffers are normalised alike.
-fn are_alike<'a, S>(
-    rt: &(impl Abort + AllocGlobal),
-    face: &'a TestFace<'a>,
-    shaper: &'a S,
-    a: &mut hb_buffer_t,
-    b: &mut hb_buffer_t,
-) -> Result<bool, ShapeError>
-where
-    S: hb_ot_shaper_t<SmallUnicode, TestFace<'a>, NoLookups, Data = ()>,
-{
-    let plan = planned(rt, face, shaper);
-    let alloc = rt.alloc();
-    runs::are_alike::<SmallUnicode, TestFace<'a>, NoLookups, S>(alloc, &plan, face, a, b)
-}
-
-/// Compares whether the two texts of a line are normalised alike.
-fn check_alike(rt: &(impl Abort + AllocGlobal), face: &TestFace<'_>, cases: &str) {
-    for line in lines(rt, cases) {
-        let (asked, wanted) = sides(rt, line);
-        let (a, b) = asked.split_once(" = ").expect(rt, line);
-        let (mut a, mut b) = (prepared(rt, a), prepared(rt, b));
-        let answer = are_alike(rt, face, &DEFAULT_SHAPER, &mut a, &mut b);
-        assert_case(rt, line, yes_or_no(answer.expect(rt, line)), wanted);
-    }
-}
-
-#[test]
-fn two_texts_are_compared(rt: HostRuntime) {
-    check_alike(
-        &rt,
-        &TestFace::of(&['a', '\u{301}', '\u{323}']),
-        "a 0301 0323 = a 0301 0323 -> yes
-        a 0301 0323 = a 0323 0301 -> yes
-        a 0301 0323 = a 0323 0323 -> no
-        a 0301 0323 = a 0323 -> no",
-    );
-}
-
-/// A prepared buffer of one character, in a direction, whose run has begun.
-fn entered(rt: &(impl Abort + AllocGlobal), c: &str) -> hb_buffer_t {
-    let mut buffer = prepared(rt, c);
+/// A prepared text in a direction, whose run has begun.
+fn entered(rt: &(impl Abort + AllocGlobal), text: &str) -> hb_buffer_t {
+    let mut buffer = prepared(rt, NO_STAND_INS, text);
     buffer.set_direction(Direction::LeftToRight);
     buffer.enter();
     buffer
 }
 
-/// Asserts that a buffer is cleared.
-fn assert_cleared(rt: &impl Abort, buffer: &hb_buffer_t) {
-    assert_that(rt, buffer.is_empty());
-    assert_same(rt, buffer.direction(), Direction::Invalid);
+/// How a cleared buffer is written, and another one.
+fn is_cleared(buffer: hb_buffer_t) -> &'static str {
+    if buffer.is_empty() && buffer.direction() == Direction::Invalid {
+        "cleared"
+    } else {
+        "kept"
+    }
 }
 
-/// Asserts of the two characters of each line that they are refused for length, and that both buffers are cleared then.
-fn check_too_long(rt: &(impl Abort + AllocGlobal), shaper: &DeepShaper, cases: &str) {
-    for line in lines(rt, cases) {
-        let (first, second) = first_word(rt, line.trim());
-        let (mut a, mut b) = (entered(rt, first), entered(rt, second));
-        let answer = are_alike(rt, &EVERY_GLYPH, shaper, &mut a, &mut b);
-        assert_same(rt, answer, Err(ShapeError::Length));
-        assert_cleared(rt, &a);
-        assert_cleared(rt, &b);
+/// Whether two buffers are normalised alike, or why that was refused and what it left of the two.
+fn compared<'a, S>(
+    rt: &(impl Abort + AllocGlobal),
+    (face, shaper): (&'a TestFace<'a>, &'a S),
+    (mut a, mut b): (hb_buffer_t, hb_buffer_t),
+) -> String
+where
+    S: hb_ot_shaper_t<SmallUnicode, TestFace<'a>, NoLookups, Data = ()>,
+{
+    let plan = planned(rt, (face, shaper));
+    let alloc = rt.alloc();
+    let answer = runs::are_alike::<SmallUnicode, TestFace<'a>, NoLookups, S>(
+        alloc, &plan, face, &mut a, &mut b,
+    );
+    match answer {
+        Ok(alike) => format!(in alloc; "{alike}").expect(rt, "memory"),
+        Err(error) => {
+            let (a, b) = (is_cleared(a), is_cleared(b));
+            format!(in alloc; "{error:?}, {a}, {b}").expect(rt, "memory")
+        }
     }
+}
+
+/// Compares whether the two texts of a line are normalised alike.
+fn check_alike<'a, S>(rt: &(impl Abort + AllocGlobal), by: (&'a TestFace<'a>, &'a S), cases: &str)
+where
+    S: hb_ot_shaper_t<SmallUnicode, TestFace<'a>, NoLookups, Data = ()>,
+{
+    for line in lines(rt, cases) {
+        let (asked, wanted) = sides(line);
+        let (a, b) = cut(rt, asked, " = ");
+        let found = compared(rt, by, (entered(rt, a), entered(rt, b)));
+        assert_line(rt, line, found, wanted);
+    }
+}
+
+#[test]
+fn two_texts_are_compared(rt: HostRuntime) {
+    let face = TestFace::of(&['a', '\u{301}', '\u{323}']);
+    check_alike(
+        &rt,
+        (&face, &DEFAULT_SHAPER),
+        "a 0301 0323 = a 0301 0323 -> true
+        a 0301 0323 = a 0323 0301 -> true
+        a 0301 0323 = a 0323 0323 -> false
+        a 0301 0323 = a 0323 -> false",
+    );
 }
 
 /// U+F0000 becomes 16385 items, one more than the limit of a short run, and U+F0001 becomes 16384.
@@ -290,10 +298,10 @@ fn a_text_past_its_limit_clears_both(rt: HostRuntime) {
         depth: 16384,
         second: 'a',
     };
-    check_too_long(
+    check_alike(
         &rt,
-        &shaper,
-        "F0000 F0001
-        F0001 F0000",
+        (&EVERY_GLYPH, &shaper),
+        "F0000 = F0001 -> Length, cleared, cleared
+        F0001 = F0000 -> Length, cleared, cleared",
     );
 }

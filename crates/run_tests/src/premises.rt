@@ -1,11 +1,11 @@
 //! Texts that meet the premises of canonical form, and texts that miss one of them.
 
-use crate::answers::{plan_for, prepare, text_of};
-use crate::cases::{assert_case, characters, lines, sides, yes_or_no};
+use crate::answers::{planned, prepare, text_of};
+use crate::cases::{assert_answer, lines, sides};
 use crate::runs;
 use crate::texts::PLAINLY;
 use shape_buffer::buffer::UnicodeBuffer;
-use shape_buffer::interfaces::NoLookups;
+use shape_buffer::interfaces::{NoLookups, hb_font_t};
 use shape_pipeline::ot_shaper::{
     ComposedDiacritics, ComposedDiacriticsNoShortCircuit, DEFAULT_SHAPER, Decomposed, Preferring,
     Shortest, hb_ot_shaper_t,
@@ -15,38 +15,37 @@ use std::process::Abort;
 use test_worlds::{EVERY_GLYPH, TestFace};
 
 /// Whether a text, once prepared, meets them under a plan of its own.
-fn meets<'a, S>(
+fn meets<F, S>(
     rt: &(impl Abort + AllocGlobal),
-    face: &TestFace<'a>,
-    shaper: &S,
+    (face, shaper): (&F, &S),
     text: UnicodeBuffer,
 ) -> bool
 where
-    S: hb_ot_shaper_t<UnicodeDatabase, TestFace<'a>, NoLookups, Data = ()>,
+    F: hb_font_t,
+    S: hb_ot_shaper_t<UnicodeDatabase, F, NoLookups, Data = ()>,
 {
-    let planned = (text.direction(), text.script());
-    let plan = plan_for::<UnicodeDatabase, TestFace<'a>, S>(rt, (face, shaper), planned);
+    let plan = planned(rt, (face, shaper), &text);
     let mut buffer = text.into_inner();
-    prepare::<UnicodeDatabase, TestFace<'a>, S>(rt, &plan, face, &mut buffer);
-    runs::meets_premises::<UnicodeDatabase, TestFace<'a>, NoLookups, S>(&plan, face, &buffer)
+    prepare::<UnicodeDatabase, F, S>(rt, &plan, face, &mut buffer);
+    runs::meets_premises::<UnicodeDatabase, F, NoLookups, S>(&plan, face, &buffer)
 }
 
 /// Compares whether the text of each line meets them by a shaper.
-fn check_mode<'a, S>(rt: &(impl Abort + AllocGlobal), face: &TestFace<'a>, shaper: &S, cases: &str)
+fn check_mode<F, S>(rt: &(impl Abort + AllocGlobal), by: (&F, &S), cases: &str)
 where
-    S: hb_ot_shaper_t<UnicodeDatabase, TestFace<'a>, NoLookups, Data = ()>,
+    F: hb_font_t,
+    S: hb_ot_shaper_t<UnicodeDatabase, F, NoLookups, Data = ()>,
 {
     for line in lines(rt, cases) {
-        let (text, wanted) = sides(rt, line);
-        let text = text_of(rt, PLAINLY, characters(rt, text).as_slice());
-        let found = yes_or_no(meets(rt, face, shaper, text));
-        assert_case(rt, line, found, wanted);
+        let (text, wanted) = sides(line);
+        let found = meets(rt, by, text_of(rt, PLAINLY, text));
+        assert_answer(rt, line, found, wanted);
     }
 }
 
 /// Compares whether the text of each line meets them in the mode that decomposes fully.
 fn check(rt: &(impl Abort + AllocGlobal), face: &TestFace<'_>, cases: &str) {
-    check_mode(rt, face, &Preferring::<Decomposed>::new(), cases);
+    check_mode(rt, (face, &Preferring::<Decomposed>::new()), cases);
 }
 
 #[test]
@@ -85,7 +84,7 @@ fn check_by<S>(rt: &(impl Abort + AllocGlobal), shaper: &S, case: &str)
 where
     S: hb_ot_shaper_t<UnicodeDatabase, TestFace<'static>, NoLookups, Data = ()>,
 {
-    check_mode(rt, &EVERY_GLYPH, shaper, case);
+    check_mode(rt, (&EVERY_GLYPH, shaper), case);
 }
 
 #[test]

@@ -1,20 +1,35 @@
 //! Whole runs with hooks that keep to no law of Unicode, and with selectors.
 
 use crate::answers::text_of;
-use crate::cases::{assert_case, characters, lines, printed_glyphs, sides};
+use crate::cases::{assert_line, lines, printed_glyphs, sides};
 use crate::runs;
 use crate::texts::PLAINLY;
-use shape_buffer::buffer::GlyphId;
+use shape_buffer::buffer::{GlyphBuffer, GlyphId, UnicodeBuffer};
 use shape_buffer::interfaces::NoLookups;
 use shape_pipeline::ot_shaper::{DEFAULT_SHAPER, hb_ot_shaper_t};
 use shape_unicode::UnicodeDatabase;
 use std::process::Abort;
 use test_worlds::{AbsorbingShaper, ChangingShaper, EVERY_GLYPH, TestFace};
 
-/// Compares the glyphs of the text of each line, planned and shaped with this glyph for what isn't shown.
-fn check<'a, S>(
+/// The glyphs of a text, planned and shaped.
+fn shaped<'a, S>(
     rt: &(impl Abort + AllocGlobal),
     (face, shaper): (&TestFace<'a>, &S),
+    text: UnicodeBuffer,
+) -> GlyphBuffer
+where
+    S: hb_ot_shaper_t<UnicodeDatabase, TestFace<'a>, NoLookups, Data = ()>,
+{
+    let alloc = rt.alloc();
+    runs::glyphs_of::<UnicodeDatabase, TestFace<'a>, NoLookups, S>(
+        alloc, face, shaper, text,
+    ).expect(rt, "glyphs")
+}
+
+/// Compares the glyphs of the text of each line, with this glyph for what isn't shown.
+fn check<'a, S>(
+    rt: &(impl Abort + AllocGlobal),
+    by: (&TestFace<'a>, &S),
     invisible: Option<GlyphId>,
     cases: &str,
 )
@@ -22,16 +37,10 @@ where
     S: hb_ot_shaper_t<UnicodeDatabase, TestFace<'a>, NoLookups, Data = ()>,
 {
     for line in lines(rt, cases) {
-        let (text, wanted) = sides(rt, line);
-        let mut text = text_of(rt, PLAINLY, characters(rt, text).as_slice());
+        let (text, wanted) = sides(line);
+        let mut text = text_of(rt, PLAINLY, text);
         text.set_invisible_glyph(invisible);
-        let glyphs = runs::glyphs_of::<UnicodeDatabase, TestFace<'a>, NoLookups, S>(
-            rt.alloc(),
-            face,
-            shaper,
-            text,
-        ).expect(rt, line);
-        assert_case(rt, line, printed_glyphs(rt, &glyphs).as_str(), wanted);
+        assert_line(rt, line, printed_glyphs(rt, shaped(rt, by, text)), wanted);
     }
 }
 
