@@ -16,12 +16,16 @@ use shape_pipeline::shape_with_plan;
 use shape_unicode::UnicodeDatabase;
 use std::process::Abort;
 
+/// Appends a character in a cluster. Gives the cluster of the next one.
+fn add(rt: &impl Abort, text: &mut UnicodeBuffer, c: char, cluster: u32) -> u32 {
+    text.add(c, cluster).expect(rt, "memory");
+    cluster.saturating_add(c.len_utf8() as u32)
+}
+
 /// Appends the characters of a word, the first one in a cluster. Gives the cluster after the last one.
 fn append(rt: &impl Abort, text: &mut UnicodeBuffer, word: &str, mut cluster: u32) -> u32 {
     for part in word.split('+') {
-        let c = character(rt, part);
-        text.add(c, cluster).expect(rt, "memory");
-        cluster = cluster.saturating_add(c.len_utf8() as u32);
+        cluster = add(rt, text, character(rt, part), cluster);
     }
     cluster
 }

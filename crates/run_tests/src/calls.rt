@@ -207,7 +207,8 @@ fn normalising_keeps_what_is_not_split(rt: HostRuntime) {
 /// Shapes the text of a buffer that runs from right to left in place.
 fn shape_in_place<'a>(
     rt: &(impl Abort + AllocGlobal),
-    (plan, face): (&Plan<'_>, &TestFace<'a>),
+    plan: &Plan<'_>,
+    face: &TestFace<'a>,
     buffer: &mut hb_buffer_t,
 ) {
     assert!(rt; buffer.direction() == Direction::RightToLeft);
@@ -227,7 +228,7 @@ fn shape_in_place<'a>(
 fn shaped(rt: &(impl Abort + AllocGlobal), face: &TestFace<'_>, text: &str) -> hb_buffer_t {
     let plan = planned(rt, face, Direction::RightToLeft);
     let mut buffer = text_of(rt, Direction::RightToLeft, text).into_inner();
-    shape_in_place(rt, (&plan, face), &mut buffer);
+    shape_in_place(rt, &plan, face, &mut buffer);
     buffer
 }
 

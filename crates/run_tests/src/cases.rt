@@ -1,14 +1,13 @@
 //! Cases as lines of text: how they are read, and how answers are printed to be compared with them.
 //!
-//! A line has a text, an arrow, and what is wanted; without an arrow the text itself is wanted. A character is written
-//! as itself if it is one of ASCII that can be seen, and by four digits in base 16 or more: `a`, `0301`, `1F468`. A word
-//! of a text may stand many times, `0323*31`, or be several together, `0308+0301*15`, or an item of a list, whose
-//! cluster isn't read then.
+//! A line has a text, an arrow, and what is wanted; without an arrow the text itself is wanted. A character is
+//! written as itself if it is one of ASCII that can be seen, and by four digits in base 16 or more: `a`, `0301`,
+//! `1F468`. A word of a text may stand many times, `0323*31`, or be several together, `0308+0301*15`, or an item of a
+//! list, whose cluster isn't read then.
 //!
-//! An item of a list is a character and its cluster, `0301@1`, with the glyph that was found for it in base 16 where that
-//! is compared, `0301@1=2`. A glyph is its number in base 16 and its cluster, with
-//! advances and offsets where these are compared, x before y: `62@0(600,0,0,0)`. A mask that isn't 0 follows in base
-//! 16: `62@0(600,0,0,0)/1`.
+//! An item of a list is a character and its cluster, `0301@1`, with the glyph that was found for it in base 16 where
+//! that is compared, `0301@1=2`. A glyph is its number in base 16 and its cluster, with advances and offsets where
+//! these are compared, x before y: `62@0(600,0,0,0)`. A mask that isn't 0 follows in base 16: `62@0(600,0,0,0)/1`.
 //!
 //! What stands behind ` # ` is a remark. A line that can't be read fails its test, and so does a text without lines.
 //!

@@ -109,9 +109,9 @@ fn print_seen(rt: &impl Abort, line: &mut String, list: &hb_buffer_t) {
     }
 }
 
-/// A list as this module has it: behind a character and its cluster the glyph that was found for it and its mask, then
-/// `,marked` if it is a marked selector, `,ignorable`, and the type of its space; at the end `spaces` and `selectors` if
-/// the run has seen some that have no glyph of their own.
+/// A list as this module has it: behind a character and its cluster the glyph that was found for it and its mask,
+/// then `,marked` if it is a marked selector, `,ignorable`, and the type of its space; at the end `spaces` and
+/// `selectors` if the run has seen some that have no glyph of their own.
 fn printed(rt: &(impl Abort + AllocGlobal), list: hb_buffer_t) -> String {
     let mut line = String::new(rt.alloc());
     for info in list.infos() {
