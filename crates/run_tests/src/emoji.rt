@@ -4,163 +4,70 @@
 //! Shaping differs in one place: a joiner joins a pictograph to whatever stands before it, while GB11 asks for
 //! a pictograph there too.
 
-use crate::texts::{BY_CHARACTER, Manner, PLAINLY, assert_items, prepared, text_of};
+use crate::answers::{prepared, text_of};
+use crate::cases::{assert_line, lines, printed_items, sides};
+use crate::texts::{BY_CHARACTER, Manner, PLAINLY};
 use shape_buffer::buffer::Direction;
 use shape_pipeline::ot_shaper::DEFAULT_SHAPER;
-use std::alloc::Global;
 use std::process::Abort;
-use std::test::Fail;
-use test_worlds::TestFace;
+use test_worlds::PLAIN_FACE;
 
-/// Compares what a text is prepared as, by a face without glyphs.
-fn assert_prepared(
-    rt: &impl Abort,
-    alloc: Global,
-    manner: Manner,
-    text: &[char],
-    items: &[(char, u32)],
-) -> Result<(), Fail> {
-    let text = text_of(alloc, manner, text)?;
-    let list = prepared(alloc, &TestFace::of(&[]), &DEFAULT_SHAPER, text)?;
-    assert_items(rt, &list, items);
-    Ok(())
-}
-
-/// The characters of these items.
-fn characters_of(alloc: Global, items: &[(char, u32)]) -> Result<Vec<char>, Fail> {
-    let mut text = Vec::new(alloc);
-    for (c, _) in items {
-        text.push(*c)?;
+/// Compares what the text of each line is prepared as, by a face without glyphs.
+fn check(rt: &(impl Abort + AllocGlobal), manner: Manner, cases: &str) {
+    for line in lines(rt, cases) {
+        let (text, wanted) = sides(line);
+        let text = text_of(rt, manner, text);
+        let list = prepared(rt, (&PLAIN_FACE, &DEFAULT_SHAPER), text);
+        assert_line(rt, line, printed_items(rt, list), wanted);
     }
-    Ok(text)
-}
-
-/// Prepares the characters of these items, whose clusters are those of their graphemes.
-fn assert_graphemes(rt: &impl Abort, alloc: Global, items: &[(char, u32)]) -> Result<(), Fail> {
-    let text = characters_of(alloc, items)?;
-    assert_prepared(rt, alloc, PLAINLY, text.as_slice(), items)
-}
-
-const JOINER: char = '\u{200D}';
-
-const HAND: char = '\u{1F44B}';
-
-const DARK: char = '\u{1F3FF}';
-
-/// The regional indicators of D, E, F and R.
-const D: char = '\u{1F1E9}';
-
-const E: char = '\u{1F1EA}';
-
-const F: char = '\u{1F1EB}';
-
-const R: char = '\u{1F1F7}';
-
-const MAN: char = '\u{1F468}';
-
-const WOMAN: char = '\u{1F469}';
-
-const GIRL: char = '\u{1F467}';
-
-#[test]
-fn joined_pictographs(rt: HostRuntime) -> Result<(), Fail> {
-    let alloc = rt.alloc();
-    // A family, and a girl by herself.
-    let family = [
-        (MAN, 0),
-        (JOINER, 0),
-        (WOMAN, 0),
-        (JOINER, 0),
-        (GIRL, 0),
-        (GIRL, 18),
-    ];
-    assert_graphemes(&rt, alloc, &family)?;
-    // A couple with a skin tone and a heart in the style of emoji.
-    let couple = [
-        (WOMAN, 0),
-        ('\u{1F3FD}', 0),
-        (JOINER, 0),
-        ('\u{2764}', 0),
-        ('\u{FE0F}', 0),
-        (JOINER, 0),
-        (MAN, 0),
-        ('b', 24),
-    ];
-    assert_graphemes(&rt, alloc, &couple)?;
-    // No pictograph is joined: a letter, a regional indicator, a digit.
-    for (c, behind) in [('b', 8), ('\u{1F1E6}', 11), ('1', 8)] {
-        let others = [(MAN, 0), (JOINER, 0), (c, 7), (MAN, behind)];
-        assert_graphemes(&rt, alloc, &others)?;
-    }
-    // After a letter, where UAX 29 has a boundary.
-    let behind_letter = [('a', 0), (JOINER, 0), (WOMAN, 0), (WOMAN, 8)];
-    assert_graphemes(&rt, alloc, &behind_letter)
 }
 
 #[test]
-fn skin_tones_and_flags(rt: HostRuntime) -> Result<(), Fail> {
-    let alloc = rt.alloc();
-    let tones = [
-        (HAND, 0),
-        ('\u{1F3FB}', 0),
-        (HAND, 8),
-        ('a', 12),
-        (DARK, 12),
-    ];
-    assert_graphemes(&rt, alloc, &tones)?;
-    // Germany, France, half a flag, and half a one with an accent, which pairs with nothing after it.
-    let flags = [
-        (D, 0),
-        (E, 0),
-        (F, 8),
-        (R, 8),
-        (D, 16),
-        ('-', 20),
-        (D, 21),
-        ('\u{301}', 21),
-        (E, 27),
-        (F, 27),
-        (R, 35),
-    ];
-    assert_graphemes(&rt, alloc, &flags)
+fn joined_pictographs(rt: HostRuntime) {
+    check(
+        &rt,
+        PLAINLY,
+        "1F468@0 200D@0 1F469@0 200D@0 1F467@0 1F467@18 # a family, and a girl by herself
+        1F469@0 1F3FD@0 200D@0 2764@0 FE0F@0 200D@0 1F468@0 b@24 # a couple, a skin tone, a heart in style
+        1F468@0 200D@0 b@7 1F468@8 # no pictograph is joined: a letter
+        1F468@0 200D@0 1F1E6@7 1F468@11 # a regional indicator
+        1F468@0 200D@0 1@7 1F468@8 # a digit
+        a@0 200D@0 1F469@0 1F469@8 # after a letter, where UAX 29 has a boundary",
+    );
 }
 
+/// Of flags Germany, France, half a flag, and half a one with an accent, which pairs with nothing after it.
 #[test]
-fn tags_and_keycaps(rt: HostRuntime) -> Result<(), Fail> {
-    let alloc = rt.alloc();
-    // The flag of England, by tags; a key with 1; a digit.
-    let items = [
-        ('\u{1F3F4}', 0),
-        ('\u{E0067}', 0),
-        ('\u{E0062}', 0),
-        ('\u{E0065}', 0),
-        ('\u{E006E}', 0),
-        ('\u{E0067}', 0),
-        ('\u{E007F}', 0),
-        ('1', 28),
-        ('\u{FE0F}', 28),
-        ('\u{20E3}', 28),
-        ('2', 35),
-    ];
-    assert_graphemes(&rt, alloc, &items)
+fn skin_tones_and_flags(rt: HostRuntime) {
+    check(
+        &rt,
+        PLAINLY,
+        "1F44B@0 1F3FB@0 1F44B@8 a@12 1F3FF@12
+        1F1E9@0 1F1EA@0 1F1EB@8 1F1F7@8 1F1E9@16 -@20 1F1E9@21 0301@21 1F1EA@27 1F1EB@27 1F1F7@35",
+    );
 }
+
+/// The flag of England, by tags; a key with 1; a digit.
+#[test]
+fn tags_and_keycaps(rt: HostRuntime) {
+    check(
+        &rt,
+        PLAINLY,
+        "1F3F4@0 E0067@0 E0062@0 E0065@0 E006E@0 E0067@0 E007F@0 1@28 FE0F@28 20E3@28 2@35",
+    );
+}
+
+const LEFTWARD: Manner = Manner {
+    direction: Direction::RightToLeft,
+    ..BY_CHARACTER
+};
 
 /// A sequence stays as it is if its text is reversed.
 #[test]
-fn emoji_in_a_reversed_text(rt: HostRuntime) -> Result<(), Fail> {
-    let alloc = rt.alloc();
-    let manner = Manner {
-        direction: Direction::RightToLeft,
-        ..BY_CHARACTER
-    };
-    let text = ['a', WOMAN, JOINER, GIRL, '1', '\u{20E3}'];
-    let items = [
-        ('1', 12),
-        ('\u{20E3}', 12),
-        (WOMAN, 1),
-        (JOINER, 1),
-        (GIRL, 1),
-        ('a', 0),
-    ];
-    assert_prepared(&rt, alloc, manner, &text, &items)
+fn emoji_in_a_reversed_text(rt: HostRuntime) {
+    check(
+        &rt,
+        LEFTWARD,
+        "a 1F469 200D 1F467 1 20E3 -> 1@12 20E3@12 1F469@1 200D@1 1F467@1 a@0",
+    );
 }

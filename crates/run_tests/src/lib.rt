@@ -4,7 +4,11 @@
 #![allow(non_camel_case_types)]
 
 #[cfg(test)]
+mod answers;
+#[cfg(test)]
 mod calls;
+#[cfg(test)]
+mod cases;
 #[cfg(test)]
 mod comparing;
 #[cfg(test)]

@@ -1,387 +1,307 @@
 //! Normalised lists of texts with marks, selectors and spaces, over hooks and faces of the tests' own.
 
-use crate::comparing::{assert_same, assert_that, item_at};
-use crate::runs;
-use shape_buffer::buffer::{
-    Direction, GlyphId, ScratchFlags, ShapeError, UnicodeBuffer, hb_buffer_t, hb_glyph_info_t,
+use crate::answers::{buffer_of, normalise, plan_for};
+use crate::cases::{
+    assert_line, character, cut, cut_off, lines, number_in_hex, print_hex, print_item, print_mask,
+    sides,
 };
+use crate::runs;
+use shape_buffer::buffer::{Direction, GlyphId, hb_buffer_t, hb_glyph_info_t};
 use shape_buffer::interfaces::NoLookups;
-use shape_buffer::interfaces::space_types::{SPACE_EM, SPACE_FIGURE};
+use shape_buffer::interfaces::space_types::{NOT_SPACE, SPACE_EM, SPACE_FIGURE};
 use shape_pipeline::ot_shape_plan::hb_ot_shape_plan_t;
-use shape_pipeline::ot_shaper::{DEFAULT_SHAPER, hb_default_shaper_t, hb_ot_shaper_t};
+use shape_pipeline::ot_shaper::{DEFAULT_SHAPER, hb_ot_shaper_t};
 use shape_prepare::graphemes::set_unicode_props;
-use std::alloc::Global;
 use std::process::Abort;
-use std::test::Fail;
 use test_worlds::{
     AbsorbingShaper, DeepShaper, EVERY_GLYPH, ReversingShaper, SmallUnicode, TestFace,
 };
 
-/// Each character in the cluster of its place.
-fn filled(alloc: Global, text: &[char]) -> Result<UnicodeBuffer, Fail> {
-    let mut buffer = UnicodeBuffer::new(alloc);
+/// The item that a word writes, with its mask behind a slash, in base 16, if that isn't 0.
+fn item_of(rt: &impl Abort, word: &str, cluster: u32) -> hb_glyph_info_t {
+    let (c, mask) = cut_off(word, "/");
+    let mut info = hb_glyph_info_t::new(character(rt, c), cluster);
+    if !mask.is_empty() {
+        info.mask = number_in_hex(rt, mask);
+    }
+    info
+}
+
+/// The items of a text, each in the cluster of its place.
+fn items_of(rt: &(impl Abort + AllocGlobal), text: &str) -> Vec<hb_glyph_info_t> {
+    let mut infos = Vec::new(rt.alloc());
     let mut place: u32 = 0;
-    for c in text {
-        buffer.add(*c, place)?;
+    for word in text.split_whitespace() {
+        infos.push(item_of(rt, word, place)).expect(rt, "memory");
         place = place.saturating_add(1);
     }
-    Ok(buffer)
+    infos
 }
 
-/// Sets the properties of all items.
-fn set_properties(buffer: &mut hb_buffer_t) {
-    set_unicode_props::<SmallUnicode>(buffer);
-}
+/// The glyphs of a text for what isn't shown, and for selectors without a variant.
+type StandIns = (Option<GlyphId>, Option<GlyphId>);
 
-/// A text whose items have the properties of their characters, each in the cluster of its place.
-fn prepared(alloc: Global, text: &[char]) -> Result<hb_buffer_t, Fail> {
-    let mut buffer = filled(alloc, text)?.into_inner();
-    set_properties(&mut buffer);
-    Ok(buffer)
-}
+const NO_STAND_INS: StandIns = (None, None);
 
-/// Begins a run from left to right.
-fn enter(buffer: &mut hb_buffer_t) {
-    buffer.set_direction(Direction::LeftToRight);
-    buffer.enter();
-}
-
-/// A prepared buffer of one character, in a direction, whose run has begun.
-fn entered(alloc: Global, c: char) -> Result<hb_buffer_t, Fail> {
-    let mut buffer = prepared(alloc, &[c])?;
-    enter(&mut buffer);
-    Ok(buffer)
+/// A text whose items have the properties of their characters.
+fn prepared(
+    rt: &(impl Abort + AllocGlobal),
+    (invisible, not_found): StandIns,
+    text: &str,
+) -> hb_buffer_t {
+    let mut buffer = buffer_of(rt, items_of(rt, text));
+    set_unicode_props::<SmallUnicode>(&mut buffer);
+    buffer.set_invisible_glyph(invisible);
+    buffer.set_not_found_variation_selector_glyph(not_found);
+    buffer
 }
 
 /// A plan that runs to the right.
 fn planned<'a, S>(
-    alloc: Global,
-    face: &'a TestFace<'a>,
-    shaper: &'a S,
-) -> Result<hb_ot_shape_plan_t<'a, S, (), ()>, Fail>
+    rt: &(impl Abort + AllocGlobal),
+    by: (&'a TestFace<'a>, &'a S),
+) -> hb_ot_shape_plan_t<'a, S, (), ()>
 where
     S: hb_ot_shaper_t<SmallUnicode, TestFace<'a>, NoLookups, Data = ()>,
 {
-    let direction = Direction::LeftToRight;
-    runs::plan_for::<SmallUnicode, TestFace<'a>, NoLookups, S>(alloc, face, shaper, direction, None)
+    plan_for::<SmallUnicode, TestFace<'a>, S>(rt, by, (Direction::LeftToRight, None))
 }
 
-/// Normalises a prepared buffer under a plan of its own.
-fn normalize<'a, S>(
-    alloc: Global,
-    face: &'a TestFace<'a>,
-    shaper: &'a S,
-    buffer: &mut hb_buffer_t,
-) -> Result<(), Fail>
+/// The normalised list of a prepared buffer, under a plan of its own.
+fn normalised<'a, S>(
+    rt: &(impl Abort + AllocGlobal),
+    (face, shaper): (&'a TestFace<'a>, &'a S),
+    mut buffer: hb_buffer_t,
+) -> hb_buffer_t
 where
     S: hb_ot_shaper_t<SmallUnicode, TestFace<'a>, NoLookups, Data = ()>,
 {
-    let plan = planned(alloc, face, shaper)?;
-    runs::normalise::<SmallUnicode, TestFace<'a>, NoLookups, S>(alloc, &plan, face, buffer)?;
-    Ok(())
+    let plan = planned(rt, (face, shaper));
+    normalise::<SmallUnicode, TestFace<'a>, S>(rt, &plan, face, &mut buffer);
+    buffer
 }
 
-/// A plan of the default shaper.
-type Plan<'a> = hb_ot_shape_plan_t<'a, hb_default_shaper_t, (), ()>;
-
-/// Normalises a prepared buffer by the default shaper.
-fn normalize_by_default(
-    alloc: Global,
-    face: &TestFace<'_>,
-    buffer: &mut hb_buffer_t,
-) -> Result<(), Fail> {
-    normalize(alloc, face, &DEFAULT_SHAPER, buffer)
-}
-
-/// Normalises a prepared buffer by the shaper whose hook composes all, over a face of U+0061 alone.
-fn absorb(alloc: Global, buffer: &mut hb_buffer_t) -> Result<(), Fail> {
-    let face = TestFace::of(&['a']);
-    normalize(alloc, &face, &AbsorbingShaper, buffer)
-}
-
-/// Normalises a prepared buffer by the shaper whose hook reverses marks, over a face of U+0061 and two marks.
-fn reverse_marks(alloc: Global, buffer: &mut hb_buffer_t) -> Result<(), Fail> {
-    let face = TestFace::of(&['a', '\u{301}', '\u{323}']);
-    normalize(alloc, &face, &ReversingShaper, buffer)
-}
-
-/// Compares characters, glyphs and clusters.
-fn assert_items(rt: &impl Abort, buffer: &hb_buffer_t, items: &[(char, u32, u32)]) {
-    assert_same(rt, buffer.len(), items.len());
-    for (at, item) in items.iter().enumerate() {
-        let info = item_at(buffer.infos(), at);
-        let found = (info.codepoint, info.glyph_index, info.cluster);
-        assert_same(rt, found, *item);
+/// Appends what an item is as a selector and as a space.
+fn print_kinds(rt: &impl Abort, line: &mut String, info: &hb_glyph_info_t) {
+    if info._hb_glyph_info_get_selector_mark() {
+        line.push_str(",marked").expect(rt, "memory");
     }
-}
-
-/// Whether an item is a marked selector, and whether it is ignorable.
-fn selector_of(info: &hb_glyph_info_t) -> (bool, bool) {
-    (
-        info._hb_glyph_info_get_selector_mark(),
-        info._hb_glyph_info_get_ignorable(),
-    )
-}
-
-/// Compares of each item whether it is a marked selector, and whether it is ignorable.
-fn assert_selectors(rt: &impl Abort, buffer: &hb_buffer_t, items: &[(bool, bool)]) {
-    for (at, item) in items.iter().enumerate() {
-        let info = item_at(buffer.infos(), at);
-        assert_same(rt, selector_of(&info), *item);
+    if info._hb_glyph_info_get_ignorable() {
+        line.push_str(",ignorable").expect(rt, "memory");
     }
-}
-
-/// Compares a text that the hook reverses: the acute comes before the dot below, in these clusters.
-fn assert_reversed(
-    rt: &impl Abort,
-    alloc: Global,
-    text: &[char],
-    (acute, dot_below): (u32, u32),
-) -> Result<(), Fail> {
-    let mut buffer = prepared(alloc, text)?;
-    reverse_marks(alloc, &mut buffer)?;
-    let items = [
-        ('a', 0x61, 0),
-        ('\u{301}', 0x301, acute),
-        ('\u{323}', 0x323, dot_below),
-    ];
-    assert_items(rt, &buffer, &items);
-    Ok(())
-}
-
-#[test]
-fn a_reorder_hook_has_the_last_word(rt: HostRuntime) -> Result<(), Fail> {
-    let alloc = rt.alloc();
-    assert_reversed(&rt, alloc, &['a', '\u{323}', '\u{301}'], (2, 1))?;
-    assert_reversed(&rt, alloc, &['a', '\u{301}', '\u{323}'], (1, 1))
-}
-
-#[test]
-fn a_compose_hook_is_asked(rt: HostRuntime) -> Result<(), Fail> {
-    let alloc = rt.alloc();
-    let mut buffer = prepared(alloc, &['a', '\u{301}', '\u{301}', 'b'])?;
-    absorb(alloc, &mut buffer)?;
-    assert_items(&rt, &buffer, &[('a', 0x61, 0), ('b', 0, 3)]);
-    Ok(())
-}
-
-/// An item with a mask.
-fn item(c: char, cluster: u32, mask: u32) -> hb_glyph_info_t {
-    let mut item = hb_glyph_info_t::new(c, cluster);
-    item.mask = mask;
-    item
-}
-
-/// Items of these characters, clusters and masks.
-fn items_of(alloc: Global, rows: &[(char, u32, u32)]) -> Result<Vec<hb_glyph_info_t>, Fail> {
-    let mut items = Vec::new(alloc);
-    for (c, cluster, mask) in rows {
-        items.push(item(*c, *cluster, *mask))?;
-    }
-    Ok(items)
-}
-
-/// Items of these characters, clusters and masks, prepared.
-fn masked(alloc: Global, rows: &[(char, u32, u32)]) -> Result<hb_buffer_t, Fail> {
-    let mut buffer = hb_buffer_t::new(alloc);
-    buffer.replace_infos(items_of(alloc, rows)?)?;
-    set_properties(&mut buffer);
-    Ok(buffer)
-}
-
-fn assert_masks(rt: &impl Abort, buffer: &hb_buffer_t, masks: &[u32]) {
-    for (at, mask) in masks.iter().enumerate() {
-        let info = item_at(buffer.infos(), at);
-        assert_same(rt, info.mask, *mask);
-    }
-}
-
-#[test]
-fn a_mask_survives_a_composition(rt: HostRuntime) -> Result<(), Fail> {
-    let alloc = rt.alloc();
-    let rows = [('a', 0, 0x100), ('\u{301}', 1, 0x200), ('b', 2, 0x400)];
-    let mut buffer = masked(alloc, &rows)?;
-    absorb(alloc, &mut buffer)?;
-    assert_items(&rt, &buffer, &[('a', 0x61, 0), ('b', 0, 2)]);
-    assert_masks(&rt, &buffer, &[0x100, 0x400]);
-    Ok(())
-}
-
-#[test]
-fn a_selector_takes_part_in_the_choice_of_a_glyph(rt: HostRuntime) -> Result<(), Fail> {
-    let alloc = rt.alloc();
-    let text = ['a', '\u{FE00}', '\u{FE01}', 'a', '\u{FE01}', 'b'];
-    let mut buffer = prepared(alloc, &text)?;
-    normalize_by_default(alloc, &TestFace::with_variant(&['a', 'b']), &mut buffer)?;
-    assert_items(
-        &rt,
-        &buffer,
-        &[
-            ('a', 7, 0),
-            ('\u{FE01}', 0, 2),
-            ('a', 0x61, 3),
-            ('\u{FE01}', 0, 4),
-            ('b', 0x62, 5),
-        ],
-    );
-    assert_selectors(
-        &rt,
-        &buffer,
-        &[
-            (false, false),
-            (false, true),
-            (false, false),
-            (true, true),
-            (false, false),
-        ],
-    );
-    assert_same(&rt, buffer.scratch_flags().0 & 16, 16);
-    Ok(())
-}
-
-#[test]
-fn a_selector_without_a_variant_is_marked(rt: HostRuntime) -> Result<(), Fail> {
-    let alloc = rt.alloc();
-    let mut buffer = prepared(alloc, &['a', '\u{FE00}', '\u{FE01}'])?;
-    buffer.set_not_found_variation_selector_glyph(Some(GlyphId(9)));
-    normalize_by_default(alloc, &TestFace::of(&['a']), &mut buffer)?;
-    assert_items(
-        &rt,
-        &buffer,
-        &[('a', 0x61, 0), ('\u{FE00}', 0, 1), ('\u{FE01}', 0, 2)],
-    );
-    assert_selectors(
-        &rt,
-        &buffer,
-        &[(false, false), (true, false), (false, true)],
-    );
-    Ok(())
-}
-
-/// The glyph and the remembered space type of the first item, and whether the run has seen such a space.
-fn first_space(buffer: &hb_buffer_t) -> Result<(u32, u8, bool), Fail> {
-    let Some(info) = buffer.infos().first() else {
-        return Err(Fail::from("no item"));
+    let space = match info._hb_glyph_info_get_space_type() {
+        NOT_SPACE => "",
+        SPACE_EM => ",em",
+        SPACE_FIGURE => ",figure",
+        _ => ",other",
     };
-    let seen = buffer.scratch_flags().0 & 4 == 4;
-    Ok((info.glyph_index, info._hb_glyph_info_get_space_type(), seen))
+    line.push_str(space).expect(rt, "memory");
 }
 
-/// What a run makes of one character: see [`first_space`].
-fn space_of(
-    alloc: Global,
-    face: &TestFace<'_>,
-    invisible: Option<GlyphId>,
-    c: char,
-) -> Result<(u32, u8, bool), Fail> {
-    let mut buffer = prepared(alloc, &[c])?;
-    buffer.set_invisible_glyph(invisible);
-    normalize_by_default(alloc, face, &mut buffer)?;
-    first_space(&buffer)
+/// Appends whether a run has seen spaces that it has to place, and selectors that it has marked.
+fn print_seen(rt: &impl Abort, line: &mut String, list: &hb_buffer_t) {
+    let seen = list.scratch_flags().0;
+    if seen & 4 == 4 {
+        line.push_str(" spaces").expect(rt, "memory");
+    }
+    if seen & 16 == 16 {
+        line.push_str(" selectors").expect(rt, "memory");
+    }
 }
 
-/// Compares what a space becomes over a face of these characters.
-fn assert_space(
-    rt: &impl Abort,
-    alloc: Global,
-    face: &[char],
-    invisible: Option<GlyphId>,
-    c: char,
-    becomes: (u32, u8, bool),
-) -> Result<(), Fail> {
-    let found = space_of(alloc, &TestFace::of(face), invisible, c)?;
-    assert_same(rt, found, becomes);
-    Ok(())
+/// A list as this module has it: behind a character and its cluster the glyph that was found for it and its mask,
+/// then `,marked` if it is a marked selector, `,ignorable`, and the type of its space; at the end `spaces` and
+/// `selectors` if the run has seen some that have no glyph of their own.
+fn printed(rt: &(impl Abort + AllocGlobal), list: hb_buffer_t) -> String {
+    let mut line = String::new(rt.alloc());
+    for info in list.infos() {
+        print_item(rt, &mut line, info);
+        print_hex(rt, &mut line, '=', info.glyph_index);
+        print_mask(rt, &mut line, info.mask);
+        print_kinds(rt, &mut line, info);
+    }
+    print_seen(rt, &mut line, &list);
+    line
 }
 
-#[test]
-fn spaces_without_a_glyph(rt: HostRuntime) -> Result<(), Fail> {
-    let alloc = rt.alloc();
-    let invisible = Some(GlyphId(5));
-    let (em, figure) = ((0x20, SPACE_EM, true), (0x20, SPACE_FIGURE, true));
-    assert_space(&rt, alloc, &[' '], None, '\u{2003}', em)?;
-    assert_space(&rt, alloc, &[' '], invisible, '\u{2007}', figure)?;
-    assert_space(&rt, alloc, &[], invisible, '\u{2003}', (5, SPACE_EM, true))?;
-    assert_space(&rt, alloc, &[], None, '\u{2003}', (0, 0, false))?;
-    let own = (0x2003, 0, false);
-    assert_space(&rt, alloc, &['\u{2003}'], None, '\u{2003}', own)
-}
-
-#[test]
-fn no_break_hyphen(rt: HostRuntime) -> Result<(), Fail> {
-    let alloc = rt.alloc();
-    let mut buffer = prepared(alloc, &['\u{2011}'])?;
-    normalize_by_default(alloc, &TestFace::of(&['\u{2010}']), &mut buffer)?;
-    assert_items(&rt, &buffer, &[('\u{2011}', 0x2010, 0)]);
-    Ok(())
-}
-
-/// Compares whether a text is normalised as U+0061 U+0301 U+0323 is.
-fn assert_equal(
-    rt: &impl Abort,
-    alloc: Global,
-    (plan, face): (&Plan<'_>, &TestFace<'_>),
-    text: &[char],
-    equal: bool,
-) -> Result<(), Fail> {
-    let mut a = prepared(alloc, &['a', '\u{301}', '\u{323}'])?;
-    let mut b = prepared(alloc, text)?;
-    let answer = runs::are_alike::<SmallUnicode, TestFace<'_>, NoLookups, hb_default_shaper_t>(
-        alloc, plan, face, &mut a, &mut b,
-    )?;
-    assert_same(rt, answer, equal);
-    Ok(())
+/// Compares the normalised lists of the texts of lines.
+fn check<'a, S>(
+    rt: &(impl Abort + AllocGlobal),
+    by: (&'a TestFace<'a>, &'a S),
+    stand_ins: StandIns,
+    cases: &str,
+)
+where
+    S: hb_ot_shaper_t<SmallUnicode, TestFace<'a>, NoLookups, Data = ()>,
+{
+    for line in lines(rt, cases) {
+        let (text, wanted) = sides(line);
+        let list = normalised(rt, by, prepared(rt, stand_ins, text));
+        assert_line(rt, line, printed(rt, list), wanted);
+    }
 }
 
 #[test]
-fn two_texts_are_compared(rt: HostRuntime) -> Result<(), Fail> {
-    let alloc = rt.alloc();
+fn a_reorder_hook_has_the_last_word(rt: HostRuntime) {
     let face = TestFace::of(&['a', '\u{301}', '\u{323}']);
-    let plan = planned(alloc, &face, &DEFAULT_SHAPER)?;
-    let by = (&plan, &face);
-    assert_equal(&rt, alloc, by, &['a', '\u{301}', '\u{323}'], true)?;
-    assert_equal(&rt, alloc, by, &['a', '\u{323}', '\u{301}'], true)?;
-    assert_equal(&rt, alloc, by, &['a', '\u{323}', '\u{323}'], false)?;
-    assert_equal(&rt, alloc, by, &['a', '\u{323}'], false)
-}
-
-/// Asserts that a buffer is cleared.
-fn assert_cleared(rt: &impl Abort, buffer: &hb_buffer_t) {
-    assert_that(rt, buffer.is_empty());
-    assert_same(rt, buffer.direction(), Direction::Invalid);
-}
-
-/// Asserts that two characters are refused for length, and that both buffers are cleared then.
-fn assert_too_long(
-    rt: &impl Abort,
-    alloc: Global,
-    plan: &hb_ot_shape_plan_t<'_, DeepShaper, (), ()>,
-    (first, second): (char, char),
-) -> Result<(), Fail> {
-    let mut a = entered(alloc, first)?;
-    let mut b = entered(alloc, second)?;
-    let answer = runs::are_alike::<SmallUnicode, TestFace<'_>, NoLookups, DeepShaper>(
-        alloc,
-        plan,
-        &EVERY_GLYPH,
-        &mut a,
-        &mut b,
+    check(
+        &rt,
+        (&face, &ReversingShaper),
+        NO_STAND_INS,
+        "a 0323 0301 -> a@0=61 0301@2=301 0323@1=323
+        a 0301 0323 -> a@0=61 0301@1=301 0323@1=323",
     );
-    assert_same(rt, answer, Err(ShapeError::Length));
-    assert_cleared(rt, &a);
-    assert_cleared(rt, &b);
-    Ok(())
+}
+
+/// Compares the lists of lines by the shaper whose hook composes all, over a face of U+0061 alone.
+fn check_absorbed(rt: &(impl Abort + AllocGlobal), cases: &str) {
+    let face = TestFace::of(&['a']);
+    check(rt, (&face, &AbsorbingShaper), NO_STAND_INS, cases);
 }
 
 #[test]
-fn a_text_past_its_limit_clears_both(rt: HostRuntime) -> Result<(), Fail> {
+fn a_compose_hook_is_asked(rt: HostRuntime) {
+    check_absorbed(&rt, "a 0301 0301 b -> a@0=61 b@3=0");
+}
+
+#[test]
+fn a_mask_survives_a_composition(rt: HostRuntime) {
+    check_absorbed(&rt, "a/100 0301/200 b/400 -> a@0=61/100 b@2=0/400");
+}
+
+/// Compares the lists of lines by the default shaper.
+fn check_by_default<'a>(
+    rt: &(impl Abort + AllocGlobal),
+    face: &'a TestFace<'a>,
+    stand_ins: StandIns,
+    cases: &str,
+) {
+    check(rt, (face, &DEFAULT_SHAPER), stand_ins, cases);
+}
+
+#[test]
+fn a_selector_takes_part_in_the_choice_of_a_glyph(rt: HostRuntime) {
+    check_by_default(
+        &rt,
+        &TestFace::with_variant(&['a', 'b']),
+        NO_STAND_INS,
+        "a FE00 FE01 a FE01 b -> a@0=7 FE01@2=0,ignorable a@3=61 FE01@4=0,marked,ignorable b@5=62 selectors",
+    );
+}
+
+#[test]
+fn a_selector_without_a_variant_is_marked(rt: HostRuntime) {
+    check_by_default(
+        &rt,
+        &TestFace::of(&['a']),
+        (None, Some(GlyphId(9))),
+        "a FE00 FE01 -> a@0=61 FE00@1=0,marked FE01@2=0,ignorable selectors",
+    );
+}
+
+/// Compares the lists of lines by the default shaper over a face of these characters, with glyph 5 for what isn't
+/// shown.
+fn check_invisible(rt: &(impl Abort + AllocGlobal), face: &[char], cases: &str) {
+    let face = TestFace::of(face);
+    check_by_default(rt, &face, (Some(GlyphId(5)), None), cases);
+}
+
+/// The same without such a glyph.
+fn check_visible(rt: &(impl Abort + AllocGlobal), face: &[char], cases: &str) {
+    check_by_default(rt, &TestFace::of(face), NO_STAND_INS, cases);
+}
+
+#[test]
+fn spaces_without_a_glyph(rt: HostRuntime) {
+    check_visible(&rt, &[' '], "2003 -> 2003@0=20,em spaces");
+    check_invisible(&rt, &[' '], "2007 -> 2007@0=20,figure spaces");
+    check_invisible(&rt, &[], "2003 -> 2003@0=5,em spaces");
+    check_visible(&rt, &[], "2003 -> 2003@0=0");
+    check_visible(&rt, &['\u{2003}'], "2003 -> 2003@0=2003");
+}
+
+#[test]
+fn no_break_hyphen(rt: HostRuntime) {
+    check_visible(&rt, &['\u{2010}'], "2011 -> 2011@0=2010");
+}
+
+/// A prepared text in a direction, whose run has begun.
+fn entered(rt: &(impl Abort + AllocGlobal), text: &str) -> hb_buffer_t {
+    let mut buffer = prepared(rt, NO_STAND_INS, text);
+    buffer.set_direction(Direction::LeftToRight);
+    buffer.enter();
+    buffer
+}
+
+/// How a cleared buffer is written, and another one.
+fn is_cleared(buffer: hb_buffer_t) -> &'static str {
+    if buffer.is_empty() && buffer.direction() == Direction::Invalid {
+        "cleared"
+    } else {
+        "kept"
+    }
+}
+
+/// Whether two buffers are normalised alike, or why that was refused and what it left of the two.
+fn compared<'a, S>(
+    rt: &(impl Abort + AllocGlobal),
+    (face, shaper): (&'a TestFace<'a>, &'a S),
+    (mut a, mut b): (hb_buffer_t, hb_buffer_t),
+) -> String
+where
+    S: hb_ot_shaper_t<SmallUnicode, TestFace<'a>, NoLookups, Data = ()>,
+{
+    let plan = planned(rt, (face, shaper));
     let alloc = rt.alloc();
+    let answer = runs::are_alike::<SmallUnicode, TestFace<'a>, NoLookups, S>(
+        alloc, &plan, face, &mut a, &mut b,
+    );
+    match answer {
+        Ok(alike) => format!(in alloc; "{alike}").expect(rt, "memory"),
+        Err(error) => {
+            let (a, b) = (is_cleared(a), is_cleared(b));
+            format!(in alloc; "{error:?}, {a}, {b}").expect(rt, "memory")
+        }
+    }
+}
+
+/// Compares whether the two texts of a line are normalised alike.
+fn check_alike<'a, S>(rt: &(impl Abort + AllocGlobal), by: (&'a TestFace<'a>, &'a S), cases: &str)
+where
+    S: hb_ot_shaper_t<SmallUnicode, TestFace<'a>, NoLookups, Data = ()>,
+{
+    for line in lines(rt, cases) {
+        let (asked, wanted) = sides(line);
+        let (a, b) = cut(rt, asked, " = ");
+        let found = compared(rt, by, (entered(rt, a), entered(rt, b)));
+        assert_line(rt, line, found, wanted);
+    }
+}
+
+#[test]
+fn two_texts_are_compared(rt: HostRuntime) {
+    let face = TestFace::of(&['a', '\u{301}', '\u{323}']);
+    check_alike(
+        &rt,
+        (&face, &DEFAULT_SHAPER),
+        "a 0301 0323 = a 0301 0323 -> true
+        a 0301 0323 = a 0323 0301 -> true
+        a 0301 0323 = a 0323 0323 -> false
+        a 0301 0323 = a 0323 -> false",
+    );
+}
+
+/// U+F0000 becomes 16385 items, one more than the limit of a short run, and U+F0001 becomes 16384.
+#[test]
+fn a_text_past_its_limit_clears_both(rt: HostRuntime) {
     let shaper = DeepShaper {
         depth: 16384,
         second: 'a',
     };
-    let plan = planned(alloc, &EVERY_GLYPH, &shaper)?;
-    // U+F0000 becomes 16385 items, one more than the limit of a short run, and U+F0001 becomes 16384.
-    assert_too_long(&rt, alloc, &plan, ('\u{F0000}', '\u{F0001}'))?;
-    assert_too_long(&rt, alloc, &plan, ('\u{F0001}', '\u{F0000}'))
+    check_alike(
+        &rt,
+        (&EVERY_GLYPH, &shaper),
+        "F0000 = F0001 -> Length, cleared, cleared
+        F0001 = F0000 -> Length, cleared, cleared",
+    );
 }
