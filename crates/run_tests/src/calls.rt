@@ -113,6 +113,7 @@ fn a_plan_fits_by_direction_and_script(rt: HostRuntime) {
 /// A text in which nothing is set but a direction, if there is one.
 fn text_of(rt: &(impl Abort + AllocGlobal), direction: Direction, text: &str) -> UnicodeBuffer {
     let mut buffer = UnicodeBuffer::new(rt.alloc());
+    assert!(rt; text.len() < 1000);
     buffer.push_str(text).expect(rt, "memory");
     buffer.set_direction(direction);
     buffer
