@@ -3,11 +3,11 @@ ghost use Rattle.std.specs.Prelude.{◌≡◌, ◌≤◌, ◌<◌};
 
 use shape_pipeline::ShapeError;
 use std::alloc::AllocError;
-use std::{fmt, io};
+use std::io;
 
-/// What is wrong with an argument.
-#[derive(Clone, Copy, PartialEq, Eq, Debug)]
-pub enum Wrong {
+/// Why the program gives up. Of the first four an argument is the reason, whose word the options keep.
+#[derive(Clone, Copy)]
+pub enum Failure {
     /// There is no such option.
     Unknown,
     /// The option wants a value, and no word follows.
@@ -16,13 +16,6 @@ pub enum Wrong {
     BadValue,
     /// There are a font and a text already.
     OneTooMany,
-}
-
-/// Why the program gives up.
-#[derive(Debug, Drop)]
-pub enum Failure {
-    /// An argument, by its word.
-    Usage(Wrong, String),
     /// No font is named.
     NoName,
     /// The font file can't be read.
@@ -39,14 +32,31 @@ pub enum Failure {
 
 impl Failure {
     /// The status that the program ends with.
-    pub fn status(&self) -> u8
+    pub fn status(self) -> u8
         ensures above { 0 < result }
         ensures within { result ≤ 3 }
     {
         match self {
-            Failure::Usage(_, _) | Failure::NoName => 2,
+            Failure::Unknown | Failure::NoValue | Failure::BadValue | Failure::OneTooMany => 2,
+            Failure::NoName => 2,
             Failure::NoFile | Failure::NoFont | Failure::Io | Failure::Memory => 1,
             Failure::Length => 3,
+        }
+    }
+
+    /// What is said of it; the word of an argument follows.
+    pub fn text(self) -> &'static str {
+        match self {
+            Failure::Unknown => "unknown option --",
+            Failure::NoValue => "no value for --",
+            Failure::BadValue => "bad value: ",
+            Failure::OneTooMany => "one word too many: ",
+            Failure::NoName => "no font is named; --help tells more",
+            Failure::NoFile => "the font file can't be read",
+            Failure::NoFont => "no font with this number in the file",
+            Failure::Io => "a read or a write failed",
+            Failure::Memory => "out of memory",
+            Failure::Length => "a text was refused: too long",
         }
     }
 }
@@ -68,23 +78,6 @@ impl From<ShapeError> for Failure {
         match error {
             ShapeError::Memory => Failure::Memory,
             ShapeError::Length => Failure::Length,
-        }
-    }
-}
-
-impl fmt::Display for Failure {
-    fn fmt<W: fmt::Write>(&self, f: &mut fmt::Formatter<W>) -> fmt::Result {
-        match self {
-            Failure::Usage(Wrong::Unknown, word) => write!(f, "unknown option --{word}"),
-            Failure::Usage(Wrong::NoValue, word) => write!(f, "no value for --{word}"),
-            Failure::Usage(Wrong::BadValue, word) => write!(f, "bad value: {word}"),
-            Failure::Usage(Wrong::OneTooMany, word) => write!(f, "one word too many: {word}"),
-            Failure::NoName => f.write_str("no font is named; --help tells more"),
-            Failure::NoFile => f.write_str("the font file can't be read"),
-            Failure::NoFont => f.write_str("no font with this number in the file"),
-            Failure::Io => f.write_str("a read or a write failed"),
-            Failure::Memory => f.write_str("out of memory"),
-            Failure::Length => f.write_str("a text was refused: too long"),
         }
     }
 }

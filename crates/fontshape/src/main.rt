@@ -127,19 +127,19 @@ fn run(rt: &HostRuntime, options: &Options) -> Result<(), Failure> {
 }
 
 /// Reads the arguments and does what they ask.
-fn obey(rt: &HostRuntime) -> Result<(), Failure> {
+fn obey(rt: &HostRuntime, options: &mut Options) -> Result<(), Failure> {
     let mut words = env::args(rt)?;
     words.next();
-    let mut options = Options::new(rt.alloc());
     options.read_all(rt.alloc(), words)?;
-    run(rt, &options)
+    run(rt, options)
 }
 
 fn main(rt: HostRuntime) -> io::Result<ExitCode> {
-    match obey(&rt) {
+    let mut options = Options::new(rt.alloc());
+    match obey(&rt, &mut options) {
         Ok(()) => Ok(ExitCode::SUCCESS),
         Err(failure) => {
-            eprintln!(&rt; "fontshape: {failure}")?;
+            eprintln!(&rt; "fontshape: {}{}", failure.text(), options.blamed())?;
             Ok(ExitCode::from(failure.status()))
         }
     }

@@ -1,7 +1,7 @@
 //! What the arguments ask for.
 ghost use Rattle.std.specs.Prelude.{◌≡◌};
 
-use crate::failure::{Failure, Wrong};
+use crate::failure::Failure;
 use crate::setting::{Setting, Switch};
 use shape_pipeline::{BufferClusterLevel, BufferFlags, Direction, Feature, Language, Script};
 use shape_text_forms::{
@@ -28,6 +28,7 @@ pub struct Options {
     svg: bool,
     flags: u32,
     form: u32,
+    blamed: Option<String>,
 }
 
 impl Options {
@@ -48,6 +49,7 @@ impl Options {
             svg: false,
             flags: 0,
             form: 0,
+            blamed: None,
         }
     }
 
@@ -125,6 +127,14 @@ impl Options {
         BufferFlags(self.flags)
     }
 
+    /// The word of the argument that was refused, empty if none was.
+    pub fn blamed(&self) -> &str {
+        match &self.blamed {
+            Some(word) => word.as_str(),
+            None => "",
+        }
+    }
+
     /// What is written of glyphs.
     pub fn form(&self) -> SerializeFlags {
         SerializeFlags(self.form)
@@ -143,7 +153,7 @@ impl Options {
             };
         }
         if waiting.is_some() {
-            return Err(usage(alloc, Wrong::NoValue, ""));
+            return Err(Failure::NoValue);
         }
         if self.font.is_none() && !self.help {
             return Err(Failure::NoName);
@@ -169,7 +179,7 @@ impl Options {
         } else if self.text.is_none() {
             self.text = Some(String::from_str(alloc, word)?);
         } else {
-            return Err(usage(alloc, Wrong::OneTooMany, word));
+            return Err(self.blame(alloc, Failure::OneTooMany, word));
         }
         Ok(())
     }
@@ -182,7 +192,7 @@ impl Options {
                     self.set(alloc, setting, value)?;
                     Ok(None)
                 }
-                None => Err(usage(alloc, Wrong::Unknown, name)),
+                None => Err(self.blame(alloc, Failure::Unknown, name)),
             };
         }
         if let Some(setting) = Setting::from_name(option) {
@@ -193,7 +203,7 @@ impl Options {
                 self.turn_on(switch);
                 Ok(None)
             }
-            None => Err(usage(alloc, Wrong::Unknown, option)),
+            None => Err(self.blame(alloc, Failure::Unknown, option)),
         }
     }
 
@@ -231,7 +241,7 @@ impl Options {
         if known {
             Ok(())
         } else {
-            Err(usage(alloc, Wrong::BadValue, value))
+            Err(self.blame(alloc, Failure::BadValue, value))
         }
     }
 
@@ -255,7 +265,7 @@ impl Options {
                 self.features.push(feature).map_err(AllocError::from)?;
                 Ok(())
             }
-            None => Err(usage(alloc, Wrong::BadValue, text)),
+            None => Err(self.blame(alloc, Failure::BadValue, text)),
         }
     }
 
@@ -291,12 +301,15 @@ impl Options {
             Err(_) => false,
         }
     }
-}
 
-/// That an argument is wrong, by its word; out of memory if there is none for the word.
-fn usage(alloc: Global, wrong: Wrong, word: &str) -> Failure {
-    match String::from_str(alloc, word) {
-        Ok(word) => Failure::Usage(wrong, word),
-        Err(_) => Failure::Memory,
+    /// That an argument is wrong, whose word is kept; out of memory if there is none for the word.
+    fn blame(&mut self, alloc: Global, failure: Failure, word: &str) -> Failure {
+        match String::from_str(alloc, word) {
+            Ok(word) => {
+                self.blamed = Some(word);
+                failure
+            }
+            Err(_) => Failure::Memory,
+        }
     }
 }

@@ -322,17 +322,17 @@ fn append_point(
     point: Point,
 ) -> Result<Option<Point>, AllocError> {
     let Some(round) = control else {
-        if point.on {
-            write!(out, "L{} {}", point.x, point.y)?;
-            return Ok(None);
+        if !point.on {
+            return Ok(Some(point));
         }
-        return Ok(Some(point));
-    };
-    if point.on {
-        write!(out, "Q{} {} {} {}", round.x, round.y, point.x, point.y)?;
+        write!(out, "L{} {}", point.x, point.y)?;
         return Ok(None);
-    }
-    let end = middle(round, point);
+    };
+    let end = if point.on {
+        point
+    } else {
+        middle(round, point)
+    };
     write!(out, "Q{} {} {} {}", round.x, round.y, end.x, end.y)?;
-    Ok(Some(point))
+    Ok(if point.on { None } else { Some(point) })
 }

@@ -75,13 +75,14 @@ fn append_clusters(
         let begin = place_at(places, cluster.start);
         let end = place_at(places, cluster.end);
         let colour = if odd { "#39c" } else { "#c63" };
-        write!(
+        append_line(
             out,
-            "<path stroke=\"{colour}\" d=\"M{} {}",
+            colour,
             begin.x + left,
-            begin.y + low
+            begin.y + low,
+            end.x + left,
+            end.y + low,
         )?;
-        write!(out, "L{} {}\"/>\n", end.x + left, end.y + low)?;
         if !cluster.unsafe_to_break {
             let backward = glyphs.direction().is_backward();
             let cut = if backward { end } else { begin };
@@ -95,40 +96,37 @@ fn append_clusters(
 /// Appends a mark across the bars.
 fn append_mark(out: &mut String, x: f64, y: f64, down: bool, len: f64) -> Result<(), AllocError> {
     let (across, along) = if down { (len, 0.0) } else { (0.0, len) };
+    append_line(out, "#000", x - across, y - along, x + across, y + along)
+}
+
+/// Appends a line of this colour from one place to another.
+fn append_line(
+    out: &mut String,
+    colour: &str,
+    x: f64,
+    y: f64,
+    to_x: f64,
+    to_y: f64,
+) -> Result<(), AllocError> {
     write!(
         out,
-        "<path stroke=\"#000\" d=\"M{} {}",
-        x - across,
-        y - along
-    )?;
-    write!(out, "L{} {}\"/>\n", x + across, y + along)
+        "<path stroke=\"{colour}\" d=\"M{x} {y}L{to_x} {to_y}\"/>\n"
+    )
 }
 
 /// Appends the head of the picture: what part of the plane is seen.
 fn append_head(out: &mut String, end: Place, down: bool, em: f64) -> Result<(), AllocError> {
-    out.push_str("<svg xmlns=\"http://www.w3.org/2000/svg\"")?;
-    out.push_str(" style=\"background:#fff\" viewBox=\"")?;
-    if down {
-        let height = if end.y < 0.0 { 0.0 - end.y } else { end.y };
-        write!(
-            out,
-            "{} {} {} {}",
-            em * -0.8125,
-            em * -0.1875,
-            em * 1.625,
-            height + em * 0.375
-        )?;
+    let height = if end.y < 0.0 { 0.0 - end.y } else { end.y };
+    let (x, y, width, height) = if down {
+        (em * -0.8125, em * -0.1875, em * 1.625, height + em * 0.375)
     } else {
-        write!(
-            out,
-            "{} {} {} {}",
-            em * -0.125,
-            em * -1.125,
-            end.x + em * 0.25,
-            em * 1.625
-        )?;
-    }
-    out.push_str("\">\n<g transform=\"scale(1 -1)\">\n")
+        (em * -0.125, em * -1.125, end.x + em * 0.25, em * 1.625)
+    };
+    out.push_str("<svg xmlns=\"http://www.w3.org/2000/svg\" style=\"background:#fff\"")?;
+    write!(
+        out,
+        " viewBox=\"{x} {y} {width} {height}\">\n<g transform=\"scale(1 -1)\">\n"
+    )
 }
 
 /// The picture of a line as SVG. Refuses if a growth was refused.

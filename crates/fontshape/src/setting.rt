@@ -4,7 +4,7 @@ use shape_pipeline::BufferFlags;
 use shape_text_forms::SerializeFlags;
 
 /// An option that takes a value.
-#[derive(Clone, Copy, PartialEq, Eq, Debug)]
+#[derive(Clone, Copy)]
 pub enum Setting {
     Features,
     Direction,
@@ -16,7 +16,7 @@ pub enum Setting {
 }
 
 /// An option that takes none.
-#[derive(Clone, Copy, PartialEq, Eq, Debug)]
+#[derive(Clone, Copy)]
 pub enum Switch {
     Help,
     Svg,

@@ -6,7 +6,7 @@ use crate::options::Options;
 use kern_table::KernTable;
 use shape_font::FontFace;
 use shape_pipeline::ot_shaper::{
-    ComposedDiacritics, ComposedDiacriticsNoShortCircuit, Decomposed, Shortest,
+    ComposedDiacritics, ComposedDiacriticsNoShortCircuit, Decomposed, Preference, Shortest,
 };
 use shape_pipeline::{
     DEFAULT_SHAPER, GlyphBuffer, NoLookups, Preferring, Script, UnicodeBuffer, hb_font_t,
@@ -47,52 +47,65 @@ where
     M: hb_ot_layout_t<FontFace<'a>>,
     S: hb_ot_shaper_t<UnicodeDatabase, FontFace<'a>, M>,
 {
-    match shape::<UnicodeDatabase, FontFace<'a>, M, S>(
-        alloc,
-        face,
-        shaper,
-        options.features(),
-        buffer,
-    ) {
+    let features = options.features();
+    match shape::<UnicodeDatabase, FontFace<'a>, M, S>(alloc, face, shaper, features, buffer) {
         Ok(glyphs) => Ok(glyphs),
         Err(fault) => Err(Failure::from(fault.cause)),
     }
 }
 
-/// The glyphs of a buffer by this engine: with a shaper that prefers the mode that is asked for, else with the one of
-/// Hebrew if the text is in that script, else with the default one.
-fn shaped_with<'a, M: hb_ot_layout_t<FontFace<'a>>>(
+/// The glyphs of a buffer by this shaper, kerned by the table `kern` of a font without GPOS. A font with GPOS has its
+/// kerning there, and no engine here reads it.
+fn shaped_kerned<'a, S>(
     alloc: Global,
     options: &Options,
     face: &FontFace<'a>,
+    shaper: &S,
     buffer: UnicodeBuffer,
-) -> Result<GlyphBuffer, Failure> {
-    match options.mode() {
-        Some(0) => {
-            let shaper = Preferring::<Shortest>::new();
-            shaped_by::<M, _>(alloc, options, face, &shaper, buffer)
-        }
-        Some(1) => {
-            let shaper = Preferring::<Decomposed>::new();
-            shaped_by::<M, _>(alloc, options, face, &shaper, buffer)
-        }
-        Some(2) => {
-            let shaper = Preferring::<ComposedDiacritics>::new();
-            shaped_by::<M, _>(alloc, options, face, &shaper, buffer)
-        }
-        Some(3) => {
-            let shaper = Preferring::<ComposedDiacriticsNoShortCircuit>::new();
-            shaped_by::<M, _>(alloc, options, face, &shaper, buffer)
-        }
-        None if buffer.script() == Some(Script::HEBREW) => {
-            shaped_by::<M, _>(alloc, options, face, &HebrewShaper, buffer)
-        }
-        _ => shaped_by::<M, _>(alloc, options, face, &DEFAULT_SHAPER, buffer),
+) -> Result<GlyphBuffer, Failure>
+where
+    S: hb_ot_shaper_t<UnicodeDatabase, FontFace<'a>, NoLookups>,
+    S: hb_ot_shaper_t<UnicodeDatabase, FontFace<'a>, KernTable>,
+{
+    if face.tables().gpos {
+        shaped_by::<NoLookups, S>(alloc, options, face, shaper, buffer)
+    } else {
+        shaped_by::<KernTable, S>(alloc, options, face, shaper, buffer)
     }
 }
 
-/// The glyphs of a text, kerned by the table `kern` of a font without GPOS. A font with GPOS has its kerning there,
-/// and no engine here reads it. Refuses as `shape` does, and with `Length` a text of 4 GiB.
+/// The glyphs of a buffer by the default shaper, which prefers this way to normalise.
+fn shaped_preferring<P: Preference>(
+    alloc: Global,
+    options: &Options,
+    face: &FontFace,
+    buffer: UnicodeBuffer,
+) -> Result<GlyphBuffer, Failure> {
+    shaped_kerned(alloc, options, face, &Preferring::<P>::new(), buffer)
+}
+
+/// The glyphs of a buffer by the shaper of Hebrew.
+fn shaped_hebrew(
+    alloc: Global,
+    options: &Options,
+    face: &FontFace,
+    buffer: UnicodeBuffer,
+) -> Result<GlyphBuffer, Failure> {
+    shaped_kerned(alloc, options, face, &HebrewShaper, buffer)
+}
+
+/// The glyphs of a buffer by the default shaper.
+fn shaped_default(
+    alloc: Global,
+    options: &Options,
+    face: &FontFace,
+    buffer: UnicodeBuffer,
+) -> Result<GlyphBuffer, Failure> {
+    shaped_kerned(alloc, options, face, &DEFAULT_SHAPER, buffer)
+}
+
+/// The glyphs of a text: with a shaper that prefers the mode that is asked for, else with the one of Hebrew if the text
+/// is in that script, else with the default one. Refuses as `shape` does, and with `Length` a text of 4 GiB.
 pub fn shaped(
     alloc: Global,
     options: &Options,
@@ -100,9 +113,16 @@ pub fn shaped(
     text: &str,
 ) -> Result<GlyphBuffer, Failure> {
     let buffer = filled(alloc, options, text)?;
-    if face.tables().gpos {
-        shaped_with::<NoLookups>(alloc, options, face, buffer)
-    } else {
-        shaped_with::<KernTable>(alloc, options, face, buffer)
+    match options.mode() {
+        Some(0) => shaped_preferring::<Shortest>(alloc, options, face, buffer),
+        Some(1) => shaped_preferring::<Decomposed>(alloc, options, face, buffer),
+        Some(2) => shaped_preferring::<ComposedDiacritics>(alloc, options, face, buffer),
+        Some(3) => shaped_preferring::<ComposedDiacriticsNoShortCircuit>(
+            alloc, options, face, buffer,
+        ),
+        None if buffer.script() == Some(Script::HEBREW) => shaped_hebrew(
+            alloc, options, face, buffer,
+        ),
+        _ => shaped_default(alloc, options, face, buffer),
     }
 }
