@@ -63,9 +63,9 @@ for row in e_acute shortest_expansion ordering_merges three_spellings dotted_cir
 done
 refuse_test run_tests refusals::comparing "two texts that are compared" || exit 1
 refuse_test run_tests refusals::a_key "the key of a text" || exit 1
-refuse_test substitution_tests refusals::growths_in_a_stage "the stages that grow" || exit 1
-refuse_test substitution_tests refusals::growths_in_a_run "the runs with such stages" || exit 1
-refuse_test substitution_tests refusals::growths_with_two_features "the run with two user features" || exit 1
+refuse_test stage_tests substitution::refusals::growths_in_a_stage "the stages that grow" || exit 1
+refuse_test stage_tests substitution::refusals::growths_in_a_run "the runs with such stages" || exit 1
+refuse_test stage_tests substitution::refusals::growths_with_two_features "the run with two user features" || exit 1
 refuse_test font_tests kerning::growths "the run that kerns by a font's table, and its plan" || exit 1
 
 # How many growths a test of a crate asks for.

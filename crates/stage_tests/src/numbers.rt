@@ -1,6 +1,6 @@
 //! The numbers of the modes of normalising and of the times of zeroing marks, as the rules have them.
 
-use crate::comparing::assert_same;
+use crate::rows::assert_same;
 use shape_plan::normalization_mode::{
     HB_OT_SHAPE_NORMALIZATION_MODE_AUTO, HB_OT_SHAPE_NORMALIZATION_MODE_COMPOSED_DIACRITICS,
     HB_OT_SHAPE_NORMALIZATION_MODE_COMPOSED_DIACRITICS_NO_SHORT_CIRCUIT,

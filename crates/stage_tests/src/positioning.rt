@@ -1,7 +1,13 @@
 //! Glyphs through public calls, with a face of one advance; expected values are worked out by hand.
-use crate::comparing::assert_same;
+//!
+//! A case is a direction, the glyphs with their clusters, a colon and the steps. The steps `glyphs` and `places` print:
+//! `GLYPH@CLUSTER/MASK` of each glyph, or its advances and offsets in decimal, `XADVANCE,YADVANCE,XOFFSET,YOFFSET`.
+use crate::rows::{
+    Host, buffer_of, check_rows, direction_of, first_word, hex, print_glyphs, unknown,
+};
 use shape_buffer::buffer::{
-    BufferFlags, Direction, GlyphId, GlyphPropsFlags, ScratchFlags, hb_buffer_t, hb_glyph_info_t,
+    BufferFlags, GlyphId, GlyphPosition, GlyphPropsFlags, ScratchFlags, hb_buffer_t,
+    hb_glyph_info_t,
 };
 use shape_position::advances::{clear_positions, put_advances};
 use shape_position::finishing::reverse_backward;
@@ -9,8 +15,6 @@ use shape_position::flags::propagate_flags;
 use shape_position::ignorables::{hide_default_ignorables, zero_width_default_ignorables};
 use shape_position::selectors::deal_with_variation_selectors;
 use shape_position::zeroing::zero_mark_widths_by_gdef;
-use std::alloc::Global;
-use std::test::Fail;
 use test_worlds::{KnownGlyph, PLAIN_FACE, TestFace};
 
 /// The glyph of a mark.
@@ -37,129 +41,122 @@ const EVEN_FACE: TestFace<'static> = TestFace {
     ..PLAIN_FACE
 };
 
-/// A buffer in a direction, of glyphs in clusters, all of whose scratch flags are set; the three glyphs
-/// above have the properties that they stand for.
-fn filled(alloc: Global, direction: Direction, rows: &[(u32, u32)]) -> Result<hb_buffer_t, Fail> {
-    let mut infos: Vec<hb_glyph_info_t> = Vec::new(alloc);
-    for row in rows.iter() {
-        let mut info = hb_glyph_info_t::new('a', row.1);
-        info.glyph_id = row.0;
-        info.mask = row.0 & 4;
-        info._hb_glyph_info_set_ignorable(row.0 == JOINER);
-        info._hb_glyph_info_set_selector_mark(row.0 == SELECTOR);
-        if row.0 == MARK {
-            info._hb_glyph_info_set_glyph_class(GlyphPropsFlags::MARK);
-        }
-        infos.push(info)?;
+/// The item of a word `GLYPH@CLUSTER`; the three glyphs above have the properties that they stand for.
+fn info_of(rt: &impl Host, word: &str) -> hb_glyph_info_t {
+    let (glyph, cluster) = word.split_once('@').expect(rt, "a glyph's cluster");
+    let glyph = hex(rt, glyph);
+    let mut info = hb_glyph_info_t::new('a', hex(rt, cluster));
+    info.glyph_id = glyph;
+    info.mask = glyph & 4;
+    info._hb_glyph_info_set_ignorable(glyph == JOINER);
+    info._hb_glyph_info_set_selector_mark(glyph == SELECTOR);
+    if glyph == MARK {
+        info._hb_glyph_info_set_glyph_class(GlyphPropsFlags::MARK);
     }
-    let mut buffer = hb_buffer_t::new(alloc);
-    buffer.replace_infos(infos)?;
-    buffer.set_direction(direction);
+    info
+}
+
+/// A buffer of glyphs, all of whose scratch flags are set.
+fn filled(rt: &impl Host, direction: &str, glyphs: &str) -> hb_buffer_t {
+    let mut infos: Vec<hb_glyph_info_t> = Vec::new(rt.alloc());
+    for word in glyphs.split(' ') {
+        infos.push(info_of(rt, word)).expect(rt, "memory");
+    }
+    let mut buffer = buffer_of(rt, direction_of(rt, direction), infos);
     buffer.set_scratch_flags(ScratchFlags(63));
-    Ok(buffer)
+    buffer
 }
 
-/// The glyphs, clusters and masks of a buffer.
-fn glyphs(alloc: Global, buffer: &hb_buffer_t) -> Result<Vec<(u32, u32, u32)>, Fail> {
-    let rows: Vec<(u32, u32, u32)> = buffer
-        .infos()
-        .iter()
-        .map(|info| (info.glyph_id, info.cluster, info.mask))
-        .collect(alloc)?;
-    Ok(rows)
+/// Prints the four values of each position.
+fn print_places(rt: &impl Host, positions: &[GlyphPosition], found: &mut String) {
+    for p in positions {
+        let (x_advance, y_advance, x_offset, y_offset) = (
+            p.x_advance,
+            p.y_advance,
+            p.x_offset,
+            p.y_offset,
+        );
+        write!(found, " {x_advance},{y_advance},{x_offset},{y_offset}").expect(rt, "memory");
+    }
 }
 
-/// The four values of each position of a buffer.
-fn values(alloc: Global, buffer: &hb_buffer_t) -> Result<Vec<(i32, i32, i32, i32)>, Fail> {
-    let rows: Vec<(i32, i32, i32, i32)> = buffer
-        .positions()
-        .iter()
-        .map(|p| (p.x_advance, p.y_advance, p.x_offset, p.y_offset))
-        .collect(alloc)?;
-    Ok(rows)
+/// Takes a step, or prints.
+fn step(rt: &impl Host, word: &str, buffer: &mut hb_buffer_t, found: &mut String) {
+    match word {
+        "clear" => clear_positions(buffer),
+        "advances" => put_advances(&EVEN_FACE, buffer),
+        "zero-ignorables" => zero_width_default_ignorables(buffer),
+        "hide" => hide_default_ignorables(&EVEN_FACE, buffer),
+        "remove" => buffer.set_flags(BufferFlags::REMOVE_DEFAULT_IGNORABLES),
+        "reverse" => reverse_backward(buffer),
+        "zero-marks" => zero_mark_widths_by_gdef(buffer, true),
+        "selector-9" => buffer.set_not_found_variation_selector_glyph(Some(GlyphId(9))),
+        "selectors" => deal_with_variation_selectors(buffer),
+        "tatweel" => buffer.set_flags(BufferFlags::PRODUCE_SAFE_TO_INSERT_TATWEEL),
+        "propagate" => propagate_flags(buffer),
+        "glyphs" => print_glyphs(buffer.infos(), found).expect(rt, "memory"),
+        "places" => print_places(rt, buffer.positions(), found),
+        _ => unknown(rt, word),
+    }
+}
+
+/// What the steps of a case print.
+fn positioned(rt: &impl Host, case: &str) -> String {
+    let (direction, case) = first_word(rt, case);
+    let (glyphs, steps) = case.split_once(": ").expect(rt, "steps");
+    let mut buffer = filled(rt, direction, glyphs);
+    let mut found = String::new(rt.alloc());
+    for word in steps.split(' ') {
+        step(rt, word, &mut buffer, &mut found);
+    }
+    found
+}
+
+fn check(rt: &impl Host, rows: &str) {
+    check_rows(rt, rows, |case| positioned(rt, case));
 }
 
 #[test]
-fn downward_glyph_is_moved_by_its_origin(rt: HostRuntime) -> Result<(), Fail> {
-    let mut buffer = filled(rt.alloc(), Direction::TopToBottom, &[(1, 0)])?;
-    clear_positions(&mut buffer);
-    put_advances(&EVEN_FACE, &mut buffer);
-    let found = values(rt.alloc(), &buffer)?;
-    assert_same(&rt, found.as_slice(), [(0, -1000, -300, -1000)].as_slice());
-    Ok(())
+fn downward_glyph_is_moved_by_its_origin(rt: HostRuntime) {
+    check(&rt, "ttb 1@0: clear advances places -> 0,-1000,-300,-1000");
 }
 
 #[test]
-fn joiner_takes_the_glyph_of_a_space(rt: HostRuntime) -> Result<(), Fail> {
-    let face = EVEN_FACE;
-    let mut buffer = filled(rt.alloc(), Direction::LeftToRight, &[(1, 0), (JOINER, 1)])?;
-    put_advances(&face, &mut buffer);
-    zero_width_default_ignorables(&mut buffer);
-    hide_default_ignorables(&face, &mut buffer);
-    let found = glyphs(rt.alloc(), &buffer)?;
-    assert_same(&rt, found.as_slice(), [(1, 0, 0), (3, 1, 4)].as_slice());
-    let placed = values(rt.alloc(), &buffer)?;
-    assert_same(
+fn joiner_takes_the_glyph_of_a_space(rt: HostRuntime) {
+    check(
         &rt,
-        placed.as_slice(),
-        [(600, 0, 0, 0), (0, 0, 0, 0)].as_slice(),
+        "ltr 1@0 7@1: advances zero-ignorables hide glyphs places \
+         -> 1@0/0 3@1/4 600,0,0,0 0,0,0,0",
     );
-    Ok(())
 }
 
 #[test]
-fn removed_joiner_leaves_its_cluster(rt: HostRuntime) -> Result<(), Fail> {
-    let face = EVEN_FACE;
-    let mut buffer = filled(rt.alloc(), Direction::RightToLeft, &[(JOINER, 0), (1, 3)])?;
-    buffer.set_flags(BufferFlags::REMOVE_DEFAULT_IGNORABLES);
-    put_advances(&face, &mut buffer);
-    zero_width_default_ignorables(&mut buffer);
-    reverse_backward(&mut buffer);
-    hide_default_ignorables(&face, &mut buffer);
-    let found = glyphs(rt.alloc(), &buffer)?;
-    assert_same(&rt, found.as_slice(), [(1, 0, 4)].as_slice());
-    let placed = values(rt.alloc(), &buffer)?;
-    assert_same(&rt, placed.as_slice(), [(600, 0, 0, 0)].as_slice());
-    Ok(())
-}
-
-#[test]
-fn mark_hangs_over_the_glyph_before_it(rt: HostRuntime) -> Result<(), Fail> {
-    let mut buffer = filled(rt.alloc(), Direction::LeftToRight, &[(1, 0), (MARK, 0)])?;
-    put_advances(&EVEN_FACE, &mut buffer);
-    zero_mark_widths_by_gdef(&mut buffer, true);
-    let placed = values(rt.alloc(), &buffer)?;
-    assert_same(
+fn removed_joiner_leaves_its_cluster(rt: HostRuntime) {
+    check(
         &rt,
-        placed.as_slice(),
-        [(600, 0, 0, 0), (0, 0, -600, 0)].as_slice(),
+        "rtl 7@0 1@3: remove advances zero-ignorables reverse hide glyphs places \
+         -> 1@0/4 600,0,0,0",
     );
-    Ok(())
 }
 
 #[test]
-fn selector_without_variant_is_seen(rt: HostRuntime) -> Result<(), Fail> {
-    let mut buffer = filled(rt.alloc(), Direction::LeftToRight, &[(1, 0), (SELECTOR, 0)])?;
-    put_advances(&EVEN_FACE, &mut buffer);
-    buffer.set_not_found_variation_selector_glyph(Some(GlyphId(9)));
-    deal_with_variation_selectors(&mut buffer);
-    let found = glyphs(rt.alloc(), &buffer)?;
-    assert_same(&rt, found.as_slice(), [(1, 0, 0), (9, 0, 0)].as_slice());
-    let placed = values(rt.alloc(), &buffer)?;
-    assert_same(
+fn mark_hangs_over_the_glyph_before_it(rt: HostRuntime) {
+    check(
         &rt,
-        placed.as_slice(),
-        [(600, 0, 0, 0), (0, 0, 0, 0)].as_slice(),
+        "ltr 1@0 2@0: advances zero-marks places -> 600,0,0,0 0,0,-600,0",
     );
-    Ok(())
 }
 
 #[test]
-fn flags_of_a_cluster_are_joined(rt: HostRuntime) -> Result<(), Fail> {
-    let mut buffer = filled(rt.alloc(), Direction::LeftToRight, &[(4, 0), (1, 0)])?;
-    buffer.set_flags(BufferFlags::PRODUCE_SAFE_TO_INSERT_TATWEEL);
-    propagate_flags(&mut buffer);
-    let found = glyphs(rt.alloc(), &buffer)?;
-    assert_same(&rt, found.as_slice(), [(4, 0, 5), (1, 0, 5)].as_slice());
-    Ok(())
+fn selector_without_variant_is_seen(rt: HostRuntime) {
+    check(
+        &rt,
+        "ltr 1@0 8@0: advances selector-9 selectors glyphs places \
+         -> 1@0/0 9@0/0 600,0,0,0 0,0,0,0",
+    );
+}
+
+#[test]
+fn flags_of_a_cluster_are_joined(rt: HostRuntime) {
+    check(&rt, "ltr 4@0 1@0: tatweel propagate glyphs -> 4@0/5 1@0/5");
 }

@@ -1,29 +1,17 @@
 //! Every combination of the questions that a plan asks, against a table of who positions.
-use super::shapers::{ScriptShaper, WishingShaper};
+use super::questions::{PlanShaper, check, planned};
 use super::support::{
-    CROSS_KERNING, GLYPH_CLASSES, GPOS, GPOS_KERNS, GSUB, KERNING, KERX, MACHINE_KERNING, MASKS,
-    MORX, SCRIPT_TWO, TRAK, face_with,
+    CROSS_KERNING, GLYPH_CLASSES, GPOS, GPOS_KERNS, GSUB, KERNING, KERX, MACHINE_KERNING, MORX,
+    SCRIPT_TWO, face_with,
 };
-use crate::comparing::{assert_same, assert_that};
-use shape_buffer::buffer::{Direction, Feature, Script, UnicodeBuffer, hb_tag_t};
+use crate::rows::{Host, assert_answer, assert_same, tag_of, unknown};
+use shape_buffer::buffer::{Direction, Feature, Script, UnicodeBuffer};
 use shape_buffer::interfaces::PlainUnicode;
 use shape_plan::ot_shape_plan::hb_ot_shape_plan_t;
-use shape_plan::ot_shaper::{DEFAULT_SHAPER, hb_default_shaper_t, hb_ot_shaper_t};
-use std::alloc::Global;
-use std::process::Abort;
-use std::test::Fail;
-use test_worlds::{TestFace, TestLayout, TestMap};
-
-/// A plan of a shaper.
-type Plan<'a, S> = hb_ot_shape_plan_t<
-    'a,
-    S,
-    TestMap,
-    <S as hb_ot_shaper_t<PlainUnicode, TestFace<'static>, TestLayout>>::Data,
->;
+use test_worlds::{TestFace, TestMap};
 
 /// Who positions and kerns.
-#[derive(Clone, Copy, PartialEq, Eq, Debug)]
+#[derive(Clone, Copy)]
 enum Positioner {
     Gpos,
     GposThenKerx,
@@ -56,91 +44,74 @@ struct Brings {
     makes_data: bool,
 }
 
-/// What a plan decided: who positions; whether marks are zeroed, placed by extents and moved back; and
-/// whether `morx` substitutes.
-#[derive(Clone, Copy, PartialEq, Eq, Debug)]
-struct Row {
-    gpos: bool,
-    kerx: bool,
-    kern: bool,
-    nobody: bool,
-    zeroes: bool,
-    places: bool,
-    moves_back: bool,
-    morx: bool,
-}
+/// What a plan can decide and hold: who positions; whether marks are zeroed, placed by extents and moved back; whether
+/// `morx` substitutes; whether there are glyph classes to make up, a shaper, and data of it.
+const WORDS: &str = "gpos kerx kern nobody zeroes places moves-back morx makes-classes shaper data";
 
-/// The row of a plan.
-fn decided<S, D>(plan: &hb_ot_shape_plan_t<'_, S, TestMap, D>) -> Row {
-    Row {
-        gpos: plan.apply_gpos(),
-        kerx: plan.apply_kerx(),
-        kern: plan.apply_kern(),
-        nobody: plan.apply_fallback_kern(),
-        zeroes: plan.zero_marks(),
-        places: plan.fallback_mark_positioning(),
-        moves_back: plan.adjust_mark_positioning_when_zeroing(),
-        morx: plan.apply_morx(),
+/// Prints the words of what holds.
+pub fn print_row(rt: &impl Host, row: [bool; 11]) -> String {
+    let mut found = String::new(rt.alloc());
+    for (word, holds) in WORDS.split(' ').zip(row) {
+        if holds {
+            write!(found, " {word}").expect(rt, "memory");
+        }
     }
+    found
 }
 
-/// The same by the table, for a number whose bits are the answers of face and engine.
-fn expected(bits: u32, horizontal: bool, brings: Brings) -> Row {
+/// What a plan decided and holds.
+pub fn decided<S, D>(plan: &hb_ot_shape_plan_t<'_, S, TestMap, D>) -> [bool; 11] {
+    [
+        plan.apply_gpos(),
+        plan.apply_kerx(),
+        plan.apply_kern(),
+        plan.apply_fallback_kern(),
+        plan.zero_marks(),
+        plan.fallback_mark_positioning(),
+        plan.adjust_mark_positioning_when_zeroing(),
+        plan.apply_morx(),
+        plan.fallback_glyph_classes(),
+        plan.shaper().is_some(),
+        plan.data().is_some(),
+    ]
+}
+
+/// The same by the table, for a number whose bits are the answers of face and engine. A shaper that gives way to
+/// `morx` has no data.
+fn expected(bits: u32, horizontal: bool, brings: Brings) -> [bool; 11] {
     let has = |bit: u32| bits & bit != 0;
     let morx = has(MORX) && (horizontal || !has(GSUB));
     let kept = brings.is_default || !morx;
     let gpos = has(GPOS) && !(kept && brings.needs_script_two && !has(SCRIPT_TWO));
-    let positioner = by_table(
-        has(KERX),
-        has(GSUB) && !morx,
-        gpos,
-        has(GPOS_KERNS),
-        has(KERNING),
-    );
-    let (gpos, kerx, kern, nobody) = match positioner {
-        Positioner::Gpos => (true, false, false, false),
-        Positioner::GposThenKerx => (true, true, false, false),
-        Positioner::Kerx => (false, true, false, false),
-        Positioner::GposAndKern => (true, false, true, false),
-        Positioner::Kern => (false, false, true, false),
-        Positioner::Nobody => (false, false, false, true),
+    let (kern, gsub) = (has(KERNING), has(GSUB) && !morx);
+    let positioner = by_table(has(KERX), gsub, gpos, has(GPOS_KERNS), kern);
+    let (gpos, kerx, kern, zeroes, unplaced) = match positioner {
+        Positioner::Gpos => (true, false, false, true, false),
+        Positioner::GposThenKerx => (true, true, false, false, false),
+        Positioner::Kerx => (false, true, false, false, false),
+        Positioner::GposAndKern => (true, false, true, !has(MACHINE_KERNING), false),
+        Positioner::Kern => (
+            false,
+            false,
+            true,
+            !has(MACHINE_KERNING),
+            !has(CROSS_KERNING),
+        ),
+        Positioner::Nobody => (false, false, false, true, true),
     };
-    let zeroes = match positioner {
-        Positioner::Kerx | Positioner::GposThenKerx => false,
-        Positioner::Kern | Positioner::GposAndKern => !has(MACHINE_KERNING),
-        Positioner::Gpos | Positioner::Nobody => true,
-    };
-    let unplaced = match positioner {
-        Positioner::Nobody => true,
-        Positioner::Kern => !has(CROSS_KERNING),
-        _ => false,
-    };
-    Row {
+    [
         gpos,
         kerx,
         kern,
-        nobody,
-        zeroes: zeroes && brings.zeroes,
-        places: unplaced && brings.places,
-        moves_back: unplaced && !morx,
+        !gpos && !kerx && !kern,
+        zeroes && brings.zeroes,
+        unplaced && brings.places,
+        unplaced && !morx,
         morx,
-    }
-}
-
-/// Whether a plan has glyph classes to make up, a shaper, and data of it.
-fn held<S, D>(plan: &hb_ot_shape_plan_t<'_, S, TestMap, D>) -> (bool, bool, bool) {
-    let (shaper, data) = (plan.shaper(), plan.data());
-    (
-        plan.fallback_glyph_classes(),
-        shaper.is_some(),
-        data.is_some(),
-    )
-}
-
-/// The same of the answers: a shaper that gives way to `morx` has no data.
-fn expected_to_hold(bits: u32, morx: bool, brings: Brings) -> (bool, bool, bool) {
-    let kept = brings.is_default || !morx;
-    (bits & GLYPH_CLASSES == 0, kept, kept && brings.makes_data)
+        !has(GLYPH_CLASSES),
+        kept,
+        kept && brings.makes_data,
+    ]
 }
 
 const DEFAULT_BRINGS: Brings = Brings {
@@ -153,10 +124,7 @@ const DEFAULT_BRINGS: Brings = Brings {
 
 const WISHING_BRINGS: Brings = Brings {
     is_default: false,
-    needs_script_two: false,
-    zeroes: true,
-    places: true,
-    makes_data: false,
+    ..DEFAULT_BRINGS
 };
 
 const SCRIPT_BRINGS: Brings = Brings {
@@ -172,194 +140,167 @@ fn spread(i: u32) -> u32 {
     (i & 15) | ((i & 1008) << 1)
 }
 
-/// A plan without a script and without features.
-fn planned<'a, S>(
-    alloc: Global,
-    face: &'a TestFace<'static>,
-    shaper: &'a S,
-    direction: Direction,
-) -> Result<Plan<'a, S>, Fail>
-where
-    S: hb_ot_shaper_t<PlainUnicode, TestFace<'static>, TestLayout>,
-{
-    if direction == Direction::Invalid {
-        return Err(Fail::from("no direction"));
+/// What a shaper brings, by its name.
+fn brings_of(rt: &impl Host, shaper: &str) -> Brings {
+    match shaper {
+        "default" => DEFAULT_BRINGS,
+        "wishing" => WISHING_BRINGS,
+        "script" => SCRIPT_BRINGS,
+        _ => unknown(rt, shaper),
     }
-    let plan = hb_ot_shape_plan_t::new::<PlainUnicode, TestFace<'static>, TestLayout>(
-        alloc,
-        face,
-        shaper,
-        direction,
-        None,
-        None,
-        &[],
-    )?;
-    Ok(plan)
 }
 
 /// Compares the plans of a shaper in one direction with the table, for every answer of face and engine.
-fn assert_by_table<S>(
-    rt: &impl Abort,
-    alloc: Global,
-    shaper: &S,
+pub fn compare_with_table<S: PlanShaper>(
+    rt: &impl Host,
+    (shaper, word): (&S, &str),
     direction: Direction,
-    brings: Brings,
-) -> Result<(), Fail>
-where
-    S: hb_ot_shaper_t<PlainUnicode, TestFace<'static>, TestLayout>,
-{
+) -> String {
     let horizontal = matches!(direction, Direction::LeftToRight | Direction::RightToLeft);
+    let brings = brings_of(rt, word);
     for i in 0..1024 {
         let bits = spread(i);
         let face = face_with(bits);
-        let plan = planned(alloc, &face, shaper, direction)?;
-        let want = expected(bits, horizontal, brings);
-        assert_same(rt, decided(&plan), want);
-        assert_same(rt, held(&plan), expected_to_hold(bits, want.morx, brings));
+        let found = decided(&planned(rt, &face, shaper, direction, (None, &[])));
+        let wanted = print_row(rt, expected(bits, horizontal, brings));
+        assert_answer(rt, "plan", print_row(rt, found).as_str(), wanted.as_str());
     }
-    Ok(())
+    String::from_str(rt.alloc(), " 1024 plans agree").expect(rt, "memory")
 }
 
 #[test]
-fn by_the_default_shaper(rt: HostRuntime) -> Result<(), Fail> {
-    let (alloc, shaper) = (rt.alloc(), &DEFAULT_SHAPER);
-    assert_by_table(&rt, alloc, shaper, Direction::LeftToRight, DEFAULT_BRINGS)?;
-    assert_by_table(&rt, alloc, shaper, Direction::BottomToTop, DEFAULT_BRINGS)
+fn by_the_default_shaper(rt: HostRuntime) {
+    check(
+        &rt,
+        "table default plain ltr -> 1024 plans agree\n\
+         table default plain btt -> 1024 plans agree",
+    );
 }
 
 #[test]
-fn by_a_shaper_with_wishes(rt: HostRuntime) -> Result<(), Fail> {
-    let (alloc, shaper) = (rt.alloc(), WishingShaper::new());
-    assert_by_table(&rt, alloc, &shaper, Direction::RightToLeft, WISHING_BRINGS)?;
-    assert_by_table(&rt, alloc, &shaper, Direction::TopToBottom, WISHING_BRINGS)
+fn by_a_shaper_with_wishes(rt: HostRuntime) {
+    check(
+        &rt,
+        "table wishing plain rtl -> 1024 plans agree\n\
+         table wishing plain ttb -> 1024 plans agree",
+    );
 }
 
 #[test]
-fn by_a_shaper_of_a_script(rt: HostRuntime) -> Result<(), Fail> {
-    let (alloc, shaper) = (rt.alloc(), &ScriptShaper);
-    assert_by_table(&rt, alloc, shaper, Direction::LeftToRight, SCRIPT_BRINGS)?;
-    assert_by_table(&rt, alloc, shaper, Direction::TopToBottom, SCRIPT_BRINGS)
+fn by_a_shaper_of_a_script(rt: HostRuntime) {
+    check(
+        &rt,
+        "table script plain ltr -> 1024 plans agree\n\
+         table script plain ttb -> 1024 plans agree",
+    );
 }
 
 #[test]
-fn gpos_then_kerx(rt: HostRuntime) -> Result<(), Fail> {
-    let face = face_with(KERX | GSUB | GPOS);
-    let plan = planned(rt.alloc(), &face, &DEFAULT_SHAPER, Direction::LeftToRight)?;
-    assert_that(&rt, plan.apply_gpos() && plan.apply_kerx());
-    assert_that(&rt, !plan.apply_kern() && !plan.apply_fallback_kern());
-    assert_that(&rt, !plan.zero_marks() && !plan.fallback_mark_positioning());
-    Ok(())
+fn gpos_then_kerx(rt: HostRuntime) {
+    check(
+        &rt,
+        "plan default kerx+gsub+gpos ltr -> gpos kerx makes-classes shaper",
+    );
 }
 
 /// The wishes are those of the given shaper, though it gives way; in vertical text of a face with `GSUB`
 /// it stays.
 #[test]
-fn wishes_of_a_replaced_shaper(rt: HostRuntime) -> Result<(), Fail> {
-    let (morx, both) = (face_with(MORX), face_with(MORX | GSUB));
-    let shaper = WishingShaper::new();
-    let plan = planned(rt.alloc(), &morx, &shaper, Direction::LeftToRight)?;
-    assert_that(&rt, plan.shaper().is_none() && plan.data().is_none());
-    assert_that(&rt, plan.apply_morx() && plan.apply_fallback_kern());
-    assert_that(&rt, plan.zero_marks() && plan.fallback_mark_positioning());
-    assert_that(&rt, !plan.adjust_mark_positioning_when_zeroing());
-    let vertical = planned(rt.alloc(), &both, &shaper, Direction::TopToBottom)?;
-    assert_that(&rt, vertical.shaper().is_some() && !vertical.apply_morx());
-    Ok(())
+fn wishes_of_a_replaced_shaper(rt: HostRuntime) {
+    check(
+        &rt,
+        "plan wishing morx ltr -> nobody zeroes places morx makes-classes\n\
+         plan wishing morx+gsub ttb -> nobody zeroes places moves-back makes-classes shaper",
+    );
 }
 
-/// Compares the masks of a plan of the default shaper, each of which is this one, and what follows of them.
-fn assert_masks(rt: &impl Abort, plan: &Plan<'_, hb_default_shaper_t>, mask: u32, tracked: bool) {
-    let side = (plan.numr_mask(), plan.dnom_mask(), plan.rtlm_mask());
-    assert_same(
-        rt,
-        (plan.frac_mask(), plan.kern_mask(), plan.trak_mask()),
-        (mask, mask, mask),
-    );
-    assert_same(rt, side, (mask, mask, mask));
-    assert_same(
-        rt,
-        (plan.has_frac(), plan.has_vert(), plan.has_gpos_mark()),
-        (mask != 0, mask != 0, mask != 0),
-    );
-    assert_same(
-        rt,
-        (plan.requested_kerning(), plan.apply_trak()),
-        (mask != 0, tracked),
-    );
+/// The six masks of a plan.
+fn masks_of<S, D>(plan: &hb_ot_shape_plan_t<'_, S, TestMap, D>) -> [u32; 6] {
+    [
+        plan.frac_mask(),
+        plan.numr_mask(),
+        plan.dnom_mask(),
+        plan.rtlm_mask(),
+        plan.kern_mask(),
+        plan.trak_mask(),
+    ]
+}
+
+/// What follows of them: whether there are fractions, `vert`, marks of `GPOS`, kerning and tracking.
+fn followed<S, D>(plan: &hb_ot_shape_plan_t<'_, S, TestMap, D>) -> [bool; 5] {
+    [
+        plan.has_frac(),
+        plan.has_vert(),
+        plan.has_gpos_mark(),
+        plan.requested_kerning(),
+        plan.apply_trak(),
+    ]
+}
+
+/// Prints the masks of a plan, and what follows of them.
+pub fn print_masks<S, D>(rt: &impl Host, plan: &hb_ot_shape_plan_t<'_, S, TestMap, D>) -> String {
     plan.masks_are_features();
     plan.positions_by_one_table();
-}
-
-#[test]
-fn masks(rt: HostRuntime) -> Result<(), Fail> {
-    for (bits, mask, tracked) in [
-        (0, 0, false),
-        (MASKS, 8, false),
-        (MASKS | TRAK, 8, true),
-        (TRAK, 0, false),
-    ] {
-        let face = face_with(bits);
-        let plan = planned(rt.alloc(), &face, &DEFAULT_SHAPER, Direction::LeftToRight)?;
-        assert_masks(&rt, &plan, mask, tracked);
+    let mut found = String::new(rt.alloc());
+    for mask in masks_of(plan) {
+        write!(found, " {mask}").expect(rt, "memory");
     }
-    Ok(())
+    for holds in followed(plan) {
+        write!(found, " {holds}").expect(rt, "memory");
+    }
+    found
 }
 
-fn latin() -> Option<Script> {
-    Some(Script(hb_tag_t::from_bytes(b"Latn")))
-}
-
-/// A plan for texts in Latin by a script's shaper, with the user's features.
-fn planned_for_latin<'a>(
-    alloc: Global,
-    face: &'a TestFace<'static>,
-    features: &[Feature],
-) -> Result<Plan<'a, ScriptShaper>, Fail> {
-    let plan = hb_ot_shape_plan_t::new::<PlainUnicode, TestFace<'static>, TestLayout>(
-        alloc,
-        face,
-        &ScriptShaper,
-        Direction::LeftToRight,
-        latin(),
-        None,
-        features,
-    )?;
-    Ok(plan)
-}
-
-/// Compares of a letter whether the plan fits it: without a script, with it, and in the other direction.
-fn assert_fits(rt: &impl Abort, alloc: Global, plan: &Plan<'_, ScriptShaper>) -> Result<(), Fail> {
-    let mut text = UnicodeBuffer::new(alloc);
-    text.add('a', 0)?;
-    assert_that(rt, !plan.fits::<PlainUnicode>(&text));
-    text.set_script(latin());
-    text.set_direction(Direction::LeftToRight);
-    assert_that(rt, plan.fits::<PlainUnicode>(&text));
-    text.set_direction(Direction::RightToLeft);
-    assert_that(rt, !plan.fits::<PlainUnicode>(&text));
-    Ok(())
-}
-
-/// A plan has what it was asked for, a copy of the user's features, and the data of its shaper.
 #[test]
-fn parts(rt: HostRuntime) -> Result<(), Fail> {
-    let alloc = rt.alloc();
-    let liga = Feature {
-        tag: hb_tag_t::from_bytes(b"liga"),
-        value: 2,
-        start: 1,
-        end: 3,
-    };
-    let (plain, morx) = (face_with(0), face_with(MORX));
-    let plan = planned_for_latin(alloc, &plain, &[liga, liga])?;
-    assert_same(
+fn masks(rt: HostRuntime) {
+    check(
         &rt,
-        (plan.direction(), plan.script()),
-        (Direction::LeftToRight, latin()),
+        "masks default plain ltr -> 0 0 0 0 0 0 false false false false false\n\
+         masks default masks ltr -> 8 8 8 8 8 8 true true true true false\n\
+         masks default masks+trak ltr -> 8 8 8 8 8 8 true true true true true\n\
+         masks default trak ltr -> 0 0 0 0 0 0 false false false false false",
     );
-    assert_same(&rt, plan.user_features(), [liga, liga].as_slice());
-    assert_same(&rt, plan.data().copied(), Some(2));
-    let replaced = planned_for_latin(alloc, &morx, &[liga])?;
-    assert_that(&rt, replaced.data().is_none());
-    assert_fits(&rt, alloc, &plan)
+}
+
+pub fn latin(rt: &impl Host) -> Option<Script> {
+    Some(Script(tag_of(rt, "Latn")))
+}
+
+/// Whether a plan fits a letter: without a script, in Latin, and in the other direction.
+fn fits<S, D>(rt: &impl Host, plan: &hb_ot_shape_plan_t<'_, S, TestMap, D>) -> [bool; 3] {
+    let mut text = UnicodeBuffer::new(rt.alloc());
+    text.add('a', 0).expect(rt, "memory");
+    let bare = plan.fits::<PlainUnicode>(&text);
+    text.set_script(latin(rt));
+    text.set_direction(Direction::LeftToRight);
+    let whole = plan.fits::<PlainUnicode>(&text);
+    text.set_direction(Direction::RightToLeft);
+    [bare, whole, plan.fits::<PlainUnicode>(&text)]
+}
+
+/// Compares a plan for Latin with what it was asked for, and prints whether it fits the letter.
+pub fn print_parts<S, D>(
+    rt: &impl Host,
+    plan: &hb_ot_shape_plan_t<'_, S, TestMap, D>,
+    features: &[Feature],
+) -> String {
+    assert_same(rt, plan.direction(), Direction::LeftToRight);
+    assert_same(rt, plan.script(), latin(rt));
+    assert_same(rt, plan.user_features(), features);
+    let mut found = String::new(rt.alloc());
+    for holds in fits(rt, plan) {
+        write!(found, " {holds}").expect(rt, "memory");
+    }
+    found
+}
+
+/// A plan has what it was asked for, a copy of the user's features, and the data of its shaper, which counts them.
+#[test]
+fn parts(rt: HostRuntime) {
+    check(
+        &rt,
+        "parts script plain ltr liga[1:3]=2 liga[1:3]=2 -> false true false\n\
+         data script plain ltr liga[1:3]=2 liga[1:3]=2 -> Some(2)\n\
+         data script morx ltr liga[1:3]=2 -> None",
+    );
 }

@@ -1,0 +1,117 @@
+//! What all tests share: cases as rows of text, and the words of such rows.
+//!
+//! A row is `CASE -> ANSWER`. A test prints what it found for the case, and compares that with the answer as text. So a
+//! test brings text alone, and one function reads, runs and compares: the proof of a test takes time for each row that
+//! is code, and none for a line of text. Words are parted by one space, and numbers are hexadecimal where nothing
+//! else is said. What can't be read ends the test, and so does a text without rows.
+use shape_buffer::buffer::{Direction, Feature, hb_buffer_t, hb_glyph_info_t, hb_tag_t};
+use std::alloc::{AllocError, Global};
+use std::fmt::Debug;
+use std::process::Abort;
+
+/// What a test is handed: memory, and an end where something isn't as it should be.
+pub trait Host: Abort + Alloc<A = Global> {}
+
+impl<R: Abort + Alloc<A = Global>> Host for R {}
+
+/// Asserts that two values are the same.
+pub fn assert_same<T: Copy + PartialEq + Debug>(rt: &impl Host, found: T, wanted: T) {
+    assert_eq!(rt; found, wanted);
+}
+
+/// Compares what was found for a case with the answer of its row; both begin with a space.
+pub fn assert_answer(rt: &impl Host, case: &str, found: &str, wanted: &str) {
+    assert_eq!(rt; found, wanted, "{case}");
+}
+
+/// Runs each row's case, and compares what it gives with the row's answer. Each word that it gives has a space
+/// before it.
+pub fn check_rows<R: Host, F: FnMut(&str) -> String>(rt: &R, rows: &str, mut answer: F)
+    requires { F.IsAlwaysCallable answer }
+{
+    assert!(rt; !rows.is_empty());
+    for row in rows.lines() {
+        let (case, wanted) = row.split_once(" ->").expect(rt, "a row `CASE -> ANSWER`");
+        let found = answer(case);
+        assert_answer(rt, case, found.as_str(), wanted);
+    }
+}
+
+/// Ends the test at a word that says nothing.
+pub fn unknown(rt: &impl Host, word: &str) -> ! {
+    panic!(rt; "unknown word {word}")
+}
+
+/// The first word of a case, and the others.
+pub fn first_word<'a>(rt: &impl Host, case: &'a str) -> (&'a str, &'a str) {
+    case.split_once(' ').expect(rt, "one more word")
+}
+
+/// The number that up to eight hexadecimal digits write.
+pub fn hex(rt: &impl Host, word: &str) -> u32 {
+    assert!(rt; !word.is_empty() && word.len() <= 8);
+    let mut number: u32 = 0;
+    for c in word.chars() {
+        let digit = c.to_digit(16).expect(rt, "a hexadecimal digit");
+        number = number.wrapping_mul(16).wrapping_add(digit);
+    }
+    number
+}
+
+/// The direction that a word of three letters names: `ltr`, `rtl`, `ttb` or `btt`.
+pub fn direction_of(rt: &impl Host, word: &str) -> Direction {
+    match word {
+        "ltr" => Direction::LeftToRight,
+        "rtl" => Direction::RightToLeft,
+        "ttb" => Direction::TopToBottom,
+        "btt" => Direction::BottomToTop,
+        _ => unknown(rt, word),
+    }
+}
+
+/// The tag that four letters write.
+pub fn tag_of(rt: &impl Host, letters: &str) -> hb_tag_t {
+    match letters.as_bytes() {
+        [a, b, c, d] => hb_tag_t::from_bytes(&[*a, *b, *c, *d]),
+        _ => unknown(rt, letters),
+    }
+}
+
+/// The feature of a word `TAG[START:END]=VALUE`.
+fn feature_of(rt: &impl Host, word: &str) -> Feature {
+    let (letters, range) = word.split_once('[').expect(rt, "a feature's range");
+    let (range, value) = range.split_once("]=").expect(rt, "a feature's value");
+    let (start, end) = range.split_once(':').expect(rt, "where a range ends");
+    Feature {
+        tag: tag_of(rt, letters),
+        value: hex(rt, value),
+        start: hex(rt, start),
+        end: hex(rt, end),
+    }
+}
+
+/// The features that words write.
+pub fn features_of(rt: &impl Host, words: &str) -> Result<Vec<Feature>, AllocError> {
+    let mut features = Vec::new(rt.alloc());
+    for word in words.split_whitespace() {
+        features.push(feature_of(rt, word))?;
+    }
+    Ok(features)
+}
+
+/// A buffer in a direction, of these items.
+pub fn buffer_of(rt: &impl Host, direction: Direction, infos: Vec<hb_glyph_info_t>) -> hb_buffer_t {
+    let mut buffer = hb_buffer_t::new(rt.alloc());
+    buffer.replace_infos(infos).expect(rt, "memory");
+    buffer.set_direction(direction);
+    buffer
+}
+
+/// Prints each glyph as `GLYPH@CLUSTER/MASK`.
+pub fn print_glyphs(infos: &[hb_glyph_info_t], found: &mut String) -> Result<(), AllocError> {
+    for info in infos {
+        let (glyph, cluster, mask) = (info.glyph_id, info.cluster, info.mask);
+        write!(found, " {glyph:X}@{cluster:X}/{mask:X}")?;
+    }
+    Ok(())
+}

@@ -1,0 +1,157 @@
+//! Faces and texts, read from words.
+//!
+//! A world is a face whose every character has the glyph of its own number, and its stages of substitution in order. Its
+//! words are these, each number a glyph, a mask or a count in hexadecimal:
+//!
+//! | word | says |
+//! |---|---|
+//! | `A>B` | B in place of A |
+//! | `A>B,C` | B and C in place of A |
+//! | `A,B>C` | C in place of A and B |
+//! | `A>B/MASK` | the same, where the feature of that mask is on |
+//! | `+N` | N is added to each glyph |
+//! | `STAGE*COUNT` | so many such stages |
+//! | `pause=N` | pause N after the first stage |
+//! | `fractions`, `classes` | the face has lookups for fractions, classes of glyphs |
+//! | `morx`, `gpos` | the face has this table besides `GSUB` |
+use crate::rows::{Host, direction_of, hex, unknown};
+use shape_buffer::buffer::{BufferClusterLevel, BufferFlags, ShapeError, UnicodeBuffer};
+use shape_buffer::interfaces::hb_tables_t;
+use std::alloc::AllocError;
+use test_worlds::{Ligature, Multiple, Single, Stage, TestFace};
+
+/// The stage of a word.
+fn stage_of(rt: &impl Host, word: &str) -> Stage {
+    if let Some(number) = word.strip_prefix('+') {
+        return Stage::Add(hex(rt, number));
+    }
+    let (rule, mask) = word.split_once('/').unwrap_or((word, "0"));
+    let (from, to) = rule.split_once('>').expect(rt, "a rule");
+    let feature = hex(rt, mask);
+    if let Some((first, second)) = to.split_once(',') {
+        Stage::Multiple(Multiple {
+            feature,
+            from: hex(rt, from),
+            first: hex(rt, first),
+            second: hex(rt, second),
+        })
+    } else if let Some((first, second)) = from.split_once(',') {
+        Stage::Ligature(Ligature {
+            feature,
+            first: hex(rt, first),
+            second: hex(rt, second),
+            into: hex(rt, to),
+        })
+    } else {
+        Stage::Single(Single {
+            feature,
+            from: hex(rt, from),
+            to: hex(rt, to),
+        })
+    }
+}
+
+/// Whether a word of a world says a stage.
+fn is_stage(word: &str) -> bool {
+    word.starts_with('+') || word.contains('>')
+}
+
+/// The stages of a world.
+pub fn stages_of(rt: &impl Host, world: &str) -> Result<Vec<Stage>, AllocError> {
+    let mut stages = Vec::new(rt.alloc());
+    for word in world.split_whitespace() {
+        if is_stage(word) {
+            let (word, count) = word.split_once('*').unwrap_or((word, "1"));
+            for _ in 0..hex(rt, count) {
+                stages.push(stage_of(rt, word))?;
+            }
+        }
+    }
+    Ok(stages)
+}
+
+/// Says of a face what a word of its world says, if that is no stage.
+fn describe(rt: &impl Host, word: &str, face: &mut TestFace<'_>) {
+    match word {
+        "fractions" => face.fractions = true,
+        "classes" => face.classes = true,
+        "morx" => face.tables.morx = true,
+        "gpos" => face.tables.gpos = true,
+        _ => match word.strip_prefix("pause=") {
+            Some(number) => face.pause = Some(hex(rt, number)),
+            None if is_stage(word) => {}
+            None => unknown(rt, word),
+        },
+    }
+}
+
+/// The face of a world with these stages.
+pub fn face_of<'a>(rt: &impl Host, world: &str, stages: &'a [Stage]) -> TestFace<'a> {
+    let mut face = TestFace::ruled(stages);
+    for word in world.split_whitespace() {
+        describe(rt, word, &mut face);
+    }
+    face
+}
+
+/// Sets of a text what a word of its manner says.
+fn set_manner(rt: &impl Host, word: &str, text: &mut UnicodeBuffer) {
+    match word {
+        "monotone-characters" => text.set_cluster_level(BufferClusterLevel::MonotoneCharacters),
+        "characters" => text.set_cluster_level(BufferClusterLevel::Characters),
+        "concat" => text.set_flags(BufferFlags::PRODUCE_UNSAFE_TO_CONCAT),
+        _ => text.set_direction(direction_of(rt, word)),
+    }
+}
+
+/// Appends characters, whose clusters are byte offsets from one on, and tells the offset after them.
+fn append(buffer: &mut UnicodeBuffer, text: &str, begin: u32) -> Result<u32, ShapeError> {
+    let mut cluster = begin;
+    for c in text.chars() {
+        buffer.add(c, cluster)?;
+        cluster = cluster.saturating_add(c.len_utf8() as u32);
+    }
+    Ok(cluster)
+}
+
+/// Appends a part of a text: `CHARACTERS`, `CHARACTERS@CLUSTER` or `CHARACTERS*COUNT`; clusters are byte offsets from
+/// that cluster on, or from the end of the part before.
+fn append_part(
+    rt: &impl Host,
+    buffer: &mut UnicodeBuffer,
+    part: &str,
+    end: u32,
+) -> Result<u32, ShapeError> {
+    let (part, count) = part.split_once('*').unwrap_or((part, "1"));
+    let (characters, begin) = part.split_once('@').unwrap_or((part, ""));
+    let mut cluster = if begin.is_empty() {
+        end
+    } else {
+        hex(rt, begin)
+    };
+    for _ in 0..hex(rt, count) {
+        cluster = append(buffer, characters, cluster)?;
+    }
+    Ok(cluster)
+}
+
+/// Appends the parts of a text, which commas part.
+pub fn fill(rt: &impl Host, buffer: &mut UnicodeBuffer, text: &str) -> Result<(), ShapeError> {
+    let mut end = 0;
+    for part in text.split(',') {
+        end = append_part(rt, buffer, part, end)?;
+    }
+    Ok(())
+}
+
+/// A text in a manner: a direction, and perhaps, parted by commas, the level `monotone-characters` or `characters`
+/// in place of that of graphemes, and `concat` to mark what is unsafe to concat.
+pub fn text_of(rt: &impl Host, manner: &str, text: &str) -> Result<UnicodeBuffer, ShapeError> {
+    let mut buffer = UnicodeBuffer::new(rt.alloc());
+    fill(rt, &mut buffer, text)?;
+    buffer.set_cluster_level(BufferClusterLevel::MonotoneGraphemes);
+    for word in manner.split(',') {
+        set_manner(rt, word, &mut buffer);
+    }
+    Ok(buffer)
+}
