@@ -1,10 +1,11 @@
 //! Lists of texts over the whole database of Unicode, as a run prepares and normalises them, by shapers with a
 //! preference for a mode.
 
-use crate::listing::{Case, World, characters_of, face_over, passed, text_in, text_of};
+use crate::answers::{normalised, planned, prepared, shaped};
+use crate::listing::{Case, World, characters_of, face_over, text_in, text_of};
 use crate::printing::{printed_items, printed_list};
 use crate::runs;
-use crate::texts::{PLAINLY, normalised, planned, prepared, shaped};
+use crate::texts::PLAINLY;
 use shape_buffer::buffer::{Script, UnicodeBuffer, hb_buffer_t, hb_tag_t};
 use shape_buffer::interfaces::NoLookups;
 use shape_pipeline::ot_shaper::{
@@ -83,11 +84,11 @@ where
     S: hb_ot_shaper_t<UnicodeDatabase, TestFace<'a>, NoLookups, Data = ()>,
 {
     match step {
-        "prepare" => passed(rt, prepared(rt.alloc(), face, shaper, text)),
-        "normalise" => passed(rt, normalised(rt.alloc(), face, shaper, text)),
+        "prepare" => prepared(rt, (face, shaper), text),
+        "normalise" => normalised(rt, (face, shaper), text),
         "hebrew" => {
             text.set_script(Some(Script(hb_tag_t::from_bytes(b"Hebr"))));
-            passed(rt, prepared(rt.alloc(), face, shaper, text))
+            prepared(rt, (face, shaper), text)
         }
         _ => rt.panic(step),
     }
@@ -103,7 +104,7 @@ fn shaped_items<'a, S>(
 where
     S: hb_ot_shaper_t<UnicodeDatabase, TestFace<'a>, NoLookups, Data = ()>,
 {
-    let glyphs = passed(rt, shaped(rt.alloc(), face, shaper, text_of(rt, case)));
+    let glyphs = shaped(rt, (face, shaper), text_of(rt, case));
     printed_items(rt.alloc(), glyphs, case.wanted).expect(rt, "memory")
 }
 
@@ -133,7 +134,7 @@ where
 {
     let (first, second) = case.text.split_once('/').expect(rt, case.text);
     let text = text_in(rt, PLAINLY, first).expect(rt, "memory");
-    let plan = passed(rt, planned(rt.alloc(), face, shaper, &text));
+    let plan = planned(rt, (face, shaper), &text);
     let mut a = spelled(rt, face, shaper, first);
     let mut b = spelled(rt, face, shaper, second);
     let same = runs::are_alike::<UnicodeDatabase, TestFace<'a>, NoLookups, S>(

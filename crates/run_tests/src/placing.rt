@@ -1,9 +1,10 @@
 //! Glyphs of whole runs, with clusters, positions and flags, over the whole database of Unicode.
 
+use crate::answers::shaped;
 use crate::comparing::{assert_same, assert_that};
-use crate::listing::{Case, World, assert_answer, check, face_of, passed, text_of};
+use crate::listing::{Case, World, assert_answer, check, face_of, text_of};
 use crate::printing::{glyphs_printed, printed_glyphs};
-use crate::texts::{guess, shaped};
+use crate::texts::guess;
 use shape_buffer::buffer::{
     BufferFlags, GlyphBuffer, GlyphId, ScratchFlags, UnicodeBuffer, hb_buffer_t, hb_glyph_info_t,
 };
@@ -28,7 +29,7 @@ fn shaped_over(
     text: UnicodeBuffer,
 ) -> GlyphBuffer {
     let face = face_of(rt, case.settings.face).expect(rt, "memory");
-    passed(rt, shaped(rt.alloc(), &face, &DEFAULT_SHAPER, text))
+    shaped(rt, (&face, &DEFAULT_SHAPER), text)
 }
 
 #[test]
