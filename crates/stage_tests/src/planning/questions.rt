@@ -116,22 +116,22 @@ where
     }
 }
 
-/// The answer to a case. The shapers are named here alone: a function that names one takes long to prove, whatever
-/// it does.
-fn answer(rt: &impl Host, case: &str) -> String {
-    let (question, case) = first_word(rt, case);
-    let (word, case) = first_word(rt, case);
-    let (face, case) = first_word(rt, case);
-    let (direction, features) = case.split_once(' ').unwrap_or((case, ""));
-    let (face, direction) = (face_with(bits_of(rt, face)), direction_of(rt, direction));
-    let features = features_of(rt, features).expect(rt, "memory");
-    let features = features.as_slice();
+/// The answer to a question about a shaper by its name. The shapers are named here alone: a function that names one
+/// takes long to prove, whatever it does.
+fn ask_by_name(
+    rt: &impl Host,
+    question: &str,
+    word: &str,
+    face: &TestFace<'static>,
+    direction: Direction,
+    features: &[Feature],
+) -> String {
     match word {
         "default" => ask(
             rt,
             question,
             (&DEFAULT_SHAPER, word),
-            &face,
+            face,
             direction,
             features,
         ),
@@ -139,7 +139,7 @@ fn answer(rt: &impl Host, case: &str) -> String {
             rt,
             question,
             (&WishingShaper::new(), word),
-            &face,
+            face,
             direction,
             features,
         ),
@@ -147,7 +147,7 @@ fn answer(rt: &impl Host, case: &str) -> String {
             rt,
             question,
             (&ScriptShaper, word),
-            &face,
+            face,
             direction,
             features,
         ),
@@ -155,12 +155,23 @@ fn answer(rt: &impl Host, case: &str) -> String {
             rt,
             question,
             (&DUMBER_SHAPER, word),
-            &face,
+            face,
             direction,
             features,
         ),
         _ => unknown(rt, word),
     }
+}
+
+/// The answer to a case.
+fn answer(rt: &impl Host, case: &str) -> String {
+    let (question, case) = first_word(rt, case);
+    let (word, case) = first_word(rt, case);
+    let (face, case) = first_word(rt, case);
+    let (direction, features) = case.split_once(' ').unwrap_or((case, ""));
+    let (face, direction) = (face_with(bits_of(rt, face)), direction_of(rt, direction));
+    let features = features_of(rt, features).expect(rt, "memory");
+    ask_by_name(rt, question, word, &face, direction, features.as_slice())
 }
 
 /// Asks the cases of rows.

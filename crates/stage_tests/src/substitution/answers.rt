@@ -188,8 +188,24 @@ where
     }
 }
 
-/// What a case over a world shows, or none if it was refused and left what it should. The two shapers are named here
-/// alone: a function that names one takes long to prove, whatever it does.
+/// The same by a shaper's name. The two shapers are named here alone: a function that names one takes long to prove,
+/// whatever it does.
+fn look_by_name(
+    rt: &impl Host,
+    shaper: &str,
+    look: (&str, &str),
+    face: &TestFace<'_>,
+    features: &[Feature],
+    text: (&str, &str),
+) -> Result<Option<String>, ShapeError> {
+    match shaper {
+        "default" => look_or_refused(rt, look, face, &DEFAULT_SHAPER, features, text),
+        "doubling" => look_or_refused(rt, look, face, &DoublingShaper, features, text),
+        _ => unknown(rt, shaper),
+    }
+}
+
+/// What a case over a world shows, or none if it was refused and left what it should.
 pub fn shown(
     rt: &impl Host,
     face: &TestFace<'_>,
@@ -201,12 +217,14 @@ pub fn shown(
     let (manner, case) = first_word(rt, case);
     let (text, features) = case.split_once(' ').unwrap_or((case, ""));
     let features = features_of(rt, features)?;
-    let (look, text, features) = ((word, wanted), (manner, text), features.as_slice());
-    match shaper {
-        "default" => look_or_refused(rt, look, face, &DEFAULT_SHAPER, features, text),
-        "doubling" => look_or_refused(rt, look, face, &DoublingShaper, features, text),
-        _ => unknown(rt, shaper),
-    }
+    look_by_name(
+        rt,
+        shaper,
+        (word, wanted),
+        face,
+        features.as_slice(),
+        (manner, text),
+    )
 }
 
 /// What a case shows, if nothing is refused.

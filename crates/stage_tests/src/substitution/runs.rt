@@ -49,6 +49,48 @@ pub fn within_limit(buffer: &hb_buffer_t) -> Result<(), ShapeError>
     Ok(())
 }
 
+/// Sets the masks of a list.
+fn set_masks<'b, S>(
+    plan: &hb_ot_shape_plan_t<'_, S, TestMap, ()>,
+    face: &TestFace<'b>,
+    buffer: &mut hb_buffer_t,
+) -> Result<(), ShapeError>
+where
+    S: hb_ot_shaper_t<SmallUnicode, TestFace<'b>, TestLayout, Data = ()>,
+{
+    within_limit(buffer)?;
+    setup_masks::<With<'b, S>>(plan, face, buffer);
+    Ok(())
+}
+
+/// Sets the glyphs of a list.
+fn set_glyphs<'b, S>(
+    plan: &hb_ot_shape_plan_t<'_, S, TestMap, ()>,
+    face: &TestFace<'b>,
+    buffer: &mut hb_buffer_t,
+) -> Result<(), ShapeError>
+where
+    S: hb_ot_shaper_t<SmallUnicode, TestFace<'b>, TestLayout, Data = ()>,
+{
+    within_limit(buffer)?;
+    setup_glyphs::<With<'b, S>>(plan, face, buffer);
+    Ok(())
+}
+
+/// Runs the stages over a list, or tells why they are refused. An error tells that they weren't reached.
+fn run_stages<'b, S>(
+    alloc: Global,
+    plan: &hb_ot_shape_plan_t<'_, S, TestMap, ()>,
+    face: &TestFace<'b>,
+    buffer: &mut hb_buffer_t,
+) -> Result<Result<(), ShapeError>, ShapeError>
+where
+    S: hb_ot_shaper_t<SmallUnicode, TestFace<'b>, TestLayout, Data = ()>,
+{
+    within_limit(buffer)?;
+    Ok(substitute::<With<'b, S>>(alloc, plan, face, buffer))
+}
+
 /// A text whose masks were 0, with those of features, and not normalised.
 pub fn bare<'b, S>(
     alloc: Global,
@@ -62,8 +104,7 @@ where
 {
     let plan = planned(alloc, face, shaper, features, text.direction())?;
     let mut buffer = text.into_inner();
-    within_limit(&buffer)?;
-    setup_masks::<With<'b, S>>(&plan, face, &mut buffer);
+    set_masks(&plan, &*face, &mut buffer)?;
     Ok(buffer)
 }
 
@@ -109,8 +150,7 @@ where
     S: hb_ot_shaper_t<SmallUnicode, TestFace<'b>, TestLayout, Data = ()>,
 {
     let mut buffer = normalised(alloc, plan, face, text)?;
-    within_limit(&buffer)?;
-    setup_masks::<With<'b, S>>(plan, face, &mut buffer);
+    set_masks(plan, face, &mut buffer)?;
     Ok(buffer)
 }
 
@@ -127,9 +167,8 @@ where
 {
     let plan = planned(alloc, face, shaper, features, text.direction())?;
     let mut buffer = masked(alloc, &plan, &*face, text)?;
-    within_limit(&buffer)?;
-    setup_glyphs::<With<'b, S>>(&plan, face, &mut buffer);
-    let answer = substitute::<With<'b, S>>(alloc, &plan, face, &mut buffer);
+    set_glyphs(&plan, &*face, &mut buffer)?;
+    let answer = run_stages(alloc, &plan, &*face, &mut buffer)?;
     Ok(answer.map(|()| buffer))
 }
 
@@ -144,8 +183,7 @@ where
     S: hb_ot_shaper_t<SmallUnicode, TestFace<'b>, TestLayout, Data = ()>,
 {
     let plan = planned(alloc, face, shaper, &[], buffer.direction())?;
-    within_limit(&buffer)?;
-    setup_glyphs::<With<'b, S>>(&plan, face, &mut buffer);
+    set_glyphs(&plan, &*face, &mut buffer)?;
     Ok(buffer)
 }
 
