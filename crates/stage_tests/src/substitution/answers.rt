@@ -206,11 +206,11 @@ fn look_by_name(
 }
 
 /// What a case over a world shows, or none if it was refused and left what it should.
-pub fn shown(
+pub fn shown<'a>(
     rt: &impl Host,
     face: &TestFace<'_>,
-    case: &str,
-    wanted: &str,
+    case: &'a str,
+    wanted: &'a str,
 ) -> Result<Option<String>, ShapeError> {
     let (word, case) = first_word(rt, case);
     let (word, shaper) = word.split_once('/').unwrap_or((word, "default"));
