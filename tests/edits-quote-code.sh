@@ -21,6 +21,10 @@ stands_beside_code() {
 }
 
 edits=$(ls crates/*/must-fail/*.edit tests/bodies/*/*.edit)
+if grep -L '^# fn: ' $edits | grep .; then
+    echo "a wrong body doesn't name the function that must be refused"
+    exit 1
+fi
 if grep -nE '^new:.*\b(ensures|requires|ghost|invariant|decreases|unfolding|using)\b' $edits; then
     echo "a wrong body brings in a clause"
     exit 1

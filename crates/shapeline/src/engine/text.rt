@@ -1,5 +1,5 @@
 //! The line `text C ..`: shapes the characters, and prints what became of them.
-ghost use Rattle.std.specs.Prelude.{◌≡◌, [], IfOk, IsOkUnless};
+ghost use Rattle.std.specs.Prelude.{◌≡◌, ◌≢◌, [], IfOk, IsOkUnless};
 ghost use Rattle.std.specs.Option.{SomeIff};
 ghost use Rattle.shape_items.specs.Buffer.{new_buffer};
 ghost use Rattle.shape_buffer.specs.Text.{items_from};
@@ -9,8 +9,9 @@ ghost use Rattle.shape_sessions.specs.Words.{words as words_of};
 
 use crate::engine::answers;
 use crate::engine::shapers::{ShaperTask, with_shaper};
-use shape_buffer::buffer::{ShapeError, UnicodeBuffer};
+use shape_buffer::buffer::{Direction, ShapeError, UnicodeBuffer, hb_buffer_t};
 use shape_buffer::interfaces::{MapFace, NoLookups};
+use shape_pipeline::ot_shape_plan::hb_ot_shape_plan_t;
 use shape_pipeline::ot_shaper::hb_ot_shaper_t;
 use shape_sessions::outcome::Outcome;
 use shape_sessions::parse::{Words, character};
@@ -115,8 +116,8 @@ fn lines(alloc: Global, face: &MapFace, manner: Manner, words: Words) -> Result<
     )
 }
 
-/// A text whose lists are asked for, under a plan of its own, and the same text again, whose glyphs are: a
-/// run to the end leaves no list before the last one.
+/// A text whose lists are asked for, and the same text again, whose glyphs are: a run to the end leaves no list
+/// before the last one.
 struct Answering<'a> {
     alloc: Global,
     face: &'a MapFace,
@@ -134,19 +135,60 @@ impl ShaperTask for Answering<'_> {
         let Answering {
             alloc,
             face,
-            mut text,
-            mut again,
+            text,
+            again,
         } = self;
-        let plan = answers::planned(alloc, face, shaper, &mut text)?;
-        let mut lines = String::new(alloc);
-        let mut buffer = text.into_inner();
-        answers::prepare(alloc, &plan, face, &mut buffer)?;
-        append_items(&mut lines, "prepared", buffer.infos())?;
-        answers::normalize(alloc, &plan, face, &mut buffer)?;
-        append_items(&mut lines, "normal", buffer.infos())?;
-        let plan = answers::planned(alloc, face, shaper, &mut again)?;
-        let glyphs = answers::shape(alloc, &plan, face, again)?;
-        append_glyphs(&mut lines, glyphs.glyph_infos(), glyphs.glyph_positions())?;
-        Ok(lines)
+        let lists = listed(alloc, face, shaper, text)?;
+        shaped(alloc, face, shaper, again, lists)
     }
+}
+
+/// The lists of a text, prepared and normalised under a plan of its own.
+fn listed<S>(
+    alloc: Global,
+    face: &MapFace,
+    shaper: &S,
+    mut text: UnicodeBuffer,
+) -> Result<String, ShapeError>
+where
+    S: hb_ot_shaper_t<UnicodeTables, MapFace, NoLookups>,
+{
+    let plan = answers::planned(alloc, face, shaper, &mut text)?;
+    listed_under(alloc, &plan, face, text.into_inner())
+}
+
+/// The lists of the text of a buffer, prepared and normalised under a plan.
+fn listed_under<S>(
+    alloc: Global,
+    plan: &hb_ot_shape_plan_t<'_, S, (), S::Data>,
+    face: &MapFace,
+    mut buffer: hb_buffer_t,
+) -> Result<String, ShapeError>
+where
+    S: hb_ot_shaper_t<UnicodeTables, MapFace, NoLookups>,
+    requires { buffer.direction ≢ Direction.Invalid }
+{
+    let mut lines = String::new(alloc);
+    answers::prepare(alloc, plan, face, &mut buffer)?;
+    append_items(&mut lines, "prepared", buffer.infos())?;
+    answers::normalize(alloc, plan, face, &mut buffer)?;
+    append_items(&mut lines, "normal", buffer.infos())?;
+    Ok(lines)
+}
+
+/// Lines, with the glyphs of a text behind them, shaped under a plan of its own.
+fn shaped<S>(
+    alloc: Global,
+    face: &MapFace,
+    shaper: &S,
+    mut text: UnicodeBuffer,
+    mut lines: String,
+) -> Result<String, ShapeError>
+where
+    S: hb_ot_shaper_t<UnicodeTables, MapFace, NoLookups>,
+{
+    let plan = answers::planned(alloc, face, shaper, &mut text)?;
+    let glyphs = answers::shape(alloc, &plan, face, text)?;
+    append_glyphs(&mut lines, glyphs.glyph_infos(), glyphs.glyph_positions())?;
+    Ok(lines)
 }
