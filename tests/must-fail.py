@@ -5,8 +5,8 @@
 
 They stand in crates/CRATE/must-fail (the gate's) and in tests/bodies/CRATE (tried with --all, or by name). Each is a must-fail edit
 of the kit (`file:`, `old:`, `new:`, each old text standing once in its file), with a line `# fn:` that names the function which
-must be refused, by its path below the crate, as a check prints it. Where a law of an impl is what refuses it, `# law:` names the
-file of that.
+must be refused, by its path below the crate, as a check prints it. Where a fact computed over a whole table is what refuses
+it, `# law:` names the file of that fact.
 
 `rt must-fail` tries one edit at a time, over a second proof of the whole crate. Here all edits of a crate in functions of their
 own are put in at once, these functions and what they call are checked, and of each it is read that a goal of its own body is
@@ -31,7 +31,7 @@ KIT = pathlib.Path(shutil.which("rt") or sys.exit("no rt")).resolve().parents[1]
 
 
 class Edit:
-    """A wrong body: the texts that it replaces, and the function or law that must be refused for it."""
+    """A wrong body: the texts that it replaces, the function that must be refused for it, and the file of the law that it breaks."""
 
     def __init__(self, crate, path):
         self.crate, self.name = crate, path.stem
