@@ -3,18 +3,18 @@
 
     tests/must-fail.py [--built DIR] [--all] [CRATE or CRATE/NAME ..]
 
-They stand in crates/CRATE/must-fail (the gate's) and in tests/bodies/CRATE (tried with --all, or by name). Each is a must-fail edit
-of the kit (`file:`, `old:`, `new:`, each old text standing once in its file), with a line `# fn:` that names the function which
-must be refused, by its path below the crate, as a check prints it. Where a fact computed over a whole table is what refuses
-it, `# law:` names the file of that fact.
+They stand in crates/CRATE/must-fail (the gate's) and in tests/bodies/CRATE (tried with --all, or by name). Each is a must-fail
+edit of the kit (`file:`, `old:`, `new:`, each old text standing once in its file), with a line `# fn:` that names the function
+which must be refused, by its path below the crate, as a check prints it. Where a fact computed over a whole table is what
+refuses it, `# law:` names the file of that fact.
 
-`rt must-fail` tries one edit at a time, over a second proof of the whole crate. Here all edits of a crate in functions of their
-own are put in at once, these functions and what they call are checked, and of each it is read that a goal of its own body is
-open. A function that calls a refused one says no more than that: its edit is tried again, without the other. So is one that
-can't be read beside others. A proof that names what an edit took away shows nothing, and doesn't count.
+`rt must-fail` tries one edit at a time, over a second proof of the whole crate. Here all edits of a crate in functions of
+their own are put in at once, these functions and what they call are checked, and of each it is read that a goal of its own
+body is open. What isn't refused so, since it only calls a refused one, say, is tried again without those that were. A proof
+that names what an edit took away shows nothing, and doesn't count.
 
-The libraries below have to stand built, as `rt ci` leaves them, in DIR if it is given. Status 0 says that each edit was refused.
-RT_JOBS sets how many checks run side by side; each takes 1 to 3 GB.
+The libraries below have to stand built, as `rt ci` leaves them, in DIR if it is given. Status 0 says that each edit was
+refused. RT_JOBS sets how many checks run side by side; each takes 1 to 3 GB.
 """
 import argparse
 import concurrent.futures
@@ -31,7 +31,7 @@ KIT = pathlib.Path(shutil.which("rt") or sys.exit("no rt")).resolve().parents[1]
 
 
 class Edit:
-    """A wrong body: the texts that it replaces, the function that must be refused for it, and the file of the law that it breaks."""
+    """A wrong body: the texts that it replaces, the function that must be refused for it, and the file of the fact, if any."""
 
     def __init__(self, crate, path):
         self.crate, self.name = crate, path.stem
@@ -124,19 +124,19 @@ def open_goals(edit, room, said):
 
 
 def verdict(edit, room, said):
-    """Whether a check refuses an edit, and why; None if the check can't tell."""
+    """Whether a check refuses an edit, and why."""
+    if not re.search(r"(?m)^only=\d+ proved=\d+$", said):
+        return False, f"the check came to no end: {said[:1000]}"
     line = re.search(rf"(?m)^fn {re.escape(edit.crate)}::{re.escape(edit.function)}: (.*)$", said)
     line = line[1] if line else "not checked"
     goals = list(open_goals(edit, room, said))
     if goals and (edit.law or line.startswith(("not proved", "no proof"))):
         return True, goals[0]
-    if line.startswith("no proof: expected answers"):
-        return True, line.partition("; ")[2]
-    return None if "it calls" in line else False, line
+    return line.startswith("no proof: expected answers"), line
 
 
 def tried(built, edits, kept):
-    """One check of a crate with these edits, over what earlier ones proved of the rest: what it says of each, and all it says."""
+    """One check of a crate with these edits, over what earlier ones proved of the rest. Gives what it says of each."""
     with tempfile.TemporaryDirectory() as room:
         room, crate = pathlib.Path(room), edits[0].crate
         for part in ("src", "specs", "proofs"):
@@ -144,10 +144,9 @@ def tried(built, edits, kept):
                 shutil.copytree(ROOT / "crates" / crate / part, room / part)
         put = [it for it in edits if it.put_in(room)]
         words = [*command(built, crate, sorted({it.function for it in put})), "--incremental", kept]
-        said = subprocess.run(words, cwd=room, stdout=subprocess.PIPE, stderr=subprocess.STDOUT, text=True).stdout
-        if not re.search(r"(?m)^only=\d+ proved=\d+$", said):
-            return {it: (None, "the check came to no end") for it in put}, said
-        return {it: verdict(it, room, said) for it in put}, said
+        said = subprocess.run(words, cwd=room, stdout=subprocess.PIPE, stderr=subprocess.STDOUT, text=True).stdout if put else ""
+        found = {it: verdict(it, room, said) for it in put}
+    return {it: found.get(it, (False, "an old text doesn't stand in its file once")) for it in edits}
 
 
 def outcomes(built, edits, kept):
@@ -155,16 +154,12 @@ def outcomes(built, edits, kept):
     left = list(edits)
     while left:
         # one a function and one a law: a check tells these apart
-        some = list({it.law or it.function: it for it in reversed(left)}.values())
-        found, said = tried(built, some, kept)
-        if all(is_refused is None for is_refused, _ in found.values()):
-            found, said = tried(built, left[:1], kept)
-            found = {left[0]: found.get(left[0], (False, "an old text doesn't stand in its file once"))}
-            if "no end" in found[left[0]][1]:
-                print(said[:3000])
-            found = {it: (bool(is_refused), why) for it, (is_refused, why) in found.items()}
+        found = tried(built, list({it.law or it.function: it for it in reversed(left)}.values()), kept)
+        if not any(is_refused for is_refused, _ in found.values()):
+            # what isn't refused beside others may be so by itself
+            found = tried(built, left[:1], kept)
         for edit, (is_refused, why) in found.items():
-            if is_refused is not None:
+            if is_refused or len(found) == 1:
                 left.remove(edit)
                 yield edit, is_refused, why
 
