@@ -20,8 +20,9 @@ use crate::outlines::Outlines;
 use crate::picture::picture_of;
 use crate::shaping::shaped;
 use shape_font::FontFace;
-use shape_text_forms::serialize;
-use std::alloc::Global;
+use shape_pipeline::{GlyphBuffer, hb_font_t};
+use shape_text_forms::{SerializeFlags, glyph_names, serialize};
+use std::alloc::{AllocError, Global};
 use std::io::{BufRead, BufReader, BufWriter, Write};
 use std::process::ExitCode;
 use std::{env, fs, io};
@@ -63,67 +64,99 @@ struct Font<'a> {
     outlines: Outlines<'a>,
 }
 
-/// Writes the glyphs of a text, a line, or draws them. Refuses if shaping or writing does.
-fn answer<W: Write>(
+/// The glyphs as a line.
+fn line_of<F: hb_font_t, N: glyph_names>(
+    alloc: Global,
+    face: &F,
+    names: &N,
+    glyphs: &GlyphBuffer,
+    form: SerializeFlags,
+) -> Result<String, AllocError> {
+    let mut line = serialize(alloc, glyphs, face, names, form)?;
+    line.push('\n')?;
+    Ok(line)
+}
+
+/// What is written of a text: its glyphs as a line, or drawn. Refuses if shaping does, or a growth was refused.
+fn answer(alloc: Global, options: &Options, font: &Font, text: &str) -> Result<String, Failure> {
+    let glyphs = shaped(alloc, options, &font.face, text)?;
+    if options.draws() {
+        Ok(picture_of(alloc, &font.outlines, &font.face, &glyphs)?)
+    } else {
+        let names = FaceNames::new(font.face);
+        Ok(line_of(alloc, &font.face, &names, &glyphs, options.form())?)
+    }
+}
+
+/// Writes what is written of a text.
+fn write_answer<W: Write>(
     alloc: Global,
     options: &Options,
     font: &Font,
     text: &str,
     writer: &mut W,
 ) -> Result<(), Failure> {
-    let face = &font.face;
-    let glyphs = shaped(alloc, options, face, text)?;
-    if options.draws() {
-        let picture = picture_of(alloc, &font.outlines, face, &glyphs)?;
-        writer.write_all(picture.as_bytes())?;
-        return Ok(());
-    }
-    let mut line = serialize(alloc, &glyphs, face, &FaceNames::new(*face), options.form())?;
-    line.push('\n')?;
-    writer.write_all(line.as_bytes())?;
+    let answer = answer(alloc, options, font, text)?;
+    writer.write_all(answer.as_bytes())?;
     Ok(())
 }
 
-/// Answers the text of the arguments, or each line of the reader.
-fn answer_all<R: BufRead + Drop, W: Write>(
+/// Answers each line of a reader.
+fn answer_lines<R: BufRead + Drop, W: Write>(
     alloc: Global,
     options: &Options,
     font: &Font,
     reader: R,
     writer: &mut W,
 ) -> Result<(), Failure> {
-    if let Some(text) = options.text() {
-        return answer(alloc, options, font, text, writer);
-    }
     for line in reader.lines(alloc) {
-        answer(alloc, options, font, &line?, writer)?;
+        write_answer(alloc, options, font, &line?, writer)?;
     }
     Ok(())
 }
 
-/// Reads the font and answers.
-fn run(rt: &HostRuntime, options: &Options) -> Result<(), Failure> {
+/// Answers the text of the arguments, or each line of standard input.
+fn answer_all<W: Write>(
+    rt: &HostRuntime,
+    options: &Options,
+    font: &Font,
+    writer: &mut W,
+) -> Result<(), Failure> {
     let alloc = rt.alloc();
-    let mut writer = BufWriter::new(alloc, io::writer(rt))?;
-    if options.asks_for_help() {
-        writer.write_all(HELP.as_bytes())?;
-        writer.flush()?;
-        return Ok(());
+    match options.text() {
+        Some(text) => write_answer(alloc, options, font, text, writer),
+        None => {
+            let reader = BufReader::new(alloc, rt.reader())?;
+            answer_lines(alloc, options, font, reader, writer)
+        }
     }
-    let Ok(bytes) = fs::read(rt, options.font()) else {
-        return Err(Failure::NoFile);
-    };
-    let Some(face) = FontFace::from_slice(&bytes, options.face_index()) else {
+}
+
+/// Answers with the font of a file.
+fn run_font(rt: &HostRuntime, options: &Options, bytes: &[u8]) -> Result<(), Failure> {
+    let Some(face) = FontFace::from_slice(bytes, options.face_index()) else {
         return Err(Failure::NoFont);
     };
     let font = Font {
         face,
-        outlines: Outlines::new(&bytes, options.face_index()),
+        outlines: Outlines::new(bytes, options.face_index()),
     };
-    let reader = BufReader::new(alloc, rt.reader())?;
-    let answered = answer_all(alloc, options, &font, reader, &mut writer);
+    let mut writer = BufWriter::new(rt.alloc(), io::writer(rt))?;
+    let answered = answer_all(rt, options, &font, &mut writer);
     writer.flush()?;
     answered
+}
+
+/// Writes help, or reads the font and answers.
+fn run(rt: &HostRuntime, options: &Options) -> Result<(), Failure> {
+    if options.asks_for_help() {
+        io::writer(rt).write_all(HELP.as_bytes())?;
+        return Ok(());
+    }
+    match fs::read(rt, options.font()) {
+        Ok(bytes) => run_font(rt, options, &bytes),
+        Err(_) => Err(Failure::NoFile),
+    }
 }
 
 /// Reads the arguments and does what they ask.
@@ -134,13 +167,16 @@ fn obey(rt: &HostRuntime, options: &mut Options) -> Result<(), Failure> {
     run(rt, options)
 }
 
+/// Says why the program gives up; the status that it ends with.
+fn give_up(rt: &HostRuntime, failure: Failure, blamed: &str) -> io::Result<ExitCode> {
+    eprintln!(rt; "fontshape: {}{}", failure.text(), blamed)?;
+    Ok(ExitCode::from(failure.status()))
+}
+
 fn main(rt: HostRuntime) -> io::Result<ExitCode> {
     let mut options = Options::new(rt.alloc());
     match obey(&rt, &mut options) {
         Ok(()) => Ok(ExitCode::SUCCESS),
-        Err(failure) => {
-            eprintln!(&rt; "fontshape: {}{}", failure.text(), options.blamed())?;
-            Ok(ExitCode::from(failure.status()))
-        }
+        Err(failure) => give_up(&rt, failure, options.blamed()),
     }
 }

@@ -144,13 +144,7 @@ impl Options {
     pub fn read_all(&mut self, alloc: Global, words: Args) -> Result<(), Failure> {
         let mut waiting: Option<Setting> = None;
         for word in words {
-            waiting = match waiting {
-                Some(setting) => {
-                    self.set(alloc, setting, word.as_str())?;
-                    None
-                }
-                None => self.read(alloc, word.as_str())?,
-            };
+            waiting = self.take(alloc, waiting, word.as_str())?;
         }
         if waiting.is_some() {
             return Err(Failure::NoValue);
@@ -159,6 +153,22 @@ impl Options {
             return Err(Failure::NoName);
         }
         Ok(())
+    }
+
+    /// Takes a word: the value of the option that waits for one, or a word by itself. Gives the option that waits then.
+    fn take(
+        &mut self,
+        alloc: Global,
+        waiting: Option<Setting>,
+        word: &str,
+    ) -> Result<Option<Setting>, Failure> {
+        match waiting {
+            Some(setting) => {
+                self.set(alloc, setting, word)?;
+                Ok(None)
+            }
+            None => self.read(alloc, word),
+        }
     }
 
     /// Reads a word; gives the option whose value is to follow it.
@@ -175,25 +185,18 @@ impl Options {
     /// Reads a word that is no option: the font, then the text.
     fn read_plain(&mut self, alloc: Global, word: &str) -> Result<(), Failure> {
         if self.font.is_none() {
-            self.font = Some(String::from_str(alloc, word)?);
+            keep(&mut self.font, alloc, word)
         } else if self.text.is_none() {
-            self.text = Some(String::from_str(alloc, word)?);
+            keep(&mut self.text, alloc, word)
         } else {
-            return Err(self.blame(alloc, Failure::OneTooMany, word));
+            Err(self.blame(alloc, Failure::OneTooMany, word))
         }
-        Ok(())
     }
 
     /// Reads an option after its dashes; gives it if its value is to follow.
     fn read_option(&mut self, alloc: Global, option: &str) -> Result<Option<Setting>, Failure> {
         if let Some((name, value)) = option.split_once('=') {
-            return match Setting::from_name(name) {
-                Some(setting) => {
-                    self.set(alloc, setting, value)?;
-                    Ok(None)
-                }
-                None => Err(self.blame(alloc, Failure::Unknown, name)),
-            };
+            return self.read_setting(alloc, name, value);
         }
         if let Some(setting) = Setting::from_name(option) {
             return Ok(Some(setting));
@@ -204,6 +207,22 @@ impl Options {
                 Ok(None)
             }
             None => Err(self.blame(alloc, Failure::Unknown, option)),
+        }
+    }
+
+    /// Gives the option of a name its value; none waits then.
+    fn read_setting(
+        &mut self,
+        alloc: Global,
+        name: &str,
+        value: &str,
+    ) -> Result<Option<Setting>, Failure> {
+        match Setting::from_name(name) {
+            Some(setting) => {
+                self.set(alloc, setting, value)?;
+                Ok(None)
+            }
+            None => Err(self.blame(alloc, Failure::Unknown, name)),
         }
     }
 
@@ -222,10 +241,7 @@ impl Options {
     fn set(&mut self, alloc: Global, setting: Setting, value: &str) -> Result<(), Failure> {
         let known = match setting {
             Setting::Features => return self.add_features(alloc, value),
-            Setting::Language => {
-                self.language = Some(String::from_str(alloc, value)?);
-                true
-            }
+            Setting::Language => return keep(&mut self.language, alloc, value),
             Setting::Direction => {
                 self.direction = direction_from_string(value);
                 self.direction != Direction::Invalid
@@ -247,10 +263,8 @@ impl Options {
 
     /// Adds the features of a list, with commas or spaces between them.
     fn add_features(&mut self, alloc: Global, list: &str) -> Result<(), Failure> {
-        for part in list.split(',') {
-            for text in part.split(' ') {
-                self.add_feature(alloc, text)?;
-            }
+        for text in list.split([',', ' ']) {
+            self.add_feature(alloc, text)?;
         }
         Ok(())
     }
@@ -260,12 +274,12 @@ impl Options {
         if text.is_empty() {
             return Ok(());
         }
-        match feature_from_string(text) {
-            Some(feature) => {
-                self.features.push(feature).map_err(AllocError::from)?;
-                Ok(())
-            }
-            None => Err(self.blame(alloc, Failure::BadValue, text)),
+        let Some(feature) = feature_from_string(text) else {
+            return Err(self.blame(alloc, Failure::BadValue, text));
+        };
+        match self.features.push(feature) {
+            Ok(()) => Ok(()),
+            Err(_) => Err(Failure::Memory),
         }
     }
 
@@ -304,12 +318,15 @@ impl Options {
 
     /// That an argument is wrong, whose word is kept; out of memory if there is none for the word.
     fn blame(&mut self, alloc: Global, failure: Failure, word: &str) -> Failure {
-        match String::from_str(alloc, word) {
-            Ok(word) => {
-                self.blamed = Some(word);
-                failure
-            }
-            Err(_) => Failure::Memory,
+        match keep(&mut self.blamed, alloc, word) {
+            Ok(()) => failure,
+            Err(memory) => memory,
         }
     }
+}
+
+/// Keeps a word.
+fn keep(place: &mut Option<String>, alloc: Global, word: &str) -> Result<(), Failure> {
+    *place = Some(String::from_str(alloc, word)?);
+    Ok(())
 }

@@ -94,15 +94,31 @@ impl<'a> Outlines<'a> {
             let Some(part) = parts.pop() else {
                 return Ok(());
             };
-            let outline = self.outline(part.glyph);
-            if number(outline, 0) < 0 {
-                append_parts(&mut parts, outline, &part.frame)?;
-            } else if drawn <= MOST_POINTS {
-                let points = append_contours(alloc, out, outline, &part.frame)?;
-                drawn = drawn.saturating_add(points);
-            }
+            let points = self.append_part(alloc, out, &mut parts, &part, drawn)?;
+            drawn = drawn.saturating_add(points);
         }
         Ok(())
+    }
+
+    /// Appends the contours of a part, if no more points than [`MOST_POINTS`] are drawn, or the parts that it is made
+    /// of. Gives how many points and contours that took.
+    fn append_part(
+        &self,
+        alloc: Global,
+        out: &mut String,
+        parts: &mut Vec<Part>,
+        part: &Part,
+        drawn: u32,
+    ) -> Result<u32, AllocError> {
+        let outline = self.outline(part.glyph);
+        if number(outline, 0) < 0 {
+            append_parts(parts, outline, &part.frame)?;
+            Ok(0)
+        } else if drawn <= MOST_POINTS {
+            append_contours(alloc, out, outline, &part.frame)
+        } else {
+            Ok(0)
+        }
     }
 }
 
@@ -222,25 +238,43 @@ fn step(outline: &[u8], at: usize, byte: bool, same: bool) -> (i32, usize) {
     }
 }
 
-/// One coordinate of each point, and where they end.
-fn coordinates(
+/// Where the x coordinates end that begin at `start`.
+fn end_of_xs(flags: &[u8], start: usize) -> usize {
+    let mut at = start;
+    for flag in flags {
+        let len = if *flag & 2 != 0 {
+            1
+        } else if *flag & 16 != 0 {
+            0
+        } else {
+            2
+        };
+        at = at.saturating_add(len);
+    }
+    at
+}
+
+/// The points with these flags, whose x coordinates begin at `start`; the y coordinates follow them.
+fn points_by(
     alloc: Global,
     outline: &[u8],
     start: usize,
     flags: &[u8],
-    byte: u8,
-    same: u8,
-) -> Result<(Vec<i32>, usize), AllocError> {
-    let mut values = Vec::new(alloc);
-    let mut at = start;
-    let mut value = 0;
+    frame: &Frame,
+) -> Result<Vec<Point>, AllocError> {
+    let mut points = Vec::new(alloc);
+    let (mut x, mut y) = (0, 0);
+    let (mut x_at, mut y_at) = (start, end_of_xs(flags, start));
     for flag in flags {
-        let (far, len) = step(outline, at, *flag & byte != 0, *flag & same != 0);
-        value = sum(value, far);
-        at = at.saturating_add(len);
-        values.push(value)?;
+        let (far, len) = step(outline, x_at, *flag & 2 != 0, *flag & 16 != 0);
+        x = sum(x, far);
+        x_at = x_at.saturating_add(len);
+        let (far, len) = step(outline, y_at, *flag & 4 != 0, *flag & 32 != 0);
+        y = sum(y, far);
+        y_at = y_at.saturating_add(len);
+        points.push(frame.moved(f64::from(x), f64::from(y), *flag & 1 != 0))?;
     }
-    Ok((values, at))
+    Ok(points)
 }
 
 /// The points of an outline with so many of them, whose flags begin at `start`.
@@ -252,13 +286,7 @@ fn points_of(
     frame: &Frame,
 ) -> Result<Vec<Point>, AllocError> {
     let (flags, at) = flags_of(alloc, outline, start, count)?;
-    let (xs, at) = coordinates(alloc, outline, at, flags.as_slice(), 2, 16)?;
-    let (ys, _) = coordinates(alloc, outline, at, flags.as_slice(), 4, 32)?;
-    let mut points = Vec::new(alloc);
-    for ((flag, x), y) in flags.iter().zip(xs.iter()).zip(ys.iter()) {
-        points.push(frame.moved(f64::from(*x), f64::from(*y), *flag & 1 != 0))?;
-    }
-    Ok(points)
+    points_by(alloc, outline, at, flags.as_slice(), frame)
 }
 
 /// Appends the contours of an outline that is drawn by itself; how many points and contours that took.
@@ -303,16 +331,22 @@ fn append_contour(out: &mut String, points: &[Point]) -> Result<(), AllocError> 
         return Ok(());
     };
     let start = begin(*first, *last);
-    write!(out, "M{} {}", start.x, start.y)?;
+    append_pair(out, 'M', start.x, start.y)?;
     let rest = if first.on { &points[1..] } else { points };
-    let mut control: Option<Point> = None;
-    for point in rest {
-        control = append_point(out, control, *point)?;
-    }
+    let control = append_points(out, rest)?;
     if control.is_some() {
         append_point(out, control, start)?;
     }
     out.push('Z')
+}
+
+/// Appends what leads to each point; gives the last one if a curve goes round it.
+fn append_points(out: &mut String, points: &[Point]) -> Result<Option<Point>, AllocError> {
+    let mut control: Option<Point> = None;
+    for point in points {
+        control = append_point(out, control, *point)?;
+    }
+    Ok(control)
 }
 
 /// Appends what leads to a point; gives the point where a curve goes round it.
@@ -321,18 +355,22 @@ fn append_point(
     control: Option<Point>,
     point: Point,
 ) -> Result<Option<Point>, AllocError> {
-    let Some(round) = control else {
-        if !point.on {
-            return Ok(Some(point));
-        }
-        write!(out, "L{} {}", point.x, point.y)?;
-        return Ok(None);
-    };
-    let end = if point.on {
-        point
-    } else {
-        middle(round, point)
-    };
-    write!(out, "Q{} {} {} {}", round.x, round.y, end.x, end.y)?;
+    match control {
+        Some(round) => append_curve(out, round, point)?,
+        None if point.on => append_pair(out, 'L', point.x, point.y)?,
+        None => {}
+    }
     Ok(if point.on { None } else { Some(point) })
+}
+
+/// Appends a curve round a point, to the next one or to the middle between them.
+fn append_curve(out: &mut String, round: Point, next: Point) -> Result<(), AllocError> {
+    let end = if next.on { next } else { middle(round, next) };
+    append_pair(out, 'Q', round.x, round.y)?;
+    append_pair(out, ' ', end.x, end.y)
+}
+
+/// Appends a letter and a pair of numbers.
+pub fn append_pair(out: &mut String, letter: char, x: f64, y: f64) -> Result<(), AllocError> {
+    write!(out, "{letter}{x} {y}")
 }

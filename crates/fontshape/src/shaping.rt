@@ -9,8 +9,8 @@ use shape_pipeline::ot_shaper::{
     ComposedDiacritics, ComposedDiacriticsNoShortCircuit, Decomposed, Preference, Shortest,
 };
 use shape_pipeline::{
-    DEFAULT_SHAPER, GlyphBuffer, NoLookups, Preferring, Script, UnicodeBuffer, hb_font_t,
-    hb_ot_layout_t, hb_ot_shaper_t, shape,
+    DEFAULT_SHAPER, GlyphBuffer, NoLookups, Preferring, Script, UnicodeBuffer, hb_default_shaper_t,
+    hb_font_t, hb_ot_layout_t, hb_ot_shaper_t, shape,
 };
 use shape_unicode::UnicodeDatabase;
 use shape_users::hebrew::HebrewShaper;
@@ -36,76 +36,79 @@ fn filled(alloc: Global, options: &Options, text: &str) -> Result<UnicodeBuffer,
 }
 
 /// The glyphs of a buffer by this engine and this shaper.
-fn shaped_by<'a, M, S>(
+fn shaped_by<F, M, S>(
     alloc: Global,
     options: &Options,
-    face: &FontFace<'a>,
+    face: &F,
     shaper: &S,
     buffer: UnicodeBuffer,
 ) -> Result<GlyphBuffer, Failure>
 where
-    M: hb_ot_layout_t<FontFace<'a>>,
-    S: hb_ot_shaper_t<UnicodeDatabase, FontFace<'a>, M>,
+    F: hb_font_t,
+    M: hb_ot_layout_t<F>,
+    S: hb_ot_shaper_t<UnicodeDatabase, F, M>,
 {
     let features = options.features();
-    match shape::<UnicodeDatabase, FontFace<'a>, M, S>(alloc, face, shaper, features, buffer) {
+    match shape::<UnicodeDatabase, F, M, S>(alloc, face, shaper, features, buffer) {
         Ok(glyphs) => Ok(glyphs),
         Err(fault) => Err(Failure::from(fault.cause)),
     }
 }
 
-/// The glyphs of a buffer by this shaper, kerned by the table `kern` of a font without GPOS. A font with GPOS has its
-/// kerning there, and no engine here reads it.
-fn shaped_kerned<'a, S>(
-    alloc: Global,
-    options: &Options,
-    face: &FontFace<'a>,
-    shaper: &S,
-    buffer: UnicodeBuffer,
-) -> Result<GlyphBuffer, Failure>
-where
-    S: hb_ot_shaper_t<UnicodeDatabase, FontFace<'a>, NoLookups>,
-    S: hb_ot_shaper_t<UnicodeDatabase, FontFace<'a>, KernTable>,
-{
-    if face.tables().gpos {
-        shaped_by::<NoLookups, S>(alloc, options, face, shaper, buffer)
-    } else {
-        shaped_by::<KernTable, S>(alloc, options, face, shaper, buffer)
-    }
-}
-
 /// The glyphs of a buffer by the default shaper, which prefers this way to normalise.
-fn shaped_preferring<P: Preference>(
+fn shaped_preferring<P: Preference, F: hb_font_t, M: hb_ot_layout_t<F>>(
     alloc: Global,
     options: &Options,
-    face: &FontFace,
+    face: &F,
     buffer: UnicodeBuffer,
 ) -> Result<GlyphBuffer, Failure> {
-    shaped_kerned(alloc, options, face, &Preferring::<P>::new(), buffer)
+    shaped_by::<F, M, Preferring<P>>(alloc, options, face, &Preferring::new(), buffer)
 }
 
 /// The glyphs of a buffer by the shaper of Hebrew.
-fn shaped_hebrew(
+fn shaped_hebrew<F: hb_font_t, M: hb_ot_layout_t<F>>(
     alloc: Global,
     options: &Options,
-    face: &FontFace,
+    face: &F,
     buffer: UnicodeBuffer,
 ) -> Result<GlyphBuffer, Failure> {
-    shaped_kerned(alloc, options, face, &HebrewShaper, buffer)
+    shaped_by::<F, M, HebrewShaper>(alloc, options, face, &HebrewShaper, buffer)
 }
 
 /// The glyphs of a buffer by the default shaper.
-fn shaped_default(
+fn shaped_default<F: hb_font_t, M: hb_ot_layout_t<F>>(
     alloc: Global,
     options: &Options,
-    face: &FontFace,
+    face: &F,
     buffer: UnicodeBuffer,
 ) -> Result<GlyphBuffer, Failure> {
-    shaped_kerned(alloc, options, face, &DEFAULT_SHAPER, buffer)
+    shaped_by::<F, M, hb_default_shaper_t>(alloc, options, face, &DEFAULT_SHAPER, buffer)
 }
 
-/// The glyphs of a text: with a shaper that prefers the mode that is asked for, else with the one of Hebrew if the text
-/// is in that script, else with the default one. Refuses as `shape` does, and with `Length` a text of 4 GiB.
+/// The glyphs of a buffer by this engine: with a shaper that prefers the mode that is asked for, else with the one of
+/// Hebrew if the text is in that script, else with the default one.
+fn shaped_with<F: hb_font_t, M: hb_ot_layout_t<F>>(
+    alloc: Global,
+    options: &Options,
+    face: &F,
+    buffer: UnicodeBuffer,
+) -> Result<GlyphBuffer, Failure> {
+    match options.mode() {
+        Some(0) => shaped_preferring::<Shortest, F, M>(alloc, options, face, buffer),
+        Some(1) => shaped_preferring::<Decomposed, F, M>(alloc, options, face, buffer),
+        Some(2) => shaped_preferring::<ComposedDiacritics, F, M>(alloc, options, face, buffer),
+        Some(3) => shaped_preferring::<ComposedDiacriticsNoShortCircuit, F, M>(
+            alloc, options, face, buffer,
+        ),
+        None if buffer.script() == Some(Script::HEBREW) => shaped_hebrew::<F, M>(
+            alloc, options, face, buffer,
+        ),
+        _ => shaped_default::<F, M>(alloc, options, face, buffer),
+    }
+}
+
+/// The glyphs of a text, kerned by the table `kern` of a font without GPOS. A font with GPOS has its kerning there, and
+/// no engine here reads it. Refuses as `shape` does, and with `Length` a text of 4 GiB.
 pub fn shaped(
     alloc: Global,
     options: &Options,
@@ -113,16 +116,9 @@ pub fn shaped(
     text: &str,
 ) -> Result<GlyphBuffer, Failure> {
     let buffer = filled(alloc, options, text)?;
-    match options.mode() {
-        Some(0) => shaped_preferring::<Shortest>(alloc, options, face, buffer),
-        Some(1) => shaped_preferring::<Decomposed>(alloc, options, face, buffer),
-        Some(2) => shaped_preferring::<ComposedDiacritics>(alloc, options, face, buffer),
-        Some(3) => shaped_preferring::<ComposedDiacriticsNoShortCircuit>(
-            alloc, options, face, buffer,
-        ),
-        None if buffer.script() == Some(Script::HEBREW) => shaped_hebrew(
-            alloc, options, face, buffer,
-        ),
-        _ => shaped_default(alloc, options, face, buffer),
+    if face.tables().gpos {
+        shaped_with::<FontFace, NoLookups>(alloc, options, face, buffer)
+    } else {
+        shaped_with::<FontFace, KernTable>(alloc, options, face, buffer)
     }
 }

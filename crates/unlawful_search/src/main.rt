@@ -11,14 +11,17 @@ mod change;
 mod face;
 mod layout;
 mod marking;
+mod normalising;
 mod planning;
 mod promise;
 mod shaper;
 mod universe;
+mod verdict;
 mod wishes;
 
-use crate::promise::{Verdict, judged};
+use crate::promise::Promise;
 use crate::universe::Dice;
+use crate::verdict::{Verdict, judged};
 use shape_buffer::buffer::ShapeError;
 use std::alloc::Global;
 use std::process::ExitCode;
@@ -30,7 +33,7 @@ struct Tally {
     shaped: u64,
     refused_memory: u64,
     refused_length: u64,
-    broken: Option<(u64, &'static str)>,
+    broken: Option<(u64, Promise)>,
 }
 
 /// The tally with the verdict on one more universe.
@@ -41,7 +44,9 @@ fn counted(tally: Tally, number: u64, verdict: Verdict) -> Tally {
         Some(ShapeError::Memory) => tally.refused_memory = tally.refused_memory.saturating_add(1),
         Some(ShapeError::Length) => tally.refused_length = tally.refused_length.saturating_add(1),
     }
-    tally.broken = verdict.broken.map(|promise| (number, promise));
+    if let Some(promise) = verdict.broken {
+        tally.broken = Some((number, promise));
+    }
     tally
 }
 
@@ -69,19 +74,19 @@ fn number_of(argument: Option<String>) -> Option<u64> {
     u64::from_str_radix(argument?.as_str(), 10).ok()
 }
 
-fn main(rt: HostRuntime) -> io::Result<ExitCode> {
-    let mut arguments = env::args(&rt)?.skip(1);
-    let (Some(seed), Some(count)) = (number_of(arguments.next()), number_of(arguments.next()))
-    else {
-        println!(rt; "unlawful_search SEED UNIVERSES")?;
-        return Ok(ExitCode::from(2));
-    };
-    let Ok(tally) = searched(rt.alloc(), seed, count) else {
-        println!(rt; "out of memory")?;
-        return Ok(ExitCode::from(2));
-    };
+/// The seed and the number of universes that the arguments ask for.
+fn asked(rt: &HostRuntime) -> io::Result<Option<(u64, u64)>> {
+    let mut arguments = env::args(rt)?.skip(1);
+    match (number_of(arguments.next()), number_of(arguments.next())) {
+        (Some(seed), Some(count)) => Ok(Some((seed, count))),
+        _ => Ok(None),
+    }
+}
+
+/// Tells what was found under a seed; the status that the program ends with.
+fn tell(rt: &HostRuntime, seed: u64, tally: Tally) -> io::Result<ExitCode> {
     if let Some((number, promise)) = tally.broken {
-        println!(rt; "seed {seed}: universe {number} breaks: {promise}")?;
+        println!(rt; "seed {seed}: universe {number} breaks: {}", promise.text())?;
         return Ok(ExitCode::FAILURE);
     }
     let (shaped, memory, length) = (tally.shaped, tally.refused_memory, tally.refused_length);
@@ -89,4 +94,18 @@ fn main(rt: HostRuntime) -> io::Result<ExitCode> {
         "seed {seed}: {shaped} shaped, {memory} refused for memory, {length} for length, none breaks a promise"
     )?;
     Ok(ExitCode::SUCCESS)
+}
+
+fn main(rt: HostRuntime) -> io::Result<ExitCode> {
+    let Some((seed, count)) = asked(&rt)? else {
+        println!(&rt; "unlawful_search SEED UNIVERSES")?;
+        return Ok(ExitCode::from(2));
+    };
+    match searched(rt.alloc(), seed, count) {
+        Ok(tally) => tell(&rt, seed, tally),
+        Err(_) => {
+            println!(&rt; "out of memory")?;
+            Ok(ExitCode::from(2))
+        }
+    }
 }

@@ -5,15 +5,16 @@
 //! on.
 ghost use Rattle.std.specs.Prelude.{◌≢◌};
 
-use crate::face::{Answers, OddFace};
-use crate::layout::{OddLayout, OddMap};
-use crate::shaper::OddShaper;
+use crate::face::OddFace;
+use crate::layout::OddMap;
+use crate::promise::Promise;
 use crate::universe::Universe;
 use crate::wishes::{Wish, Wishes};
 use shape_buffer::buffer::{Direction, Script, ShapeError};
+use shape_buffer::interfaces::{hb_font_t, hb_ot_layout_t};
 use shape_pipeline::ot_shape_plan::hb_ot_shape_plan_t;
 use shape_pipeline::ot_shaper::{
-    DEFAULT_SHAPER, HB_OT_SHAPE_ZERO_WIDTH_MARKS_NONE, Preference, hb_ot_shaper_t,
+    DEFAULT_SHAPER, HB_OT_SHAPE_ZERO_WIDTH_MARKS_NONE, hb_default_shaper_t, hb_ot_shaper_t,
 };
 use shape_unicode::UnicodeDatabase;
 use std::alloc::Global;
@@ -35,18 +36,20 @@ fn refuses(wishes: Wishes) -> bool {
 }
 
 /// The plan by a shaper for a text of a script that runs in a direction.
-pub(crate) fn planned<'a, S>(
+pub(crate) fn planned<'a, F, M, S>(
     alloc: Global,
-    face: &'a OddFace,
+    face: &'a F,
     shaper: &'a S,
     script: Option<Script>,
     direction: Direction,
 ) -> Result<hb_ot_shape_plan_t<'a, S, OddMap, S::Data>, ShapeError>
 where
-    S: hb_ot_shaper_t<UnicodeDatabase, OddFace, OddLayout>,
+    F: hb_font_t,
+    M: hb_ot_layout_t<F, Map = OddMap>,
+    S: hb_ot_shaper_t<UnicodeDatabase, F, M>,
     requires { direction ≢ Direction.Invalid }
 {
-    hb_ot_shape_plan_t::new::<UnicodeDatabase, OddFace, OddLayout>(
+    hb_ot_shape_plan_t::new::<UnicodeDatabase, F, M>(
         alloc,
         face,
         shaper,
@@ -57,25 +60,41 @@ where
     )
 }
 
-/// The map that is planned by the default shaper and an engine that doesn't refuse, and whether
-/// `morx` leaves another shaper in its place.
-fn plain_map(
+/// The map that the default shaper plans, and whether `morx` leaves another shaper in its place.
+fn default_map<F, M>(
+    alloc: Global,
+    face: &F,
+    script: Option<Script>,
+    direction: Direction,
+) -> Result<(OddMap, bool), ShapeError>
+where
+    F: hb_font_t,
+    M: hb_ot_layout_t<F, Map = OddMap>,
+    requires { direction ≢ Direction.Invalid }
+{
+    let plan = planned::<F, M, hb_default_shaper_t>(
+        alloc,
+        face,
+        &DEFAULT_SHAPER,
+        script,
+        direction,
+    )?;
+    Ok((*plan.ot_map(), !plan.apply_morx()))
+}
+
+/// The same over an engine that doesn't refuse.
+fn plain_map<M>(
     alloc: Global,
     universe: &Universe,
     direction: Direction,
 ) -> Result<(OddMap, bool), ShapeError>
+where
+    M: hb_ot_layout_t<OddFace, Map = OddMap>,
     requires { direction ≢ Direction.Invalid }
 {
-    let face = OddFace {
-        answers: Answers {
-            refuses_map: false,
-            ..universe.face.answers
-        },
-        ..universe.face
-    };
-    let script = universe.text.script;
-    let plan = planned(alloc, &face, &DEFAULT_SHAPER, script, direction)?;
-    Ok((*plan.ot_map(), !plan.apply_morx()))
+    let mut face = universe.face;
+    face.answers.refuses_map = false;
+    default_map::<OddFace, M>(alloc, &face, universe.text.script, direction)
 }
 
 /// The map with the requests of a shaper that is kept, or of one that isn't.
@@ -94,62 +113,93 @@ fn wanted_map(plain: OddMap, wishes: Wishes, is_kept: bool) -> OddMap {
 }
 
 /// What a plan breaks of what its shaper wants for marks.
-fn broken_marking<S, W: Marking>(
-    plan: &hb_ot_shape_plan_t<'_, S, OddMap, u32>,
-) -> Option<&'static str> {
+fn broken_marking<S, W: Marking>(plan: &hb_ot_shape_plan_t<'_, S, OddMap, u32>) -> Option<Promise> {
     let zeroes = W::ZERO_WIDTH_MARKS != HB_OT_SHAPE_ZERO_WIDTH_MARKS_NONE;
     if plan.zero_marks() && !zeroes {
-        Some("marks zeroed unasked")
+        Some(Promise::MarksZeroed)
     } else if plan.fallback_mark_positioning() && !W::FALLBACK_POSITION {
-        Some("marks placed unasked")
+        Some(Promise::MarksPlaced)
     } else if plan.apply_kern() && plan.apply_kerx() {
-        Some("one table of kerning")
+        Some(Promise::OneKerning)
     } else {
         None
     }
 }
 
+/// What planning is to answer.
+#[derive(Clone, Copy)]
+struct Wanted {
+    refused: bool,
+    map: OddMap,
+    data: Option<u32>,
+}
+
+/// What planning is to answer by a shaper that is kept, or one that isn't, where the default one has this map.
+fn wanted_of(universe: &Universe, plain: OddMap, is_kept: bool) -> Wanted {
+    let wishes = universe.wishes;
+    Wanted {
+        refused: universe.face.answers.refuses_map || (is_kept && refuses(wishes)),
+        map: wanted_map(plain, wishes, is_kept),
+        data: is_kept.then_some(wishes.kept),
+    }
+}
+
+/// What a plan breaks that isn't refused.
+fn broken_decisions<S, W: Marking>(
+    plan: &hb_ot_shape_plan_t<'_, S, OddMap, u32>,
+    wanted: Wanted,
+) -> Option<Promise> {
+    if *plan.ot_map() != wanted.map {
+        Some(Promise::Requests)
+    } else if plan.data().copied() != wanted.data {
+        Some(Promise::Data)
+    } else {
+        broken_marking::<S, W>(plan)
+    }
+}
+
 /// What planning breaks, and a run that was refused or not.
-pub(crate) fn broken_plan<T, W>(
+pub(crate) fn broken_plan<M, S, W>(
     alloc: Global,
     universe: &Universe,
-    shaper: &OddShaper<T, W>,
+    shaper: &S,
     refusal: Option<ShapeError>,
-) -> Result<Option<&'static str>, ShapeError>
+) -> Result<Option<Promise>, ShapeError>
 where
-    T: Preference,
+    M: hb_ot_layout_t<OddFace, Map = OddMap>,
+    S: hb_ot_shaper_t<UnicodeDatabase, OddFace, M, Data = u32>,
     W: Marking,
 {
-    let (direction, wishes) = (universe.text.direction, universe.wishes);
+    let direction = universe.text.direction;
     if direction == Direction::Invalid {
         return Ok(None);
     }
-    let (plain, is_kept) = plain_map(alloc, universe, direction)?;
-    let refused = universe.face.answers.refuses_map || (is_kept && refuses(wishes));
-    if refused && refusal != Some(ShapeError::Memory) {
-        return Ok(Some("a run after planning was refused"));
+    let (plain, is_kept) = plain_map::<M>(alloc, universe, direction)?;
+    let wanted = wanted_of(universe, plain, is_kept);
+    if wanted.refused && refusal != Some(ShapeError::Memory) {
+        return Ok(Some(Promise::RunAfterRefusal));
     }
-    let planned = planned(
-        alloc,
-        &universe.face,
-        shaper,
-        universe.text.script,
-        direction,
-    );
-    let Ok(plan) = planned else {
-        return Ok(if refused {
-            None
-        } else {
-            Some("planning refused unasked")
-        });
-    };
-    Ok(if refused {
-        Some("a refusal of planning")
-    } else if *plan.ot_map() != wanted_map(plain, wishes, is_kept) {
-        Some("requests of a shaper")
-    } else if plan.data().copied() != is_kept.then_some(wishes.kept) {
-        Some("data of a shaper")
-    } else {
-        broken_marking::<_, W>(&plan)
-    })
+    Ok(broken_answer::<M, S, W>(alloc, universe, shaper, wanted))
+}
+
+/// What planning breaks by its own answer.
+fn broken_answer<M, S, W>(
+    alloc: Global,
+    universe: &Universe,
+    shaper: &S,
+    wanted: Wanted,
+) -> Option<Promise>
+where
+    M: hb_ot_layout_t<OddFace, Map = OddMap>,
+    S: hb_ot_shaper_t<UnicodeDatabase, OddFace, M, Data = u32>,
+    W: Marking,
+    requires { universe.now.text.direction ≢ Direction.Invalid }
+{
+    let (script, direction) = (universe.text.script, universe.text.direction);
+    match planned::<OddFace, M, S>(alloc, &universe.face, shaper, script, direction) {
+        Ok(_) if wanted.refused => Some(Promise::RefusalOfPlanning),
+        Ok(plan) => broken_decisions::<S, W>(&plan, wanted),
+        Err(_) if wanted.refused => None,
+        Err(_) => Some(Promise::PlanningRefused),
+    }
 }
