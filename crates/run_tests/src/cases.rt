@@ -1,29 +1,160 @@
-//! Cases as lines of text: how they are read, and how answers are printed to be compared with them.
+//! Cases as lines of text, and how they are read.
 //!
-//! A line has a text, an arrow, and what is wanted; without an arrow the text itself is wanted. A character is
-//! written as itself if it is one of ASCII that can be seen, and by four digits in base 16 or more: `a`, `0301`,
-//! `1F468`. A word of a text may stand many times, `0323*31`, or be several together, `0308+0301*15`, or an item of a
-//! list, whose cluster isn't read then.
+//! A line `TEXT -> ANSWER` is a case: a text, and what becomes of it. A line `NAME: WORDS` sets something for the
+//! cases below it, until it is set again:
 //!
-//! An item of a list is a character and its cluster, `0301@1`, with the glyph that was found for it in base 16 where
-//! that is compared, `0301@1=2`. A glyph is its number in base 16 and its cluster, with advances and offsets where
-//! these are compared, x before y: `62@0(600,0,0,0)`. A mask that isn't 0 follows in base 16: `62@0(600,0,0,0)/1`.
+//! - `face`: the characters that have a glyph or the glyphs of the face, as `faces` has them, and `units`: those of
+//!   its em square, 1000 until they are set.
+//! - `manner`: what is set of the text, as `texts` has it.
+//! - `shaper`, `tables` and `step`: which ones, by the names that the function has which runs the case.
 //!
-//! What stands behind ` # ` is a remark. A line that can't be read fails its test, and so does a text without lines.
-//!
-//! What is printed is handed over, and so is what is compared: a function that has to drop a list or a text is slow to
-//! prove, and these do it once.
+//! A character is written as itself if it is one of ASCII that can be seen, and by four digits in base 16 or more:
+//! `a`, `0301`, `1F1E6`. A word may stand many times, `0323*31`, or be several together, `0308+0301*15`. How an answer
+//! is written stands in `printing`. What stands behind ` # ` is a remark. A line that can't be read fails its test,
+//! and so does a text without cases.
 
-use crate::comparing::position_at;
-use shape_buffer::buffer::{GlyphBuffer, GlyphPosition, hb_buffer_t, hb_glyph_info_t};
+use crate::comparing::assert_that;
+use crate::texts::{Manner, PLAINLY, manner_of};
 use std::fmt::Debug;
 use std::process::Abort;
-use std::str::{FromStr, Lines};
+use std::str::FromStr;
 
-/// The lines of some cases, of which there has to be one.
-pub fn lines<'a>(rt: &impl Abort, cases: &'a str) -> Lines<'a> {
-    assert!(rt; !cases.trim().is_empty(), "no cases");
-    cases.trim().lines()
+/// What is set for a case.
+#[derive(Clone, Copy)]
+pub struct Settings<'a> {
+    pub face: &'a str,
+    pub units: u16,
+    pub shaper: &'a str,
+    pub tables: &'a str,
+    pub step: &'a str,
+    pub manner: Manner,
+}
+
+/// What is set before anything is.
+pub const UNSET: Settings<'static> = Settings {
+    face: "",
+    units: 1000,
+    shaper: "default",
+    tables: "",
+    step: "",
+    manner: PLAINLY,
+};
+
+/// A text, and the answer that is wanted.
+#[derive(Clone, Copy)]
+pub struct Case<'a> {
+    pub settings: &'a Settings<'a>,
+    pub text: &'a str,
+    pub wanted: &'a str,
+}
+
+/// A world that cases are run in.
+pub trait World {
+    /// What becomes of the text of a case, printed as its answer is.
+    fn answer(rt: &(impl Abort + AllocGlobal), case: Case<'_>) -> String;
+}
+
+/// Runs cases in a world, and compares their answers.
+pub fn check<W: World>(rt: &(impl Abort + AllocGlobal), cases: &str) {
+    assert_that(rt, cases.contains("->"));
+    let mut settings = UNSET;
+    for line in cases.lines() {
+        take::<W>(rt, &mut settings, line);
+    }
+}
+
+/// Runs the case that a line is, or sets what the line sets.
+fn take<'a, W: World>(rt: &(impl Abort + AllocGlobal), settings: &mut Settings<'a>, line: &'a str) {
+    let line = without_remark(line);
+    match line.split_once("->") {
+        Some(sides) => run::<W>(rt, settings, sides),
+        None if line.is_empty() => {}
+        None => set(rt, settings, line),
+    }
+}
+
+/// A line without its remark.
+fn without_remark(line: &str) -> &str {
+    cut_off(line, " # ").0.trim()
+}
+
+/// Runs a case, and compares its answer.
+fn run<W: World>(
+    rt: &(impl Abort + AllocGlobal),
+    settings: &Settings<'_>,
+    (text, wanted): (&str, &str),
+) {
+    let (text, wanted) = (written_out(rt, text), written_out(rt, wanted));
+    let case = Case {
+        settings,
+        text: text.as_str(),
+        wanted: wanted.as_str(),
+    };
+    assert_answer(rt, case, W::answer(rt, case));
+}
+
+/// Compares what was found with what a case wants.
+pub fn assert_answer(rt: &impl Abort, case: Case<'_>, found: String) {
+    if found.as_str() != case.wanted {
+        fail(rt, case.text, found.as_str());
+    }
+}
+
+/// Ends a test by the text of a case and what was found.
+fn fail(rt: &impl Abort, text: &str, found: &str) -> ! {
+    panic!(rt; "{text} gave {found}")
+}
+
+/// Sets something by its name.
+fn set<'a>(rt: &impl Abort, settings: &mut Settings<'a>, line: &'a str) {
+    let (name, words) = cut(rt, line, ":");
+    let words = words.trim();
+    match name {
+        "face" => settings.face = words,
+        "units" => settings.units = number(rt, words),
+        "shaper" => settings.shaper = words,
+        "tables" => settings.tables = words,
+        "step" => settings.step = words,
+        "manner" => settings.manner = manner_of(rt, words),
+        _ => rt.panic(name),
+    }
+}
+
+/// The words of a line, with what stands there many times written out.
+fn written_out(rt: &(impl Abort + AllocGlobal), words: &str) -> String {
+    let mut line = String::new(rt.alloc());
+    for word in words.split_whitespace() {
+        append_repeated(rt, &mut line, word);
+    }
+    line
+}
+
+/// Appends a word as often as it says.
+fn append_repeated(rt: &impl Abort, line: &mut String, word: &str) {
+    let (words, count) = cut_off(word, "*");
+    if count.is_empty() {
+        return append_word(rt, line, word);
+    }
+    for _ in 0..number::<u16>(rt, count) {
+        append_several(rt, line, words);
+    }
+}
+
+/// Appends a word, or two with a `+` between them.
+fn append_several(rt: &impl Abort, line: &mut String, words: &str) {
+    let (first, second) = cut_off(words, "+");
+    append_word(rt, line, first);
+    if !second.is_empty() {
+        append_word(rt, line, second);
+    }
+}
+
+/// Appends a word behind what a line has already.
+pub fn append_word(rt: &impl Abort, line: &mut String, word: &str) {
+    if !line.is_empty() {
+        line.push(' ').expect(rt, "error");
+    }
+    line.push_str(word).expect(rt, "error");
 }
 
 /// A text before and behind these characters, which it has to have.
@@ -34,17 +165,6 @@ pub fn cut<'a>(rt: &impl Abort, text: &'a str, at: &str) -> (&'a str, &'a str) {
 /// A text before and behind these characters, or all before them if it doesn't have them.
 pub fn cut_off<'a>(text: &'a str, at: &str) -> (&'a str, &'a str) {
     text.split_once(at).unwrap_or((text, ""))
-}
-
-/// A line without its remark.
-pub fn without_remark(line: &str) -> &str {
-    cut_off(line, " # ").0.trim()
-}
-
-/// What is asked by a line, and what is wanted.
-pub fn sides(line: &str) -> (&str, &str) {
-    let case = without_remark(line);
-    case.split_once(" -> ").unwrap_or((case, case))
 }
 
 /// The number that a word writes.
@@ -68,139 +188,4 @@ pub fn character(rt: &impl Abort, word: &str) -> char {
         _ => number_in_hex(rt, word),
     };
     char::from_u32(code).expect(rt, word)
-}
-
-/// The parts of a word of a text, and how often it stands there.
-pub fn repeated<'a>(rt: &impl Abort, word: &'a str) -> (&'a str, u16) {
-    let (several, count) = cut_off(word, "*");
-    if count.is_empty() {
-        (word, 1)
-    } else {
-        (several, number(rt, count))
-    }
-}
-
-/// Appends a character.
-fn print_character(rt: &impl Abort, line: &mut String, c: char) {
-    if c.is_ascii_graphic() {
-        line.push(c).expect(rt, "memory");
-        return;
-    }
-    write!(line, "{:04X}", u32::from(c)).expect(rt, "memory");
-}
-
-/// Appends a space between words.
-fn print_space(rt: &impl Abort, line: &mut String) {
-    if !line.is_empty() {
-        line.push(' ').expect(rt, "memory");
-    }
-}
-
-/// Appends a cluster.
-fn print_cluster(rt: &impl Abort, line: &mut String, cluster: u32) {
-    write!(line, "@{cluster}").expect(rt, "memory");
-}
-
-/// Appends a number in base 16 behind a sign.
-pub fn print_hex(rt: &impl Abort, line: &mut String, sign: char, number: u32) {
-    write!(line, "{sign}{number:x}").expect(rt, "memory");
-}
-
-/// Appends a mask if it isn't 0.
-pub fn print_mask(rt: &impl Abort, line: &mut String, mask: u32) {
-    if mask != 0 {
-        print_hex(rt, line, '/', mask);
-    }
-}
-
-/// Appends a character and its cluster behind what a line has already.
-pub fn print_item(rt: &impl Abort, line: &mut String, info: &hb_glyph_info_t) {
-    print_space(rt, line);
-    print_character(rt, line, info.codepoint);
-    print_cluster(rt, line, info.cluster);
-}
-
-/// Appends a glyph and its cluster behind what a line has already.
-fn print_glyph(rt: &impl Abort, line: &mut String, info: &hb_glyph_info_t) {
-    print_space(rt, line);
-    write!(line, "{:x}", info.glyph_id).expect(rt, "memory");
-    print_cluster(rt, line, info.cluster);
-}
-
-/// Appends a position.
-fn print_position(rt: &impl Abort, line: &mut String, at: GlyphPosition) {
-    let (x, y) = (at.x_advance, at.y_advance);
-    let (right, up) = (at.x_offset, at.y_offset);
-    write!(line, "({x},{y},{right},{up})").expect(rt, "memory");
-}
-
-/// The characters of a list.
-pub fn printed(rt: &(impl Abort + AllocGlobal), list: hb_buffer_t) -> String {
-    let mut line = String::new(rt.alloc());
-    for info in list.infos() {
-        print_space(rt, &mut line);
-        print_character(rt, &mut line, info.codepoint);
-    }
-    line
-}
-
-/// The items of a list.
-pub fn printed_items(rt: &(impl Abort + AllocGlobal), list: hb_buffer_t) -> String {
-    let mut line = String::new(rt.alloc());
-    for info in list.infos() {
-        print_item(rt, &mut line, info);
-    }
-    line
-}
-
-/// The items of a list, with the glyphs that were found for them.
-pub fn printed_found(rt: &(impl Abort + AllocGlobal), list: hb_buffer_t) -> String {
-    let mut line = String::new(rt.alloc());
-    for info in list.infos() {
-        print_item(rt, &mut line, info);
-        print_hex(rt, &mut line, '=', info.glyph_index);
-    }
-    line
-}
-
-/// Glyphs that have the numbers of characters, written as those are.
-pub fn printed_as_characters(rt: &(impl Abort + AllocGlobal), glyphs: GlyphBuffer) -> String {
-    let mut line = String::new(rt.alloc());
-    for info in glyphs.glyph_infos() {
-        print_space(rt, &mut line);
-        let c = char::from_u32(info.glyph_id).expect(rt, "a character's glyph");
-        print_character(rt, &mut line, c);
-    }
-    line
-}
-
-/// The glyphs of a list, without positions.
-pub fn printed_without_positions(rt: &(impl Abort + AllocGlobal), list: hb_buffer_t) -> String {
-    let mut line = String::new(rt.alloc());
-    for info in list.infos() {
-        print_glyph(rt, &mut line, info);
-    }
-    line
-}
-
-/// The glyphs of a text.
-pub fn printed_glyphs(rt: &(impl Abort + AllocGlobal), glyphs: GlyphBuffer) -> String {
-    let mut line = String::new(rt.alloc());
-    for (at, info) in glyphs.glyph_infos().iter().enumerate() {
-        print_glyph(rt, &mut line, info);
-        print_position(rt, &mut line, position_at(glyphs.glyph_positions(), at));
-        print_mask(rt, &mut line, info.mask);
-    }
-    line
-}
-
-/// Compares what was found with what a line wants.
-pub fn assert_line(rt: &impl Abort, line: &str, found: String, wanted: &str) {
-    assert_eq!(rt; found.as_str(), wanted, "in {line}");
-}
-
-/// Compares an answer with the word for it: `yes` or `no`.
-pub fn assert_answer(rt: &impl Abort, line: &str, found: bool, wanted: &str) {
-    let found = if found { "yes" } else { "no" };
-    assert_eq!(rt; found, wanted, "in {line}");
 }

@@ -4,8 +4,6 @@
 #![allow(non_camel_case_types)]
 
 #[cfg(test)]
-mod answers;
-#[cfg(test)]
 mod calls;
 #[cfg(test)]
 mod cases;
@@ -14,11 +12,11 @@ mod comparing;
 #[cfg(test)]
 mod emoji;
 #[cfg(test)]
+mod faces;
+#[cfg(test)]
 mod ligatures;
 #[cfg(test)]
 mod limits;
-#[cfg(test)]
-mod listing;
 #[cfg(test)]
 mod lists;
 #[cfg(test)]
@@ -43,6 +41,8 @@ mod refusals;
 mod rows;
 #[cfg(test)]
 mod runs;
+#[cfg(test)]
+mod steps;
 #[cfg(test)]
 mod texts;
 #[cfg(test)]

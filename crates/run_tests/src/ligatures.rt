@@ -1,37 +1,24 @@
 //! Marks round a base, through the two calls for them: the components of ligatures, and the ccc that
 //! marks are placed by. The em square has 1000 units, so that the gap is 62.
 
-use crate::answers::{buffer_of, face_of, plan_for};
-use crate::cases::{assert_line, character, cut, lines, number, sides, without_remark};
-use crate::comparing::assert_same;
+use crate::cases::{Case, World, append_word, character, check, cut, number};
+use crate::faces::face_of;
+use crate::runs::{Plan, plan_for};
+use crate::texts::buffer_of;
 use shape_buffer::buffer::{
     Direction, GlyphPosition, hb_buffer_t, hb_glyph_info_t, hb_unicode_general_category_t,
 };
-use shape_buffer::interfaces::{MapFace, PlainUnicode};
+use shape_buffer::interfaces::{
+    NoLookups, PlainUnicode, hb_font_t, hb_ot_layout_t, hb_unicode_funcs_t,
+};
 use shape_fallback::ot_shape_fallback::{
     _hb_ot_shape_fallback_mark_position_recategorize_marks, position_marks,
 };
-use shape_pipeline::ot_shape_plan::hb_ot_shape_plan_t;
-use shape_pipeline::ot_shaper::{DEFAULT_SHAPER, hb_default_shaper_t};
+use shape_pipeline::ot_shaper::{DEFAULT_SHAPER, hb_ot_shaper_t};
 use std::process::Abort;
-
-/// A plan of a direction, without a script.
-type Plan<'a> = hb_ot_shape_plan_t<'a, hb_default_shaper_t, (), ()>;
 
 /// A ligature id and a component of it.
 type Component = (u8, u8);
-
-/// The base is glyph 1 of advance 900, its box as wide as that; the mark is glyph 2.
-const GLYPHS: &str = "f=1:900(0,700,900,-700) 0301=2:0(50,800,200,-150)";
-
-fn planned<'a>(
-    rt: &(impl Abort + AllocGlobal),
-    face: &'a MapFace,
-    direction: Direction,
-) -> Plan<'a> {
-    let by = (face, &DEFAULT_SHAPER);
-    plan_for::<PlainUnicode, MapFace, hb_default_shaper_t>(rt, by, (direction, None))
-}
 
 /// An item of a glyph in a ligature, the base of as many components.
 fn ligated(c: char, glyph: u32, component: Component, components: u8) -> hb_glyph_info_t {
@@ -67,11 +54,9 @@ fn component(rt: &impl Abort, word: &str) -> Component {
 /// The base, and after it marks of the components that words write.
 fn items_of(rt: &(impl Abort + AllocGlobal), marks: &str) -> Vec<hb_glyph_info_t> {
     let mut infos = Vec::new(rt.alloc());
-    infos.push(base()).expect(rt, "memory");
+    infos.push(base()).expect(rt, "error");
     for word in marks.split_whitespace() {
-        infos
-            .push(mark_of(component(rt, word)))
-            .expect(rt, "memory");
+        infos.push(mark_of(component(rt, word))).expect(rt, "error");
     }
     infos
 }
@@ -87,11 +72,6 @@ fn advance_first(buffer: &mut hb_buffer_t, x_advance: i32) {
     }
 }
 
-/// Places the marks of a buffer.
-fn place(plan: &Plan<'_>, face: &MapFace, buffer: &mut hb_buffer_t) {
-    position_marks::<PlainUnicode, MapFace, hb_default_shaper_t, (), ()>(plan, face, buffer, false);
-}
-
 /// The base and its marks in a buffer that runs in a direction.
 fn with_marks(rt: &(impl Abort + AllocGlobal), direction: Direction, marks: &str) -> hb_buffer_t {
     let mut buffer = buffer_of(rt, items_of(rt, marks));
@@ -104,97 +84,114 @@ fn with_marks(rt: &(impl Abort + AllocGlobal), direction: Direction, marks: &str
 fn last_offsets(rt: &(impl Abort + AllocGlobal), buffer: hb_buffer_t) -> String {
     let last = buffer.positions().last().expect(rt, "an item");
     let (x, y) = (last.x_offset, last.y_offset);
-    format!(in rt.alloc(); "{x} {y}").expect(rt, "memory")
+    format!(in rt.alloc(); "{x} {y}").expect(rt, "error")
 }
 
-/// Compares the offsets of the last mark of each line under a plan.
-fn check_under(
-    rt: &(impl Abort + AllocGlobal),
-    (plan, face): (&Plan<'_>, &MapFace),
-    direction: Direction,
-    cases: &str,
-) {
-    for line in lines(rt, cases) {
-        let (marks, wanted) = sides(line);
-        let mut buffer = with_marks(rt, direction, marks);
-        place(plan, face, &mut buffer);
-        assert_line(rt, line, last_offsets(rt, buffer), wanted);
+/// Glyph 1 for a base and glyph 2 for a mark, the first of which is a ligature of three components. The text writes
+/// the ligatures and the components of marks, as `1:3`; the offsets of the last one are the answer.
+///
+/// The step says how the plan and the buffer run: both to the right or to the left (`rightward`, `leftward`), the plan
+/// to the right and the buffer to the left (`apart`), or the plan down the page and the buffer to the left
+/// (`downward`).
+struct Ligatures;
+
+impl World for Ligatures {
+    fn answer(rt: &(impl Abort + AllocGlobal), case: Case<'_>) -> String {
+        let face = face_of(rt, case.settings);
+        offsets::<PlainUnicode, _, NoLookups, _>(rt, (&face, &DEFAULT_SHAPER), case)
     }
 }
 
 /// The directions of a plan and of a buffer.
-type Directions = (Direction, Direction);
+fn directions(rt: &impl Abort, step: &str) -> (Direction, Direction) {
+    match step {
+        "rightward" => (Direction::LeftToRight, Direction::LeftToRight),
+        "leftward" => (Direction::RightToLeft, Direction::RightToLeft),
+        "apart" => (Direction::LeftToRight, Direction::RightToLeft),
+        "downward" => (Direction::TopToBottom, Direction::RightToLeft),
+        _ => rt.panic(step),
+    }
+}
 
-const RIGHTWARD: Directions = (Direction::LeftToRight, Direction::LeftToRight);
+/// The offsets of the last mark.
+fn offsets<U, F, M, S>(rt: &(impl Abort + AllocGlobal), by: (&F, &S), case: Case<'_>) -> String
+where
+    U: hb_unicode_funcs_t,
+    F: hb_font_t,
+    M: hb_ot_layout_t<F>,
+    S: hb_ot_shaper_t<U, F, M, Data = ()>,
+{
+    let (plan_direction, direction) = directions(rt, case.settings.step);
+    let plan = plan_for::<U, F, M, S>(rt, by, (plan_direction, None));
+    let mut buffer = with_marks(rt, direction, case.text);
+    place::<U, F, M, S>(&plan, by.0, &mut buffer);
+    last_offsets(rt, buffer)
+}
 
-const LEFTWARD: Directions = (Direction::RightToLeft, Direction::RightToLeft);
-
-/// The plan runs to the right, the buffer to the left.
-const APART: Directions = (Direction::LeftToRight, Direction::RightToLeft);
-
-/// The plan runs down the page, the buffer to the left.
-const DOWNWARD: Directions = (Direction::TopToBottom, Direction::RightToLeft);
-
-/// Compares the offsets of the last mark of each line, under a plan and in a buffer of these directions.
-fn check(rt: &(impl Abort + AllocGlobal), directions: Directions, cases: &str) {
-    let face = face_of(rt, 1000, GLYPHS);
-    let plan = planned(rt, &face, directions.0);
-    check_under(rt, (&plan, &face), directions.1, cases);
+/// Places the marks of a buffer.
+fn place<U, F, M, S>(plan: &Plan<'_, S, M::Map>, face: &F, buffer: &mut hb_buffer_t)
+where
+    U: hb_unicode_funcs_t,
+    F: hb_font_t,
+    M: hb_ot_layout_t<F>,
+    S: hb_ot_shaper_t<U, F, M, Data = ()>,
+{
+    position_marks::<U, F, S, M::Map, ()>(plan, face, buffer, false);
 }
 
 /// Thirds begin at 0, 300 and 600; a mark stands 0 from there, and goes back by the advance. Components run as the
 /// plan does, and the pen as the buffer.
 #[test]
 fn each_component_has_its_third_of_the_base(rt: HostRuntime) {
-    check(
+    check::<Ligatures>(
         &rt,
-        RIGHTWARD,
-        "1:1 -> -900 112
+        "
+        face: f=1(900,0,700,900,-700) 0301=2(0,50,800,200,-150)
+        step: rightward
+        1:1 -> -900 112
         1:2 -> -600 112
         1:3 -> -300 112
         1:4 -> -300 112 # past the last component it is the last one's
         1:255 -> -300 112
-        1:0 -> -600 112 # without a component, first, by the whole base: half of 700, less 50 and 900",
-    );
-    check(
-        &rt,
-        LEFTWARD,
-        "1:1 -> 600 112
+        1:0 -> -600 112 # without a component, first, by the whole base: half of 700, less 50 and 900
+        step: leftward
+        1:1 -> 600 112
         1:2 -> 300 112
         1:3 -> 0 112
-        1:0 -> 300 112",
-    );
-    check(
-        &rt,
-        APART,
-        "1:1 -> 0 112
-        1:3 -> 600 112",
+        1:0 -> 300 112
+        step: apart
+        1:1 -> 0 112
+        1:3 -> 600 112
+        ",
     );
 }
 
 #[test]
 fn mark_of_another_ligature_is_the_last_component(rt: HostRuntime) {
-    check(
+    check::<Ligatures>(
         &rt,
-        RIGHTWARD,
-        "2:1 -> -300 112
-        0:1 -> -300 112",
-    );
-    check(
-        &rt,
-        LEFTWARD,
-        "2:1 -> 0 112
-        0:1 -> 0 112",
+        "
+        face: f=1(900,0,700,900,-700) 0301=2(0,50,800,200,-150)
+        step: rightward
+        2:1 -> -300 112
+        0:1 -> -300 112
+        step: leftward
+        2:1 -> 0 112
+        0:1 -> 0 112
+        ",
     );
 }
 
 #[test]
 fn components_without_a_horizontal_plan_run_to_the_right(rt: HostRuntime) {
-    check(
+    check::<Ligatures>(
         &rt,
-        DOWNWARD,
-        "1:2 -> 300 112
-        1:3 -> 600 112",
+        "
+        face: f=1(900,0,700,900,-700) 0301=2(0,50,800,200,-150)
+        step: downward
+        1:2 -> 300 112
+        1:3 -> 600 112
+        ",
     );
 }
 
@@ -202,13 +199,16 @@ fn components_without_a_horizontal_plan_run_to_the_right(rt: HostRuntime) {
 /// so does the first one after it. Component -1, after another one, is a part of its own: it begins at -300.
 #[test]
 fn marks_of_a_component_pile_up(rt: HostRuntime) {
-    check(
+    check::<Ligatures>(
         &rt,
-        RIGHTWARD,
-        "1:2 1:2 -> -600 324
+        "
+        face: f=1(900,0,700,900,-700) 0301=2(0,50,800,200,-150)
+        step: rightward
+        1:2 1:2 -> -600 324
         1:2 1:3 -> -300 112
         1:2 1:3 1:2 -> -600 112
-        1:2 1:0 -> -1200 112",
+        1:2 1:0 -> -1200 112
+        ",
     );
 }
 
@@ -223,7 +223,7 @@ fn classed(c: char, category: hb_unicode_general_category_t, ccc: u8) -> hb_glyp
 /// A buffer of one item.
 fn buffer_of_one(rt: &(impl Abort + AllocGlobal), info: hb_glyph_info_t) -> hb_buffer_t {
     let mut infos = Vec::new(rt.alloc());
-    infos.push(info).expect(rt, "memory");
+    infos.push(info).expect(rt, "error");
     buffer_of(rt, infos)
 }
 
@@ -234,87 +234,137 @@ fn first_class(rt: &impl Abort, buffer: hb_buffer_t) -> u8 {
 }
 
 /// The ccc that an item has once marks are recategorised.
-fn recategorised(
+fn recategorised<U, F, M, S>(
     rt: &(impl Abort + AllocGlobal),
-    (plan, face): (&Plan<'_>, &MapFace),
+    plan: &Plan<'_, S, M::Map>,
+    face: &F,
     info: hb_glyph_info_t,
-) -> u8 {
+) -> u8
+where
+    U: hb_unicode_funcs_t,
+    F: hb_font_t,
+    M: hb_ot_layout_t<F>,
+    S: hb_ot_shaper_t<U, F, M, Data = ()>,
+{
     let mut buffer = buffer_of_one(rt, info);
     _hb_ot_shape_fallback_mark_position_recategorize_marks(plan, face, &mut buffer);
     first_class(rt, buffer)
 }
 
-/// Compares what each ccc of a character becomes.
-fn check_pairs(
-    rt: &(impl Abort + AllocGlobal),
-    by: (&Plan<'_>, &MapFace),
-    category: hb_unicode_general_category_t,
-    (c, pairs): (char, &str),
-) {
-    for pair in pairs.split_whitespace() {
-        let (ccc, becomes) = cut(rt, pair, ">");
-        let found = recategorised(rt, by, classed(c, category, number(rt, ccc)));
-        assert_same(rt, found, number(rt, becomes));
+/// A character of the category that the step names: `nonspacing`, `spacing`, `enclosing` or `letter`. The answer has
+/// pairs of a ccc and of what it becomes: `13>214`.
+struct Classes;
+
+impl World for Classes {
+    fn answer(rt: &(impl Abort + AllocGlobal), case: Case<'_>) -> String {
+        let face = face_of(rt, case.settings);
+        pairs::<PlainUnicode, _, NoLookups, _>(rt, (&face, &DEFAULT_SHAPER), case)
     }
 }
 
-/// Compares what each ccc of the character of a line becomes, if that has this category: `13>214`.
-fn check_classes(
-    rt: &(impl Abort + AllocGlobal),
-    category: hb_unicode_general_category_t,
-    cases: &str,
-) {
-    let face = face_of(rt, 1000, GLYPHS);
-    let plan = planned(rt, &face, Direction::LeftToRight);
-    for line in lines(rt, cases) {
-        let (c, pairs) = cut(rt, without_remark(line), ": ");
-        check_pairs(rt, (&plan, &face), category, (character(rt, c), pairs));
+/// The category that a step names.
+fn category_of(rt: &impl Abort, step: &str) -> hb_unicode_general_category_t {
+    match step {
+        "nonspacing" => hb_unicode_general_category_t::NonspacingMark,
+        "spacing" => hb_unicode_general_category_t::SpacingMark,
+        "enclosing" => hb_unicode_general_category_t::EnclosingMark,
+        "letter" => hb_unicode_general_category_t::OtherLetter,
+        _ => rt.panic(step),
     }
 }
 
-/// The same of nonspacing marks.
-fn check_marks(rt: &(impl Abort + AllocGlobal), cases: &str) {
-    check_classes(rt, hb_unicode_general_category_t::NonspacingMark, cases);
+/// The character of a case, with a ccc.
+fn item_of(rt: &impl Abort, case: Case<'_>, ccc: &str) -> hb_glyph_info_t {
+    let c = character(rt, case.text);
+    classed(c, category_of(rt, case.settings.step), number(rt, ccc))
+}
+
+/// Appends a pair of a ccc and of what it becomes.
+fn append_pair(rt: &impl Abort, line: &mut String, ccc: &str, becomes: u8) {
+    append_word(rt, line, ccc);
+    write!(line, ">{becomes}").expect(rt, "error");
+}
+
+/// Appends a pair of the ccc that stands in one, and of what that becomes of the character of a case.
+fn append_found<U, F, M, S>(
+    rt: &(impl Abort + AllocGlobal),
+    line: &mut String,
+    (plan, face): (&Plan<'_, S, M::Map>, &F),
+    (case, pair): (Case<'_>, &str),
+)
+where
+    U: hb_unicode_funcs_t,
+    F: hb_font_t,
+    M: hb_ot_layout_t<F>,
+    S: hb_ot_shaper_t<U, F, M, Data = ()>,
+{
+    let ccc = cut(rt, pair, ">").0;
+    let item = item_of(rt, case, ccc);
+    append_pair(
+        rt,
+        line,
+        ccc,
+        recategorised::<U, F, M, S>(rt, plan, face, item),
+    );
+}
+
+/// What each ccc becomes that stands in the pairs of the answer.
+fn pairs<U, F, M, S>(rt: &(impl Abort + AllocGlobal), by: (&F, &S), case: Case<'_>) -> String
+where
+    U: hb_unicode_funcs_t,
+    F: hb_font_t,
+    M: hb_ot_layout_t<F>,
+    S: hb_ot_shaper_t<U, F, M, Data = ()>,
+{
+    let plan = plan_for::<U, F, M, S>(rt, by, (Direction::LeftToRight, None));
+    let mut line = String::new(rt.alloc());
+    for pair in case.wanted.split_whitespace() {
+        append_found::<U, F, M, S>(rt, &mut line, (&plan, by.0), (case, pair));
+    }
+    line
 }
 
 /// The rules for characters are of one block alone.
 #[test]
 fn classes_of_single_characters(rt: HostRuntime) {
-    check_marks(
+    check::<Classes>(
         &rt,
-        "0E34: 0>232 3>222
-        0E31: 0>232
-        0E4E: 0>232
-        0E38: 0>0
-        0E3A: 3>222 9>222 0>0 220>220
-        0EB1: 0>230 107>232
-        0ECD: 0>230
-        0EBC: 0>220
-        0DFF: 0>0
-        0F00: 0>0
-        0301: 0>0",
+        "
+        step: nonspacing
+        0E34 -> 0>232 3>222
+        0E31 -> 0>232
+        0E4E -> 0>232
+        0E38 -> 0>0
+        0E3A -> 3>222 9>222 0>0 220>220
+        0EB1 -> 0>230 107>232
+        0ECD -> 0>230
+        0EBC -> 0>220
+        0DFF -> 0>0
+        0F00 -> 0>0
+        0301 -> 0>0
+        ",
     );
 }
 
 /// What isn't a nonspacing mark keeps its ccc.
-fn check_kept(rt: &(impl Abort + AllocGlobal), category: hb_unicode_general_category_t) {
-    check_classes(
-        rt,
-        category,
-        "0E34: 0>0
-        0301: 13>13",
-    );
-}
-
 #[test]
 fn classes_of_other_scripts(rt: HostRuntime) {
-    check_marks(
+    check::<Classes>(
         &rt,
-        "0301: 1>1 3>222 10>232 11>228 12>12 13>214 14>228 15>220 25>220 26>230 27>230 29>230 30>220 31>230
-        0301: 33>220 34>230 36>230 37>37 107>232 118>220 122>230 129>220 130>130 131>220 132>230 199>199
-        0301: 200>200 230>230",
+        "
+        step: nonspacing
+        0301 -> 1>1 3>222 10>232 11>228 12>12 13>214 14>228 15>220 25>220 26>230 27>230 29>230 30>220 31>230
+        0301 -> 33>220 34>230 36>230 37>37 107>232 118>220 122>230 129>220 130>130 131>220 132>230 199>199
+        0301 -> 200>200 230>230
+        step: spacing
+        0E34 -> 0>0
+        0301 -> 13>13
+        step: enclosing
+        0E34 -> 0>0
+        0301 -> 13>13
+        step: letter
+        0E34 -> 0>0
+        0301 -> 13>13
+        ",
     );
-    check_kept(&rt, hb_unicode_general_category_t::SpacingMark);
-    check_kept(&rt, hb_unicode_general_category_t::EnclosingMark);
-    check_kept(&rt, hb_unicode_general_category_t::OtherLetter);
 }

@@ -2,62 +2,30 @@
 //! tests that begin alike the second one makes such calls besides; the gate's script counts the growths of
 //! both, which must be as many.
 
+use crate::cases::{Settings, UNSET};
 use crate::comparing::{assert_same, assert_that};
-use crate::listing::{character, face_of, passed};
-use crate::runs;
-use crate::texts::guess;
+use crate::faces::face_of;
+use crate::runs::{
+    Plan, glyphs_under, meets_premises, normalise, plan_for, prepare, shape_in_place,
+};
+use crate::texts::{buffer_of, items_of};
 use shape_buffer::buffer::{
-    BufferFlags, Direction, GlyphId, Script, UnicodeBuffer, hb_buffer_t, hb_glyph_info_t, hb_tag_t,
+    BufferFlags, Direction, GlyphId, Script, UnicodeBuffer, hb_buffer_t, hb_tag_t,
 };
 use shape_buffer::interfaces::{
-    MapFace, NoLookups, TableIndex, hb_font_t, hb_ot_layout_t, hb_ot_map_builder_t,
+    NoLookups, TableIndex, hb_font_t, hb_ot_layout_t, hb_ot_map_builder_t,
 };
-use shape_pipeline::ot_shape_plan::hb_ot_shape_plan_t;
-use shape_pipeline::ot_shaper::{
-    DEFAULT_SHAPER, Decomposed, Preferring, hb_default_shaper_t, hb_ot_shaper_t,
-};
+use shape_pipeline::ot_shaper::{DEFAULT_SHAPER, Decomposed, Preferring, hb_ot_shaper_t};
 use shape_plan::shaping_types::TypesOf;
 use shape_prepare::graphemes::set_unicode_props;
 use shape_unicode::UnicodeDatabase;
 use std::process::Abort;
-use test_worlds::{PLAIN_FACE, TestFace, TestLayout, TestMap};
+use test_worlds::{PLAIN_FACE, TestFace, TestLayout};
 
 mod steps;
 
-/// The types of a run with the default shaper.
-type Types = TypesOf<UnicodeDatabase, MapFace, NoLookups, hb_default_shaper_t>;
-
-/// The same with masks for the features of fractions.
-type DividingTypes = TypesOf<UnicodeDatabase, TestFace<'static>, TestLayout, hb_default_shaper_t>;
-
 /// A plan without lookups.
-type PlainPlan<'a, S> = hb_ot_shape_plan_t<'a, S, (), ()>;
-
-/// A plan of the default shaper.
-type Plan<'a> = PlainPlan<'a, hb_default_shaper_t>;
-
-/// A plan with masks for fractions.
-type DividingPlan<'a> = hb_ot_shape_plan_t<'a, hb_default_shaper_t, TestMap, ()>;
-
-/// A plan of the shaper that decomposes fully.
-type FullPlan<'a> = PlainPlan<'a, Preferring<Decomposed>>;
-
-/// The plans that each test begins with.
-#[derive(Drop)]
-struct Plans<'a> {
-    /// Without lookups.
-    plain: Plan<'a>,
-    /// With masks for fractions.
-    dividing: DividingPlan<'a>,
-    full: FullPlan<'a>,
-}
-
-/// The texts that each test begins with.
-#[derive(Drop)]
-struct Texts {
-    text: hb_buffer_t,
-    spelled: hb_buffer_t,
-}
+type PlainPlan<'a, S> = Plan<'a, S, ()>;
 
 /// Letters with marks above and below, digits about a slash, a bracket, Hebrew with a point, joiners, a variation
 /// selector, a soft hyphen, and a space without a glyph.
@@ -67,29 +35,16 @@ const TEXT: &str = "a 0301 0323 1 2044 2 ( 05D0 05B8 200D FE00 00AD 2003 034F b 
 const SPELLED: &str = "00E1 0323 a 0301";
 
 /// A face with boxes for a letter and two marks.
-fn face(rt: &(impl Abort + AllocGlobal)) -> MapFace {
-    let glyphs =
-        "a=1(600,0,700,600,-700) 0301=2(200,50,800,200,-150) 0323=3(200,50,-50,200,-150) 0020=4(250)";
-    face_of(rt, glyphs).expect(rt, "memory")
-}
+const BOXED: Settings<'static> = Settings {
+    face: "a=1(600,0,700,600,-700) 0301=2(200,50,800,200,-150) 0323=3(200,50,-50,200,-150) 0020=4(250)",
+    ..UNSET
+};
 
 /// A face with lookups for fractions.
 const DIVIDING: TestFace<'static> = TestFace {
     fractions: true,
     ..PLAIN_FACE
 };
-
-/// Items of these characters, each in a cluster of its own.
-fn items_of(rt: &(impl Abort + AllocGlobal), words: &str) -> Vec<hb_glyph_info_t> {
-    let mut infos: Vec<hb_glyph_info_t> = Vec::new(rt.alloc());
-    let mut cluster: u32 = 0;
-    for word in words.split_whitespace() {
-        let item = hb_glyph_info_t::new(character(rt, word), cluster);
-        infos.push(item).expect(rt, "memory");
-        cluster = cluster.saturating_add(1);
-    }
-    infos
-}
 
 /// Sets what a run depends on, and begins it.
 fn set_and_enter(buffer: &mut hb_buffer_t) {
@@ -103,48 +58,9 @@ fn set_and_enter(buffer: &mut hb_buffer_t) {
 /// The characters in a run, each in a cluster of its own. The lists have room for so many items and
 /// no more, so that a growth by one is seen.
 fn entered(rt: &(impl Abort + AllocGlobal), words: &str) -> hb_buffer_t {
-    let mut buffer = UnicodeBuffer::new(rt.alloc()).into_inner();
-    buffer
-        .replace_infos(items_of(rt, words))
-        .expect(rt, "memory");
+    let mut buffer = buffer_of(rt, items_of(rt, words));
     set_and_enter(&mut buffer);
     buffer
-}
-
-/// A plan that runs to the right.
-fn planned<'a, F, M, S>(
-    rt: &(impl Abort + AllocGlobal),
-    face: &'a F,
-    shaper: &'a S,
-) -> hb_ot_shape_plan_t<'a, S, M::Map, ()>
-where
-    F: hb_font_t,
-    M: hb_ot_layout_t<F>,
-    S: hb_ot_shaper_t<UnicodeDatabase, F, M, Data = ()>,
-{
-    let (alloc, direction) = (rt.alloc(), Direction::LeftToRight);
-    let plan = runs::plan_for::<UnicodeDatabase, F, M, S>(alloc, face, shaper, direction, None);
-    passed(rt, plan)
-}
-
-fn make_plans<'a>(
-    rt: &(impl Abort + AllocGlobal),
-    face: &'a MapFace,
-    dividing: &'a TestFace<'static>,
-    decomposing: &'a Preferring<Decomposed>,
-) -> Plans<'a> {
-    Plans {
-        plain: planned::<MapFace, NoLookups, _>(rt, face, &DEFAULT_SHAPER),
-        dividing: planned::<TestFace<'static>, TestLayout, _>(rt, dividing, &DEFAULT_SHAPER),
-        full: planned::<MapFace, NoLookups, _>(rt, face, decomposing),
-    }
-}
-
-fn make_texts(rt: &(impl Abort + AllocGlobal)) -> Texts {
-    Texts {
-        text: entered(rt, TEXT),
-        spelled: entered(rt, SPELLED),
-    }
 }
 
 /// What a plan is for: its direction, whether it has a script, a shaper and data, and how many features users asked
@@ -251,66 +167,48 @@ where
     F: hb_font_t,
     S: hb_ot_shaper_t<UnicodeDatabase, F, NoLookups, Data = ()>,
 {
-    runs::meets_premises::<UnicodeDatabase, F, NoLookups, S>(plan, face, text)
-}
-
-/// An empty text.
-fn nothing(rt: &(impl Abort + AllocGlobal)) -> UnicodeBuffer {
-    let mut empty = UnicodeBuffer::new(rt.alloc());
-    guess(&mut empty);
-    empty
+    meets_premises::<UnicodeDatabase, F, NoLookups, S>(plan, face, text)
 }
 
 /// Whether a plan fits an empty text.
 fn fits<S>(rt: &(impl Abort + AllocGlobal), plan: &PlainPlan<'_, S>) -> bool {
-    plan.fits::<UnicodeDatabase>(&nothing(rt))
-}
-
-/// Compares how many items the texts have.
-fn assert_begun(rt: &impl Abort, texts: &Texts) {
-    assert_same(rt, texts.text.len(), 16);
-    assert_same(rt, texts.spelled.len(), 4);
+    let mut nothing = UnicodeBuffer::new(rt.alloc());
+    nothing.guess_segment_properties::<UnicodeDatabase>();
+    plan.fits::<UnicodeDatabase>(&nothing)
 }
 
 /// Asks plans, a builder of requests, and whether a text meets the premises of canonical form: it misses the first of
 /// them in the default mode, and meets all in the one that decomposes fully.
-fn ask(
+fn ask<F, S, D>(
     rt: &(impl Abort + AllocGlobal),
-    plans: &Plans<'_>,
-    face: &MapFace,
+    (plain, full): (&PlainPlan<'_, S>, &PlainPlan<'_, D>),
+    face: &F,
     spelled: &mut hb_buffer_t,
-) {
-    assert_that(rt, fits(rt, &plans.plain));
-    assert_plain(rt, &plans.plain);
+)
+where
+    F: hb_font_t,
+    S: hb_ot_shaper_t<UnicodeDatabase, F, NoLookups, Data = ()>,
+    D: hb_ot_shaper_t<UnicodeDatabase, F, NoLookups, Data = ()>,
+{
+    assert_that(rt, fits(rt, plain));
+    assert_plain(rt, plain);
     assert_same(rt, without_requests(rt, face), (0, false, false));
     set_properties(spelled);
-    assert_same(rt, meets(&plans.plain, face, spelled), false);
-    assert_same(rt, meets(&plans.full, face, spelled), true);
-}
-
-/// A buffer without items that runs to the right.
-fn empty(rt: &(impl Abort + AllocGlobal)) -> hb_buffer_t {
-    let mut buffer = UnicodeBuffer::new(rt.alloc()).into_inner();
-    buffer.set_direction(Direction::LeftToRight);
-    buffer
+    assert_same(rt, meets(plain, face, spelled), false);
+    assert_same(rt, meets(full, face, spelled), true);
 }
 
 /// Normalises, shapes and prepares a buffer without items.
-fn shape_in_place<F, S>(rt: &(impl Abort + AllocGlobal), plan: &PlainPlan<'_, S>, face: &F)
+fn shape_empty<F, S>(rt: &(impl Abort + AllocGlobal), plan: &PlainPlan<'_, S>, face: &F)
 where
     F: hb_font_t,
     S: hb_ot_shaper_t<UnicodeDatabase, F, NoLookups, Data = ()>,
 {
-    let (alloc, mut list) = (rt.alloc(), empty(rt));
-    runs::normalise::<UnicodeDatabase, F, NoLookups, S>(alloc, plan, face, &mut list).expect(
-        rt, "memory",
-    );
-    let shaped = runs::shape_in_place::<UnicodeDatabase, F, NoLookups, S>(
-        alloc, plan, face, &mut list,
-    );
-    passed(rt, shaped);
-    let prepared = runs::prepare::<UnicodeDatabase, F, NoLookups, S>(alloc, plan, face, &mut list);
-    passed(rt, prepared);
+    let mut list = hb_buffer_t::new(rt.alloc());
+    list.set_direction(Direction::LeftToRight);
+    normalise::<UnicodeDatabase, F, NoLookups, S>(rt, plan, face, &mut list);
+    shape_in_place::<UnicodeDatabase, F, NoLookups, S>(rt, plan, face, &mut list);
+    prepare::<UnicodeDatabase, F, NoLookups, S>(rt, plan, face, &mut list);
 }
 
 /// How many glyphs an empty text has.
@@ -319,52 +217,133 @@ where
     F: hb_font_t,
     S: hb_ot_shaper_t<UnicodeDatabase, F, NoLookups, Data = ()>,
 {
-    let (alloc, text) = (rt.alloc(), UnicodeBuffer::new(rt.alloc()));
-    let answer = runs::glyphs_under::<UnicodeDatabase, F, NoLookups, S>(alloc, plan, face, text);
-    passed(rt, answer).expect(rt, "shaped").len()
+    let text = UnicodeBuffer::new(rt.alloc());
+    glyphs_under::<UnicodeDatabase, F, NoLookups, S>(rt, plan, face, text)
+        .expect(rt, "error")
+        .len()
+}
+
+/// Shapes empty texts in place and by the entry.
+fn shape_empty_texts<F, S>(rt: &(impl Abort + AllocGlobal), plan: &PlainPlan<'_, S>, face: &F)
+where
+    F: hb_font_t,
+    S: hb_ot_shaper_t<UnicodeDatabase, F, NoLookups, Data = ()>,
+{
+    shape_empty(rt, plan, face);
+    assert_same(rt, shape_nothing(rt, plan, face), 0);
+}
+
+/// The plans that each test begins with: without lookups, by a shaper that decomposes fully, and with masks for
+/// fractions.
+type Plans<'p, 'a, S, D, T, P> = (
+    &'p PlainPlan<'a, S>,
+    &'p PlainPlan<'a, D>,
+    &'p Plan<'a, T, P>,
+);
+
+/// The texts that each test begins with.
+type Texts<'a> = (&'a mut hb_buffer_t, &'a mut hb_buffer_t);
+
+/// Asks, and makes the steps on the two texts that each test begins with.
+fn make_steps<F, S, D, G, M, T>(
+    rt: &(impl Abort + AllocGlobal),
+    (plain, full, dividing): Plans<'_, '_, S, D, T, M::Map>,
+    face: &F,
+    (text, spelled): Texts<'_>,
+)
+where
+    F: hb_font_t,
+    S: hb_ot_shaper_t<UnicodeDatabase, F, NoLookups, Data = ()>,
+    D: hb_ot_shaper_t<UnicodeDatabase, F, NoLookups, Data = ()>,
+    G: hb_font_t,
+    M: hb_ot_layout_t<G>,
+    T: hb_ot_shaper_t<UnicodeDatabase, G, M, Data = ()>,
+{
+    ask(rt, (plain, full), face, spelled);
+    steps::make_all::<
+        _,
+        TypesOf<UnicodeDatabase, F, NoLookups, S>,
+        TypesOf<UnicodeDatabase, G, M, T>,
+    >(rt, (plain, dividing), face, text);
 }
 
 /// What a test does besides.
+#[derive(Clone, Copy)]
 enum Besides {
     Nothing,
     Steps,
     EmptyTexts,
 }
 
-/// Makes the steps, or shapes empty texts in place and by the entry.
-fn make(
+/// Makes what a test does besides.
+fn make<F, S, D, G, M, T>(
     rt: &(impl Abort + AllocGlobal),
-    plans: &Plans<'_>,
-    face: &MapFace,
-    texts: &mut Texts,
+    plans: Plans<'_, '_, S, D, T, M::Map>,
+    face: &F,
+    texts: Texts<'_>,
     besides: Besides,
-) {
+)
+where
+    F: hb_font_t,
+    S: hb_ot_shaper_t<UnicodeDatabase, F, NoLookups, Data = ()>,
+    D: hb_ot_shaper_t<UnicodeDatabase, F, NoLookups, Data = ()>,
+    G: hb_font_t,
+    M: hb_ot_layout_t<G>,
+    T: hb_ot_shaper_t<UnicodeDatabase, G, M, Data = ()>,
+{
     match besides {
         Besides::Nothing => {}
-        Besides::Steps => {
-            ask(rt, plans, face, &mut texts.spelled);
-            steps::make_all::<_, Types, DividingTypes>(
-                rt,
-                (&plans.plain, &plans.dividing),
-                face,
-                &mut texts.text,
-            );
-        }
-        Besides::EmptyTexts => {
-            shape_in_place(rt, &plans.plain, face);
-            assert_same(rt, shape_nothing(rt, &plans.plain, face), 0);
-        }
+        Besides::Steps => make_steps::<F, S, D, G, M, T>(rt, plans, face, texts),
+        Besides::EmptyTexts => shape_empty_texts(rt, plans.0, face),
     }
+}
+
+/// Makes the plans that each test begins with, which run to the right, and what one does besides.
+fn plan<F, S, D, G, M, T>(
+    rt: &(impl Abort + AllocGlobal),
+    (face, shaper, decomposing): (&F, &S, &D),
+    (divided, dividing): (&G, &T),
+    texts: Texts<'_>,
+    besides: Besides,
+)
+where
+    F: hb_font_t,
+    S: hb_ot_shaper_t<UnicodeDatabase, F, NoLookups, Data = ()>,
+    D: hb_ot_shaper_t<UnicodeDatabase, F, NoLookups, Data = ()>,
+    G: hb_font_t,
+    M: hb_ot_layout_t<G>,
+    T: hb_ot_shaper_t<UnicodeDatabase, G, M, Data = ()>,
+{
+    let rightward = (Direction::LeftToRight, None);
+    let plain = plan_for::<UnicodeDatabase, F, NoLookups, S>(rt, (face, shaper), rightward);
+    let full = plan_for::<UnicodeDatabase, F, NoLookups, D>(rt, (face, decomposing), rightward);
+    let dividing = plan_for::<UnicodeDatabase, G, M, T>(rt, (divided, dividing), rightward);
+    make::<F, S, D, G, M, T>(rt, (&plain, &full, &dividing), face, texts, besides);
+}
+
+/// The same over a face, and over one that divides, by the default shaper and one that decomposes fully.
+fn plan_over<F, G, M>(
+    rt: &(impl Abort + AllocGlobal),
+    (face, divided): (&F, &G),
+    texts: Texts<'_>,
+    besides: Besides,
+)
+where
+    F: hb_font_t,
+    G: hb_font_t,
+    M: hb_ot_layout_t<G>,
+{
+    let decomposing = Preferring::<Decomposed>::new();
+    let plainly = (face, &DEFAULT_SHAPER, &decomposing);
+    plan::<F, _, _, G, M, _>(rt, plainly, (divided, &DEFAULT_SHAPER), texts, besides);
 }
 
 /// Makes what each test begins with, and what one does besides.
 fn begin(rt: &(impl Abort + AllocGlobal), besides: Besides) {
-    let face = face(rt);
-    let decomposing = Preferring::<Decomposed>::new();
-    let plans = make_plans(rt, &face, &DIVIDING, &decomposing);
-    let mut texts = make_texts(rt);
-    assert_begun(rt, &texts);
-    make(rt, &plans, &face, &mut texts, besides);
+    let (mut text, mut spelled) = (entered(rt, TEXT), entered(rt, SPELLED));
+    assert_same(rt, (text.len(), spelled.len()), (16, 4));
+    let faces = (&face_of(rt, &BOXED), &DIVIDING);
+    plan_over::<_, _, TestLayout>(rt, faces, (&mut text, &mut spelled), besides);
 }
 
 #[test]

@@ -1,6 +1,6 @@
 //! Normalised lists of texts over the whole database of Unicode.
 
-use crate::listing::check;
+use crate::cases::check;
 use crate::lists::Lists;
 
 #[test]

@@ -1,42 +1,19 @@
 //! Glyphs of whole runs, with clusters, positions and flags, over the whole database of Unicode.
 
-use crate::answers::shaped;
-use crate::comparing::{assert_same, assert_that};
-use crate::listing::{Case, World, assert_answer, check, face_of, text_of};
-use crate::printing::{glyphs_printed, printed_glyphs};
-use crate::texts::guess;
-use shape_buffer::buffer::{
-    BufferFlags, GlyphBuffer, GlyphId, ScratchFlags, UnicodeBuffer, hb_buffer_t, hb_glyph_info_t,
-};
-use shape_pipeline::ot_shaper::DEFAULT_SHAPER;
+use crate::cases::check;
+use crate::comparing::assert_same;
+use crate::lists::Widths;
+use crate::texts::buffer_of;
+use shape_buffer::buffer::{BufferFlags, ScratchFlags, hb_buffer_t, hb_glyph_info_t};
 use shape_position::flags::propagate_flags;
 use std::process::Abort;
 
-/// Faces with widths, and the default shaper.
-struct Placing;
-
-impl World for Placing {
-    fn answer(rt: &(impl Abort + AllocGlobal), case: Case<'_>) -> String {
-        let glyphs = shaped_over(rt, case, text_of(rt, case));
-        printed_glyphs(rt.alloc(), glyphs).expect(rt, "memory")
-    }
-}
-
-/// The glyphs of a text over the face of a case.
-fn shaped_over(
-    rt: &(impl Abort + AllocGlobal),
-    case: Case<'_>,
-    text: UnicodeBuffer,
-) -> GlyphBuffer {
-    let face = face_of(rt, case.settings.face).expect(rt, "memory");
-    shaped(rt, (&face, &DEFAULT_SHAPER), text)
-}
-
 #[test]
 fn hidden_joiner(rt: HostRuntime) {
-    check::<Placing>(
+    check::<Widths>(
         &rt,
         "
+        step: place
         face: a=1(600) 0020=3(250)
         a 200C -> 1@0(600,0,0,0) 3@1(0,0,0,0)
         face: a=1(600)
@@ -52,9 +29,10 @@ fn hidden_joiner(rt: HostRuntime) {
 /// A space of a width that is a part of the em square.
 #[test]
 fn em_spaces(rt: HostRuntime) {
-    check::<Placing>(
+    check::<Widths>(
         &rt,
         "
+        step: place
         face: 0020=3(250)
         2004 -> 3@0(333,0,0,0)
         200A -> 3@0(63,0,0,0)
@@ -65,9 +43,10 @@ fn em_spaces(rt: HostRuntime) {
 
 #[test]
 fn marks_above_and_below(rt: HostRuntime) {
-    check::<Placing>(
+    check::<Widths>(
         &rt,
         "
+        step: place
         face: a=1(600,0,700,600,-700) 0301=2(200,50,800,200,-150) 0323=4(200,50,-50,200,-100)
         a 0301 -> 1@0(600,0,0,0) 2@0(0,0,-450,112)
         a 0323 -> 1@0(600,0,0,0) 4@0(0,0,-450,-12)
@@ -81,9 +60,10 @@ fn marks_above_and_below(rt: HostRuntime) {
 /// Widths at the ends of their range, and a box as high.
 #[test]
 fn odd_marks(rt: HostRuntime) {
-    check::<Placing>(
+    check::<Widths>(
         &rt,
         "
+        step: place
         face: a=1(600) 0301=2(-2147483648)
         a 0301 -> 1@0(600,0,0,0) 2@0(0,0,-2147483648,0)
         face: a=1(2147483647,0,0,0,0) 0301=2(0,0,0,-2147483648,0)
@@ -94,9 +74,10 @@ fn odd_marks(rt: HostRuntime) {
 
 #[test]
 fn spaces_of_a_width(rt: HostRuntime) {
-    check::<Placing>(
+    check::<Widths>(
         &rt,
         "
+        step: place
         face: a=1(600)
         a 2003 -> 1@0(600,0,0,0) 0@1(0,0,0,0)
         face: a=1(600) 0020=3(250)
@@ -108,31 +89,16 @@ fn spaces_of_a_width(rt: HostRuntime) {
     );
 }
 
-/// The same with the glyph 9 for variation selectors without a variant.
-struct WithSelectorGlyph;
-
-impl World for WithSelectorGlyph {
-    fn answer(rt: &(impl Abort + AllocGlobal), case: Case<'_>) -> String {
-        let mut text = text_of(rt, case);
-        text.set_not_found_variation_selector_glyph(Some(GlyphId(9)));
-        let glyphs = shaped_over(rt, case, text);
-        printed_glyphs(rt.alloc(), glyphs).expect(rt, "memory")
-    }
-}
-
+/// In the second case there is a glyph for selectors without a variant.
 #[test]
 fn selectors_without_a_variant(rt: HostRuntime) {
-    check::<Placing>(
+    check::<Widths>(
         &rt,
         "
+        step: place
         face: a=1(600) 0020=3(250)
         a FE00 FE01 -> 1@0(600,0,0,0) 3@0(0,0,0,0) 3@0(0,0,0,0)
-        ",
-    );
-    check::<WithSelectorGlyph>(
-        &rt,
-        "
-        face: a=1(600) 0020=3(250)
+        manner: selector=9
         a FE00 FE01 -> 1@0(600,0,0,0) 9@0(0,0,0,0) 3@0(0,0,0,0)
         ",
     );
@@ -140,9 +106,10 @@ fn selectors_without_a_variant(rt: HostRuntime) {
 
 #[test]
 fn down_the_page(rt: HostRuntime) {
-    check::<Placing>(
+    check::<Widths>(
         &rt,
         "
+        step: place
         face: a=1(600)
         manner: ttb
         a -> 1@0(0,-1000,-300,-1000)
@@ -152,9 +119,10 @@ fn down_the_page(rt: HostRuntime) {
 
 #[test]
 fn from_right_to_left(rt: HostRuntime) {
-    check::<Placing>(
+    check::<Widths>(
         &rt,
         "
+        step: place
         face: (=1(500) )=2(500) a=3(600)
         manner: rtl
         ( a -> 3@1(600,0,0,0) 2@0(500,0,0,0)
@@ -162,33 +130,13 @@ fn from_right_to_left(rt: HostRuntime) {
     );
 }
 
-/// The same for two letters of Hebrew, and once more in the buffer of the glyphs.
-struct TwoLettersTwice;
-
-impl World for TwoLettersTwice {
-    fn answer(rt: &(impl Abort + AllocGlobal), case: Case<'_>) -> String {
-        let glyphs = shaped_over(rt, case, text_of(rt, case));
-        let first = glyphs_printed(rt.alloc(), &glyphs).expect(rt, "memory");
-        assert_answer(rt, case, first);
-        let glyphs = shaped_over(rt, case, two_letters_again(rt, glyphs));
-        printed_glyphs(rt.alloc(), glyphs).expect(rt, "memory")
-    }
-}
-
-/// The two letters in the buffer of glyphs that are cleared.
-fn two_letters_again(rt: &(impl Abort + AllocGlobal), glyphs: GlyphBuffer) -> UnicodeBuffer {
-    let mut again = glyphs.clear();
-    assert_that(rt, again.is_empty());
-    again.push_str("\u{5D0}\u{5D1}").expect(rt, "memory");
-    guess(&mut again);
-    again
-}
-
+/// Two letters of Hebrew, and once more in the buffer of the glyphs.
 #[test]
 fn a_cleared_buffer_serves_again(rt: HostRuntime) {
-    check::<TwoLettersTwice>(
+    check::<Widths>(
         &rt,
         "
+        step: twice
         face: 05D0=1(500) 05D1=2(450)
         05D0 05D1 -> 2@2(450,0,0,0) 1@0(500,0,0,0)
         ",
@@ -202,14 +150,18 @@ fn masked(mask: u32) -> hb_glyph_info_t {
     item
 }
 
+/// A buffer of two items of one cluster, the first of which has a mask.
+fn masked_pair(rt: &(impl Abort + AllocGlobal), first: u32) -> hb_buffer_t {
+    let mut items = Vec::new(rt.alloc());
+    items.push(masked(first)).expect(rt, "error");
+    items.push(masked(0)).expect(rt, "error");
+    buffer_of(rt, items)
+}
+
 /// Hands the flags of two glyphs of one cluster out over it, of which the first has these, as flags of a text ask for
 /// it. Compares the flags that both have then.
 fn check_handed_out(rt: &(impl Abort + AllocGlobal), flags: BufferFlags, first: u32, both: u32) {
-    let mut items = Vec::new(rt.alloc());
-    items.push(masked(first)).expect(rt, "memory");
-    items.push(masked(0)).expect(rt, "memory");
-    let mut buffer = hb_buffer_t::new(rt.alloc());
-    buffer.replace_infos(items).expect(rt, "memory");
+    let mut buffer = masked_pair(rt, first);
     hand_out(&mut buffer, flags);
     assert_same(rt, buffer.len(), 2);
     for info in buffer.infos() {

@@ -5,14 +5,15 @@
 //! `+` stands behind a character that continues a grapheme, if there is one in the answer, and `~` behind each that
 //! is hidden. A direction stands before the items if the answer begins with one: `ltr`, `rtl`, `ttb` or `btt`.
 //!
-//! A glyph is its number in base 16 and its cluster, its advances and offsets, x before y, and its flags if it has
-//! some: `2@1(0,0,-450,112)/1`.
+//! A glyph is its number in base 16 and its cluster, its advances and offsets, x before y, and its mask in base 16 if
+//! that isn't 0: `2@1(0,0,-450,112)/1`.
 //!
 //! What is printed is handed over: a function that has to drop a list is slow to prove, and these do it once.
 
+use crate::cases::cut_off;
 use crate::comparing::position_at;
 use shape_buffer::buffer::{Direction, GlyphBuffer, GlyphPosition, hb_buffer_t, hb_glyph_info_t};
-use std::alloc::{AllocError, Global};
+use std::process::Abort;
 
 /// The name of a direction.
 fn name_of(direction: Direction) -> &'static str {
@@ -27,16 +28,46 @@ fn name_of(direction: Direction) -> &'static str {
 
 /// Whether an answer begins with a direction.
 fn begins_with_direction(wanted: &str) -> bool {
-    let (first, _) = wanted.split_once(' ').unwrap_or((wanted, ""));
-    matches!(first, "ltr" | "rtl" | "ttb" | "btt")
+    matches!(cut_off(wanted, " ").0, "ltr" | "rtl" | "ttb" | "btt")
+}
+
+/// Appends a direction if one is wanted.
+fn append_direction(rt: &impl Abort, line: &mut String, direction: Direction, wanted: &str) {
+    if begins_with_direction(wanted) {
+        line.push_str(name_of(direction)).expect(rt, "error");
+    }
+}
+
+/// Appends a space between words.
+pub fn append_space(rt: &impl Abort, line: &mut String) {
+    if !line.is_empty() {
+        line.push(' ').expect(rt, "error");
+    }
 }
 
 /// Appends a character.
-fn append_character(line: &mut String, c: char) -> Result<(), AllocError> {
+pub fn append_character(rt: &impl Abort, line: &mut String, c: char) {
     if c.is_ascii_graphic() {
-        write!(line, "{c}")
-    } else {
-        write!(line, "{:04X}", u32::from(c))
+        line.push(c).expect(rt, "error");
+        return;
+    }
+    write!(line, "{:04X}", u32::from(c)).expect(rt, "error");
+}
+
+/// Appends a number in base 16 behind a sign.
+fn append_hex(rt: &impl Abort, line: &mut String, sign: &str, number: u32) {
+    write!(line, "{sign}{number:X}").expect(rt, "error");
+}
+
+/// Appends a cluster.
+fn append_cluster(rt: &impl Abort, line: &mut String, cluster: u32) {
+    write!(line, "@{cluster}").expect(rt, "error");
+}
+
+/// Appends a mask if it isn't 0.
+pub fn append_mask(rt: &impl Abort, line: &mut String, mask: u32) {
+    if mask != 0 {
+        append_hex(rt, line, "/", mask);
     }
 }
 
@@ -51,124 +82,90 @@ fn mark_of(info: &hb_glyph_info_t, wanted: &str) -> &'static str {
     }
 }
 
-/// Appends an item with what the answer names of it.
-fn append_item(line: &mut String, info: &hb_glyph_info_t, wanted: &str) -> Result<(), AllocError> {
-    append_character(line, info.codepoint)?;
-    line.push_str(mark_of(info, wanted))?;
+/// Appends an item with what an answer names of it.
+pub fn append_item(rt: &impl Abort, line: &mut String, info: &hb_glyph_info_t, wanted: &str) {
+    append_space(rt, line);
+    append_character(rt, line, info.codepoint);
+    line.push_str(mark_of(info, wanted)).expect(rt, "error");
     if wanted.contains('=') {
-        write!(line, "={:X}", info.glyph_index)?;
+        append_hex(rt, line, "=", info.glyph_index);
     }
     if wanted.contains('@') {
-        write!(line, "@{}", info.cluster)?;
+        append_cluster(rt, line, info.cluster);
     }
-    Ok(())
-}
-
-/// Appends a glyph with its position.
-fn append_glyph(
-    line: &mut String,
-    info: &hb_glyph_info_t,
-    position: GlyphPosition,
-) -> Result<(), AllocError> {
-    let (x, y) = (position.x_advance, position.y_advance);
-    let (right, up) = (position.x_offset, position.y_offset);
-    let (glyph, cluster) = (info.glyph_id, info.cluster);
-    write!(line, "{glyph:X}@{cluster}({x},{y},{right},{up})")?;
-    if info.mask != 0 {
-        write!(line, "/{}", info.mask)?;
-    }
-    Ok(())
-}
-
-/// Appends a space between words.
-fn append_space(line: &mut String) -> Result<(), AllocError> {
-    if line.is_empty() {
-        Ok(())
-    } else {
-        line.push(' ')
-    }
-}
-
-/// Appends a direction if one is wanted.
-fn append_direction(
-    line: &mut String,
-    direction: Direction,
-    wanted: &str,
-) -> Result<(), AllocError> {
-    if begins_with_direction(wanted) {
-        line.push_str(name_of(direction))
-    } else {
-        Ok(())
-    }
-}
-
-/// Appends items.
-fn append_items(
-    line: &mut String,
-    infos: &[hb_glyph_info_t],
-    wanted: &str,
-) -> Result<(), AllocError> {
-    for info in infos {
-        append_space(line)?;
-        append_item(line, info, wanted)?;
-    }
-    Ok(())
 }
 
 /// Items, behind a direction if one is wanted.
 fn items_printed(
-    alloc: Global,
+    rt: &(impl Abort + AllocGlobal),
     direction: Direction,
     infos: &[hb_glyph_info_t],
     wanted: &str,
-) -> Result<String, AllocError> {
-    let mut line = String::new(alloc);
-    append_answer(&mut line, direction, infos, wanted)?;
-    Ok(line)
-}
-
-/// Appends a direction if one is wanted, and items.
-fn append_answer(
-    line: &mut String,
-    direction: Direction,
-    infos: &[hb_glyph_info_t],
-    wanted: &str,
-) -> Result<(), AllocError> {
-    append_direction(line, direction, wanted)?;
-    append_items(line, infos, wanted)
+) -> String {
+    let mut line = String::new(rt.alloc());
+    append_direction(rt, &mut line, direction, wanted);
+    for info in infos {
+        append_item(rt, &mut line, info, wanted);
+    }
+    line
 }
 
 /// The items of a list, as an answer names them.
-pub fn printed_list(alloc: Global, list: hb_buffer_t, wanted: &str) -> Result<String, AllocError> {
-    items_printed(alloc, list.direction(), list.infos(), wanted)
+pub fn printed_list(rt: &(impl Abort + AllocGlobal), list: hb_buffer_t, wanted: &str) -> String {
+    items_printed(rt, list.direction(), list.infos(), wanted)
 }
 
 /// The items that glyphs were made of, as an answer names them.
-pub fn printed_items(
-    alloc: Global,
-    glyphs: GlyphBuffer,
-    wanted: &str,
-) -> Result<String, AllocError> {
-    items_printed(alloc, glyphs.direction(), glyphs.glyph_infos(), wanted)
+pub fn printed_items(rt: &(impl Abort + AllocGlobal), glyphs: GlyphBuffer, wanted: &str) -> String {
+    items_printed(rt, glyphs.direction(), glyphs.glyph_infos(), wanted)
 }
 
-/// Appends glyphs with their positions.
-fn append_glyphs(line: &mut String, glyphs: &GlyphBuffer) -> Result<(), AllocError> {
-    for (at, info) in glyphs.glyph_infos().iter().enumerate() {
-        append_space(line)?;
-        append_glyph(line, info, position_at(glyphs.glyph_positions(), at))?;
-    }
-    Ok(())
+/// Appends a glyph and its cluster.
+fn append_glyph(rt: &impl Abort, line: &mut String, info: &hb_glyph_info_t) {
+    append_space(rt, line);
+    append_hex(rt, line, "", info.glyph_id);
+    append_cluster(rt, line, info.cluster);
+}
+
+/// Appends a position.
+fn append_position(rt: &impl Abort, line: &mut String, at: GlyphPosition) {
+    let (x, y) = (at.x_advance, at.y_advance);
+    let (right, up) = (at.x_offset, at.y_offset);
+    write!(line, "({x},{y},{right},{up})").expect(rt, "error");
 }
 
 /// Glyphs with their positions, which are kept.
-pub fn glyphs_printed(alloc: Global, glyphs: &GlyphBuffer) -> Result<String, AllocError> {
-    let mut line = String::new(alloc);
-    append_glyphs(&mut line, glyphs)?;
-    Ok(line)
+pub fn glyphs_printed(rt: &(impl Abort + AllocGlobal), glyphs: &GlyphBuffer) -> String {
+    let mut line = String::new(rt.alloc());
+    for (at, info) in glyphs.glyph_infos().iter().enumerate() {
+        append_glyph(rt, &mut line, info);
+        append_position(rt, &mut line, position_at(glyphs.glyph_positions(), at));
+        append_mask(rt, &mut line, info.mask);
+    }
+    line
 }
 
 /// Glyphs with their positions.
-pub fn printed_glyphs(alloc: Global, glyphs: GlyphBuffer) -> Result<String, AllocError> {
-    glyphs_printed(alloc, &glyphs)
+pub fn printed_glyphs(rt: &(impl Abort + AllocGlobal), glyphs: GlyphBuffer) -> String {
+    glyphs_printed(rt, &glyphs)
+}
+
+/// The glyphs of a list without their positions.
+pub fn printed_numbers(rt: &(impl Abort + AllocGlobal), list: hb_buffer_t) -> String {
+    let mut line = String::new(rt.alloc());
+    for info in list.infos() {
+        append_glyph(rt, &mut line, info);
+    }
+    line
+}
+
+/// Glyphs that have the numbers of characters, written as those are.
+pub fn printed_as_characters(rt: &(impl Abort + AllocGlobal), glyphs: GlyphBuffer) -> String {
+    let mut line = String::new(rt.alloc());
+    for info in glyphs.glyph_infos() {
+        append_space(rt, &mut line);
+        let c = char::from_u32(info.glyph_id).expect(rt, "a character's glyph");
+        append_character(rt, &mut line, c);
+    }
+    line
 }

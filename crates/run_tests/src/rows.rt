@@ -1,107 +1,119 @@
 //! Whole runs with the answers that the rules give.
 
+use crate::cases::{Case, World, character, check, cut, cut_off, number};
 use crate::comparing::{assert_same, assert_that};
-use crate::listing::{Case, World, character, characters_of, check, face_over, passed};
+use crate::faces::{characters_of, face_over};
 use crate::printing::printed_items;
-use crate::runs;
+use crate::runs::{glyphs_under, plan_for};
+use crate::steps::answer_by;
+use crate::texts::text_with;
 use shape_buffer::buffer::{Direction, GlyphBuffer, ShapeFault, UnicodeBuffer};
-use shape_buffer::interfaces::{NoLookups, PlainUnicode};
-use shape_pipeline::ot_shaper::hb_ot_shaper_t;
+use shape_buffer::interfaces::{
+    NoLookups, PlainUnicode, hb_font_t, hb_ot_layout_t, hb_unicode_funcs_t,
+};
+use shape_pipeline::ot_shaper::{DEFAULT_SHAPER, hb_ot_shaper_t};
 use std::process::Abort;
-use test_worlds::{DeepShaper, StackedShaper, TestFace};
+use test_worlds::{DeepShaper, StackedShaper};
 
-/// Single characters in cluster 7 without the database of Unicode, and shapers that split: `stacked`, or `deep` with
-/// how deep it goes, each time into the next character and one of its own.
+/// Faces of some characters without the database of Unicode, and shapers that split: `stacked`, or `deep` with how
+/// deep it goes, each time into the next character and one of its own. Their glyphs are printed as the items that they
+/// were made of; of more than a hundred it is printed how many they are.
 ///
-/// Of more than a hundred glyphs it is printed how many they are.
-struct Splits;
+/// The shaper `default` has the steps of `steps`.
+pub struct Splits;
 
 impl World for Splits {
     fn answer(rt: &(impl Abort + AllocGlobal), case: Case<'_>) -> String {
-        let characters = characters_of(rt, case.settings).expect(rt, "memory");
-        let face = face_over(case.settings, characters.as_slice());
-        answer_over(rt, &face, case)
+        let characters = characters_of(rt, case.settings.face);
+        answer_over(
+            rt,
+            &face_over(case.settings.face, characters.as_slice()),
+            case,
+        )
     }
 }
 
 /// The answer over a face.
-fn answer_over(rt: &(impl Abort + AllocGlobal), face: &TestFace<'_>, case: Case<'_>) -> String {
-    let (name, words) = case.settings.shaper.split_once(' ').unwrap_or(("", ""));
-    if name == "deep" {
-        return answer_by(rt, face, &deep(rt, words), case);
+fn answer_over<F: hb_font_t>(rt: &(impl Abort + AllocGlobal), face: &F, case: Case<'_>) -> String {
+    let (name, words) = cut_off(case.settings.shaper, " ");
+    match name {
+        "default" => {
+            answer_by::<PlainUnicode, F, NoLookups, _>(rt, (face, &DEFAULT_SHAPER), case)
+        }
+        "deep" => split::<PlainUnicode, F, NoLookups, _>(rt, (face, &deep(rt, words)), case),
+        "stacked" => split::<PlainUnicode, F, NoLookups, _>(rt, (face, &StackedShaper), case),
+        _ => rt.panic(name),
     }
-    assert_that(rt, case.settings.shaper == "stacked");
-    answer_by(rt, face, &StackedShaper, case)
 }
 
 /// A shaper that splits so deep.
-fn deep(rt: &(impl Abort + AllocGlobal), words: &str) -> DeepShaper {
-    let (depth, second) = words.split_once(' ').expect(rt, words);
+fn deep(rt: &impl Abort, words: &str) -> DeepShaper {
+    let (depth, second) = cut(rt, words, " ");
     DeepShaper {
-        depth: depth.parse::<u16>().expect(rt, depth),
+        depth: number(rt, depth),
         second: character(rt, second),
     }
 }
 
-/// The answer by a shaper.
-fn answer_by<'a, S>(
-    rt: &(impl Abort + AllocGlobal),
-    face: &TestFace<'a>,
-    shaper: &S,
-    case: Case<'_>,
-) -> String
+/// The answer by a shaper that splits.
+fn split<U, F, M, S>(rt: &(impl Abort + AllocGlobal), by: (&F, &S), case: Case<'_>) -> String
 where
-    S: hb_ot_shaper_t<PlainUnicode, TestFace<'a>, NoLookups, Data = ()>,
+    U: hb_unicode_funcs_t,
+    F: hb_font_t,
+    M: hb_ot_layout_t<F>,
+    S: hb_ot_shaper_t<U, F, M, Data = ()>,
 {
-    match shaped(rt, face, shaper, character(rt, case.text)) {
+    match shaped::<U, F, M, S>(rt, by, text_with(rt, case.text)) {
         Ok(glyphs) => printed(rt, glyphs, case.wanted),
         Err(fault) => refusal(rt, &fault),
     }
 }
 
-/// Shapes one character, in cluster 7.
-fn shaped<'a, S>(
+/// Shapes a text, of which nothing is set, under a plan that runs to the right.
+fn shaped<U, F, M, S>(
     rt: &(impl Abort + AllocGlobal),
-    face: &TestFace<'a>,
-    shaper: &S,
-    c: char,
+    by: (&F, &S),
+    text: UnicodeBuffer,
 ) -> Result<GlyphBuffer, ShapeFault>
 where
-    S: hb_ot_shaper_t<PlainUnicode, TestFace<'a>, NoLookups, Data = ()>,
+    U: hb_unicode_funcs_t,
+    F: hb_font_t,
+    M: hb_ot_layout_t<F>,
+    S: hb_ot_shaper_t<U, F, M, Data = ()>,
 {
-    let (alloc, direction) = (rt.alloc(), Direction::LeftToRight);
-    let planned = runs::plan_for::<PlainUnicode, TestFace<'a>, NoLookups, S>(
-        alloc, face, shaper, direction, None,
-    );
-    let plan = passed(rt, planned);
-    let mut text = UnicodeBuffer::new(rt.alloc());
-    text.add(c, 7).expect(rt, "memory");
-    let answer = runs::glyphs_under::<PlainUnicode, TestFace<'a>, NoLookups, S>(
-        alloc, &plan, face, text,
-    );
-    passed(rt, answer)
+    let plan = plan_for::<U, F, M, S>(rt, by, (Direction::LeftToRight, None));
+    glyphs_under::<U, F, M, S>(rt, &plan, by.0, text)
 }
 
 /// Glyphs that have the glyphs of their items, or how many they are, if all stand in cluster 7.
 fn printed(rt: &(impl Abort + AllocGlobal), glyphs: GlyphBuffer, wanted: &str) -> String {
     if glyphs.len() <= 100 {
-        for info in glyphs.glyph_infos() {
-            assert_same(rt, info.glyph_id, info.glyph_index);
-        }
-        return printed_items(rt.alloc(), glyphs, wanted).expect(rt, "memory");
+        assert_own(rt, &glyphs);
+        return printed_items(rt, glyphs, wanted);
     }
-    assert_that(
-        rt,
-        glyphs.glyph_infos().iter().all(|info| info.cluster == 7),
-    );
-    format!(in rt.alloc(); "{} glyphs", glyphs.len()).expect(rt, "memory")
+    assert_in_cluster(rt, &glyphs);
+    format!(in rt.alloc(); "{} glyphs", glyphs.len()).expect(rt, "error")
+}
+
+/// Asserts that glyphs have the glyphs of their items.
+fn assert_own(rt: &impl Abort, glyphs: &GlyphBuffer) {
+    for info in glyphs.glyph_infos() {
+        assert_same(rt, info.glyph_id, info.glyph_index);
+    }
+}
+
+/// Asserts that glyphs stand in cluster 7.
+fn assert_in_cluster(rt: &impl Abort, glyphs: &GlyphBuffer) {
+    for info in glyphs.glyph_infos() {
+        assert_that(rt, info.cluster == 7);
+    }
 }
 
 /// Why a text was refused, how many items are left in its buffer, and the direction of that.
 fn refusal(rt: &(impl Abort + AllocGlobal), fault: &ShapeFault) -> String {
     let (left, direction) = (fault.buffer.len(), fault.buffer.direction());
     let cause = fault.cause;
-    format!(in rt.alloc(); "refused {cause:?}, {left} left, {direction:?}").expect(rt, "memory")
+    format!(in rt.alloc(); "refused {cause:?}, {left} left, {direction:?}").expect(rt, "error")
 }
 
 #[test]
@@ -111,15 +123,15 @@ fn greatest_expansion(rt: HostRuntime) {
         "
         shaper: stacked
         face: A 0302 0301 00C2
-        1EA4 -> A@7 0302@7 0301@7
+        1EA4@7 -> A@7 0302@7 0301@7
         face: 0301 00C2
-        1EA4 -> 00C2@7 0301@7
+        1EA4@7 -> 00C2@7 0301@7
         face: A 0301 00C2
-        1EA4 -> 00C2@7 0301@7
+        1EA4@7 -> 00C2@7 0301@7
         face: A 0302 00C2
-        1EA4 -> 1EA4@7
+        1EA4@7 -> 1EA4@7
         face:
-        1EA4 -> 1EA4@7
+        1EA4@7 -> 1EA4@7
         ",
     );
 }
@@ -132,9 +144,9 @@ fn length_limit(rt: HostRuntime) {
         "
         face: every
         shaper: deep 16383 a
-        F0000 -> 16384 glyphs
+        F0000@7 -> 16384 glyphs
         shaper: deep 16384 a
-        F0000 -> refused Length, 0 left, Invalid
+        F0000@7 -> refused Length, 0 left, Invalid
         ",
     );
 }
@@ -147,7 +159,7 @@ fn a_deep_chain_is_walked(rt: HostRuntime) {
         "
         face: every
         shaper: deep 65000 0000
-        F0000 -> FFDE8@7
+        F0000@7 -> FFDE8@7
         ",
     );
 }
@@ -160,9 +172,9 @@ fn a_deep_chain_without_glyphs_is_left(rt: HostRuntime) {
         "
         face: F0000 a
         shaper: deep 65000 0000
-        F0000 -> F0000@7
+        F0000@7 -> F0000@7
         shaper: deep 16384 a
-        F0000 -> F0000@7
+        F0000@7 -> F0000@7
         ",
     );
 }

@@ -1,6 +1,8 @@
 //! The pipeline's calls, each in a function of its own without a contract. The proof of a function carries what its
 //! calls promise to its end: so the promises of one call end here, and tests make runs of many steps of these
 //! functions.
+//!
+//! A growth that is refused ends a test with `error: ` and the cause, as the gate's script expects.
 
 use shape_buffer::buffer::{
     Direction, GlyphBuffer, Script, ShapeError, ShapeFault, UnicodeBuffer, hb_buffer_t,
@@ -14,45 +16,52 @@ use shape_pipeline::ot_shape_plan::hb_ot_shape_plan_t;
 use shape_pipeline::ot_shaper::hb_ot_shaper_t;
 use shape_pipeline::{shape, shape_with_plan};
 use std::alloc::Global;
-use std::test::Fail;
+use std::process::Abort;
+
+/// A plan of a shaper without data.
+pub type Plan<'a, S, P> = hb_ot_shape_plan_t<'a, S, P, ()>;
 
 /// A plan for texts of a direction and a script.
 pub fn plan_for<'a, U, F, M, S>(
-    alloc: Global,
-    face: &'a F,
-    shaper: &'a S,
-    direction: Direction,
-    script: Option<Script>,
-) -> Result<hb_ot_shape_plan_t<'a, S, M::Map, ()>, Fail>
+    rt: &(impl Abort + AllocGlobal),
+    (face, shaper): (&'a F, &'a S),
+    (direction, script): (Direction, Option<Script>),
+) -> Plan<'a, S, M::Map>
 where
     U: hb_unicode_funcs_t,
     F: hb_font_t,
     M: hb_ot_layout_t<F>,
     S: hb_ot_shaper_t<U, F, M, Data = ()>,
 {
-    if direction == Direction::Invalid {
-        return Err(Fail::from("no direction"));
-    }
-    let plan = hb_ot_shape_plan_t::new::<U, F, M>(
-        alloc,
-        face,
-        shaper,
-        direction,
-        script,
-        None,
-        &[],
-    )?;
-    Ok(plan)
+    assert!(rt; direction != Direction::Invalid);
+    let alloc = rt.alloc();
+    hb_ot_shape_plan_t::new::<U, F, M>(alloc, face, shaper, direction, script, None, &[]).expect(
+        rt, "error",
+    )
 }
 
-/// Prepares the text of a buffer, and shapes it in place if it is taken to the end.
-fn take<U, F, M, S>(
-    alloc: Global,
-    plan: &hb_ot_shape_plan_t<'_, S, M::Map, ()>,
+/// The plan for a text.
+pub fn planned<'a, U, F, M, S>(
+    rt: &(impl Abort + AllocGlobal),
+    by: (&'a F, &'a S),
+    text: &UnicodeBuffer,
+) -> Plan<'a, S, M::Map>
+where
+    U: hb_unicode_funcs_t,
+    F: hb_font_t,
+    M: hb_ot_layout_t<F>,
+    S: hb_ot_shaper_t<U, F, M, Data = ()>,
+{
+    plan_for::<U, F, M, S>(rt, by, (text.direction(), text.script()))
+}
+
+/// Prepares the text of a buffer.
+pub fn prepare<U, F, M, S>(
+    rt: &(impl Abort + AllocGlobal),
+    plan: &Plan<'_, S, M::Map>,
     face: &F,
     buffer: &mut hb_buffer_t,
-    to_end: bool,
-) -> Result<(), Fail>
+)
 where
     U: hb_unicode_funcs_t,
     F: hb_font_t,
@@ -60,95 +69,95 @@ where
     S: hb_ot_shaper_t<U, F, M, Data = ()>,
 {
     let target_direction = buffer.direction();
-    if target_direction == Direction::Invalid {
-        return Err(Fail::from("no direction"));
-    }
+    assert!(rt; target_direction != Direction::Invalid);
     let mut ctx = hb_ot_shape_context_t {
         plan,
         face,
         buffer,
         target_direction,
     };
-    let taken = if to_end {
-        shape_internal::<U, F, M, S>(alloc, &mut ctx)
-    } else {
-        prepare_text::<U, F, M, S>(alloc, &mut ctx)
-    };
-    Ok(taken?)
+    prepare_text::<U, F, M, S>(rt.alloc(), &mut ctx).expect(rt, "error");
 }
 
-/// Prepares the text of a buffer.
-pub fn prepare<U, F, M, S>(
-    alloc: Global,
-    plan: &hb_ot_shape_plan_t<'_, S, M::Map, ()>,
+/// A text as a run prepares it under a plan.
+pub fn prepared_under<U, F, M, S>(
+    rt: &(impl Abort + AllocGlobal),
+    plan: &Plan<'_, S, M::Map>,
     face: &F,
-    buffer: &mut hb_buffer_t,
-) -> Result<(), Fail>
+    text: UnicodeBuffer,
+) -> hb_buffer_t
 where
     U: hb_unicode_funcs_t,
     F: hb_font_t,
     M: hb_ot_layout_t<F>,
     S: hb_ot_shaper_t<U, F, M, Data = ()>,
 {
-    take::<U, F, M, S>(alloc, plan, face, buffer, false)
+    let mut list = text.into_inner();
+    prepare::<U, F, M, S>(rt, plan, face, &mut list);
+    list
 }
 
 /// Normalises the list of a buffer.
 pub fn normalise<U, F, M, S>(
-    alloc: Global,
-    plan: &hb_ot_shape_plan_t<'_, S, M::Map, ()>,
+    rt: &(impl Abort + AllocGlobal),
+    plan: &Plan<'_, S, M::Map>,
     face: &F,
     buffer: &mut hb_buffer_t,
-) -> Result<(), ShapeError>
+)
 where
     U: hb_unicode_funcs_t,
     F: hb_font_t,
     M: hb_ot_layout_t<F>,
     S: hb_ot_shaper_t<U, F, M, Data = ()>,
 {
-    _hb_ot_shape_normalize::<U, F, M, S>(alloc, plan, buffer, face)
+    _hb_ot_shape_normalize::<U, F, M, S>(rt.alloc(), plan, buffer, face).expect(rt, "error");
 }
 
 /// Shapes the text of a buffer in place.
 pub fn shape_in_place<U, F, M, S>(
-    alloc: Global,
-    plan: &hb_ot_shape_plan_t<'_, S, M::Map, ()>,
+    rt: &(impl Abort + AllocGlobal),
+    plan: &Plan<'_, S, M::Map>,
     face: &F,
     buffer: &mut hb_buffer_t,
-) -> Result<(), Fail>
+)
 where
     U: hb_unicode_funcs_t,
     F: hb_font_t,
     M: hb_ot_layout_t<F>,
     S: hb_ot_shaper_t<U, F, M, Data = ()>,
 {
-    take::<U, F, M, S>(alloc, plan, face, buffer, true)
+    let target_direction = buffer.direction();
+    assert!(rt; target_direction != Direction::Invalid);
+    let mut ctx = hb_ot_shape_context_t {
+        plan,
+        face,
+        buffer,
+        target_direction,
+    };
+    shape_internal::<U, F, M, S>(rt.alloc(), &mut ctx).expect(rt, "error");
 }
 
 /// The glyphs of a text under a plan.
 pub fn glyphs_under<U, F, M, S>(
-    alloc: Global,
-    plan: &hb_ot_shape_plan_t<'_, S, M::Map, ()>,
+    rt: &(impl Abort + AllocGlobal),
+    plan: &Plan<'_, S, M::Map>,
     face: &F,
     text: UnicodeBuffer,
-) -> Result<Result<GlyphBuffer, ShapeFault>, Fail>
+) -> Result<GlyphBuffer, ShapeFault>
 where
     U: hb_unicode_funcs_t,
     F: hb_font_t,
     M: hb_ot_layout_t<F>,
     S: hb_ot_shaper_t<U, F, M, Data = ()>,
 {
-    if !plan.fits::<U>(&text) {
-        return Err(Fail::from("the plan doesn't fit"));
-    }
-    Ok(shape_with_plan::<U, F, M, S>(alloc, face, plan, text))
+    assert!(rt; plan.fits::<U>(&text));
+    shape_with_plan::<U, F, M, S>(rt.alloc(), face, plan, text)
 }
 
 /// The glyphs of a text, planned and shaped.
 pub fn glyphs_of<U, F, M, S>(
     alloc: Global,
-    face: &F,
-    shaper: &S,
+    (face, shaper): (&F, &S),
     text: UnicodeBuffer,
 ) -> Result<GlyphBuffer, ShapeFault>
 where
@@ -163,10 +172,9 @@ where
 /// Whether two buffers are normalised alike.
 pub fn are_alike<U, F, M, S>(
     alloc: Global,
-    plan: &hb_ot_shape_plan_t<'_, S, M::Map, ()>,
+    plan: &Plan<'_, S, M::Map>,
     face: &F,
-    a: &mut hb_buffer_t,
-    b: &mut hb_buffer_t,
+    (a, b): (&mut hb_buffer_t, &mut hb_buffer_t),
 ) -> Result<bool, ShapeError>
 where
     U: hb_unicode_funcs_t,
@@ -179,7 +187,7 @@ where
 
 /// Whether a prepared buffer meets the premises of canonical form.
 pub fn meets_premises<U, F, M, S>(
-    plan: &hb_ot_shape_plan_t<'_, S, M::Map, ()>,
+    plan: &Plan<'_, S, M::Map>,
     face: &F,
     buffer: &hb_buffer_t,
 ) -> bool

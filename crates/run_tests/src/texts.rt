@@ -1,17 +1,18 @@
-//! What the tests over the whole database of Unicode share: how texts are shaped, plans, and comparisons.
+//! Texts, as the words of cases write them.
+//!
+//! A character stands in the cluster that is its offset in UTF-8, if no other is written behind an `@`: `1EA4@7`.
+//!
+//! The words of a manner are a direction (`ltr`, `rtl`, `ttb`, `btt`), `by_character` for clusters of single
+//! characters, `beginning` and `no_circle` for flags of the text, and glyphs in base 16: `invisible=3` for what isn't
+//! shown, `selector=9` for selectors without a variant.
 
-use crate::comparing::{assert_same, item_at};
-use crate::runs;
+use crate::cases::{character, cut, cut_off, number, number_in_hex};
 use shape_buffer::buffer::{
-    BufferClusterLevel, BufferFlags, Direction, UnicodeBuffer, hb_buffer_t,
+    BufferClusterLevel, BufferFlags, Direction, GlyphId, UnicodeBuffer, hb_buffer_t,
+    hb_glyph_info_t,
 };
-use shape_buffer::interfaces::{NoLookups, hb_font_t};
-use shape_pipeline::ot_shape_plan::hb_ot_shape_plan_t;
-use shape_pipeline::ot_shaper::hb_ot_shaper_t;
-use shape_unicode::UnicodeDatabase;
-use std::alloc::Global;
+use shape_buffer::interfaces::hb_unicode_funcs_t;
 use std::process::Abort;
-use std::test::Fail;
 
 /// What is set of a text before it is shaped.
 #[derive(Clone, Copy)]
@@ -19,6 +20,8 @@ pub struct Manner {
     pub direction: Direction,
     pub level: BufferClusterLevel,
     pub flags: BufferFlags,
+    pub invisible: Option<GlyphId>,
+    pub selector: Option<GlyphId>,
 }
 
 /// Nothing is set.
@@ -26,45 +29,120 @@ pub const PLAINLY: Manner = Manner {
     direction: Direction::Invalid,
     level: BufferClusterLevel::MonotoneGraphemes,
     flags: BufferFlags(0),
+    invisible: None,
+    selector: None,
 };
 
-/// The clusters of single characters are kept apart.
-pub const BY_CHARACTER: Manner = Manner {
-    direction: Direction::Invalid,
-    level: BufferClusterLevel::MonotoneCharacters,
-    flags: BufferFlags(0),
-};
-
-/// Guesses direction and script if they aren't set.
-pub fn guess(buffer: &mut UnicodeBuffer) {
-    buffer.guess_segment_properties::<UnicodeDatabase>();
-}
-
-/// The plan for a text.
-pub fn planned<'a, F, S>(
-    alloc: Global,
-    face: &'a F,
-    shaper: &'a S,
-    text: &UnicodeBuffer,
-) -> Result<hb_ot_shape_plan_t<'a, S, (), ()>, Fail>
-where
-    F: hb_font_t,
-    S: hb_ot_shaper_t<UnicodeDatabase, F, NoLookups, Data = ()>,
-{
-    runs::plan_for::<UnicodeDatabase, F, NoLookups, S>(
-        alloc,
-        face,
-        shaper,
-        text.direction(),
-        text.script(),
-    )
-}
-
-/// Compares characters.
-pub fn assert_characters(rt: &impl Abort, buffer: &hb_buffer_t, characters: &[char]) {
-    assert_same(rt, buffer.len(), characters.len());
-    for (at, c) in characters.iter().enumerate() {
-        let info = item_at(buffer.infos(), at);
-        assert_same(rt, info.codepoint, *c);
+/// The manner that words name.
+pub fn manner_of(rt: &impl Abort, words: &str) -> Manner {
+    let mut manner = PLAINLY;
+    for word in words.split_whitespace() {
+        set_word(rt, &mut manner, word);
     }
+    manner
+}
+
+/// Sets one thing more of a manner.
+fn set_word(rt: &impl Abort, manner: &mut Manner, word: &str) {
+    match word {
+        "ltr" => manner.direction = Direction::LeftToRight,
+        "rtl" => manner.direction = Direction::RightToLeft,
+        "ttb" => manner.direction = Direction::TopToBottom,
+        "btt" => manner.direction = Direction::BottomToTop,
+        "by_character" => manner.level = BufferClusterLevel::MonotoneCharacters,
+        "beginning" => manner.flags.0 |= BufferFlags::BEGINNING_OF_TEXT.0,
+        "no_circle" => manner.flags.0 |= BufferFlags::DO_NOT_INSERT_DOTTED_CIRCLE.0,
+        _ => set_glyph(rt, manner, cut(rt, word, "=")),
+    }
+}
+
+/// Sets a glyph of a manner.
+fn set_glyph(rt: &impl Abort, manner: &mut Manner, (name, glyph): (&str, &str)) {
+    let glyph = Some(GlyphId(number_in_hex(rt, glyph)));
+    match name {
+        "invisible" => manner.invisible = glyph,
+        "selector" => manner.selector = glyph,
+        _ => rt.panic(name),
+    }
+}
+
+/// Appends a character in a cluster. Gives the cluster behind it.
+fn add_at(rt: &impl Abort, text: &mut UnicodeBuffer, c: char, cluster: u32) -> u32 {
+    text.add(c, cluster).expect(rt, "error");
+    cluster.saturating_add(c.len_utf8() as u32)
+}
+
+/// Appends the character of a word, in this cluster if the word has none. Gives the cluster behind it.
+fn add_word(rt: &impl Abort, text: &mut UnicodeBuffer, word: &str, cluster: u32) -> u32 {
+    let (c, at) = cut_off(word, "@");
+    let cluster = if at.is_empty() {
+        cluster
+    } else {
+        number(rt, at)
+    };
+    add_at(rt, text, character(rt, c), cluster)
+}
+
+/// Appends the characters of words.
+pub fn add(rt: &impl Abort, text: &mut UnicodeBuffer, words: &str) {
+    let mut cluster: u32 = 0;
+    for word in words.split_whitespace() {
+        cluster = add_word(rt, text, word, cluster);
+    }
+}
+
+/// Sets a manner of a text. Direction and script are guessed if they aren't set.
+fn set<U: hb_unicode_funcs_t>(text: &mut UnicodeBuffer, manner: &Manner) {
+    text.set_direction(manner.direction);
+    text.set_cluster_level(manner.level);
+    text.set_flags(manner.flags);
+    text.set_invisible_glyph(manner.invisible);
+    text.set_not_found_variation_selector_glyph(manner.selector);
+    text.guess_segment_properties::<U>();
+}
+
+/// The text that words write, of which nothing is set.
+pub fn text_with(rt: &(impl Abort + AllocGlobal), words: &str) -> UnicodeBuffer {
+    let mut text = UnicodeBuffer::new(rt.alloc());
+    add(rt, &mut text, words);
+    text
+}
+
+/// The text that words write, in a manner.
+pub fn text_of<U: hb_unicode_funcs_t>(
+    rt: &(impl Abort + AllocGlobal),
+    manner: &Manner,
+    words: &str,
+) -> UnicodeBuffer {
+    let mut text = text_with(rt, words);
+    set::<U>(&mut text, manner);
+    text
+}
+
+/// The item that a word writes, with its mask behind a slash, in base 16, if that isn't 0.
+fn item_of(rt: &impl Abort, word: &str, cluster: u32) -> hb_glyph_info_t {
+    let (c, mask) = cut_off(word, "/");
+    let mut info = hb_glyph_info_t::new(character(rt, c), cluster);
+    if !mask.is_empty() {
+        info.mask = number_in_hex(rt, mask);
+    }
+    info
+}
+
+/// The items that words write, each in the cluster of its place.
+pub fn items_of(rt: &(impl Abort + AllocGlobal), words: &str) -> Vec<hb_glyph_info_t> {
+    let mut infos = Vec::new(rt.alloc());
+    let mut place: u32 = 0;
+    for word in words.split_whitespace() {
+        infos.push(item_of(rt, word, place)).expect(rt, "error");
+        place = place.saturating_add(1);
+    }
+    infos
+}
+
+/// A buffer of these items.
+pub fn buffer_of(rt: &(impl Abort + AllocGlobal), infos: Vec<hb_glyph_info_t>) -> hb_buffer_t {
+    let mut buffer = hb_buffer_t::new(rt.alloc());
+    buffer.replace_infos(infos).expect(rt, "error");
+    buffer
 }

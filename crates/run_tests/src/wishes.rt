@@ -1,16 +1,15 @@
 //! Shapers with wishes for marks, by themselves and beside tables that position.
 
-use crate::listing::{Case, World, check, passed, text_of};
-use crate::printing::printed_glyphs;
-use crate::runs;
-use shape_buffer::buffer::{GlyphId, UnicodeBuffer};
-use shape_buffer::interfaces::hb_tables_t;
-use shape_pipeline::ot_shape_plan::hb_ot_shape_plan_t;
+use crate::cases::{Case, World, check};
+use crate::runs::{Plan, planned};
+use crate::steps::{answer_by, text_in};
+use shape_buffer::buffer::GlyphId;
+use shape_buffer::interfaces::{hb_font_t, hb_ot_layout_t, hb_tables_t};
 use shape_pipeline::ot_shaper::{DEFAULT_SHAPER, hb_ot_shaper_t};
 use shape_unicode::UnicodeDatabase;
 use std::process::Abort;
 use test_worlds::{
-    EarlyShaper, HangingShaper, KnownGlyph, LateShaper, PLAIN_FACE, TestFace, TestLayout, TestMap,
+    EarlyShaper, HangingShaper, KnownGlyph, LateShaper, PLAIN_FACE, TestFace, TestLayout,
 };
 
 /// A letter of each direction, and an acute that advances, none with a box.
@@ -55,87 +54,65 @@ fn tabled(tables: &str) -> TestFace<'static> {
     }
 }
 
-/// A plan of a shaper.
-type Plan<'a, S> = hb_ot_shape_plan_t<'a, S, TestMap, ()>;
-
 /// Shapers that are `default`, let marks hang where their boxes say (`hanging`), or zero them before tables (`early`)
 /// or after (`late`). The tables are some of `gsub`, `gpos`, `morx`, `kerx` and `kern`.
 ///
-/// The step `shape` gives glyphs, `decide` what the plan decides of marks, and `position` which tables it applies.
+/// The step `decide` gives what the plan decides of marks, and `position` which tables it applies; the others are
+/// those of `steps`.
 struct Wishes;
 
 impl World for Wishes {
     fn answer(rt: &(impl Abort + AllocGlobal), case: Case<'_>) -> String {
-        match case.settings.shaper {
-            "default" => answer_by(rt, &DEFAULT_SHAPER, case),
-            "hanging" => answer_by(rt, &HangingShaper::new(), case),
-            "early" => answer_by(rt, &EarlyShaper::new(), case),
-            "late" => answer_by(rt, &LateShaper::new(), case),
-            name => rt.panic(name),
-        }
+        answer_over::<_, TestLayout>(rt, &tabled(case.settings.tables), case)
+    }
+}
+
+/// The answer over a face.
+fn answer_over<F: hb_font_t, M: hb_ot_layout_t<F>>(
+    rt: &(impl Abort + AllocGlobal),
+    face: &F,
+    case: Case<'_>,
+) -> String {
+    match case.settings.shaper {
+        "default" => decided::<F, M, _>(rt, (face, &DEFAULT_SHAPER), case),
+        "hanging" => decided::<F, M, _>(rt, (face, &HangingShaper::new()), case),
+        "early" => decided::<F, M, _>(rt, (face, &EarlyShaper::new()), case),
+        "late" => decided::<F, M, _>(rt, (face, &LateShaper::new()), case),
+        name => rt.panic(name),
     }
 }
 
 /// The answer by a shaper.
-fn answer_by<S>(rt: &(impl Abort + AllocGlobal), shaper: &S, case: Case<'_>) -> String
+fn decided<F, M, S>(rt: &(impl Abort + AllocGlobal), by: (&F, &S), case: Case<'_>) -> String
 where
-    S: hb_ot_shaper_t<UnicodeDatabase, TestFace<'static>, TestLayout, Data = ()>,
+    F: hb_font_t,
+    M: hb_ot_layout_t<F>,
+    S: hb_ot_shaper_t<UnicodeDatabase, F, M, Data = ()>,
 {
-    let face = tabled(case.settings.tables);
-    let text = text_of(rt, case);
-    let plan = planned(rt, &face, shaper, &text);
     match case.settings.step {
-        "shape" => glyphs_of(rt, &face, &plan, text),
-        "decide" => decisions_of(rt, &plan),
-        "position" => tables_of(rt, &plan),
-        step => rt.panic(step),
+        "decide" => decisions_of(rt, &plan_in::<F, M, S>(rt, by, case)),
+        "position" => tables_of(rt, &plan_in::<F, M, S>(rt, by, case)),
+        _ => answer_by::<UnicodeDatabase, F, M, S>(rt, by, case),
     }
 }
 
-/// The plan for a text.
-fn planned<'a, S>(
+/// The plan for the text of a case.
+fn plan_in<'a, F, M, S>(
     rt: &(impl Abort + AllocGlobal),
-    face: &'a TestFace<'static>,
-    shaper: &'a S,
-    text: &UnicodeBuffer,
-) -> Plan<'a, S>
+    by: (&'a F, &'a S),
+    case: Case<'_>,
+) -> Plan<'a, S, M::Map>
 where
-    S: hb_ot_shaper_t<UnicodeDatabase, TestFace<'static>, TestLayout, Data = ()>,
+    F: hb_font_t,
+    M: hb_ot_layout_t<F>,
+    S: hb_ot_shaper_t<UnicodeDatabase, F, M, Data = ()>,
 {
-    let (direction, script) = (text.direction(), text.script());
-    let plan = runs::plan_for::<UnicodeDatabase, TestFace<'static>, TestLayout, S>(
-        rt.alloc(),
-        face,
-        shaper,
-        direction,
-        script,
-    );
-    passed(rt, plan)
-}
-
-/// The glyphs of a text.
-fn glyphs_of<S>(
-    rt: &(impl Abort + AllocGlobal),
-    face: &TestFace<'static>,
-    plan: &Plan<'_, S>,
-    text: UnicodeBuffer,
-) -> String
-where
-    S: hb_ot_shaper_t<UnicodeDatabase, TestFace<'static>, TestLayout, Data = ()>,
-{
-    let answer = runs::glyphs_under::<UnicodeDatabase, TestFace<'static>, TestLayout, S>(
-        rt.alloc(),
-        plan,
-        face,
-        text,
-    );
-    let glyphs = passed(rt, answer).expect(rt, "shaped");
-    printed_glyphs(rt.alloc(), glyphs).expect(rt, "memory")
+    planned::<UnicodeDatabase, F, M, S>(rt, by, &text_in::<UnicodeDatabase>(rt, case))
 }
 
 /// Whether a plan zeroes marks, goes by `morx`, has a shaper that gave way, places marks by their boxes, and moves
 /// those that it zeroes.
-fn decisions_of<S>(rt: &(impl Abort + AllocGlobal), plan: &Plan<'_, S>) -> String {
+fn decisions_of<S, P>(rt: &(impl Abort + AllocGlobal), plan: &Plan<'_, S, P>) -> String {
     format!(in rt.alloc();
         "zeroes {}, morx {}, gave way {}, by boxes {}, moves {}",
         plan.zero_marks(),
@@ -144,18 +121,18 @@ fn decisions_of<S>(rt: &(impl Abort + AllocGlobal), plan: &Plan<'_, S>) -> Strin
         plan.fallback_mark_positioning(),
         plan.adjust_mark_positioning_when_zeroing()
     )
-    .expect(rt, "memory")
+    .expect(rt, "error")
 }
 
 /// Whether `GPOS`, `kerx` and `kern` are applied under a plan.
-fn tables_of<S>(rt: &(impl Abort + AllocGlobal), plan: &Plan<'_, S>) -> String {
+fn tables_of<S, P>(rt: &(impl Abort + AllocGlobal), plan: &Plan<'_, S, P>) -> String {
     format!(in rt.alloc();
         "gpos {}, kerx {}, kern {}",
         plan.apply_gpos(),
         plan.apply_kerx(),
         plan.apply_kern()
     )
-    .expect(rt, "memory")
+    .expect(rt, "error")
 }
 
 /// The mark stays where it is and has no width. Before the letter of backward text it does so too.
@@ -164,7 +141,7 @@ fn marks_of_a_base_without_a_box_are_zeroed(rt: HostRuntime) {
     check::<Wishes>(
         &rt,
         "
-        step: shape
+        step: place
         shaper: hanging
         a 0301 -> 1@0(600,0,0,0) 2@0(0,0,-100,0)
         05D0 0301 -> 2@0(0,0,0,0) 4@0(500,0,0,0)
@@ -177,7 +154,7 @@ fn zeroing_alone_adjusts_in_forward_text(rt: HostRuntime) {
     check::<Wishes>(
         &rt,
         "
-        step: shape
+        step: place
         shaper: early
         a 0301 -> 1@0(600,0,0,0) 2@0(0,0,-100,0)
         05D0 0301 -> 2@0(0,0,0,0) 4@0(500,0,0,0)
@@ -194,7 +171,7 @@ fn zeroing_comes_before_or_after_tables(rt: HostRuntime) {
     check::<Wishes>(
         &rt,
         "
-        step: shape
+        step: place
         tables: gpos
         shaper: early
         a 0301 -> 1@0(601,0,0,0) 2@0(1,0,0,0)
@@ -218,12 +195,12 @@ fn shaper_that_gave_way_zeroes_nothing(rt: HostRuntime) {
         shaper: early
         step: decide
         a 0301 -> zeroes true, morx true, gave way true, by boxes false, moves false
-        step: shape
+        step: place
         a 0301 -> 1@0(600,0,0,0) 2@0(100,0,0,0)
         shaper: late
         step: decide
         a 0301 -> zeroes true, morx true, gave way true, by boxes false, moves false
-        step: shape
+        step: place
         a 0301 -> 1@0(600,0,0,0) 2@0(100,0,0,0)
         shaper: hanging
         a 0301 -> 1@0(600,0,0,0) 2@0(0,0,0,0)
@@ -237,7 +214,7 @@ fn one_table_positions(rt: HostRuntime) {
     check::<Wishes>(
         &rt,
         "
-        step: shape
+        step: place
         tables: gsub gpos kerx
         a -> 1@0(601,0,0,0)
         tables: gsub gpos kerx kern

@@ -4,11 +4,17 @@
 #![allow(non_camel_case_types)]
 
 #[cfg(test)]
+mod faces;
+#[cfg(test)]
 mod numbers;
 #[cfg(test)]
 mod planning;
 #[cfg(test)]
+mod plans;
+#[cfg(test)]
 mod positioning;
+#[cfg(test)]
+mod printing;
 #[cfg(test)]
 mod rows;
 #[cfg(test)]

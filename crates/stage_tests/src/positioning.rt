@@ -2,9 +2,8 @@
 //!
 //! A case is a direction, the glyphs with their clusters, a colon and the steps. The steps `glyphs` and `places` print:
 //! `GLYPH@CLUSTER/MASK` of each glyph, or its advances and offsets in decimal, `XADVANCE,YADVANCE,XOFFSET,YOFFSET`.
-use crate::rows::{
-    Host, buffer_of, check_rows, direction_of, first_word, hex, print_glyphs, unknown,
-};
+use crate::printing::print_items;
+use crate::rows::{Answers, Host, buffer_of, check_rows, cut, direction_of, hex, unknown};
 use shape_buffer::buffer::{
     BufferFlags, GlyphId, GlyphPosition, GlyphPropsFlags, ScratchFlags, hb_buffer_t,
     hb_glyph_info_t,
@@ -43,7 +42,7 @@ const EVEN_FACE: TestFace<'static> = TestFace {
 
 /// The item of a word `GLYPH@CLUSTER`; the three glyphs above have the properties that they stand for.
 fn info_of(rt: &impl Host, word: &str) -> hb_glyph_info_t {
-    let (glyph, cluster) = word.split_once('@').expect(rt, "a glyph's cluster");
+    let (glyph, cluster) = cut(rt, word, "@");
     let glyph = hex(rt, glyph);
     let mut info = hb_glyph_info_t::new('a', hex(rt, cluster));
     info.glyph_id = glyph;
@@ -80,40 +79,63 @@ fn print_places(rt: &impl Host, positions: &[GlyphPosition], found: &mut String)
     }
 }
 
-/// Takes a step, or prints.
+/// Prints, or takes a step.
 fn step(rt: &impl Host, word: &str, buffer: &mut hb_buffer_t, found: &mut String) {
+    match word {
+        "glyphs" => print_items(word, buffer.infos(), found).expect(rt, "memory"),
+        "places" => print_places(rt, buffer.positions(), found),
+        _ => change(rt, word, buffer),
+    }
+}
+
+/// Takes a step of positioning, or changes a setting.
+fn change(rt: &impl Host, word: &str, buffer: &mut hb_buffer_t) {
     match word {
         "clear" => clear_positions(buffer),
         "advances" => put_advances(&EVEN_FACE, buffer),
         "zero-ignorables" => zero_width_default_ignorables(buffer),
         "hide" => hide_default_ignorables(&EVEN_FACE, buffer),
-        "remove" => buffer.set_flags(BufferFlags::REMOVE_DEFAULT_IGNORABLES),
         "reverse" => reverse_backward(buffer),
         "zero-marks" => zero_mark_widths_by_gdef(buffer, true),
-        "selector-9" => buffer.set_not_found_variation_selector_glyph(Some(GlyphId(9))),
         "selectors" => deal_with_variation_selectors(buffer),
-        "tatweel" => buffer.set_flags(BufferFlags::PRODUCE_SAFE_TO_INSERT_TATWEEL),
         "propagate" => propagate_flags(buffer),
-        "glyphs" => print_glyphs(buffer.infos(), found).expect(rt, "memory"),
-        "places" => print_places(rt, buffer.positions(), found),
+        _ => set(rt, word, buffer),
+    }
+}
+
+/// Changes a setting.
+fn set(rt: &impl Host, word: &str, buffer: &mut hb_buffer_t) {
+    match word {
+        "remove" => buffer.set_flags(BufferFlags::REMOVE_DEFAULT_IGNORABLES),
+        "tatweel" => buffer.set_flags(BufferFlags::PRODUCE_SAFE_TO_INSERT_TATWEEL),
+        "selector-9" => buffer.set_not_found_variation_selector_glyph(Some(GlyphId(9))),
         _ => unknown(rt, word),
     }
 }
 
-/// What the steps of a case print.
-fn positioned(rt: &impl Host, case: &str) -> String {
-    let (direction, case) = first_word(rt, case);
-    let (glyphs, steps) = case.split_once(": ").expect(rt, "steps");
-    let mut buffer = filled(rt, direction, glyphs);
-    let mut found = String::new(rt.alloc());
+/// Prints what the steps of a case print.
+fn take_steps(rt: &impl Host, steps: &str, buffer: &mut hb_buffer_t, found: &mut String) {
     for word in steps.split(' ') {
-        step(rt, word, &mut buffer, &mut found);
+        step(rt, word, buffer, found);
     }
-    found
+}
+
+/// The steps of positioning.
+#[derive(Drop)]
+struct Steps;
+
+impl Answers for Steps {
+    fn answer(&self, rt: &impl Host, case: &str) -> String {
+        let (direction, case) = cut(rt, case, " ");
+        let (glyphs, steps) = cut(rt, case, ": ");
+        let mut found = String::new(rt.alloc());
+        take_steps(rt, steps, &mut filled(rt, direction, glyphs), &mut found);
+        found
+    }
 }
 
 fn check(rt: &impl Host, rows: &str) {
-    check_rows(rt, rows, |case| positioned(rt, case));
+    check_rows(rt, rows, &Steps);
 }
 
 #[test]

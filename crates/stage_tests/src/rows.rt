@@ -21,19 +21,28 @@ pub fn assert_same<T: Copy + PartialEq + Debug>(rt: &impl Host, found: T, wanted
 
 /// Compares what was found for a case with the answer of its row; both begin with a space.
 pub fn assert_answer(rt: &impl Host, case: &str, found: &str, wanted: &str) {
-    assert_eq!(rt; found, wanted, "{case}");
+    if found != wanted {
+        panic!(rt; "{case} ->{found}");
+    }
 }
 
-/// Runs each row's case, and compares what it gives with the row's answer. Each word that it gives has a space
-/// before it.
-pub fn check_rows<R: Host, F: FnMut(&str) -> String>(rt: &R, rows: &str, mut answer: F)
-    requires { F.IsAlwaysCallable answer }
-{
+/// What cases are asked of.
+pub trait Answers {
+    /// What is found for a case. Each word has a space before it.
+    fn answer(&self, rt: &impl Host, case: &str) -> String;
+}
+
+/// Compares what is found for the case of a row with the row's answer.
+fn check_row(rt: &impl Host, row: &str, asked: &impl Answers) {
+    let (case, wanted) = cut(rt, row, " ->");
+    assert_answer(rt, case, asked.answer(rt, case).as_str(), wanted);
+}
+
+/// Compares what is found for the case of each row with the row's answer.
+pub fn check_rows(rt: &impl Host, rows: &str, asked: &impl Answers) {
     assert!(rt; !rows.is_empty());
     for row in rows.lines() {
-        let (case, wanted) = row.split_once(" ->").expect(rt, "a row `CASE -> ANSWER`");
-        let found = answer(case);
-        assert_answer(rt, case, found.as_str(), wanted);
+        check_row(rt, row, asked);
     }
 }
 
@@ -42,20 +51,29 @@ pub fn unknown(rt: &impl Host, word: &str) -> ! {
     panic!(rt; "unknown word {word}")
 }
 
-/// The first word of a case, and the others.
-pub fn first_word<'a>(rt: &impl Host, case: &'a str) -> (&'a str, &'a str) {
-    case.split_once(' ').expect(rt, "one more word")
+/// What stands before and after a mark in a text.
+pub fn cut<'a>(rt: &impl Host, text: &'a str, mark: &str) -> (&'a str, &'a str) {
+    text.split_once(mark).expect(rt, mark)
+}
+
+/// The same, or the whole text and what it says if it has no mark.
+pub fn cut_or<'a>(text: &'a str, mark: &str, other: &'a str) -> (&'a str, &'a str) {
+    text.split_once(mark).unwrap_or((text, other))
 }
 
 /// The number that up to eight hexadecimal digits write.
 pub fn hex(rt: &impl Host, word: &str) -> u32 {
     assert!(rt; !word.is_empty() && word.len() <= 8);
-    let mut number: u32 = 0;
+    let mut number = 0;
     for c in word.chars() {
-        let digit = c.to_digit(16).expect(rt, "a hexadecimal digit");
-        number = number.wrapping_mul(16).wrapping_add(digit);
+        number = number << 4 | digit(rt, c);
     }
     number
+}
+
+/// The value of a hexadecimal digit.
+fn digit(rt: &impl Host, c: char) -> u32 {
+    c.to_digit(16).expect(rt, "a hexadecimal digit")
 }
 
 /// The direction that a word of three letters names: `ltr`, `rtl`, `ttb` or `btt`.
@@ -79,9 +97,9 @@ pub fn tag_of(rt: &impl Host, letters: &str) -> hb_tag_t {
 
 /// The feature of a word `TAG[START:END]=VALUE`.
 fn feature_of(rt: &impl Host, word: &str) -> Feature {
-    let (letters, range) = word.split_once('[').expect(rt, "a feature's range");
-    let (range, value) = range.split_once("]=").expect(rt, "a feature's value");
-    let (start, end) = range.split_once(':').expect(rt, "where a range ends");
+    let (letters, range) = cut(rt, word, "[");
+    let (range, value) = cut(rt, range, "]=");
+    let (start, end) = cut(rt, range, ":");
     Feature {
         tag: tag_of(rt, letters),
         value: hex(rt, value),
@@ -105,13 +123,4 @@ pub fn buffer_of(rt: &impl Host, direction: Direction, infos: Vec<hb_glyph_info_
     buffer.replace_infos(infos).expect(rt, "memory");
     buffer.set_direction(direction);
     buffer
-}
-
-/// Prints each glyph as `GLYPH@CLUSTER/MASK`.
-pub fn print_glyphs(infos: &[hb_glyph_info_t], found: &mut String) -> Result<(), AllocError> {
-    for info in infos {
-        let (glyph, cluster, mask) = (info.glyph_id, info.cluster, info.mask);
-        write!(found, " {glyph:X}@{cluster:X}/{mask:X}")?;
-    }
-    Ok(())
 }

@@ -5,6 +5,7 @@ mod answers;
 mod classes;
 mod fractions;
 mod lengths;
+mod looks;
 mod morx;
 mod ranges;
 mod refusals;

@@ -10,8 +10,15 @@ use shape_unicode::UnicodeDatabase;
 pub fn ccc_of_mark(c: char) -> u8
     ensures { result ≡ (if is_mark unicode_database c then unicode_database.ccc c else 0) }
 {
-    if UnicodeDatabase::general_category(c).is_mark() {
-        UnicodeDatabase::modified_combining_class(c)
+    ccc_of_mark_by::<UnicodeDatabase>(c)
+}
+
+/// The same by any Unicode functions.
+pub fn ccc_of_mark_by<U: hb_unicode_funcs_t>(c: char) -> u8
+    ensures { result ≡ (if is_mark U.unicode c then U.unicode.ccc c else 0) }
+{
+    if U::general_category(c).is_mark() {
+        U::modified_combining_class(c)
     } else {
         0
     }

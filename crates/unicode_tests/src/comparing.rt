@@ -1,7 +1,8 @@
 //! Comparisons of tests, and how rows of text are read.
 //!
 //! The proof of a test takes next to nothing for a text, and a good part of a second for each `assert_eq!` and for
-//! each list of its own. So rows are lines of text. A row that can't be read ends the test, as does a text without rows.
+//! each list of its own. So rows are lines of text. A row that can't be read ends the test, as does a text without
+//! rows.
 
 use std::fmt::Debug;
 use std::process::Abort;
@@ -9,6 +10,11 @@ use std::process::Abort;
 /// Compares two values.
 pub fn assert_same<T: Copy + PartialEq + Debug>(rt: &impl Abort, found: T, wanted: T) {
     assert_eq!(rt; found, wanted);
+}
+
+/// Compares what was found for a row with what is wanted.
+pub fn assert_row<T: Copy + PartialEq + Debug>(rt: &impl Abort, row: &str, found: T, wanted: T) {
+    assert_eq!(rt; (row, found), (row, wanted));
 }
 
 /// The rows of a text, a line each.
@@ -22,8 +28,13 @@ pub fn rows_of<'a>(rt: &impl Abort, text: &'a str) -> &'a str {
 pub fn parts<'a>(rt: &impl Abort, text: &'a str, mark: &str) -> (&'a str, &'a str) {
     match text.split_once(mark) {
         Some((before, behind)) => (before.trim(), behind.trim()),
-        None => panic!(rt; "no {mark} in {text}"),
+        None => rt.panic(text),
     }
+}
+
+/// A column of a row, counted from 0. A semicolon stands between two.
+pub fn column<'a>(rt: &impl Abort, row: &'a str, at: usize) -> &'a str {
+    row.split(';').nth(at).expect(rt, row).trim()
 }
 
 /// The character of a hexadecimal number.
@@ -33,23 +44,23 @@ fn numbered(word: &str) -> Option<char> {
 
 /// The character that a word names: itself, or the one of a hexadecimal number of two digits and more.
 pub fn character(rt: &impl Abort, word: &str) -> char {
-    let mut chars = word.chars();
-    let named = match (chars.next(), chars.next()) {
-        (Some(c), None) => Some(c),
-        _ => numbered(word),
-    };
-    match named {
-        Some(c) => c,
-        None => panic!(rt; "{word} is no character"),
+    match word.chars().next() {
+        Some(c) if c.len_utf8() == word.len() => c,
+        _ => numbered(word).expect(rt, word),
+    }
+}
+
+/// Appends the characters that words name.
+pub fn append(rt: &impl Abort, list: &mut Vec<char>, words: &str) {
+    for word in words.split_whitespace() {
+        list.push(character(rt, word)).expect(rt, "memory");
     }
 }
 
 /// The characters that words name.
 pub fn characters(rt: &(impl Abort + AllocGlobal), words: &str) -> Vec<char> {
     let mut list = Vec::new(rt.alloc());
-    for word in words.split_whitespace() {
-        list.push(character(rt, word)).expect(rt, "memory");
-    }
+    append(rt, &mut list, words);
     list
 }
 
@@ -57,6 +68,6 @@ pub fn characters(rt: &(impl Abort + AllocGlobal), words: &str) -> Vec<char> {
 pub fn number(rt: &impl Abort, word: &str) -> u32 {
     match word.parse::<u32>() {
         Ok(number) => number,
-        Err(_) => panic!(rt; "{word} is no number"),
+        Err(_) => rt.panic(word),
     }
 }

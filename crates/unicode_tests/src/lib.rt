@@ -7,6 +7,8 @@
 //! The small tables of the program `shapeline` are tested here, too, and what it prints.
 #![tactic(auto)]
 
+#[cfg(test)]
+mod answers;
 pub mod callers;
 #[cfg(test)]
 mod characters;

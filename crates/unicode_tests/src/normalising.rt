@@ -1,7 +1,7 @@
 //! What normalising makes of texts over the whole database, under a face that has every glyph.
 
 use crate::every_glyph::EVERY_GLYPH;
-use shape_buffer::buffer::{Direction, ShapeError, UnicodeBuffer, hb_buffer_t};
+use shape_buffer::buffer::{Direction, ShapeError, UnicodeBuffer, hb_buffer_t, hb_glyph_info_t};
 use shape_buffer::interfaces::NoLookups;
 use shape_pipeline::ot_shape::{hb_ot_shape_context_t, prepare_text};
 use shape_pipeline::ot_shape_normalize::_hb_ot_shape_normalize;
@@ -16,14 +16,26 @@ use test_worlds::TestFace;
 /// ccc.
 pub const BASE_WITH_MARK: [char; 2] = ['q', '\u{334}'];
 
-/// A text after a base with a mark.
-fn text_of(alloc: Global, text: &[char]) -> Result<UnicodeBuffer, ShapeError> {
-    let mut buffer = UnicodeBuffer::new(alloc);
-    let mut place: u32 = 0;
-    for c in BASE_WITH_MARK.iter().chain(text) {
+/// Appends characters to a text, each in the cluster of its place.
+fn append(buffer: &mut UnicodeBuffer, first: u32, text: &[char]) -> Result<(), ShapeError> {
+    let mut place = first;
+    for c in text {
         buffer.add(*c, place)?;
         place = place.saturating_add(1);
     }
+    Ok(())
+}
+
+/// Fills an empty buffer with a text after a base with a mark.
+fn fill(buffer: &mut UnicodeBuffer, text: &[char]) -> Result<(), ShapeError> {
+    append(buffer, 0, &BASE_WITH_MARK)?;
+    append(buffer, 2, text)
+}
+
+/// A text after a base with a mark.
+fn text_of(alloc: Global, text: &[char]) -> Result<UnicodeBuffer, ShapeError> {
+    let mut buffer = UnicodeBuffer::new(alloc);
+    fill(&mut buffer, text)?;
     Ok(buffer)
 }
 
@@ -43,6 +55,27 @@ where
     )
 }
 
+/// A text to the right, prepared.
+fn prepared<S>(
+    alloc: Global,
+    plan: &hb_ot_shape_plan_t<'_, S, (), ()>,
+    text: UnicodeBuffer,
+) -> Result<hb_buffer_t, ShapeError>
+where
+    S: hb_ot_shaper_t<UnicodeDatabase, TestFace<'static>, NoLookups, Data = ()>,
+{
+    let mut buffer = text.into_inner();
+    buffer.set_direction(Direction::LeftToRight);
+    let mut ctx = hb_ot_shape_context_t {
+        plan,
+        face: &EVERY_GLYPH,
+        buffer: &mut buffer,
+        target_direction: Direction::LeftToRight,
+    };
+    prepare_text::<UnicodeDatabase, TestFace<'static>, NoLookups, S>(alloc, &mut ctx)?;
+    Ok(buffer)
+}
+
 /// A text to the right, prepared, then normalised.
 fn normalised_buffer<S>(
     alloc: Global,
@@ -53,15 +86,7 @@ where
     S: hb_ot_shaper_t<UnicodeDatabase, TestFace<'static>, NoLookups, Data = ()>,
 {
     let plan = planned(alloc, shaper)?;
-    let mut buffer = text.into_inner();
-    buffer.set_direction(Direction::LeftToRight);
-    let mut ctx = hb_ot_shape_context_t {
-        plan: &plan,
-        face: &EVERY_GLYPH,
-        buffer: &mut buffer,
-        target_direction: Direction::LeftToRight,
-    };
-    prepare_text::<UnicodeDatabase, TestFace<'static>, NoLookups, S>(alloc, &mut ctx)?;
+    let mut buffer = prepared(alloc, &plan, text)?;
     _hb_ot_shape_normalize::<UnicodeDatabase, TestFace<'static>, NoLookups, S>(
         alloc,
         &plan,
@@ -71,6 +96,15 @@ where
     Ok(buffer)
 }
 
+/// The characters of items.
+fn characters_of(alloc: Global, infos: &[hb_glyph_info_t]) -> Result<Vec<char>, ShapeError> {
+    let mut list = Vec::new(alloc);
+    for info in infos {
+        list.push(info.codepoint)?;
+    }
+    Ok(list)
+}
+
 /// The characters of a text, after a base with a mark, once it is prepared and normalised by a shaper.
 /// Refuses as these two do: memory, or a text that grows too long.
 pub fn normalised<S>(alloc: Global, shaper: &S, text: &[char]) -> Result<Vec<char>, ShapeError>
@@ -78,9 +112,5 @@ where
     S: hb_ot_shaper_t<UnicodeDatabase, TestFace<'static>, NoLookups, Data = ()>,
 {
     let buffer = normalised_buffer(alloc, shaper, text_of(alloc, text)?)?;
-    let mut list = Vec::new(alloc);
-    for info in buffer.infos() {
-        list.push(info.codepoint)?;
-    }
-    Ok(list)
+    characters_of(alloc, buffer.infos())
 }

@@ -3,106 +3,119 @@
 mod normalised;
 mod shaped;
 
-use crate::comparing::{assert_same, characters, parts, rows_of};
+use crate::comparing::{append, assert_row, characters, column, rows_of};
+use crate::normalising::{BASE_WITH_MARK, normalised};
 use crate::normalization_rows::NORMALIZATION_ROWS;
 use crate::ordering::{chars_of, decomposed, recomposed};
-use crate::texts::TEXTS;
+use crate::texts::{DECOMPOSED, RECOMPOSED, TEXTS, TYPED};
+use shape_pipeline::ot_shaper::{
+    ComposedDiacriticsNoShortCircuit, Decomposed, Preference, Preferring,
+};
 use std::process::Abort;
 
-/// The columns of a row, with a semicolon between two.
-fn columns(rt: &(impl Abort + AllocGlobal), row: &str) -> Vec<Vec<char>> {
-    let mut columns = Vec::new(rt.alloc());
-    for column in row.split(';') {
-        columns.push(characters(rt, column)).expect(rt, "memory");
-    }
-    columns
+/// What makes a list of a text behind a base with a mark.
+#[derive(Clone, Copy)]
+enum Way {
+    /// The Unicode functions alone, which split it.
+    Functions,
+    /// The normaliser, in the mode that composes nothing.
+    Splits,
+    /// The normaliser, in the mode that composes again.
+    Composes,
 }
 
-/// Whether two lists are one.
-fn are_one(list: &[char], other: &[char]) -> bool {
-    list == other
+/// The characters of a column behind a base with a mark, as texts are normalised here.
+fn behind_base(rt: &(impl Abort + AllocGlobal), column: &str) -> Vec<char> {
+    let mut whole = Vec::new(rt.alloc());
+    whole
+        .extend_from_slice(&BASE_WITH_MARK)
+        .expect(rt, "memory");
+    append(rt, &mut whole, column);
+    whole
 }
 
-/// Whether the lists of a row's columns are the same where these are canonically equivalent.
-fn are_equivalent(lists: &[Vec<char>]) -> bool {
-    match lists {
-        [text, nfc, nfd, nfkc, nfkd] => {
-            are_one(text, nfc) && are_one(nfc, nfd) && are_one(nfkc, nfkd)
+/// What a column splits into.
+fn split_list(rt: &(impl Abort + AllocGlobal), column: &str) -> Vec<char> {
+    decomposed(rt, behind_base(rt, column).as_slice())
+}
+
+/// The list that the normaliser makes of a text for a shaper of this preference.
+fn normalised_list<P: Preference>(rt: &(impl Abort + AllocGlobal), text: &[char]) -> Vec<char> {
+    normalised(rt.alloc(), &Preferring::<P>::new(), text).expect(rt, "memory")
+}
+
+/// The list of a column.
+fn list_of(rt: &(impl Abort + AllocGlobal), way: Way, column: &str) -> Vec<char> {
+    let text = characters(rt, column);
+    match way {
+        Way::Functions => split_list(rt, column),
+        Way::Splits => normalised_list::<Decomposed>(rt, text.as_slice()),
+        Way::Composes => {
+            normalised_list::<ComposedDiacriticsNoShortCircuit>(rt, text.as_slice())
         }
-        _ => false,
     }
 }
 
-/// Asserts that the columns of each row that are canonically equivalent split into one list.
-fn check_rows(rt: &(impl Abort + AllocGlobal), rows: &str) {
+/// The list that the Unicode functions alone have for a column.
+fn wanted(rt: &(impl Abort + AllocGlobal), way: Way, column: &str) -> Vec<char> {
+    let split = split_list(rt, column);
+    match way {
+        Way::Functions | Way::Splits => split,
+        Way::Composes => recomposed(rt, split.as_slice()),
+    }
+}
+
+/// The list of a column, once it is compared with that of the functions alone.
+fn checked(rt: &(impl Abort + AllocGlobal), way: Way, column: &str) -> Vec<char> {
+    let list = list_of(rt, way, column);
+    assert_row(
+        rt,
+        column,
+        list.as_slice(),
+        wanted(rt, way, column).as_slice(),
+    );
+    list
+}
+
+/// Asserts that two columns have one list.
+fn assert_one(rt: &(impl Abort + AllocGlobal), way: Way, column: &str, other: &str) {
+    let (list, wanted) = (checked(rt, way, column), checked(rt, way, other));
+    assert_row(rt, column, list.as_slice(), wanted.as_slice());
+}
+
+/// Asserts that the columns of each row that are canonically equivalent have one list.
+fn check_rows(rt: &(impl Abort + AllocGlobal), way: Way, rows: &str) {
     for row in rows_of(rt, rows).lines() {
-        let mut lists = Vec::new(rt.alloc());
-        for column in &columns(rt, row) {
-            lists
-                .push(decomposed(rt, column.as_slice()))
-                .expect(rt, "memory");
-        }
-        assert_same(rt, (row, are_equivalent(lists.as_slice())), (row, true));
+        assert_one(rt, way, column(rt, row, 0), column(rt, row, 1));
+        assert_one(rt, way, column(rt, row, 1), column(rt, row, 2));
+        assert_one(rt, way, column(rt, row, 3), column(rt, row, 4));
     }
 }
 
 /// Also in shaping's order of marks.
 #[test]
 fn equivalent_columns_give_one_list(rt: HostRuntime) {
-    check_rows(&rt, NORMALIZATION_ROWS);
+    check_rows(&rt, Way::Functions, NORMALIZATION_ROWS);
 }
 
-/// A text of [`TEXTS`].
-#[derive(Clone, Copy)]
-struct Text<'a> {
-    name: &'a str,
-    script: &'a str,
-    typed: &'a str,
-    decomposed: &'a str,
-    recomposed: &'a str,
-    shaped: &'a str,
-}
-
-/// The text of six lines.
-fn text_of<'a>(rt: &impl Abort, paragraph: &'a str) -> Text<'a> {
-    let (name, rest) = parts(rt, paragraph.trim(), "\n");
-    let (script, rest) = parts(rt, rest, "\n");
-    let (typed, rest) = parts(rt, rest, "\n");
-    let (decomposed, rest) = parts(rt, rest, "\n");
-    let (recomposed, shaped) = parts(rt, rest, "\n");
-    assert!(rt; !shaped.contains('\n'));
-    Text {
-        name,
-        script,
-        typed,
-        decomposed,
-        recomposed,
-        shaped,
-    }
+/// Compares a list with a text.
+fn assert_text(rt: &(impl Abort + AllocGlobal), row: &str, list: &[char], text: &str) {
+    assert_row(rt, row, list, chars_of(rt, text).as_slice());
 }
 
 /// Compares what a text splits into, and what that composes to.
-fn assert_lists(rt: &(impl Abort + AllocGlobal), text: &Text<'_>) {
-    let split = decomposed(rt, chars_of(rt, text.typed).as_slice());
-    let want = chars_of(rt, text.decomposed);
-    assert_same(
-        rt,
-        (text.name, split.as_slice()),
-        (text.name, want.as_slice()),
-    );
+fn assert_lists(rt: &(impl Abort + AllocGlobal), row: &str) {
+    let typed = chars_of(rt, column(rt, row, TYPED));
+    let split = decomposed(rt, typed.as_slice());
+    assert_text(rt, row, split.as_slice(), column(rt, row, DECOMPOSED));
     let composed = recomposed(rt, split.as_slice());
-    let want = chars_of(rt, text.recomposed);
-    assert_same(
-        rt,
-        (text.name, composed.as_slice()),
-        (text.name, want.as_slice()),
-    );
+    assert_text(rt, row, composed.as_slice(), column(rt, row, RECOMPOSED));
 }
 
-/// Does so for each text; an empty line stands between two.
+/// Does so for each text.
 fn check_texts(rt: &(impl Abort + AllocGlobal), texts: &str) {
-    for paragraph in rows_of(rt, texts).split("\n\n") {
-        assert_lists(rt, &text_of(rt, paragraph));
+    for row in rows_of(rt, texts).lines() {
+        assert_lists(rt, row);
     }
 }
 

@@ -1,7 +1,7 @@
 //! Whole tables of the Unicode functions, each beside another source: names of scripts and categories as
 //! `ucd_sets` knows them, the bidirectional classes of letters, and the standard's list of mirror images.
 
-use crate::characters::{category_name, script_of};
+use crate::answers::{Question, category_name, count, script_of};
 use crate::comparing::assert_same;
 use crate::ordering::chars_of;
 use shape_buffer::buffer::{Direction, Script};
@@ -49,21 +49,32 @@ fn mirror_images_are_those_of_the_standard(rt: HostRuntime) {
 
 #[test]
 fn nothing_else_has_an_image(rt: HostRuntime) {
-    let mut images: usize = 0;
-    for c in '\0'..=char::MAX {
-        images = images.saturating_add(usize::from(UnicodeDatabase::mirrored(c).is_some()));
-    }
+    let images = count::<UnicodeDatabase>(&rt, Question::Mirrored);
     assert_same(&rt, images, MIRRORED);
 }
 
-/// The letters of a script's tag in lower case, if the first letter alone isn't.
+/// The letters of a script's tag with the first one in lower case, if it isn't already.
 fn letters_of(script: Script) -> Option<[u8; 4]> {
     let [first, second, third, fourth] = script.0.0.to_be_bytes();
-    let rest = [second, third, fourth];
-    if first.is_ascii_uppercase() && rest.iter().all(|letter| letter.is_ascii_lowercase()) {
-        Some([first.to_ascii_lowercase(), second, third, fourth])
+    let lower = [first.to_ascii_lowercase(), second, third, fourth];
+    if first.is_ascii_uppercase() {
+        Some(lower)
     } else {
         None
+    }
+}
+
+/// Compares what a value of a property names, as letters in lower case.
+fn assert_named(rt: &impl Abort, property: &[u8], letters: &[u8], set: Set) {
+    let named = ucd_sets::by_value(property, letters);
+    assert_same(rt, (letters, named), (letters, Ok(set)));
+}
+
+/// Compares a character's script with that of its name.
+fn assert_script(rt: &impl Abort, c: char, script: ucd_script::Script) {
+    match letters_of(UnicodeDatabase::script(c)) {
+        Some(letters) => assert_named(rt, b"script", &letters, Set::Script(script)),
+        None => panic!(rt; "the tag of {c:?}"),
     }
 }
 
@@ -74,19 +85,17 @@ fn scripts_have_their_names(rt: HostRuntime) {
         let script = ucd_script::Script::for_char(c);
         if last != Some(script) {
             last = Some(script);
-            let letters = letters_of(UnicodeDatabase::script(c));
-            let named = letters.map(|letters| ucd_sets::by_value(b"script", &letters));
-            assert_same(&rt, (c, named), (c, Some(Ok(Set::Script(script)))));
+            assert_script(&rt, c, script);
         }
     }
 }
 
 /// Compares a character's category with that of its name.
-fn assert_named(rt: &(impl Abort + AllocGlobal), c: char, category: GeneralCategory) {
-    let letters = chars_of(rt, category_name(rt, c).as_str());
+fn assert_category(rt: &(impl Abort + AllocGlobal), c: char, category: GeneralCategory) {
+    let name = category_name::<UnicodeDatabase>(rt, c);
+    let letters = chars_of(rt, name.as_str());
     let letters = ucd_sets::normalize(rt.alloc(), &letters).expect(rt, "memory");
-    let named = ucd_sets::by_value(b"generalcategory", &letters);
-    assert_same(rt, (c, named), (c, Ok(Set::Category(category))));
+    assert_named(rt, b"generalcategory", &letters, Set::Category(category));
 }
 
 #[test]
@@ -96,7 +105,7 @@ fn categories_have_their_names(rt: HostRuntime) {
         let category = GeneralCategory::for_char(c);
         if last != Some(category) {
             last = Some(category);
-            assert_named(&rt, c, category);
+            assert_category(&rt, c, category);
         }
     }
 }
@@ -133,25 +142,31 @@ fn tell(rt: &impl Abort, c: char, script: Script, either_way: &mut Vec<Script>) 
     }
 }
 
-/// Compares scripts with those of tags.
-fn assert_scripts(rt: &impl Abort, scripts: &[Script], tags: &str) {
-    let mut words = tags.split_whitespace();
-    for script in scripts {
-        let word = words.next().expect(rt, "a tag");
-        assert_same(rt, *script, script_of(rt, word));
+/// The scripts of tags.
+fn scripts_of(rt: &(impl Abort + AllocGlobal), tags: &str) -> Vec<Script> {
+    let mut scripts = Vec::new(rt.alloc());
+    for tag in tags.split_whitespace() {
+        scripts.push(script_of(rt, tag)).expect(rt, "memory");
     }
-    assert_same(rt, words.next(), None);
+    scripts
+}
+
+/// The scripts without a direction that have letters with one.
+fn both_ways(rt: &(impl Abort + AllocGlobal)) -> Vec<Script> {
+    let mut either_way = Vec::new(rt.alloc());
+    for c in '\0'..=char::MAX {
+        let script = UnicodeDatabase::script(c);
+        if script.is_specific() && is_letter(c) {
+            tell(rt, c, script, &mut either_way);
+        }
+    }
+    either_way
 }
 
 /// A script runs as its letters do, except for four that have been written both ways.
 #[test]
 fn scripts_run_as_their_letters(rt: HostRuntime) {
-    let mut either_way = Vec::new(rt.alloc());
-    for c in '\0'..=char::MAX {
-        let script = UnicodeDatabase::script(c);
-        if script.is_specific() && is_letter(c) {
-            tell(&rt, c, script, &mut either_way);
-        }
-    }
-    assert_scripts(&rt, either_way.as_slice(), "Runr Tfng Ital Hung");
+    let found = both_ways(&rt);
+    let wanted = scripts_of(&rt, "Runr Tfng Ital Hung");
+    assert_same(&rt, found.as_slice(), wanted.as_slice());
 }

@@ -1,14 +1,12 @@
 //! Every combination of the questions that a plan asks, against a table of who positions.
-use super::questions::{PlanShaper, check, planned};
-use super::support::{
-    CROSS_KERNING, GLYPH_CLASSES, GPOS, GPOS_KERNS, GSUB, KERNING, KERX, MACHINE_KERNING, MORX,
-    SCRIPT_TWO, face_with,
-};
-use crate::rows::{Host, assert_answer, assert_same, tag_of, unknown};
-use shape_buffer::buffer::{Direction, Feature, Script, UnicodeBuffer};
+use super::questions::{Case, ask_over, check};
+use super::support::face_of_bits;
+use crate::rows::{Host, assert_same, tag_of, unknown};
+use shape_buffer::buffer::{Direction, Script, UnicodeBuffer, hb_tag_t};
 use shape_buffer::interfaces::PlainUnicode;
 use shape_plan::ot_shape_plan::hb_ot_shape_plan_t;
-use test_worlds::{TestFace, TestMap};
+use std::alloc::AllocError;
+use test_worlds::TestFace;
 
 /// Who positions and kerns.
 #[derive(Clone, Copy)]
@@ -44,74 +42,111 @@ struct Brings {
     makes_data: bool,
 }
 
-/// What a plan can decide and hold: who positions; whether marks are zeroed, placed by extents and moved back; whether
-/// `morx` substitutes; whether there are glyph classes to make up, a shaper, and data of it.
-const WORDS: &str = "gpos kerx kern nobody zeroes places moves-back morx makes-classes shaper data";
+/// What a plan decides and holds.
+#[derive(Drop)]
+pub struct Decisions {
+    gpos: bool,
+    kerx: bool,
+    kern: bool,
+    /// Whether no table positions.
+    nobody: bool,
+    /// Whether marks are zeroed, placed by their extents, and moved back when zeroed.
+    zeroes: bool,
+    places: bool,
+    moves_back: bool,
+    /// Whether this table substitutes.
+    morx: bool,
+    makes_classes: bool,
+    shaper: bool,
+    data: bool,
+}
+
+/// A word for what holds.
+fn word_if(holds: bool, word: &'static str) -> &'static str {
+    if holds { word } else { "" }
+}
 
 /// Prints the words of what holds.
-pub fn print_row(rt: &impl Host, row: [bool; 11]) -> String {
-    let mut found = String::new(rt.alloc());
-    for (word, holds) in WORDS.split(' ').zip(row) {
-        if holds {
-            write!(found, " {word}").expect(rt, "memory");
-        }
-    }
-    found
+pub fn print_decided(plan: &Decisions, found: &mut String) -> Result<(), AllocError> {
+    write!(
+        found,
+        "{}{}{}{}{}{}{}{}{}{}{}",
+        word_if(plan.gpos, " gpos"),
+        word_if(plan.kerx, " kerx"),
+        word_if(plan.kern, " kern"),
+        word_if(plan.nobody, " nobody"),
+        word_if(plan.zeroes, " zeroes"),
+        word_if(plan.places, " places"),
+        word_if(plan.moves_back, " moves-back"),
+        word_if(plan.morx, " morx"),
+        word_if(plan.makes_classes, " makes-classes"),
+        word_if(plan.shaper, " shaper"),
+        word_if(plan.data, " data"),
+    )
 }
 
 /// What a plan decided and holds.
-pub fn decided<S, D>(plan: &hb_ot_shape_plan_t<'_, S, TestMap, D>) -> [bool; 11] {
-    [
-        plan.apply_gpos(),
-        plan.apply_kerx(),
-        plan.apply_kern(),
-        plan.apply_fallback_kern(),
-        plan.zero_marks(),
-        plan.fallback_mark_positioning(),
-        plan.adjust_mark_positioning_when_zeroing(),
-        plan.apply_morx(),
-        plan.fallback_glyph_classes(),
-        plan.shaper().is_some(),
-        plan.data().is_some(),
-    ]
+pub fn decided<S, P, D>(plan: &hb_ot_shape_plan_t<'_, S, P, D>) -> Decisions {
+    Decisions {
+        gpos: plan.apply_gpos(),
+        kerx: plan.apply_kerx(),
+        kern: plan.apply_kern(),
+        nobody: plan.apply_fallback_kern(),
+        zeroes: plan.zero_marks(),
+        places: plan.fallback_mark_positioning(),
+        moves_back: plan.adjust_mark_positioning_when_zeroing(),
+        morx: plan.apply_morx(),
+        makes_classes: plan.fallback_glyph_classes(),
+        shaper: plan.shaper().is_some(),
+        data: plan.data().is_some(),
+    }
 }
 
-/// The same by the table, for a number whose bits are the answers of face and engine. A shaper that gives way to
-/// `morx` has no data.
-fn expected(bits: u32, horizontal: bool, brings: Brings) -> [bool; 11] {
-    let has = |bit: u32| bits & bit != 0;
-    let morx = has(MORX) && (horizontal || !has(GSUB));
+/// Who positions over a face: `GPOS` alone by the script that a shaper needs, and no lookups of `GSUB` beside `morx`.
+fn who_positions(face: &TestFace<'_>, morx: bool, needs_script_two: bool) -> Positioner {
+    let other_script = needs_script_two && face.gpos_script != Some(hb_tag_t(2));
+    by_table(
+        face.tables.kerx,
+        face.tables.gsub && !morx,
+        face.tables.gpos && !other_script,
+        face.gpos_kerns,
+        face.kerning,
+    )
+}
+
+/// Whether `GPOS`, `kerx` and `kern` are applied, whether marks may be zeroed, and whether none of the tables places
+/// them.
+fn applied(face: &TestFace<'_>, positioner: Positioner) -> [bool; 5] {
+    let zeroes = !face.machine_kerning;
+    match positioner {
+        Positioner::Gpos => [true, false, false, true, false],
+        Positioner::GposThenKerx => [true, true, false, false, false],
+        Positioner::Kerx => [false, true, false, false, false],
+        Positioner::GposAndKern => [true, false, true, zeroes, false],
+        Positioner::Kern => [false, false, true, zeroes, !face.cross_kerning],
+        Positioner::Nobody => [false, false, false, true, true],
+    }
+}
+
+/// What a plan is to decide and hold, by the table. A shaper that gives way to `morx` has no data.
+fn expected(face: &TestFace<'_>, horizontal: bool, brings: &Brings) -> Decisions {
+    let morx = face.tables.morx && (horizontal || !face.tables.gsub);
     let kept = brings.is_default || !morx;
-    let gpos = has(GPOS) && !(kept && brings.needs_script_two && !has(SCRIPT_TWO));
-    let (kern, gsub) = (has(KERNING), has(GSUB) && !morx);
-    let positioner = by_table(has(KERX), gsub, gpos, has(GPOS_KERNS), kern);
-    let (gpos, kerx, kern, zeroes, unplaced) = match positioner {
-        Positioner::Gpos => (true, false, false, true, false),
-        Positioner::GposThenKerx => (true, true, false, false, false),
-        Positioner::Kerx => (false, true, false, false, false),
-        Positioner::GposAndKern => (true, false, true, !has(MACHINE_KERNING), false),
-        Positioner::Kern => (
-            false,
-            false,
-            true,
-            !has(MACHINE_KERNING),
-            !has(CROSS_KERNING),
-        ),
-        Positioner::Nobody => (false, false, false, true, true),
-    };
-    [
+    let who = who_positions(face, morx, kept && brings.needs_script_two);
+    let [gpos, kerx, kern, zeroes, unplaced] = applied(face, who);
+    Decisions {
         gpos,
         kerx,
         kern,
-        !gpos && !kerx && !kern,
-        zeroes && brings.zeroes,
-        unplaced && brings.places,
-        unplaced && !morx,
+        nobody: !gpos && !kerx && !kern,
+        zeroes: zeroes && brings.zeroes,
+        places: unplaced && brings.places,
+        moves_back: unplaced && !morx,
         morx,
-        !has(GLYPH_CLASSES),
-        kept,
-        kept && brings.makes_data,
-    ]
+        makes_classes: !face.classes,
+        shaper: kept,
+        data: kept && brings.makes_data,
+    }
 }
 
 const DEFAULT_BRINGS: Brings = Brings {
@@ -135,11 +170,6 @@ const SCRIPT_BRINGS: Brings = Brings {
     makes_data: true,
 };
 
-/// The ten questions: tables (without `trak`), kerning, machine, cross, script, feature of kerning.
-fn spread(i: u32) -> u32 {
-    (i & 15) | ((i & 1008) << 1)
-}
-
 /// What a shaper brings, by its name.
 fn brings_of(rt: &impl Host, shaper: &str) -> Brings {
     match shaper {
@@ -150,20 +180,44 @@ fn brings_of(rt: &impl Host, shaper: &str) -> Brings {
     }
 }
 
-/// Compares the plans of a shaper in one direction with the table, for every answer of face and engine.
-pub fn compare_with_table<S: PlanShaper>(
-    rt: &impl Host,
-    (shaper, word): (&S, &str),
-    direction: Direction,
-) -> String {
+/// What the plan of a shaper for a face is to decide and hold, in words.
+fn table_row(rt: &impl Host, face: &TestFace<'_>, shaper: &str, direction: Direction) -> String {
     let horizontal = matches!(direction, Direction::LeftToRight | Direction::RightToLeft);
-    let brings = brings_of(rt, word);
-    for i in 0..1024 {
-        let bits = spread(i);
-        let face = face_with(bits);
-        let found = decided(&planned(rt, &face, shaper, direction, (None, &[])));
-        let wanted = print_row(rt, expected(bits, horizontal, brings));
-        assert_answer(rt, "plan", print_row(rt, found).as_str(), wanted.as_str());
+    let mut wanted = String::new(rt.alloc());
+    print_decided(
+        &expected(face, horizontal, &brings_of(rt, shaper)),
+        &mut wanted,
+    )
+    .expect(rt, "memory");
+    wanted
+}
+
+/// Compares what a plan for the face of a number decided with the table.
+fn assert_plan(rt: &impl Host, number: u32, found: &str, wanted: &str) {
+    if found != wanted {
+        panic!(rt; "face {number}: plan{found}, table{wanted}");
+    }
+}
+
+/// Compares the plan of a shaper for the face of a number with the table.
+fn compare_plan(rt: &impl Host, shaper: &str, direction: Direction, number: u32) {
+    let face = &face_of_bits(number);
+    let case = Case {
+        question: "plan",
+        face,
+        direction,
+        script: None,
+        features: &[],
+    };
+    let found = ask_over(rt, shaper, &case);
+    let wanted = table_row(rt, face, shaper, direction);
+    assert_plan(rt, number, found.as_str(), wanted.as_str());
+}
+
+/// Compares the plans of a shaper in one direction with the table, for every answer of face and engine.
+pub fn compare_with_table(rt: &impl Host, shaper: &str, direction: Direction) -> String {
+    for number in 0..1024 {
+        compare_plan(rt, shaper, direction, number);
     }
     String::from_str(rt.alloc(), " 1024 plans agree").expect(rt, "memory")
 }
@@ -215,7 +269,7 @@ fn wishes_of_a_replaced_shaper(rt: HostRuntime) {
 }
 
 /// The six masks of a plan.
-fn masks_of<S, D>(plan: &hb_ot_shape_plan_t<'_, S, TestMap, D>) -> [u32; 6] {
+fn masks_of<S, P, D>(plan: &hb_ot_shape_plan_t<'_, S, P, D>) -> [u32; 6] {
     [
         plan.frac_mask(),
         plan.numr_mask(),
@@ -227,7 +281,7 @@ fn masks_of<S, D>(plan: &hb_ot_shape_plan_t<'_, S, TestMap, D>) -> [u32; 6] {
 }
 
 /// What follows of them: whether there are fractions, `vert`, marks of `GPOS`, kerning and tracking.
-fn followed<S, D>(plan: &hb_ot_shape_plan_t<'_, S, TestMap, D>) -> [bool; 5] {
+fn followed<S, P, D>(plan: &hb_ot_shape_plan_t<'_, S, P, D>) -> [bool; 5] {
     [
         plan.has_frac(),
         plan.has_vert(),
@@ -238,27 +292,23 @@ fn followed<S, D>(plan: &hb_ot_shape_plan_t<'_, S, TestMap, D>) -> [bool; 5] {
 }
 
 /// Prints the masks of a plan, and what follows of them.
-pub fn print_masks<S, D>(rt: &impl Host, plan: &hb_ot_shape_plan_t<'_, S, TestMap, D>) -> String {
+pub fn print_masks<S, P, D>(
+    plan: &hb_ot_shape_plan_t<'_, S, P, D>,
+    found: &mut String,
+) -> Result<(), AllocError> {
     plan.masks_are_features();
     plan.positions_by_one_table();
-    let mut found = String::new(rt.alloc());
-    for mask in masks_of(plan) {
-        write!(found, " {mask}").expect(rt, "memory");
-    }
-    for holds in followed(plan) {
-        write!(found, " {holds}").expect(rt, "memory");
-    }
-    found
+    write!(found, " {:?} {:?}", masks_of(plan), followed(plan))
 }
 
 #[test]
 fn masks(rt: HostRuntime) {
     check(
         &rt,
-        "masks default plain ltr -> 0 0 0 0 0 0 false false false false false\n\
-         masks default masks ltr -> 8 8 8 8 8 8 true true true true false\n\
-         masks default masks+trak ltr -> 8 8 8 8 8 8 true true true true true\n\
-         masks default trak ltr -> 0 0 0 0 0 0 false false false false false",
+        "masks default plain ltr -> [0, 0, 0, 0, 0, 0] [false, false, false, false, false]\n\
+         masks default masks ltr -> [8, 8, 8, 8, 8, 8] [true, true, true, true, false]\n\
+         masks default masks+trak ltr -> [8, 8, 8, 8, 8, 8] [true, true, true, true, true]\n\
+         masks default trak ltr -> [0, 0, 0, 0, 0, 0] [false, false, false, false, false]",
     );
 }
 
@@ -266,32 +316,42 @@ pub fn latin(rt: &impl Host) -> Option<Script> {
     Some(Script(tag_of(rt, "Latn")))
 }
 
-/// Whether a plan fits a letter: without a script, in Latin, and in the other direction.
-fn fits<S, D>(rt: &impl Host, plan: &hb_ot_shape_plan_t<'_, S, TestMap, D>) -> [bool; 3] {
+/// A letter in a script and a direction.
+fn letter(rt: &impl Host, script: Option<Script>, direction: Direction) -> UnicodeBuffer {
     let mut text = UnicodeBuffer::new(rt.alloc());
     text.add('a', 0).expect(rt, "memory");
-    let bare = plan.fits::<PlainUnicode>(&text);
-    text.set_script(latin(rt));
-    text.set_direction(Direction::LeftToRight);
-    let whole = plan.fits::<PlainUnicode>(&text);
-    text.set_direction(Direction::RightToLeft);
-    [bare, whole, plan.fits::<PlainUnicode>(&text)]
+    text.set_script(script);
+    text.set_direction(direction);
+    text
 }
 
-/// Compares a plan for Latin with what it was asked for, and prints whether it fits the letter.
-pub fn print_parts<S, D>(
+/// Whether a plan fits a letter in a script and a direction.
+fn fits<S, P, D>(
     rt: &impl Host,
-    plan: &hb_ot_shape_plan_t<'_, S, TestMap, D>,
-    features: &[Feature],
-) -> String {
-    assert_same(rt, plan.direction(), Direction::LeftToRight);
-    assert_same(rt, plan.script(), latin(rt));
-    assert_same(rt, plan.user_features(), features);
-    let mut found = String::new(rt.alloc());
-    for holds in fits(rt, plan) {
-        write!(found, " {holds}").expect(rt, "memory");
-    }
-    found
+    plan: &hb_ot_shape_plan_t<'_, S, P, D>,
+    script: Option<Script>,
+    direction: Direction,
+) -> bool {
+    plan.fits::<PlainUnicode>(&letter(rt, script, direction))
+}
+
+/// Compares a plan with what it was asked for, and prints whether it fits a letter: without a script, in Latin, and in
+/// the other direction.
+pub fn print_parts<F, S, P, D>(
+    rt: &impl Host,
+    case: &Case<'_, F>,
+    plan: &hb_ot_shape_plan_t<'_, S, P, D>,
+    found: &mut String,
+) -> Result<(), AllocError> {
+    assert_same(rt, plan.direction(), case.direction);
+    assert_same(rt, plan.script(), case.script);
+    assert_same(rt, plan.user_features(), case.features);
+    let answers = [
+        fits(rt, plan, None, Direction::Invalid),
+        fits(rt, plan, latin(rt), Direction::LeftToRight),
+        fits(rt, plan, latin(rt), Direction::RightToLeft),
+    ];
+    write!(found, " {answers:?}")
 }
 
 /// A plan has what it was asked for, a copy of the user's features, and the data of its shaper, which counts them.
@@ -299,7 +359,7 @@ pub fn print_parts<S, D>(
 fn parts(rt: HostRuntime) {
     check(
         &rt,
-        "parts script plain ltr liga[1:3]=2 liga[1:3]=2 -> false true false\n\
+        "parts script plain ltr liga[1:3]=2 liga[1:3]=2 -> [false, true, false]\n\
          data script plain ltr liga[1:3]=2 liga[1:3]=2 -> Some(2)\n\
          data script morx ltr liga[1:3]=2 -> None",
     );

@@ -1,5 +1,5 @@
-//! Rows of planning: `QUESTION SHAPER FACE DIRECTION FEATURES.. -> ANSWER`. The shaper is `default`, `wishing`, `script`
-//! or `dumber`; the face is `plain` or what it has, parted by `+`; `rows` says how features are written.
+//! Rows of planning: `QUESTION SHAPER FACE DIRECTION FEATURES.. -> ANSWER`. The shaper is `default`, `wishing`,
+//! `script` or `dumber`; the face is `plain` or what it has, parted by `+`; `rows` says how features are written.
 //!
 //! | question | answer |
 //! |---|---|
@@ -11,170 +11,176 @@
 //! | `requests` | what is requested |
 //! | `compiled` | direction and features of the plan that a planner compiles, whether there is a shaper and `GPOS` |
 //! | `kept` | the shaper that is kept, whether it wants marks zeroed, and placed |
-use super::decisions::{compare_with_table, decided, latin, print_masks, print_parts, print_row};
-use super::requests::{compiled, kept, requested};
+//! | `builder` | what a builder is asked for by each of its calls |
+use super::decisions::{
+    compare_with_table, decided, latin, print_decided, print_masks, print_parts,
+};
+use super::requests::{begun, collected, compiled, print_called, print_kept, print_planner};
 use super::shapers::{ScriptShaper, WishingShaper};
-use super::support::{GPOS, GSUB, KERX, MASKS, MORX, TRAK, face_with};
-use crate::rows::{Host, check_rows, direction_of, features_of, first_word, unknown};
+use super::support::face_of;
+use crate::plans::planned;
+use crate::rows::{Answers, Host, check_rows, cut, cut_or, direction_of, features_of, unknown};
 use shape_buffer::buffer::{Direction, Feature, Script};
-use shape_buffer::interfaces::PlainUnicode;
+use shape_buffer::interfaces::{PlainUnicode, hb_font_t, hb_ot_layout_t, hb_unicode_funcs_t};
 use shape_plan::ot_shape_plan::hb_ot_shape_plan_t;
-use shape_plan::ot_shaper::{DEFAULT_SHAPER, DUMBER_SHAPER, hb_ot_shaper_t};
+use shape_plan::ot_shaper::{
+    DEFAULT_SHAPER, DUMBER_SHAPER, hb_default_shaper_t, hb_dumber_shaper_t, hb_ot_shaper_t,
+};
+use shape_plan::shaping_types::{PlanOf, ShapingTypes, TypesOf};
+use std::alloc::AllocError;
 use std::fmt::Debug;
-use test_worlds::{TestFace, TestLayout, TestMap};
+use test_worlds::{TestFace, TestLayout};
 
-/// A shaper that is planned for.
-pub trait PlanShaper: hb_ot_shaper_t<PlainUnicode, TestFace<'static>, TestLayout> {}
-
-impl<S: hb_ot_shaper_t<PlainUnicode, TestFace<'static>, TestLayout>> PlanShaper for S {}
-
-/// A plan of a shaper.
-pub type Plan<'a, S> = hb_ot_shape_plan_t<
-    'a,
-    S,
-    TestMap,
-    <S as hb_ot_shaper_t<PlainUnicode, TestFace<'static>, TestLayout>>::Data,
->;
-
-/// A plan in a direction that is valid.
-pub fn planned<'a, S: PlanShaper>(
-    rt: &impl Host,
-    face: &'a TestFace<'static>,
-    shaper: &'a S,
-    direction: Direction,
-    (script, features): (Option<Script>, &[Feature]),
-) -> Plan<'a, S> {
-    assert!(rt; direction != Direction::Invalid);
-    hb_ot_shape_plan_t::new::<PlainUnicode, TestFace<'static>, TestLayout>(
-        rt.alloc(),
-        face,
-        shaper,
-        direction,
-        script,
-        None,
-        features,
-    ).expect(rt, "memory")
+/// A question about plans for a face.
+#[derive(Drop)]
+pub struct Case<'a, F> {
+    pub question: &'a str,
+    pub face: &'a F,
+    pub direction: Direction,
+    pub script: Option<Script>,
+    pub features: &'a [Feature],
 }
 
-/// The bit of a word of a face.
-fn bit_of(rt: &impl Host, word: &str) -> u32 {
-    match word {
-        "plain" => 0,
-        "gsub" => GSUB,
-        "gpos" => GPOS,
-        "morx" => MORX,
-        "kerx" => KERX,
-        "trak" => TRAK,
-        "masks" => MASKS,
-        _ => unknown(rt, word),
+/// What a shaper makes for its plans.
+type DataOf<T> = <<T as ShapingTypes>::Shaper as hb_ot_shaper_t<
+    <T as ShapingTypes>::Unicode,
+    <T as ShapingTypes>::Face,
+    <T as ShapingTypes>::Engine,
+>>::Data;
+
+/// The plan that a question is about.
+fn plan_of<'a, T: ShapingTypes>(
+    rt: &impl Host,
+    case: &Case<'a, T::Face>,
+    shaper: &'a T::Shaper,
+) -> PlanOf<'a, T> {
+    if case.question == "compiled" {
+        return compiled::<T>(rt, case, shaper);
+    }
+    let asked = (case.direction, case.script);
+    planned::<T>(rt.alloc(), case.face, shaper, case.features, asked).expect(rt, "memory")
+}
+
+/// Prints what a plan answers to a question.
+fn print_plan<F, S, P, D: Debug>(
+    rt: &impl Host,
+    case: &Case<'_, F>,
+    plan: &hb_ot_shape_plan_t<'_, S, P, D>,
+    found: &mut String,
+) -> Result<(), AllocError> {
+    match case.question {
+        "plan" => print_decided(&decided(plan), found),
+        "masks" => print_masks(plan, found),
+        "parts" => print_parts(rt, case, plan, found),
+        "data" => write!(found, " {:?}", plan.data()),
+        "compiled" => print_compiled(plan, found),
+        _ => unknown(rt, case.question),
     }
 }
 
-/// The bits of the words of a face.
-fn bits_of(rt: &impl Host, words: &str) -> u32 {
-    let mut bits = 0;
-    for word in words.split('+') {
-        bits |= bit_of(rt, word);
-    }
-    bits
+/// Prints of a plan its direction, how many features it has of the user, whether it has a shaper and whether it
+/// positions by `GPOS`.
+fn print_compiled<S, P, D>(
+    plan: &hb_ot_shape_plan_t<'_, S, P, D>,
+    found: &mut String,
+) -> Result<(), AllocError> {
+    let (direction, count) = (plan.direction(), plan.user_features().len());
+    let (shaper, gpos) = (plan.shaper().is_some(), plan.apply_gpos());
+    write!(found, " {direction:?}, features {count} {shaper} {gpos}")
 }
 
-/// The answer to a question.
-fn ask<'a, S: PlanShaper>(
+/// Prints the answer to a question.
+fn ask<T: ShapingTypes>(
     rt: &impl Host,
-    question: &str,
-    (shaper, word): (&'a S, &str),
-    face: &'a TestFace<'static>,
-    direction: Direction,
-    features: &[Feature],
-) -> String
+    case: &Case<'_, T::Face>,
+    shaper: &T::Shaper,
+    found: &mut String,
+) -> Result<(), AllocError>
 where
-    S::Data: Debug,
+    DataOf<T>: Debug,
 {
-    let (latin, other) = (latin(rt), None);
-    match question {
-        "table" => compare_with_table(rt, (shaper, word), direction),
-        "plan" => print_row(
-            rt,
-            decided(&planned(rt, face, shaper, direction, (other, features))),
-        ),
-        "masks" => print_masks(rt, &planned(rt, face, shaper, direction, (other, features))),
-        "parts" => print_parts(
-            rt,
-            &planned(rt, face, shaper, direction, (latin, features)),
-            features,
-        ),
-        "data" => {
-            let plan = planned(rt, face, shaper, direction, (latin, features));
-            let made = plan.data();
-            format!(in rt.alloc(); " {made:?}").expect(rt, "memory")
-        }
-        "requests" => requested(rt, face, shaper, direction, features),
-        "compiled" => compiled(rt, face, shaper, direction, features),
-        "kept" => kept(rt, face, shaper, direction),
-        _ => unknown(rt, question),
+    match case.question {
+        "kept" => print_kept(&begun::<T>(rt.alloc(), case, shaper), found),
+        "builder" => print_called(rt, &mut begun::<T>(rt.alloc(), case, shaper).ot_map, found),
+        "requests" => print_planner(&collected::<T>(rt, case, shaper), found),
+        _ => print_plan(rt, case, &plan_of::<T>(rt, case, shaper), found),
     }
 }
 
-/// The answer to a question about a shaper by its name. The shapers are named here alone: a function that names one
-/// takes long to prove, whatever it does.
-fn ask_by_name(
+/// Prints the answer to a question about a shaper by its name. The shapers are named here and the other types of a
+/// plan in `ask_over`: a function that names all four takes long to prove, whatever it does.
+fn ask_by_name<U: hb_unicode_funcs_t, F: hb_font_t, M: hb_ot_layout_t<F>>(
+    rt: &impl Host,
+    shaper: &str,
+    case: &Case<'_, F>,
+    found: &mut String,
+) -> Result<(), AllocError> {
+    match shaper {
+        "default" => ask::<TypesOf<U, F, M, hb_default_shaper_t>>(rt, case, &DEFAULT_SHAPER, found),
+        "wishing" => {
+            ask::<TypesOf<U, F, M, WishingShaper>>(rt, case, &WishingShaper::new(), found)
+        }
+        "script" => ask::<TypesOf<U, F, M, ScriptShaper>>(rt, case, &ScriptShaper, found),
+        "dumber" => ask::<TypesOf<U, F, M, hb_dumber_shaper_t>>(rt, case, &DUMBER_SHAPER, found),
+        _ => unknown(rt, shaper),
+    }
+}
+
+/// The answer to a question about a shaper over a face of tests.
+pub fn ask_over(rt: &impl Host, shaper: &str, case: &Case<'_, TestFace<'_>>) -> String {
+    let mut found = String::new(rt.alloc());
+    ask_by_name::<PlainUnicode, TestFace<'_>, TestLayout>(rt, shaper, case, &mut found).expect(
+        rt, "memory",
+    );
+    found
+}
+
+/// The script that a question is about.
+fn script_of(rt: &impl Host, question: &str) -> Option<Script> {
+    match question {
+        "parts" | "data" => latin(rt),
+        _ => None,
+    }
+}
+
+/// The answer about one plan or planner.
+fn answer_one(
     rt: &impl Host,
     question: &str,
-    word: &str,
-    face: &TestFace<'static>,
-    direction: Direction,
-    features: &[Feature],
+    shaper: &str,
+    face: &str,
+    (direction, features): (Direction, &str),
 ) -> String {
-    match word {
-        "default" => ask(
-            rt,
-            question,
-            (&DEFAULT_SHAPER, word),
-            face,
-            direction,
-            features,
-        ),
-        "wishing" => ask(
-            rt,
-            question,
-            (&WishingShaper::new(), word),
-            face,
-            direction,
-            features,
-        ),
-        "script" => ask(
-            rt,
-            question,
-            (&ScriptShaper, word),
-            face,
-            direction,
-            features,
-        ),
-        "dumber" => ask(
-            rt,
-            question,
-            (&DUMBER_SHAPER, word),
-            face,
-            direction,
-            features,
-        ),
-        _ => unknown(rt, word),
-    }
+    let features = features_of(rt, features).expect(rt, "memory");
+    let case = Case {
+        question,
+        face: &face_of(rt, face),
+        direction,
+        script: script_of(rt, question),
+        features: features.as_slice(),
+    };
+    ask_over(rt, shaper, &case)
 }
 
-/// The answer to a case.
-fn answer(rt: &impl Host, case: &str) -> String {
-    let (question, case) = first_word(rt, case);
-    let (word, case) = first_word(rt, case);
-    let (face, case) = first_word(rt, case);
-    let (direction, features) = case.split_once(' ').unwrap_or((case, ""));
-    let (face, direction) = (face_with(bits_of(rt, face)), direction_of(rt, direction));
-    let features = features_of(rt, features).expect(rt, "memory");
-    ask_by_name(rt, question, word, &face, direction, features.as_slice())
+/// The questions about plans.
+#[derive(Drop)]
+struct Questions;
+
+impl Answers for Questions {
+    fn answer(&self, rt: &impl Host, case: &str) -> String {
+        let (question, case) = cut(rt, case, " ");
+        let (shaper, case) = cut(rt, case, " ");
+        let (face, case) = cut(rt, case, " ");
+        let (direction, features) = cut_or(case, " ", "");
+        let direction = direction_of(rt, direction);
+        match question {
+            "table" => compare_with_table(rt, shaper, direction),
+            _ => answer_one(rt, question, shaper, face, (direction, features)),
+        }
+    }
 }
 
 /// Asks the cases of rows.
 pub fn check(rt: &impl Host, rows: &str) {
-    check_rows(rt, rows, |case| answer(rt, case));
+    check_rows(rt, rows, &Questions);
 }

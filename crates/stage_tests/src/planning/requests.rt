@@ -1,73 +1,83 @@
 //! The requests, as the builder of a planner shows them: the shaper that is kept, how many requests there are, whether
 //! the builder is simple, and the requests in order: `TAG/FLAGS=VALUE`, `pause`, or `pause=N` with the number of a
 //! shaper's pause, in decimal.
-use super::questions::{PlanShaper, check};
-use super::support::face_with;
-use crate::rows::{Host, assert_answer, tag_of};
-use shape_buffer::buffer::{Direction, Feature, hb_tag_t};
-use shape_buffer::interfaces::{MapRequest, PlainUnicode, hb_ot_map_builder_t};
+use super::questions::{Case, check};
+use crate::rows::{Host, tag_of};
+use shape_buffer::interfaces::{MapRequest, hb_ot_map_builder_t};
 use shape_plan::ot_shape_plan::ChosenShaper;
 use shape_plan::planner::hb_ot_shape_planner_t;
-use test_worlds::{TestFace, TestLayout};
+use shape_plan::shaping_types::{PlanOf, ShapingTypes};
+use std::alloc::{AllocError, Global};
+
+/// A planner for the types of a run.
+type PlannerOf<'a, T> = hb_ot_shape_planner_t<
+    'a,
+    <T as ShapingTypes>::Face,
+    <T as ShapingTypes>::Shaper,
+>;
 
 /// A planner without requests.
-fn begun<'a, S: PlanShaper>(
-    rt: &impl Host,
-    face: &'a TestFace<'static>,
-    shaper: &'a S,
-    direction: Direction,
-) -> hb_ot_shape_planner_t<'a, TestFace<'static>, S> {
-    hb_ot_shape_planner_t::<TestFace<'static>, S>::new::<PlainUnicode, TestLayout>(
-        rt.alloc(),
-        face,
+pub fn begun<'a, T: ShapingTypes>(
+    alloc: Global,
+    case: &Case<'a, T::Face>,
+    shaper: &'a T::Shaper,
+) -> PlannerOf<'a, T> {
+    hb_ot_shape_planner_t::<T::Face, T::Shaper>::new::<T::Unicode, T::Engine>(
+        alloc,
+        case.face,
         shaper,
-        direction,
+        case.direction,
         None,
         None,
     )
 }
 
 /// A planner with all requests made.
-fn collected<'a, S: PlanShaper>(
+pub fn collected<'a, T: ShapingTypes>(
     rt: &impl Host,
-    face: &'a TestFace<'static>,
-    shaper: &'a S,
-    direction: Direction,
-    features: &[Feature],
-) -> hb_ot_shape_planner_t<'a, TestFace<'static>, S> {
-    let mut planner = begun(rt, face, shaper, direction);
+    case: &Case<'a, T::Face>,
+    shaper: &'a T::Shaper,
+) -> PlannerOf<'a, T> {
+    let mut planner = begun::<T>(rt.alloc(), case, shaper);
     planner
-        .collect_features::<PlainUnicode, TestLayout>(rt.alloc(), features)
+        .collect_features::<T::Unicode, T::Engine>(rt.alloc(), case.features)
         .expect(rt, "memory");
     planner
 }
 
-/// Prints four letters, the flags and the value.
-fn print_feature(rt: &impl Host, (tag, flags, value): (hb_tag_t, u32, u32), found: &mut String) {
-    found.push(' ').expect(rt, "memory");
-    for letter in tag.0.to_be_bytes() {
-        found.push(char::from(letter)).expect(rt, "memory");
+/// The plan that a planner compiles.
+pub fn compiled<'a, T: ShapingTypes>(
+    rt: &impl Host,
+    case: &Case<'a, T::Face>,
+    shaper: &'a T::Shaper,
+) -> PlanOf<'a, T> {
+    let planner = collected::<T>(rt, case, shaper);
+    planner
+        .compile::<T::Unicode, T::Engine>(rt.alloc(), case.features)
+        .expect(rt, "memory")
+}
+
+/// Prints a request.
+fn print_request(request: MapRequest, found: &mut String) -> Result<(), AllocError> {
+    match request {
+        MapRequest::Feature { tag, flags, value } => {
+            let [a, b, c, d] = tag.0.to_be_bytes();
+            let (a, b, c, d) = (char::from(a), char::from(b), char::from(c), char::from(d));
+            write!(found, " {a}{b}{c}{d}/{flags}={value}")
+        }
+        MapRequest::Pause(None) => found.push_str(" pause"),
+        MapRequest::Pause(Some(number)) => write!(found, " pause={number}"),
     }
-    write!(found, "/{flags}={value}").expect(rt, "memory");
 }
 
 /// Prints the requests of a builder, how many they are, and whether it is simple.
-pub fn print_requests(rt: &impl Host, builder: &hb_ot_map_builder_t, found: &mut String) {
+fn print_requests(builder: &hb_ot_map_builder_t, found: &mut String) -> Result<(), AllocError> {
     let (count, simple) = (builder.requests().len(), builder.is_simple());
-    write!(found, " {count} requests, simple {simple}:").expect(rt, "memory");
+    write!(found, " {count} requests, simple {simple}:")?;
     for request in builder.requests() {
-        match *request {
-            MapRequest::Feature { tag, flags, value } => print_feature(
-                rt,
-                (tag, flags, value),
-                found,
-            ),
-            MapRequest::Pause(None) => found.push_str(" pause").expect(rt, "memory"),
-            MapRequest::Pause(Some(number)) => write!(found, " pause={number}").expect(
-                rt, "memory",
-            ),
-        }
+        print_request(*request, found)?;
     }
+    Ok(())
 }
 
 /// The word for the shaper that is kept.
@@ -78,19 +88,45 @@ fn chosen<S>(shaper: &ChosenShaper<'_, S>) -> &'static str {
     }
 }
 
-/// Prints what is requested.
-pub fn requested<S: PlanShaper>(
+/// Prints the shaper that a planner keeps, and its requests.
+pub fn print_planner<F, S>(
+    planner: &hb_ot_shape_planner_t<'_, F, S>,
+    found: &mut String,
+) -> Result<(), AllocError> {
+    found.push_str(chosen(&planner.shaper))?;
+    print_requests(&planner.ot_map, found)
+}
+
+/// Prints the shaper that is kept, and whether the given one wants marks zeroed and placed.
+pub fn print_kept<F, S>(
+    planner: &hb_ot_shape_planner_t<'_, F, S>,
+    found: &mut String,
+) -> Result<(), AllocError> {
+    let word = chosen(&planner.shaper);
+    let zeroes = planner.script_zero_marks;
+    let places = planner.script_fallback_mark_positioning;
+    write!(found, "{word} {zeroes} {places}")
+}
+
+/// Makes each call of a builder.
+fn call(rt: &impl Host, builder: &mut hb_ot_map_builder_t) {
+    let (liga, kern, clig) = (tag_of(rt, "liga"), tag_of(rt, "kern"), tag_of(rt, "clig"));
+    builder.add_feature(liga, 4, 5).expect(rt, "memory");
+    builder.enable_feature(kern, 2, 1).expect(rt, "memory");
+    builder.reserve(1).expect(rt, "memory");
+    builder.disable_feature(clig).expect(rt, "memory");
+    builder.add_gsub_pause(Some(7)).expect(rt, "memory");
+    builder.set_simple(false);
+}
+
+/// Prints the requests that each call of a builder makes.
+pub fn print_called(
     rt: &impl Host,
-    face: &TestFace<'static>,
-    shaper: &S,
-    direction: Direction,
-    features: &[Feature],
-) -> String {
-    let planner = collected(rt, face, shaper, direction, features);
-    let mut found = String::new(rt.alloc());
-    found.push_str(chosen(&planner.shaper)).expect(rt, "memory");
-    print_requests(rt, &planner.ot_map, &mut found);
-    found
+    builder: &mut hb_ot_map_builder_t,
+    found: &mut String,
+) -> Result<(), AllocError> {
+    call(rt, builder);
+    print_requests(builder, found)
 }
 
 #[test]
@@ -112,28 +148,6 @@ fn directions(rt: HostRuntime) {
          frac/0=1 numr/0=1 dnom/0=1 rand/33=255 trak/3=1 Harf/1=1 HARF/1=1 Buzz/1=1 BUZZ/1=1 \
          abvm/1=1 blwm/1=1 ccmp/1=1 locl/1=1 mark/13=1 mkmk/13=1 rlig/1=1 vert/17=1",
     );
-}
-
-/// Prints of a plan that a planner compiled its direction, how many features it has of the user, whether it has a
-/// shaper and whether it positions by `GPOS`.
-pub fn compiled<S: PlanShaper>(
-    rt: &impl Host,
-    face: &TestFace<'static>,
-    shaper: &S,
-    direction: Direction,
-    features: &[Feature],
-) -> String {
-    let planner = collected(rt, face, shaper, direction, features);
-    let plan = planner
-        .compile::<PlainUnicode, TestLayout>(rt.alloc(), features)
-        .expect(rt, "memory");
-    let mut found = String::new(rt.alloc());
-    let (direction, count) = (plan.direction(), plan.user_features().len());
-    write!(found, " {direction:?}, features {count}").expect(rt, "memory");
-    for holds in [plan.shaper().is_some(), plan.apply_gpos()] {
-        write!(found, " {holds}").expect(rt, "memory");
-    }
-    found
 }
 
 /// A planner that has collected what it asks is compiled: a plan for its direction, with the user's features.
@@ -173,25 +187,6 @@ fn of_a_shaper(rt: HostRuntime) {
     );
 }
 
-/// Prints the shaper that is kept, and whether the given one wants marks zeroed and placed.
-pub fn kept<S: PlanShaper>(
-    rt: &impl Host,
-    face: &TestFace<'static>,
-    shaper: &S,
-    direction: Direction,
-) -> String {
-    let planner = begun(rt, face, shaper, direction);
-    let mut found = String::new(rt.alloc());
-    found.push_str(chosen(&planner.shaper)).expect(rt, "memory");
-    for holds in [
-        planner.script_zero_marks,
-        planner.script_fallback_mark_positioning,
-    ] {
-        write!(found, " {holds}").expect(rt, "memory");
-    }
-    found
-}
-
 /// The shaper that knows no script is kept as such if a shaper is replaced, and else like any other.
 #[test]
 fn dumber(rt: HostRuntime) {
@@ -204,27 +199,8 @@ fn dumber(rt: HostRuntime) {
 
 #[test]
 fn builder_calls(rt: HostRuntime) {
-    let face = face_with(0);
-    let mut builder = hb_ot_map_builder_t::new::<TestFace<'static>, TestLayout>(
-        rt.alloc(),
-        &face,
-        None,
-        None,
+    check(
+        &rt,
+        "builder default plain ltr -> 4 requests, simple false: liga/4=5 kern/3=1 clig/1=0 pause=7",
     );
-    builder
-        .add_feature(tag_of(&rt, "liga"), 4, 5)
-        .expect(&rt, "memory");
-    builder
-        .enable_feature(tag_of(&rt, "kern"), 2, 1)
-        .expect(&rt, "memory");
-    builder.reserve(1).expect(&rt, "memory");
-    builder
-        .disable_feature(tag_of(&rt, "clig"))
-        .expect(&rt, "memory");
-    builder.add_gsub_pause(Some(7)).expect(&rt, "memory");
-    builder.set_simple(false);
-    let mut found = String::new(rt.alloc());
-    print_requests(&rt, &builder, &mut found);
-    let wanted = " 4 requests, simple false: liga/4=5 kern/3=1 clig/1=0 pause=7";
-    assert_answer(&rt, "builder", found.as_str(), wanted);
 }

@@ -1,51 +1,45 @@
-//! What the tests of planning bring: faces whose answers, and those of their engine, are the bits of a number.
+//! The faces of tests of planning: they have no glyphs, and answer what words or the bits of a number say.
+use crate::faces::describe;
+use crate::rows::Host;
 use shape_buffer::buffer::hb_tag_t;
 use shape_buffer::interfaces::hb_tables_t;
 use test_worlds::{PLAIN_FACE, TestFace};
 
-pub const GSUB: u32 = 1;
+/// A face for both of whose tables the script 1 is chosen.
+fn scripted_face() -> TestFace<'static> {
+    TestFace {
+        gsub_script: Some(hb_tag_t(1)),
+        gpos_script: Some(hb_tag_t(1)),
+        ..PLAIN_FACE
+    }
+}
 
-pub const GPOS: u32 = 2;
+/// The face of words that are parted by `+`.
+pub fn face_of(rt: &impl Host, words: &str) -> TestFace<'static> {
+    let mut face = scripted_face();
+    for word in words.split('+') {
+        describe(rt, word, &mut face);
+    }
+    face
+}
 
-pub const MORX: u32 = 4;
-
-pub const KERX: u32 = 8;
-
-pub const TRAK: u32 = 16;
-
-pub const KERNING: u32 = 32;
-
-pub const MACHINE_KERNING: u32 = 64;
-
-pub const CROSS_KERNING: u32 = 128;
-/// The script 2 is chosen for `GPOS`, in place of 1.
-pub const SCRIPT_TWO: u32 = 256;
-/// `GPOS` has a feature that kerns.
-pub const GPOS_KERNS: u32 = 512;
-
-pub const GLYPH_CLASSES: u32 = 1024;
-/// Every mask is 8.
-pub const MASKS: u32 = 2048;
-
-/// A face without glyphs that answers by the bits of a number.
-pub fn face_with(number: u32) -> TestFace<'static> {
+/// A face for each answer to ten questions, which are the bits of a number below 1024.
+pub fn face_of_bits(number: u32) -> TestFace<'static> {
     let has = |bit: u32| number & bit != 0;
     TestFace {
         tables: hb_tables_t {
-            gsub: has(GSUB),
-            gpos: has(GPOS),
-            morx: has(MORX),
-            kerx: has(KERX),
-            trak: has(TRAK),
+            gsub: has(1),
+            gpos: has(2),
+            morx: has(4),
+            kerx: has(8),
+            trak: false,
         },
-        every_feature: has(MASKS),
-        classes: has(GLYPH_CLASSES),
-        gsub_script: Some(hb_tag_t(1)),
-        gpos_script: Some(hb_tag_t(if has(SCRIPT_TWO) { 2 } else { 1 })),
-        gpos_kerns: has(GPOS_KERNS),
-        kerning: has(KERNING),
-        machine_kerning: has(MACHINE_KERNING),
-        cross_kerning: has(CROSS_KERNING),
-        ..PLAIN_FACE
+        kerning: has(16),
+        machine_kerning: has(32),
+        cross_kerning: has(64),
+        gpos_script: Some(hb_tag_t(if has(128) { 2 } else { 1 })),
+        gpos_kerns: has(256),
+        classes: has(512),
+        ..scripted_face()
     }
 }

@@ -4,7 +4,7 @@
 use super::answers::check;
 use crate::rows::{Host, assert_same, buffer_of};
 use shape_buffer::buffer::{
-    Direction, UnicodeBuffer, hb_buffer_t, hb_glyph_info_t, hb_unicode_general_category_t,
+    Direction, hb_buffer_t, hb_glyph_info_t, hb_unicode_general_category_t,
 };
 use shape_pipeline::ot_shape::syllabic_clear_var;
 
@@ -30,20 +30,10 @@ fn mark(replaced: bool) -> hb_glyph_info_t {
     info
 }
 
-/// Two marks in the place of a text, of which a lookup has replaced the second one.
-pub fn marks(rt: &impl Host, text: UnicodeBuffer) -> hb_buffer_t {
+/// Puts two marks in the place of a text, of which a lookup has replaced the second one.
+pub fn put_marks(rt: &impl Host, buffer: &mut hb_buffer_t) {
     let infos = vec![in rt.alloc(); mark(false), mark(true)].expect(rt, "memory");
-    buffer_of(rt, text.direction(), infos)
-}
-
-/// Prints of each mark its class and glyph, and whether it counts as substituted and as ligated.
-pub fn print_marks(rt: &impl Host, infos: &[hb_glyph_info_t], found: &mut String) {
-    for info in infos {
-        let (class, glyph) = (info._hb_glyph_info_get_glyph_class().0, info.glyph_id);
-        let substituted = info._hb_glyph_info_get_substituted();
-        let ligated = info._hb_glyph_info_get_ligated();
-        write!(found, " {class}:{glyph}/{substituted}/{ligated}").expect(rt, "memory");
-    }
+    buffer.replace_infos(infos).expect(rt, "memory");
 }
 
 /// Where the classes are the face's, the second mark stays as the lookup made it.

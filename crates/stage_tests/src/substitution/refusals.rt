@@ -3,84 +3,20 @@
 //! gate's script refuses one growth after the other, and reads that it was so.
 
 use super::answers::shown;
-use super::runs::{shaped, substituted};
-use super::worlds::{face_of, fill, stages_of};
-use crate::rows::{Host, assert_answer, assert_same, print_glyphs};
-use shape_buffer::buffer::{Direction, Feature, ShapeError, UnicodeBuffer, hb_glyph_info_t};
-use shape_pipeline::ot_shaper::hb_ot_shaper_t;
-use std::alloc::{AllocError, Global};
+use super::worlds::{face_of, stages_of};
+use crate::rows::{Host, assert_answer};
 use std::test::Fail;
-use test_worlds::{SmallUnicode, TestFace, TestLayout};
 
 /// Compares what a case over a world shows.
 fn shown_or_refused(rt: &impl Host, world: &str, case: &str, wanted: &str) -> Result<(), Fail> {
     let stages = stages_of(rt, world)?;
     let face = face_of(rt, world, stages.as_slice());
-    match shown(rt, &face, case, wanted)? {
-        Some(found) => {
-            assert_answer(rt, case, found.as_str(), wanted);
-            Ok(())
-        }
-        None => Err(Fail::from("refused")),
+    let mut found = String::new(rt.alloc());
+    if shown(rt, &face, case, wanted, &mut found)? {
+        assert_answer(rt, case, found.as_str(), wanted);
+        return Ok(());
     }
-}
-
-/// Prints how many glyphs the stages make of a text, if they aren't refused.
-pub fn stages_or_refused<'b, S>(
-    rt: &impl Host,
-    face: &TestFace<'b>,
-    shaper: &S,
-    text: UnicodeBuffer,
-) -> Result<Option<String>, ShapeError>
-where
-    S: hb_ot_shaper_t<SmallUnicode, TestFace<'b>, TestLayout, Data = ()>,
-{
-    match substituted(rt.alloc(), face, shaper, &[], text)? {
-        Ok(buffer) => {
-            let count = buffer.len();
-            Ok(Some(format!(in rt.alloc(); " {count} glyphs")?))
-        }
-        Err(cause) => {
-            assert_same(rt, cause, ShapeError::Memory);
-            Ok(None)
-        }
-    }
-}
-
-/// The glyphs, printed.
-fn printed(alloc: Global, infos: &[hb_glyph_info_t]) -> Result<String, AllocError> {
-    let mut found = String::new(alloc);
-    print_glyphs(infos, &mut found)?;
-    Ok(found)
-}
-
-/// Prints the glyphs of a text, if its run isn't refused. If it is, compares what is left, and the glyphs of the same
-/// text in the buffer that is handed back.
-pub fn run_or_refused<'b, S>(
-    rt: &impl Host,
-    face: &TestFace<'b>,
-    shaper: &S,
-    features: &[Feature],
-    (whole, text): (UnicodeBuffer, &str),
-    wanted: &str,
-) -> Result<Option<String>, ShapeError>
-where
-    S: hb_ot_shaper_t<SmallUnicode, TestFace<'b>, TestLayout, Data = ()>,
-{
-    let mut again = match shaped(rt.alloc(), face, shaper, features, whole) {
-        Ok(answer) => return Ok(Some(printed(rt.alloc(), answer.glyph_infos())?)),
-        Err(fault) => {
-            assert_same(rt, fault.cause, ShapeError::Memory);
-            fault.buffer
-        }
-    };
-    assert_same(rt, again.len(), 0);
-    assert_same(rt, again.direction(), Direction::Invalid);
-    fill(rt, &mut again, text)?;
-    let answer = shaped(rt.alloc(), face, shaper, features, again).expect(rt, "refused twice");
-    let found = printed(rt.alloc(), answer.glyph_infos())?;
-    assert_answer(rt, "run again", found.as_str(), wanted);
-    Ok(None)
+    Err(Fail::from("refused"))
 }
 
 /// Two glyphs that stay, and sixteen of the two that are doubled.

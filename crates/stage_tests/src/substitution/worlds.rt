@@ -1,7 +1,7 @@
 //! Faces and texts, read from words.
 //!
-//! A world is a face whose every character has the glyph of its own number, and its stages of substitution in order. Its
-//! words are these, each number a glyph, a mask or a count in hexadecimal:
+//! A world is a face whose every character has the glyph of its own number, and its stages of substitution in order.
+//! Its words are these, each number a glyph, a mask or a count in hexadecimal:
 //!
 //! | word | says |
 //! |---|---|
@@ -14,7 +14,8 @@
 //! | `pause=N` | pause N after the first stage |
 //! | `fractions`, `classes` | the face has lookups for fractions, classes of glyphs |
 //! | `morx`, `gpos` | the face has this table besides `GSUB` |
-use crate::rows::{Host, direction_of, hex, unknown};
+use crate::faces::describe;
+use crate::rows::{Host, cut, cut_or, direction_of, hex};
 use shape_buffer::buffer::{BufferClusterLevel, BufferFlags, ShapeError, UnicodeBuffer};
 use shape_buffer::interfaces::hb_tables_t;
 use std::alloc::AllocError;
@@ -25,8 +26,8 @@ fn stage_of(rt: &impl Host, word: &str) -> Stage {
     if let Some(number) = word.strip_prefix('+') {
         return Stage::Add(hex(rt, number));
     }
-    let (rule, mask) = word.split_once('/').unwrap_or((word, "0"));
-    let (from, to) = rule.split_once('>').expect(rt, "a rule");
+    let (rule, mask) = cut_or(word, "/", "0");
+    let (from, to) = cut(rt, rule, ">");
     let feature = hex(rt, mask);
     if let Some((first, second)) = to.split_once(',') {
         Stage::Multiple(Multiple {
@@ -56,40 +57,34 @@ fn is_stage(word: &str) -> bool {
     word.starts_with('+') || word.contains('>')
 }
 
+/// Appends what a word of a world says to its stages, if it says one.
+fn push_stages(rt: &impl Host, word: &str, stages: &mut Vec<Stage>) -> Result<(), AllocError> {
+    if is_stage(word) {
+        let (word, count) = cut_or(word, "*", "1");
+        let stage = stage_of(rt, word);
+        for _ in 0..hex(rt, count) {
+            stages.push(stage)?;
+        }
+    }
+    Ok(())
+}
+
 /// The stages of a world.
 pub fn stages_of(rt: &impl Host, world: &str) -> Result<Vec<Stage>, AllocError> {
     let mut stages = Vec::new(rt.alloc());
     for word in world.split_whitespace() {
-        if is_stage(word) {
-            let (word, count) = word.split_once('*').unwrap_or((word, "1"));
-            for _ in 0..hex(rt, count) {
-                stages.push(stage_of(rt, word))?;
-            }
-        }
+        push_stages(rt, word, &mut stages)?;
     }
     Ok(stages)
-}
-
-/// Says of a face what a word of its world says, if that is no stage.
-fn describe(rt: &impl Host, word: &str, face: &mut TestFace<'_>) {
-    match word {
-        "fractions" => face.fractions = true,
-        "classes" => face.classes = true,
-        "morx" => face.tables.morx = true,
-        "gpos" => face.tables.gpos = true,
-        _ => match word.strip_prefix("pause=") {
-            Some(number) => face.pause = Some(hex(rt, number)),
-            None if is_stage(word) => {}
-            None => unknown(rt, word),
-        },
-    }
 }
 
 /// The face of a world with these stages.
 pub fn face_of<'a>(rt: &impl Host, world: &str, stages: &'a [Stage]) -> TestFace<'a> {
     let mut face = TestFace::ruled(stages);
     for word in world.split_whitespace() {
-        describe(rt, word, &mut face);
+        if !is_stage(word) {
+            describe(rt, word, &mut face);
+        }
     }
     face
 }
@@ -122,8 +117,8 @@ fn append_part(
     part: &str,
     end: u32,
 ) -> Result<u32, ShapeError> {
-    let (part, count) = part.split_once('*').unwrap_or((part, "1"));
-    let (characters, begin) = part.split_once('@').unwrap_or((part, ""));
+    let (part, count) = cut_or(part, "*", "1");
+    let (characters, begin) = cut_or(part, "@", "");
     let mut cluster = if begin.is_empty() {
         end
     } else {
@@ -144,14 +139,20 @@ pub fn fill(rt: &impl Host, buffer: &mut UnicodeBuffer, text: &str) -> Result<()
     Ok(())
 }
 
-/// A text in a manner: a direction, and perhaps, parted by commas, the level `monotone-characters` or `characters`
-/// in place of that of graphemes, and `concat` to mark what is unsafe to concat.
-pub fn text_of(rt: &impl Host, manner: &str, text: &str) -> Result<UnicodeBuffer, ShapeError> {
+/// An empty text in a manner: a direction, and perhaps, parted by commas, the level `monotone-characters` or
+/// `characters` in place of that of graphemes, and `concat` to mark what is unsafe to concat.
+fn empty_text(rt: &impl Host, manner: &str) -> UnicodeBuffer {
     let mut buffer = UnicodeBuffer::new(rt.alloc());
-    fill(rt, &mut buffer, text)?;
     buffer.set_cluster_level(BufferClusterLevel::MonotoneGraphemes);
     for word in manner.split(',') {
         set_manner(rt, word, &mut buffer);
     }
+    buffer
+}
+
+/// A text in a manner.
+pub fn text_of(rt: &impl Host, manner: &str, text: &str) -> Result<UnicodeBuffer, ShapeError> {
+    let mut buffer = empty_text(rt, manner);
+    fill(rt, &mut buffer, text)?;
     Ok(buffer)
 }

@@ -1,14 +1,15 @@
 //! Spaces, forms, and what is unseen: the ends of each range, as HarfBuzz has them.
 
-use crate::characters::{check_answers, check_kind};
+use crate::answers::{Question, check_answers};
+use shape_unicode::UnicodeDatabase;
 
 /// The whole table, and what stands beside its entries: 0 is no space, 1 to 6 and 16 are an em and its parts, 17 is
 /// 4/18 em, 18 the ordinary space, and 19, 20 and 21 are as wide as a digit, as punctuation, and narrow.
 #[test]
 fn spaces(rt: HostRuntime) {
-    check_answers(
+    check_answers::<UnicodeDatabase>(
         &rt,
-        "space",
+        Question::Space,
         "1F -> 0
          0020 -> 18
          A0 -> 18
@@ -35,44 +36,41 @@ fn spaces(rt: HostRuntime) {
 /// draw.
 #[test]
 fn ignorables(rt: HostRuntime) {
-    check_kind(
+    check_answers::<UnicodeDatabase>(
         &rt,
-        "ignorable",
-        true,
-        "AD 34F 61C 17B4 17B5 180B 180E 200B 200C 200D 200F 202A 202E 2060 2065 206F FE00 FE0F FEFF FFF0
-         FFF8 1D173 1D17A E0000 E0001 E01EF E0FFF",
-    );
-    check_kind(
-        &rt,
-        "ignorable",
-        false,
-        "a 0020 AC 34E 115F 1160 180A 180F 200A 2010 202F 3164 FE10 FFA0 FFF9 1BCA0 1BCA3 1D17B E1000",
+        Question::Ignorable,
+        "AD 34F 61C 17B4 17B5 180B 180E 200B 200C 200D 200F 202A 202E 2060 2065 206F FE00 FE0F FEFF FFF0 \
+             FFF8 1D173 1D17A E0000 E0001 E01EF E0FFF -> yes
+         a 0020 AC 34E 115F 1160 180A 180F 200A 2010 202F 3164 FE10 FFA0 FFF9 1BCA0 1BCA3 1D17B E1000 -> no",
     );
 }
 
 #[test]
 fn selectors(rt: HostRuntime) {
-    check_kind(&rt, "selector", true, "FE00 FE0F E0100 E01EF");
-    check_kind(
+    check_answers::<UnicodeDatabase>(
         &rt,
-        "selector",
-        false,
-        "180B 180D 180F FDFF FE10 E00FF E01F0",
+        Question::Selector,
+        "FE00 FE0F E0100 E01EF -> yes
+         180B 180D 180F FDFF FE10 E00FF E01F0 -> no",
     );
 }
 
 #[test]
 fn pictographs(rt: HostRuntime) {
-    check_kind(&rt, "pictograph", true, "A9 2764 1F468 1F600 1F9D1 1FFFD");
-    check_kind(&rt, "pictograph", false, "# 1 200D 1F1E6 1F3FB 1FFFE");
+    check_answers::<UnicodeDatabase>(
+        &rt,
+        Question::Pictograph,
+        "A9 2764 1F468 1F600 1F9D1 1FFFD -> yes
+         # 1 200D 1F1E6 1F3FB 1FFFE -> no",
+    );
 }
 
 /// Characters that mirror one another, and some that mirror none.
 #[test]
 fn mirrors(rt: HostRuntime) {
-    check_answers(
+    check_answers::<UnicodeDatabase>(
         &rt,
-        "mirrored",
+        Question::Mirrored,
         "( -> )
          ) -> (
          < -> >
@@ -101,9 +99,9 @@ fn mirrors(rt: HostRuntime) {
 
 #[test]
 fn verticals(rt: HostRuntime) {
-    check_answers(
+    check_answers::<UnicodeDatabase>(
         &rt,
-        "vertical",
+        Question::Vertical,
         "2013 -> FE32
          2014 -> FE31
          2025 -> FE30

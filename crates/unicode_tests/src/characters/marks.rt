@@ -1,6 +1,6 @@
 //! Categories and ccc: UnicodeData.txt, and HarfBuzz's modified combining classes.
 
-use crate::characters::check_answers;
+use crate::answers::{Question, check_answers, check_categories};
 use crate::comparing::{assert_same, number, parts};
 use shape_buffer::interfaces::hb_unicode_funcs_t;
 use shape_unicode::UnicodeDatabase;
@@ -9,9 +9,8 @@ use ucd_normal::canonical_combining_class;
 
 #[test]
 fn categories(rt: HostRuntime) {
-    check_answers(
+    check_categories::<UnicodeDatabase>(
         &rt,
-        "category",
         "A -> UppercaseLetter
          1C5 -> TitlecaseLetter
          2B0 -> ModifierLetter
@@ -65,7 +64,7 @@ const ALONE: [char; 3] = ['\u{F39}', '\u{FC6}', '\u{1A60}'];
 
 #[test]
 fn changed_cccs(rt: HostRuntime) {
-    check_answers(&rt, "ccc", CHANGED);
+    check_answers::<UnicodeDatabase>(&rt, Question::Ccc, CHANGED);
 }
 
 /// Whether a ccc is that of a changed combining class.
@@ -84,19 +83,26 @@ fn is_known(rt: &impl Abort, c: char) -> bool {
     ccc == canonical_combining_class(c) || ALONE.contains(&c) || is_changed(rt, ccc)
 }
 
+/// Stops at a character of any other ccc.
+fn assert_known(rt: &impl Abort, c: char) {
+    if !is_known(rt, c) {
+        panic!(rt; "the ccc of {c:?}");
+    }
+}
+
 #[test]
 fn no_other_ccc_is_changed(rt: HostRuntime) {
     for c in '\0'..=char::MAX {
-        assert_same(&rt, (c, is_known(&rt, c)), (c, true));
+        assert_known(&rt, c);
     }
 }
 
 /// Marks of ccc that stay, characters that have a ccc of their own, and letters.
 #[test]
 fn other_cccs(rt: HostRuntime) {
-    check_answers(
+    check_answers::<UnicodeDatabase>(
         &rt,
-        "ccc",
+        Question::Ccc,
         "a -> 0
          334 -> 1
          93C -> 7

@@ -1,17 +1,13 @@
 //! Scripts.txt, and the directions that HarfBuzz has for scripts.
 
-use crate::characters::{check_answers, script_of};
-use crate::comparing::{assert_same, parts, rows_of};
-use shape_buffer::buffer::Direction;
-use shape_buffer::interfaces::hb_unicode_funcs_t;
+use crate::answers::{Question, check_answers};
 use shape_unicode::UnicodeDatabase;
-use std::process::Abort;
 
 #[test]
 fn scripts(rt: HostRuntime) {
-    check_answers(
+    check_answers::<UnicodeDatabase>(
         &rt,
-        "script",
+        Question::Script,
         "a -> Latn
          1 -> Zyyy
          301 -> Zinh
@@ -32,43 +28,13 @@ fn scripts(rt: HostRuntime) {
     );
 }
 
-/// The direction of a word; none for a script that is written both ways.
-fn direction(rt: &impl Abort, word: &str) -> Option<Direction> {
-    match word {
-        "LeftToRight" => Some(Direction::LeftToRight),
-        "RightToLeft" => Some(Direction::RightToLeft),
-        "either" => None,
-        _ => panic!(rt; "{word} is no direction"),
-    }
-}
-
-/// Compares the directions of scripts: `SCRIPT -> DIRECTION`.
-fn check_directions(rt: &impl Abort, rows: &str) {
-    for row in rows_of(rt, rows).lines() {
-        let (word, wanted) = parts(rt, row, "->");
-        let found = UnicodeDatabase::script_direction(script_of(rt, word));
-        assert_same(rt, (word, found), (word, direction(rt, wanted)));
-    }
-}
-
 #[test]
 fn directions(rt: HostRuntime) {
-    check_directions(
+    check_answers::<UnicodeDatabase>(
         &rt,
-        "Latn -> LeftToRight
-         Hani -> LeftToRight
-         Mong -> LeftToRight
-         Zyyy -> LeftToRight
-         Zzzz -> LeftToRight
-         ???? -> LeftToRight
-         Arab -> RightToLeft
-         Hebr -> RightToLeft
-         Syrc -> RightToLeft
-         Adlm -> RightToLeft
-         Gara -> RightToLeft
-         Hung -> either
-         Ital -> either
-         Runr -> either
-         Tfng -> either",
+        Question::DirectionOfScript,
+        "Latn Hani Mong Zyyy Zzzz ???? -> LeftToRight
+         Arab Hebr Syrc Adlm Gara -> RightToLeft
+         Hung Ital Runr Tfng -> either",
     );
 }

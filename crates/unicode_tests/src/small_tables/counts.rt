@@ -1,50 +1,27 @@
 //! How many characters have each property: what the tables name, and no other character.
 
-use shape_buffer::interfaces::hb_unicode_funcs_t;
-use shape_buffer::interfaces::space_types::NOT_SPACE;
+use crate::answers::{Question, count};
+use crate::comparing::assert_row;
 use shape_sessions::unicode_tables::UnicodeTables;
+use std::process::Abort;
 
-/// The first and the last of all characters.
-const FIRST: char = '\0';
-
-const LAST: char = '\u{10FFFF}';
+/// Compares how many characters the tables have something for.
+fn check_count(rt: &impl Abort, name: &str, question: Question, wanted: usize) {
+    assert_row(rt, name, count::<UnicodeTables>(rt, question), wanted);
+}
 
 #[test]
 fn entries_of_tables(rt: HostRuntime) {
-    let splits = (FIRST..=LAST)
-        .filter(|c| UnicodeTables::decompose(*c).is_some())
-        .count();
-    assert_eq!(rt; splits, 14);
-    let cccs = (FIRST..=LAST)
-        .filter(|c| UnicodeTables::modified_combining_class(*c) != 0)
-        .count();
-    assert_eq!(rt; cccs, 8);
-    let mirrors = (FIRST..=LAST)
-        .filter(|c| UnicodeTables::mirrored(*c).is_some())
-        .count();
-    assert_eq!(rt; mirrors, 8);
-    let verticals = (FIRST..=LAST)
-        .filter(|c| UnicodeTables::vertical(*c).is_some())
-        .count();
-    assert_eq!(rt; verticals, 1);
-    let spaces = (FIRST..=LAST)
-        .filter(|c| UnicodeTables::space_fallback(*c) != NOT_SPACE)
-        .count();
-    assert_eq!(rt; spaces, 16);
+    check_count(&rt, "splits", Question::Split, 14);
+    check_count(&rt, "cccs", Question::Ccc, 8);
+    check_count(&rt, "mirrors", Question::Mirrored, 8);
+    check_count(&rt, "verticals", Question::Vertical, 1);
+    check_count(&rt, "spaces", Question::Space, 16);
 }
 
 #[test]
 fn characters_of_ranges(rt: HostRuntime) {
-    let ignorables = (FIRST..=LAST)
-        .filter(|c| UnicodeTables::is_default_ignorable(*c))
-        .count();
-    assert_eq!(rt; ignorables, 19);
-    let selectors = (FIRST..=LAST)
-        .filter(|c| UnicodeTables::is_variation_selector(*c))
-        .count();
-    assert_eq!(rt; selectors, 16);
-    let pictographs = (FIRST..=LAST)
-        .filter(|c| UnicodeTables::is_emoji_extended_pictographic(*c))
-        .count();
-    assert_eq!(rt; pictographs, 80);
+    check_count(&rt, "ignorables", Question::Ignorable, 19);
+    check_count(&rt, "selectors", Question::Selector, 16);
+    check_count(&rt, "pictographs", Question::Pictograph, 80);
 }

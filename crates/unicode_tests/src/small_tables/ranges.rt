@@ -1,170 +1,101 @@
 //! Ignorables, selectors and pictographs, scripts and their directions, and the categories that rules ask for.
 
-use shape_buffer::buffer::{Direction, Script, hb_tag_t};
-use shape_buffer::interfaces::{hb_unicode_funcs_t, hb_unicode_general_category_t};
+use crate::answers::{Question, check_answers, check_categories};
 use shape_sessions::unicode_tables::UnicodeTables;
 
 #[test]
 fn ignorables(rt: HostRuntime) {
-    for c in ['\u{34F}', '\u{200C}', '\u{200D}'] {
-        assert!(rt; UnicodeTables::is_default_ignorable(c));
-    }
-    for c in '\u{FE00}'..='\u{FE0F}' {
-        assert!(rt; UnicodeTables::is_default_ignorable(c));
-    }
-    let others = [
-        '\0',
-        ' ',
-        'a',
-        '\u{AD}',
-        '\u{34E}',
-        '\u{350}',
-        '\u{180B}',
-        '\u{200B}',
-        '\u{200E}',
-        '\u{FDFF}',
-        '\u{FE10}',
-        '\u{FEFF}',
-        '\u{E0020}',
-        '\u{E0100}',
-    ];
-    for c in others {
-        assert!(rt; !UnicodeTables::is_default_ignorable(c));
-    }
+    check_answers::<UnicodeTables>(
+        &rt,
+        Question::Ignorable,
+        "34F 200C 200D FE00 FE01 FE02 FE03 FE04 FE05 FE06 FE07 FE08 FE09 FE0A FE0B FE0C FE0D FE0E FE0F \
+             -> yes
+         0000 0020 a AD 34E 350 180B 200B 200E FDFF FE10 FEFF E0020 E0100 -> no",
+    );
 }
 
 #[test]
 fn selectors(rt: HostRuntime) {
-    for c in '\u{FE00}'..='\u{FE0F}' {
-        assert!(rt; UnicodeTables::is_variation_selector(c));
-    }
-    for c in [
-        '\0',
-        'a',
-        '\u{180B}',
-        '\u{200D}',
-        '\u{FDFF}',
-        '\u{FE10}',
-        '\u{E0100}',
-    ] {
-        assert!(rt; !UnicodeTables::is_variation_selector(c));
-    }
+    check_answers::<UnicodeTables>(
+        &rt,
+        Question::Selector,
+        "FE00 FE01 FE02 FE03 FE04 FE05 FE06 FE07 FE08 FE09 FE0A FE0B FE0C FE0D FE0E FE0F -> yes
+         0000 a 180B 200D FDFF FE10 E0100 -> no",
+    );
 }
 
 #[test]
 fn pictographs(rt: HostRuntime) {
-    for c in '\u{1F600}'..='\u{1F64F}' {
-        assert!(rt; UnicodeTables::is_emoji_extended_pictographic(c));
-    }
-    let others = [
-        '\0',
-        'a',
-        '\u{A9}',
-        '\u{200D}',
-        '\u{2764}',
-        '\u{1F1E6}',
-        '\u{1F3FB}',
-        '\u{1F5FF}',
-        '\u{1F650}',
-        '\u{1F680}',
-    ];
-    for c in others {
-        assert!(rt; !UnicodeTables::is_emoji_extended_pictographic(c));
-    }
+    check_answers::<UnicodeTables>(
+        &rt,
+        Question::Pictograph,
+        "1F600 1F601 1F602 1F603 1F604 1F605 1F606 1F607 1F608 1F609 1F60A 1F60B 1F60C 1F60D 1F60E 1F60F \
+             1F610 1F611 1F612 1F613 1F614 1F615 1F616 1F617 1F618 1F619 1F61A 1F61B 1F61C 1F61D 1F61E 1F61F \
+             1F620 1F621 1F622 1F623 1F624 1F625 1F626 1F627 1F628 1F629 1F62A 1F62B 1F62C 1F62D 1F62E 1F62F \
+             1F630 1F631 1F632 1F633 1F634 1F635 1F636 1F637 1F638 1F639 1F63A 1F63B 1F63C 1F63D 1F63E 1F63F \
+             1F640 1F641 1F642 1F643 1F644 1F645 1F646 1F647 1F648 1F649 1F64A 1F64B 1F64C 1F64D 1F64E 1F64F \
+             -> yes
+         0000 a A9 200D 2764 1F1E6 1F3FB 1F5FF 1F650 1F680 -> no",
+    );
 }
-
-/// The tags of the scripts: their four letters, the first one highest.
-const ARABIC: u32 = 0x41726162;
-
-const HEBREW: u32 = 0x48656272;
-
-const LATIN: u32 = 0x4C61746E;
-
-const COMMON: u32 = 0x5A797979;
-
-const INHERITED: u32 = 0x5A696E68;
-
-const UNKNOWN: u32 = 0x5A7A7A7A;
 
 #[test]
 fn scripts(rt: HostRuntime) {
-    let scripts = [
-        ('\u{627}', ARABIC),
-        ('\u{64A}', ARABIC),
-        ('\u{5D0}', HEBREW),
-        ('\u{5BC}', HEBREW),
-        ('A', LATIN),
-        ('\u{1EA4}', LATIN),
-        (' ', COMMON),
-        ('1', COMMON),
-        ('\u{2003}', COMMON),
-        ('\u{301}', INHERITED),
-        ('\u{FE00}', INHERITED),
-        ('\u{3B1}', UNKNOWN),
-        ('\u{414}', UNKNOWN),
-        ('\u{E01}', UNKNOWN),
-        ('\u{4E00}', UNKNOWN),
-        ('\u{378}', UNKNOWN),
-    ];
-    for (c, tag) in scripts {
-        assert_eq!(rt;
-            UnicodeTables::script(c),
-            Script(hb_tag_t(tag)),
-            "for {c:?}"
-        );
-    }
+    check_answers::<UnicodeTables>(
+        &rt,
+        Question::Script,
+        "627 64A -> Arab
+         5D0 5BC -> Hebr
+         A 1EA4 -> Latn
+         0020 1 2003 -> Zyyy
+         301 FE00 -> Zinh
+         3B1 414 E01 4E00 378 -> Zzzz",
+    );
 }
 
+/// Syriac runs from right to left too; it is none of the program's scripts.
 #[test]
 fn directions_of_scripts(rt: HostRuntime) {
-    for tag in [ARABIC, HEBREW] {
-        let direction = UnicodeTables::script_direction(Script(hb_tag_t(tag)));
-        assert_eq!(rt; direction, Some(Direction::RightToLeft));
-    }
-    // Syriac runs from right to left too; it is none of the program's scripts.
-    for tag in [LATIN, COMMON, INHERITED, UNKNOWN, 0x53797263, 0] {
-        let direction = UnicodeTables::script_direction(Script(hb_tag_t(tag)));
-        assert_eq!(rt; direction, Some(Direction::LeftToRight));
-    }
+    check_answers::<UnicodeTables>(
+        &rt,
+        Question::DirectionOfScript,
+        "Arab Hebr -> RightToLeft
+         Latn Zyyy Zinh Zzzz Syrc \0\0\0\0 -> LeftToRight",
+    );
 }
 
 #[test]
 fn categories(rt: HostRuntime) {
-    let categories = [
-        ('A', hb_unicode_general_category_t::UppercaseLetter),
-        ('a', hb_unicode_general_category_t::LowercaseLetter),
-        ('\u{1C5}', hb_unicode_general_category_t::TitlecaseLetter),
-        ('\u{2B0}', hb_unicode_general_category_t::ModifierLetter),
-        ('\u{5D0}', hb_unicode_general_category_t::OtherLetter),
-        ('\u{301}', hb_unicode_general_category_t::NonspacingMark),
-        ('\u{903}', hb_unicode_general_category_t::SpacingMark),
-        ('\u{20DD}', hb_unicode_general_category_t::EnclosingMark),
-        ('7', hb_unicode_general_category_t::DecimalNumber),
-        ('\u{2160}', hb_unicode_general_category_t::LetterNumber),
-        ('\u{B2}', hb_unicode_general_category_t::OtherNumber),
-        ('_', hb_unicode_general_category_t::ConnectorPunctuation),
-        ('-', hb_unicode_general_category_t::DashPunctuation),
-        ('(', hb_unicode_general_category_t::OpenPunctuation),
-        (')', hb_unicode_general_category_t::ClosePunctuation),
-        ('\u{AB}', hb_unicode_general_category_t::InitialPunctuation),
-        ('\u{BB}', hb_unicode_general_category_t::FinalPunctuation),
-        ('!', hb_unicode_general_category_t::OtherPunctuation),
-        ('+', hb_unicode_general_category_t::MathSymbol),
-        ('$', hb_unicode_general_category_t::CurrencySymbol),
-        ('\u{1F3FB}', hb_unicode_general_category_t::ModifierSymbol),
-        ('\u{1F600}', hb_unicode_general_category_t::OtherSymbol),
-        ('\u{2003}', hb_unicode_general_category_t::SpaceSeparator),
-        ('\u{2028}', hb_unicode_general_category_t::LineSeparator),
-        (
-            '\u{2029}',
-            hb_unicode_general_category_t::ParagraphSeparator,
-        ),
-        ('\0', hb_unicode_general_category_t::Control),
-        ('\u{200D}', hb_unicode_general_category_t::Format),
-        ('\u{E000}', hb_unicode_general_category_t::PrivateUse),
-        ('\u{378}', hb_unicode_general_category_t::Unassigned),
-    ];
-    for (c, category) in categories {
-        assert_eq!(rt; UnicodeTables::general_category(c), category, "for {c:?}");
-    }
+    check_categories::<UnicodeTables>(
+        &rt,
+        "A -> UppercaseLetter
+         a -> LowercaseLetter
+         1C5 -> TitlecaseLetter
+         2B0 -> ModifierLetter
+         5D0 -> OtherLetter
+         301 -> NonspacingMark
+         903 -> SpacingMark
+         20DD -> EnclosingMark
+         7 -> DecimalNumber
+         2160 -> LetterNumber
+         B2 -> OtherNumber
+         _ -> ConnectorPunctuation
+         - -> DashPunctuation
+         ( -> OpenPunctuation
+         ) -> ClosePunctuation
+         AB -> InitialPunctuation
+         BB -> FinalPunctuation
+         ! -> OtherPunctuation
+         + -> MathSymbol
+         $ -> CurrencySymbol
+         1F3FB -> ModifierSymbol
+         1F600 -> OtherSymbol
+         2003 -> SpaceSeparator
+         2028 -> LineSeparator
+         2029 -> ParagraphSeparator
+         0000 -> Control
+         200D -> Format
+         E000 -> PrivateUse
+         378 -> Unassigned",
+    );
 }

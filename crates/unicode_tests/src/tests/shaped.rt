@@ -1,11 +1,12 @@
 //! The texts through whole runs of the default shaper.
 
-use crate::characters::script_of;
-use crate::comparing::{assert_same, character, number, parts, rows_of};
+use crate::answers::script_of;
+use crate::comparing::{assert_row, character, column, number, parts, rows_of};
 use crate::every_glyph::{ADVANCE, EVERY_GLYPH};
-use crate::tests::{Text, text_of};
-use crate::texts::TEXTS;
-use shape_buffer::buffer::{Direction, GlyphBuffer, GlyphPosition, UnicodeBuffer, hb_glyph_info_t};
+use crate::texts::{SCRIPT, SHAPED, TEXTS, TYPED};
+use shape_buffer::buffer::{
+    Direction, GlyphBuffer, GlyphPosition, Script, UnicodeBuffer, hb_glyph_info_t,
+};
 use shape_buffer::interfaces::{NoLookups, hb_unicode_funcs_t, hb_unicode_general_category_t};
 use shape_pipeline::ot_shape_plan::hb_ot_shape_plan_t;
 use shape_pipeline::ot_shaper::{DEFAULT_SHAPER, hb_default_shaper_t};
@@ -29,34 +30,53 @@ fn guessed(rt: &(impl Abort + AllocGlobal), text: &str) -> UnicodeBuffer {
     buffer
 }
 
-/// The plan for a text.
-fn planned(rt: &(impl Abort + AllocGlobal), buffer: &UnicodeBuffer) -> Plan<'static> {
-    let direction = buffer.direction();
+/// The plan for texts of a direction and a script.
+fn planned(
+    rt: &(impl Abort + AllocGlobal),
+    direction: Direction,
+    script: Option<Script>,
+) -> Plan<'static> {
     assert!(rt; direction != Direction::Invalid);
-    hb_ot_shape_plan_t::new::<UnicodeDatabase, TestFace<'static>, NoLookups>(
+    let plan = hb_ot_shape_plan_t::new::<UnicodeDatabase, TestFace<'static>, NoLookups>(
         rt.alloc(),
         &EVERY_GLYPH,
         &DEFAULT_SHAPER,
         direction,
-        buffer.script(),
+        script,
         None,
         &[],
-    )
-    .expect(rt, "memory")
+    );
+    plan.expect(rt, "memory")
+}
+
+/// The glyphs of a text under a plan.
+fn glyphs_under(
+    rt: &(impl Abort + AllocGlobal),
+    plan: &Plan<'static>,
+    buffer: UnicodeBuffer,
+) -> GlyphBuffer {
+    assert!(rt; plan.fits::<UnicodeDatabase>(&buffer));
+    let glyphs = shape_with_plan::<UnicodeDatabase, TestFace<'static>, NoLookups, _>(
+        rt.alloc(),
+        &EVERY_GLYPH,
+        plan,
+        buffer,
+    );
+    glyphs.expect(rt, "memory")
 }
 
 /// The glyphs of a text, whose script and direction are guessed.
-fn shaped(rt: &(impl Abort + AllocGlobal), text: &Text<'_>) -> GlyphBuffer {
-    let buffer = guessed(rt, text.typed);
-    assert_same(rt, buffer.script(), Some(script_of(rt, text.script)));
-    let plan = planned(rt, &buffer);
-    assert!(rt; plan.fits::<UnicodeDatabase>(&buffer));
-    shape_with_plan::<UnicodeDatabase, TestFace<'static>, NoLookups, _>(
-        rt.alloc(),
-        &EVERY_GLYPH,
-        &plan,
-        buffer,
-    ).expect(rt, "memory")
+fn shaped(rt: &(impl Abort + AllocGlobal), row: &str) -> GlyphBuffer {
+    let buffer = guessed(rt, column(rt, row, TYPED));
+    let script = buffer.script();
+    assert_row(
+        rt,
+        row,
+        script,
+        Some(script_of(rt, column(rt, row, SCRIPT))),
+    );
+    let plan = planned(rt, buffer.direction(), script);
+    glyphs_under(rt, &plan, buffer)
 }
 
 /// How wide the glyph of a character comes out: marks that take no space have no width.
@@ -68,64 +88,68 @@ fn width(c: char) -> i32 {
     }
 }
 
-/// The glyphs of a text with their clusters, in the order that they run in.
-fn in_order(
-    rt: &(impl Abort + AllocGlobal),
-    text: &Text<'_>,
-    direction: Direction,
-) -> Vec<(char, u32)> {
-    let mut glyphs = Vec::new(rt.alloc());
-    for word in text.shaped.split_whitespace() {
-        let (c, cluster) = parts(rt, word, "@");
-        let glyph = (character(rt, c), number(rt, cluster));
-        glyphs.push(glyph).expect(rt, "memory");
+/// The glyph and the position at a place.
+fn glyph_at(glyphs: &GlyphBuffer, at: usize) -> Option<(hb_glyph_info_t, GlyphPosition)> {
+    match (
+        glyphs.glyph_infos().get(at),
+        glyphs.glyph_positions().get(at),
+    ) {
+        (Some(info), Some(position)) => Some((*info, *position)),
+        _ => None,
     }
-    if direction == Direction::RightToLeft {
-        glyphs.reverse();
+}
+
+/// Compares the glyph at a place: `CHARACTER@CLUSTER`. Clusters are those of graphemes, and nothing went from one to
+/// another, so that no glyph has a flag.
+fn assert_glyph(rt: &impl Abort, glyphs: &GlyphBuffer, at: usize, word: &str) {
+    let (c, cluster) = parts(rt, word, "@");
+    let (c, cluster) = (character(rt, c), number(rt, cluster));
+    let Some((info, position)) = glyph_at(glyphs, at) else {
+        rt.panic(word);
+    };
+    let found = (info.glyph_id, info.cluster, info.mask);
+    assert_row(rt, word, found, (u32::from(c), cluster, 0));
+    let advances = (position.x_advance, position.y_advance);
+    assert_row(rt, word, advances, (width(c), 0));
+}
+
+/// Compares the glyphs of a text. Those of one that runs to the left stand in the order opposite to its characters.
+fn assert_glyphs(rt: &impl Abort, glyphs: &GlyphBuffer, words: &str) {
+    let runs_left = glyphs.direction() == Direction::RightToLeft;
+    let mut place: usize = 0;
+    for word in words.split_whitespace() {
+        place = place.saturating_add(1);
+        let at = if runs_left {
+            glyphs.len().saturating_sub(place)
+        } else {
+            place.saturating_sub(1)
+        };
+        assert_glyph(rt, glyphs, at, word);
     }
-    glyphs
+    assert_row(rt, words, glyphs.len(), place);
 }
 
-/// What is compared of a glyph: its number, cluster and mask, and its advances.
-type Seen = (u32, u32, u32, i32, i32);
-
-fn seen(info: &hb_glyph_info_t, position: &GlyphPosition) -> Seen {
-    let (across, along) = (position.x_advance, position.y_advance);
-    (info.glyph_id, info.cluster, info.mask, across, along)
-}
-
-/// The glyph of a character. Clusters are those of graphemes, and nothing went from one to another, so that no
-/// glyph has a flag.
-fn wanted(c: char, cluster: u32) -> Seen {
-    (u32::from(c), cluster, 0, width(c), 0)
-}
-
-/// Compares glyphs, clusters and advances.
-fn assert_glyphs(rt: &impl Abort, glyphs: &GlyphBuffer, want: &[(char, u32)], name: &str) {
-    assert_same(rt, (name, glyphs.len()), (name, want.len()));
-    for ((info, position), (c, cluster)) in glyphs.iter().zip(want) {
-        let found = seen(info, position);
-        assert_same(rt, (name, found), (name, wanted(*c, *cluster)));
+/// The direction of a script among those of the texts.
+fn direction_of(script: &str) -> Direction {
+    if script == "Hebr" || script == "Arab" {
+        Direction::RightToLeft
+    } else {
+        Direction::LeftToRight
     }
 }
 
 /// Compares the glyphs of a text, and that they run as its script does.
-fn assert_text(rt: &(impl Abort + AllocGlobal), text: &Text<'_>) {
-    let direction = if text.script == "Hebr" || text.script == "Arab" {
-        Direction::RightToLeft
-    } else {
-        Direction::LeftToRight
-    };
-    let glyphs = shaped(rt, text);
-    assert_same(rt, (text.name, glyphs.direction()), (text.name, direction));
-    let want = in_order(rt, text, direction);
-    assert_glyphs(rt, &glyphs, want.as_slice(), text.name);
+fn assert_text(rt: &(impl Abort + AllocGlobal), row: &str) {
+    let glyphs = shaped(rt, row);
+    let direction = direction_of(column(rt, row, SCRIPT));
+    assert_row(rt, row, glyphs.direction(), direction);
+    assert_glyphs(rt, &glyphs, column(rt, row, SHAPED));
 }
 
-/// Does so for each text; an empty line stands between two.
+/// Does so for each text.
 fn check_texts(rt: &(impl Abort + AllocGlobal), texts: &str) {
-    for paragraph in rows_of(rt, texts).split("\n\n") {
-        assert_text(rt, &text_of(rt, paragraph));
+    for row in rows_of(rt, texts).lines() {
+        assert_text(rt, row);
     }
 }
 

@@ -1,0 +1,93 @@
+//! Faces, as the words of cases write them.
+//!
+//! Characters have glyphs of their own numbers, as `a 0301`, or `every` one has. After `variant`, as in `variant a`,
+//! there is also glyph 7 for U+0061 with U+FE00 after it.
+//!
+//! A face with widths has glyphs as `a=1(600)`: a character, its glyph in base 16 and its advance, then the bearings,
+//! width and height of its box, if it has one: `0301=2(200,50,800,200,-150)`.
+
+use crate::cases::{Settings, character, cut, cut_off, number, number_in_hex};
+use shape_buffer::buffer::GlyphId;
+use shape_buffer::interfaces::{MapFace, Metrics, hb_glyph_extents_t};
+use std::process::Abort;
+use test_worlds::TestFace;
+
+/// Adds the character of a word, if the word isn't the name of a face.
+fn add_character(rt: &impl Abort, characters: &mut Vec<char>, word: &str) {
+    if !matches!(word, "every" | "variant") {
+        characters.push(character(rt, word)).expect(rt, "error");
+    }
+}
+
+/// The characters that words write.
+pub fn characters_of(rt: &(impl Abort + AllocGlobal), words: &str) -> Vec<char> {
+    let mut characters = Vec::new(rt.alloc());
+    for word in words.split_whitespace() {
+        add_character(rt, &mut characters, word);
+    }
+    characters
+}
+
+/// A face of these characters, or of every one.
+pub fn face_over<'a>(words: &str, characters: &'a [char]) -> TestFace<'a> {
+    TestFace {
+        every: words == "every",
+        variant: words.starts_with("variant"),
+        ..TestFace::of(characters)
+    }
+}
+
+/// The box of a glyph, by its bearings, width and height.
+fn box_of(rt: &impl Abort, numbers: &str) -> hb_glyph_extents_t {
+    let (x_bearing, rest) = cut(rt, numbers, ",");
+    let (y_bearing, rest) = cut(rt, rest, ",");
+    let (width, height) = cut(rt, rest, ",");
+    hb_glyph_extents_t {
+        x_bearing: number(rt, x_bearing),
+        y_bearing: number(rt, y_bearing),
+        width: number(rt, width),
+        height: number(rt, height),
+    }
+}
+
+/// The box that a glyph has if it is written.
+fn extents_of(rt: &impl Abort, numbers: &str) -> Option<hb_glyph_extents_t> {
+    if numbers.is_empty() {
+        None
+    } else {
+        Some(box_of(rt, numbers))
+    }
+}
+
+/// The advance of a glyph, and its box.
+fn metrics_of(rt: &impl Abort, numbers: &str) -> Metrics {
+    let numbers = numbers.strip_suffix(')').expect(rt, numbers);
+    let (advance, extents) = cut_off(numbers, ",");
+    Metrics {
+        advance: number(rt, advance),
+        extents: extents_of(rt, extents),
+    }
+}
+
+/// Gives a character a glyph.
+fn add_glyph(rt: &impl Abort, face: &mut MapFace, c: char, glyph: u32, metrics: Metrics) {
+    face.set_glyph(c, GlyphId(glyph), metrics)
+        .expect(rt, "error");
+}
+
+/// Gives the character of a word the glyph that the word writes.
+fn add_word(rt: &impl Abort, face: &mut MapFace, word: &str) {
+    let (c, rest) = cut(rt, word, "=");
+    let (glyph, metrics) = cut(rt, rest, "(");
+    let (c, glyph) = (character(rt, c), number_in_hex(rt, glyph));
+    add_glyph(rt, face, c, glyph, metrics_of(rt, metrics));
+}
+
+/// The face with the glyphs and the units that are set.
+pub fn face_of(rt: &(impl Abort + AllocGlobal), settings: &Settings<'_>) -> MapFace {
+    let mut face = MapFace::new(rt.alloc(), settings.units);
+    for word in settings.face.split_whitespace() {
+        add_word(rt, &mut face, word);
+    }
+    face
+}

@@ -1,0 +1,342 @@
+//! What becomes of the text of a case at a step of its run, for any types of a run: a function that names them takes
+//! three times as long to prove.
+//!
+//! - `prepare` and `normalise` give the list, and `hebrew` that of a text of which it is said to be Hebrew once its
+//!   direction was guessed.
+//! - `shape` gives the items that the glyphs were made of, `place` the glyphs with their positions, and `enter` those
+//!   of the call that plans by itself. `in_place` gives the glyphs and clusters that shaping leaves in a buffer.
+//! - `twice` places the glyphs, and the same text once more in the buffer of the glyphs.
+//! - `both` normalises and shapes; the glyphs have to have the numbers of the characters.
+//! - `refuse`, `refuse_key` and `refuse_comparing` are in `refusals`.
+//! - `compare` says of two texts with a `/` between them whether they are normalised alike, and `premises` of a text
+//!   whether it meets those of canonical form: `yes` or `no`.
+
+use crate::cases::{Case, assert_answer, cut, cut_off};
+use crate::comparing::{assert_same, assert_that};
+use crate::printing::{
+    glyphs_printed, printed_as_characters, printed_glyphs, printed_items, printed_list,
+    printed_numbers,
+};
+use crate::refusals::steps::{compare_again, key_again, run_again};
+use crate::runs::{
+    Plan, are_alike, glyphs_of, glyphs_under, meets_premises, normalise, planned, prepared_under,
+    shape_in_place,
+};
+use crate::texts::{add, text_of};
+use shape_buffer::buffer::{GlyphBuffer, Script, UnicodeBuffer, hb_buffer_t, hb_tag_t};
+use shape_buffer::interfaces::{hb_font_t, hb_ot_layout_t, hb_unicode_funcs_t};
+use shape_pipeline::ot_shaper::hb_ot_shaper_t;
+use std::process::Abort;
+
+/// A step of a run.
+#[derive(Clone, Copy)]
+enum Step {
+    Prepare,
+    Normalise,
+    Shape,
+    Place,
+    Enter,
+    Twice,
+    InPlace,
+    Both,
+    Compare,
+    Premises,
+    Refuse,
+    RefuseKey,
+    RefuseComparing,
+}
+
+/// The step that a word names.
+fn step_of(rt: &impl Abort, word: &str) -> Step {
+    match word {
+        "prepare" | "hebrew" => Step::Prepare,
+        "normalise" => Step::Normalise,
+        "shape" => Step::Shape,
+        "place" => Step::Place,
+        "enter" => Step::Enter,
+        "twice" => Step::Twice,
+        "in_place" => Step::InPlace,
+        "both" => Step::Both,
+        "compare" => Step::Compare,
+        "premises" => Step::Premises,
+        "refuse" => Step::Refuse,
+        "refuse_key" => Step::RefuseKey,
+        "refuse_comparing" => Step::RefuseComparing,
+        _ => rt.panic(word),
+    }
+}
+
+/// What becomes of the text of a case by a face and a shaper.
+pub fn answer_by<U, F, M, S>(
+    rt: &(impl Abort + AllocGlobal),
+    by: (&F, &S),
+    case: Case<'_>,
+) -> String
+where
+    U: hb_unicode_funcs_t,
+    F: hb_font_t,
+    M: hb_ot_layout_t<F>,
+    S: hb_ot_shaper_t<U, F, M, Data = ()>,
+{
+    match step_of(rt, case.settings.step) {
+        Step::Prepare => prepared::<U, F, M, S>(rt, by, case),
+        Step::Normalise => normalised::<U, F, M, S>(rt, by, case),
+        Step::Shape => shaped_items::<U, F, M, S>(rt, by, case),
+        Step::Place => placed::<U, F, M, S>(rt, by, case),
+        Step::Enter => entered::<U, F, M, S>(rt, by, case),
+        Step::Twice => placed_twice::<U, F, M, S>(rt, by, case),
+        Step::InPlace => in_place::<U, F, M, S>(rt, by, case),
+        Step::Both => both::<U, F, M, S>(rt, by, case),
+        Step::Compare => compared::<U, F, M, S>(rt, by, case),
+        Step::Premises => premises::<U, F, M, S>(rt, by, case),
+        Step::Refuse => run_again::<U, F, M, S>(rt, by, case),
+        Step::RefuseKey => key_again::<U, F, M, S>(rt, by, case),
+        Step::RefuseComparing => compare_again::<U, F, M, S>(rt, by, case),
+    }
+}
+
+/// The text of a case, or the first one of two.
+pub fn text_in<U: hb_unicode_funcs_t>(
+    rt: &(impl Abort + AllocGlobal),
+    case: Case<'_>,
+) -> UnicodeBuffer {
+    text_of::<U>(rt, &case.settings.manner, cut_off(case.text, "/").0)
+}
+
+/// The text of a case, of which it is said to be Hebrew if its step is so.
+fn text_named<U: hb_unicode_funcs_t>(
+    rt: &(impl Abort + AllocGlobal),
+    case: Case<'_>,
+) -> UnicodeBuffer {
+    let mut text = text_in::<U>(rt, case);
+    if case.settings.step == "hebrew" {
+        text.set_script(Some(Script(hb_tag_t::from_bytes(b"Hebr"))));
+    }
+    text
+}
+
+/// The word for a condition.
+fn yes_or_no(rt: &(impl Abort + AllocGlobal), condition: bool) -> String {
+    let word = if condition { "yes" } else { "no" };
+    String::from_str(rt.alloc(), word).expect(rt, "error")
+}
+
+/// The list that a text is prepared as.
+fn prepared<U, F, M, S>(
+    rt: &(impl Abort + AllocGlobal),
+    (face, shaper): (&F, &S),
+    case: Case<'_>,
+) -> String
+where
+    U: hb_unicode_funcs_t,
+    F: hb_font_t,
+    M: hb_ot_layout_t<F>,
+    S: hb_ot_shaper_t<U, F, M, Data = ()>,
+{
+    let text = text_named::<U>(rt, case);
+    let plan = planned::<U, F, M, S>(rt, (face, shaper), &text);
+    let list = prepared_under::<U, F, M, S>(rt, &plan, face, text);
+    printed_list(rt, list, case.wanted)
+}
+
+/// The list that a text is prepared and normalised as.
+fn normalised<U, F, M, S>(
+    rt: &(impl Abort + AllocGlobal),
+    (face, shaper): (&F, &S),
+    case: Case<'_>,
+) -> String
+where
+    U: hb_unicode_funcs_t,
+    F: hb_font_t,
+    M: hb_ot_layout_t<F>,
+    S: hb_ot_shaper_t<U, F, M, Data = ()>,
+{
+    let text = text_in::<U>(rt, case);
+    let plan = planned::<U, F, M, S>(rt, (face, shaper), &text);
+    let mut list = prepared_under::<U, F, M, S>(rt, &plan, face, text);
+    normalise::<U, F, M, S>(rt, &plan, face, &mut list);
+    printed_list(rt, list, case.wanted)
+}
+
+/// The glyphs of a text, shaped under a plan of its own.
+fn shaped<U, F, M, S>(
+    rt: &(impl Abort + AllocGlobal),
+    (face, shaper): (&F, &S),
+    text: UnicodeBuffer,
+) -> GlyphBuffer
+where
+    U: hb_unicode_funcs_t,
+    F: hb_font_t,
+    M: hb_ot_layout_t<F>,
+    S: hb_ot_shaper_t<U, F, M, Data = ()>,
+{
+    let plan = planned::<U, F, M, S>(rt, (face, shaper), &text);
+    glyphs_under::<U, F, M, S>(rt, &plan, face, text).expect(rt, "glyphs")
+}
+
+/// The items that the glyphs of a text were made of.
+fn shaped_items<U, F, M, S>(rt: &(impl Abort + AllocGlobal), by: (&F, &S), case: Case<'_>) -> String
+where
+    U: hb_unicode_funcs_t,
+    F: hb_font_t,
+    M: hb_ot_layout_t<F>,
+    S: hb_ot_shaper_t<U, F, M, Data = ()>,
+{
+    let glyphs = shaped::<U, F, M, S>(rt, by, text_in::<U>(rt, case));
+    printed_items(rt, glyphs, case.wanted)
+}
+
+/// The glyphs of a text with their positions.
+fn placed<U, F, M, S>(rt: &(impl Abort + AllocGlobal), by: (&F, &S), case: Case<'_>) -> String
+where
+    U: hb_unicode_funcs_t,
+    F: hb_font_t,
+    M: hb_ot_layout_t<F>,
+    S: hb_ot_shaper_t<U, F, M, Data = ()>,
+{
+    printed_glyphs(rt, shaped::<U, F, M, S>(rt, by, text_in::<U>(rt, case)))
+}
+
+/// The glyphs of a text with their positions, by the call that plans by itself.
+fn entered<U, F, M, S>(rt: &(impl Abort + AllocGlobal), by: (&F, &S), case: Case<'_>) -> String
+where
+    U: hb_unicode_funcs_t,
+    F: hb_font_t,
+    M: hb_ot_layout_t<F>,
+    S: hb_ot_shaper_t<U, F, M, Data = ()>,
+{
+    let glyphs = glyphs_of::<U, F, M, S>(rt.alloc(), by, text_in::<U>(rt, case));
+    printed_glyphs(rt, glyphs.expect(rt, "glyphs"))
+}
+
+/// The glyphs of a text in the buffer of its own glyphs, once those were compared.
+fn placed_twice<U, F, M, S>(rt: &(impl Abort + AllocGlobal), by: (&F, &S), case: Case<'_>) -> String
+where
+    U: hb_unicode_funcs_t,
+    F: hb_font_t,
+    M: hb_ot_layout_t<F>,
+    S: hb_ot_shaper_t<U, F, M, Data = ()>,
+{
+    let glyphs = shaped::<U, F, M, S>(rt, by, text_in::<U>(rt, case));
+    assert_answer(rt, case, glyphs_printed(rt, &glyphs));
+    let again = refilled::<U>(rt, glyphs, case.text);
+    printed_glyphs(rt, shaped::<U, F, M, S>(rt, by, again))
+}
+
+/// A text in the buffer of glyphs, which are cleared.
+fn refilled<U: hb_unicode_funcs_t>(
+    rt: &impl Abort,
+    glyphs: GlyphBuffer,
+    words: &str,
+) -> UnicodeBuffer {
+    let mut text = glyphs.clear();
+    assert_that(rt, text.is_empty());
+    add(rt, &mut text, words);
+    text.guess_segment_properties::<U>();
+    text
+}
+
+/// The glyphs of a text that is shaped in place, once what the run leaves of its buffer was compared: the direction,
+/// and no limit.
+fn in_place<U, F, M, S>(
+    rt: &(impl Abort + AllocGlobal),
+    (face, shaper): (&F, &S),
+    case: Case<'_>,
+) -> String
+where
+    U: hb_unicode_funcs_t,
+    F: hb_font_t,
+    M: hb_ot_layout_t<F>,
+    S: hb_ot_shaper_t<U, F, M, Data = ()>,
+{
+    let text = text_in::<U>(rt, case);
+    let direction = text.direction();
+    let plan = planned::<U, F, M, S>(rt, (face, shaper), &text);
+    let mut buffer = text.into_inner();
+    shape_in_place::<U, F, M, S>(rt, &plan, face, &mut buffer);
+    assert_same(rt, buffer.direction(), direction);
+    assert_same(rt, buffer.length_limit(), usize::MAX);
+    printed_numbers(rt, buffer)
+}
+
+/// The normalised list of a text, once its glyphs were compared.
+fn both<U, F, M, S>(rt: &(impl Abort + AllocGlobal), by: (&F, &S), case: Case<'_>) -> String
+where
+    U: hb_unicode_funcs_t,
+    F: hb_font_t,
+    M: hb_ot_layout_t<F>,
+    S: hb_ot_shaper_t<U, F, M, Data = ()>,
+{
+    let glyphs = shaped::<U, F, M, S>(rt, by, text_in::<U>(rt, case));
+    assert_answer(rt, case, printed_as_characters(rt, glyphs));
+    normalised::<U, F, M, S>(rt, by, case)
+}
+
+/// Whether a text, once prepared, meets the premises of canonical form.
+fn premises<U, F, M, S>(
+    rt: &(impl Abort + AllocGlobal),
+    (face, shaper): (&F, &S),
+    case: Case<'_>,
+) -> String
+where
+    U: hb_unicode_funcs_t,
+    F: hb_font_t,
+    M: hb_ot_layout_t<F>,
+    S: hb_ot_shaper_t<U, F, M, Data = ()>,
+{
+    let text = text_in::<U>(rt, case);
+    let plan = planned::<U, F, M, S>(rt, (face, shaper), &text);
+    let list = prepared_under::<U, F, M, S>(rt, &plan, face, text);
+    yes_or_no(rt, meets_premises::<U, F, M, S>(&plan, face, &list))
+}
+
+/// The two spellings of a case, as a run prepares them.
+pub fn spelled<U, F, M, S>(
+    rt: &(impl Abort + AllocGlobal),
+    plan: &Plan<'_, S, M::Map>,
+    face: &F,
+    case: Case<'_>,
+) -> (hb_buffer_t, hb_buffer_t)
+where
+    U: hb_unicode_funcs_t,
+    F: hb_font_t,
+    M: hb_ot_layout_t<F>,
+    S: hb_ot_shaper_t<U, F, M, Data = ()>,
+{
+    let (first, second) = cut(rt, case.text, "/");
+    let first = text_of::<U>(rt, &case.settings.manner, first);
+    let second = text_of::<U>(rt, &case.settings.manner, second);
+    (
+        prepared_under::<U, F, M, S>(rt, plan, face, first),
+        prepared_under::<U, F, M, S>(rt, plan, face, second),
+    )
+}
+
+/// Whether the spellings of a case are normalised alike, under a plan for the first one.
+fn compared<U, F, M, S>(rt: &(impl Abort + AllocGlobal), by: (&F, &S), case: Case<'_>) -> String
+where
+    U: hb_unicode_funcs_t,
+    F: hb_font_t,
+    M: hb_ot_layout_t<F>,
+    S: hb_ot_shaper_t<U, F, M, Data = ()>,
+{
+    let plan = planned::<U, F, M, S>(rt, by, &text_in::<U>(rt, case));
+    let lists = spelled::<U, F, M, S>(rt, &plan, by.0, case);
+    yes_or_no(rt, alike::<U, F, M, S>(rt, &plan, by.0, lists))
+}
+
+/// Whether two lists are normalised alike.
+fn alike<U, F, M, S>(
+    rt: &(impl Abort + AllocGlobal),
+    plan: &Plan<'_, S, M::Map>,
+    face: &F,
+    (mut a, mut b): (hb_buffer_t, hb_buffer_t),
+) -> bool
+where
+    U: hb_unicode_funcs_t,
+    F: hb_font_t,
+    M: hb_ot_layout_t<F>,
+    S: hb_ot_shaper_t<U, F, M, Data = ()>,
+{
+    are_alike::<U, F, M, S>(rt.alloc(), plan, face, (&mut a, &mut b)).expect(rt, "compared")
+}
