@@ -56,7 +56,7 @@ pub fn cut<'a>(rt: &impl Host, text: &'a str, mark: &str) -> (&'a str, &'a str) 
     text.split_once(mark).expect(rt, mark)
 }
 
-/// The same, or the whole text and what it says if it has no mark.
+/// The same, or the whole text and `other` if the text has no mark.
 pub fn cut_or<'a>(text: &'a str, mark: &str, other: &'a str) -> (&'a str, &'a str) {
     text.split_once(mark).unwrap_or((text, other))
 }

@@ -1,6 +1,9 @@
 //! Every combination of the questions that a plan asks, against a table of who positions.
 use super::questions::{Case, ask_over, check};
-use super::support::face_of_bits;
+use super::support::{
+    CLASSES, CROSS_KERNING, GPOS, GPOS_KERNS, GSUB, KERNING, KERX, MACHINE_KERNING, MORX,
+    SCRIPT_TWO, face_of_bits,
+};
 use crate::rows::{Host, assert_same, tag_of, unknown};
 use shape_buffer::buffer::{Direction, Script, UnicodeBuffer, hb_tag_t};
 use shape_buffer::interfaces::PlainUnicode;
@@ -102,38 +105,45 @@ pub fn decided<S, P, D>(plan: &hb_ot_shape_plan_t<'_, S, P, D>) -> Decisions {
     }
 }
 
-/// Who positions over a face: `GPOS` alone by the script that a shaper needs, and no lookups of `GSUB` beside `morx`.
-fn who_positions(face: &TestFace<'_>, morx: bool, needs_script_two: bool) -> Positioner {
-    let other_script = needs_script_two && face.gpos_script != Some(hb_tag_t(2));
+/// What a face and its engine answer to a question, by the bits of its number: not by the face that is made of them,
+/// so that a wrong face is noticed.
+fn has(number: u32, bit: u32) -> bool {
+    number & bit != 0
+}
+
+/// Who positions over the face of a number. `GPOS` doesn't count if another script is chosen for it than the shaper
+/// needs, nor do lookups of `GSUB` beside `morx`.
+fn who_positions(number: u32, morx: bool, needs_script_two: bool) -> Positioner {
+    let other_script = needs_script_two && !has(number, SCRIPT_TWO);
     by_table(
-        face.tables.kerx,
-        face.tables.gsub && !morx,
-        face.tables.gpos && !other_script,
-        face.gpos_kerns,
-        face.kerning,
+        has(number, KERX),
+        has(number, GSUB) && !morx,
+        has(number, GPOS) && !other_script,
+        has(number, GPOS_KERNS),
+        has(number, KERNING),
     )
 }
 
 /// Whether `GPOS`, `kerx` and `kern` are applied, whether marks may be zeroed, and whether none of the tables places
 /// them.
-fn applied(face: &TestFace<'_>, positioner: Positioner) -> [bool; 5] {
-    let zeroes = !face.machine_kerning;
+fn applied(number: u32, positioner: Positioner) -> [bool; 5] {
+    let zeroes = !has(number, MACHINE_KERNING);
     match positioner {
         Positioner::Gpos => [true, false, false, true, false],
         Positioner::GposThenKerx => [true, true, false, false, false],
         Positioner::Kerx => [false, true, false, false, false],
         Positioner::GposAndKern => [true, false, true, zeroes, false],
-        Positioner::Kern => [false, false, true, zeroes, !face.cross_kerning],
+        Positioner::Kern => [false, false, true, zeroes, !has(number, CROSS_KERNING)],
         Positioner::Nobody => [false, false, false, true, true],
     }
 }
 
 /// What a plan is to decide and hold, by the table. A shaper that gives way to `morx` has no data.
-fn expected(face: &TestFace<'_>, horizontal: bool, brings: &Brings) -> Decisions {
-    let morx = face.tables.morx && (horizontal || !face.tables.gsub);
+fn expected(number: u32, horizontal: bool, brings: &Brings) -> Decisions {
+    let morx = has(number, MORX) && (horizontal || !has(number, GSUB));
     let kept = brings.is_default || !morx;
-    let who = who_positions(face, morx, kept && brings.needs_script_two);
-    let [gpos, kerx, kern, zeroes, unplaced] = applied(face, who);
+    let who = who_positions(number, morx, kept && brings.needs_script_two);
+    let [gpos, kerx, kern, zeroes, unplaced] = applied(number, who);
     Decisions {
         gpos,
         kerx,
@@ -143,7 +153,7 @@ fn expected(face: &TestFace<'_>, horizontal: bool, brings: &Brings) -> Decisions
         places: unplaced && brings.places,
         moves_back: unplaced && !morx,
         morx,
-        makes_classes: !face.classes,
+        makes_classes: !has(number, CLASSES),
         shaper: kept,
         data: kept && brings.makes_data,
     }
@@ -180,12 +190,12 @@ fn brings_of(rt: &impl Host, shaper: &str) -> Brings {
     }
 }
 
-/// What the plan of a shaper for a face is to decide and hold, in words.
-fn table_row(rt: &impl Host, face: &TestFace<'_>, shaper: &str, direction: Direction) -> String {
+/// What the plan of a shaper for the face of a number is to decide and hold, in words.
+fn table_row(rt: &impl Host, number: u32, shaper: &str, direction: Direction) -> String {
     let horizontal = matches!(direction, Direction::LeftToRight | Direction::RightToLeft);
     let mut wanted = String::new(rt.alloc());
     print_decided(
-        &expected(face, horizontal, &brings_of(rt, shaper)),
+        &expected(number, horizontal, &brings_of(rt, shaper)),
         &mut wanted,
     )
     .expect(rt, "memory");
@@ -201,16 +211,15 @@ fn assert_plan(rt: &impl Host, number: u32, found: &str, wanted: &str) {
 
 /// Compares the plan of a shaper for the face of a number with the table.
 fn compare_plan(rt: &impl Host, shaper: &str, direction: Direction, number: u32) {
-    let face = &face_of_bits(number);
     let case = Case {
         question: "plan",
-        face,
+        face: &face_of_bits(number),
         direction,
         script: None,
         features: &[],
     };
     let found = ask_over(rt, shaper, &case);
-    let wanted = table_row(rt, face, shaper, direction);
+    let wanted = table_row(rt, number, shaper, direction);
     assert_plan(rt, number, found.as_str(), wanted.as_str());
 }
 

@@ -173,10 +173,12 @@ impl Answers for Questions {
         let (face, case) = cut(rt, case, " ");
         let (direction, features) = cut_or(case, " ", "");
         let direction = direction_of(rt, direction);
-        match question {
-            "table" => compare_with_table(rt, shaper, direction),
-            _ => answer_one(rt, question, shaper, face, (direction, features)),
+        if question == "table" {
+            // every face is asked, and no feature
+            assert!(rt; face == "plain" && features.is_empty());
+            return compare_with_table(rt, shaper, direction);
         }
+        answer_one(rt, question, shaper, face, (direction, features))
     }
 }
 

@@ -12,7 +12,7 @@
 //! | `classes` | their classes: 8 is a mark, 2 a base |
 //! | `marks` | what becomes of two marks of its own; `classes` says of what kind |
 //! | `length` | how many glyphs there are, in decimal, or why the run was refused and what it left |
-//! | `stages`, `run` | `substituted` as a number and `shaped`, which may be refused; `refusals` says more |
+//! | `stages`, `run` | `substituted` as a number and `shaped`, which may be refused; `looks` says more |
 use super::looks::{Case, look};
 use super::worlds::{face_of, stages_of};
 use crate::rows::{Answers, Host, check_rows, cut, cut_or, features_of, unknown};

@@ -1,7 +1,7 @@
 //! What a look shows, whatever the types of a run are. See `answers` for the looks.
 //!
 //! A look tells whether there was something to see: a stage or a run that was refused leaves nothing to print, but what
-//! it leaves is compared here. An error says that memory was refused before.
+//! it leaves is compared here. An error says that a call was refused before, for memory or for length.
 use super::classes::put_marks;
 use super::runs::{mask, set_glyphs, set_masks, shaped, substitute_text};
 use super::worlds::{fill, text_of};

@@ -1,4 +1,4 @@
-//! The pipeline's calls over a text, each in a function without a contract: what a call promises ends here.
+//! The pipeline's calls over a text, each in a function that promises nothing of them: what a call promises ends here.
 ghost use Rattle.std.specs.Prelude.{OnOk};
 ghost use Rattle.shape_buffer.specs.Outcome.{IsWithinLimit};
 
