@@ -75,7 +75,7 @@ fn answer_for<U: hb_unicode_funcs_t>(rt: &impl Abort, question: Question, c: cha
     }
 }
 
-/// Whether a character is of a kind.
+/// The answer that a word gives: whether a character is of a kind.
 fn yes_or_no(rt: &impl Abort, word: &str) -> bool {
     match word {
         "yes" => true,
@@ -113,9 +113,10 @@ fn wanted(rt: &impl Abort, question: Question, word: &str) -> Answer {
     }
 }
 
-/// Compares the answers for the words of a row.
+/// Compares the answers for the words of a row, which has some.
 fn check_row<U: hb_unicode_funcs_t>(rt: &impl Abort, question: Question, row: &str) {
     let (words, answer) = parts(rt, row, "->");
+    assert_row(rt, row, words.is_empty(), false);
     let wanted = wanted(rt, question, answer);
     for word in words.split_whitespace() {
         assert_row(rt, word, answer_of::<U>(rt, question, word), wanted);

@@ -37,6 +37,12 @@ pub fn column<'a>(rt: &impl Abort, row: &'a str, at: usize) -> &'a str {
     row.split(';').nth(at).expect(rt, row).trim()
 }
 
+/// Asserts that no column of a row comes after this one.
+pub fn assert_last(rt: &impl Abort, row: &str, at: usize) {
+    let further = row.split(';').nth(at.saturating_add(1));
+    assert_row(rt, row, further, None);
+}
+
 /// The character of a hexadecimal number.
 fn numbered(word: &str) -> Option<char> {
     char::from_u32(u32::from_str_radix(word, 16).ok()?)

@@ -8,7 +8,7 @@ mod modes;
 mod orders;
 mod ranges;
 
-use crate::comparing::{assert_row, character, characters, column, rows_of};
+use crate::comparing::{assert_last, assert_row, character, characters, column, rows_of};
 use shape_buffer::buffer::{
     BufferClusterLevel, GlyphBuffer, GlyphId, UnicodeBuffer, hb_glyph_info_t,
 };
@@ -119,7 +119,7 @@ fn print_glyph(rt: &impl Abort, list: &mut String, info: &hb_glyph_info_t) {
     write!(list, " {c:X}/{glyph:X}@{cluster}").expect(rt, "memory");
 }
 
-/// The glyphs of a list.
+/// A list of glyphs as text.
 fn printed(rt: &(impl Abort + AllocGlobal), infos: &[hb_glyph_info_t]) -> String {
     let mut list = String::new(rt.alloc());
     for info in infos {
@@ -128,7 +128,7 @@ fn printed(rt: &(impl Abort + AllocGlobal), infos: &[hb_glyph_info_t]) -> String
     list
 }
 
-/// The glyphs of a row's text.
+/// The glyphs of a row's text, as text.
 fn glyphs_of(rt: &(impl Abort + AllocGlobal), row: &str) -> String {
     let text = characters(rt, column(rt, row, 2));
     let glyphs = shaped(rt, column(rt, row, 0), column(rt, row, 1), text.as_slice());
@@ -137,6 +137,7 @@ fn glyphs_of(rt: &(impl Abort + AllocGlobal), row: &str) -> String {
 
 /// Compares the glyphs of a row's text.
 fn check_row(rt: &(impl Abort + AllocGlobal), row: &str) {
+    assert_last(rt, row, 3);
     let found = glyphs_of(rt, row);
     assert_row(rt, row, found.as_str().trim(), column(rt, row, 3));
 }

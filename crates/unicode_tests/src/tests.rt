@@ -3,11 +3,11 @@
 mod normalised;
 mod shaped;
 
-use crate::comparing::{append, assert_row, characters, column, rows_of};
+use crate::comparing::{append, assert_last, assert_row, characters, column, rows_of};
 use crate::normalising::{BASE_WITH_MARK, normalised};
 use crate::normalization_rows::NORMALIZATION_ROWS;
 use crate::ordering::{chars_of, decomposed, recomposed};
-use crate::texts::{DECOMPOSED, RECOMPOSED, TEXTS, TYPED};
+use crate::texts::{DECOMPOSED, RECOMPOSED, SHAPED, TEXTS, TYPED};
 use shape_pipeline::ot_shaper::{
     ComposedDiacriticsNoShortCircuit, Decomposed, Preference, Preferring,
 };
@@ -83,12 +83,18 @@ fn assert_one(rt: &(impl Abort + AllocGlobal), way: Way, column: &str, other: &s
     assert_row(rt, column, list.as_slice(), wanted.as_slice());
 }
 
-/// Asserts that the columns of each row that are canonically equivalent have one list.
+/// Asserts that the columns of a row that are canonically equivalent have one list.
+fn check_row(rt: &(impl Abort + AllocGlobal), way: Way, row: &str) {
+    assert_last(rt, row, 4);
+    assert_one(rt, way, column(rt, row, 0), column(rt, row, 1));
+    assert_one(rt, way, column(rt, row, 1), column(rt, row, 2));
+    assert_one(rt, way, column(rt, row, 3), column(rt, row, 4));
+}
+
+/// Does so for each row.
 fn check_rows(rt: &(impl Abort + AllocGlobal), way: Way, rows: &str) {
     for row in rows_of(rt, rows).lines() {
-        assert_one(rt, way, column(rt, row, 0), column(rt, row, 1));
-        assert_one(rt, way, column(rt, row, 1), column(rt, row, 2));
-        assert_one(rt, way, column(rt, row, 3), column(rt, row, 4));
+        check_row(rt, way, row);
     }
 }
 
@@ -105,6 +111,7 @@ fn assert_text(rt: &(impl Abort + AllocGlobal), row: &str, list: &[char], text: 
 
 /// Compares what a text splits into, and what that composes to.
 fn assert_lists(rt: &(impl Abort + AllocGlobal), row: &str) {
+    assert_last(rt, row, SHAPED);
     let typed = chars_of(rt, column(rt, row, TYPED));
     let split = decomposed(rt, typed.as_slice());
     assert_text(rt, row, split.as_slice(), column(rt, row, DECOMPOSED));

@@ -1,14 +1,18 @@
 //! Real texts of seven scripts, with what normalising makes of them if a face has all glyphs.
 
-/// The columns of a text that tests read.
+/// The column of the script. Tests read this one and those below.
 pub const SCRIPT: usize = 1;
 
+/// The column of the characters as they may be typed.
 pub const TYPED: usize = 2;
 
+/// The column of the characters split and in order.
 pub const DECOMPOSED: usize = 3;
 
+/// The column of the characters put together again.
 pub const RECOMPOSED: usize = 4;
 
+/// The column of the glyphs, which is the last.
 pub const SHAPED: usize = 5;
 
 /// The texts, a row each, with a semicolon between two columns:

@@ -53,7 +53,7 @@ fn nothing_else_has_an_image(rt: HostRuntime) {
     assert_same(&rt, images, MIRRORED);
 }
 
-/// The letters of a script's tag with the first one in lower case, if it isn't already.
+/// The letters of a script's tag, with the capital that they begin with in lower case. None if they begin with none.
 fn letters_of(script: Script) -> Option<[u8; 4]> {
     let [first, second, third, fourth] = script.0.0.to_be_bytes();
     let lower = [first.to_ascii_lowercase(), second, third, fourth];
@@ -64,7 +64,7 @@ fn letters_of(script: Script) -> Option<[u8; 4]> {
     }
 }
 
-/// Compares what a value of a property names, as letters in lower case.
+/// Asserts that a value of a property names this set. The value is given by its letters, in lower case.
 fn assert_named(rt: &impl Abort, property: &[u8], letters: &[u8], set: Set) {
     let named = ucd_sets::by_value(property, letters);
     assert_same(rt, (letters, named), (letters, Ok(set)));

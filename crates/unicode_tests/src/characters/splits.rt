@@ -5,54 +5,55 @@ use shape_unicode::UnicodeDatabase;
 
 /// Pairs that compose again: Latin with one and with two marks, Greek, Cyrillic, Arabic, Indic letters,
 /// kana, a musical symbol's neighbour in the supplementary planes, and Hangul.
+const SPLITS: &str = "
+    C5 -> A+30A
+    E9 -> e+301
+    1EA4 -> C2+301
+    1EC7 -> 1EB9+302
+    226E -> <+338
+    3AC -> 3B1+301
+    1F82 -> 1F02+345
+    439 -> 438+306
+    623 -> 627+654
+    929 -> 928+93C
+    9CB -> 9C7+9BE
+    DDD -> DDC+DCA
+    1026 -> 1025+102E
+    304C -> 304B+3099
+    1109A -> 11099+110BA
+    AC00 -> 1100+1161
+    AC01 -> AC00+11A8
+    D788 -> 1112+1175
+    D7A3 -> D788+11C2
+";
+
+/// The same pairs, as they compose.
+const COMPOSITES: &str = "
+    A+30A -> C5
+    e+301 -> E9
+    C2+301 -> 1EA4
+    1EB9+302 -> 1EC7
+    <+338 -> 226E
+    3B1+301 -> 3AC
+    1F02+345 -> 1F82
+    438+306 -> 439
+    627+654 -> 623
+    928+93C -> 929
+    9C7+9BE -> 9CB
+    DDC+DCA -> DDD
+    1025+102E -> 1026
+    304B+3099 -> 304C
+    11099+110BA -> 1109A
+    1100+1161 -> AC00
+    AC00+11A8 -> AC01
+    1112+1175 -> D788
+    D788+11C2 -> D7A3
+";
+
 #[test]
 fn pairs_split_and_compose(rt: HostRuntime) {
-    check_answers::<UnicodeDatabase>(
-        &rt,
-        Question::Split,
-        "C5 -> A+30A
-         E9 -> e+301
-         1EA4 -> C2+301
-         1EC7 -> 1EB9+302
-         226E -> <+338
-         3AC -> 3B1+301
-         1F82 -> 1F02+345
-         439 -> 438+306
-         623 -> 627+654
-         929 -> 928+93C
-         9CB -> 9C7+9BE
-         DDD -> DDC+DCA
-         1026 -> 1025+102E
-         304C -> 304B+3099
-         1109A -> 11099+110BA
-         AC00 -> 1100+1161
-         AC01 -> AC00+11A8
-         D788 -> 1112+1175
-         D7A3 -> D788+11C2",
-    );
-    check_answers::<UnicodeDatabase>(
-        &rt,
-        Question::Composite,
-        "A+30A -> C5
-         e+301 -> E9
-         C2+301 -> 1EA4
-         1EB9+302 -> 1EC7
-         <+338 -> 226E
-         3B1+301 -> 3AC
-         1F02+345 -> 1F82
-         438+306 -> 439
-         627+654 -> 623
-         928+93C -> 929
-         9C7+9BE -> 9CB
-         DDC+DCA -> DDD
-         1025+102E -> 1026
-         304B+3099 -> 304C
-         11099+110BA -> 1109A
-         1100+1161 -> AC00
-         AC00+11A8 -> AC01
-         1112+1175 -> D788
-         D788+11C2 -> D7A3",
-    );
+    check_answers::<UnicodeDatabase>(&rt, Question::Split, SPLITS);
+    check_answers::<UnicodeDatabase>(&rt, Question::Composite, COMPOSITES);
 }
 
 /// Singletons, whose second part is U+0000, and pairs that are excluded from composition.

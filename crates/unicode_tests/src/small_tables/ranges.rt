@@ -53,7 +53,8 @@ fn scripts(rt: HostRuntime) {
     );
 }
 
-/// Syriac runs from right to left too; it is none of the program's scripts.
+/// Syriac runs from right to left too; it is none of the program's scripts. Four times `\0` is the tag 0, which no
+/// script has.
 #[test]
 fn directions_of_scripts(rt: HostRuntime) {
     check_answers::<UnicodeTables>(

@@ -1,7 +1,7 @@
 //! Lines of Unicode's test through the normaliser, in the two modes that split fully: mode 1 composes
 //! nothing, mode 3 composes again.
 
-use crate::comparing::{assert_row, character, characters, column, rows_of};
+use crate::comparing::{assert_last, assert_row, character, characters, column, rows_of};
 use crate::moved_rows::MOVED_ROWS;
 use crate::normalization_rows::NORMALIZATION_ROWS;
 use crate::tests::{Way, behind_base, check_rows, list_of};
@@ -75,12 +75,14 @@ fn other_forms_have_other_lists(rt: HostRuntime) {
     }
 }
 
-/// Asserts that a row has two forms of a text with the mark.
+/// Asserts that a row has four columns, and in them two forms of a text with the mark.
 fn assert_forms(rt: &(impl Abort + AllocGlobal), row: &str) {
+    assert_last(rt, row, 3);
     let mark = character(rt, column(rt, row, 0));
     let form = characters(rt, column(rt, row, 1));
+    let other = characters(rt, column(rt, row, 2));
     assert_row(rt, row, form.contains(&mark), true);
-    assert_row(rt, row, column(rt, row, 1) == column(rt, row, 2), false);
+    assert_row(rt, row, form.as_slice() == other.as_slice(), false);
 }
 
 /// Compares the list of a form.

@@ -1,7 +1,7 @@
 //! The texts through whole runs of the default shaper.
 
 use crate::answers::script_of;
-use crate::comparing::{assert_row, character, column, number, parts, rows_of};
+use crate::comparing::{assert_last, assert_row, character, column, number, parts, rows_of};
 use crate::every_glyph::{ADVANCE, EVERY_GLYPH};
 use crate::texts::{SCRIPT, SHAPED, TEXTS, TYPED};
 use shape_buffer::buffer::{
@@ -140,6 +140,7 @@ fn direction_of(script: &str) -> Direction {
 
 /// Compares the glyphs of a text, and that they run as its script does.
 fn assert_text(rt: &(impl Abort + AllocGlobal), row: &str) {
+    assert_last(rt, row, SHAPED);
     let glyphs = shaped(rt, row);
     let direction = direction_of(column(rt, row, SCRIPT));
     assert_row(rt, row, glyphs.direction(), direction);
