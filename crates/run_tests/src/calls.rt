@@ -1,12 +1,14 @@
 //! Calls on their happy path whose answers no clause of another test shows.
 
-use crate::cases::{character, check};
+use crate::cases::{Case, World, character, check};
 use crate::comparing::assert_same;
+use crate::printing::printed_list;
 use crate::rows::Splits;
-use crate::runs::{Plan, plan_for};
+use crate::runs::{Plan, normalise, plan_for};
+use crate::texts::push;
 use shape_buffer::buffer::{
-    Direction, Feature, Language, ScratchFlags, Script, UnicodeBuffer, hb_glyph_info_t, hb_tag_t,
-    hb_unicode_general_category_t,
+    Direction, Feature, Language, ScratchFlags, Script, UnicodeBuffer, hb_buffer_t,
+    hb_glyph_info_t, hb_tag_t, hb_unicode_general_category_t,
 };
 use shape_buffer::interfaces::{
     NoLookups, PlainUnicode, TableIndex, hb_font_t, hb_ot_layout_t, hb_ot_map_builder_t,
@@ -188,13 +190,49 @@ fn plain_characters_are_letters(rt: HostRuntime) {
     check_all_plain(&rt, "( 00AD 0301 1F600 FE0F");
 }
 
+/// A buffer that has the characters of words, and of which nothing is set.
+fn raw(rt: &(impl Abort + AllocGlobal), words: &str) -> hb_buffer_t {
+    let mut text = UnicodeBuffer::new(rt.alloc());
+    push(rt, &mut text, words);
+    text.into_inner()
+}
+
+/// The list that such a buffer is normalised to, under a plan for texts of a direction.
+fn normalised<U, F, M, S>(
+    rt: &(impl Abort + AllocGlobal),
+    by: (&F, &S),
+    direction: Direction,
+    words: &str,
+) -> hb_buffer_t
+where
+    U: hb_unicode_funcs_t,
+    F: hb_font_t,
+    M: hb_ot_layout_t<F>,
+    S: hb_ot_shaper_t<U, F, M, Data = ()>,
+{
+    let plan = plan_for::<U, F, M, S>(rt, by, (direction, None));
+    let mut list = raw(rt, words);
+    normalise::<U, F, M, S>(rt, &plan, by.0, &mut list);
+    list
+}
+
+/// Lists that are normalised, but not prepared, under a plan that runs to the right. The face has a glyph for `a`.
+struct Unprepared;
+
+impl World for Unprepared {
+    fn answer(rt: &(impl Abort + AllocGlobal), case: Case<'_>) -> String {
+        let by = (&TestFace::of(&['a']), &DEFAULT_SHAPER);
+        let rightward = Direction::LeftToRight;
+        let list = normalised::<PlainUnicode, _, NoLookups, _>(rt, by, rightward, case.text);
+        printed_list(rt, list, case.wanted)
+    }
+}
+
 #[test]
 fn normalising_keeps_what_is_not_split(rt: HostRuntime) {
-    check::<Splits>(
+    check::<Unprepared>(
         &rt,
         "
-        step: normalise
-        face: a
         a 00E9 -> a=61@0 00E9=0@1
         ",
     );

@@ -3,15 +3,16 @@
 //! A line `TEXT -> ANSWER` is a case: a text, and what becomes of it. A line `NAME: WORDS` sets something for the
 //! cases below it, until it is set again:
 //!
-//! - `face`: the characters that have a glyph or the glyphs of the face, as `faces` has them, and `units`: those of
-//!   its em square, 1000 until they are set.
+//! - `face`: the characters that have a glyph or the glyphs of the face, as `faces` has them.
+//! - `units`: those of the em square of a face with widths, 1000 until they are set. No other face heeds them.
 //! - `manner`: what is set of the text, as `texts` has it.
 //! - `shaper`, `tables` and `step`: which ones, by the names that the function has which runs the case.
 //!
 //! A character is written as itself if it is one of ASCII that can be seen, and by four digits in base 16 or more:
-//! `a`, `0301`, `1F1E6`. A word may stand many times, `0323*31`, or be several together, `0308+0301*15`. How an answer
-//! is written stands in `printing`. What stands behind ` # ` is a remark. A line that can't be read fails its test,
-//! and so does a text without cases.
+//! `a`, `0301`, `1F1E6`. In a text `@` isn't a character but stands before a cluster, and in the steps that compare
+//! two texts `/` stands between them. A word may stand many times, `0323*31`, and so may two of them in turn,
+//! `0308+0301*15`. How an answer is written stands in `printing`. What stands behind ` # ` is a remark. A line that
+//! can't be read fails its test, and so does a text without cases.
 
 use crate::comparing::assert_that;
 use crate::texts::{Manner, PLAINLY, manner_of};
@@ -54,23 +55,31 @@ pub trait World {
     fn answer(rt: &(impl Abort + AllocGlobal), case: Case<'_>) -> String;
 }
 
-/// Runs cases in a world, and compares their answers.
+/// Runs cases in a world, and compares their answers. There has to be a case.
 pub fn check<W: World>(rt: &(impl Abort + AllocGlobal), cases: &str) {
-    assert_that(rt, cases.contains("->"));
     let mut settings = UNSET;
+    let mut has_case = false;
     for line in cases.lines() {
-        take::<W>(rt, &mut settings, line);
+        has_case |= take::<W>(rt, &mut settings, line);
     }
+    assert_that(rt, has_case);
 }
 
-/// Runs the case that a line is, or sets what the line sets.
-fn take<'a, W: World>(rt: &(impl Abort + AllocGlobal), settings: &mut Settings<'a>, line: &'a str) {
+/// Runs the case that a line is, or sets what the line sets. Gives whether it is a case.
+fn take<'a, W: World>(
+    rt: &(impl Abort + AllocGlobal),
+    settings: &mut Settings<'a>,
+    line: &'a str,
+) -> bool {
     let line = without_remark(line);
-    match line.split_once("->") {
-        Some(sides) => run::<W>(rt, settings, sides),
-        None if line.is_empty() => {}
-        None => set(rt, settings, line),
+    if let Some(sides) = line.split_once("->") {
+        run::<W>(rt, settings, sides);
+        return true;
     }
+    if !line.is_empty() {
+        set(rt, settings, line);
+    }
+    false
 }
 
 /// A line without its remark.
@@ -96,13 +105,13 @@ fn run<W: World>(
 /// Compares what was found with what a case wants.
 pub fn assert_answer(rt: &impl Abort, case: Case<'_>, found: String) {
     if found.as_str() != case.wanted {
-        fail(rt, case.text, found.as_str());
+        fail(rt, case.text, case.wanted, found.as_str());
     }
 }
 
-/// Ends a test by the text of a case and what was found.
-fn fail(rt: &impl Abort, text: &str, found: &str) -> ! {
-    panic!(rt; "{text} gave {found}")
+/// Ends a test by the line of a case and what was found.
+fn fail(rt: &impl Abort, text: &str, wanted: &str, found: &str) -> ! {
+    panic!(rt; "{text} -> {wanted} gave {found}")
 }
 
 /// Sets something by its name.

@@ -1,29 +1,34 @@
 //! Faces, as the words of cases write them.
 //!
-//! Characters have glyphs of their own numbers, as `a 0301`, or `every` one has. After `variant`, as in `variant a`,
-//! there is also glyph 7 for U+0061 with U+FE00 after it.
+//! Characters have glyphs of their own numbers, as `a 0301`; by `every` alone each one has. After `variant`, which
+//! stands before characters, as in `variant a`, there is also glyph 7 for U+0061 with U+FE00 after it.
 //!
 //! A face with widths has glyphs as `a=1(600)`: a character, its glyph in base 16 and its advance, then the bearings,
 //! width and height of its box, if it has one: `0301=2(200,50,800,200,-150)`.
 
-use crate::cases::{Settings, character, cut, cut_off, number, number_in_hex};
+use crate::cases::{Settings, character, cut, number, number_in_hex};
 use shape_buffer::buffer::GlyphId;
 use shape_buffer::interfaces::{MapFace, Metrics, hb_glyph_extents_t};
 use std::process::Abort;
 use test_worlds::TestFace;
 
-/// Adds the character of a word, if the word isn't the name of a face.
-fn add_character(rt: &impl Abort, characters: &mut Vec<char>, word: &str) {
-    if !matches!(word, "every" | "variant") {
-        characters.push(character(rt, word)).expect(rt, "error");
+/// What stands before the characters of a face with a variant.
+const VARIANT: &str = "variant ";
+
+/// The words of a face that write characters.
+fn without_name(words: &str) -> &str {
+    if words == "every" {
+        ""
+    } else {
+        words.strip_prefix(VARIANT).unwrap_or(words)
     }
 }
 
-/// The characters that words write.
+/// The characters that the words of a face write.
 pub fn characters_of(rt: &(impl Abort + AllocGlobal), words: &str) -> Vec<char> {
     let mut characters = Vec::new(rt.alloc());
-    for word in words.split_whitespace() {
-        add_character(rt, &mut characters, word);
+    for word in without_name(words).split_whitespace() {
+        characters.push(character(rt, word)).expect(rt, "error");
     }
     characters
 }
@@ -32,7 +37,7 @@ pub fn characters_of(rt: &(impl Abort + AllocGlobal), words: &str) -> Vec<char> 
 pub fn face_over<'a>(words: &str, characters: &'a [char]) -> TestFace<'a> {
     TestFace {
         every: words == "every",
-        variant: words.starts_with("variant"),
+        variant: words.starts_with(VARIANT),
         ..TestFace::of(characters)
     }
 }
@@ -50,22 +55,18 @@ fn box_of(rt: &impl Abort, numbers: &str) -> hb_glyph_extents_t {
     }
 }
 
-/// The box that a glyph has if it is written.
-fn extents_of(rt: &impl Abort, numbers: &str) -> Option<hb_glyph_extents_t> {
-    if numbers.is_empty() {
-        None
-    } else {
-        Some(box_of(rt, numbers))
-    }
-}
-
-/// The advance of a glyph, and its box.
+/// The advance of a glyph, and its box if one is written.
 fn metrics_of(rt: &impl Abort, numbers: &str) -> Metrics {
     let numbers = numbers.strip_suffix(')').expect(rt, numbers);
-    let (advance, extents) = cut_off(numbers, ",");
-    Metrics {
-        advance: number(rt, advance),
-        extents: extents_of(rt, extents),
+    match numbers.split_once(",") {
+        Some((advance, extents)) => Metrics {
+            advance: number(rt, advance),
+            extents: Some(box_of(rt, extents)),
+        },
+        None => Metrics {
+            advance: number(rt, numbers),
+            extents: None,
+        },
     }
 }
 

@@ -252,11 +252,14 @@ where
 }
 
 /// A character of the category that the step names: `nonspacing`, `spacing`, `enclosing` or `letter`. The answer has
-/// pairs of a ccc and of what it becomes: `13>214`.
+/// pairs of a ccc and of what it becomes: `13>214`; there has to be one.
 struct Classes;
 
 impl World for Classes {
     fn answer(rt: &(impl Abort + AllocGlobal), case: Case<'_>) -> String {
+        if case.wanted.is_empty() {
+            rt.panic(case.text);
+        }
         let face = face_of(rt, case.settings);
         pairs::<PlainUnicode, _, NoLookups, _>(rt, (&face, &DEFAULT_SHAPER), case)
     }
@@ -346,7 +349,8 @@ fn classes_of_single_characters(rt: HostRuntime) {
     );
 }
 
-/// What isn't a nonspacing mark keeps its ccc.
+/// In nonspacing marks the ccc that a script has of its own become those of places. What isn't such a mark keeps its
+/// ccc.
 #[test]
 fn classes_of_other_scripts(rt: HostRuntime) {
     check::<Classes>(

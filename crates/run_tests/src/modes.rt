@@ -18,8 +18,8 @@ use test_worlds::{AbsorbingShaper, DeepShaper, ReversingShaper, SmallUnicode};
 ///
 /// The answer is the normalised list, each item with the glyph that was found for it and its mask, then `,marked` if
 /// it is a marked selector, `,ignorable`, and the type of its space; at the end `spaces` and `selectors` if the run
-/// has seen some that have no glyph of their own. The step `compare` says whether two texts are normalised alike, or
-/// why that was refused and what it left of the two.
+/// has seen some that have no glyph of their own. That is without a step; the step `compare` says whether two texts
+/// are normalised alike, or why that was refused and what it left of the two.
 struct Modes;
 
 impl World for Modes {
@@ -63,10 +63,10 @@ where
     S: hb_ot_shaper_t<U, F, M, Data = ()>,
 {
     let plan = plan_for::<U, F, M, S>(rt, by, (Direction::LeftToRight, None));
-    if case.settings.step == "compare" {
-        compared::<U, F, M, S>(rt, &plan, by.0, case)
-    } else {
-        normalised::<U, F, M, S>(rt, &plan, by.0, case)
+    match case.settings.step {
+        "" => normalised::<U, F, M, S>(rt, &plan, by.0, case),
+        "compare" => compared::<U, F, M, S>(rt, &plan, by.0, case),
+        step => rt.panic(step),
     }
 }
 

@@ -244,7 +244,7 @@ type Plans<'p, 'a, S, D, T, P> = (
 /// The texts that each test begins with.
 type Texts<'a> = (&'a mut hb_buffer_t, &'a mut hb_buffer_t);
 
-/// Asks, and makes the steps on the two texts that each test begins with.
+/// Asks the questions, of the second of the texts that each test begins with, and makes the steps on the first one.
 fn make_steps<F, S, D, G, M, T>(
     rt: &(impl Abort + AllocGlobal),
     (plain, full, dividing): Plans<'_, '_, S, D, T, M::Map>,
@@ -267,7 +267,7 @@ where
     >(rt, (plain, dividing), face, text);
 }
 
-/// What a test does besides.
+/// What a test adds to that beginning.
 #[derive(Clone, Copy)]
 enum Besides {
     Nothing,
@@ -275,7 +275,7 @@ enum Besides {
     EmptyTexts,
 }
 
-/// Makes what a test does besides.
+/// Does what a test adds to the beginning.
 fn make<F, S, D, G, M, T>(
     rt: &(impl Abort + AllocGlobal),
     plans: Plans<'_, '_, S, D, T, M::Map>,
@@ -298,7 +298,7 @@ where
     }
 }
 
-/// Makes the plans that each test begins with, which run to the right, and what one does besides.
+/// Makes the plans that each test begins with, which run to the right, and does what the test adds.
 fn plan<F, S, D, G, M, T>(
     rt: &(impl Abort + AllocGlobal),
     (face, shaper, decomposing): (&F, &S, &D),
@@ -321,7 +321,8 @@ where
     make::<F, S, D, G, M, T>(rt, (&plain, &full, &dividing), face, texts, besides);
 }
 
-/// The same over a face, and over one that divides, by the default shaper and one that decomposes fully.
+/// Makes the plans, and does what the test adds. There are two plans for the first face, by the default shaper and by
+/// one that decomposes fully, and one for the face that divides, by the default shaper.
 fn plan_over<F, G, M>(
     rt: &(impl Abort + AllocGlobal),
     (face, divided): (&F, &G),
@@ -338,7 +339,7 @@ where
     plan::<F, _, _, G, M, _>(rt, plainly, (divided, &DEFAULT_SHAPER), texts, besides);
 }
 
-/// Makes what each test begins with, and what one does besides.
+/// Makes the texts, faces and plans that each test begins with, and does what the test adds.
 fn begin(rt: &(impl Abort + AllocGlobal), besides: Besides) {
     let (mut text, mut spelled) = (entered(rt, TEXT), entered(rt, SPELLED));
     assert_same(rt, (text.len(), spelled.len()), (16, 4));

@@ -17,7 +17,7 @@ use test_worlds::{DeepShaper, StackedShaper};
 
 /// Faces of some characters without the database of Unicode, and shapers that split: `stacked`, or `deep` with how
 /// deep it goes, each time into the next character and one of its own. Their glyphs are printed as the items that they
-/// were made of; of more than a hundred it is printed how many they are.
+/// were made of. Of more than a hundred, all of which have to stand in cluster 7, it is printed how many they are.
 ///
 /// The shaper `default` has the steps of `steps`.
 pub struct Splits;
@@ -85,7 +85,8 @@ where
     glyphs_under::<U, F, M, S>(rt, &plan, by.0, text)
 }
 
-/// Glyphs that have the glyphs of their items, or how many they are, if all stand in cluster 7.
+/// Glyphs, each of which has to be the one that was found for its item; or how many they are, if they are more than a
+/// hundred, all of which have to stand in cluster 7.
 fn printed(rt: &(impl Abort + AllocGlobal), glyphs: GlyphBuffer, wanted: &str) -> String {
     if glyphs.len() <= 100 {
         assert_own(rt, &glyphs);
@@ -95,7 +96,7 @@ fn printed(rt: &(impl Abort + AllocGlobal), glyphs: GlyphBuffer, wanted: &str) -
     format!(in rt.alloc(); "{} glyphs", glyphs.len()).expect(rt, "error")
 }
 
-/// Asserts that glyphs have the glyphs of their items.
+/// Asserts that each glyph is the one that was found for its item.
 fn assert_own(rt: &impl Abort, glyphs: &GlyphBuffer) {
     for info in glyphs.glyph_infos() {
         assert_same(rt, info.glyph_id, info.glyph_index);

@@ -1,17 +1,18 @@
-//! What becomes of the text of a case at a step of its run, for any types of a run: a function that names them takes
-//! three times as long to prove.
+//! What becomes of the text of a case at a step of its run, for any types of a run: a function that names those
+//! types takes three times as long to prove.
 //!
 //! - `prepare` and `normalise` give the list, and `hebrew` that of a text of which it is said to be Hebrew once its
 //!   direction was guessed.
 //! - `shape` gives the items that the glyphs were made of, `place` the glyphs with their positions, and `enter` those
-//!   of the call that plans by itself. `in_place` gives the glyphs and clusters that shaping leaves in a buffer.
-//! - `twice` places the glyphs, and the same text once more in the buffer of the glyphs.
+//!   of the call that plans by itself. `in_place` gives the glyphs and clusters that shaping leaves in a buffer, which
+//!   has to run from right to left.
+//! - `twice` places the glyphs, and the same text once more in the buffer of the glyphs, which one call fills.
 //! - `both` normalises and shapes; the glyphs have to have the numbers of the characters.
-//! - `refuse`, `refuse_key` and `refuse_comparing` are in `refusals`.
+//! - `refuse`, `refuse_key` and `refuse_comparing` are in `refusals::steps`.
 //! - `compare` says of two texts with a `/` between them whether they are normalised alike, and `premises` of a text
 //!   whether it meets those of canonical form: `yes` or `no`.
 
-use crate::cases::{Case, assert_answer, cut, cut_off};
+use crate::cases::{Case, assert_answer, cut};
 use crate::comparing::{assert_same, assert_that};
 use crate::printing::{
     glyphs_printed, printed_as_characters, printed_glyphs, printed_items, printed_list,
@@ -22,8 +23,8 @@ use crate::runs::{
     Plan, are_alike, glyphs_of, glyphs_under, meets_premises, normalise, planned, prepared_under,
     shape_in_place,
 };
-use crate::texts::{add, text_of};
-use shape_buffer::buffer::{GlyphBuffer, Script, UnicodeBuffer, hb_buffer_t, hb_tag_t};
+use crate::texts::{push, text_of};
+use shape_buffer::buffer::{Direction, GlyphBuffer, Script, UnicodeBuffer, hb_buffer_t, hb_tag_t};
 use shape_buffer::interfaces::{hb_font_t, hb_ot_layout_t, hb_unicode_funcs_t};
 use shape_pipeline::ot_shaper::hb_ot_shaper_t;
 use std::process::Abort;
@@ -95,12 +96,20 @@ where
     }
 }
 
-/// The text of a case, or the first one of two.
+/// The text of a case.
 pub fn text_in<U: hb_unicode_funcs_t>(
     rt: &(impl Abort + AllocGlobal),
     case: Case<'_>,
 ) -> UnicodeBuffer {
-    text_of::<U>(rt, &case.settings.manner, cut_off(case.text, "/").0)
+    text_of::<U>(rt, &case.settings.manner, case.text)
+}
+
+/// The first one of the two texts of a case.
+pub fn first_in<U: hb_unicode_funcs_t>(
+    rt: &(impl Abort + AllocGlobal),
+    case: Case<'_>,
+) -> UnicodeBuffer {
+    text_of::<U>(rt, &case.settings.manner, cut(rt, case.text, "/").0)
 }
 
 /// The text of a case, of which it is said to be Hebrew if its step is so.
@@ -225,19 +234,19 @@ where
 
 /// A text in the buffer of glyphs, which are cleared.
 fn refilled<U: hb_unicode_funcs_t>(
-    rt: &impl Abort,
+    rt: &(impl Abort + AllocGlobal),
     glyphs: GlyphBuffer,
     words: &str,
 ) -> UnicodeBuffer {
     let mut text = glyphs.clear();
     assert_that(rt, text.is_empty());
-    add(rt, &mut text, words);
+    push(rt, &mut text, words);
     text.guess_segment_properties::<U>();
     text
 }
 
-/// The glyphs of a text that is shaped in place, once what the run leaves of its buffer was compared: the direction,
-/// and no limit.
+/// The glyphs of a text that is shaped in place from right to left, once what the run leaves of its buffer was
+/// compared: the direction, and no limit.
 fn in_place<U, F, M, S>(
     rt: &(impl Abort + AllocGlobal),
     (face, shaper): (&F, &S),
@@ -250,11 +259,10 @@ where
     S: hb_ot_shaper_t<U, F, M, Data = ()>,
 {
     let text = text_in::<U>(rt, case);
-    let direction = text.direction();
     let plan = planned::<U, F, M, S>(rt, (face, shaper), &text);
     let mut buffer = text.into_inner();
     shape_in_place::<U, F, M, S>(rt, &plan, face, &mut buffer);
-    assert_same(rt, buffer.direction(), direction);
+    assert_same(rt, buffer.direction(), Direction::RightToLeft);
     assert_same(rt, buffer.length_limit(), usize::MAX);
     printed_numbers(rt, buffer)
 }
@@ -320,7 +328,7 @@ where
     M: hb_ot_layout_t<F>,
     S: hb_ot_shaper_t<U, F, M, Data = ()>,
 {
-    let plan = planned::<U, F, M, S>(rt, by, &text_in::<U>(rt, case));
+    let plan = planned::<U, F, M, S>(rt, by, &first_in::<U>(rt, case));
     let lists = spelled::<U, F, M, S>(rt, &plan, by.0, case);
     yes_or_no(rt, alike::<U, F, M, S>(rt, &plan, by.0, lists))
 }

@@ -1,6 +1,7 @@
 //! Texts, as the words of cases write them.
 //!
-//! A character stands in the cluster that is its offset in UTF-8, if no other is written behind an `@`: `1EA4@7`.
+//! A character stands in the cluster that is its offset in UTF-8, if no other is written behind an `@`: `1EA4@7`. The
+//! characters behind it go on from there.
 //!
 //! The words of a manner are a direction (`ltr`, `rtl`, `ttb`, `btt`), `by_character` for clusters of single
 //! characters, `beginning` and `no_circle` for flags of the text, and glyphs in base 16: `invisible=3` for what isn't
@@ -74,13 +75,10 @@ fn add_at(rt: &impl Abort, text: &mut UnicodeBuffer, c: char, cluster: u32) -> u
 
 /// Appends the character of a word, in this cluster if the word has none. Gives the cluster behind it.
 fn add_word(rt: &impl Abort, text: &mut UnicodeBuffer, word: &str, cluster: u32) -> u32 {
-    let (c, at) = cut_off(word, "@");
-    let cluster = if at.is_empty() {
-        cluster
-    } else {
-        number(rt, at)
-    };
-    add_at(rt, text, character(rt, c), cluster)
+    match word.split_once("@") {
+        Some((c, at)) => add_at(rt, text, character(rt, c), number(rt, at)),
+        None => add_at(rt, text, character(rt, word), cluster),
+    }
 }
 
 /// Appends the characters of words.
@@ -89,6 +87,26 @@ pub fn add(rt: &impl Abort, text: &mut UnicodeBuffer, words: &str) {
     for word in words.split_whitespace() {
         cluster = add_word(rt, text, word, cluster);
     }
+}
+
+/// The characters that words write, with nothing between them.
+fn spelled_out(rt: &(impl Abort + AllocGlobal), words: &str) -> String {
+    let mut characters = String::new(rt.alloc());
+    for word in words.split_whitespace() {
+        characters.push(character(rt, word)).expect(rt, "error");
+    }
+    characters
+}
+
+/// Appends characters by one call.
+fn push_str(rt: &impl Abort, text: &mut UnicodeBuffer, characters: &str) {
+    assert!(rt; characters.len() < 1000);
+    text.push_str(characters).expect(rt, "error");
+}
+
+/// Appends the characters of words by one call, in the clusters that are their offsets in UTF-8.
+pub fn push(rt: &(impl Abort + AllocGlobal), text: &mut UnicodeBuffer, words: &str) {
+    push_str(rt, text, spelled_out(rt, words).as_str());
 }
 
 /// Sets a manner of a text. Direction and script are guessed if they aren't set.

@@ -4,7 +4,7 @@ use crate::cases::{Case, assert_answer, cut};
 use crate::comparing::{assert_same, assert_that};
 use crate::printing::{append_character, append_space, printed_glyphs, printed_list};
 use crate::runs::{Plan, are_alike, glyphs_of, planned, prepared_under};
-use crate::steps::{spelled, text_in};
+use crate::steps::{first_in, spelled, text_in};
 use crate::texts::{Manner, add};
 use shape_buffer::buffer::{
     BufferFlags, Direction, GlyphId, Language, ShapeError, ShapeFault, UnicodeBuffer, hb_buffer_t,
@@ -220,7 +220,7 @@ where
     M: hb_ot_layout_t<F>,
     S: hb_ot_shaper_t<U, F, M, Data = ()>,
 {
-    let plan = planned::<U, F, M, S>(rt, by, &text_in::<U>(rt, case));
+    let plan = planned::<U, F, M, S>(rt, by, &first_in::<U>(rt, case));
     compare_under::<U, F, M, S>(rt, &plan, by.0, case)
 }
 
