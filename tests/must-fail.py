@@ -52,6 +52,9 @@ class Edit:
     def __str__(self):
         return f"{self.crate}/{self.name}"
 
+    def last_name(self):
+        return self.function.rpartition("::")[2]
+
     def put_in(self, room):
         """Edits the crate's files. Says whether each old text stood there once; if not, nothing is edited."""
         files = {file: (room / file).read_text() for file, _, _ in self.texts}
@@ -112,10 +115,10 @@ GONE = re.compile(r"has no field|is not in scope|has no `|was not admitted")
 
 def open_goals(edit, room, said):
     """What a check says of goals that are open in the function's own body, or of the law."""
-    lines, name = re.sub(r"\n  +", " ", said).splitlines(), edit.function.rpartition("::")[2]
+    lines, files = re.sub(r"\n  +", " ", said).splitlines(), {file for file, _, _ in edit.texts}
     for line in lines:
         at = re.match(r"note: (src/[^:]+):(\d+):\d+: (it is not proved that .*)", line)
-        if at and function_at(room, at[1], int(at[2])) == name:
+        if at and at[1] in files and function_at(room, at[1], int(at[2])) == edit.last_name():
             yield at[3]
     proofs = edit.law + ":" if edit.law else "proofs/" + edit.function.replace("::", "/") + "/"
     for line in lines:
@@ -153,8 +156,8 @@ def outcomes(built, edits, kept):
     """Tries the edits of a crate, and gives each with whether it was refused, and why."""
     left = list(edits)
     while left:
-        # one a function and one a law: a check tells these apart
-        found = tried(built, list({it.law or it.function: it for it in reversed(left)}.values()), kept)
+        # functions with names of their own, and one table: a check tells these apart
+        found = tried(built, list({bool(it.law) or it.last_name(): it for it in reversed(left)}.values()), kept)
         if not any(is_refused for is_refused, _ in found.values()):
             # what isn't refused beside others may be so by itself
             found = tried(built, left[:1], kept)
