@@ -4,21 +4,24 @@ use crate::cases::{Case, World, character, check};
 use crate::comparing::assert_same;
 use crate::printing::printed_list;
 use crate::rows::Splits;
-use crate::runs::{Plan, normalise, plan_for};
+use crate::runs::{normalise, plan_for};
 use crate::texts::push;
 use shape_buffer::buffer::{
     Direction, Feature, Language, ScratchFlags, Script, UnicodeBuffer, hb_buffer_t,
     hb_glyph_info_t, hb_tag_t, hb_unicode_general_category_t,
 };
 use shape_buffer::interfaces::{
-    NoLookups, PlainUnicode, TableIndex, hb_font_t, hb_ot_layout_t, hb_ot_map_builder_t,
-    hb_unicode_funcs_t,
+    NoLookups, PlainUnicode, TableIndex, hb_ot_map_builder_t, hb_unicode_funcs_t,
 };
 use shape_pipeline::ot_shape_plan::hb_ot_shape_plan_t;
-use shape_pipeline::ot_shaper::{DEFAULT_SHAPER, hb_ot_shaper_t};
+use shape_pipeline::ot_shaper::{DEFAULT_SHAPER, hb_default_shaper_t};
+use shape_plan::shaping_types::{PlanOf, ShapingTypes, TypesOf};
 use shape_unicode::UnicodeDatabase;
 use std::process::Abort;
 use test_worlds::TestFace;
+
+/// A run over a face of some characters, by the default shaper.
+type ByDefault<'a, U> = TypesOf<U, TestFace<'a>, NoLookups, hb_default_shaper_t>;
 
 fn latin() -> Option<Script> {
     Some(Script(hb_tag_t::from_bytes(b"Latn")))
@@ -35,18 +38,12 @@ fn without_kerning() -> Feature {
 }
 
 /// The plan for texts in Latin and in English, without kerning.
-fn english<'a, U, F, M, S>(
+fn english<'a, T: ShapingTypes>(
     rt: &(impl Abort + AllocGlobal),
-    (face, shaper): (&'a F, &'a S),
-) -> Plan<'a, S, M::Map>
-where
-    U: hb_unicode_funcs_t,
-    F: hb_font_t,
-    M: hb_ot_layout_t<F>,
-    S: hb_ot_shaper_t<U, F, M, Data = ()>,
-{
+    (face, shaper): (&'a T::Face, &'a T::Shaper),
+) -> PlanOf<'a, T> {
     let language = Language(String::from_str(rt.alloc(), "en").expect(rt, "error"));
-    hb_ot_shape_plan_t::new::<U, F, M>(
+    hb_ot_shape_plan_t::new::<T::Unicode, T::Face, T::Engine>(
         rt.alloc(),
         face,
         shaper,
@@ -67,37 +64,34 @@ fn empty(rt: &impl AllocGlobal, script: Option<Script>, direction: Direction) ->
 }
 
 /// Compares whether a plan fits a text.
-fn assert_fits<U: hb_unicode_funcs_t, S, P>(
+fn assert_fits<T: ShapingTypes>(
     rt: &impl Abort,
-    plan: &Plan<'_, S, P>,
+    plan: &PlanOf<'_, T>,
     text: UnicodeBuffer,
     wanted: bool,
 ) {
-    assert_same(rt, plan.fits::<U>(&text), wanted);
+    assert_same(rt, plan.fits::<T::Unicode>(&text), wanted);
 }
 
 /// Compares of an empty text whether the plan fits it: without a script, which is Unknown then, with it, and in the
 /// other direction.
-fn check_fits<U: hb_unicode_funcs_t, S, P>(rt: &(impl Abort + AllocGlobal), plan: &Plan<'_, S, P>) {
-    assert_fits::<U, S, P>(rt, plan, empty(rt, None, Direction::Invalid), false);
-    assert_fits::<U, S, P>(rt, plan, empty(rt, latin(), Direction::Invalid), true);
-    assert_fits::<U, S, P>(rt, plan, empty(rt, latin(), Direction::RightToLeft), false);
+fn check_fits<T: ShapingTypes>(rt: &(impl Abort + AllocGlobal), plan: &PlanOf<'_, T>) {
+    assert_fits::<T>(rt, plan, empty(rt, None, Direction::Invalid), false);
+    assert_fits::<T>(rt, plan, empty(rt, latin(), Direction::Invalid), true);
+    assert_fits::<T>(rt, plan, empty(rt, latin(), Direction::RightToLeft), false);
 }
 
 /// Compares what a builder of requests knows before there are any: how many there are, whether it is simple, and
 /// whether it chose a script.
-fn check_without_requests<F: hb_font_t, M: hb_ot_layout_t<F>>(
-    rt: &(impl Abort + AllocGlobal),
-    face: &F,
-) {
-    let builder = hb_ot_map_builder_t::new::<F, M>(rt.alloc(), face, latin(), None);
+fn check_without_requests<T: ShapingTypes>(rt: &(impl Abort + AllocGlobal), face: &T::Face) {
+    let builder = hb_ot_map_builder_t::new::<T::Face, T::Engine>(rt.alloc(), face, latin(), None);
     let chosen = builder.chosen_script(TableIndex::GPOS).is_some();
     let found = (builder.requests().len(), builder.is_simple(), chosen);
     assert_same(rt, found, (0, true, false));
 }
 
 /// Compares what a plan in English is for, and that it has a shaper and no data.
-fn check_english<S, P>(rt: &impl Abort, plan: &Plan<'_, S, P>) {
+fn check_english<T: ShapingTypes>(rt: &impl Abort, plan: &PlanOf<'_, T>) {
     assert_same(rt, plan.direction(), Direction::LeftToRight);
     assert_same(rt, plan.script(), latin());
     let found = (plan.shaper().is_some(), plan.data().is_some());
@@ -105,27 +99,17 @@ fn check_english<S, P>(rt: &impl Abort, plan: &Plan<'_, S, P>) {
 }
 
 /// Compares what is known before there are requests, and a plan in English.
-fn check_planning<U, F, M, S>(rt: &(impl Abort + AllocGlobal), by: (&F, &S))
-where
-    U: hb_unicode_funcs_t,
-    F: hb_font_t,
-    M: hb_ot_layout_t<F>,
-    S: hb_ot_shaper_t<U, F, M, Data = ()>,
-{
-    check_without_requests::<F, M>(rt, by.0);
-    let plan = english::<U, F, M, S>(rt, by);
-    check_fits::<U, S, M::Map>(rt, &plan);
-    check_english::<S, M::Map>(rt, &plan);
-}
-
-/// Compares this by the default shaper.
-fn check_default<U: hb_unicode_funcs_t, F: hb_font_t>(rt: &(impl Abort + AllocGlobal), face: &F) {
-    check_planning::<U, F, NoLookups, _>(rt, (face, &DEFAULT_SHAPER));
+fn check_planning<T: ShapingTypes>(rt: &(impl Abort + AllocGlobal), by: (&T::Face, &T::Shaper)) {
+    check_without_requests::<T>(rt, by.0);
+    let plan = english::<T>(rt, by);
+    check_fits::<T>(rt, &plan);
+    check_english::<T>(rt, &plan);
 }
 
 #[test]
 fn a_plan_fits_by_direction_and_script(rt: HostRuntime) {
-    check_default::<PlainUnicode, _>(&rt, &TestFace::of(&['a']));
+    let by = (&TestFace::of(&['a']), &DEFAULT_SHAPER);
+    check_planning::<ByDefault<'_, PlainUnicode>>(&rt, by);
 }
 
 /// A letter in which nothing is set but a direction, if there is one.
@@ -137,23 +121,17 @@ fn letter(rt: &(impl Abort + AllocGlobal), direction: Direction) -> UnicodeBuffe
 }
 
 /// Compares whether the plan for texts in Latin fits a Latin letter: with nothing set, and from right to left.
-fn check_letter<U, F, M, S>(rt: &(impl Abort + AllocGlobal), by: (&F, &S))
-where
-    U: hb_unicode_funcs_t,
-    F: hb_font_t,
-    M: hb_ot_layout_t<F>,
-    S: hb_ot_shaper_t<U, F, M, Data = ()>,
-{
-    let plan = plan_for::<U, F, M, S>(rt, by, (Direction::LeftToRight, latin()));
-    assert_fits::<U, S, M::Map>(rt, &plan, letter(rt, Direction::Invalid), true);
-    assert_fits::<U, S, M::Map>(rt, &plan, letter(rt, Direction::RightToLeft), false);
+fn check_letter<T: ShapingTypes>(rt: &(impl Abort + AllocGlobal), by: (&T::Face, &T::Shaper)) {
+    let plan = plan_for::<T>(rt, by, (Direction::LeftToRight, latin()));
+    assert_fits::<T>(rt, &plan, letter(rt, Direction::Invalid), true);
+    assert_fits::<T>(rt, &plan, letter(rt, Direction::RightToLeft), false);
 }
 
 /// A Latin letter with nothing set, as guessing has it.
 #[test]
 fn a_plan_fits_what_is_guessed(rt: HostRuntime) {
     let by = (&TestFace::of(&['a']), &DEFAULT_SHAPER);
-    check_letter::<UnicodeDatabase, _, NoLookups, _>(&rt, by);
+    check_letter::<ByDefault<'_, UnicodeDatabase>>(&rt, by);
 }
 
 /// An item with the properties that functions without tables give it.
@@ -198,21 +176,15 @@ fn raw(rt: &(impl Abort + AllocGlobal), words: &str) -> hb_buffer_t {
 }
 
 /// The list that such a buffer is normalised to, under a plan for texts of a direction.
-fn normalised<U, F, M, S>(
+fn normalised<T: ShapingTypes>(
     rt: &(impl Abort + AllocGlobal),
-    by: (&F, &S),
+    by: (&T::Face, &T::Shaper),
     direction: Direction,
     words: &str,
-) -> hb_buffer_t
-where
-    U: hb_unicode_funcs_t,
-    F: hb_font_t,
-    M: hb_ot_layout_t<F>,
-    S: hb_ot_shaper_t<U, F, M, Data = ()>,
-{
-    let plan = plan_for::<U, F, M, S>(rt, by, (direction, None));
+) -> hb_buffer_t {
+    let plan = plan_for::<T>(rt, by, (direction, None));
     let mut list = raw(rt, words);
-    normalise::<U, F, M, S>(rt, &plan, by.0, &mut list);
+    normalise::<T>(rt, &plan, by.0, &mut list);
     list
 }
 
@@ -223,7 +195,7 @@ impl World for Unprepared {
     fn answer(rt: &(impl Abort + AllocGlobal), case: Case<'_>) -> String {
         let by = (&TestFace::of(&['a']), &DEFAULT_SHAPER);
         let rightward = Direction::LeftToRight;
-        let list = normalised::<PlainUnicode, _, NoLookups, _>(rt, by, rightward, case.text);
+        let list = normalised::<ByDefault<'_, PlainUnicode>>(rt, by, rightward, case.text);
         printed_list(rt, list, case.wanted)
     }
 }

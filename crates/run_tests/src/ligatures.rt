@@ -3,19 +3,22 @@
 
 use crate::cases::{Case, World, append_word, character, check, cut, number};
 use crate::faces::face_of;
-use crate::runs::{Plan, plan_for};
+use crate::runs::plan_for;
 use crate::texts::buffer_of;
 use shape_buffer::buffer::{
     Direction, GlyphPosition, hb_buffer_t, hb_glyph_info_t, hb_unicode_general_category_t,
 };
-use shape_buffer::interfaces::{
-    NoLookups, PlainUnicode, hb_font_t, hb_ot_layout_t, hb_unicode_funcs_t,
-};
+use shape_buffer::interfaces::{NoLookups, PlainUnicode};
 use shape_fallback::ot_shape_fallback::{
     _hb_ot_shape_fallback_mark_position_recategorize_marks, position_marks,
 };
-use shape_pipeline::ot_shaper::{DEFAULT_SHAPER, hb_ot_shaper_t};
+use shape_pipeline::MapFace;
+use shape_pipeline::ot_shaper::{DEFAULT_SHAPER, hb_default_shaper_t};
+use shape_plan::shaping_types::{PlanOf, ShapingTypes, TypesOf};
 use std::process::Abort;
+
+/// A run by the default shaper, without tables.
+type Plainly = TypesOf<PlainUnicode, MapFace, NoLookups, hb_default_shaper_t>;
 
 /// A ligature id and a component of it.
 type Component = (u8, u8);
@@ -98,7 +101,7 @@ struct Ligatures;
 impl World for Ligatures {
     fn answer(rt: &(impl Abort + AllocGlobal), case: Case<'_>) -> String {
         let face = face_of(rt, case.settings);
-        offsets::<PlainUnicode, _, NoLookups, _>(rt, (&face, &DEFAULT_SHAPER), case)
+        offsets::<Plainly>(rt, (&face, &DEFAULT_SHAPER), case)
     }
 }
 
@@ -114,29 +117,21 @@ fn directions(rt: &impl Abort, step: &str) -> (Direction, Direction) {
 }
 
 /// The offsets of the last mark.
-fn offsets<U, F, M, S>(rt: &(impl Abort + AllocGlobal), by: (&F, &S), case: Case<'_>) -> String
-where
-    U: hb_unicode_funcs_t,
-    F: hb_font_t,
-    M: hb_ot_layout_t<F>,
-    S: hb_ot_shaper_t<U, F, M, Data = ()>,
-{
+fn offsets<T: ShapingTypes>(
+    rt: &(impl Abort + AllocGlobal),
+    by: (&T::Face, &T::Shaper),
+    case: Case<'_>,
+) -> String {
     let (plan_direction, direction) = directions(rt, case.settings.step);
-    let plan = plan_for::<U, F, M, S>(rt, by, (plan_direction, None));
+    let plan = plan_for::<T>(rt, by, (plan_direction, None));
     let mut buffer = with_marks(rt, direction, case.text);
-    place::<U, F, M, S>(&plan, by.0, &mut buffer);
+    place::<T>(&plan, by.0, &mut buffer);
     last_offsets(rt, buffer)
 }
 
 /// Places the marks of a buffer.
-fn place<U, F, M, S>(plan: &Plan<'_, S, M::Map>, face: &F, buffer: &mut hb_buffer_t)
-where
-    U: hb_unicode_funcs_t,
-    F: hb_font_t,
-    M: hb_ot_layout_t<F>,
-    S: hb_ot_shaper_t<U, F, M, Data = ()>,
-{
-    position_marks::<U, F, S, M::Map, ()>(plan, face, buffer, false);
+fn place<T: ShapingTypes>(plan: &PlanOf<'_, T>, face: &T::Face, buffer: &mut hb_buffer_t) {
+    position_marks::<T::Unicode, T::Face, _, _, _>(plan, face, buffer, false);
 }
 
 /// Thirds begin at 0, 300 and 600; a mark stands 0 from there, and goes back by the advance. Components run as the
@@ -234,18 +229,12 @@ fn first_class(rt: &impl Abort, buffer: hb_buffer_t) -> u8 {
 }
 
 /// The ccc that an item has once marks are recategorised.
-fn recategorised<U, F, M, S>(
+fn recategorised<T: ShapingTypes>(
     rt: &(impl Abort + AllocGlobal),
-    plan: &Plan<'_, S, M::Map>,
-    face: &F,
+    plan: &PlanOf<'_, T>,
+    face: &T::Face,
     info: hb_glyph_info_t,
-) -> u8
-where
-    U: hb_unicode_funcs_t,
-    F: hb_font_t,
-    M: hb_ot_layout_t<F>,
-    S: hb_ot_shaper_t<U, F, M, Data = ()>,
-{
+) -> u8 {
     let mut buffer = buffer_of_one(rt, info);
     _hb_ot_shape_fallback_mark_position_recategorize_marks(plan, face, &mut buffer);
     first_class(rt, buffer)
@@ -261,7 +250,7 @@ impl World for Classes {
             rt.panic(case.text);
         }
         let face = face_of(rt, case.settings);
-        pairs::<PlainUnicode, _, NoLookups, _>(rt, (&face, &DEFAULT_SHAPER), case)
+        pairs::<Plainly>(rt, (&face, &DEFAULT_SHAPER), case)
     }
 }
 
@@ -289,40 +278,27 @@ fn append_pair(rt: &impl Abort, line: &mut String, ccc: &str, becomes: u8) {
 }
 
 /// Appends a pair of the ccc that stands in one, and of what that becomes of the character of a case.
-fn append_found<U, F, M, S>(
+fn append_found<T: ShapingTypes>(
     rt: &(impl Abort + AllocGlobal),
     line: &mut String,
-    (plan, face): (&Plan<'_, S, M::Map>, &F),
+    (plan, face): (&PlanOf<'_, T>, &T::Face),
     (case, pair): (Case<'_>, &str),
-)
-where
-    U: hb_unicode_funcs_t,
-    F: hb_font_t,
-    M: hb_ot_layout_t<F>,
-    S: hb_ot_shaper_t<U, F, M, Data = ()>,
-{
+) {
     let ccc = cut(rt, pair, ">").0;
     let item = item_of(rt, case, ccc);
-    append_pair(
-        rt,
-        line,
-        ccc,
-        recategorised::<U, F, M, S>(rt, plan, face, item),
-    );
+    append_pair(rt, line, ccc, recategorised::<T>(rt, plan, face, item));
 }
 
 /// What each ccc becomes that stands in the pairs of the answer.
-fn pairs<U, F, M, S>(rt: &(impl Abort + AllocGlobal), by: (&F, &S), case: Case<'_>) -> String
-where
-    U: hb_unicode_funcs_t,
-    F: hb_font_t,
-    M: hb_ot_layout_t<F>,
-    S: hb_ot_shaper_t<U, F, M, Data = ()>,
-{
-    let plan = plan_for::<U, F, M, S>(rt, by, (Direction::LeftToRight, None));
+fn pairs<T: ShapingTypes>(
+    rt: &(impl Abort + AllocGlobal),
+    by: (&T::Face, &T::Shaper),
+    case: Case<'_>,
+) -> String {
+    let plan = plan_for::<T>(rt, by, (Direction::LeftToRight, None));
     let mut line = String::new(rt.alloc());
     for pair in case.wanted.split_whitespace() {
-        append_found::<U, F, M, S>(rt, &mut line, (&plan, by.0), (case, pair));
+        append_found::<T>(rt, &mut line, (&plan, by.0), (case, pair));
     }
     line
 }

@@ -8,6 +8,7 @@ use shape_pipeline::ot_shaper::{
     ComposedDiacritics, ComposedDiacriticsNoShortCircuit, DEFAULT_SHAPER, Decomposed, Preference,
     Preferring, Shortest, hb_ot_shaper_t,
 };
+use shape_plan::shaping_types::TypesOf;
 use shape_unicode::UnicodeDatabase;
 use std::process::Abort;
 use test_worlds::{AbsorbingShaper, ChangingShaper, SwappingShaper};
@@ -74,7 +75,7 @@ pub fn answer_by_default<F: hb_font_t>(
 fn answer<F, S>(rt: &(impl Abort + AllocGlobal), by: (&F, &S), case: Case<'_>) -> String
 where
     F: hb_font_t,
-    S: hb_ot_shaper_t<UnicodeDatabase, F, NoLookups, Data = ()>,
+    S: hb_ot_shaper_t<UnicodeDatabase, F, NoLookups>,
 {
-    answer_by::<UnicodeDatabase, F, NoLookups, S>(rt, by, case)
+    answer_by::<TypesOf<UnicodeDatabase, F, NoLookups, S>>(rt, by, case)
 }

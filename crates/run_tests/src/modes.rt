@@ -3,12 +3,13 @@
 use crate::cases::{Case, World, check, cut};
 use crate::faces::{characters_of, face_over};
 use crate::printing::{append_item, append_mask};
-use crate::runs::{Plan, are_alike, normalise, plan_for};
+use crate::runs::{are_alike, normalise, plan_for};
 use crate::texts::{Manner, buffer_of, items_of};
 use shape_buffer::buffer::{Direction, ShapeError, hb_buffer_t, hb_glyph_info_t};
 use shape_buffer::interfaces::space_types::{NOT_SPACE, SPACE_EM, SPACE_FIGURE};
-use shape_buffer::interfaces::{NoLookups, hb_font_t, hb_ot_layout_t, hb_unicode_funcs_t};
-use shape_pipeline::ot_shaper::{DEFAULT_SHAPER, hb_ot_shaper_t};
+use shape_buffer::interfaces::{NoLookups, hb_font_t, hb_unicode_funcs_t};
+use shape_pipeline::ot_shaper::{DEFAULT_SHAPER, hb_default_shaper_t};
+use shape_plan::shaping_types::{PlanOf, ShapingTypes, TypesOf};
 use shape_prepare::graphemes::set_unicode_props;
 use std::process::Abort;
 use test_worlds::{AbsorbingShaper, DeepShaper, ReversingShaper, SmallUnicode};
@@ -39,52 +40,43 @@ const DEEP: DeepShaper = DeepShaper {
     second: 'a',
 };
 
+/// A run by a shaper over small functions of Unicode.
+type By<F, S> = TypesOf<SmallUnicode, F, NoLookups, S>;
+
 /// The answer over a face.
 fn answer_over<F: hb_font_t>(rt: &(impl Abort + AllocGlobal), face: &F, case: Case<'_>) -> String {
     match case.settings.shaper {
-        "default" => answer_by::<SmallUnicode, F, NoLookups, _>(rt, (face, &DEFAULT_SHAPER), case),
-        "reversing" => {
-            answer_by::<SmallUnicode, F, NoLookups, _>(rt, (face, &ReversingShaper), case)
-        }
-        "absorbing" => {
-            answer_by::<SmallUnicode, F, NoLookups, _>(rt, (face, &AbsorbingShaper), case)
-        }
-        "deep" => answer_by::<SmallUnicode, F, NoLookups, _>(rt, (face, &DEEP), case),
+        "default" => answer_by::<By<F, hb_default_shaper_t>>(rt, (face, &DEFAULT_SHAPER), case),
+        "reversing" => answer_by::<By<F, ReversingShaper>>(rt, (face, &ReversingShaper), case),
+        "absorbing" => answer_by::<By<F, AbsorbingShaper>>(rt, (face, &AbsorbingShaper), case),
+        "deep" => answer_by::<By<F, DeepShaper>>(rt, (face, &DEEP), case),
         name => rt.panic(name),
     }
 }
 
 /// The answer by a shaper, under a plan that runs to the right.
-fn answer_by<U, F, M, S>(rt: &(impl Abort + AllocGlobal), by: (&F, &S), case: Case<'_>) -> String
-where
-    U: hb_unicode_funcs_t,
-    F: hb_font_t,
-    M: hb_ot_layout_t<F>,
-    S: hb_ot_shaper_t<U, F, M, Data = ()>,
-{
-    let plan = plan_for::<U, F, M, S>(rt, by, (Direction::LeftToRight, None));
+fn answer_by<T: ShapingTypes>(
+    rt: &(impl Abort + AllocGlobal),
+    by: (&T::Face, &T::Shaper),
+    case: Case<'_>,
+) -> String {
+    let plan = plan_for::<T>(rt, by, (Direction::LeftToRight, None));
     match case.settings.step {
-        "" => normalised::<U, F, M, S>(rt, &plan, by.0, case),
-        "compare" => compared::<U, F, M, S>(rt, &plan, by.0, case),
+        "" => normalised::<T>(rt, &plan, by.0, case),
+        "compare" => compared::<T>(rt, &plan, by.0, case),
         step => rt.panic(step),
     }
 }
 
 /// The normalised list of a text.
-fn normalised<U, F, M, S>(
+fn normalised<T: ShapingTypes>(
     rt: &(impl Abort + AllocGlobal),
-    plan: &Plan<'_, S, M::Map>,
-    face: &F,
+    plan: &PlanOf<'_, T>,
+    face: &T::Face,
     case: Case<'_>,
-) -> String
-where
-    U: hb_unicode_funcs_t,
-    F: hb_font_t,
-    M: hb_ot_layout_t<F>,
-    S: hb_ot_shaper_t<U, F, M, Data = ()>,
-{
-    let mut list = prepared::<U>(rt, &case.settings.manner, case.text);
-    normalise::<U, F, M, S>(rt, plan, face, &mut list);
+) -> String {
+    let mut list = prepared::<T::Unicode>(rt, &case.settings.manner, case.text);
+    normalise::<T>(rt, plan, face, &mut list);
     printed(rt, list)
 }
 
@@ -165,22 +157,19 @@ fn is_cleared(buffer: hb_buffer_t) -> &'static str {
 }
 
 /// Whether the two texts of a case are normalised alike, or why that was refused and what it left of the two.
-fn compared<U, F, M, S>(
+fn compared<T: ShapingTypes>(
     rt: &(impl Abort + AllocGlobal),
-    plan: &Plan<'_, S, M::Map>,
-    face: &F,
+    plan: &PlanOf<'_, T>,
+    face: &T::Face,
     case: Case<'_>,
-) -> String
-where
-    U: hb_unicode_funcs_t,
-    F: hb_font_t,
-    M: hb_ot_layout_t<F>,
-    S: hb_ot_shaper_t<U, F, M, Data = ()>,
-{
+) -> String {
     let (a, b) = cut(rt, case.text, " = ");
     let manner = &case.settings.manner;
-    let (mut a, mut b) = (entered::<U>(rt, manner, a), entered::<U>(rt, manner, b));
-    let answer = are_alike::<U, F, M, S>(rt.alloc(), plan, face, (&mut a, &mut b));
+    let (mut a, mut b) = (
+        entered::<T::Unicode>(rt, manner, a),
+        entered::<T::Unicode>(rt, manner, b),
+    );
+    let answer = are_alike::<T>(rt.alloc(), plan, face, (&mut a, &mut b));
     printed_comparison(rt, answer, (is_cleared(a), is_cleared(b)))
 }
 

@@ -5,9 +5,7 @@
 use crate::cases::{Settings, UNSET};
 use crate::comparing::{assert_same, assert_that};
 use crate::faces::face_of;
-use crate::runs::{
-    Plan, glyphs_under, meets_premises, normalise, plan_for, prepare, shape_in_place,
-};
+use crate::runs::{glyphs_under, meets_premises, normalise, plan_for, prepare, shape_in_place};
 use crate::texts::{buffer_of, items_of};
 use shape_buffer::buffer::{
     BufferFlags, Direction, GlyphId, Script, UnicodeBuffer, hb_buffer_t, hb_tag_t,
@@ -15,6 +13,7 @@ use shape_buffer::buffer::{
 use shape_buffer::interfaces::{
     NoLookups, TableIndex, hb_font_t, hb_ot_layout_t, hb_ot_map_builder_t,
 };
+use shape_pipeline::ot_shape_plan::hb_ot_shape_plan_t;
 use shape_pipeline::ot_shaper::{DEFAULT_SHAPER, Decomposed, Preferring, hb_ot_shaper_t};
 use shape_plan::shaping_types::TypesOf;
 use shape_prepare::graphemes::set_unicode_props;
@@ -24,8 +23,14 @@ use test_worlds::{PLAIN_FACE, TestFace, TestLayout};
 
 mod steps;
 
+/// A plan of a shaper without data.
+type Plan<'a, S, P> = hb_ot_shape_plan_t<'a, S, P, ()>;
+
 /// A plan without lookups.
 type PlainPlan<'a, S> = Plan<'a, S, ()>;
+
+/// A run without lookups.
+type Plainly<F, S> = TypesOf<UnicodeDatabase, F, NoLookups, S>;
 
 /// Letters with marks above and below, digits about a slash, a bracket, Hebrew with a point, joiners, a variation
 /// selector, a soft hyphen, and a space without a glyph.
@@ -167,7 +172,7 @@ where
     F: hb_font_t,
     S: hb_ot_shaper_t<UnicodeDatabase, F, NoLookups, Data = ()>,
 {
-    meets_premises::<UnicodeDatabase, F, NoLookups, S>(plan, face, text)
+    meets_premises::<Plainly<F, S>>(plan, face, text)
 }
 
 /// Whether a plan fits an empty text.
@@ -206,9 +211,9 @@ where
 {
     let mut list = hb_buffer_t::new(rt.alloc());
     list.set_direction(Direction::LeftToRight);
-    normalise::<UnicodeDatabase, F, NoLookups, S>(rt, plan, face, &mut list);
-    shape_in_place::<UnicodeDatabase, F, NoLookups, S>(rt, plan, face, &mut list);
-    prepare::<UnicodeDatabase, F, NoLookups, S>(rt, plan, face, &mut list);
+    normalise::<Plainly<F, S>>(rt, plan, face, &mut list);
+    shape_in_place::<Plainly<F, S>>(rt, plan, face, &mut list);
+    prepare::<Plainly<F, S>>(rt, plan, face, &mut list);
 }
 
 /// How many glyphs an empty text has.
@@ -218,7 +223,7 @@ where
     S: hb_ot_shaper_t<UnicodeDatabase, F, NoLookups, Data = ()>,
 {
     let text = UnicodeBuffer::new(rt.alloc());
-    glyphs_under::<UnicodeDatabase, F, NoLookups, S>(rt, plan, face, text)
+    glyphs_under::<Plainly<F, S>>(rt, plan, face, text)
         .expect(rt, "error")
         .len()
 }
@@ -260,11 +265,12 @@ where
     T: hb_ot_shaper_t<UnicodeDatabase, G, M, Data = ()>,
 {
     ask(rt, (plain, full), face, spelled);
-    steps::make_all::<
-        _,
-        TypesOf<UnicodeDatabase, F, NoLookups, S>,
-        TypesOf<UnicodeDatabase, G, M, T>,
-    >(rt, (plain, dividing), face, text);
+    steps::make_all::<_, Plainly<F, S>, TypesOf<UnicodeDatabase, G, M, T>>(
+        rt,
+        (plain, dividing),
+        face,
+        text,
+    );
 }
 
 /// What a test adds to that beginning.
@@ -315,9 +321,13 @@ where
     T: hb_ot_shaper_t<UnicodeDatabase, G, M, Data = ()>,
 {
     let rightward = (Direction::LeftToRight, None);
-    let plain = plan_for::<UnicodeDatabase, F, NoLookups, S>(rt, (face, shaper), rightward);
-    let full = plan_for::<UnicodeDatabase, F, NoLookups, D>(rt, (face, decomposing), rightward);
-    let dividing = plan_for::<UnicodeDatabase, G, M, T>(rt, (divided, dividing), rightward);
+    let plain = plan_for::<Plainly<F, S>>(rt, (face, shaper), rightward);
+    let full = plan_for::<Plainly<F, D>>(rt, (face, decomposing), rightward);
+    let dividing = plan_for::<TypesOf<UnicodeDatabase, G, M, T>>(
+        rt,
+        (divided, dividing),
+        rightward,
+    );
     make::<F, S, D, G, M, T>(rt, (&plain, &full, &dividing), face, texts, besides);
 }
 

@@ -8,10 +8,9 @@ use crate::runs::{glyphs_under, plan_for};
 use crate::steps::answer_by;
 use crate::texts::text_with;
 use shape_buffer::buffer::{Direction, GlyphBuffer, ShapeFault, UnicodeBuffer};
-use shape_buffer::interfaces::{
-    NoLookups, PlainUnicode, hb_font_t, hb_ot_layout_t, hb_unicode_funcs_t,
-};
-use shape_pipeline::ot_shaper::{DEFAULT_SHAPER, hb_ot_shaper_t};
+use shape_buffer::interfaces::{NoLookups, PlainUnicode, hb_font_t};
+use shape_pipeline::ot_shaper::{DEFAULT_SHAPER, hb_default_shaper_t};
+use shape_plan::shaping_types::{ShapingTypes, TypesOf};
 use std::process::Abort;
 use test_worlds::{DeepShaper, StackedShaper};
 
@@ -33,15 +32,16 @@ impl World for Splits {
     }
 }
 
+/// A run by a shaper, without tables.
+type By<F, S> = TypesOf<PlainUnicode, F, NoLookups, S>;
+
 /// The answer over a face.
 fn answer_over<F: hb_font_t>(rt: &(impl Abort + AllocGlobal), face: &F, case: Case<'_>) -> String {
     let (name, words) = cut_off(case.settings.shaper, " ");
     match name {
-        "default" => {
-            answer_by::<PlainUnicode, F, NoLookups, _>(rt, (face, &DEFAULT_SHAPER), case)
-        }
-        "deep" => split::<PlainUnicode, F, NoLookups, _>(rt, (face, &deep(rt, words)), case),
-        "stacked" => split::<PlainUnicode, F, NoLookups, _>(rt, (face, &StackedShaper), case),
+        "default" => answer_by::<By<F, hb_default_shaper_t>>(rt, (face, &DEFAULT_SHAPER), case),
+        "deep" => split::<By<F, DeepShaper>>(rt, (face, &deep(rt, words)), case),
+        "stacked" => split::<By<F, StackedShaper>>(rt, (face, &StackedShaper), case),
         _ => rt.panic(name),
     }
 }
@@ -56,33 +56,25 @@ fn deep(rt: &impl Abort, words: &str) -> DeepShaper {
 }
 
 /// The answer by a shaper that splits.
-fn split<U, F, M, S>(rt: &(impl Abort + AllocGlobal), by: (&F, &S), case: Case<'_>) -> String
-where
-    U: hb_unicode_funcs_t,
-    F: hb_font_t,
-    M: hb_ot_layout_t<F>,
-    S: hb_ot_shaper_t<U, F, M, Data = ()>,
-{
-    match shaped::<U, F, M, S>(rt, by, text_with(rt, case.text)) {
+fn split<T: ShapingTypes>(
+    rt: &(impl Abort + AllocGlobal),
+    by: (&T::Face, &T::Shaper),
+    case: Case<'_>,
+) -> String {
+    match shaped::<T>(rt, by, text_with(rt, case.text)) {
         Ok(glyphs) => printed(rt, glyphs, case.wanted),
         Err(fault) => refusal(rt, &fault),
     }
 }
 
 /// Shapes a text, of which nothing is set, under a plan that runs to the right.
-fn shaped<U, F, M, S>(
+fn shaped<T: ShapingTypes>(
     rt: &(impl Abort + AllocGlobal),
-    by: (&F, &S),
+    by: (&T::Face, &T::Shaper),
     text: UnicodeBuffer,
-) -> Result<GlyphBuffer, ShapeFault>
-where
-    U: hb_unicode_funcs_t,
-    F: hb_font_t,
-    M: hb_ot_layout_t<F>,
-    S: hb_ot_shaper_t<U, F, M, Data = ()>,
-{
-    let plan = plan_for::<U, F, M, S>(rt, by, (Direction::LeftToRight, None));
-    glyphs_under::<U, F, M, S>(rt, &plan, by.0, text)
+) -> Result<GlyphBuffer, ShapeFault> {
+    let plan = plan_for::<T>(rt, by, (Direction::LeftToRight, None));
+    glyphs_under::<T>(rt, &plan, by.0, text)
 }
 
 /// Glyphs, each of which has to be the one that was found for its item; or how many they are, if they are more than a

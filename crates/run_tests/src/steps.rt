@@ -20,13 +20,13 @@ use crate::printing::{
 };
 use crate::refusals::steps::{compare_again, key_again, run_again};
 use crate::runs::{
-    Plan, are_alike, glyphs_of, glyphs_under, meets_premises, normalise, planned, prepared_under,
+    are_alike, glyphs_of, glyphs_under, meets_premises, normalise, planned, prepared_under,
     shape_in_place,
 };
 use crate::texts::{push, text_of};
 use shape_buffer::buffer::{Direction, GlyphBuffer, Script, UnicodeBuffer, hb_buffer_t, hb_tag_t};
-use shape_buffer::interfaces::{hb_font_t, hb_ot_layout_t, hb_unicode_funcs_t};
-use shape_pipeline::ot_shaper::hb_ot_shaper_t;
+use shape_buffer::interfaces::hb_unicode_funcs_t;
+use shape_plan::shaping_types::{PlanOf, ShapingTypes};
 use std::process::Abort;
 
 /// A step of a run.
@@ -68,31 +68,25 @@ fn step_of(rt: &impl Abort, word: &str) -> Step {
 }
 
 /// What becomes of the text of a case by a face and a shaper.
-pub fn answer_by<U, F, M, S>(
+pub fn answer_by<T: ShapingTypes>(
     rt: &(impl Abort + AllocGlobal),
-    by: (&F, &S),
+    by: (&T::Face, &T::Shaper),
     case: Case<'_>,
-) -> String
-where
-    U: hb_unicode_funcs_t,
-    F: hb_font_t,
-    M: hb_ot_layout_t<F>,
-    S: hb_ot_shaper_t<U, F, M, Data = ()>,
-{
+) -> String {
     match step_of(rt, case.settings.step) {
-        Step::Prepare => prepared::<U, F, M, S>(rt, by, case),
-        Step::Normalise => normalised::<U, F, M, S>(rt, by, case),
-        Step::Shape => shaped_items::<U, F, M, S>(rt, by, case),
-        Step::Place => placed::<U, F, M, S>(rt, by, case),
-        Step::Enter => entered::<U, F, M, S>(rt, by, case),
-        Step::Twice => placed_twice::<U, F, M, S>(rt, by, case),
-        Step::InPlace => in_place::<U, F, M, S>(rt, by, case),
-        Step::Both => both::<U, F, M, S>(rt, by, case),
-        Step::Compare => compared::<U, F, M, S>(rt, by, case),
-        Step::Premises => premises::<U, F, M, S>(rt, by, case),
-        Step::Refuse => run_again::<U, F, M, S>(rt, by, case),
-        Step::RefuseKey => key_again::<U, F, M, S>(rt, by, case),
-        Step::RefuseComparing => compare_again::<U, F, M, S>(rt, by, case),
+        Step::Prepare => prepared::<T>(rt, by, case),
+        Step::Normalise => normalised::<T>(rt, by, case),
+        Step::Shape => shaped_items::<T>(rt, by, case),
+        Step::Place => placed::<T>(rt, by, case),
+        Step::Enter => entered::<T>(rt, by, case),
+        Step::Twice => placed_twice::<T>(rt, by, case),
+        Step::InPlace => in_place::<T>(rt, by, case),
+        Step::Both => both::<T>(rt, by, case),
+        Step::Compare => compared::<T>(rt, by, case),
+        Step::Premises => premises::<T>(rt, by, case),
+        Step::Refuse => run_again::<T>(rt, by, case),
+        Step::RefuseKey => key_again::<T>(rt, by, case),
+        Step::RefuseComparing => compare_again::<T>(rt, by, case),
     }
 }
 
@@ -131,105 +125,79 @@ fn yes_or_no(rt: &(impl Abort + AllocGlobal), condition: bool) -> String {
 }
 
 /// The list that a text is prepared as.
-fn prepared<U, F, M, S>(
+fn prepared<T: ShapingTypes>(
     rt: &(impl Abort + AllocGlobal),
-    (face, shaper): (&F, &S),
+    (face, shaper): (&T::Face, &T::Shaper),
     case: Case<'_>,
-) -> String
-where
-    U: hb_unicode_funcs_t,
-    F: hb_font_t,
-    M: hb_ot_layout_t<F>,
-    S: hb_ot_shaper_t<U, F, M, Data = ()>,
-{
-    let text = text_named::<U>(rt, case);
-    let plan = planned::<U, F, M, S>(rt, (face, shaper), &text);
-    let list = prepared_under::<U, F, M, S>(rt, &plan, face, text);
+) -> String {
+    let text = text_named::<T::Unicode>(rt, case);
+    let plan = planned::<T>(rt, (face, shaper), &text);
+    let list = prepared_under::<T>(rt, &plan, face, text);
     printed_list(rt, list, case.wanted)
 }
 
 /// The list that a text is prepared and normalised as.
-fn normalised<U, F, M, S>(
+fn normalised<T: ShapingTypes>(
     rt: &(impl Abort + AllocGlobal),
-    (face, shaper): (&F, &S),
+    (face, shaper): (&T::Face, &T::Shaper),
     case: Case<'_>,
-) -> String
-where
-    U: hb_unicode_funcs_t,
-    F: hb_font_t,
-    M: hb_ot_layout_t<F>,
-    S: hb_ot_shaper_t<U, F, M, Data = ()>,
-{
-    let text = text_in::<U>(rt, case);
-    let plan = planned::<U, F, M, S>(rt, (face, shaper), &text);
-    let mut list = prepared_under::<U, F, M, S>(rt, &plan, face, text);
-    normalise::<U, F, M, S>(rt, &plan, face, &mut list);
+) -> String {
+    let text = text_in::<T::Unicode>(rt, case);
+    let plan = planned::<T>(rt, (face, shaper), &text);
+    let mut list = prepared_under::<T>(rt, &plan, face, text);
+    normalise::<T>(rt, &plan, face, &mut list);
     printed_list(rt, list, case.wanted)
 }
 
 /// The glyphs of a text, shaped under a plan of its own.
-fn shaped<U, F, M, S>(
+fn shaped<T: ShapingTypes>(
     rt: &(impl Abort + AllocGlobal),
-    (face, shaper): (&F, &S),
+    (face, shaper): (&T::Face, &T::Shaper),
     text: UnicodeBuffer,
-) -> GlyphBuffer
-where
-    U: hb_unicode_funcs_t,
-    F: hb_font_t,
-    M: hb_ot_layout_t<F>,
-    S: hb_ot_shaper_t<U, F, M, Data = ()>,
-{
-    let plan = planned::<U, F, M, S>(rt, (face, shaper), &text);
-    glyphs_under::<U, F, M, S>(rt, &plan, face, text).expect(rt, "glyphs")
+) -> GlyphBuffer {
+    let plan = planned::<T>(rt, (face, shaper), &text);
+    glyphs_under::<T>(rt, &plan, face, text).expect(rt, "glyphs")
 }
 
 /// The items that the glyphs of a text were made of.
-fn shaped_items<U, F, M, S>(rt: &(impl Abort + AllocGlobal), by: (&F, &S), case: Case<'_>) -> String
-where
-    U: hb_unicode_funcs_t,
-    F: hb_font_t,
-    M: hb_ot_layout_t<F>,
-    S: hb_ot_shaper_t<U, F, M, Data = ()>,
-{
-    let glyphs = shaped::<U, F, M, S>(rt, by, text_in::<U>(rt, case));
+fn shaped_items<T: ShapingTypes>(
+    rt: &(impl Abort + AllocGlobal),
+    by: (&T::Face, &T::Shaper),
+    case: Case<'_>,
+) -> String {
+    let glyphs = shaped::<T>(rt, by, text_in::<T::Unicode>(rt, case));
     printed_items(rt, glyphs, case.wanted)
 }
 
 /// The glyphs of a text with their positions.
-fn placed<U, F, M, S>(rt: &(impl Abort + AllocGlobal), by: (&F, &S), case: Case<'_>) -> String
-where
-    U: hb_unicode_funcs_t,
-    F: hb_font_t,
-    M: hb_ot_layout_t<F>,
-    S: hb_ot_shaper_t<U, F, M, Data = ()>,
-{
-    printed_glyphs(rt, shaped::<U, F, M, S>(rt, by, text_in::<U>(rt, case)))
+fn placed<T: ShapingTypes>(
+    rt: &(impl Abort + AllocGlobal),
+    by: (&T::Face, &T::Shaper),
+    case: Case<'_>,
+) -> String {
+    printed_glyphs(rt, shaped::<T>(rt, by, text_in::<T::Unicode>(rt, case)))
 }
 
 /// The glyphs of a text with their positions, by the call that plans by itself.
-fn entered<U, F, M, S>(rt: &(impl Abort + AllocGlobal), by: (&F, &S), case: Case<'_>) -> String
-where
-    U: hb_unicode_funcs_t,
-    F: hb_font_t,
-    M: hb_ot_layout_t<F>,
-    S: hb_ot_shaper_t<U, F, M, Data = ()>,
-{
-    let glyphs = glyphs_of::<U, F, M, S>(rt.alloc(), by, text_in::<U>(rt, case));
+fn entered<T: ShapingTypes>(
+    rt: &(impl Abort + AllocGlobal),
+    by: (&T::Face, &T::Shaper),
+    case: Case<'_>,
+) -> String {
+    let glyphs = glyphs_of::<T>(rt.alloc(), by, text_in::<T::Unicode>(rt, case));
     printed_glyphs(rt, glyphs.expect(rt, "glyphs"))
 }
 
 /// The glyphs of a text in the buffer of its own glyphs, once those were compared.
-fn placed_twice<U, F, M, S>(rt: &(impl Abort + AllocGlobal), by: (&F, &S), case: Case<'_>) -> String
-where
-    U: hb_unicode_funcs_t,
-    F: hb_font_t,
-    M: hb_ot_layout_t<F>,
-    S: hb_ot_shaper_t<U, F, M, Data = ()>,
-{
-    let glyphs = shaped::<U, F, M, S>(rt, by, text_in::<U>(rt, case));
+fn placed_twice<T: ShapingTypes>(
+    rt: &(impl Abort + AllocGlobal),
+    by: (&T::Face, &T::Shaper),
+    case: Case<'_>,
+) -> String {
+    let glyphs = shaped::<T>(rt, by, text_in::<T::Unicode>(rt, case));
     assert_answer(rt, case, glyphs_printed(rt, &glyphs));
-    let again = refilled::<U>(rt, glyphs, case.text);
-    printed_glyphs(rt, shaped::<U, F, M, S>(rt, by, again))
+    let again = refilled::<T::Unicode>(rt, glyphs, case.text);
+    printed_glyphs(rt, shaped::<T>(rt, by, again))
 }
 
 /// A text in the buffer of glyphs, which are cleared.
@@ -247,104 +215,76 @@ fn refilled<U: hb_unicode_funcs_t>(
 
 /// The glyphs of a text that is shaped in place from right to left, once what the run leaves of its buffer was
 /// compared: the direction, and no limit.
-fn in_place<U, F, M, S>(
+fn in_place<T: ShapingTypes>(
     rt: &(impl Abort + AllocGlobal),
-    (face, shaper): (&F, &S),
+    (face, shaper): (&T::Face, &T::Shaper),
     case: Case<'_>,
-) -> String
-where
-    U: hb_unicode_funcs_t,
-    F: hb_font_t,
-    M: hb_ot_layout_t<F>,
-    S: hb_ot_shaper_t<U, F, M, Data = ()>,
-{
-    let text = text_in::<U>(rt, case);
-    let plan = planned::<U, F, M, S>(rt, (face, shaper), &text);
+) -> String {
+    let text = text_in::<T::Unicode>(rt, case);
+    let plan = planned::<T>(rt, (face, shaper), &text);
     let mut buffer = text.into_inner();
-    shape_in_place::<U, F, M, S>(rt, &plan, face, &mut buffer);
+    shape_in_place::<T>(rt, &plan, face, &mut buffer);
     assert_same(rt, buffer.direction(), Direction::RightToLeft);
     assert_same(rt, buffer.length_limit(), usize::MAX);
     printed_numbers(rt, buffer)
 }
 
 /// The normalised list of a text, once its glyphs were compared.
-fn both<U, F, M, S>(rt: &(impl Abort + AllocGlobal), by: (&F, &S), case: Case<'_>) -> String
-where
-    U: hb_unicode_funcs_t,
-    F: hb_font_t,
-    M: hb_ot_layout_t<F>,
-    S: hb_ot_shaper_t<U, F, M, Data = ()>,
-{
-    let glyphs = shaped::<U, F, M, S>(rt, by, text_in::<U>(rt, case));
+fn both<T: ShapingTypes>(
+    rt: &(impl Abort + AllocGlobal),
+    by: (&T::Face, &T::Shaper),
+    case: Case<'_>,
+) -> String {
+    let glyphs = shaped::<T>(rt, by, text_in::<T::Unicode>(rt, case));
     assert_answer(rt, case, printed_as_characters(rt, glyphs));
-    normalised::<U, F, M, S>(rt, by, case)
+    normalised::<T>(rt, by, case)
 }
 
 /// Whether a text, once prepared, meets the premises of canonical form.
-fn premises<U, F, M, S>(
+fn premises<T: ShapingTypes>(
     rt: &(impl Abort + AllocGlobal),
-    (face, shaper): (&F, &S),
+    (face, shaper): (&T::Face, &T::Shaper),
     case: Case<'_>,
-) -> String
-where
-    U: hb_unicode_funcs_t,
-    F: hb_font_t,
-    M: hb_ot_layout_t<F>,
-    S: hb_ot_shaper_t<U, F, M, Data = ()>,
-{
-    let text = text_in::<U>(rt, case);
-    let plan = planned::<U, F, M, S>(rt, (face, shaper), &text);
-    let list = prepared_under::<U, F, M, S>(rt, &plan, face, text);
-    yes_or_no(rt, meets_premises::<U, F, M, S>(&plan, face, &list))
+) -> String {
+    let text = text_in::<T::Unicode>(rt, case);
+    let plan = planned::<T>(rt, (face, shaper), &text);
+    let list = prepared_under::<T>(rt, &plan, face, text);
+    yes_or_no(rt, meets_premises::<T>(&plan, face, &list))
 }
 
 /// The two spellings of a case, as a run prepares them.
-pub fn spelled<U, F, M, S>(
+pub fn spelled<T: ShapingTypes>(
     rt: &(impl Abort + AllocGlobal),
-    plan: &Plan<'_, S, M::Map>,
-    face: &F,
+    plan: &PlanOf<'_, T>,
+    face: &T::Face,
     case: Case<'_>,
-) -> (hb_buffer_t, hb_buffer_t)
-where
-    U: hb_unicode_funcs_t,
-    F: hb_font_t,
-    M: hb_ot_layout_t<F>,
-    S: hb_ot_shaper_t<U, F, M, Data = ()>,
-{
+) -> (hb_buffer_t, hb_buffer_t) {
     let (first, second) = cut(rt, case.text, "/");
-    let first = text_of::<U>(rt, &case.settings.manner, first);
-    let second = text_of::<U>(rt, &case.settings.manner, second);
+    let first = text_of::<T::Unicode>(rt, &case.settings.manner, first);
+    let second = text_of::<T::Unicode>(rt, &case.settings.manner, second);
     (
-        prepared_under::<U, F, M, S>(rt, plan, face, first),
-        prepared_under::<U, F, M, S>(rt, plan, face, second),
+        prepared_under::<T>(rt, plan, face, first),
+        prepared_under::<T>(rt, plan, face, second),
     )
 }
 
 /// Whether the spellings of a case are normalised alike, under a plan for the first one.
-fn compared<U, F, M, S>(rt: &(impl Abort + AllocGlobal), by: (&F, &S), case: Case<'_>) -> String
-where
-    U: hb_unicode_funcs_t,
-    F: hb_font_t,
-    M: hb_ot_layout_t<F>,
-    S: hb_ot_shaper_t<U, F, M, Data = ()>,
-{
-    let plan = planned::<U, F, M, S>(rt, by, &first_in::<U>(rt, case));
-    let lists = spelled::<U, F, M, S>(rt, &plan, by.0, case);
-    yes_or_no(rt, alike::<U, F, M, S>(rt, &plan, by.0, lists))
+fn compared<T: ShapingTypes>(
+    rt: &(impl Abort + AllocGlobal),
+    by: (&T::Face, &T::Shaper),
+    case: Case<'_>,
+) -> String {
+    let plan = planned::<T>(rt, by, &first_in::<T::Unicode>(rt, case));
+    let lists = spelled::<T>(rt, &plan, by.0, case);
+    yes_or_no(rt, alike::<T>(rt, &plan, by.0, lists))
 }
 
 /// Whether two lists are normalised alike.
-fn alike<U, F, M, S>(
+fn alike<T: ShapingTypes>(
     rt: &(impl Abort + AllocGlobal),
-    plan: &Plan<'_, S, M::Map>,
-    face: &F,
+    plan: &PlanOf<'_, T>,
+    face: &T::Face,
     (mut a, mut b): (hb_buffer_t, hb_buffer_t),
-) -> bool
-where
-    U: hb_unicode_funcs_t,
-    F: hb_font_t,
-    M: hb_ot_layout_t<F>,
-    S: hb_ot_shaper_t<U, F, M, Data = ()>,
-{
-    are_alike::<U, F, M, S>(rt.alloc(), plan, face, (&mut a, &mut b)).expect(rt, "compared")
+) -> bool {
+    are_alike::<T>(rt.alloc(), plan, face, (&mut a, &mut b)).expect(rt, "compared")
 }

@@ -1,11 +1,12 @@
 //! Shapers with wishes for marks, by themselves and beside tables that position.
 
 use crate::cases::{Case, World, check};
-use crate::runs::{Plan, planned};
+use crate::runs::planned;
 use crate::steps::{answer_by, text_in};
 use shape_buffer::buffer::GlyphId;
 use shape_buffer::interfaces::{hb_font_t, hb_ot_layout_t, hb_tables_t};
-use shape_pipeline::ot_shaper::{DEFAULT_SHAPER, hb_ot_shaper_t};
+use shape_pipeline::ot_shaper::{DEFAULT_SHAPER, hb_default_shaper_t};
+use shape_plan::shaping_types::{PlanOf, ShapingTypes, TypesOf};
 use shape_unicode::UnicodeDatabase;
 use std::process::Abort;
 use test_worlds::{
@@ -67,6 +68,9 @@ impl World for Wishes {
     }
 }
 
+/// A run by a shaper.
+type By<F, M, S> = TypesOf<UnicodeDatabase, F, M, S>;
+
 /// The answer over a face.
 fn answer_over<F: hb_font_t, M: hb_ot_layout_t<F>>(
     rt: &(impl Abort + AllocGlobal),
@@ -74,45 +78,39 @@ fn answer_over<F: hb_font_t, M: hb_ot_layout_t<F>>(
     case: Case<'_>,
 ) -> String {
     match case.settings.shaper {
-        "default" => decided::<F, M, _>(rt, (face, &DEFAULT_SHAPER), case),
-        "hanging" => decided::<F, M, _>(rt, (face, &HangingShaper::new()), case),
-        "early" => decided::<F, M, _>(rt, (face, &EarlyShaper::new()), case),
-        "late" => decided::<F, M, _>(rt, (face, &LateShaper::new()), case),
+        "default" => decided::<By<F, M, hb_default_shaper_t>>(rt, (face, &DEFAULT_SHAPER), case),
+        "hanging" => decided::<By<F, M, HangingShaper>>(rt, (face, &HangingShaper::new()), case),
+        "early" => decided::<By<F, M, EarlyShaper>>(rt, (face, &EarlyShaper::new()), case),
+        "late" => decided::<By<F, M, LateShaper>>(rt, (face, &LateShaper::new()), case),
         name => rt.panic(name),
     }
 }
 
 /// The answer by a shaper.
-fn decided<F, M, S>(rt: &(impl Abort + AllocGlobal), by: (&F, &S), case: Case<'_>) -> String
-where
-    F: hb_font_t,
-    M: hb_ot_layout_t<F>,
-    S: hb_ot_shaper_t<UnicodeDatabase, F, M, Data = ()>,
-{
+fn decided<T: ShapingTypes>(
+    rt: &(impl Abort + AllocGlobal),
+    by: (&T::Face, &T::Shaper),
+    case: Case<'_>,
+) -> String {
     match case.settings.step {
-        "decide" => decisions_of(rt, &plan_in::<F, M, S>(rt, by, case)),
-        "position" => tables_of(rt, &plan_in::<F, M, S>(rt, by, case)),
-        _ => answer_by::<UnicodeDatabase, F, M, S>(rt, by, case),
+        "decide" => decisions_of::<T>(rt, &plan_in::<T>(rt, by, case)),
+        "position" => tables_of::<T>(rt, &plan_in::<T>(rt, by, case)),
+        _ => answer_by::<T>(rt, by, case),
     }
 }
 
 /// The plan for the text of a case.
-fn plan_in<'a, F, M, S>(
+fn plan_in<'a, T: ShapingTypes>(
     rt: &(impl Abort + AllocGlobal),
-    by: (&'a F, &'a S),
+    by: (&'a T::Face, &'a T::Shaper),
     case: Case<'_>,
-) -> Plan<'a, S, M::Map>
-where
-    F: hb_font_t,
-    M: hb_ot_layout_t<F>,
-    S: hb_ot_shaper_t<UnicodeDatabase, F, M, Data = ()>,
-{
-    planned::<UnicodeDatabase, F, M, S>(rt, by, &text_in::<UnicodeDatabase>(rt, case))
+) -> PlanOf<'a, T> {
+    planned::<T>(rt, by, &text_in::<T::Unicode>(rt, case))
 }
 
 /// Whether a plan zeroes marks, goes by `morx`, has a shaper that gave way, places marks by their boxes, and moves
 /// those that it zeroes.
-fn decisions_of<S, P>(rt: &(impl Abort + AllocGlobal), plan: &Plan<'_, S, P>) -> String {
+fn decisions_of<T: ShapingTypes>(rt: &(impl Abort + AllocGlobal), plan: &PlanOf<'_, T>) -> String {
     format!(in rt.alloc();
         "zeroes {}, morx {}, gave way {}, by boxes {}, moves {}",
         plan.zero_marks(),
@@ -125,7 +123,7 @@ fn decisions_of<S, P>(rt: &(impl Abort + AllocGlobal), plan: &Plan<'_, S, P>) ->
 }
 
 /// Whether `GPOS`, `kerx` and `kern` are applied under a plan.
-fn tables_of<S, P>(rt: &(impl Abort + AllocGlobal), plan: &Plan<'_, S, P>) -> String {
+fn tables_of<T: ShapingTypes>(rt: &(impl Abort + AllocGlobal), plan: &PlanOf<'_, T>) -> String {
     format!(in rt.alloc();
         "gpos {}, kerx {}, kern {}",
         plan.apply_gpos(),

@@ -3,15 +3,15 @@
 use crate::cases::{Case, assert_answer, cut};
 use crate::comparing::{assert_same, assert_that};
 use crate::printing::{append_character, append_space, printed_glyphs, printed_list};
-use crate::runs::{Plan, are_alike, glyphs_of, planned, prepared_under};
+use crate::runs::{are_alike, glyphs_of, planned, prepared_under};
 use crate::steps::{first_in, spelled, text_in};
 use crate::texts::{Manner, add};
 use shape_buffer::buffer::{
     BufferFlags, Direction, GlyphId, Language, ShapeError, ShapeFault, UnicodeBuffer, hb_buffer_t,
 };
-use shape_buffer::interfaces::{hb_font_t, hb_ot_layout_t, hb_unicode_funcs_t};
+use shape_buffer::interfaces::hb_unicode_funcs_t;
 use shape_pipeline::normalised_characters;
-use shape_pipeline::ot_shaper::hb_ot_shaper_t;
+use shape_plan::shaping_types::{PlanOf, ShapingTypes};
 use std::process::Abort;
 
 /// Ends a test in which a call was refused, and made again, as the gate's script expects.
@@ -79,41 +79,29 @@ fn filled_again(rt: &impl Abort, case: Case<'_>, fault: ShapeFault) -> UnicodeBu
 
 /// The glyphs of a text with every setting. If its run is refused, what is left is compared, and the glyphs of the
 /// same text in the buffer that is handed back.
-pub fn run_again<U, F, M, S>(
+pub fn run_again<T: ShapingTypes>(
     rt: &(impl Abort + AllocGlobal),
-    by: (&F, &S),
+    by: (&T::Face, &T::Shaper),
     case: Case<'_>,
-) -> String
-where
-    U: hb_unicode_funcs_t,
-    F: hb_font_t,
-    M: hb_ot_layout_t<F>,
-    S: hb_ot_shaper_t<U, F, M, Data = ()>,
-{
-    let text = with_all_set(rt, &case.settings.manner, text_in::<U>(rt, case));
-    match glyphs_of::<U, F, M, S>(rt.alloc(), by, text) {
+) -> String {
+    let text = with_all_set(rt, &case.settings.manner, text_in::<T::Unicode>(rt, case));
+    match glyphs_of::<T>(rt.alloc(), by, text) {
         Ok(glyphs) => printed_glyphs(rt, glyphs),
         Err(fault) => {
             let again = filled_again(rt, case, fault);
-            assert_answer(rt, case, run_filled::<U, F, M, S>(rt, by, again));
+            assert_answer(rt, case, run_filled::<T>(rt, by, again));
             end_refused(rt)
         }
     }
 }
 
 /// The glyphs of a text that fills a buffer which is left of a run.
-fn run_filled<U, F, M, S>(
+fn run_filled<T: ShapingTypes>(
     rt: &(impl Abort + AllocGlobal),
-    by: (&F, &S),
+    by: (&T::Face, &T::Shaper),
     text: UnicodeBuffer,
-) -> String
-where
-    U: hb_unicode_funcs_t,
-    F: hb_font_t,
-    M: hb_ot_layout_t<F>,
-    S: hb_ot_shaper_t<U, F, M, Data = ()>,
-{
-    match glyphs_of::<U, F, M, S>(rt.alloc(), by, text) {
+) -> String {
+    match glyphs_of::<T>(rt.alloc(), by, text) {
         Ok(glyphs) => printed_glyphs(rt, glyphs),
         Err(_) => rt.panic("refused twice"),
     }
@@ -130,43 +118,36 @@ fn printed_key(rt: &(impl Abort + AllocGlobal), key: Vec<char>) -> String {
 }
 
 /// The key of a text under a plan.
-fn key_of<U, F, M, S>(
+fn key_of<T: ShapingTypes>(
     rt: &(impl Abort + AllocGlobal),
-    plan: &Plan<'_, S, M::Map>,
-    face: &F,
+    plan: &PlanOf<'_, T>,
+    face: &T::Face,
     text: UnicodeBuffer,
-) -> Result<String, ShapeFault>
-where
-    U: hb_unicode_funcs_t,
-    F: hb_font_t,
-    M: hb_ot_layout_t<F>,
-    S: hb_ot_shaper_t<U, F, M, Data = ()>,
-{
-    let key = normalised_characters::<U, F, M, S>(rt.alloc(), face, plan, text)?;
+) -> Result<String, ShapeFault> {
+    let key = normalised_characters::<T::Unicode, T::Face, T::Engine, T::Shaper>(
+        rt.alloc(),
+        face,
+        plan,
+        text,
+    )?;
     Ok(printed_key(rt, key))
 }
 
 /// The key of a text with every setting. If it is refused, what is left of the text is compared, and its key once it
 /// is filled again.
-pub fn key_again<U, F, M, S>(
+pub fn key_again<T: ShapingTypes>(
     rt: &(impl Abort + AllocGlobal),
-    (face, shaper): (&F, &S),
+    (face, shaper): (&T::Face, &T::Shaper),
     case: Case<'_>,
-) -> String
-where
-    U: hb_unicode_funcs_t,
-    F: hb_font_t,
-    M: hb_ot_layout_t<F>,
-    S: hb_ot_shaper_t<U, F, M, Data = ()>,
-{
-    let text = text_in::<U>(rt, case);
-    let plan = planned::<U, F, M, S>(rt, (face, shaper), &text);
+) -> String {
+    let text = text_in::<T::Unicode>(rt, case);
+    let plan = planned::<T>(rt, (face, shaper), &text);
     let text = with_all_set(rt, &case.settings.manner, text);
-    match key_of::<U, F, M, S>(rt, &plan, face, text) {
+    match key_of::<T>(rt, &plan, face, text) {
         Ok(key) => key,
         Err(fault) => {
             let again = filled_again(rt, case, fault);
-            let key = key_of::<U, F, M, S>(rt, &plan, face, again);
+            let key = key_of::<T>(rt, &plan, face, again);
             assert_answer(rt, case, key.expect(rt, "refused twice"));
             end_refused(rt)
         }
@@ -209,85 +190,61 @@ fn printed_alike(
 
 /// The list that two spellings are normalised to. If that is refused, what is left of both is compared, and the list
 /// once both are filled again.
-pub fn compare_again<U, F, M, S>(
+pub fn compare_again<T: ShapingTypes>(
     rt: &(impl Abort + AllocGlobal),
-    by: (&F, &S),
+    by: (&T::Face, &T::Shaper),
     case: Case<'_>,
-) -> String
-where
-    U: hb_unicode_funcs_t,
-    F: hb_font_t,
-    M: hb_ot_layout_t<F>,
-    S: hb_ot_shaper_t<U, F, M, Data = ()>,
-{
-    let plan = planned::<U, F, M, S>(rt, by, &first_in::<U>(rt, case));
-    compare_under::<U, F, M, S>(rt, &plan, by.0, case)
+) -> String {
+    let plan = planned::<T>(rt, by, &first_in::<T::Unicode>(rt, case));
+    compare_under::<T>(rt, &plan, by.0, case)
 }
 
 /// The same under a plan.
-fn compare_under<U, F, M, S>(
+fn compare_under<T: ShapingTypes>(
     rt: &(impl Abort + AllocGlobal),
-    plan: &Plan<'_, S, M::Map>,
-    face: &F,
+    plan: &PlanOf<'_, T>,
+    face: &T::Face,
     case: Case<'_>,
-) -> String
-where
-    U: hb_unicode_funcs_t,
-    F: hb_font_t,
-    M: hb_ot_layout_t<F>,
-    S: hb_ot_shaper_t<U, F, M, Data = ()>,
-{
-    let (mut a, mut b) = spelled::<U, F, M, S>(rt, plan, face, case);
-    match are_alike::<U, F, M, S>(rt.alloc(), plan, face, (&mut a, &mut b)) {
+) -> String {
+    let (mut a, mut b) = spelled::<T>(rt, plan, face, case);
+    match are_alike::<T>(rt.alloc(), plan, face, (&mut a, &mut b)) {
         Ok(same) => printed_alike(rt, case, (same, a, b)),
         Err(cause) => {
             assert_same(rt, cause, ShapeError::Memory);
-            let lists = spelled_again::<U, F, M, S>(rt, plan, face, (a, b), case);
-            compare_filled::<U, F, M, S>(rt, plan, face, lists, case)
+            let lists = spelled_again::<T>(rt, plan, face, (a, b), case);
+            compare_filled::<T>(rt, plan, face, lists, case)
         }
     }
 }
 
 /// Two spellings in the buffers that a refused call has left, as a run prepares them.
-fn spelled_again<U, F, M, S>(
+fn spelled_again<T: ShapingTypes>(
     rt: &(impl Abort + AllocGlobal),
-    plan: &Plan<'_, S, M::Map>,
-    face: &F,
+    plan: &PlanOf<'_, T>,
+    face: &T::Face,
     (a, b): (hb_buffer_t, hb_buffer_t),
     case: Case<'_>,
-) -> (hb_buffer_t, hb_buffer_t)
-where
-    U: hb_unicode_funcs_t,
-    F: hb_font_t,
-    M: hb_ot_layout_t<F>,
-    S: hb_ot_shaper_t<U, F, M, Data = ()>,
-{
+) -> (hb_buffer_t, hb_buffer_t) {
     let (first, second) = cut(rt, case.text, "/");
     let (a, b) = (
-        filled_with::<U>(rt, a, first),
-        filled_with::<U>(rt, b, second),
+        filled_with::<T::Unicode>(rt, a, first),
+        filled_with::<T::Unicode>(rt, b, second),
     );
     (
-        prepared_under::<U, F, M, S>(rt, plan, face, a),
-        prepared_under::<U, F, M, S>(rt, plan, face, b),
+        prepared_under::<T>(rt, plan, face, a),
+        prepared_under::<T>(rt, plan, face, b),
     )
 }
 
 /// Compares two lists, and ends the test.
-fn compare_filled<U, F, M, S>(
+fn compare_filled<T: ShapingTypes>(
     rt: &(impl Abort + AllocGlobal),
-    plan: &Plan<'_, S, M::Map>,
-    face: &F,
+    plan: &PlanOf<'_, T>,
+    face: &T::Face,
     (mut a, mut b): (hb_buffer_t, hb_buffer_t),
     case: Case<'_>,
-) -> String
-where
-    U: hb_unicode_funcs_t,
-    F: hb_font_t,
-    M: hb_ot_layout_t<F>,
-    S: hb_ot_shaper_t<U, F, M, Data = ()>,
-{
-    let same = are_alike::<U, F, M, S>(rt.alloc(), plan, face, (&mut a, &mut b));
+) -> String {
+    let same = are_alike::<T>(rt.alloc(), plan, face, (&mut a, &mut b));
     let same = same.expect(rt, "refused twice");
     assert_answer(rt, case, printed_alike(rt, case, (same, a, b)));
     end_refused(rt)
