@@ -143,7 +143,7 @@ fn in_the_order_of_the_text(rt: HostRuntime) {
 }
 
 /// Not before the cluster 1, which is unsafe to break, and not inside the cluster 4 of two glyphs. Then the cluster
-/// that stands later in the text decides, where it runs to the left; and then there is one cluster.
+/// that stands later in the text decides, as it runs to the left; and then there is one cluster.
 #[test]
 fn at_places_of_a_cut_alone(rt: HostRuntime) {
     check_lines(

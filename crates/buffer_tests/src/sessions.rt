@@ -180,8 +180,8 @@ fn check_row(rt: &(impl Abort + AllocGlobal), row: &str) {
     follow(rt, &mut buffer, line);
 }
 
-/// Does so for each row. An item is `CLUSTER/MASK`, and may have a glyph before it and an advance behind, as in
-/// `1@0/8+600`; `*` stands before a continuation. Behind the items left stand the scratch flags, as in `flags 32`, if
+/// Does so for each row. An item is `CLUSTER/MASK`, and may have a glyph before it and an advance after it, as in
+/// `1@0/8+600`; `*` stands before a continuation. After the items left stand the scratch flags, as in `flags 32`, if
 /// there are any; 32 is HAS_GLYPH_FLAGS.
 pub fn check_rows(rt: &(impl Abort + AllocGlobal), rows: &str) {
     for row in rows_of(rt, rows).lines() {

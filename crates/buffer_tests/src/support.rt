@@ -43,7 +43,7 @@ pub fn rows_of<'a>(rt: &impl Abort, text: &'a str) -> &'a str {
     rows
 }
 
-/// What stands before a mark and behind it.
+/// What stands before a mark and after it.
 pub fn parts<'a>(rt: &impl Abort, text: &'a str, mark: &str) -> (&'a str, &'a str) {
     match text.split_once(mark) {
         Some((before, behind)) => (before.trim(), behind.trim()),
@@ -63,7 +63,7 @@ where
 }
 
 /// The item that a word writes: `CLUSTER/MASK`, after `GLYPH@` if it has one, and after `*` if it is a continuation.
-/// Advances may stand behind it.
+/// Advances may stand after it.
 fn item(rt: &impl Abort, word: &str) -> hb_glyph_info_t {
     let (word, _) = word.split_once('+').unwrap_or((word, ""));
     let (glyph, place) = word.split_once('@').unwrap_or(("0", word));
@@ -75,7 +75,7 @@ fn item(rt: &impl Abort, word: &str) -> hb_glyph_info_t {
     info
 }
 
-/// The advances behind an item: `+RIGHT` or `+RIGHT,UP`; none is 0.
+/// The advances after an item: `+RIGHT` or `+RIGHT,UP`; none is 0.
 fn position(rt: &impl Abort, word: &str) -> GlyphPosition {
     let (_, advances) = word.split_once('+').unwrap_or((word, "0"));
     let (right, up) = advances.split_once(',').unwrap_or((advances, "0"));
@@ -85,7 +85,7 @@ fn position(rt: &impl Abort, word: &str) -> GlyphPosition {
     position
 }
 
-/// Gives each item the advances behind it.
+/// Gives each item the advances after it.
 fn place(rt: &impl Abort, buffer: &mut hb_buffer_t, items: &str) {
     let mut at: usize = 0;
     for word in items.split_whitespace() {

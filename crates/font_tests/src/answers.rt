@@ -13,7 +13,7 @@ fn character(rt: &impl Abort, word: &str) -> char {
     char::from_u32(number).expect(rt, "a character")
 }
 
-/// The glyph of a number, or none where it says `none`.
+/// The glyph of a number, or none if it says `none`.
 fn glyph_or_none(rt: &impl Abort, word: &str) -> Option<GlyphId> {
     if word == "none" {
         return None;
@@ -57,7 +57,7 @@ fn characters(rt: HostRuntime) {
     assert_rows(&rt, rt.alloc(), Asked::Variant, rows);
 }
 
-/// Compares a name, or none where it says `none`.
+/// Compares a name, or none if it says `none`.
 fn assert_name(rt: &impl Abort, name: Option<&[u8]>, wanted: &str) {
     match name {
         Some(name) => assert_that(rt, name == wanted.as_bytes()),

@@ -87,7 +87,7 @@ fn pairs(rt: HostRuntime) {
     assert_rows(&rt, rt.alloc(), Asked::Kerned(&[]), rows);
 }
 
-/// Kerning is off in the text, off at the second letter, and off but for the first two.
+/// Kerning is off in the text, off at the second letter, and off except for the first two.
 #[test]
 fn features(rt: HostRuntime) {
     let off = Feature::global(KERN, 0);

@@ -15,7 +15,7 @@ pub fn tiny_font(alloc: Global) -> Result<Vec<u8>, FromHexError> {
     hex::decode(alloc, DIGITS)
 }
 
-/// The same, where a refusal of memory ends the test.
+/// The same, but a refusal of memory ends the test.
 pub fn font_bytes(rt: &impl Abort, alloc: Global) -> Vec<u8> {
     tiny_font(alloc).expect(rt, "memory")
 }
@@ -26,7 +26,7 @@ pub fn face_over<'a>(rt: &impl Abort, bytes: &'a [u8]) -> FontFace<'a> {
 }
 
 /// The glyphs of a text by an engine, or a refusal. The proof of this takes a fraction of what the same call takes
-/// where the types are known.
+/// if the types are known.
 pub fn shaped_by<F, M, S>(
     alloc: Global,
     face: &F,

@@ -11,7 +11,7 @@
 //! A character is written as itself if it is one of ASCII that can be seen, and by four digits in base 16 or more:
 //! `a`, `0301`, `1F1E6`. In a text `@` isn't a character but stands before a cluster, and in the steps that compare
 //! two texts `/` stands between them. A word may stand many times, `0323*31`, and so may two of them in turn,
-//! `0308+0301*15`. How an answer is written stands in `printing`. What stands behind ` # ` is a remark. A line that
+//! `0308+0301*15`. How an answer is written stands in `printing`. What stands after ` # ` is a remark. A line that
 //! can't be read fails its test, and so does a text without cases.
 
 use crate::comparing::assert_that;
@@ -158,7 +158,7 @@ fn append_several(rt: &impl Abort, line: &mut String, words: &str) {
     }
 }
 
-/// Appends a word behind what a line has already.
+/// Appends a word after what a line has already.
 pub fn append_word(rt: &impl Abort, line: &mut String, word: &str) {
     if !line.is_empty() {
         line.push(' ').expect(rt, "error");
@@ -166,12 +166,12 @@ pub fn append_word(rt: &impl Abort, line: &mut String, word: &str) {
     line.push_str(word).expect(rt, "error");
 }
 
-/// A text before and behind these characters, which it has to have.
+/// A text before and after these characters, which it has to have.
 pub fn cut<'a>(rt: &impl Abort, text: &'a str, at: &str) -> (&'a str, &'a str) {
     text.split_once(at).expect(rt, text)
 }
 
-/// A text before and behind these characters, or all before them if it doesn't have them.
+/// A text before and after these characters, or all before them if it doesn't have them.
 pub fn cut_off<'a>(text: &'a str, at: &str) -> (&'a str, &'a str) {
     text.split_once(at).unwrap_or((text, ""))
 }

@@ -14,7 +14,7 @@ use shape_prepare::graphemes::set_unicode_props;
 use std::process::Abort;
 use test_worlds::{AbsorbingShaper, DeepShaper, ReversingShaper, SmallUnicode};
 
-/// Items over small functions of Unicode, each in the cluster of its place, with its mask behind a slash, in base 16,
+/// Items over small functions of Unicode, each in the cluster of its place, with its mask after a slash, in base 16,
 /// if that isn't 0; and the shapers `default`, `reversing`, `absorbing` and `deep`, which splits 16384 deep.
 ///
 /// The answer is the normalised list, each item with the glyph that was found for it and its mask, then `,marked` if

@@ -2,7 +2,7 @@
 //!
 //! An item of a list is its character and its cluster: `a@0`. What an answer names is compared of all its items:
 //! clusters if it has an `@`, and if it has a `=` the glyphs that were found for characters, in base 16: `1EA4=0@0`.
-//! `+` stands behind a character that continues a grapheme, if there is one in the answer, and `~` behind each that
+//! `+` stands after a character that continues a grapheme, if there is one in the answer, and `~` after each that
 //! is hidden. A direction stands before the items if the answer begins with one: `ltr`, `rtl`, `ttb` or `btt`.
 //!
 //! A glyph is its number in base 16 and its cluster, its advances and offsets, x before y, and its mask in base 16 if
@@ -54,7 +54,7 @@ pub fn append_character(rt: &impl Abort, line: &mut String, c: char) {
     write!(line, "{:04X}", u32::from(c)).expect(rt, "error");
 }
 
-/// Appends a number in base 16 behind a sign.
+/// Appends a number in base 16 after a sign.
 fn append_hex(rt: &impl Abort, line: &mut String, sign: &str, number: u32) {
     write!(line, "{sign}{number:X}").expect(rt, "error");
 }
@@ -95,7 +95,7 @@ pub fn append_item(rt: &impl Abort, line: &mut String, info: &hb_glyph_info_t, w
     }
 }
 
-/// Items, behind a direction if one is wanted.
+/// Items, after a direction if one is wanted.
 fn items_printed(
     rt: &(impl Abort + AllocGlobal),
     direction: Direction,

@@ -1,7 +1,7 @@
 //! Texts, as the words of cases write them.
 //!
-//! A character stands in the cluster that is its offset in UTF-8, if no other is written behind an `@`: `1EA4@7`. The
-//! characters behind it go on from there.
+//! A character stands in the cluster that is its offset in UTF-8, if no other is written after an `@`: `1EA4@7`. The
+//! characters after it go on from there.
 //!
 //! The words of a manner are a direction (`ltr`, `rtl`, `ttb`, `btt`), `by_character` for clusters of single
 //! characters, `beginning` and `no_circle` for flags of the text, and glyphs in base 16: `invisible=3` for what isn't
@@ -67,13 +67,13 @@ fn set_glyph(rt: &impl Abort, manner: &mut Manner, (name, glyph): (&str, &str)) 
     }
 }
 
-/// Appends a character in a cluster. Gives the cluster behind it.
+/// Appends a character in a cluster. Gives the cluster after it.
 fn add_at(rt: &impl Abort, text: &mut UnicodeBuffer, c: char, cluster: u32) -> u32 {
     text.add(c, cluster).expect(rt, "error");
     cluster.saturating_add(c.len_utf8() as u32)
 }
 
-/// Appends the character of a word, in this cluster if the word has none. Gives the cluster behind it.
+/// Appends the character of a word, in this cluster if the word has none. Gives the cluster after it.
 fn add_word(rt: &impl Abort, text: &mut UnicodeBuffer, word: &str, cluster: u32) -> u32 {
     match word.split_once("@") {
         Some((c, at)) => add_at(rt, text, character(rt, c), number(rt, at)),
@@ -137,7 +137,7 @@ pub fn text_of<U: hb_unicode_funcs_t>(
     text
 }
 
-/// The item that a word writes, with its mask behind a slash, in base 16, if that isn't 0.
+/// The item that a word writes, with its mask after a slash, in base 16, if that isn't 0.
 fn item_of(rt: &impl Abort, word: &str, cluster: u32) -> hb_glyph_info_t {
     let (c, mask) = cut_off(word, "/");
     let mut info = hb_glyph_info_t::new(character(rt, c), cluster);

@@ -2,14 +2,14 @@
 //!
 //! A row is `CASE -> ANSWER`. A test prints what it found for the case, and compares that with the answer as text. So a
 //! test brings text alone, and one function reads, runs and compares: the proof of a test takes time for each row that
-//! is code, and none for a line of text. Words are parted by one space, and numbers are hexadecimal where nothing
+//! is code, and none for a line of text. Words are parted by one space, and numbers are hexadecimal if nothing
 //! else is said. What can't be read ends the test, and so does a text without rows.
 use shape_buffer::buffer::{Direction, Feature, hb_buffer_t, hb_glyph_info_t, hb_tag_t};
 use std::alloc::{AllocError, Global};
 use std::fmt::Debug;
 use std::process::Abort;
 
-/// What a test is handed: memory, and an end where something isn't as it should be.
+/// What a test is handed: memory, and an end if something isn't as it should be.
 pub trait Host: Abort + Alloc<A = Global> {}
 
 impl<R: Abort + Alloc<A = Global>> Host for R {}

@@ -24,7 +24,7 @@ pub fn rows_of<'a>(rt: &impl Abort, text: &'a str) -> &'a str {
     rows
 }
 
-/// What stands before a mark and behind it.
+/// What stands before a mark and after it.
 pub fn parts<'a>(rt: &impl Abort, text: &'a str, mark: &str) -> (&'a str, &'a str) {
     match text.split_once(mark) {
         Some((before, behind)) => (before.trim(), behind.trim()),

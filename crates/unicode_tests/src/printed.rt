@@ -10,7 +10,7 @@ fn add_items(rt: &impl Abort, lines: &mut String, name: &str, items: &[hb_glyph_
     append_items(lines, name, items).expect(rt, "memory");
 }
 
-/// Compares the line of an empty list, and that of a list behind it.
+/// Compares the line of an empty list, and that of a list after it.
 fn check_items(rt: &(impl Abort + AllocGlobal), items: &[hb_glyph_info_t], wanted: &str) {
     let mut lines = String::new(rt.alloc());
     add_items(rt, &mut lines, "prepared", &[]);
@@ -40,7 +40,7 @@ fn add_glyphs(
     append_glyphs(lines, items, positions).expect(rt, "memory");
 }
 
-/// Compares the line of no glyphs, and that of glyphs behind it.
+/// Compares the line of no glyphs, and that of glyphs after it.
 fn check_glyphs(
     rt: &(impl Abort + AllocGlobal),
     items: &[hb_glyph_info_t],

@@ -13,7 +13,7 @@ use shape_pipeline::ot_shaper::{
 };
 use std::process::Abort;
 
-/// What makes a list of a text behind a base with a mark.
+/// What makes a list of a text after a base with a mark.
 #[derive(Clone, Copy)]
 enum Way {
     /// The Unicode functions alone, which split it.
@@ -24,7 +24,7 @@ enum Way {
     Composes,
 }
 
-/// The characters of a column behind a base with a mark, as texts are normalised here.
+/// The characters of a column after a base with a mark, as texts are normalised here.
 fn behind_base(rt: &(impl Abort + AllocGlobal), column: &str) -> Vec<char> {
     let mut whole = Vec::new(rt.alloc());
     whole

@@ -134,7 +134,7 @@ struct Wanted {
     data: Option<u32>,
 }
 
-/// What planning is to answer by a shaper that is kept, or one that isn't, where the default one has this map.
+/// What planning is to answer by a shaper that is kept, or one that isn't, if the default one has this map.
 fn wanted_of(universe: &Universe, plain: OddMap, is_kept: bool) -> Wanted {
     let wishes = universe.wishes;
     Wanted {

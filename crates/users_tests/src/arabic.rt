@@ -3,7 +3,7 @@
 use crate::rows::{Asked, assert_rows};
 use crate::shaping::Shaper;
 
-/// Beh, fatha, shadda, and a hamza above and below are known. A hamza stands behind a fatha, and before it.
+/// Beh, fatha, shadda, and a hamza above and below are known. A hamza stands after a fatha, and before it.
 #[test]
 fn a_hamza_steps_before_a_fatha(rt: HostRuntime) {
     let rows = "\u{628}\u{64E}\u{651}\u{654}\u{655} | \u{628}\u{64E}\u{654} -> 2@0 4@0 1@0

@@ -1,5 +1,5 @@
 //! Texts cut into lines, each of whose pieces is shaped again, with what stands around it as
-//! context. A piece begins the text where it is the first one, and ends it where it is the last.
+//! context. A piece begins the text if it is the first one, and ends it if it is the last.
 use crate::seen::assert_looks_alike;
 use crate::shaping::{
     IN_ORDER, Shaper, Shaping, assert_that, by_graphemes, face_of, glyphs_of, lines_of, split_at,

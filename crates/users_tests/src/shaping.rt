@@ -90,7 +90,7 @@ pub struct Shaping<'a> {
     pub direction: Direction,
     pub level: BufferClusterLevel,
     pub script: Option<Script>,
-    /// What stands before and after a text, which begins or ends where nothing does.
+    /// What stands before and after a text, which begins or ends if nothing does.
     pub around: Option<(&'a str, &'a str)>,
 }
 
@@ -115,7 +115,7 @@ pub fn towards(how: Shaping<'_>, direction: Direction, level: BufferClusterLevel
     }
 }
 
-/// Tells a text what stands around it, and that it begins or ends where nothing does.
+/// Tells a text what stands around it, and that it begins or ends if nothing does.
 fn put_around(text: &mut UnicodeBuffer, before: &str, after: &str) {
     let mut flags = BufferFlags(0);
     if before.is_empty() {

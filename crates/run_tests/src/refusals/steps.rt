@@ -46,7 +46,7 @@ fn with_all_set(
     text
 }
 
-/// What clearing takes away of a text: whether it is empty, has a script, a language, and a context before and behind.
+/// What clearing takes away of a text: whether it is empty, has a script, a language, and a context before and after.
 fn taken_away(text: &UnicodeBuffer) -> [bool; 5] {
     [
         text.is_empty(),

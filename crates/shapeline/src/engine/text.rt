@@ -176,7 +176,7 @@ where
     Ok(lines)
 }
 
-/// Lines, with the glyphs of a text behind them, shaped under a plan of its own.
+/// Lines, with the glyphs of a text after them, shaped under a plan of its own.
 fn shaped<S>(
     alloc: Global,
     face: &MapFace,

@@ -8,7 +8,7 @@
 //! | `A>B` | B in place of A |
 //! | `A>B,C` | B and C in place of A |
 //! | `A,B>C` | C in place of A and B |
-//! | `A>B/MASK` | the same, where the feature of that mask is on |
+//! | `A>B/MASK` | the same, if the feature of that mask is on |
 //! | `+N` | N is added to each glyph |
 //! | `STAGE*COUNT` | so many such stages |
 //! | `pause=N` | pause N after the first stage |

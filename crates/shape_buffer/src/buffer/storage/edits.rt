@@ -65,7 +65,7 @@ impl hb_buffer_t {
         self.positions.remove(i);
     }
 
-    /// Takes out the items from `len` on, and their positions; where there are no more than `len` items nothing
+    /// Takes out the items from `len` on, and their positions; if there are no more than `len` items nothing
     /// changes. Takes no memory.
     pub fn truncate(&mut self, len: usize)
         ensures { self.new ≡ record self.old {
