@@ -2,7 +2,7 @@
 //!
 //! A field has a place, that of its lowest bit, and a width. With the widths of all its fields at hand, the
 //! lowest field first, a word is the list of their values, like a number that is the list of its digits.
-//! That a field which is put in changes alone is one law for all of them,
+//! One law holds of all fields: putting a value into one leaves the others as they were,
 //! [`laws::a_put_field_changes_alone`]; [`laws`] has what else holds.
 #![tactic(auto)]
 

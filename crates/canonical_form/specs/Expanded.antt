@@ -1,4 +1,4 @@
--- The expanded list: each item becomes what its character does, which may depend on whether a mark stands at it.
+-- The expanded list: each item becomes what its character does, which may depend on whether it stands with marks.
 use Rattle.std.specs.Prelude.{ℕ, Bool, true, false, ◌&&◌, ◌||◌, not, List, [], ◌∷◌, ◌++◌}
 use Rattle.canonical_form.specs.Decompositions.{Decompositions}
 use Rattle.canonical_form.specs.Expansion.{choice}
@@ -17,7 +17,7 @@ expanded_from is_mark become first (x ∷ rest) =
 abbrev pub expanded_in_sequences : {A B : Type 0} → (A → Bool) → (Bool → A → List B) → List A → List B
 expanded_in_sequences is_mark become items = expanded_from is_mark become true items
 
--- the choices of a text, where `short` says of a character with marks, and of one by itself, whether the shortest is asked
+-- the choices of a text; `short` says of a character with marks, and of one by itself, if the shortest is asked for
 abbrev pub expanded_text : Decompositions → (ℕ → Bool) → (ℕ → Bool) → (Bool → Bool) → List ℕ → List ℕ
 expanded_text D has_glyph is_mark short text =
     expanded_in_sequences is_mark (λ with_marks. choice D has_glyph (short with_marks)) text

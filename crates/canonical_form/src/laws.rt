@@ -59,8 +59,8 @@ pub fn stable_order_is_reached<T>()
     ensures { StableOrderIsReached T }
 {}
 
-/// The canonical order of a list is reached by swaps and is ordered, and two ordered lists that swaps
-/// lead from one to the other are equal.
+/// The canonical order of a list is reached by swaps and is ordered, and two ordered lists are equal if
+/// swaps lead from one to the other.
 pub fn order_is_unique<T>()
     ensures reached { OrderIsReached T }
     ensures unique { OrderIsUnique T }

@@ -14,7 +14,7 @@ categories =
     ∷ SpaceSeparator ∷ LineSeparator ∷ ParagraphSeparator
     ∷ Control ∷ Format ∷ Surrogate ∷ PrivateUse ∷ Unassigned ∷ []
 
--- the category of a number; numbers past the last one are of none, and count as its own
+-- the category of a number; numbers past those of the categories give the last one
 abbrev pub category_of : ℕ → hb_unicode_general_category_t
 category_of number = get_or categories number Unassigned
 

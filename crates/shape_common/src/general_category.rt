@@ -60,7 +60,7 @@ impl hb_unicode_general_category_t {
         self as u8
     }
 
-    /// The category of a number. Numbers past the last one are no category's, and count as its own.
+    /// The category of a number. Numbers past those of the categories give the last one.
     pub fn of_number(number: u8) -> hb_unicode_general_category_t
         ensures { result ≡ category_of number }
     {

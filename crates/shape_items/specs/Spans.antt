@@ -6,7 +6,7 @@ use Rattle.shape_items.specs.Clusters.{merge, put_range}
 use Rattle.shape_items.specs.Buffer.{Buffer}
 use Rattle.shape_items.specs.BufferClusters.{merge_clusters, merge_out_clusters}
 
--- from this place on, each span begins not before the one before it, and ends within so many items
+-- from this place on, no span begins before the one before it, and each ends within so many items
 abbrev pub AreSpansInOrder : ℕ → ℕ → List (ℕ × ℕ) → Type 0
 AreSpansInOrder from size [] = ⊤
 AreSpansInOrder from size (span ∷ spans) =

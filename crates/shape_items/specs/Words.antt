@@ -8,7 +8,7 @@ use Rattle.shape_items.specs.Properties.{Properties}
 abbrev pub first_widths : List ℕ
 first_widths = 8 ∷ 8 ∷ 8 ∷ 1 ∷ 1 ∷ 1 ∷ 1 ∷ 1 ∷ 1 ∷ 2 ∷ []
 
--- those of the second word's halves; ten bits above the two of a glyph's making have no use
+-- those of the second word's halves; the ten bits above those of substituted and ligated have no use
 abbrev pub lower_widths : List ℕ
 lower_widths = 4 ∷ 1 ∷ 1 ∷ 10 ∷ 8 ∷ 8 ∷ []
 

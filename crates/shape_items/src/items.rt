@@ -215,7 +215,7 @@ impl hb_glyph_info_t {
         self.properties.set_hidden(hidden);
     }
 
-    /// Reads the continuation bit, of items that go on with the grapheme of the one before them:
+    /// Reads the continuation bit, of items that continue the grapheme before them:
     /// `init_unicode_props` sets it for marks of U+0080 and more, and unsets it for all others.
     pub fn _hb_glyph_info_get_continuation(&self) -> bool
         ensures { result ≡ self.now.properties.continuation }

@@ -109,8 +109,8 @@ impl ItemProperties {
         }
     }
 
-    /// Sets the eight properties that go by a character for one that is no joiner, and hidden from no lookup. One
-    /// write of the first word, once compiled.
+    /// Sets the eight properties that depend on a character, for one that is no joiner and isn't hidden. Compiled,
+    /// this is one write of the first word.
     pub(crate) fn set_for_plain(
         &mut self,
         general_category: hb_unicode_general_category_t,
@@ -153,7 +153,7 @@ impl ItemProperties {
         hb_unicode_general_category_t::of_number(read_byte(self.first, GENERAL_CATEGORY))
     }
 
-    /// Whether the category is one of the three of marks. Its number tells, without the category being made of it.
+    /// Whether the category is one of the three of marks. Its number is enough, so no category is made of it.
     pub(crate) fn is_mark(&self) -> bool
         ensures { result ≡ is_mark_category self.now.general_category }
     {

@@ -52,7 +52,7 @@ content rules item = record item {
   properties = record item.properties { hidden = false; modified_ccc = if is_some rules.reorder then 0 else ccc_of_item item };
 }
 
--- each item has the glyph of its character, or what replaces it, except for those that come of sequences with a variation selector
+-- each item has the glyph of its character, or what replaces it, unless it comes from a sequence with a selector
 abbrev pub HasItemGlyph : Rules → Buffer → Item → Type 0
 HasItemGlyph rules old item =
     (item.glyph_index ≡ item_glyph rules old.invisible_glyph item)

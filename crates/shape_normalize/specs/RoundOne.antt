@@ -85,7 +85,7 @@ is_selector_item unicode item = unicode.selector item.codepoint
 abbrev pub skipped_item : (ℕ → Option GlyphId) → Item → Item
 skipped_item glyph item = record item { glyph_index = option_map_or (λ g. g.0) (glyph item.codepoint) item.glyph_index }
 
--- a selector that no glyph came of: it is marked, and no longer ignorable if there is a glyph for such
+-- a selector that makes no glyph with its item: it is marked, and no longer ignorable if there is a glyph for such
 abbrev pub marked_selector : Option GlyphId → Item → Item
 marked_selector not_found item = record item {
   properties = record item.properties {
@@ -94,7 +94,7 @@ marked_selector not_found item = record item {
   };
 }
 
--- an item with the selectors directly after it: of the item and the first of them becomes one item, if the face has a glyph for the two
+-- an item with the selectors directly after it: it and the first one become one item if the face has a glyph for both
 abbrev pub variant_items : FaceMeaning → Option GlyphId → List Item → List Item
 variant_items face not_found [] = []
 variant_items face not_found (x ∷ []) = skipped_item face.nominal_glyph x ∷ []

@@ -63,7 +63,7 @@ composed_chars out = flat_map (λ p. map (λ mark. mark.char) p.absorbed) out
 abbrev pub with_cluster_at : List Item → Placed → Item
 with_cluster_at items p = let at = get_or items p.place p.item in record p.item { cluster = at.cluster; mask = at.mask }
 
--- the buffer with these items as its list, each span of a composition merged, at positions of zeros
+-- the buffer with these items as its list, each span of a composition merged, at positions of zeros;
 -- the spans are merged while the marks that go still stand: each is in one cluster with the item before it from then on, so that a later
 -- merge grows over both or neither
 abbrev pub with_put_out : Rules → Buffer → List Placed → Buffer

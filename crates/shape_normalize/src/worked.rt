@@ -17,7 +17,7 @@ pub fn round_two_meets_worked_cases()
     ensures { RoundTwoWorked }
 {}
 
-/// Marks that come of expansions: which stand by themselves, which runs are put in order.
+/// Marks that come from expansions: which stand by themselves, which runs are put in order.
 pub fn one_walk_meets_worked_cases()
     ensures { OneWalkWorked }
 {}

@@ -49,7 +49,7 @@ uses_morx tables direction = tables.morx && (is_horizontal direction || not tabl
 abbrev pub kept_shaper : {S : Type 0} → Bool → Bool → S → Option S
 kept_shaper apply_morx is_default shaper = if apply_morx && not is_default then None else Some shaper
 
--- a planner begins without requests; what the given shaper wishes of marks counts even if it gives way
+-- a planner begins without requests; what the given shaper wishes for marks counts even if it gives way
 unfoldable pub begun_planner : {F S P D : Type 0} → Planning F S P D → F → S → Direction → Option Script → Option (List ℕ) → Planner F S
 begun_planner planning face shaper direction script language =
     let morx = uses_morx (planning.faces face).tables direction in record {
@@ -116,7 +116,7 @@ data_for given made plan = option_map (λ make. make plan) (hook_of given made p
 abbrev pub with_data : {S P D : Type 0} → Bool → (S → Plan S P D → D) → Plan S P D → Plan S P D
 with_data given made plan = record plan { shaper_data = data_for given made plan }
 
--- a plan as its shaper sees it when it makes its data: the same, without
+-- a plan as its shaper sees it when it makes its data: the same, without data
 abbrev pub without_data : {S P D : Type 0} → Plan S P D → Plan S P D
 without_data plan = record plan { shaper_data = None }
 

@@ -13,7 +13,8 @@ use Rattle.shape_common.specs.declared.text_types.hb_tag_t.{hb_tag_t}
 use Rattle.shape_buffer.specs.declared.interfaces.map_request.MapRequest.{MapRequest}
 use Rattle.shape_plan.specs.Tags as tag
 
--- a feature of value 1: `on` takes F_GLOBAL to its flags, so that it is on over the whole text, and `add` takes its flags as they are
+-- a feature of value 1: `on` adds F_GLOBAL to its flags, so that it is on over the whole text, and `add` takes its
+-- flags as they are
 abbrev pub on : hb_tag_t → ℕ → MapRequest
 on tag flags = feature_on tag flags 1
 

@@ -20,7 +20,7 @@ pub record Rules : Type 0 where
   pub face : FaceMeaning
   -- what `reorder_marks` does, if it is given
   pub reorder : Option (Buffer → ℕ → ℕ → Buffer)
-  -- whether the shortest expansion is asked of a character, by whether it stands in a sequence with marks
+  -- whether the shortest expansion is asked for, by whether a character stands in a sequence with marks
   pub short : Bool → Bool
   -- whether marks are composed with their starters again
   pub recomposes : Bool

@@ -130,8 +130,8 @@ impl<'a, S, P, D> hb_ot_shape_plan_t<'a, S, P, D> {
 
     /// A plan for texts of a direction and a script, a face and a shaper, with the features that the user
     /// asks for; `language` helps the engine to choose the scripts of its tables. It serves every text that
-    /// it fits. What its shaper made for it is made of the plan as it is without. The direction must not be
-    /// Invalid. Refuses with `Memory` alone.
+    /// it fits. What its shaper made for it is made from the plan as it is without that data. The direction
+    /// must not be Invalid. Refuses with `Memory` alone.
     #[tactic(auto, unfolding(crate::specs::Planner::planned))]
     pub fn new<U, F, M>(
         alloc: Global,

@@ -111,7 +111,7 @@ fn kept<'a, S>(apply_morx: bool, is_default: bool, shaper: &'a S) -> ChosenShape
 }
 
 impl<'a, F, S> hb_ot_shape_planner_t<'a, F, S> {
-    /// A planner without requests. Takes what the given shaper wishes of marks, before the shaper may give
+    /// A planner without requests. Takes what the given shaper wishes for marks, before the shaper may give
     /// way to the one that knows no script.
     #[tactic(auto, unfolding(crate::specs::Planner::begun_planner))]
     pub fn new<U, M>(

@@ -15,7 +15,7 @@ use shape_buffer::interfaces::modified_combining_class as mcc;
 ///
 /// Hebrew: points in the order of the SBL Hebrew font's manual: the dots of shin and sin, dagesh, rafe,
 /// holam, then the other vowels. Arabic: shadda before the vowels, as its fonts expect. Telugu: the length
-/// marks before the halant, not past it. Thai: the vowel signs below before the phinthu. Tibetan: the
+/// marks before the halant, not after it. Thai: the vowel signs below before the phinthu. Tibetan: the
 /// vowel sign u before i and the others of class 130. Classes 3, 4 and 5 are otherwise unused.
 pub const MODIFIED_CCC: [(u8, u8); 28] = [
     // Hebrew

@@ -14,8 +14,8 @@ fn is_seen_though_ignorable(c: char) -> bool
     )
 }
 
-/// Whether `c` stands before U+061C and is neither U+00AD nor U+034F: no such character is ignorable. Most
-/// letters of Europe, their marks and all of Hebrew are so told without the table.
+/// Whether `c` stands before U+061C and is neither U+00AD nor U+034F: no such character is ignorable. So
+/// most letters of Europe, their marks and all of Hebrew are told without the table.
 fn is_seen_early(c: char) -> bool
     ensures { result ≡ is_seen_early c }
 {
@@ -44,7 +44,7 @@ pub(crate) fn is_ignorable(c: char) -> bool
 }
 
 /// Whether `c` is a variation selector of all scripts: U+FE00 to U+FE0F or U+E0100 to U+E01EF. Those before
-/// are Mongolian's, whose script shaper takes them as letters, which shape by features of the font.
+/// are Mongolian's: its script shaper takes them as letters, which features of the font shape.
 pub(crate) fn is_selector(c: char) -> bool
     ensures { result ≡ is_selector c }
 {

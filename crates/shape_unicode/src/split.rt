@@ -1,8 +1,8 @@
 //! One step of canonical decomposition (UAX 44, Decomposition_Mapping without a tag).
 //!
 //! The kit's compiled tables have full decompositions and primary composites, and no single steps. The
-//! last step of a character is found from these: its full decomposition, all but the last character of it
-//! composed again, and that last one. If the two compose to another character, this one is a singleton
+//! last step of a character is found from these: its parts are all of its full decomposition except the last
+//! character, composed again, and that character. If the two compose to another character, this one is a singleton
 //! of it. Few characters begin with a pair that is excluded from composition; a table has their heads.
 //! That the mapping of the database comes out, of every character, is computed over its rows
 //! (`proofs/LastStepLemmas.antt`).
@@ -24,7 +24,7 @@ pub const EXCLUDED_HEADS: [(char, char, char); 4] = [
     ('\u{1D1BA}', '\u{1D165}', '\u{1D1BC}'),
 ];
 
-/// The last step of the decomposition of `c`, whose parts before it are `first` and `second`.
+/// The last step of the decomposition of `c`, if that step leads to `first` and `second`.
 fn last_step(c: char, first: char, second: char) -> (char, char)
     ensures { result ≡ last_step composite c first second }
 {
@@ -73,7 +73,7 @@ fn split_by(c: char, full: &[char]) -> Option<(char, char)>
 }
 
 /// Whether `c` stands where no character splits: up to the signs of Latin-1, among the first marks, in Hebrew and
-/// the first letters of Arabic, or in General Punctuation. Most marks and joiners are so told without the table.
+/// the first letters of Arabic, or in General Punctuation. So most marks and joiners are told without the table.
 fn is_whole_early(c: char) -> bool
     ensures { result ≡ is_whole_early c }
 {

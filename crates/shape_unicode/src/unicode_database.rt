@@ -33,7 +33,7 @@ impl hb_unicode_funcs_t for UnicodeDatabase {
         category_from(GeneralCategory::for_char(c))
     }
 
-    /// Canonical_Combining_Class, some ccc changed.
+    /// Canonical_Combining_Class, with some classes changed.
     fn modified_combining_class(c: char) -> u8 {
         modified_ccc_from(ucd_normal::canonical_combining_class(c), c)
     }
@@ -58,7 +58,7 @@ impl hb_unicode_funcs_t for UnicodeDatabase {
         vertical_of(c)
     }
 
-    /// The widths of the space separators but U+1680.
+    /// The widths of the space separators, except for U+1680.
     fn space_fallback(c: char) -> space_t {
         space_of(c)
     }

@@ -1,4 +1,4 @@
--- Full: any steps from the height on give it, it goes along a split, and it keeps nonzero ccc.
+-- Full: any number of steps from the height on gives it, it goes along a split, and it keeps nonzero ccc.
 use Rattle.std.proofs.Common.{◌≡◌, ℕ, zero, suc, ◌<◌, ◌≤◌, ◌⊎◌, ◌==◌, List, [], ◌∷◌, ◌++◌, Option, Some, None, flat_map, refl, sym, ap, subst, ◌∙◌, arith, inl, inr}
 use Rattle.std.proofs.lemmas.Bool.{cases_Bool}
 use Rattle.std.proofs.lemmas.Bool.Decides.{nat_tests}

@@ -1,4 +1,4 @@
--- The walk along a chain that stops at the first point it finds, if the shortest is asked.
+-- The walk along a chain that stops at the first point it finds, if the shortest is asked for.
 use Rattle.std.proofs.Common.{◌≡◌, ℕ, ◌≤◌, Bool, true, false, if◌then◌else◌, ◌&&◌, List, [], ◌∷◌, ◌++◌, reverse, length, Option, None, Some, IfSome, refl, sym, ◌∙◌, ap, arith, append_assoc}
 use Rattle.std.proofs.lemmas.Bool.{both_ways}
 use Rattle.std.proofs.lemmas.List.{take_all}
@@ -18,7 +18,7 @@ walked-pass found seconds b (Some ys) =
     ap Some (append_assoc ys (kept_part b) (reverse seconds) ∙ ap (λ xs. ys ++ xs) (sym (reverse-more seconds b)))
 
 module _ (split : ℕ → Option (ℕ × ℕ)) (has_glyph : ℕ → Bool) where
-  -- what a walk looks for: the least, if the shortest is asked, else the greatest
+  -- what a walk looks for: the least if the shortest is asked for, else the greatest
   abbrev pub sought : Bool → ℕ → ℕ → Option (List ℕ)
   sought true n c = least_supported split has_glyph n c
   sought false n c = greatest_supported split has_glyph n c

@@ -24,7 +24,7 @@ module _ {A : Type 0} (belongs : A → Bool) where
       → divided belongs (x ∷ y ∷ rest) ≡ (x ∷ []) ∷ divided belongs (y ∷ rest)
   divided-parts x y rest parts = rw parts refl
 
-  -- the first part is the first item with what directly after it belongs
+  -- the first part is the first item with the items directly after it that belong
   divided-first : (x : A) (rest : List A)
       → divided belongs (x ∷ rest) ≡ (x ∷ take (prefix_len belongs rest) rest) ∷ divided belongs
       (drop (prefix_len belongs rest) rest)
@@ -43,7 +43,7 @@ module _ {A : Type 0} (belongs : A → Bool) where
   divided-begins x rest =
       let n = prefix_len belongs rest in (take n rest, divided belongs (drop n rest), divided-first x rest)
 
-  -- a list that is cut after its first item and what directly after that belongs
+  -- a list that is cut after its first item and the items directly after it that belong
   pub IsFirstPart-at : (xs : List A) (x : A) (rest part behind : List A) (n : ℕ) → xs ≡ x ∷ rest → n ≡ prefix_len belongs rest
       → part ≡ take (1 + n) xs → behind ≡ drop (1 + n) xs → IsFirstPart belongs xs part behind
   IsFirstPart-at xs x rest part behind n begins counted front back =
@@ -91,7 +91,7 @@ module _ {A : Type 0} (belongs : A → Bool) where
   pub lengths-divided : (xs : List A) → sum_by length (divided belongs xs) ≡ length xs
   lengths-divided xs = sym (length-flat_map (λ part. part) (divided belongs xs)) ∙ ap length (whole-divided xs)
 
-  -- what the items belong by may be read off them first
+  -- what `belongs` answers of the items is divided as they are
   bits-divided : (xs : List A) → divided (λ b. b) (map belongs xs) ≡ map (map belongs) (divided belongs xs)
   bits-divided [] = refl
   bits-divided (x ∷ []) = refl
@@ -107,7 +107,7 @@ module _ {A : Type 0} (belongs : A → Bool) where
       bits-put_first x [] = refl
       bits-put_first x (part ∷ parts) = refl
 
-  -- so how long the parts are depends on that alone
+  -- so how long the parts are depends on these answers alone
   pub sizes-bits : (xs : List A) → map length (divided belongs xs) ≡ map length (divided (λ b. b) (map belongs xs))
   sizes-bits xs = same (divided belongs xs) ∙ sym (ap (map length) (bits-divided xs))
     where

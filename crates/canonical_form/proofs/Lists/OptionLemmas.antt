@@ -1,4 +1,4 @@
--- Cases of an `Option`, and one or else another.
+-- Cases of an `Option`, and of one `Option` or else another.
 use Rattle.std.proofs.Common.{◌≡◌, ◌⊎◌, Option, Some, None, refl, inl, inr}
 use Rattle.std.specs.Option.{option_or}
 

@@ -1,4 +1,4 @@
--- A walk that recomposes: the starter, in what was emitted.
+-- A walk that recomposes: it reads and replaces the starter in what was emitted.
 use Rattle.std.proofs.Common.{◌≡◌, List, [], ◌∷◌, ◌++◌, length, get_or, set, refl, ap}
 
 pub at_split : {A : Type 0} (done ms : List A) (s d : A) → get_or (done ++ s ∷ ms) (length done) d ≡ s

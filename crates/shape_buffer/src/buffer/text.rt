@@ -7,7 +7,7 @@ ghost use Rattle.shape_buffer.specs.Text.{text_items, numbered_from, IsFirstByte
 use shape_items::hb_glyph_info_t;
 use std::alloc::AllocError;
 
-/// Appends the items of a text; if memory runs out, what was there stands first still.
+/// Appends the items of a text; if memory runs out, what was there still stands first.
 pub(crate) fn append_text(infos: &mut Vec<hb_glyph_info_t>, text: &str) -> Result<(), AllocError>
     requires { length text.now < 2 ^ 32 }
     ensures ok { OnOk result (infos.new.items ≡ infos.old.items ++ text_items text.now) }

@@ -30,7 +30,7 @@ defined_flag flag (inl e) = rw e refl
 defined_flag flag (inr (inl e)) = rw e refl
 defined_flag flag (inr (inr e)) = rw e refl
 
--- a flag that an item has once it was put into a cluster it had before
+-- a flag that an item has once it is put into a cluster, it had before
 put_in-flag : (c flag : ℕ) → IsDefinedFlag flag → (x : Item) → has_flag flag (put_in c x) ≡ true → has_flag flag x ≡ true
 put_in-flag c flag d x h =
     let e = no_flag x.mask flag d in
@@ -51,7 +51,7 @@ take_in p a xs some = ap (list_any p) (sym (take-append-drop a xs)) ∙ append-l
 pub drop_in : (p : Item → Bool) (a : ℕ) (xs : List Item) → list_any p (drop a xs) ≡ true → list_any p xs ≡ true
 drop_in p a xs some = ap (list_any p) (sym (take-append-drop a xs)) ∙ append-right p (take a xs) (drop a xs) some
 
--- if f brings a test to an item only if q holds, so it does to a list
+-- if f makes a test hold of an item only if q holds, so it is with a list
 map_brings : (f : Item → Item) (p : Item → Bool) (q : Bool) → ((x : Item) → p (f x) ≡ true → (p x ≡ true) ⊎ (q ≡ true))
     → (xs : List Item) → list_any p (map f xs) ≡ true → (list_any p xs ≡ true) ⊎ (q ≡ true)
 map_brings f p q h [] some = inl some
@@ -82,7 +82,7 @@ range_brings f p q h a b xs some =
       ]
     ]
 
--- the second of two cases can't be
+-- the second of two cases is impossible
 pub the_first : (test : Bool) → (test ≡ true) ⊎ (false ≡ true) → test ≡ true
 the_first test (inl there) = there
 the_first test (inr brought) = cc

@@ -16,7 +16,7 @@ use Rattle.shape_items.proofs.Order.KeepsClusterLemmas.{KeepsClusters-same, Keep
 
 -- ---- spans in order
 
--- they may begin after an earlier place
+-- they are in order from an earlier place on, too
 pub AreSpansInOrder-lower : (low from size : ℕ) (spans : List (ℕ × ℕ)) → low ≤ from → AreSpansInOrder from size spans
     → AreSpansInOrder low size spans
 AreSpansInOrder-lower low from size [] le h = tt

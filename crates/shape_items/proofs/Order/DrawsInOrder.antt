@@ -59,7 +59,7 @@ DrawsInOrder-behind x xs ys h = record {
   in_order = λ i j le lt. omega (arith, h.in_order i j le lt);
 }
 
--- the place that the one at the front has, once it comes before the others
+-- the places if the one at the front is drawn once more, before the others
 abbrev place_again : (ℕ → ℕ) → ℕ → ℕ
 place_again place zero = 0
 place_again place (suc k) = place k

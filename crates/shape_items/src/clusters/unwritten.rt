@@ -80,7 +80,7 @@ pub(super) fn open_run(
     count + 1
 }
 
-/// Gives the picked item's cluster and flags to the last run, if that is below its own; gives how many
+/// Gives the picked item's cluster and flags to the last run, if that cluster is below the run's; gives how many
 /// runs there are, one fewer if the last one joins the one before it.
 pub(super) fn give_to_last(
     infos: &mut [hb_glyph_info_t],

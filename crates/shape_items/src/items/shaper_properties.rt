@@ -4,14 +4,14 @@ ghost use Rattle.std.specs.Prelude.{◌≡◌};
 use crate::items::hb_glyph_info_t;
 
 impl hb_glyph_info_t {
-    /// Reads the syllable that a script shaper counts the item to. That of a new item is 0.
+    /// Reads the syllable that a script shaper puts the item in. That of a new item is 0.
     pub fn _hb_glyph_info_get_syllable(&self) -> u8
         ensures { result ≡ self.now.properties.syllable }
     {
         self.properties.syllable()
     }
 
-    /// Sets the syllable that a script shaper counts the item to, and nothing else.
+    /// Sets the syllable that a script shaper puts the item in, and nothing else.
     pub fn _hb_glyph_info_set_syllable(&mut self, syllable: u8)
         ensures { self.new
             ≡ record self.old { properties = record self.old.properties { syllable = syllable } } }

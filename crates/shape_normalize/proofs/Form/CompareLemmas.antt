@@ -18,7 +18,7 @@ same_where_alike (x ∷ xs) (y ∷ ys) long all =
     let same : x.codepoint ≡ y.codepoint = grind (arith, nat_tests) in
     ap₂ ◌∷◌ same (same_where_alike xs ys (omega (arith, long)) both.1)
 
--- the first of two lists is the same if the two are
+-- lists with the same characters are alike as far as both go
 pub alike_where_same : (xs ys : List Item) → map char_of xs ≡ map char_of ys → list_all alike (zip xs ys) ≡ true
 alike_where_same [] ys same = refl
 alike_where_same (x ∷ xs) [] same = refl

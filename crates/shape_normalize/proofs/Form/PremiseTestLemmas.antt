@@ -175,7 +175,7 @@ module _ (ccc : ℕ → ℕ) (glyph : ℕ → Bool) where
 
 module _ (D : Decompositions) (glyph : ℕ → Bool) where
   module _ (falls : FallsAlong D.split D.height) where
-    -- the last part of Full comes in front first, if it isn't U+0000
+    -- the last part of Full is put in front first, if it isn't U+0000
     row_before-split : (c a b : ℕ) (row : Option ℕ) → D.split c ≡ Some (a, b)
         → row_before D.ccc glyph (full D c) row
         ≡ row_before D.ccc glyph (full D a) (row_before D.ccc glyph (kept_part b) row)

@@ -109,8 +109,6 @@ module _ {X : Type 0} where
         behind = behind_swap xs end i j high_i high_j;
       }
 
--- ---- what merging keeps
-
 -- ---- what each step keeps holds in the end
 
 module _ (start end : ℕ) (P : Buffer → Type 0)
@@ -132,7 +130,7 @@ module _ (start end : ℕ) (P : Buffer → Type 0)
 abbrev pub GoesByNoCcc : {B : Type 0} → Option (Buffer → ℕ → ℕ → Buffer) → (Item → B) → Type 0
 GoesByNoCcc reorder key = (f : Buffer → ℕ → ℕ → Buffer) → reorder ≡ Some f → (item : Item) (ccc : ℕ) → key (with_ccc ccc item) ≡ key item
 
--- the items of which one has another ccc, by what depends on none
+-- if one item gets another ccc, what depends on no ccc stays
 pub keys-ccc_set : {B : Type 0} (key : Item → B) → ((item : Item) (ccc : ℕ) → key (with_ccc ccc item) ≡ key item)
     → (i : ℕ) (item : Item) (ccc : ℕ) (b : Buffer) → item ≡ get_or b.items i item → map key (ccc_set i item ccc b).items ≡ map key b.items
 keys-ccc_set key free i item ccc b is = map-set_same key b.items i (with_ccc ccc item) item (free item ccc ∙ ap key is)

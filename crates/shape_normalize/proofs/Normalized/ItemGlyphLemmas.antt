@@ -1,5 +1,5 @@
--- Each item of a normalised list has the glyph of its character, or what replaces it, or comes of a sequence with a variation
--- selector.
+-- Each item of a normalised list has the glyph of its character, or what replaces it, or comes from a sequence with a
+-- variation selector.
 use Rattle.std.proofs.Common.{◌≡◌, ◌⊎◌, ℕ, Bool, true, false, List, [], ◌∷◌, ◌++◌, length, map, Option, None, Some, is_some, unwrap_or, refl, arith, inl, inr}
 use Rattle.std.specs.List.{All, AllByRecursion, Contains, flat_map, filter}
 use Rattle.std.specs.Option.{option_map, option_map_or}
@@ -73,7 +73,7 @@ module _ (rules : Rules) (invisible not_found : Option GlyphId) where
       → AllByRecursion HasOwnGlyph (sequence_items rules invisible not_found sequence)
   sequence_has_glyphs sequence none = rw none (plain_have_glyphs (rules.short (is_with_marks sequence)) sequence)
 
--- what holds of all that the chosen of some values become, and of all that each other value becomes, holds of all that they become
+-- what holds of all that the chosen values become, and of all that each other value becomes, holds of what all become
 module _ {A B : Type 0} (chosen : A → Bool) (become : A → List B) (P : B → Type 0)
     (others : (x : A) → chosen x ≡ false → AllByRecursion P (become x)) where
   front_and_back : (front back : List B) → AllByRecursion P (front ++ back) → AllByRecursion P front × AllByRecursion P back
@@ -111,7 +111,7 @@ module _ (rules : Rules) where
       (selector_items rules b) themselves)
 
   module _ (lawful : LawfulReorder rules.reorder) where
-    -- each item of the normalised list has its glyph, or comes of a sequence with a selector
+    -- each item of the normalised list has its glyph, or comes from a sequence with a selector
     pub normalized_has_glyphs : (b new : Buffer) → new ≡ normalized rules b → All (HasItemGlyph rules b) new.items
     normalized_has_glyphs b new is =
         rw is (All-from_recursion (HasItemGlyph rules b) (normalized rules b).items

@@ -22,7 +22,7 @@ zip_map : {A B : Type 0} (R : A → B → Type 0) (f : A → B) (xs : List A) �
 zip_map R f [] each = tt
 zip_map R f (x ∷ xs) each = (each.0, zip_map R f xs each.1)
 
--- of lists with the same feature bits, what stands at a place has those of an item that has them in the other
+-- if two lists have the same feature bits, what stands at a place of one has those at that place of the other
 features_at : (xs ys : List Item) → map features_of xs ≡ map features_of ys → (place : ℕ) (other : Item)
     → features_of (item_at ys place) ≡ features_of other → features_of (get_or xs place other) ≡ features_of other
 features_at [] ys same place other is = refl

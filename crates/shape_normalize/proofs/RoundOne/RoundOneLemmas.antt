@@ -64,7 +64,7 @@ module _ (rules : Rules) (invisible : Option GlyphId) where
 
 -- ---- what holds of each item
 
--- what holds of an item holds, of what it becomes, whether it takes a glyph with a selector, is such a selector, or is expanded
+-- what holds of an item carries over to what it becomes: with another glyph, as a marked selector, or expanded
 module _ (rules : Rules) (invisible not_found : Option GlyphId) (P Q : Item → Type 0) (takes_glyph : (item : Item) (glyph : ℕ) → P item
     → Q (record item { glyph_index = glyph })) (is_marked : (item : Item) (glyph : ℕ) → P item
     → Q (marked_selector not_found (record item { glyph_index = glyph })))

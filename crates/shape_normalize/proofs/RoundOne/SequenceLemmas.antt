@@ -1,5 +1,5 @@
--- Sequences: what holds of a list holds of its parts, and an item stands in a sequence with marks exactly when a mark stands at it of
--- the list.
+-- Sequences: what holds of a list holds of its parts, and an item stands in a sequence with marks exactly when a mark
+-- follows it, or it is one itself and not the first.
 use Rattle.std.proofs.Common.{◌≡◌, Bool, true, false, if◌then◌else◌, ◌&&◌, ◌||◌, List, [], ◌∷◌, ◌++◌, map, flat_map, refl, sym, ap, ap₂, ◌∙◌, inl, inr, append_assoc, append-nil}
 use Rattle.std.proofs.lemmas.Bool.{cases_Bool, and_right, or_right}
 use Rattle.std.specs.List.{AllByRecursion}
@@ -89,7 +89,7 @@ module _ {B : Type 0} (become : Bool → Item → List B) where
       → flat_map sequence_becomes (put_first x ((y ∷ part) ∷ parts)) ≡ become true x ++ behind_becomes ((y ∷ part) ∷ parts)
   sequence-put_first x y part parts = append_assoc (become true x) (flat_map (become true) (y ∷ part)) (flat_map sequence_becomes parts)
 
-  -- an item that is no mark counts as the first or not alike
+  -- if an item is no mark, it makes no difference whether it counts as the first
   first_or_not : (x : Item) (rest : List Item) → is_mark_item x ≡ false → from true (x ∷ rest) ≡ from false (x ∷ rest)
   first_or_not x rest unmarked =
       let after = begins_with_mark is_mark_item rest in
@@ -131,7 +131,7 @@ module _ {B : Type 0} (become : Bool → Item → List B) where
             )
       ]
 
-  -- each item stands in a sequence with marks exactly when a mark stands at it
+  -- so each item is with marks exactly when a mark follows it, or it is one itself and not the first
   pub sequences-expanded : (items : List Item)
       → flat_map sequence_becomes (sequences items) ≡ expanded_in_sequences is_mark_item become items
   sequences-expanded [] = refl

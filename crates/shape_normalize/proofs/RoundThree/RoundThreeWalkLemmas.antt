@@ -59,7 +59,7 @@ each_in_place items (p ∷ out) same =
 -- ---- lists that each item adds to
 
 module _ {B : Type 0} (f : Placed → List B) where
-  -- those of the marks, if there are none
+  -- if the marks add none, the starter is the last that adds any
   adds_to_starter : (before : List Placed) (at : Placed) (marks : List Placed) → flat_map f marks ≡ []
       → flat_map f (before ++ at ∷ marks) ≡ flat_map f (before ++ at ∷ [])
   adds_to_starter before at marks none =

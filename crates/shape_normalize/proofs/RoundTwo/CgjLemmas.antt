@@ -53,7 +53,7 @@ unhidden_step zero (x ∷ y ∷ z ∷ rest) a b c within at_a at_b at_c =
 unhidden_step (suc k) (x ∷ y ∷ z ∷ rest) a b c within at_a at_b at_c =
     ap (λ zs. x ∷ zs) (unhidden_step k (y ∷ z ∷ rest) a b c (omega arith) at_a at_b at_c)
 
--- a walk unhides the item after place k, whose neighbours are a and c, if that is to be
+-- a walk unhides the item after place k, whose neighbours are a and c, if it is to be unhidden
 pub unhidden_more : (k : ℕ) (items : List Item) (a b c : Item) → k + 2 < length items → a ≡ get_or items k a → b ≡ get_or items (k + 1) b
     → c ≡ get_or items (k + 2) c
     → take (k + 1) (set items (k + 1) (one_cgj_unhidden a b c)) ++ cgj_unhidden (drop (k + 1) (set items (k + 1) (one_cgj_unhidden a b c)))
@@ -62,7 +62,7 @@ unhidden_more k items a b c within at_a at_b at_c =
     let two : k + 2 ≡ suc (suc k) = omega arith in
     rw (add-one k) (unhidden_step k items a b c (omega arith) at_a (rw (add-one k) at at_b) (rw two at at_c))
 
--- of the last two items none changes
+-- neither of the last two items changes
 pub unhidden_all : (k : ℕ) (items : List Item) → length items ≤ k + 2 → take k items ++ cgj_unhidden (drop k items) ≡ items
 unhidden_all zero [] over = refl
 unhidden_all zero (x ∷ []) over = refl

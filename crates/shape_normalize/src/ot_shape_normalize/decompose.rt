@@ -70,7 +70,7 @@ fn keep_second<F: hb_font_t>(face: &F, b: char, seconds: &mut Vec<Part>) -> Resu
 
 /// Walks along the chain of a character and keeps its second parts. Answers the last point that has a
 /// glyph and after which every second part has one, and how many these are; if the shortest expansion
-/// is asked, of a character without a glyph, the first such point.
+/// is asked for, of a character without a glyph, the first such point.
 fn walk_chain<T: ShapingTypes>(
     plan: &PlanOf<'_, T>,
     face: &T::Face,
@@ -113,9 +113,9 @@ impl Expansion {
     }
 }
 
-/// Keeps the supported expansion of greatest length and says whether one is supported. If the shortest is
-/// asked, of a character without a glyph, the one of least length. Most characters don't split, so that is asked
-/// first.
+/// Keeps the supported expansion of greatest length, or the one of least length if `shortest` holds, which it
+/// may for a character without a glyph alone. Says whether one is supported. Most characters don't split, so
+/// that is asked first.
 pub(crate) fn decompose<T: ShapingTypes>(
     plan: &PlanOf<'_, T>,
     face: &T::Face,

@@ -2,7 +2,7 @@
 //! shaper reorders marks.
 //!
 //! A variation sequence is merged before it becomes one item, and a shaper that reorders may merge what a
-//! later run takes in: both are said of the whole list, and so are the two rounds.
+//! later run takes in: both concern the whole list, so round one is over before round two begins.
 ghost use Rattle.std.specs.Prelude.{◌≡◌, ◌≤◌, ◌<◌, length, OnOk, Err, if◌then◌else◌, None, false};
 ghost use Rattle.shape_items.specs.Buffer.{cleared, limit_of};
 ghost use Rattle.shape_normalize.specs.OneWalk.{HasNoSelectorSequence};

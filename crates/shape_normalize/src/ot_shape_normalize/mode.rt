@@ -25,7 +25,7 @@ fn mode_of<T: ShapingTypes>(plan: &PlanOf<'_, T>) -> hb_ot_shape_normalization_m
     }
 }
 
-/// Whether the shortest expansion is asked of a character, by whether it stands in a sequence with marks.
+/// Whether the shortest expansion is asked for, by whether a character stands in a sequence with marks.
 pub(crate) fn goes_short<T: ShapingTypes>(plan: &PlanOf<'_, T>, with_marks: bool) -> bool
     ensures { result ≡ goes_short_in (used_mode T.Shaper.constants.preference plan.now) with_marks }
 {
@@ -37,7 +37,7 @@ pub(crate) fn goes_short<T: ShapingTypes>(plan: &PlanOf<'_, T>, with_marks: bool
     }
 }
 
-/// Whether the shortest expansion is asked of items by themselves, and of those that stand in sequences with
+/// Whether the shortest expansion is asked for, of items by themselves and of those that stand in sequences with
 /// marks; the mode is asked once for a whole text.
 #[derive(Clone, Copy)]
 pub(crate) struct Shortest {
@@ -56,7 +56,7 @@ impl Shortest {
         }
     }
 
-    /// Whether it is asked of an item, by whether that stands in a sequence with marks.
+    /// Whether it is asked for, by whether an item stands in a sequence with marks.
     pub(crate) fn is_asked(&self, with_marks: bool) -> bool
         ensures { (short : Bool → Bool) → self.now ≡ shortest_of short
             → result ≡ short with_marks }

@@ -2,8 +2,8 @@
 //! reorders: in place, up to the first item that expands, and from there on into a list of its own.
 //!
 //! Most texts become no longer. So each item takes its glyph where it stands, and no memory is taken, as
-//! long as nothing expands. Where marks stand past the first item, the walk follows the runs of what it puts
-//! out. The spans that their order moves are merged in one call after the walk, since one by one they would
+//! long as nothing expands. If marks stand past the first item, the walk follows the runs of what it emits.
+//! The spans that their order moves are merged in one call after the walk, since one by one they would
 //! write the items of clusters that chain again and again.
 ghost use Rattle.std.specs.Prelude.{◌≡◌, ◌≤◌, ◌<◌, ◌==◌, ◌++◌, drop, take, length, vec_len};
 ghost use Rattle.std.specs.Prelude.{IfOk, IsOkUnless, OnOk, Err, [], map, true};

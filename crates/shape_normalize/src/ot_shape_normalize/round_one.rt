@@ -1,8 +1,8 @@
 //! Round one: each item becomes the items of its character's expansion, or takes a glyph with the variation
 //! selector after it.
 //!
-//! Whether the shortest or the longest expansion is taken depends on the mode, and whether the item stands in
-//! a sequence with marks. A sequence with marks that holds a variation selector isn't expanded.
+//! Whether the shortest or the longest expansion is taken depends on the mode, and on whether the item stands
+//! in a sequence with marks. A sequence with marks that holds a variation selector isn't expanded.
 ghost use Rattle.std.specs.Prelude.{◌≡◌, ◌<◌, ◌≤◌, ◌++◌, length, fold, vec_len, OnOk, IfOk};
 ghost use Rattle.std.specs.Prelude.{Err};
 ghost use Rattle.std.specs.List.{flat_map};

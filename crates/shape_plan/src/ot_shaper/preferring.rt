@@ -69,7 +69,7 @@ impl Preference for ComposedDiacriticsNoShortCircuit {
     ghost lawful = { refl };
 }
 
-/// The default shaper with the preference `T`, and not as the default one.
+/// The default shaper with the preference `T`; it doesn't count as the default one.
 #[derive(Drop)]
 pub struct Preferring<T> {
     preference: PhantomData<T>,

@@ -187,7 +187,7 @@ impl hb_buffer_t {
     }
 }
 
-/// Makes a list so long, with zeros after what it has: one of zeros alone stays that.
+/// Makes a list so long, with zeros after what it has: a list of zeros alone stays one.
 fn resize_zeros(positions: &mut Vec<GlyphPosition>, count: usize) -> Result<(), AllocError>
     ensures items { OnOk result (positions.new.items ≡ take count positions.old.items
         ++ replicate (count - length positions.old.items) zero_position) }
@@ -199,7 +199,7 @@ fn resize_zeros(positions: &mut Vec<GlyphPosition>, count: usize) -> Result<(), 
     positions.resize(count, GlyphPosition::zero())
 }
 
-/// Makes a list no longer than this: one of zeros alone stays that.
+/// Makes a list no longer than this: a list of zeros alone stays one.
 fn truncate_positions(positions: &mut Vec<GlyphPosition>, len: usize)
     ensures items { positions.new.items ≡ take len positions.old.items }
     ensures zeros { positions.old.items ≡ replicate (length positions.old.items) zero_position

@@ -72,7 +72,7 @@ impl Expanded {
         Ok(())
     }
 
-    /// Emits an item, its selector that no glyph came of, and those after them.
+    /// Emits an item, its selector that makes no glyph with it, and those after them.
     fn put_apart<F: hb_font_t>(
         &mut self,
         face: &F,
