@@ -5,7 +5,7 @@ use shape_pipeline::ShapeError;
 use std::alloc::AllocError;
 use std::io;
 
-/// Why the program gives up. Of the first four an argument is the reason, whose word the options keep.
+/// Why the program gives up. The reason of the first four is an argument, whose word the options keep.
 #[derive(Clone, Copy)]
 pub enum Failure {
     /// There is no such option.

@@ -88,7 +88,7 @@ fn answer(alloc: Global, options: &Options, font: &Font, text: &str) -> Result<S
     }
 }
 
-/// Writes what is written of a text.
+/// Writes the answer to a text.
 fn write_answer<W: Write>(
     alloc: Global,
     options: &Options,
@@ -167,7 +167,7 @@ fn obey(rt: &HostRuntime, options: &mut Options) -> Result<(), Failure> {
     run(rt, options)
 }
 
-/// Says why the program gives up; the status that it ends with.
+/// Says why the program gives up, and gives the status that it ends with.
 fn give_up(rt: &HostRuntime, failure: Failure, blamed: &str) -> io::Result<ExitCode> {
     eprintln!(rt; "fontshape: {}{}", failure.text(), blamed)?;
     Ok(ExitCode::from(failure.status()))

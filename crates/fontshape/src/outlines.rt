@@ -100,8 +100,8 @@ impl<'a> Outlines<'a> {
         Ok(())
     }
 
-    /// Appends the contours of a part, if no more points than [`MOST_POINTS`] are drawn, or the parts that it is made
-    /// of. Gives how many points and contours that took.
+    /// Appends the contours of a part, unless more than [`MOST_POINTS`] are drawn already; or adds the parts that it is
+    /// made of to those still to be drawn. Gives how many points and contours that took.
     fn append_part(
         &self,
         alloc: Global,
@@ -289,7 +289,7 @@ fn points_of(
     points_by(alloc, outline, at, flags.as_slice(), frame)
 }
 
-/// Appends the contours of an outline that is drawn by itself; how many points and contours that took.
+/// Appends the contours of an outline that is drawn by itself; gives how many points and contours that took.
 fn append_contours(
     alloc: Global,
     out: &mut String,

@@ -51,7 +51,7 @@ pair_kerned t start i j b = pair_moved i j (value_of t start (item_at b.items i)
 abbrev pub is_skipped_by : Option ℕ → Item → Bool
 is_skipped_by left item = is_some left && is_skipped item
 
--- which glyph waits after glyph `j`, where `left` waited before it: the same if `j` is skipped, none if kerning is off for it
+-- which glyph waits after glyph `j`, if `left` waited before: the same if `j` is skipped, none if kerning is off for it
 abbrev pub left_after : ℕ → ℕ → Option ℕ → List Item → Option ℕ
 left_after mask j left items =
     if is_skipped_by left (item_at items j) then left

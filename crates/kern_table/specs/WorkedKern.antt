@@ -161,7 +161,7 @@ worked_lines = record {
   no_mask = refl;
 }
 
--- requests for `kern`: for the whole text or for a range, with a table that may stand in or without
+-- requests for `kern`: for the whole text with a table that may do the feature's work, for a range without one
 abbrev pub KERN : hb_tag_t
 KERN = record { 0 = 0x6b65726e }
 

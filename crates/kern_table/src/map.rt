@@ -18,8 +18,8 @@ pub struct KernWishes {
     pub has_fallback: bool,
 }
 
-/// Where kerning is on: nowhere, or by eight bits of the mask of each item, whose value where no range of the text
-/// says another one is `everywhere`.
+/// Where kerning is on: nowhere, or by eight bits of the mask of each item. Their value is `everywhere`, except in
+/// ranges of the text that say another one.
 #[derive(Clone, Copy, PartialEq, Eq, Debug)]
 pub struct KernMap {
     pub is_on: bool,

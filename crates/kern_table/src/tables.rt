@@ -49,7 +49,7 @@ fn kern_part(kern: &[u8], start: usize, mask: hb_mask_t, buffer: &mut hb_buffer_
     }
 }
 
-/// Kerns a buffer by all parts of the table that are read, in order, if the mask is that of some bits. A part that
+/// Kerns a buffer by all parts of the table that are read, in order, if the mask isn't 0. A part that
 /// says that it is shorter than its header ends the table. Takes no memory.
 #[tactic(auto, using(crate::proofs::PartLemmas::kerned_from_next, crate::proofs::PartLemmas::kerned_from_short, crate::proofs::PartLemmas::kerned_from_end))]
 pub fn kern_table(kern: &[u8], mask: hb_mask_t, buffer: &mut hb_buffer_t)

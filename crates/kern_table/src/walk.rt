@@ -48,7 +48,7 @@ fn moved(horizontal: bool, by: i32, position: GlyphPosition) -> GlyphPosition
     position
 }
 
-/// Puts a longer advance along the line in place of that of a glyph.
+/// Adds to a glyph's advance along the line.
 fn move_on(buffer: &mut hb_buffer_t, i: usize, along: bool, by: i32)
     requires { i < length buffer.old.items }
     ensures { buffer.new
@@ -87,7 +87,7 @@ fn put_pair(buffer: &mut hb_buffer_t, i: usize, j: usize, by: i32)
     buffer.unsafe_to_break(i, j + 1);
 }
 
-/// The same; as many items stay, and the limit.
+/// The same; the number of items and the limit stay.
 #[tactic(auto, using(crate::specs::CountLaws::length_pair_moved, crate::specs::CountLaws::limit_pair_moved))]
 fn move_pair(buffer: &mut hb_buffer_t, i: usize, j: usize, by: i32)
     requires behind { i < j }

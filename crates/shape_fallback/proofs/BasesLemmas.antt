@@ -87,7 +87,7 @@ bases_end face s i b over =
     let none : drop i (marks_of b) ≡ [] = drop_all i (marks_of b) (simp length-map over) in
     rw none refl
 
--- what stands from a place on, at its item
+-- which items from a place on are marks: the one there, then the others
 marks_at : (i : ℕ) (b : Buffer) (x : Item) → i < length b.items → x ≡ get_or b.items i x
     → drop i (marks_of b) ≡ is_mark_item x ∷ map is_mark_item (drop (i + 1) b.items)
 marks_at i b x within is =

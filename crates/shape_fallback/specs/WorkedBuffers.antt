@@ -204,7 +204,7 @@ unfolding marks_positioned frame_of runs_to_right bases_positioned bases base_at
     agree lowered raised ◌+ʷ◌ ◌-ʷ◌ neg_w int_wrap
 widest_mark = record { widest = refl }
 
--- the decisions of a plan, where marks are placed by their extents or not, and offsets adjusted or not
+-- the decisions of a plan: whether marks are placed by their extents, and whether offsets are adjusted
 abbrev pub worked_decisions : Bool → Bool → Decisions
 worked_decisions fallback adjust = record no_decisions {
   apply_fallback_kern = true;

@@ -16,7 +16,7 @@ pub record CccInThaiAndLao : Type 0 where
       ≡ 230 ∷ 230 ∷ 230 ∷ 230 ∷ 230 ∷ 230 ∷ 230 ∷ 230 ∷ 220 ∷ []
   pub beside_lao : map (λ c. ccc_in_thai_or_lao c 0) (0xEB0 ∷ 0xEB2 ∷ 0xEB3 ∷ 0xEB8 ∷ 0xEBA ∷ 0xEBD ∷ 0xECB ∷ 0xECE ∷ 0x301 ∷ [])
       ≡ 0 ∷ 0 ∷ 0 ∷ 0 ∷ 0 ∷ 0 ∷ 0 ∷ 0 ∷ 0 ∷ []
-  -- U+0E3A of another ccc; a character of ccc 0 alone has the others
+  -- U+0E3A of another ccc; the other characters change only if their ccc is 0
   pub virama : map (ccc_in_thai_or_lao 0xE3A) (1 ∷ 3 ∷ 9 ∷ []) ≡ 222 ∷ 222 ∷ 222 ∷ []
   pub with_cccs : map (λ c. ccc_in_thai_or_lao c 107) (0xE31 ∷ 0xEB1 ∷ 0xEBC ∷ 0xE39 ∷ 0xE3B ∷ []) ≡ 107 ∷ 107 ∷ 107 ∷ 107 ∷ 107 ∷ []
 

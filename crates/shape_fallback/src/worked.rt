@@ -35,7 +35,7 @@ pub fn buffers_meet_worked_cases()
     ensures { WorkedBuffers }
 {}
 
-/// What depends on the buffer alone: marks of ccc 0 in text of either way, which stay where they are, the
+/// What depends on the buffer alone: marks of ccc 0, which stay where they are whichever way text runs, the
 /// line that marks stand along, and the flag that says that spaces are due.
 pub fn directions_meet_worked_cases()
     ensures { WorkedDirections }

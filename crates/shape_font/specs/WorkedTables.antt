@@ -81,7 +81,7 @@ pub record WorkedCollections : Type 0 where
   pub past_the_last : font_start two_fonts 2 ≡ None
   pub one_font : font_start (two_tables 2) 0 ≡ Some 0
   pub one_font_only : font_start (two_tables 2) 1 ≡ None
-  -- records are found from the font's begin, tables from the file's
+  -- records are found from the start of the font, tables from that of the file
   pub behind_a_byte : table_at (99 ∷ header 1 ++ entry 65 29 1 ++ 11 ∷ []) 1 0x41412020 ≡ Some (11 ∷ [])
 
 pub worked_collections : WorkedCollections

@@ -123,7 +123,7 @@ fn by_groups(table: &[u8], one: bool, c: u32) -> u64
     }
 }
 
-/// The glyph of a character by the table's format, or 0; which may be more than the face has.
+/// The glyph of a character by the table's format, or 0. It may be past the last glyph of the face.
 pub fn glyph(table: &[u8], c: u32) -> u64
     ensures { result ≡ cmap_glyph table.now c }
 {
@@ -144,7 +144,7 @@ pub fn glyph(table: &[u8], c: u32) -> u64
     }
 }
 
-/// The glyph of a character, that of U+F000 and more if a table of symbols has none for one below 256; or 0.
+/// The glyph of a character, or 0. In a table of symbols one below 256 without a glyph has that of U+F000 plus itself.
 pub fn mapped(table: &[u8], symbols: bool, c: u32) -> u64
     ensures { result ≡ mapped_glyph table.now symbols c }
 {

@@ -55,8 +55,7 @@ const KERN: u32 = 0x6b65_726e;
 const POST: u32 = 0x706f_7374;
 
 /// A face over the bytes of an OpenType or TrueType file, in its units. A table that the file lacks reads as an empty
-/// one. A font whose outlines stand in another table than `glyf` (`CFF`) has
-/// no boxes.
+/// one. A font whose outlines stand in another table than `glyf` (`CFF`) has no boxes.
 #[derive(Clone, Copy)]
 pub struct FontFace<'a> {
     units_per_em: u16,

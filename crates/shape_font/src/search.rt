@@ -32,8 +32,8 @@ pub fn side_by_end(n: u32, start: u32, end: u32) -> Ordering
     }
 }
 
-/// The place of the first `count` that a search by midpoints meets and finds equal. `side` says of a place whether
-/// what is sought stands before it, at it or after it. Takes a step for each bit of `count`.
+/// Of the first `count` places, the one that a search by midpoints comes to and finds equal. `side` says of a place
+/// whether what is sought stands before it, at it or after it. Takes a step for each bit of `count`.
 pub fn found<F: Fn(u32) -> Ordering>(count: u32, side: F) -> Option<u32>
 where
     F: Drop,

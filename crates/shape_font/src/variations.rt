@@ -50,7 +50,7 @@ fn record(table: &[u8], selector: u32) -> Option<u32>
     found(count, |i| selector_side(table, selector, i))
 }
 
-/// What the table has at the place that stands at `at`; nothing if that is 0.
+/// What stands in the table from the place on that the number at `at` names; nothing if that is 0.
 fn part(table: &[u8], at: usize) -> &[u8]
     requires { at < 2 ^ 40 }
     ensures { result.now ≡ part_of_sequences table.now at }

@@ -43,7 +43,7 @@ pub width-more : (ps : List Part) (a k : ℕ) (p : Part) → a ≤ k → k < len
 width-more ps a k p le lt is =
     width-split ps a k (k + 1) le (omega arith) ∙ ap (λ w. width_between ps a k +ℤ w) (width-one ps k p lt ∙ ap (λ (q : Part). q.width) (sym is))
 
--- a sum of so many widths
+-- within the bounds of a sum of so many widths
 abbrev pub IsWithin : ℕ → ℤ → Type 0
 IsWithin n z = (pos 0 ≤ℤ (z +ℤ pos (n * 2147483648))) × (z ≤ℤ pos (n * 2147483648))
 

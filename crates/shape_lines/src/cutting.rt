@@ -1,9 +1,9 @@
 //! The lines of a shaped text.
 //!
-//! Each line is the longest part from its start that fits. Widths may be negative, so that a longer part may
-//! fit again after one that does not; so each place where a line may end is asked whether this end or a later
+//! Each line is the longest part from its start that fits. Widths may be negative, so a longer part may fit
+//! again after one that does not. Each place where a line may end is therefore asked whether this end or a later
 //! one fits, by the least width from it to an end at it or after it. These are summed once, from the end of
-//! the text, and the walk passes each place once.
+//! the text, and the walk comes to each place once.
 ghost use Rattle.std.specs.Prelude.{◌≡◌, ◌<◌, ◌≤◌, ◌+◌, ◌+ℤ◌, pos, true, [], length, get_or, IfOk, OnOk, IsOk, IsOkUnless, if◌then◌else◌};
 ghost use Rattle.std.specs.Int.{int_min};
 ghost use Rattle.shape_lines.specs.CanCut.{CanCut};

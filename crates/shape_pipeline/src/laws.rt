@@ -66,8 +66,8 @@ where
 {}
 
 /// Hook by hook: a shaper that gives one hook owes what that one does, and nothing of the others. A run keeps
-/// clusters, or flags, if each of its hooks that is given does and its engine's lookups do; of the hook
-/// that reorders marks the first asks its own. It keeps equivalence if none splits, composes or reorders,
+/// clusters, or flags, if each of its hooks that is given does and its engine's lookups do; for clusters
+/// its hook that reorders marks must keep them too. It keeps equivalence if none splits, composes or reorders,
 /// and a given `preprocess_text` leaves prepared items prepared.
 pub fn given_hooks_keep<U, F, M, S>()
 where
@@ -92,9 +92,9 @@ where
         → RunKeepsEquivalence run }
 {}
 
-/// A run owes nothing if its shaper's hooks do what is done without them, whichever of them are given
-/// except for the one that reorders marks, and its lookups keep clusters and flags: then it does so too, and
-/// what canonical form asks of a shaper holds of every text.
+/// A run owes nothing if its shaper's hooks, whichever of them are given, do what is done without them, none
+/// reorders marks, and its lookups keep clusters and flags. Then the run keeps both, too, and what canonical
+/// form asks of a shaper holds of every text.
 pub fn runs_without_hooks_owe_nothing<U, F, M, S>()
 where
     U: hb_unicode_funcs_t,

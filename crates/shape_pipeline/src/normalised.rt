@@ -21,8 +21,8 @@ use shape_plan::ot_shaper::{Runs, hb_ot_shaper_t};
 use shape_plan::shaping_types::{Meaning, PlanOf, ShapingTypes, TypesOf};
 use std::alloc::Global;
 
-/// The characters that a run by this plan normalises a text to: a key under which a cache keeps shaped texts of
-/// the plan and of what else is set of them. Script and direction are guessed if they aren't set. If the
+/// The characters that a run by this plan normalises a text to: a key under which a cache keeps shaped texts, for
+/// one plan and whatever else is set of them. Script and direction are guessed if they aren't set. If the
 /// premises of `canonical` hold, two texts have one key exactly when they are canonically equivalent. Otherwise
 /// equal keys don't say that: clusters, positions and properties are no part of them.
 ///

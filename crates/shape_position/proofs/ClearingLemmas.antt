@@ -1,4 +1,4 @@
--- Zeros put in place of each position beside its item.
+-- Zeros in place of each position.
 use Rattle.std.proofs.Common.{◌≡◌, List, [], ◌∷◌, length, replicate, refl, ap, arith}
 use Rattle.shape_items.specs.Items.{Item}
 use Rattle.shape_common.specs.Positions.{zero_position}

@@ -37,7 +37,7 @@ as_many-hand_on k x rest b as_many =
     hand_on-cases (λ c. length c.positions ≡ length c.items) k x rest b as_many (as_many ∙ sym (length-give_to_kept k x b.items))
     (λ more. positions ∙ as_many ∙ sym (length-merge_clusters 0 2 b))
 
--- from lists of one length, the same place goes
+-- two lists of one length stay so without what stands at one place
 length-remove_both : {X Y : Type 0} (k : ℕ) (xs : List X) (ys : List Y) → length xs ≡ length ys
     → length (remove xs k) ≡ length (remove ys k)
 length-remove_both k xs ys same =

@@ -22,7 +22,7 @@ placed_by run table =
     ∷ step (zeroed_late run)
     ∷ []) ++ close_steps run
 
--- which of two tables positions, if the first and the second are applied or not
+-- which of two tables positions, by whether the first and the second are applied
 abbrev chosen : Bool → Bool → (Buffer → Buffer) → (Buffer → Buffer) → Buffer → Buffer
 chosen first second by_first by_second = if first then by_first else step_if second by_second
 

@@ -6,7 +6,7 @@ use Rattle.shape_common.specs.declared.positions.GlyphPosition.{GlyphPosition}
 use Rattle.shape_position.specs.Advances.{glyph_of, advanced_position, IsExactDifference}
 use Rattle.shape_position.specs.Zeroing.{is_mark_glyph, zeroed_mark}
 
--- advances are those of the face, and offsets along a line down have exactly lost the origin of vertical lines
+-- advances are those of the face, and down a line the offsets have exactly lost the origin of vertical lines
 pub record ExactAdvances : Type 0 where
   pub along : (face : FaceMeaning) (item : Item) (p : GlyphPosition)
       → (advanced_position face true item p).x_advance ≡ face.h_advance (glyph_of item)

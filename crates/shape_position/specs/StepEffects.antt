@@ -6,7 +6,7 @@ use Rattle.shape_items.specs.ClusterOrder.{IsNonIncreasing, IsOrderedFor}
 use Rattle.shape_items.specs.Clusters.{clusters}
 use Rattle.shape_common.specs.Direction.{is_backward}
 
--- as many positions as items, if there were
+-- as many positions as items, if there were before
 abbrev pub KeepsAsMany : (Buffer → Buffer) → Type 0
 KeepsAsMany f = (b : Buffer) → length b.positions ≡ length b.items → length (f b).positions ≡ length (f b).items
 

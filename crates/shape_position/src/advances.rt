@@ -73,7 +73,7 @@ pub fn put_advances<F: hb_font_t>(face: &F, buffer: &mut hb_buffer_t)
     );
 }
 
-/// Makes the positions new, by the face alone: the first two steps of positioning, neither of which is
+/// Makes the positions anew, by the face alone: the first two steps of positioning, neither of which is
 /// ever refused. Offsets are exact if they fit, as `put_advances` has them. Fallback spaces come after.
 /// Takes no memory.
 pub fn position_default<T: ShapingTypes>(

@@ -1,6 +1,6 @@
 //! The last step over the list: each cluster gets one set of flags.
 //!
-//! Shaping marks single glyphs as unsafe to break or to concat before, but a line can only be cut between
+//! Earlier steps mark single glyphs as unsafe to break or to concat, but a line can only be cut between
 //! clusters. So the flags of a cluster's glyphs are united and each of them gets all: a caller may then ask
 //! any one of them. The masks hold flags alone from here on.
 ghost use Rattle.std.specs.Prelude.{◌≡◌, ◌==◌, false, IsTrue};
@@ -66,7 +66,7 @@ fn with_tatweel(flags: BufferFlags, united: hb_mask_t) -> hb_mask_t
     }
 }
 
-/// What of the united flags of a cluster is handed out: unsafe to concat only if it is asked for.
+/// Which of the united flags of a cluster are handed out: unsafe to concat only if it is asked for.
 fn handed_flags(flags: BufferFlags, united: hb_mask_t) -> hb_mask_t
     ensures { result ≡ handed_flags_of flags united }
 {
@@ -85,7 +85,7 @@ pub struct HandedOn {
     pub left: usize,
 }
 
-/// What the first items hand on, if they are in the cluster. A call of its own: most clusters have one item.
+/// What the first items hand on, if they are in the cluster. Kept out of line, since most clusters have one item.
 #[inline(never)]
 fn hand_run_on(flags: BufferFlags, infos: &[hb_glyph_info_t], cluster: u32) -> HandedOn
     ensures { result ≡ handed_by_run flags cluster infos.now }
@@ -96,7 +96,7 @@ fn hand_run_on(flags: BufferFlags, infos: &[hb_glyph_info_t], cluster: u32) -> H
     }
 }
 
-/// What the first of these items gets, which is of the cluster, and how many after it.
+/// What the first of these items, which is of the cluster, gets, and how many of those after it get it, too.
 fn hand_on(
     flags: BufferFlags,
     before: HandedOn,

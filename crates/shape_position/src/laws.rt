@@ -6,7 +6,7 @@ ghost use Rattle.shape_position.specs.OneTable.{EachRunsOneTable};
 /// Each step of positions and of the end of a run keeps the order of clusters and the flags of glyphs,
 /// if the lookups and hooks of the run do. The reversal inverts the order of clusters if the buffer's
 /// direction is backward. Each of them that asks neither lookups nor hooks leaves as many positions as items,
-/// if there were. Does nothing: a caller's proof cites it.
+/// if there were before. Does nothing: a caller's proof cites it.
 pub fn steps_keep_clusters_and_flags()
     ensures { StepsKeep }
 {}
@@ -17,7 +17,7 @@ pub fn one_table_runs()
     ensures { EachRunsOneTable }
 {}
 
-/// Advances are those that the face answers, and along a line down each offset is the exact difference to
+/// Advances are those that the face answers, and down a line each offset is the exact difference to
 /// the origin of vertical lines if that fits an i32. Does nothing.
 pub fn advances_are_exact_where_they_fit()
     ensures { ExactAdvances }

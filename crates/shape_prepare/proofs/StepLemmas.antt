@@ -123,7 +123,7 @@ clusters_formed-marked b seen level = rw seen (at_level b.cluster_level level)
     at_level MonotoneCharacters other = refl
     at_level Characters other = refl
 
--- a step is refused, and made, by what it makes of the buffer at hand
+-- the outcome of a step is that of any other step that makes the same of the buffer at hand
 pub Outcome-alike : {T : Type 0} (f g : Buffer → Buffer) (old new : Buffer) (result : Result T ShapeError) → g old ≡ f old
     → Outcome (step g) old new result → Outcome (step f) old new result
 Outcome-alike f g old new (Ok _) same ran = record {

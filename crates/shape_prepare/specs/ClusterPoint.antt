@@ -18,7 +18,7 @@ use Rattle.shape_plan.specs.Run.{Run}
 use Rattle.shape_prepare.specs.NativeOrder.{is_against, native_direction}
 use Rattle.shape_prepare.specs.PrepareSteps.{grapheme_steps, prepare_steps}
 
--- the direction if the list was reversed, or not
+-- the opposite direction if the list was reversed, else the same
 abbrev pub direction_for : Bool → Direction → Direction
 direction_for reversed direction = if reversed then reverse_of direction else direction
 

@@ -26,7 +26,7 @@ mirrored_item unicode face rtlm_mask item = mirrored_or_masked rtlm_mask item (f
 abbrev pub vertical_item : UnicodeMeaning → FaceMeaning → Item → Item
 vertical_item unicode face item = record item { codepoint = unwrap_or (form_in face (unicode.vertical item.codepoint)) item.codepoint }
 
--- the mirrored form, if that is asked, and then the vertical form of what the item has become, if that is
+-- the mirrored form, if it is asked for, and then the vertical form of what the item has become, if that is asked for
 abbrev pub in_forms : UnicodeMeaning → FaceMeaning → Bool → ℕ → Bool → Item → Item
 in_forms unicode face mirrors rtlm_mask is_upright item =
     let mirrored = if mirrors then mirrored_item unicode face rtlm_mask item else item in

@@ -9,9 +9,9 @@ pub fn preparing_keeps_flags()
     ensures { PreparingKeepsFlags }
 {}
 
-/// At the monotone levels, if the shaper's hook keeps clusters, clusters that never fall come out so, or
-/// never rise exactly when the native order reversed the list, which the buffer's direction tells; none is
-/// new, and flags and level stay.
+/// At the monotone levels, if the shaper's hook keeps clusters, clusters that never fall come out in order:
+/// never rising if the native order reversed the list, as the buffer's direction tells, else never falling.
+/// None is new, and flags and level stay.
 pub fn preparing_keeps_order()
     ensures { PreparingKeepsOrder }
 {}

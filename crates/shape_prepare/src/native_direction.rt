@@ -1,8 +1,8 @@
 //! The native order: a text runs the way its script is written.
 //!
 //! Lookups are made for text in the direction in which its script is written, so a text that was handed
-//! over against it is reversed. Each grapheme stays as it was: its marks must stand after their base. The
-//! reversal goes in place: first each grapheme is reversed, then the whole list.
+//! over against it is reversed. Each grapheme stays as it was: its marks must stand after their base. So each
+//! grapheme is reversed in place first, and then the whole list is.
 ghost use Rattle.std.specs.Prelude.{◌≡◌, length};
 ghost use Rattle.std.specs.List.{list_any};
 ghost use Rattle.shape_buffer.specs.Outcome.{Made};

@@ -19,7 +19,7 @@ pub enum Command {
 }
 
 impl Command {
-    /// What a line is about that begins with a word. Refuses every word but these nine.
+    /// What a line that begins with a word is about. Refuses every word but these nine.
     pub fn from_word(word: &str) -> Option<Command>
         ensures { result ≡ command_of word.now }
     {

@@ -28,7 +28,7 @@ order-masks f alone b monotone =
 
 -- ---- flags
 
--- if no item gets a flag that it hasn't, no list does
+-- if no item gets a flag that it lacks, no list does
 some_has-map : (f : Item → Item) (flag : ℕ) → ((x : Item) → has_flag flag (f x) ≡ true → has_flag flag x ≡ true) → (xs : List Item)
     → some_has flag (map f xs) ≡ true → some_has flag xs ≡ true
 some_has-map f flag brings [] some = some

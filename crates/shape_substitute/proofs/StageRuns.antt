@@ -13,7 +13,7 @@ Refused-more run k zero old error refused = let same : k + zero ≡ k = omega ar
 Refused-more run k (suc d) old error refused =
     let more : k + suc d ≡ suc (k + d) = omega arith in rw more (Refused-before _ (Refused-more run k d old error refused))
 
--- a refusal at a stage is one of all of them
+-- a refusal at one stage is a refusal of the whole list of stages
 pub Refused-stages : (run : Run) (i n : ℕ) {old : Buffer} {error : ShapeError} → i < n → Refused (stage_steps run (suc i)) old error
     → Refused (stage_steps run n) old error
 Refused-stages run i n {old} {error} lt refused =

@@ -23,7 +23,7 @@ pub record EachSubstitutionStep (Keeps : (Buffer → Buffer) → Type 0) (run : 
 abbrev pub SubstitutionKeepsClusters : Type 0
 SubstitutionKeepsClusters = (run : Run) → CallsKeepClusters run → EachSubstitutionStep IsClusterKeeper run
 
--- and flags, if the masks of the plan and of its features are those of features, too
+-- and flags if these keep flags, and the masks of the plan and of its features are those of features
 abbrev pub SubstitutionKeepsFlags : Type 0
 SubstitutionKeepsFlags =
     (run : Run) → LawfulMasks run.map → FractionsAreFeatures run.decisions → RunKeepsFlags run → EachSubstitutionStep IsFlagKeeper run

@@ -1,12 +1,11 @@
 //! What masks and substitution keep, for those who run them as parts of a longer list of steps.
 //!
 //! A step that keeps clusters leaves them in order, rising or falling, and brings none; one that keeps flags
-//! sets none on a glyph without the run's noting it. So what is asked of hooks and lookups is all that is
-//! asked.
+//! sets none on a glyph unless the run notes it. Hooks and lookups are asked for no more than that.
 ghost use Rattle.shape_substitute.specs.Keepers.{SubstitutionKeepsClusters, SubstitutionKeepsFlags};
 
-/// Every step keeps clusters at the monotone levels, if the lookups and the hooks do; and every one keeps
-/// the flags of glyphs, if no mask of the plan or of its features has the bit of a flag, too.
+/// Every step keeps clusters at the monotone levels, if the lookups and the hooks do. Every one keeps the
+/// flags of glyphs, if these do and no mask of the plan or of its features has the bit of a flag.
 pub fn substitution_keeps_clusters_and_flags()
     ensures clusters { SubstitutionKeepsClusters }
     ensures flags { SubstitutionKeepsFlags }

@@ -36,7 +36,7 @@ pub fn count(text: &[u8], kind: Kind) -> usize
     text.iter().take_while(|byte| is(kind, **byte)).count()
 }
 
-/// The text from its first byte on that is no space.
+/// The text without the spaces at its front.
 pub fn skip_spaces(text: &[u8]) -> &[u8]
     ensures { result.now ≡ without_spaces text.now }
 {

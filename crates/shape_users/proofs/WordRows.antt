@@ -56,7 +56,7 @@ two_more : (run : Run) (a b : Word) (s : List ℕ) → KeepsWords run [] (a ∷ 
 two_more run a b s (inl found) = let no : 0 < 0 = found.0 in omega (arith, no)
 two_more run a b s (inr more) = let no : 2 ≡ 1 = ap length more.1.behind in omega (arith, no)
 
--- the word that stands alone is the one more
+-- the word that stands alone is the one that was added
 module _ (run : Run) (a : Word) (s : List ℕ) (more : IsOneWordMore run [] (a ∷ []) s) where
   alone : more.word ≡ a
   alone = ap (λ words. get_or words 0 a) (sym more.behind)

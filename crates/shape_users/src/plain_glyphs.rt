@@ -128,7 +128,7 @@ where
 }
 
 /// The glyphs of a text, with what is known of the normalised list that they are made of: each character that
-/// the text hasn't has a glyph, each item has the glyph of its character or of what replaces it, feature
+/// the text lacks has a glyph, each item has the glyph of its character or of what replaces it, feature
 /// bits and places are those of the text's items, and marks were composed by the standard's rule. Without a
 /// variation selector the list is equivalent to the text; if canonical form is asked of both, the lists
 /// of two texts have the same characters exactly when the texts are equivalent.
@@ -176,7 +176,7 @@ where
 }
 
 /// The glyphs of a text by a shaper that reorders marks and an engine with ligatures. Both keep clusters and
-/// flags, so of a text whose clusters never fall, at a monotone level, they say what is said without them:
+/// flags, so for a text whose clusters never fall, at a monotone level, the same holds as without them:
 /// clusters are the text's and stand in the order in which the glyphs run, and neighbours in one cluster have
 /// the same flags.
 pub fn ligated_glyphs_in_order<U, F>(

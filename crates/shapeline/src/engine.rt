@@ -1,7 +1,7 @@
 //! The program over any reader and writer: a line sets something or asks for something.
 //!
 //! Nothing is kept of a line but what it sets, and what a line answers is written before the next one is
-//! read. The first line that can't be obeyed ends the run, with a status that says why.
+//! read. The first line that can't be obeyed ends the program's run, with a status that says why.
 ghost use Rattle.std.specs.Prelude.{◌≡◌, ◌≤◌, Some};
 ghost use Rattle.shape_sessions.specs.Lines.{IsLine, IsObeyed, line_words, obeyed};
 ghost use Rattle.shape_sessions.specs.Lines.{command_of_words};
@@ -21,13 +21,13 @@ use shape_sessions::session::{Session, words_of_line};
 use std::alloc::Global;
 use std::io::{BufRead, Write};
 
-/// The status of a run that came to the end of its input.
+/// The status if the program came to the end of its input.
 const DONE: u8 = 0;
 
-/// The status of a run whose input couldn't be read or whose output couldn't be written.
+/// The status if the input couldn't be read or the output couldn't be written.
 const FAILED: u8 = 1;
 
-/// The status of a run that met a malformed line.
+/// The status if a line was malformed.
 const MALFORMED: u8 = 2;
 
 /// Obeys the lines of the reader and gives the exit status: 0 at the end of the input, 1 if a read or

@@ -61,8 +61,8 @@ fn is_mark_at(infos: &[hb_glyph_info_t], i: usize) -> bool
     infos[i]._hb_glyph_info_is_unicode_mark()
 }
 
-/// Places the marks of the base at a place, if there is one with marks, and answers where what is done ends: after
-/// these marks, else after the item.
+/// Places the marks of the base at a place, if there is one with marks, and answers up to which place all is done:
+/// up to the end of these marks, else of the item.
 fn position_at<F: hb_font_t>(
     face: &F,
     frame: MarkFrame,
@@ -86,7 +86,7 @@ fn position_at<F: hb_font_t>(
 }
 
 /// Places the marks of the base before a place, if a mark stands there that isn't placed yet; those before place `done`
-/// are. Answers where what is done ends.
+/// are. Answers up to which place all is done then.
 fn position_before<F: hb_font_t>(
     face: &F,
     frame: MarkFrame,
@@ -109,7 +109,7 @@ fn position_before<F: hb_font_t>(
     position_at(face, frame, buffer, i - 1)
 }
 
-/// Places the marks of all bases. A base is looked for before a mark alone, and marks that were placed are
+/// Places the marks of all bases. A base is looked for only before a mark, and marks that were placed are
 /// skipped.
 pub(crate) fn position_bases<F: hb_font_t>(face: &F, frame: MarkFrame, buffer: &mut hb_buffer_t)
     ensures { Made (bases_positioned (F.face face.now) frame) buffer.old buffer.new }

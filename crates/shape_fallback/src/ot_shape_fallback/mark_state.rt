@@ -124,7 +124,7 @@ fn with_component(base: &Base, info: &hb_glyph_info_t, state: &mut MarkState)
     }
 }
 
-/// The state at a mark of this ccc: another ccc than the last begins at the box of the component again.
+/// The state at a mark of this ccc: another ccc than the last begins at the component's extents again.
 #[tactic(auto, using(shape_common::proofs::WrappingLemmas::kept_bits), unfolding(crate::specs::MarkState::at_ccc))]
 fn at_ccc(ccc: u8, state: &mut MarkState)
     ensures { state.new ≡ at_ccc_of ccc state.old }

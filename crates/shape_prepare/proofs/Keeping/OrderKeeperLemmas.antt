@@ -211,7 +211,7 @@ none-marked unicode (item ∷ items) flags unseen = elim (cases_Bool (beyond_asc
       (stays, rw plain (none-marked unicode items (seen_item unicode flags item) unseen))
 ]
 
--- a circle shows a character past ASCII
+-- a circle is a character past ASCII: if none was seen, no circle went in
 circle-seen : (unicode : UnicodeMeaning) (b : Buffer) (items : List Item) → seen_past (with_circle unicode items b).scratch_flags ≡ false
     → with_circle unicode items b ≡ b
 circle-seen unicode b [] unseen = refl

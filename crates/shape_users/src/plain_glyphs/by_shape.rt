@@ -1,5 +1,5 @@
-//! What `shape`, which plans for the text itself, says of its count and of the normalised list: the clauses in plain
-//! words, as [`plain_glyphs_counted`](super::plain_glyphs_counted) and
+//! What `shape`, which plans for the text itself, says of what it counts and of the normalised list: the clauses in
+//! plain words, as [`plain_glyphs_counted`](super::plain_glyphs_counted) and
 //! [`plain_glyphs_formed`](super::plain_glyphs_formed) have those of `shape_with_plan`. Nothing is asked of the text.
 ghost use Rattle.std.specs.Prelude.{◌≡◌, ◌≢◌, [], All, IfOk, IfErr};
 ghost use Rattle.shape_normalize.specs.CanonicalForm.{AreEquivalent};
@@ -42,7 +42,7 @@ where
     shape::<U, F, NoLookups, hb_default_shaper_t>(alloc, face, shaper, &[], text)
 }
 
-/// The glyphs of a text: each character of their normalised list that the prepared text hasn't has a glyph, each
+/// The glyphs of a text: each character of their normalised list that the prepared text lacks has a glyph, each
 /// item has the glyph of its character or of what replaces it, feature bits and places are those of the
 /// prepared text's items, and marks were composed by the standard's rule. Without a variation selector the list is
 /// equivalent to the text.

@@ -52,8 +52,7 @@ where
     )
 }
 
-/// Makes of a text, for which there is a plan, what a run begins to normalise with. Refuses as `prepare_text`
-/// does.
+/// Prepares a text for normalising under this plan. Refuses as `prepare_text` does.
 pub fn prepare<S>(
     alloc: Global,
     plan: &hb_ot_shape_plan_t<'_, S, (), S::Data>,
