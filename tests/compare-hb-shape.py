@@ -1,6 +1,6 @@
 #!/usr/bin/env python3
-"""Compares the program `fontshape` with `hb-shape` of HarfBuzz 6.0.0 on random texts, where Debian's packages
-fonts-dejavu-core, libharfbuzz-bin and python3-fonttools are installed, and the program is built or can be; elsewhere it
+"""Compares the program `fontshape` with `hb-shape` of HarfBuzz 6.0.0 on random texts, if Debian's packages
+fonts-dejavu-core, libharfbuzz-bin and python3-fonttools are installed, and the program is built or can be; if not, it
 says so and ends with status 77.
 
 The texts are of scripts for which HarfBuzz has no shaper of its own, with marks, joiners, spaces and fractions, and of
@@ -179,7 +179,7 @@ def compare_font(comparison, chance, kind, font, known, count, lists):
 
 
 def missing(program, crate):
-    """What isn't there to compare, nothing where all is; builds the program where it is not built."""
+    """What is missing for the comparison, nothing if all is there; builds the program if it isn't built."""
     try:
         import fontTools.ttLib  # noqa: F401
         version = subprocess.run(["hb-shape", "--version"], stdout=subprocess.PIPE).stdout.decode()
@@ -196,7 +196,7 @@ def missing(program, crate):
 
 
 def with_packages():
-    """Runs this script by Debian's Python, where another one without Debian's packages runs it."""
+    """Runs this script by Debian's Python, if another one without Debian's packages runs it."""
     debian = "/usr/bin/python3"
     if importlib.util.find_spec("fontTools") is None and os.path.exists(debian) and not os.path.samefile(debian, sys.executable):
         os.execv(debian, [debian] + sys.argv)

@@ -27,7 +27,7 @@ def spans(data):
     for at in range(12, 12 + 16 * count, 16):
         tag, _, start, length = struct.unpack(">4s3I", data[at:at + 16])
         if tag in READ:
-            # the begin of a table has its counts and offsets
+            # the beginning of a table has its counts and offsets
             found += [(start, start + length), (start, start + min(length, 64))]
     return found
 

@@ -5,13 +5,13 @@
 
 They stand in crates/CRATE/must-fail (the gate's) and in tests/bodies/CRATE (tried with --all, or by name). Each is a must-fail
 edit of the kit (`file:`, `old:`, `new:`, each old text standing once in its file), with a line `# fn:` that names the function
-which must be refused, by its path below the crate, as a check prints it. Where a fact computed over a whole table is what
+which must be refused, by its path below the crate, as a check prints it. If a fact computed over a whole table is what
 refuses it, `# law:` names the file of that fact.
 
 `rt must-fail` tries one edit at a time, over a second proof of the whole crate. Here all edits of a crate in functions of
-their own are put in at once, these functions and what they call are checked, and of each it is read that a goal of its own
-body is open. What isn't refused so, since it only calls a refused one, say, is tried again without those that were. A proof
-that names what an edit took away shows nothing, and doesn't count.
+their own are put in at once, these functions and what they call are checked, and the check must say of each that a goal
+of its own body is open. What isn't refused so, say since it only calls a refused one, is tried again without those that
+were. A proof that names what an edit took away shows nothing, and doesn't count.
 
 The libraries below have to stand built, as `rt ci` leaves them, in DIR if it is given. Status 0 says that each edit was
 refused. RT_JOBS sets how many checks run side by side; each takes 1 to 3 GB.
@@ -156,7 +156,7 @@ def outcomes(built, edits, kept):
     """Tries the edits of a crate, and gives each with whether it was refused, and why."""
     left = list(edits)
     while left:
-        # functions with names of their own, and one table: a check tells these apart
+        # functions of different names, and one table at most: a check tells these apart
         found = tried(built, list({bool(it.law) or it.last_name(): it for it in reversed(left)}.values()), kept)
         if not any(is_refused for is_refused, _ in found.values()):
             # what isn't refused beside others may be so by itself

@@ -1,11 +1,11 @@
 #!/bin/sh
-# Takes the whole of Unicode's NormalizationTest.txt through the normaliser, where Debian's package `unicode-data` is
-# installed; elsewhere it says so and ends with status 77.
+# Takes the whole of Unicode's NormalizationTest.txt through the normaliser, if Debian's package `unicode-data` is
+# installed; if not, it says so and ends with status 77.
 #
 # The built program writes each column's normalised lists, in the two modes that split fully. Columns 1 to 3 of a line
 # must have one list, and so must 4 and 5. Two texts of one canonical form (the file's third column, and its fifth one)
 # must have one list, and two of other forms other lists, except for forms that differ by the place of one of three marks,
-# whose class in shaping parts it from the marks of its combining class: these are listed with their reason.
+# whose ccc in shaping sets it apart from the marks of its combining class: these are listed with their reason.
 cd "$(dirname "$0")/.." || exit 1
 file=/usr/share/unicode/NormalizationTest.txt
 program=crates/normalization_lines/out/normalization_lines

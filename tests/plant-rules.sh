@@ -49,7 +49,7 @@ def below(crate):
 
 def over_sources(crate, only):
     """The command that checks a function over the sources of the crates below, of which it reads what the
-    function cites. They need hold no more."""
+    function cites. What is proved of those crates need no longer hold."""
     kit = pathlib.Path(shutil.which("rt")).resolve().parents[1]
     own = sorted(below(crate), key=lambda c: len(below(c)))
     words = []

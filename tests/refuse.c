@@ -1,7 +1,7 @@
 /*
  * Loaded before a program, refuses one growth of its memory: the one whose number, counted from 1, stands
  * in REFUSED_GROWTH. All others go to the C library. A growth is a call that asks for memory; before the
- * loader has called `begin` none counts. Where COUNTED_GROWTHS names a file, their number is written to it
+ * loader has called `begin` none counts. If COUNTED_GROWTHS names a file, their number is written to it
  * as the program ends.
  *
  * In the same way one of its calls of `read` fails, with EIO, by REFUSED_READ, and one of `write` by

@@ -1,8 +1,9 @@
 #!/bin/sh
-# Runs the tests of the buffer's calls, of whole runs, of stages of substitution which take memory and of kerning, then
-# the built program on its stored input and on those of `growths`, with the first growth of memory refused, then the
-# second, and so on until a run has no such growth. Between them it counts the growths of calls that take no memory:
-# the buffer's, the steps of a run that can't be refused, runs over an empty text, and lines of no glyphs.
+# Runs the tests of the buffer's calls, of cutting lines, of whole runs, of stages of substitution that take memory and
+# of kerning, then the built program on its stored input and on those of `growths`. Each is run with the first growth
+# of memory refused, then the second, and so on until a run has no such growth. Between them it counts the growths of
+# calls that take no memory: the buffer's, the steps of a run that can't be refused, runs over an empty text, and lines
+# of no glyphs.
 #
 # A run of a test must pass, or say that a call was `refused` (after its own comparisons of what that call left), or
 # that what the test itself takes could not grow (`AllocError`, `AllocFailed`, `OutOfMemory`, `Memory`). A run of the
@@ -19,7 +20,7 @@ work=$(mktemp -d) || exit 1
 trap 'rm -rf "$work"' EXIT
 gcc -O1 -Wall -Werror -shared -fPIC -o "$work/refuse.so" tests/refuse.c -ldl || exit 1
 
-# Whether a whole run was so because it had fewer growths than the one that was to be refused.
+# Whether a run was whole because it has fewer growths than the number of the one to be refused.
 is_past_the_last() {
     asked=$(cat "$work/count")
     [ "$asked" -lt "$1" ] && return

@@ -115,7 +115,7 @@ def run(given):
 
 
 def shown(data):
-    """Some bytes, a line for each of theirs."""
+    """Some bytes as they are printed, a line for each line of theirs."""
     return "".join(f"    {line!r}\n" for line in data.splitlines(keepends=True)) or "    nothing\n"
 
 
@@ -126,7 +126,7 @@ def compared(written, left_out):
 
 
 def fault_of(case):
-    """How a run of a case isn't as it should be, or nothing."""
+    """What is wrong with a run of a case, or nothing."""
     written, status = run(case.given)
     found = compared(written, case.left_out) if case.left_out else written
     if found != case.wanted:

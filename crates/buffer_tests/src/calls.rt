@@ -9,7 +9,7 @@ use shape_buffer::buffer::{
 };
 use std::process::Abort;
 
-/// An empty text with all that can be set.
+/// An empty text with everything set that can be set.
 fn set(rt: &(impl Abort + AllocGlobal)) -> UnicodeBuffer {
     let language = Language(String::from_str(rt.alloc(), "de").expect(rt, "memory"));
     let mut text = UnicodeBuffer::new(rt.alloc());
@@ -25,7 +25,7 @@ fn set(rt: &(impl Abort + AllocGlobal)) -> UnicodeBuffer {
     text
 }
 
-/// Compares what is set of a text with that.
+/// Compares what is set in a text with what `set` sets.
 fn assert_set(rt: &impl Abort, text: &UnicodeBuffer) {
     assert_that(rt, text.is_empty());
     assert_same(rt, text.direction(), Direction::RightToLeft);
@@ -186,7 +186,7 @@ fn properties(rt: HostRuntime) {
     assert_same(&rt, item.cluster, 3);
 }
 
-/// The masks say what is unsafe and safe at each item.
+/// Compares the three flags that an item with this mask has.
 fn assert_flags(rt: &impl Abort, mask: u32, flags: (bool, bool, bool)) {
     let mut item = hb_glyph_info_t::new('a', 0);
     item.mask = mask;

@@ -60,7 +60,7 @@ fn unsafe_to_break_at_every_level(rt: HostRuntime) {
     );
 }
 
-/// The first two are asked for; the span of the second one is empty.
+/// In the first two rows it is asked for; the span of the second one is empty.
 #[test]
 fn unsafe_to_concat_where_asked_for(rt: HostRuntime) {
     check_rows(

@@ -31,7 +31,8 @@ fn clusters_fall_with_each_picked_item(rt: HostRuntime) {
     );
 }
 
-/// The flags of the last kept item are its own until the next one falls.
+/// The last kept item joins the cluster before it, with flags of its own. A picked item of a smaller cluster then gives
+/// its flags to all of that cluster.
 #[test]
 fn last_kept_joins_the_cluster_before(rt: HostRuntime) {
     check_rows(

@@ -2,7 +2,7 @@
 
 use crate::sessions::check_rows;
 
-/// Each grapheme takes in those before it: their last cluster is its first.
+/// The second grapheme takes in the first one, which ends in the cluster that the second begins in.
 #[test]
 fn graphemes_take_in_those_before_them(rt: HostRuntime) {
     check_rows(

@@ -1,7 +1,7 @@
 //! Lines of glyphs that were put together by hand.
 //!
-//! The gate's script counts growths: a test that cuts a buffer without glyphs has as many as one that does not. It
-//! refuses each of those of `growths` in turn.
+//! The gate's script counts growths: a test that cuts a buffer without glyphs has as many as one that cuts none. It
+//! refuses each growth of the test `growths` in turn.
 
 use crate::support::{
     assert_same, assert_shown, assert_that, filled, number, parts, push, rows_of,
@@ -160,9 +160,9 @@ fn at_places_of_a_cut_alone(rt: HostRuntime) {
     check_lines(&rt, "7/0+10,-11 7/0+20,-21", "right 8 0 -> 0..2=7..8");
 }
 
-/// Texts some of whose parts are wider than the parts with them in front: wide, then narrow, so that a longer part
-/// fits again; two that are together beyond 32 bits, above zero and below; and downwards, where a width is the negative of
-/// the advance, here -2 ^ 31: 2 ^ 31, 2 ^ 31, 8.
+/// First a width below zero, so that a longer part fits again after one that doesn't. Then sums of widths beyond 32
+/// bits, above zero and below. Last a line downwards, in which a width is the negative of the advance: 2 ^ 31, 2 ^ 31
+/// and 8.
 #[test]
 fn widths_below_zero(rt: HostRuntime) {
     check_lines(

@@ -1,6 +1,6 @@
 //! Calls of `hb_buffer_t` and of its items that can't be refused take no memory. Two tests fill the same buffer,
-//! and the second one makes each such call besides; the gate's script counts the growths of both, which must be
-//! as many.
+//! and the second one makes each such call besides; the gate's script counts the growths of both, and the
+//! two numbers must be equal.
 
 use crate::support::{assert_same, assert_that, with_every_property};
 use shape_buffer::buffer::{

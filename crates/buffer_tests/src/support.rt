@@ -43,7 +43,7 @@ pub fn rows_of<'a>(rt: &impl Abort, text: &'a str) -> &'a str {
     rows
 }
 
-/// What stands before a mark and after it.
+/// What stands before `mark` in a text, and after it.
 pub fn parts<'a>(rt: &impl Abort, text: &'a str, mark: &str) -> (&'a str, &'a str) {
     match text.split_once(mark) {
         Some((before, behind)) => (before.trim(), behind.trim()),

@@ -111,8 +111,8 @@ fn box_of(rt: &impl Abort, words: &str) -> hb_glyph_extents_t {
     }
 }
 
-/// Compares the advance, the box and the origin of a glyph: half of the advance, and so far down. The case is
-/// `4 -> 300 1300 100,750..200,850`, where the box stands last.
+/// Compares the advance, the origin and the box of a glyph; the origin is half of the advance to the right. The case is
+/// `4 -> 300 1300 100,750..200,850`: the advance, how high the origin is, and the box.
 pub fn assert_metrics(rt: &impl Abort, face: &FontFace<'_>, case: &str, wanted: &str) {
     let (advance, rest) = parts_of(rt, wanted, " ");
     let (origin, inked) = parts_of(rt, rest, " ");

@@ -98,7 +98,7 @@ fn change(bytes: &mut [u8], seed: u32) -> u32 {
     seed
 }
 
-/// Changes the font in many ways. Where it is still one, it shapes.
+/// Changes the font in many ways. If it is still one, it shapes.
 fn assert_changed(rt: &impl Abort, alloc: Global) {
     let mut seed: u32 = 1;
     for _ in 0..500 {

@@ -106,7 +106,7 @@ fn to_be_kerned(rt: &impl Abort, buffer: UnicodeBuffer) -> Result<UnicodeBuffer,
     filled(rt, buffer, Direction::LeftToRight, "ABA")
 }
 
-/// Compares its advances and offsets. Where it is refused for memory, hands back what is left of it.
+/// Compares its advances and offsets. If it is refused for memory, hands back what is left of it.
 fn moved_or_left(
     rt: &impl Abort,
     alloc: Global,
@@ -139,8 +139,8 @@ fn assert_moved_again(
     Ok(())
 }
 
-/// Whether a growth of the run is refused, planning included. Then the run must do with the buffer that is handed
-/// back what it does else.
+/// Whether a growth of the run is refused, planning included. If one is, the text must give the same once it is in the
+/// buffer that is handed back.
 fn is_refused(rt: &impl Abort, alloc: Global, face: &FontFace<'_>) -> Result<bool, ShapeError> {
     let text = to_be_kerned(rt, UnicodeBuffer::new(alloc))?;
     match moved_or_left(rt, alloc, face, text) {

@@ -28,7 +28,7 @@ pub enum Asked<'a> {
     Kerned(&'a [Feature]),
 }
 
-/// What stands before and after the first of these texts.
+/// What stands before and after the first `between` in a text.
 pub fn parts_of<'a>(rt: &impl Abort, text: &'a str, between: &str) -> (&'a str, &'a str) {
     text.split_once(between).expect(rt, "two parts")
 }

@@ -1,4 +1,4 @@
-//! Calls on their happy path whose answers no clause of another test shows.
+//! Calls on their happy path whose answers no other test shows.
 
 use crate::cases::{Case, World, character, check};
 use crate::comparing::assert_same;
@@ -27,7 +27,7 @@ fn latin() -> Option<Script> {
     Some(Script(hb_tag_t::from_bytes(b"Latn")))
 }
 
-/// Asks for no kerning, of the whole text.
+/// Switches kerning off for the whole text.
 fn without_kerning() -> Feature {
     Feature {
         tag: hb_tag_t::from_bytes(b"kern"),
@@ -73,8 +73,8 @@ fn assert_fits<T: ShapingTypes>(
     assert_same(rt, plan.fits::<T::Unicode>(&text), wanted);
 }
 
-/// Compares of an empty text whether the plan fits it: without a script, which is Unknown then, with it, and in the
-/// other direction.
+/// Compares whether the plan fits an empty text: without a script, which is Unknown then, with it, and in the other
+/// direction.
 fn check_fits<T: ShapingTypes>(rt: &(impl Abort + AllocGlobal), plan: &PlanOf<'_, T>) {
     assert_fits::<T>(rt, plan, empty(rt, None, Direction::Invalid), false);
     assert_fits::<T>(rt, plan, empty(rt, latin(), Direction::Invalid), true);
@@ -112,7 +112,7 @@ fn a_plan_fits_by_direction_and_script(rt: HostRuntime) {
     check_planning::<ByDefault<'_, PlainUnicode>>(&rt, by);
 }
 
-/// A letter in which nothing is set but a direction, if there is one.
+/// A letter with nothing set except for a direction, if there is one.
 fn letter(rt: &(impl Abort + AllocGlobal), direction: Direction) -> UnicodeBuffer {
     let mut text = UnicodeBuffer::new(rt.alloc());
     text.push_str("a").expect(rt, "error");
@@ -142,7 +142,7 @@ fn item_of(c: char) -> hb_glyph_info_t {
     info
 }
 
-/// Compares what functions without tables say of a character, of an emoji and of a variation selector too.
+/// Compares what functions without tables say of a character; it is the same of an emoji and a variation selector.
 fn check_plain(rt: &impl Abort, c: char) {
     let info = item_of(c);
     let letter = hb_unicode_general_category_t::OtherLetter;
@@ -155,7 +155,7 @@ fn check_plain(rt: &impl Abort, c: char) {
     assert_same(rt, is_special, (false, false));
 }
 
-/// Compares this of all characters of a text.
+/// Compares this for each character that words write.
 fn check_all_plain(rt: &impl Abort, text: &str) {
     for word in text.split_whitespace() {
         check_plain(rt, character(rt, word));
@@ -168,7 +168,7 @@ fn plain_characters_are_letters(rt: HostRuntime) {
     check_all_plain(&rt, "( 00AD 0301 1F600 FE0F");
 }
 
-/// A buffer that has the characters of words, and of which nothing is set.
+/// A buffer with the characters of words, and nothing set.
 fn raw(rt: &(impl Abort + AllocGlobal), words: &str) -> hb_buffer_t {
     let mut text = UnicodeBuffer::new(rt.alloc());
     push(rt, &mut text, words);

@@ -5,14 +5,14 @@
 //!
 //! - `face`: the characters that have a glyph or the glyphs of the face, as `faces` has them.
 //! - `units`: those of the em square of a face with widths, 1000 until they are set. No other face heeds them.
-//! - `manner`: what is set of the text, as `texts` has it.
-//! - `shaper`, `tables` and `step`: which ones, by the names that the function has which runs the case.
+//! - `manner`: what is set in the text, as `texts` has it.
+//! - `shaper`, `tables` and `step`: which ones, by the names that the world of the case has for them.
 //!
 //! A character is written as itself if it is one of ASCII that can be seen, and by four digits in base 16 or more:
-//! `a`, `0301`, `1F1E6`. In a text `@` isn't a character but stands before a cluster, and in the steps that compare
-//! two texts `/` stands between them. A word may stand many times, `0323*31`, and so may two of them in turn,
-//! `0308+0301*15`. How an answer is written stands in `printing`. What stands after ` # ` is a remark. A line that
-//! can't be read fails its test, and so does a text without cases.
+//! `a`, `0301`, `1F1E6`. In a text `@` isn't a character but stands before a cluster, and in the steps of `steps`
+//! that compare two texts `/` stands between them. A word may stand many times, `0323*31`, and so may two of them in
+//! turn, `0308+0301*15`. How an answer is written stands in `printing`. What stands after ` # ` is a remark. A line
+//! that can't be read fails its test, and so does a text without cases.
 
 use crate::comparing::assert_that;
 use crate::texts::{Manner, PLAINLY, manner_of};

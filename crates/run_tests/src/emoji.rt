@@ -29,7 +29,8 @@ fn joined_pictographs(rt: HostRuntime) {
     );
 }
 
-/// Of flags Germany, France, half a flag, and half a one with an accent, which pairs with nothing after it.
+/// The flags are those of Germany and France, half a flag, and half a flag with an accent, which pairs with nothing
+/// after it.
 #[test]
 fn skin_tones_and_flags(rt: HostRuntime) {
     check::<Lists>(

@@ -277,7 +277,7 @@ fn append_pair(rt: &impl Abort, line: &mut String, ccc: &str, becomes: u8) {
     write!(line, ">{becomes}").expect(rt, "error");
 }
 
-/// Appends a pair of the ccc that stands in one, and of what that becomes of the character of a case.
+/// Appends a pair of the ccc that a pair of the answer begins with, and of what it becomes for the character of a case.
 fn append_found<T: ShapingTypes>(
     rt: &(impl Abort + AllocGlobal),
     line: &mut String,
@@ -289,7 +289,7 @@ fn append_found<T: ShapingTypes>(
     append_pair(rt, line, ccc, recategorised::<T>(rt, plan, face, item));
 }
 
-/// What each ccc becomes that stands in the pairs of the answer.
+/// What each ccc in the pairs of the answer becomes.
 fn pairs<T: ShapingTypes>(
     rt: &(impl Abort + AllocGlobal),
     by: (&T::Face, &T::Shaper),
@@ -303,7 +303,7 @@ fn pairs<T: ShapingTypes>(
     line
 }
 
-/// The rules for characters are of one block alone.
+/// The rules for single characters are those of Thai and Lao alone.
 #[test]
 fn classes_of_single_characters(rt: HostRuntime) {
     check::<Classes>(

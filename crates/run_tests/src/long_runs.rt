@@ -68,8 +68,8 @@ fn marks_below_let_pass(rt: HostRuntime) {
     );
 }
 
-/// The hook brings U+0308 before U+0323: after the two U+0301 stays. Of U+0323 U+0301 it makes U+0301 U+0323, and
-/// the first of them composes.
+/// In the first case the hook puts U+0308 before U+0323, and U+0301 stays after these two. In the second it puts U+0301
+/// before U+0323, and U+0301 composes.
 #[test]
 fn a_hook_brings_a_greater_ccc_forward(rt: HostRuntime) {
     check::<Lists>(

@@ -14,13 +14,13 @@ use shape_prepare::graphemes::set_unicode_props;
 use std::process::Abort;
 use test_worlds::{AbsorbingShaper, DeepShaper, ReversingShaper, SmallUnicode};
 
-/// Items over small functions of Unicode, each in the cluster of its place, with its mask after a slash, in base 16,
+/// Items over small Unicode functions, each in the cluster of its place, with its mask after a slash, in base 16,
 /// if that isn't 0; and the shapers `default`, `reversing`, `absorbing` and `deep`, which splits 16384 deep.
 ///
 /// The answer is the normalised list, each item with the glyph that was found for it and its mask, then `,marked` if
 /// it is a marked selector, `,ignorable`, and the type of its space; at the end `spaces` and `selectors` if the run
-/// has seen some that have no glyph of their own. That is without a step; the step `compare` says whether two texts
-/// are normalised alike, or why that was refused and what it left of the two.
+/// has seen some that have no glyph of their own. So it is without a step. The step `compare` says of two texts with a
+/// `=` between them whether they are normalised alike, or why that was refused and what it left of the two.
 struct Modes;
 
 impl World for Modes {
@@ -40,7 +40,7 @@ const DEEP: DeepShaper = DeepShaper {
     second: 'a',
 };
 
-/// A run by a shaper over small functions of Unicode.
+/// A run by a shaper over small Unicode functions.
 type By<F, S> = TypesOf<SmallUnicode, F, NoLookups, S>;
 
 /// The answer over a face.
@@ -147,7 +147,7 @@ fn entered<U: hb_unicode_funcs_t>(
     buffer
 }
 
-/// How a cleared buffer is written, and another one.
+/// The word for a buffer that is cleared, or for one that is not.
 fn is_cleared(buffer: hb_buffer_t) -> &'static str {
     if buffer.is_empty() && buffer.direction() == Direction::Invalid {
         "cleared"

@@ -1,6 +1,6 @@
 //! Calls of a run that can't be refused take no memory, and a run over an empty text takes none at all. Of two
 //! tests that begin alike the second one makes such calls besides; the gate's script counts the growths of
-//! both, which must be as many.
+//! both, and the two numbers must be equal.
 
 use crate::cases::{Settings, UNSET};
 use crate::comparing::{assert_same, assert_that};
@@ -145,7 +145,7 @@ fn assert_plain<S>(rt: &impl Abort, plan: &PlainPlan<'_, S>) {
     assert_same(rt, in_their_place(plan), [true; 5]);
 }
 
-/// What a builder of requests says that is told to be no simple one: how many requests it has, whether it is simple,
+/// What a builder of requests says once it is set to be no simple one: how many requests it has, whether it is simple,
 /// and whether it chose a script.
 fn without_requests<F: hb_font_t>(
     rt: &(impl Abort + AllocGlobal),

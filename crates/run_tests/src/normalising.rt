@@ -174,7 +174,7 @@ fn new_starter_forgets(rt: HostRuntime) {
     );
 }
 
-/// The joiner of graphemes is hidden only if the marks about it are out of order.
+/// CGJ between two marks stays hidden only if they are out of order.
 #[test]
 fn grapheme_joiner(rt: HostRuntime) {
     check::<Lists>(

@@ -57,7 +57,7 @@ fn marks_above_and_below(rt: HostRuntime) {
     );
 }
 
-/// Widths at the ends of their range, and a box as high.
+/// Widths at the ends of their range, and a box whose height is at one of them.
 #[test]
 fn odd_marks(rt: HostRuntime) {
     check::<Widths>(
@@ -158,8 +158,8 @@ fn masked_pair(rt: &(impl Abort + AllocGlobal), first: u32) -> hb_buffer_t {
     buffer_of(rt, items)
 }
 
-/// Hands the flags of two glyphs of one cluster out over it, of which the first has these, as flags of a text ask for
-/// it. Compares the flags that both have then.
+/// Unites the flags of two glyphs of one cluster, the first of which has the flags `first`, as the flags of a text ask
+/// for it. Compares the flags that both have then.
 fn check_handed_out(rt: &(impl Abort + AllocGlobal), flags: BufferFlags, first: u32, both: u32) {
     let mut buffer = masked_pair(rt, first);
     hand_out(&mut buffer, flags);

@@ -16,7 +16,7 @@ use test_worlds::{DeepShaper, StackedShaper};
 
 /// Faces of some characters without the database of Unicode, and shapers that split: `stacked`, or `deep` with how
 /// deep it goes, each time into the next character and one of its own. Their glyphs are printed as the items that they
-/// were made of. Of more than a hundred, all of which have to stand in cluster 7, it is printed how many they are.
+/// were made of. If there are more than a hundred, all have to stand in cluster 7, and only their number is printed.
 ///
 /// The shaper `default` has the steps of `steps`.
 pub struct Splits;
@@ -67,7 +67,7 @@ fn split<T: ShapingTypes>(
     }
 }
 
-/// Shapes a text, of which nothing is set, under a plan that runs to the right.
+/// Shapes a text with nothing set, under a plan that runs to the right.
 fn shaped<T: ShapingTypes>(
     rt: &(impl Abort + AllocGlobal),
     by: (&T::Face, &T::Shaper),
@@ -77,8 +77,8 @@ fn shaped<T: ShapingTypes>(
     glyphs_under::<T>(rt, &plan, by.0, text)
 }
 
-/// Glyphs, each of which has to be the one that was found for its item; or how many they are, if they are more than a
-/// hundred, all of which have to stand in cluster 7.
+/// Glyphs, each of which has to be the one that was found for its item. If there are more than a hundred, only their
+/// number, and all have to stand in cluster 7.
 fn printed(rt: &(impl Abort + AllocGlobal), glyphs: GlyphBuffer, wanted: &str) -> String {
     if glyphs.len() <= 100 {
         assert_own(rt, &glyphs);

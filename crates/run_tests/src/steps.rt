@@ -1,8 +1,8 @@
 //! What becomes of the text of a case at a step of its run, for any types of a run: a function that names those
 //! types takes three times as long to prove.
 //!
-//! - `prepare` and `normalise` give the list, and `hebrew` that of a text of which it is said to be Hebrew once its
-//!   direction was guessed.
+//! - `prepare` and `normalise` give the list, and `hebrew` the prepared list of a text whose script is set to Hebrew
+//!   once its direction was guessed.
 //! - `shape` gives the items that the glyphs were made of, `place` the glyphs with their positions, and `enter` those
 //!   of the call that plans by itself. `in_place` gives the glyphs and clusters that shaping leaves in a buffer, which
 //!   has to run from right to left.
@@ -106,7 +106,7 @@ pub fn first_in<U: hb_unicode_funcs_t>(
     text_of::<U>(rt, &case.settings.manner, cut(rt, case.text, "/").0)
 }
 
-/// The text of a case, of which it is said to be Hebrew if its step is so.
+/// The text of a case, with its script set to Hebrew if the step is `hebrew`.
 fn text_named<U: hb_unicode_funcs_t>(
     rt: &(impl Abort + AllocGlobal),
     case: Case<'_>,

@@ -15,7 +15,7 @@ use shape_buffer::buffer::{
 use shape_buffer::interfaces::hb_unicode_funcs_t;
 use std::process::Abort;
 
-/// What is set of a text before it is shaped.
+/// What is set in a text before it is shaped.
 #[derive(Clone, Copy)]
 pub struct Manner {
     pub direction: Direction,
@@ -119,7 +119,7 @@ fn set<U: hb_unicode_funcs_t>(text: &mut UnicodeBuffer, manner: &Manner) {
     text.guess_segment_properties::<U>();
 }
 
-/// The text that words write, of which nothing is set.
+/// The text that words write, with nothing set.
 pub fn text_with(rt: &(impl Abort + AllocGlobal), words: &str) -> UnicodeBuffer {
     let mut text = UnicodeBuffer::new(rt.alloc());
     add(rt, &mut text, words);

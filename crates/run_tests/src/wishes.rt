@@ -108,7 +108,7 @@ fn plan_in<'a, T: ShapingTypes>(
     planned::<T>(rt, by, &text_in::<T::Unicode>(rt, case))
 }
 
-/// Whether a plan zeroes marks, goes by `morx`, has a shaper that gave way, places marks by their boxes, and moves
+/// Whether a plan zeroes marks, applies `morx`, has a shaper that gave way, places marks by their boxes, and moves
 /// those that it zeroes.
 fn decisions_of<T: ShapingTypes>(rt: &(impl Abort + AllocGlobal), plan: &PlanOf<'_, T>) -> String {
     format!(in rt.alloc();
@@ -133,7 +133,7 @@ fn tables_of<T: ShapingTypes>(rt: &(impl Abort + AllocGlobal), plan: &PlanOf<'_,
     .expect(rt, "error")
 }
 
-/// The mark stays where it is and has no width. Before the letter of backward text it does so too.
+/// The mark stays where it is and has no width, also before the letter in backward text.
 #[test]
 fn marks_of_a_base_without_a_box_are_zeroed(rt: HostRuntime) {
     check::<Wishes>(

@@ -3,7 +3,7 @@
 use crate::rows::{Host, hex, unknown};
 use test_worlds::TestFace;
 
-/// Sets of a face what a word says: a table, lookups, classes of glyphs, masks of every feature, or `pause=N`, a pause
+/// Sets in a face what a word says: a table, lookups, classes of glyphs, masks of every feature, or `pause=N`, a pause
 /// after the first stage. The word `plain` says nothing.
 pub fn describe(rt: &impl Host, word: &str, face: &mut TestFace<'_>) {
     match word {

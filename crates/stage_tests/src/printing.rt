@@ -15,7 +15,7 @@ pub fn print_items(
     Ok(())
 }
 
-/// Prints of an item its mask (`bare`, `masks`), its class (`classes`), its class and glyph and whether it counts as
+/// Prints an item's mask (`bare`, `masks`), its class (`classes`), its class and glyph and whether it counts as
 /// substituted and as ligated (`marks`), or in all other cases `GLYPH@CLUSTER/MASK`.
 fn print_item(what: &str, info: &hb_glyph_info_t, found: &mut String) -> Result<(), AllocError> {
     let (glyph, cluster, mask) = (info.glyph_id, info.cluster, info.mask);

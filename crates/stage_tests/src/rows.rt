@@ -2,7 +2,7 @@
 //!
 //! A row is `CASE -> ANSWER`. A test prints what it found for the case, and compares that with the answer as text. So a
 //! test brings text alone, and one function reads, runs and compares: the proof of a test takes time for each row that
-//! is code, and none for a line of text. Words are parted by one space, and numbers are hexadecimal if nothing
+//! is code, and none for a line of text. Words are separated by one space, and numbers are hexadecimal if nothing
 //! else is said. What can't be read ends the test, and so does a text without rows.
 use shape_buffer::buffer::{Direction, Feature, hb_buffer_t, hb_glyph_info_t, hb_tag_t};
 use std::alloc::{AllocError, Global};
@@ -46,17 +46,17 @@ pub fn check_rows(rt: &impl Host, rows: &str, asked: &impl Answers) {
     }
 }
 
-/// Ends the test at a word that says nothing.
+/// Ends the test at a word that isn't known.
 pub fn unknown(rt: &impl Host, word: &str) -> ! {
     panic!(rt; "unknown word {word}")
 }
 
-/// What stands before and after a mark in a text.
+/// What stands before and after `mark` in a text.
 pub fn cut<'a>(rt: &impl Host, text: &'a str, mark: &str) -> (&'a str, &'a str) {
     text.split_once(mark).expect(rt, mark)
 }
 
-/// The same, or the whole text and `other` if the text has no mark.
+/// The same, or the whole text and `other` if `mark` isn't in it.
 pub fn cut_or<'a>(text: &'a str, mark: &str, other: &'a str) -> (&'a str, &'a str) {
     text.split_once(mark).unwrap_or((text, other))
 }

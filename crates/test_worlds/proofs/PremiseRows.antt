@@ -101,7 +101,7 @@ premises_met = record {
   };
 }
 
--- what loses a text of one item doesn't leave every text
+-- what loses a text of one item doesn't leave every text as it is
 no_loss : LeavesTexts (kept_if false) → ⊥
 no_loss leaves =
     let some : Buffer = record new_buffer { items = new_item 0x61 0 ∷ [] } in

@@ -1,4 +1,4 @@
--- A list that puts a list in place of each item, if the limit lets it.
+-- Calls that put a list in place of each item, if the limit allows it.
 use Rattle.std.proofs.Common.{◌≡◌, ℕ, ◌≤◌, ◌<◌, ◌↔◌, List, length, replicate, Result, Ok, Err, OnOk, refl, ap, ap₂, sym, subst, ◌∙◌, inl, inr, arith}
 use Rattle.std.specs.Prelude.{IsErrOf, IsErrAnd}
 use Rattle.std.proofs.lemmas.Bool.{cases_order}
@@ -42,7 +42,7 @@ Outcome-replaced become f old new items n (Err Length) does is many ok past =
     let long : n ≡ length (flat_map become old.items) = many ∙ ap length is in
     for_length (inl (subst (λ (b : Buffer). limit_of old < length b.items) (sym does) (omega arith)))
 
--- a growth was refused before
+-- a growth was refused before the list was whole
 pub Outcome-refused : (f : Buffer → Buffer) (old new : Buffer) (result : Result (Unit {0}) ShapeError) → IsErrAnd result (λ e. e ≡ Memory)
     → Outcome (step f) old new result
 Outcome-refused f old new (Ok x) is = absurd is

@@ -7,7 +7,7 @@ use Rattle.shape_common.specs.declared.text_types.GlyphId.{GlyphId}
 use Rattle.test_worlds.specs.declared.face.KnownGlyph.{KnownGlyph}
 use Rattle.test_worlds.specs.declared.face.TestFace.{TestFace}
 
--- the glyph that is told of a character
+-- the glyph that is listed for a character
 abbrev pub glyph_known : List KnownGlyph → ℕ → Option GlyphId
 glyph_known known c = option_map (λ entry. entry.glyph) (find (λ entry. entry.character == c) known)
 
@@ -25,7 +25,7 @@ extents_known known glyph = option_map (λ entry. entry.extents) (entry_of known
 abbrev pub glyph_among : List ℕ → ℕ → Option GlyphId
 glyph_among characters c = option_map (λ known. record { 0 = known }) (find (λ known. known == c) characters)
 
--- the glyph that is told; else that of its own number, for every character or for those of the list
+-- the glyph that is listed; else that of its own number, for every character or for those of the list
 abbrev pub glyph_in : TestFace → ℕ → Option GlyphId
 glyph_in face c =
     option_or (glyph_known face.known.now c)

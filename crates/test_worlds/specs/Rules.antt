@@ -58,7 +58,7 @@ made_one rule i b =
 abbrev pub ligated_at : OneForTwo → ℕ → Buffer → Buffer
 ligated_at rule i b = if begins_with_pair rule (drop i b.items) then made_one rule i b else b
 
--- the first n places are visited from left to right, as places are when each is reached
+-- the first n places are visited from left to right, each as it stands when it is reached
 abbrev pub ligated_to : OneForTwo → ℕ → Buffer → Buffer
 ligated_to rule zero b = b
 ligated_to rule (suc n) b = ligated_at rule n (ligated_to rule n b)

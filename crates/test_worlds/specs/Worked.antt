@@ -8,7 +8,7 @@ use Rattle.canonical_form.specs.Order.{in_order}
 use Rattle.shape_normalize.specs.RoundTwo.{runs, spans}
 use Rattle.test_worlds.specs.Splitting.{stacked_split}
 
--- how often a character splits, and then its first parts
+-- how often a character, and then its first parts, split
 abbrev pub stacked_height : ℕ → ℕ
 stacked_height c = if c == 0x1EA4 then 2 else (if c == 0xC2 then 1 else 0)
 
@@ -86,7 +86,7 @@ pub record OrderOfMarks : Type 0 where
   pub around : in_order ccc_of_mark ((0x301, 230) ∷ (0x323, 220) ∷ (0x300, 230) ∷ []) ≡ (0x323, 220) ∷ (0x301, 230) ∷ (0x300, 230) ∷ []
   pub before : in_order ccc_of_mark ((0x301, 230) ∷ (0x300, 230) ∷ (0x323, 220) ∷ []) ≡ (0x323, 220) ∷ (0x301, 230) ∷ (0x300, 230) ∷ []
   pub behind : in_order ccc_of_mark ((0x323, 220) ∷ (0x300, 230) ∷ (0x301, 230) ∷ []) ≡ (0x323, 220) ∷ (0x300, 230) ∷ (0x301, 230) ∷ []
-  -- nothing passes one of ccc 0, nor does that
+  -- nothing moves over one of ccc 0, and that one stays too
   pub past_none : in_order ccc_of_mark ((0x301, 230) ∷ (0x61, 0) ∷ (0x323, 220) ∷ []) ≡ (0x301, 230) ∷ (0x61, 0) ∷ (0x323, 220) ∷ []
 
 order_of_marks : OrderOfMarks

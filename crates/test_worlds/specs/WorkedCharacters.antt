@@ -31,7 +31,7 @@ hidden_characters = record { mongolian = refl; tags = refl; cgj = refl; others =
 abbrev all_of : hb_unicode_general_category_t → UnicodeMeaning
 all_of category = record plain_unicode { category = λ c. category; ccc = λ c. 230; ignorable = λ c. true }
 
--- an item of a character on which nothing is as in a new one
+-- an item of a character, whose glyphs, mask and properties all differ from those of a new one
 abbrev all_set : ℕ → Item
 all_set c = record {
   codepoint = c;
@@ -182,7 +182,7 @@ new_items = record { whole = refl; components = refl; category = refl; numbers =
 
 -- ---- categories and directions
 
--- the three of marks with those beside them, and space separators with those beside
+-- the three categories of marks and that of space separators, each with those beside it
 pub record Categories : Type 0 where
   pub marks : map is_mark_category (OtherLetter ∷ NonspacingMark ∷ SpacingMark ∷ EnclosingMark ∷ DecimalNumber ∷ SpaceSeparator ∷ [])
       ≡ false ∷ true ∷ true ∷ true ∷ false ∷ false ∷ []

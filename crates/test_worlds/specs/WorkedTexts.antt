@@ -222,7 +222,7 @@ with_all direction script = record {
   post_context = 0x62 ∷ [];
 }
 
--- guessing sets script and direction alone; clearing leaves flags, level and the two glyphs, as making a buffer leaves nothing set
+-- guessing sets script and direction alone; clearing leaves flags, level and the two glyphs; a new buffer has nothing set
 pub record Settings : Type 0 where
   pub guessed_alone : guessed scripts (with_all Invalid None) ≡ with_all RightToLeft (Some hebrew)
   pub nothing_to_guess : guessed scripts (with_all BottomToTop (Some latin)) ≡ with_all BottomToTop (Some latin)

@@ -1,4 +1,4 @@
-//! A shaper whose `compose` hook composes all.
+//! A shaper whose `compose` hook composes any two characters.
 ghost use Rattle.std.specs.Prelude.{true, false, Some, None, pos, refl};
 
 use shape_buffer::buffer::hb_tag_t;
@@ -7,7 +7,7 @@ use shape_pipeline::ot_shape_plan::hb_ot_shape_plan_t;
 use shape_pipeline::ot_shaper::hooks::compose_hook;
 use shape_pipeline::ot_shaper::{HB_OT_SHAPE_ZERO_WIDTH_MARKS_NONE, no_hook, script_shaper};
 
-/// A starter takes every mark in, and stays as it is.
+/// A starter absorbs every mark, and stays as it is.
 #[derive(Clone, Copy, Debug)]
 pub struct AbsorbingShaper;
 

@@ -10,7 +10,7 @@ use shape_pipeline::ot_shaper::hooks::preprocess_text_hook;
 use shape_pipeline::ot_shaper::{HB_OT_SHAPE_ZERO_WIDTH_MARKS_NONE, no_hook, script_shaper};
 use std::alloc::Global;
 
-/// Makes each U+0061 U+0301, which stays a letter without a ccc.
+/// Changes each U+0061 to U+0301, whose item stays a letter without a ccc.
 #[derive(Clone, Copy, Debug)]
 pub struct ChangingShaper;
 

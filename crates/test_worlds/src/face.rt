@@ -20,7 +20,7 @@ pub struct KnownGlyph {
 /// [`PLAIN_FACE`].
 #[derive(Clone, Copy, Debug)]
 pub struct TestFace<'a> {
-    /// Characters whose glyphs are told one by one.
+    /// Characters whose glyphs are listed one by one.
     pub known: &'a [KnownGlyph],
     /// Whether every other character has the glyph of its own number.
     pub every: bool,
@@ -28,7 +28,7 @@ pub struct TestFace<'a> {
     pub characters: &'a [char],
     /// Whether U+0061 with U+FE00 after it has glyph 7.
     pub variant: bool,
-    /// The advance of glyphs that aren't told.
+    /// The advance of glyphs that aren't listed.
     pub h_advance: i32,
     pub v_advance: i32,
     pub h_origin: i32,
@@ -133,7 +133,7 @@ impl<'a> TestFace<'a> {
     }
 }
 
-/// The glyph that is told of a character.
+/// The glyph that is listed for a character.
 fn glyph_of(known: &[KnownGlyph], c: char) -> Option<GlyphId>
     ensures { result ≡ glyph_known known.now c }
 {
@@ -143,7 +143,7 @@ fn glyph_of(known: &[KnownGlyph], c: char) -> Option<GlyphId>
         .map(|entry| entry.glyph)
 }
 
-/// The advance that is told of a glyph.
+/// The advance that is listed for a glyph.
 fn advance_of(known: &[KnownGlyph], glyph: GlyphId) -> Option<i32>
     ensures { result ≡ advance_known known.now glyph }
 {
@@ -153,7 +153,7 @@ fn advance_of(known: &[KnownGlyph], glyph: GlyphId) -> Option<i32>
         .map(|entry| entry.advance)
 }
 
-/// What is told of the box of a glyph, if the glyph is told.
+/// What is listed as the box of a glyph, if the glyph is listed.
 fn extents_of(known: &[KnownGlyph], glyph: GlyphId) -> Option<Option<hb_glyph_extents_t>>
     ensures { result ≡ extents_known known.now glyph }
 {

@@ -1,5 +1,5 @@
-//! The engine of tests: it substitutes by the stages that its face lists, and adds to advances and answers
-//! what the face says.
+//! The engine of tests: it substitutes by the stages that its face lists, adds to advances what the face says, and
+//! answers as the face says.
 ghost use Rattle.std.specs.Prelude.{◌≡◌};
 ghost use Rattle.shape_buffer.specs.Outcome.{Made};
 ghost use Rattle.test_worlds.specs.declared.face.TestFace.{TestFace as Face};
@@ -101,7 +101,7 @@ fn is_struck(info: &hb_glyph_info_t) -> bool
     info.glyph_id == STRUCK
 }
 
-/// The position with so much more of a horizontal advance.
+/// The position with its horizontal advance greater by `n`.
 fn wider(n: i32, info: &hb_glyph_info_t, position: GlyphPosition) -> GlyphPosition
     ensures { result ≡ wider_by n info.now position }
 {

@@ -26,8 +26,8 @@ pub fn premises_meet_worked_cases()
     ensures { WorkedPremises }
 {}
 
-/// What a character says of its item and of a text: which are hidden, all properties and scratch flags that depend on
-/// it; beside that new items, the categories of marks and spaces, and directions.
+/// What a character says of its item and of a text: whether it is hidden, and all properties and scratch flags that
+/// depend on it. Also new items, the categories of marks and spaces, and directions.
 pub fn characters_meet_worked_cases()
     ensures { WorkedCharacters }
 {}

@@ -24,7 +24,7 @@ pub fn rows_of<'a>(rt: &impl Abort, text: &'a str) -> &'a str {
     rows
 }
 
-/// What stands before a mark and after it.
+/// What stands before `mark` in a text, and after it.
 pub fn parts<'a>(rt: &impl Abort, text: &'a str, mark: &str) -> (&'a str, &'a str) {
     match text.split_once(mark) {
         Some((before, behind)) => (before.trim(), behind.trim()),
@@ -48,7 +48,7 @@ fn numbered(word: &str) -> Option<char> {
     char::from_u32(u32::from_str_radix(word, 16).ok()?)
 }
 
-/// The character that a word names: itself, or the one of a hexadecimal number of two digits and more.
+/// The character that a word names: itself, or the one of a hexadecimal number of two or more digits.
 pub fn character(rt: &impl Abort, word: &str) -> char {
     match word.chars().next() {
         Some(c) if c.len_utf8() == word.len() => c,

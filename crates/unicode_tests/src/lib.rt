@@ -3,7 +3,8 @@
 //!
 //! The tests here split and order a text by the functions alone, as UAX 15 says it, and compare with the
 //! rows: what is wrong in a row or in a function shows before any shaping. Then they compare with what
-//! normalising and whole runs make of the texts. Single characters are beside the database's files and HarfBuzz.
+//! normalising and whole runs make of the texts. Answers for single characters are compared with the database's
+//! files and HarfBuzz.
 //! The small tables of the program `shapeline` are tested here, too, and what it prints.
 #![tactic(auto)]
 

@@ -9,7 +9,7 @@ pub const TYPED: usize = 2;
 /// The column of the characters split and in order.
 pub const DECOMPOSED: usize = 3;
 
-/// The column of the characters put together again.
+/// The column of the characters composed again.
 pub const RECOMPOSED: usize = 4;
 
 /// The column of the glyphs, which is the last.
@@ -21,7 +21,7 @@ pub const SHAPED: usize = 5;
 /// - the script of its letters, by the letters of ISO 15924,
 /// - the characters, as they may be typed,
 /// - the characters split as far as they split, and in order of the ccc that shaping has,
-/// - the same with marks put together with their starters; jamo are no marks, so syllables stay split,
+/// - the same with marks composed with their starters; jamo are no marks, so syllables stay split,
 /// - the characters whose glyphs a run of the default shaper ends with, each with the byte that its cluster
 ///   begins with, in the order of the text. This shaper splits no character without marks, if the face has its
 ///   glyph.

@@ -53,7 +53,8 @@ fn nothing_else_has_an_image(rt: HostRuntime) {
     assert_same(&rt, images, MIRRORED);
 }
 
-/// The letters of a script's tag, with the capital that they begin with in lower case. None if they begin with none.
+/// The letters of a script's tag, with the capital that they begin with in lower case. None if there is no such
+/// capital.
 fn letters_of(script: Script) -> Option<[u8; 4]> {
     let [first, second, third, fourth] = script.0.0.to_be_bytes();
     let lower = [first.to_ascii_lowercase(), second, third, fourth];
@@ -70,7 +71,7 @@ fn assert_named(rt: &impl Abort, property: &[u8], letters: &[u8], set: Set) {
     assert_same(rt, (letters, named), (letters, Ok(set)));
 }
 
-/// Compares a character's script with that of its name.
+/// Asserts that the name of a character's script names this one.
 fn assert_script(rt: &impl Abort, c: char, script: ucd_script::Script) {
     match letters_of(UnicodeDatabase::script(c)) {
         Some(letters) => assert_named(rt, b"script", &letters, Set::Script(script)),
@@ -90,7 +91,7 @@ fn scripts_have_their_names(rt: HostRuntime) {
     }
 }
 
-/// Compares a character's category with that of its name.
+/// Asserts that the name of a character's category names this one.
 fn assert_category(rt: &(impl Abort + AllocGlobal), c: char, category: GeneralCategory) {
     let name = category_name::<UnicodeDatabase>(rt, c);
     let letters = chars_of(rt, name.as_str());

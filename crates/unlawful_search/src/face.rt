@@ -55,7 +55,7 @@ pub struct OddFace {
     pub v_advance: i32,
     pub h_origin: i32,
     pub v_origin: i32,
-    /// The box of each glyph but glyph 0.
+    /// The box of each glyph except for glyph 0.
     pub extents: Option<hb_glyph_extents_t>,
     pub units_per_em: u16,
     pub tables: hb_tables_t,

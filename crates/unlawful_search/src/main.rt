@@ -1,7 +1,7 @@
 //! A search for a promise of shaping that hooks, lookups or faces can break.
 //!
 //! It is given a seed and a number of universes. Each has a text, a face, an engine and a shaper, drawn at random; its
-//! hooks and lookups change whatever a buffer has, refuse where they may, and keep one premise or none. The text is
+//! hooks and lookups change whatever a buffer has, refuse if they may, and keep one premise or none. The text is
 //! shaped, and what is answered is compared with what is promised. The first promise that is broken is named, with the
 //! number of its universe, and ends the search with status 1.
 #![tactic(auto)]
@@ -83,7 +83,7 @@ fn asked(rt: &HostRuntime) -> io::Result<Option<(u64, u64)>> {
     }
 }
 
-/// Tells what was found under a seed; the status that the program ends with.
+/// Tells what was found under a seed. Gives the status that the program ends with.
 fn tell(rt: &HostRuntime, seed: u64, tally: Tally) -> io::Result<ExitCode> {
     if let Some((number, promise)) = tally.broken {
         println!(rt; "seed {seed}: universe {number} breaks: {}", promise.text())?;

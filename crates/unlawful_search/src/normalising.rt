@@ -138,8 +138,8 @@ fn broken_list(
     None
 }
 
-/// Characters that normalising brought in have glyphs, items have the glyphs of their characters if no variation
-/// selector stands, and feature bits come from the items before.
+/// Characters that normalising brought in have glyphs, items have the glyphs of their characters if the text had no
+/// variation selector, and feature bits come from the items before normalising.
 fn broken_item(
     face: &OddFace,
     before: &[hb_glyph_info_t],

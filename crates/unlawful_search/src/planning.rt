@@ -158,7 +158,7 @@ fn broken_decisions<S, W: Marking>(
     }
 }
 
-/// What planning breaks, and a run that was refused or not.
+/// What planning breaks. A run has to be refused if planning has to be.
 pub(crate) fn broken_plan<M, S, W>(
     alloc: Global,
     universe: &Universe,

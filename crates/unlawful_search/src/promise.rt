@@ -31,7 +31,7 @@ pub enum Promise {
     GlyphsOfNew,
     /// Items have the glyphs of their characters.
     ItemGlyphs,
-    /// Feature bits come from the items before.
+    /// Feature bits come from the items before normalising.
     FeatureBits,
     /// Marks lose their advances only if the shaper wants it.
     MarksZeroed,

@@ -28,7 +28,7 @@ use test_worlds::Marking;
 /// Gives the hooks that a face tells of, whatever the shaper.
 pub struct odd_hooks;
 
-/// Splits U+F0000+k into U+F0000+k-1 and the second part, and U+00E9 into U+0061 and that part.
+/// Splits each character past U+F0000 into the one before it and the second part, and U+00E9 into U+0061 and that part.
 fn odd_split(second: char, c: char) -> Option<(char, char)>
     ensures { result ≡ odd_split_of second c }
 {

@@ -304,7 +304,7 @@ fn broken_refusal(text: &Text, fault: &ShapeFault) -> Option<Promise> {
     broken_clearing(buffer.as_inner())
 }
 
-/// What a cleared buffer has none of.
+/// A cleared buffer has no items, positions, direction, script, language, scratch flags or limit.
 pub(crate) fn broken_clearing(buffer: &hb_buffer_t) -> Option<Promise> {
     let is_cleared = buffer.is_empty()
         && buffer.positions().is_empty()

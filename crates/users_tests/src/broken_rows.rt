@@ -138,7 +138,7 @@ fn letters_to_the_left(rt: HostRuntime) {
     assert_rows(&rt, rt.alloc(), to_the_left, row);
 }
 
-/// What is longer fits.
+/// A longer part fits again after one that doesn't.
 #[test]
 fn wide_then_narrow(rt: HostRuntime) {
     let row = "aab | 600 -> 0..3 1@0 1@1 2@2 shows 0..3;";

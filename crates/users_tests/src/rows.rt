@@ -8,7 +8,7 @@ use shape_pipeline::{BufferClusterLevel, Direction};
 use std::alloc::Global;
 use std::process::Abort;
 
-/// What cases are asked. Each has two parts, of which the function says more that prints the answer.
+/// What cases are asked. Each has two parts; the function that prints the answer says more of them.
 #[derive(Clone, Copy)]
 pub enum Asked {
     /// The characters of a face, and a text: its glyphs by a shaper.
@@ -23,7 +23,7 @@ pub enum Asked {
     Lines(Known, Direction, BufferClusterLevel),
 }
 
-/// What stands before and after the first of these texts.
+/// What stands before and after the first `between` in a text.
 fn parts_of<'a>(rt: &impl Abort, text: &'a str, between: &str) -> (&'a str, &'a str) {
     text.split_once(between).expect(rt, "two parts")
 }

@@ -14,7 +14,7 @@ use std::process::Abort;
 /// A plan in the mode that decomposes fully.
 type Plan<'a> = hb_ot_shape_plan_t<'a, Preferring<Decomposed>, (), ()>;
 
-/// The place that a word is kept at by the plan for Latin, which is the second one.
+/// The place at which the plan for Latin, the second one, keeps a word.
 fn kept(
     rt: &impl Abort,
     alloc: Global,
@@ -85,8 +85,8 @@ fn assert_kept(rt: &impl Abort, alloc: Global, spellings: &str, wanted: &str) {
     assert_printed(rt, printed.as_str(), wanted);
 }
 
-/// One letter more with an accent, spelled as one character and as two, and without the accent. The second spelling
-/// has what the first one had shaped.
+/// The last letter has an accent, spelled as one character and as two, or none. The second spelling gets what was
+/// shaped for the first one.
 #[test]
 fn equivalent_spellings_are_one_word(rt: HostRuntime) {
     let spellings = "q\u{301}\u{E9}

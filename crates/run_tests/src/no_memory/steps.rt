@@ -193,7 +193,7 @@ fn finish_positions<T: ShapingTypes>(
     position_finish_offsets::<T>(plan, face, buffer);
 }
 
-/// Marks about their bases, if the plan asks for it and in any case.
+/// Marks about their bases: once if the plan asks for it, and once in any case.
 fn put_marks<T: ShapingTypes>(plan: &PlanOf<'_, T>, face: &T::Face, buffer: &mut hb_buffer_t) {
     place_marks::<T>(plan, face, buffer);
     position_marks::<T::Unicode, T::Face, _, _, _>(plan, face, buffer, true);

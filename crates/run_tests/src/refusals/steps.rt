@@ -95,7 +95,7 @@ pub fn run_again<T: ShapingTypes>(
     }
 }
 
-/// The glyphs of a text that fills a buffer which is left of a run.
+/// The glyphs of a text in the buffer that a refused run has left.
 fn run_filled<T: ShapingTypes>(
     rt: &(impl Abort + AllocGlobal),
     by: (&T::Face, &T::Shaper),

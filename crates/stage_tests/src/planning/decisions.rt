@@ -22,7 +22,7 @@ enum Positioner {
     Nobody,
 }
 
-/// The table: a row for each set of what the face has to offer, the first that fits.
+/// The table: a row for each set of what the face has to offer, of which the first that fits counts.
 fn by_table(kerx: bool, gsub: bool, gpos: bool, gpos_kerns: bool, kern: bool) -> Positioner {
     match (kerx, gsub, gpos, gpos_kerns, kern) {
         (true, true, true, true, _) => Positioner::Gpos,

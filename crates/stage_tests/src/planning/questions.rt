@@ -1,5 +1,5 @@
 //! Rows of planning: `QUESTION SHAPER FACE DIRECTION FEATURES.. -> ANSWER`. The shaper is `default`, `wishing`,
-//! `script` or `dumber`; the face is `plain` or what it has, parted by `+`; `rows` says how features are written.
+//! `script` or `dumber`; the face is `plain` or what it has, separated by `+`; `rows` says how features are written.
 //!
 //! | question | answer |
 //! |---|---|
@@ -78,8 +78,8 @@ fn print_plan<F, S, P, D: Debug>(
     }
 }
 
-/// Prints of a plan its direction, how many features it has of the user, whether it has a shaper and whether it
-/// positions by `GPOS`.
+/// Prints a plan's direction, how many features of the user it has, whether it has a shaper and whether it positions by
+/// `GPOS`.
 fn print_compiled<S, P, D>(
     plan: &hb_ot_shape_plan_t<'_, S, P, D>,
     found: &mut String,
@@ -174,7 +174,7 @@ impl Answers for Questions {
         let (direction, features) = cut_or(case, " ", "");
         let direction = direction_of(rt, direction);
         if question == "table" {
-            // every face is asked, and no feature
+            // every face is tried, without features
             assert!(rt; face == "plain" && features.is_empty());
             return compare_with_table(rt, shaper, direction);
         }

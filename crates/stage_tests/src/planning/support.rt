@@ -37,7 +37,7 @@ fn scripted_face() -> TestFace<'static> {
     }
 }
 
-/// The face of words that are parted by `+`.
+/// The face of words that are separated by `+`.
 pub fn face_of(rt: &impl Host, words: &str) -> TestFace<'static> {
     let mut face = scripted_face();
     for word in words.split('+') {

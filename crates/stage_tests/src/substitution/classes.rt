@@ -1,5 +1,5 @@
-//! Classes of glyphs: 8 is a mark, 2 a base. The face's are that glyph 9 is a mark and all others are bases. And
-//! syllables.
+//! Classes of glyphs, and syllables. Class 8 is a mark, 2 a base. A face with classes has glyph 9 as a mark and all
+//! others as bases.
 
 use super::answers::check;
 use crate::rows::{Host, assert_same, buffer_of};
@@ -36,7 +36,7 @@ pub fn put_marks(rt: &impl Host, buffer: &mut hb_buffer_t) {
     buffer.replace_infos(infos).expect(rt, "memory");
 }
 
-/// Where the classes are the face's, the second mark stays as the lookup made it.
+/// If the classes are the face's, the second mark stays as the lookup made it.
 #[test]
 fn made_up_glyphs_are_as_no_lookup_made_them(rt: HostRuntime) {
     check(&rt, "", "marks ltr a -> 2:9/false/false 8:9/false/false");

@@ -27,7 +27,7 @@ fn digits_belong_to_the_wholes_on_both_sides(rt: HostRuntime) {
     );
 }
 
-/// Slashes with digits on one side alone or on none; except for the first, items are marked that are unsafe to concat.
+/// Slashes with digits on one side alone or on none. In all rows except the first, what is unsafe to concat is marked.
 #[test]
 fn slash_with_one_side_gets_no_feature(rt: HostRuntime) {
     check(

@@ -94,7 +94,7 @@ fn take<T: ShapingTypes>(
     }
 }
 
-/// Takes a buffer as far as a look needs it that is not past the stages.
+/// Takes a buffer as far as a look needs it, if that isn't past the stages.
 fn prepare<T: ShapingTypes>(
     rt: &impl Host,
     case: &Case<'_, T::Face>,
@@ -112,7 +112,7 @@ fn prepare<T: ShapingTypes>(
     }
 }
 
-/// Whether stages weren't refused. They may be for memory alone.
+/// Whether stages weren't refused. They may be refused for memory alone.
 fn passes(rt: &impl Host, answer: Result<(), ShapeError>) -> bool {
     match answer {
         Ok(()) => true,
@@ -210,7 +210,7 @@ fn shape_again<T: ShapingTypes>(
     print_again(rt, case, &answer.expect(rt, "refused twice"), found)
 }
 
-/// Fills a buffer again that is to be cleared.
+/// Fills a buffer again, which has to be cleared.
 fn refilled(
     rt: &impl Host,
     mut left: UnicodeBuffer,

@@ -2,7 +2,7 @@
 
 use super::answers::check;
 
-/// Of the values 4 stands past the two bits, and so does all but 2 of 0xFF000002.
+/// The value 4 doesn't fit the two bits, and of 0xFF000002 only 2 does.
 #[test]
 fn ranges_are_of_clusters(rt: HostRuntime) {
     check(

@@ -15,7 +15,7 @@ fn pause_stands_between_two_stages(rt: HostRuntime) {
     check(&rt, "+1 +3", "shaped/doubling ltr \u{5} -> 9@0/808");
 }
 
-/// In place of f and i 0xFB01, of æ a and e, of a A, of e and y 0x1F; in this order.
+/// First f and i become 0xFB01, then æ becomes a and e, then a becomes A, then e and y become 0x1F.
 const LETTERS: &str = "66,69>FB01 E6>61,65 61>41 65,79>1F/8";
 
 /// The ligature of e and y takes in the cluster of y alone.
@@ -39,8 +39,8 @@ fn ligature_is_no_part_of_the_next_at_its_place(rt: HostRuntime) {
     check(&rt, "61,61>61", "shaped ltr aaaaa -> 61@0/8 61@2/8 61@4/8");
 }
 
-/// A text whose last two characters are in one cluster, at each level. At the monotone ones the cluster of i is taken
-/// in whole; at the last one i alone is marked, and goes, and with flags in the buffer masks become flags.
+/// A text whose last two characters are in one cluster, at each level. At the monotone ones the whole cluster of i
+/// is merged. At the last one i alone is marked, and goes; since flags were then seen, masks become flags.
 #[test]
 fn ligature_merges_by_the_level(rt: HostRuntime) {
     check(

@@ -89,7 +89,7 @@ pub fn face_of<'a>(rt: &impl Host, world: &str, stages: &'a [Stage]) -> TestFace
     face
 }
 
-/// Sets of a text what a word of its manner says.
+/// Sets in a text what a word of its manner says.
 fn set_manner(rt: &impl Host, word: &str, text: &mut UnicodeBuffer) {
     match word {
         "monotone-characters" => text.set_cluster_level(BufferClusterLevel::MonotoneCharacters),
@@ -130,7 +130,7 @@ fn append_part(
     Ok(cluster)
 }
 
-/// Appends the parts of a text, which commas part.
+/// Appends the parts of a text, which commas separate.
 pub fn fill(rt: &impl Host, buffer: &mut UnicodeBuffer, text: &str) -> Result<(), ShapeError> {
     let mut end = 0;
     for part in text.split(',') {
@@ -139,8 +139,8 @@ pub fn fill(rt: &impl Host, buffer: &mut UnicodeBuffer, text: &str) -> Result<()
     Ok(())
 }
 
-/// An empty text in a manner: a direction, and perhaps, parted by commas, the level `monotone-characters` or
-/// `characters` in place of that of graphemes, and `concat` to mark what is unsafe to concat.
+/// An empty text in a manner: a direction, and perhaps, separated by commas, the level `monotone-characters`
+/// or `characters` in place of that of graphemes, and `concat` to mark what is unsafe to concat.
 fn empty_text(rt: &impl Host, manner: &str) -> UnicodeBuffer {
     let mut buffer = UnicodeBuffer::new(rt.alloc());
     buffer.set_cluster_level(BufferClusterLevel::MonotoneGraphemes);

@@ -1,4 +1,4 @@
-//! Spaces, forms, and what is unseen: the ends of each range, as HarfBuzz has them.
+//! Spaces, forms, ignorables, selectors and pictographs: the ends of each range, as HarfBuzz has them.
 
 use crate::answers::{Question, check_answers};
 use shape_unicode::UnicodeDatabase;
@@ -32,8 +32,7 @@ fn spaces(rt: HostRuntime) {
     );
 }
 
-/// The ends of each range of what is unseen; then what stands beside the ranges, and characters in them that fonts
-/// draw.
+/// The ends of each range of ignorables; then what stands beside the ranges, and characters in them that fonts draw.
 #[test]
 fn ignorables(rt: HostRuntime) {
     check_answers::<UnicodeDatabase>(

@@ -97,7 +97,7 @@ fn no_other_ccc_is_changed(rt: HostRuntime) {
     }
 }
 
-/// Marks of ccc that stay, characters that have a ccc of their own, and letters.
+/// Marks whose ccc stays, characters that have a ccc of their own, and letters.
 #[test]
 fn other_cccs(rt: HostRuntime) {
     check_answers::<UnicodeDatabase>(

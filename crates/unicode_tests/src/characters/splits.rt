@@ -3,8 +3,8 @@
 use crate::answers::{Question, check_answers};
 use shape_unicode::UnicodeDatabase;
 
-/// Pairs that compose again: Latin with one and with two marks, Greek, Cyrillic, Arabic, Indic letters,
-/// kana, a musical symbol's neighbour in the supplementary planes, and Hangul.
+/// Pairs that compose again: Latin with one and with two marks, a sign, Greek, Cyrillic, Arabic, Indic letters,
+/// kana, Kaithi in the supplementary planes, and Hangul.
 const SPLITS: &str = "
     C5 -> A+30A
     E9 -> e+301

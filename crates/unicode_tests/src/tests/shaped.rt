@@ -99,8 +99,8 @@ fn glyph_at(glyphs: &GlyphBuffer, at: usize) -> Option<(hb_glyph_info_t, GlyphPo
     }
 }
 
-/// Compares the glyph at a place: `CHARACTER@CLUSTER`. Clusters are those of graphemes, and nothing went from one to
-/// another, so that no glyph has a flag.
+/// Compares the glyph at a place: `CHARACTER@CLUSTER`. Clusters are those of graphemes, and nothing moved from one to
+/// another, so no glyph has a flag.
 fn assert_glyph(rt: &impl Abort, glyphs: &GlyphBuffer, at: usize, word: &str) {
     let (c, cluster) = parts(rt, word, "@");
     let (c, cluster) = (character(rt, c), number(rt, cluster));
