@@ -1,4 +1,5 @@
--- The fallback steps keep clusters and flags: marking spans unsafe to break is all that they do to items beside their ccc.
+-- The fallback steps keep clusters and flags: besides changing ccc, all that they do to items is to mark spans unsafe
+-- to break.
 use Rattle.std.proofs.Common.{◌≡◌, ℕ, ◌+◌, Bool, true, false, nat_lt, List, [], ◌∷◌, map, refl, ap, sym, ◌∙◌, inl, inr}
 use Rattle.std.specs.Prelude.{Option, fold}
 use Rattle.std.proofs.lemmas.Bool.{cases_Bool}
@@ -98,7 +99,7 @@ spans-marked face s (span ∷ spans) b c same =
     (break-without_positions span.start span.end b ∙ ap (unsafe_to_break span.start span.end) same
     ∙ sym (break-without_positions span.start span.end c))
 
--- beside positions, the marks of all bases are placed by marking their spans
+-- positions aside, to place the marks of all bases is to mark their spans
 pub bases-marked : (face : FaceMeaning) (s : MarkFrame) (b : Buffer)
     → without_positions (bases_positioned face s b) ≡ without_positions (bases_marked b)
 unfolding bases_positioned bases_marked

@@ -19,7 +19,7 @@ side_of_selector t selector i = let there = u24_of t (10 + 11 * i) in side_of se
 abbrev pub selector_of : List ℕ → ℕ → Option ℕ
 selector_of t selector = found_by (side_of_selector t selector) (fitting t (u32_of t 6) 10 11)
 
--- what stands at the place that a record names, from the table's begin on; 0 names none
+-- what stands at the place that a record names, counted from the start of the table; 0 names none
 abbrev pub part_of_sequences : List ℕ → ℕ → List ℕ
 part_of_sequences t at = let there = u32_of t at in (if nat_eq there 0 then [] else tail_of t there)
 

@@ -4,7 +4,7 @@ use Rattle.shape_font.specs.Bytes.{i16_of}
 use Rattle.shape_font.specs.Metrics.{listed_origin, typographic, ascender_of, descender_of, half_down}
 use Rattle.shape_font.specs.WorkedGlyphs.{words}
 
--- `VORG` that says so many records: 880 high, but glyph 3 900 and glyph 5 one below
+-- `VORG` that states so many records: origins at 880, except for glyph 3 at 900 and glyph 5 at -1
 abbrev pub origins : ℕ → List ℕ
 origins said = words (1 ∷ 0 ∷ 880 ∷ said ∷ 3 ∷ 900 ∷ 5 ∷ 65535 ∷ [])
 

@@ -30,7 +30,7 @@ module _ (unicode : UnicodeMeaning) (lawful : LawfulUnicode unicode) where
         | inr some ↦ absurd (both_ways _ no_mark (lawful.only_marks_have_ccc c some))
       ]
 
-  -- an item that takes the properties of its character has its class
+  -- an item that takes the properties of its character has its ccc
   pub ccc_with_props : (c : ℕ) → (if beyond_ascii c && is_mark unicode c then unicode.ccc c else 0) ≡ unicode.ccc c
   ccc_with_props c =
       elim (cases_Bool (is_mark unicode c)) [
@@ -44,7 +44,7 @@ module _ (unicode : UnicodeMeaning) (lawful : LawfulUnicode unicode) where
   pub prepared-with_props : (item : Item) → IsPreparedItem unicode (with_unicode_props unicode item)
   prepared-with_props item = record { mark = refl; ccc = ccc_with_props item.codepoint }
 
--- what being prepared depends on: the character, the class and the category
+-- what being prepared depends on: the character, the ccc and the category
 abbrev pub PreparedKey : Type 0
 PreparedKey = ℕ × (ℕ × hb_unicode_general_category_t)
 

@@ -86,7 +86,7 @@ upper_kept k value first lower upper lt fits words = record {
   lower_unused = words.lower_unused;
 }
 
--- ---- the category and the class
+-- ---- the category and the glyph class
 
 pub category_kept : (category : hb_unicode_general_category_t) (first lower upper : ℕ) → AreWords first lower upper
     → AreWords (with_field 0 8 (category_number category) first) lower upper

@@ -30,7 +30,7 @@ pub record FirstWordWorked : Type 0 where
   pub zwj : first_of (record fresh { zwj = true }) ≡ 134217728
   pub zwnj : first_of (record fresh { zwnj = true }) ≡ 268435456
   pub selector_mark : first_of (record fresh { selector_mark = true }) ≡ 536870912
-  -- a mark of class 230: 5, 230 times 256, and the bit of continuations
+  -- a mark of ccc 230: 5, 230 times 256, and the bit of continuations
   pub accent : first_of (record fresh { general_category = NonspacingMark; modified_ccc = 230; continuation = true }) ≡ 67167749
 
 first_word_worked : FirstWordWorked

@@ -66,7 +66,7 @@ pub least-reached : (ps : List Part) → IsReached ps
 least-reached [] = record { end = 0; within = omega arith; is = refl; reached = refl }
 least-reached (p ∷ ps) = reached_next p ps (least-reached ps)
 
--- a sum of so many widths is as small as any
+-- the least width is within the bounds of a sum of so many widths
 pub IsWithin-least : (ps : List Part) → AreNarrow ps → IsWithin (length ps) (least ps)
 IsWithin-least ps narrow =
     let at = least-reached ps in

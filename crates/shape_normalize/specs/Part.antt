@@ -8,7 +8,7 @@ use Rattle.shape_items.specs.Items.{Item}
 use Rattle.shape_items.specs.UnicodeProps.{with_unicode_props, with_scratch_of}
 use Rattle.shape_normalize.specs.declared.ot_shape_normalize.part.Part.{Part}
 
--- the index of the glyph of a character, 0 where it has none
+-- the index of the glyph of a character, 0 if it has none
 abbrev pub glyph_index : (ℕ → Option GlyphId) → ℕ → ℕ
 glyph_index glyph c = unwrap_or (option_map (λ g. g.0) (glyph c)) 0
 

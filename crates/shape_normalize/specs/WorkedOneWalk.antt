@@ -1,4 +1,4 @@
--- Texts whose marks come of expansions, computed on small cases whose answers are worked out by hand.
+-- Texts whose marks come from expansions, computed on small cases whose answers are worked out by hand.
 use Rattle.std.specs.Prelude.{◌≡◌, ℕ, ◌==◌, true, false, if◌then◌else◌, List, [], ◌∷◌, ◌++◌, map, flat_map, replicate, Some, refl}
 use Rattle.shape_items.specs.Clusters.{merge}
 use Rattle.shape_items.specs.Items.{char_of}

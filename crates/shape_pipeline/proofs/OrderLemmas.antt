@@ -54,7 +54,7 @@ record IsShown (From : ℕ → Type 0) (target : Direction) (b : Buffer) : Type 
   comes : Comes From b
   ordered : IsOrderedFor (is_backward target) (clusters b.items)
 
--- a state that steps keep which keep clusters
+-- a state that is kept by every step that keeps clusters
 record IsKept (State : Buffer → Type 0) : Type 0 where
   monotone : (b : Buffer) → State b → IsMonotoneLevel b.cluster_level
   kept : (old new : Buffer) → State old → KeepsOrder old new → State new
@@ -100,7 +100,7 @@ run_keeps kept (step ∷ steps) keep b state =
 Leads-keepers : {State : Buffer → Type 0} → IsKept State → (steps : List Step) → EachStep IsClusterKeeper steps → Leads State steps State
 Leads-keepers kept steps keep = record { leads = run_keeps kept steps keep }
 
--- ---- the two reversals: if the text was reversed against the target once, it is reversed back, and never else
+-- ---- the two reversals: if the text was reversed against the target once, it is reversed back, and only then
 
 back_again : (target : Direction) → target ≢ Invalid → not (is_backward (reverse_of target)) ≡ is_backward target
 back_again Invalid valid = absurd (valid refl)
@@ -210,12 +210,12 @@ target_of-known run text = direction_or-known text.direction _ (script_or_ltr-kn
 
 -- ---- what is handed out
 
--- no list is out of order that has no items
+-- a list without items is in order
 ordered-none : (backward : Bool) (xs : List ℕ) → xs ≡ [] → IsOrderedFor backward xs
 ordered-none true xs none = λ i j d first second. absurd (omega (arith, second, ap length none))
 ordered-none false xs none = λ i j d first second. absurd (omega (arith, second, ap length none))
 
--- nor has one a cluster
+-- and has no cluster
 none_in : (xs : List ℕ) (k : ℕ) → xs ≡ [] → Contains xs k → ⊥
 none_in xs k none is = omega (arith, is.1, ap length none)
 

@@ -45,7 +45,7 @@ tag_masks builder = record {
   pause_after = λ _. None;
 }
 
--- a shaper that isn't the default: zeroes early and places marks by extents; gives no hook but `create_data`
+-- a shaper that isn't the default: zeroes early and places marks by extents; gives no hook except `create_data`
 abbrev pub constants_of : ShaperConstants
 constants_of = record {
   is_default = false;
@@ -150,7 +150,7 @@ pub record PlansOfFaces : Type 0 where
   pub asks : length (planned_on (record constants_of { has_collect_features = true; has_override_features = true })
       no_tables LeftToRight []).ot_map.requests ≡ 29
   pub data_of_features : (planned_on constants_of no_tables LeftToRight (kern_off ∷ [])).shaper_data ≡ Some (6, false)
-  -- what its shaper made for a plan is told of the plan as it is, which has it by then
+  -- what a shaper made for a plan can be told from the finished plan, which has the data by then
   pub own : own_data (planning_with constants_of) (planned_on constants_of no_tables LeftToRight (kern_off ∷ [])) ≡ Some (6, false)
   pub none_of_dumber : own_data (planning_with constants_of) (planned_on constants_of only_morx LeftToRight []) ≡ None
   pub no_data : (planned_on (record constants_of { has_create_data = false }) no_tables LeftToRight []).shaper_data ≡ None

@@ -42,7 +42,7 @@ walked-behind flags cluster mask (x ∷ xs) = elim (cases_Bool (has_cluster clus
       rw (other, run-left flags x xs) (ap (λ zs. with_mask now x ∷ zs) (walked-behind flags x.cluster now xs))
 ]
 
--- the walk from its begin
+-- the walk from its start
 pub walked-flagged : (flags : BufferFlags) (xs : List Item)
     → walked flags (record { mask = 0; left = 0 }) xs ≡ flagged_from flags None xs
 unfolding walked flagged_from

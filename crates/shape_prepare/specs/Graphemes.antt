@@ -10,7 +10,7 @@ use Rattle.shape_common.specs.declared.general_category.hb_unicode_general_categ
 use Rattle.shape_prepare.specs.declared.graphemes.Before.{Before}
 use Rattle.shape_prepare.specs.declared.graphemes.Before.TheVariants.{Plain, OpenIndicator, Zwj}
 
--- the categories that no rule on continuations asks about: letters but modifier letters, and space separators
+-- the categories that no rule on continuations asks about: letters except modifier letters, and space separators
 abbrev pub is_unasked : hb_unicode_general_category_t → Bool
 is_unasked LowercaseLetter = true
 is_unasked UppercaseLetter = true

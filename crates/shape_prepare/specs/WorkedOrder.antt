@@ -184,7 +184,7 @@ rotations = record {
   mirrored_with_vert = refl;
 }
 
--- an item on which nothing is as in a new one
+-- an item in which nothing is as in a new one
 abbrev pub odd_bracket : Item
 odd_bracket = let plain : Item = new_item 0x28 3 in record plain {
   mask = 9;

@@ -6,7 +6,7 @@ use Rattle.shape_common.specs.declared.text_types.Direction.TheVariants.{Invalid
 use Rattle.shape_sessions.specs.declared.command.Command.{Command}
 use Rattle.shape_sessions.specs.declared.command.Command.TheVariants as command
 
--- what a line is about that begins with a word
+-- what a line that begins with a word is about
 abbrev pub command_of : List ℕ → Option Command
 command_of word =
     if bytes_eq word (codes "face") then Some command.Face

@@ -1,5 +1,5 @@
--- What the lists of steps of masks and substitution keep, clusters and flags told at once: of any property of steps that holds if
--- nothing is done, if each step that is no call has it.
+-- What the lists of steps of masks and substitution keep, clusters and flags at once: any property of steps that doing
+-- nothing has, if each step that is no call has it too.
 use Rattle.std.proofs.Common.{◌≡◌, ◌&&◌, ◌≤◌, ◌<◌, ℕ, zero, suc, Bool, true, false, [], ◌∷◌, Option, Some, None, refl, arith}
 use Rattle.std.specs.Prelude.{if◌then◌else◌}
 use Rattle.std.proofs.lemmas.Bool.{and_parts}
@@ -19,7 +19,7 @@ use Rattle.shape_substitute.specs.Substitution.{stage_steps, lookup_steps}
 use Rattle.shape_substitute.proofs.StepKeepers.{order-fractions_masked, order-ranges_masked, order-glyphs_mapped, order-classes_synthesised, flags-fractions_masked, flags-ranges_masked, flags-glyphs_mapped, flags-classes_synthesised}
 use Rattle.shape_plan.proofs.KeeperLemmas.{keeper-hook, keeper-step_if, keeper-step_due}
 
--- a property of the steps that call nothing, and of no step at all
+-- a property of the steps that call nothing, and of doing nothing
 record EachOwnStep (Keeps : (Buffer → Buffer) → Type 0) (run : Run) : Type 0 where
   none : Keeps (λ b. b)
   fractions : Keeps (fractions_masked run.decisions)

@@ -39,7 +39,7 @@ masks_of b = map (λ item. item.mask) b.items
 abbrev masked : Direction → List Item → List ℕ
 masked direction items = masks_of (fractions_masked (with_fractions true) (text direction 0 1 items))
 
--- if concatenation is asked about (64)
+-- the same if unsafe to concat is asked for (64)
 abbrev masked_for_concat : List Item → List ℕ
 masked_for_concat items = masks_of (fractions_masked (with_fractions true) (text LeftToRight 64 1 items))
 

@@ -95,7 +95,7 @@ pub record WorkedTexts : Type 0 where
   pub no_glyph_names : text_of 4 ≡ codes "[2=0+600|30=1@-50,7+0,-1000]"
   pub extents : text_of 8 ≡ codes "[A=0+600<10,700,580,-700>|gid30=1@-50,7+0,-1000<0,0,0,0>]"
   pub glyph_flags : text_of 16 ≡ codes "[A=0+600|gid30=1@-50,7+0,-1000#1]"
-  -- the second glyph stands 600 from the begin of the line
+  -- the second glyph stands 600 from the start of the line
   pub no_advances : text_of 32 ≡ codes "[A=0|gid30=1@550,7]"
   pub flags_and_boxes : text_of 26 ≡ codes "[A=0<10,700,580,-700>|gid30=1#1<0,0,0,0>]"
   pub glyphs_alone : text_of 7 ≡ codes "[2|30]"

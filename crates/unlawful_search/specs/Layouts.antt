@@ -24,7 +24,7 @@ odd_layout face = record {
   has_cross_kerning = face.answers.cross_kerning;
 }
 
--- 8 is on for every item; each feature has the bit 0x10, and all bits but those of flags for its value, or none
+-- 8 is on for every item; each feature has the bit 0x10, and all bits except those of flags for its value, or none
 abbrev pub odd_masks : OddMap → MapMeaning
 odd_masks map = record {
   global_mask = 8;

@@ -91,7 +91,7 @@ module _ {A : Type 0} (ccc : A → ℕ) (is_mark : A → Bool) (compose : A → 
       (λ ms c rest marks mark. push_marks ms c marks mark)
       x [] xs tt
 
-  -- no ccc falls below n, nor below the ccc before it, but to 0
+  -- no ccc falls below n, nor below the ccc before it, except to 0
   abbrev RisesFrom : ℕ → List A → Type 0
   RisesFrom n [] = Unit {0}
   RisesFrom n (c ∷ rest) = (0 < ccc c → n ≤ ccc c) × RisesFrom (ccc c) rest

@@ -92,7 +92,7 @@ module _ (xs : List Item) (k end : ℕ) (room : k + 2 < end) (within : end ≤ l
             ap (λ a. put_range a b least xs) e
       ]
 
-  -- one item on among those of one cluster, a span makes the same of the list
+  -- a span that begins one item later, among those of one cluster, makes the same of the list
   merge-behind : merge k end xs ≡ merge (k + 1) end xs
   merge-behind =
       let long : nat_lt (k + 1) end ≡ true = grind (arith, nat_tests) in
@@ -103,7 +103,7 @@ module _ (xs : List Item) (k end : ℕ) (room : k + 2 < end) (within : end ≤ l
       ∙ ap (λ l. put_range (k + 1 - growth_left xs (k + 1) l) (end + growth_right xs (end - 1) l) l xs) least_same
       ∙ sym (merge_long (k + 1) end xs long_next)
 
--- several items on
+-- several items later
 pub merge-from_later : (start count end : ℕ) (xs : List Item) → start + count + 1 < end → end ≤ length xs
     → ((k : ℕ) → start ≤ k → k < start + count → Joined xs k)
     → merge start end xs ≡ merge (start + count) end xs

@@ -1,5 +1,5 @@
--- Each item of a normalised list has the glyph of its character, or what replaces it, or comes of a sequence with a variation
--- selector.
+-- Each item of a normalised list has the glyph of its character, or what replaces it, or comes from a sequence with a
+-- variation selector.
 use Rattle.std.proofs.Common.{◌≡◌, ◌⊎◌, ℕ, Bool, true, false, List, [], ◌∷◌, ◌++◌, length, map, Option, None, Some, is_some, unwrap_or, refl, arith, inl, inr}
 use Rattle.std.specs.List.{All, AllByRecursion, Contains, flat_map, filter}
 use Rattle.std.specs.Option.{option_map, option_map_or}
@@ -111,7 +111,7 @@ module _ (rules : Rules) where
       (selector_items rules b) themselves)
 
   module _ (lawful : LawfulReorder rules.reorder) where
-    -- each item of the normalised list has its glyph, or comes of a sequence with a selector
+    -- each item of the normalised list has its glyph, or comes from a sequence with a selector
     pub normalized_has_glyphs : (b new : Buffer) → new ≡ normalized rules b → All (HasItemGlyph rules b) new.items
     normalized_has_glyphs b new is =
         rw is (All-from_recursion (HasItemGlyph rules b) (normalized rules b).items

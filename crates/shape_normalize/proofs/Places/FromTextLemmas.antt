@@ -81,7 +81,7 @@ module _ (rules : Rules) (text : Buffer) where
   abbrev none : Origin
   none = origin_at false 0
 
-  -- it goes neither by clusters nor by defined flags nor by ccc
+  -- it depends on no cluster, no defined flag and no ccc
   has_same : (origin : Origin) (x y : Item) → without_ccc x ≡ without_ccc y → Has origin y → Has origin x
   has_same origin x y same has =
       let hidden : hidden_char x ≡ hidden_char y = ap hidden_char same in

@@ -1,5 +1,5 @@
--- Sequences: what holds of a list holds of its parts, and an item stands in a sequence with marks exactly when a mark stands at it of
--- the list.
+-- Sequences: what holds of a list holds of its parts, and an item stands in a sequence with marks exactly when a mark
+-- of the list stands at it.
 use Rattle.std.proofs.Common.{◌≡◌, Bool, true, false, if◌then◌else◌, ◌&&◌, ◌||◌, List, [], ◌∷◌, ◌++◌, map, flat_map, refl, sym, ap, ap₂, ◌∙◌, inl, inr, append_assoc, append-nil}
 use Rattle.std.proofs.lemmas.Bool.{cases_Bool, and_right, or_right}
 use Rattle.std.specs.List.{AllByRecursion}
@@ -65,14 +65,14 @@ module _ {A : Type 0} (belongs : A → Bool) where
   flat_map_parts_all P Q become keeps items each =
       flat_map_all (λ part. AllByRecursion P part) Q become keeps (divided belongs items) (each_part P items each)
 
--- ---- clusters
+-- ---- sequences
 
 module _ {B : Type 0} (become : Bool → Item → List B) where
   -- what a sequence becomes, each item of it by whether the sequence has marks
   abbrev pub sequence_becomes : List Item → List B
   sequence_becomes sequence = flat_map (become (is_with_marks sequence)) sequence
 
-  -- the same after an item that stands before the first of these sequences, in one with it
+  -- the same after an item that stands before the first of these sequences, in one sequence with it
   abbrev behind_becomes : List (List Item) → List B
   behind_becomes [] = []
   behind_becomes (part ∷ parts) = flat_map (become true) part ++ flat_map sequence_becomes parts
@@ -89,7 +89,7 @@ module _ {B : Type 0} (become : Bool → Item → List B) where
       → flat_map sequence_becomes (put_first x ((y ∷ part) ∷ parts)) ≡ become true x ++ behind_becomes ((y ∷ part) ∷ parts)
   sequence-put_first x y part parts = append_assoc (become true x) (flat_map (become true) (y ∷ part)) (flat_map sequence_becomes parts)
 
-  -- an item that is no mark counts as the first or not alike
+  -- if an item is no mark, it makes no difference whether it counts as the first
   first_or_not : (x : Item) (rest : List Item) → is_mark_item x ≡ false → from true (x ∷ rest) ≡ from false (x ∷ rest)
   first_or_not x rest unmarked =
       let after = begins_with_mark is_mark_item rest in

@@ -62,7 +62,7 @@ module _ (rules : Rules) (lawful : LawfulUnicode rules.unicode) where
       (placed 0 items) (prepared-placed 0 items h)
       ∙ ap (recomposed ccc (is_blocked ccc) (is_mark rules.unicode) compose_chars) (chars-placed 0 items)
 
-  -- the characters of the recomposed list are those of the list, recomposed by the ccc emitted last
+  -- the characters of the recomposed list are those of the list, recomposed by the rule of the standard
   pub chars-round_three : (b : Buffer) → ArePrepared rules.unicode b.items
       → map char_of (round_three rules b).items
       ≡ recomposed rules.unicode.ccc (is_blocked rules.unicode.ccc) (is_mark rules.unicode) compose_chars (map char_of b.items)
