@@ -22,7 +22,7 @@ parted place width word =
     ∙ ap (λ n. n * 2 ^ place + word % 2 ^ place)
     (sym (shr_split (word / 2 ^ place) width) ∙ ap (λ n. n * 2 ^ width + word / 2 ^ place % 2 ^ width) (shr-shr word place width))
 
--- the bits except those of the field
+-- all bits except those of the field
 mask_parted : (above width place : ℕ)
     → 2 ^ (above + width + place) - 1 - (2 ^ width - 1) * 2 ^ place ≡ ((2 ^ above - 1) * 2 ^ width + 0) * 2 ^ place + (2 ^ place - 1)
 mask_parted above width place =

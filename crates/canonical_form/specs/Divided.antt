@@ -1,7 +1,7 @@
 -- A list divided into parts.
 use Rattle.std.specs.Prelude.{◌≡◌, ◌+◌, ◌<◌, Bool, if◌then◌else◌, List, [], ◌∷◌, length}
 
--- an item before the first part, in one with it
+-- an item put at the front of the first part; it is a part of its own if there is none
 abbrev pub put_first : {A : Type 0} → A → List (List A) → List (List A)
 put_first x [] = (x ∷ []) ∷ []
 put_first x (part ∷ parts) = (x ∷ part) ∷ parts

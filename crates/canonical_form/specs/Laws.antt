@@ -160,7 +160,7 @@ RecomposedDecides = ForLawfulSplits (λ D.
     → (recomposed D.ccc (is_blocked D.ccc) is_mark compose new ≡ recomposed D.ccc (is_blocked D.ccc) is_mark compose other)
     ↔ IsEquivalent D s t)
 
--- in every mode: if the shortest choices are asked for all characters, for those that stand by themselves or for none
+-- in every mode: whether the shortest choices are asked of all characters, of those that stand by themselves or of none
 abbrev pub OrderedIsEquivalent : Type 0
 OrderedIsEquivalent = ForLawfulSplits (λ D.
     (has_glyph is_mark : ℕ → Bool) (short : Bool → Bool) (limit : ℕ) (text new : List ℕ)

@@ -21,7 +21,7 @@ kern_layout face = record {
   has_cross_kerning = false;
 }
 
--- every call but that of kerning leaves the buffer as it is
+-- every call except kerning leaves the buffer as it is
 abbrev pub kern_lookups : FontFace → LookupMeaning
 kern_lookups face = record no_lookups { kern = table_kerned face.kern.now }
 

@@ -6,7 +6,7 @@ use Rattle.shape_common.specs.Direction.{is_horizontal, is_backward}
 use Rattle.shape_font.specs.Bytes.{u16_of}
 use Rattle.kern_table.specs.Walk.{kerned}
 
--- the parts that the table says that it has; none if its version isn't 0
+-- how many parts the table states; none if its version isn't 0
 abbrev pub parts_of : List ℕ → ℕ
 parts_of t = if nat_eq (u16_of t 0) 0 then u16_of t 2 else 0
 
@@ -24,7 +24,7 @@ part_kerned t start mask b = if is_read t start (is_horizontal b.direction)
     then (if is_backward b.direction then reversed (kerned t start mask (reversed b)) else kerned t start mask b)
     else b
 
--- so many parts from a place on; a part that says that it is shorter than its header ends the table
+-- so many parts from a place on; a part whose stated length is less than its header ends the table
 abbrev pub kerned_from : List ℕ → ℕ → ℕ → ℕ → Buffer → Buffer
 kerned_from t mask zero start b = b
 kerned_from t mask (suc n) start b = let len = u16_of t (start + 2) in

@@ -32,7 +32,8 @@ position_at b i = slice_index_or b.positions i zero_position
 abbrev pub position_put : ℕ → GlyphPosition → Buffer → Buffer
 position_put i p b = record b { positions = slice_set b.positions i p }
 
--- half of a value, downwards, to the advance of the first glyph, the rest to that of the second, which is moved by the rest
+-- half of a value, rounded down, is added to the advance of the first glyph, and the rest to that of the second, which
+-- also moves by the rest
 abbrev pub pair_moved : ℕ → ℕ → ℤ → Buffer → Buffer
 pair_moved i j by b =
     let along = is_horizontal b.direction in
@@ -47,11 +48,12 @@ item_at items i = slice_index_or items i (new_item 0 0)
 abbrev pub pair_kerned : List ℕ → ℕ → ℕ → ℕ → Buffer → Buffer
 pair_kerned t start i j b = pair_moved i j (value_of t start (item_at b.items i).glyph_id (item_at b.items j).glyph_id) b
 
--- a glyph is skipped if one waits at its left
+-- a mark or a default ignorable is skipped only if a glyph waits at its left
 abbrev pub is_skipped_by : Option ℕ → Item → Bool
 is_skipped_by left item = is_some left && is_skipped item
 
--- which glyph waits after glyph `j`, if `left` waited before: the same if `j` is skipped, none if kerning is off for it
+-- which glyph waits after glyph `j`, if `left` waited before it: the same if `j` is skipped, none if kerning is off for
+-- `j`, else `j`
 abbrev pub left_after : ℕ → ℕ → Option ℕ → List Item → Option ℕ
 left_after mask j left items =
     if is_skipped_by left (item_at items j) then left

@@ -17,7 +17,8 @@ use Rattle.kern_table.specs.Pairs.{value_of}
 use Rattle.kern_table.specs.Tables.{parts_of, is_read, part_kerned, table_kerned}
 use Rattle.kern_table.specs.Walk.{left_after, kerned}
 
--- a part of format 0 that says so many pairs, with room for two: glyphs 2 and 3 by -50, 3 and 2 by -35; so long, and of this coverage
+-- a part of format 0, of this length and coverage, that states so many pairs and has room for two: glyphs 2 and 3 by
+-- -50, 3 and 2 by -35
 abbrev pub part : ℕ → ℕ → ℕ → List ℕ
 part len coverage said = 0 ∷ 0 ∷ 0 ∷ len ∷ 0 ∷ coverage ∷ 0 ∷ said ∷ 0 ∷ 0 ∷ 0 ∷ 0 ∷ 0 ∷ 0
     ∷ 0 ∷ 2 ∷ 0 ∷ 3 ∷ 0xFF ∷ 0xCE ∷ 0 ∷ 3 ∷ 0 ∷ 2 ∷ 0xFF ∷ 0xDD ∷ []
@@ -161,7 +162,7 @@ worked_lines = record {
   no_mask = refl;
 }
 
--- requests for `kern`: for the whole text with a table that may do the feature's work, for a range without one
+-- requests for `kern`: for the whole text or for a range, with a fallback or without
 abbrev pub KERN : hb_tag_t
 KERN = record { 0 = 0x6b65726e }
 

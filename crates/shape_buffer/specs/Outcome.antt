@@ -31,7 +31,7 @@ abbrev pub SomePast : List Step → Buffer → Type 0
 SomePast [] b = ⊥
 SomePast (step ∷ steps) b = (limit_of b < step.counts b) ⊎ SomePast steps (step.makes b)
 
--- a step that is never refused was made; it left the list no longer, and the limit as it was
+-- a step that is never refused was made: the list is no longer than before, and the limit stays
 pub record Made (f : Buffer → Buffer) (old new : Buffer) : Type 0 where
   pub made : new ≡ f old
   pub no_longer : length new.items ≤ length old.items

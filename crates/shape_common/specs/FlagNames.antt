@@ -16,7 +16,7 @@ SAFE_TO_INSERT_TATWEEL = 4
 abbrev pub UNSAFE : ℕ
 UNSAFE = 3
 
--- all but UNSAFE_TO_CONCAT
+-- all except UNSAFE_TO_CONCAT
 abbrev pub NOT_FOR_CONCAT : ℕ
 NOT_FOR_CONCAT = 5
 

@@ -21,7 +21,8 @@ advance_of face glyph = option_map_or (λ metrics. metrics.advance) (metrics_of 
 abbrev pub extents_of : MapFace → GlyphId → Option hb_glyph_extents_t
 extents_of face glyph = option_map_or (λ metrics. metrics.extents) (metrics_of face glyph) None
 
--- vertical lines go down by the em square, round the middle of a glyph and from the top of the square; there are no tables and no variants
+-- vertical lines go down by the em square; their origin is at the middle of the glyph and the top of the square; there
+-- are no tables and no variants
 abbrev pub map_face : MapFace → FaceMeaning
 map_face face = record {
   nominal_glyph = λ c. get nat_cmp face.glyphs c;

@@ -7,7 +7,7 @@ use Rattle.shape_common.specs.declared.text_types.Script.{Script}
 abbrev pub in_standard_case : ℕ → ℕ
 in_standard_case tag = bit_or (bit_and tag 0xDFDFDFDF) 0x202020
 
--- the script that a tag names a variant of, or named before; any other tag as it is
+-- the script that a tag names a variant of, or used to name; any other tag as it is
 abbrev pub main_script : ℕ → ℕ
 main_script tag =
     if tag == 0x51616169 then 0x5A696E68  -- Qaai: Zinh

@@ -41,7 +41,7 @@ pub record IsPlain (unicode : UnicodeMeaning) (c : ℕ) : Type 0 where
 abbrev pub FormsArePlain : UnicodeMeaning → (ℕ → Option ℕ) → Type 0
 FormsArePlain unicode form = (c d : ℕ) → form c ≡ Some d → IsPlain unicode c × IsPlain unicode d
 
--- the laws, over all numbers: past the characters a meaning may be chosen freely
+-- the laws, over all numbers: of a number that is no character a meaning may answer whatever keeps them
 pub record LawfulUnicode (unicode : UnicodeMeaning) : Type 0 where
   pub only_marks_have_ccc : (c : ℕ) → unicode.ccc c ≢ 0 → is_mark unicode c ≡ true
   pub ascii_is_no_mark : (c : ℕ) → c < 128 → is_mark unicode c ≡ false

@@ -186,7 +186,7 @@ at_counted face s i b within some =
     let here : drop i b.items ≡ x ∷ drop (suc i) b.items = drop-cons b.items i x within ∙ ap (λ (y : Item). y ∷ drop (suc i) b.items) (sym read) in
     at_mark face s i b x within read (sym (ap begins_with_mark here) ∙ first)
 
--- every place visited but the last, which has nothing after it
+-- every place visited except the last, which has nothing after it
 pub bases_last : (face : FaceMeaning) (s : MarkFrame) (i : ℕ) (b : Buffer) → length b.items ≤ i + 1
     → fold (position_span face s) b (bases i (drop i (marks_of b))) ≡ b
 bases_last face s i b over = elim (cases_lt i (length b.items)) [

@@ -262,7 +262,7 @@ round-exact = record {
 
 -- ---- spaces
 
--- a part of the em square is at most the square's side plus half of the type's number
+-- a part of the em square is no more than the square and half of the type's number
 em_part-small : (u t : ℕ) → u < 65536 → t < 256 → em_part u t < 65792
 unfolding em_part
 em_part-small u t units type =

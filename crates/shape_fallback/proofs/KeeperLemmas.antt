@@ -1,4 +1,5 @@
--- The fallback steps keep clusters and flags: marking spans unsafe to break is all that they do to items, ccc aside.
+-- The fallback steps keep clusters and flags: besides changing ccc, all that they do to items is to mark spans unsafe
+-- to break.
 use Rattle.std.proofs.Common.{◌≡◌, ℕ, ◌+◌, Bool, true, false, nat_lt, List, [], ◌∷◌, map, refl, ap, sym, ◌∙◌, inl, inr}
 use Rattle.std.specs.Prelude.{Option, fold}
 use Rattle.std.proofs.lemmas.Bool.{cases_Bool}

@@ -17,7 +17,7 @@ slice_range-cons xs i to x d lt within is =
     let next : suc i ≡ i + 1 = omega arith in
     rw (n, drop-cons xs i d within, ← is, next) refl
 
--- if a list whose elements before i are written has one more written
+-- one more element is written in a list whose elements before i are written
 pub placed_step : (f : List GlyphPosition) (ps : List GlyphPosition) (i to : ℕ) (p : GlyphPosition) → i < to → i < length ps
     → take (i + 1) (set ps i p) ++ (f ++ drop to (set ps i p)) ≡ take i ps ++ (p ∷ f ++ drop to ps)
 placed_step f ps i to p lt within =

@@ -30,7 +30,7 @@ abbrev pub with_marks : ℕ → ℕ → List Span
 with_marks i zero = []
 with_marks i (suc n) = record { start = i; end = i + 1 + suc n } ∷ []
 
--- the base at place i, of a list from there on that says of each item whether it is a mark
+-- the base at place i, if it has marks; the list says of each item from there on whether it is a mark
 unfoldable pub base_at : ℕ → List Bool → List Span
 base_at i [] = []
 base_at i (true ∷ marks) = []

@@ -26,7 +26,7 @@ exact_x_offset horizontal forward ccc B E =
     else if is_right ccc then B.x_bearing +ℤ B.width -ℤ E.width -ℤ E.x_bearing
     else B.x_bearing +ℤ int_div (B.width -ℤ E.width) (pos 2) -ℤ E.x_bearing
 
--- the ccc that stand at no side of the base
+-- the ccc of marks that are centred on the base
 abbrev pub is_centred : Bool → ℕ → Bool
 is_centred horizontal ccc = not ((horizontal && is_double ccc) || is_left ccc || is_right ccc)
 
@@ -78,9 +78,8 @@ exact_component base item =
     pos base.number_of_components -ℤ pos 1
     else component
 
--- if all numbers round a base fit, they are the exact ones: the base's extents, the running offset at the
--- first mark and past each mark of ccc 0, and which component a mark belongs to, if the numbers of
--- components are of u8
+-- if all numbers round a base fit, they are the exact ones: the base's extents, the running offset at the first mark
+-- and past each mark of ccc 0, and which component a mark belongs to, if the numbers of components fit a u8
 pub record ExactRound : Type 0 where
   pub base_above : (face : FaceMeaning) (s : MarkFrame) (x : Item) (p : GlyphPosition) (E : Extents) → Fits32 (E.y_bearing +ℤ p.y_offset)
       → (base_of face s x p E).extents.y_bearing ≡ E.y_bearing +ℤ p.y_offset

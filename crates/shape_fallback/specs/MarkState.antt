@@ -21,7 +21,7 @@ component_of base item =
     pos base.number_of_components -ʷ pos 1
     else component
 
--- which part of the base from its left a component is
+-- which part of the base a component is, counted from the left
 unfoldable pub place_of : Base → ℤ → ℤ
 place_of base component =
     if base.left_to_right then component else pos base.number_of_components -ʷ pos 1 -ʷ component

@@ -204,7 +204,7 @@ unfolding marks_positioned frame_of runs_to_right bases_positioned bases base_at
     agree lowered raised ◌+ʷ◌ ◌-ʷ◌ neg_w int_wrap
 widest_mark = record { widest = refl }
 
--- the decisions of a plan: whether marks are placed by their extents, and whether offsets are adjusted
+-- the decisions of a plan that places marks by their extents or doesn't, and adjusts offsets or doesn't
 abbrev pub worked_decisions : Bool → Bool → Decisions
 worked_decisions fallback adjust = record no_decisions {
   apply_fallback_kern = true;
@@ -241,7 +241,7 @@ unfolding marks_adjusted marks_positioned frame_of runs_to_right bases_positione
     is_nonspacing zeroed_position recategorized_item items_mapped ◌-ʷ◌ int_wrap
 due_steps = record { to_the_right = refl; to_the_left = refl; not_adjusted = refl; not_due = refl; cccs_due = refl; cccs_not_due = refl }
 
--- spans are marked: a mark of a later cluster than its base's, and the bit of the run; no item outside
+-- what is marked: a mark of a later cluster than its base's, with the scratch flag set; no item outside the spans
 pub record MarkedSpans : Type 0 where
   pub masks : map (λ item. item.mask) (bases_marked (marked LeftToRight
       (mark_of 2 230 NonspacingMark 0 ∷ letter 1 ∷ mark_of 2 230 NonspacingMark 1 ∷ mark_of 2 230 NonspacingMark 0

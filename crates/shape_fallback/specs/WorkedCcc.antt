@@ -16,14 +16,14 @@ pub record CccInThaiAndLao : Type 0 where
       ≡ 230 ∷ 230 ∷ 230 ∷ 230 ∷ 230 ∷ 230 ∷ 230 ∷ 230 ∷ 220 ∷ []
   pub beside_lao : map (λ c. ccc_in_thai_or_lao c 0) (0xEB0 ∷ 0xEB2 ∷ 0xEB3 ∷ 0xEB8 ∷ 0xEBA ∷ 0xEBD ∷ 0xECB ∷ 0xECE ∷ 0x301 ∷ [])
       ≡ 0 ∷ 0 ∷ 0 ∷ 0 ∷ 0 ∷ 0 ∷ 0 ∷ 0 ∷ 0 ∷ []
-  -- U+0E3A of another ccc; the other characters change only if their ccc is 0
+  -- U+0E3A gets another ccc unless its own is 0, the other characters only if theirs is
   pub virama : map (ccc_in_thai_or_lao 0xE3A) (1 ∷ 3 ∷ 9 ∷ []) ≡ 222 ∷ 222 ∷ 222 ∷ []
   pub with_cccs : map (λ c. ccc_in_thai_or_lao c 107) (0xE31 ∷ 0xEB1 ∷ 0xEBC ∷ 0xE39 ∷ 0xE3B ∷ []) ≡ 107 ∷ 107 ∷ 107 ∷ 107 ∷ 107 ∷ []
 
 cccs_in_thai_and_lao : CccInThaiAndLao
 cccs_in_thai_and_lao = record { thai = refl; beside_thai = refl; lao = refl; beside_lao = refl; virama = refl; with_cccs = refl }
 
--- what each modified ccc becomes, and those beside
+-- what each modified ccc becomes, and the numbers beside them
 pub record CccOfOtherScripts : Type 0 where
   pub first : map recategorized_ccc (0 ∷ 1 ∷ 2 ∷ 3 ∷ 4 ∷ 8 ∷ 9 ∷ []) ≡ 0 ∷ 1 ∷ 2 ∷ 222 ∷ 4 ∷ 8 ∷ 9 ∷ []
   pub from_10 : map recategorized_ccc (10 ∷ 11 ∷ 12 ∷ 13 ∷ 14 ∷ []) ≡ 232 ∷ 228 ∷ 12 ∷ 214 ∷ 228 ∷ []

@@ -23,7 +23,7 @@ use Rattle.shape_fallback.specs.declared.ot_shape_fallback.one_mark.Surroundings
 abbrev pub backward_base : Base
 backward_base = record (worked_base true 0 1 (pos 900)) { surroundings = record { horizontal = true; forward = false; gap = pos 62 } }
 
--- a mark without a ccc stays where it is, whatever ran up before it
+-- a mark without a ccc stays where it is, whatever the running offset
 pub record MarksWithoutCcc : Type 0 where
   pub forward : (face : FaceMeaning)
       → place_mark face (worked_base true 0 1 (pos 900)) (running (negsuc 899) (pos 4)) (component_mark 2 0 0 0)

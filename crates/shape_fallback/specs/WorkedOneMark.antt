@@ -31,7 +31,7 @@ pub record XOffsets : Type 0 where
       (extents (pos 50) (pos 0) (pos 201) (pos 0)))
       (1 ∷ 202 ∷ 214 ∷ 220 ∷ 224 ∷ 226 ∷ 230 ∷ 240 ∷ [])
       ≡ pos 159 ∷ pos 159 ∷ pos 159 ∷ pos 159 ∷ pos 159 ∷ pos 159 ∷ pos 159 ∷ pos 159 ∷ []
-  -- halves drop the rest towards zero: of -201, and of a mark's width of -201
+  -- halves are rounded towards zero: that of -201, and that of a mark's width of -201
   pub narrow_base : mark_x_offset true true 230 (extents (pos 10) (pos 0) (pos 200) (pos 0)) (extents (pos 50) (pos 0) (pos 401) (pos 0))
       ≡ negsuc 139
   pub reversed_mark : mark_x_offset true true 233 (extents (pos 10) (pos 0) (pos 600) (pos 0)) (extents (pos 50) (pos 0) (negsuc 200) (pos 0))

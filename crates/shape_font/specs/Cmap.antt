@@ -9,7 +9,7 @@ use Rattle.shape_font.specs.Search.{side_of, side_from_end, found_by}
 abbrev pub glyph_0 : List ℕ → ℕ → ℕ
 glyph_0 t c = if nat_lt c 256 then slice_index t (6 + c) else 0
 
--- format 4: where a character stands to segment `i` of `count`
+-- format 4: whether a character is before segment `i` of `count`, after it or in it
 abbrev pub side_of_segment : List ℕ → ℕ → ℕ → ℕ → Ordering
 side_of_segment t count c i = side_from_end c (u16_of t (16 + 2 * count + 2 * i)) (u16_of t (14 + 2 * i))
 
@@ -39,11 +39,11 @@ abbrev pub listed_glyph : List ℕ → ℕ → ℕ → ℕ → ℕ → ℕ
 listed_glyph t start count at c = if nat_lt c start then 0
     else (if nat_lt (c - start) count then u16_of t (at + 2 * (c - start)) else 0)
 
--- formats 12 and 13: how many groups the table has room for, at most as many as it says
+-- formats 12 and 13: how many groups the table has room for, at most as many as it states
 abbrev pub groups_of : List ℕ → ℕ
 groups_of t = fitting t (u32_of t 12) 16 12
 
--- where a character stands to group `i`
+-- whether a character is before group `i`, after it or in it
 abbrev pub side_of_group : List ℕ → ℕ → ℕ → Ordering
 side_of_group t c i = side_of c (u32_of t (16 + 12 * i)) (u32_of t (20 + 12 * i))
 

@@ -21,7 +21,7 @@ own_glyph_of f g = if nat_lt 0 g && nat_lt g f.glyph_count then Some (record { 0
 abbrev pub glyph_of : FontFace → ℕ → Option GlyphId
 glyph_of f c = own_glyph_of f (mapped_glyph f.cmap.now f.symbols c)
 
--- its glyph before a selector, if it looks as alone or has one of its own
+-- its glyph before a selector: the one that it has alone, or one of its own; none if the font says nothing
 abbrev pub varied : FontFace → ℕ → GlyphVariant → Option GlyphId
 varied f c Missing = None
 varied f c Default = glyph_of f c

@@ -5,7 +5,7 @@ use Rattle.shape_common.specs.declared.face.hb_glyph_extents_t.{hb_glyph_extents
 use Rattle.shape_font.specs.Bytes.{u16_of, u32_of, i16_of, fitting}
 use Rattle.shape_font.specs.Search.{first_at}
 
--- `hmtx`, `vmtx`: how many long metrics the table has room for, at most as many as are said
+-- `hmtx`, `vmtx`: how many long metrics the table has room for, at most as many as are stated
 abbrev pub long_metrics : List ℕ → ℕ → ℕ
 long_metrics table said = fitting table said 0 4
 
@@ -31,7 +31,7 @@ listed_origin vorg glyph = option_map_or (λ i. i16_of vorg (10 + 4 * i))
 abbrev pub typographic : List ℕ → Bool
 typographic os2 = nat_eq (u16_of os2 62 / 128 % 2) 1
 
--- how far a line reaches up, whatever its sign
+-- how far a line reaches up, whatever the sign of the number
 abbrev pub ascender_of : List ℕ → List ℕ → ℕ
 ascender_of os2 hhea = unsigned_abs (cond (typographic os2) (i16_of os2 68) (i16_of hhea 4))
 

@@ -4,7 +4,7 @@ use Rattle.std.specs.Prelude.{ℕ, suc, List, Option, Some, None, ◌+◌, ◌-�
 use Rattle.std.specs.Option.{option_and_then}
 use Rattle.shape_font.specs.Bytes.{u16_of, u32_of, fitting}
 
--- where string `k` of those from a place on begins: each is a byte that says how long it is, and so many bytes
+-- where string `k` of those from a place on begins: each is a byte with its length, and so many bytes
 abbrev pub string_start : List ℕ → ℕ → ℕ → ℕ
 string_start t zero at = at
 string_start t (suc k) at = string_start t k (at + (1 + slice_index t at))
@@ -20,7 +20,7 @@ name_index post glyph = if nat_eq (u32_of post 0) 0x10000 then (if nat_lt glyph 
     else (if nat_eq (u32_of post 0) 0x20000 && nat_lt glyph (fitting post (u16_of post 32) 34 2)
     then Some (u16_of post (34 + 2 * glyph)) else None)
 
--- the name with a number: 258 that the table leaves out, then the strings after the list
+-- the name with a number: first the 258 that the table leaves out, then the strings after its list
 abbrev pub name_of : List ℕ → List ℕ → ℕ → Option (List ℕ)
 name_of standard post index = if nat_lt index 258 then string_of standard index 0
     else string_of post (index - 258) (34 + 2 * u16_of post 32)

@@ -108,7 +108,7 @@ worked_symbols = record {
   own_glyph_first = refl;
 }
 
--- formats 12 and 13 that say so many groups, with room for two: U+0041..0042 glyph 7, U+1F600 glyph 9
+-- formats 12 and 13 that state so many groups, with room for two: U+0041..0042 glyph 7, U+1F600 glyph 9
 abbrev pub groups_in : ℕ → ℕ → List ℕ
 groups_in format said = words (format ∷ 0 ∷ 0 ∷ 40 ∷ 0 ∷ 0 ∷ 0 ∷ said ∷ 0 ∷ 0x41 ∷ 0 ∷ 0x42 ∷ 0 ∷ 7 ∷ 1 ∷ 0xF600 ∷ 1 ∷ 0xF600 ∷ 0 ∷ 9 ∷ [])
 

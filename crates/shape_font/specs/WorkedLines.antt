@@ -4,7 +4,7 @@ use Rattle.shape_font.specs.Bytes.{i16_of}
 use Rattle.shape_font.specs.Metrics.{listed_origin, typographic, ascender_of, descender_of, half_down}
 use Rattle.shape_font.specs.WorkedGlyphs.{words}
 
--- `VORG` that says so many records: 900 high for glyph 3, one below 0 for glyph 5, 880 for all others
+-- `VORG` that states so many records: origins at 880, except for glyph 3 at 900 and glyph 5 at -1
 abbrev pub origins : ℕ → List ℕ
 origins said = words (1 ∷ 0 ∷ 880 ∷ said ∷ 3 ∷ 900 ∷ 5 ∷ 65535 ∷ [])
 

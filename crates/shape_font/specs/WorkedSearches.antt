@@ -29,7 +29,7 @@ pub record WorkedSearches : Type 0 where
   pub out_of_order_walked : walked (λ i. slice_index (30 ∷ 10 ∷ 20 ∷ []) i) (λ i. slice_index (30 ∷ 10 ∷ 20 ∷ []) i) 3 30 ≡ Some 0
   pub walk_between : walked (λ i. 10 * i) (λ i. 10 * i + 5) 5 6 ≡ None
   pub walk_to_the_second : walked (λ i. 10 * i) (λ i. 10 * i + 5) 5 15 ≡ Some 1
-  -- a range from 9 to 3: after its end comes first, or before its start
+  -- a range from 9 to 3: one search asks first whether 5 is before its start, the other whether it is after its end
   pub before_the_start : found_by (λ i. side_of 5 (slice_index (9 ∷ 5 ∷ []) i) (slice_index (3 ∷ 5 ∷ []) i)) 2 ≡ None
   pub behind_the_end : found_by (λ i. side_from_end 5 (slice_index (9 ∷ 5 ∷ []) i) (slice_index (3 ∷ 5 ∷ []) i)) 2 ≡ Some 1
 
@@ -53,8 +53,8 @@ worked_searches = record {
   behind_the_end = refl;
 }
 
--- format 14 of three selectors. U+FE00: U+0041..0042 look as alone. U+FE01: U+0041 has glyph 7, U+0042 none, U+1F600 glyph 9.
--- U+E0100: both
+-- format 14 of three selectors. U+FE00: U+0041..0042 look as they do alone. U+FE01: U+0041 has glyph 7, U+0042 none,
+-- U+1F600 glyph 9. U+E0100: both
 abbrev pub three_selectors : List ℕ
 three_selectors = 0 ∷ 14 ∷ 0 ∷ 0 ∷ 0 ∷ 70 ∷ 0 ∷ 0 ∷ 0 ∷ 3
     ∷ 0 ∷ 0xFE ∷ 0x00 ∷ 0 ∷ 0 ∷ 0 ∷ 43 ∷ 0 ∷ 0 ∷ 0 ∷ 0

@@ -31,7 +31,7 @@ worked_numbers = record {
   minus_two = refl;
 }
 
--- the directory's count says two: "AA" of 2 bytes at 44, "BB" of 3 bytes at 45, each tag with two spaces
+-- a directory that states so many tables: "AA" of 2 bytes at 44, "BB" of 3 bytes at 45, each tag with two spaces
 abbrev pub header : ℕ → List ℕ
 header count = 0 ∷ 1 ∷ 0 ∷ 0 ∷ 0 ∷ count ∷ 0 ∷ 0 ∷ 0 ∷ 0 ∷ 0 ∷ 0 ∷ []
 
@@ -81,7 +81,7 @@ pub record WorkedCollections : Type 0 where
   pub past_the_last : font_start two_fonts 2 ≡ None
   pub one_font : font_start (two_tables 2) 0 ≡ Some 0
   pub one_font_only : font_start (two_tables 2) 1 ≡ None
-  -- records are found from the start of the font, tables from that of the file
+  -- records are found from the font's beginning, tables from the file's
   pub behind_a_byte : table_at (99 ∷ header 1 ++ entry 65 29 1 ++ 11 ∷ []) 1 0x41412020 ≡ Some (11 ∷ [])
 
 pub worked_collections : WorkedCollections

@@ -13,7 +13,7 @@ unmarked : (b : Bool) → not b ≡ true → b ≡ false
 unmarked true is = sym is
 unmarked false is = refl
 
--- if none of some categories is one of marks, neither is the one at a place
+-- if none of some categories is one of marks, none at any place of their list is
 none_at : (cs : List hb_unicode_general_category_t) (place : ℕ) → list_all (λ c. not (is_mark_category c)) cs ≡ true
     → is_mark_category (get_or cs place Unassigned) ≡ false
 none_at [] place none = refl

@@ -12,8 +12,8 @@ use Rattle.shape_common.specs.FlagNames.{DEFINED}
 abbrev pub hand_over : Item → Item → Item
 hand_over picked item = record item { cluster = picked.cluster; mask = bit_or (feature_bits item.mask) (bit_and picked.mask DEFINED) }
 
--- the first `kept` items are kept: if the picked item's cluster is below the last one's, all of them at their end with that cluster take
--- it
+-- the first `kept` items are kept: if the picked item's cluster is below that of the last one, all at their end with
+-- the last one's cluster take the picked one's
 abbrev pub give_to_kept : ℕ → Item → List Item → List Item
 give_to_kept kept picked xs =
     let last = slice_index (clusters xs) (kept - 1) in
@@ -26,7 +26,7 @@ abbrev pub begins_in : ℕ → List Item → Bool
 begins_in cluster [] = false
 begins_in cluster (x ∷ xs) = has_cluster cluster x
 
--- the four cases: what becomes of the others before the picked item at place `kept` goes, where `rest` comes after it
+-- the four cases: what becomes of the others before the picked item at place `kept` goes; `rest` comes after it
 abbrev pub hand_on : ℕ → Item → List Item → Buffer → Buffer
 hand_on kept picked rest b =
     if begins_in picked.cluster rest then b

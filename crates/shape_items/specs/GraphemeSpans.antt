@@ -10,7 +10,7 @@ is_continuation item = item.properties.continuation
 abbrev pub graphemes : List Item → List (List Item)
 graphemes items = divided is_continuation items
 
--- whether a grapheme ends before items that continue one, or don't
+-- whether a grapheme ends before these items, the first of which continues it or doesn't
 abbrev pub ends : List Bool → Bool
 ends [] = true
 ends (continuation ∷ behind) = not continuation

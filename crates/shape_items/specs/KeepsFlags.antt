@@ -22,8 +22,9 @@ some_has flag xs = list_any (has_flag flag) xs
 abbrev pub has_glyph_flags : Buffer → Bool
 has_glyph_flags b = bit_and b.scratch_flags.0 HAS_GLYPH_FLAGS == HAS_GLYPH_FLAGS
 
--- a defined flag that no mask of the list had before comes only with the scratch flag HAS_GLYPH_FLAGS, which stays where it was set, and
--- the buffer's flags stay; nothing is said of one item: a defined flag may pass from item to item without the scratch flag, as in deletion
+-- a defined flag that no mask of the list had before comes only with the scratch flag HAS_GLYPH_FLAGS; this one stays
+-- if it was set, and the buffer's flags stay; nothing is said of one item: a defined flag may go from item to item
+-- without the scratch flag, as in deletion
 pub record KeepsFlags (before after : Buffer) : Type 0 where
   pub flags : after.flags ≡ before.flags
   pub stays_set : has_glyph_flags before ≡ true → has_glyph_flags after ≡ true

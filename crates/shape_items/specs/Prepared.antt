@@ -1,4 +1,4 @@
--- Prepared lists: each item's mark, by its category, and ccc are those of its character.
+-- Prepared lists: each item is a mark exactly if its character is one, and has the ccc of its character.
 use Rattle.std.specs.Prelude.{◌≡◌, List}
 use Rattle.std.specs.List.{All}
 use Rattle.shape_items.specs.Items.{Item, is_mark_item, ccc_of_item}

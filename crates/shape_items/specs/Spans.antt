@@ -6,7 +6,7 @@ use Rattle.shape_items.specs.Clusters.{merge, put_range}
 use Rattle.shape_items.specs.Buffer.{Buffer}
 use Rattle.shape_items.specs.BufferClusters.{merge_clusters, merge_out_clusters}
 
--- from this place on, no span begins before the one before it, and each ends within so many items
+-- no span begins before this place, nor before the one that precedes it begins, and each ends within so many items
 abbrev pub AreSpansInOrder : ℕ → ℕ → List (ℕ × ℕ) → Type 0
 AreSpansInOrder from size [] = ⊤
 AreSpansInOrder from size (span ∷ spans) =
@@ -24,8 +24,8 @@ all_merged spans b = fold (λ b span. merge_clusters span.0 span.1 b) b spans
 abbrev pub spans_merged_out : List (ℕ × ℕ) → Buffer → Buffer
 spans_merged_out spans b = fold (λ b span. merge_out_clusters span.0 span.1 b) b spans
 
--- the items before a span of that least cluster whose first item is in the cluster `first`: those at their end in that cluster are put in
--- the least, if that is below
+-- what becomes of the items before a span whose least cluster is `least` and whose first item is in cluster `first`:
+-- those at their end in `first` are put in `least`, if that is less
 abbrev pub grown_left : ℕ → ℕ → List Item → List Item
 grown_left first least given =
     if nat_lt least first then put_range (length given - suffix_len (has_cluster first) given) (length given) least given else given

@@ -1,4 +1,5 @@
--- The named properties of an item in two words, of 32 and of 64 bits. The second one is kept in two halves, whose middle no field crosses.
+-- The named properties of an item in two words, of 32 and of 64 bits. The second one is kept in two halves; no field
+-- lies in both.
 use Rattle.std.specs.Prelude.{◌≡◌, ℕ, ◌<◌, ◌^◌, List, [], ◌∷◌, ◌++◌, get_or}
 use Rattle.bit_fields.specs.Fields.{fields, word_of, number_of, is_set}
 use Rattle.shape_common.specs.CategoryNumber.{category_number, category_of}
@@ -8,7 +9,7 @@ use Rattle.shape_items.specs.Properties.{Properties}
 abbrev pub first_widths : List ℕ
 first_widths = 8 ∷ 8 ∷ 8 ∷ 1 ∷ 1 ∷ 1 ∷ 1 ∷ 1 ∷ 1 ∷ 2 ∷ []
 
--- those of the second word's halves; the ten bits above those of substituted and ligated have no use
+-- those of the second word's halves; the ten bits above those for substituted and ligated have no use
 abbrev pub lower_widths : List ℕ
 lower_widths = 4 ∷ 1 ∷ 1 ∷ 10 ∷ 8 ∷ 8 ∷ []
 

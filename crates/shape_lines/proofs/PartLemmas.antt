@@ -1,4 +1,5 @@
--- The parts that the cutter goes over: as many as glyphs, each with its glyph's width, and a line may end before it by one glyph.
+-- The parts that the cutter goes over: as many as glyphs, each with its glyph's width; one glyph tells whether a line
+-- may end before it.
 use Rattle.std.proofs.Common.{◌≡◌, ℕ, zero, suc, ◌+◌, ◌-◌, ◌<◌, ◌==◌, ◌&&◌, not, Bool, true, ℤ, ◌+ℤ◌, List, [], ◌∷◌, length, take, drop, get_or, refl, sym, ap, ap₂, ◌∙◌, arith}
 use Rattle.std.proofs.lemmas.List.{get_or-map}
 use Rattle.shape_items.specs.Buffer.{Buffer}

@@ -41,8 +41,8 @@ pub record IsSmall (z : ℤ) : Type 0 where
   pub above : pos 0 ≤ℤ (z +ℤ pos (2 ^ 95))
   pub below : z ≤ℤ pos (2 ^ 95)
 
--- the line was taken up to a place where it may end: some part from its start that reaches it or goes on
--- after it fits, or no shorter one ends
+-- the line was taken up to a place where it may end: a part from its start to that place or past it fits, or no shorter
+-- part may end
 pub record IsTaken (parts : List Part) (width : ℤ) (start taken : ℕ) : Type 0 where
   pub may_end : MayEnd parts start taken
   pub for : ((end : ℕ) × (taken ≤ end) × MayEnd parts start end × Fits parts width start end)

@@ -52,7 +52,8 @@ content rules item = record item {
   properties = record item.properties { hidden = false; modified_ccc = if is_some rules.reorder then 0 else ccc_of_item item };
 }
 
--- each item has the glyph of its character, or what replaces it, unless it comes from a sequence with a selector
+-- each item has the glyph of its character, or what replaces it, except for those that come from sequences with a
+-- variation selector
 abbrev pub HasItemGlyph : Rules → Buffer → Item → Type 0
 HasItemGlyph rules old item =
     (item.glyph_index ≡ item_glyph rules old.invisible_glyph item)
@@ -74,8 +75,9 @@ without_cluster item = record item { cluster = 0; mask = 0 }
 abbrev pub HasShortRuns : List Item → Type 0
 HasShortRuns items = HasNoLongerRun (λ ccc. ccc) max_run (map ccc_of_item items)
 
--- in the modes that compose, the new list is the ordered one, recomposed by the rule of the standard (D115 to D117); without a reorder
--- hook and without a run of more than 32 marks, the new buffer is the one that the mark emitted last alone would decide
+-- in the modes that compose, the new list is the ordered one, recomposed by the rule of the standard (D115 to D117);
+-- without a reorder hook and without a run of more than 32 marks, the new buffer is the same if the mark emitted last
+-- alone decides
 pub record Recomposes (rules : Rules) (old new : Buffer) : Type 0 where
   pub by_all : has_mark_past_first old.items ≡ true → rules.recomposes ≡ true
       → map without_cluster new.items ≡ map (λ p. without_cluster p.item) (recomposed_items rules (ordered rules old).items)

@@ -17,7 +17,7 @@ use Rattle.shape_normalize.specs.RoundOne.{item_glyph, expanded_item, variants, 
 use Rattle.shape_normalize.specs.RoundTwo.{max_run, has_mark_past_first, unhidden, has_seen_cgj}
 use Rattle.shape_normalize.specs.RoundThree.{Absorbed, Placed, recomposed_items}
 
--- the item at a place of a list; the item that stands for none past its end is of no account
+-- the item at a place of a list; which item is answered past its end doesn't matter
 abbrev pub item_at : List Item → ℕ → Item
 item_at items place = get_or items place (new_item 0 0)
 
@@ -153,7 +153,7 @@ IsFromStarter rules items p item = IsOnceComposed rules (item_at items p.place) 
 abbrev pub is_recomposed : Rules → Buffer → Bool
 is_recomposed rules text = has_mark_past_first text.items && rules.recomposes
 
--- the origins of the new list's items, where the items of the ordered list stood at these places of the expanded one
+-- the origins of the new list's items, if the items of the ordered list stood at these places of the expanded one
 abbrev pub new_origins : Rules → Buffer → List ℕ → List Origin
 new_origins rules text places =
     let none = origin_at false 0 in

@@ -7,8 +7,8 @@ use Rattle.shape_common.specs.Unicode.{UnicodeMeaning, is_mark}
 use Rattle.shape_normalize.specs.RoundTwo.{max_run, has_mark_past_first}
 use Rattle.shape_plan.specs.Rules.{Rules, decompositions, has_glyph}
 
--- how many marks a list begins with, by how many it began with before one more character came in front;
--- none if a row is longer than 32, or a character has no glyph
+-- how many marks a list begins with, by how many it began with before one more character came in front; none if a run
+-- is longer than 32, or a character has no glyph
 abbrev pub row_with : (ℕ → ℕ) → (ℕ → Bool) → ℕ → Option ℕ → Option ℕ
 row_with ccc glyph c None = None
 row_with ccc glyph c (Some row) =

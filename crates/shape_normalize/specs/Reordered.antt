@@ -17,9 +17,9 @@ unmerged item = record item { cluster = 0; mask = feature_bits item.mask }
 abbrev pub without_ccc : Item → Item
 without_ccc item = with_ccc 0 (unmerged item)
 
--- a run in another order: its items are permuted, except for clusters, defined flags and ccc, which stay nonzero; before and after it all
--- stays but clusters and defined flags; and of the buffer nothing else changes but the scratch flag HAS_GLYPH_FLAGS, which may come at
--- level CHARACTERS
+-- a run in another order: its items are permuted, except for clusters, defined flags and ccc, which stay nonzero;
+-- before and after it all stays except clusters and defined flags; and of the buffer nothing else changes except the
+-- scratch flag HAS_GLYPH_FLAGS, which may come at level CHARACTERS
 pub record ReordersRun (start end : ℕ) (old new : Buffer) : Type 0 where
   pub run : IsPermutation (map without_ccc (slice_range old.items start end)) (map without_ccc (slice_range new.items start end))
   pub marks : All (λ item. 0 < ccc_of_item item) (slice_range new.items start end)

@@ -85,7 +85,8 @@ is_selector_item unicode item = unicode.selector item.codepoint
 abbrev pub skipped_item : (ℕ → Option GlyphId) → Item → Item
 skipped_item glyph item = record item { glyph_index = option_map_or (λ g. g.0) (glyph item.codepoint) item.glyph_index }
 
--- a selector that makes no glyph with its item: it is marked, and no longer ignorable if there is a glyph for such
+-- a selector that the face has no glyph for with its item: it is marked, and no longer ignorable if the buffer has a
+-- glyph for such selectors
 abbrev pub marked_selector : Option GlyphId → Item → Item
 marked_selector not_found item = record item {
   properties = record item.properties {
@@ -94,7 +95,8 @@ marked_selector not_found item = record item {
   };
 }
 
--- an item with the selectors directly after it: it and the first one become one item if the face has a glyph for both
+-- an item with the selectors directly after it: the item and the first of them become one item, if the face has a glyph
+-- for the two
 abbrev pub variant_items : FaceMeaning → Option GlyphId → List Item → List Item
 variant_items face not_found [] = []
 variant_items face not_found (x ∷ []) = skipped_item face.nominal_glyph x ∷ []
@@ -125,7 +127,8 @@ variation_sequence_glyph face [] = None
 variation_sequence_glyph face (x ∷ []) = None
 variation_sequence_glyph face (x ∷ v ∷ rest) = face.variation_glyph x.codepoint v.codepoint
 
--- the spans of the items that become one with the selector after them, each of these two, in parts that begin at this place
+-- the spans of the items that become one with the selector after them, two items each, in parts that begin at this
+-- place
 abbrev pub variation_sequence_spans : FaceMeaning → ℕ → List (List Item) → List (ℕ × ℕ)
 variation_sequence_spans face place [] = []
 variation_sequence_spans face place (part ∷ parts) =

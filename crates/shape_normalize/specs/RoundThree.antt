@@ -63,9 +63,9 @@ composed_chars out = flat_map (λ p. map (λ mark. mark.char) p.absorbed) out
 abbrev pub with_cluster_at : List Item → Placed → Item
 with_cluster_at items p = let at = get_or items p.place p.item in record p.item { cluster = at.cluster; mask = at.mask }
 
--- the buffer with these items as its list, each span of a composition merged, at positions of zeros;
--- the spans are merged while the marks that go still stand: each is in one cluster with the item before it from then on, so that a later
--- merge grows over both or neither
+-- the buffer with these items as its list, each span of a composition merged, at positions of zeros; the spans are
+-- merged while the marks that go still stand: each such mark is in one cluster with the item before it from then on, so
+-- that a later merge grows over both or neither
 abbrev pub with_put_out : Rules → Buffer → List Placed → Buffer
 with_put_out rules b out =
     let merged = spans_merged_out (absorbed_spans out) b in
@@ -86,8 +86,8 @@ abbrev pub spans_between : ℕ → List Absorbed → List (ℕ × ℕ)
 spans_between from [] = []
 spans_between from (mark ∷ absorbed) = (from, mark.place + 1) ∷ spans_between mark.place absorbed
 
--- the spans that the code keeps: once its first is merged a starter and its mark are in one cluster, so that the next span may begin at the
--- mark
+-- the spans that the code keeps: once the first one is merged, a starter and its mark are in one cluster, so that the
+-- next span may begin at the mark
 abbrev pub chained_spans : List Placed → List (ℕ × ℕ)
 chained_spans out = flat_map (λ p. spans_between p.place p.absorbed) out
 

@@ -73,7 +73,8 @@ pub record CccOfReorderedMarks : Type 0 where
       ≡ (0x61, 0) ∷ (0x301, 230) ∷ (0x323, 220) ∷ []
   pub keeps_what_it_set : cccs_by (reordering 1 (first_of_ccc 10)) (item 0x61 0 ∷ item 0x301 0 ∷ item 0x323 0 ∷ [])
       ≡ (0x61, 0) ∷ (0x323, 10) ∷ (0x301, 230) ∷ []
-  -- round three: U+0323 lets U+0301 pass, but not once it is of the same ccc; and U+0308 does once it is of a smaller one
+  -- round three: U+0301 composes past U+0323, but not once that has the same ccc; and past U+0308 once that has a
+  -- smaller one
   pub blocks : cccs_by (reordering 3 (first_of_ccc 230)) (item 0x61 0 ∷ item 0x323 0 ∷ item 0x301 0 ∷ [])
       ≡ (0x61, 0) ∷ (0x323, 230) ∷ (0x301, 230) ∷ []
   pub lets_pass : cccs_by (reordering 3 (first_of_ccc 220)) (item 0x61 0 ∷ item 0x308 0 ∷ item 0x301 0 ∷ [])

@@ -226,8 +226,8 @@ variants_worked = record {
   variation_sequence_marked = refl;
 }
 
--- the scratch flags of round one: past ASCII (1), a default ignorable (2), a fallback space (4), U+034F (8), a selector
--- that makes no glyph with its item (16)
+-- the scratch flags of round one: past ASCII (1), a default ignorable (2), a fallback space (4), U+034F (8), a marked
+-- selector (16)
 pub record ScratchOneWorked : Type 0 where
   pub expanded : (round_one (rules_in 1 (0x61 ∷ 0x301 ∷ [])) (buffer_of (item 0xE1 0 ∷ []))).scratch_flags.0 ≡ 1
   pub kept : (round_one (rules_in 1 (0xE1 ∷ [])) (buffer_of (item 0xE1 0 ∷ []))).scratch_flags.0 ≡ 0

@@ -69,7 +69,7 @@ list_is_canonical unicode masks lookups constants hooks faces plan face lawful t
 
 -- ---- texts that preparing leaves
 
--- a text without items is its own prepared text
+-- the prepared text has the characters of such a text; a text without items is its own prepared text
 pub left-prepared : (run : Run) (text : Buffer) → LeavesText run text → prepared_characters run text ≡ text_of text
 left-prepared run text left =
     let begun = guessed run.unicode text in

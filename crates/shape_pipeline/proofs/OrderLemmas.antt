@@ -54,7 +54,7 @@ record IsShown (From : ℕ → Type 0) (target : Direction) (b : Buffer) : Type 
   comes : Comes From b
   ordered : IsOrderedFor (is_backward target) (clusters b.items)
 
--- a state that a step keeps if it keeps clusters
+-- a state that is kept by every step that keeps clusters
 record IsKept (State : Buffer → Type 0) : Type 0 where
   monotone : (b : Buffer) → State b → IsMonotoneLevel b.cluster_level
   kept : (old new : Buffer) → State old → KeepsOrder old new → State new
@@ -100,7 +100,7 @@ run_keeps kept (step ∷ steps) keep b state =
 Leads-keepers : {State : Buffer → Type 0} → IsKept State → (steps : List Step) → EachStep IsClusterKeeper steps → Leads State steps State
 Leads-keepers kept steps keep = record { leads = run_keeps kept steps keep }
 
--- ---- the two reversals: a text is reversed back exactly if it was reversed against the target
+-- ---- the two reversals: if the text was reversed against the target once, it is reversed back, and only then
 
 back_again : (target : Direction) → target ≢ Invalid → not (is_backward (reverse_of target)) ≡ is_backward target
 back_again Invalid valid = absurd (valid refl)

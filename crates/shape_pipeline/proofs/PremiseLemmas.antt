@@ -120,7 +120,7 @@ of_kept : {S : Type 0} (hooks : S → HookMeaning) (Claim : HookMeaning → Type
 of_kept hooks Claim claim None h is = cc
 of_kept hooks Claim claim (Some s) h is = let e : hooks s ≡ h = cc in subst Claim e (claim s)
 
--- decompositions and compositions are Unicode's, whether or not hooks are asked that do as Unicode does
+-- decompositions and compositions are Unicode's, whether hooks that do nothing of their own are given or not
 splits-none : (unicode : UnicodeMeaning) → LawfulUnicode unicode → (given : Bool)
     → SplitsFall (used_decompositions unicode given (Some (no_hooks unicode)))
 splits-none unicode lawful true = lawful.splits_fall
@@ -161,7 +161,7 @@ prepared_text-prepared run text lawful keeps =
     (λ none. subst (λ (items : List Item). IsPrepared run.unicode items) (sym none) (λ k d within. absurd (omega (arith, within))))
     (preparing_prepares run (target_of run text) (entered begun) lawful keeps)
 
--- nothing is asked of a hook that reorders marks if none is given
+-- a hook that reorders marks keeps clusters if it isn't given
 no_reorder-keeps : (rules : Rules) → rules.reorder ≡ None → HookKeepsClusters rules
 no_reorder-keeps rules no_reorder reorder is = absurd (let e : None ≡ Some reorder = sym no_reorder ∙ is in cc)
 

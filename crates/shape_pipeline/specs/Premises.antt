@@ -24,8 +24,8 @@ pub record HookByHook (Keeps : (Buffer → Buffer) → Type 0) (run : Run) (hook
   pub postprocess : (run.constants.has_postprocess_glyphs ≡ false) ⊎ Keeps hooks.postprocess
   pub pause : (run.constants.has_pause ≡ false) ⊎ EachCalledPause Keeps run hooks
 
--- the cluster premises, the flag premises, and the equivalence premises on hooks, these also as normalising asks them:
--- it finds each text prepared, so what is left to ask is asked of the text alone
+-- the cluster premises, the flag premises, the equivalence premises on hooks, and what normalising by itself asks
+-- besides: it finds each text prepared, so what is left to ask is asked of the text alone
 pub record OwesNothing (run : Run) : Type 0 where
   pub clusters : RunKeepsClusters run
   pub flags : RunKeepsFlags run

@@ -96,7 +96,7 @@ pub record PreparingPasses (run : Run) (target : Direction) (b : Buffer) : Type 
 pub record ShapingPasses (run : Run) (target : Direction) (b : Buffer) : Type 0 where
   pub past : SomePast (all_steps run target) (entered b)
 
--- preparing a text would make such a list, or its normalised list would be made over one
+-- preparing a text would make such a list, or the expanded list of the prepared text would pass the limit
 abbrev pub NormalisingPasses : Run → Direction → Buffer → Type 0
 NormalisingPasses run target b =
     let text = text_made run target b in

@@ -19,7 +19,7 @@ pub script-planned : {F S P D : Type 0} (planning : Planning F S P D) (face : F)
 unfolding begun_planner collected_planner compiled_plan planned
 script-planned planning face shaper direction script language features = refl
 
--- what its shaper made for it is made from the plan as it is without that data
+-- what its shaper made for it is made of the plan as it is without any
 pub data-planned : {F S P D : Type 0} (planning : Planning F S P D) (face : F) (shaper : S) (direction : Direction)
     (script : Option Script) (language : Option (List ℕ)) (features : List Feature)
     → let plan = planned planning face shaper direction script language features in plan.shaper_data ≡ own_data planning plan

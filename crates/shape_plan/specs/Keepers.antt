@@ -46,6 +46,6 @@ pub record EachCall (Keeps : (Buffer → Buffer) → Type 0) (run : Run) : Type 
 abbrev pub RunKeepsFlags : Run → Type 0
 RunKeepsFlags run = EachCall IsFlagKeeper run
 
--- the cluster premises except for the hook that reorders marks, of which normalising asks its own
+-- the cluster premises, except for the hook that reorders marks: normalising asks a premise of its own on that
 abbrev pub CallsKeepClusters : Run → Type 0
 CallsKeepClusters run = EachCall IsClusterKeeper run

@@ -116,7 +116,7 @@ data_for given made plan = option_map (λ make. make plan) (hook_of given made p
 abbrev pub with_data : {S P D : Type 0} → Bool → (S → Plan S P D → D) → Plan S P D → Plan S P D
 with_data given made plan = record plan { shaper_data = data_for given made plan }
 
--- a plan as its shaper sees it when it makes its data: the same, without data
+-- a plan as its shaper sees it when it makes the data: the same, without any
 abbrev pub without_data : {S P D : Type 0} → Plan S P D → Plan S P D
 without_data plan = record plan { shaper_data = None }
 

@@ -13,7 +13,7 @@ use Rattle.shape_common.specs.declared.text_types.hb_tag_t.{hb_tag_t}
 use Rattle.shape_buffer.specs.declared.interfaces.map_request.MapRequest.{MapRequest}
 use Rattle.shape_plan.specs.Tags as tag
 
--- a feature of value 1: `on` adds F_GLOBAL to its flags, so that it is on over the whole text, and `add` takes its
+-- a feature of value 1: `on` adds F_GLOBAL to its flags, so that it is on over the whole text, and `add` leaves its
 -- flags as they are
 abbrev pub on : hb_tag_t → ℕ → MapRequest
 on tag flags = feature_on tag flags 1
@@ -25,7 +25,7 @@ add tag flags = feature tag flags 1
 abbrev pub variations : List MapRequest
 variations = on tag.rvrn F_NONE ∷ pause None ∷ []
 
--- the forms of a direction of horizontal text; mirrored ones right to left are asked for, not on
+-- the forms of a horizontal direction; right to left the mirrored ones are asked for, but not switched on
 abbrev pub forms : Direction → List MapRequest
 forms LeftToRight = on tag.ltra F_NONE ∷ on tag.ltrm F_NONE ∷ []
 forms RightToLeft = on tag.rtla F_NONE ∷ add tag.rtlm F_NONE ∷ []
@@ -63,7 +63,7 @@ horizontal =
     add tag.calt F_GLOBAL ∷ add tag.clig F_GLOBAL ∷ add tag.curs F_GLOBAL ∷ add tag.dist F_GLOBAL
     ∷ add tag.kern F_GLOBAL_HAS_FALLBACK ∷ add tag.liga F_GLOBAL ∷ add tag.rclt F_GLOBAL ∷ []
 
--- those of others: vertical forms, of any script of the table
+-- those of other texts: vertical forms, under whichever script of the table has them
 abbrev pub vertical : List MapRequest
 vertical = on tag.vert F_GLOBAL_SEARCH ∷ []
 

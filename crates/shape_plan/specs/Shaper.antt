@@ -58,7 +58,7 @@ pub record LawfulConstants (constants : ShaperConstants) : Type 0 where
 abbrev pub without_mask : Item → Item
 without_mask item = record item { mask = 0 }
 
--- nothing but masks differs, and the scratch flag "has glyph flags" (32), which may come to be set
+-- nothing differs except masks, and the scratch flag "has glyph flags" (32), which may come to be set
 pub record ChangesMasksAlone (before after : Buffer) : Type 0 where
   pub items : map without_mask after.items ≡ map without_mask before.items
   pub scratch : (after.scratch_flags.0 ≡ before.scratch_flags.0) ⊎ (after.scratch_flags.0 ≡ bit_or before.scratch_flags.0 HAS_GLYPH_FLAGS)

@@ -150,7 +150,7 @@ pub record PlansOfFaces : Type 0 where
   pub asks : length (planned_on (record constants_of { has_collect_features = true; has_override_features = true })
       no_tables LeftToRight []).ot_map.requests ≡ 29
   pub data_of_features : (planned_on constants_of no_tables LeftToRight (kern_off ∷ [])).shaper_data ≡ Some (6, false)
-  -- what its shaper made for a plan is told from the finished plan, which has that data by then
+  -- what a shaper made for a plan can be told from the finished plan, which has the data by then
   pub own : own_data (planning_with constants_of) (planned_on constants_of no_tables LeftToRight (kern_off ∷ [])) ≡ Some (6, false)
   pub none_of_dumber : own_data (planning_with constants_of) (planned_on constants_of only_morx LeftToRight []) ≡ None
   pub no_data : (planned_on (record constants_of { has_create_data = false }) no_tables LeftToRight []).shaper_data ≡ None

@@ -1,5 +1,5 @@
--- What a run and normalising depend on, worked out by hand: hooks count if they are given and the plan keeps
--- its shaper, and all else is told of the plan and the face.
+-- What a run and normalising depend on, worked out by hand: hooks count if they are given and the plan keeps its
+-- shaper, and all else comes from the plan and the face.
 use Rattle.std.specs.Prelude.{◌≡◌, ◌+◌, ℕ, pos, neg_ℤ, true, false, [], ◌∷◌, Option, Some, None, is_some, refl}
 use Rattle.shape_items.specs.Buffer.{Buffer, new_buffer}
 use Rattle.shape_common.specs.Face.{FaceMeaning}
@@ -18,7 +18,8 @@ use Rattle.shape_plan.specs.WorkedFaces.{bare_face, masks_of}
 use Rattle.shape_plan.specs.WorkedPlans.{constants_of}
 use Rattle.shape_plan.specs.WorkedRequests.{script_of, kern_off}
 
--- Unicode splits each character in itself and 1, and composes two characters to their sum; ccc and height tell the character
+-- Unicode splits each character into itself and 1, and composes two characters to their sum; ccc and height tell the
+-- character
 abbrev pub telling_unicode : UnicodeMeaning
 telling_unicode = record plain_unicode { split = λ c. Some (c, 1); height = λ c. c + 1; compose = λ a b. Some (a + b); ccc = λ c. c }
 

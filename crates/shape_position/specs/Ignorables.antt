@@ -52,7 +52,8 @@ abbrev pub replaced_or_deleted : Option GlyphId → Buffer → Buffer
 replaced_or_deleted None = deleted is_ignorable_item
 replaced_or_deleted (Some glyph) = items_mapped (shown_as glyph)
 
--- hiding: unless ignorables are preserved they are replaced, or deleted if that is asked for or there is no such glyph
+-- hiding: unless ignorables are preserved they are replaced, or deleted if that is asked for or no glyph can replace
+-- them
 unfoldable pub ignorables_hidden : FaceMeaning → Buffer → Buffer
 ignorables_hidden face b =
     if hides_ignorables b then

@@ -33,7 +33,7 @@ abbrev text_of : List Item → List GlyphPosition → ℕ → ℕ → Buffer
 text_of items positions flags scratch =
     record new_buffer { items = items; positions = positions; flags = record { 0 = flags }; scratch_flags = record { 0 = scratch } }
 
--- what is handed out of glyphs: each with its cluster
+-- what is handed out: each glyph with its cluster
 abbrev handed_out : Buffer → List (ℕ × ℕ)
 handed_out b = map (λ item. (item.glyph_id, item.cluster)) b.items
 

@@ -1,4 +1,4 @@
--- Preparing prepares: each item's mark, by its category, and ccc become those of its character.
+-- Preparing prepares: each item is then a mark exactly if its character is one, and has the ccc of its character.
 use Rattle.std.specs.Prelude.{◌≡◌, true, Some}
 use Rattle.shape_items.specs.Buffer.{Buffer}
 use Rattle.shape_buffer.specs.Outcome.{run_steps}

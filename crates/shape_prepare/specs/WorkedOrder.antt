@@ -184,7 +184,7 @@ rotations = record {
   mirrored_with_vert = refl;
 }
 
--- an item with a mask and with properties unlike a new one's
+-- an item in which nothing is as in a new one
 abbrev pub odd_bracket : Item
 odd_bracket = let plain : Item = new_item 0x28 3 in record plain {
   mask = 9;

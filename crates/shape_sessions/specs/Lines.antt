@@ -24,7 +24,7 @@ abbrev pub is_comment : List ℕ → Bool
 is_comment [] = false
 is_comment (b ∷ _) = b == 35
 
--- what a line of some command makes of a state; without one nothing
+-- what a line of some command makes of a state; without a command the state stays
 abbrev pub set_by_command : Option Command → List (List ℕ) → State → State
 set_by_command None rest state = state
 set_by_command (Some command) rest state = set_by command rest state
@@ -65,9 +65,9 @@ IsWellFormed (word ∷ rest) = (is_comment word ≡ true) ⊎ IsMeantByCommand (
 abbrev pub IsLine : List ℕ → Type 0
 IsLine line = IsUtf8 line × IsWellFormed (line_words line)
 
--- what has been done of a line about a command: malformed exactly when it isn't as it should be, and then the state stays; else the
--- state is the one that it asks for. Only a line that takes memory is refused it, and then all stays but the metrics of glyphs; only
--- if a line asks for an answer can a write fail
+-- what was done with a line about a command: malformed exactly when it isn't as it should be, and then the state stays;
+-- else the state is the one that it asks for. Only a line that takes memory is refused it, and then all stays except
+-- the metrics of glyphs; only if a line asks for an answer can a write fail
 abbrev pub IsObeyed : Option Command → Type 0 → State → State → Outcome → State → Type 0
 IsObeyed command Good old asked Malformed new = (¬ Good) × (new ≡ old)
 IsObeyed command Good old asked OutOfMemory new =
@@ -75,7 +75,8 @@ IsObeyed command Good old asked OutOfMemory new =
 IsObeyed command Good old asked Done new = Good × (new ≡ asked)
 IsObeyed command Good old asked WriteFailed new = Good × (asks_for_answer command ≡ true) × (new ≡ asked)
 
--- of a line that asks for an answer alone: malformed exactly when it isn't as it should be, and never out of memory, which is an answer
+-- of a line that asks for an answer alone: malformed exactly when it isn't as it should be, and never out of memory,
+-- since that too is an answer
 abbrev pub IsAnswered : Type 0 → Outcome → Type 0
 IsAnswered Good Malformed = ¬ Good
 IsAnswered Good OutOfMemory = ⊥

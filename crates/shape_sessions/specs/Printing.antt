@@ -5,7 +5,7 @@ use Rattle.std.specs.Int.RustNames.{bit_and}
 use Rattle.shape_items.specs.Items.{Item}
 use Rattle.shape_common.specs.declared.positions.GlyphPosition.{GlyphPosition}
 
--- a space (32), the character by four hexadecimal digits at least, `@` (64) and its cluster
+-- a space (32), the character in at least four hexadecimal digits, `@` (64) and its cluster
 abbrev pub item_word : Item → List ℕ
 item_word item =
     32 ∷ padded_integral (format_spec 32 0 4 4 (2 ^ 64 - 1)) false [] (digits 16 true item.codepoint) ++ 64 ∷ decimal item.cluster

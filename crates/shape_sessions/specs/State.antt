@@ -54,7 +54,7 @@ with_glyph_words (c ∷ glyph ∷ advance ∷ extents) state =
     (record { advance = signed_digits_value 10 advance; extents = extents_of extents }) state
 with_glyph_words _ state = state
 
--- what a line makes of a state: each sets one thing, and a face is empty; texts leave it
+-- what a line makes of a state: each sets one thing, a new face has no glyphs, and texts leave the state
 abbrev pub set_by : Command → List (List ℕ) → State → State
 set_by Face words state = record state { units_per_em = number words; glyphs = []; metrics = [] }
 set_by Glyph words state = with_glyph_words words state

@@ -175,7 +175,7 @@ splits_fall all_fall all_end all_keep = record {
   second_ccc = λ c a b h e. (ccc_of_parts all_keep c a b h e).1;
 }
 
--- what the functions compose is of the table, and splits into the two again
+-- what the functions compose is in the table, and splits into the two again
 compose_of_cases : (a b c : ℕ) → compose_of a b ≡ Some c → (compose_in_table a b ≡ Some c) × (is_split_into a b (split_of c) ≡ true)
 compose_of_cases a b c composed =
     let P : Option ℕ → Type 0 = λ v. option_and_then (λ d. cond (is_split_into a b (split_of d)) (Some d) None) v ≡ Some c

@@ -1,5 +1,5 @@
--- What the lists of steps of masks and substitution keep. Clusters and flags are told at once: a property of steps holds
--- of each step of the lists if it holds of doing nothing, of each step that calls nothing, and of each call.
+-- What the lists of steps of masks and substitution keep, clusters and flags at once: any property of steps that doing
+-- nothing has, if each step that is no call has it too.
 use Rattle.std.proofs.Common.{◌≡◌, ◌&&◌, ◌≤◌, ◌<◌, ℕ, zero, suc, Bool, true, false, [], ◌∷◌, Option, Some, None, refl, arith}
 use Rattle.std.specs.Prelude.{if◌then◌else◌}
 use Rattle.std.proofs.lemmas.Bool.{and_parts}

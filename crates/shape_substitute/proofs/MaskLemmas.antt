@@ -83,7 +83,7 @@ alone-slash_masked masks slash b = elim (cases_Bool (has_whole b.items slash)) [
   | inr none ↦ rw (slash_masked-alone masks slash b none) (alone-unsafe_to_concat slash (slash + 1) b (omega arith))
 ]
 
--- what depends on more than the mask stays
+-- what doesn't depend on the mask stays
 pub same_slash : {old new : Buffer} → MasksAlone old new → (i : ℕ) (d : Item)
     → is_slash (get_or new.items i d) ≡ is_slash (get_or old.items i d)
 same_slash {old} {new} alone i d =

@@ -39,7 +39,7 @@ tag_of text = let front = without_spaces text in
 abbrev pub optional_number : List ℕ → Option ℕ × List ℕ
 optional_number text = option_map_or (λ r. (Some r.0, r.1)) (number_of text) (None, text)
 
--- where a range ends that has no colon: after the one character that its number names, else nowhere
+-- where a range without a colon ends: after the one character that its number names, else nowhere
 abbrev pub end_of_one : Option ℕ → ℕ
 end_of_one start = option_map_or (λ n. (n + 1) % 2 ^ 32) start (2 ^ 32 - 1)
 
@@ -85,7 +85,7 @@ abbrev pub value_of : ℕ → List ℕ → Option (ℕ × List ℕ)
 value_of by_sign text =
     option_map_or given_value (after_byte 61 text) (option_or (given_value text) (Some (by_sign, text)))
 
--- nothing but spaces may stand after the value
+-- only spaces may stand after the value
 abbrev pub with_value : ℕ → ℕ → ℕ → Option (ℕ × List ℕ) → Option Feature
 with_value tag start end None = None
 with_value tag start end (Some value) = if length (without_spaces value.1) == 0

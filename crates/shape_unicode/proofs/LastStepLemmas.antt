@@ -54,7 +54,7 @@ split_by-split c =
           ∙ same_parts-true _ _ (found_by_rows c some)
     ]
 
--- where no character splits, there is no mapping
+-- the characters that are whole early have no mapping
 pub whole_early : (c : ℕ) → is_whole_early c ≡ true → canonical_mapping c ≡ []
 unfolding by_trees
 whole_early c early =

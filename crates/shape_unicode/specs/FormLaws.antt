@@ -64,7 +64,7 @@ verticals_are_plain pass c d found =
       subst (IsPlain unicode_database) at.into both.1,
     )
 
--- a pair of the table that passes a test, and that c and d are
+-- a pair of the table that passes a test, made of c and d
 pub record IsPairOf (test : ℕ × ℕ → Bool) (c d : ℕ) : Type 0 where
   pub pair : ℕ × ℕ
   pub passes : test pair ≡ true

@@ -11,7 +11,7 @@ parts_of (a ∷ []) = Some (a, 0)
 parts_of (a ∷ b ∷ []) = Some (a, b)
 parts_of _ = None
 
--- the leading consonant and the vowel of a syllable, or the syllable without its trailing consonant and this one
+-- the leading consonant and the vowel of a syllable, or the syllable without its trailing consonant, and this consonant
 abbrev pub split_syllable : ℕ → ℕ × ℕ
 split_syllable s =
     let index = s - s_base in

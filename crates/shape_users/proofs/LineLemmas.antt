@@ -64,7 +64,7 @@ one_rest : (x : Item) (xs : List Item) → HasOneSetOfFlags (x ∷ xs) → HasOn
 one_rest x [] one = tt
 one_rest x (y ∷ xs) one = one.1
 
--- each glyph of the cluster answers as before if a glyph of another cluster is put before the list
+-- each glyph of the rest answers the same with one more at the front, if that is of another cluster
 later : (cluster : ℕ) (x : Item) (xs : List Item) → All (λ glyph. glyph.cluster ≡ cluster → lacks_break glyph ≡ cut_at cluster xs) xs
     → (k : ℕ) (d : Item) → k < length (x ∷ xs) → (get_or (x ∷ xs) k d).cluster ≡ cluster → (x.cluster ≡ cluster → ⊥)
     → lacks_break (get_or (x ∷ xs) k d) ≡ cut_at cluster xs

@@ -110,7 +110,7 @@ not_nowhere : (run : Run) (words : List Word) (spelling : List ℕ) (place : ℕ
 not_nowhere run [] spelling place here nowhere = omega (arith, here.0)
 not_nowhere run (word ∷ words) spelling place here nowhere = nowhere place word here.0 (here.1 word)
 
--- if a word was found and nothing too long before it, keeping the word comes to nothing too long
+-- if the search meets nothing too long, neither does keeping the word: it was found, or it isn't too long to shape
 pub found_fine : (run : Run) (xs ys : List Word) → xs ≡ ys → (spelling : List ℕ) → (FindsTooLong run xs spelling → ⊥)
     → (o : Option ℕ) (place : ℕ) → o ≡ Some place → IfSome o (λ k. IsPlaceOf run xs k spelling) → KeepsTooLong run ys spelling → ⊥
 found_fine run xs ys same spelling none o place is found keeps = elim keeps [
@@ -139,7 +139,7 @@ shaped_fine run spelling glyphs counts shapes long = elim long [
       none_past (all_steps run target) (entered text) (shapes.counted passes.0) passes.1.past
 ]
 
--- a word that was put after the others is at the place after them
+-- a word that was put after the others is at the last place
 pub place_pushed : (run : Run) (words more : List Word) (word : Word) (place : ℕ) (spelling : List ℕ) → more ≡ words ++ word ∷ []
     → place ≡ length words → string_bytes word.spelling ≡ spelling → IsPlaceOf run more place spelling
 place_pushed run words more word place spelling pushed last spells =

@@ -50,7 +50,8 @@ abbrev pub IsNowhere : Run → List Word → ℕ → List ℕ → Type 0
 IsNowhere run words count spelling =
     (k : ℕ) (d : Word) → k < count → AreSpelledAlike run (string_bytes (slice_index_or words k d).spelling) spelling → ⊥
 
--- a spelling is compared with one word after the other until it is found: on the way one of the two is too long
+-- a spelling is compared with one word after the other until it is found: the search comes to a word, and that or the
+-- spelling is too long
 abbrev pub FindsTooLong : Run → List Word → List ℕ → Type 0
 FindsTooLong run words spelling =
     SomeIndex words (λ k. IsNowhere run words k spelling

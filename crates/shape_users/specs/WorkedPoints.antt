@@ -65,7 +65,7 @@ pub record WorkedReorderings : Type 0 where
       ≡ (0x5D1, 0, 0) ∷ (0x5B7, 2, 0) ∷ (0x5BD, 4, 0) ∷ (0x5B0, 4, 0) ∷ []
   pub mark_below : shown_points (points_reordered (pointed four_points) 1 5)
       ≡ (0x5D1, 0, 0) ∷ (0x5B7, 2, 0) ∷ (0x5B8, 4, 0) ∷ (0x323, 6, 0) ∷ (0x5B4, 6, 0) ∷ []
-  -- if clusters aren't merged the two are one to break at
+  -- if clusters aren't merged, the two are marked unsafe to break
   pub by_character : shown_points (points_reordered (record (pointed three_points) { cluster_level = Characters }) 1 4)
       ≡ (0x5D1, 0, 0) ∷ (0x5B7, 2, 0) ∷ (0x5BD, 6, 3) ∷ (0x5B0, 4, 0) ∷ []
   -- three that begin before the run, or end after it

@@ -1,4 +1,4 @@
--- Calls that put a list in place of each item, if the limit allows it.
+-- A list with a list put in place of each item, if the limit allows it.
 use Rattle.std.proofs.Common.{◌≡◌, ℕ, ◌≤◌, ◌<◌, ◌↔◌, List, length, replicate, Result, Ok, Err, OnOk, refl, ap, ap₂, sym, subst, ◌∙◌, inl, inr, arith}
 use Rattle.std.specs.Prelude.{IsErrOf, IsErrAnd}
 use Rattle.std.proofs.lemmas.Bool.{cases_order}

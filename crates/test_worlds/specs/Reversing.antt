@@ -13,7 +13,7 @@ pairs_exchanged start end (suc k) b = exchanged (start + k) (end - 1 - k) (pairs
 abbrev pub reversed : Buffer → ℕ → ℕ → Buffer
 reversed b start end = pairs_exchanged start end ((end - start) / 2) b
 
--- what steps reach from the buffer with these pairs exchanged, steps reach from the buffer
+-- what steps reach from the buffer with these pairs exchanged, they reach from the buffer itself
 reached_by_pairs : (start end k : ℕ) (b c : Buffer) → start ≤ end → k ≤ end - start → Reorders start end (pairs_exchanged start end k b) c
     → Reorders start end b c
 reached_by_pairs start end zero b c ordered few steps = steps

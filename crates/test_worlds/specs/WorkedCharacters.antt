@@ -31,7 +31,7 @@ hidden_characters = record { mongolian = refl; tags = refl; cgj = refl; others =
 abbrev all_of : hb_unicode_general_category_t → UnicodeMeaning
 all_of category = record plain_unicode { category = λ c. category; ccc = λ c. 230; ignorable = λ c. true }
 
--- an item of a character, whose glyphs, mask and properties all differ from those of a new one
+-- an item of a character, in which nothing is as in a new one
 abbrev all_set : ℕ → Item
 all_set c = record {
   codepoint = c;

@@ -86,7 +86,7 @@ merges = record { none = refl; apart = refl; in_order = refl; falling = refl }
 
 pub record SpansInOrder : Type 0 where
   pub none : AreSpansInOrder 3 3 []
-  -- side by side, over one another, with one beginning, and empty at the end
+  -- side by side, overlapping, with the same beginning, and empty at the end
   pub all_kinds : AreSpansInOrder 0 5 ((0, 2) ∷ (2, 4) ∷ (3, 5) ∷ (3, 4) ∷ (5, 5) ∷ [])
   pub back : AreSpansInOrder 0 5 ((2, 3) ∷ (1, 5) ∷ []) → ⊥
   pub before_the_place : AreSpansInOrder 1 5 ((0, 2) ∷ []) → ⊥
@@ -130,7 +130,7 @@ pub record HonestBuffers : Type 0 where
 
 -- ---- preparing and positions
 
--- a character in its form for a direction, if the face has glyphs for all, or no lookup to set upright
+-- a character in its form for a direction, over a face with all glyphs, with lookups for vertical forms or without
 abbrev pub rotated : Bool → Direction → ℕ → ℕ
 rotated has_vert target c = rotated_char worked_unicode (face_with (λ _. true)) (decisions_with 16 has_vert) target c
 

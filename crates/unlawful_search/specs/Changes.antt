@@ -48,7 +48,7 @@ kept changes.Merged b = merge_clusters 0 (length b.items) b
 kept changes.Reversed b = record b { items = reverse b.items; positions = reverse b.positions }
 kept changes.Unsafe b = unsafe_to_break 0 (length b.items) b
 
--- what one makes that may be refused
+-- what a call that may be refused makes of a buffer: nothing, or a change
 abbrev pub placed : Option Change → Buffer → Buffer
 placed None b = b
 placed (Some change) b = kept change b

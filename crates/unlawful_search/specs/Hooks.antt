@@ -25,7 +25,7 @@ first_part-falls second c a b splits = grind (arith, nat_tests, splits)
 pub odd_split-falls : (second : ℕ) → FallsAlong (odd_split second) (λ c. c)
 odd_split-falls second = record { falls = first_part-falls second }
 
--- two equal characters make that one, all others the same one or nothing
+-- two equal characters make that character, any other two make `composite`
 abbrev pub odd_composite : Option ℕ → ℕ → ℕ → Option ℕ
 odd_composite composite a b = if a == b then Some a else composite
 

@@ -245,7 +245,7 @@ module _ (D : Decompositions) (lawful : SplitsFall D) where
       let at = choice_expansion D has_glyph short c in
       full_text-expansion at.0 c _ at.1
 
-  -- so do the choices of a text, in clusters and out of them
+  -- so do the choices of a text, in sequences with marks and by themselves
   pub full_text-expanded : (has_glyph is_mark : ℕ → Bool) (short : Bool → Bool) (text : List ℕ)
       → full_text D (expanded_text D has_glyph is_mark short text) ≡ full_text D text
   unfolding full_text

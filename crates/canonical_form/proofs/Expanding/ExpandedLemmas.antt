@@ -6,7 +6,7 @@ use Rattle.std.specs.List.{AllByRecursion}
 use Rattle.canonical_form.specs.Expanded.{begins_with_mark, expanded_from, expanded_in_sequences}
 
 module _ {A B : Type 0} (is_mark : A → Bool) (become : Bool → A → List B) where
-  -- if nothing depends on clusters, each item becomes what it does by itself
+  -- if nothing depends on the sequence, each item becomes what it does by itself
   expanded_from-plain : (by_itself : A → List B) → ((with_marks : Bool) (x : A) → become with_marks x ≡ by_itself x)
       → (first : Bool) (xs : List A) → expanded_from is_mark become first xs ≡ flat_map by_itself xs
   expanded_from-plain by_itself same first [] = refl
@@ -17,7 +17,7 @@ module _ {A B : Type 0} (is_mark : A → Bool) (become : Bool → A → List B) 
       → (xs : List A) → expanded_in_sequences is_mark become xs ≡ flat_map by_itself xs
   expanded-plain by_itself same xs = expanded_from-plain by_itself same true xs
 
-  -- if what an item becomes has the parts of the item, however it stands, the list has those of its items
+  -- if what each item becomes has the parts of the item, the expanded list has those of the list
   expanded_from-parts : {C : Type 0} (parts : B → List C) (whole : A → List C)
       → ((with_marks : Bool) (x : A) → flat_map parts (become with_marks x) ≡ whole x) → (first : Bool) (xs : List A)
       → flat_map parts (expanded_from is_mark become first xs) ≡ flat_map whole xs
@@ -32,7 +32,7 @@ module _ {A B : Type 0} (is_mark : A → Bool) (become : Bool → A → List B) 
       → flat_map parts (expanded_in_sequences is_mark become xs) ≡ flat_map whole xs
   expanded-parts parts whole keeps xs = expanded_from-parts parts whole keeps true xs
 
-  -- if the first item of a list is no mark, it makes no difference whether it counts as first
+  -- if the first item is no mark, it makes no difference whether it counts as the first of the list
   first_alike : (xs : List A) → begins_with_mark is_mark xs ≡ false → (first : Bool)
       → expanded_from is_mark become first xs ≡ expanded_from is_mark become true xs
   first_alike [] none first = refl

@@ -10,7 +10,7 @@ use Rattle.canonical_form.specs.Expansion.{supported, least_supported, greatest_
 use Rattle.canonical_form.proofs.Expanding.ExpansionLemmas.{put_behind, least-split, least-end}
 use Rattle.canonical_form.proofs.Expanding.WalkLemmas.{found_parts, walked, reverse-more, found_parts-more, walk_found, walk_passed, walk_ended, walk_broken}
 
--- a kept second part goes after what was passed
+-- to put b after what the rest gives is to keep it with the second parts
 walked-pass : (found : Option (List ℕ)) (seconds : List ℕ) (b : ℕ) (r : Option (List ℕ))
     → walked found seconds (put_behind true b r) ≡ walked found (seconds ++ kept_part b) r
 walked-pass found seconds b None = refl

@@ -8,8 +8,8 @@ use Rattle.canonical_form.specs.Decompositions.{Decompositions}
 use Rattle.canonical_form.specs.Expansion.{supported, greatest_supported}
 use Rattle.canonical_form.proofs.Expanding.ExpansionLemmas.{put_behind, greatest-split, greatest-end}
 
--- what a walk has found, if it keeps second parts from the first to the last: nothing,
--- or a point with so many second parts after it
+-- what a walk that keeps second parts in order has found: nothing, or a point with so many of them after it, the last
+-- one first
 abbrev pub found_parts : Option (ℕ × ℕ) → List ℕ → Option (List ℕ)
 found_parts found kept_parts = option_map (λ f. f.0 ∷ reverse (take f.1 kept_parts)) found
 
@@ -19,8 +19,8 @@ pub found_parts-more : (found : Option (ℕ × ℕ)) (seconds more : List ℕ) �
 found_parts-more None seconds more within = refl
 found_parts-more (Some found) seconds more within = rw take-append-le
 
--- what a walk gives in the end, if it has kept the second parts `seconds` and found `found` so far,
--- and the rest of the chain gives `r`
+-- what a walk gives in the end that has kept the second parts `seconds` and found `found` so far, if the rest of the
+-- chain gives `r`
 abbrev pub walked : Option (List ℕ) → List ℕ → Option (List ℕ) → Option (List ℕ)
 walked found seconds r = option_or (option_map (λ ys. ys ++ reverse seconds) r) found
 
@@ -31,7 +31,7 @@ reverse-kept_part b =
 pub reverse-more : (s : List ℕ) (b : ℕ) → reverse (s ++ kept_part b) ≡ kept_part b ++ reverse s
 reverse-more s b = reverse-append s (kept_part b) ∙ ap (λ xs. xs ++ reverse s) (reverse-kept_part b)
 
--- what a walk has found once it has passed a
+-- what a walk has found once it is past a
 abbrev found_at : Bool → ℕ → List ℕ → Option (List ℕ) → Option (List ℕ)
 found_at has_a a seconds found = if has_a then Some (a ∷ reverse seconds) else found
 

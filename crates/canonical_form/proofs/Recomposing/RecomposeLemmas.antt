@@ -11,7 +11,8 @@ use Rattle.canonical_form.proofs.Lists.EveryLemmas.{append_all, push_all}
 use Rattle.canonical_form.proofs.EquivalentLemmas.{past_mark}
 use Rattle.canonical_form.proofs.Ordering.SwapLemmas.{◌⟫◌, no_swap, Swaps-sym, Swaps-after, Swaps-before}
 
--- each item is of a domain, marks decompose to their own ccc, and what is composed has the decomposition of its two parts
+-- each item is of a domain, all parts of a mark have its ccc, and what is composed has the decomposition of its two
+-- parts
 pub record ComposesLawfully {A B : Type 0} (IsItem : A → Type 0) (ccc : A → ℕ) (ccc_of_part : B → ℕ) (full : A → List B)
     (compose : A → A → Option A) : Type 0 where
   pub marks : (c : A) → IsItem c → 0 < ccc c → AllByRecursion (λ d. ccc_of_part d ≡ ccc c) (full c)

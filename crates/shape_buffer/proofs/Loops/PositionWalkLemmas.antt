@@ -1,4 +1,4 @@
--- Loops that write a position from its item and from it.
+-- Loops that write each position from its item and from itself.
 use Rattle.std.proofs.Common.{zero, suc, ◌≡◌, ◌+◌, ◌<◌, ℕ, List, ◌++◌, [], ◌∷◌, take, drop, set, length, get_or, arith, refl, ap}
 use Rattle.shape_items.specs.Items.{Item}
 use Rattle.shape_buffer.specs.PositionWalks.{positions_over}

@@ -163,7 +163,7 @@ hand_on-cases P k x rest b same given merged = elim (cases_Bool (begins_in x.clu
 
 -- ---- what deletion keeps
 
--- what still holds once the glyph at a place is gone
+-- what stays when the glyph at a place goes
 abbrev pub IsKeptByLoss : (Buffer → Type 0) → Type 0
 IsKeptByLoss P = (k : ℕ) (x : Item) (rest : List Item) (b : Buffer) → drop k b.items ≡ x ∷ rest → P b → P (lose k (hand_on k x rest b))
 

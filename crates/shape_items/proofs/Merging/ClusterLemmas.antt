@@ -12,7 +12,7 @@ use Rattle.shape_items.specs.Items.{Item}
 use Rattle.shape_common.specs.declared.text_types.BufferClusterLevel.{BufferClusterLevel}
 use Rattle.shape_common.specs.declared.text_types.BufferClusterLevel.TheVariants.{MonotoneGraphemes, MonotoneCharacters, Characters}
 
--- what a write to a part leaves, if it writes f of each item there
+-- what a write to a part leaves, if f goes over the part
 pub put_mid-map_range : (f : Item → Item) (a b : ℕ) (xs ys : List Item) → a ≤ b → ys ≡ map f (slice_range xs a b)
     → put_mid a (b - a) xs ys ≡ map_range f a b xs
 put_mid-map_range f a b xs ys le e =

@@ -12,7 +12,8 @@ use Rattle.shape_items.specs.Items.{Item}
 use Rattle.shape_items.specs.Spans.{AreSpansInOrder}
 use Rattle.shape_items.proofs.MergingInOrder.EachSpanLemmas.{AreSpansInOrder-lower}
 
--- what is left to do from place `place` on, where items from there on continue or don't, and the open grapheme began at `start`
+-- what is left to do from place `place` on, by whether the items from there on continue; the open grapheme began at
+-- `start`
 abbrev pub left_to_do : {B : Type 0} → (ℕ → ℕ → B → B) → ℕ → ℕ → List Bool → B → B
 left_to_do f start place [] b = b
 left_to_do f start place (x ∷ []) b = f start (place + 1) b

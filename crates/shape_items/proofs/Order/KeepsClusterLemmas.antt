@@ -1,4 +1,4 @@
--- What keeps clusters: the same ones, and one change after the other.
+-- What keeps clusters: the same list of them, and one step after another.
 use Rattle.std.proofs.Common.{◌≡◌, ℕ, List, map, sym, subst}
 use Rattle.shape_items.specs.ClusterOrder.{KeepsClusters}
 use Rattle.shape_items.specs.Clusters.{clusters}

@@ -21,7 +21,7 @@ use Rattle.shape_normalize.proofs.Form.CutFormLemmas.{normalized_cuts}
 use Rattle.shape_normalize.proofs.Form.NormalFormLemmas.{IsPlain, IsPlain-from, choices, mark_past_first_char, normalized_is_ordered, normalized_is_choices, normalized_by_characters, IsPlain-premises, ordered_settles, normalized_is_recomposed}
 
 module _ (rules : Rules) where
-  -- if no mode goes short each character is asked for its longest expansion
+  -- if the mode goes short nowhere, each character is asked for its longest expansion
   choices_are_longest : ((with_marks : Bool) → rules.short with_marks ≡ false) → (text : List ℕ)
       → choices rules text ≡ expanded_text (decompositions rules) (has_glyph rules.face.nominal_glyph) (is_mark rules.unicode)
       (λ with_marks. false) text

@@ -143,7 +143,7 @@ module _ (start end : ℕ) (b : Buffer) (within : end ≤ length b.items) where
       (λ x from to low ordered high inside so_far. length-merge_clusters from to x ∙ so_far)
       (λ x i item ccc low high inside is mark so_far. length-set x.items i (with_ccc ccc item) ∙ so_far) steps within refl
 
-  -- all but the items and the scratch flags stays
+  -- all stays except the items and the scratch flags
   pub without_items-Reorders : {c : Buffer} → Reorders start end b c → without_items c ≡ without_items b
   without_items-Reorders steps =
       kept_by_steps start end (λ x. without_items x ≡ without_items b)

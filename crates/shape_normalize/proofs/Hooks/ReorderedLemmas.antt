@@ -1,4 +1,4 @@
--- A run that a hook reorders is permuted, and nothing else is touched but clusters, ccc and flags.
+-- A run that a hook reorders is permuted, and nothing else changes except clusters, ccc and flags.
 use Rattle.std.proofs.Common.{◌≡◌, ◌⊎◌, ℕ, ◌+◌, ◌-◌, ◌<◌, ◌≤◌, bit_or, max, map, length, set, slice_range, refl, sym, ap, ◌∙◌, arith, inl, inr}
 use Rattle.std.specs.List.{All, swap}
 use Rattle.std.specs.Int.{bit_at}

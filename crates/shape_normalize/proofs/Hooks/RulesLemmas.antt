@@ -1,4 +1,4 @@
--- What the rules of normalising owe to those of Unicode and of the shaper.
+-- What the rules of normalising owe, from what Unicode and the shaper owe.
 use Rattle.std.proofs.Common.{◌≡◌, Bool, true, false, Option, Some, None, IfSome, subst}
 use Rattle.std.specs.Option.{option_map}
 use Rattle.canonical_form.specs.Chain.{FallsAlong}

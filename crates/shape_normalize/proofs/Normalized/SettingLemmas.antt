@@ -44,7 +44,7 @@ module _ (rules : Rules) (lawful : LawfulReorder rules.reorder) where
 
 -- ---- what no round writes
 
--- all of a buffer but its items, their positions and the scratch flags
+-- all of a buffer except its items, their positions and the scratch flags
 abbrev pub settings_of : Buffer → Buffer
 settings_of b = record b { items = []; positions = []; scratch_flags = record { 0 = 0 } }
 

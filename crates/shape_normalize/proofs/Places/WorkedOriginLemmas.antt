@@ -147,7 +147,7 @@ run_of_33 (inr shared) =
           omega (arith, mark, none)
     ]
 
--- every list of places is one where nothing moves
+-- the places of a list as they stand are an order in which nothing moves
 in_place : (items : List Item) → PermutesRuns items (all_places items)
 in_place items = record {
   all = IsPermutation-refl (all_places items);

@@ -6,7 +6,8 @@ use Rattle.shape_items.specs.Clusters.{clusters}
 use Rattle.shape_items.specs.Items.{Item}
 use Rattle.shape_items.proofs.Order.DrawsInOrder.{DrawsInOrder, DrawsInOrder-same, DrawsInOrder-behind, DrawsInOrder-again}
 
--- what is drawn in order from a list stays so if `xs` is put before that list, and `ys` before what is drawn
+-- what is drawn in order from a list still is once the first list goes before that one, and the second before what is
+-- drawn
 abbrev pub DrawsBefore : List ℕ → List ℕ → Type 0
 DrawsBefore xs ys = (from drawn : List ℕ) → DrawsInOrder from drawn → DrawsInOrder (xs ++ from) (ys ++ drawn)
 

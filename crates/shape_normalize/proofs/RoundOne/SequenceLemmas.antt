@@ -1,5 +1,5 @@
 -- Sequences: what holds of a list holds of its parts, and an item stands in a sequence with marks exactly when a mark
--- follows it, or it is one itself and not the first.
+-- of the list stands at it.
 use Rattle.std.proofs.Common.{◌≡◌, Bool, true, false, if◌then◌else◌, ◌&&◌, ◌||◌, List, [], ◌∷◌, ◌++◌, map, flat_map, refl, sym, ap, ap₂, ◌∙◌, inl, inr, append_assoc, append-nil}
 use Rattle.std.proofs.lemmas.Bool.{cases_Bool, and_right, or_right}
 use Rattle.std.specs.List.{AllByRecursion}
@@ -65,14 +65,14 @@ module _ {A : Type 0} (belongs : A → Bool) where
   flat_map_parts_all P Q become keeps items each =
       flat_map_all (λ part. AllByRecursion P part) Q become keeps (divided belongs items) (each_part P items each)
 
--- ---- clusters
+-- ---- sequences
 
 module _ {B : Type 0} (become : Bool → Item → List B) where
   -- what a sequence becomes, each item of it by whether the sequence has marks
   abbrev pub sequence_becomes : List Item → List B
   sequence_becomes sequence = flat_map (become (is_with_marks sequence)) sequence
 
-  -- the same after an item that stands before the first of these sequences, in one with it
+  -- the same after an item that stands before the first of these sequences, in one sequence with it
   abbrev behind_becomes : List (List Item) → List B
   behind_becomes [] = []
   behind_becomes (part ∷ parts) = flat_map (become true) part ++ flat_map sequence_becomes parts

@@ -21,7 +21,7 @@ use Rattle.shape_normalize.proofs.RoundOne.DrawnLemmas.{DrawsBefore-same, draws_
 -- ---- recomposing, of anything
 
 module _ {A : Type 0} (ccc : A → ℕ) (blocks : List A → A → Bool) (is_mark : A → Bool) (compose : A → A → Option A) where
-  -- if what is absorbed has the number of the starter, the numbers are drawn in order
+  -- if what a starter becomes has its number, the numbers are drawn in order
   module _ (number : A → ℕ) (composes : (s c d : A) → compose s c ≡ Some d → number d ≡ number s) where
     recomposed_from_draws : (s : A) (ms rest : List A)
         → DrawsInOrder (number s ∷ map number ms ++ map number rest)

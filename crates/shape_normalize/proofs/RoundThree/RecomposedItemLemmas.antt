@@ -24,8 +24,8 @@ glyph_of_composed has (Some d) c is =
       | inr has_none ↦ let none : None ≡ Some c = sym (cond-false _ (Some d) None has_none) ∙ is in absurd (cc)
     ]
 
--- what holds of each item, and of what a starter becomes that has it, holds of each item that is emitted, before it takes the cluster and
--- the mask at its place
+-- what holds of each item, and with a starter also of what that becomes, holds of each item that is emitted, before it
+-- takes the cluster and the mask at its place
 module _ (rules : Rules) (P : Item → Type 0) (composes : (item : Item) (c : ℕ) → has_glyph rules.face.nominal_glyph c ≡ true → P item
     → P (part_item rules.unicode rules.face.nominal_glyph item c)) where
   each_placed : (place : ℕ) (items : List Item) → AllByRecursion P items → AllByRecursion (λ (p : Placed). P p.item) (placed place items)
@@ -45,7 +45,8 @@ module _ (rules : Rules) (P : Item → Type 0) (composes : (item : Item) (c : �
       recomposed-all ccc_of_placed (is_blocked ccc_of_placed) is_mark_placed (compose_placed rules)
       (λ (p : Placed). P p.item) each_composed (placed 0 items) (each_placed 0 items each)
 
--- what holds of an item whatever its cluster and its mask, and of what a starter becomes that has it, holds of each item that is emitted
+-- what holds of an item whatever its cluster and its mask, and with a starter also of what that becomes, holds of each
+-- item that is emitted
 module _ (rules : Rules) (P : Item → Type 0)
     (anywhere : (item : Item) (cluster mask : ℕ) → P item → P (record item { cluster = cluster; mask = mask }))
     (composes : (item : Item) (c : ℕ) → has_glyph rules.face.nominal_glyph c ≡ true → P item

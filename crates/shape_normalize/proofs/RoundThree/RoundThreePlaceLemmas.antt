@@ -91,7 +91,7 @@ option_map-some f None d h = cc
 option_map-some f (Some c) d h = (c, refl, cc)
 
 module _ (rules : Rules) where
-  -- a starter that absorbs a mark takes the character that the two compose to, and keeps its place
+  -- a starter that absorbs a mark takes the character that the two make, and keeps its place
   pub absorbed_is : (s mark d : Placed) → compose_placed rules s mark ≡ Some d
       → (c : ℕ) × (compose_with_glyph rules.compose (has_glyph rules.face.nominal_glyph) s.item.codepoint mark.item.codepoint ≡ Some c)
       × (d ≡ made_with rules s mark c)

@@ -5,7 +5,7 @@ use Rattle.shape_plan.specs.Rules.{rules_of, decompositions, has_glyph}
 use Rattle.shape_normalize.specs.PremiseTest.{row_before}
 use Rattle.shape_normalize.proofs.ot_shape_normalize.premises.is_supported.Given as goal
 
--- what Full of the items left gives in front of the row is what Full of all gives
+-- what Full of the items left gives in front of the marks counted so far is what Full of all gives
 abbrev pub invariant-items : goal.invariant-items
 invariant-items g l =
     let shaper = g.T.Shaper.hb_ot_shaper_t in

@@ -6,7 +6,7 @@ use Rattle.shape_plan.specs.Rules.{used_height}
 use Rattle.shape_normalize.specs.PremiseTest.{row_before}
 use Rattle.shape_normalize.proofs.ot_shape_normalize.premises.with_full.Given as goal
 
--- what Full of the point gives after the row is what Full of the character gives
+-- what Full of the point gives in front of the marks counted so far is what Full of the character gives
 abbrev pub invariant-chain : goal.invariant-chain
 invariant-chain g l =
     let shaper = g.T.Shaper.hb_ot_shaper_t in
