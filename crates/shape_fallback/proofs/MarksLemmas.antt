@@ -11,7 +11,7 @@ use Rattle.shape_common.specs.Positions.{zero_position}
 use Rattle.shape_common.specs.Face.{FaceMeaning}
 use Rattle.shape_fallback.specs.MarkState.{place_mark}
 use Rattle.shape_fallback.specs.declared.ot_shape_fallback.marks.MarkFrame.{MarkFrame}
-use Rattle.shape_fallback.specs.Marks.{marks_placed, zeroed, around_base, behind_base, base_of, first_state}
+use Rattle.shape_fallback.specs.Marks.{marks_placed, zeroed, around_base, after_base, base_of, first_state}
 use Rattle.shape_fallback.specs.Positions.{with_positions}
 use Rattle.shape_fallback.proofs.PositionsLemmas.{slice_range-cons, placed_step}
 use Rattle.shape_fallback.specs.declared.ot_shape_fallback.mark_state.Base.{Base}
@@ -52,7 +52,7 @@ marks_end face base s i to b over within =
 pub span_start : (face : FaceMeaning) (s : MarkFrame) (i to : ℕ) (b : Buffer) (x : Item) (p : GlyphPosition)
     → i < to → i < length b.items → i < length b.positions → x ≡ get_or b.items i x → p ≡ get_or b.positions i zero_position
     → with_positions (around_base face s) i to b
-    ≡ with_positions (behind_base face s x p (face.extents (record { 0 = x.glyph_id }))) (i + 1) to b
+    ≡ with_positions (after_base face s x p (face.extents (record { 0 = x.glyph_id }))) (i + 1) to b
 unfolding around_base
 span_start face s i to b x p lt items positions is_x is_p =
     let xs = slice_range-cons b.items i to x x lt items is_x in
@@ -69,7 +69,7 @@ pub span_some : (face : FaceMeaning) (s : MarkFrame) (i to : ℕ) (b : Buffer) (
     ≡ with_positions (marks_placed face (base_of face s x p E) (first_state (base_of face s x p E) p)) (i + 1) to b
 span_some face s i to b x p E lt items positions is_x is_p e =
     span_start face s i to b x p lt items positions is_x is_p
-    ∙ ap (λ (o : Option Extents). with_positions (behind_base face s x p o) (i + 1) to b) e
+    ∙ ap (λ (o : Option Extents). with_positions (after_base face s x p o) (i + 1) to b) e
 
 -- a span whose base has none
 pub span_none : (face : FaceMeaning) (s : MarkFrame) (i to : ℕ) (b : Buffer) (x : Item) (p : GlyphPosition)
@@ -78,4 +78,4 @@ pub span_none : (face : FaceMeaning) (s : MarkFrame) (i to : ℕ) (b : Buffer) (
     → with_positions (around_base face s) i to b ≡ with_positions (positions_over (zeroed s.adjust)) (i + 1) to b
 span_none face s i to b x p lt items positions is_x is_p e =
     span_start face s i to b x p lt items positions is_x is_p
-    ∙ ap (λ (o : Option Extents). with_positions (behind_base face s x p o) (i + 1) to b) e
+    ∙ ap (λ (o : Option Extents). with_positions (after_base face s x p o) (i + 1) to b) e

@@ -62,13 +62,13 @@ first_state base p = record {
 }
 
 -- the positions of the marks after a base, if the face has these extents for its glyph
-abbrev pub behind_base : FaceMeaning → MarkFrame → Item → GlyphPosition → Option Extents → List Item → List GlyphPosition → List GlyphPosition
-behind_base face s x p None xs ps = positions_over (zeroed s.adjust) xs ps
-behind_base face s x p (Some E) xs ps =
+abbrev pub after_base : FaceMeaning → MarkFrame → Item → GlyphPosition → Option Extents → List Item → List GlyphPosition → List GlyphPosition
+after_base face s x p None xs ps = positions_over (zeroed s.adjust) xs ps
+after_base face s x p (Some E) xs ps =
     let base = base_of face s x p E in
     marks_placed face base (first_state base p) xs ps
 
 -- the positions of a base and its marks
 unfoldable pub around_base : FaceMeaning → MarkFrame → List Item → List GlyphPosition → List GlyphPosition
-around_base face s (x ∷ xs) (p ∷ ps) = p ∷ behind_base face s x p (face.extents (record { 0 = x.glyph_id })) xs ps
+around_base face s (x ∷ xs) (p ∷ ps) = p ∷ after_base face s x p (face.extents (record { 0 = x.glyph_id })) xs ps
 around_base face s xs ps = ps

@@ -18,7 +18,7 @@ pub record WorkedSearches : Type 0 where
   pub between : found_in_tens 5 6 ≡ None
   pub second : found_in_tens 5 10 ≡ Some 1
   pub last : found_in_tens 5 45 ≡ Some 4
-  pub behind_the_last : found_in_tens 5 46 ≡ None
+  pub after_the_last : found_in_tens 5 46 ≡ None
   pub past_the_count : found_in_tens 4 45 ≡ None
   pub nowhere : found_in_tens 0 0 ≡ None
   -- the middle of two is the left one, that of four the second
@@ -31,7 +31,7 @@ pub record WorkedSearches : Type 0 where
   pub walk_to_the_second : walked (λ i. 10 * i) (λ i. 10 * i + 5) 5 15 ≡ Some 1
   -- a range from 9 to 3: one search asks first whether 5 is before its start, the other whether it is after its end
   pub before_the_start : found_by (λ i. side_of 5 (slice_index (9 ∷ 5 ∷ []) i) (slice_index (3 ∷ 5 ∷ []) i)) 2 ≡ None
-  pub behind_the_end : found_by (λ i. side_from_end 5 (slice_index (9 ∷ 5 ∷ []) i) (slice_index (3 ∷ 5 ∷ []) i)) 2 ≡ Some 1
+  pub after_the_end : found_by (λ i. side_from_end 5 (slice_index (9 ∷ 5 ∷ []) i) (slice_index (3 ∷ 5 ∷ []) i)) 2 ≡ Some 1
 
 pub worked_searches : WorkedSearches
 worked_searches = record {
@@ -40,7 +40,7 @@ worked_searches = record {
   between = refl;
   second = refl;
   last = refl;
-  behind_the_last = refl;
+  after_the_last = refl;
   past_the_count = refl;
   nowhere = refl;
   first_of_two = refl;
@@ -50,7 +50,7 @@ worked_searches = record {
   walk_between = refl;
   walk_to_the_second = refl;
   before_the_start = refl;
-  behind_the_end = refl;
+  after_the_end = refl;
 }
 
 -- format 14 of three selectors. U+FE00: U+0041..0042 look as they do alone. U+FE01: U+0041 has glyph 7, U+0042 none,
@@ -71,7 +71,7 @@ pub record WorkedVariations : Type 0 where
   pub as_alone : variation_of three_selectors 0x41 0xFE00 ≡ Default
   pub last_as_alone : variation_of three_selectors 0x42 0xFE00 ≡ Default
   pub before_the_range : variation_of three_selectors 0x40 0xFE00 ≡ Missing
-  pub behind_the_range : variation_of three_selectors 0x43 0xFE00 ≡ Missing
+  pub after_the_range : variation_of three_selectors 0x43 0xFE00 ≡ Missing
   pub own : variation_of three_selectors 0x41 0xFE01 ≡ Own 7
   pub own_past_plane_0 : variation_of three_selectors 0x1F600 0xFE01 ≡ Own 9
   pub glyph_0_is_none : variation_of three_selectors 0x42 0xFE01 ≡ Missing
@@ -89,7 +89,7 @@ worked_variations = record {
   as_alone = refl;
   last_as_alone = refl;
   before_the_range = refl;
-  behind_the_range = refl;
+  after_the_range = refl;
   own = refl;
   own_past_plane_0 = refl;
   glyph_0_is_none = refl;

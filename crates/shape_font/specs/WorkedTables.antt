@@ -82,7 +82,7 @@ pub record WorkedCollections : Type 0 where
   pub one_font : font_start (two_tables 2) 0 ≡ Some 0
   pub one_font_only : font_start (two_tables 2) 1 ≡ None
   -- records are found from the font's beginning, tables from the file's
-  pub behind_a_byte : table_at (99 ∷ header 1 ++ entry 65 29 1 ++ 11 ∷ []) 1 0x41412020 ≡ Some (11 ∷ [])
+  pub after_a_byte : table_at (99 ∷ header 1 ++ entry 65 29 1 ++ 11 ∷ []) 1 0x41412020 ≡ Some (11 ∷ [])
 
 pub worked_collections : WorkedCollections
 worked_collections = record {
@@ -91,7 +91,7 @@ worked_collections = record {
   past_the_last = refl;
   one_font = refl;
   one_font_only = refl;
-  behind_a_byte = refl;
+  after_a_byte = refl;
 }
 
 -- a table `cmap` of one subtable or two, each one byte long and at the end

@@ -7,16 +7,16 @@ use Rattle.shape_lines.proofs.TextOrderLemmas.{ClustersRise, HasOneFlag}
 
 module _ (gs : List Glyph) (rise : ClustersRise gs) (one : HasOneFlag gs) where
   -- from a glyph on all of its cluster have its flag
-  alike_behind : (place m : ℕ) → place + m < length gs → cluster_at gs (place + m) ≡ cluster_at gs place
+  alike_after : (place m : ℕ) → place + m < length gs → cluster_at gs (place + m) ≡ cluster_at gs place
       → lacks_break_at gs (place + m) ≡ lacks_break_at gs place
-  alike_behind place zero lt same = ap (lacks_break_at gs) (omega arith)
-  alike_behind place (suc m) lt same =
+  alike_after place zero lt same = ap (lacks_break_at gs) (omega arith)
+  alike_after place (suc m) lt same =
       let e : place + suc m ≡ suc (place + m) = omega arith in
       let low = rise place (place + m) (omega arith) (omega arith) in
       let high = rise (place + m) (place + suc m) (omega arith) lt in
       let near : cluster_at gs (place + m) ≡ cluster_at gs place = omega arith in
       let next : cluster_at gs (place + m) ≡ cluster_at gs (suc (place + m)) = near ∙ sym same ∙ ap (cluster_at gs) e in
-      ap (lacks_break_at gs) e ∙ sym (one (place + m) (omega arith) next) ∙ alike_behind place m (omega arith) near
+      ap (lacks_break_at gs) e ∙ sym (one (place + m) (omega arith) next) ∙ alike_after place m (omega arith) near
 
   pub place_from_begin : (place : ℕ) → 0 < place → place < length gs → BeginsSafely gs place → IsPlaceOfCut gs place
   place_from_begin zero some lt begins = absurd (omega arith)
@@ -39,7 +39,7 @@ module _ (gs : List Glyph) (rise : ClustersRise gs) (one : HasOneFlag gs) where
               | inr later ↦
                   let at : suc k + (j - suc k) ≡ j = omega arith in
                   sym (ap (lacks_break_at gs) at)
-                  ∙ alike_behind (suc k) (j - suc k) (omega arith) (ap (cluster_at gs) at ∙ greater) ∙ begins.lacks
+                  ∙ alike_after (suc k) (j - suc k) (omega arith) (ap (cluster_at gs) at ∙ greater) ∙ begins.lacks
             ];
       }
 

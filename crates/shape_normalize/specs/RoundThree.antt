@@ -92,13 +92,13 @@ abbrev pub chained_spans : List Placed → List (ℕ × ℕ)
 chained_spans out = flat_map (λ p. spans_between p.place p.absorbed) out
 
 -- after marks of this greatest ccc, 0 if there are none, a mark of such a ccc is blocked from their starter
-abbrev pub is_blocked_behind : ℕ → ℕ → Bool
-is_blocked_behind greatest ccc = nat_lt 0 greatest && nat_le ccc greatest
+abbrev pub is_blocked_after : ℕ → ℕ → Bool
+is_blocked_after greatest ccc = nat_lt 0 greatest && nat_le ccc greatest
 
 -- the character that a starter makes with an item after it and after marks of this greatest ccc, if the two compose
 abbrev pub composed_char : Rules → Item → ℕ → Item → Option ℕ
 composed_char rules starter greatest next =
-    if is_mark_item next && not (is_blocked_behind greatest (ccc_of_item next))
+    if is_mark_item next && not (is_blocked_after greatest (ccc_of_item next))
     then compose_with_glyph rules.compose (has_glyph rules.face.nominal_glyph) starter.codepoint next.codepoint
     else None
 

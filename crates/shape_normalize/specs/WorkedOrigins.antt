@@ -31,7 +31,7 @@ pub record PlacesWorked : Type 0 where
   pub second_selector : origins_of (0x61 ∷ 0xFE00 ∷ []) (item 0x61 0 ∷ item 0xFE00 1 ∷ item 0xFE00 2 ∷ [])
       ≡ origin_at true 0 ∷ origin_at true 2 ∷ []
   -- after and before such a sequence
-  pub behind_variation_sequence : origins_of (0x61 ∷ 0xFE00 ∷ 0x301 ∷ []) (item 0x61 0 ∷ item 0xFE00 1 ∷ item 0xE1 2 ∷ [])
+  pub after_variation_sequence : origins_of (0x61 ∷ 0xFE00 ∷ 0x301 ∷ []) (item 0x61 0 ∷ item 0xFE00 1 ∷ item 0xE1 2 ∷ [])
       ≡ origin_at true 0 ∷ origin_at false 2 ∷ origin_at false 2 ∷ []
   pub before_variation_sequence : origins_of (0x61 ∷ 0xFE00 ∷ 0x301 ∷ []) (item 0xE1 0 ∷ item 0x61 1 ∷ item 0xFE00 2 ∷ [])
       ≡ origin_at false 0 ∷ origin_at false 0 ∷ origin_at true 1 ∷ []

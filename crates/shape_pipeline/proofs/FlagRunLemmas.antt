@@ -53,8 +53,8 @@ seen-run flags steps keep = record { leads = along steps keep }
 module _ (run : Run) (target : Direction) (flags : BufferFlags) (lawful : LawfulReorder run.rules.reorder)
     (masks : LawfulMasks run.map) (features : MasksAreFeatures run.decisions) (keeps : RunKeepsFlags run) where
   -- the steps of preparing after the first, which takes every flag away
-  abbrev behind_first : List Step
-  behind_first =
+  abbrev after_first : List Step
+  after_first =
       (step (graphemes_marked run.unicode) ∷ step (dotted_circled run.unicode run.face) ∷ step clusters_formed ∷ [])
       ++ order_steps run target
 
@@ -62,7 +62,7 @@ module _ (run : Run) (target : Direction) (flags : BufferFlags) (lawful : Lawful
   seen-prepared =
       let each = preparing_keeps_flags run target (record { global = masks.global_mask; mirroring = features.rtlm }) keeps in
       record {
-        leads = λ b is. (seen-run flags behind_first each.1).leads (begun run.map.global_mask b) (record {
+        leads = λ b is. (seen-run flags after_first each.1).leads (begun run.map.global_mask b) (record {
           honest = begun-honest run.map.global_mask b masks.global_mask;
           asked = (begun-keeps_flags run.map.global_mask masks.global_mask b).flags ∙ is;
         });

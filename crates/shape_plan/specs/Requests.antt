@@ -48,8 +48,8 @@ abbrev pub first_requests : Direction → List MapRequest
 first_requests direction = variations ++ forms direction ++ fractions ++ random ++ tracking
 
 -- two features of faces that come after those of a script
-abbrev pub behind_script : List MapRequest
-behind_script = on tag.buzz F_NONE ∷ on tag.buzz_discretionary F_NONE ∷ []
+abbrev pub after_script : List MapRequest
+after_script = on tag.buzz F_NONE ∷ on tag.buzz_discretionary F_NONE ∷ []
 
 -- the features of every text
 abbrev pub common : List MapRequest
@@ -81,7 +81,7 @@ user_request f = feature f.tag (if is_global f then F_GLOBAL else F_NONE) f.valu
 
 -- all that is asked for between the shaper's two hooks
 abbrev pub later_requests : Direction → List Feature → List MapRequest
-later_requests direction features = behind_script ++ common ++ directed direction ++ map user_request features
+later_requests direction features = after_script ++ common ++ directed direction ++ map user_request features
 
 -- what a hook asks for, by the builder as it stands; none if the shaper is not kept or does not give the hook
 abbrev pub Collector : Type 0

@@ -144,7 +144,7 @@ pub record RequestsOfHooks : Type 0 where
   pub not_simple : (hooked_texts telling None []).is_simple ≡ false
   pub last : slice_get (hooked_texts None telling []).requests 27 ≡ Some (ask 27 1 7)
   pub still_simple : (hooked_texts None telling []).is_simple ≡ true
-  pub behind_users : slice_get (hooked_texts None telling (kern_off ∷ [])).requests 28 ≡ Some (ask 28 0 7)
+  pub after_users : slice_get (hooked_texts None telling (kern_off ∷ [])).requests 28 ≡ Some (ask 28 0 7)
   pub both : length (hooked_texts telling telling []).requests ≡ 29
   pub begun_anew : (requested RightToLeft None None None [] (record (new_builder (λ _. None)) { is_simple = false })).is_simple ≡ true
 
@@ -156,7 +156,7 @@ requests_of_hooks = record {
   not_simple = refl;
   last = refl;
   still_simple = refl;
-  behind_users = refl;
+  after_users = refl;
   both = refl;
   begun_anew = refl;
 }

@@ -27,19 +27,19 @@ run-left flags x xs =
     let one_less : (1 + prefix_len (has_cluster x.cluster) xs) - 1 ≡ prefix_len (has_cluster x.cluster) xs = omega arith in
     rw (own, one_less) refl
 
-walked-behind : (flags : BufferFlags) (cluster mask : ℕ) (xs : List Item)
+walked-after : (flags : BufferFlags) (cluster mask : ℕ) (xs : List Item)
     → walked flags (behind cluster mask xs) xs ≡ flagged_from flags (Some (cluster, mask)) xs
 unfolding walked flagged_from
-walked-behind flags cluster mask [] = refl
-walked-behind flags cluster mask (x ∷ xs) = elim (cases_Bool (has_cluster cluster x)) [
+walked-after flags cluster mask [] = refl
+walked-after flags cluster mask (x ∷ xs) = elim (cases_Bool (has_cluster cluster x)) [
   | inl here ↦
       let same : x.cluster ≡ cluster = grind (arith, nat_tests) in
       let some : nat_lt 0 (1 + prefix_len (has_cluster cluster) xs) ≡ true = grind (arith, nat_tests) in
       let one_less : (1 + prefix_len (has_cluster cluster) xs) - 1 ≡ prefix_len (has_cluster cluster) xs = omega arith in
-      rw (here, some, one_less, ← same) (ap (λ zs. with_mask mask x ∷ zs) (walked-behind flags x.cluster mask xs))
+      rw (here, some, one_less, ← same) (ap (λ zs. with_mask mask x ∷ zs) (walked-after flags x.cluster mask xs))
   | inr other ↦
       let now = mask_after flags None x (x ∷ xs) in
-      rw (other, run-left flags x xs) (ap (λ zs. with_mask now x ∷ zs) (walked-behind flags x.cluster now xs))
+      rw (other, run-left flags x xs) (ap (λ zs. with_mask now x ∷ zs) (walked-after flags x.cluster now xs))
 ]
 
 -- the walk from its start
@@ -49,4 +49,4 @@ unfolding walked flagged_from
 walked-flagged flags [] = refl
 walked-flagged flags (x ∷ xs) =
     let now = mask_after flags None x (x ∷ xs) in
-    rw (run-left flags x xs) (ap (λ zs. with_mask now x ∷ zs) (walked-behind flags x.cluster now xs))
+    rw (run-left flags x xs) (ap (λ zs. with_mask now x ∷ zs) (walked-after flags x.cluster now xs))

@@ -77,7 +77,7 @@ hidden_by glyph items flags =
 pub record HidingOfJoiners : Type 0 where
   pub by_space : hidden (face_of 1000) (a_at 0 ∷ joiner_at 1 ∷ []) 0 2 ≡ (1, 0) ∷ (3, 1) ∷ []
   pub by_invisible_glyph : hidden_by (record { 0 = 9 }) (a_at 0 ∷ joiner_at 1 ∷ []) 0 ≡ (1, 0) ∷ (9, 1) ∷ []
-  pub behind_goes : hidden without_space (a_at 0 ∷ joiner_at 1 ∷ []) 0 2 ≡ (1, 0) ∷ []
+  pub after_goes : hidden without_space (a_at 0 ∷ joiner_at 1 ∷ []) 0 2 ≡ (1, 0) ∷ []
   pub first_goes : hidden without_space (joiner_at 0 ∷ a_at 3 ∷ []) 0 2 ≡ (1, 0) ∷ []
   -- the list of U+200C U+0061 once it is reversed
   pub last_goes : hidden without_space (a_at 3 ∷ joiner_at 0 ∷ []) 0 2 ≡ (1, 0) ∷ []
@@ -94,7 +94,7 @@ unfolding ignorables_hidden items_mapped delete_from merge
 hiding_of_joiners = record {
   by_space = refl;
   by_invisible_glyph = refl;
-  behind_goes = refl;
+  after_goes = refl;
   first_goes = refl;
   last_goes = refl;
   all_go = refl;

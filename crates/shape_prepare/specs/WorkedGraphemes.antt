@@ -43,7 +43,7 @@ pub record Emoji : Type 0 where
   pub joined_with_selector : continuations_of (0x2764 ∷ 0xFE0F ∷ 0x200D ∷ 0x1F525 ∷ []) ≡ false ∷ true ∷ true ∷ true ∷ []
   pub keycap : continuations_of (0x31 ∷ 0xFE0F ∷ 0x20E3 ∷ 0x32 ∷ []) ≡ false ∷ true ∷ true ∷ false ∷ []
   pub two_zwjs : continuations_of (0x1F468 ∷ 0x200D ∷ 0x200D ∷ 0x1F469 ∷ []) ≡ false ∷ true ∷ true ∷ true ∷ []
-  pub flag_behind_zwj : continuations_of (0x1F468 ∷ 0x200D ∷ 0x1F1E6 ∷ 0x1F1E6 ∷ []) ≡ false ∷ true ∷ false ∷ true ∷ []
+  pub flag_after_zwj : continuations_of (0x1F468 ∷ 0x200D ∷ 0x1F1E6 ∷ 0x1F1E6 ∷ []) ≡ false ∷ true ∷ false ∷ true ∷ []
 
 emoji : Emoji
 unfolding graphemes_marked
@@ -55,7 +55,7 @@ emoji = record {
   joined_with_selector = refl;
   keycap = refl;
   two_zwjs = refl;
-  flag_behind_zwj = refl;
+  flag_after_zwj = refl;
 }
 
 -- marks continue, voice marks of halfwidth katakana too; letters, spaces and digits begin

@@ -111,9 +111,9 @@ words-slash (b ∷ bs) begins =
     ap (λ s. words (47 ∷ s ∷ bs)) space ∙ ap (λ s. (47 ∷ []) ∷ words (s ∷ bs)) (sym space)
 
 -- the word `/` after a text that ends clear
-words-slash_behind : (front second : List ℕ) → BeginsClear second
+words-slash_after : (front second : List ℕ) → BeginsClear second
     → words ((front ++ 32 ∷ []) ++ 47 ∷ second) ≡ words (front ++ 32 ∷ []) ++ (47 ∷ []) ∷ words second
-words-slash_behind front second begins =
+words-slash_after front second begins =
     let without : words front ≡ words (front ++ 32 ∷ []) = sym (append-nil (words front)) ∙ sym (words-append front []) in
     ap words (append_assoc front (32 ∷ []) (47 ∷ second)) ∙ words-append front (47 ∷ second)
     ∙ ap (λ ws. words front ++ ws) (words-slash second begins) ∙ ap (λ ws. ws ++ (47 ∷ []) ∷ words second) without
@@ -130,7 +130,7 @@ words-parted : (line first second : List ℕ) → IsPartedAt line first second �
 words-parted line [] second (is, none, ends, begins) = ap words is ∙ words-slash second begins
 words-parted line (b ∷ bs) second (is, none, ends, begins) =
     let first : b ∷ bs ≡ take (length (b ∷ bs) - 1) (b ∷ bs) ++ 32 ∷ [] = space_last (b ∷ bs) ends (omega arith) in
-    ap words is ∙ ap (λ l. words (l ++ 47 ∷ second)) first ∙ words-slash_behind (take (length (b ∷ bs) - 1) (b ∷ bs)) second begins
+    ap words is ∙ ap (λ l. words (l ++ 47 ∷ second)) first ∙ words-slash_after (take (length (b ∷ bs) - 1) (b ∷ bs)) second begins
     ∙ ap (λ l. words l ++ (47 ∷ []) ∷ words second) (sym first)
 
 -- ---- the other way round, from the words to the line: byte by byte from its end
@@ -141,19 +141,19 @@ ends_more b c cs ends = λ _.
     let last : length (c ∷ cs) - 1 ≡ length cs = omega arith in
     ap (λ n. get_or (b ∷ c ∷ cs) n 0) longer ∙ ap (λ n. get_or (c ∷ cs) n 0) (sym last) ∙ ends (omega arith)
 
-ends_behind_space : (first : List ℕ) → EndsClear first → EndsClear (32 ∷ first)
-ends_behind_space [] ends = λ _. refl
-ends_behind_space (c ∷ cs) ends = ends_more 32 c cs ends
+ends_after_space : (first : List ℕ) → EndsClear first → EndsClear (32 ∷ first)
+ends_after_space [] ends = λ _. refl
+ends_after_space (c ∷ cs) ends = ends_more 32 c cs ends
 
-ends_behind_letter : (b : ℕ) (bs first second : List ℕ) → bs ≡ first ++ 47 ∷ second → get_or bs 0 0 ≢ 47 → EndsClear first
+ends_after_letter : (b : ℕ) (bs first second : List ℕ) → bs ≡ first ++ 47 ∷ second → get_or bs 0 0 ≢ 47 → EndsClear first
     → EndsClear (b ∷ first)
-ends_behind_letter b bs [] second is unlike ends = absurd (unlike (ap (λ l. get_or l 0 0) is))
-ends_behind_letter b bs (c ∷ cs) second is unlike ends = ends_more b c cs ends
+ends_after_letter b bs [] second is unlike ends = absurd (unlike (ap (λ l. get_or l 0 0) is))
+ends_after_letter b bs (c ∷ cs) second is unlike ends = ends_more b c cs ends
 
 -- a byte more at the front
-parted_behind : (b : ℕ) (bs first second : List ℕ) → IsPartedAt bs first second → b ≢ 47 → EndsClear (b ∷ first)
+parted_after : (b : ℕ) (bs first second : List ℕ) → IsPartedAt bs first second → b ≢ 47 → EndsClear (b ∷ first)
     → IsPartedAt (b ∷ bs) (b ∷ first) second
-parted_behind b bs first second (is, none, ends, begins) unlike clear =
+parted_after b bs first second (is, none, ends, begins) unlike clear =
     (ap (λ l. b ∷ l) is, All-cons (λ x. x ≢ 47) b first unlike none, clear, begins)
 
 abbrev Parts : List ℕ → Type 0
@@ -180,8 +180,8 @@ finds-lone b bs later clear first (w ∷ ws) behind none is =
     let unlike : b ≢ 47 = All-head (λ x. x ≢ 47) b [] (subst NoSlash word (All-head NoSlash w ws none)) in (
       b ∷ parts.0,
       parts.1,
-      parted_behind b bs parts.0 parts.1 parts.2 unlike
-          (ends_behind_letter b bs parts.0 parts.1 parts.2.0 (clear_front bs clear) parts.2.2),
+      parted_after b bs parts.0 parts.1 parts.2 unlike
+          (ends_after_letter b bs parts.0 parts.1 parts.2.0 (clear_front bs clear) parts.2.2),
     )
 
 -- the first words if two letters stand at the front
@@ -205,8 +205,8 @@ finds-longer b c cs q rest later shorter longer (w ∷ ws) behind none is =
     (shorter ∙ ap (λ l. (c ∷ q) ∷ l) others) in (
       b ∷ parts.0,
       parts.1,
-      parted_behind b (c ∷ cs) parts.0 parts.1 parts.2 (All-head (λ x. x ≢ 47) b (c ∷ q) letters)
-          (ends_behind_letter b (c ∷ cs) parts.0 parts.1 parts.2.0 (All-head (λ x. x ≢ 47) c q fewer) parts.2.2),
+      parted_after b (c ∷ cs) parts.0 parts.1 parts.2 (All-head (λ x. x ≢ 47) b (c ∷ q) letters)
+          (ends_after_letter b (c ∷ cs) parts.0 parts.1 parts.2.0 (All-head (λ x. x ≢ 47) c q fewer) parts.2.2),
     )
 
 finds-two_letters : (b c : ℕ) (cs : List ℕ) → (b == 32) ≡ false → (c == 32) ≡ false → FindsSlash (c ∷ cs) → FindsSlash (b ∷ c ∷ cs)
@@ -221,7 +221,7 @@ finds-two_letters b c cs first second later =
 finds-space : (bs : List ℕ) → FindsSlash bs → FindsSlash (32 ∷ bs)
 finds-space bs later before behind none is =
     let parts : Parts bs = later before behind none is in
-    (32 ∷ parts.0, parts.1, parted_behind 32 bs parts.0 parts.1 parts.2 (omega arith) (ends_behind_space parts.0 parts.2.2))
+    (32 ∷ parts.0, parts.1, parted_after 32 bs parts.0 parts.1 parts.2 (omega arith) (ends_after_space parts.0 parts.2.2))
 
 finds-letter : (b : ℕ) (bs : List ℕ) → (b == 32) ≡ false → FindsSlash bs → FindsSlash (b ∷ bs)
 finds-letter b [] letter later =

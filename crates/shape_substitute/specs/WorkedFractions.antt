@@ -108,14 +108,14 @@ pub record WalkOverSlashes : Type 0 where
   pub places : slash_places 0 (digit 0 ∷ slash 1 ∷ letter 4 ∷ slash 5 ∷ []) ≡ 1 ∷ 3 ∷ []
   pub start : whole_start (letter 0 ∷ digit 1 ∷ digit 2 ∷ slash 3 ∷ digit 6 ∷ []) 3 ≡ 1
   pub end : whole_end (digit 0 ∷ slash 1 ∷ digit 4 ∷ digit 5 ∷ []) 1 ≡ 4
-  pub behind_whole : next_place (digit 0 ∷ slash 1 ∷ digit 4 ∷ digit 5 ∷ []) 1 ≡ 4
-  pub behind_slash : next_place (letter 0 ∷ slash 1 ∷ digit 4 ∷ digit 5 ∷ []) 1 ≡ 2
+  pub after_whole : next_place (digit 0 ∷ slash 1 ∷ digit 4 ∷ digit 5 ∷ []) 1 ≡ 4
+  pub after_slash : next_place (letter 0 ∷ slash 1 ∷ digit 4 ∷ digit 5 ∷ []) 1 ≡ 2
   -- the first slash has nothing before it; the second has the first and the third as digits, and the walk goes on after the third
   pub skipped_by : masked_for_concat (digit_slash ∷ digit_slash ∷ digit_slash ∷ []) ≡ 0x302 ∷ 0x100 ∷ 0x500 ∷ []
 
 walk_over_slashes : WalkOverSlashes
 unfolding fractions_masked slash_masked features_added
-walk_over_slashes = record { places = refl; start = refl; end = refl; behind_whole = refl; behind_slash = refl; skipped_by = refl }
+walk_over_slashes = record { places = refl; start = refl; end = refl; after_whole = refl; after_slash = refl; skipped_by = refl }
 
 pub record WorkedFractions : Type 0 where
   pub masks : MasksOfFractions

@@ -126,9 +126,9 @@ glyphs_paused run stage =
 
 -- 5, and 1, 3 and 1000 by the stages, doubled after one of them
 pub record RunsOfPauses (run : Run) : Type 0 where
-  pub behind_first : glyphs_paused run 0 ≡ 1015 ∷ []
-  pub behind_second : glyphs_paused run 1 ≡ 1018 ∷ []
-  pub behind_last : glyphs_paused run 2 ≡ 2018 ∷ []
+  pub after_first : glyphs_paused run 0 ≡ 1015 ∷ []
+  pub after_second : glyphs_paused run 1 ≡ 1018 ∷ []
+  pub after_last : glyphs_paused run 2 ≡ 2018 ∷ []
 
 -- before the lookups: the glyph of the index, doubled by `substitute_start`, in class 4; another class in its place if the plan says so
 pub record RunsOfGlyphs (run : Run) : Type 0 where
@@ -174,7 +174,7 @@ runs_of_lookups run = record {
 }
 
 runs_of_pauses : (run : Run) → RunsOfPauses (record run { lookups = adding })
-runs_of_pauses run = record { behind_first = refl; behind_second = refl; behind_last = refl }
+runs_of_pauses run = record { after_first = refl; after_second = refl; after_last = refl }
 
 runs_of_glyphs : (run : Run) → RunsOfGlyphs (record run { lookups = adding })
 unfolding glyphs_mapped classes_synthesised items_mapped

@@ -80,7 +80,7 @@ pub record WorkedRefusals : Type 0 where
   pub no_value : feature_of (codes "kern=") ≡ None
   pub no_switch : feature_of (codes "kern=yes") ≡ None
   pub word_for_a_value : feature_of (codes "kern yes") ≡ None
-  pub text_behind : feature_of (codes "kern=1 x") ≡ None
+  pub text_after : feature_of (codes "kern=1 x") ≡ None
   pub two_signs : feature_of (codes "-+kern") ≡ None
   pub too_great : feature_of (codes "kern=9223372036854775808") ≡ None
   -- `'` is no end for `"` (34)
@@ -98,7 +98,7 @@ worked_refusals = record {
   no_value = refl;
   no_switch = refl;
   word_for_a_value = refl;
-  text_behind = refl;
+  text_after = refl;
   two_signs = refl;
   too_great = refl;
   other_quote = refl;

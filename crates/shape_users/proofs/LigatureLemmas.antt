@@ -14,7 +14,7 @@ use Rattle.shape_buffer.specs.Keepers.{EachLookup, KeepsOrder, IsClusterKeeper, 
 use Rattle.shape_items.specs.KeepsFlags.{KeepsFlags, has_flag, some_has}
 use Rattle.shape_items.proofs.Merging.ClusterLemmas.{merge_clusters-monotone}
 use Rattle.shape_items.proofs.Deletion.DeleteKeeps.{merged_keeps}
-use Rattle.shape_items.proofs.Order.DrawsInOrder.{DrawsInOrder, DrawsInOrder-same, DrawsInOrder-behind, DrawsInOrder-again, KeepsClusters-from_draws}
+use Rattle.shape_items.proofs.Order.DrawsInOrder.{DrawsInOrder, DrawsInOrder-same, DrawsInOrder-after, DrawsInOrder-again, KeepsClusters-from_draws}
 use Rattle.shape_items.proofs.Flags.FlagLemmas.{KeepsFlags-same, KeepsFlags-then}
 use Rattle.shape_buffer.proofs.Steps.KeeperLemmas.{KeepsClusters-equal, KeepsClusters-then, KeepsOrder-same, KeepsOrder-then, clusters-map}
 use Rattle.shape_users.specs.Ligatures.{with_glyph, single, singled, nth_item, is_pair, glyph_put, taken_out, ligated_at, ligated, substituted, ligature_lookups}
@@ -25,10 +25,10 @@ use Rattle.shape_users.specs.declared.ligatures.substitution.TheConstants.{SINGL
 taken_out-draws : (xs : List Item) (i : ℕ) → DrawsInOrder (clusters xs) (clusters (remove xs i))
 taken_out-draws [] zero = DrawsInOrder-same []
 taken_out-draws [] (suc i) = DrawsInOrder-same []
-taken_out-draws (x ∷ xs) zero = DrawsInOrder-behind x.cluster (clusters xs) (clusters xs) (DrawsInOrder-same (clusters xs))
+taken_out-draws (x ∷ xs) zero = DrawsInOrder-after x.cluster (clusters xs) (clusters xs) (DrawsInOrder-same (clusters xs))
 taken_out-draws (x ∷ xs) (suc i) =
     DrawsInOrder-again x.cluster (clusters xs) (clusters (remove xs i))
-    (DrawsInOrder-behind x.cluster (clusters xs) (clusters (remove xs i)) (taken_out-draws xs i))
+    (DrawsInOrder-after x.cluster (clusters xs) (clusters (remove xs i)) (taken_out-draws xs i))
 
 or_left : (a b c : Bool) → (b ≡ true → c ≡ true) → (a || b) ≡ true → (a || c) ≡ true
 or_left true b c more some = refl

@@ -44,7 +44,7 @@ pub record WorkedModifiers : Type 0 where
   pub in_their_order : shown (modifiers_reordered (marked two_above) 1 5)
       ≡ (0x628, 0, 0) ∷ (0x6DC, 26, 2) ∷ (0x654, 26, 2) ∷ (0x651, 27, 2) ∷ (0x653, 230, 8) ∷ []
   pub none : shown (modifiers_reordered (marked no_modifier) 1 3) ≡ no_modifier
-  pub behind_another : shown (modifiers_reordered (marked not_first) 1 4) ≡ not_first
+  pub after_another : shown (modifiers_reordered (marked not_first) 1 4) ≡ not_first
   pub by_character : shown (modifiers_reordered (record (marked shadda_and_hamza) { cluster_level = Characters }) 1 3)
       ≡ (0x628, 0, 0) ∷ (0x654, 26, 4) ∷ (0x651, 27, 2) ∷ []
 
@@ -55,6 +55,6 @@ worked_modifiers = record {
   below_then_above = refl;
   in_their_order = refl;
   none = refl;
-  behind_another = refl;
+  after_another = refl;
   by_character = refl;
 }

@@ -104,7 +104,7 @@ pub record PropertiesOfCharacters : Type 0 where
   pub joiner : with_unicode_props plain_unicode (all_set 0x200D) ≡ seen 0x200D OtherLetter 0 false false false true false
   pub non_joiner : with_unicode_props plain_unicode (all_set 0x200C) ≡ seen 0x200C OtherLetter 0 false false false false true
   pub before_them : with_unicode_props plain_unicode (all_set 0x200B) ≡ seen 0x200B OtherLetter 0 false false false false false
-  pub behind_them : with_unicode_props plain_unicode (all_set 0x200E) ≡ seen 0x200E OtherLetter 0 false false false false false
+  pub after_them : with_unicode_props plain_unicode (all_set 0x200E) ≡ seen 0x200E OtherLetter 0 false false false false false
 
 properties_of_characters : PropertiesOfCharacters
 properties_of_characters = record {
@@ -118,7 +118,7 @@ properties_of_characters = record {
   joiner = refl;
   non_joiner = refl;
   before_them = refl;
-  behind_them = refl;
+  after_them = refl;
 }
 
 -- ---- scratch flags
@@ -134,7 +134,7 @@ pub record ScratchFlagsOfCharacters : Type 0 where
   pub cgj : with_scratch_of (all_of NonspacingMark) 0x34F (flags 4) ≡ flags 15
   pub plain_cgj : with_scratch_of plain_unicode 0x34F (flags 0) ≡ flags 9
   pub before_cgj : with_scratch_of plain_unicode 0x34E (flags 16) ≡ flags 17
-  pub behind_cgj : with_scratch_of plain_unicode 0x350 (flags 16) ≡ flags 17
+  pub after_cgj : with_scratch_of plain_unicode 0x350 (flags 16) ≡ flags 17
   pub twice : with_scratch_of (all_of NonspacingMark) 0x34F (flags 11) ≡ flags 11
 
 scratch_flags_of_characters : ScratchFlagsOfCharacters
@@ -145,7 +145,7 @@ scratch_flags_of_characters = record {
   cgj = refl;
   plain_cgj = refl;
   before_cgj = refl;
-  behind_cgj = refl;
+  after_cgj = refl;
   twice = refl;
 }
 

@@ -27,13 +27,13 @@ pub record CharactersOfTexts : Type 0 where
   pub before : context_before (0x61 ∷ 0x62 ∷ 0x31 ∷ 0x32 ∷ 0x33 ∷ 0x34 ∷ 0x35 ∷ []) ≡ 0x31 ∷ 0x32 ∷ 0x33 ∷ 0x34 ∷ 0x35 ∷ []
   pub behind : context_after (0x61 ∷ 0x62 ∷ 0x31 ∷ 0x32 ∷ 0x33 ∷ 0x34 ∷ 0x35 ∷ []) ≡ 0x61 ∷ 0x62 ∷ 0x31 ∷ 0x32 ∷ 0x33 ∷ []
   pub five_before : context_before (0x31 ∷ 0x32 ∷ 0x33 ∷ 0x34 ∷ 0x35 ∷ []) ≡ 0x31 ∷ 0x32 ∷ 0x33 ∷ 0x34 ∷ 0x35 ∷ []
-  pub five_behind : context_after (0x31 ∷ 0x32 ∷ 0x33 ∷ 0x34 ∷ 0x35 ∷ []) ≡ 0x31 ∷ 0x32 ∷ 0x33 ∷ 0x34 ∷ 0x35 ∷ []
+  pub five_after : context_after (0x31 ∷ 0x32 ∷ 0x33 ∷ 0x34 ∷ 0x35 ∷ []) ≡ 0x31 ∷ 0x32 ∷ 0x33 ∷ 0x34 ∷ 0x35 ∷ []
   pub six_before : context_before (0xC3 ∷ 0xA9 ∷ 0x31 ∷ 0x32 ∷ 0x33 ∷ 0x34 ∷ 0x35 ∷ []) ≡ 0x31 ∷ 0x32 ∷ 0x33 ∷ 0x34 ∷ 0x35 ∷ []
-  pub six_behind : context_after (0xC3 ∷ 0xA9 ∷ 0x31 ∷ 0x32 ∷ 0x33 ∷ 0x34 ∷ 0x35 ∷ []) ≡ 0xE9 ∷ 0x31 ∷ 0x32 ∷ 0x33 ∷ 0x34 ∷ []
+  pub six_after : context_after (0xC3 ∷ 0xA9 ∷ 0x31 ∷ 0x32 ∷ 0x33 ∷ 0x34 ∷ 0x35 ∷ []) ≡ 0xE9 ∷ 0x31 ∷ 0x32 ∷ 0x33 ∷ 0x34 ∷ []
   pub few_before : context_before (0xC3 ∷ 0xA9 ∷ 0x31 ∷ []) ≡ 0xE9 ∷ 0x31 ∷ []
-  pub few_behind : context_after (0xC3 ∷ 0xA9 ∷ 0x31 ∷ []) ≡ 0xE9 ∷ 0x31 ∷ []
+  pub few_after : context_after (0xC3 ∷ 0xA9 ∷ 0x31 ∷ []) ≡ 0xE9 ∷ 0x31 ∷ []
   pub none_before : context_before [] ≡ []
-  pub none_behind : context_after [] ≡ []
+  pub none_after : context_after [] ≡ []
 
 characters_of_texts : CharactersOfTexts
 unfolding chars
@@ -43,13 +43,13 @@ characters_of_texts = record {
   before = refl;
   behind = refl;
   five_before = refl;
-  five_behind = refl;
+  five_after = refl;
   six_before = refl;
-  six_behind = refl;
+  six_after = refl;
   few_before = refl;
-  few_behind = refl;
+  few_after = refl;
   none_before = refl;
-  none_behind = refl;
+  none_after = refl;
 }
 
 -- ---- graphemes
@@ -142,7 +142,7 @@ pub record GuessedScripts : Type 0 where
   pub specific : map is_specific (common ∷ inherited ∷ unknown ∷ latin ∷ []) ≡ false ∷ false ∷ false ∷ true ∷ []
   -- tags beside the three
   pub before_them : map is_specific (script 0x5A797978 ∷ script 0x5A696E67 ∷ script 0x5A7A7A79 ∷ []) ≡ true ∷ true ∷ true ∷ []
-  pub behind_them : map is_specific (script 0x5A79797A ∷ script 0x5A696E69 ∷ script 0x5A7A7A7B ∷ []) ≡ true ∷ true ∷ true ∷ []
+  pub after_them : map is_specific (script 0x5A79797A ∷ script 0x5A696E69 ∷ script 0x5A7A7A7B ∷ []) ≡ true ∷ true ∷ true ∷ []
   pub first_specific : guessed_script scripts (text (0x20 ∷ 0x301 ∷ 0xE000 ∷ 0x61 ∷ 0x5D0 ∷ [])) ≡ Some latin
   pub first_of_two : guessed_script scripts (text (0x5D0 ∷ 0x61 ∷ 0x61 ∷ [])) ≡ Some hebrew
   pub none_specific : guessed_script scripts (text (0x20 ∷ 0x301 ∷ 0xE000 ∷ [])) ≡ None
@@ -154,7 +154,7 @@ guessed_scripts : GuessedScripts
 guessed_scripts = record {
   specific = refl;
   before_them = refl;
-  behind_them = refl;
+  after_them = refl;
   first_specific = refl;
   first_of_two = refl;
   none_specific = refl;

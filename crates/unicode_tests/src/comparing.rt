@@ -27,7 +27,7 @@ pub fn rows_of<'a>(rt: &impl Abort, text: &'a str) -> &'a str {
 /// What stands before `mark` in a text, and after it.
 pub fn parts<'a>(rt: &impl Abort, text: &'a str, mark: &str) -> (&'a str, &'a str) {
     match text.split_once(mark) {
-        Some((before, behind)) => (before.trim(), behind.trim()),
+        Some((before, after)) => (before.trim(), after.trim()),
         None => rt.panic(text),
     }
 }

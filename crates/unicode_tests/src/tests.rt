@@ -25,7 +25,7 @@ enum Way {
 }
 
 /// The characters of a column after a base with a mark, as texts are normalised here.
-fn behind_base(rt: &(impl Abort + AllocGlobal), column: &str) -> Vec<char> {
+fn after_base(rt: &(impl Abort + AllocGlobal), column: &str) -> Vec<char> {
     let mut whole = Vec::new(rt.alloc());
     whole
         .extend_from_slice(&BASE_WITH_MARK)
@@ -36,7 +36,7 @@ fn behind_base(rt: &(impl Abort + AllocGlobal), column: &str) -> Vec<char> {
 
 /// What a column splits into.
 fn split_list(rt: &(impl Abort + AllocGlobal), column: &str) -> Vec<char> {
-    decomposed(rt, behind_base(rt, column).as_slice())
+    decomposed(rt, after_base(rt, column).as_slice())
 }
 
 /// The list that the normaliser makes of a text for a shaper of this preference.

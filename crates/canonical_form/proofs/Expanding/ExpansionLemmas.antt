@@ -68,60 +68,60 @@ is_supported-extended has_glyph b (Some xs) = list_all-append has_glyph xs (kept
 -- ---- the supported expansions of a character that splits
 
 -- an expansion of a first part, with the second part b put after it if that has a glyph
-abbrev pub put_behind : Bool → ℕ → Option (List ℕ) → Option (List ℕ)
-put_behind false b o = None
-put_behind true b o = option_map (λ xs. xs ++ kept_part b) o
+abbrev pub put_after : Bool → ℕ → Option (List ℕ) → Option (List ℕ)
+put_after false b o = None
+put_after true b o = option_map (λ xs. xs ++ kept_part b) o
 
-put_behind-or : (t : Bool) (b : ℕ) (o p : Option (List ℕ))
-    → option_or (put_behind t b o) (put_behind t b p) ≡ put_behind t b (option_or o p)
-put_behind-or false b o p = refl
-put_behind-or true b None p = refl
-put_behind-or true b (Some xs) p = refl
+put_after-or : (t : Bool) (b : ℕ) (o p : Option (List ℕ))
+    → option_or (put_after t b o) (put_after t b p) ≡ put_after t b (option_or o p)
+put_after-or false b o p = refl
+put_after-or true b None p = refl
+put_after-or true b (Some xs) p = refl
 
-put_behind-if : (s t : Bool) (b : ℕ) (o : Option (List ℕ))
-    → (if s && t then option_map (λ xs. xs ++ kept_part b) o else None) ≡ put_behind t b (if s then o else None)
-put_behind-if true true b o = refl
-put_behind-if true false b o = refl
-put_behind-if false true b o = refl
-put_behind-if false false b o = refl
+put_after-if : (s t : Bool) (b : ℕ) (o : Option (List ℕ))
+    → (if s && t then option_map (λ xs. xs ++ kept_part b) o else None) ≡ put_after t b (if s then o else None)
+put_after-if true true b o = refl
+put_after-if true false b o = refl
+put_after-if false true b o = refl
+put_after-if false false b o = refl
 
 module _ (split : ℕ → Option (ℕ × ℕ)) (has_glyph : ℕ → Bool) where
   pub supported-suc : (k c a b : ℕ) → split c ≡ Some (a, b)
-      → supported split has_glyph (suc k) c ≡ put_behind (list_all has_glyph (kept_part b)) b (supported split has_glyph k a)
+      → supported split has_glyph (suc k) c ≡ put_after (list_all has_glyph (kept_part b)) b (supported split has_glyph k a)
   supported-suc k c a b e =
       ap (λ o. if is_supported has_glyph o then o else None) (expansion-suc split k c a b e)
       ∙ ap (λ t. if t then option_map (λ xs. xs ++ kept_part b) (expansion split k a) else None)
       (is_supported-extended has_glyph b (expansion split k a))
-      ∙ put_behind-if (is_supported has_glyph (expansion split k a)) (list_all has_glyph (kept_part b)) b (expansion split k a)
+      ∙ put_after-if (is_supported has_glyph (expansion split k a)) (list_all has_glyph (kept_part b)) b (expansion split k a)
 
   pub supported-end : (k c : ℕ) → split c ≡ None → supported split has_glyph (suc k) c ≡ None
   supported-end k c e = ap (λ o. if is_supported has_glyph o then o else None) (expansion-end split k c e)
 
   pub greatest-suc : (n c a b : ℕ) → split c ≡ Some (a, b)
       → greatest_supported split has_glyph (suc n) c
-      ≡ put_behind (list_all has_glyph (kept_part b)) b
+      ≡ put_after (list_all has_glyph (kept_part b)) b
       (option_or (greatest_supported split has_glyph n a) (supported split has_glyph 0 a))
   greatest-suc zero c a b e = option_or-none (supported split has_glyph 1 c) ∙ supported-suc 0 c a b e
   greatest-suc (suc n) c a b e =
       ap₂ option_or (supported-suc (suc n) c a b e) (greatest-suc n c a b e)
-      ∙ put_behind-or (list_all has_glyph (kept_part b)) b (supported split has_glyph (suc n) a)
+      ∙ put_after-or (list_all has_glyph (kept_part b)) b (supported split has_glyph (suc n) a)
       (option_or (greatest_supported split has_glyph n a) (supported split has_glyph 0 a))
-      ∙ ap (put_behind (list_all has_glyph (kept_part b)) b)
+      ∙ ap (put_after (list_all has_glyph (kept_part b)) b)
       (sym (option_or-assoc (supported split has_glyph (suc n) a) (greatest_supported split has_glyph n a)
       (supported split has_glyph 0 a)))
 
   pub least-suc : (n c a b : ℕ) → split c ≡ Some (a, b)
       → least_supported split has_glyph (suc n) c
-      ≡ put_behind (list_all has_glyph (kept_part b)) b
+      ≡ put_after (list_all has_glyph (kept_part b)) b
       (option_or (supported split has_glyph 0 a) (least_supported split has_glyph n a))
   least-suc zero c a b e =
-      supported-suc 0 c a b e ∙ ap (put_behind (list_all has_glyph (kept_part b)) b)
+      supported-suc 0 c a b e ∙ ap (put_after (list_all has_glyph (kept_part b)) b)
       (sym (option_or-none (supported split has_glyph 0 a)))
   least-suc (suc n) c a b e =
       ap₂ option_or (least-suc n c a b e) (supported-suc (suc n) c a b e)
-      ∙ put_behind-or (list_all has_glyph (kept_part b)) b
+      ∙ put_after-or (list_all has_glyph (kept_part b)) b
       (option_or (supported split has_glyph 0 a) (least_supported split has_glyph n a)) (supported split has_glyph (suc n) a)
-      ∙ ap (put_behind (list_all has_glyph (kept_part b)) b)
+      ∙ ap (put_after (list_all has_glyph (kept_part b)) b)
       (option_or-assoc (supported split has_glyph 0 a) (least_supported split has_glyph n a)
       (supported split has_glyph (suc n) a))
 
@@ -162,25 +162,25 @@ module _ (D : Decompositions) (has_glyph : ℕ → Bool) (falling : FallsAlong D
   -- the greatest of c from that of its first part
   pub greatest-split : (c a b : ℕ) → D.split c ≡ Some (a, b)
       → greatest_supported D.split has_glyph (D.height c) c
-      ≡ put_behind (list_all has_glyph (kept_part b)) b
+      ≡ put_after (list_all has_glyph (kept_part b)) b
       (option_or (greatest_supported D.split has_glyph (D.height a) a) (supported D.split has_glyph 0 a))
   greatest-split c a b e =
       let lt : D.height a < D.height c = falling.falls c a b e in
       let m : ℕ = D.height c - 1 in
       let q : D.height c ≡ suc m = omega arith in
       ap (λ n. greatest_supported D.split has_glyph n c) q ∙ greatest-suc D.split has_glyph m c a b e
-      ∙ ap (λ o. put_behind (list_all has_glyph (kept_part b)) b (option_or o (supported D.split has_glyph 0 a)))
+      ∙ ap (λ o. put_after (list_all has_glyph (kept_part b)) b (option_or o (supported D.split has_glyph 0 a)))
       (greatest-enough (m - D.height a) m a (omega arith))
 
   -- the least of c from that of its first part
   pub least-split : (c a b : ℕ) → D.split c ≡ Some (a, b)
       → least_supported D.split has_glyph (D.height c) c
-      ≡ put_behind (list_all has_glyph (kept_part b)) b
+      ≡ put_after (list_all has_glyph (kept_part b)) b
       (option_or (supported D.split has_glyph 0 a) (least_supported D.split has_glyph (D.height a) a))
   least-split c a b e =
       let lt : D.height a < D.height c = falling.falls c a b e in
       let m : ℕ = D.height c - 1 in
       let q : D.height c ≡ suc m = omega arith in
       ap (λ n. least_supported D.split has_glyph n c) q ∙ least-suc D.split has_glyph m c a b e
-      ∙ ap (λ o. put_behind (list_all has_glyph (kept_part b)) b (option_or (supported D.split has_glyph 0 a) o))
+      ∙ ap (λ o. put_after (list_all has_glyph (kept_part b)) b (option_or (supported D.split has_glyph 0 a) o))
       (least-enough (m - D.height a) m a (omega arith))

@@ -7,12 +7,12 @@ use Rattle.std.specs.Option.{option_or}
 use Rattle.canonical_form.specs.Chain.{FallsAlong, kept_part}
 use Rattle.canonical_form.specs.Decompositions.{Decompositions}
 use Rattle.canonical_form.specs.Expansion.{supported, least_supported, greatest_supported}
-use Rattle.canonical_form.proofs.Expanding.ExpansionLemmas.{put_behind, least-split, least-end}
-use Rattle.canonical_form.proofs.Expanding.WalkLemmas.{found_parts, walked, reverse-more, found_parts-more, walk_found, walk_passed, walk_ended, walk_broken}
+use Rattle.canonical_form.proofs.Expanding.ExpansionLemmas.{put_after, least-split, least-end}
+use Rattle.canonical_form.proofs.Expanding.WalkLemmas.{found_parts, walked, reverse-more, found_parts-more, walk_found, walk_past, walk_ended, walk_broken}
 
 -- to put b after what the rest gives is to keep it with the second parts
 walked-pass : (found : Option (List ℕ)) (seconds : List ℕ) (b : ℕ) (r : Option (List ℕ))
-    → walked found seconds (put_behind true b r) ≡ walked found (seconds ++ kept_part b) r
+    → walked found seconds (put_after true b r) ≡ walked found (seconds ++ kept_part b) r
 walked-pass found seconds b None = refl
 walked-pass found seconds b (Some ys) =
     ap Some (append_assoc ys (kept_part b) (reverse seconds) ∙ ap (λ xs. ys ++ xs) (sym (reverse-more seconds b)))
@@ -32,12 +32,12 @@ module _ (split : ℕ → Option (ℕ × ℕ)) (has_glyph : ℕ → Bool) where
 module _ (D : Decompositions) (has_glyph : ℕ → Bool) (falling : FallsAlong D.split D.height) where
   least-at : (c a b : ℕ) (t u : Bool) → D.split c ≡ Some (a, b) → list_all has_glyph (kept_part b) ≡ t → has_glyph a ≡ u
       → least_supported D.split has_glyph (D.height c) c
-      ≡ put_behind t b (option_or (if u && true then Some (a ∷ []) else None) (least_supported D.split has_glyph (D.height a) a))
+      ≡ put_after t b (option_or (if u && true then Some (a ∷ []) else None) (least_supported D.split has_glyph (D.height a) a))
   least-at c a b t u e kept_b glyph =
       least-split D has_glyph falling c a b e
-      ∙ ap (λ t. put_behind t b (option_or (supported D.split has_glyph 0 a)
+      ∙ ap (λ t. put_after t b (option_or (supported D.split has_glyph 0 a)
       (least_supported D.split has_glyph (D.height a) a))) kept_b
-      ∙ ap (λ u. put_behind t b (option_or (if u && true then Some (a ∷ []) else None)
+      ∙ ap (λ u. put_after t b (option_or (if u && true then Some (a ∷ []) else None)
       (least_supported D.split has_glyph (D.height a) a))) glyph
 
   -- the shortest is found at the first point that has a glyph
@@ -61,14 +61,14 @@ module _ (D : Decompositions) (has_glyph : ℕ → Bool) (falling : FallsAlong D
       walk_found D has_glyph falling start found seconds after n c a b inv e kept_b grown glyph len
 
   -- both go on past a point that has none
-  pub sought_passed : (short : Bool) (start : Option (List ℕ)) (seconds after : List ℕ) (found : Option (ℕ × ℕ)) (c a b : ℕ) →
+  pub sought_past : (short : Bool) (start : Option (List ℕ)) (seconds after : List ℕ) (found : Option (ℕ × ℕ)) (c a b : ℕ) →
       start ≡ walked (found_parts found seconds) seconds (sought D.split has_glyph short (D.height c) c)
       → IfSome found (λ f. f.1 ≤ length seconds) → Some (a, b) ≡ D.split c → true ≡ list_all has_glyph (kept_part b)
       → after ≡ seconds ++ kept_part b → false ≡ has_glyph a →
       start ≡ walked (found_parts found after) after (sought D.split has_glyph short (D.height a) a)
-  sought_passed false start seconds after found c a b inv within e kept_b grown glyph =
-      walk_passed D has_glyph falling start seconds after found c a b inv within e kept_b grown glyph
-  sought_passed true start seconds after found c a b inv within e kept_b grown glyph =
+  sought_past false start seconds after found c a b inv within e kept_b grown glyph =
+      walk_past D has_glyph falling start seconds after found c a b inv within e kept_b grown glyph
+  sought_past true start seconds after found c a b inv within e kept_b grown glyph =
       rw (grown, found_parts-more found seconds (kept_part b) within)
       (inv ∙ ap (walked (found_parts found seconds) seconds) (least-at c a b true false (sym e) (sym kept_b) (sym glyph))
       ∙ walked-pass (found_parts found seconds) seconds b (least_supported D.split has_glyph (D.height a) a))

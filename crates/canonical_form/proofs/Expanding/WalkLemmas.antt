@@ -6,7 +6,7 @@ use Rattle.std.specs.Option.{option_map, option_or}
 use Rattle.canonical_form.specs.Chain.{FallsAlong, kept_part}
 use Rattle.canonical_form.specs.Decompositions.{Decompositions}
 use Rattle.canonical_form.specs.Expansion.{supported, greatest_supported}
-use Rattle.canonical_form.proofs.Expanding.ExpansionLemmas.{put_behind, greatest-split, greatest-end}
+use Rattle.canonical_form.proofs.Expanding.ExpansionLemmas.{put_after, greatest-split, greatest-end}
 
 -- what a walk that keeps second parts in order has found: nothing, or a point with so many of them after it, the last
 -- one first
@@ -36,14 +36,14 @@ abbrev found_at : Bool → ℕ → List ℕ → Option (List ℕ) → Option (Li
 found_at has_a a seconds found = if has_a then Some (a ∷ reverse seconds) else found
 
 walked-none : (t : Bool) (found : Option (List ℕ)) (seconds : List ℕ) (a b : ℕ)
-    → walked found seconds (put_behind true b (if t && true then Some (a ∷ []) else None))
+    → walked found seconds (put_after true b (if t && true then Some (a ∷ []) else None))
     ≡ found_at t a (seconds ++ kept_part b) found
 walked-none true found seconds a b = ap (λ xs. Some (a ∷ xs)) (sym (reverse-more seconds b))
 walked-none false found seconds a b = refl
 
 module _ (split : ℕ → Option (ℕ × ℕ)) (has_glyph : ℕ → Bool) where
   walked-step : (found : Option (List ℕ)) (seconds : List ℕ) (a b : ℕ) (r : Option (List ℕ))
-      → walked found seconds (put_behind true b (option_or r (supported split has_glyph 0 a)))
+      → walked found seconds (put_after true b (option_or r (supported split has_glyph 0 a)))
       ≡ walked (found_at (has_glyph a) a (seconds ++ kept_part b) found) (seconds ++ kept_part b) r
   walked-step found seconds a b None = walked-none (has_glyph a) found seconds a b
   walked-step found seconds a b (Some ys) =
@@ -63,7 +63,7 @@ module _ (D : Decompositions) (has_glyph : ℕ → Bool) (falling : FallsAlong D
       (greatest_supported D.split has_glyph (D.height a) a)
   walked-split found seconds c a b e h =
       ap (walked found seconds) (greatest-split D has_glyph falling c a b e
-      ∙ ap (λ t. put_behind t b (option_or (greatest_supported D.split has_glyph (D.height a) a)
+      ∙ ap (λ t. put_after t b (option_or (greatest_supported D.split has_glyph (D.height a) a)
       (supported D.split has_glyph 0 a))) h)
       ∙ walked-step D.split has_glyph found seconds a b (greatest_supported D.split has_glyph (D.height a) a)
 
@@ -79,12 +79,12 @@ module _ (D : Decompositions) (has_glyph : ℕ → Bool) (falling : FallsAlong D
       (greatest_supported D.split has_glyph (D.height a) a)) (sym glyph))
 
   -- the same, if a has none
-  pub walk_passed : (start : Option (List ℕ)) (seconds after : List ℕ) (found : Option (ℕ × ℕ)) (c a b : ℕ) →
+  pub walk_past : (start : Option (List ℕ)) (seconds after : List ℕ) (found : Option (ℕ × ℕ)) (c a b : ℕ) →
       start ≡ walked (found_parts found seconds) seconds (greatest_supported D.split has_glyph (D.height c) c)
       → IfSome found (λ f. f.1 ≤ length seconds) → Some (a, b) ≡ D.split c → true ≡ list_all has_glyph (kept_part b)
       → after ≡ seconds ++ kept_part b → false ≡ has_glyph a →
       start ≡ walked (found_parts found after) after (greatest_supported D.split has_glyph (D.height a) a)
-  walk_passed start seconds after found c a b inv within e kept_b grown glyph =
+  walk_past start seconds after found c a b inv within e kept_b grown glyph =
       rw (grown, found_parts-more found seconds (kept_part b) within)
       (inv ∙ walked-split (found_parts found seconds) seconds c a b (sym e) (sym kept_b)
       ∙ ap (λ t. walked (found_at t a (seconds ++ kept_part b) (found_parts found seconds)) (seconds ++ kept_part b)
@@ -96,5 +96,5 @@ module _ (D : Decompositions) (has_glyph : ℕ → Bool) (falling : FallsAlong D
       → false ≡ list_all has_glyph (kept_part b) → found ≡ start
   walk_broken start found seconds c a b inv e kept_b =
       sym (inv ∙ ap (walked found seconds) (greatest-split D has_glyph falling c a b (sym e)
-      ∙ ap (λ t. put_behind t b (option_or (greatest_supported D.split has_glyph (D.height a) a)
+      ∙ ap (λ t. put_after t b (option_or (greatest_supported D.split has_glyph (D.height a) a)
       (supported D.split has_glyph 0 a))) (sym kept_b)))

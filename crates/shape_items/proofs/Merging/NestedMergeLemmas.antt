@@ -16,8 +16,8 @@ min_same : (a b : ℕ) → a ≡ b → min a b ≡ b
 min_same a b e = grind (arith, nat_tests)
 
 -- the first of two items in one cluster adds nothing to the least
-least-behind : (x y : Item) (zs : List Item) → x.cluster ≡ y.cluster → least_cluster (x ∷ y ∷ zs) ≡ least_cluster (y ∷ zs)
-least-behind x y zs same = ap (λ c. fold (λ least item. min least item.cluster) c zs) (min_same x.cluster y.cluster same)
+least-after : (x y : Item) (zs : List Item) → x.cluster ≡ y.cluster → least_cluster (x ∷ y ∷ zs) ≡ least_cluster (y ∷ zs)
+least-after x y zs same = ap (λ c. fold (λ least item. min least item.cluster) c zs) (min_same x.cluster y.cluster same)
 
 pub slice-first : (xs : List Item) (k end : ℕ) (d : Item) → k < end → end ≤ length xs
     → slice_range xs k end ≡ get_or xs k d ∷ slice_range xs (k + 1) end
@@ -30,9 +30,9 @@ put_in-same : (c : ℕ) (x : Item) → x.cluster ≡ c → put_in c x ≡ x
 put_in-same c x is = grind (arith, nat_tests)
 
 -- a put over items the first of which has that cluster
-put_range-behind : (k b c : ℕ) (xs : List Item) → k < b → b ≤ length xs → cluster_at xs k ≡ c
+put_range-after : (k b c : ℕ) (xs : List Item) → k < b → b ≤ length xs → cluster_at xs k ≡ c
     → put_range k b c xs ≡ put_range (k + 1) b c xs
-put_range-behind k b c xs lt within is =
+put_range-after k b c xs lt within is =
     let d = new_item 0 0 in
     let x = get_or xs k d in
     let size : k < length xs = omega arith in
@@ -45,9 +45,9 @@ put_range-behind k b c xs lt within is =
     ∙ ap (λ l. l ++ later) (sym front)
 
 -- if the first of the items isn't in the least cluster, the growth from the next one is one more
-growth_left-behind : (xs : List Item) (k least : ℕ) → k + 1 < length xs → Joined xs k → (cluster_at xs k == least) ≡ false
+growth_left-after : (xs : List Item) (k least : ℕ) → k + 1 < length xs → Joined xs k → (cluster_at xs k == least) ≡ false
     → growth_left xs (k + 1) least ≡ 1 + growth_left xs k least
-growth_left-behind xs k least lt joined not_least =
+growth_left-after xs k least lt joined not_least =
     let d = new_item 0 0 in
     let first = cluster_at xs k in
     let back : k + 1 - 1 ≡ k = omega arith in
@@ -71,35 +71,35 @@ module _ (xs : List Item) (k end : ℕ) (room : k + 2 < end) (within : end ≤ l
       sym (get_or-map (λ (item : Item). item.cluster) xs k d 0 (omega arith)) ∙ joined
       ∙ get_or-map (λ (item : Item). item.cluster) xs (k + 1) d 0 (omega arith) in
       ap least_cluster (slice-first xs k end d (omega arith) within ∙ ap (λ l. get_or xs k d ∷ l) next)
-      ∙ least-behind (get_or xs k d) (get_or xs (k + 1) d) (slice_range xs (k + 1 + 1) end) same
+      ∙ least-after (get_or xs k d) (get_or xs (k + 1) d) (slice_range xs (k + 1 + 1) end) same
       ∙ ap least_cluster (sym next)
 
-  put-behind : (least : ℕ)
+  put-after : (least : ℕ)
       → put_range (k - growth_left xs k least) (end + growth_right xs (end - 1) least) least xs
       ≡ put_range (k + 1 - growth_left xs (k + 1) least) (end + growth_right xs (end - 1) least) least xs
-  put-behind least =
+  put-after least =
       let b = end + growth_right xs (end - 1) least in
       let right : end - 1 + growth_right xs (end - 1) least < length xs = growth_right-within xs (end - 1) least (omega arith) in
       elim (cases_Bool (cluster_at xs k == least)) [
         | inl is_least ↦
             let none : k - growth_left xs k least ≡ k = rw is_least (omega arith) in
             let none_next : k + 1 - growth_left xs (k + 1) least ≡ k + 1 = rw (sym joined, is_least) (omega arith) in
-            rw (none, none_next) (put_range-behind k b least xs (omega arith) (omega arith) (eqb-true _ _ is_least))
+            rw (none, none_next) (put_range-after k b least xs (omega arith) (omega arith) (eqb-true _ _ is_least))
         | inr not_least ↦
             let more : growth_left xs (k + 1) least
-            ≡ 1 + growth_left xs k least = growth_left-behind xs k least (omega arith) joined not_least in
+            ≡ 1 + growth_left xs k least = growth_left-after xs k least (omega arith) joined not_least in
             let e : k - growth_left xs k least ≡ k + 1 - growth_left xs (k + 1) least = omega arith in
             ap (λ a. put_range a b least xs) e
       ]
 
   -- a span that begins one item later, among those of one cluster, makes the same of the list
-  merge-behind : merge k end xs ≡ merge (k + 1) end xs
-  merge-behind =
+  merge-after : merge k end xs ≡ merge (k + 1) end xs
+  merge-after =
       let long : nat_lt (k + 1) end ≡ true = grind (arith, nat_tests) in
       let long_next : nat_lt (k + 1 + 1) end ≡ true = grind (arith, nat_tests) in
       let least = least_cluster (slice_range xs k end) in
       merge_long k end xs long
-      ∙ put-behind least
+      ∙ put-after least
       ∙ ap (λ l. put_range (k + 1 - growth_left xs (k + 1) l) (end + growth_right xs (end - 1) l) l xs) least_same
       ∙ sym (merge_long (k + 1) end xs long_next)
 
@@ -111,5 +111,5 @@ merge-from_later start zero end xs room within joined = ap (λ s. merge s end xs
 merge-from_later start (suc count) end xs room within joined =
     let e : start + count + 1 ≡ start + suc count = omega arith in
     merge-from_later start count end xs (omega arith) within (λ k ge lt. joined k ge (omega arith))
-    ∙ merge-behind xs (start + count) end (omega arith) within (joined (start + count) (omega arith) (omega arith))
+    ∙ merge-after xs (start + count) end (omega arith) within (joined (start + count) (omega arith) (omega arith))
     ∙ ap (λ s. merge s end xs) e

@@ -113,13 +113,13 @@ module _ (infos given : List Item) (start end first least to : ℕ) (long : star
   abbrev all : List Item
   all = given ++ drop start infos
 
-  same_behind : drop start all ≡ drop start infos
-  same_behind = drop_at given (drop start infos) start size
+  same_after : drop start all ≡ drop start infos
+  same_after = drop_at given (drop start infos) start size
 
   -- the items before the span
   put_left : put_range (start - growth_left all start least) start least given ≡ grown_left first least given
   put_left =
-      let read : slice_index (clusters all) start ≡ first = cluster-from all infos start same_behind start (omega arith) ∙ sym first_is in
+      let read : slice_index (clusters all) start ≡ first = cluster-from all infos start same_after start (omega arith) ∙ sym first_is in
       let head : take start all ≡ given = take_at given (drop start infos) start size in
       let le : least ≤ first = rw (least_is, first_is) (least-le_first infos start end (omega arith) within) in
       elim (cases_Bool (nat_lt least first)) [
@@ -134,10 +134,10 @@ module _ (infos given : List Item) (start end first least to : ℕ) (long : star
   pub merge-standing : grown_left first least given ++ drop start (put_range start to least infos) ≡ merge start end all
   merge-standing =
       let above : nat_lt (start + 1) end ≡ true = grind (arith, nat_tests) in
-      let same_least : least_cluster (slice_range all start end) ≡ least = ap (λ z. least_cluster (take (end - start) z)) same_behind
+      let same_least : least_cluster (slice_range all start end) ≡ least = ap (λ z. least_cluster (take (end - start) z)) same_after
       ∙ sym least_is in
       let right : growth_right all (end - 1) least
-      ≡ growth_right infos (end - 1) least = growth_right-from all infos start same_behind (end - 1) least (omega arith) in
+      ≡ growth_right infos (end - 1) least = growth_right-from all infos start same_after (end - 1) least (omega arith) in
       sym (merge_long start end all above
       ∙ ap (λ l. put_range (start - growth_left all start l) (end + growth_right all (end - 1) l) l all) same_least
       ∙ ap (λ n. put_range (start - growth_left all start least) n least all) (ap (λ n. end + n) right ∙ sym to_is)

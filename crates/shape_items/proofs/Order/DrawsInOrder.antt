@@ -51,8 +51,8 @@ DrawsInOrder-then xs ys zs f g = record {
 }
 
 -- after one more at the front
-pub DrawsInOrder-behind : (x : ℕ) (xs ys : List ℕ) → DrawsInOrder xs ys → DrawsInOrder (x ∷ xs) ys
-DrawsInOrder-behind x xs ys h = record {
+pub DrawsInOrder-after : (x : ℕ) (xs ys : List ℕ) → DrawsInOrder xs ys → DrawsInOrder (x ∷ xs) ys
+DrawsInOrder-after x xs ys h = record {
   place = λ k. suc (h.place k);
   within = λ k lt. omega (arith, h.within k lt);
   same = λ k lt. h.same k lt;

@@ -16,21 +16,21 @@ abbrev pub AreOneCluster : List (List Item) → Type 0
 AreOneCluster [] = Unit {0}
 AreOneCluster (part ∷ parts) = IsOneCluster part × AreOneCluster parts
 
-behind-replicate : (n c : ℕ) → replicate n c ++ (c ∷ []) ≡ c ∷ replicate n c
-behind-replicate zero c = refl
-behind-replicate (suc n) c = ap (λ (cs : List ℕ). c ∷ cs) (behind-replicate n c)
+after-replicate : (n c : ℕ) → replicate n c ++ (c ∷ []) ≡ c ∷ replicate n c
+after-replicate zero c = refl
+after-replicate (suc n) c = ap (λ (cs : List ℕ). c ∷ cs) (after-replicate n c)
 
 reverse-replicate : (n c : ℕ) → reverse (replicate n c) ≡ replicate n c
 reverse-replicate zero c = refl
 reverse-replicate (suc n) c =
-    reverse-append (c ∷ []) (replicate n c) ∙ ap (λ (cs : List ℕ). cs ++ (c ∷ [])) (reverse-replicate n c) ∙ behind-replicate n c
+    reverse-append (c ∷ []) (replicate n c) ∙ ap (λ (cs : List ℕ). cs ++ (c ∷ [])) (reverse-replicate n c) ∙ after-replicate n c
 
 one_cluster-reverse : (part : List Item) → IsOneCluster part → reverse (clusters part) ≡ clusters part
 one_cluster-reverse part (c, is) = ap (λ (cs : List ℕ). reverse cs) is ∙ reverse-replicate (length part) c ∙ sym is
 
-whole-behind : (parts : List (List Item)) (part : List Item)
+whole-after : (parts : List (List Item)) (part : List Item)
     → clusters (whole (parts ++ (part ∷ []))) ≡ clusters (whole parts) ++ clusters part
-whole-behind parts part =
+whole-after parts part =
     ap clusters (flat_map-append (λ (p : List Item). p) parts (part ∷ []) ∙ ap (λ (xs : List Item). whole parts ++ xs) (append-nil part))
     ∙ map-append (λ (item : Item). item.cluster) (whole parts) part
 
@@ -40,7 +40,7 @@ pub clusters-reversed : (parts : List (List Item)) → AreOneCluster parts
 clusters-reversed [] one = refl
 clusters-reversed (part ∷ parts) one =
     ap (λ (ps : List (List Item)). clusters (whole ps)) (reverse-append (part ∷ []) parts)
-    ∙ whole-behind (reverse parts) part
+    ∙ whole-after (reverse parts) part
     ∙ ap (λ (cs : List ℕ). cs ++ clusters part) (clusters-reversed parts one.1)
     ∙ ap (λ (cs : List ℕ). reverse (clusters (whole parts)) ++ cs) (sym (one_cluster-reverse part one.0))
     ∙ sym (reverse-append (clusters part) (clusters (whole parts)))

@@ -68,7 +68,7 @@ fn grow_left(kept: &mut [hb_glyph_info_t], starts: &[usize], first: u32, least: 
 }
 
 /// Merges a span, if the items before it stand as these runs; gives how many runs there are.
-fn merge_behind(infos: &mut [hb_glyph_info_t], starts: &[usize], start: usize, end: usize) -> usize
+fn merge_after(infos: &mut [hb_glyph_info_t], starts: &[usize], start: usize, end: usize) -> usize
     requires ordered { start ≤ end }
     requires within { end ≤ length infos.old }
     requires stands { (given : List Item) × StandsFor (take start infos.old) starts.now given }
@@ -100,7 +100,7 @@ pub fn merge_each(infos: &mut [hb_glyph_info_t], starts: &mut [usize], spans: &[
     let mut runs = 0;
     for (start, end) in spans {
         runs = open_runs(infos, starts, runs, kept, *start);
-        runs = merge_behind(infos, &starts[..runs], *start, *end);
+        runs = merge_after(infos, &starts[..runs], *start, *end);
         kept = *start;
     }
     write_runs(&mut infos[..kept], &starts[..runs]);
@@ -127,7 +127,7 @@ pub fn merge_graphemes(infos: &mut [hb_glyph_info_t], starts: &mut [usize])
         let end = last + 1;
         if ends_grapheme(infos, end) {
             runs = open_runs(infos, starts, runs, kept, start);
-            runs = merge_behind(infos, &starts[..runs], start, end);
+            runs = merge_after(infos, &starts[..runs], start, end);
             kept = start;
             start = end;
         }

@@ -60,9 +60,9 @@ module _ {X : Type 0} where
   before_swap [] start i j low_i low_j = refl
   before_swap (d ∷ xs) start i j low_i low_j = take-set-le start _ j _ low_j ∙ take-set-le start (d ∷ xs) i _ low_i
 
-  behind_swap : (xs : List X) (end i j : ℕ) → i < end → j < end → drop end (swap xs i j) ≡ drop end xs
-  behind_swap [] end i j high_i high_j = refl
-  behind_swap (d ∷ xs) end i j high_i high_j = drop-set-lt end _ j _ high_j ∙ drop-set-lt end (d ∷ xs) i _ high_i
+  after_swap : (xs : List X) (end i j : ℕ) → i < end → j < end → drop end (swap xs i j) ≡ drop end xs
+  after_swap [] end i j high_i high_j = refl
+  after_swap (d ∷ xs) end i j high_i high_j = drop-set-lt end _ j _ high_j ∙ drop-set-lt end (d ∷ xs) i _ high_i
 
   -- a write to a range is a write to the list
   pub range_set : (xs : List X) (start n k : ℕ) (x : X) → k < n
@@ -106,7 +106,7 @@ module _ {X : Type 0} where
         before = before_swap xs start i j low_i low_j;
         range = IsPermutation-swap (slice_range xs start end) (slice_range (swap xs i j) start end) (i - start) (j - start) (omega arith)
             (omega arith) at;
-        behind = behind_swap xs end i j high_i high_j;
+        behind = after_swap xs end i j high_i high_j;
       }
 
 -- ---- what each step keeps holds in the end
@@ -152,12 +152,12 @@ module _ (start end : ℕ) (b : Buffer) (within : end ≤ length b.items) where
       (λ x i item ccc low high inside is mark so_far. so_far) steps within refl
 
   -- what depends on neither clusters nor the defined flags stays after the range
-  pub Reorders-behind : {B : Type 0} (key : Item → B) → IsKey key → {c : Buffer} → Reorders start end b c
+  pub Reorders-after : {B : Type 0} (key : Item → B) → IsKey key → {c : Buffer} → Reorders start end b c
       → drop end (map key c.items) ≡ drop end (map key b.items)
-  Reorders-behind key is_key steps =
+  Reorders-after key is_key steps =
       kept_by_steps start end (λ x. drop end (map key x.items) ≡ drop end (map key b.items))
       (λ x i j low_i high_i low_j high_j inside so_far.
-      drop-map key end (swap x.items i j) ∙ ap (map key) (behind_swap x.items end i j high_i high_j) ∙ sym (drop-map key end x.items)
+      drop-map key end (swap x.items i j) ∙ ap (map key) (after_swap x.items end i j high_i high_j) ∙ sym (drop-map key end x.items)
       ∙ so_far)
       (λ x from to low ordered high inside so_far. ap (drop end) (keys-merge_clusters key is_key from to x) ∙ so_far)
       (λ x i item ccc low high inside is mark so_far.

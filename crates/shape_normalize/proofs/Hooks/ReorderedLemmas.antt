@@ -15,7 +15,7 @@ use Rattle.shape_items.proofs.Merging.KeyLemmas.{IsKey, IsKey-ccc, IsKey-unflagg
 use Rattle.shape_plan.specs.Reorder.{IsRunInOrder, with_ccc, ccc_set, exchanged, Reorders}
 use Rattle.shape_normalize.specs.Reordered.{unmerged, without_ccc, ReordersRun}
 use Rattle.shape_normalize.proofs.Normalized.NormalFlagLemmas.{flags-Reorders}
-use Rattle.shape_normalize.proofs.Hooks.ReorderLemmas.{PermutesRange-map, swap_permutes, kept_by_steps, without_items-Reorders, Reorders-before, Reorders-behind, Reorders-permutes, range_set}
+use Rattle.shape_normalize.proofs.Hooks.ReorderLemmas.{PermutesRange-map, swap_permutes, kept_by_steps, without_items-Reorders, Reorders-before, Reorders-after, Reorders-permutes, range_set}
 use Rattle.shape_normalize.proofs.RoundTwo.RunMarkLemmas.{All_unmapped}
 use Rattle.shape_normalize.proofs.RoundTwo.SpanLemmas.{map-slice_range}
 
@@ -110,7 +110,7 @@ ReordersRun-steps start end b c run steps =
           (marks-steps start end b ordered run.within steps (rw (← map-slice_range ccc_of_item b.items start end) marks)));
       before = sym (take-map unmerged start c.items) ∙ Reorders-before start end b run.within unmerged IsKey-unflagged steps
           ∙ take-map unmerged start b.items;
-      behind = sym (drop-map unmerged end c.items) ∙ Reorders-behind start end b run.within unmerged IsKey-unflagged steps
+      behind = sym (drop-map unmerged end c.items) ∙ Reorders-after start end b run.within unmerged IsKey-unflagged steps
           ∙ drop-map unmerged end b.items;
       scratch = flags_come-steps start end b ordered run.within steps;
       flags = flags-Reorders start end b run.within steps;

@@ -10,7 +10,7 @@ use Rattle.shape_buffer.specs.Keepers.{IsClusterKeeper}
 use Rattle.shape_items.specs.Items.{Item, is_mark_item}
 use Rattle.shape_common.specs.declared.text_types.GlyphId.{GlyphId}
 use Rattle.canonical_form.proofs.Lists.DividedLemmas.{values-divided}
-use Rattle.shape_items.proofs.Order.DrawsInOrder.{DrawsInOrder, DrawsInOrder-behind, DrawsInOrder-again, KeepsClusters-from_draws}
+use Rattle.shape_items.proofs.Order.DrawsInOrder.{DrawsInOrder, DrawsInOrder-after, DrawsInOrder-again, KeepsClusters-from_draws}
 use Rattle.shape_buffer.proofs.Steps.KeeperLemmas.{KeepsClusters-then}
 use Rattle.shape_items.proofs.MergingInOrder.EachSpanLemmas.{all_merged_keep}
 use Rattle.shape_plan.specs.Rules.{Rules}
@@ -48,7 +48,7 @@ module _ (rules : Rules) where
       ∷ []) (clusters (option_map_or (map (part_item rules.unicode rules.face.nominal_glyph item)) found
       (whole_item rules invisible item ∷ [])))
   draws_found invisible item None = rw (cluster-whole_item invisible item) (DrawsBefore-same (item.cluster ∷ []))
-  draws_found invisible item (Some cs) = λ from drawn h. draws_parts item cs from drawn (DrawsInOrder-behind item.cluster from drawn h)
+  draws_found invisible item (Some cs) = λ from drawn h. draws_parts item cs from drawn (DrawsInOrder-after item.cluster from drawn h)
 
   draws_expanded_items : (invisible : Option GlyphId) (short : Bool) (items : List Item)
       → DrawsBefore (clusters items) (clusters (flat_map (expanded_item rules invisible short) items))
@@ -75,7 +75,7 @@ module _ (rules : Rules) where
             ∷ marked_selector not_found (skipped_item rules.face.nominal_glyph v) ∷ map (skipped_item rules.face.nominal_glyph) rest
       ]))) [
         | Some g ↦ rw (clusters-skipped rest) (λ from drawn h. DrawsInOrder-again x.cluster _ _
-            (DrawsInOrder-behind x.cluster _ _ (DrawsInOrder-behind v.cluster _ _ (DrawsBefore-same (clusters rest) from drawn h))))
+            (DrawsInOrder-after x.cluster _ _ (DrawsInOrder-after v.cluster _ _ (DrawsBefore-same (clusters rest) from drawn h))))
         | None ↦ rw (clusters-skipped rest) (DrawsBefore-same (clusters (x ∷ v ∷ rest)))
       ]
 

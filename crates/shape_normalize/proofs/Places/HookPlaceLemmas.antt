@@ -21,7 +21,7 @@ use Rattle.shape_normalize.proofs.Hooks.ReorderLemmas.{LawfulReorder, PermutesRa
 use Rattle.shape_normalize.proofs.Hooks.ReorderedLemmas.{IsKey-without_ccc}
 use Rattle.shape_normalize.proofs.RoundTwo.RunMarkLemmas.{AreMarks, written_part}
 use Rattle.shape_normalize.proofs.RoundTwo.RunsLemmas.{IsRun}
-use Rattle.shape_normalize.proofs.RoundTwo.SettleLemmas.{drop_behind, run_placed, merged_length, length-run_placed, settled_cases, kept_by_marks_ordered, Reorders-run_reordered, run_placed-in_order}
+use Rattle.shape_normalize.proofs.RoundTwo.SettleLemmas.{drop_after, run_placed, merged_length, length-run_placed, settled_cases, kept_by_marks_ordered, Reorders-run_reordered, run_placed-in_order}
 use Rattle.shape_normalize.proofs.RoundTwo.SpanLemmas.{keys-spans_merged, map-slice_range}
 
 -- ---- permutations
@@ -67,7 +67,7 @@ module _ {A : Type 0} (xs ys : List A) (start end : ℕ) (ordered : start ≤ en
         before = ap (λ n. take n (take start xs ++ (ys ++ drop end xs))) (sym front)
             ∙ take-append_seam (take start xs) (ys ++ drop end xs);
         range = subst (IsPermutation (slice_range xs start end)) (sym (written_part xs ys start end ordered within as_many)) moved;
-        behind = drop_behind xs ys start end end ordered within as_many (omega arith);
+        behind = drop_after xs ys start end end ordered within as_many (omega arith);
       }
 
 -- if values are permuted in a range, so are the things that they are values of

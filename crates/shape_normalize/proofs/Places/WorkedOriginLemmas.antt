@@ -25,7 +25,7 @@ places_worked = record {
   variation_sequence = refl;
   no_variation_sequence = refl;
   second_selector = refl;
-  behind_variation_sequence = refl;
+  after_variation_sequence = refl;
   before_variation_sequence = refl;
   lone_selector = refl;
 }
@@ -114,9 +114,9 @@ mark_of zero k lt = absurd (omega arith)
 mark_of (suc n) zero lt = omega arith
 mark_of (suc n) (suc k) lt = mark_of n k (omega arith)
 
-mark_behind_first : (n k : ℕ) → 1 ≤ k → k ≤ n → 0 < ccc_of_item (item_at (with_marks n) k)
-mark_behind_first n zero low high = absurd (omega arith)
-mark_behind_first n (suc k) low high = mark_of n k (omega arith)
+mark_after_first : (n k : ℕ) → 1 ≤ k → k ≤ n → 0 < ccc_of_item (item_at (with_marks n) k)
+mark_after_first n zero low high = absurd (omega arith)
+mark_after_first n (suc k) low high = mark_of n k (omega arith)
 
 run_of_32 : AreInOneRun (with_marks 32) 1 32
 run_of_32 = inr (record {
@@ -124,7 +124,7 @@ run_of_32 = inr (record {
   end = 33;
   run = record {
     short = omega arith;
-    marks = λ k from to. mark_behind_first 32 k from (omega arith);
+    marks = λ k from to. mark_after_first 32 k from (omega arith);
     before = before_first (with_marks 32) refl;
     behind = refl;
   };
@@ -142,7 +142,7 @@ run_of_33 (inr shared) =
     elim (cases_lt shared.start 1) [
       | inl first ↦ let no : 0 < 0 = shared.run.marks 0 (omega arith) (omega arith) in omega (arith, no)
       | inr behind ↦
-          let mark = mark_behind_first 33 shared.end (omega arith) (omega arith) in
+          let mark = mark_after_first 33 shared.end (omega arith) (omega arith) in
           let none = shared.run.behind in
           omega (arith, mark, none)
     ]

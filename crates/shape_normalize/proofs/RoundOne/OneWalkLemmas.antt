@@ -17,7 +17,7 @@ use Rattle.shape_common.specs.declared.flags.ScratchFlags.{ScratchFlags}
 use Rattle.shape_common.specs.declared.text_types.GlyphId.{GlyphId}
 use Rattle.shape_plan.specs.Rules.{Rules}
 use Rattle.shape_normalize.specs.RoundOne.{expanded_item, seen_expanded, sequences, is_with_marks, is_selector_item, is_selector_sequence, sequence_items, seen_sequence, variation_sequences_from, variation_sequences_merged, expanded, round_one}
-use Rattle.shape_normalize.specs.OneWalk.{HasNoSelectorSequence, item_becomes, stands_with_marks, expanded_behind, seen_behind}
+use Rattle.shape_normalize.specs.OneWalk.{HasNoSelectorSequence, item_becomes, stands_with_marks, expanded_after, seen_after}
 use Rattle.shape_normalize.specs.RoundTwo.{has_mark_past_first}
 use Rattle.shape_normalize.proofs.RoundOne.SequenceLemmas.{each_part, each_weaker, flat_map_same, sequence_becomes, sequences-expanded}
 
@@ -27,8 +27,8 @@ use Rattle.shape_normalize.proofs.RoundOne.SequenceLemmas.{each_part, each_weake
 at_place : (items : List Item) (i : ℕ) (x : Item) → i < length items → x ≡ get_or items i x → drop i items ≡ x ∷ drop (i + 1) items
 at_place items i x within at = rw (add-one i) (drop-cons items i x within ∙ ap (λ y. y ∷ drop (suc i) items) (sym at))
 
-behind_first : (i : ℕ) → (i + 1 == 0) ≡ false
-behind_first i = grind (arith, nat_tests)
+after_first : (i : ℕ) → (i + 1 == 0) ≡ false
+after_first i = grind (arith, nat_tests)
 
 -- a limit that a part passes is passed by the whole
 pub passed_by_more : (front back whole : List Item) (limit : ℕ) → front ++ back ≡ whole → limit < length front → limit < length whole
@@ -36,47 +36,47 @@ passed_by_more front back whole limit is skipped = omega (arith, ap length is, l
 
 module _ (rules : Rules) (invisible : Option GlyphId) where
   -- the items after a place become what the item there becomes, and then what those after it become
-  pub behind_here : (items : List Item) (i : ℕ) (x : Item) → i < length items → x ≡ get_or items i x
-      → expanded_behind rules invisible (i == 0) (drop i items)
+  pub after_here : (items : List Item) (i : ℕ) (x : Item) → i < length items → x ≡ get_or items i x
+      → expanded_after rules invisible (i == 0) (drop i items)
       ≡ expanded_item rules invisible (rules.short (stands_with_marks (i == 0) (drop i items))) x
-      ++ expanded_behind rules invisible (i + 1 == 0) (drop (i + 1) items)
-  behind_here items i x within at = rw (behind_first i, at_place items i x within at) refl
+      ++ expanded_after rules invisible (i + 1 == 0) (drop (i + 1) items)
+  after_here items i x within at = rw (after_first i, at_place items i x within at) refl
 
   pub seen_here : (items : List Item) (i : ℕ) (x : Item) (flags : ScratchFlags) → i < length items → x ≡ get_or items i x
-      → seen_behind rules invisible (i == 0) flags (drop i items)
-      ≡ seen_behind rules invisible (i + 1 == 0)
+      → seen_after rules invisible (i == 0) flags (drop i items)
+      ≡ seen_after rules invisible (i + 1 == 0)
       (seen_expanded rules invisible (rules.short (stands_with_marks (i == 0) (drop i items))) flags x) (drop (i + 1) items)
-  seen_here items i x flags within at = rw (behind_first i, at_place items i x within at) refl
+  seen_here items i x flags within at = rw (after_first i, at_place items i x within at) refl
 
   -- an item that stays whole is written where it stands
   pub placed_more : (items : List Item) (i : ℕ) (x w : Item) → i < length items → x ≡ get_or items i x
       → expanded_item rules invisible (rules.short (stands_with_marks (i == 0) (drop i items))) x ≡ w ∷ []
-      → take (i + 1) (set items i w) ++ expanded_behind rules invisible (i + 1 == 0) (drop (i + 1) (set items i w))
-      ≡ take i items ++ expanded_behind rules invisible (i == 0) (drop i items)
+      → take (i + 1) (set items i w) ++ expanded_after rules invisible (i + 1 == 0) (drop (i + 1) (set items i w))
+      ≡ take i items ++ expanded_after rules invisible (i == 0) (drop i items)
   placed_more items i x w within at stays =
-      let rest = expanded_behind rules invisible (i + 1 == 0) (drop (i + 1) items) in
+      let rest = expanded_after rules invisible (i + 1 == 0) (drop (i + 1) items) in
       let front : take (i + 1) (set items i w) ≡ take i items ++ w ∷ [] = take_more_set items i w within in
       let back : drop (i + 1) (set items i w) ≡ drop (i + 1) items = drop-set-lt (i + 1) items i w (omega arith) in
-      ap₂ (λ xs ys. xs ++ expanded_behind rules invisible (i + 1 == 0) ys) front back
+      ap₂ (λ xs ys. xs ++ expanded_after rules invisible (i + 1 == 0) ys) front back
       ∙ append_assoc (take i items) (w ∷ []) rest
       ∙ ap (λ xs. take i items ++ (xs ++ rest)) (sym stays)
-      ∙ ap (λ xs. take i items ++ xs) (sym (behind_here items i x within at))
+      ∙ ap (λ xs. take i items ++ xs) (sym (after_here items i x within at))
 
   pub seen_more : (items : List Item) (i : ℕ) (x w : Item) (flags : ScratchFlags) → i < length items → x ≡ get_or items i x
-      → seen_behind rules invisible (i + 1 == 0)
+      → seen_after rules invisible (i + 1 == 0)
       (seen_expanded rules invisible (rules.short (stands_with_marks (i == 0) (drop i items))) flags x) (drop (i + 1) (set items i w))
-      ≡ seen_behind rules invisible (i == 0) flags (drop i items)
+      ≡ seen_after rules invisible (i == 0) flags (drop i items)
   seen_more items i x w flags within at =
       let back : drop (i + 1) (set items i w) ≡ drop (i + 1) items = drop-set-lt (i + 1) items i w (omega arith) in
       rw back (sym (seen_here items i x flags within at))
 
   -- if nothing stands after a place
   pub placed_all : (items : List Item) (n : ℕ) (first : Bool) → length items ≤ n
-      → take n items ++ expanded_behind rules invisible first (drop n items) ≡ items
+      → take n items ++ expanded_after rules invisible first (drop n items) ≡ items
   placed_all items n first all = rw (take_all n items all, drop_all n items all) (append-nil items)
 
   pub seen_all : (items : List Item) (n : ℕ) (first : Bool) (flags : ScratchFlags) → length items ≤ n
-      → seen_behind rules invisible first flags (drop n items) ≡ flags
+      → seen_after rules invisible first flags (drop n items) ≡ flags
   seen_all items n first flags all = rw (drop_all n items all) refl
 
   -- ---- round one by items
@@ -88,11 +88,11 @@ module _ (rules : Rules) (invisible : Option GlyphId) where
   abbrev taken : ScratchFlags → List (ScratchFlags → ScratchFlags) → ScratchFlags
   taken flags list = fold (λ flags step. step flags) flags list
 
-  taken-behind : (first : Bool) (flags : ScratchFlags) (items : List Item)
-      → taken flags (expanded_from is_mark_item steps first items) ≡ seen_behind rules invisible first flags items
-  taken-behind first flags [] = refl
-  taken-behind first flags (x ∷ rest) =
-      taken-behind false (seen_expanded rules invisible (rules.short (stands_with_marks first (x ∷ rest))) flags x) rest
+  taken-after : (first : Bool) (flags : ScratchFlags) (items : List Item)
+      → taken flags (expanded_from is_mark_item steps first items) ≡ seen_after rules invisible first flags items
+  taken-after first flags [] = refl
+  taken-after first flags (x ∷ rest) =
+      taken-after false (seen_expanded rules invisible (rules.short (stands_with_marks first (x ∷ rest))) flags x) rest
 
   taken-append : (flags : ScratchFlags) (front back : List (ScratchFlags → ScratchFlags)) → taken flags (front ++ back) ≡ taken (taken flags front) back
   taken-append flags [] back = refl
@@ -118,7 +118,7 @@ module _ (rules : Rules) (invisible : Option GlyphId) where
     parts_none = recursion_from_All (λ sequence. is_selector_sequence rules.unicode sequence ≡ false) (sequences items) none
 
     pub expanded-one_walk : (not_found : Option GlyphId)
-        → expanded rules invisible not_found items ≡ expanded_behind rules invisible true items
+        → expanded rules invisible not_found items ≡ expanded_after rules invisible true items
     expanded-one_walk not_found =
         flat_map_same (sequence_items rules invisible not_found) (sequence_becomes (item_becomes rules invisible)) (sequences items)
         (each_weaker (λ sequence. is_selector_sequence rules.unicode sequence ≡ false)
@@ -127,9 +127,9 @@ module _ (rules : Rules) (invisible : Option GlyphId) where
         ∙ sequences-expanded (item_becomes rules invisible) items
 
     pub seen-one_walk : (flags : ScratchFlags)
-        → fold (seen_sequence rules invisible) flags (sequences items) ≡ seen_behind rules invisible true flags items
+        → fold (seen_sequence rules invisible) flags (sequences items) ≡ seen_after rules invisible true flags items
     seen-one_walk flags =
-        seen-parts flags (sequences items) parts_none ∙ ap (taken flags) (sequences-expanded steps items) ∙ taken-behind true flags items
+        seen-parts flags (sequences items) parts_none ∙ ap (taken flags) (sequences-expanded steps items) ∙ taken-after true flags items
 
   no_spans : (place : ℕ) (parts : List (List Item)) → AllByRecursion (λ sequence. is_selector_sequence rules.unicode sequence ≡ false) parts
       → variation_sequences_from rules.unicode rules.face place parts ≡ []
@@ -142,8 +142,8 @@ module _ (rules : Rules) (b : Buffer) (none : HasNoSelectorSequence rules.unicod
   merged_none =
       ap (λ spans. all_merged spans b) (no_spans rules b.invisible_glyph 0 (sequences b.items) (parts_none rules b.invisible_glyph b.items none))
 
-  pub round_one-one_walk : (items : List Item) (flags : ScratchFlags) → items ≡ expanded_behind rules b.invisible_glyph true b.items
-      → flags ≡ seen_behind rules b.invisible_glyph true b.scratch_flags b.items
+  pub round_one-one_walk : (items : List Item) (flags : ScratchFlags) → items ≡ expanded_after rules b.invisible_glyph true b.items
+      → flags ≡ seen_after rules b.invisible_glyph true b.scratch_flags b.items
       → record b { items = items; positions = replicate (length items) zero_position; scratch_flags = flags } ≡ round_one rules b
   round_one-one_walk items flags items_are flags_are =
       ap₂ (λ xs f. record b { items = xs; positions = replicate (length xs) zero_position; scratch_flags = f })
@@ -155,15 +155,15 @@ module _ (rules : Rules) (b : Buffer) (none : HasNoSelectorSequence rules.unicod
         scratch_flags = fold (seen_sequence rules b.invisible_glyph) m.scratch_flags (sequences m.items);
       }) (sym merged_none)
 
-  pub items_round_one-one_walk : (round_one rules b).items ≡ expanded_behind rules b.invisible_glyph true b.items
+  pub items_round_one-one_walk : (round_one rules b).items ≡ expanded_after rules b.invisible_glyph true b.items
   items_round_one-one_walk =
       ap (λ (m : Buffer). expanded rules b.invisible_glyph b.not_found_variation_selector_glyph m.items) merged_none
       ∙ expanded-one_walk rules b.invisible_glyph b.items none b.not_found_variation_selector_glyph
 
 -- what the two parts of the walk leave: `placed` is the buffer after the walk in place, which came to place `n`
 module _ (rules : Rules) (old placed : Buffer) (n : ℕ) (none : HasNoSelectorSequence rules.unicode old.items)
-    (is : take n placed.items ++ expanded_behind rules old.invisible_glyph (n == 0) (drop n placed.items)
-    ≡ expanded_behind rules old.invisible_glyph true old.items)
+    (is : take n placed.items ++ expanded_after rules old.invisible_glyph (n == 0) (drop n placed.items)
+    ≡ expanded_after rules old.invisible_glyph true old.items)
     (rest : placed ≡ record old { items = placed.items; scratch_flags = placed.scratch_flags }) where
   invisible : placed.invisible_glyph ≡ old.invisible_glyph
   invisible = ap (λ (m : Buffer). m.invisible_glyph) rest
@@ -179,8 +179,8 @@ module _ (rules : Rules) (old placed : Buffer) (n : ℕ) (none : HasNoSelectorSe
       omega (arith, ap length whole)
 
   pub placed_whole : length placed.items ≤ n
-      → seen_behind rules old.invisible_glyph (n == 0) placed.scratch_flags (drop n placed.items)
-      ≡ seen_behind rules old.invisible_glyph true old.scratch_flags old.items
+      → seen_after rules old.invisible_glyph (n == 0) placed.scratch_flags (drop n placed.items)
+      ≡ seen_after rules old.invisible_glyph true old.scratch_flags old.items
       → record placed { positions = replicate (length placed.items) zero_position } ≡ round_one rules old
   placed_whole all seen =
       ap (λ (m : Buffer). record m { positions = replicate (length placed.items) zero_position }) rest
@@ -189,26 +189,26 @@ module _ (rules : Rules) (old placed : Buffer) (n : ℕ) (none : HasNoSelectorSe
       (sym (seen_all rules old.invisible_glyph placed.items n (n == 0) placed.scratch_flags all) ∙ seen)
 
   -- it went on into a list of its own
-  on : take n placed.items ++ expanded_behind rules placed.invisible_glyph (n == 0) (drop n placed.items)
-      ≡ expanded_behind rules old.invisible_glyph true old.items
-  on = ap (λ g. take n placed.items ++ expanded_behind rules g (n == 0) (drop n placed.items)) invisible ∙ is
+  on : take n placed.items ++ expanded_after rules placed.invisible_glyph (n == 0) (drop n placed.items)
+      ≡ expanded_after rules old.invisible_glyph true old.items
+  on = ap (λ g. take n placed.items ++ expanded_after rules g (n == 0) (drop n placed.items)) invisible ∙ is
 
-  pub counts_on : limit_of placed < length (take n placed.items ++ expanded_behind rules placed.invisible_glyph (n == 0) (drop n placed.items))
+  pub counts_on : limit_of placed < length (take n placed.items ++ expanded_after rules placed.invisible_glyph (n == 0) (drop n placed.items))
       → limit_of old < length (round_one rules old).items
   counts_on skipped =
       let whole = on ∙ sym (items_round_one-one_walk rules old none) in
       omega (arith, ap length whole, limit-placed)
 
   pub placed_on : (items : List Item) (flags : ScratchFlags)
-      → seen_behind rules old.invisible_glyph (n == 0) placed.scratch_flags (drop n placed.items)
-      ≡ seen_behind rules old.invisible_glyph true old.scratch_flags old.items
-      → items ≡ take n placed.items ++ expanded_behind rules placed.invisible_glyph (n == 0) (drop n placed.items)
-      → flags ≡ seen_behind rules placed.invisible_glyph (n == 0) placed.scratch_flags (drop n placed.items)
+      → seen_after rules old.invisible_glyph (n == 0) placed.scratch_flags (drop n placed.items)
+      ≡ seen_after rules old.invisible_glyph true old.scratch_flags old.items
+      → items ≡ take n placed.items ++ expanded_after rules placed.invisible_glyph (n == 0) (drop n placed.items)
+      → flags ≡ seen_after rules placed.invisible_glyph (n == 0) placed.scratch_flags (drop n placed.items)
       → record placed { items = items; positions = replicate (length items) zero_position; scratch_flags = flags } ≡ round_one rules old
   placed_on items flags seen items_are flags_are =
       ap (λ (m : Buffer). record m { items = items; positions = replicate (length items) zero_position; scratch_flags = flags }) rest
       ∙ round_one-one_walk rules old none items flags (items_are ∙ on)
-      (flags_are ∙ ap (λ g. seen_behind rules g (n == 0) placed.scratch_flags (drop n placed.items)) invisible ∙ seen)
+      (flags_are ∙ ap (λ g. seen_after rules g (n == 0) placed.scratch_flags (drop n placed.items)) invisible ∙ seen)
 
 -- ---- which lists have no sequence that isn't expanded
 

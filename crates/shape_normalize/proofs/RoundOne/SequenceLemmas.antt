@@ -73,20 +73,20 @@ module _ {B : Type 0} (become : Bool → Item → List B) where
   sequence_becomes sequence = flat_map (become (is_with_marks sequence)) sequence
 
   -- the same after an item that stands before the first of these sequences, in one sequence with it
-  abbrev behind_becomes : List (List Item) → List B
-  behind_becomes [] = []
-  behind_becomes (part ∷ parts) = flat_map (become true) part ++ flat_map sequence_becomes parts
+  abbrev after_becomes : List (List Item) → List B
+  after_becomes [] = []
+  after_becomes (part ∷ parts) = flat_map (become true) part ++ flat_map sequence_becomes parts
 
   abbrev from : Bool → List Item → List B
   from first items = expanded_from is_mark_item become first items
 
-  behind-put_first : (x : Item) (parts : List (List Item)) → behind_becomes (put_first x parts) ≡ become true x ++ behind_becomes parts
-  behind-put_first x [] = append-nil (become true x ++ [])
-  behind-put_first x (part ∷ parts) = append_assoc (become true x) (flat_map (become true) part) (flat_map sequence_becomes parts)
+  after-put_first : (x : Item) (parts : List (List Item)) → after_becomes (put_first x parts) ≡ become true x ++ after_becomes parts
+  after-put_first x [] = append-nil (become true x ++ [])
+  after-put_first x (part ∷ parts) = append_assoc (become true x) (flat_map (become true) part) (flat_map sequence_becomes parts)
 
   -- in a sequence of two items or more each is with marks
   sequence-put_first : (x y : Item) (part : List Item) (parts : List (List Item))
-      → flat_map sequence_becomes (put_first x ((y ∷ part) ∷ parts)) ≡ become true x ++ behind_becomes ((y ∷ part) ∷ parts)
+      → flat_map sequence_becomes (put_first x ((y ∷ part) ∷ parts)) ≡ become true x ++ after_becomes ((y ∷ part) ∷ parts)
   sequence-put_first x y part parts = append_assoc (become true x) (flat_map (become true) (y ∷ part)) (flat_map sequence_becomes parts)
 
   -- if an item is no mark, it makes no difference whether it counts as the first
@@ -98,7 +98,7 @@ module _ {B : Type 0} (become : Bool → Item → List B) where
 
   by_sequences : (x : Item) (rest : List Item)
       → (flat_map sequence_becomes (sequences (x ∷ rest)) ≡ from true (x ∷ rest))
-      × (is_mark_item x ≡ true → behind_becomes (sequences (x ∷ rest)) ≡ from false (x ∷ rest))
+      × (is_mark_item x ≡ true → after_becomes (sequences (x ∷ rest)) ≡ from false (x ∷ rest))
   by_sequences x [] = (
     append-nil (become false x ++ []) ∙ ap (λ t. become (t || false) x ++ []) (sym (and_right (is_mark_item x) false refl)),
     λ mark. append-nil (become true x ++ []) ∙ ap (λ t. become ((t && true) || false) x ++ []) (sym mark),
@@ -108,14 +108,14 @@ module _ {B : Type 0} (become : Bool → Item → List B) where
       elim (cases_Bool (is_mark_item y)) [
         | inl joins ↦
             let begins = divided-begins is_mark_item y rest in
-            let behind : behind_becomes (sequences (y ∷ rest)) ≡ from false (y ∷ rest) = later.1 joins in (
+            let behind : after_becomes (sequences (y ∷ rest)) ≡ from false (y ∷ rest) = later.1 joins in (
               ap (flat_map sequence_becomes) (divided-joins is_mark_item x y rest joins ∙ ap (put_first x) begins.2)
                   ∙ sequence-put_first x y begins.0 begins.1
-                  ∙ ap (λ l. become true x ++ l) (ap behind_becomes (sym begins.2) ∙ behind)
+                  ∙ ap (λ l. become true x ++ l) (ap after_becomes (sym begins.2) ∙ behind)
                   ∙ ap (λ t. become t x ++ from false (y ∷ rest)) (sym (or_right (is_mark_item x && false) (is_mark_item y) joins)),
               λ mark.
-                  ap behind_becomes (divided-joins is_mark_item x y rest joins)
-                  ∙ behind-put_first x (sequences (y ∷ rest))
+                  ap after_becomes (divided-joins is_mark_item x y rest joins)
+                  ∙ after-put_first x (sequences (y ∷ rest))
                   ∙ ap (λ l. become true x ++ l) behind
                   ∙ ap (λ t. become t x ++ from false (y ∷ rest)) (sym (or_right (is_mark_item x && true) (is_mark_item y) joins)),
             )
@@ -125,7 +125,7 @@ module _ {B : Type 0} (become : Bool → Item → List B) where
                   ∙ ap₂ (λ front back. front ++ back) (append-nil (become false x)) tail
                   ∙ ap₂ (λ s t. become (s || t) x ++ from false (y ∷ rest)) (sym (and_right (is_mark_item x) false refl)) (sym parts),
               λ mark.
-                  ap behind_becomes (divided-parts is_mark_item x y rest parts)
+                  ap after_becomes (divided-parts is_mark_item x y rest parts)
                   ∙ ap₂ (λ front back. front ++ back) (append-nil (become true x)) tail
                   ∙ ap (λ t. become ((t && true) || is_mark_item y) x ++ from false (y ∷ rest)) (sym mark),
             )

@@ -193,7 +193,7 @@ module _ (rules : Rules) where
     pub nonzero : AllByRecursion (λ m. 0 < ccc_of_placed m) marks
     pub greatest_is : greatest ≡ greatest_ccc ccc_of_placed marks
     pub before_at : AllByRecursion (IsBefore at.place now) before
-    pub at_behind : at.place < i
+    pub at_after : at.place < i
     pub at_in_place : IsInPlace now at
     pub marks_at : AllByRecursion (IsBetween at.place i now) marks
     pub unread : drop i now ≡ drop i items
@@ -216,7 +216,7 @@ module _ (rules : Rules) where
     nonzero = tt;
     greatest_is = refl;
     before_at = tt;
-    at_behind = omega arith;
+    at_after = omega arith;
     at_in_place = (omega arith, refl);
     marks_at = tt;
     unread = refl;
@@ -320,10 +320,10 @@ module _ (rules : Rules) where
           nonzero = h.nonzero;
           greatest_is = h.greatest_is;
           before_at = before_beside h.at.place now d.item h.before h.before_at;
-          at_behind = omega (arith, h.at_behind);
+          at_after = omega (arith, h.at_after);
           at_in_place = (lt-length-set now h.at.place d.item h.at_in_place.0, get_or-set_same now h.at.place d.item d.item h.at_in_place.0);
           marks_at = between_beside h.at.place i now d.item h.marks h.marks_at;
-          unread = drop-set-lt (i + 1) now h.at.place d.item (omega (arith, h.at_behind)) ∙ unread_next;
+          unread = drop-set-lt (i + 1) now h.at.place d.item (omega (arith, h.at_after)) ∙ unread_next;
           same = map-set_same cluster_and_mask now h.at.place d.item h.at.item (sym (ap cluster_and_mask h.at_in_place.1)) ∙ h.same;
         })
 
@@ -353,9 +353,9 @@ module _ (rules : Rules) where
           nonzero = tt;
           greatest_is = refl;
           before_at = append_all (IsBefore i now) h.before (h.at ∷ h.marks)
-              (before_further h.at.place i now h.before (omega (arith, h.at_behind)) h.before_at)
-              ((h.at_behind, h.at_in_place), between_before h.at.place i now h.marks h.marks_at);
-          at_behind = omega arith;
+              (before_further h.at.place i now h.before (omega (arith, h.at_after)) h.before_at)
+              ((h.at_after, h.at_in_place), between_before h.at.place i now h.marks h.marks_at);
+          at_after = omega arith;
           at_in_place = next_in_place;
           marks_at = tt;
           unread = unread_next;
@@ -384,10 +384,10 @@ module _ (rules : Rules) where
           nonzero = push_all (λ m. 0 < ccc_of_placed m) h.marks next h.nonzero (omega (arith, some_ccc));
           greatest_is = ap (λ n. max n (ccc_of_item x)) h.greatest_is ∙ sym (greatest_ccc-push ccc_of_placed h.marks next);
           before_at = h.before_at;
-          at_behind = omega (arith, h.at_behind);
+          at_after = omega (arith, h.at_after);
           at_in_place = h.at_in_place;
           marks_at = push_all (IsBetween h.at.place (i + 1) now) h.marks next (between_further h.at.place i now h.marks h.marks_at)
-              (h.at_behind, (omega arith, next_in_place));
+              (h.at_after, (omega arith, next_in_place));
           unread = unread_next;
           same = h.same;
         }

@@ -11,7 +11,7 @@ ghost use Rattle.shape_items.specs.Buffer.{cleared, limit_of};
 ghost use Rattle.shape_items.specs.Items.{ccc_of_item};
 ghost use Rattle.shape_normalize.specs.RoundOne.{round_one};
 ghost use Rattle.shape_normalize.specs.OneWalk.{FollowsRuns, HasNoSelectorSequence, shortest_of};
-ghost use Rattle.shape_normalize.specs.OneWalk.{expanded_behind, seen_behind, stands_with_marks};
+ghost use Rattle.shape_normalize.specs.OneWalk.{expanded_after, seen_after, stands_with_marks};
 
 use crate::ot_shape_normalize::decompose::Expansion;
 use crate::ot_shape_normalize::mode::Shortest;
@@ -28,8 +28,8 @@ fn stands_with_marks_at(infos: &[hb_glyph_info_t], i: usize) -> bool
     requires { i < length infos.now }
     ensures { result ≡ stands_with_marks (i == 0) (drop i infos.now) }
 {
-    let is_behind = infos[i]._hb_glyph_info_is_unicode_mark() && i != 0;
-    is_behind || i + 1 < infos.len() && infos[i + 1]._hb_glyph_info_is_unicode_mark()
+    let is_after = infos[i]._hb_glyph_info_is_unicode_mark() && i != 0;
+    is_after || i + 1 < infos.len() && infos[i + 1]._hb_glyph_info_is_unicode_mark()
 }
 
 /// Gives each item its glyph, up to the first that expands, and follows the runs, if `follows` says so.
@@ -48,12 +48,12 @@ fn place_glyphs<T: ShapingTypes>(
     requires runs { FollowsRuns [] runs.old }
     ensures placed { let rules = ⟦<T as Meaning>⟧.rules plan.now face.now in
         IfOk result (λ n. take n buffer.new.items
-        ++ expanded_behind rules buffer.old.invisible_glyph (n == 0) (drop n buffer.new.items)
-        ≡ expanded_behind rules buffer.old.invisible_glyph true buffer.old.items) }
+        ++ expanded_after rules buffer.old.invisible_glyph (n == 0) (drop n buffer.new.items)
+        ≡ expanded_after rules buffer.old.invisible_glyph true buffer.old.items) }
     ensures seen { let rules = ⟦<T as Meaning>⟧.rules plan.now face.now in
-        IfOk result (λ n. seen_behind rules buffer.old.invisible_glyph (n == 0)
+        IfOk result (λ n. seen_after rules buffer.old.invisible_glyph (n == 0)
         buffer.new.scratch_flags (drop n buffer.new.items)
-        ≡ seen_behind rules buffer.old.invisible_glyph true
+        ≡ seen_after rules buffer.old.invisible_glyph true
         buffer.old.scratch_flags buffer.old.items) }
     ensures within { IfOk result (λ n. n ≤ length buffer.new.items) }
     ensures rest { buffer.new ≡ record buffer.old {
@@ -106,15 +106,15 @@ fn expand_on<T: ShapingTypes>(
     requires runs { follows ≡ true
         → FollowsRuns (map ccc_of_item (take from buffer.now.items)) runs.old }
     ensures infos { let rules = ⟦<T as Meaning>⟧.rules plan.now face.now in
-        IfOk result (λ out. out.infos.items ≡ take from buffer.now.items ++ expanded_behind rules
+        IfOk result (λ out. out.infos.items ≡ take from buffer.now.items ++ expanded_after rules
         buffer.now.invisible_glyph (from == 0) (drop from buffer.now.items)) }
     ensures flags { let rules = ⟦<T as Meaning>⟧.rules plan.now face.now in
-        IfOk result (λ out. out.scratch_flags ≡ seen_behind rules buffer.now.invisible_glyph
+        IfOk result (λ out. out.scratch_flags ≡ seen_after rules buffer.now.invisible_glyph
         (from == 0) buffer.now.scratch_flags (drop from buffer.now.items)) }
     ensures within { IfOk result (λ out. vec_len out.infos ≤ limit_of buffer.now) }
     ensures length { let rules = ⟦<T as Meaning>⟧.rules plan.now face.now in
         result ≡ Err ShapeError.Length → limit_of buffer.now
-        < length (take from buffer.now.items ++ expanded_behind rules
+        < length (take from buffer.now.items ++ expanded_after rules
         buffer.now.invisible_glyph (from == 0) (drop from buffer.now.items)) }
     ensures runs { IfOk result (λ out. follows ≡ true
         → FollowsRuns (map ccc_of_item out.infos.items) runs.new) }

@@ -17,7 +17,7 @@ ghost use Rattle.shape_items.specs.Spans.{AreSpansInOrder, spans_merged_out};
 ghost use Rattle.shape_items.specs.UnicodeProps.{with_scratch_of};
 ghost use Rattle.shape_normalize.specs.Part.{part_item, seen_chars};
 ghost use Rattle.shape_normalize.specs.RoundThree.{recomposed_items, chained_spans, composed_chars};
-ghost use Rattle.shape_normalize.specs.RoundThree.{is_blocked_behind, composed_char};
+ghost use Rattle.shape_normalize.specs.RoundThree.{is_blocked_after, composed_char};
 ghost use Rattle.shape_normalize.specs.RoundThree.{AreComposedInPlace, ends_at, ends_taken_out};
 ghost use Rattle.shape_normalize.specs.RoundThree.{round_three};
 ghost use Rattle.shape_plan.specs.Rules.{has_glyph};
@@ -61,7 +61,7 @@ fn compose_with_glyph_of<T: ShapingTypes>(
 /// Whether an item of this ccc is blocked from its starter by marks between them of this greatest ccc, 0
 /// if there are none.
 fn is_blocked(greatest: u8, ccc: u8) -> bool
-    ensures { result ≡ is_blocked_behind greatest ccc }
+    ensures { result ≡ is_blocked_after greatest ccc }
 {
     greatest > 0 && ccc <= greatest
 }

@@ -13,7 +13,7 @@ ghost use Rattle.shape_plan.specs.Requests.{
   fractions,
   random,
   tracking,
-  behind_script,
+  after_script,
   add as asked,
   common,
   directed,
@@ -163,8 +163,8 @@ where
 }
 
 /// Two features of faces that come after a script's own.
-fn add_behind_script(builder: &mut hb_ot_map_builder_t) -> Result<(), ShapeError>
-    ensures ok { OnOk result (builder.new ≡ with_requests builder.old behind_script) }
+fn add_after_script(builder: &mut hb_ot_map_builder_t) -> Result<(), ShapeError>
+    ensures ok { OnOk result (builder.new ≡ with_requests builder.old after_script) }
     ensures memory { IsOkUnless result ShapeError.Memory }
 {
     builder.enable_feature(tags::BUZZ, F_NONE, 1)?;
@@ -240,7 +240,7 @@ pub(crate) fn widen(
     if !features.is_empty() {
         builder.set_simple(false);
     }
-    add_behind_script(builder)?;
+    add_after_script(builder)?;
     add_common(builder)?;
     add_directed(builder, direction)?;
     add_user_features(builder, features)

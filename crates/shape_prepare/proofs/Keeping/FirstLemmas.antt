@@ -35,8 +35,8 @@ use Rattle.shape_plan.proofs.KeeperLemmas.{keeper-hook}
 abbrev firsts_of : List (List Item) → List ℕ
 firsts_of parts = flat_map (λ part. take 1 (clusters part)) parts
 
-contains-behind : (x : ℕ) (xs : List ℕ) (k : ℕ) → Contains xs k → Contains (x ∷ xs) k
-contains-behind x xs k (i, lt, e) = (suc i, omega arith, e)
+contains-after : (x : ℕ) (xs : List ℕ) (k : ℕ) → Contains xs k → Contains (x ∷ xs) k
+contains-after x xs k (i, lt, e) = (suc i, omega arith, e)
 
 -- the first items of parts have the first clusters
 parts-firsts : (Q : ℕ → Type 0) (pre : List Item) (parts : List (List Item)) → SomeEach (map length parts)
@@ -49,7 +49,7 @@ parts-firsts Q pre ((x ∷ part) ∷ parts) some holds =
     ap (λ (cs : List ℕ). get_or cs (length pre) 0) (map-append (λ (item : Item). item.cluster) pre behind)
     ∙ get_or_at (clusters pre) x.cluster (clusters (part ++ whole parts)) 0 (length pre) (length-map pre (λ item. item.cluster)) in
     let size : length (pre ++ (x ∷ part)) ≡ length pre + length (x ∷ part) = length-append pre (x ∷ part) in
-    let rest = parts-firsts Q (pre ++ (x ∷ part)) parts some.1 (λ k c. holds k (contains-behind x.cluster (firsts_of parts) k c)) in (
+    let rest = parts-firsts Q (pre ++ (x ∷ part)) parts some.1 (λ k c. holds k (contains-after x.cluster (firsts_of parts) k c)) in (
       subst Q (sym here) (holds x.cluster (0, omega arith, refl)),
       subst (λ (l : List Item). Firsts Q (length pre + length (x ∷ part)) (map length parts) l) (append_assoc pre (x ∷ part) (whole parts))
           (subst (λ n. Firsts Q n (map length parts) ((pre ++ (x ∷ part)) ++ whole parts)) size rest),

@@ -272,8 +272,8 @@ to_reverse-one b Characters is ready = absurd (subst IsMonotoneLevel is ready.mo
 to_reverse-keeps_order : IsClusterKeeper merged_to_reverse
 to_reverse-keeps_order b monotone = merged_to_reverse-cases (KeepsOrder b) b (KeepsOrder-same b) (merged-keeps_order b monotone)
 
-in_order-behind : (reversed : Bool) (a b c : Buffer) → KeepsOrder a b → InOrderFor reversed b c → InOrderFor reversed a c
-in_order-behind reversed a b c first last = record {
+in_order-after : (reversed : Bool) (a b c : Buffer) → KeepsOrder a b → InOrderFor reversed b c → InOrderFor reversed a c
+in_order-after reversed a b c first last = record {
   order = last.order;
   none_new = λ k x. first.clusters.none_new k (last.none_new k x);
   direction = last.direction ∙ ap (direction_for reversed) first.direction;
@@ -301,7 +301,7 @@ natively-in_order unicode b ready = elim (cases_Bool (is_against (native_directi
   | inl on ↦ rw on (
       let merged = merged_to_reverse b in
       let keeps : KeepsOrder b merged = to_reverse-keeps_order b ready.monotone in
-      in_order-behind true b merged (graphemes_reversed merged) keeps
+      in_order-after true b merged (graphemes_reversed merged) keeps
       (reversed-in_order merged (to_reverse-one b b.cluster_level refl ready) (keeps.clusters.rising ready.rising))
       )
   | inr off ↦ rw off (record { order = ready.rising; none_new = λ k c. c; direction = refl; flags = refl; level = refl })
@@ -355,7 +355,7 @@ preparing_keeps_order run target b keeps monotone rising =
     (KeepsOrder-then start circled formed to_circle (clusters_formed-keeps_order circled formed_level)) in
     let ready = formed-ready run.unicode run.face start level (first.clusters.rising rising) in
     let against = is_against (native_direction run.unicode formed) formed.direction in
-    let reverses = in_order-behind against b formed ordered to_formed (natively-in_order run.unicode formed ready) in
+    let reverses = in_order-after against b formed ordered to_formed (natively-in_order run.unicode formed ready) in
     let hook = keeper-hook IsClusterKeeper (λ c _. KeepsOrder-same c) run.constants.has_preprocess_text run.hooks (λ h. h.preprocess)
     (λ h is. (keeps.hooks h is).preprocess) in
     let processed = hook_if run.constants.has_preprocess_text run.hooks (λ h. h.preprocess) ordered in

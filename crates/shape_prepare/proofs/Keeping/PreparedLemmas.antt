@@ -177,7 +177,7 @@ preparing_prepares run target b lawful keeps =
     (formed-prepared unicode circled (circled-prepared unicode lawful run.face marked first)) in
     let hook = keeper-hook (KeepsPrepared unicode) (λ c all. all) run.constants.has_preprocess_text run.hooks (λ h. h.preprocess) keeps in
     let processed = hook_if run.constants.has_preprocess_text run.hooks (λ h. h.preprocess) ordered in
-    let behind_hook = hook ordered (All-from_recursion (IsPreparedItem unicode) ordered.items before_hook) in
+    let after_hook = hook ordered (All-from_recursion (IsPreparedItem unicode) ordered.items before_hook) in
     All-from_recursion (IsPreparedItem unicode) (rotated unicode run.face run.decisions target processed).items
     (rotated-prepared unicode lawful run.face run.decisions target processed
-    (recursion_from_All (IsPreparedItem unicode) processed.items behind_hook))
+    (recursion_from_All (IsPreparedItem unicode) processed.items after_hook))

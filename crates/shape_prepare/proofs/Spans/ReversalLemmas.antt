@@ -102,9 +102,9 @@ reverse_spans [] b = refl
 reverse_spans (span ∷ spans) b = reverse_spans spans (reverse_span span.0 span.1 b)
 
 -- a part that was reversed in place changes nothing after it
-pub behind-reversed : {A B : Type 0} (f : A → B) (start end : ℕ) (xs : List A) → start ≤ end → end ≤ length xs
+pub after-reversed : {A B : Type 0} (f : A → B) (start end : ℕ) (xs : List A) → start ≤ end → end ≤ length xs
     → drop end (map f (reversed_range start end xs)) ≡ drop end (map f xs)
-behind-reversed {A} f start end xs le within =
+after-reversed {A} f start end xs le within =
     let front = take start xs ++ reverse (slice_range xs start end) in
     let size : length front ≡ end = grind (arith, common_steps) in
     let split : reversed_range start end xs

@@ -11,7 +11,7 @@ use Rattle.shape_prepare.specs.GraphemeWalk.{reverse_span, changed}
 use Rattle.shape_prepare.specs.declared.grapheme_walk.GraphemeChange.{GraphemeChange}
 use Rattle.shape_prepare.specs.declared.grapheme_walk.GraphemeChange.TheVariants.{Mark, Reverse}
 use Rattle.shape_items.proofs.MergingInOrder.GraphemeWalkLemmas.{walk-spans, walk_ends, walk_goes_on, left_to_do, IsKey-continuation}
-use Rattle.shape_prepare.proofs.Spans.ReversalLemmas.{behind-reversed, length-reversed_range}
+use Rattle.shape_prepare.proofs.Spans.ReversalLemmas.{after-reversed, length-reversed_range}
 
 -- what is done with a span changes no bit after it, nor how many items there are, nor the limit
 pub record LeavesRest (f : ℕ → ℕ → Buffer → Buffer) : Type 0 where
@@ -94,7 +94,7 @@ marking_leaves = record {
 
 reversal_leaves : LeavesRest reverse_span
 reversal_leaves = record {
-  bits = λ start end b ordered within. behind-reversed is_continuation start end b.items ordered within;
+  bits = λ start end b ordered within. after-reversed is_continuation start end b.items ordered within;
   as_many = λ start end b ordered within. length-reversed_range start end b.items ordered within;
   limit = λ start end b. refl;
 }

@@ -54,8 +54,8 @@ fn step_before(buffer: &mut hb_buffer_t, place: usize, from: usize)
     requires within { from < length buffer.old.items }
     ensures { buffer.new ≡ stepped_before place (from - place) buffer.old }
 {
-    for passed in 0..from - place {
-        exchange(buffer, from - passed - 1, from - passed);
+    for stepped in 0..from - place {
+        exchange(buffer, from - stepped - 1, from - stepped);
     }
 }
 
@@ -92,10 +92,10 @@ fn move_modifiers(buffer: &mut hb_buffer_t, ccc: u8, other: u8, start: usize, en
     ensures inside { start + result ≤ end }
 {
     let run = &buffer.infos()[start..end];
-    let passed = count_below(run, ccc);
-    let count = leading_modifiers(&run[passed..], ccc);
+    let below = count_below(run, ccc);
+    let count = leading_modifiers(&run[below..], ccc);
     if count != 0 {
-        let from = start + passed;
+        let from = start + below;
         buffer.merge_clusters(start, from + count);
         bring_before(buffer, other, start, from, from + count);
     }

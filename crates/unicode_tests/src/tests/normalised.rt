@@ -4,7 +4,7 @@
 use crate::comparing::{assert_last, assert_row, character, characters, column, rows_of};
 use crate::moved_rows::MOVED_ROWS;
 use crate::normalization_rows::NORMALIZATION_ROWS;
-use crate::tests::{Way, behind_base, check_rows, list_of};
+use crate::tests::{Way, after_base, check_rows, list_of};
 use std::process::Abort;
 
 #[test]
@@ -93,7 +93,7 @@ fn assert_list(rt: &(impl Abort + AllocGlobal), way: Way, form: &str, wanted: &[
 
 /// Compares the lists of the two forms, which have the mark at two places.
 fn assert_moved(rt: &(impl Abort + AllocGlobal), way: Way, row: &str) {
-    let wanted = behind_base(rt, column(rt, row, 3));
+    let wanted = after_base(rt, column(rt, row, 3));
     assert_list(rt, way, column(rt, row, 1), wanted.as_slice());
     assert_list(rt, way, column(rt, row, 2), wanted.as_slice());
 }

@@ -5,7 +5,7 @@ use Rattle.shape_lines.specs.declared.reading.Part.{Part}
 use Rattle.shape_lines.proofs.PartLemmas.{length-parts_of}
 use Rattle.shape_lines.proofs.TotalLemmas.{is_end-cut, is_end-last}
 use Rattle.shape_lines.proofs.LeastLemmas.{least_kept, length-leasts, drop_all}
-use Rattle.shape_lines.proofs.WalkedLemmas.{IsWalked-passed, IsWalked-all}
+use Rattle.shape_lines.proofs.WalkedLemmas.{IsWalked-past, IsWalked-all}
 use Rattle.shape_lines.proofs.cutting.walked_lines.Goals as goal
 use Rattle.shape_lines.proofs.cutting.walked_lines.Goals.{then-part_at+in_ok-meet_end, else-part_at}
 use mir.Syntax.{w128}
@@ -38,7 +38,7 @@ add-requires-in-loop-place-clause-walked c =
     elim c.if-part_at.branch [
       | then-part_at+in_ok-meet_end w ↦ rw w.walk-is w.in_ok-meet_end.ensures.walked
       | else-part_at w ↦
-          rw w.walk-is (IsWalked-passed ps (pos c.args.width) (line_of b c.args.text_end) _ _ _ _ _ c.loop-place.place c.loop-place.invariant.walked
+          rw w.walk-is (IsWalked-past ps (pos c.args.width) (line_of b c.args.text_end) _ _ _ _ _ c.loop-place.place c.loop-place.invariant.walked
           (is_end-cut ps c.loop-place.place c.part_at.result (omega (arith, length-parts_of b, c.len-place-end.ensures, c.loop-place-test.true))
           ∙ ap (λ (p : Part). p.cut) (sym c.part_at.ensures.value) ∙ w.if-part_at.false))
     ]

@@ -19,24 +19,24 @@ loop-start-preserved c =
     let ordered = AreSpansInOrder-next kept (length xs) spans i (0, 0) lt c.loop-start.invariant.in_order in
     let given = c.loop-start.invariant.left.0 in
     let opened = c.open_runs-runs.ensures.stands given c.loop-start.invariant.left.1 in
-    let merged = c.merge_behind-runs.ensures.merged (given ++ slice_range xs kept start) opened in
-    let runs = c.merge_behind-runs.result in
+    let merged = c.merge_after-runs.ensures.merged (given ++ slice_range xs kept start) opened in
+    let runs = c.merge_after-runs.result in
     let starts = c.open_runs-runs.new.starts in
     let counted : length (take c.open_runs-runs.result starts) ≡ c.open_runs-runs.result = length-take-le c.open_runs-runs.result starts
     (omega (arith, c.open_runs-runs.ensures.runs, c.open_runs-runs.ensures.as_many, ordered.1, ordered.2)) in
     let fewer : take runs (take c.open_runs-runs.result starts) ≡ take runs starts =
-    take-take runs c.open_runs-runs.result starts (omega (arith, c.merge_behind-runs.ensures.runs)) in
-    let made : merged.0 ++ drop start c.merge_behind-runs.new.infos ≡ merge start end (given ++ drop kept xs) = merged.2
+    take-take runs c.open_runs-runs.result starts (omega (arith, c.merge_after-runs.ensures.runs)) in
+    let made : merged.0 ++ drop start c.merge_after-runs.new.infos ≡ merge start end (given ++ drop kept xs) = merged.2
     ∙ ap (merge start end) (front-longer xs given kept start ordered.0) in
     record {
-      runs = omega (arith, c.merge_behind-runs.ensures.runs, c.open_runs-runs.ensures.runs);
-      within = omega (arith, c.merge_behind-runs.ensures.as_many, ordered.1, ordered.2);
-      as_many = c.merge_behind-runs.ensures.as_many ∙ c.loop-start.invariant.as_many;
+      runs = omega (arith, c.merge_after-runs.ensures.runs, c.open_runs-runs.ensures.runs);
+      within = omega (arith, c.merge_after-runs.ensures.as_many, ordered.1, ordered.2);
+      as_many = c.merge_after-runs.ensures.as_many ∙ c.loop-start.invariant.as_many;
       room = c.open_runs-runs.ensures.as_many ∙ c.loop-start.invariant.room;
-      in_order = subst (λ n. AreSpansInOrder start n (drop (i + 1) spans)) (sym c.merge_behind-runs.ensures.as_many) ordered.3;
+      in_order = subst (λ n. AreSpansInOrder start n (drop (i + 1) spans)) (sym c.merge_after-runs.ensures.as_many) ordered.3;
       left = (
         merged.0,
-        subst (λ z. StandsFor (take start c.merge_behind-runs.new.infos) z merged.0) fewer merged.1,
+        subst (λ z. StandsFor (take start c.merge_after-runs.new.infos) z merged.0) fewer merged.1,
         merge_each-next spans i (0, 0) (given ++ drop kept xs) _ lt made ∙ c.loop-start.invariant.left.2,
       );
     }

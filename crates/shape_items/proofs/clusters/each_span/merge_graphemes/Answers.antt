@@ -23,8 +23,8 @@ loop-last-init c =
       left = ([], StandsFor-none, walk-spans is_continuation merge items items);
     }
 
-pub merge_behind-runs-requires-clause-stands : goal.merge_behind-runs-requires-clause-stands
-merge_behind-runs-requires-clause-stands c =
+pub merge_after-runs-requires-clause-stands : goal.merge_after-runs-requires-clause-stands
+merge_after-runs-requires-clause-stands c =
     let given = c.loop-last.invariant.left.0 in (
       given ++ slice_range c.loop-last.infos c.loop-last.kept c.loop-last.start,
       c.open_runs-runs.ensures.stands given c.loop-last.invariant.left.1,
@@ -46,26 +46,26 @@ loop-last-preserved c =
     let inside : last < length bits = rw (length-map c.args.infos.now is_continuation) (omega (arith, so_far.as_many)) in
     elim c.if-ends_grapheme.branch [
       | then-ends_grapheme w ↦
-          let new = w.merge_behind-runs.new.infos in
+          let new = w.merge_after-runs.new.infos in
           let starts = w.open_runs-runs.new.starts in
           let opened = w.open_runs-runs.ensures.stands given so_far.left.1 in
-          let merged = w.merge_behind-runs.ensures.merged (given ++ slice_range xs kept start) opened in
-          let runs = w.merge_behind-runs.result in
+          let merged = w.merge_after-runs.ensures.merged (given ++ slice_range xs kept start) opened in
+          let runs = w.merge_after-runs.result in
           let counted : length (take w.open_runs-runs.result starts) ≡ w.open_runs-runs.result = length-take-le w.open_runs-runs.result starts
           (omega (arith, w.open_runs-runs.ensures.runs, w.open_runs-runs.ensures.as_many, so_far.ordered, so_far.as_many, so_far.room)) in
           let fewer : take runs (take w.open_runs-runs.result starts) ≡ take runs starts =
-          take-take runs w.open_runs-runs.result starts (omega (arith, w.merge_behind-runs.ensures.runs)) in
+          take-take runs w.open_runs-runs.result starts (omega (arith, w.merge_after-runs.ensures.runs)) in
           let made : merged.0 ++ drop start new ≡ merge start (last + 1) (given ++ drop kept xs) = merged.2
           ∙ ap (merge start (last + 1)) (front-longer xs given kept start so_far.within) in
           let size : length given ≡ kept = length-given _ _ given so_far.left.1
           ∙ length-take-le kept xs (omega (arith, so_far.within, so_far.ordered)) in
           let size' : length merged.0 ≡ start = length-given _ _ merged.0 merged.1
-          ∙ length-take-le start new (omega (arith, so_far.ordered, w.merge_behind-runs.ensures.as_many)) in
+          ∙ length-take-le start new (omega (arith, so_far.ordered, w.merge_after-runs.ensures.as_many)) in
           rw (w.infos-is, w.starts-is, w.kept-is, w.runs-is, w.start-is) (record {
-            runs = omega (arith, w.merge_behind-runs.ensures.runs, w.open_runs-runs.ensures.runs);
+            runs = omega (arith, w.merge_after-runs.ensures.runs, w.open_runs-runs.ensures.runs);
             within = omega (arith, so_far.ordered);
             ordered = omega arith;
-            as_many = w.merge_behind-runs.ensures.as_many ∙ so_far.as_many;
+            as_many = w.merge_after-runs.ensures.as_many ∙ so_far.as_many;
             room = w.open_runs-runs.ensures.as_many ∙ so_far.room;
             bits = merged-continuations xs new given merged.0 kept start (last + 1) so_far.within (omega (arith, so_far.ordered)) size size' made
                 ∙ further;

@@ -3,7 +3,7 @@ use Rattle.std.proofs.lemmas.List.{length-append, length-map}
 use Rattle.std.specs.List.{list_all}
 use Rattle.std.specs.Option.{option_map}
 use Rattle.canonical_form.specs.Chain.{kept_part}
-use Rattle.canonical_form.proofs.Expanding.ShortestWalkLemmas.{sought, sought_ended, sought_first, sought_found, sought_passed, sought_broken}
+use Rattle.canonical_form.proofs.Expanding.ShortestWalkLemmas.{sought, sought_ended, sought_first, sought_found, sought_past, sought_broken}
 use Rattle.canonical_form.proofs.Expanding.WalkLemmas.{found_parts, walked}
 use Rattle.shape_plan.specs.Rules.{rules_of, decompositions, has_glyph}
 use Rattle.shape_normalize.specs.Part.{part_of_char}
@@ -71,7 +71,7 @@ chain-preserved g c =
     let grown = grown_chars glyph c.chain.seconds.items new c.in-Some.b kept in
     record {
       walk =
-          sought_passed (decompositions rules) (has_glyph glyph) falls c.args.shortest _ (chars_of c.chain.seconds.items) (chars_of new)
+          sought_past (decompositions rules) (has_glyph glyph) falls c.args.shortest _ (chars_of c.chain.seconds.items) (chars_of new)
           (found_chars c.chain.found) c.chain.point _ _ c.chain.invariant.walk
           (rw (length-map c.chain.seconds.items (λ (p : Part). p.c)) (found_within c.chain.found _ c.chain.invariant.within))
           c.in-Some.ensures kept_b grown none;

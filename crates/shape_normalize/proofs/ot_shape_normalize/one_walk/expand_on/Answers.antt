@@ -2,9 +2,9 @@ use Rattle.std.proofs.Common.{rules, ◌≡◌, ◌<◌, ◌+◌, ◌++◌, ◌=
 use Rattle.shape_items.specs.Items.{ccc_of_item}
 use Rattle.shape_plan.specs.Rules.{rules_of}
 use Rattle.shape_normalize.specs.RoundOne.{expanded_item, seen_expanded}
-use Rattle.shape_normalize.specs.OneWalk.{stands_with_marks, expanded_behind, FollowsRuns}
+use Rattle.shape_normalize.specs.OneWalk.{stands_with_marks, expanded_after, FollowsRuns}
 use Rattle.shape_normalize.proofs.RoundTwo.NotedLemmas.{taken_before}
-use Rattle.shape_normalize.proofs.RoundOne.OneWalkLemmas.{behind_here, seen_here, passed_by_more}
+use Rattle.shape_normalize.proofs.RoundOne.OneWalkLemmas.{after_here, seen_here, passed_by_more}
 use Rattle.shape_normalize.proofs.ot_shape_normalize.one_walk.expand_on.Goals as goal
 
 pub loop-i-preserved : goal.loop-i-preserved
@@ -26,7 +26,7 @@ loop-i-preserved g c =
     search (rules, c.in_ok-put_item.ensures.flags) in
     record {
       infos = rw (put, short) (append_assoc out _ _
-          ∙ ap (λ xs. out ++ xs) (sym (behind_here planned invisible items i item within at)) ∙ c.loop-i.invariant.infos);
+          ∙ ap (λ xs. out ++ xs) (sym (after_here planned invisible items i item within at)) ∙ c.loop-i.invariant.infos);
       flags = rw (seen, short) (sym (seen_here planned invisible items i item c.loop-i.out.scratch_flags within at) ∙ c.loop-i.invariant.flags);
       within = search (rules, c.in_ok-put_item.ensures.within);
       runs = search (rules, c.in_ok-follow_from.ensures.runs);
@@ -45,11 +45,11 @@ returns-in_err-put_item-clause-length g c is_length =
     let short : c.is_asked-shortest.result ≡ planned.short (stands_with_marks (i == 0) (drop i items)) =
     c.is_asked-shortest.ensures planned.short c.requires.shortest ∙ ap planned.short c.stands_with_marks_at.ensures in
     let becomes = expanded_item planned invisible (planned.short (stands_with_marks (i == 0) (drop i items))) item in
-    let later = expanded_behind planned invisible (i + 1 == 0) (drop (i + 1) items) in
+    let later = expanded_after planned invisible (i + 1 == 0) (drop (i + 1) items) in
     let skipped : c.length_limit-limit.result < length (out ++ becomes) = rw (← short) (c.in_err-put_item.ensures.length (search rules)) in
     rw (← c.infos-infos.ensures, ← c.length_limit-limit.ensures, ← c.invisible_glyph-invisible.ensures)
     (passed_by_more (out ++ becomes) later _ c.length_limit-limit.result (append_assoc out becomes later
-    ∙ ap (λ xs. out ++ xs) (sym (behind_here planned invisible items i item (omega (arith, c.loop-i-test.true)) c.index-infos-i.is))
+    ∙ ap (λ xs. out ++ xs) (sym (after_here planned invisible items i item (omega (arith, c.loop-i-test.true)) c.index-infos-i.is))
     ∙ c.loop-i.invariant.infos) skipped)
 
 pub follow_from-requires-clause-runs : goal.follow_from-requires-clause-runs

@@ -1,7 +1,7 @@
 use Rattle.std.proofs.Common.{◌≡◌, ◌≤◌, ◌++◌, ◌==◌, true, map, take, drop, vec_len}
 use Rattle.shape_items.specs.Items.{ccc_of_item}
 use Rattle.shape_plan.specs.Rules.{rules_of}
-use Rattle.shape_normalize.specs.OneWalk.{expanded_behind, seen_behind, FollowsRuns}
+use Rattle.shape_normalize.specs.OneWalk.{expanded_after, seen_after, FollowsRuns}
 use Rattle.shape_normalize.proofs.ot_shape_normalize.one_walk.expand_on.Given as goal
 
 -- what was emitted, then what is left expanded, is what the list becomes
@@ -10,10 +10,10 @@ invariant-loop-i g l =
     let shaper = g.T.Shaper.hb_ot_shaper_t in
     let rules = rules_of g.T.Unicode.hb_unicode_funcs_t.unicode shaper.constants shaper.hooks g.T.Face.hb_font_t.face l.plan l.face in
     record {
-      infos : l.out.infos.items ++ expanded_behind rules l.invisible (l.i == 0) (drop l.i l.infos)
-          ≡ take l.from l.infos ++ expanded_behind rules l.invisible (l.from == 0) (drop l.from l.infos);
-      flags : seen_behind rules l.invisible (l.i == 0) l.out.scratch_flags (drop l.i l.infos)
-          ≡ seen_behind rules l.invisible (l.from == 0) l.buffer.scratch_flags (drop l.from l.infos);
+      infos : l.out.infos.items ++ expanded_after rules l.invisible (l.i == 0) (drop l.i l.infos)
+          ≡ take l.from l.infos ++ expanded_after rules l.invisible (l.from == 0) (drop l.from l.infos);
+      flags : seen_after rules l.invisible (l.i == 0) l.out.scratch_flags (drop l.i l.infos)
+          ≡ seen_after rules l.invisible (l.from == 0) l.buffer.scratch_flags (drop l.from l.infos);
       within : vec_len l.out.infos ≤ l.limit;
       runs : l.follows ≡ true → FollowsRuns (map ccc_of_item l.out.infos.items) l.runs;
     }

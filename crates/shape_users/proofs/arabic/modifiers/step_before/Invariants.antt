@@ -2,9 +2,9 @@ use Rattle.std.proofs.Common.{◌≡◌, ◌-◌, length}
 use Rattle.shape_users.specs.Arabic.{stepped_before}
 use Rattle.shape_users.proofs.arabic.modifiers.step_before.Given as goal
 
-abbrev pub invariant-loop-passed : goal.invariant-loop-passed
-invariant-loop-passed l = record {
-  left : stepped_before l.place (l.from - l.place - l.passed) l.buffer
+abbrev pub invariant-loop-stepped : goal.invariant-loop-stepped
+invariant-loop-stepped l = record {
+  left : stepped_before l.place (l.from - l.place - l.stepped) l.buffer
       ≡ stepped_before l.place (l.from - l.place) l.fn.buffer;
   len : length l.buffer.items ≡ length l.fn.buffer.items;
 }

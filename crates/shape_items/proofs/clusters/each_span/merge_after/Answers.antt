@@ -9,7 +9,7 @@ use Rattle.shape_items.specs.Unwritten.{StandsFor}
 use Rattle.shape_items.proofs.Merging.ClusterLemmas.{put_mid-map_range, merge_short}
 use Rattle.shape_items.proofs.MergingInOrder.StandingLemmas.{merge-standing}
 use Rattle.shape_items.proofs.Unwritten.GivenLemmas.{length-given}
-use Rattle.shape_items.proofs.clusters.each_span.merge_behind.Goals as goal
+use Rattle.shape_items.proofs.clusters.each_span.merge_after.Goals as goal
 
 pub returns-then-end-start-lt2-clause-merged : goal.returns-then-end-start-lt2-clause-merged
 returns-then-end-start-lt2-clause-merged c = λ given s. (
