@@ -1,3 +1,3 @@
 pub mod Fields
-pub mod Laws
+pub mod FieldLaws
 pub mod Worked

@@ -1,10 +1,10 @@
 //! Laws of fields side by side: each function has a law as its contract, and nothing to do.
 //!
 //! They hold for words of any number of bits and for all widths.
-ghost use Rattle.bit_fields.specs.Laws.{PutFieldChangesAlone, FieldIsReadAtItsPlace};
-ghost use Rattle.bit_fields.specs.Laws.{WordIsMadeOfItsFields, FieldsAreThoseOfTheirWord};
-ghost use Rattle.bit_fields.specs.Laws.{EqualFieldsEqualWords, FieldsJoin};
-ghost use Rattle.bit_fields.specs.Laws.{PutFieldStaysInWord, MaskPutsField};
+ghost use Rattle.bit_fields.specs.FieldLaws.{PutFieldChangesAlone, FieldIsReadAtItsPlace};
+ghost use Rattle.bit_fields.specs.FieldLaws.{WordIsMadeOfItsFields, FieldsAreThoseOfTheirWord};
+ghost use Rattle.bit_fields.specs.FieldLaws.{EqualFieldsEqualWords, FieldsJoin};
+ghost use Rattle.bit_fields.specs.FieldLaws.{PutFieldStaysInWord, MaskPutsField};
 ghost use Rattle.bit_fields.specs.Worked.{FieldsWorked};
 
 /// A value that is put into a field is there, and all other fields are as they were.

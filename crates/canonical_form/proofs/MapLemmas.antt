@@ -1,4 +1,5 @@
--- From items to their characters: if each item has the ccc and mark of its character, both are settled and recomposed alike.
+-- From items to their characters: if each item has the ccc and mark of its character, both are settled and recomposed
+-- alike.
 use Rattle.std.proofs.Common.{◌≡◌, ℕ, Bool, true, false, not, ◌==◌, ◌&&◌, ◌||◌, nat_le, cond, List, [], ◌∷◌, ◌++◌, length, map, Option, Some, None, option_map, refl, sym, ap, ap₂, subst, ◌∙◌, arith, inl, inr}
 use Rattle.std.proofs.lemmas.Bool.{cases_Bool, MatchBool-at_true, MatchBool-at_false}
 use Rattle.std.proofs.lemmas.List.{map-append, length-map}

@@ -1,4 +1,5 @@
--- Expanding, ordering and recomposing a text: each keeps it equivalent, and the longest expansions lead to canonical form.
+-- Expanding, ordering and recomposing a text: each keeps it equivalent, and the longest expansions lead to canonical
+-- form.
 use Rattle.std.proofs.Common.{◌≡◌, ℕ, ◌<◌, Bool, true, false, if◌then◌else◌, List, [], ◌∷◌, ◌++◌, Option, None, Some, refl, sym, ap, subst, ◌∙◌, append-nil, ◌↔◌}
 use Rattle.std.proofs.lemmas.List.Elements.{All-nil, All-from_recursion}
 use Rattle.std.proofs.lemmas.Option.{none-some, cond_some}

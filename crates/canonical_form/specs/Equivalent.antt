@@ -1,4 +1,5 @@
--- Canonical equivalence (The Unicode Standard, D70; UAX 15) and canonical form (D118, the form of NFD), with the ccc at hand.
+-- Canonical equivalence (The Unicode Standard, D70; UAX 15) and canonical form (D118, the form of NFD), with the ccc at
+-- hand.
 use Rattle.std.specs.Prelude.{◌≡◌, ℕ, List, [], ◌∷◌, Option, None, Some}
 use Rattle.std.specs.List.{All}
 use Rattle.canonical_form.specs.Chain.{full_text}

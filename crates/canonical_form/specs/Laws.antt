@@ -1,4 +1,5 @@
--- What the crate proves of equivalence, of choices, of order and of recomposing, for all decompositions whose heights fall.
+-- What the crate proves of equivalence, of choices, of order and of recomposing, for all decompositions whose heights
+-- fall.
 use Rattle.std.specs.Prelude.{◌≡◌, ℕ, ◌<◌, ◌⊎◌, ◌↔◌, Bool, true, false, ◌==◌, List, [], ◌∷◌, ◌++◌, Option, Some}
 use Rattle.std.specs.Ordering.{nat_cmp}
 use Rattle.std.specs.List.{All, list_all}

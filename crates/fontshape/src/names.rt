@@ -33,7 +33,8 @@ impl<'a> FaceNames<'a> {
 
     /// The name of a glyph by `post`; none if it has none, or one that is no text.
     fn name(&self, glyph: GlyphId) -> Option<&'a str>
-        ensures { option_map (λ s. s.now) result ≡ written_name STANDARD.now self.now.face.post.now glyph.0 }
+        ensures { option_map (λ s. s.now) result
+            ≡ written_name STANDARD.now self.now.face.post.now glyph.0 }
     {
         match self.face.glyph_name(glyph) {
             Some(name) => text(name),

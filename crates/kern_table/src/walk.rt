@@ -61,8 +61,8 @@ fn move_on(buffer: &mut hb_buffer_t, i: usize, along: bool, by: i32)
 /// The same, and moves the glyph along the line.
 fn move_both(buffer: &mut hb_buffer_t, j: usize, along: bool, by: i32)
     requires { j < length buffer.old.items }
-    ensures { buffer.new
-        ≡ position_put j (moved_of along by (moved_on_of along by (position_at buffer.old j))) buffer.old }
+    ensures { buffer.new ≡ position_put j
+        (moved_of along by (moved_on_of along by (position_at buffer.old j))) buffer.old }
 {
     let position = moved_on(along, by, buffer.positions()[j]);
     buffer.set_position(j, moved(along, by, position));

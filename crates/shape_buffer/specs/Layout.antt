@@ -1,5 +1,5 @@
--- What a layout engine answers of a face and of compiled requests, and what its lookups make of a buffer. `Map` is what requests are
--- compiled to.
+-- What a layout engine answers of a face and of compiled requests, and what its lookups make of a buffer. `Map` is what
+-- requests are compiled to.
 use Rattle.std.specs.Prelude.{◌≡◌, ℕ, ◌<◌, Bool, List, Option, length}
 use Rattle.std.specs.Int.RustNames.{bit_and}
 use Rattle.shape_items.specs.Buffer.{Buffer}

@@ -37,7 +37,8 @@ pub record IsPlain (unicode : UnicodeMeaning) (c : ℕ) : Type 0 where
   pub no_mark : is_mark unicode c ≡ false
   pub no_space : is_space_category (unicode.category c) ≡ false
 
--- the law mirrors-are-plain, for mirrors as for vertical forms: a character that has another form is plain, and so is that form
+-- the law mirrors-are-plain, for mirrors as for vertical forms: a character that has another form is plain, and so is
+-- that form
 abbrev pub FormsArePlain : UnicodeMeaning → (ℕ → Option ℕ) → Type 0
 FormsArePlain unicode form = (c d : ℕ) → form c ≡ Some d → IsPlain unicode c × IsPlain unicode d
 

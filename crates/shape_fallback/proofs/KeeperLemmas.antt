@@ -23,7 +23,7 @@ use Rattle.shape_fallback.specs.Bases.{Span, position_span, bases, marks_of, bas
 use Rattle.shape_fallback.specs.Keepers.{EachFallback}
 use Rattle.shape_fallback.specs.Recategorized.{recategorized, recategorized_item, is_nonspacing}
 use Rattle.shape_fallback.specs.Spaces.{spaces_placed}
-use Rattle.shape_fallback.specs.Steps.{spaces_step, marks_adjusted}
+use Rattle.shape_fallback.specs.DueSteps.{spaces_step, marks_adjusted}
 use Rattle.shape_fallback.specs.declared.ot_shape_fallback.marks.MarkFrame.{MarkFrame}
 use Rattle.shape_items.proofs.Merging.KeyLemmas.{keys-unsafe_to_break, without_items-unsafe_to_break}
 

@@ -76,8 +76,8 @@ abbrev pub is_left_to_right : Direction → Bool
 is_left_to_right LeftToRight = true
 is_left_to_right _ = false
 
--- the components of a ligature run to the right: asked of the plan's direction if that is horizontal, else of its script's, left to
--- right if none is known
+-- the components of a ligature run to the right: asked of the plan's direction if that is horizontal, else of its
+-- script's, left to right if none is known
 unfoldable pub runs_to_right : UnicodeMeaning → Direction → Option Script → Bool
 runs_to_right unicode direction script =
     is_left_to_right (if is_horizontal direction then direction else script_or_ltr unicode script)

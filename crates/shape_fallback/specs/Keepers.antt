@@ -6,7 +6,7 @@ use Rattle.shape_common.specs.Unicode.{UnicodeMeaning}
 use Rattle.shape_common.specs.declared.text_types.Direction.{Direction}
 use Rattle.shape_common.specs.declared.text_types.Script.{Script}
 use Rattle.shape_plan.specs.declared.decisions.Decisions.{Decisions}
-use Rattle.shape_fallback.specs.Steps.{recategorize_step, spaces_step, marks_step}
+use Rattle.shape_fallback.specs.DueSteps.{recategorize_step, spaces_step, marks_step}
 
 -- a property of each fallback step, under a plan of this direction and script, with these decisions
 pub record EachFallback (Keeps : (Buffer → Buffer) → Type 0) (unicode : UnicodeMeaning) (face : FaceMeaning) (direction : Direction)

@@ -7,7 +7,7 @@ pub mod OneMark
 pub mod MarkState
 pub mod Marks
 pub mod Bases
-pub mod Steps
+pub mod DueSteps
 pub mod Keepers
 pub mod Exact
 pub mod WorkedCcc

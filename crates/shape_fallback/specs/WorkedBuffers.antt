@@ -19,13 +19,14 @@ use Rattle.shape_fallback.specs.MarkState.{component_of, place_of, component_ext
 use Rattle.shape_fallback.specs.Marks.{marks_placed, zeroed_position, zeroed, base_of, first_state, around_base}
 use Rattle.shape_fallback.specs.OneMark.{is_double, is_left, is_right, is_below, is_above, is_attached, agree, lowered, raised, mark_placed}
 use Rattle.shape_fallback.specs.Recategorized.{is_nonspacing, recategorized_item}
-use Rattle.shape_fallback.specs.Steps.{recategorize_step, marks_step, marks_adjusted}
+use Rattle.shape_fallback.specs.DueSteps.{recategorize_step, marks_step, marks_adjusted}
 use Rattle.shape_fallback.specs.WorkedCcc.{worked_mark}
 use Rattle.shape_fallback.specs.WorkedMarks.{at, component_mark, some_script, worked_unicode}
 use Rattle.shape_fallback.specs.WorkedOneMark.{extents}
 use Rattle.shape_fallback.specs.WorkedSpaces.{worked_face}
 
--- a face of u units in which glyph 1 is a base of this advance, with extents or none, glyph 2 an acute above, glyph 3 a dot below
+-- a face of u units in which glyph 1 is a base of this advance, with extents or none, glyph 2 an acute above, glyph 3 a
+-- dot below
 abbrev pub base_face : ℕ → ℤ → Option Extents → FaceMeaning
 base_face u advance own = record (worked_face (λ c. false)) {
   h_advance = λ g. if g.0 == 1 then advance else pos 0;

@@ -1,5 +1,5 @@
--- What depends on the buffer and on nothing else: marks without a ccc in backward text, the line that marks stand along, and the flag of
--- spaces.
+-- What depends on the buffer and on nothing else: marks without a ccc in backward text, the line that marks stand
+-- along, and the flag of spaces.
 use Rattle.std.specs.Prelude.{◌≡◌, ℕ, pos, negsuc, true, false, [], ◌∷◌, None, refl}
 use Rattle.std.specs.Int.{int_wrap}
 use Rattle.shape_items.specs.Buffer.{Buffer, new_buffer}
@@ -15,7 +15,7 @@ use Rattle.shape_common.specs.declared.text_types.Direction.TheVariants.{LeftToR
 use Rattle.shape_fallback.specs.Bases.{frame_of}
 use Rattle.shape_fallback.specs.MarkState.{place_mark, moved_past}
 use Rattle.shape_fallback.specs.Spaces.{spaces_placed, item_spaced, is_lone_space, space_positioned, space_advance, is_em_part, em_part, em_advance}
-use Rattle.shape_fallback.specs.Steps.{spaces_step}
+use Rattle.shape_fallback.specs.DueSteps.{spaces_step}
 use Rattle.shape_fallback.specs.WorkedMarks.{worked_base, component_mark, at, running}
 use Rattle.shape_fallback.specs.declared.ot_shape_fallback.mark_state.Base.{Base}
 use Rattle.shape_fallback.specs.declared.ot_shape_fallback.one_mark.Surroundings.{Surroundings}

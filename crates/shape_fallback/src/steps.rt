@@ -1,8 +1,8 @@
 //! The steps of a run that replace lookups: each asks the plan or the buffer whether it is due.
 ghost use Rattle.std.specs.Prelude.{◌≡◌};
 ghost use Rattle.shape_buffer.specs.Outcome.{Made};
-ghost use Rattle.shape_fallback.specs.Steps.{recategorize_step, spaces_step, marks_step};
-ghost use Rattle.shape_fallback.specs.Steps.{marks_adjusted};
+ghost use Rattle.shape_fallback.specs.DueSteps.{recategorize_step, spaces_step, marks_step};
+ghost use Rattle.shape_fallback.specs.DueSteps.{marks_adjusted};
 
 use crate::ot_shape_fallback::{
     _hb_ot_shape_fallback_mark_position_recategorize_marks, _hb_ot_shape_fallback_spaces,

@@ -51,7 +51,8 @@ side_of_group t c i = side_of c (u32_of t (16 + 12 * i)) (u32_of t (20 + 12 * i)
 abbrev pub group_of : List ℕ → ℕ → Option ℕ
 group_of t c = found_by (side_of_group t c) (groups_of t)
 
--- what group `i` says of a character that it holds: in format 12 its glyphs stand in a row, in format 13 there is one for all
+-- what group `i` says of a character that it holds: in format 12 its glyphs stand in a row, in format 13 there is one
+-- for all
 abbrev pub group_glyph : List ℕ → Bool → ℕ → ℕ → ℕ
 group_glyph t one c i = u32_of t (24 + 12 * i) + cond one 0 (c - u32_of t (16 + 12 * i))
 

@@ -101,22 +101,28 @@ impl<'a> FontFace<'a> {
     /// has no such font, or its em square is empty.
     pub fn from_slice(bytes: &'a [u8], index: u32) -> Option<FontFace<'a>>
         ensures found { is_some result ≡ nat_lt 0 (u16_of (bytes_of bytes.now index HEAD) 18) }
-        ensures units_per_em { IfSome result (λ f. f.units_per_em ≡ u16_of (bytes_of bytes.now index HEAD) 18) }
-        ensures glyph_count { IfSome result (λ f. f.glyph_count ≡ u16_of (bytes_of bytes.now index MAXP) 4) }
-        ensures h_count { IfSome result (λ f. f.h_count
-            ≡ long_metrics (bytes_of bytes.now index HMTX) (u16_of (bytes_of bytes.now index HHEA) 34)) }
-        ensures v_count { IfSome result (λ f. f.v_count
-            ≡ long_metrics (bytes_of bytes.now index VMTX) (u16_of (bytes_of bytes.now index VHEA) 34)) }
-        ensures long_places { IfSome result (λ f. f.long_places ≡ nat_lt 0 (u16_of (bytes_of bytes.now index HEAD) 50)) }
+        ensures units_per_em { IfSome result (λ f. f.units_per_em
+            ≡ u16_of (bytes_of bytes.now index HEAD) 18) }
+        ensures glyph_count { IfSome result (λ f. f.glyph_count
+            ≡ u16_of (bytes_of bytes.now index MAXP) 4) }
+        ensures h_count { IfSome result (λ f. f.h_count ≡ long_metrics
+            (bytes_of bytes.now index HMTX) (u16_of (bytes_of bytes.now index HHEA) 34)) }
+        ensures v_count { IfSome result (λ f. f.v_count ≡ long_metrics
+            (bytes_of bytes.now index VMTX) (u16_of (bytes_of bytes.now index VHEA) 34)) }
+        ensures long_places { IfSome result (λ f. f.long_places
+            ≡ nat_lt 0 (u16_of (bytes_of bytes.now index HEAD) 50)) }
         ensures outlines { IfSome result (λ f. f.outlines ≡ has_table bytes.now index GLYF) }
-        ensures symbols { IfSome result (λ f. f.symbols ≡ symbols_of (bytes_of bytes.now index CMAP)) }
+        ensures symbols { IfSome result (λ f. f.symbols
+            ≡ symbols_of (bytes_of bytes.now index CMAP)) }
         ensures gsub { IfSome result (λ f. f.tables.gsub ≡ has_table bytes.now index GSUB) }
         ensures gpos { IfSome result (λ f. f.tables.gpos ≡ has_table bytes.now index GPOS) }
         ensures morx { IfSome result (λ f. f.tables.morx ≡ has_table bytes.now index MORX) }
         ensures kerx { IfSome result (λ f. f.tables.kerx ≡ has_table bytes.now index KERX) }
         ensures trak { IfSome result (λ f. f.tables.trak ≡ has_table bytes.now index TRAK) }
-        ensures cmap { IfSome result (λ f. f.cmap.now ≡ chosen_subtable (bytes_of bytes.now index CMAP)) }
-        ensures sequences { IfSome result (λ f. f.sequences.now ≡ sequences_of (bytes_of bytes.now index CMAP)) }
+        ensures cmap { IfSome result (λ f. f.cmap.now
+            ≡ chosen_subtable (bytes_of bytes.now index CMAP)) }
+        ensures sequences { IfSome result (λ f. f.sequences.now
+            ≡ sequences_of (bytes_of bytes.now index CMAP)) }
         ensures hmtx { IfSome result (λ f. f.hmtx.now ≡ bytes_of bytes.now index HMTX) }
         ensures vmtx { IfSome result (λ f. f.vmtx.now ≡ bytes_of bytes.now index VMTX) }
         ensures vorg { IfSome result (λ f. f.vorg.now ≡ bytes_of bytes.now index VORG) }
@@ -180,7 +186,8 @@ impl<'a> FontFace<'a> {
 
     /// The glyph's name by `post`; none if the table has none for it, or an empty one.
     pub fn glyph_name(&self, glyph: GlyphId) -> Option<&'a [u8]>
-        ensures { option_map (λ s. s.now) result ≡ glyph_name_of STANDARD.now self.now.post.now glyph.0 }
+        ensures { option_map (λ s. s.now) result
+            ≡ glyph_name_of STANDARD.now self.now.post.now glyph.0 }
     {
         names::glyph_name(self.post, glyph.0)
     }

@@ -1,4 +1,5 @@
--- One property is put into the words of an item: it is there, the others are as they were, and the words stay words of an item.
+-- One property is put into the words of an item: it is there, the others are as they were, and the words stay words of
+-- an item.
 use Rattle.std.proofs.Common.{◌≡◌, ◌≢◌, ℕ, ◌<◌, ◌^◌, List, length, get_or, set, refl, sym, ap, subst, ◌∙◌, arith, lit<, bit_and}
 use Rattle.std.proofs.lemmas.List.{get_or-set_other}
 use Rattle.std.proofs.lemmas.Nat.{and_le_r}

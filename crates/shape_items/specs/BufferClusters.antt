@@ -10,8 +10,8 @@ use Rattle.shape_common.specs.FlagNames.{PRODUCE_UNSAFE_TO_CONCAT, HAS_GLYPH_FLA
 abbrev pub with_glyph_flags : Buffer → Buffer
 with_glyph_flags b = record b { scratch_flags = record { 0 = bit_or b.scratch_flags.0 HAS_GLYPH_FLAGS } }
 
--- the span from `start` up to `end` marked unsafe to break, except for the items of its least cluster; a span of fewer than two items changes
--- nothing
+-- the span from `start` up to `end` marked unsafe to break, except for the items of its least cluster; a span of fewer
+-- than two items changes nothing
 abbrev pub unsafe_to_break : ℕ → ℕ → Buffer → Buffer
 unsafe_to_break start end b =
     if nat_lt (start + 1) end then

@@ -14,15 +14,15 @@ abbrev pub least_cluster : List Item → ℕ
 least_cluster [] = 0
 least_cluster (x ∷ xs) = fold (λ least item. min least item.cluster) x.cluster xs
 
--- how far a span of that least cluster grows left: over the items directly before `start` in the cluster of its first item, if that
--- isn't the least
+-- how far a span of that least cluster grows left: over the items directly before `start` in the cluster of its first
+-- item, if that isn't the least
 abbrev pub growth_left : List Item → ℕ → ℕ → ℕ
 growth_left xs start least =
     let first = slice_index (clusters xs) start in
     if first == least then 0 else suffix_len (has_cluster first) (take start xs)
 
--- how far a span of that least cluster grows right: over the items directly after its last one in that one's cluster, if that isn't the
--- least
+-- how far a span of that least cluster grows right: over the items directly after its last one in that one's cluster,
+-- if that isn't the least
 abbrev pub growth_right : List Item → ℕ → ℕ → ℕ
 growth_right xs last least =
     let cluster = slice_index (clusters xs) last in
@@ -36,7 +36,8 @@ map_range f from to xs = take from xs ++ (map f (slice_range xs from to) ++ drop
 abbrev pub put_range : ℕ → ℕ → ℕ → List Item → List Item
 put_range from to cluster xs = map_range (put_in cluster) from to xs
 
--- Merge: the span from `start` up to `end`, grown on both sides, in its least cluster; a span of fewer than two items changes nothing
+-- Merge: the span from `start` up to `end`, grown on both sides, in its least cluster; a span of fewer than two items
+-- changes nothing
 unfoldable pub merge : ℕ → ℕ → List Item → List Item
 merge start end xs =
     let least = least_cluster (slice_range xs start end) in

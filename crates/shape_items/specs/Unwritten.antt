@@ -1,5 +1,5 @@
--- Writing that is put off: items as runs of one cluster, of which the last item alone is written when the run takes another
--- cluster.
+-- Writing that is put off: items as runs of one cluster, of which the last item alone is written when the run takes
+-- another cluster.
 use Rattle.std.specs.Prelude.{◌≡◌, ◌≢◌, ℕ, ◌≤◌, ⊤, List, [], ◌∷◌, ◌++◌, length, nat_lt, if◌then◌else◌}
 use Rattle.shape_items.specs.Items.{Item}
 use Rattle.shape_items.specs.Delete.{hand_over}

@@ -50,11 +50,12 @@ const SHAPER_AUXILIARY: u32 = 24;
 /// The named properties of an item: the first word, and the second one in two halves, so that an item needs
 /// no more than the alignment of 32 bits. No field crosses the middle.
 ///
-/// | word | bits |
-/// |---|---|
-/// | first | 0 to 7 category, 8 to 15 ccc, 16 to 23 space type, 24 ignorable, 25 hidden, 26 continuation, 27 ZWJ, 28 ZWNJ, 29 selector mark; 30 and 31 are 0 |
-/// | lower half of the second | 0 to 3 glyph class, 4 substituted, 5 ligated, 6 to 15 are 0, 16 to 23 ligature id, 24 to 31 ligature component |
-/// | upper half | 0 to 7 number of components, 8 to 15 syllable, 16 to 23 the shaper's category, 24 to 31 its auxiliary byte |
+/// - First word: 0 to 7 category, 8 to 15 ccc, 16 to 23 space type, 24 ignorable, 25 hidden, 26 continuation,
+///   27 ZWJ, 28 ZWNJ, 29 selector mark; 30 and 31 are 0.
+/// - Lower half of the second: 0 to 3 glyph class, 4 substituted, 5 ligated, 6 to 15 are 0, 16 to 23 ligature id,
+///   24 to 31 ligature component.
+/// - Upper half: 0 to 7 number of components, 8 to 15 syllable, 16 to 23 the shaper's category, 24 to 31 its
+///   auxiliary byte.
 #[derive(Clone, Copy, Debug)]
 pub(crate) struct ItemProperties {
     first: u32,
@@ -269,7 +270,8 @@ impl ItemProperties {
     }
 
     pub(crate) fn set_glyph_class(&mut self, glyph_class: GlyphPropsFlags)
-        ensures { self.new ≡ record self.old { glyph_class = record { 0 = bit_and glyph_class.0 14 } } }
+        ensures { self.new
+            ≡ record self.old { glyph_class = record { 0 = bit_and glyph_class.0 14 } } }
     {
         self.lower = put_field(self.lower, GLYPH_CLASS, 4, u32::from(glyph_class.0 & 14));
     }

@@ -1,4 +1,5 @@
--- The lines of the walk are right: if clusters rise, each with one set of flags, the glyph after a place tells of its whole cluster.
+-- The lines of the walk are right: if clusters rise, each with one set of flags, the glyph after a place tells of its
+-- whole cluster.
 use Rattle.std.proofs.Common.{◌≡◌, ◌≢◌, ◌⊎◌, ℕ, zero, suc, ◌-◌, ◌<◌, ◌≤◌, ◌==◌, ◌&&◌, not, Bool, true, false, ℤ, ◌<ℤ◌, ◌≤ℤ◌, List, [], ◌∷◌, length, refl, sym, ap, subst, ◌∙◌, arith, inl, inr, ne_eqb}
 use Rattle.std.proofs.lemmas.Bool.{cases_lt, and_parts, and_from, cond-true, cond-false}
 use Rattle.std.proofs.lemmas.Bool.Decides.{nat_tests}

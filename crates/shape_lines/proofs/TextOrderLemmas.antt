@@ -1,4 +1,5 @@
--- The glyphs in the order of the text: where each stands in the list, that their clusters rise, and that each cluster has one flag.
+-- The glyphs in the order of the text: where each stands in the list, that their clusters rise, and that each cluster
+-- has one flag.
 use Rattle.std.proofs.Common.{◌≡◌, ℕ, zero, suc, ◌+◌, ◌-◌, ◌<◌, ◌≤◌, Bool, true, false, not, pos, List, [], ◌∷◌, length, get_or, reverse, refl, sym, ap, ◌∙◌, arith, inl, inr}
 use Rattle.std.specs.Prelude.{nat_lt, if◌then◌else◌}
 use Rattle.std.proofs.lemmas.Bool.Decides.{nat_tests}

@@ -10,7 +10,8 @@ use Rattle.shape_items.specs.Flags.{HasOneSetOfFlags}
 abbrev pub IsMonotone : List ℕ → Type 0
 IsMonotone xs = IsNonDecreasing xs ⊎ IsNonIncreasing xs
 
--- the glyphs of a text that ends at `text_end` can be cut: their clusters are monotone, each has one set of flags, and is below that end
+-- the glyphs of a text that ends at `text_end` can be cut: their clusters are monotone, each has one set of flags, and
+-- is below that end
 pub record CanCut (b : Buffer) (text_end : ℕ) : Type 0 where
   pub monotone : IsMonotone (clusters b.items)
   pub one_set : HasOneSetOfFlags b.items

@@ -1,4 +1,5 @@
--- What the cutter goes over: the glyphs in the order of their text, each with its width and whether a line may end before it.
+-- What the cutter goes over: the glyphs in the order of their text, each with its width and whether a line may end
+-- before it.
 use Rattle.std.specs.Prelude.{◌≡◌, ◌⊎◌, ℕ, zero, suc, ◌^◌, ◌<◌, ◌≤◌, ◌==◌, ◌&&◌, not, Bool, true, ℤ, pos, ◌+ℤ◌, ◌≤ℤ◌, ◌<ℤ◌, List, [], ◌∷◌, length, slice_range}
 use Rattle.std.specs.List.{AllByRecursion}
 use Rattle.shape_items.specs.Buffer.{Buffer}

@@ -62,6 +62,7 @@ AreRightFrom b text_end width start [] = start ≡ length b.items
 AreRightFrom b text_end width start (line ∷ lines) =
     IsRightLine b width start line × (line.text_end ≡ next_text text_end lines) × AreRightFrom b text_end width (end_place b line) lines
 
--- Right lines: the lines of a text that ends at `text_end`, at most this wide as far as they can be, in the order of the text
+-- Right lines: the lines of a text that ends at `text_end`, at most this wide as far as they can be, in the order of
+-- the text
 abbrev pub AreRightLines : Buffer → ℕ → ℤ → List Line → Type 0
 AreRightLines b text_end width lines = AreRightFrom b text_end width 0 lines

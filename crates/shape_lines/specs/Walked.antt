@@ -48,8 +48,8 @@ pub record IsTaken (parts : List Part) (width : ℤ) (start taken : ℕ) : Type 
   pub for : ((end : ℕ) × (taken ≤ end) × MayEnd parts start end × Fits parts width start end)
       ⊎ ((earlier : ℕ) → earlier < taken → MayEnd parts start earlier → ⊥)
 
--- the ends before `seen` were looked at, and the sums go up to `place`: the lines before `start` stand, a line begins there, and was taken
--- up to `taken`, or has met no end yet
+-- the ends before `seen` were looked at, and the sums go up to `place`: the lines before `start` stand, a line begins
+-- there, and was taken up to `taken`, or has met no end yet
 pub record IsWalked (parts : List Part) (width : ℤ) (cut : ℕ → ℕ → Line) (lines : List Line) (start taken : ℕ) (so_far behind : ℤ)
     (place seen : ℕ) : Type 0 where
   pub lines_on : (rest : List Line) → AreLines parts width cut start rest → AreLines parts width cut 0 (lines ++ rest)

@@ -52,7 +52,8 @@ pub fn cut_lines(
     width: u32,
 ) -> Result<Vec<Line>, ShapeError>
     requires { CanCut glyphs.now text_end }
-    ensures lines { IfOk result (λ lines. AreRightLines glyphs.now text_end (pos width) lines.items) }
+    ensures lines { IfOk result (λ lines.
+        AreRightLines glyphs.now text_end (pos width) lines.items) }
     ensures memory { IsOkUnless result ShapeError.Memory }
     ensures empty { glyphs.now.items ≡ [] → IsOk result }
 {
@@ -113,7 +114,8 @@ fn least_widths(alloc: Global, glyphs: &GlyphBuffer) -> Result<Vec<i128>, AllocE
 fn least_on(part: Part, behind: i128) -> i128
     requires narrow { IsNarrow part.width }
     requires small { IsSmall behind }
-    ensures { result ≡ let on = part.width +ℤ behind in if part.cut then int_min (pos 0) on else on }
+    ensures { result
+        ≡ let on = part.width +ℤ behind in if part.cut then int_min (pos 0) on else on }
 {
     let on = i128::from(part.width) + behind;
     if part.cut && on > 0 {

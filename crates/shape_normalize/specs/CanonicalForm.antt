@@ -27,7 +27,8 @@ AreEquivalent rules s t = IsEquivalent (decompositions rules) s t
 abbrev pub HasCanonicalForm : Rules → List ℕ → Type 0
 HasCanonicalForm rules text = IsCanonical (decompositions rules) text
 
--- the hooks are lawful: their splits fall as Unicode's do, and in the modes that compose what they compose is equivalent to its parts
+-- the hooks are lawful: their splits fall as Unicode's do, and in the modes that compose what they compose is
+-- equivalent to its parts
 pub record HasLawfulHooks (rules : Rules) : Type 0 where
   pub splits : SplitsFall (decompositions rules)
   pub composes : rules.recomposes ≡ true → ComposesSoundly (decompositions rules) rules.compose
@@ -75,15 +76,15 @@ pub record IsRecomposedForm (rules : Rules) (text new : List ℕ) : Type 0 where
   pub equivalent : AreEquivalent rules text canonical
   pub is : new ≡ recomposed_text rules canonical
 
--- a text whose normalised characters depend on its characters alone: its items are prepared, there are no variation selectors and no hook that
--- reorders
+-- a text whose normalised characters depend on its characters alone: its items are prepared, there are no variation
+-- selectors and no hook that reorders
 pub record PlainPremises (rules : Rules) (b : Buffer) : Type 0 where
   pub prepared : IsPrepared rules.unicode b.items
   pub no_selector : HasNoSelector rules (text_of b)
   pub no_reordering : rules.reorder ≡ None
 
--- what is asked of a text that is cut in two, whose parts may have clusters and masks of their own: all three are plain, the second part
--- and its expanded list begin with no mark, and each part has a mark past its first item
+-- what is asked of a text that is cut in two, whose parts may have clusters and masks of their own: all three are
+-- plain, the second part and its expanded list begin with no mark, and each part has a mark past its first item
 pub record CutPremises (rules : Rules) (old front back : Buffer) : Type 0 where
   pub parts : text_of old ≡ text_of front ++ text_of back
   pub plain : PlainPremises rules old
@@ -94,8 +95,8 @@ pub record CutPremises (rules : Rules) (old front back : Buffer) : Type 0 where
   pub front_marked : has_mark_past_first front.items ≡ true
   pub back_marked : has_mark_past_first back.items ≡ true
 
--- normalising leads from the one text to an equivalent one, which is canonical or recomposed of a canonical one, and the same for
--- equivalent texts alone; it depends on characters alone, and may be done part by part
+-- normalising leads from the one text to an equivalent one, which is canonical or recomposed of a canonical one, and
+-- the same for equivalent texts alone; it depends on characters alone, and may be done part by part
 pub record NormalizesCanonically (rules : Rules) (old new : Buffer) : Type 0 where
   pub equivalent : EquivalencePremises rules old → AreEquivalent rules (text_of old) (text_of new)
   pub canonical : rules.recomposes ≡ false → CanonicalFormPremises rules old → HasCanonicalForm rules (text_of new)

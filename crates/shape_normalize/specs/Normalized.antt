@@ -13,14 +13,15 @@ use Rattle.shape_normalize.specs.RoundOne.{round_one, item_glyph, sequences, seq
 use Rattle.shape_normalize.specs.RoundThree.{recomposed_items, recomposed_by_last, with_put_out, round_three}
 use Rattle.shape_normalize.specs.RoundTwo.{max_run, has_mark_past_first, has_seen_cgj, marks_ordered, cgj_unhidden_where_seen, OrdersMarks}
 
--- the buffer with its expanded list, with its marks in order if a mark stood past the first item as normalising began, and with each CGJ
--- unhidden that keeps nothing apart
+-- the buffer with its expanded list, with its marks in order if a mark stood past the first item as normalising began,
+-- and with each CGJ unhidden that keeps nothing apart
 abbrev pub ordered : Rules → Buffer → Buffer
 ordered rules b =
     let expanded = round_one rules b in
     cgj_unhidden_where_seen (if has_mark_past_first b.items then marks_ordered rules.reorder expanded else expanded)
 
--- the buffer with its normalised list: the ordered one, recomposed in the modes that compose, if a mark stood past the first item
+-- the buffer with its normalised list: the ordered one, recomposed in the modes that compose, if a mark stood past the
+-- first item
 abbrev pub normalized : Rules → Buffer → Buffer
 normalized rules b = if has_mark_past_first b.items && rules.recomposes then round_three rules (ordered rules b) else ordered rules b
 
@@ -28,8 +29,8 @@ normalized rules b = if has_mark_past_first b.items && rules.recomposes then rou
 abbrev pub BroughtInHaveGlyphs : (ℕ → Option GlyphId) → List ℕ → List ℕ → Type 0
 BroughtInHaveGlyphs glyph before after = All (λ c. (has_glyph glyph c ≡ true) ⊎ Contains before c) after
 
--- the reorder hook keeps clusters at the monotone levels, if one is given: each of its calls, over a run in order, keeps their order and
--- brings no new one
+-- the reorder hook keeps clusters at the monotone levels, if one is given: each of its calls, over a run in order,
+-- keeps their order and brings no new one
 abbrev pub HookKeepsClusters : Rules → Type 0
 HookKeepsClusters rules =
     (reorder : Buffer → ℕ → ℕ → Buffer) → rules.reorder ≡ Some reorder
@@ -59,8 +60,8 @@ HasItemGlyph rules old item =
     (item.glyph_index ≡ item_glyph rules old.invisible_glyph item)
     ⊎ Contains (map (content rules) (selector_items rules old)) (content rules item)
 
--- the marks of the expanded list were put in order: swaps reach the ordered list, in which each run of at most 32 is in canonical order; in
--- the modes that don't compose it is the new list
+-- the marks of the expanded list were put in order: swaps reach the ordered list, in which each run of at most 32 is in
+-- canonical order; in the modes that don't compose it is the new list
 pub record OrdersExpanded (rules : Rules) (old new : Buffer) : Type 0 where
   pub ordered_list : has_mark_past_first old.items ≡ true → rules.reorder ≡ None
       → OrdersMarks (round_one rules old).items (ordered rules old).items
@@ -97,8 +98,8 @@ KeepsFeatures old new = All (λ item. Contains (map features_of old.items) (feat
 abbrev pub hidden_char : Item → ℕ × Bool
 hidden_char item = (item.codepoint, item.properties.hidden)
 
--- if no CGJ was seen by the end of round one, each item's hidden bit is that of its character, or the item has the character and the
--- hidden bit of one of the text
+-- if no CGJ was seen by the end of round one, each item's hidden bit is that of its character, or the item has the
+-- character and the hidden bit of one of the text
 abbrev pub KeepsHidden : Rules → Buffer → Buffer → Type 0
 KeepsHidden rules old new =
     has_seen_cgj (round_one rules old) ≡ false

@@ -23,7 +23,8 @@ item_at items place = get_or items place (new_item 0 0)
 
 -- ---- round one
 
--- the place of the text that an item of the expanded list came from, and whether it stands in a sequence with a variation selector
+-- the place of the text that an item of the expanded list came from, and whether it stands in a sequence with a
+-- variation selector
 pub record Origin : Type 0 where
   pub place : ℕ
   pub selects : Bool
@@ -36,8 +37,8 @@ abbrev pub origins_from : Bool → ℕ → List Item → List Origin
 origins_from selects place [] = []
 origins_from selects place (item ∷ items) = origin_at selects place ∷ origins_from selects (suc place) items
 
--- of an item with the selectors directly after it: if the face has a glyph for the first two, they became one item, which came from
--- the first
+-- of an item with the selectors directly after it: if the face has a glyph for the first two, they became one item,
+-- which came from the first
 abbrev pub variant_origins : FaceMeaning → ℕ → List Item → List Origin
 variant_origins face place [] = []
 variant_origins face place (x ∷ []) = origin_at true place ∷ []
@@ -70,9 +71,9 @@ origins rules text =
     origins_of_parts (sequence_origins rules text.invisible_glyph) 0
     (sequences (variation_sequences_merged rules text).items)
 
--- what an item has of the text's item at the place that it came from: the feature bits; outside sequences with a selector the glyph of
--- its own character, or what replaces that; and the hidden bit with the character, or else that of its own character, except for a CGJ
--- that may have been unhidden since
+-- what an item has of the text's item at the place that it came from: the feature bits; outside sequences with a
+-- selector the glyph of its own character, or what replaces that; and the hidden bit with the character, or else that
+-- of its own character, except for a CGJ that may have been unhidden since
 pub record HasOfOrigin (rules : Rules) (text : Buffer) (unhides : Bool) (origin : Origin) (item : Item) : Type 0 where
   pub features : features_of item ≡ features_of (item_at text.items origin.place)
   pub glyph : origin.selects ≡ false → item.glyph_index ≡ item_glyph rules text.invisible_glyph item
@@ -109,15 +110,15 @@ pub record PermutesRuns (items : List Item) (places : List ℕ) : Type 0 where
   pub all : IsPermutation (all_places items) places
   pub runs : (i d : ℕ) → i < length items → AreInOneRun items i (get_or places i d)
 
--- the places of the expanded list in the order that round two leaves: if no reorder hook is given runs of at most 32 marks are
--- settled, else each of these is in another order
+-- the places of the expanded list in the order that round two leaves: if no reorder hook is given runs of at most 32
+-- marks are settled, else each of these is in another order
 abbrev pub IsOrderOf : Rules → List Item → List ℕ → Type 0
 IsOrderOf rules items places =
     MatchOption rules.reorder (AreRunsSettled (λ place. ccc_of_item (item_at items place)) max_run [] (all_places items) places)
     (λ reorder. PermutesRuns items places)
 
--- an item except for its cluster and its defined flags, which merging changes, and for its ccc if a reorder hook is given, which may
--- set that
+-- an item except for its cluster and its defined flags, which merging changes, and for its ccc if a reorder hook is
+-- given, which may set that
 abbrev pub lasting : Rules → Item → Item
 lasting rules item = if is_some rules.reorder then without_ccc item else unmerged item
 
@@ -135,8 +136,8 @@ abbrev pub last_char : ℕ → List Absorbed → ℕ
 last_char c [] = c
 last_char c (mark ∷ marks) = last_char mark.char marks
 
--- an item is this one; once marks were composed with that, it has the character of the last composition, which has a glyph, with that
--- glyph and with the properties of that character
+-- an item is this one; once marks were composed with that, it has the character of the last composition, which has a
+-- glyph, with that glyph and with the properties of that character
 abbrev pub IsOnceComposed : Rules → Item → List Absorbed → Item → Type 0
 IsOnceComposed rules from [] item = unmerged item ≡ unmerged from
 IsOnceComposed rules from (mark ∷ marks) item =
@@ -161,8 +162,9 @@ new_origins rules text places =
     if is_recomposed rules text then map (λ p. get_or of_ordered p.place none) (recomposed_items rules (ordered rules text).items)
     else of_ordered
 
--- each item of the expanded list by the place of the text that it came from, each of the ordered list by its place in the expanded one,
--- and each of the new list by the place of its starter in the ordered one; and so, what each has of the text's item that it came from
+-- each item of the expanded list by the place of the text that it came from, each of the ordered list by its place in
+-- the expanded one, and each of the new list by the place of its starter in the ordered one; and so, what each has of
+-- the text's item that it came from
 pub record ComesByPlace (rules : Rules) (text new : Buffer) : Type 0 where
   pub expanded : AllZip (HasOfOrigin rules text false) (origins rules text) (round_one rules text).items
   pub places : List ℕ

@@ -1,4 +1,5 @@
--- A part: a character of an expansion with its glyph, and the item that is made of it. Rounds one and three make such items.
+-- A part: a character of an expansion with its glyph, and the item that is made of it. Rounds one and three make such
+-- items.
 use Rattle.std.specs.Prelude.{ℕ, List, map, fold, Option, unwrap_or}
 use Rattle.std.specs.Option.{option_map}
 use Rattle.shape_common.specs.Unicode.{UnicodeMeaning}

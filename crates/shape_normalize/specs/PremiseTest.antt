@@ -1,4 +1,5 @@
--- The premises of canonical form as a test on items; marks in a row are counted from the end of a text to its beginning.
+-- The premises of canonical form as a test on items; marks in a row are counted from the end of a text to its
+-- beginning.
 use Rattle.std.specs.Prelude.{ℕ, ◌+◌, ◌==◌, ◌&&◌, nat_lt, not, Bool, true, false, if◌then◌else◌, List, [], ◌∷◌, map, Option, None, Some, is_some}
 use Rattle.std.specs.List.{list_all}
 use Rattle.canonical_form.specs.Chain.{full_text}

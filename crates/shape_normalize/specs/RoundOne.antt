@@ -1,5 +1,5 @@
--- Round one of normalising: each item becomes the items of its character's expansion, or takes a glyph with the variation selector after
--- it.
+-- Round one of normalising: each item becomes the items of its character's expansion, or takes a glyph with the
+-- variation selector after it.
 use Rattle.std.specs.Prelude.{ℕ, ◌+◌, ◌==◌, ◌&&◌, not, Bool, true, false, if◌then◌else◌, List, [], ◌∷◌, ◌++◌, map, fold, replicate, length, Option, None, Some, is_some, unwrap_or}
 use Rattle.std.specs.Option.{option_map, option_map_or, option_or}
 use Rattle.std.specs.List.{flat_map, list_any}
@@ -171,8 +171,9 @@ seen_sequence rules invisible flags sequence =
     if is_selector_sequence rules.unicode sequence then fold (seen_variant rules.face) flags (variants rules.unicode sequence)
     else fold (seen_expanded rules invisible (rules.short (is_with_marks sequence))) flags sequence
 
--- two items that become one are merged first, from left to right; that this is done before the walk changes nothing, since the selector
--- that goes is next to its item and in one cluster with it, so that a merge grows over both or neither
+-- two items that become one are merged first, from left to right; that this is done before the walk changes nothing,
+-- since the selector that goes is next to its item and in one cluster with it, so that a merge grows over both or
+-- neither
 abbrev pub variation_sequences_merged : Rules → Buffer → Buffer
 variation_sequences_merged rules b = all_merged (variation_sequences_from rules.unicode rules.face 0 (sequences b.items)) b
 

@@ -41,8 +41,8 @@ compose_placed rules starter mark =
       absorbed = starter.absorbed ++ record { place = mark.place; char = c } ∷ [];
     }) (compose_with_glyph rules.compose (has_glyph rules.face.nominal_glyph) starter.item.codepoint mark.item.codepoint)
 
--- the items that are emitted: a mark is blocked by any mark between it and its starter that has ccc 0 or a ccc not less than its own
--- (D115), in runs of any length
+-- the items that are emitted: a mark is blocked by any mark between it and its starter that has ccc 0 or a ccc not less
+-- than its own (D115), in runs of any length
 abbrev pub recomposed_items : Rules → List Item → List Placed
 recomposed_items rules items = recomposed ccc_of_placed (is_blocked ccc_of_placed) is_mark_placed (compose_placed rules) (placed 0 items)
 

@@ -1,5 +1,6 @@
--- Whose ccc counts when a shaper's hooks are given, computed on small cases whose answers are worked out by hand: Unicode's of each
--- character that a hook splits or composes, and the item's own of each mark that a hook has reordered.
+-- Whose ccc counts when a shaper's hooks are given, computed on small cases whose answers are worked out by hand:
+-- Unicode's of each character that a hook splits or composes, and the item's own of each mark that a hook has
+-- reordered.
 use Rattle.std.specs.Prelude.{◌≡◌, ℕ, ◌+◌, ◌==◌, ◌&&◌, Bool, true, false, if◌then◌else◌, List, [], ◌∷◌, map, get_or, Some, None, refl}
 use Rattle.shape_items.specs.Buffer.{Buffer}
 use Rattle.shape_items.specs.Clusters.{merge}
@@ -82,7 +83,8 @@ pub record CccOfReorderedMarks : Type 0 where
   -- U+0308 comes to stand before U+0323, and keeps U+0301 from the letter
   pub blocks_before_smaller : cccs_by (reordering 3 first_two_reversed) (item 0x61 0 ∷ item 0x323 0 ∷ item 0x308 0 ∷ item 0x301 0 ∷ [])
       ≡ (0x61, 0) ∷ (0x308, 230) ∷ (0x323, 220) ∷ (0x301, 230) ∷ []
-  -- CGJ: what stands before it is of a greater ccc than what stands after, or of a smaller one, once the hook has set it
+  -- CGJ: what stands before it is of a greater ccc than what stands after, or of a smaller one, once the hook has set
+  -- it
   pub keeps_apart : hidden_by (reordering 1 (first_of_ccc 240)) (item 0x61 0 ∷ item 0x323 0 ∷ item 0x34F 0 ∷ item 0x301 0 ∷ [])
       ≡ (0x61, false) ∷ (0x323, false) ∷ (0x34F, true) ∷ (0x301, false) ∷ []
   pub keeps_nothing_apart : hidden_by (reordering 1 (first_of_ccc 10)) (item 0x61 0 ∷ item 0x301 0 ∷ item 0x34F 0 ∷ item 0x323 0 ∷ [])

@@ -48,7 +48,8 @@ pub record NewPlacesWorked : Type 0 where
       ≡ origin_at false 0 ∷ origin_at false 1 ∷ origin_at false 3 ∷ []
   pub left : new_origins (rules_in 1 (0x61 ∷ 0xE1 ∷ 0x301 ∷ 0x323 ∷ [])) two_marks (0 ∷ 1 ∷ 3 ∷ 2 ∷ [])
       ≡ origin_at false 0 ∷ origin_at false 1 ∷ origin_at false 3 ∷ origin_at false 2 ∷ []
-  -- places of the expanded list are no places of the text: U+00E1 splits, U+0323 goes before U+0301, which composes again
+  -- places of the expanded list are no places of the text: U+00E1 splits, U+0323 goes before U+0301, which composes
+  -- again
   pub expanded_composed : new_origins (rules_in 3 (0x61 ∷ 0xE1 ∷ 0x301 ∷ 0x323 ∷ [])) (buffer_of (item 0xE1 0 ∷ item 0x323 1 ∷ []))
       (0 ∷ 2 ∷ 1 ∷ [])
       ≡ origin_at false 0 ∷ origin_at false 1 ∷ []

@@ -1,4 +1,5 @@
--- A small world for worked cases: some characters, with what they split into and compose to, and faces by the characters that they have.
+-- A small world for worked cases: some characters, with what they split into and compose to, and faces by the
+-- characters that they have.
 use Rattle.std.specs.Prelude.{ℕ, pos, false, ◌==◌, ◌&&◌, ◌||◌, if◌then◌else◌, List, map, Option, Some, None}
 use Rattle.std.specs.List.{find}
 use Rattle.std.specs.Option.{option_map}
@@ -13,8 +14,8 @@ use Rattle.shape_common.specs.declared.general_category.hb_unicode_general_categ
 use Rattle.shape_plan.specs.Rules.{Rules, goes_short, mode_recomposes}
 use Rattle.shape_plan.specs.WorkedFaces.{bare_face}
 
--- U+20DD encloses and has ccc 0, and so has the selector U+FE00; U+E001 is U+0061 enclosed, a symbol that is ignorable; the rest are
--- letters
+-- U+20DD encloses and has ccc 0, and so has the selector U+FE00; U+E001 is U+0061 enclosed, a symbol that is ignorable;
+-- the rest are letters
 abbrev pub world_category : ℕ → hb_unicode_general_category_t
 world_category c =
     if c == 0x301 || c == 0x308 || c == 0x323 || c == 0x344 || c == 0x34F || c == 0xFE00 then NonspacingMark
@@ -65,8 +66,8 @@ world = record {
   script_direction = λ s. None;
 }
 
--- a face in which each of these characters has the glyph of its own number; U+0061 with U+FE00 after it has glyph 7 if the face has
--- U+FE00
+-- a face in which each of these characters has the glyph of its own number; U+0061 with U+FE00 after it has glyph 7 if
+-- the face has U+FE00
 abbrev pub face_of : List ℕ → FaceMeaning
 face_of chars = record bare_face {
   nominal_glyph = λ c. option_map (λ known. record { 0 = known }) (find (λ known. known == c) chars);

@@ -1,4 +1,5 @@
--- Canonical form end to end: preparing prepares, so the premises that normalising asks of a buffer hold of every prepared text.
+-- Canonical form end to end: preparing prepares, so the premises that normalising asks of a buffer hold of every
+-- prepared text.
 use Rattle.std.proofs.Common.{◌≡◌, ℕ, List, refl, sym, subst}
 use Rattle.std.specs.Prelude.{◌↔◌}
 use Rattle.shape_items.specs.Buffer.{Buffer}

@@ -1,5 +1,5 @@
--- The order of clusters along a whole run: rising in the text, facing its native direction while it is shaped, and shown in the direction
--- of the text.
+-- The order of clusters along a whole run: rising in the text, facing its native direction while it is shaped, and
+-- shown in the direction of the text.
 use Rattle.std.proofs.Common.{◌≡◌, ◌≢◌, ℕ, Bool, true, false, List, [], ◌∷◌, ◌++◌, length, Option, Some, None, refl, ap, sym, ◌∙◌, arith, subst}
 use Rattle.std.specs.Prelude.{Contains, not}
 use Rattle.std.specs.List.Sorted.{IsNonDecreasing}

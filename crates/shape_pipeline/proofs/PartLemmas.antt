@@ -6,7 +6,7 @@ use Rattle.shape_buffer.specs.Outcome.{Step, step, run_steps}
 use Rattle.shape_buffer.proofs.Steps.KeeperLemmas.{EachStep-append}
 use Rattle.shape_buffer.proofs.Steps.Runs.{run_steps-append}
 use Rattle.shape_fallback.specs.Keepers.{EachFallback}
-use Rattle.shape_fallback.specs.Steps.{recategorize_step, spaces_step, marks_step}
+use Rattle.shape_fallback.specs.DueSteps.{recategorize_step, spaces_step, marks_step}
 use Rattle.shape_plan.specs.Run.{Run}
 use Rattle.shape_position.specs.Steps.{advance_steps, table_steps}
 use Rattle.shape_substitute.specs.Keepers.{EachSubstitutionStep}

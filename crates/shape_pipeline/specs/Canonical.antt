@@ -23,8 +23,8 @@ prepared_characters run text = text_of (prepared_text run text)
 abbrev pub normalised_characters : Run → Buffer → List ℕ
 normalised_characters run text = text_of (normalised_list run text)
 
--- the equivalence premises on hooks: they are lawful, none reorders marks, and a given `preprocess_text` leaves the mark and the ccc of
--- each item those of its character
+-- the equivalence premises on hooks: they are lawful, none reorders marks, and a given `preprocess_text` leaves the
+-- mark and the ccc of each item those of its character
 pub record RunKeepsEquivalence (run : Run) : Type 0 where
   pub lawful_hooks : HasLawfulHooks run.rules
   pub no_reordering : run.rules.reorder ≡ None
@@ -35,12 +35,14 @@ pub record RunKeepsEquivalence (run : Run) : Type 0 where
 abbrev pub HasPlainText : Run → Buffer → Type 0
 HasPlainText run text = HasNoSelector run.rules (prepared_characters run text)
 
--- and it is one that canonical form is asked of: in a mode that decomposes fully, with glyphs, short runs and a mark past the first
+-- and it is one that canonical form is asked of: in a mode that decomposes fully, with glyphs, short runs and a mark
+-- past the first
 pub record HasCanonicalText (run : Run) (text : Buffer) : Type 0 where
   pub plain : HasPlainText run text
   pub canonical : CanonicalTextPremises run.rules (prepared_characters run text)
 
--- a text is cut in two before a character that is no mark and whose choice begins with none, and each part has a mark past its first
+-- a text is cut in two before a character that is no mark and whose choice begins with none, and each part has a mark
+-- past its first
 pub record IsCutInTwo (run : Run) (text front back : Buffer) : Type 0 where
   pub parts : prepared_characters run text ≡ prepared_characters run front ++ prepared_characters run back
   pub plain : HasPlainText run text
@@ -51,8 +53,8 @@ pub record IsCutInTwo (run : Run) (text front back : Buffer) : Type 0 where
   pub front_marked : has_mark_past_first (prepared_text run front).items ≡ true
   pub back_marked : has_mark_past_first (prepared_text run back).items ≡ true
 
--- the normalised list is equivalent to the prepared text, canonical or recomposed of a canonical one, the same as another text's exactly
--- when both are equivalent; it depends on characters alone, and may be made part by part
+-- the normalised list is equivalent to the prepared text, canonical or recomposed of a canonical one, the same as
+-- another text's exactly when both are equivalent; it depends on characters alone, and may be made part by part
 pub record HasCanonicalList (run : Run) (text : Buffer) : Type 0 where
   pub equivalent : HasPlainText run text → AreEquivalent run.rules (prepared_characters run text) (normalised_characters run text)
   pub canonical : run.rules.recomposes ≡ false → HasCanonicalText run text → HasCanonicalForm run.rules (normalised_characters run text)
@@ -71,13 +73,13 @@ pub record HasCanonicalList (run : Run) (text : Buffer) : Type 0 where
 abbrev pub ListIsCanonical : Run → Buffer → Type 0
 ListIsCanonical run text = RunKeepsEquivalence run → HasCanonicalList run text
 
--- preparing leaves the characters of a text, with script and direction guessed: no dotted circle goes in, nothing is reversed, mirrored or
--- taken in its vertical form, and a given `preprocess_text` leaves characters
+-- preparing leaves the characters of a text, with script and direction guessed: no dotted circle goes in, nothing is
+-- reversed, mirrored or taken in its vertical form, and a given `preprocess_text` leaves characters
 abbrev pub LeavesText : Run → Buffer → Type 0
 LeavesText run text = LeavesCharacters run (target_of run text) (entered (guessed run.unicode text))
 
--- a text that canonical form can be asked of by its own characters: preparing leaves them, none is a variation selector, and canonical
--- form is asked of them
+-- a text that canonical form can be asked of by its own characters: preparing leaves them, none is a variation
+-- selector, and canonical form is asked of them
 pub record HasOwnCharacters (run : Run) (text : Buffer) : Type 0 where
   pub left : LeavesText run text
   pub plain : HasNoSelector run.rules (text_of text)

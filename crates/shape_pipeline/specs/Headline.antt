@@ -35,9 +35,9 @@ abbrev pub IsMadeOfNormalisedList : Run → Buffer → Buffer → Type 0
 IsMadeOfNormalisedList run text glyphs =
     HasItems text → glyphs ≡ finished (target_of run text) (run_steps (shaped_steps run) (normalised_list run text))
 
--- what is promised of the normalised list of a prepared text: what is brought in has a glyph, each item has the glyph of its character
--- or what replaces it, features are those of the text's items, each item comes by its place, clusters keep their order,
--- canonical form, and what recomposing leaves
+-- what is promised of the normalised list of a prepared text: what is brought in has a glyph, each item has the glyph
+-- of its character or what replaces it, features are those of the text's items, each item comes by its place, clusters
+-- keep their order, canonical form, and what recomposing leaves
 pub record NormalForm (rules : Rules) (text list : Buffer) : Type 0 where
   pub brought_in : BroughtInHaveGlyphs rules.face.nominal_glyph (text_of text) (text_of list)
   pub item_glyphs : All (HasItemGlyph rules text) list.items

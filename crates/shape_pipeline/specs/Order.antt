@@ -22,8 +22,8 @@ pub record RunKeepsClusters (run : Run) : Type 0 where
 abbrev pub grapheme_clusters : Run → Buffer → List ℕ
 grapheme_clusters run text = first_clusters (marked_text run (entered text)).items
 
--- the clusters of glyphs come from the text, at MONOTONE_GRAPHEMES from the first characters of its graphemes, and stand in the order of
--- the target direction
+-- the clusters of glyphs come from the text, at MONOTONE_GRAPHEMES from the first characters of its graphemes, and
+-- stand in the order of the target direction
 pub record ComesInOrder (run : Run) (target : Direction) (text glyphs : Buffer) : Type 0 where
   pub from_text : (k : ℕ) → Contains (clusters glyphs.items) k → Contains (clusters text.items) k
   pub from_firsts : text.cluster_level ≡ MonotoneGraphemes

@@ -7,7 +7,8 @@ use Rattle.shape_common.specs.declared.text_types.Feature.{Feature}
 use Rattle.shape_plan.specs.Plan.{Plan}
 use Rattle.shape_plan.specs.Planner.{Planning, planned, own_data}
 
--- the plan for the direction and script of a text as guessing would set them, for its language, and for the user's features
+-- the plan for the direction and script of a text as guessing would set them, for its language, and for the user's
+-- features
 abbrev pub planned_for : {F S P D : Type 0} → UnicodeMeaning → Planning F S P D → F → S → List Feature → Buffer → Plan S P D
 planned_for unicode planning face shaper features text =
     planned planning face shaper (guessed_direction unicode text) (guessed_script unicode text) text.language features

@@ -17,7 +17,8 @@ pub record LeavesBuffers (hooks : HookMeaning) : Type 0 where
   pub postprocess : hooks.postprocess ≡ (λ b. b)
   pub pause : hooks.pause ≡ (λ n b. b)
 
--- hook by hook: each of the four that change a buffer isn't given, or keeps what is asked of it; of pauses, those that the run calls
+-- hook by hook: each of the four that change a buffer isn't given, or keeps what is asked of it; of pauses, those that
+-- the run calls
 pub record HookByHook (Keeps : (Buffer → Buffer) → Type 0) (run : Run) (hooks : HookMeaning) : Type 0 where
   pub preprocess : (run.constants.has_preprocess_text ≡ false) ⊎ Keeps hooks.preprocess
   pub setup_masks : (run.constants.has_setup_masks ≡ false) ⊎ Keeps hooks.setup_masks

@@ -4,7 +4,7 @@ use Rattle.shape_items.specs.Buffer.{Buffer, limit_of, run_limit}
 use Rattle.shape_buffer.specs.Guess.{guessed, guessed_direction}
 use Rattle.shape_buffer.specs.Outcome.{Step, step, run_steps, EachWithin, SomePast}
 use Rattle.shape_common.specs.declared.text_types.Direction.{Direction}
-use Rattle.shape_fallback.specs.Steps.{recategorize_step, spaces_step, marks_step}
+use Rattle.shape_fallback.specs.DueSteps.{recategorize_step, spaces_step, marks_step}
 use Rattle.shape_normalize.specs.Normalized.{normalized}
 use Rattle.shape_normalize.specs.RoundOne.{round_one}
 use Rattle.shape_plan.specs.Rules.{Rules}
@@ -76,7 +76,8 @@ shaped run b = run_made run (guessed_direction run.unicode b) (guessed run.unico
 abbrev pub HasItems : Buffer → Type 0
 HasItems b = b.items ≢ []
 
--- a text was prepared: exactly this was made of it, within the run's limit, which is the buffer's now, and no step made a list past it
+-- a text was prepared: exactly this was made of it, within the run's limit, which is the buffer's now, and no step made
+-- a list past it
 pub record Prepares (run : Run) (target : Direction) (old new : Buffer) : Type 0 where
   pub made : new ≡ text_made run target old
   pub within : length new.items ≤ run_limit (length old.items)

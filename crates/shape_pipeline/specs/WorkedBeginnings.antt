@@ -1,5 +1,5 @@
--- What a run begins and ends with, worked out by hand: the text as it enters, the plan for it, a face that is given glyph by glyph, and
--- what the promises on clusters and flags are good for.
+-- What a run begins and ends with, worked out by hand: the text as it enters, the plan for it, a face that is given
+-- glyph by glyph, and what the promises on clusters and flags are good for.
 use Rattle.std.specs.Prelude.{◌≡◌, ℕ, ℤ, pos, neg_ℤ, int_div, List, [], Contains, Option, None, Some, refl}
 use Rattle.std.specs.List.Sorted.{IsNonDecreasing}
 use Rattle.std.proofs.Common.{ap}

@@ -10,8 +10,8 @@ use Rattle.shape_plan.specs.Shaper.{HookMeaning}
 abbrev pub AskedWhere : (Run → Type 0) → ((Buffer → Buffer) → Type 0) → HookMeaning → Type 0
 AskedWhere Holds Keeps hooks = (run : Run) → Holds run → EachCalledPause Keeps run hooks
 
--- nothing if morx stands in the place of the stages, if there is no stage, or if no stage answers a number; if there are two
--- stages and the second answers 7, pause 7 is asked
+-- nothing if morx stands in the place of the stages, if there is no stage, or if no stage answers a number; if there
+-- are two stages and the second answers 7, pause 7 is asked
 pub record WorkedOwed (Keeps : (Buffer → Buffer) → Type 0) (hooks : HookMeaning) : Type 0 where
   pub under_morx : AskedWhere (λ run. run.decisions.apply_morx ≡ true) Keeps hooks
   pub without_stages : AskedWhere (λ run. run.map.stages ≡ 0) Keeps hooks

@@ -1,5 +1,5 @@
--- What is known of a text that was prepared, normalised and shaped, when each passes the limit, and what a shaper makes for a text's plan,
--- on texts that are worked out by hand.
+-- What is known of a text that was prepared, normalised and shaped, when each passes the limit, and what a shaper makes
+-- for a text's plan, on texts that are worked out by hand.
 use Rattle.std.specs.Prelude.{◌≡◌, ◌+◌, ◌<◌, ◌≤◌, ◌⊎◌, ℕ, Bool, false, List, [], ◌∷◌, length, Option, Some, None, is_some, refl}
 use Rattle.std.specs.Option.{option_map_or}
 use Rattle.shape_items.specs.Buffer.{Buffer, new_buffer, limit_of}

@@ -3,7 +3,7 @@ use Rattle.std.specs.Prelude.{◌≡◌, ◌&&◌, List, [], ◌∷◌, ◌++◌
 use Rattle.shape_items.specs.Flags.{flags_propagated}
 use Rattle.shape_buffer.specs.Outcome.{Step, step}
 use Rattle.shape_common.specs.declared.text_types.Direction.{Direction}
-use Rattle.shape_fallback.specs.Steps.{recategorize_step, spaces_step, marks_step}
+use Rattle.shape_fallback.specs.DueSteps.{recategorize_step, spaces_step, marks_step}
 use Rattle.shape_plan.specs.Run.{Run, step_if, hook_if}
 use Rattle.shape_position.specs.Advances.{positions_cleared, advanced}
 use Rattle.shape_position.specs.Ignorables.{ignorables_zeroed, ignorables_hidden}

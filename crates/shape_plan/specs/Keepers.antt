@@ -5,13 +5,14 @@ use Rattle.shape_buffer.specs.Keepers.{IsClusterKeeper, IsFlagKeeper}
 use Rattle.shape_plan.specs.Run.{Run}
 use Rattle.shape_plan.specs.Shaper.{ShaperConstants, HookMeaning}
 
--- a property of each pause that a run calls: of the numbers that its stages answer, if `morx` doesn't stand in their place
+-- a property of each pause that a run calls: of the numbers that its stages answer, if `morx` doesn't stand in their
+-- place
 abbrev pub EachCalledPause : ((Buffer → Buffer) → Type 0) → Run → HookMeaning → Type 0
 EachCalledPause Keeps run hooks =
     run.decisions.apply_morx ≡ false → (i n : ℕ) → i < run.map.stages → run.map.pause_after i ≡ Some n → Keeps (hooks.pause n)
 
--- a property of each hook that is given and changes a buffer, except for the one that reorders marks; a hook that isn't given is never
--- called
+-- a property of each hook that is given and changes a buffer, except for the one that reorders marks; a hook that isn't
+-- given is never called
 pub record EachHook (Keeps : (Buffer → Buffer) → Type 0) (run : Run) (hooks : HookMeaning) : Type 0 where
   pub preprocess : run.constants.has_preprocess_text ≡ true → Keeps hooks.preprocess
   pub setup_masks : run.constants.has_setup_masks ≡ true → Keeps hooks.setup_masks

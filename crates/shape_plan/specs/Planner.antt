@@ -31,7 +31,8 @@ pub record Planner (F S : Type 0) : Type 0 where
   -- if it is kept
   pub shaper : Option S
 
--- what planning depends on: the answers of faces and engine, the shaper's constants and those of its hooks that make a plan
+-- what planning depends on: the answers of faces and engine, the shaper's constants and those of its hooks that make a
+-- plan
 pub record Planning (F S P D : Type 0) : Type 0 where
   pub faces : F → FaceMeaning
   pub layouts : F → LayoutMeaning P

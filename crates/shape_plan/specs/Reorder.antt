@@ -10,7 +10,8 @@ use Rattle.shape_items.specs.Items.{Item, ccc_of_item}
 abbrev pub max_run : ℕ
 max_run = 32
 
--- the items from place `start` up to `end` are a run in order: not empty, at most 32 of them, of nonzero ccc that never fall
+-- the items from place `start` up to `end` are a run in order: not empty, at most 32 of them, of nonzero ccc that never
+-- fall
 pub record IsRunInOrder (items : List Item) (start end : ℕ) : Type 0 where
   pub some : start < end
   pub within : end ≤ length items
@@ -30,8 +31,9 @@ with_ccc ccc item = record item { properties = record item.properties { modified
 abbrev pub ccc_set : ℕ → Item → ℕ → Buffer → Buffer
 ccc_set i item ccc b = record b { items = set b.items i (with_ccc ccc item) }
 
--- the items from place `start` up to `end` in another order: finitely many steps lead there, each of which exchanges two of them, merges
--- the clusters of a span within the range, whose growth may reach items outside it, or gives one of them another nonzero ccc
+-- the items from place `start` up to `end` in another order: finitely many steps lead there, each of which exchanges
+-- two of them, merges the clusters of a span within the range, whose growth may reach items outside it, or gives one of
+-- them another nonzero ccc
 pub data Reorders (start end : ℕ) : Buffer → Buffer → Type 0 where
   done : {b : Buffer} → Reorders start end b b
   exchange : {b c : Buffer} (i j : ℕ) → start ≤ i → i < end → start ≤ j → j < end → Reorders start end (exchanged i j b) c

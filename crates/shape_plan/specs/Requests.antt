@@ -112,7 +112,8 @@ collected collects direction script builder = hooked collects direction script (
 abbrev pub widened : Direction → List Feature → Builder → Builder
 widened direction features builder = with_requests (not_simple_if (not (length features == 0)) builder) (later_requests direction features)
 
--- all that a planner asks for, by its direction and script, the shaper's two hooks, the user's features and the builder as it stands
+-- all that a planner asks for, by its direction and script, the shaper's two hooks, the user's features and the builder
+-- as it stands
 unfoldable pub requested : Direction → Option Script → Collector → Collector → List Feature → Builder → Builder
 requested direction script collects overrides features builder =
     hooked overrides direction script (widened direction features (collected collects direction script (begun_requests direction builder)))

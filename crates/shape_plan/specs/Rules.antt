@@ -52,8 +52,8 @@ used_reorder given hooks = if given then option_map (λ h. h.reorder) hooks else
 abbrev pub used_mode : {S P D : Type 0} → ℤ → Plan S P D → ℤ
 used_mode preference plan = option_map_or (λ shaper. preference) plan.shaper MODE_AUTO
 
--- in mode NONE each character goes short, in COMPOSED_DIACRITICS those by themselves, in the other two none; AUTO acts as
--- COMPOSED_DIACRITICS
+-- in mode NONE each character goes short, in COMPOSED_DIACRITICS those by themselves, in the other two none; AUTO acts
+-- as COMPOSED_DIACRITICS
 abbrev pub goes_short : ℤ → Bool → Bool
 goes_short mode in_sequence =
     if int_eq mode MODE_NONE then true

@@ -1,4 +1,5 @@
--- What a whole run depends on, as functions and values: one record of all that its four type parameters, its plan and its face bring.
+-- What a whole run depends on, as functions and values: one record of all that its four type parameters, its plan and
+-- its face bring.
 use Rattle.std.specs.Prelude.{Bool, List, Option, if◌then◌else◌}
 use Rattle.std.specs.Option.{option_map_or}
 use Rattle.shape_items.specs.Buffer.{Buffer}

@@ -30,8 +30,8 @@ answers_of number = record bare_face {
   tables = record { gsub = has number 1; gpos = has number 2; morx = has number 4; kerx = has number 8; trak = has number 16 };
 }
 
--- what the engine answers: 32 kerning, 64 machine kerning, 128 cross kerning, 256 the script 2 chosen for GPOS in place of 1, 1024 classes
--- of glyphs; requests are compiled to the number
+-- what the engine answers: 32 kerning, 64 machine kerning, 128 cross kerning, 256 the script 2 chosen for GPOS in place
+-- of 1, 1024 classes of glyphs; requests are compiled to the number
 abbrev pub layouts_of : ℕ → LayoutMeaning ℕ
 layouts_of number = record {
   chosen_script = λ _ _ table. elim table [

@@ -23,7 +23,8 @@ use Rattle.shape_plan.specs.WorkedRequests.{ask, kern_off}
 abbrev pub face_of : hb_tables_t → FaceMeaning
 face_of tables = record bare_face { tables = tables }
 
--- an engine that compiles a builder to itself, and chose script 1 for GSUB and 2 for GPOS; it has machine and cross kerning, but no kerning
+-- an engine that compiles a builder to itself, and chose script 1 for GSUB and 2 for GPOS; it has machine and cross
+-- kerning, but no kerning
 abbrev pub layout_of : LayoutMeaning Builder
 layout_of = record {
   chosen_script = λ _ _ table. elim table [ GSUB ↦ Some (tag 1) | GPOS ↦ Some (tag 2) ];

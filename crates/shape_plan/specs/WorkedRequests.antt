@@ -21,8 +21,8 @@ stop = pause None
 abbrev pub plain : Direction → List Feature → Builder
 plain direction features = requested direction None None None features (new_builder (λ _. None))
 
--- rvrn, the pause, ltra, ltrm; frac, numr, dnom, rand; trak, Harf, HARF, Buzz; BUZZ, abvm, blwm, ccmp; locl, mark, mkmk, rlig; calt, clig,
--- curs, dist; kern, liga, rclt
+-- rvrn, the pause, ltra, ltrm; frac, numr, dnom, rand; trak, Harf, HARF, Buzz; BUZZ, abvm, blwm, ccmp; locl, mark,
+-- mkmk, rlig; calt, clig, curs, dist; kern, liga, rclt
 abbrev pub left_to_right : List MapRequest
 left_to_right =
     ask 0x7276726E 1 1 ∷ stop ∷ ask 0x6C747261 1 1 ∷ ask 0x6C74726D 1 1 ∷

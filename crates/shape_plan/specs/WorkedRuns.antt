@@ -32,7 +32,8 @@ telling_hooks shaper plan face = record (no_hooks telling_unicode) {
   reorder = λ b start end. record b { length_limit = Some (shaper + plan.ot_map + face + start + end) };
 }
 
--- a face that tells its number by its units, and lookups that tell the map, the face and the stage by the limit that they leave
+-- a face that tells its number by its units, and lookups that tell the map, the face and the stage by the limit that
+-- they leave
 abbrev pub telling_face : ℕ → FaceMeaning
 telling_face face = record bare_face { units_per_em = face }
 
@@ -54,7 +55,8 @@ telling_lookups map face = record {
   kern = λ mask. marked_by 0;
 }
 
--- a plan of map 30 for a text of script 100 from right to left, with one feature of the user's; it keeps shaper 5, or none
+-- a plan of map 30 for a text of script 100 from right to left, with one feature of the user's; it keeps shaper 5, or
+-- none
 abbrev pub of_plan : Plan ℕ ℕ ℕ → Option ℕ → Plan ℕ ℕ ℕ
 of_plan plan shaper = record plan {
   direction = RightToLeft;

@@ -1,5 +1,5 @@
--- Each step of positions and of the end of a run keeps clusters, flags and the number of positions. Clusters and flags are told at once, as
--- a relation of a buffer before and after a step.
+-- Each step of positions and of the end of a run keeps clusters, flags and the number of positions. Clusters and flags
+-- are told at once, as a relation of a buffer before and after a step.
 use Rattle.std.proofs.Common.{◌≡◌, ℕ, Bool, true, false, List, [], ◌∷◌, Option, Some, None, refl, ap, sym, ◌∙◌, inl, inr}
 use Rattle.std.specs.Prelude.{◌==◌, ◌&&◌, not, if◌then◌else◌}
 use Rattle.std.proofs.lemmas.Bool.{and_parts, cases_Bool}
@@ -45,7 +45,8 @@ use Rattle.shape_plan.proofs.KeeperLemmas.{keeper-hook, keeper-step_if, keeper-s
 abbrev Leads : (Buffer → Buffer → Type 0) → (Buffer → Buffer) → Type 0
 Leads R f = (b : Buffer) → R b (f b)
 
--- a relation of each buffer with itself, with what a walk over positions makes of it, and with what the two steps that write glyphs do
+-- a relation of each buffer with itself, with what a walk over positions makes of it, and with what the two steps that
+-- write glyphs do
 record Holds (R : Buffer → Buffer → Type 0) : Type 0 where
   same : (b : Buffer) → R b b
   positions : (f : Item → GlyphPosition → GlyphPosition) → Leads R (positions_mapped f)

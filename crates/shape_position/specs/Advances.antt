@@ -19,7 +19,8 @@ positions_cleared = positions_mapped (λ _ _. zero_position)
 abbrev pub glyph_of : Item → GlyphId
 glyph_of item = record { 0 = item.glyph_id }
 
--- horizontal: the advance along the line; else the advance down the line, and the offsets lose the origin of vertical lines
+-- horizontal: the advance along the line; else the advance down the line, and the offsets lose the origin of vertical
+-- lines
 abbrev pub advanced_position : FaceMeaning → Bool → Item → GlyphPosition → GlyphPosition
 advanced_position face horizontal item position =
     if horizontal then record position { x_advance = face.h_advance (glyph_of item) }

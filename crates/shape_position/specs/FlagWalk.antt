@@ -6,7 +6,8 @@ use Rattle.shape_items.specs.Flags.{first_united, handed_flags}
 use Rattle.shape_common.specs.declared.flags.BufferFlags.{BufferFlags}
 use Rattle.shape_position.specs.declared.flags.HandedOn.{HandedOn}
 
--- what the first of some items hands on if a cluster begins with it: the flags of all that are in the cluster, and how many are after it
+-- what the first of some items hands on if a cluster begins with it: the flags of all that are in the cluster, and how
+-- many are after it
 abbrev pub handed_by_run : BufferFlags → ℕ → List Item → HandedOn
 handed_by_run flags cluster items = record {
   mask = handed_flags flags (first_united cluster items);

@@ -10,7 +10,8 @@ use Rattle.shape_common.specs.Direction.{is_backward}
 abbrev pub KeepsAsMany : (Buffer → Buffer) → Type 0
 KeepsAsMany f = (b : Buffer) → length b.positions ≡ length b.items → length (f b).positions ≡ length (f b).items
 
--- what the reversal does: clusters are in the other order if the text runs backward, none is new, and direction, flags and level stay
+-- what the reversal does: clusters are in the other order if the text runs backward, none is new, and direction, flags
+-- and level stay
 pub record ReversesOrder (before after : Buffer) : Type 0 where
   pub reversed : clusters after.items ≡ (if is_backward before.direction then reverse (clusters before.items) else clusters before.items)
   pub rising : IsNonDecreasing (clusters before.items) → IsOrderedFor (is_backward before.direction) (clusters after.items)

@@ -40,7 +40,8 @@ with_class class item = record item { properties = record item.properties { glyp
 abbrev one_glyph : Direction → GlyphPosition → Buffer
 one_glyph direction position = record new_buffer { items = glyph_at 1 0 ∷ []; positions = position ∷ []; direction = direction }
 
--- glyph 1 has advance 600; glyph 3 is that of U+0020; the origin of vertical lines lies half the advance to the right and an em above
+-- glyph 1 has advance 600; glyph 3 is that of U+0020; the origin of vertical lines lies half the advance to the right
+-- and an em above
 abbrev pub face_of : ℕ → FaceMeaning
 face_of units = record bare_face {
   nominal_glyph = λ c. if c == 0x20 then Some (record { 0 = 3 }) else None;

@@ -1,4 +1,5 @@
--- The order of the steps, computed on glyphs of which each step leaves a trace: a digit of an advance, a glyph or a flag.
+-- The order of the steps, computed on glyphs of which each step leaves a trace: a digit of an advance, a glyph or a
+-- flag.
 use Rattle.std.specs.Prelude.{◌≡◌, ◌*◌, ℕ, ℤ, pos, ◌+ℤ◌, ◌*ℤ◌, neg_ℤ, true, false, Some, List, [], ◌∷◌, map, drop, refl}
 use Rattle.std.specs.Int.{int_wrap}
 use Rattle.shape_items.specs.Buffer.{Buffer, new_buffer}

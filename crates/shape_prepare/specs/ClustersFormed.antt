@@ -11,7 +11,8 @@ use Rattle.shape_common.specs.FlagNames.{HAS_NON_ASCII}
 abbrev pub over_graphemes : (ℕ → ℕ → Buffer → Buffer) → Buffer → Buffer
 over_graphemes f b = fold (λ b span. f span.0 span.1 b) b (grapheme_spans b.items)
 
--- if a character past ASCII was seen (1), each grapheme is merged at level MONOTONE_GRAPHEMES, at the others marked unsafe to break
+-- if a character past ASCII was seen (1), each grapheme is merged at level MONOTONE_GRAPHEMES, at the others marked
+-- unsafe to break
 unfoldable pub clusters_formed : Buffer → Buffer
 clusters_formed b =
     if bit_and b.scratch_flags.0 HAS_NON_ASCII == HAS_NON_ASCII then (elim b.cluster_level [

@@ -14,7 +14,8 @@ abbrev pub is_empty : List ℕ → Bool
 is_empty [] = true
 is_empty (c ∷ cs) = false
 
--- a circle is put in if it isn't forbidden (32), nothing stands before the text, which begins here (2), and the face has U+25CC
+-- a circle is put in if it isn't forbidden (32), nothing stands before the text, which begins here (2), and the face
+-- has U+25CC
 abbrev pub takes_circle : FaceMeaning → Buffer → Bool
 takes_circle face b =
     not (bit_and b.flags.0 DO_NOT_INSERT_DOTTED_CIRCLE == DO_NOT_INSERT_DOTTED_CIRCLE)

@@ -50,7 +50,8 @@ abbrev pub is_joining : Before → Bool
 is_joining Zwj = true
 is_joining _ = false
 
--- the rules on an item by itself and the one before: a skin tone, the second of two regional indicators, a ZWJ, an extender
+-- the rules on an item by itself and the one before: a skin tone, the second of two regional indicators, a ZWJ, an
+-- extender
 abbrev pub continues_by_rule : Before → Item → Bool
 continues_by_rule before item =
     let c = item.codepoint in
@@ -62,8 +63,8 @@ continues_by_rule before item =
 abbrev pub continues : UnicodeMeaning → Before → Item → Bool
 continues unicode before item = item.properties.continuation || is_joined unicode before item.codepoint || continues_by_rule before item
 
--- what an item is to the next one: a regional indicator is open unless it continues, and a ZWJ joins unless it was itself joined or
--- is of a category that no rule asks about
+-- what an item is to the next one: a regional indicator is open unless it continues, and a ZWJ joins unless it was
+-- itself joined or is of a category that no rule asks about
 abbrev pub is_to_next : UnicodeMeaning → Before → Item → Before
 is_to_next unicode before item =
     if is_regional_indicator item.codepoint && not (continues unicode before item) then OpenIndicator

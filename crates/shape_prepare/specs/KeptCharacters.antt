@@ -23,7 +23,8 @@ KeepsCharacters f = (b : Buffer) → map char_of (f b).items ≡ map char_of b.i
 abbrev pub rotated_char : UnicodeMeaning → FaceMeaning → Decisions → Direction → ℕ → ℕ
 rotated_char unicode face decisions target c = char_of (rotated_item unicode face decisions target (new_item c 0))
 
--- no dotted circle goes in, the list isn't reversed, each character is its own form for the direction, and a given hook leaves characters
+-- no dotted circle goes in, the list isn't reversed, each character is its own form for the direction, and a given hook
+-- leaves characters
 pub record LeavesCharacters (run : Run) (target : Direction) (b : Buffer) : Type 0 where
   pub no_circle : (takes_circle run.face b && begins_with_mark (is_mark run.unicode) (map char_of b.items)) ≡ false
   pub not_reversed : is_reversed run b ≡ false

@@ -98,7 +98,8 @@ fn append_offsets(lines: &mut String, position: &GlyphPosition) -> Result<(), Al
 
 /// Appends the defined flags of a glyph.
 fn append_flags(lines: &mut String, mask: hb_mask_t) -> Result<(), AllocError>
-    ensures { IfOk result (λ _. string_bytes lines.new ≡ string_bytes lines.old ++ flags_word mask) }
+    ensures { IfOk result (λ _. string_bytes lines.new
+        ≡ string_bytes lines.old ++ flags_word mask) }
 {
     let flags = mask & DEFINED;
     write!(lines, "/{flags}")

@@ -54,8 +54,8 @@ features_added mask start end b = record b { items = map_range (with_features ma
 abbrev pub has_whole : List Item → ℕ → Bool
 has_whole items slash = nat_lt (whole_start items slash) slash && nat_lt (slash + 1) (whole_end items slash)
 
--- the whole is marked unsafe to break, and each of its three parts gets its features; a slash without digits on one side is marked unsafe
--- to concat alone
+-- the whole is marked unsafe to break, and each of its three parts gets its features; a slash without digits on one
+-- side is marked unsafe to concat alone
 unfoldable pub slash_masked : FractionMasks → ℕ → Buffer → Buffer
 slash_masked masks slash b =
     let start = whole_start b.items slash in
@@ -70,7 +70,8 @@ slash_masked masks slash b =
 abbrev pub next_place : List Item → ℕ → ℕ
 next_place items slash = if has_whole items slash then whole_end items slash else slash + 1
 
--- the slashes at some places one after another, except for those that stand before place `next`, in the whole of an earlier one
+-- the slashes at some places one after another, except for those that stand before place `next`, in the whole of an
+-- earlier one
 abbrev pub slashes_masked : FractionMasks → ℕ → List ℕ → Buffer → Buffer
 slashes_masked masks next [] b = b
 slashes_masked masks next (slash ∷ slashes) b =

@@ -110,7 +110,8 @@ pub record WalkOverSlashes : Type 0 where
   pub end : whole_end (digit 0 ∷ slash 1 ∷ digit 4 ∷ digit 5 ∷ []) 1 ≡ 4
   pub after_whole : next_place (digit 0 ∷ slash 1 ∷ digit 4 ∷ digit 5 ∷ []) 1 ≡ 4
   pub after_slash : next_place (letter 0 ∷ slash 1 ∷ digit 4 ∷ digit 5 ∷ []) 1 ≡ 2
-  -- the first slash has nothing before it; the second has the first and the third as digits, and the walk goes on after the third
+  -- the first slash has nothing before it; the second has the first and the third as digits, and the walk goes on after
+  -- the third
   pub skipped_by : masked_for_concat (digit_slash ∷ digit_slash ∷ digit_slash ∷ []) ≡ 0x302 ∷ 0x100 ∷ 0x500 ∷ []
 
 walk_over_slashes : WalkOverSlashes

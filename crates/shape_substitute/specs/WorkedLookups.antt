@@ -44,7 +44,8 @@ ligated first second into zero i b = b
 ligated first second into (suc n) i b =
     ligated first second into n (i + 1) (if begins_with first second (drop i b.items) then joined into i b else b)
 
--- stage 0 makes 10 of 5 and 6, stage 1 makes 11 and 12 of 10, stage 2 makes 9 of 12, each later one makes 10 of 11 and 9
+-- stage 0 makes 10 of 5 and 6, stage 1 makes 11 and 12 of 10, stage 2 makes 9 of 12, each later one makes 10 of 11 and
+-- 9
 abbrev substituting : LookupMeaning
 substituting = record no_lookups {
   stage = λ i b.

@@ -130,7 +130,8 @@ pub record RunsOfPauses (run : Run) : Type 0 where
   pub after_second : glyphs_paused run 1 ≡ 1018 ∷ []
   pub after_last : glyphs_paused run 2 ≡ 2018 ∷ []
 
--- before the lookups: the glyph of the index, doubled by `substitute_start`, in class 4; another class in its place if the plan says so
+-- before the lookups: the glyph of the index, doubled by `substitute_start`, in class 4; another class in its place if
+-- the plan says so
 pub record RunsOfGlyphs (run : Run) : Type 0 where
   pub mapped_first : glyphs (run_steps (glyph_steps (record run { decisions = with_fractions true })) glyph_5) ≡ 12 ∷ []
   pub classes_of_face : map (λ item. item.properties.glyph_class.0)

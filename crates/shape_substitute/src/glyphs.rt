@@ -85,7 +85,8 @@ pub fn substitute_start<T: ShapingTypes>(
     face: &T::Face,
     buffer: &mut hb_buffer_t,
 )
-    ensures { Made (T.Engine.lookups plan.now.ot_map face.now).substitute_start buffer.old buffer.new }
+    ensures { Made (T.Engine.lookups plan.now.ot_map face.now).substitute_start
+        buffer.old buffer.new }
 {
     T::Engine::substitute_start(face, buffer);
 }

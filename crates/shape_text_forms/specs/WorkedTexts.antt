@@ -82,7 +82,8 @@ place x_advance y_advance x_offset y_offset = record {
   attach_type = 0;
 }
 
--- glyph 2 of cluster 0, 600 wide; glyph 30 of cluster 1, moved to (-50, 7), unsafe to break (1) with a bit of a feature (8)
+-- glyph 2 of cluster 0, 600 wide; glyph 30 of cluster 1, moved to (-50, 7), unsafe to break (1) with a bit of a feature
+-- (8)
 abbrev pub text_of : ℕ → List ℕ
 text_of flags = serialized (form flags) (glyph 2 0 0 ∷ glyph 30 1 9 ∷ [])
     (place (pos 600) (pos 0) (pos 0) (pos 0) ∷ place (pos 0) (negsuc 999) (negsuc 49) (pos 7) ∷ [])

@@ -113,7 +113,8 @@ fn end_of_one(start: Option<u32>) -> u32
 
 /// The text after a colon or a semicolon.
 fn skip_colon(text: &[u8]) -> Option<&[u8]>
-    ensures { option_map (λ t. t.now) result ≡ option_or (after_byte 58 text.now) (after_byte 59 text.now) }
+    ensures { option_map (λ t. t.now) result
+        ≡ option_or (after_byte 58 text.now) (after_byte 59 text.now) }
 {
     match skip_byte(text, b':') {
         Some(rest) => Some(rest),

@@ -79,7 +79,8 @@ pub struct Pen {
 
 /// Appends a glyph's cluster.
 fn append_cluster(out: &mut String, flags: SerializeFlags, cluster: u32) -> Result<(), AllocError>
-    ensures { IfOk result (λ _. string_bytes out.new ≡ string_bytes out.old ++ cluster_word flags.0 cluster) }
+    ensures { IfOk result (λ _. string_bytes out.new
+        ≡ string_bytes out.old ++ cluster_word flags.0 cluster) }
 {
     if flags.asks(SerializeFlags::NO_CLUSTERS) {
         return Ok(());
@@ -135,7 +136,8 @@ fn append_position(
 
 /// Appends the defined flags of a glyph, if they are asked for and it has any.
 fn append_flags(out: &mut String, flags: SerializeFlags, mask: u32) -> Result<(), AllocError>
-    ensures { IfOk result (λ _. string_bytes out.new ≡ string_bytes out.old ++ flags_word flags.0 mask) }
+    ensures { IfOk result (λ _. string_bytes out.new
+        ≡ string_bytes out.old ++ flags_word flags.0 mask) }
 {
     let defined = mask % 8;
     if flags.asks(SerializeFlags::GLYPH_FLAGS) && defined != 0 {
@@ -153,7 +155,8 @@ fn append_corner(out: &mut String, x: i32, y: i32) -> Result<(), AllocError>
 
 /// Appends the rest of a box: its width and height.
 fn append_size(out: &mut String, width: i32, height: i32) -> Result<(), AllocError>
-    ensures { IfOk result (λ _. string_bytes out.new ≡ string_bytes out.old ++ size_word width height) }
+    ensures { IfOk result (λ _. string_bytes out.new
+        ≡ string_bytes out.old ++ size_word width height) }
 {
     write!(out, ",{width},{height}>")
 }

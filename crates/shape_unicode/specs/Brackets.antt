@@ -26,7 +26,8 @@ is_counterpart _ _ = false
 abbrev pub is_new_bracket : ℕ → Bool
 is_new_bracket c = c == 0x2E62 || c == 0x2E63
 
--- each other one that has the property Bidi_Mirrored has an image: an opening one a closing one, and the other way round
+-- each other one that has the property Bidi_Mirrored has an image: an opening one a closing one, and the other way
+-- round
 abbrev pub BracketsMirror : Type 0
 BracketsMirror =
     (c : ℕ) → is_new_bracket c ≡ false → is_bidi_mirrored c ≡ true → is_bracket_category (category_of c) ≡ true

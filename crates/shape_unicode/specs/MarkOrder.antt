@@ -7,7 +7,8 @@ abbrev pub rises_above : (ℕ → ℕ) → ℕ → List ℕ → Bool
 rises_above ccc n [] = true
 rises_above ccc n (c ∷ rest) = nat_lt n (ccc c) && rises_above ccc (ccc c) rest
 
--- the dots of shin and sin, dagesh, rafe, holam; hataf segol, patah and qamats, tsere, segol, patah, qamats, sheva, hiriq, qubuts; meteg
+-- the dots of shin and sin, dagesh, rafe, holam; hataf segol, patah and qamats, tsere, segol, patah, qamats, sheva,
+-- hiriq, qubuts; meteg
 abbrev pub hebrew_marks : List ℕ
 hebrew_marks =
     0x5C1 ∷ 0x5C2 ∷ 0x5BC ∷ 0x5BF ∷ 0x5B9

@@ -1,4 +1,5 @@
--- One step of canonical decomposition (UAX 44, Decomposition_Mapping without a tag; The Unicode Standard, section 3.12).
+-- One step of canonical decomposition (UAX 44, Decomposition_Mapping without a tag; The Unicode Standard, section
+-- 3.12).
 use Rattle.std.specs.Prelude.{ℕ, zero, suc, ◌+◌, ◌-◌, ◌/◌, ◌%◌, ◌==◌, ◌&&◌, ◌||◌, nat_lt, Bool, List, [], ◌∷◌, Option, Some, None, if◌then◌else◌}
 use Rattle.std.specs.Option.{option_map_or}
 use Rattle.ucd_normal.specs.Decomposition.{canonical_mapping}

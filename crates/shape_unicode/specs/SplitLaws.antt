@@ -1,4 +1,5 @@
--- Splits fall: a split is that of a syllable, or one of the database; each lowers the height, and a second part splits no more.
+-- Splits fall: a split is that of a syllable, or one of the database; each lowers the height, and a second part splits
+-- no more.
 use Rattle.std.proofs.Common.{◌≡◌, ◌≢◌, ℕ, suc, ◌+◌, ◌-◌, ◌/◌, ◌%◌, ◌<◌, ◌≤◌, ◌⊎◌, Bool, true, false, not, ◌==◌, List, [], ◌∷◌, Option, Some, None, refl, sym, ap, ◌∙◌, arith, inl, inr, eqb-true, eq-eqb, ltb-true}
 use Rattle.std.proofs.lemmas.Bool.{cases_Bool, and_parts, or_cases, cond-true, cond-false}
 use Rattle.std.specs.Option.{option_map_or}

@@ -1,7 +1,7 @@
 -- What the laws rest on: tests computed over the rows of the database.
 --
--- The laws take those of the short tables as premises, and the type that has the laws names the proofs. So a wrong row of
--- such a table leaves one thing false, and the check names it.
+-- The laws take those of the short tables as premises, and the type that has the laws names the proofs. So a wrong row
+-- of such a table leaves one thing false, and the check names it.
 use Rattle.std.proofs.Common.{◌≡◌, ℕ, ◌<◌, Bool, true, false, not, ◌&&◌, ◌||◌, ◌==◌, nat_lt, List, [], ◌∷◌, Option, Some, None, refl, ap, ◌∙◌}
 use Rattle.std.specs.List.{list_all}
 use Rattle.ucd_table.proofs.Facts.{Stepped-below}

@@ -1,4 +1,5 @@
--- The rows of the database as functions that a computation may read by trees, so that a test of all characters ends soon.
+-- The rows of the database as functions that a computation may read by trees, so that a test of all characters ends
+-- soon.
 use Rattle.std.proofs.Common.{◌≡◌, ℕ, List}
 use Rattle.ucd_table.proofs.Stepped.{Stepped}
 use Rattle.ucd_table.proofs.Facts.{tree_value, tree_of, tree_value-tree_of}

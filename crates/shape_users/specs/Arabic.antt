@@ -37,13 +37,14 @@ stepped_before place (suc n) b = stepped_before place n (exchanged (place + n) (
 abbrev pub reclassed : (ccc place : ℕ) → Buffer → Buffer
 reclassed ccc place b = ccc_set place (get_or b.items place (new_item 0 0)) ccc b
 
--- so many items, the first of them n places after a place, step before those between in their order, and get another ccc
+-- so many items, the first of them n places after a place, step before those between in their order, and get another
+-- ccc
 abbrev pub brought_before : (ccc count n place : ℕ) → Buffer → Buffer
 brought_before ccc zero n place b = b
 brought_before ccc (suc count) n place b = brought_before ccc count n (place + 1) (reclassed ccc place (stepped_before place n b))
 
--- the modifier marks that begin the marks of a ccc step to the front of the run and get another ccc, once they are in one cluster with
--- those that they move past
+-- the modifier marks that begin the marks of a ccc step to the front of the run and get another ccc, once they are in
+-- one cluster with those that they move past
 abbrev pub modifiers_moved : (ccc other : ℕ) → Buffer → (start end : ℕ) → Buffer
 modifiers_moved ccc other b start end =
     let run = slice_range b.items start end in

@@ -10,8 +10,8 @@ cluster_at glyphs k = (slice_index_or glyphs k (new_item 0 0)).cluster
 abbrev pub EndsIn : List Item → ℕ → ℕ → Type 0
 EndsIn glyphs text_len end = (end ≡ text_len) ⊎ ((k : ℕ) × (k < length glyphs) × (cluster_at glyphs k ≡ end))
 
--- the glyphs from place `start` up to `end` show the text from one cluster up to another: theirs lie in it, and each cluster that does is
--- one of theirs
+-- the glyphs from place `start` up to `end` show the text from one cluster up to another: theirs lie in it, and each
+-- cluster that does is one of theirs
 pub record ShowsExactly (glyphs : List Item) (start end from to : ℕ) : Type 0 where
   pub theirs : (k : ℕ) → start ≤ k → k < end → (from ≤ cluster_at glyphs k) × (cluster_at glyphs k < to)
   pub no_other : (k : ℕ) → k < length glyphs → from ≤ cluster_at glyphs k → cluster_at glyphs k < to

@@ -56,7 +56,8 @@ pub record IsPlaceIn (bytes : List ℕ) (place : ℕ) : Type 0 where
   pub within : place < length bytes
   pub boundary : IsCharBoundary bytes place
 
--- a buffer has the characters of a string, in clusters that are their places and never fall, and all else as a new one has it
+-- a buffer has the characters of a string, in clusters that are their places and never fall, and all else as a new one
+-- has it
 pub record IsTextOf (bytes : List ℕ) (text : Buffer) : Type 0 where
   pub items : text.items ≡ text_items bytes
   pub rest : record text { items = []; positions = [] } ≡ new_buffer

@@ -17,7 +17,8 @@ use Rattle.shape_users.specs.declared.words.Word.{Word}
 abbrev pub spelled : List ℕ → Buffer
 spelled spelling = record new_buffer { items = text_items spelling; positions = replicate (length (text_items spelling)) zero_position }
 
--- 32 bits can't count the bytes of a spelling, or it has characters and a step of preparing them would pass the run's limit
+-- 32 bits can't count the bytes of a spelling, or it has characters and a step of preparing them would pass the run's
+-- limit
 abbrev pub IsTooLongToPrepare : Run → List ℕ → Type 0
 IsTooLongToPrepare run spelling =
     let text = spelled spelling in
@@ -57,7 +58,8 @@ FindsTooLong run words spelling =
     SomeIndex words (λ k. IsNowhere run words k spelling
     × ((d : Word) → IsTooLong run (string_bytes (slice_index_or words k d).spelling) ⊎ IsTooLong run spelling))
 
--- one word more: none of the old ones is spelled like this, and after them all stands a word with this spelling and its glyphs
+-- one word more: none of the old ones is spelled like this, and after them all stands a word with this spelling and its
+-- glyphs
 pub record IsOneWordMore (run : Run) (old new : List Word) (spelling : List ℕ) : Type 0 where
   pub nowhere : IsNowhere run old (length old) spelling
   pub word : Word
@@ -65,7 +67,8 @@ pub record IsOneWordMore (run : Run) (old new : List Word) (spelling : List ℕ)
   pub spelling_is : string_bytes word.spelling ≡ spelling
   pub glyphs_are : word.glyphs ≡ shaped run (spelled spelling)
 
--- the words once one was asked for and is at a place: the old ones if the place is one of theirs, else one word more, at its end
+-- the words once one was asked for and is at a place: the old ones if the place is one of theirs, else one word more,
+-- at its end
 abbrev pub KeepsWords : Run → List Word → List Word → ℕ → List ℕ → Type 0
 KeepsWords run old new place spelling =
     ((place < length old) × (new ≡ old)) ⊎ ((place ≡ length old) × IsOneWordMore run old new spelling)

@@ -1,4 +1,5 @@
--- What a caller knows of glyphs and of a string's text, on cases that are worked out by hand: what each fact takes, and what it refuses.
+-- What a caller knows of glyphs and of a string's text, on cases that are worked out by hand: what each fact takes, and
+-- what it refuses.
 use Rattle.std.specs.Prelude.{◌≡◌, ◌⊎◌, ◌<◌, ℕ, List, [], ◌∷◌, Option, Some, None, pos, Contains}
 use Rattle.std.specs.List.Sorted.{IsNonDecreasing}
 use Rattle.shape_items.specs.Buffer.{Buffer, limit_of, new_buffer}

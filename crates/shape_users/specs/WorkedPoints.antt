@@ -1,4 +1,5 @@
--- How points below a letter are reordered, and what a small engine substitutes, on lists whose answers are worked out by hand.
+-- How points below a letter are reordered, and what a small engine substitutes, on lists whose answers are worked out
+-- by hand.
 use Rattle.std.specs.Prelude.{◌≡◌, ℕ, Bool, true, false, List, [], ◌∷◌, length, map, replicate, Option, Some, None, refl}
 use Rattle.shape_items.specs.Buffer.{Buffer, new_buffer}
 use Rattle.shape_items.specs.Clusters.{merge}

@@ -32,8 +32,8 @@ layout_of face = record {
   has_cross_kerning = face.cross_kerning;
 }
 
--- 8 if there are lookups for each feature; else `frac` has 0x10, `numr` 0x20 and `dnom` 0x40 if there are lookups for fractions, and
--- `ss01` has 0x100
+-- 8 if there are lookups for each feature; else `frac` has 0x10, `numr` 0x20 and `dnom` 0x40 if there are lookups for
+-- fractions, and `ss01` has 0x100
 abbrev pub one_mask : TestMap → ℕ → ℕ
 one_mask map tag =
     if map.every_feature then 8

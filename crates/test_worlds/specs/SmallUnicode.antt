@@ -1,4 +1,5 @@
--- Unicode functions with a few characters of each sort: digits and the fraction slash, marks, variation selectors and spaces.
+-- Unicode functions with a few characters of each sort: digits and the fraction slash, marks, variation selectors and
+-- spaces.
 use Rattle.std.specs.Prelude.{◌≡◌, ◌≢◌, ℕ, ◌<◌, ◌==◌, ◌||◌, ◌&&◌, nat_le, Bool, true, false, if◌then◌else◌}
 use Rattle.std.proofs.Common.{arith}
 use Rattle.std.proofs.lemmas.Bool.Decides.{nat_tests}

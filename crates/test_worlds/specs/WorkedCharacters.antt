@@ -61,7 +61,8 @@ all_set c = record {
   };
 }
 
--- the same item once the character was looked at, by the seven properties that may differ; the space type is cleared, and the rest stays
+-- the same item once the character was looked at, by the seven properties that may differ; the space type is cleared,
+-- and the rest stays
 abbrev seen : ℕ → hb_unicode_general_category_t → ℕ → Bool → Bool → Bool → Bool → Bool → Item
 seen c category ccc ignorable hidden continuation zwj zwnj = record {
   codepoint = c;

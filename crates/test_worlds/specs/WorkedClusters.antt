@@ -1,4 +1,5 @@
--- What is promised of clusters and flags of whole runs, on lists that were worked by hand: what each promise takes, and what it refuses.
+-- What is promised of clusters and flags of whole runs, on lists that were worked by hand: what each promise takes, and
+-- what it refuses.
 use Rattle.std.specs.Prelude.{ℕ, List, [], ◌∷◌, map}
 use Rattle.shape_items.specs.Buffer.{Buffer, new_buffer}
 use Rattle.shape_items.specs.Items.{new_item}

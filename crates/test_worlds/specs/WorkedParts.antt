@@ -1,4 +1,5 @@
--- Parts of buffers and of what stages are handed, worked by hand: first bytes, requests, ranges, spans, words, joiners and masks.
+-- Parts of buffers and of what stages are handed, worked by hand: first bytes, requests, ranges, spans, words, joiners
+-- and masks.
 use Rattle.std.specs.Prelude.{◌≡◌, ℕ, true, false, List, [], ◌∷◌, map, Bool, Some, pos, refl}
 use Rattle.shape_items.specs.Buffer.{Buffer, new_buffer}
 use Rattle.shape_items.specs.Clusters.{merge, clusters}

@@ -1,4 +1,5 @@
--- What a run asks of its lookups, worked by hand over an engine that loses every text in the calls that a run doesn't make.
+-- What a run asks of its lookups, worked by hand over an engine that loses every text in the calls that a run doesn't
+-- make.
 use Rattle.std.specs.Prelude.{◌≡◌, ℕ, ◌==◌, nat_lt, Bool, true, false, if◌then◌else◌, [], ◌∷◌}
 use Rattle.shape_items.specs.Buffer.{Buffer, new_buffer}
 use Rattle.shape_buffer.specs.Layout.{LookupMeaning}
@@ -55,7 +56,8 @@ pub record Applied : Type 0 where
 abbrev pub no_table : Applied
 no_table = record { morx = false; gpos = false; kerx = false; kern = false }
 
--- the run over such lookups, by a plan that applies these tables and has so many stages, no feature of the user's and kerning's mask 4
+-- the run over such lookups, by a plan that applies these tables and has so many stages, no feature of the user's and
+-- kerning's mask 4
 abbrev pub over : Run → LookupMeaning → Applied → ℕ → Run
 over run lookups applied stages = record run {
   lookups = lookups;

@@ -1,4 +1,5 @@
--- What a text brings into a buffer, where its graphemes stand, what is guessed of it, and what clearing leaves, worked by hand.
+-- What a text brings into a buffer, where its graphemes stand, what is guessed of it, and what clearing leaves, worked
+-- by hand.
 use Rattle.std.specs.Prelude.{◌≡◌, ℕ, ◌==◌, Bool, true, false, if◌then◌else◌, List, [], ◌∷◌, map, Option, Some, None, pos, refl}
 use Rattle.std.specs.Str.{chars}
 use Rattle.shape_items.specs.Buffer.{Buffer, new_buffer, cleared, limit_of}
@@ -222,7 +223,8 @@ with_all direction script = record {
   post_context = 0x62 ∷ [];
 }
 
--- guessing sets script and direction alone; clearing leaves flags, level and the two glyphs; a new buffer has nothing set
+-- guessing sets script and direction alone; clearing leaves flags, level and the two glyphs; a new buffer has nothing
+-- set
 pub record Settings : Type 0 where
   pub guessed_alone : guessed scripts (with_all Invalid None) ≡ with_all RightToLeft (Some hebrew)
   pub nothing_to_guess : guessed scripts (with_all BottomToTop (Some latin)) ≡ with_all BottomToTop (Some latin)

@@ -13,7 +13,8 @@ use Rattle.std.proofs.lemmas.Bool.{cases_Bool}
 use Rattle.std.proofs.lemmas.Bool.Decides.{nat_tests}
 use Rattle.shape_items.specs.Delete.{begins_in, give_to_kept, hand_on, hand_over, lose, visit, delete_from}
 
--- the list that a vector stands for while its first k items are kept, those from i on are left to visit, and what lies between is gone
+-- the list that a vector stands for while its first k items are kept, those from i on are left to visit, and what lies
+-- between is gone
 abbrev pub standing : {X : Type 0} → ℕ → ℕ → List X → List X
 standing k i xs = take k xs ++ drop i xs
 

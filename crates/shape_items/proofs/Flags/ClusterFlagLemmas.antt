@@ -1,4 +1,5 @@
--- Glyphs of one cluster stand side by side if clusters are in order, so that one set of flags for neighbours is one for all of them.
+-- Glyphs of one cluster stand side by side if clusters are in order, so that one set of flags for neighbours is one for
+-- all of them.
 use Rattle.std.proofs.Common.{◌≡◌, ℕ, zero, suc, ◌+◌, ◌-◌, ◌<◌, ◌≤◌, Bool, true, false, inl, inr, List, [], ◌∷◌, length, get_or, nat_le, refl, ap, sym, ◌∙◌, arith}
 use Rattle.std.proofs.lemmas.List.{get_or-map, length-map}
 use Rattle.std.proofs.lemmas.Bool.{cases_Bool}

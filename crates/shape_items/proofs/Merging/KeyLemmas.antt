@@ -1,4 +1,5 @@
--- What depends on neither clusters nor the defined flags: merging keeps it, and ordering depends on it. Merging keeps the settings too.
+-- What depends on neither clusters nor the defined flags: merging keeps it, and ordering depends on it. Merging keeps
+-- the settings too.
 use Rattle.std.proofs.Common.{◌≡◌, ℕ, ◌≤◌, Bool, true, false, if◌then◌else◌, ◌==◌, ◌&&◌, bit_or, nat_lt, List, [], ◌∷◌, ◌++◌, map, length, take, drop, slice_range, refl, sym, ap, ap₂, ◌∙◌, arith}
 use Rattle.std.proofs.lemmas.Nat.{and_assoc, and_or_apart}
 use Rattle.std.proofs.lemmas.List.{length-map, map-append, take-append-drop}

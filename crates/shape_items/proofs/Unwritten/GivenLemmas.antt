@@ -204,7 +204,8 @@ give_nothing items places given p x n size ex le s = unchanged s.runs s.items_ar
       let not_smaller : nat_lt p.cluster run.last.cluster ≡ false = grind (arith, nat_tests) in
       rw (read, not_smaller) refl
 
--- what a picked item of a smaller cluster leaves, if the last run begins the list or the item before it is in another cluster
+-- what a picked item of a smaller cluster leaves, if the last run begins the list or the item before it is in another
+-- cluster
 pub give_apart : (items : List Item) (places : List ℕ) (given : List Item) (p x d : Item) (n m : ℕ) → n + 1 ≡ length items
     → m + 1 ≡ length places
     → x ≡ get_or items n x → p.cluster < x.cluster

@@ -1,5 +1,5 @@
--- The normalised list is equivalent to its text, canonical or recomposed of a canonical one if glyphs and runs allow it, and equal
--- exactly for equivalent texts.
+-- The normalised list is equivalent to its text, canonical or recomposed of a canonical one if glyphs and runs allow
+-- it, and equal exactly for equivalent texts.
 use Rattle.std.proofs.Common.{◌≡◌, ◌↔◌, ℕ, Bool, true, false, List, [], refl, sym, ◌∙◌, ap, subst, inl, inr}
 use Rattle.std.proofs.lemmas.Bool.{cases_Bool}
 use Rattle.canonical_form.proofs.Expanding.ChoiceLemmas.{full_text-expanded}

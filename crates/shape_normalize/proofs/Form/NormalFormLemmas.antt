@@ -1,4 +1,5 @@
--- The rounds of a text without variation selectors and without a hook that reorders, by its characters: choices, settled runs, recomposed.
+-- The rounds of a text without variation selectors and without a hook that reorders, by its characters: choices,
+-- settled runs, recomposed.
 use Rattle.std.proofs.Common.{◌≡◌, ℕ, Bool, true, false, if◌then◌else◌, ◌&&◌, ◌||◌, List, [], ◌∷◌, map, drop, Option, None, refl, sym, ◌∙◌, ap, ap₂, subst, inl, inr}
 use Rattle.std.proofs.lemmas.Bool.{cases_Bool, cond-true, cond-false, and_from, and_left, and_right}
 use Rattle.std.proofs.lemmas.List.Elements.{recursion_from_All}

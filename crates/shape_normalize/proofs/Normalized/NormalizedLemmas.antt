@@ -80,8 +80,8 @@ content-without_ccc rules f is item ccc = rw is refl
 module _ (rules : Rules) (lawful : LawfulReorder rules.reorder) (P : Item → Type 0)
     (composes : (item : Item) (c : ℕ) → has_glyph rules.face.nominal_glyph c ≡ true
     → P (content rules (part_item rules.unicode rules.face.nominal_glyph item c))) where
-  -- what depends on an item's content, and holds of each composed item, holds of each item of the normalised list if it does of the
-  -- expanded one
+  -- what depends on an item's content, and holds of each composed item, holds of each item of the normalised list if it
+  -- does of the expanded one
   pub normalized_all : (b : Buffer) → AllByRecursion (λ item. P (content rules item)) (round_one rules b).items
       → AllByRecursion (λ item. P (content rules item)) (normalized rules b).items
   normalized_all b each =

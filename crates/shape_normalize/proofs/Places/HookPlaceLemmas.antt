@@ -1,4 +1,5 @@
--- Round two by places, if a reorder hook is given: each run of at most 32 marks of the expanded list is in another order.
+-- Round two by places, if a reorder hook is given: each run of at most 32 marks of the expanded list is in another
+-- order.
 use Rattle.std.proofs.Common.{◌≡◌, ◌⊎◌, ℕ, zero, suc, ◌+◌, ◌-◌, ◌<◌, ◌≤◌, List, [], ◌∷◌, ◌++◌, map, take, drop, length, get_or, set, slice_range, Some, refl, sym, ap, ap₂, subst, ◌∙◌, arith, inl, inr}
 use Rattle.std.specs.List.{All, swap}
 use Rattle.std.specs.List.Sorted.{IsPermutation, SwapsInRange, apply_swaps}
@@ -188,7 +189,8 @@ placed_permutes key is_key start end b ordered within =
     (permutes_swaps (Swaps-in_order ccc_of_item run))))
 
 module _ (f : Buffer → ℕ → ℕ → Buffer) (lawful : LawfulReorder (Some f)) (one : Buffer) where
-  -- a buffer's items are those of the expanded list, each short run in another order, except for clusters, defined flags and ccc
+  -- a buffer's items are those of the expanded list, each short run in another order, except for clusters, defined
+  -- flags and ccc
   pub record IsPlaced (c : Buffer) : Type 0 where
     pub places : List ℕ
     pub order : PermutesRuns one.items places

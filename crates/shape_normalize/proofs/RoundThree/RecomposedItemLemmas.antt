@@ -1,4 +1,5 @@
--- The items of a recomposed list: each is one of the list or the starter of a composition, and there are no more of them.
+-- The items of a recomposed list: each is one of the list or the starter of a composition, and there are no more of
+-- them.
 use Rattle.std.proofs.Common.{◌≡◌, ℕ, suc, ◌≤◌, Bool, true, if◌then◌else◌, List, [], ◌∷◌, map, length, Option, Some, None, sym, subst, ◌∙◌, arith, inl, inr}
 use Rattle.std.specs.List.{AllByRecursion}
 use Rattle.std.specs.Option.{option_and_then}

@@ -176,8 +176,9 @@ module _ (rules : Rules) where
   before_in_place n now [] each = tt
   before_in_place n now (p ∷ ps) each = (each.0.1, before_in_place n now ps each.1)
 
-  -- the items before place i were walked over: those that are emitted stand in their places, with the starter at its place, the others as they
-  -- were; these are the spans and the flags, and the next span begins at `from`; the marks after the starter have this greatest ccc
+  -- the items before place i were walked over: those that are emitted stand in their places, with the starter at its
+  -- place, the others as they were; these are the spans and the flags, and the next span begins at `from`; the marks
+  -- after the starter have this greatest ccc
   pub record IsRecomposedTo (items : List Item) (flags : ScratchFlags) (i : ℕ) (now : List Item) (spans : List (ℕ × ℕ))
       (seen : ScratchFlags) (starter from greatest : ℕ) : Type 0 where
     pub before : List Placed

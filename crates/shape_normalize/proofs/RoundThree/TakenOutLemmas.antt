@@ -1,4 +1,5 @@
--- Taking out the last item of each of many spans: what the walk keeps, and that it leaves the items at the places of what is emitted.
+-- Taking out the last item of each of many spans: what the walk keeps, and that it leaves the items at the places of
+-- what is emitted.
 use Rattle.std.proofs.Common.{◌≡◌, ℕ, zero, suc, ◌+◌, ◌-◌, ◌<◌, ◌≤◌, ◌==◌, true, false, List, [], ◌∷◌, ◌++◌, length, map, get_or, take, drop, set, replicate, Some, None, refl, sym, ap, ap₂, subst, ◌∙◌, arith, add-one, append_assoc, append-nil, drop-cons, drop-drop, drop-set-lt, eq-eqb, ne_eqb}
 use Rattle.std.specs.List.{slice_get}
 use Rattle.std.proofs.lemmas.Bool.{cond-true, cond-false}

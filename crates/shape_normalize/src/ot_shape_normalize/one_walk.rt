@@ -44,7 +44,8 @@ fn place_glyphs<T: ShapingTypes>(
     follows: bool,
     runs: &mut FollowedRuns,
 ) -> Result<usize, ShapeError>
-    requires shortest { shortest.now ≡ shortest_of (⟦<T as Meaning>⟧.rules plan.now face.now).short }
+    requires shortest { shortest.now
+        ≡ shortest_of (⟦<T as Meaning>⟧.rules plan.now face.now).short }
     requires runs { FollowsRuns [] runs.old }
     ensures placed { let rules = ⟦<T as Meaning>⟧.rules plan.now face.now in
         IfOk result (λ n. take n buffer.new.items
@@ -101,7 +102,8 @@ fn expand_on<T: ShapingTypes>(
     follows: bool,
     runs: &mut FollowedRuns,
 ) -> Result<Expanded, ShapeError>
-    requires shortest { shortest.now ≡ shortest_of (⟦<T as Meaning>⟧.rules plan.now face.now).short }
+    requires shortest { shortest.now
+        ≡ shortest_of (⟦<T as Meaning>⟧.rules plan.now face.now).short }
     requires from { from ≤ length buffer.now.items }
     requires runs { follows ≡ true
         → FollowsRuns (map ccc_of_item (take from buffer.now.items)) runs.old }

@@ -1,4 +1,5 @@
--- Preparing leaves the characters of a text if no circle goes in, nothing is reversed, and no character has another form.
+-- Preparing leaves the characters of a text if no circle goes in, nothing is reversed, and no character has another
+-- form.
 use Rattle.std.proofs.Common.{◌≡◌, ℕ, ◌&&◌, Bool, true, false, List, [], ◌∷◌, map, Option, None, Some, unwrap_or, refl, sym, ap, ap₂, ◌∙◌, subst}
 use Rattle.std.proofs.lemmas.List.Elements.{recursion_from_All}
 use Rattle.std.specs.Prelude.{All}

@@ -15,8 +15,8 @@ use Rattle.shape_items.specs.GraphemeSpans.{spans_from}
 use Rattle.shape_prepare.specs.NativeOrder.{parted}
 use Rattle.shape_prepare.proofs.Spans.ReversalLemmas.{total}
 
--- what a merge leaves: the span in the cluster of its first item, what stands before it as it was, and after it that cluster or the old
--- one
+-- what a merge leaves: the span in the cluster of its first item, what stands before it as it was, and after it that
+-- cluster or the old one
 pub record Spread (start end : ℕ) (xs ys : List Item) : Type 0 where
   pub below : (k : ℕ) → k < start → cluster_at ys k ≡ cluster_at xs k
   pub inside : (k : ℕ) → start ≤ k → k < end → cluster_at ys k ≡ cluster_at xs start

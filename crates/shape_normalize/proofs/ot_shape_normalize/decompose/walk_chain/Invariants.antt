@@ -8,8 +8,8 @@ use Rattle.shape_normalize.specs.Part.{part_of_char}
 use Rattle.shape_normalize.proofs.RoundOne.ChainPartLemmas.{chars_of, found_chars}
 use Rattle.shape_normalize.proofs.ot_shape_normalize.decompose.walk_chain.Given as goal
 
--- the expansion is what the rest of the chain gives, with the second parts after it, else what was found; each part has the glyph of its
--- character
+-- the expansion is what the rest of the chain gives, with the second parts after it, else what was found; each part has
+-- the glyph of its character
 abbrev pub invariant-chain : goal.invariant-chain
 invariant-chain g l =
     let shaper = g.T.Shaper.hb_ot_shaper_t in

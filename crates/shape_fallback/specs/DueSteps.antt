@@ -26,7 +26,8 @@ has_space_fallback b = bit_and b.scratch_flags.0 HAS_SPACE_FALLBACK == HAS_SPACE
 unfoldable pub spaces_step : FaceMeaning → Buffer → Buffer
 spaces_step face b = step_if (has_space_fallback b) (spaces_placed face) b
 
--- a base without extents takes the advances of its marks into their offsets if the plan adjusts, and in forward text alone
+-- a base without extents takes the advances of its marks into their offsets if the plan adjusts, and in forward text
+-- alone
 unfoldable pub marks_adjusted : UnicodeMeaning → FaceMeaning → Direction → Option Script → Decisions → Buffer → Buffer
 marks_adjusted unicode face direction script decisions b =
     marks_positioned unicode face direction script (decisions.adjust_mark_positioning_when_zeroing && is_forward b.direction) b
