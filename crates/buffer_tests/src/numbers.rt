@@ -117,8 +117,8 @@ fn assert_from(rt: &impl Abort, first: u8, categories: &[Category]) {
     }
 }
 
-#[test]
-fn general_categories(rt: HostRuntime) {
+/// Compares the numbers of letters and marks.
+fn assert_letters_and_marks(rt: &impl Abort) {
     let letters = [
         Category::UppercaseLetter,
         Category::LowercaseLetter,
@@ -126,19 +126,23 @@ fn general_categories(rt: HostRuntime) {
         Category::ModifierLetter,
         Category::OtherLetter,
     ];
-    assert_from(&rt, 0, &letters);
+    assert_from(rt, 0, &letters);
     let marks = [
         Category::NonspacingMark,
         Category::SpacingMark,
         Category::EnclosingMark,
     ];
-    assert_from(&rt, 5, &marks);
+    assert_from(rt, 5, &marks);
+}
+
+/// Compares those of numbers and punctuation, which come next.
+fn assert_numbers_and_punctuation(rt: &impl Abort) {
     let numbers = [
         Category::DecimalNumber,
         Category::LetterNumber,
         Category::OtherNumber,
     ];
-    assert_from(&rt, 8, &numbers);
+    assert_from(rt, 8, &numbers);
     let punctuation = [
         Category::ConnectorPunctuation,
         Category::DashPunctuation,
@@ -148,20 +152,24 @@ fn general_categories(rt: HostRuntime) {
         Category::FinalPunctuation,
         Category::OtherPunctuation,
     ];
-    assert_from(&rt, 11, &punctuation);
+    assert_from(rt, 11, &punctuation);
+}
+
+/// Compares those of symbols, separators and the rest.
+fn assert_symbols_and_others(rt: &impl Abort) {
     let symbols = [
         Category::MathSymbol,
         Category::CurrencySymbol,
         Category::ModifierSymbol,
         Category::OtherSymbol,
     ];
-    assert_from(&rt, 18, &symbols);
+    assert_from(rt, 18, &symbols);
     let separators = [
         Category::SpaceSeparator,
         Category::LineSeparator,
         Category::ParagraphSeparator,
     ];
-    assert_from(&rt, 22, &separators);
+    assert_from(rt, 22, &separators);
     let others = [
         Category::Control,
         Category::Format,
@@ -169,7 +177,14 @@ fn general_categories(rt: HostRuntime) {
         Category::PrivateUse,
         Category::Unassigned,
     ];
-    assert_from(&rt, 25, &others);
+    assert_from(rt, 25, &others);
+}
+
+#[test]
+fn general_categories(rt: HostRuntime) {
+    assert_letters_and_marks(&rt);
+    assert_numbers_and_punctuation(&rt);
+    assert_symbols_and_others(&rt);
 }
 
 #[test]
