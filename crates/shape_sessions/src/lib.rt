@@ -17,3 +17,4 @@ pub mod printing;
 pub mod session;
 pub mod settings;
 pub mod unicode_tables;
+pub mod worked;
