@@ -3,7 +3,8 @@
 //! A font without positioning lookups leaves its marks beside their bases, and may have no glyph for
 //! most of the spaces. So each mark is placed by its ccc at a side of its base: below, above, at the left or at
 //! the right of the base's extents, which are taken as wide as its advance and as high as its ink. Marks
-//! below and above stand a gap apart, each next mark of the ccc beyond the one before. A ccc that only tells
+//! below and above stand a gap apart, except for those that touch their base, and each next mark of the ccc
+//! beyond the one before. A ccc that only tells
 //! marks of one script apart is first made one that names a side. A mark of a ligature goes to its own
 //! component, an equal part of the ligature's advance. A space takes its part of the em square, or the
 //! advance of a digit or a full stop.

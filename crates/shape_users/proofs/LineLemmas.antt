@@ -1,5 +1,5 @@
--- Glyphs of one cluster stand side by side if clusters are in order, so that one set of flags for neighbours is one for
--- all of them.
+-- Whether a line may end before a cluster is answered by each of its glyphs alike, if clusters are in order and
+-- neighbours have one set of flags.
 use Rattle.std.proofs.Common.{◌≡◌, ℕ, zero, suc, ◌<◌, ◌≤◌, ◌==◌, Bool, true, false, cond, List, [], ◌∷◌, length, get_or, Some, refl, ap, sym, ◌∙◌, arith}
 use Rattle.std.proofs.lemmas.List.{get_or-map, length-map}
 use Rattle.std.proofs.lemmas.Bool.Decides.{nat_tests}
