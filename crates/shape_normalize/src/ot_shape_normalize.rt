@@ -33,7 +33,6 @@ mod round_two;
 mod runs;
 
 use crate::ot_shape_normalize::cgj::unhide_cgj;
-use crate::ot_shape_normalize::context::ContextOf;
 use crate::ot_shape_normalize::expand_and_order::expand_and_order;
 use crate::ot_shape_normalize::mode::recomposes;
 use crate::ot_shape_normalize::round_three::recompose;
@@ -111,15 +110,16 @@ where
     ensures cleared { OnErr result (buffer.new ≡ cleared buffer.old) }
     ensures empty { buffer.old.items ≡ [] → IsOk result }
 {
-    let outcome = normalize::<TypesOf<U, F, M, S>>(alloc, plan, buffer, face);
+    let outcome = run_rounds::<TypesOf<U, F, M, S>>(alloc, plan, buffer, face);
     if outcome.is_err() {
         buffer.reset();
     }
     outcome
 }
 
-/// Runs the rounds over a context of their own.
-fn normalize<T: ShapingTypes>(
+/// Expands the items and unhides CGJ; if there are marks past the first item, puts them in order, and
+/// composes them in the modes that do. Leaves an empty list as it is.
+fn run_rounds<T: ShapingTypes>(
     alloc: Global,
     plan: &PlanOf<'_, T>,
     buffer: &mut hb_buffer_t,
@@ -134,38 +134,14 @@ fn normalize<T: ShapingTypes>(
     ensures settings { cleared buffer.new ≡ cleared buffer.old }
     ensures empty { buffer.old.items ≡ [] → IsOk result }
 {
-    let mut ctx = hb_ot_shape_normalize_context_t {
-        plan,
-        buffer: &mut *buffer,
-        face,
-    };
-    run_rounds::<T>(alloc, &mut ctx)
-}
-
-/// Expands the items and unhides CGJ; if there are marks past the first item, puts them in order, and
-/// composes them in the modes that do. Leaves an empty list as it is.
-fn run_rounds<T: ShapingTypes>(alloc: Global, ctx: &mut ContextOf<'_, T>) -> Result<(), ShapeError>
-    ensures same_reference { ctx.new.buffer.ghost_name ≡ ctx.old.buffer.ghost_name }
-    ensures ok { OnOk result (ctx.new.buffer.now
-        ≡ normalized (⟦<T as Meaning>⟧.rules ctx.old.plan.now ctx.old.face.now)
-        ctx.old.buffer.now) }
-    ensures counted { OnOk result (length (round_one
-        (⟦<T as Meaning>⟧.rules ctx.old.plan.now ctx.old.face.now)
-        ctx.old.buffer.now).items ≤ limit_of ctx.old.buffer.now) }
-    ensures length { result ≡ Err ShapeError.Length
-        → limit_of ctx.old.buffer.now < length (round_one
-        (⟦<T as Meaning>⟧.rules ctx.old.plan.now ctx.old.face.now) ctx.old.buffer.now).items }
-    ensures settings { cleared ctx.new.buffer.now ≡ cleared ctx.old.buffer.now }
-    ensures empty { ctx.old.buffer.now.items ≡ [] → IsOk result }
-{
-    if ctx.buffer.len() == 0 {
+    if buffer.len() == 0 {
         return Ok(());
     }
-    let has_marks = has_mark_past_first(ctx.buffer.infos());
-    expand_and_order::<T>(alloc, ctx.plan, ctx.buffer, ctx.face, has_marks)?;
-    unhide_cgj(ctx.buffer);
-    if has_marks && recomposes::<T>(ctx.plan) {
-        recompose::<T>(alloc, ctx.plan, ctx.buffer, ctx.face)?;
+    let has_marks = has_mark_past_first(buffer.infos());
+    expand_and_order::<T>(alloc, plan, buffer, face, has_marks)?;
+    unhide_cgj(buffer);
+    if has_marks && recomposes::<T>(plan) {
+        recompose::<T>(alloc, plan, buffer, face)?;
     }
     Ok(())
 }

@@ -16,64 +16,64 @@ returns-else-is_err-clause-brought_in g c =
     let shaper = g.S.hb_ot_shaper_t in
     let rules = rules_of g.U.hb_unicode_funcs_t.unicode shaper.constants shaper.hooks g.F.hb_font_t.face c.args.plan.now c.args.face.now in
     let lawful = used_reorder-lawful shaper.hooks g.met.S.hb_ot_shaper_t.lawful_hooks shaper.constants.has_reorder_marks c.args.plan.now c.args.face.now in
-    on_ok_weaker c.normalize-outcome.result (normalized_brings_in rules lawful c.args.buffer.now c.normalize-outcome.new.buffer) c.normalize-outcome.ensures.ok
+    on_ok_weaker c.run_rounds-outcome.result (normalized_brings_in rules lawful c.args.buffer.now c.run_rounds-outcome.new.buffer) c.run_rounds-outcome.ensures.ok
 
 pub returns-else-is_err-clause-item_glyphs : goal.returns-else-is_err-clause-item_glyphs
 returns-else-is_err-clause-item_glyphs g c =
     let shaper = g.S.hb_ot_shaper_t in
     let rules = rules_of g.U.hb_unicode_funcs_t.unicode shaper.constants shaper.hooks g.F.hb_font_t.face c.args.plan.now c.args.face.now in
     let lawful = used_reorder-lawful shaper.hooks g.met.S.hb_ot_shaper_t.lawful_hooks shaper.constants.has_reorder_marks c.args.plan.now c.args.face.now in
-    on_ok_weaker c.normalize-outcome.result (normalized_has_glyphs rules lawful c.args.buffer.now c.normalize-outcome.new.buffer) c.normalize-outcome.ensures.ok
+    on_ok_weaker c.run_rounds-outcome.result (normalized_has_glyphs rules lawful c.args.buffer.now c.run_rounds-outcome.new.buffer) c.run_rounds-outcome.ensures.ok
 
 pub returns-else-is_err-clause-canonical_form : goal.returns-else-is_err-clause-canonical_form
 returns-else-is_err-clause-canonical_form g c =
     let shaper = g.S.hb_ot_shaper_t in
     let rules = rules_of g.U.hb_unicode_funcs_t.unicode shaper.constants shaper.hooks g.F.hb_font_t.face c.args.plan.now c.args.face.now in
-    on_ok_weaker c.normalize-outcome.result (NormalizesCanonically-normalized rules g.met.U.hb_unicode_funcs_t.lawful c.args.buffer.now c.normalize-outcome.new.buffer) c.normalize-outcome.ensures.ok
+    on_ok_weaker c.run_rounds-outcome.result (NormalizesCanonically-normalized rules g.met.U.hb_unicode_funcs_t.lawful c.args.buffer.now c.run_rounds-outcome.new.buffer) c.run_rounds-outcome.ensures.ok
 
 pub returns-else-is_err-clause-ordered : goal.returns-else-is_err-clause-ordered
 returns-else-is_err-clause-ordered g c =
     let shaper = g.S.hb_ot_shaper_t in
     let rules = rules_of g.U.hb_unicode_funcs_t.unicode shaper.constants shaper.hooks g.F.hb_font_t.face c.args.plan.now c.args.face.now in
-    on_ok_weaker c.normalize-outcome.result (normalized_orders rules c.args.buffer.now c.normalize-outcome.new.buffer) c.normalize-outcome.ensures.ok
+    on_ok_weaker c.run_rounds-outcome.result (normalized_orders rules c.args.buffer.now c.run_rounds-outcome.new.buffer) c.run_rounds-outcome.ensures.ok
 
 pub returns-else-is_err-clause-clusters : goal.returns-else-is_err-clause-clusters
 returns-else-is_err-clause-clusters g c =
     let shaper = g.S.hb_ot_shaper_t in
     let rules = rules_of g.U.hb_unicode_funcs_t.unicode shaper.constants shaper.hooks g.F.hb_font_t.face c.args.plan.now c.args.face.now in
     let lawful = used_reorder-lawful shaper.hooks g.met.S.hb_ot_shaper_t.lawful_hooks shaper.constants.has_reorder_marks c.args.plan.now c.args.face.now in
-    on_ok_weaker c.normalize-outcome.result (normalized_keeps rules lawful c.args.buffer.now c.normalize-outcome.new.buffer) c.normalize-outcome.ensures.ok
+    on_ok_weaker c.run_rounds-outcome.result (normalized_keeps rules lawful c.args.buffer.now c.run_rounds-outcome.new.buffer) c.run_rounds-outcome.ensures.ok
 
 pub returns-else-is_err-clause-within : goal.returns-else-is_err-clause-within
 returns-else-is_err-clause-within g c =
     let shaper = g.S.hb_ot_shaper_t in
     let rules = rules_of g.U.hb_unicode_funcs_t.unicode shaper.constants shaper.hooks g.F.hb_font_t.face c.args.plan.now c.args.face.now in
     let lawful = used_reorder-lawful shaper.hooks g.met.S.hb_ot_shaper_t.lawful_hooks shaper.constants.has_reorder_marks c.args.plan.now c.args.face.now in
-    within_normalized rules lawful c.args.buffer.now c.normalize-outcome.new.buffer c.normalize-outcome.result _ c.normalize-outcome.ensures.ok c.normalize-outcome.ensures.counted
+    within_normalized rules lawful c.args.buffer.now c.run_rounds-outcome.new.buffer c.run_rounds-outcome.result _ c.run_rounds-outcome.ensures.ok c.run_rounds-outcome.ensures.counted
 
 pub returns-else-is_err-clause-features : goal.returns-else-is_err-clause-features
 returns-else-is_err-clause-features g c =
     let shaper = g.S.hb_ot_shaper_t in
     let rules = rules_of g.U.hb_unicode_funcs_t.unicode shaper.constants shaper.hooks g.F.hb_font_t.face c.args.plan.now c.args.face.now in
     let lawful = used_reorder-lawful shaper.hooks g.met.S.hb_ot_shaper_t.lawful_hooks shaper.constants.has_reorder_marks c.args.plan.now c.args.face.now in
-    on_ok_weaker c.normalize-outcome.result (normalized_keeps_features rules lawful c.args.buffer.now c.normalize-outcome.new.buffer) c.normalize-outcome.ensures.ok
+    on_ok_weaker c.run_rounds-outcome.result (normalized_keeps_features rules lawful c.args.buffer.now c.run_rounds-outcome.new.buffer) c.run_rounds-outcome.ensures.ok
 
 pub returns-else-is_err-clause-cgj : goal.returns-else-is_err-clause-cgj
 returns-else-is_err-clause-cgj g c =
     let shaper = g.S.hb_ot_shaper_t in
     let rules = rules_of g.U.hb_unicode_funcs_t.unicode shaper.constants shaper.hooks g.F.hb_font_t.face c.args.plan.now c.args.face.now in
     let lawful = used_reorder-lawful shaper.hooks g.met.S.hb_ot_shaper_t.lawful_hooks shaper.constants.has_reorder_marks c.args.plan.now c.args.face.now in
-    on_ok_weaker c.normalize-outcome.result (normalized_keeps_hidden rules lawful c.args.buffer.now c.normalize-outcome.new.buffer) c.normalize-outcome.ensures.ok
+    on_ok_weaker c.run_rounds-outcome.result (normalized_keeps_hidden rules lawful c.args.buffer.now c.run_rounds-outcome.new.buffer) c.run_rounds-outcome.ensures.ok
 
 pub returns-else-is_err-clause-recomposed : goal.returns-else-is_err-clause-recomposed
 returns-else-is_err-clause-recomposed g c =
     let shaper = g.S.hb_ot_shaper_t in
     let rules = rules_of g.U.hb_unicode_funcs_t.unicode shaper.constants shaper.hooks g.F.hb_font_t.face c.args.plan.now c.args.face.now in
-    on_ok_weaker c.normalize-outcome.result (normalized_recomposes rules c.args.buffer.now c.normalize-outcome.new.buffer) c.normalize-outcome.ensures.ok
+    on_ok_weaker c.run_rounds-outcome.result (normalized_recomposes rules c.args.buffer.now c.run_rounds-outcome.new.buffer) c.run_rounds-outcome.ensures.ok
 
 pub returns-else-is_err-clause-by_place : goal.returns-else-is_err-clause-by_place
 returns-else-is_err-clause-by_place g c =
     let shaper = g.S.hb_ot_shaper_t in
     let rules = rules_of g.U.hb_unicode_funcs_t.unicode shaper.constants shaper.hooks g.F.hb_font_t.face c.args.plan.now c.args.face.now in
     let lawful = used_reorder-lawful shaper.hooks g.met.S.hb_ot_shaper_t.lawful_hooks shaper.constants.has_reorder_marks c.args.plan.now c.args.face.now in
-    on_ok_weaker c.normalize-outcome.result (normalized_by_place rules lawful c.args.buffer.now c.normalize-outcome.new.buffer) c.normalize-outcome.ensures.ok
+    on_ok_weaker c.run_rounds-outcome.result (normalized_by_place rules lawful c.args.buffer.now c.run_rounds-outcome.new.buffer) c.run_rounds-outcome.ensures.ok
