@@ -24,7 +24,8 @@ use Rattle.shape_prepare.specs.ClustersFormed.{clusters_formed}
 use Rattle.shape_prepare.specs.DottedCircle.{dotted_circled}
 use Rattle.shape_prepare.specs.Graphemes.{graphemes_marked}
 use Rattle.shape_prepare.specs.PrepareSteps.{order_steps, prepare_steps}
-use Rattle.shape_prepare.proofs.Keeping.FlagKeeperLemmas.{begun-keeps_flags, begun-honest, preparing_keeps_flags}
+use Rattle.shape_prepare.proofs.Keeping.StepKeepers.{begun-keeps_flags, begun-honest}
+use Rattle.shape_prepare.proofs.Keeping.KeeperLemmas.{preparing_keeps_flags}
 use Rattle.shape_substitute.proofs.ListKeepers.{substitution-keeps_flags}
 use Rattle.shape_pipeline.specs.Headline.{HasFlagsByCluster}
 use Rattle.shape_pipeline.specs.Shaped.{normalising, glyph_part, place_part, shaped_steps, all_steps, entered, finished, run_made}

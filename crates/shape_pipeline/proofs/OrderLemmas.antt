@@ -28,7 +28,7 @@ use Rattle.shape_position.proofs.StepKeepers.{steps_keep_clusters}
 use Rattle.shape_prepare.specs.ClusterPoint.{InOrderFor, direction_for, is_reversed}
 use Rattle.shape_prepare.specs.PrepareSteps.{prepare_steps}
 use Rattle.shape_prepare.proofs.Keeping.FirstLemmas.{preparing_keeps_firsts}
-use Rattle.shape_prepare.proofs.Keeping.OrderKeeperLemmas.{preparing_keeps_order}
+use Rattle.shape_prepare.proofs.Keeping.KeeperLemmas.{preparing_keeps_order}
 use Rattle.shape_substitute.proofs.ListKeepers.{substitution-keeps_clusters}
 use Rattle.shape_pipeline.specs.Headline.{target_of}
 use Rattle.shape_pipeline.specs.Order.{RunKeepsClusters, ComesInOrder, ClustersComeInOrder, grapheme_clusters}

@@ -1,6 +1,6 @@
 -- What preparing keeps.
-pub mod OrderKeeperLemmas
+pub mod StepKeepers
+pub mod KeeperLemmas
 pub mod FirstLemmas
-pub mod FlagKeeperLemmas
 pub mod PreparedLemmas
 pub mod CharacterLemmas

@@ -100,6 +100,20 @@ merged_to_reverse-cases P b same merged = at_level b.cluster_level
     at_level MonotoneCharacters = merged
     at_level Characters = same
 
+-- a circle goes before a first item, if at all
+pub dotted_circled-cases : (P : Buffer → Type 0) (unicode : UnicodeMeaning) (face : FaceMeaning) (b : Buffer) → P b
+    → ((first : Item) (rest : List Item) → b.items ≡ first ∷ rest → P (with_circle unicode (first ∷ rest) b))
+    → P (dotted_circled unicode face b)
+unfolding dotted_circled
+dotted_circled-cases P unicode face b same put = elim (cases_Bool (takes_circle face b && begins_with_mark is_mark_item b.items)) [
+  | inl on ↦ rw on (before b.items refl)
+  | inr off ↦ rw off same
+]
+  where
+    before : (items : List Item) → b.items ≡ items → P (with_circle unicode items b)
+    before [] is = same
+    before (first ∷ rest) is = put first rest is
+
 -- clusters if no character past ASCII was seen, and if one was
 pub clusters_formed-unseen : (b : Buffer) → (bit_and b.scratch_flags.0 1 == 1) ≡ false → clusters_formed b ≡ b
 unfolding clusters_formed

@@ -1,5 +1,5 @@
 -- The clusters of first characters of graphemes.
-use Rattle.std.proofs.Common.{◌≡◌, ℕ, zero, suc, ◌+◌, ◌<◌, ◌&&◌, List, [], ◌∷◌, ◌++◌, length, get_or, take, map, refl, sym, ap, ap₂, ◌∙◌, arith, inl, inr, subst, append_assoc}
+use Rattle.std.proofs.Common.{◌≡◌, ℕ, zero, suc, ◌+◌, ◌<◌, List, [], ◌∷◌, ◌++◌, length, get_or, take, map, refl, sym, ap, ap₂, ◌∙◌, arith, inl, inr, subst, append_assoc}
 use Rattle.std.proofs.lemmas.Bool.{cases_Bool}
 use Rattle.std.proofs.lemmas.List.{length-map, length-append, map-append, get_or_at}
 use Rattle.std.specs.Prelude.{Contains}
@@ -7,12 +7,11 @@ use Rattle.std.specs.List.{flat_map}
 use Rattle.std.specs.List.Sorted.{IsNonDecreasing}
 use Rattle.canonical_form.specs.Divided.{put_first}
 use Rattle.canonical_form.proofs.Lists.DividedLemmas.{whole, whole-divided, divided-joins, divided-parts, divided-begins}
-use Rattle.canonical_form.specs.Expanded.{begins_with_mark}
 use Rattle.shape_items.specs.Buffer.{Buffer}
 use Rattle.shape_items.specs.Clusters.{clusters}
 use Rattle.shape_items.specs.ClusterOrder.{IsMonotoneLevel}
 use Rattle.shape_common.specs.Face.{FaceMeaning}
-use Rattle.shape_items.specs.Items.{Item, is_mark_item}
+use Rattle.shape_items.specs.Items.{Item}
 use Rattle.shape_common.specs.Unicode.{UnicodeMeaning}
 use Rattle.shape_items.proofs.Merging.JoinLemmas.{cluster_at}
 use Rattle.shape_prepare.specs.ClusterPoint.{first_clusters, PreparingKeepsFirsts}
@@ -24,9 +23,10 @@ use Rattle.shape_plan.specs.Run.{hook_if}
 use Rattle.shape_buffer.specs.Keepers.{IsClusterKeeper}
 use Rattle.shape_common.specs.declared.text_types.BufferClusterLevel.TheVariants.{MonotoneGraphemes}
 use Rattle.shape_buffer.proofs.Steps.KeeperLemmas.{KeepsOrder-same, KeepsOrder-then}
-use Rattle.shape_prepare.proofs.Keeping.OrderKeeperLemmas.{begun-keeps_order, graphemes_marked-keeps_order, dotted_circled-keeps_order, rotated-keeps_order, natively-in_order, formed-ready, circled-unseen, marked-unseen, seen_past}
-use Rattle.shape_prepare.proofs.StepLemmas.{clusters_formed-unseen, clusters_formed-merged}
-use Rattle.shape_prepare.specs.DottedCircle.{dotted_circled, with_circle, circle_before, takes_circle}
+use Rattle.shape_prepare.proofs.Keeping.KeeperLemmas.{natively-in_order, formed-ready}
+use Rattle.shape_prepare.proofs.Keeping.StepKeepers.{begun-keeps, graphemes_marked-keeps, dotted_circled-keeps, rotated-keeps, circled-unseen, marked-unseen, seen_past}
+use Rattle.shape_prepare.proofs.StepLemmas.{dotted_circled-cases, clusters_formed-unseen, clusters_formed-merged}
+use Rattle.shape_prepare.specs.DottedCircle.{dotted_circled, circle_before}
 use Rattle.shape_prepare.specs.Graphemes.{graphemes_marked}
 use Rattle.shape_prepare.proofs.Spans.RisingMergeLemmas.{Firsts, all-firsts, SomeEach}
 use Rattle.shape_prepare.proofs.Spans.GraphemeClusterLemmas.{some-graphemes, total-graphemes, merged-parts, graphemes_merged, spans-merged, NoneContinues}
@@ -102,21 +102,13 @@ ahead-firsts circle first rest same k =
           (contains-once first.cluster (firsts_of h.1) k (subst (λ (l : List ℕ). Contains l k) twice c))
     ]
 
-with_circle-firsts : (unicode : UnicodeMeaning) (b : Buffer) (items : List Item) → b.items ≡ items → (k : ℕ)
-    → Contains (first_clusters (with_circle unicode items b).items) k → Contains (first_clusters b.items) k
-with_circle-firsts unicode b [] is k c = c
-with_circle-firsts unicode b (first ∷ rest) is k c =
-    subst (λ (l : List Item). Contains (first_clusters l) k) (sym is)
-    (ahead-firsts (circle_before unicode first) first rest refl k
-    (subst (λ (l : List Item). Contains (first_clusters (circle_before unicode first ∷ l)) k) is c))
-
 circled-firsts : (unicode : UnicodeMeaning) (face : FaceMeaning) (b : Buffer) (k : ℕ)
     → Contains (first_clusters (dotted_circled unicode face b).items) k → Contains (first_clusters b.items) k
-unfolding dotted_circled
-circled-firsts unicode face b k = elim (cases_Bool (takes_circle face b && begins_with_mark is_mark_item b.items)) [
-  | inl on ↦ rw on (λ c. with_circle-firsts unicode b b.items refl k c)
-  | inr off ↦ rw off (λ c. c)
-]
+circled-firsts unicode face b k =
+    dotted_circled-cases (λ c. Contains (first_clusters c.items) k → Contains (first_clusters b.items) k) unicode face b (λ c. c)
+    (λ first rest is c. subst (λ (l : List Item). Contains (first_clusters l) k) (sym is)
+    (ahead-firsts (circle_before unicode first) first rest refl k
+    (subst (λ (l : List Item). Contains (first_clusters (circle_before unicode first ∷ l)) k) is c)))
 
 -- ---- the whole
 
@@ -134,8 +126,7 @@ formed-firsts : (unicode : UnicodeMeaning) (face : FaceMeaning) (b : Buffer) →
 formed-firsts unicode face b graphemes_level rising k contains =
     let marked = graphemes_marked unicode b in
     let circled = dotted_circled unicode face marked in
-    let first = KeepsOrder-then b marked circled (graphemes_marked-keeps_order unicode b)
-    (dotted_circled-keeps_order unicode face marked) in
+    let first = KeepsOrder-then b marked circled (graphemes_marked-keeps unicode b).order (dotted_circled-keeps unicode face marked).order in
     let level : circled.cluster_level ≡ MonotoneGraphemes = first.level ∙ graphemes_level in
     elim (cases_Bool (seen_past circled.scratch_flags)) [
       | inl seen ↦
@@ -155,7 +146,7 @@ formed-firsts unicode face b graphemes_level rising k contains =
 pub preparing_keeps_firsts : PreparingKeepsFirsts
 preparing_keeps_firsts run target b keeps graphemes_level rising k contains =
     let start = begun run.map.global_mask b in
-    let first = begun-keeps_order run.map.global_mask b in
+    let first = (begun-keeps run.map.global_mask b).order in
     let formed = clusters_formed (dotted_circled run.unicode run.face (graphemes_marked run.unicode start)) in
     let ordered = natively_ordered run.unicode formed in
     let level : start.cluster_level ≡ MonotoneGraphemes = first.level ∙ graphemes_level in
@@ -166,6 +157,6 @@ preparing_keeps_firsts run target b keeps graphemes_level rising k contains =
     let processed = hook_if run.constants.has_preprocess_text run.hooks (λ h. h.preprocess) ordered in
     let ordered_level : IsMonotoneLevel ordered.cluster_level = subst IsMonotoneLevel (sym reverses.level) ready.monotone in
     let by_hook = hook ordered ordered_level in
-    let by_forms = rotated-keeps_order run.unicode run.face run.decisions target processed in
+    let by_forms = (rotated-keeps run.unicode run.face run.decisions target processed).order in
     formed-firsts run.unicode run.face start level (first.clusters.rising rising) k
     (reverses.none_new k (by_hook.clusters.none_new k (by_forms.clusters.none_new k contains)))

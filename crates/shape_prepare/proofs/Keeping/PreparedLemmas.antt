@@ -1,14 +1,13 @@
 -- A text is prepared by its properties, and stays so.
-use Rattle.std.proofs.Common.{◌≡◌, ℕ, ◌&&◌, Bool, true, false, if◌then◌else◌, List, [], ◌∷◌, ◌++◌, map, Option, None, Some, is_some, unwrap_or, refl, sym, ◌∙◌, subst, inl, inr}
+use Rattle.std.proofs.Common.{◌≡◌, ℕ, Bool, true, false, if◌then◌else◌, List, [], ◌∷◌, ◌++◌, map, Option, None, Some, is_some, unwrap_or, refl, sym, ◌∙◌, subst, inl, inr}
 use Rattle.std.proofs.lemmas.Bool.{cases_Bool}
 use Rattle.std.proofs.lemmas.List.Elements.{All-from_recursion, recursion_from_All}
 use Rattle.canonical_form.proofs.Lists.DividedLemmas.{whole, whole-divided}
-use Rattle.canonical_form.specs.Expanded.{begins_with_mark}
 use Rattle.shape_items.specs.Buffer.{Buffer}
 use Rattle.shape_items.specs.BufferClusters.{merge_clusters, unsafe_to_break}
 use Rattle.shape_common.specs.Direction.{is_backward}
 use Rattle.shape_common.specs.Face.{FaceMeaning}
-use Rattle.shape_items.specs.Items.{Item, is_mark_item}
+use Rattle.shape_items.specs.Items.{Item}
 use Rattle.shape_items.specs.Prepared.{IsPreparedItem}
 use Rattle.shape_common.specs.Unicode.{UnicodeMeaning, LawfulUnicode, FormsArePlain}
 use Rattle.shape_items.specs.UnicodeProps.{with_unicode_props}
@@ -20,7 +19,7 @@ use Rattle.shape_plan.specs.Run.{hook_if}
 use Rattle.shape_plan.specs.declared.decisions.Decisions.{Decisions}
 use Rattle.shape_prepare.specs.Begun.{begun}
 use Rattle.shape_prepare.specs.ClustersFormed.{clusters_formed, over_graphemes}
-use Rattle.shape_prepare.specs.DottedCircle.{dotted_circled, with_circle, takes_circle}
+use Rattle.shape_prepare.specs.DottedCircle.{dotted_circled}
 use Rattle.shape_items.specs.GraphemeSpans.{graphemes, is_continuation}
 use Rattle.shape_prepare.specs.Graphemes.{graphemes_marked, continuations_marked, is_to_next}
 use Rattle.shape_prepare.specs.NativeOrder.{natively_ordered, native_direction, is_against, merged_to_reverse, from_last}
@@ -28,8 +27,8 @@ use Rattle.shape_prepare.specs.PreparedPoint.{KeepsPrepared, PreparingPrepares}
 use Rattle.shape_prepare.specs.Rotated.{rotated, rotated_item, in_forms, mirrored_or_masked, mirrored_item, form_in}
 use Rattle.shape_prepare.specs.declared.graphemes.Before.{Before}
 use Rattle.shape_prepare.specs.declared.graphemes.Before.TheVariants.{Plain}
-use Rattle.shape_prepare.proofs.Keeping.FlagKeeperLemmas.{from_last-first}
-use Rattle.shape_prepare.proofs.StepLemmas.{over_graphemes-kept, clusters_formed-cases, merged_to_reverse-cases}
+use Rattle.shape_prepare.proofs.Keeping.KeeperLemmas.{from_last-first}
+use Rattle.shape_prepare.proofs.StepLemmas.{dotted_circled-cases, over_graphemes-kept, clusters_formed-cases, merged_to_reverse-cases}
 use Rattle.shape_plan.proofs.KeeperLemmas.{keeper-hook}
 
 append-prepared : (unicode : UnicodeMeaning) (xs ys : List Item) → ArePrepared unicode xs → ArePrepared unicode ys
@@ -62,18 +61,11 @@ module _ (unicode : UnicodeMeaning) (lawful : LawfulUnicode unicode) where
     marked-prepared items (is_to_next unicode before (with_unicode_props unicode item)),
   )
 
-  with_circle-prepared : (b : Buffer) (items : List Item) → ArePrepared unicode b.items
-      → ArePrepared unicode (with_circle unicode items b).items
-  with_circle-prepared b [] all = all
-  with_circle-prepared b (first ∷ rest) all = (record { mark = refl; ccc = ccc_with_props unicode lawful 0x25CC }, all)
-
   circled-prepared : (face : FaceMeaning) (b : Buffer) → ArePrepared unicode b.items
       → ArePrepared unicode (dotted_circled unicode face b).items
-  unfolding dotted_circled
-  circled-prepared face b all = elim (cases_Bool (takes_circle face b && begins_with_mark is_mark_item b.items)) [
-    | inl on ↦ rw on (with_circle-prepared b b.items all)
-    | inr off ↦ rw off all
-  ]
+  circled-prepared face b all =
+      dotted_circled-cases (λ c. ArePrepared unicode c.items) unicode face b all
+      (λ first rest is. (record { mark = refl; ccc = ccc_with_props unicode lawful 0x25CC }, all))
 
   -- a character becomes a form of its own
   form-prepared : (form : ℕ → Option ℕ) → FormsArePlain unicode form → (item : Item) (d : ℕ) → IsPreparedItem unicode item

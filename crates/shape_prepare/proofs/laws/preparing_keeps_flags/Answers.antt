@@ -1,4 +1,4 @@
-use Rattle.shape_prepare.proofs.Keeping.FlagKeeperLemmas.{preparing_keeps_flags}
+use Rattle.shape_prepare.proofs.Keeping.KeeperLemmas.{preparing_keeps_flags}
 use Rattle.shape_prepare.proofs.laws.preparing_keeps_flags.Goals as goal
 
 pub returns : goal.returns

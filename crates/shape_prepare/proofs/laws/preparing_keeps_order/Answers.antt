@@ -1,4 +1,4 @@
-use Rattle.shape_prepare.proofs.Keeping.OrderKeeperLemmas.{preparing_keeps_order}
+use Rattle.shape_prepare.proofs.Keeping.KeeperLemmas.{preparing_keeps_order}
 use Rattle.shape_prepare.proofs.laws.preparing_keeps_order.Goals as goal
 
 pub returns : goal.returns
