@@ -1,9 +1,7 @@
 //! What the rounds of normalising are handed.
 use shape_buffer::buffer::hb_buffer_t;
-use shape_buffer::interfaces::hb_ot_layout_t;
 use shape_plan::ot_shape_plan::hb_ot_shape_plan_t;
-use shape_plan::ot_shaper::hb_ot_shaper_t;
-use shape_plan::shaping_types::ShapingTypes;
+use shape_plan::shaping_types::{DataOf, MapOf, ShapingTypes};
 
 /// A buffer that is being normalised, with the plan and the face that it is normalised by. `S` is the type of the
 /// shaper, `P` that of the compiled lookups, `D` that of the shaper's data.
@@ -19,10 +17,6 @@ pub(crate) type ContextOf<'a, T> = hb_ot_shape_normalize_context_t<
     'a,
     <T as ShapingTypes>::Face,
     <T as ShapingTypes>::Shaper,
-    <<T as ShapingTypes>::Engine as hb_ot_layout_t<<T as ShapingTypes>::Face>>::Map,
-    <<T as ShapingTypes>::Shaper as hb_ot_shaper_t<
-        <T as ShapingTypes>::Unicode,
-        <T as ShapingTypes>::Face,
-        <T as ShapingTypes>::Engine,
-    >>::Data,
+    MapOf<T>,
+    DataOf<T>,
 >;
