@@ -12,6 +12,7 @@ ghost use Rattle.shape_plan.specs.Plan.{given_shaper};
 use crate::decisions::Decisions;
 use crate::ot_shaper::hb_ot_shaper_t;
 use crate::planner::{Plans, hb_ot_shape_planner_t};
+use crate::shaping_types::{DataOf, MapOf, PlanOf, ShapingTypes};
 use shape_buffer::buffer::{
     Direction, Feature, Language, Script, ShapeError, UnicodeBuffer, hb_mask_t,
 };
@@ -60,73 +61,61 @@ impl<'a, S, P, D> Model for hb_ot_shape_plan_t<'a, S, P, D> {
 
 /// What a shaper makes for a plan, if the plan keeps it and it gives the hook. Refuses with `Memory`
 /// alone.
-fn data_of<U, F, M, S>(
+fn data_of<T: ShapingTypes>(
     alloc: Global,
-    plan: &hb_ot_shape_plan_t<'_, S, M::Map, S::Data>,
-) -> Result<Option<S::Data>, ShapeError>
-where
-    U: hb_unicode_funcs_t,
-    F: hb_font_t,
-    M: hb_ot_layout_t<F>,
-    S: hb_ot_shaper_t<U, F, M>,
+    plan: &PlanOf<'_, T>,
+) -> Result<Option<DataOf<T>>, ShapeError>
     ensures { MatchResult result
-        (λ made. made ≡ data_for S.constants.has_create_data S.made_data plan.now)
+        (λ made. made ≡ data_for T.Shaper.constants.has_create_data T.Shaper.made_data plan.now)
         (λ e. e ≡ ShapeError.Memory) }
 {
     match plan.shaper {
-        ChosenShaper::Given(shaper) if S::HAS_CREATE_DATA => {
+        ChosenShaper::Given(shaper) if T::Shaper::HAS_CREATE_DATA => {
             Ok(Some(shaper.create_data(alloc, plan)?))
         }
         _ => Ok(None),
     }
 }
 
+/// A plan of these parts, with what the shaper makes for it, last, when all else is decided. Refuses
+/// with `Memory` alone.
+pub(crate) fn with_parts<'a, T: ShapingTypes>(
+    alloc: Global,
+    direction: Direction,
+    script: Option<Script>,
+    shaper: ChosenShaper<'a, T::Shaper>,
+    ot_map: MapOf<T>,
+    decisions: Decisions,
+    user_features: Vec<Feature>,
+) -> Result<PlanOf<'a, T>, ShapeError>
+    requires { AreLawful decisions }
+    ensures { MatchResult result
+        (λ plan. plan ≡ with_data T.Shaper.constants.has_create_data T.Shaper.made_data (record {
+          direction = direction;
+          script = script;
+          shaper = given_shaper shaper.entry;
+          ot_map = ot_map;
+          decisions = decisions;
+          user_features = user_features.items;
+          shaper_data = None;
+        }))
+        (λ e. e ≡ ShapeError.Memory) }
+{
+    let mut plan = hb_ot_shape_plan_t {
+        direction,
+        script,
+        shaper,
+        ot_map,
+        decisions,
+        user_features,
+        shaper_data: None,
+    };
+    plan.shaper_data = data_of::<T>(alloc, &plan)?;
+    Ok(plan)
+}
+
 impl<'a, S, P, D> hb_ot_shape_plan_t<'a, S, P, D> {
     ghost use Rattle.shape_plan.specs.Plan.{Plan, Fits};
-
-    /// A plan of these parts, with what the shaper makes for it, last, when all else is decided. Refuses
-    /// with `Memory` alone.
-    pub(crate) fn with_parts<U, F, M>(
-        alloc: Global,
-        direction: Direction,
-        script: Option<Script>,
-        shaper: ChosenShaper<'a, S>,
-        ot_map: P,
-        decisions: Decisions,
-        user_features: Vec<Feature>,
-    ) -> Result<Self, ShapeError>
-    where
-        U: hb_unicode_funcs_t,
-        F: hb_font_t,
-        M: hb_ot_layout_t<F, Map = P>,
-        S: hb_ot_shaper_t<U, F, M, Data = D>,
-        P: Drop,
-        D: Drop,
-        requires { AreLawful decisions }
-        ensures { MatchResult result
-            (λ plan. plan ≡ with_data S.constants.has_create_data S.made_data (record {
-              direction = direction;
-              script = script;
-              shaper = given_shaper shaper.entry;
-              ot_map = ot_map;
-              decisions = decisions;
-              user_features = user_features.items;
-              shaper_data = None;
-            }))
-            (λ e. e ≡ ShapeError.Memory) }
-    {
-        let mut plan = hb_ot_shape_plan_t {
-            direction,
-            script,
-            shaper,
-            ot_map,
-            decisions,
-            user_features,
-            shaper_data: None,
-        };
-        plan.shaper_data = data_of::<U, F, M, S>(alloc, &plan)?;
-        Ok(plan)
-    }
 
     /// A plan for texts of a direction and a script, a face and a shaper, with the features that the user
     /// asks for; `language` helps the engine to choose the scripts of its tables. It serves every text that

@@ -19,8 +19,9 @@ mod requests;
 mod tags;
 
 use crate::decisions::PlanFacts;
-use crate::ot_shape_plan::{ChosenShaper, hb_ot_shape_plan_t};
+use crate::ot_shape_plan::{ChosenShaper, hb_ot_shape_plan_t, with_parts};
 use crate::ot_shaper::{HB_OT_SHAPE_ZERO_WIDTH_MARKS_NONE, hb_ot_shaper_t};
+use crate::shaping_types::TypesOf;
 use shape_buffer::buffer::{Direction, Feature, Language, Script, ShapeError};
 use shape_buffer::interfaces::{
     hb_font_t, hb_ot_layout_t, hb_ot_map_builder_t, hb_tables_t, hb_unicode_funcs_t,
@@ -165,9 +166,11 @@ impl<'a, F, S> hb_ot_shape_planner_t<'a, F, S> {
         let builder = &mut self.ot_map;
         builder.reserve(requests::MOST_WITHOUT_HOOKS.saturating_add(user_features.len()))?;
         requests::begin(builder, direction)?;
-        requests::collect::<U, F, M, S>(alloc, shaper, builder, direction, script)?;
+        requests::collect::<TypesOf<U, F, M, S>>(alloc, shaper, builder, direction, script)?;
         requests::widen(builder, direction, user_features)?;
-        requests::override_features::<U, F, M, S>(alloc, shaper, builder, direction, script)
+        requests::override_features::<TypesOf<U, F, M, S>>(
+            alloc, shaper, builder, direction, script,
+        )
     }
 
     /// The plan: has the engine compile the requests, decides all that depends on no text, copies the
@@ -192,8 +195,8 @@ impl<'a, F, S> hb_ot_shape_planner_t<'a, F, S> {
         ensures memory { IfErr result (λ e. e ≡ ShapeError.Memory) }
     {
         let ot_map = M::compile(alloc, self.face, &self.ot_map)?;
-        let facts = self.facts::<U, M>(&ot_map);
-        hb_ot_shape_plan_t::with_parts::<U, F, M>(
+        let facts = decide::facts::<TypesOf<U, F, M, S>>(&self, &ot_map);
+        with_parts::<TypesOf<U, F, M, S>>(
             alloc,
             self.direction,
             self.script,

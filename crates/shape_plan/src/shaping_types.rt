@@ -25,17 +25,18 @@ pub trait ShapingTypes {
     type Shaper: hb_ot_shaper_t<Self::Unicode, Self::Face, Self::Engine>;
 }
 
+/// What the engine compiles the requests of a plan to.
+pub type MapOf<T> = <<T as ShapingTypes>::Engine as hb_ot_layout_t<<T as ShapingTypes>::Face>>::Map;
+
+/// What the shaper keeps in a plan.
+pub type DataOf<T> = <<T as ShapingTypes>::Shaper as hb_ot_shaper_t<
+    <T as ShapingTypes>::Unicode,
+    <T as ShapingTypes>::Face,
+    <T as ShapingTypes>::Engine,
+>>::Data;
+
 /// A plan for a run of these types.
-pub type PlanOf<'a, T> = hb_ot_shape_plan_t<
-    'a,
-    <T as ShapingTypes>::Shaper,
-    <<T as ShapingTypes>::Engine as hb_ot_layout_t<<T as ShapingTypes>::Face>>::Map,
-    <<T as ShapingTypes>::Shaper as hb_ot_shaper_t<
-        <T as ShapingTypes>::Unicode,
-        <T as ShapingTypes>::Face,
-        <T as ShapingTypes>::Engine,
-    >>::Data,
->;
+pub type PlanOf<'a, T> = hb_ot_shape_plan_t<'a, <T as ShapingTypes>::Shaper, MapOf<T>, DataOf<T>>;
 
 /// What a run depends on under a plan and over a face: the meanings that its types bring, in plain functions.
 /// All types have it, and none writes it.

@@ -29,8 +29,9 @@ use crate::decisions::{Decisions, PlanFacts};
 use crate::ot_shape_plan::ChosenShaper;
 use crate::ot_shaper::hb_ot_shaper_t;
 use crate::planner::{Plans, hb_ot_shape_planner_t, tags};
+use crate::shaping_types::{MapOf, ShapingTypes};
 use shape_buffer::buffer::{Direction, hb_mask_t, hb_tag_t};
-use shape_buffer::interfaces::{TableIndex, hb_font_t, hb_ot_layout_t, hb_unicode_funcs_t};
+use shape_buffer::interfaces::{TableIndex, hb_font_t, hb_ot_layout_t};
 
 /// The feature that kerns texts of a direction.
 fn kern_tag(direction: Direction) -> hb_tag_t
@@ -57,42 +58,39 @@ fn disables_gpos<S>(
     }
 }
 
-impl<'a, F, S> hb_ot_shape_planner_t<'a, F, S> {
-    /// All that the decisions depend on, with the compiled requests.
-    #[tactic(auto, unfolding(crate::specs::Planner::facts_of))]
-    pub(crate) fn facts<U, M>(&self, map: &M::Map) -> PlanFacts
-    where
-        U: hb_unicode_funcs_t,
-        F: hb_font_t,
-        M: hb_ot_layout_t<F>,
-        S: hb_ot_shaper_t<U, F, M>,
-        ensures { result ≡ facts_of ⟦<S as Plans<U, F, M>>⟧.planning self.now (M.masks map.now) }
-    {
-        let kern_tag = kern_tag(self.direction);
-        PlanFacts {
-            frac_mask: M::get_1_mask(map, tags::FRAC),
-            numr_mask: M::get_1_mask(map, tags::NUMR),
-            dnom_mask: M::get_1_mask(map, tags::DNOM),
-            rtlm_mask: M::get_1_mask(map, tags::RTLM),
-            vert_mask: M::get_1_mask(map, tags::VERT),
-            mark_mask: M::get_1_mask(map, tags::MARK),
-            kern_mask: M::get_mask(map, kern_tag).0,
-            trak_mask: M::get_mask(map, tags::TRAK).0,
-            has_gpos_kern: M::get_feature_index(map, TableIndex::GPOS, kern_tag).is_some(),
-            disable_gpos: disables_gpos(
-                S::GPOS_TAG,
-                self.shaper,
-                self.ot_map.chosen_script(TableIndex::GPOS),
-            ),
-            apply_morx: self.apply_morx,
-            script_zero_marks: self.script_zero_marks,
-            script_fallback_mark_positioning: self.script_fallback_mark_positioning,
-            tables: self.face.tables(),
-            has_glyph_classes: M::has_glyph_classes(self.face),
-            has_kerning: M::has_kerning(self.face),
-            has_machine_kerning: M::has_machine_kerning(self.face),
-            has_cross_kerning: M::has_cross_kerning(self.face),
-        }
+/// All that the decisions of a planner depend on, with the compiled requests.
+#[tactic(auto, unfolding(crate::specs::Planner::facts_of))]
+pub(crate) fn facts<T: ShapingTypes>(
+    planner: &hb_ot_shape_planner_t<'_, T::Face, T::Shaper>,
+    map: &MapOf<T>,
+) -> PlanFacts
+    ensures { result ≡ facts_of ⟦<T::Shaper as Plans<T::Unicode, T::Face, T::Engine>>⟧.planning
+        planner.now (T.Engine.masks map.now) }
+{
+    let kern_tag = kern_tag(planner.direction);
+    PlanFacts {
+        frac_mask: T::Engine::get_1_mask(map, tags::FRAC),
+        numr_mask: T::Engine::get_1_mask(map, tags::NUMR),
+        dnom_mask: T::Engine::get_1_mask(map, tags::DNOM),
+        rtlm_mask: T::Engine::get_1_mask(map, tags::RTLM),
+        vert_mask: T::Engine::get_1_mask(map, tags::VERT),
+        mark_mask: T::Engine::get_1_mask(map, tags::MARK),
+        kern_mask: T::Engine::get_mask(map, kern_tag).0,
+        trak_mask: T::Engine::get_mask(map, tags::TRAK).0,
+        has_gpos_kern: T::Engine::get_feature_index(map, TableIndex::GPOS, kern_tag).is_some(),
+        disable_gpos: disables_gpos(
+            T::Shaper::GPOS_TAG,
+            planner.shaper,
+            planner.ot_map.chosen_script(TableIndex::GPOS),
+        ),
+        apply_morx: planner.apply_morx,
+        script_zero_marks: planner.script_zero_marks,
+        script_fallback_mark_positioning: planner.script_fallback_mark_positioning,
+        tables: planner.face.tables(),
+        has_glyph_classes: T::Engine::has_glyph_classes(planner.face),
+        has_kerning: T::Engine::has_kerning(planner.face),
+        has_machine_kerning: T::Engine::has_machine_kerning(planner.face),
+        has_cross_kerning: T::Engine::has_cross_kerning(planner.face),
     }
 }
 

@@ -29,11 +29,11 @@ ghost use Rattle.shape_plan.specs.Plan.{given_shaper};
 use crate::ot_shape_plan::ChosenShaper;
 use crate::ot_shaper::hb_ot_shaper_t;
 use crate::planner::tags;
+use crate::shaping_types::ShapingTypes;
 use shape_buffer::buffer::{Direction, Feature, Script, ShapeError, hb_tag_t};
 use shape_buffer::interfaces::{
     F_GLOBAL, F_GLOBAL_HAS_FALLBACK, F_GLOBAL_MANUAL_JOINERS, F_GLOBAL_SEARCH, F_HAS_FALLBACK,
-    F_NONE, F_RANDOM, MAX_VALUE, hb_font_t, hb_ot_layout_t, hb_ot_map_builder_t,
-    hb_ot_map_feature_flags_t, hb_unicode_funcs_t,
+    F_NONE, F_RANDOM, MAX_VALUE, hb_ot_map_builder_t, hb_ot_map_feature_flags_t,
 };
 use std::alloc::Global;
 
@@ -136,25 +136,20 @@ pub(crate) fn begin(
 
 /// A script's own features, if the shaper is kept and collects some. The builder is no longer simple
 /// when the hook sees it.
-pub(crate) fn collect<U, F, M, S>(
+pub(crate) fn collect<T: ShapingTypes>(
     alloc: Global,
-    shaper: ChosenShaper<'_, S>,
+    shaper: ChosenShaper<'_, T::Shaper>,
     builder: &mut hb_ot_map_builder_t,
     direction: Direction,
     script: Option<Script>,
 ) -> Result<(), ShapeError>
-where
-    U: hb_unicode_funcs_t,
-    F: hb_font_t,
-    M: hb_ot_layout_t<F>,
-    S: hb_ot_shaper_t<U, F, M>,
     ensures ok { OnOk result (builder.new ≡ collected_of
-        (hook_of S.constants.has_collect_features S.collected (given_shaper shaper.entry))
-        direction script builder.old) }
+        (hook_of T.Shaper.constants.has_collect_features T.Shaper.collected
+        (given_shaper shaper.entry)) direction script builder.old) }
     ensures memory { IsOkUnless result ShapeError.Memory }
 {
     match shaper {
-        ChosenShaper::Given(shaper) if S::HAS_COLLECT_FEATURES => {
+        ChosenShaper::Given(shaper) if T::Shaper::HAS_COLLECT_FEATURES => {
             builder.set_simple(false);
             shaper.collect_features(alloc, builder, direction, script)
         }
@@ -247,25 +242,20 @@ pub(crate) fn widen(
 }
 
 /// What the shaper asks for last, if it is kept and does.
-pub(crate) fn override_features<U, F, M, S>(
+pub(crate) fn override_features<T: ShapingTypes>(
     alloc: Global,
-    shaper: ChosenShaper<'_, S>,
+    shaper: ChosenShaper<'_, T::Shaper>,
     builder: &mut hb_ot_map_builder_t,
     direction: Direction,
     script: Option<Script>,
 ) -> Result<(), ShapeError>
-where
-    U: hb_unicode_funcs_t,
-    F: hb_font_t,
-    M: hb_ot_layout_t<F>,
-    S: hb_ot_shaper_t<U, F, M>,
     ensures ok { OnOk result (builder.new ≡ hooked
-        (hook_of S.constants.has_override_features S.overriding (given_shaper shaper.entry))
-        direction script builder.old) }
+        (hook_of T.Shaper.constants.has_override_features T.Shaper.overriding
+        (given_shaper shaper.entry)) direction script builder.old) }
     ensures memory { IsOkUnless result ShapeError.Memory }
 {
     match shaper {
-        ChosenShaper::Given(shaper) if S::HAS_OVERRIDE_FEATURES => {
+        ChosenShaper::Given(shaper) if T::Shaper::HAS_OVERRIDE_FEATURES => {
             shaper.override_features(alloc, builder, direction, script)
         }
         _ => Ok(()),

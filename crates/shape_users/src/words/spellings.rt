@@ -13,6 +13,7 @@ use shape_pipeline::ot_shape::{hb_ot_shape_context_t, prepare_text};
 use shape_pipeline::ot_shape_normalize::{meets_canonical_premises, normalized_equal};
 use shape_pipeline::ot_shape_plan::hb_ot_shape_plan_t;
 use shape_pipeline::ot_shaper::{Runs, hb_ot_shaper_t};
+use shape_plan::shaping_types::{Meaning, PlanOf, ShapingTypes, TypesOf};
 use std::alloc::Global;
 
 /// The text of a spelling, with nothing else set. Refuses with `Memory` if a growth was refused, and with
@@ -32,27 +33,22 @@ pub fn spelled(alloc: Global, spelling: &str) -> Result<UnicodeBuffer, ShapeErro
 /// A text as a run prepares it for normalising. Refuses with `Length` if the spelling has 4 GiB or more,
 /// or a step of preparing would leave its list past the run's limit, and with `Memory` if a growth was
 /// refused. A spelling that is too long is always refused; with `Length` if that is for its bytes.
-fn prepared<U, F, M, S>(
+fn prepared<T: ShapingTypes>(
     alloc: Global,
-    face: &F,
-    plan: &hb_ot_shape_plan_t<'_, S, M::Map, S::Data>,
+    face: &T::Face,
+    plan: &PlanOf<'_, T>,
     spelling: &str,
 ) -> Result<hb_buffer_t, ShapeError>
-where
-    U: hb_unicode_funcs_t,
-    F: hb_font_t,
-    M: hb_ot_layout_t<F>,
-    S: hb_ot_shaper_t<U, F, M>,
     ensures ok { IfOk result (λ buffer. buffer
-        ≡ prepared_text (⟦<S as Runs<U, F, M>>⟧.run plan.now face.now) (text_spelled spelling.now)) }
+        ≡ prepared_text (⟦<T as Meaning>⟧.run plan.now face.now) (text_spelled spelling.now)) }
     ensures length { result ≡ Err ShapeError.Length
-        → IsTooLongToPrepare (⟦<S as Runs<U, F, M>>⟧.run plan.now face.now) spelling.now }
-    ensures too_long { IsTooLongToPrepare (⟦<S as Runs<U, F, M>>⟧.run plan.now face.now) spelling.now
+        → IsTooLongToPrepare (⟦<T as Meaning>⟧.run plan.now face.now) spelling.now }
+    ensures too_long { IsTooLongToPrepare (⟦<T as Meaning>⟧.run plan.now face.now) spelling.now
         → IsErr result }
     ensures bytes { 2 ^ 32 ≤ length spelling.now → result ≡ Err ShapeError.Length }
 {
     let mut text = spelled(alloc, spelling)?;
-    text.guess_segment_properties::<U>();
+    text.guess_segment_properties::<T::Unicode>();
     let mut buffer = text.into_inner();
     let target_direction = buffer.direction();
     let mut ctx = hb_ot_shape_context_t {
@@ -61,7 +57,7 @@ where
         buffer: &mut buffer,
         target_direction,
     };
-    prepare_text::<U, F, M, S>(alloc, &mut ctx)?;
+    prepare_text::<T::Unicode, T::Face, T::Engine, T::Shaper>(alloc, &mut ctx)?;
     Ok(buffer)
 }
 
@@ -95,8 +91,8 @@ where
         IsTooLong run first.now ⊎ IsTooLong run second.now → IsErr result }
     ensures bytes { 2 ^ 32 ≤ length first.now → result ≡ Err ShapeError.Length }
 {
-    let mut a = prepared::<U, F, M, S>(alloc, face, plan, first)?;
-    let mut b = prepared::<U, F, M, S>(alloc, face, plan, second)?;
+    let mut a = prepared::<TypesOf<U, F, M, S>>(alloc, face, plan, first)?;
+    let mut b = prepared::<TypesOf<U, F, M, S>>(alloc, face, plan, second)?;
     let same = normalized_equal::<U, F, M, S>(alloc, plan, face, &mut a, &mut b)?;
     Ok(same)
 }
@@ -136,8 +132,8 @@ where
         IfOk result (λ told. IsSome told → IsTooLong run first.now ⊎ IsTooLong run second.now → ⊥) }
     ensures bytes { 2 ^ 32 ≤ length first.now → result ≡ Err ShapeError.Length }
 {
-    let mut a = prepared::<U, F, M, S>(alloc, face, plan, first)?;
-    let mut b = prepared::<U, F, M, S>(alloc, face, plan, second)?;
+    let mut a = prepared::<TypesOf<U, F, M, S>>(alloc, face, plan, first)?;
+    let mut b = prepared::<TypesOf<U, F, M, S>>(alloc, face, plan, second)?;
     let of_first = meets_canonical_premises::<U, F, M, S>(plan, face, &a);
     let of_second = meets_canonical_premises::<U, F, M, S>(plan, face, &b);
     if !(of_first && of_second) {

@@ -10,10 +10,10 @@ use Rattle.shape_users.proofs.words.spellings.prepared.Goals as goal
 
 pub returns-in_err-prepare_text-clause-length : goal.returns-in_err-prepare_text-clause-length
 returns-in_err-prepare_text-clause-length g c = λ is.
-    let unicode = g.U.hb_unicode_funcs_t.unicode in
-    let layout = g.M.hb_ot_layout_t in
-    let shaper = g.S.hb_ot_shaper_t in
-    let run = run_of unicode layout.masks layout.lookups shaper.constants shaper.hooks g.F.hb_font_t.face c.args.plan.now c.args.face.now in
+    let unicode = g.T.Unicode.hb_unicode_funcs_t.unicode in
+    let layout = g.T.Engine.hb_ot_layout_t in
+    let shaper = g.T.Shaper.hb_ot_shaper_t in
+    let run = run_of unicode layout.masks layout.lookups shaper.constants shaper.hooks g.T.Face.hb_font_t.face c.args.plan.now c.args.face.now in
     let begins : c.into_inner-buffer.result ≡ guessed unicode (spelled c.args.spelling.now) = c.into_inner-buffer.ensures
     ∙ c.guess_segment_properties.ensures
     ∙ ap (guessed unicode) c.in_ok-text.ensures.ok in
