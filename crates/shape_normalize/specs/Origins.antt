@@ -1,25 +1,30 @@
 -- Where each item of the normalised list came from, and what it has of the item that stood there, place by place.
-use Rattle.std.specs.Prelude.{◌≡◌, ◌⊎◌, ℕ, suc, ◌+◌, ◌-◌, ◌<◌, ◌≤◌, ◌&&◌, Bool, true, false, if◌then◌else◌, List, [], ◌∷◌, ◌++◌, map, replicate, length, get_or, Option, is_some}
-use Rattle.std.specs.List.{AllZip, range_with_len}
+use Rattle.std.specs.Prelude.{◌≡◌, ◌⊎◌, ℕ, suc, ◌-◌, ◌<◌, ◌≤◌, ◌&&◌, Bool, true, false, if◌then◌else◌, List, [], ◌∷◌, map, length, get_or, Option, None, is_some}
+use Rattle.std.specs.List.{AllZip, flat_map, range_with_len}
 use Rattle.std.specs.List.Sorted.{IsPermutation}
 use Rattle.std.specs.Option.{MatchOption}
 use Rattle.shape_items.specs.Buffer.{Buffer}
 use Rattle.shape_common.specs.Face.{FaceMeaning}
-use Rattle.shape_items.specs.Items.{Item, new_item, ccc_of_item}
+use Rattle.shape_items.specs.Items.{Item, new_item, ccc_of_item, is_mark_item}
 use Rattle.shape_items.specs.UnicodeProps.{is_hidden_char}
 use Rattle.shape_common.specs.declared.text_types.GlyphId.{GlyphId}
+use Rattle.canonical_form.specs.Divided.{divided}
 use Rattle.canonical_form.specs.Runs.{AreRunsSettled}
 use Rattle.shape_plan.specs.Rules.{Rules, has_glyph}
 use Rattle.shape_normalize.specs.Normalized.{ordered, features_of, hidden_char}
 use Rattle.shape_normalize.specs.Reordered.{unmerged, without_ccc}
 use Rattle.shape_normalize.specs.Part.{part_item}
-use Rattle.shape_normalize.specs.RoundOne.{item_glyph, expanded_item, variants, sequences, is_with_marks, is_selector_sequence, variation_sequences_merged, round_one}
+use Rattle.shape_normalize.specs.RoundOne.{item_glyph, expanded_item, variant_items, is_selector_item, is_with_marks, is_selector_sequence, variation_sequences_merged, round_one}
 use Rattle.shape_normalize.specs.RoundTwo.{max_run, has_mark_past_first, unhidden, has_seen_cgj}
 use Rattle.shape_normalize.specs.RoundThree.{Absorbed, Placed, recomposed_items}
 
 -- the item at a place of a list; which item is answered past its end doesn't matter
 abbrev pub item_at : List Item → ℕ → Item
 item_at items place = get_or items place (new_item 0 0)
+
+-- the places of a list
+abbrev pub all_places : List Item → List ℕ
+all_places items = range_with_len 0 (length items)
 
 -- ---- round one
 
@@ -32,44 +37,26 @@ pub record Origin : Type 0 where
 abbrev pub origin_at : Bool → ℕ → Origin
 origin_at selects place = record { place = place; selects = selects }
 
--- the origins of items from this place on, one for each
-abbrev pub origins_from : Bool → ℕ → List Item → List Origin
-origins_from selects place [] = []
-origins_from selects place (item ∷ items) = origin_at selects place ∷ origins_from selects (suc place) items
+-- the origins of what an item becomes with the selectors directly after it, which stand at these places: with its place
+-- for a cluster each keeps that
+abbrev pub variant_origins : FaceMeaning → (ℕ → Item) → List ℕ → List Origin
+variant_origins face at places =
+    map (λ item. origin_at true item.cluster) (variant_items face None (map (λ place. record (at place) { cluster = place }) places))
 
--- of an item with the selectors directly after it: if the face has a glyph for the first two, they became one item,
--- which came from the first
-abbrev pub variant_origins : FaceMeaning → ℕ → List Item → List Origin
-variant_origins face place [] = []
-variant_origins face place (x ∷ []) = origin_at true place ∷ []
-variant_origins face place (x ∷ v ∷ rest) =
-    let behind = origins_from true (suc (suc place)) rest in
-    let with_selector = origin_at true (suc place) ∷ behind in
-    origin_at true place ∷ (if is_some (face.variation_glyph x.codepoint v.codepoint) then behind else with_selector)
-
--- each item of an expansion came from the item that was expanded
-abbrev pub expansion_origins : Rules → Option GlyphId → Bool → ℕ → List Item → List Origin
-expansion_origins rules invisible short place [] = []
-expansion_origins rules invisible short place (item ∷ items) =
-    replicate (length (expanded_item rules invisible short item)) (origin_at false place)
-    ++ expansion_origins rules invisible short (suc place) items
-
--- the origins of what parts of a list become, which stand one after the other from this place on
-abbrev pub origins_of_parts : (ℕ → List Item → List Origin) → ℕ → List (List Item) → List Origin
-origins_of_parts become place [] = []
-origins_of_parts become place (part ∷ parts) = become place part ++ origins_of_parts become (place + length part) parts
-
-abbrev pub sequence_origins : Rules → Option GlyphId → ℕ → List Item → List Origin
-sequence_origins rules invisible place sequence =
-    let parts = variants rules.unicode sequence in
-    if is_selector_sequence rules.unicode sequence then origins_of_parts (variant_origins rules.face) place parts
-    else expansion_origins rules invisible (rules.short (is_with_marks sequence)) place sequence
+-- of what the sequence at these places becomes: each item of an expansion came from the item that was expanded
+abbrev pub sequence_origins : Rules → Option GlyphId → (ℕ → Item) → List ℕ → List Origin
+sequence_origins rules invisible at places =
+    let become = expanded_item rules invisible (rules.short (is_with_marks (map at places))) in
+    if is_selector_sequence rules.unicode (map at places)
+    then flat_map (variant_origins rules.face at) (divided (λ place. is_selector_item rules.unicode (at place)) places)
+    else flat_map (λ place. map (λ item. origin_at false place) (become (at place))) places
 
 -- the origin of each item of the expanded list
 abbrev pub origins : Rules → Buffer → List Origin
 origins rules text =
-    origins_of_parts (sequence_origins rules text.invisible_glyph) 0
-    (sequences (variation_sequences_merged rules text).items)
+    let items = (variation_sequences_merged rules text).items in
+    flat_map (sequence_origins rules text.invisible_glyph (item_at items))
+    (divided (λ place. is_mark_item (item_at items place)) (all_places items))
 
 -- what an item has of the text's item at the place that it came from: the feature bits; outside sequences with a
 -- selector the glyph of its own character, or what replaces that; and the hidden bit with the character, or else that
@@ -81,10 +68,6 @@ pub record HasOfOrigin (rules : Rules) (text : Buffer) (unhides : Bool) (origin 
       ⊎ (item.properties.hidden ≡ is_hidden_char item.codepoint) ⊎ ((unhides ≡ true) × (item.codepoint ≡ 0x34F))
 
 -- ---- round two
-
--- the places of a list
-abbrev pub all_places : List Item → List ℕ
-all_places items = range_with_len 0 (length items)
 
 -- a run of marks from one place up to another, of at most 32: the items in it have a ccc, the ones beside it have none
 pub record IsShortRun (items : List Item) (start end : ℕ) : Type 0 where

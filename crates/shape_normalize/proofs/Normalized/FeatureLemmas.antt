@@ -27,7 +27,7 @@ use Rattle.shape_normalize.proofs.RoundTwo.SettleLemmas.{keys-marks_ordered}
 -- ---- merging
 
 -- merging changes the defined flags alone
-IsKey-features : IsKey features_of
+pub IsKey-features : IsKey features_of
 IsKey-features =
     record { by_cluster = λ item cluster. and_assoc 4294967288 item.mask 4294967288; by_break = λ item. and_or_apart 4294967288 item.mask 3 refl }
 

@@ -67,7 +67,7 @@ cgj_unseen b unseen = cond-false _ (record b { items = cgj_unhidden b.items }) b
 
 -- ---- hidden bits
 
-IsKey-hidden_char : IsKey hidden_char
+pub IsKey-hidden_char : IsKey hidden_char
 IsKey-hidden_char = record { by_cluster = λ item cluster. refl; by_break = λ item. refl }
 
 module _ (rules : Rules) (those : List (ℕ × Bool)) where

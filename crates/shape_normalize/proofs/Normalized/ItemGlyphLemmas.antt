@@ -44,7 +44,7 @@ module _ (rules : Rules) (invisible not_found : Option GlyphId) where
   parts_have_glyphs item [] each = tt
   parts_have_glyphs item (c ∷ cs) each = (part_has_glyph item c each.0, parts_have_glyphs item cs each.1)
 
-  pub whole_has_glyph : (item : Item) → HasOwnGlyph (whole_item rules invisible item)
+  whole_has_glyph : (item : Item) → HasOwnGlyph (whole_item rules invisible item)
   whole_has_glyph item =
       elim (cases_Bool (remembers_space rules invisible item)) [ inl remembers ↦ rw remembers refl | inr forgets ↦ rw forgets refl ]
 
@@ -55,7 +55,7 @@ module _ (rules : Rules) (invisible not_found : Option GlyphId) where
   found_has_glyphs item None has = (whole_has_glyph item, tt)
   found_has_glyphs item (Some cs) has = parts_have_glyphs item cs (has cs refl)
 
-  item_has_glyphs : (short : Bool) (item : Item) → AllByRecursion HasOwnGlyph (expanded_item rules invisible short item)
+  pub item_has_glyphs : (short : Bool) (item : Item) → AllByRecursion HasOwnGlyph (expanded_item rules invisible short item)
   item_has_glyphs short item =
       let has = has_glyph rules.face.nominal_glyph in
       found_has_glyphs item (expansion_of rules short item)

@@ -1,70 +1,50 @@
 -- Each item of the expanded list has what is promised of the item of the text that it came from.
-use Rattle.std.proofs.Common.{◌≡◌, ℕ, suc, ◌+◌, Bool, true, false, if◌then◌else◌, List, [], ◌∷◌, ◌++◌, length, map, flat_map, replicate, Option, None, Some, is_some, refl, ap, subst, ◌∙◌, arith, inl, inr}
+use Rattle.std.proofs.Common.{◌≡◌, ℕ, zero, suc, Bool, true, false, if◌then◌else◌, List, [], ◌∷◌, ◌++◌, map, flat_map, Option, None, Some, refl, sym, ap, subst, ◌∙◌, inl, inr}
 use Rattle.std.specs.List.{AllByRecursion, AllZip}
 use Rattle.std.specs.Option.{option_map_or}
-use Rattle.std.proofs.lemmas.List.Elements.{recursion_from_All}
-use Rattle.std.proofs.lemmas.List.Sums.{AllPass-from_list_all}
+use Rattle.std.proofs.lemmas.Bool.{cases_Bool}
+use Rattle.std.proofs.lemmas.List.{map-id}
 use Rattle.canonical_form.specs.Divided.{put_first, divided}
-use Rattle.canonical_form.proofs.Expanding.ChoiceLemmas.{chosen_glyphs}
 use Rattle.shape_items.specs.Buffer.{Buffer}
 use Rattle.shape_items.specs.Items.{Item, is_mark_item}
 use Rattle.shape_common.specs.declared.text_types.GlyphId.{GlyphId}
-use Rattle.shape_items.proofs.Merging.KeyLemmas.{IsKey-unflagged}
-use Rattle.shape_plan.specs.Rules.{Rules, decompositions, has_glyph}
+use Rattle.shape_plan.specs.Rules.{Rules}
 use Rattle.shape_normalize.specs.Normalized.{features_of, hidden_char}
-use Rattle.shape_normalize.specs.Origins.{item_at, Origin, origin_at, origins_from, variant_origins, expansion_origins, origins_of_parts, sequence_origins, origins, HasOfOrigin}
-use Rattle.shape_normalize.specs.Reordered.{unmerged}
+use Rattle.shape_normalize.specs.Origins.{item_at, all_places, Origin, origin_at, variant_origins, sequence_origins, origins, HasOfOrigin}
 use Rattle.shape_normalize.specs.Part.{part_item}
-use Rattle.shape_normalize.specs.RoundOne.{skipped_item, whole_item, expanded_item, expansion_of, is_selector_item, is_selector_sequence, is_with_marks, marked_selector, variant_items, variants, sequences, sequence_items, variation_sequences_merged, round_one}
-use Rattle.shape_normalize.proofs.Normalized.ItemGlyphLemmas.{part_has_glyph, whole_has_glyph}
+use Rattle.shape_normalize.specs.RoundOne.{item_glyph, skipped_item, whole_item, expanded_item, expansion_of, is_selector_item, is_selector_sequence, is_with_marks, marked_selector, variant_items, variants, sequences, sequence_items, variation_sequences_merged, round_one}
+use Rattle.shape_normalize.proofs.Normalized.FeatureLemmas.{IsKey-features}
+use Rattle.shape_normalize.proofs.Normalized.HiddenLemmas.{IsKey-hidden_char}
+use Rattle.shape_normalize.proofs.Normalized.ItemGlyphLemmas.{item_has_glyphs}
+use Rattle.shape_normalize.proofs.Places.PlaceLemmas.{by_places}
 use Rattle.shape_normalize.proofs.RoundOne.RoundOneLemmas.{keys-variation_sequences_merged, whole_item_is}
 
--- ---- what holds of each item by its place
+-- ---- a list by its places
 
-module _ {A : Type 0} (P : ℕ → A → Type 0) where
-  -- P holds of each item and its place, from this one on
-  abbrev pub AllAt : ℕ → List A → Type 0
-  AllAt place [] = Unit {0}
-  AllAt place (x ∷ xs) = P place x × AllAt (suc place) xs
+-- of lists with the same keys, items at a place have the same
+same_at : {B : Type 0} (key : Item → B) (xs ys : List Item) → map key xs ≡ map key ys → (place : ℕ)
+    → key (item_at xs place) ≡ key (item_at ys place)
+same_at key [] [] same place = refl
+same_at key [] (y ∷ ys) same place = absurd (cc)
+same_at key (x ∷ xs) [] same place = absurd (cc)
+same_at key (x ∷ xs) (y ∷ ys) same zero = cc
+same_at key (x ∷ xs) (y ∷ ys) same (suc place) = let tail : map key xs ≡ map key ys = cc in same_at key xs ys tail place
 
-  -- and so along parts that stand one after the other
-  abbrev AllAtParts : ℕ → List (List A) → Type 0
-  AllAtParts place [] = Unit {0}
-  AllAtParts place (part ∷ parts) = AllAt place part × AllAtParts (place + length part) parts
+-- the parts of a list are those of its places
+module _ {A B : Type 0} (f : A → B) (belongs : B → Bool) where
+  put_first-map : (x : A) (parts : List (List A)) → put_first (f x) (map (map f) parts) ≡ map (map f) (put_first x parts)
+  put_first-map x [] = refl
+  put_first-map x (part ∷ parts) = refl
 
-  put_first_at : (place : ℕ) (x : A) (parts : List (List A)) → P place x → AllAtParts (suc place) parts
-      → AllAtParts place (put_first x parts)
-  put_first_at place x [] here each = ((here, tt), tt)
-  put_first_at place x (part ∷ parts) here each =
-      let same : suc place + length part ≡ place + length (x ∷ part) = omega arith in
-      ((here, each.0), subst (λ n. AllAtParts n parts) same each.1)
-
-  -- what holds along a list holds along its parts
-  each_part_at : (belongs : A → Bool) (place : ℕ) (items : List A) → AllAt place items → AllAtParts place (divided belongs items)
-  each_part_at belongs place [] each = tt
-  each_part_at belongs place (x ∷ []) each = ((each.0, tt), tt)
-  each_part_at belongs place (x ∷ y ∷ rest) each =
-      let later = each_part_at belongs (suc place) (y ∷ rest) each.1 in
-      let next : suc place ≡ place + length (x ∷ []) = omega arith in
-      elim (belongs y) as (λ t. AllAtParts place
-      (if t then put_first x (divided belongs (y ∷ rest)) else (x ∷ []) ∷ divided belongs (y ∷ rest))) [
-        | true ↦ put_first_at place x (divided belongs (y ∷ rest)) each.0 later
-        | false ↦ ((each.0, tt), subst (λ n. AllAtParts n (divided belongs (y ∷ rest))) next later)
+  divided-map : (xs : List A) → divided belongs (map f xs) ≡ map (map f) (divided (λ x. belongs (f x)) xs)
+  divided-map [] = refl
+  divided-map (x ∷ []) = refl
+  divided-map (x ∷ y ∷ rest) =
+      let later = divided-map (y ∷ rest) in
+      elim (cases_Bool (belongs (f y))) [
+        | inl joins ↦ rw joins (ap (put_first (f x)) later ∙ put_first-map x (divided (λ z. belongs (f z)) (y ∷ rest)))
+        | inr parts ↦ rw parts (ap (λ l. (f x ∷ []) ∷ l) later)
       ]
-
-one_further : {A : Type 0} (P : ℕ → A → Type 0) (place : ℕ) (xs : List A) → AllAt (λ n. P (suc n)) place xs → AllAt P (suc place) xs
-one_further P place [] each = tt
-one_further P place (x ∷ xs) each = (each.0, one_further P (suc place) xs each.1)
-
--- of two lists with the same keys, each item of the first has the key of the second's item at its place
-pub same_at : {B : Type 0} (key : Item → B) (xs ys : List Item) → map key xs ≡ map key ys
-    → AllAt (λ place x. key x ≡ key (item_at ys place)) 0 xs
-same_at key [] ys same = tt
-same_at key (x ∷ xs) [] same = absurd (cc)
-same_at key (x ∷ xs) (y ∷ ys) same =
-    let head : key x ≡ key y = cc in
-    let tail : map key xs ≡ map key ys = cc in
-    (head, one_further (λ place z. key z ≡ key (item_at (y ∷ ys) place)) 0 xs (same_at key xs ys tail))
 
 -- ---- what holds of the items of two lists, place by place
 
@@ -75,148 +55,141 @@ module _ {A B : Type 0} (R : A → B → Type 0) where
   zip_append (x ∷ xs) us [] vs first second = absurd first
   zip_append (x ∷ xs) us (y ∷ ys) vs first second = (first.0, zip_append xs us ys vs first.1 second)
 
-  zip_replicate : (x : A) (ys : List B) → AllByRecursion (R x) ys → AllZip R (replicate (length ys) x) ys
-  zip_replicate x [] each = tt
-  zip_replicate x (y ∷ ys) each = (each.0, zip_replicate x ys each.1)
+  zip_one : (x : A) (ys : List B) → AllByRecursion (R x) ys → AllZip R (map (λ y. x) ys) ys
+  zip_one x [] each = tt
+  zip_one x (y ∷ ys) each = (each.0, zip_one x ys each.1)
 
--- what parts become, each from its place on
-parts_zip : (P : ℕ → Item → Type 0) (R : Origin → Item → Type 0) (from : ℕ → List Item → List Origin) (become : List Item → List Item)
-    → ((place : ℕ) (part : List Item) → AllAt P place part → AllZip R (from place part) (become part))
-    → (place : ℕ) (parts : List (List Item)) → AllAtParts P place parts
-    → AllZip R (origins_of_parts from place parts) (flat_map become parts)
-parts_zip P R from become keeps place [] each = tt
-parts_zip P R from become keeps place (part ∷ parts) each =
-    zip_append R (from place part) (origins_of_parts from (place + length part) parts) (become part) (flat_map become parts)
-    (keeps place part each.0)
-    (parts_zip P R from become keeps (place + length part) parts each.1)
+  -- what the values of each become
+  zip_values : {C D : Type 0} (f : C → D) (become : D → List B) (from : C → List A) → ((x : C) → AllZip R (from x) (become (f x)))
+      → (xs : List C) → AllZip R (flat_map from xs) (flat_map become (map f xs))
+  zip_values f become from each [] = tt
+  zip_values f become from each (x ∷ xs) =
+      zip_append (from x) (flat_map from xs) (become (f x)) (flat_map become (map f xs)) (each x) (zip_values f become from each xs)
+
+  -- and what those of each part do
+  zip_parts : {C D : Type 0} (f : C → D) (belongs : D → Bool) (become : List D → List B) (from : List C → List A)
+      → ((part : List C) → AllZip R (from part) (become (map f part))) → (xs : List C)
+      → AllZip R (flat_map from (divided (λ x. belongs (f x)) xs)) (flat_map become (divided belongs (map f xs)))
+  zip_parts f belongs become from each xs =
+      subst (λ parts. AllZip R (flat_map from (divided (λ x. belongs (f x)) xs)) (flat_map become parts)) (sym (divided-map f belongs xs))
+      (zip_values (map f) become from each (divided (λ x. belongs (f x)) xs))
 
 -- ---- what each item becomes
 
 module _ (rules : Rules) (text : Buffer) where
-  -- an item is that of the text at a place, except for what merging changes
-  abbrev Stood : ℕ → Item → Type 0
-  Stood place item = unmerged item ≡ unmerged (item_at text.items place)
+  abbrev merged : List Item
+  merged = (variation_sequences_merged rules text).items
+
+  abbrev at : ℕ → Item
+  at place = item_at merged place
 
   abbrev Has : Origin → Item → Type 0
   Has origin item = HasOfOrigin rules text false origin item
 
-  same_features : (place : ℕ) (item : Item) → Stood place item → features_of item ≡ features_of (item_at text.items place)
-  same_features place item stood = ap (λ (one : Item). one.mask) stood
+  same_features : (place : ℕ) → features_of (at place) ≡ features_of (item_at text.items place)
+  same_features = same_at features_of merged text.items (keys-variation_sequences_merged rules features_of IsKey-features text)
 
-  same_hidden : (place : ℕ) (item : Item) → Stood place item → hidden_char item ≡ hidden_char (item_at text.items place)
-  same_hidden place item stood = ap hidden_char stood
+  same_hidden : (place : ℕ) → hidden_char (at place) ≡ hidden_char (item_at text.items place)
+  same_hidden = same_at hidden_char merged text.items (keys-variation_sequences_merged rules hidden_char IsKey-hidden_char text)
 
   -- in a sequence with a selector an item keeps its character, its hidden bit and its mask
-  kept_there : (place : ℕ) (item new : Item) → Stood place item → features_of new ≡ features_of item → hidden_char new ≡ hidden_char item
+  kept_there : (place : ℕ) (new : Item) → features_of new ≡ features_of (at place) → hidden_char new ≡ hidden_char (at place)
       → Has (origin_at true place) new
-  kept_there place item new stood features hidden = record {
-    features = features ∙ same_features place item stood;
+  kept_there place new features hidden = record {
+    features = features ∙ same_features place;
     glyph = λ no. absurd (cc);
-    hidden = inl (hidden ∙ same_hidden place item stood);
+    hidden = inl (hidden ∙ same_hidden place);
   }
 
-  skipped_zip : (place : ℕ) (rest : List Item) → AllAt Stood place rest
-      → AllZip Has (origins_from true place rest) (map (skipped_item rules.face.nominal_glyph) rest)
-  skipped_zip place [] each = tt
-  skipped_zip place (item ∷ rest) each =
-      (kept_there place item (skipped_item rules.face.nominal_glyph item) each.0 refl refl, skipped_zip (suc place) rest each.1)
+  -- the origin of an item that has its place for a cluster
+  abbrev origin_of : Item → Origin
+  origin_of item = origin_at true item.cluster
 
-  variant_zip : (not_found : Option GlyphId) (place : ℕ) (part : List Item) → AllAt Stood place part
-      → AllZip Has (variant_origins rules.face place part) (variant_items rules.face not_found part)
-  variant_zip not_found place [] each = tt
-  variant_zip not_found place (x ∷ []) each = (kept_there place x (skipped_item rules.face.nominal_glyph x) each.0 refl refl, tt)
-  variant_zip not_found place (x ∷ v ∷ rest) each =
-      let skipped = skipped_item rules.face.nominal_glyph in
-      let behind = origins_from true (suc (suc place)) rest in
-      let later = skipped_zip (suc (suc place)) rest each.1.1 in
-      elim (rules.face.variation_glyph x.codepoint v.codepoint) as
-      (λ o. AllZip Has (origin_at true place ∷ (if is_some o then behind else (origin_at true (suc place) ∷ behind)))
-      (elim o [
-        | Some g ↦ record x { glyph_index = g.0 } ∷ map skipped rest
-        | None ↦
-            skipped x ∷ marked_selector not_found (skipped v) ∷ map skipped rest
-      ])) [
-        | Some g ↦ (kept_there place x (record x { glyph_index = g.0 }) each.0 refl refl, later)
-        | None ↦ (
-          kept_there place x (skipped x) each.0 refl refl,
-          (kept_there (suc place) v (marked_selector not_found (skipped v)) each.1.0 refl refl, later),
-        )
-      ]
+  abbrev numbered : ℕ → Item
+  numbered place = record (at place) { cluster = place }
+
+  skipped_zip : (places : List ℕ) → AllZip Has (map origin_of (map (skipped_item rules.face.nominal_glyph) (map numbered places)))
+      (map (skipped_item rules.face.nominal_glyph) (map at places))
+  skipped_zip [] = tt
+  skipped_zip (place ∷ places) =
+      (kept_there place (skipped_item rules.face.nominal_glyph (at place)) refl refl, skipped_zip places)
 
   module _ (not_found : Option GlyphId) where
-    parts_have : (place : ℕ) (item : Item) → Stood place item → (cs : List ℕ)
-        → AllByRecursion (λ c. has_glyph rules.face.nominal_glyph c ≡ true) cs
-        → AllByRecursion (Has (origin_at false place)) (map (part_item rules.unicode rules.face.nominal_glyph item) cs)
-    parts_have place item stood [] each = tt
-    parts_have place item stood (c ∷ cs) each = (
-      record {
-        features = same_features place item stood;
-        glyph = λ outside. part_has_glyph rules text.invisible_glyph not_found item c each.0;
-        hidden = inr (inl refl);
-      },
-      parts_have place item stood cs each.1,
-    )
+    variant_zip : (places : List ℕ)
+        → AllZip Has (variant_origins rules.face at places) (variant_items rules.face not_found (map at places))
+    variant_zip [] = tt
+    variant_zip (place ∷ []) = skipped_zip (place ∷ [])
+    variant_zip (place ∷ next ∷ rest) =
+        let skipped = skipped_item rules.face.nominal_glyph in
+        let become : Option GlyphId → (ℕ → Item) → Option GlyphId → List Item =
+        λ not_found item found. elim found [
+          | Some g ↦ record (item place) { glyph_index = g.0 } ∷ map skipped (map item rest)
+          | None ↦ skipped (item place) ∷ marked_selector not_found (skipped (item next)) ∷ map skipped (map item rest)
+        ] in
+        elim (rules.face.variation_glyph (at place).codepoint (at next).codepoint) as
+        (λ found. AllZip Has (map origin_of (become None numbered found)) (become not_found at found)) [
+          | Some g ↦ (kept_there place (record (at place) { glyph_index = g.0 }) refl refl, skipped_zip rest)
+          | None ↦ (
+            kept_there place (skipped (at place)) refl refl,
+            (kept_there next (marked_selector not_found (skipped (at next))) refl refl, skipped_zip rest),
+          )
+        ]
 
-    whole_has : (place : ℕ) (item : Item) → Stood place item → Has (origin_at false place) (whole_item rules text.invisible_glyph item)
-    whole_has place item stood = record {
-      features = whole_item_is rules text.invisible_glyph (λ whole. features_of whole ≡ features_of item) item (λ glyph. refl)
-          (λ glyph space. refl) ∙ same_features place item stood;
-      glyph = λ outside. whole_has_glyph rules text.invisible_glyph not_found item;
-      hidden = inl (whole_item_is rules text.invisible_glyph (λ whole. hidden_char whole ≡ hidden_char item) item (λ glyph. refl)
-          (λ glyph space. refl) ∙ same_hidden place item stood);
-    }
+    abbrev HasGlyph : Item → Type 0
+    HasGlyph item = item.glyph_index ≡ item_glyph rules text.invisible_glyph item
 
-    found_have : (place : ℕ) (item : Item) → Stood place item → (found : Option (List ℕ))
-        → ((cs : List ℕ) → found ≡ Some cs → AllByRecursion (λ c. has_glyph rules.face.nominal_glyph c ≡ true) cs)
-        → AllByRecursion (Has (origin_at false place))
-        (option_map_or (map (part_item rules.unicode rules.face.nominal_glyph item)) found
-        (whole_item rules text.invisible_glyph item ∷ []))
-    found_have place item stood None has = (whole_has place item stood, tt)
-    found_have place item stood (Some cs) has = parts_have place item stood cs (has cs refl)
+    parts_have : (place : ℕ) (cs : List ℕ)
+        → AllByRecursion HasGlyph (map (part_item rules.unicode rules.face.nominal_glyph (at place)) cs)
+        → AllByRecursion (Has (origin_at false place)) (map (part_item rules.unicode rules.face.nominal_glyph (at place)) cs)
+    parts_have place [] each = tt
+    parts_have place (c ∷ cs) each =
+        (record { features = same_features place; glyph = λ outside. each.0; hidden = inr (inl refl) }, parts_have place cs each.1)
 
-    item_has : (short : Bool) (place : ℕ) (item : Item) → Stood place item
-        → AllByRecursion (Has (origin_at false place)) (expanded_item rules text.invisible_glyph short item)
-    item_has short place item stood =
-        let has = has_glyph rules.face.nominal_glyph in
-        found_have place item stood (expansion_of rules short item)
-        (λ cs found. recursion_from_All (λ c. has c ≡ true) cs
-        (AllPass-from_list_all has cs (chosen_glyphs (decompositions rules) has short item.codepoint cs found)))
+    found_have : (place : ℕ) (found : Option (List ℕ)) →
+        let become = option_map_or (map (part_item rules.unicode rules.face.nominal_glyph (at place))) found
+        (whole_item rules text.invisible_glyph (at place) ∷ []) in
+        AllByRecursion HasGlyph become → AllByRecursion (Has (origin_at false place)) become
+    found_have place None each =
+        let item = at place in
+        let whole = whole_item_is rules text.invisible_glyph in (
+          record {
+            features = whole (λ whole. features_of whole ≡ features_of item) item (λ glyph. refl) (λ glyph space. refl) ∙ same_features place;
+            glyph = λ outside. each.0;
+            hidden = inl (whole (λ whole. hidden_char whole ≡ hidden_char item) item (λ glyph. refl) (λ glyph space. refl) ∙ same_hidden place);
+          },
+          tt,
+        )
+    found_have place (Some cs) each = parts_have place cs each
 
-    expansion_zip : (short : Bool) (place : ℕ) (items : List Item) → AllAt Stood place items
-        → AllZip Has (expansion_origins rules text.invisible_glyph short place items)
-        (flat_map (expanded_item rules text.invisible_glyph short) items)
-    expansion_zip short place [] each = tt
-    expansion_zip short place (item ∷ items) each =
-        let become = expanded_item rules text.invisible_glyph short in
-        zip_append Has (replicate (length (become item)) (origin_at false place))
-        (expansion_origins rules text.invisible_glyph short (suc place) items) (become item) (flat_map become items)
-        (zip_replicate Has (origin_at false place) (become item) (item_has short place item each.0))
-        (expansion_zip short (suc place) items each.1)
+    item_zip : (short : Bool) (place : ℕ) →
+        let become = expanded_item rules text.invisible_glyph short (at place) in
+        AllZip Has (map (λ item. origin_at false place) become) become
+    item_zip short place =
+        zip_one Has (origin_at false place) (expanded_item rules text.invisible_glyph short (at place))
+        (found_have place (expansion_of rules short (at place)) (item_has_glyphs rules text.invisible_glyph not_found short (at place)))
 
-    sequence_zip : (place : ℕ) (sequence : List Item) → AllAt Stood place sequence
-        → AllZip Has (sequence_origins rules text.invisible_glyph place sequence)
-        (sequence_items rules text.invisible_glyph not_found sequence)
-    sequence_zip place sequence each =
-        let short = rules.short (is_with_marks sequence) in
-        let parts = variants rules.unicode sequence in
+    sequence_zip : (places : List ℕ) → AllZip Has (sequence_origins rules text.invisible_glyph at places)
+        (sequence_items rules text.invisible_glyph not_found (map at places))
+    sequence_zip places =
+        let sequence = map at places in
+        let become = expanded_item rules text.invisible_glyph (rules.short (is_with_marks sequence)) in
+        let one : ℕ → List Origin = λ place. map (λ item. origin_at false place) (become (at place)) in
         elim (is_selector_sequence rules.unicode sequence) as (λ t. AllZip Has
-        (if t then origins_of_parts (variant_origins rules.face) place parts
-        else expansion_origins rules text.invisible_glyph short place sequence)
-        (if t then flat_map (variant_items rules.face not_found) parts
-        else flat_map (expanded_item rules text.invisible_glyph short) sequence)) [
+        (if t then flat_map (variant_origins rules.face at)
+        (divided (λ place. is_selector_item rules.unicode (at place)) places) else flat_map one places)
+        (if t then flat_map (variant_items rules.face not_found) (variants rules.unicode sequence) else flat_map become sequence)) [
           | true ↦
-              parts_zip Stood Has (variant_origins rules.face) (variant_items rules.face not_found) (variant_zip not_found) place
-              (variants rules.unicode sequence)
-              (each_part_at Stood (is_selector_item rules.unicode) place sequence each)
-          | false ↦ expansion_zip short place sequence each
+              zip_parts Has at (is_selector_item rules.unicode) (variant_items rules.face not_found)
+              (variant_origins rules.face at) variant_zip places
+          | false ↦ zip_values Has at become one (item_zip (rules.short (is_with_marks sequence))) places
         ]
 
   -- each item of the expanded list has what is promised of the item at its origin's place
   pub expanded_by_place : AllZip Has (origins rules text) (round_one rules text).items
   expanded_by_place =
-      let merged = (variation_sequences_merged rules text).items in
       let not_found = text.not_found_variation_selector_glyph in
-      parts_zip Stood Has (sequence_origins rules text.invisible_glyph) (sequence_items rules text.invisible_glyph not_found)
-      (sequence_zip not_found) 0 (sequences merged)
-      (each_part_at Stood is_mark_item 0 merged
-      (same_at unmerged merged text.items (keys-variation_sequences_merged rules unmerged IsKey-unflagged text)))
+      let become = sequence_items rules text.invisible_glyph not_found in
+      subst (λ items. AllZip Has (origins rules text) (flat_map become (sequences items)))
+      (sym (sym (map-id merged) ∙ by_places (λ item. item) merged))
+      (zip_parts Has at is_mark_item become (sequence_origins rules text.invisible_glyph at)
+      (sequence_zip not_found) (all_places merged))

@@ -1,5 +1,5 @@
 -- Each item of the recomposed list is what became of the starter that stood at its place.
-use Rattle.std.proofs.Common.{◌≡◌, ℕ, zero, suc, true, List, [], ◌∷◌, ◌++◌, map, get_or, Some, refl, sym, ap, subst, ◌∙◌}
+use Rattle.std.proofs.Common.{◌≡◌, ℕ, ◌+◌, zero, suc, true, List, [], ◌∷◌, ◌++◌, map, get_or, Some, refl, sym, ap, subst, ◌∙◌, arith}
 use Rattle.std.specs.List.{AllByRecursion, AllZip}
 use Rattle.shape_items.specs.Buffer.{Buffer}
 use Rattle.shape_items.specs.Items.{Item}
@@ -13,7 +13,6 @@ use Rattle.shape_normalize.specs.Part.{part_item}
 use Rattle.shape_items.specs.Spans.{spans_merged_out}
 use Rattle.shape_normalize.specs.RoundThree.{Absorbed, Placed, placed, ccc_of_placed, is_mark_placed, compose_placed, recomposed_items, absorbed_spans, with_cluster_at, round_three}
 use Rattle.shape_normalize.proofs.Normalized.FeatureLemmas.{features-spans_merged_out}
-use Rattle.shape_normalize.proofs.Places.OriginLemmas.{AllAt, same_at}
 use Rattle.shape_normalize.proofs.RoundThree.RecomposedItemLemmas.{glyph_of_composed}
 use Rattle.shape_normalize.proofs.RoundThree.RoundThreePlaceLemmas.{absorbed_is}
 
@@ -77,10 +76,12 @@ module _ (rules : Rules) where
     abbrev IsPutOut : Placed → Type 0
     IsPutOut p = (p.item ≡ once_composed (item_at items p.place) p.absorbed p.item.codepoint) × HasGlyphOnceComposed p.absorbed p.item.codepoint
 
-    placed_once : (place : ℕ) (rest : List Item) → AllAt (λ n item. item ≡ item_at items n) place rest
+    -- before anything is composed, each item is the one at its place
+    placed_once : (place : ℕ) (rest : List Item) → ((k n : ℕ) → n ≡ place + k → item_at rest k ≡ item_at items n)
         → AllByRecursion IsPutOut (placed place rest)
-    placed_once place [] each = tt
-    placed_once place (item ∷ rest) each = ((each.0, tt), placed_once (suc place) rest each.1)
+    placed_once place [] same = tt
+    placed_once place (item ∷ rest) same =
+        ((same 0 place (omega arith), tt), placed_once (suc place) rest (λ k n is. same (suc k) n (omega (arith, is))))
 
     composes_once : (s mark d : Placed) → IsPutOut s → IsPutOut mark → compose_placed rules s mark ≡ Some d → IsPutOut d
     composes_once s mark d of_s of_mark is =
@@ -94,7 +95,7 @@ module _ (rules : Rules) where
     each_once =
         recomposed-all ccc_of_placed (is_blocked ccc_of_placed) is_mark_placed (compose_placed rules) IsPutOut composes_once
         (placed 0 items)
-        (placed_once 0 items (same_at (λ item. item) items items refl))
+        (placed_once 0 items (λ k n is. let same : k ≡ n = omega (arith, is) in ap (item_at items) same))
 
     settled_from : (merged : List Item) → map features_of merged ≡ map features_of items → (out : List Placed)
         → AllByRecursion IsPutOut out → AllByRecursion (λ p. IsFromStarter rules items p (with_cluster_at merged p)) out
