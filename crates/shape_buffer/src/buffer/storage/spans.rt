@@ -193,8 +193,8 @@ impl hb_buffer_t {
             × KeepsFlags self.old self.new }
         ensures fewer { length self.new.items ≤ length self.old.items }
         ensures as_many { length self.new.positions ≡ length self.new.items }
-        ensures rest {
-            record self.new { items = []; positions = []; scratch_flags = record { 0 = 0 } }
+        ensures rest { record self.new
+            { items = []; positions = []; scratch_flags = record { 0 = 0 } }
             ≡ record self.old { items = []; positions = []; scratch_flags = record { 0 = 0 } } }
     {
         self.has_positions = true;
