@@ -85,7 +85,7 @@ module _ (ps : List Part) (width : ℤ) (cut : ℕ → ℕ → Line) where
           within = omega arith;
           none_since = none_new;
           so_far_is = h.so_far_is;
-          after_is = sym (width-none ps place);
+          behind_is = sym (width-none ps place);
           line = inr (record {
             may_end = place_ends;
             for = inl (at.end, from, record { after = omega arith; within = at.within; is = at.is }, omega (arith, ints));
@@ -105,7 +105,7 @@ module _ (ps : List Part) (width : ℤ) (cut : ℕ → ℕ → Line) where
           within = omega arith;
           none_since = none_new;
           so_far_is = h.so_far_is;
-          after_is = sym (width-none ps place);
+          behind_is = sym (width-none ps place);
           line = inr (record {
             may_end = place_ends;
             for = inr (λ earlier before may_end.
@@ -127,8 +127,8 @@ module _ (ps : List Part) (width : ℤ) (cut : ℕ → ℕ → Line) where
           near = omega arith;
           within = omega arith;
           none_since = none_new;
-          so_far_is = h.after_is;
-          after_is = sym (width-none ps place);
+          so_far_is = h.behind_is;
+          behind_is = sym (width-none ps place);
           line = inr (record {
             may_end = record { after = omega arith; within = within; is = is };
             for = inr (λ earlier before may_end. false≢true (sym (h.none_since earlier may_end.after before) ∙ may_end.is));
@@ -166,7 +166,7 @@ module _ (ps : List Part) (width : ℤ) (cut : ℕ → ℕ → Line) where
               | inr le ↦ let here : place ≡ end = omega arith in ap (is_end ps) (sym here) ∙ none
             ];
         so_far_is = h.so_far_is;
-        after_is = h.after_is;
+        behind_is = h.behind_is;
         line = h.line;
       }
 
@@ -185,7 +185,7 @@ module _ (ps : List Part) (width : ℤ) (cut : ℕ → ℕ → Line) where
         within = omega arith;
         none_since = h.none_since;
         so_far_is = ap (λ w. w +ℤ p.width) h.so_far_is ∙ sym (width-more ps start place p (omega arith) lt is);
-        after_is = ap (λ w. w +ℤ p.width) h.after_is ∙ sym (width-more ps taken place p within lt is);
+        behind_is = ap (λ w. w +ℤ p.width) h.behind_is ∙ sym (width-more ps taken place p within lt is);
         line = h.line;
       }
 
@@ -199,7 +199,7 @@ module _ (ps : List Part) (width : ℤ) (cut : ℕ → ℕ → Line) where
     within = omega arith;
     none_since = λ end after before. absurd (omega arith);
     so_far_is = sym (width-none ps 0);
-    after_is = sym (width-none ps 0);
+    behind_is = sym (width-none ps 0);
     line = inl refl;
   }
 

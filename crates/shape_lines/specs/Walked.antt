@@ -59,7 +59,7 @@ pub record IsWalked (parts : List Part) (width : ℤ) (cut : ℕ → ℕ → Lin
   pub within : taken ≤ place
   pub none_since : (end : ℕ) → taken < end → end < seen → is_end parts end ≡ false
   pub so_far_is : so_far ≡ width_between parts start place
-  pub after_is : behind ≡ width_between parts taken place
+  pub behind_is : behind ≡ width_between parts taken place
   pub line : (taken ≡ start) ⊎ IsTaken parts width start taken
 
 abbrev pub HasWalked : Buffer → ℕ → ℤ → ℕ → ℕ → Walk → Type 0

@@ -28,8 +28,8 @@ all_places items = range_with_len 0 (length items)
 
 -- ---- round one
 
--- the place of the text that an item of the expanded list came from, and whether it stands in a sequence with a
--- variation selector
+-- the place of the text that an item of the expanded list came from, and whether it stands in a sequence of two or more
+-- items that holds a variation selector
 pub record Origin : Type 0 where
   pub place : ℕ
   pub selects : Bool
@@ -37,8 +37,8 @@ pub record Origin : Type 0 where
 abbrev pub origin_at : Bool → ℕ → Origin
 origin_at selects place = record { place = place; selects = selects }
 
--- the origins of what an item becomes with the selectors directly after it, which stand at these places: with its place
--- for a cluster each keeps that
+-- the origins of what an item becomes with the selectors directly after it, which stand at these places: each is given
+-- its place for a cluster, and what it becomes has that
 abbrev pub variant_origins : FaceMeaning → (ℕ → Item) → List ℕ → List Origin
 variant_origins face at places =
     map (λ item. origin_at true item.cluster) (variant_items face None (map (λ place. record (at place) { cluster = place }) places))
@@ -58,9 +58,9 @@ origins rules text =
     flat_map (sequence_origins rules text.invisible_glyph (item_at items))
     (divided (λ place. is_mark_item (item_at items place)) (all_places items))
 
--- what an item has of the text's item at the place that it came from: the feature bits; outside sequences with a
--- selector the glyph of its own character, or what replaces that; and the hidden bit with the character, or else that
--- of its own character, except for a CGJ that may have been unhidden since
+-- what an item has of the text's item at the place that it came from: the feature bits; outside such sequences the glyph
+-- of its own character, or what replaces that; and the hidden bit with the character, or else that of its own
+-- character, except for a CGJ that may have been unhidden since
 pub record HasOfOrigin (rules : Rules) (text : Buffer) (unhides : Bool) (origin : Origin) (item : Item) : Type 0 where
   pub features : features_of item ≡ features_of (item_at text.items origin.place)
   pub glyph : origin.selects ≡ false → item.glyph_index ≡ item_glyph rules text.invisible_glyph item

@@ -30,6 +30,9 @@ pub record PlacesWorked : Type 0 where
       ≡ origin_at true 0 ∷ origin_at true 1 ∷ origin_at true 2 ∷ []
   pub second_selector : origins_of (0x61 ∷ 0xFE00 ∷ []) (item 0x61 0 ∷ item 0xFE00 1 ∷ item 0xFE00 2 ∷ [])
       ≡ origin_at true 0 ∷ origin_at true 2 ∷ []
+  -- each item with its own selectors: here U+0061 has none
+  pub mark_before_selector : origins_of (0x61 ∷ 0x301 ∷ []) (item 0x61 0 ∷ item 0x301 1 ∷ item 0xFE00 2 ∷ [])
+      ≡ origin_at true 0 ∷ origin_at true 1 ∷ origin_at true 2 ∷ []
   -- after and before such a sequence
   pub after_variation_sequence : origins_of (0x61 ∷ 0xFE00 ∷ 0x301 ∷ []) (item 0x61 0 ∷ item 0xFE00 1 ∷ item 0xE1 2 ∷ [])
       ≡ origin_at true 0 ∷ origin_at false 2 ∷ origin_at false 2 ∷ []
@@ -37,6 +40,9 @@ pub record PlacesWorked : Type 0 where
       ≡ origin_at false 0 ∷ origin_at false 0 ∷ origin_at true 1 ∷ []
   -- a selector by itself is expanded as any item is
   pub lone_selector : origins_of [] (item 0xFE00 0 ∷ []) ≡ origin_at false 0 ∷ []
+  -- the shortest expansion is asked for of U+00E1 by itself
+  pub shortest : origins (rules_in 2 (0x61 ∷ 0x301 ∷ 0xE1 ∷ [])) (buffer_of (item 0xE1 0 ∷ item 0x62 1 ∷ []))
+      ≡ origin_at false 0 ∷ origin_at false 1 ∷ []
 
 -- what came of these items by the end, if their two marks change places
 abbrev pub two_marks : Buffer

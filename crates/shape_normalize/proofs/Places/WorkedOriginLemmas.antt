@@ -25,9 +25,11 @@ places_worked = record {
   variation_sequence = refl;
   no_variation_sequence = refl;
   second_selector = refl;
+  mark_before_selector = refl;
   after_variation_sequence = refl;
   before_variation_sequence = refl;
   lone_selector = refl;
+  shortest = refl;
 }
 
 new_places_worked : NewPlacesWorked

@@ -1,5 +1,5 @@
 -- Preparing keeps the flags of glyphs and the order of clusters, which the native order may reverse. The steps that go
--- item by item are told in StepKeepers; here are those that merge, mark and reverse graphemes.
+-- item by item are told in StepKeepers; here are those that merge graphemes, mark them unsafe to break, and reverse them.
 use Rattle.std.proofs.Common.{◌≡◌, ℕ, ◌||◌, Bool, true, false, inl, inr, List, [], ◌∷◌, ◌++◌, map, reverse, refl, sym, ap, ◌∙◌, subst, ◌+◌, ◌-◌, ◌<◌, ◌≤◌, length, arith}
 use Rattle.std.proofs.Math.Bool.{or_comm}
 use Rattle.std.proofs.lemmas.Bool.{cases_Bool}

@@ -1,5 +1,5 @@
--- The steps of preparing that go item by item keep the order of clusters and the flags of glyphs, told at once; and
--- what they leave if no character past ASCII was seen.
+-- The steps of preparing that go item by item, and the dotted circle, keep the order of clusters and the flags of
+-- glyphs, told at once; and what they leave if no character past ASCII was seen.
 use Rattle.std.proofs.Common.{◌≡◌, ℕ, ◌==◌, ◌||◌, ◌&&◌, Bool, true, false, inl, inr, List, [], ◌∷◌, map, fold, Option, Some, None, refl, sym, ap, ap₂, ◌∙◌, subst, bit_and, bit_or, nat_lt, ◌-◌, ◌<◌, not, arith, ◌/◌}
 use Rattle.std.proofs.lemmas.Bool.{cases_Bool, eq-eqb}
 use Rattle.std.proofs.lemmas.Nat.{and_assoc, and_or_apart, and_or_self, or_shr}

@@ -1,5 +1,5 @@
 use Rattle.shape_sessions.specs.WorkedPrinting.{worked_printing}
-use Rattle.shape_sessions.proofs.worked.lines_meet_worked_cases.Goals as goal
+use Rattle.shape_sessions.proofs.worked.printing_meets_worked_cases.Goals as goal
 
 pub returns : goal.returns
 returns c = worked_printing
