@@ -27,7 +27,7 @@ pub fn recategorize_marks<T: ShapingTypes>(
 }
 
 /// Places spaces, if one without a glyph was seen.
-#[tactic(auto, unfolding(crate::specs::Steps::spaces_step))]
+#[tactic(auto, unfolding(crate::specs::DueSteps::spaces_step))]
 pub fn place_spaces<T: ShapingTypes>(plan: &PlanOf<'_, T>, face: &T::Face, buffer: &mut hb_buffer_t)
     ensures { Made (spaces_step (T.Face.face face.now)) buffer.old buffer.new }
 {
@@ -51,7 +51,7 @@ pub fn place_marks<T: ShapingTypes>(plan: &PlanOf<'_, T>, face: &T::Face, buffer
 }
 
 /// Places marks, as the plan and the buffer's direction adjust offsets.
-#[tactic(auto, unfolding(crate::specs::Steps::marks_adjusted))]
+#[tactic(auto, unfolding(crate::specs::DueSteps::marks_adjusted))]
 fn place_adjusted<T: ShapingTypes>(plan: &PlanOf<'_, T>, face: &T::Face, buffer: &mut hb_buffer_t)
     ensures { Made (marks_adjusted T.Unicode.unicode (T.Face.face face.now) plan.now.direction
         plan.now.script plan.now.decisions) buffer.old buffer.new }
