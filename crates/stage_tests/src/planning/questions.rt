@@ -24,9 +24,9 @@ use shape_buffer::buffer::{Direction, Feature, Script};
 use shape_buffer::interfaces::{PlainUnicode, hb_font_t, hb_ot_layout_t, hb_unicode_funcs_t};
 use shape_plan::ot_shape_plan::hb_ot_shape_plan_t;
 use shape_plan::ot_shaper::{
-    DEFAULT_SHAPER, DUMBER_SHAPER, hb_default_shaper_t, hb_dumber_shaper_t, hb_ot_shaper_t,
+    DEFAULT_SHAPER, DUMBER_SHAPER, hb_default_shaper_t, hb_dumber_shaper_t,
 };
-use shape_plan::shaping_types::{PlanOf, ShapingTypes, TypesOf};
+use shape_plan::shaping_types::{DataOf, PlanOf, ShapingTypes, TypesOf};
 use std::alloc::AllocError;
 use std::fmt::Debug;
 use test_worlds::{TestFace, TestLayout};
@@ -40,13 +40,6 @@ pub struct Case<'a, F> {
     pub script: Option<Script>,
     pub features: &'a [Feature],
 }
-
-/// What a shaper makes for its plans.
-type DataOf<T> = <<T as ShapingTypes>::Shaper as hb_ot_shaper_t<
-    <T as ShapingTypes>::Unicode,
-    <T as ShapingTypes>::Face,
-    <T as ShapingTypes>::Engine,
->>::Data;
 
 /// The plan that a question is about.
 fn plan_of<'a, T: ShapingTypes>(
