@@ -1,0 +1,9 @@
+pub mod Offsets
+pub mod Coverage
+pub mod Classes
+pub mod Scripts
+pub mod Features
+pub mod Variations
+pub mod Lookups
+pub mod Order
+pub mod Gdef

@@ -1,0 +1,85 @@
+//! Coverage tables: which glyphs a subtable is for, and the index of each.
+ghost use Rattle.std.specs.Prelude.{◌≡◌, ◌<◌, ◌^◌, is_some};
+ghost use Rattle.layout_tables.specs.Coverage.{side_of_listed, listed, side_of_range, ranged, index_in_range as index_in_range_of, coverage_index as coverage_index_of, covers as covers_of};
+
+use shape_font::bytes::{records, u16_at};
+use shape_font::search::{found, side};
+use std::cmp::Ordering;
+
+/// Where a glyph stands to glyph `i` of the list.
+fn listed_side(table: &[u8], start: usize, glyph: u32, i: u32) -> Ordering
+    requires { start < 2 ^ 40 }
+    ensures { result ≡ side_of_listed table.now start glyph i }
+{
+    let there = u32::from(u16_at(table, start + 4 + 2 * i as usize));
+    side(glyph, there, there)
+}
+
+/// The index of a glyph in a list of glyphs.
+fn in_list(table: &[u8], start: usize, glyph: u32) -> Option<u32>
+    requires { start < 2 ^ 40 }
+    ensures { result ≡ listed table.now start glyph }
+{
+    let count = records(table, u32::from(u16_at(table, start + 2)), start + 4, 2);
+    found(count, |i| listed_side(table, start, glyph, i))
+}
+
+/// Where a glyph stands to range `i` of the list.
+fn range_side(table: &[u8], start: usize, glyph: u32, i: u32) -> Ordering
+    requires { start < 2 ^ 40 }
+    ensures { result ≡ side_of_range table.now start glyph i }
+{
+    let at = start + 4 + 6 * i as usize;
+    side(
+        glyph,
+        u32::from(u16_at(table, at)),
+        u32::from(u16_at(table, at + 2)),
+    )
+}
+
+/// The range that holds a glyph: coverage and classes of format 2 have ranges of the same layout.
+pub(crate) fn range(table: &[u8], start: usize, glyph: u32) -> Option<u32>
+    requires { start < 2 ^ 40 }
+    ensures { result ≡ ranged table.now start glyph }
+{
+    let count = records(table, u32::from(u16_at(table, start + 2)), start + 4, 6);
+    found(count, |i| range_side(table, start, glyph, i))
+}
+
+/// The index of a glyph of range `i`.
+fn index_in_range(table: &[u8], start: usize, glyph: u32, i: u32) -> u32
+    requires start { start < 2 ^ 40 }
+    requires glyph { glyph < 2 ^ 16 }
+    ensures { result ≡ index_in_range_of table.now start glyph i }
+{
+    let at = start + 4 + 6 * i as usize;
+    let first = u32::from(u16_at(table, at));
+    u32::from(u16_at(table, at + 4)) + glyph.saturating_sub(first)
+}
+
+/// The Coverage Index of a glyph by the Coverage table at `start`; none if it does not cover the glyph, or its format is
+/// neither 1 nor 2.
+pub fn coverage_index(table: &[u8], start: usize, glyph: u32) -> Option<u32>
+    requires { start < 2 ^ 40 }
+    ensures { result ≡ coverage_index_of table.now start glyph }
+{
+    if 0xFFFF < glyph {
+        return None;
+    }
+    match u16_at(table, start) {
+        1 => in_list(table, start, glyph),
+        2 => match range(table, start, glyph) {
+            Some(i) => Some(index_in_range(table, start, glyph, i)),
+            None => None,
+        },
+        _ => None,
+    }
+}
+
+/// Whether the Coverage table at `start` covers the glyph.
+pub fn covers(table: &[u8], start: usize, glyph: u32) -> bool
+    requires { start < 2 ^ 40 }
+    ensures { result ≡ covers_of table.now start glyph }
+{
+    coverage_index(table, start, glyph).is_some()
+}

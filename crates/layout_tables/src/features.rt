@@ -1,0 +1,118 @@
+//! Features of a table of lookups (`GSUB`, `GPOS`), and the lookups of each.
+ghost use Rattle.std.specs.Prelude.{◌≡◌, ◌<◌, ◌^◌, nat_eq};
+ghost use Rattle.std.specs.Option.{IfSome};
+ghost use Rattle.shape_font.specs.Search.{first_at};
+ghost use Rattle.layout_tables.specs.Features.{features_at, feature_count_of, feature_tag_of, required_feature_of, has_feature_tag, feature_index_of, any_feature_of, feature_of, feature_lookup_count_of, feature_lookup_of};
+
+use crate::offsets::{header_offset, offset16};
+use shape_font::bytes::{records, u16_at, u32_at};
+
+/// How many features the FeatureList at `list` has.
+fn features(table: &[u8], list: usize) -> u32
+    requires { list < 2 ^ 16 }
+    ensures value { result ≡ features_at table.now list }
+    ensures few { result < 2 ^ 16 }
+{
+    records(table, u32::from(u16_at(table, list)), list + 2, 6)
+}
+
+/// How many features the table has.
+pub fn feature_count(table: &[u8]) -> u32
+    ensures value { result ≡ feature_count_of table.now }
+    ensures few { result < 2 ^ 16 }
+{
+    match header_offset(table, 6) {
+        Some(list) => features(table, list),
+        None => 0,
+    }
+}
+
+/// The tag of the feature with this index, 0 past the last one.
+pub fn feature_tag(table: &[u8], index: u16) -> u32
+    ensures { result ≡ feature_tag_of table.now index }
+{
+    match header_offset(table, 6) {
+        Some(list) if u32::from(index) < features(table, list) => {
+            u32_at(table, list + 2 + 6 * usize::from(index))
+        }
+        _ => 0,
+    }
+}
+
+/// The index of the feature that is on for the language system at `lang_sys` whatever is asked; none if it has none.
+pub fn required_feature(table: &[u8], lang_sys: usize) -> Option<u16>
+    requires { lang_sys < 2 ^ 18 }
+    ensures { result ≡ required_feature_of table.now lang_sys }
+{
+    match u16_at(table, lang_sys + 2) {
+        0xFFFF => None,
+        index => Some(index),
+    }
+}
+
+/// The first of the `count` features of a language system that has the tag.
+#[tactic(auto, using(shape_font::proofs::SearchLemmas::first_at_next, shape_font::proofs::SearchLemmas::first_at_found, shape_font::proofs::SearchLemmas::first_at_end))]
+fn feature_number(table: &[u8], lang_sys: usize, tag: u32, count: u32) -> Option<u32>
+    requires { lang_sys < 2 ^ 18 }
+    ensures { result ≡ first_at (has_feature_tag table.now lang_sys tag) count 0 }
+{
+    for i in 0..count {
+        if feature_tag(table, u16_at(table, lang_sys + 6 + 2 * i as usize)) == tag {
+            return Some(i);
+        }
+    }
+    None
+}
+
+/// The index of the feature with this tag that the language system at `lang_sys` lists: the first one, if it lists
+/// several; none if it lists none.
+pub fn feature_index(table: &[u8], lang_sys: usize, tag: u32) -> Option<u16>
+    requires { lang_sys < 2 ^ 18 }
+    ensures { result ≡ feature_index_of table.now lang_sys tag }
+{
+    let stated = u32::from(u16_at(table, lang_sys + 4));
+    let i = feature_number(table, lang_sys, tag, records(table, stated, lang_sys + 6, 2))?;
+    Some(u16_at(table, lang_sys + 6 + 2 * i as usize))
+}
+
+/// The index of the first feature of the table with this tag, whatever the language system; none if it has none.
+#[tactic(auto, using(shape_font::proofs::SearchLemmas::first_at_next, shape_font::proofs::SearchLemmas::first_at_found, shape_font::proofs::SearchLemmas::first_at_end))]
+pub fn any_feature(table: &[u8], tag: u32) -> Option<u16>
+    ensures { result ≡ any_feature_of table.now tag }
+{
+    for i in 0..feature_count(table) as u16 {
+        if feature_tag(table, i) == tag {
+            return Some(i);
+        }
+    }
+    None
+}
+
+/// Where the Feature table of the feature with this index stands; none if the table has no such feature.
+pub fn feature(table: &[u8], index: u16) -> Option<usize>
+    ensures value { result ≡ feature_of table.now index }
+    ensures near { IfSome result (λ feature. feature < 2 ^ 17) }
+{
+    let list = header_offset(table, 6)?;
+    if features(table, list) <= u32::from(index) {
+        return None;
+    }
+    offset16(table, list, list + 6 + 6 * usize::from(index))
+}
+
+/// How many lookups the Feature table at `feature` lists.
+pub fn feature_lookup_count(table: &[u8], feature: usize) -> u32
+    requires { feature < 2 ^ 35 }
+    ensures value { result ≡ feature_lookup_count_of table.now feature }
+    ensures few { result < 2 ^ 16 }
+{
+    records(table, u32::from(u16_at(table, feature + 2)), feature + 4, 2)
+}
+
+/// The index of lookup `i` of those that the Feature table at `feature` lists.
+pub fn feature_lookup(table: &[u8], feature: usize, i: u32) -> u16
+    requires { feature < 2 ^ 35 }
+    ensures { result ≡ feature_lookup_of table.now feature i }
+{
+    u16_at(table, feature + 4 + 2 * i as usize)
+}
