@@ -1,7 +1,8 @@
 -- rules of context: what stands before, what is matched, what stands after, and the lookups that are applied then
 use Rattle.std.specs.Prelude.{ℕ, List, Bool, Option, None, min, ◌+◌, ◌-◌, ◌*◌, ◌&&◌, nat_eq, nat_lt, if◌then◌else◌}
 use Rattle.shape_font.specs.Bytes.{u16_of, fitting}
-use Rattle.layout_tables.specs.Coverage.{part_at, covers}
+use Rattle.layout_tables.specs.Coverage.{covers}
+use Rattle.layout_tables.specs.Offsets.{offset16_of}
 use Rattle.layout_tables.specs.Classes.{class_of}
 use Rattle.layout_matching.specs.declared.rules.Test.{Test}
 use Rattle.layout_matching.specs.declared.rules.Test.TheVariants.{Glyph, Class, Coverage}
@@ -25,7 +26,7 @@ fits_row t row k glyph = is_named t (min row.from FAR) (u16_of t (min row.values
 -- where the rules for glyph or class number `i` stand
 abbrev pub rules_at : List ℕ → ℕ → ℕ → ℕ → Option ℕ
 rules_at t start counted i = if nat_lt i (fitting t (u16_of t (start + counted)) (start + counted + 2) 2)
-    then part_at t start (start + counted + 2 + 2 * i) else None
+    then offset16_of t start (start + counted + 2 + 2 * i) else None
 
 -- a row of so many values
 abbrev pub row : Test → ℕ → ℕ → ℕ → Row
@@ -55,4 +56,4 @@ chained t test from_before from_input from_after whole at =
 
 -- the rule number `r` of those at `rules`
 abbrev pub rule_place : List ℕ → ℕ → ℕ → Option ℕ
-rule_place t rules r = part_at t rules (rules + 2 + 2 * r)
+rule_place t rules r = offset16_of t rules (rules + 2 + 2 * r)
