@@ -1,4 +1,4 @@
--- rules of context: what stands before, what is matched, what stands after, and the lookups that are applied then
+-- Rules of context: what stands before, what is matched, what stands after, and the lookups that are applied then
 use Rattle.std.specs.Prelude.{ℕ, List, Bool, Option, None, min, ◌+◌, ◌-◌, ◌*◌, ◌&&◌, nat_eq, nat_lt, if◌then◌else◌}
 use Rattle.shape_font.specs.Bytes.{u16_of, fitting}
 use Rattle.layout_tables.specs.Coverage.{covers}
@@ -49,9 +49,9 @@ chained t test from_before from_input from_after whole at =
     let middle = at + 2 + 2 * before.count in
     let count = u16_of t middle in
     let input = row test from_input count (middle + 2 + 2 * whole) in
-    let behind = middle + 2 + 2 * whole + 2 * (count - 1) in
-    let after = row test from_after (u16_of t behind) (behind + 2) in
-    let last = behind + 2 + 2 * after.count in
+    let follows = middle + 2 + 2 * whole + 2 * (count - 1) in
+    let after = row test from_after (u16_of t follows) (follows + 2) in
+    let last = follows + 2 + 2 * after.count in
     record { before = before; input = input; after = after; lookups = last + 2; count = u16_of t last }
 
 -- the rule number `r` of those at `rules`

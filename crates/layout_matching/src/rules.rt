@@ -134,9 +134,9 @@ pub fn chain(
     let middle = at + 2 + 2 * usize::from(before.count);
     let count = u16_at(table, middle);
     let input = row_of(test, from_input, count, middle + 2 + 2 * whole);
-    let behind = middle + 2 + 2 * whole + 2 * usize::from(count.saturating_sub(1));
-    let after = row_of(test, from_after, u16_at(table, behind), behind + 2);
-    let last = behind + 2 + 2 * usize::from(after.count);
+    let follows = middle + 2 + 2 * whole + 2 * usize::from(count.saturating_sub(1));
+    let after = row_of(test, from_after, u16_at(table, follows), follows + 2);
+    let last = follows + 2 + 2 * usize::from(after.count);
     Rule {
         before,
         input,
