@@ -1,0 +1,245 @@
+-- A lookup that covers no glyph of a list changes nothing.
+use Prim.Native.Nat.{zero}
+use Rattle.std.proofs.Common.{◌≡◌, ℕ, suc, ◌+◌, ◌-◌, ◌<◌, Bool, true, false, List, Option, Some, None, is_some, length, nat_eq, nat_lt, refl, sym, ap, ◌∙◌, subst, arith, if◌then◌else◌, ◌&&◌, ◌||◌}
+use Rattle.std.proofs.lemmas.Bool.Decides.{nat_tests}
+use Rattle.std.specs.Option.{option_and_then, option_map_or}
+use Rattle.shape_items.specs.Buffer.{Buffer}
+use Rattle.shape_items.specs.Items.{Item}
+use Rattle.shape_font.specs.Bytes.{u16_of}
+use Rattle.layout_tables.specs.Lookups.{subtable_count_of, subtable_of}
+use Rattle.layout_tables.specs.declared.lookups.LookupSubtable.{LookupSubtable}
+use Rattle.layout_matching.specs.Found.{extension_kind, is_context, is_context_part, is_chained, whole_rule, is_first, number_of, found_if, found_whole, found_by_number, found_in_sets, found_in_part, found_at_part, found_of}
+use Rattle.layout_matching.specs.Loops.{times, first_some}
+use Rattle.layout_matching.specs.Skipping.{nth, is_on}
+use Rattle.layout_matching.specs.declared.found.Found.{Found}
+use Rattle.layout_matching.specs.declared.lookup.Lookup.{Lookup}
+use Rattle.layout_matching.specs.declared.spans.Origin.{Origin}
+use Rattle.layout_substitution.specs.Applied.{Applied, unapplied, put_one, single_applied, value_of, alternate_applied, sequence_put, multiple_applied}
+use Rattle.layout_substitution.specs.Edits.{item_at, is_inside, is_past}
+use Rattle.layout_substitution.specs.Kinds.{kind_applied, part_applied, parts_applied, or_next, lookup_applied}
+use Rattle.layout_substitution.specs.Ligatures.{ligature_found, ligature_made, ligature_applied}
+use Rattle.layout_substitution.specs.Substitutes.{single_by, single_of, set_number, set_of, alternate_in, alternate_of}
+use Rattle.layout_substitution.specs.declared.apply.Spot.{Spot}
+use Rattle.layout_context.specs.Covered.{context_covers, part_covers, IsUncovered, CoversNone}
+use Rattle.layout_context.specs.Nested.{rule_applied, origin_of, level_applied, nested_applied}
+use Rattle.layout_context.specs.Reverse.{reversal_of, reversal_by, reversal_in, reversal_found, reversed_by, reversed_at, Backwards, reverse_step, reversed, is_reverse}
+use Rattle.layout_context.specs.Stages.{Walk, passed, gone_on, lookup_step, first_walk, walked, looked_up}
+use Rattle.layout_context.specs.declared.reverse.Reversal.{Reversal}
+
+none_of : {A : Type 0} (o : Option A) → is_some o ≡ false → o ≡ None
+none_of None e = refl
+none_of (Some x) e = cc
+
+and_then_none : {A B : Type 0} (f : A → Option B) (o : Option A) → o ≡ None → option_and_then f o ≡ None
+and_then_none f o e = ap (option_and_then f) e
+
+map_or_none : {A B : Type 0} (f : A → B) (d : B) (o : Option A) → o ≡ None → option_map_or f o d ≡ d
+map_or_none f d o e = ap (λ p. option_map_or f p d) e
+
+first_some_none : {X : Type 0} (f : ℕ → Option X) → ((i : ℕ) → f i ≡ None) → (n i : ℕ) → first_some f n i ≡ None
+first_some_none f none zero i = refl
+first_some_none f none (suc n) i = rw (none i) (first_some_none f none n (suc i))
+
+if_same : {A : Type 0} (t : Bool) (x y z : A) → x ≡ z → y ≡ z → (if t then x else y) ≡ z
+if_same true x y z a b = a
+if_same false x y z a b = b
+
+-- ---- a part of a lookup
+
+set_none : (t : List ℕ) (start glyph : ℕ) → number_of t start glyph ≡ None → set_of t start glyph ≡ None
+set_none t start glyph e = if_same (nat_eq (u16_of t start) 1) _ _ None (and_then_none (set_number t start) _ e) refl
+
+kind-uncovered : (l : Lookup) (spot : Spot) (b : Buffer) (part : LookupSubtable)
+    → number_of l.table.now part.start (item_at b spot.at).glyph_id ≡ None → kind_applied l spot b part ≡ unapplied b
+kind-uncovered l spot b part none =
+    let glyph = (item_at b spot.at).glyph_id in
+    let t = l.table.now in
+    let set = set_none t part.start glyph none in
+    if_same (nat_eq part.kind 1) (single_applied l part.start spot b) _ (unapplied b)
+    (map_or_none (put_one l spot b) (unapplied b) _ (and_then_none (single_by t part.start glyph) _ none))
+    (if_same (nat_eq part.kind 2) (multiple_applied l part.start spot b) _ (unapplied b) (map_or_none (sequence_put l spot b) (unapplied b) _ set)
+    (if_same (nat_eq part.kind 3) (alternate_applied l part.start spot b) _ (unapplied b)
+    (map_or_none (put_one l spot b) (unapplied b) _ (and_then_none (alternate_in t (value_of l (item_at b spot.at))) _ set))
+    (if_same (nat_eq part.kind 4) (ligature_applied l part.start spot b) _ (unapplied b)
+    (map_or_none (ligature_made l spot b) (unapplied b) _ (and_then_none (ligature_found l b spot.at) _ set)) refl)))
+
+-- a part of context has none of the kinds below 5, and not kind 8
+not_kind : (l : Lookup) (part : LookupSubtable) (n : ℕ) → l.positioning ≡ false → is_context_part l part ≡ true → n < 5 → nat_eq part.kind n ≡ false
+not_kind l part n gsub is few =
+    let kinds : (nat_eq part.kind 5 || nat_eq part.kind 6) ≡ true =
+    subst (λ t. (nat_eq part.kind (if t then 7 else 5) || nat_eq part.kind (if t then 8 else 6)) ≡ true) gsub is in
+    grind (arith, nat_tests, kinds, few)
+
+not_reverse : (l : Lookup) (part : LookupSubtable) → l.positioning ≡ false → is_context_part l part ≡ true → nat_eq part.kind 8 ≡ false
+not_reverse l part gsub is =
+    let kinds : (nat_eq part.kind 5 || nat_eq part.kind 6) ≡ true =
+    subst (λ t. (nat_eq part.kind (if t then 7 else 5) || nat_eq part.kind (if t then 8 else 6)) ≡ true) gsub is in
+    grind (arith, nat_tests, kinds)
+
+kind-context : (l : Lookup) (spot : Spot) (b : Buffer) (part : LookupSubtable) → l.positioning ≡ false → is_context_part l part ≡ true
+    → kind_applied l spot b part ≡ unapplied b
+kind-context l spot b part gsub is =
+    let one = not_kind l part 1 gsub is (omega arith) in
+    let two = not_kind l part 2 gsub is (omega arith) in
+    let three = not_kind l part 3 gsub is (omega arith) in
+    let four = not_kind l part 4 gsub is (omega arith) in
+    rw one (rw two (rw three (rw four refl)))
+
+number_out : (l : Lookup) (part : LookupSubtable) (glyph : ℕ) → is_context_part l part ≡ false → part_covers l part glyph ≡ false
+    → number_of l.table.now part.start glyph ≡ None
+number_out l part glyph kind out = none_of (number_of l.table.now part.start glyph)
+    (subst (λ t. (if t then context_covers l part glyph else is_some (number_of l.table.now part.start glyph)) ≡ false) kind out)
+
+context_out : (l : Lookup) (part : LookupSubtable) (glyph : ℕ) → is_context_part l part ≡ true → part_covers l part glyph ≡ false
+    → context_covers l part glyph ≡ false
+context_out l part glyph kind out =
+    subst (λ t. (if t then context_covers l part glyph else is_some (number_of l.table.now part.start glyph)) ≡ false) kind out
+
+-- ---- lookups of kinds 1 to 4
+
+part-uncovered : (l : Lookup) (i : ℕ) (spot : Spot) (b : Buffer) → l.positioning ≡ false → IsUncovered l (item_at b spot.at).glyph_id
+    → part_applied l i spot b ≡ unapplied b
+part-uncovered l i spot b gsub out = by_part (subtable_of l.table.now 7 l.place i) refl
+  where
+    by_kind : (part : LookupSubtable) (t : Bool) → is_context_part l part ≡ t → part_covers l part (item_at b spot.at).glyph_id ≡ false
+        → kind_applied l spot b part ≡ unapplied b
+    by_kind part true is none = kind-context l spot b part gsub is
+    by_kind part false is none = kind-uncovered l spot b part (number_out l part (item_at b spot.at).glyph_id is none)
+    by_part : (o : Option LookupSubtable) → subtable_of l.table.now 7 l.place i ≡ o
+        → option_map_or (kind_applied l spot b) o (unapplied b) ≡ unapplied b
+    by_part None e = refl
+    by_part (Some part) e = by_kind part (is_context_part l part) refl (out i part e)
+
+parts-uncovered : (l : Lookup) (spot : Spot) (b : Buffer) → l.positioning ≡ false → IsUncovered l (item_at b spot.at).glyph_id
+    → (n i : ℕ) → parts_applied l spot n i b ≡ unapplied b
+parts-uncovered l spot b gsub out zero i = refl
+parts-uncovered l spot b gsub out (suc n) i =
+    ap (or_next (parts_applied l spot n (suc i))) (part-uncovered l i spot b gsub out)
+    ∙ if_same (is_past b) (unapplied b) (parts_applied l spot n (suc i) b) (unapplied b) refl (parts-uncovered l spot b gsub out n (suc i))
+
+-- ---- lookups of context
+
+in_part-uncovered : (l : Lookup) (items : List Item) (origin : Origin) (part : LookupSubtable)
+    → part_covers l part (nth items origin.at).glyph_id ≡ false → found_in_part l items origin part ≡ None
+in_part-uncovered l items origin part out = by_kind (is_context_part l part) refl
+  where
+    by_format : (t : Bool) → nat_eq (u16_of l.table.now part.start) 3 ≡ t → context_covers l part (nth items origin.at).glyph_id ≡ false
+        → (if t then found_whole l items origin part else found_in_sets l items origin part) ≡ None
+    by_format true is none =
+        let first : is_first l.table.now part.start (whole_rule l.table.now (is_chained l part) part.start) (nth items origin.at).glyph_id ≡ false =
+        subst (λ t. (if t then is_first l.table.now part.start (whole_rule l.table.now (is_chained l part) part.start) (nth items origin.at).glyph_id
+        else is_some (number_of l.table.now part.start (nth items origin.at).glyph_id)) ≡ false) is none in
+        rw first refl
+    by_format false is none =
+        let number : is_some (number_of l.table.now part.start (nth items origin.at).glyph_id) ≡ false =
+        subst (λ t. (if t then is_first l.table.now part.start (whole_rule l.table.now (is_chained l part) part.start) (nth items origin.at).glyph_id
+        else is_some (number_of l.table.now part.start (nth items origin.at).glyph_id)) ≡ false) is none in
+        and_then_none (found_by_number l items origin part) _ (none_of _ number)
+    by_kind : (t : Bool) → is_context_part l part ≡ t
+        → (if t then (if nat_eq (u16_of l.table.now part.start) 3 then found_whole l items origin part else found_in_sets l items origin part) else None) ≡ None
+    by_kind true is = by_format (nat_eq (u16_of l.table.now part.start) 3) refl (context_out l part (nth items origin.at).glyph_id is out)
+    by_kind false is = refl
+
+at_part-uncovered : (l : Lookup) (items : List Item) (origin : Origin) (i : ℕ) → l.positioning ≡ false → IsUncovered l (nth items origin.at).glyph_id
+    → found_at_part l items origin i ≡ None
+at_part-uncovered l items origin i gsub out =
+    let e : extension_kind l ≡ 7 = ap (λ t. if t then 9 else 7) gsub in
+    ap (λ k. option_and_then (found_in_part l items origin) (subtable_of l.table.now k l.place i)) e
+    ∙ by_part (subtable_of l.table.now 7 l.place i) refl
+  where
+    by_part : (o : Option LookupSubtable) → subtable_of l.table.now 7 l.place i ≡ o → option_and_then (found_in_part l items origin) o ≡ None
+    by_part None e = refl
+    by_part (Some part) e = in_part-uncovered l items origin part (out i part e)
+
+found-uncovered : (l : Lookup) (items : List Item) (origin : Origin) → l.positioning ≡ false → IsUncovered l (nth items origin.at).glyph_id
+    → found_of l items origin ≡ None
+found-uncovered l items origin gsub out =
+    first_some_none (found_at_part l items origin) (λ i. at_part-uncovered l items origin i gsub out) (subtable_count_of l.table.now l.place) 0
+
+nested-uncovered : (level : ℕ) (l : Lookup) (spot : Spot) (b : Buffer) → l.positioning ≡ false → IsUncovered l (item_at b spot.at).glyph_id
+    → nested_applied level l spot b ≡ unapplied b
+nested-uncovered zero l spot b gsub out = refl
+nested-uncovered (suc level) l spot b gsub out =
+    let here : level_applied (nested_applied level) l spot b ≡ unapplied b =
+    if_same (is_context l) _ (lookup_applied l spot b) (unapplied b)
+    (map_or_none (rule_applied (nested_applied level) l spot b) (unapplied b) _ (found-uncovered l b.items (origin_of spot b) gsub out))
+    (parts-uncovered l spot b gsub out (subtable_count_of l.table.now l.place) 0) in
+    if_same (is_past b) (unapplied b) _ (unapplied b) refl
+    (if_same (is_inside spot.at b) (level_applied (nested_applied level) l spot b) (unapplied b) (unapplied b) here refl)
+
+-- ---- the walk
+
+walk_same : (t : Bool) (b : Buffer) (x y : Walk) → x.buffer ≡ b → y.buffer ≡ b → (if t then x else y).buffer ≡ b
+walk_same true b x y k m = k
+walk_same false b x y k m = m
+
+step-uncovered : (levels : ℕ) (l : Lookup) (s : Walk) → l.positioning ≡ false → CoversNone l s.buffer.items
+    → (lookup_step (nested_applied levels l) l s).buffer ≡ s.buffer
+step-uncovered levels l s gsub none =
+    walk_same (is_past s.buffer) s.buffer s _ refl (inside (is_inside s.spot.at s.buffer) refl)
+  where
+    inside : (t : Bool) → is_inside s.spot.at s.buffer ≡ t
+        → (if t then (if is_on l (item_at s.buffer s.spot.at) then gone_on s (nested_applied levels l s.spot s.buffer) else passed s) else s).buffer ≡ s.buffer
+    inside false e = refl
+    inside true e =
+        walk_same (is_on l (item_at s.buffer s.spot.at)) s.buffer (gone_on s (nested_applied levels l s.spot s.buffer)) (passed s)
+        (ap (λ (a : Applied). a.buffer) (nested-uncovered levels l s.spot s.buffer gsub (none s.spot.at (grind (arith, nat_tests, e))))) refl
+
+walk-uncovered : (levels : ℕ) (l : Lookup) (s : Walk) → l.positioning ≡ false → CoversNone l s.buffer.items
+    → (n : ℕ) → (times (lookup_step (nested_applied levels l) l) n s).buffer ≡ s.buffer
+walk-uncovered levels l s gsub none zero = refl
+walk-uncovered levels l s gsub none (suc n) =
+    let here = times (lookup_step (nested_applied levels l) l) n s in
+    let same : here.buffer ≡ s.buffer = walk-uncovered levels l s gsub none n in
+    step-uncovered levels l here gsub (subst (λ (b : Buffer). CoversNone l b.items) (sym same) none) ∙ same
+
+-- ---- backwards
+
+reversal-uncovered : (l : Lookup) (items : List Item) (at i : ℕ) → l.positioning ≡ false → IsUncovered l (nth items at).glyph_id
+    → reversal_in l items at i ≡ None
+reversal-uncovered l items at i gsub out =
+    let e : extension_kind l ≡ 7 = ap (λ t. if t then 9 else 7) gsub in
+    ap (λ k. option_and_then (reversal_by l items at) (subtable_of l.table.now k l.place i)) e
+    ∙ by_part (subtable_of l.table.now 7 l.place i) refl
+  where
+    by_kind : (part : LookupSubtable) (t : Bool) → is_context_part l part ≡ t → part_covers l part (nth items at).glyph_id ≡ false
+        → reversal_by l items at part ≡ None
+    by_kind part true is none = rw (not_reverse l part gsub is) refl
+    by_kind part false is none =
+        if_same (nat_eq part.kind 8 && nat_eq (u16_of l.table.now part.start) 1) _ _ None
+        (and_then_none (reversal_of l items at part.start) _ (number_out l part (nth items at).glyph_id is none)) refl
+    by_part : (o : Option LookupSubtable) → subtable_of l.table.now 7 l.place i ≡ o → option_and_then (reversal_by l items at) o ≡ None
+    by_part None e = refl
+    by_part (Some part) e = by_kind part (is_context_part l part) refl (out i part e)
+
+at-uncovered : (l : Lookup) (at : ℕ) (b : Buffer) → l.positioning ≡ false → IsUncovered l (item_at b at).glyph_id → reversed_at l at b ≡ b
+at-uncovered l at b gsub out = if_same (is_on l (item_at b at)) _ b b
+    (map_or_none (reversed_by l at b) b _
+    (first_some_none (reversal_in l b.items at) (λ i. reversal-uncovered l b.items at i gsub out) (subtable_count_of l.table.now l.place) 0)) refl
+
+abbrev back : Buffer → ℕ → Backwards
+back b at = record { buffer = b; at = at }
+
+-- the place is inside the list all along
+back-uncovered : (l : Lookup) (b : Buffer) → l.positioning ≡ false → CoversNone l b.items → (n m : ℕ) → m < length b.items + 1
+    → times (reverse_step l) n (back b m) ≡ back b (m - n)
+back-uncovered l b gsub none zero m within = ap (back b) (omega arith)
+back-uncovered l b gsub none (suc n) m within =
+    ap (reverse_step l) (back-uncovered l b gsub none n m within) ∙ one (nat_eq (m - n) 0) refl
+  where
+    one : (t : Bool) → nat_eq (m - n) 0 ≡ t
+        → (if t then back b (m - n) else back (reversed_at l (m - n - 1) b) (m - n - 1)) ≡ back b (m - suc n)
+    one true e =
+        let zero_left : m - n ≡ m - suc n = grind (arith, nat_tests, e) in
+        ap (back b) zero_left
+    one false e =
+        let inside : m - n - 1 < length b.items = grind (arith, nat_tests, e, within) in
+        let place : m - n - 1 ≡ m - suc n = omega arith in
+        ap (λ (c : Buffer). back c (m - n - 1)) (at-uncovered l (m - n - 1) b gsub (none (m - n - 1) inside)) ∙ ap (back b) place
+
+pub looked-uncovered : (levels : ℕ) (l : Lookup) (s : Walk) → l.positioning ≡ false → CoversNone l s.buffer.items
+    → (looked_up levels l s).buffer ≡ s.buffer
+looked-uncovered levels l s gsub none =
+    walk_same (is_reverse l) s.buffer (record s { buffer = reversed l s.buffer }) (walked (nested_applied levels l) l s)
+    (ap (λ (w : Backwards). w.buffer) (back-uncovered l s.buffer gsub none (length s.buffer.items) (length s.buffer.items) (omega arith)))
+    (walk-uncovered levels l (first_walk s) gsub none (length s.buffer.items))

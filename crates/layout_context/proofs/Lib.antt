@@ -1,0 +1,4 @@
+pub mod NestedLemmas
+pub mod ReverseLemmas
+pub mod StageLemmas
+pub mod CoveredLemmas

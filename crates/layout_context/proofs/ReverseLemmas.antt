@@ -1,0 +1,77 @@
+-- Lookups that go backwards: as many items as before, and what they preserve.
+use Prim.Native.Nat.{zero}
+use Rattle.std.proofs.Common.{◌≡◌, ℕ, suc, ◌+◌, ◌-◌, Bool, true, false, Option, Some, None, ◌&&◌, length, nat_le, nat_eq, refl, sym, ap, ◌∙◌, if◌then◌else◌}
+use Rattle.std.specs.Option.{option_map_or}
+use Rattle.shape_items.specs.Buffer.{Buffer}
+use Rattle.shape_items.specs.BufferClusters.{unsafe_to_break}
+use Rattle.shape_items.proofs.Merging.KeyLemmas.{length-unsafe_to_break}
+use Rattle.layout_matching.specs.Loops.{times}
+use Rattle.layout_matching.specs.Skipping.{is_on}
+use Rattle.layout_matching.specs.declared.lookup.Lookup.{Lookup}
+use Rattle.layout_substitution.specs.Edits.{item_at, put_at, broken}
+use Rattle.layout_substitution.specs.Replaced.{replaced}
+use Rattle.layout_substitution.proofs.AppliedLemmas.{like-replaced}
+use Rattle.layout_substitution.proofs.CopyLemmas.{length-put_at}
+use Rattle.layout_substitution.proofs.PreservedLemmas.{Preserves, Preserves-same, Preserves-then, Preserves-times, Preserves-if, Preserves-put, Preserves-broken}
+use Rattle.layout_context.specs.Reverse.{Backwards, reversal_found, reversed_by, reversed_at, reverse_step, reversed}
+use Rattle.layout_context.specs.declared.reverse.Reversal.{Reversal}
+
+pub buffer_of : (b : Buffer) (at : ℕ) (s : Backwards) → record { buffer = b; at = at } ≡ s → b ≡ s.buffer
+buffer_of b at s e = ap (λ (w : Backwards). w.buffer) e
+
+length-if : (t : Bool) (n : ℕ) (x y : Buffer) → length x.items ≡ n → length y.items ≡ n → length (if t then x else y).items ≡ n
+length-if true n x y k m = k
+length-if false n x y k m = m
+
+length-broken : (start end : ℕ) (b : Buffer) → length (broken start end b).items ≡ length b.items
+length-broken start end b =
+    length-if (nat_le start end && nat_le end (length b.items)) (length b.items) (unsafe_to_break start end b) b (length-unsafe_to_break start end b) refl
+
+pub length_reversed_by : (l : Lookup) (at : ℕ) (b : Buffer) (r : Reversal) → length (reversed_by l at b r).items ≡ length b.items
+length_reversed_by l at b r = let c = broken r.start r.end b in
+    length-put_at at (replaced l 0 r.glyph (item_at c at)) c ∙ length-broken r.start r.end b
+
+pub length_reversed_at : (l : Lookup) (at : ℕ) (b : Buffer) → length (reversed_at l at b).items ≡ length b.items
+length_reversed_at l at b =
+    length-if (is_on l (item_at b at)) (length b.items) (option_map_or (reversed_by l at b) (reversal_found l b.items at) b) b
+    (by_found (reversal_found l b.items at)) refl
+  where
+    by_found : (o : Option Reversal) → length (option_map_or (reversed_by l at b) o b).items ≡ length b.items
+    by_found None = refl
+    by_found (Some r) = length_reversed_by l at b r
+
+length-step : (l : Lookup) (s : Backwards) → length (reverse_step l s).buffer.items ≡ length s.buffer.items
+length-step l s = elim (nat_eq s.at 0) as (λ t.
+    length (if t then s else record { buffer = reversed_at l (s.at - 1) s.buffer; at = s.at - 1 }).buffer.items ≡ length s.buffer.items) [
+      | true ↦ refl
+      | false ↦ length_reversed_at l (s.at - 1) s.buffer
+    ]
+
+pub length-reversed : (l : Lookup) (b : Buffer) → length (reversed l b).items ≡ length b.items
+length-reversed l b = walk (length b.items)
+  where
+    walk : (n : ℕ) → length (times (reverse_step l) n (record { buffer = b; at = length b.items })).buffer.items ≡ length b.items
+    walk zero = refl
+    walk (suc n) = length-step l (times (reverse_step l) n (record { buffer = b; at = length b.items })) ∙ walk n
+
+at-preserves : (l : Lookup) (at : ℕ) (b : Buffer) → Preserves b (reversed_at l at b)
+at-preserves l at b =
+    Preserves-if (is_on l (item_at b at)) b (option_map_or (reversed_by l at b) (reversal_found l b.items at) b) b
+    (by_found (reversal_found l b.items at)) (Preserves-same b)
+  where
+    by_found : (o : Option Reversal) → Preserves b (option_map_or (reversed_by l at b) o b)
+    by_found None = Preserves-same b
+    by_found (Some r) = let c = broken r.start r.end b in
+        Preserves-then b c (reversed_by l at b r) (Preserves-broken r.start r.end b)
+        (Preserves-put at (replaced l 0 r.glyph (item_at c at)) c (like-replaced l 0 r.glyph (item_at c at)))
+
+step-preserves : (l : Lookup) (s : Backwards) → Preserves s.buffer (reverse_step l s).buffer
+step-preserves l s = elim (nat_eq s.at 0) as (λ t.
+    Preserves s.buffer (if t then s else record { buffer = reversed_at l (s.at - 1) s.buffer; at = s.at - 1 }).buffer) [
+      | true ↦ Preserves-same s.buffer
+      | false ↦ at-preserves l (s.at - 1) s.buffer
+    ]
+
+pub reversed-preserves : (l : Lookup) (b : Buffer) → Preserves b (reversed l b)
+reversed-preserves l b = Preserves-times (λ (s : Backwards). s.buffer) (reverse_step l) (step-preserves l) (length b.items)
+    (record { buffer = b; at = length b.items })

@@ -1,0 +1,6 @@
+pub mod Nested
+pub mod Reverse
+pub mod Stages
+pub mod Covered
+pub mod WorkedPlaces
+pub mod WorkedLookups

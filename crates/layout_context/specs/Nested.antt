@@ -1,0 +1,135 @@
+-- Lookups that apply others, by the levels that are left (kinds 5 and 6).
+use Prim.Native.Nat.{zero}
+use Rattle.std.specs.Prelude.{ℕ, suc, Bool, true, false, List, Option, Some, None, ◌+◌, ◌-◌, ◌&&◌, not, map, max, length, remove, insert, nat_eq, nat_lt, if◌then◌else◌}
+use Rattle.std.specs.Option.{option_map_or, unwrap_or}
+use Rattle.shape_items.specs.Buffer.{Buffer}
+use Rattle.layout_matching.specs.Found.{is_context, found_of}
+use Rattle.layout_matching.specs.Loops.{times}
+use Rattle.layout_matching.specs.Nesting.{target_of, places_of}
+use Rattle.layout_matching.specs.declared.found.Found.{Found}
+use Rattle.layout_matching.specs.declared.lookup.Lookup.{Lookup}
+use Rattle.layout_matching.specs.declared.nesting.Target.{Target}
+use Rattle.layout_matching.specs.declared.rules.Rule.{Rule}
+use Rattle.layout_matching.specs.declared.spans.Origin.{Origin}
+use Rattle.layout_substitution.specs.Applied.{Applied, unapplied}
+use Rattle.layout_substitution.specs.Edits.{is_inside, is_past, broken}
+use Rattle.layout_substitution.specs.Kinds.{lookup_applied}
+use Rattle.layout_substitution.specs.declared.apply.Spot.{Spot}
+use Rattle.layout_context.specs.declared.nested.LookupRule.{LookupRule}
+use Rattle.layout_context.specs.declared.nested.Progress.{Progress}
+
+-- ---- the places of the matched glyphs after a lookup that was applied to glyph number `index` of them, at `place`
+
+-- the places after it have as many items after them as before
+abbrev pub shifted : ℕ → ℕ → ℕ → ℕ → ℕ
+shifted place before after j = if nat_lt place j then after - (before - j) else j
+
+-- if items went, so many of the glyphs after it went
+abbrev pub one_dropped : ℕ → List ℕ → List ℕ
+one_dropped index places = if nat_lt (index + 1) (length places) then remove places (index + 1) else places
+
+-- if items came, they stand right after it: the last one is put in first
+pub record Growing : Type 0 where
+  pub places : List ℕ
+  pub next : ℕ
+
+abbrev pub one_grown : ℕ → Growing → Growing
+one_grown index s = record {
+  places = if nat_lt index (length s.places) then insert s.places (index + 1) s.next else s.places;
+  next = s.next - 1;
+}
+
+abbrev pub grown : ℕ → ℕ → ℕ → List ℕ → List ℕ
+grown place index n places = (times (one_grown index) n (record { places = places; next = place + n })).places
+
+abbrev pub renumbered : ℕ → ℕ → ℕ → ℕ → List ℕ → List ℕ
+renumbered place index before after places =
+    grown place index (after - before) (map (shifted place before after) (times (one_dropped index) (before - after) places))
+
+-- where the rule goes on: with as many items after it as before, and never before the glyph that the lookup was applied to
+abbrev pub moved_end : ℕ → ℕ → ℕ → ℕ → ℕ
+moved_end place before after end = max (after - (before - end)) place
+
+-- a rule whose glyphs become more than 64 goes no further
+abbrev pub is_too_long : ℕ → ℕ → List ℕ → Bool
+is_too_long before after places = nat_lt before after && nat_lt (64 - (after - before)) (length places)
+
+-- ---- records
+
+pub record Nest : Type 0 where
+  pub buffer : Buffer
+  pub places : List ℕ
+  pub progress : Progress
+
+abbrev pub passed_record : Progress → Progress
+passed_record p = record p { r = p.r + 1 }
+
+abbrev pub stopped_record : Progress → Progress
+stopped_record p = record p { stopped = true; r = p.r + 1 }
+
+-- after a lookup that was applied at a glyph, or wasn't
+abbrev pub settled : Target → ℕ → ℕ → List ℕ → Spot → Progress → Progress
+settled t before after places spot p = record p {
+  spot = spot;
+  end = moved_end t.place before after p.end;
+  stopped = is_too_long before after places;
+  r = p.r + 1;
+}
+
+abbrev pub nest_after : Nest → Target → Spot → Applied → Nest
+nest_after s t spot made = let before = length s.buffer.items in let after = length made.buffer.items in record {
+  buffer = made.buffer;
+  places = if is_too_long before after s.places then s.places else renumbered t.place t.index before after s.places;
+  progress = settled t before after s.places (unwrap_or made.next spot) s.progress;
+}
+
+-- a nested lookup counts, whether it is applied or not
+abbrev pub nested_spot : Spot → ℕ → Spot
+nested_spot spot place = record spot { at = place; left = spot.left - 1 }
+
+abbrev pub target_applied : (Lookup → Spot → Buffer → Applied) → Nest → Target → Nest
+target_applied next s t = let spot = nested_spot s.progress.spot t.place in
+    if not (is_inside t.place s.buffer) then record s { progress = passed_record s.progress }
+    else (if nat_eq s.progress.spot.left 0 then record s { progress = stopped_record s.progress }
+    else nest_after s t spot (next t.lookup spot s.buffer))
+
+abbrev pub target_done : (Lookup → Spot → Buffer → Applied) → Nest → Option Target → Nest
+target_done next s None = record s { progress = passed_record s.progress }
+target_done next s (Some t) = target_applied next s t
+
+abbrev pub record_step : (Lookup → Spot → Buffer → Applied) → LookupRule → Nest → Nest
+record_step next named s = if s.progress.stopped then record s { progress = passed_record s.progress }
+    else target_done next s (target_of named.lookup named.rule s.places s.progress.r)
+
+abbrev pub first_nest : Lookup → Spot → Buffer → Found → Nest
+first_nest l spot b found = record {
+  buffer = broken found.span.start found.span.end b;
+  places = places_of l b.items spot.at found.rule;
+  progress = record { spot = spot; end = found.span.last + 1; stopped = false; r = 0 };
+}
+
+abbrev pub records_made : (Lookup → Spot → Buffer → Applied) → Lookup → Spot → Buffer → Found → Nest
+records_made next l spot b found =
+    times (record_step next (record { lookup = l; rule = found.rule })) found.rule.count (first_nest l spot b found)
+
+-- the lookups of a rule, one after the other
+abbrev pub rule_applied : (Lookup → Spot → Buffer → Applied) → Lookup → Spot → Buffer → Found → Applied
+rule_applied next l spot b found = let s = records_made next l spot b found in
+    record { buffer = s.buffer; next = Some (record s.progress.spot { at = s.progress.end }) }
+
+-- ---- levels
+
+abbrev pub origin_of : Spot → Buffer → Origin
+origin_of spot b = record { at = spot.at; is_steady = nat_eq (length b.items) spot.whole }
+
+abbrev pub level_applied : (Lookup → Spot → Buffer → Applied) → Lookup → Spot → Buffer → Applied
+level_applied next l spot b = if is_context l
+    then option_map_or (rule_applied next l spot b) (found_of l b.items (origin_of spot b)) (unapplied b)
+    else lookup_applied l spot b
+
+-- past the limit, and where no level is left, nothing is done
+abbrev pub nested_applied : ℕ → Lookup → Spot → Buffer → Applied
+nested_applied zero l spot b = unapplied b
+nested_applied (suc level) l spot b =
+    if is_past b then unapplied b
+    else (if is_inside spot.at b then level_applied (nested_applied level) l spot b else unapplied b)

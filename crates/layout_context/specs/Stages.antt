@@ -1,0 +1,73 @@
+-- Lookups over a buffer, nested ones included, and stages of lookups.
+use Rattle.std.specs.Prelude.{ℕ, List, [], ◌∷◌, Option, ◌+◌, ◌*◌, ◌<◌, ◌^◌, length, max, min, if◌then◌else◌}
+use Rattle.std.specs.Option.{unwrap_or}
+use Rattle.shape_items.specs.Buffer.{Buffer, most_countable}
+use Rattle.layout_matching.specs.Loops.{times}
+use Rattle.layout_matching.specs.Skipping.{is_on}
+use Rattle.layout_matching.specs.declared.lookup.Lookup.{Lookup}
+use Rattle.layout_substitution.specs.Applied.{Applied}
+use Rattle.layout_substitution.specs.Edits.{item_at, is_inside, is_past}
+use Rattle.layout_substitution.specs.declared.apply.Spot.{Spot}
+use Rattle.layout_context.specs.Nested.{nested_applied}
+use Rattle.layout_context.specs.Reverse.{is_reverse, reversed}
+
+-- a buffer, and where a lookup stands in it
+pub record Walk : Type 0 where
+  pub buffer : Buffer
+  pub spot : Spot
+
+-- to the next item
+abbrev pub next_spot : Spot → Spot
+next_spot spot = record spot { at = spot.at + 1 }
+
+abbrev pub passed : Walk → Walk
+passed s = record { buffer = s.buffer; spot = next_spot s.spot }
+
+abbrev pub gone_on : Walk → Applied → Walk
+gone_on s made = record { buffer = made.buffer; spot = unwrap_or made.next (next_spot s.spot) }
+
+-- at each place the lookup applies or goes on to the next item; past the limit of the run nothing is done any more
+abbrev pub lookup_step : (Spot → Buffer → Applied) → Lookup → Walk → Walk
+lookup_step applied l s =
+    if is_past s.buffer then s
+    else (if is_inside s.spot.at s.buffer then
+    (if is_on l (item_at s.buffer s.spot.at) then gone_on s (applied s.spot s.buffer) else passed s)
+    else s)
+
+abbrev pub first_walk : Walk → Walk
+first_walk s = record { buffer = s.buffer; spot = record s.spot { at = 0; whole = length s.buffer.items } }
+
+-- from the first item on; each step leaves fewer items ahead
+abbrev pub walked : (Spot → Buffer → Applied) → Lookup → Walk → Walk
+walked applied l s = times (lookup_step applied l) (length s.buffer.items) (first_walk s)
+
+abbrev pub looked_up : ℕ → Lookup → Walk → Walk
+looked_up levels l s = if is_reverse l then record s { buffer = reversed l s.buffer } else walked (nested_applied levels l) l s
+
+-- lookups one after the other
+abbrev pub all_looked_up : ℕ → List Lookup → Walk → Walk
+all_looked_up levels [] s = s
+all_looked_up levels (l ∷ ls) s = all_looked_up levels ls (looked_up levels l s)
+
+-- so many nested lookups for each item may be applied in a stage, and so many, however few items there are
+abbrev pub MAX_OPS_FACTOR : ℕ
+MAX_OPS_FACTOR = 1024
+
+abbrev pub MAX_OPS_MIN : ℕ
+MAX_OPS_MIN = 16384
+
+abbrev pub most_nested : ℕ → ℕ
+most_nested n = max (min (n * MAX_OPS_FACTOR) most_countable) MAX_OPS_MIN
+
+-- a stage counts ligatures from 1 on
+abbrev pub stage_made : ℕ → List Lookup → Buffer → Buffer
+stage_made levels ls b = (all_looked_up levels ls
+    (record { buffer = b; spot = record { at = 0; serial = 0; left = most_nested (length b.items); whole = 0 } })).buffer
+
+-- a lookup over the text names others, and these others again, 64 levels deep
+unfoldable pub substituted : List Lookup → Buffer → Buffer
+substituted ls = stage_made 65 ls
+
+-- a lookup of a list stands near the start of its table
+abbrev pub HasPlace : Lookup → Type 0
+HasPlace l = l.place < 2 ^ 17

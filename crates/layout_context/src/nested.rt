@@ -1,0 +1,415 @@
+//! Lookups that apply others where a rule matches (kinds 5 and 6).
+//!
+//! Each nested lookup may change how many items there are: then the places of the glyphs that the rule matched, and where it goes
+//! on, move along. A rule goes no further when it would hold more than 64 glyphs, when no more nested lookups may be
+//! applied, or when the list passes the limit of the run.
+ghost use Rattle.std.specs.Prelude.{◌≡◌, ◌<◌, ◌≤◌, ◌-◌, ◌^◌, ◌+◌, length, true, false, map, OnOk, IfOk, IsErrOf, IsOkUnless};
+ghost use Rattle.std.specs.Option.{unwrap_or};
+ghost use Rattle.shape_buffer.specs.Outcome.{IsWithinLimit};
+ghost use Rattle.shape_buffer.specs.declared.buffer.error.ShapeError.TheVariants.{Length};
+ghost use Rattle.layout_matching.specs.Loops.{times};
+ghost use Rattle.layout_substitution.specs.Edits.{is_past};
+ghost use Rattle.layout_context.specs.Nested.{shifted as shifted_of, one_dropped, Growing, one_grown, grown, renumbered, moved_end as moved_end_of, is_too_long as is_too_long_of, Nest, passed_record as passed_record_of, stopped_record as stopped_record_of, settled, nest_after, nested_spot as nested_spot_of, target_applied, record_step, first_nest, rule_applied, origin_of, level_applied, nested_applied};
+
+use layout_matching::found::{Found, find, is_context};
+use layout_matching::lookup::Lookup;
+use layout_matching::nesting::{Target, places, target_at};
+use layout_matching::rules::Rule;
+use layout_matching::spans::Origin;
+use layout_substitution::apply::Spot;
+use layout_substitution::edits::{break_span, next_place};
+use layout_substitution::kinds::apply_lookup;
+use shape_buffer::{ShapeError, hb_buffer_t};
+use std::alloc::Global;
+
+/// A rule of a lookup.
+#[derive(Clone, Copy)]
+pub struct LookupRule<'a> {
+    pub lookup: Lookup<'a>,
+    pub rule: Rule,
+}
+
+/// How far the records of a rule are applied: what the lookup counts, where the rule goes on, whether it goes no further, and
+/// the next record.
+#[derive(Clone, Copy, PartialEq, Eq, Debug)]
+pub struct Progress {
+    pub spot: Spot,
+    pub end: usize,
+    pub stopped: bool,
+    pub r: u32,
+}
+
+fn shift_one(place: usize, before: usize, after: usize, j: usize) -> usize
+    ensures { result ≡ shifted_of place before after j }
+{
+    if place < j {
+        after.saturating_sub(before.saturating_sub(j))
+    } else {
+        j
+    }
+}
+
+fn shift_in_place(j: &mut usize, place: usize, before: usize, after: usize)
+    ensures { j.new ≡ shifted_of place before after j.old }
+{
+    *j = shift_one(place, before, after, *j);
+}
+
+fn shift_all(places: &mut [usize], place: usize, before: usize, after: usize)
+    ensures { places.new ≡ map (shifted_of place before after) places.old }
+{
+    for j in places.iter_mut() {
+        shift_in_place(j, place, before, after);
+    }
+}
+
+fn drop_one(places: &mut Vec<usize>, index: usize)
+    requires { index < 2 ^ 16 }
+    ensures { places.new.items ≡ one_dropped index places.old.items }
+{
+    if index + 1 < places.len() {
+        places.remove(index + 1);
+    }
+}
+
+#[tactic(auto, using(layout_matching::proofs::LoopLemmas::times_step))]
+fn drop_some(places: &mut Vec<usize>, index: usize, n: usize)
+    requires { index < 2 ^ 16 }
+    ensures { places.new.items ≡ times (one_dropped index) n places.old.items }
+{
+    for _i in 0..n {
+        drop_one(places, index);
+    }
+}
+
+fn grow_one(places: &mut Vec<usize>, index: usize, next: usize) -> Result<usize, ShapeError>
+    requires { index < 2 ^ 16 }
+    ensures ok { IfOk result (λ left. record { places = places.new.items; next = left }
+        ≡ one_grown index (record { places = places.old.items; next = next })) }
+    ensures memory { IsOkUnless result ShapeError.Memory }
+{
+    if index < places.len() {
+        places.insert(index + 1, next)?;
+    }
+    Ok(next.saturating_sub(1))
+}
+
+#[tactic(auto, using(layout_matching::proofs::LoopLemmas::times_step, crate::proofs::NestedLemmas::places_grown))]
+fn grow_some(
+    places: &mut Vec<usize>,
+    index: usize,
+    n: usize,
+    next: usize,
+) -> Result<(), ShapeError>
+    requires { index < 2 ^ 16 }
+    ensures ok { OnOk result (places.new.items
+        ≡ (times (one_grown index) n (record { places = places.old.items; next = next })).places) }
+    ensures memory { IsOkUnless result ShapeError.Memory }
+{
+    let mut next = next;
+    for _i in 0..n {
+        next = grow_one(places, index, next)?;
+    }
+    Ok(())
+}
+
+/// The places of the matched glyphs after a lookup that changed how many items there are. Refuses with `Memory` alone.
+fn renumber(
+    places: &mut Vec<usize>,
+    place: usize,
+    index: usize,
+    before: usize,
+    after: usize,
+) -> Result<(), ShapeError>
+    requires index { index < 2 ^ 16 }
+    requires place { place < before }
+    ensures ok { OnOk result (places.new.items ≡ renumbered place index before after places.old.items) }
+    ensures memory { IsOkUnless result ShapeError.Memory }
+{
+    drop_some(places, index, before.saturating_sub(after));
+    shift_all(places.as_mut_slice(), place, before, after);
+    let more = after.saturating_sub(before);
+    grow_some(places, index, more, last_grown(place, before, after))
+}
+
+/// The place of the last item that came after `place`.
+fn last_grown(place: usize, before: usize, after: usize) -> usize
+    requires { place < before }
+    ensures { result ≡ place + (after - before) }
+{
+    if before < after {
+        after - (before - place)
+    } else {
+        place
+    }
+}
+
+fn moved_end(place: usize, before: usize, after: usize, end: usize) -> usize
+    ensures { result ≡ moved_end_of place before after end }
+{
+    after.saturating_sub(before.saturating_sub(end)).max(place)
+}
+
+fn is_too_long(before: usize, after: usize, places: &[usize]) -> bool
+    ensures { result ≡ is_too_long_of before after places.now }
+{
+    before < after && 64_usize.saturating_sub(after - before) < places.len()
+}
+
+fn passed_record(progress: Progress) -> Progress
+    requires { progress.r < 2 ^ 16 }
+    ensures { result ≡ passed_record_of progress }
+{
+    let mut next = progress;
+    next.r += 1;
+    next
+}
+
+fn stopped_record(progress: Progress) -> Progress
+    requires { progress.r < 2 ^ 16 }
+    ensures { result ≡ stopped_record_of progress }
+{
+    let mut next = progress;
+    next.stopped = true;
+    next.r += 1;
+    next
+}
+
+fn nested_spot(spot: Spot, place: usize) -> Spot
+    ensures { result ≡ nested_spot_of spot place }
+{
+    let mut next = spot;
+    next.at = place;
+    next.left = spot.left.saturating_sub(1);
+    next
+}
+
+/// After a lookup that was applied at a glyph, or wasn't. Refuses with `Memory` alone.
+fn settle(
+    there: &Target<'_>,
+    before: usize,
+    after: usize,
+    places: &mut Vec<usize>,
+    spot: Spot,
+    progress: Progress,
+) -> Result<Progress, ShapeError>
+    requires index { there.now.index < 2 ^ 16 }
+    requires place { there.now.place < before }
+    requires r { progress.r < 2 ^ 16 }
+    ensures progress { IfOk result (λ p. p ≡ settled there.now before after places.old.items spot progress) }
+    ensures short { is_too_long_of before after places.old.items ≡ false → OnOk result
+        (places.new.items ≡ renumbered there.now.place there.now.index before after places.old.items) }
+    ensures long { is_too_long_of before after places.old.items ≡ true → places.new.items ≡ places.old.items }
+    ensures memory { IsOkUnless result ShapeError.Memory }
+{
+    let mut next = passed_record(progress);
+    next.spot = spot;
+    next.end = moved_end(there.place, before, after, progress.end);
+    next.stopped = is_too_long(before, after, places.as_slice());
+    if !next.stopped {
+        renumber(places, there.place, there.index, before, after)?;
+    }
+    Ok(next)
+}
+
+/// Applies the lookup that a record names.
+#[cycle(nesting)]
+fn apply_target(
+    alloc: Global,
+    level: u32,
+    there: &Target<'_>,
+    buffer: &mut hb_buffer_t,
+    places: &mut Vec<usize>,
+    progress: Progress,
+) -> Result<Progress, ShapeError>
+    requires near { there.now.lookup.place < 2 ^ 17 }
+    requires index { there.now.index < 2 ^ 16 }
+    requires r { progress.r < 2 ^ 16 }
+    ensures ok { IfOk result (λ p. record { buffer = buffer.new; places = places.new.items; progress = p }
+        ≡ target_applied (nested_applied level)
+        (record { buffer = buffer.old; places = places.old.items; progress = progress }) there.now) }
+    ensures r { IfOk result (λ p. p.r ≡ progress.r + 1) }
+    ensures length { IsErrOf result Length → is_past (target_applied (nested_applied level)
+        (record { buffer = buffer.old; places = places.old.items; progress = progress }) there.now).buffer ≡ true }
+{
+    let before = buffer.len();
+    if before <= there.place {
+        return Ok(passed_record(progress));
+    }
+    if progress.spot.left == 0 {
+        return Ok(stopped_record(progress));
+    }
+    let spot = nested_spot(progress.spot, there.place);
+    match apply_nested(alloc, level, &there.lookup, buffer, spot) {
+        Err(error) => Err(error),
+        Ok(next) => {
+            let after = buffer.len();
+            settle(there, before, after, places, next.unwrap_or(spot), progress)
+        }
+    }
+}
+
+/// Applies what the next record of a rule names.
+#[cycle(nesting)]
+fn apply_record(
+    alloc: Global,
+    level: u32,
+    named: &LookupRule<'_>,
+    buffer: &mut hb_buffer_t,
+    places: &mut Vec<usize>,
+    progress: Progress,
+) -> Result<Progress, ShapeError>
+    requires near { named.now.lookup.place < 2 ^ 17 }
+    requires r { progress.r < 2 ^ 16 }
+    ensures ok { IfOk result (λ p. record { buffer = buffer.new; places = places.new.items; progress = p }
+        ≡ record_step (nested_applied level) named.now
+        (record { buffer = buffer.old; places = places.old.items; progress = progress })) }
+    ensures r { IfOk result (λ p. p.r ≡ progress.r + 1) }
+    ensures length { IsErrOf result Length → is_past (record_step (nested_applied level) named.now
+        (record { buffer = buffer.old; places = places.old.items; progress = progress })).buffer ≡ true }
+{
+    if progress.stopped {
+        return Ok(passed_record(progress));
+    }
+    match target_at(&named.lookup, &named.rule, places.as_slice(), progress.r) {
+        Some(there) => apply_target(alloc, level, &there, buffer, places, progress),
+        None => Ok(passed_record(progress)),
+    }
+}
+
+/// Applies what the records of a rule name, one after the other.
+#[cycle(nesting)]
+#[tactic(auto, using(layout_matching::proofs::LoopLemmas::times_step, crate::proofs::NestedLemmas::past_records))]
+fn apply_records(
+    alloc: Global,
+    level: u32,
+    named: &LookupRule<'_>,
+    buffer: &mut hb_buffer_t,
+    places: &mut Vec<usize>,
+    progress: Progress,
+) -> Result<Progress, ShapeError>
+    requires near { named.now.lookup.place < 2 ^ 17 }
+    requires r { progress.r ≡ 0 }
+    ensures ok { IfOk result (λ p. record { buffer = buffer.new; places = places.new.items; progress = p }
+        ≡ times (record_step (nested_applied level) named.now) named.now.rule.count
+        (record { buffer = buffer.old; places = places.old.items; progress = progress })) }
+    ensures length { IsErrOf result Length → is_past (times (record_step (nested_applied level) named.now)
+        named.now.rule.count (record { buffer = buffer.old; places = places.old.items; progress = progress })).buffer ≡ true }
+{
+    let mut progress = progress;
+    for _i in 0..named.rule.count {
+        match apply_record(alloc, level, named, buffer, places, progress) {
+            Err(error) => return Err(error),
+            Ok(next) => progress = next,
+        }
+    }
+    Ok(progress)
+}
+
+/// Applies a rule that matches.
+#[cycle(nesting)]
+fn apply_rule(
+    alloc: Global,
+    level: u32,
+    lookup: &Lookup<'_>,
+    buffer: &mut hb_buffer_t,
+    spot: Spot,
+    found: Found,
+) -> Result<Option<Spot>, ShapeError>
+    requires near { lookup.now.place < 2 ^ 17 }
+    requires inside { spot.at < length buffer.old.items }
+    requires last { found.span.last < length buffer.old.items }
+    ensures made { OnOk result (buffer.new
+        ≡ (rule_applied (nested_applied level) lookup.now spot buffer.old found).buffer) }
+    ensures next { IfOk result (λ next. next
+        ≡ (rule_applied (nested_applied level) lookup.now spot buffer.old found).next) }
+    ensures length { IsErrOf result Length
+        → is_past (rule_applied (nested_applied level) lookup.now spot buffer.old found).buffer ≡ true }
+{
+    let named = LookupRule {
+        lookup: *lookup,
+        rule: found.rule,
+    };
+    let first = Progress {
+        spot,
+        end: next_place(buffer.len(), found.span.last),
+        stopped: false,
+        r: 0,
+    };
+    let mut all = places(alloc, lookup, buffer.infos(), spot.at, &found.rule)?;
+    break_span(buffer, found.span.start, found.span.end);
+    match apply_records(alloc, level, &named, buffer, &mut all, first) {
+        Err(error) => Err(error),
+        Ok(last) => Ok(Some(at_end(last))),
+    }
+}
+
+/// Where a lookup goes on after a rule.
+fn at_end(progress: Progress) -> Spot
+    ensures { result ≡ record progress.spot { at = progress.end } }
+{
+    let mut next = progress.spot;
+    next.at = progress.end;
+    next
+}
+
+/// Where a match begins.
+fn origin(spot: Spot, buffer: &hb_buffer_t) -> Origin
+    ensures { result ≡ origin_of spot buffer.now }
+{
+    Origin {
+        at: spot.at,
+        is_steady: buffer.len() == spot.whole,
+    }
+}
+
+/// Applies a lookup at a place, with so many levels of others that it may name. Returns where it goes on, if it was applied.
+/// Refuses with `Length` if the list passes the limit of the run.
+#[cycle(nesting)]
+#[tactic(auto, using(crate::proofs::NestedLemmas::nested_none, crate::proofs::NestedLemmas::nested_past, crate::proofs::NestedLemmas::nested_outside, crate::proofs::NestedLemmas::nested_level))]
+pub fn apply_nested(
+    alloc: Global,
+    level: u32,
+    lookup: &Lookup<'_>,
+    buffer: &mut hb_buffer_t,
+    spot: Spot,
+) -> Result<Option<Spot>, ShapeError>
+    requires near { lookup.now.place < 2 ^ 17 }
+    ensures made { OnOk result (buffer.new ≡ (nested_applied level lookup.now spot buffer.old).buffer) }
+    ensures next { IfOk result (λ next. next ≡ (nested_applied level lookup.now spot buffer.old).next) }
+    ensures length { IsErrOf result Length
+        → is_past (nested_applied level lookup.now spot buffer.old).buffer ≡ true }
+{
+    if level == 0 || buffer.length_limit() < buffer.len() || buffer.len() <= spot.at {
+        return Ok(None);
+    }
+    apply_level(alloc, level - 1, lookup, buffer, spot)
+}
+
+/// The same, where a level is left and the place is inside.
+#[cycle(nesting)]
+fn apply_level(
+    alloc: Global,
+    level: u32,
+    lookup: &Lookup<'_>,
+    buffer: &mut hb_buffer_t,
+    spot: Spot,
+) -> Result<Option<Spot>, ShapeError>
+    requires near { lookup.now.place < 2 ^ 17 }
+    requires inside { spot.at < length buffer.old.items }
+    requires within { IsWithinLimit buffer.old }
+    ensures made { OnOk result (buffer.new
+        ≡ (level_applied (nested_applied level) lookup.now spot buffer.old).buffer) }
+    ensures next { IfOk result (λ next. next
+        ≡ (level_applied (nested_applied level) lookup.now spot buffer.old).next) }
+    ensures length { IsErrOf result Length
+        → is_past (level_applied (nested_applied level) lookup.now spot buffer.old).buffer ≡ true }
+{
+    if !is_context(lookup) {
+        return apply_lookup(lookup, buffer, spot);
+    }
+    match find(lookup, buffer.infos(), origin(spot, buffer)) {
+        Some(found) => apply_rule(alloc, level, lookup, buffer, spot, found),
+        None => Ok(None),
+    }
+}

@@ -1,0 +1,209 @@
+//! Reverse chained single substitution (kind 8): from the last item to the first, one glyph for one.
+//!
+//! No memory is taken, and no item comes or goes. Such a lookup is applied to a whole buffer alone: no rule applies it.
+ghost use Rattle.std.specs.Prelude.{◌≡◌, ◌<◌, ◌≤◌, ◌-◌, ◌+◌, ◌^◌, length};
+ghost use Rattle.layout_matching.specs.Loops.{times};
+ghost use Rattle.layout_context.specs.Reverse.{reverse_rule as reverse_rule_of, reversal_at as reversal_at_of, reversal_of, reversal_by as reversal_by_of, reversal_in as reversal_in_of, reversal_found, reversed_by, reversed_at, Backwards, reverse_step, reversed, is_reverse as is_reverse_of};
+
+use layout_matching::found::{extension_kind, number_in};
+use layout_matching::lookup::Lookup;
+use layout_matching::rules::{Row, Rule, Test};
+use layout_matching::skipping::{is_on, item_at};
+use layout_matching::spans::{Origin, Span, span_at};
+use layout_substitution::edits::{break_span, item, put};
+use layout_substitution::replaced::replaced;
+use layout_substitution::substitutes::{count, listed};
+use layout_tables::lookups::{LookupSubtable, subtable, subtable_count};
+use shape_buffer::{hb_buffer_t, hb_glyph_info_t};
+use shape_font::bytes::u16_at;
+
+/// The glyph that replaces one, and the span that was looked at, from `start` up to `end`.
+#[derive(Clone, Copy, PartialEq, Eq, Debug)]
+pub struct Reversal {
+    pub glyph: u32,
+    pub start: usize,
+    pub end: usize,
+}
+
+fn lists(start: usize, count: u16, values: usize) -> Row
+    ensures { result ≡ record { test = Test.Coverage; from = start; count = count; values = values } }
+{
+    Row {
+        test: Test::Coverage,
+        from: start,
+        count,
+        values,
+    }
+}
+
+/// What stands before and after the glyph; `lookups` is where the glyphs are listed that replace it.
+fn reverse_rule(table: &[u8], start: usize) -> Rule
+    requires { start < 2 ^ 35 }
+    ensures value { result ≡ reverse_rule_of table.now start }
+    ensures near { result.lookups < 2 ^ 36 }
+{
+    let before = lists(start, u16_at(table, start + 4), start + 6);
+    let middle = start + 6 + 2 * usize::from(before.count);
+    let after = lists(start, u16_at(table, middle), middle + 2);
+    Rule {
+        before,
+        input: lists(start, 1, middle),
+        after,
+        lookups: middle + 2 + 2 * usize::from(after.count),
+        count: 0,
+    }
+}
+
+fn reversal_at(table: &[u8], rule: &Rule, i: u32, span: Span) -> Option<Reversal>
+    requires { rule.now.lookups < 2 ^ 36 }
+    ensures { result ≡ reversal_at_of table.now rule.now i span }
+{
+    if i < count(table, rule.lookups) {
+        Some(Reversal {
+            glyph: u32::from(listed(table, rule.lookups, i)),
+            start: span.start,
+            end: span.end,
+        })
+    } else {
+        None
+    }
+}
+
+/// What replaces the glyph at `at`, which has number `i` in the list of the part at `start`.
+fn reversal_by_number(
+    lookup: &Lookup<'_>,
+    items: &[hb_glyph_info_t],
+    at: usize,
+    start: usize,
+    i: u32,
+) -> Option<Reversal>
+    requires near { start < 2 ^ 35 }
+    requires inside { at < length items.now }
+    ensures { result ≡ reversal_of lookup.now items.now at start i }
+{
+    let rule = reverse_rule(lookup.table, start);
+    let origin = Origin {
+        at,
+        is_steady: true,
+    };
+    match span_at(lookup, items, origin, &rule) {
+        Some(span) => reversal_at(lookup.table, &rule, i, span),
+        None => None,
+    }
+}
+
+fn reversal_by(
+    lookup: &Lookup<'_>,
+    items: &[hb_glyph_info_t],
+    at: usize,
+    part: LookupSubtable,
+) -> Option<Reversal>
+    requires near { part.start < 2 ^ 35 }
+    requires inside { at < length items.now }
+    ensures { result ≡ reversal_by_of lookup.now items.now at part }
+{
+    if part.kind != 8 || u16_at(lookup.table, part.start) != 1 {
+        return None;
+    }
+    match number_in(lookup.table, part.start, item_at(items, at).glyph_id) {
+        Some(i) => reversal_by_number(lookup, items, at, part.start, i),
+        None => None,
+    }
+}
+
+fn reversal_in(
+    lookup: &Lookup<'_>,
+    items: &[hb_glyph_info_t],
+    at: usize,
+    i: u32,
+) -> Option<Reversal>
+    requires near { lookup.now.place < 2 ^ 17 }
+    requires few { i < 2 ^ 16 }
+    requires inside { at < length items.now }
+    ensures { result ≡ reversal_in_of lookup.now items.now at i }
+{
+    match subtable(lookup.table, extension_kind(lookup), lookup.place, i) {
+        Some(part) => reversal_by(lookup, items, at, part),
+        None => None,
+    }
+}
+
+/// What the first part that replaces the glyph at `at` puts there.
+#[tactic(auto, using(layout_matching::proofs::LoopLemmas::first_some_next, layout_matching::proofs::LoopLemmas::first_some_found, layout_matching::proofs::LoopLemmas::first_some_end))]
+fn find_reversal(lookup: &Lookup<'_>, items: &[hb_glyph_info_t], at: usize) -> Option<Reversal>
+    requires near { lookup.now.place < 2 ^ 17 }
+    requires inside { at < length items.now }
+    ensures { result ≡ reversal_found lookup.now items.now at }
+{
+    for i in 0..subtable_count(lookup.table, lookup.place) {
+        if let Some(found) = reversal_in(lookup, items, at, i) {
+            return Some(found);
+        }
+    }
+    None
+}
+
+/// Marks the span that was looked at, and puts the glyph there.
+#[tactic(auto, using(crate::proofs::ReverseLemmas::length_reversed_by))]
+fn put_reversal(lookup: &Lookup<'_>, buffer: &mut hb_buffer_t, at: usize, found: Reversal)
+    ensures made { buffer.new ≡ reversed_by lookup.now at buffer.old found }
+    ensures as_many { length buffer.new.items ≡ length buffer.old.items }
+{
+    break_span(buffer, found.start, found.end);
+    let there = item(buffer, at);
+    put(buffer, at, replaced(lookup, 0, found.glyph, there));
+}
+
+/// Replaces the glyph at `at` if the lookup is on there and a part of it matches.
+#[tactic(auto, using(crate::proofs::ReverseLemmas::length_reversed_at))]
+fn reverse_at(lookup: &Lookup<'_>, buffer: &mut hb_buffer_t, at: usize)
+    requires near { lookup.now.place < 2 ^ 17 }
+    requires inside { at < length buffer.old.items }
+    ensures made { buffer.new ≡ reversed_at lookup.now at buffer.old }
+    ensures as_many { length buffer.new.items ≡ length buffer.old.items }
+{
+    if !is_on(lookup, &item(buffer, at)) {
+        return;
+    }
+    if let Some(found) = find_reversal(lookup, buffer.infos(), at) {
+        put_reversal(lookup, buffer, at, found);
+    }
+}
+
+/// Goes over a buffer from its last item to its first.
+#[tactic(auto, using(layout_matching::proofs::LoopLemmas::times_step, crate::proofs::ReverseLemmas::buffer_of))]
+pub fn reverse(lookup: &Lookup<'_>, buffer: &mut hb_buffer_t)
+    requires near { lookup.now.place < 2 ^ 17 }
+    ensures { buffer.new ≡ reversed lookup.now buffer.old }
+{
+    let mut at = buffer.len();
+    for _i in 0..buffer.len() {
+        at = reverse_one(lookup, buffer, at);
+    }
+}
+
+/// Replaces the glyph before `at`, if there is one. Returns its place.
+fn reverse_one(lookup: &Lookup<'_>, buffer: &mut hb_buffer_t, at: usize) -> usize
+    requires near { lookup.now.place < 2 ^ 17 }
+    requires inside { at ≤ length buffer.old.items }
+    ensures step { record { buffer = buffer.new; at = result }
+        ≡ reverse_step lookup.now (record { buffer = buffer.old; at = at }) }
+    ensures inside { result ≤ length buffer.new.items }
+{
+    if at == 0 {
+        return 0;
+    }
+    reverse_at(lookup, buffer, at - 1);
+    at - 1
+}
+
+/// Whether the lookup goes backwards, by its first part.
+pub fn is_reverse(lookup: &Lookup<'_>) -> bool
+    requires { lookup.now.place < 2 ^ 17 }
+    ensures { result ≡ is_reverse_of lookup.now }
+{
+    match subtable(lookup.table, extension_kind(lookup), lookup.place, 0) {
+        Some(part) => part.kind == 8,
+        None => false,
+    }
+}

@@ -1,0 +1,190 @@
+//! Lookups over a buffer, nested ones included, and stages of lookups.
+ghost use Rattle.std.specs.Prelude.{◌≡◌, ◌<◌, ◌^◌, length, true, IfOk, IsErrOf, OnOk, All};
+ghost use Rattle.shape_buffer.specs.Outcome.{IsWithinLimit, Outcome, step};
+ghost use Rattle.shape_buffer.specs.declared.buffer.error.ShapeError.TheVariants.{Length};
+ghost use Rattle.layout_substitution.specs.Edits.{is_past};
+ghost use Rattle.layout_context.specs.Nested.{nested_applied};
+ghost use Rattle.layout_context.specs.Stages.{next_spot as next_spot_of, lookup_step, walked, looked_up, all_looked_up, most_nested as most_nested_of, stage_made, substituted, HasPlace};
+
+use crate::nested::apply_nested;
+use crate::reverse::{is_reverse, reverse};
+use layout_matching::lookup::Lookup;
+use layout_matching::skipping::is_on;
+use layout_substitution::apply::Spot;
+use layout_substitution::edits::item;
+use shape_buffer::{ShapeError, hb_buffer_t};
+use std::alloc::Global;
+
+/// A lookup over the text, and 64 levels of others that it names.
+const LEVELS: u32 = 65;
+
+/// How many nested lookups may be applied in a stage for each item that it begins with.
+const MAX_OPS_FACTOR: usize = 1024;
+
+/// How many may be, however few items there are.
+const MAX_OPS_MIN: usize = 16384;
+
+fn next_spot(spot: Spot, count: usize) -> Spot
+    requires { spot.at < count }
+    ensures { result ≡ next_spot_of spot }
+{
+    let mut next = spot;
+    next.at += 1;
+    next
+}
+
+/// Applies the lookup at one place, or goes on to the next item.
+fn step_on(
+    alloc: Global,
+    levels: u32,
+    lookup: &Lookup<'_>,
+    buffer: &mut hb_buffer_t,
+    spot: Spot,
+) -> Result<Spot, ShapeError>
+    requires near { lookup.now.place < 2 ^ 17 }
+    ensures ok { IfOk result (λ next. record { buffer = buffer.new; spot = next }
+        ≡ lookup_step (nested_applied levels lookup.now) lookup.now (record { buffer = buffer.old; spot = spot })) }
+    ensures length { IsErrOf result Length → is_past (lookup_step (nested_applied levels lookup.now) lookup.now
+        (record { buffer = buffer.old; spot = spot })).buffer ≡ true }
+{
+    if buffer.length_limit() < buffer.len() || buffer.len() <= spot.at {
+        return Ok(spot);
+    }
+    let next = next_spot(spot, buffer.len());
+    if !is_on(lookup, &item(buffer, spot.at)) {
+        return Ok(next);
+    }
+    match apply_nested(alloc, levels, lookup, buffer, spot) {
+        Err(error) => Err(error),
+        Ok(Some(there)) => Ok(there),
+        Ok(None) => Ok(next),
+    }
+}
+
+/// Goes over a buffer from its first item on.
+#[tactic(auto, using(layout_matching::proofs::LoopLemmas::times_step, crate::proofs::StageLemmas::past_times))]
+fn walk(
+    alloc: Global,
+    levels: u32,
+    lookup: &Lookup<'_>,
+    buffer: &mut hb_buffer_t,
+    spot: Spot,
+) -> Result<Spot, ShapeError>
+    requires near { lookup.now.place < 2 ^ 17 }
+    ensures ok { IfOk result (λ next. record { buffer = buffer.new; spot = next }
+        ≡ walked (nested_applied levels lookup.now) lookup.now (record { buffer = buffer.old; spot = spot })) }
+    ensures length { IsErrOf result Length → is_past (walked (nested_applied levels lookup.now) lookup.now
+        (record { buffer = buffer.old; spot = spot })).buffer ≡ true }
+{
+    let mut spot = Spot {
+        at: 0,
+        serial: spot.serial,
+        left: spot.left,
+        whole: buffer.len(),
+    };
+    for _i in 0..buffer.len() {
+        match step_on(alloc, levels, lookup, buffer, spot) {
+            Err(error) => return Err(error),
+            Ok(next) => spot = next,
+        }
+    }
+    Ok(spot)
+}
+
+/// Goes over a buffer, forwards or backwards.
+fn look_up(
+    alloc: Global,
+    levels: u32,
+    lookup: &Lookup<'_>,
+    buffer: &mut hb_buffer_t,
+    spot: Spot,
+) -> Result<Spot, ShapeError>
+    requires near { lookup.now.place < 2 ^ 17 }
+    ensures ok { IfOk result (λ next. record { buffer = buffer.new; spot = next }
+        ≡ looked_up levels lookup.now (record { buffer = buffer.old; spot = spot })) }
+    ensures length { IsErrOf result Length
+        → is_past (looked_up levels lookup.now (record { buffer = buffer.old; spot = spot })).buffer ≡ true }
+{
+    if is_reverse(lookup) {
+        reverse(lookup, buffer);
+        return Ok(spot);
+    }
+    walk(alloc, levels, lookup, buffer, spot)
+}
+
+/// How many nested lookups may be applied in a stage that begins with `n` items.
+fn most_nested(n: usize) -> usize
+    ensures { result ≡ most_nested_of n }
+{
+    n.saturating_mul(MAX_OPS_FACTOR).max(MAX_OPS_MIN)
+}
+
+/// Lookups one after the other.
+#[tactic(auto, using(crate::proofs::StageLemmas::past_all))]
+fn look_all_up(
+    alloc: Global,
+    levels: u32,
+    lookups: &[Lookup<'_>],
+    buffer: &mut hb_buffer_t,
+) -> Result<(), ShapeError>
+    requires near { All HasPlace lookups.now }
+    ensures ok { OnOk result (buffer.new ≡ stage_made levels lookups.now buffer.old) }
+    ensures length { IsErrOf result Length → is_past (stage_made levels lookups.now buffer.old) ≡ true }
+{
+    let mut spot = Spot {
+        at: 0,
+        serial: 0,
+        left: most_nested(buffer.len()),
+        whole: 0,
+    };
+    for lookup in lookups {
+        match look_up(alloc, levels, lookup, buffer, spot) {
+            Err(error) => return Err(error),
+            Ok(next) => spot = next,
+        }
+    }
+    Ok(())
+}
+
+/// Refuses with `Length` if the list passes the limit of the run.
+fn within_limit(buffer: &hb_buffer_t) -> Result<(), ShapeError>
+    ensures ok { OnOk result (IsWithinLimit buffer.now) }
+    ensures length { IsErrOf result Length → is_past buffer.now ≡ true }
+{
+    if buffer.length_limit() < buffer.len() {
+        return Err(ShapeError::Length);
+    }
+    Ok(())
+}
+
+/// A stage of substitution with so many levels of lookups.
+fn substitute_within(
+    alloc: Global,
+    levels: u32,
+    lookups: &[Lookup<'_>],
+    buffer: &mut hb_buffer_t,
+) -> Result<(), ShapeError>
+    requires near { All HasPlace lookups.now }
+    requires within { IsWithinLimit buffer.old }
+    ensures { Outcome (step (stage_made levels lookups.now)) buffer.old buffer.new result }
+{
+    match look_all_up(alloc, levels, lookups, buffer) {
+        Err(error) => Err(error),
+        Ok(()) => within_limit(buffer),
+    }
+}
+
+/// A stage of substitution: lookups one after the other, in their order. Refuses with `Length` if the list passes the limit of
+/// the run, and with `Memory` if a growth of the list, or of the places of a rule, was refused.
+#[tactic(auto, unfolding(crate::specs::Stages::substituted))]
+pub fn substitute(
+    alloc: Global,
+    lookups: &[Lookup<'_>],
+    buffer: &mut hb_buffer_t,
+) -> Result<(), ShapeError>
+    requires near { All HasPlace lookups.now }
+    requires within { IsWithinLimit buffer.old }
+    ensures { Outcome (step (substituted lookups.now)) buffer.old buffer.new result }
+{
+    substitute_within(alloc, LEVELS, lookups, buffer)
+}
