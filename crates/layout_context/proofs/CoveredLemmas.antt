@@ -105,6 +105,7 @@ part-uncovered l i spot b gsub out = by_part (subtable_of l.table.now 7 l.place 
         → kind_applied l spot b part ≡ unapplied b
     by_kind part true is none = kind-context l spot b part gsub is
     by_kind part false is none = kind-uncovered l spot b part (number_out l part (item_at b spot.at).glyph_id is none)
+
     by_part : (o : Option LookupSubtable) → subtable_of l.table.now 7 l.place i ≡ o
         → option_map_or (kind_applied l spot b) o (unapplied b) ≡ unapplied b
     by_part None e = refl
@@ -135,6 +136,7 @@ in_part-uncovered l items origin part out = by_kind (is_context_part l part) ref
         subst (λ t. (if t then is_first l.table.now part.start (whole_rule l.table.now (is_chained l part) part.start) (nth items origin.at).glyph_id
         else is_some (number_of l.table.now part.start (nth items origin.at).glyph_id)) ≡ false) is none in
         and_then_none (found_by_number l items origin part) _ (none_of _ number)
+
     by_kind : (t : Bool) → is_context_part l part ≡ t
         → (if t then (if nat_eq (u16_of l.table.now part.start) 3 then found_whole l items origin part else found_in_sets l items origin part) else None) ≡ None
     by_kind true is = by_format (nat_eq (u16_of l.table.now part.start) 3) refl (context_out l part (nth items origin.at).glyph_id is out)
@@ -208,6 +210,7 @@ reversal-uncovered l items at i gsub out =
     by_kind part false is none =
         if_same (nat_eq part.kind 8 && nat_eq (u16_of l.table.now part.start) 1) _ _ None
         (and_then_none (reversal_of l items at part.start) _ (number_out l part (nth items at).glyph_id is none)) refl
+
     by_part : (o : Option LookupSubtable) → subtable_of l.table.now 7 l.place i ≡ o → option_and_then (reversal_by l items at) o ≡ None
     by_part None e = refl
     by_part (Some part) e = by_kind part (is_context_part l part) refl (out i part e)

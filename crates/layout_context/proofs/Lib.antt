@@ -1,3 +1,4 @@
+pub mod PlaceLemmas
 pub mod NestedLemmas
 pub mod ReverseLemmas
 pub mod StageLemmas

@@ -16,11 +16,8 @@ use Rattle.layout_substitution.specs.declared.apply.Spot.{Spot}
 use Rattle.layout_substitution.proofs.AppliedLemmas.{or_unapplied, applied-if}
 use Rattle.layout_substitution.proofs.KindLemmas.{lookup-preserves}
 use Rattle.layout_substitution.proofs.PreservedLemmas.{Preserves, Preserves-same, Preserves-then, Preserves-times, Preserves-broken}
-use Rattle.layout_context.specs.Nested.{Growing, Nest, nested_spot, passed_record, stopped_record, nest_after, target_applied, target_done, record_step, first_nest, records_made, rule_applied, origin_of, level_applied, nested_applied}
+use Rattle.layout_context.specs.Nested.{Nest, nested_spot, passed_record, stopped_record, nest_after, target_applied, target_done, record_step, first_nest, records_made, rule_applied, origin_of, level_applied, nested_applied}
 use Rattle.layout_context.specs.declared.nested.LookupRule.{LookupRule}
-
-pub places_grown : (xs : List ℕ) (n : ℕ) (s : Growing) → record { places = xs; next = n } ≡ s → xs ≡ s.places
-places_grown xs n s e = ap (λ (g : Growing). g.places) e
 
 -- ---- what is applied next preserves
 

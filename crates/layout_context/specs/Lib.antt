@@ -1,6 +1,8 @@
+pub mod Places
 pub mod Nested
 pub mod Reverse
 pub mod Stages
 pub mod Covered
 pub mod WorkedPlaces
 pub mod WorkedLookups
+pub mod WorkedContexts

@@ -1,7 +1,7 @@
 -- Where the glyphs of a rule stand after a nested lookup, computed by hand: the glyph number, its place, how many items there
 -- were and are, and the places of all.
 use Rattle.std.specs.Prelude.{◌≡◌, [], ◌∷◌, true, false, refl, replicate}
-use Rattle.layout_context.specs.Nested.{renumbered, moved_end, is_too_long}
+use Rattle.layout_context.specs.Places.{renumbered, moved_end, is_too_long}
 
 pub record WorkedPlaces : Type 0 where
   -- two glyphs of three became one: the second goes, the third moves

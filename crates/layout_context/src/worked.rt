@@ -1,4 +1,5 @@
 //! The definitions, computed by hand.
+ghost use Rattle.layout_context.specs.WorkedContexts.{WorkedRules, WorkedClasses, WorkedChains, WorkedChainsElsewhere, WorkedMarkSets, WorkedMarkClasses, WorkedSyllables, WorkedComponents};
 ghost use Rattle.layout_context.specs.WorkedLookups.{WorkedLookups};
 ghost use Rattle.layout_context.specs.WorkedPlaces.{WorkedPlaces};
 
@@ -10,4 +11,16 @@ pub fn places_meet_worked_cases()
 /// Lookups of each kind over lists: skipped marks, joiners, masks, clusters, nested lookups, and from the end of the list.
 pub fn lookups_meet_worked_cases()
     ensures { WorkedLookups }
+{}
+
+/// Rules of context by their formats, mark filtering sets and mark attachment classes, syllables, and components of ligatures.
+pub fn contexts_meet_worked_cases()
+    ensures rules { WorkedRules }
+    ensures classes { WorkedClasses }
+    ensures chains { WorkedChains }
+    ensures chains_elsewhere { WorkedChainsElsewhere }
+    ensures mark_sets { WorkedMarkSets }
+    ensures mark_classes { WorkedMarkClasses }
+    ensures syllables { WorkedSyllables }
+    ensures components { WorkedComponents }
 {}

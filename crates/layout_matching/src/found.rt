@@ -11,8 +11,8 @@ use crate::skipping::item_at;
 use crate::spans::{Origin, Span, span_at};
 use layout_tables::classes::class;
 use layout_tables::coverage::{coverage_index, covers};
-use layout_tables::offsets::offset16;
 use layout_tables::lookups::{LookupSubtable, subtable, subtable_count};
+use layout_tables::offsets::offset16;
 use shape_buffer::hb_glyph_info_t;
 use shape_font::bytes::{records, u16_at};
 

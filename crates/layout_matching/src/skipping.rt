@@ -27,7 +27,8 @@ fn mark_is_left_out(lookup: &Lookup<'_>, item: &hb_glyph_info_t) -> bool
     if lookup.flags & 16 != 0 {
         return !mark_set_covers(lookup.gdef, lookup.mark_set, item.glyph_id);
     }
-    255 < lookup.flags && lookup.flags / 256 != mark_attachment_class(lookup.gdef, item.glyph_id) % 256
+    255 < lookup.flags
+        && lookup.flags / 256 != mark_attachment_class(lookup.gdef, item.glyph_id) % 256
 }
 
 /// Whether the lookup's flags skip the glyph.

@@ -89,6 +89,7 @@ handed-preserves cluster n s inside = (walk n).0
           | false ↦ λ t. (Preserves-same s.buffer, inside)
         ] in
         cases refl
+
     walk : (n : ℕ) → Preserves s.buffer (times (handed_step cluster) n s).buffer
         × ((times (handed_step cluster) n s).at < length (times (handed_step cluster) n s).buffer.items)
     walk zero = (Preserves-same s.buffer, inside)

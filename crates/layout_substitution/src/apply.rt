@@ -10,9 +10,9 @@ ghost use Rattle.layout_substitution.specs.Edits.{item_at, put_at};
 
 use crate::edits::{insert_after, item, merge, next_place, put, take_out};
 use crate::ligature::{Components, found, put_ligature};
-use layout_matching::lookup::Lookup;
 use crate::replaced::{replaced, taken_apart};
 use crate::substitutes::{alternate, components, count, ligature_glyph, listed, set, single};
+use layout_matching::lookup::Lookup;
 use shape_buffer::{ShapeError, hb_buffer_t, hb_glyph_info_t};
 
 /// Where a lookup stands in a buffer, and what it counts.

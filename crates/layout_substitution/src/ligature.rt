@@ -108,12 +108,7 @@ fn matched_in(
 
 /// The first ligature of the set whose components stand at `at`.
 #[tactic(auto, using(layout_matching::proofs::LoopLemmas::first_some_next, layout_matching::proofs::LoopLemmas::first_some_found, layout_matching::proofs::LoopLemmas::first_some_end))]
-pub fn found(
-    lookup: &Lookup<'_>,
-    buffer: &hb_buffer_t,
-    at: usize,
-    set: usize,
-) -> Option<Components>
+pub fn found(lookup: &Lookup<'_>, buffer: &hb_buffer_t, at: usize, set: usize) -> Option<Components>
     requires near { set < 2 ^ 36 }
     requires inside { at < length buffer.now.items }
     ensures value { result ≡ ligature_found lookup.now buffer.now at set }

@@ -1,7 +1,7 @@
 use Rattle.std.proofs.Common.{◌≡◌}
 use Rattle.layout_matching.specs.Loops.{times}
-use Rattle.layout_context.specs.Nested.{Growing, one_grown}
-use Rattle.layout_context.proofs.nested.grow_some.Given as goal
+use Rattle.layout_context.specs.Places.{Growing, one_grown}
+use Rattle.layout_context.proofs.places.grow_some.Given as goal
 
 abbrev pub invariant-loop-i : goal.invariant-loop-i
 invariant-loop-i l =
