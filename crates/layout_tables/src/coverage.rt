@@ -57,8 +57,8 @@ fn index_in_range(table: &[u8], start: usize, glyph: u32, i: u32) -> u32
     u32::from(u16_at(table, at + 4)) + glyph.saturating_sub(first)
 }
 
-/// The Coverage Index of a glyph by the Coverage table at `start`; none if it does not cover the glyph, or its format is
-/// neither 1 nor 2.
+/// The Coverage Index of a glyph by the Coverage table at `start`; none if it does not cover the glyph, or its
+/// format is neither 1 nor 2.
 pub fn coverage_index(table: &[u8], start: usize, glyph: u32) -> Option<u32>
     requires { start < 2 ^ 40 }
     ensures { result ≡ coverage_index_of table.now start glyph }

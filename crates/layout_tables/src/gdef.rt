@@ -1,7 +1,7 @@
 //! What the table `GDEF` says of glyphs: their class, the class of marks, and sets of marks.
 ghost use Rattle.std.specs.Prelude.{◌≡◌, ◌<◌, ◌^◌};
 ghost use Rattle.std.specs.Option.{IfSome};
-ghost use Rattle.layout_tables.specs.Gdef.{has_glyph_classes as has_glyph_classes_of, glyph_class as glyph_class_of, mark_attachment_class as mark_attachment_class_of, props_of, glyph_props as glyph_props_of, mark_sets, mark_set_in, mark_set_in_covers, mark_set_covers as mark_set_covers_of};
+ghost use Rattle.layout_tables.specs.Gdef.{has_glyph_classes as has_glyph_classes_of, glyph_class as glyph_class_of, mark_attachment_class as mark_attachment_class_of, glyph_props as glyph_props_of, mark_sets, mark_set_in, mark_set_in_covers, mark_set_covers as mark_set_covers_of};
 
 use crate::classes::class;
 use crate::coverage::covers;

@@ -6,7 +6,8 @@ ghost use Rattle.layout_tables.specs.Lookups.{lookup_count_of, lookup_of, lookup
 use crate::offsets::{header_offset, offset16, offset32};
 use shape_font::bytes::{records, u16_at};
 
-/// Bits of a lookup's flags, and the byte of its mark attachment type.
+/// Of the flags of a lookup (OpenType, LookupFlag bit enumeration): in cursive attachment the last glyph of a sequence
+/// stands on the baseline, and not the first.
 pub const RIGHT_TO_LEFT: u16 = 0x0001;
 
 /// Glyphs of class 1 are passed over.
@@ -119,8 +120,8 @@ fn resolved(table: &[u8], extension: u16, kind: u16, start: usize) -> Option<Loo
     }
 }
 
-/// Subtable `i` of the lookup at `lookup`; none if its offset is NULL. A subtable of type `extension` (7 in `GSUB`, 9 in
-/// `GPOS`) stands for one of another type far away, which is returned in its place.
+/// Subtable `i` of the lookup at `lookup`; none if its offset is NULL. A subtable of type `extension` (7 in `GSUB`,
+/// 9 in `GPOS`) stands for one of another type far away, which is returned in its place.
 pub fn subtable(table: &[u8], extension: u16, lookup: usize, i: u32) -> Option<LookupSubtable>
     requires lookup { lookup < 2 ^ 17 }
     requires i { i < 2 ^ 16 }

@@ -1,7 +1,7 @@
 //! Scripts and language systems of a table of lookups (`GSUB`, `GPOS`).
 ghost use Rattle.std.specs.Prelude.{◌≡◌, ◌<◌, ◌^◌, is_some};
 ghost use Rattle.std.specs.Option.{IfSome, option_or};
-ghost use Rattle.layout_tables.specs.Scripts.{side_of_tag, tagged, script_record as script_record_of, script_at, script_of, first_script as first_script_of, chosen_script as chosen_script_of, lang_sys_record as lang_sys_record_of, first_lang_sys as first_lang_sys_of, lang_sys_of, chosen_lang_sys as chosen_lang_sys_of};
+ghost use Rattle.layout_tables.specs.Scripts.{side_of_tag, tagged, script_record as script_record_of, script_of, first_script as first_script_of, chosen_script as chosen_script_of, lang_sys_record as lang_sys_record_of, first_lang_sys as first_lang_sys_of, chosen_lang_sys as chosen_lang_sys_of};
 
 use crate::offsets::{header_offset, offset16};
 use shape_font::bytes::{records, u16_at, u32_at};
@@ -61,8 +61,8 @@ fn first_script(table: &[u8], tags: &[u32]) -> Option<u32>
     None
 }
 
-/// The script that is taken for a text whose script has these tags, the preferred one first: the first of them that the
-/// table has, else `DFLT`, `dflt` or `latn`; none if the table has none of these.
+/// The script that is taken for a text whose script has these tags, the preferred one first: the first of them that
+/// the table has, else `DFLT`, `dflt` or `latn`; none if the table has none of these.
 pub fn chosen_script(table: &[u8], tags: &[u32]) -> Option<u32>
     ensures { result ≡ chosen_script_of table.now tags.now }
 {
@@ -105,9 +105,9 @@ fn chosen_record(table: &[u8], script: usize, tags: &[u32]) -> Option<u32>
     }
 }
 
-/// Where the LangSys table stands that is taken for a text whose language has these tags, the preferred one first: of the
-/// first of them that the script has, else of `dflt`, else the default one of the script. None if the table lacks the
-/// script, or the offset is NULL.
+/// Where the LangSys table stands that is taken for a text whose language has these tags, the preferred one first:
+/// of the first of them that the script has, else of `dflt`, else the default one of the script. None if the table
+/// lacks the script, or the offset is NULL.
 pub fn chosen_lang_sys(table: &[u8], script_tag: u32, tags: &[u32]) -> Option<usize>
     ensures value { result ≡ chosen_lang_sys_of table.now script_tag tags.now }
     ensures near { IfSome result (λ lang_sys. lang_sys < 2 ^ 18) }

@@ -59,8 +59,8 @@ fn first_failing(table: &[u8], set: usize, count: u32) -> Option<u32>
     None
 }
 
-/// Whether all conditions of the ConditionSet at `set` hold. A set of more than 256 conditions does not, so that sets that
-/// overlap don't take more work than the bytes that are there.
+/// Whether all conditions of the ConditionSet at `set` hold. A set of more than 256 conditions does not, so that
+/// sets that overlap don't take more work than the bytes that are there.
 fn set_holds(table: &[u8], set: usize) -> bool
     requires { set < 2 ^ 37 }
     ensures { result ≡ set_holds_at table.now set }
@@ -179,8 +179,8 @@ fn varied_in(table: &[u8], index: u16, at: usize) -> Option<usize>
 }
 
 /// Where the Feature table of the feature with this index stands: the one that takes its place by the
-/// FeatureTableSubstitution table at `substitution`, else its own. None if the table has no such feature, or the offset is
-/// NULL.
+/// FeatureTableSubstitution table at `substitution`, else its own. None if the table has no such feature, or the
+/// offset is NULL.
 pub fn varied_feature(table: &[u8], substitution: Option<usize>, index: u16) -> Option<usize>
     requires { ForSome substitution (λ at. at < 2 ^ 34) }
     ensures value { result ≡ varied_feature_of table.now substitution index }

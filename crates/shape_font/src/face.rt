@@ -44,6 +44,8 @@ const GSUB: u32 = 0x4753_5542;
 
 const GPOS: u32 = 0x4750_4f53;
 
+const GDEF: u32 = 0x4744_4546;
+
 const MORX: u32 = 0x6d6f_7278;
 
 const KERX: u32 = 0x6b65_7278;
@@ -77,6 +79,9 @@ pub struct FontFace<'a> {
     os2: &'a [u8],
     kern: &'a [u8],
     post: &'a [u8],
+    gdef: &'a [u8],
+    gsub: &'a [u8],
+    gpos: &'a [u8],
 }
 
 /// Which tables of lookups the font has.
@@ -132,6 +137,9 @@ impl<'a> FontFace<'a> {
         ensures os2 { IfSome result (λ f. f.os2.now ≡ bytes_of bytes.now index OS2) }
         ensures kern { IfSome result (λ f. f.kern.now ≡ bytes_of bytes.now index KERN) }
         ensures post { IfSome result (λ f. f.post.now ≡ bytes_of bytes.now index POST) }
+        ensures gdef_table { IfSome result (λ f. f.gdef.now ≡ bytes_of bytes.now index GDEF) }
+        ensures gsub_table { IfSome result (λ f. f.gsub.now ≡ bytes_of bytes.now index GSUB) }
+        ensures gpos_table { IfSome result (λ f. f.gpos.now ≡ bytes_of bytes.now index GPOS) }
     {
         let head = table_or_empty(bytes, index, HEAD);
         let units_per_em = u16_at(head, 18);
@@ -167,6 +175,9 @@ impl<'a> FontFace<'a> {
             os2: table_or_empty(bytes, index, OS2),
             kern: table_or_empty(bytes, index, KERN),
             post: table_or_empty(bytes, index, POST),
+            gdef: table_or_empty(bytes, index, GDEF),
+            gsub: table_or_empty(bytes, index, GSUB),
+            gpos: table_or_empty(bytes, index, GPOS),
         })
     }
 
@@ -182,6 +193,27 @@ impl<'a> FontFace<'a> {
         ensures { result.now ≡ self.now.kern.now }
     {
         self.kern
+    }
+
+    /// The table `GDEF`, for an engine of OpenType layout; an empty one if the font has none.
+    pub fn gdef_table(&self) -> &'a [u8]
+        ensures { result.now ≡ self.now.gdef.now }
+    {
+        self.gdef
+    }
+
+    /// The table `GSUB`, likewise.
+    pub fn gsub_table(&self) -> &'a [u8]
+        ensures { result.now ≡ self.now.gsub.now }
+    {
+        self.gsub
+    }
+
+    /// The table `GPOS`, likewise.
+    pub fn gpos_table(&self) -> &'a [u8]
+        ensures { result.now ≡ self.now.gpos.now }
+    {
+        self.gpos
     }
 
     /// The glyph's name by `post`; none if the table has none for it, or an empty one.

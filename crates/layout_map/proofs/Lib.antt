@@ -1,0 +1,5 @@
+pub mod BitLemmas
+pub mod EachLemmas
+pub mod OnceLemmas
+pub mod ApartLemmas
+pub mod LawfulLemmas

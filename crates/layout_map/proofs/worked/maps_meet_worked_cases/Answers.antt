@@ -1,0 +1,11 @@
+use Rattle.layout_map.specs.WorkedStages.{worked_lookups, worked_stages, worked_map}
+use Rattle.layout_map.proofs.worked.maps_meet_worked_cases.Goals as goal
+
+pub returns-clause-lookups : goal.returns-clause-lookups
+returns-clause-lookups c = worked_lookups
+
+pub returns-clause-stages : goal.returns-clause-stages
+returns-clause-stages c = worked_stages
+
+pub returns-clause-map : goal.returns-clause-map
+returns-clause-map c = worked_map

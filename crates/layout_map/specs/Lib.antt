@@ -1,0 +1,11 @@
+pub mod Settings
+pub mod Chosen
+pub mod Features
+pub mod Lookups
+pub mod Stages
+pub mod Tagged
+pub mod Map
+pub mod Laws
+pub mod WorkedSettings
+pub mod WorkedBits
+pub mod WorkedStages

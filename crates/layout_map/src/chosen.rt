@@ -1,0 +1,117 @@
+//! A table of lookups (`GSUB`, `GPOS`), and what is chosen in it for a text.
+ghost use Rattle.std.specs.Prelude.{◌≡◌, ◌<◌, ◌^◌};
+ghost use Rattle.std.specs.Option.{IfSome};
+
+use layout_tables::features::{any_feature, feature_index, feature_tag, required_feature};
+use layout_tables::lookups::lookup_count;
+use layout_tables::scripts::chosen_lang_sys;
+use layout_tables::variations::{substitution, varied_feature};
+use std::marker::Model;
+
+/// A table of lookups with the language system that is chosen in it for a text, and the features that vary at the
+/// default instance of the font.
+#[derive(Drop)]
+pub struct ChosenTable<'a> {
+    bytes: &'a [u8],
+    lang_sys: Option<usize>,
+    substitution: Option<usize>,
+}
+
+impl<'a> Model for ChosenTable<'a> {
+    ghost use Rattle.std.specs.Prelude.{◌<◌, ◌^◌};
+    ghost use Rattle.std.specs.Option.{ForSome};
+    ghost use Rattle.layout_map.specs.Chosen.{Chosen};
+
+    ghost Value = { Chosen };
+
+    ghost view = { λ t. record {
+      bytes = t.bytes.now;
+      lang_sys = t.lang_sys;
+      substitution = t.substitution;
+    } };
+
+    ghost invariant = { λ t. (ForSome t.lang_sys (λ l. l < 2 ^ 18))
+        × (ForSome t.substitution (λ s. s < 2 ^ 34)) };
+}
+
+impl<'a> ChosenTable<'a> {
+    ghost use Rattle.layout_map.specs.Chosen.{
+      chosen,
+      index_of,
+      required_of,
+      required_tag_of,
+      feature_place,
+    };
+    ghost use Rattle.layout_tables.specs.Features.{any_feature_of};
+    ghost use Rattle.layout_tables.specs.Lookups.{lookup_count_of};
+
+    /// What is chosen in a table for a text: the language system of the script with the tag `script`, by the tags
+    /// of the text's language, the preferred one first. An empty table has none.
+    pub fn new(bytes: &'a [u8], script: Option<u32>, languages: &[u32]) -> Self
+        ensures { result ≡ chosen bytes.now script languages.now }
+    {
+        let lang_sys = match script {
+            Some(tag) => chosen_lang_sys(bytes, tag, languages),
+            None => None,
+        };
+        ChosenTable {
+            bytes,
+            lang_sys,
+            substitution: substitution(bytes),
+        }
+    }
+
+    /// The bytes of the table.
+    pub fn bytes(&self) -> &'a [u8]
+        ensures { result.now ≡ self.now.bytes }
+    {
+        self.bytes
+    }
+
+    /// How many lookups the table has.
+    pub fn lookup_count(&self) -> u32
+        ensures value { result ≡ lookup_count_of self.now.bytes }
+        ensures few { result < 2 ^ 16 }
+    {
+        lookup_count(self.bytes)
+    }
+
+    /// The index of the feature with this tag that the language system lists.
+    pub fn index(&self, tag: u32) -> Option<u16>
+        ensures { result ≡ index_of self.now tag }
+    {
+        feature_index(self.bytes, self.lang_sys?, tag)
+    }
+
+    /// The index of the first feature with this tag, whatever the language system.
+    pub fn any_index(&self, tag: u32) -> Option<u16>
+        ensures { result ≡ any_feature_of self.now.bytes tag }
+    {
+        any_feature(self.bytes, tag)
+    }
+
+    /// The index of the feature that is on whatever is asked.
+    pub fn required(&self) -> Option<u16>
+        ensures { result ≡ required_of self.now }
+    {
+        required_feature(self.bytes, self.lang_sys?)
+    }
+
+    /// The tag of the feature that is on whatever is asked, 0 if there is none.
+    pub fn required_tag(&self) -> u32
+        ensures { result ≡ required_tag_of self.now }
+    {
+        match self.required() {
+            Some(index) => feature_tag(self.bytes, index),
+            None => 0,
+        }
+    }
+
+    /// Where the Feature table of a feature stands; none if there is no such feature.
+    pub fn feature(&self, index: Option<u16>) -> Option<usize>
+        ensures value { result ≡ feature_place self.now index }
+        ensures near { IfSome result (λ feature. feature < 2 ^ 35) }
+    {
+        varied_feature(self.bytes, self.substitution, index?)
+    }
+}

@@ -1,0 +1,18 @@
+//! The definitions, computed by hand.
+ghost use Rattle.layout_map.specs.WorkedSettings.{WorkedSettings};
+ghost use Rattle.layout_map.specs.WorkedBits.{WorkedBits, WorkedAllotment};
+ghost use Rattle.layout_map.specs.WorkedStages.{WorkedLookups, WorkedStages, WorkedMap};
+
+/// Requests merged to settings, and the bits of features.
+pub fn features_meet_worked_cases()
+    ensures settings { WorkedSettings }
+    ensures bits { WorkedBits }
+    ensures allotment { WorkedAllotment }
+{}
+
+/// Lookups, stages, and what a map answers.
+pub fn maps_meet_worked_cases()
+    ensures lookups { WorkedLookups }
+    ensures stages { WorkedStages }
+    ensures map { WorkedMap }
+{}
