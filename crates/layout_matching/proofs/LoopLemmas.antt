@@ -1,0 +1,74 @@
+-- loops, step by step
+use Prim.Native.Nat.{zero}
+use Rattle.std.proofs.Common.{◌≡◌, ℕ, suc, ◌+◌, ◌-◌, ◌<◌, ◌≤◌, Bool, true, false, not, Option, Some, None, refl, sym, ap, ◌∙◌, arith}
+use Rattle.layout_matching.specs.Loops.{times, steps, first_some}
+
+pub not_true : (b : Bool) → b ≡ true → not b ≡ false
+not_true b e = rw e refl
+
+pub not_false : (b : Bool) → b ≡ false → not b ≡ true
+not_false b e = rw e refl
+
+-- one time more
+pub times_next : {S : Type 0} (f : S → S) (i : ℕ) (s : S) → times f (i + 1) s ≡ f (times f i s)
+times_next f i s =
+    let e : i + 1 ≡ suc i = omega arith in
+    rw e refl
+
+pub times_step : {S : Type 0} (f : S → S) (i : ℕ) (first here there : S) → here ≡ times f i first → there ≡ f here
+    → there ≡ times f (i + 1) first
+times_step f i first here there before now = now ∙ ap f before ∙ sym (times_next f i first)
+
+-- a step that changes nothing any more
+pub times_still : {S : Type 0} (f : S → S) (n : ℕ) (s : S) → f s ≡ s → times f n s ≡ s
+times_still f zero s still = refl
+times_still f (suc n) s still = ap f (times_still f n s still) ∙ still
+
+pub times_after : {S : Type 0} (f : S → S) (n i : ℕ) (s : S) → times f (n + i) s ≡ times f n (times f i s)
+times_after f zero i s =
+    let e : 0 + i ≡ i = omega arith in
+    rw e refl
+times_after f (suc n) i s =
+    let e : suc n + i ≡ suc (n + i) = omega arith in
+    rw e (ap f (times_after f n i s))
+
+pub times_stays : {S : Type 0} (f : S → S) (n i : ℕ) (s here : S) → i ≤ n → here ≡ times f i s → f here ≡ here → times f n s ≡ here
+times_stays f n i s here within is still =
+    let e : n ≡ (n - i) + i = omega (arith, within) in
+    ap (λ m. times f m s) e ∙ times_after f (n - i) i s ∙ ap (times f (n - i)) (sym is) ∙ times_still f (n - i) here still
+
+-- one step more of those that may be missing
+pub steps_next : {S : Type 0} (f : ℕ → S → Option S) (n k : ℕ) (s t : S) → k < n → f k s ≡ Some t
+    → steps f (n - k) k s ≡ steps f (n - (k + 1)) (k + 1) t
+steps_next f n k s t more is =
+    let e : n - k ≡ suc (n - (k + 1)) = omega (arith, more) in
+    let s' : suc k ≡ k + 1 = omega arith in
+    rw e (rw is (rw s' refl))
+
+pub steps_none : {S : Type 0} (f : ℕ → S → Option S) (n k : ℕ) (s : S) → k < n → f k s ≡ None → steps f (n - k) k s ≡ None
+steps_none f n k s more is =
+    let e : n - k ≡ suc (n - (k + 1)) = omega (arith, more) in
+    rw e (rw is refl)
+
+pub steps_end : {S : Type 0} (f : ℕ → S → Option S) (n k : ℕ) (s : S) → n ≤ k → steps f (n - k) k s ≡ Some s
+steps_end f n k s over =
+    let e : n - k ≡ 0 = omega (arith, over) in
+    rw e refl
+
+-- the first that answers
+pub first_some_next : {X : Type 0} (f : ℕ → Option X) (n i : ℕ) → i < n → f i ≡ None
+    → first_some f (n - i) i ≡ first_some f (n - (i + 1)) (i + 1)
+first_some_next f n i more is =
+    let e : n - i ≡ suc (n - (i + 1)) = omega (arith, more) in
+    let s : suc i ≡ i + 1 = omega arith in
+    rw e (rw is (rw s refl))
+
+pub first_some_found : {X : Type 0} (f : ℕ → Option X) (n i : ℕ) (x : X) → i < n → f i ≡ Some x → first_some f (n - i) i ≡ Some x
+first_some_found f n i x more is =
+    let e : n - i ≡ suc (n - (i + 1)) = omega (arith, more) in
+    rw e (rw is refl)
+
+pub first_some_end : {X : Type 0} (f : ℕ → Option X) (n i : ℕ) → n ≤ i → first_some f (n - i) i ≡ None
+first_some_end f n i over =
+    let e : n - i ≡ 0 = omega (arith, over) in
+    rw e refl

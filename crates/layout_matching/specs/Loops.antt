@@ -1,0 +1,19 @@
+-- loops: so many times, until something is missing, and the first that gives something
+use Prim.Native.Nat.{zero}
+use Rattle.std.specs.Prelude.{ℕ, suc, Option, Some, None}
+use Rattle.std.specs.Option.{option_and_then, option_or}
+
+-- a step made so many times
+abbrev pub times : {S : Type 0} → (S → S) → ℕ → S → S
+times f zero s = s
+times f (suc n) s = f (times f n s)
+
+-- steps `k`, `k + 1` and so on, `n` of them; none if one of them gives none
+abbrev pub steps : {S : Type 0} → (ℕ → S → Option S) → ℕ → ℕ → S → Option S
+steps f zero k s = Some s
+steps f (suc n) k s = option_and_then (steps f n (suc k)) (f k s)
+
+-- what the first of `n` places from `i` on gives, of those that give something
+abbrev pub first_some : {X : Type 0} → (ℕ → Option X) → ℕ → ℕ → Option X
+first_some f zero i = None
+first_some f (suc n) i = option_or (f i) (first_some f n (suc i))

@@ -1,0 +1,349 @@
+//! The rule of a lookup that matches at a place (OpenType, "Common table formats", sequence context 1 to 3, chained 1 to 3).
+//!
+//! Rules are asked in the order of the table, and the first that matches is taken. Nothing is changed, and no memory is taken.
+ghost use Rattle.std.specs.Prelude.{◌≡◌, ◌<◌, ◌+◌, ◌^◌, length};
+ghost use Rattle.std.specs.Option.{IfSome};
+ghost use Rattle.layout_matching.specs.Found.{context_kind as context_kind_of, chained_kind as chained_kind_of, extension_kind as extension_kind_of, is_chained as is_chained_of, is_context_part as is_context_part_of, found_if as found_if_of, whole_rule as whole_rule_of, is_first as is_first_of, found_whole as found_whole_of, place_at as place_at_of, set_by_class as set_by_class_of, set_for as set_for_of, rule_of, found_rule as found_rule_of, found_in_set as found_in_set_of, found_by_number as found_by_number_of, number_of, found_in_sets as found_in_sets_of, found_in_part as found_in_part_of, found_at_part as found_at_part_of, found_of, is_context as is_context_of};
+
+use crate::lookup::Lookup;
+use crate::rules::{FAR, Rule, Test, chain, plain, rule_at, rules};
+use crate::skipping::item_at;
+use crate::spans::{Origin, Span, span_at};
+use layout_tables::classes::class;
+use layout_tables::coverage::{covers, number, part};
+use layout_tables::lookups::{LookupPart, subtable, subtables};
+use shape_buffer::hb_glyph_info_t;
+use shape_font::bytes::{records, u16_at};
+
+/// A rule, and where it stands.
+#[derive(Clone, Copy, PartialEq, Eq, Debug)]
+pub struct Found {
+    pub rule: Rule,
+    pub span: Span,
+}
+
+/// The kind of a lookup of context.
+fn context_kind(lookup: &Lookup<'_>) -> u16
+    ensures { result ≡ context_kind_of lookup.now }
+{
+    if lookup.positioning { 7 } else { 5 }
+}
+
+/// The kind of a lookup of chained context.
+fn chained_kind(lookup: &Lookup<'_>) -> u16
+    ensures { result ≡ chained_kind_of lookup.now }
+{
+    if lookup.positioning { 8 } else { 6 }
+}
+
+/// The kind of a lookup whose parts stand far away.
+pub fn extension_kind(lookup: &Lookup<'_>) -> u16
+    ensures { result ≡ extension_kind_of lookup.now }
+{
+    if lookup.positioning { 9 } else { 7 }
+}
+
+fn is_chained(lookup: &Lookup<'_>, part: LookupPart) -> bool
+    ensures { result ≡ is_chained_of lookup.now part }
+{
+    part.kind == chained_kind(lookup)
+}
+
+fn is_context_part(lookup: &Lookup<'_>, part: LookupPart) -> bool
+    ensures { result ≡ is_context_part_of lookup.now part }
+{
+    part.kind == context_kind(lookup) || is_chained(lookup, part)
+}
+
+/// The rule, if it matches.
+fn found_if(
+    lookup: &Lookup<'_>,
+    items: &[hb_glyph_info_t],
+    origin: Origin,
+    rule: Rule,
+) -> Option<Found>
+    requires { origin.at < length items.now }
+    ensures value { result ≡ found_if_of lookup.now items.now origin rule }
+    ensures last { IfSome result (λ f. f.span.last < length items.now) }
+{
+    match span_at(lookup, items, origin, &rule) {
+        Some(span) => Some(Found { rule, span }),
+        None => None,
+    }
+}
+
+/// The one rule of a part of format 3.
+fn whole_rule(table: &[u8], is_chain: bool, start: usize) -> Rule
+    requires { start < 2 ^ 35 }
+    ensures { result ≡ whole_rule_of table.now is_chain start }
+{
+    if is_chain {
+        chain(table, Test::Coverage, start, start, start, 1, start + 2)
+    } else {
+        plain(table, Test::Coverage, start, start + 2, start + 8)
+    }
+}
+
+/// Whether the list of the rule's first glyph has the glyph.
+fn is_first(table: &[u8], start: usize, rule: &Rule, glyph: u32) -> bool
+    requires { start < 2 ^ 35 }
+    ensures { result ≡ is_first_of table.now start rule.now glyph }
+{
+    if rule.input.count == 0 {
+        return false;
+    }
+    match part(table, start, rule.input.values.min(FAR).saturating_sub(2)) {
+        Some(list) => covers(table, list, glyph),
+        None => false,
+    }
+}
+
+fn found_whole(
+    lookup: &Lookup<'_>,
+    items: &[hb_glyph_info_t],
+    origin: Origin,
+    part: LookupPart,
+) -> Option<Found>
+    requires near { part.start < 2 ^ 35 }
+    requires inside { origin.at < length items.now }
+    ensures value { result ≡ found_whole_of lookup.now items.now origin part }
+    ensures last { IfSome result (λ f. f.span.last < length items.now) }
+{
+    let rule = whole_rule(lookup.table, is_chained(lookup, part), part.start);
+    let glyph = item_at(items, origin.at).glyph_id;
+    if is_first(lookup.table, part.start, &rule, glyph) {
+        found_if(lookup, items, origin, rule)
+    } else {
+        None
+    }
+}
+
+/// The place whose offset stands so far after `start`.
+fn place_at(table: &[u8], start: usize, at: usize) -> usize
+    requires start { start < 2 ^ 35 }
+    requires at { at < 16 }
+    ensures value { result ≡ place_at_of table.now start at }
+    ensures near { result < 2 ^ 36 }
+{
+    start + usize::from(u16_at(table, start + at))
+}
+
+fn set_by_class(table: &[u8], is_chain: bool, start: usize, glyph: u32) -> Option<usize>
+    requires { start < 2 ^ 35 }
+    ensures value { result ≡ set_by_class_of table.now is_chain start glyph }
+    ensures near { IfSome result (λ s. s < 2 ^ 36) }
+{
+    if is_chain {
+        let of = class(table, place_at(table, start, 6), glyph);
+        rules(table, start, 10, u32::from(of))
+    } else {
+        let of = class(table, place_at(table, start, 4), glyph);
+        rules(table, start, 6, u32::from(of))
+    }
+}
+
+/// The rules for a glyph with this number.
+fn set_for(table: &[u8], is_chain: bool, start: usize, glyph: u32, number: u32) -> Option<usize>
+    requires { start < 2 ^ 35 }
+    ensures value { result ≡ set_for_of table.now is_chain start glyph number }
+    ensures near { IfSome result (λ s. s < 2 ^ 36) }
+{
+    match u16_at(table, start) {
+        1 => rules(table, start, 4, number),
+        2 => set_by_class(table, is_chain, start, glyph),
+        _ => None,
+    }
+}
+
+/// The rule at a place, of a part of format 1 or 2.
+fn rule_by(table: &[u8], is_chain: bool, start: usize, at: usize) -> Rule
+    requires start { start < 2 ^ 35 }
+    requires at { at < 2 ^ 37 }
+    ensures { result ≡ rule_of table.now is_chain start at }
+{
+    if u16_at(table, start) == 1 {
+        if is_chain {
+            return chain(table, Test::Glyph, start, start, start, 0, at);
+        }
+        return plain(table, Test::Glyph, start, at, at + 4);
+    }
+    if !is_chain {
+        return plain(table, Test::Class, place_at(table, start, 4), at, at + 4);
+    }
+    chain(
+        table,
+        Test::Class,
+        place_at(table, start, 4),
+        place_at(table, start, 6),
+        place_at(table, start, 8),
+        0,
+        at,
+    )
+}
+
+/// Rule `r` of those at `set`, if it matches.
+fn found_rule(
+    lookup: &Lookup<'_>,
+    items: &[hb_glyph_info_t],
+    origin: Origin,
+    part: LookupPart,
+    set: usize,
+    r: u32,
+) -> Option<Found>
+    requires near { part.start < 2 ^ 35 }
+    requires set { set < 2 ^ 36 }
+    requires few { r < 2 ^ 16 }
+    requires inside { origin.at < length items.now }
+    ensures value { result ≡ found_rule_of lookup.now items.now origin part set r }
+    ensures last { IfSome result (λ f. f.span.last < length items.now) }
+{
+    match rule_at(lookup.table, set, r) {
+        Some(place) => {
+            let rule = rule_by(lookup.table, is_chained(lookup, part), part.start, place);
+            found_if(lookup, items, origin, rule)
+        }
+        None => None,
+    }
+}
+
+/// The first rule of those at `set` that matches.
+#[tactic(auto, using(crate::proofs::LoopLemmas::first_some_next, crate::proofs::LoopLemmas::first_some_found, crate::proofs::LoopLemmas::first_some_end))]
+fn found_in_set(
+    lookup: &Lookup<'_>,
+    items: &[hb_glyph_info_t],
+    origin: Origin,
+    part: LookupPart,
+    set: usize,
+) -> Option<Found>
+    requires near { part.start < 2 ^ 35 }
+    requires set { set < 2 ^ 36 }
+    requires inside { origin.at < length items.now }
+    ensures value { result ≡ found_in_set_of lookup.now items.now origin part set }
+    ensures last { IfSome result (λ f. f.span.last < length items.now) }
+{
+    for r in 0..records(
+        lookup.table,
+        u32::from(u16_at(lookup.table, set)),
+        set + 2,
+        2,
+    ) {
+        if let Some(found) = found_rule(lookup, items, origin, part, set, r) {
+            return Some(found);
+        }
+    }
+    None
+}
+
+fn found_by_number(
+    lookup: &Lookup<'_>,
+    items: &[hb_glyph_info_t],
+    origin: Origin,
+    part: LookupPart,
+    number: u32,
+) -> Option<Found>
+    requires near { part.start < 2 ^ 35 }
+    requires inside { origin.at < length items.now }
+    ensures value { result ≡ found_by_number_of lookup.now items.now origin part number }
+    ensures last { IfSome result (λ f. f.span.last < length items.now) }
+{
+    let glyph = item_at(items, origin.at).glyph_id;
+    let is_chain = is_chained(lookup, part);
+    match set_for(lookup.table, is_chain, part.start, glyph, number) {
+        Some(set) => found_in_set(lookup, items, origin, part, set),
+        None => None,
+    }
+}
+
+/// The number of a glyph in the list of the part at `start`, whose offset stands 2 bytes after `start`.
+pub fn number_in(table: &[u8], start: usize, glyph: u32) -> Option<u32>
+    requires { start < 2 ^ 35 }
+    ensures { result ≡ number_of table.now start glyph }
+{
+    let list = part(table, start, start + 2)?;
+    number(table, list, glyph)
+}
+
+fn found_in_sets(
+    lookup: &Lookup<'_>,
+    items: &[hb_glyph_info_t],
+    origin: Origin,
+    part: LookupPart,
+) -> Option<Found>
+    requires near { part.start < 2 ^ 35 }
+    requires inside { origin.at < length items.now }
+    ensures value { result ≡ found_in_sets_of lookup.now items.now origin part }
+    ensures last { IfSome result (λ f. f.span.last < length items.now) }
+{
+    let glyph = item_at(items, origin.at).glyph_id;
+    match number_in(lookup.table, part.start, glyph) {
+        Some(i) => found_by_number(lookup, items, origin, part, i),
+        None => None,
+    }
+}
+
+fn found_in_part(
+    lookup: &Lookup<'_>,
+    items: &[hb_glyph_info_t],
+    origin: Origin,
+    part: LookupPart,
+) -> Option<Found>
+    requires near { part.start < 2 ^ 35 }
+    requires inside { origin.at < length items.now }
+    ensures value { result ≡ found_in_part_of lookup.now items.now origin part }
+    ensures last { IfSome result (λ f. f.span.last < length items.now) }
+{
+    if !is_context_part(lookup, part) {
+        return None;
+    }
+    if u16_at(lookup.table, part.start) == 3 {
+        found_whole(lookup, items, origin, part)
+    } else {
+        found_in_sets(lookup, items, origin, part)
+    }
+}
+
+/// The rule of part `i` that matches.
+fn found_at_part(
+    lookup: &Lookup<'_>,
+    items: &[hb_glyph_info_t],
+    origin: Origin,
+    i: u32,
+) -> Option<Found>
+    requires near { lookup.now.place < 2 ^ 17 }
+    requires few { i < 2 ^ 16 }
+    requires inside { origin.at < length items.now }
+    ensures value { result ≡ found_at_part_of lookup.now items.now origin i }
+    ensures last { IfSome result (λ f. f.span.last < length items.now) }
+{
+    match subtable(lookup.table, extension_kind(lookup), lookup.place, i) {
+        Some(part) => found_in_part(lookup, items, origin, part),
+        None => None,
+    }
+}
+
+/// The first rule of the first part that has one which matches at `origin`.
+#[tactic(auto, using(crate::proofs::LoopLemmas::first_some_next, crate::proofs::LoopLemmas::first_some_found, crate::proofs::LoopLemmas::first_some_end))]
+pub fn find(lookup: &Lookup<'_>, items: &[hb_glyph_info_t], origin: Origin) -> Option<Found>
+    requires near { lookup.now.place < 2 ^ 17 }
+    requires inside { origin.at < length items.now }
+    ensures value { result ≡ found_of lookup.now items.now origin }
+    ensures last { IfSome result (λ f. f.span.last < length items.now) }
+{
+    for i in 0..subtables(lookup.table, lookup.place) {
+        if let Some(found) = found_at_part(lookup, items, origin, i) {
+            return Some(found);
+        }
+    }
+    None
+}
+
+/// Whether the lookup is one of context, by its first part.
+pub fn is_context(lookup: &Lookup<'_>) -> bool
+    requires { lookup.now.place < 2 ^ 17 }
+    ensures { result ≡ is_context_of lookup.now }
+{
+    match subtable(lookup.table, extension_kind(lookup), lookup.place, 0) {
+        Some(part) => is_context_part(lookup, part),
+        None => false,
+    }
+}

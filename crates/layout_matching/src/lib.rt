@@ -1,0 +1,17 @@
+//! What lookups of OpenType layout match, in substitution (`GSUB`) and in positioning (`GPOS`).
+//!
+//! [`skipping`] says which glyphs a lookup sees, [`seeking`] finds the next glyph that is looked for, [`input`] what a rule or
+//! a ligature matches, [`spans`] what stands around that, [`rules`] reads the rules of context, [`found`] has the first rule
+//! that matches, and [`nesting`] the lookups that it names. All are functions of the bytes of the font and of the list of
+//! items: nothing is changed. Any bytes are taken.
+#![tactic(auto)]
+#![allow(non_camel_case_types)]
+
+pub mod found;
+pub mod input;
+pub mod lookup;
+pub mod nesting;
+pub mod rules;
+pub mod seeking;
+pub mod skipping;
+pub mod spans;

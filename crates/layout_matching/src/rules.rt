@@ -1,0 +1,146 @@
+//! Rules of context: what stands before, what is matched, what stands after, and the lookups that are applied then.
+ghost use Rattle.std.specs.Prelude.{◌≡◌, ◌<◌, ◌^◌};
+ghost use Rattle.std.specs.Option.{IfSome};
+ghost use Rattle.layout_matching.specs.Rules.{is_named as is_named_of, fits_row as fits_row_of, rules_at, row, plain_rule, chained, rule_place};
+
+use layout_tables::classes::class;
+use layout_tables::coverage::{covers, part};
+use shape_font::bytes::{records, u16_at};
+
+/// No table is so long.
+pub const FAR: usize = 274_877_906_944;
+
+/// What a value of a row says of a glyph: which one it is, its class, or a list that has it.
+#[derive(Clone, Copy, PartialEq, Eq, Debug)]
+pub enum Test {
+    Glyph,
+    Class,
+    Coverage,
+}
+
+/// So many values, from a place on. Classes and lists stand from `from` on.
+#[derive(Clone, Copy, PartialEq, Eq, Debug)]
+pub struct Row {
+    pub test: Test,
+    pub from: usize,
+    pub count: u16,
+    pub values: usize,
+}
+
+/// A rule: the row before, nearest first; that of the glyphs after the first one, whose count has the first too; the row
+/// after; and where its lookups stand, so many.
+#[derive(Clone, Copy, PartialEq, Eq, Debug)]
+pub struct Rule {
+    pub before: Row,
+    pub input: Row,
+    pub after: Row,
+    pub lookups: usize,
+    pub count: u16,
+}
+
+/// Whether a glyph is the one that a value names.
+fn is_named(table: &[u8], from: usize, value: u16, glyph: u32, test: Test) -> bool
+    requires { from < 2 ^ 39 }
+    ensures { result ≡ is_named_of table.now from value glyph test }
+{
+    match test {
+        Test::Glyph => glyph == u32::from(value),
+        Test::Class => class(table, from, glyph) == value,
+        Test::Coverage => 0 < value && covers(table, from + usize::from(value), glyph),
+    }
+}
+
+/// Whether a glyph is number `k` of a row.
+pub fn fits_row(table: &[u8], row: &Row, k: u32, glyph: u32) -> bool
+    ensures { result ≡ fits_row_of table.now row.now k glyph }
+{
+    let value = u16_at(table, row.values.min(FAR) + 2 * k as usize);
+    is_named(table, row.from.min(FAR), value, glyph, row.test)
+}
+
+/// Where the rules for glyph or class number `i` stand.
+pub fn rules(table: &[u8], start: usize, counted: usize, i: u32) -> Option<usize>
+    requires start { start < 2 ^ 35 }
+    requires counted { counted < 16 }
+    ensures value { result ≡ rules_at table.now start counted i }
+    ensures near { IfSome result (λ r. r < 2 ^ 36) }
+{
+    let count = records(
+        table,
+        u32::from(u16_at(table, start + counted)),
+        start + counted + 2,
+        2,
+    );
+    if i < count {
+        part(table, start, start + counted + 2 + 2 * i as usize)
+    } else {
+        None
+    }
+}
+
+/// Where rule `r` stands.
+pub fn rule_at(table: &[u8], rules: usize, r: u32) -> Option<usize>
+    requires rules { rules < 2 ^ 36 }
+    requires r { r < 2 ^ 16 }
+    ensures value { result ≡ rule_place table.now rules r }
+    ensures near { IfSome result (λ r. r < 2 ^ 37) }
+{
+    part(table, rules, rules + 2 + 2 * r as usize)
+}
+
+fn row_of(test: Test, from: usize, count: u16, values: usize) -> Row
+    ensures { result ≡ row test from count values }
+{
+    Row {
+        test,
+        from,
+        count,
+        values,
+    }
+}
+
+/// A rule without what stands before and after.
+pub fn plain(table: &[u8], test: Test, from: usize, at: usize, values: usize) -> Rule
+    requires at { at < 2 ^ 38 }
+    requires values { values < 2 ^ 38 }
+    ensures { result ≡ plain_rule table.now test from at values }
+{
+    let count = u16_at(table, at);
+    Rule {
+        before: row_of(test, from, 0, values),
+        input: row_of(test, from, count, values),
+        after: row_of(test, from, 0, values),
+        lookups: values + 2 * usize::from(count.saturating_sub(1)),
+        count: u16_at(table, at + 2),
+    }
+}
+
+/// A rule with what stands before and after. `whole` is 1 if the first glyph has a value too, else 0.
+pub fn chain(
+    table: &[u8],
+    test: Test,
+    from_before: usize,
+    from_input: usize,
+    from_after: usize,
+    whole: usize,
+    at: usize,
+) -> Rule
+    requires at { at < 2 ^ 38 }
+    requires whole { whole < 2 }
+    ensures { result ≡ chained table.now test from_before from_input from_after whole at }
+{
+    let before = row_of(test, from_before, u16_at(table, at), at + 2);
+    let middle = at + 2 + 2 * usize::from(before.count);
+    let count = u16_at(table, middle);
+    let input = row_of(test, from_input, count, middle + 2 + 2 * whole);
+    let behind = middle + 2 + 2 * whole + 2 * usize::from(count.saturating_sub(1));
+    let after = row_of(test, from_after, u16_at(table, behind), behind + 2);
+    let last = behind + 2 + 2 * usize::from(after.count);
+    Rule {
+        before,
+        input,
+        after,
+        lookups: last + 2,
+        count: u16_at(table, last),
+    }
+}

@@ -1,0 +1,230 @@
+//! Where the next glyph that is looked for stands, after a place or before it.
+//!
+//! What is looked for is a row of values, one for each glyph. Between two of them stand only glyphs that the lookup skips, and
+//! transparent ones that don't fit.
+ghost use Rattle.std.specs.Prelude.{◌≡◌, ◌<◌, ◌≤◌, ◌-◌, ◌++◌, length, not, OnOk, IsOkUnless};
+ghost use Rattle.std.specs.Option.{IfSome};
+ghost use Rattle.shape_font.specs.Search.{first_at};
+ghost use Rattle.layout_matching.specs.Skipping.{nth};
+ghost use Rattle.layout_matching.specs.Seeking.{mask_of, fits as fits_of, is_between as is_between_of, if_fits as if_fits_of, next_place as next_place_of, distance_back as distance_back_of, prev_place as prev_place_of, last_after as last_after_of, last_before as last_before_of, places_after};
+
+use crate::lookup::Lookup;
+use crate::rules::{Row, fits_row};
+use crate::skipping::{is_skipped, is_transparent};
+use shape_buffer::{ShapeError, hb_glyph_info_t};
+
+/// What is looked for: a row, within what is matched (`is_input`) or around it, and the syllable to stay in (0 for any).
+#[derive(Clone, Copy, PartialEq, Eq, Debug)]
+pub struct Seek {
+    pub row: Row,
+    pub is_input: bool,
+    pub syllable: u8,
+}
+
+/// The bits one of which a glyph has to have.
+fn mask(lookup: &Lookup<'_>, seek: &Seek) -> u32
+    ensures { result ≡ mask_of lookup.now seek.now }
+{
+    if seek.is_input {
+        lookup.mask
+    } else {
+        0xFFFF_FFFF
+    }
+}
+
+/// Whether a glyph is number `k` of the row, where the lookup may match it.
+fn fits(lookup: &Lookup<'_>, seek: &Seek, k: u32, there: &hb_glyph_info_t) -> bool
+    ensures { result ≡ fits_of lookup.now seek.now k there.now }
+{
+    there.mask & mask(lookup, seek) != 0
+        && (seek.syllable == 0 || there._hb_glyph_info_get_syllable() == seek.syllable)
+        && fits_row(lookup.table, &seek.row, k, there.glyph_id)
+}
+
+/// Whether a glyph may stand before the one that is looked for.
+fn is_between(lookup: &Lookup<'_>, seek: &Seek, k: u32, there: &hb_glyph_info_t) -> bool
+    ensures { result ≡ is_between_of lookup.now seek.now k there.now }
+{
+    is_skipped(lookup, there)
+        || (is_transparent(lookup, seek.is_input, there) && !fits(lookup, seek, k, there))
+}
+
+/// The place, if its glyph is the one that is looked for.
+fn if_fits(
+    lookup: &Lookup<'_>,
+    seek: &Seek,
+    items: &[hb_glyph_info_t],
+    k: u32,
+    j: usize,
+) -> Option<usize>
+    requires { j < length items.now }
+    ensures value { result ≡ if_fits_of lookup.now seek.now items.now k j }
+    ensures inside { IfSome result (λ n. n < length items.now) }
+    ensures same { IfSome result (λ n. n ≤ j) }
+{
+    if fits(lookup, seek, k, &items[j]) {
+        Some(j)
+    } else {
+        None
+    }
+}
+
+/// The first place from `from` on whose glyph may not stand between.
+#[tactic(auto, using(shape_font::proofs::SearchLemmas::first_at_next, shape_font::proofs::SearchLemmas::first_at_found, shape_font::proofs::SearchLemmas::first_at_end, crate::proofs::LoopLemmas::not_true, crate::proofs::LoopLemmas::not_false))]
+fn place_from(
+    lookup: &Lookup<'_>,
+    seek: &Seek,
+    items: &[hb_glyph_info_t],
+    k: u32,
+    from: usize,
+) -> Option<usize>
+    ensures value { result ≡ first_at
+        (λ j. not (is_between_of lookup.now seek.now k (nth items.now j)))
+        (length items.now - from) from }
+    ensures inside { IfSome result (λ j. j < length items.now) }
+{
+    for j in from..items.len() {
+        if !is_between(lookup, seek, k, &items[j]) {
+            return Some(j);
+        }
+    }
+    None
+}
+
+/// Where glyph `k` of the row stands after place `i`.
+pub fn next(
+    lookup: &Lookup<'_>,
+    seek: &Seek,
+    items: &[hb_glyph_info_t],
+    k: u32,
+    i: usize,
+) -> Option<usize>
+    requires { i < length items.now }
+    ensures value { result ≡ next_place_of lookup.now seek.now items.now k i }
+    ensures inside { IfSome result (λ j. j < length items.now) }
+{
+    match place_from(lookup, seek, items, k, i + 1) {
+        Some(j) => if_fits(lookup, seek, items, k, j),
+        None => None,
+    }
+}
+
+/// Whether the glyph at `j` may not stand between.
+fn ends(lookup: &Lookup<'_>, seek: &Seek, items: &[hb_glyph_info_t], k: u32, j: usize) -> bool
+    requires { j < length items.now }
+    ensures { result ≡ not (is_between_of lookup.now seek.now k (nth items.now j)) }
+{
+    !is_between(lookup, seek, k, &items[j])
+}
+
+/// How far before place `i` the nearest glyph stands that may not stand between.
+#[tactic(auto, using(shape_font::proofs::SearchLemmas::first_at_next, shape_font::proofs::SearchLemmas::first_at_found, shape_font::proofs::SearchLemmas::first_at_end))]
+fn distance_back(
+    lookup: &Lookup<'_>,
+    seek: &Seek,
+    items: &[hb_glyph_info_t],
+    k: u32,
+    i: usize,
+) -> Option<usize>
+    requires { i ≤ length items.now }
+    ensures value { result ≡ distance_back_of lookup.now seek.now items.now k i }
+    ensures inside { IfSome result (λ d. d < i) }
+{
+    for d in 0..i {
+        if ends(lookup, seek, items, k, i - 1 - d) {
+            return Some(d);
+        }
+    }
+    None
+}
+
+/// Where glyph `k` of the row stands before place `i`.
+pub fn prev(
+    lookup: &Lookup<'_>,
+    seek: &Seek,
+    items: &[hb_glyph_info_t],
+    k: u32,
+    i: usize,
+) -> Option<usize>
+    requires { i ≤ length items.now }
+    ensures value { result ≡ prev_place_of lookup.now seek.now items.now k i }
+    ensures inside { IfSome result (λ j. j ≤ length items.now) }
+{
+    match distance_back(lookup, seek, items, k, i) {
+        Some(d) => if_fits(lookup, seek, items, k, i - 1 - d),
+        None => None,
+    }
+}
+
+/// Where the last of `n` glyphs of the row stands after place `i`: place `i` itself if there are none.
+#[tactic(auto, using(crate::proofs::LoopLemmas::steps_next, crate::proofs::LoopLemmas::steps_none, crate::proofs::LoopLemmas::steps_end))]
+pub fn last_after(
+    lookup: &Lookup<'_>,
+    seek: &Seek,
+    items: &[hb_glyph_info_t],
+    n: u32,
+    i: usize,
+) -> Option<usize>
+    requires { i < length items.now }
+    ensures value { result ≡ last_after_of lookup.now seek.now items.now n i }
+    ensures inside { IfSome result (λ j. j < length items.now) }
+{
+    let mut last = i;
+    for k in 0..n {
+        match next(lookup, seek, items, k, last) {
+            Some(j) => last = j,
+            None => return None,
+        }
+    }
+    Some(last)
+}
+
+/// Where the farthest of `n` glyphs of the row stands before place `i`: place `i` itself if there are none.
+#[tactic(auto, using(crate::proofs::LoopLemmas::steps_next, crate::proofs::LoopLemmas::steps_none, crate::proofs::LoopLemmas::steps_end))]
+pub fn last_before(
+    lookup: &Lookup<'_>,
+    seek: &Seek,
+    items: &[hb_glyph_info_t],
+    n: u32,
+    i: usize,
+) -> Option<usize>
+    requires { i ≤ length items.now }
+    ensures value { result ≡ last_before_of lookup.now seek.now items.now n i }
+{
+    let mut last = i;
+    for k in 0..n {
+        match prev(lookup, seek, items, k, last) {
+            Some(j) => last = j,
+            None => return None,
+        }
+    }
+    Some(last)
+}
+
+/// Appends the places of `n` glyphs of a row after place `at`. Refuses with `Memory` alone.
+#[tactic(auto, using(crate::proofs::PlaceLemmas::places_pushed, crate::proofs::PlaceLemmas::places_none, crate::proofs::PlaceLemmas::places_end))]
+pub fn push_places(
+    lookup: &Lookup<'_>,
+    seek: &Seek,
+    items: &[hb_glyph_info_t],
+    n: u32,
+    at: usize,
+    places: &mut Vec<usize>,
+) -> Result<(), ShapeError>
+    requires { at < length items.now }
+    ensures ok { OnOk result (places.new.items
+        ≡ places.old.items ++ places_after lookup.now seek.now items.now n 0 at) }
+    ensures memory { IsOkUnless result ShapeError.Memory }
+{
+    let mut last = at;
+    for k in 0..n {
+        match next(lookup, seek, items, k, last) {
+            Some(j) => {
+                places.push(j)?;
+                last = j;
+            }
+            None => return Ok(()),
+        }
+    }
+    Ok(())
+}
