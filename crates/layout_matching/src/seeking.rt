@@ -42,7 +42,7 @@ fn fits(lookup: &Lookup<'_>, seek: &Seek, k: u32, there: &hb_glyph_info_t) -> bo
 }
 
 /// Whether a glyph may stand before the one that is looked for.
-fn is_between(lookup: &Lookup<'_>, seek: &Seek, k: u32, there: &hb_glyph_info_t) -> bool
+pub fn is_between(lookup: &Lookup<'_>, seek: &Seek, k: u32, there: &hb_glyph_info_t) -> bool
     ensures { result ≡ is_between_of lookup.now seek.now k there.now }
 {
     is_skipped(lookup, there)
