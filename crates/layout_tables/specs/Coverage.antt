@@ -1,5 +1,5 @@
 -- Coverage tables (OpenType, "OpenType Layout Common Table Formats", Coverage Table).
-use Rattle.std.specs.Prelude.{ℕ, List, Option, Some, None, Bool, is_some, ◌+◌, ◌-◌, ◌*◌, nat_eq, nat_lt, if◌then◌else◌}
+use Rattle.std.specs.Prelude.{ℕ, List, Option, None, Bool, is_some, ◌+◌, ◌-◌, ◌*◌, nat_eq, nat_lt, if◌then◌else◌}
 use Rattle.std.specs.Option.{option_map}
 use Rattle.std.specs.declared.cmp.Ordering.{Ordering}
 use Rattle.shape_font.specs.Bytes.{u16_of, fitting}

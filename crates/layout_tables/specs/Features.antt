@@ -23,9 +23,12 @@ feature_tag_of t index = option_map_or (tag_at t index) (header_offset_of t 6) 0
 abbrev pub required_feature_of : List ℕ → ℕ → Option ℕ
 required_feature_of t lang_sys = let index = u16_of t (lang_sys + 2) in (if nat_eq index 0xFFFF then None else Some index)
 
--- the first feature of a language system with the tag
+abbrev pub has_tag : List ℕ → ℕ → ℕ → Bool
+has_tag t tag index = nat_eq (feature_tag_of t index) tag
+
+-- the first feature with the tag, of those that a language system lists by their indexes
 abbrev pub has_feature_tag : List ℕ → ℕ → ℕ → ℕ → Bool
-has_feature_tag t lang_sys tag i = nat_eq (feature_tag_of t (u16_of t (lang_sys + 6 + 2 * i))) tag
+has_feature_tag t lang_sys tag i = has_tag t tag (u16_of t (lang_sys + 6 + 2 * i))
 
 abbrev pub feature_index_of : List ℕ → ℕ → ℕ → Option ℕ
 feature_index_of t lang_sys tag = option_map (λ i. u16_of t (lang_sys + 6 + 2 * i))
@@ -33,7 +36,7 @@ feature_index_of t lang_sys tag = option_map (λ i. u16_of t (lang_sys + 6 + 2 *
 
 -- the first feature of the table with the tag, whatever the language system
 abbrev pub any_feature_of : List ℕ → ℕ → Option ℕ
-any_feature_of t tag = first_at (λ i. nat_eq (feature_tag_of t i) tag) (feature_count_of t) 0
+any_feature_of t tag = first_at (has_tag t tag) (feature_count_of t) 0
 
 -- where a Feature table stands
 abbrev pub feature_at : List ℕ → ℕ → ℕ → Option ℕ

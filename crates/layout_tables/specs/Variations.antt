@@ -1,6 +1,6 @@
 -- Feature variations (OpenType, "OpenType Layout Common Table Formats", FeatureVariations Table), at the default instance
 -- of a font: each axis is at 0.
-use Rattle.std.specs.Prelude.{ℕ, List, Option, Some, None, Bool, true, false, not, is_none, ◌+◌, ◌*◌, ◌&&◌, ◌||◌, nat_eq, nat_lt, nat_le, if◌then◌else◌}
+use Rattle.std.specs.Prelude.{ℕ, List, Option, Some, None, Bool, true, not, is_none, ◌+◌, ◌*◌, ◌&&◌, nat_eq, nat_lt, nat_le, if◌then◌else◌}
 use Rattle.std.specs.Option.{option_and_then, option_map_or}
 use Rattle.shape_font.specs.Bytes.{u16_of, u32_of, fitting}
 use Rattle.shape_font.specs.Search.{first_at}

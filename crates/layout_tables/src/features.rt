@@ -1,8 +1,8 @@
 //! Features of a table of lookups (`GSUB`, `GPOS`), and the lookups of each.
-ghost use Rattle.std.specs.Prelude.{◌≡◌, ◌<◌, ◌^◌, nat_eq};
+ghost use Rattle.std.specs.Prelude.{◌≡◌, ◌<◌, ◌^◌};
 ghost use Rattle.std.specs.Option.{IfSome};
 ghost use Rattle.shape_font.specs.Search.{first_at};
-ghost use Rattle.layout_tables.specs.Features.{features_at, feature_count_of, feature_tag_of, required_feature_of, has_feature_tag, feature_index_of, any_feature_of, feature_of, feature_lookup_count_of, feature_lookup_of};
+ghost use Rattle.layout_tables.specs.Features.{features_at, feature_count_of, feature_tag_of, required_feature_of, has_tag as has_tag_of, has_feature_tag as has_feature_tag_of, feature_index_of, any_feature_of, feature_of, feature_lookup_count_of, feature_lookup_of};
 
 use crate::offsets::{header_offset, offset16};
 use shape_font::bytes::{records, u16_at, u32_at};
@@ -50,14 +50,29 @@ pub fn required_feature(table: &[u8], lang_sys: usize) -> Option<u16>
     }
 }
 
+/// Whether the feature with this index has the tag.
+fn has_tag(table: &[u8], tag: u32, index: u16) -> bool
+    ensures { result ≡ has_tag_of table.now tag index }
+{
+    feature_tag(table, index) == tag
+}
+
+/// Whether feature `i` of those that the language system at `lang_sys` lists has the tag.
+fn has_feature_tag(table: &[u8], lang_sys: usize, tag: u32, i: u32) -> bool
+    requires { lang_sys < 2 ^ 18 }
+    ensures { result ≡ has_feature_tag_of table.now lang_sys tag i }
+{
+    has_tag(table, tag, u16_at(table, lang_sys + 6 + 2 * i as usize))
+}
+
 /// The first of the `count` features of a language system that has the tag.
 #[tactic(auto, using(shape_font::proofs::SearchLemmas::first_at_next, shape_font::proofs::SearchLemmas::first_at_found, shape_font::proofs::SearchLemmas::first_at_end))]
 fn feature_number(table: &[u8], lang_sys: usize, tag: u32, count: u32) -> Option<u32>
     requires { lang_sys < 2 ^ 18 }
-    ensures { result ≡ first_at (has_feature_tag table.now lang_sys tag) count 0 }
+    ensures { result ≡ first_at (has_feature_tag_of table.now lang_sys tag) count 0 }
 {
     for i in 0..count {
-        if feature_tag(table, u16_at(table, lang_sys + 6 + 2 * i as usize)) == tag {
+        if has_feature_tag(table, lang_sys, tag, i) {
             return Some(i);
         }
     }
@@ -71,7 +86,12 @@ pub fn feature_index(table: &[u8], lang_sys: usize, tag: u32) -> Option<u16>
     ensures { result ≡ feature_index_of table.now lang_sys tag }
 {
     let stated = u32::from(u16_at(table, lang_sys + 4));
-    let i = feature_number(table, lang_sys, tag, records(table, stated, lang_sys + 6, 2))?;
+    let i = feature_number(
+        table,
+        lang_sys,
+        tag,
+        records(table, stated, lang_sys + 6, 2),
+    )?;
     Some(u16_at(table, lang_sys + 6 + 2 * i as usize))
 }
 
@@ -81,7 +101,7 @@ pub fn any_feature(table: &[u8], tag: u32) -> Option<u16>
     ensures { result ≡ any_feature_of table.now tag }
 {
     for i in 0..feature_count(table) as u16 {
-        if feature_tag(table, i) == tag {
+        if has_tag(table, tag, i) {
             return Some(i);
         }
     }

@@ -17,3 +17,4 @@ pub mod lookups;
 pub mod offsets;
 pub mod scripts;
 pub mod variations;
+pub mod worked;

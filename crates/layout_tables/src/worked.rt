@@ -1,0 +1,27 @@
+//! The definitions, computed on bytes that were read by hand.
+ghost use Rattle.layout_tables.specs.WorkedGlyphs.{WorkedCoverage, WorkedClasses, WorkedDefinitions};
+ghost use Rattle.layout_tables.specs.WorkedScripts.{WorkedOffsets, WorkedScriptChoice, WorkedLanguageChoice};
+ghost use Rattle.layout_tables.specs.WorkedFeatures.{WorkedFeatureLists, WorkedConditions, WorkedVariations};
+ghost use Rattle.layout_tables.specs.WorkedLookups.{WorkedLookups};
+
+/// Coverage, classes, and what `GDEF` says of glyphs.
+pub fn glyphs_meet_worked_cases()
+    ensures coverage { WorkedCoverage }
+    ensures classes { WorkedClasses }
+    ensures definitions { WorkedDefinitions }
+{}
+
+/// Offsets, and the choice of scripts and language systems.
+pub fn scripts_meet_worked_cases()
+    ensures offsets { WorkedOffsets }
+    ensures scripts { WorkedScriptChoice }
+    ensures languages { WorkedLanguageChoice }
+{}
+
+/// Features and their variations, and lookups.
+pub fn lookups_meet_worked_cases()
+    ensures features { WorkedFeatureLists }
+    ensures conditions { WorkedConditions }
+    ensures variations { WorkedVariations }
+    ensures lookups { WorkedLookups }
+{}
