@@ -3,10 +3,11 @@ use Rattle.std.specs.Prelude.{ℕ, List, Bool, false, Option, None, ◌+◌, ◌
 use Rattle.std.specs.Option.{option_and_then, option_map, option_map_or}
 use Rattle.shape_font.specs.Bytes.{u16_of, fitting}
 use Rattle.shape_items.specs.Items.{Item}
-use Rattle.layout_tables.specs.Coverage.{part_at, coverage, covers}
+use Rattle.layout_tables.specs.Coverage.{coverage_index, covers}
+use Rattle.layout_tables.specs.Offsets.{offset16_of}
 use Rattle.layout_tables.specs.Classes.{class_of}
-use Rattle.layout_tables.specs.Lookups.{subtables_of, subtable_in}
-use Rattle.layout_tables.specs.declared.lookups.LookupPart.{LookupPart}
+use Rattle.layout_tables.specs.Lookups.{subtable_count_of, subtable_of}
+use Rattle.layout_tables.specs.declared.lookups.LookupSubtable.{LookupSubtable}
 use Rattle.layout_matching.specs.Loops.{first_some}
 use Rattle.layout_matching.specs.Rules.{FAR, rules_at, plain_rule, chained, rule_place}
 use Rattle.layout_matching.specs.Skipping.{nth}
@@ -27,10 +28,10 @@ chained_kind l = if l.positioning then 8 else 6
 abbrev pub extension_kind : Lookup → ℕ
 extension_kind l = if l.positioning then 9 else 7
 
-abbrev pub is_chained : Lookup → LookupPart → Bool
+abbrev pub is_chained : Lookup → LookupSubtable → Bool
 is_chained l part = nat_eq part.kind (chained_kind l)
 
-abbrev pub is_context_part : Lookup → LookupPart → Bool
+abbrev pub is_context_part : Lookup → LookupSubtable → Bool
 is_context_part l part = nat_eq part.kind (context_kind l) || is_chained l part
 
 abbrev pub found_if : Lookup → List Item → Origin → Rule → Option Found
@@ -43,12 +44,12 @@ whole_rule t is_chain start = if is_chain then chained t Coverage start start st
 
 -- the list of the first glyph stands before the values; a rule of no glyph has none
 abbrev pub first_list : List ℕ → ℕ → Rule → Option ℕ
-first_list t start rule = if nat_eq rule.input.count 0 then None else part_at t start (min rule.input.values FAR - 2)
+first_list t start rule = if nat_eq rule.input.count 0 then None else offset16_of t start (min rule.input.values FAR - 2)
 
 abbrev pub is_first : List ℕ → ℕ → Rule → ℕ → Bool
 is_first t start rule glyph = option_map_or (λ list. covers t list glyph) (first_list t start rule) false
 
-abbrev pub found_whole : Lookup → List Item → Origin → LookupPart → Option Found
+abbrev pub found_whole : Lookup → List Item → Origin → LookupSubtable → Option Found
 found_whole l items origin part = let rule = whole_rule l.table.now (is_chained l part) part.start in
     (if is_first l.table.now part.start rule (nth items origin.at).glyph_id then found_if l items origin rule else None)
 
@@ -70,38 +71,38 @@ rule_of t is_chain start at = if nat_eq (u16_of t start) 1
     else (if is_chain then chained t Class (place_at t start 4) (place_at t start 6) (place_at t start 8) 0 at
     else plain_rule t Class (place_at t start 4) at (at + 4))
 
-abbrev pub found_rule : Lookup → List Item → Origin → LookupPart → ℕ → ℕ → Option Found
+abbrev pub found_rule : Lookup → List Item → Origin → LookupSubtable → ℕ → ℕ → Option Found
 found_rule l items origin part set r =
     option_and_then (λ place. found_if l items origin (rule_of l.table.now (is_chained l part) part.start place)) (rule_place l.table.now set r)
 
-abbrev pub found_in_set : Lookup → List Item → Origin → LookupPart → ℕ → Option Found
+abbrev pub found_in_set : Lookup → List Item → Origin → LookupSubtable → ℕ → Option Found
 found_in_set l items origin part set =
     first_some (found_rule l items origin part set) (fitting l.table.now (u16_of l.table.now set) (set + 2) 2) 0
 
-abbrev pub found_by_number : Lookup → List Item → Origin → LookupPart → ℕ → Option Found
+abbrev pub found_by_number : Lookup → List Item → Origin → LookupSubtable → ℕ → Option Found
 found_by_number l items origin part number = option_and_then (found_in_set l items origin part)
     (set_for l.table.now (is_chained l part) part.start (nth items origin.at).glyph_id number)
 
 abbrev pub number_of : List ℕ → ℕ → ℕ → Option ℕ
-number_of t start glyph = option_and_then (λ list. coverage t list glyph) (part_at t start (start + 2))
+number_of t start glyph = option_and_then (λ list. coverage_index t list glyph) (offset16_of t start (start + 2))
 
-abbrev pub found_in_sets : Lookup → List Item → Origin → LookupPart → Option Found
+abbrev pub found_in_sets : Lookup → List Item → Origin → LookupSubtable → Option Found
 found_in_sets l items origin part = option_and_then (found_by_number l items origin part)
     (number_of l.table.now part.start (nth items origin.at).glyph_id)
 
-abbrev pub found_in_part : Lookup → List Item → Origin → LookupPart → Option Found
+abbrev pub found_in_part : Lookup → List Item → Origin → LookupSubtable → Option Found
 found_in_part l items origin part = if is_context_part l part
     then (if nat_eq (u16_of l.table.now part.start) 3 then found_whole l items origin part else found_in_sets l items origin part)
     else None
 
 abbrev pub found_at_part : Lookup → List Item → Origin → ℕ → Option Found
 found_at_part l items origin i =
-    option_and_then (found_in_part l items origin) (subtable_in l.table.now (extension_kind l) l.place i)
+    option_and_then (found_in_part l items origin) (subtable_of l.table.now (extension_kind l) l.place i)
 
 -- the first rule of the first part that has one
 abbrev pub found_of : Lookup → List Item → Origin → Option Found
-found_of l items origin = first_some (found_at_part l items origin) (subtables_of l.table.now l.place) 0
+found_of l items origin = first_some (found_at_part l items origin) (subtable_count_of l.table.now l.place) 0
 
 -- a lookup of context, by its first part
 abbrev pub is_context : Lookup → Bool
-is_context l = option_map_or (is_context_part l) (subtable_in l.table.now (extension_kind l) l.place 0) false
+is_context l = option_map_or (is_context_part l) (subtable_of l.table.now (extension_kind l) l.place 0) false

@@ -1,7 +1,8 @@
--- rules of context: what stands before, what is matched, what stands after, and the lookups that are applied then
+-- Rules of context: what stands before, what is matched, what stands after, and the lookups that are applied then
 use Rattle.std.specs.Prelude.{ℕ, List, Bool, Option, None, min, ◌+◌, ◌-◌, ◌*◌, ◌&&◌, nat_eq, nat_lt, if◌then◌else◌}
 use Rattle.shape_font.specs.Bytes.{u16_of, fitting}
-use Rattle.layout_tables.specs.Coverage.{part_at, covers}
+use Rattle.layout_tables.specs.Coverage.{covers}
+use Rattle.layout_tables.specs.Offsets.{offset16_of}
 use Rattle.layout_tables.specs.Classes.{class_of}
 use Rattle.layout_matching.specs.declared.rules.Test.{Test}
 use Rattle.layout_matching.specs.declared.rules.Test.TheVariants.{Glyph, Class, Coverage}
@@ -25,7 +26,7 @@ fits_row t row k glyph = is_named t (min row.from FAR) (u16_of t (min row.values
 -- where the rules for glyph or class number `i` stand
 abbrev pub rules_at : List ℕ → ℕ → ℕ → ℕ → Option ℕ
 rules_at t start counted i = if nat_lt i (fitting t (u16_of t (start + counted)) (start + counted + 2) 2)
-    then part_at t start (start + counted + 2 + 2 * i) else None
+    then offset16_of t start (start + counted + 2 + 2 * i) else None
 
 -- a row of so many values
 abbrev pub row : Test → ℕ → ℕ → ℕ → Row
@@ -48,11 +49,11 @@ chained t test from_before from_input from_after whole at =
     let middle = at + 2 + 2 * before.count in
     let count = u16_of t middle in
     let input = row test from_input count (middle + 2 + 2 * whole) in
-    let behind = middle + 2 + 2 * whole + 2 * (count - 1) in
-    let after = row test from_after (u16_of t behind) (behind + 2) in
-    let last = behind + 2 + 2 * after.count in
+    let follows = middle + 2 + 2 * whole + 2 * (count - 1) in
+    let after = row test from_after (u16_of t follows) (follows + 2) in
+    let last = follows + 2 + 2 * after.count in
     record { before = before; input = input; after = after; lookups = last + 2; count = u16_of t last }
 
 -- the rule number `r` of those at `rules`
 abbrev pub rule_place : List ℕ → ℕ → ℕ → Option ℕ
-rule_place t rules r = part_at t rules (rules + 2 + 2 * r)
+rule_place t rules r = offset16_of t rules (rules + 2 + 2 * r)

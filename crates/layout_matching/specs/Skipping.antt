@@ -2,7 +2,7 @@
 use Rattle.std.specs.Prelude.{ℕ, Bool, List, ◌/◌, ◌%◌, ◌&&◌, ◌||◌, not, nat_eq, nat_lt, slice_index_or, if◌then◌else◌}
 use Rattle.std.specs.Int.RustNames.{bit_and}
 use Rattle.shape_items.specs.Items.{Item, new_item, is_ignorable_item}
-use Rattle.layout_tables.specs.Definitions.{mark_class, is_in_mark_set}
+use Rattle.layout_tables.specs.Gdef.{mark_attachment_class, mark_set_covers}
 use Rattle.layout_matching.specs.declared.lookup.Lookup.{Lookup}
 
 abbrev pub shares : ℕ → ℕ → Bool
@@ -16,8 +16,8 @@ nth items i = slice_index_or items i (new_item 0 0)
 -- byte of the flags)
 abbrev pub is_mark_left_out : Lookup → Item → Bool
 is_mark_left_out l item =
-    if shares l.flags 16 then not (is_in_mark_set l.gdef.now l.mark_set item.glyph_id)
-    else (nat_lt 255 l.flags && not (nat_eq (l.flags / 256) (mark_class l.gdef.now item.glyph_id % 256)))
+    if shares l.flags 16 then not (mark_set_covers l.gdef.now l.mark_set item.glyph_id)
+    else (nat_lt 255 l.flags && not (nat_eq (l.flags / 256) (mark_attachment_class l.gdef.now item.glyph_id % 256)))
 
 -- bases, ligatures or marks that the flags ignore (2, 4 and 8), and marks that are left out
 abbrev pub is_skipped : Lookup → Item → Bool

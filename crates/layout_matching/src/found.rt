@@ -10,8 +10,9 @@ use crate::rules::{FAR, Rule, Test, chain, plain, rule_at, rules};
 use crate::skipping::item_at;
 use crate::spans::{Origin, Span, span_at};
 use layout_tables::classes::class;
-use layout_tables::coverage::{covers, number, part};
-use layout_tables::lookups::{LookupPart, subtable, subtables};
+use layout_tables::coverage::{coverage_index, covers};
+use layout_tables::offsets::offset16;
+use layout_tables::lookups::{LookupSubtable, subtable, subtable_count};
 use shape_buffer::hb_glyph_info_t;
 use shape_font::bytes::{records, u16_at};
 
@@ -43,13 +44,13 @@ pub fn extension_kind(lookup: &Lookup<'_>) -> u16
     if lookup.positioning { 9 } else { 7 }
 }
 
-fn is_chained(lookup: &Lookup<'_>, part: LookupPart) -> bool
+fn is_chained(lookup: &Lookup<'_>, part: LookupSubtable) -> bool
     ensures { result ≡ is_chained_of lookup.now part }
 {
     part.kind == chained_kind(lookup)
 }
 
-fn is_context_part(lookup: &Lookup<'_>, part: LookupPart) -> bool
+fn is_context_part(lookup: &Lookup<'_>, part: LookupSubtable) -> bool
     ensures { result ≡ is_context_part_of lookup.now part }
 {
     part.kind == context_kind(lookup) || is_chained(lookup, part)
@@ -92,7 +93,7 @@ fn is_first(table: &[u8], start: usize, rule: &Rule, glyph: u32) -> bool
     if rule.input.count == 0 {
         return false;
     }
-    match part(table, start, rule.input.values.min(FAR).saturating_sub(2)) {
+    match offset16(table, start, rule.input.values.min(FAR).saturating_sub(2)) {
         Some(list) => covers(table, list, glyph),
         None => false,
     }
@@ -102,7 +103,7 @@ fn found_whole(
     lookup: &Lookup<'_>,
     items: &[hb_glyph_info_t],
     origin: Origin,
-    part: LookupPart,
+    part: LookupSubtable,
 ) -> Option<Found>
     requires near { part.start < 2 ^ 35 }
     requires inside { origin.at < length items.now }
@@ -186,7 +187,7 @@ fn found_rule(
     lookup: &Lookup<'_>,
     items: &[hb_glyph_info_t],
     origin: Origin,
-    part: LookupPart,
+    part: LookupSubtable,
     set: usize,
     r: u32,
 ) -> Option<Found>
@@ -212,7 +213,7 @@ fn found_in_set(
     lookup: &Lookup<'_>,
     items: &[hb_glyph_info_t],
     origin: Origin,
-    part: LookupPart,
+    part: LookupSubtable,
     set: usize,
 ) -> Option<Found>
     requires near { part.start < 2 ^ 35 }
@@ -238,7 +239,7 @@ fn found_by_number(
     lookup: &Lookup<'_>,
     items: &[hb_glyph_info_t],
     origin: Origin,
-    part: LookupPart,
+    part: LookupSubtable,
     number: u32,
 ) -> Option<Found>
     requires near { part.start < 2 ^ 35 }
@@ -259,15 +260,15 @@ pub fn number_in(table: &[u8], start: usize, glyph: u32) -> Option<u32>
     requires { start < 2 ^ 35 }
     ensures { result ≡ number_of table.now start glyph }
 {
-    let list = part(table, start, start + 2)?;
-    number(table, list, glyph)
+    let list = offset16(table, start, start + 2)?;
+    coverage_index(table, list, glyph)
 }
 
 fn found_in_sets(
     lookup: &Lookup<'_>,
     items: &[hb_glyph_info_t],
     origin: Origin,
-    part: LookupPart,
+    part: LookupSubtable,
 ) -> Option<Found>
     requires near { part.start < 2 ^ 35 }
     requires inside { origin.at < length items.now }
@@ -285,7 +286,7 @@ fn found_in_part(
     lookup: &Lookup<'_>,
     items: &[hb_glyph_info_t],
     origin: Origin,
-    part: LookupPart,
+    part: LookupSubtable,
 ) -> Option<Found>
     requires near { part.start < 2 ^ 35 }
     requires inside { origin.at < length items.now }
@@ -329,7 +330,7 @@ pub fn find(lookup: &Lookup<'_>, items: &[hb_glyph_info_t], origin: Origin) -> O
     ensures value { result ≡ found_of lookup.now items.now origin }
     ensures last { IfSome result (λ f. f.span.last < length items.now) }
 {
-    for i in 0..subtables(lookup.table, lookup.place) {
+    for i in 0..subtable_count(lookup.table, lookup.place) {
         if let Some(found) = found_at_part(lookup, items, origin, i) {
             return Some(found);
         }

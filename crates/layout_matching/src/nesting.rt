@@ -8,7 +8,7 @@ use crate::lookup::Lookup;
 use crate::rules::{FAR, Rule};
 use crate::seeking::push_places;
 use crate::skipping::item_at;
-use layout_tables::lookups::{lookup, mark_set};
+use layout_tables::lookups::{lookup, mark_filtering_set};
 use shape_buffer::{ShapeError, hb_glyph_info_t};
 use shape_font::bytes::u16_at;
 use std::alloc::Global;
@@ -31,7 +31,7 @@ fn with_place<'a>(here: &Lookup<'a>, place: usize) -> Lookup<'a>
         gdef: here.gdef,
         place,
         flags: u16_at(here.table, place + 2),
-        mark_set: mark_set(here.table, place),
+        mark_set: mark_filtering_set(here.table, place),
         mask: here.mask,
         unit: here.unit,
         auto_zwnj: here.auto_zwnj,
@@ -42,15 +42,15 @@ fn with_place<'a>(here: &Lookup<'a>, place: usize) -> Lookup<'a>
     }
 }
 
-fn record_at(rule: &Rule, r: u16) -> usize
+fn record_at(rule: &Rule, r: u32) -> usize
     ensures value { result ≡ record_at_of rule.now r }
     ensures near { result < 2 ^ 39 }
 {
-    rule.lookups.min(FAR) + 4 * usize::from(r)
+    rule.lookups.min(FAR) + 4 * r as usize
 }
 
 /// What record `r` of a rule names, if the glyph and the lookup are there. `places` are those of the matched glyphs.
-pub fn target_at<'a>(here: &Lookup<'a>, rule: &Rule, places: &[usize], r: u16) -> Option<Target<'a>>
+pub fn target_at<'a>(here: &Lookup<'a>, rule: &Rule, places: &[usize], r: u32) -> Option<Target<'a>>
     ensures value { result ≡ target_of here.now rule.now places.now r }
     ensures near { IfSome result (λ t. t.lookup.place < 2 ^ 17) }
     ensures few { IfSome result (λ t. t.index < 2 ^ 16) }
@@ -71,7 +71,7 @@ pub fn target_at<'a>(here: &Lookup<'a>, rule: &Rule, places: &[usize], r: u16) -
     }
 }
 
-/// The places of the glyphs that a rule matches, the first one at `at`. Refuses with `Memory` alone.
+/// The places of the glyphs that a rule matches, the first one at `at`; none for a rule of no glyph. Refuses with `Memory` alone.
 pub fn places(
     alloc: Global,
     lookup: &Lookup<'_>,
@@ -84,6 +84,9 @@ pub fn places(
     ensures memory { IsOkUnless result ShapeError.Memory }
 {
     let mut all = Vec::new(alloc);
+    if rule.input.count == 0 {
+        return Ok(all);
+    }
     all.push(at)?;
     let seek = seek_input(lookup, &item_at(items, at), rule.input);
     let n = u32::from(rule.input.count.saturating_sub(1));

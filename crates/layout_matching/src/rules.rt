@@ -4,7 +4,8 @@ ghost use Rattle.std.specs.Option.{IfSome};
 ghost use Rattle.layout_matching.specs.Rules.{is_named as is_named_of, fits_row as fits_row_of, rules_at, row, plain_rule, chained, rule_place};
 
 use layout_tables::classes::class;
-use layout_tables::coverage::{covers, part};
+use layout_tables::coverage::covers;
+use layout_tables::offsets::offset16;
 use shape_font::bytes::{records, u16_at};
 
 /// No table is so long.
@@ -72,7 +73,7 @@ pub fn rules(table: &[u8], start: usize, counted: usize, i: u32) -> Option<usize
         2,
     );
     if i < count {
-        part(table, start, start + counted + 2 + 2 * i as usize)
+        offset16(table, start, start + counted + 2 + 2 * i as usize)
     } else {
         None
     }
@@ -85,7 +86,7 @@ pub fn rule_at(table: &[u8], rules: usize, r: u32) -> Option<usize>
     ensures value { result ≡ rule_place table.now rules r }
     ensures near { IfSome result (λ r. r < 2 ^ 37) }
 {
-    part(table, rules, rules + 2 + 2 * r as usize)
+    offset16(table, rules, rules + 2 + 2 * r as usize)
 }
 
 fn row_of(test: Test, from: usize, count: u16, values: usize) -> Row
@@ -133,9 +134,9 @@ pub fn chain(
     let middle = at + 2 + 2 * usize::from(before.count);
     let count = u16_at(table, middle);
     let input = row_of(test, from_input, count, middle + 2 + 2 * whole);
-    let behind = middle + 2 + 2 * whole + 2 * usize::from(count.saturating_sub(1));
-    let after = row_of(test, from_after, u16_at(table, behind), behind + 2);
-    let last = behind + 2 + 2 * usize::from(after.count);
+    let follows = middle + 2 + 2 * whole + 2 * usize::from(count.saturating_sub(1));
+    let after = row_of(test, from_after, u16_at(table, follows), follows + 2);
+    let last = follows + 2 + 2 * usize::from(after.count);
     Rule {
         before,
         input,

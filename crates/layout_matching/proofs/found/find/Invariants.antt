@@ -1,10 +1,10 @@
 use Rattle.std.proofs.Common.{◌≡◌, ◌-◌}
 use Rattle.layout_matching.specs.Found.{found_at_part}
 use Rattle.layout_matching.specs.Loops.{first_some}
-use Rattle.layout_tables.specs.Lookups.{subtables_of}
+use Rattle.layout_tables.specs.Lookups.{subtable_count_of}
 use Rattle.layout_matching.proofs.found.find.Given as goal
 
 abbrev pub invariant-loop-i : goal.invariant-loop-i
 invariant-loop-i l =
-    let n = subtables_of l.lookup.table.now l.lookup.place in
+    let n = subtable_count_of l.lookup.table.now l.lookup.place in
     first_some (found_at_part l.lookup l.items l.origin) n 0 ≡ first_some (found_at_part l.lookup l.items l.origin) (n - l.i) l.i

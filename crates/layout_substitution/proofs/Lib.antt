@@ -1,0 +1,5 @@
+pub mod PreservedLemmas
+pub mod CopyLemmas
+pub mod LigatureLemmas
+pub mod AppliedLemmas
+pub mod KindLemmas

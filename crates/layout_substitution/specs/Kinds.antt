@@ -1,0 +1,39 @@
+-- The lookups of kinds 1 to 4 at a place.
+use Prim.Native.Nat.{zero}
+use Rattle.std.specs.Prelude.{ℕ, suc, Option, Some, None, nat_eq, if◌then◌else◌}
+use Rattle.std.specs.Option.{option_map_or}
+use Rattle.shape_items.specs.Buffer.{Buffer}
+use Rattle.layout_tables.specs.Lookups.{subtable_count_of, subtable_of}
+use Rattle.layout_tables.specs.declared.lookups.LookupSubtable.{LookupSubtable}
+use Rattle.layout_matching.specs.declared.lookup.Lookup.{Lookup}
+use Rattle.layout_substitution.specs.Applied.{Applied, unapplied, single_applied, multiple_applied, alternate_applied}
+use Rattle.layout_substitution.specs.Edits.{is_past}
+use Rattle.layout_substitution.specs.Ligatures.{ligature_applied}
+use Rattle.layout_substitution.specs.declared.apply.Spot.{Spot}
+
+-- kinds 1 to 4
+abbrev pub kind_applied : Lookup → Spot → Buffer → LookupSubtable → Applied
+kind_applied l spot b part =
+    if nat_eq part.kind 1 then single_applied l part.start spot b
+    else (if nat_eq part.kind 2 then multiple_applied l part.start spot b
+    else (if nat_eq part.kind 3 then alternate_applied l part.start spot b
+    else (if nat_eq part.kind 4 then ligature_applied l part.start spot b else unapplied b)))
+
+abbrev pub part_applied : Lookup → ℕ → Spot → Buffer → Applied
+part_applied l i spot b = option_map_or (kind_applied l spot b) (subtable_of l.table.now 7 l.place i) (unapplied b)
+
+-- what the next parts make if one didn't apply; past the limit of the run nothing is done any more
+abbrev pub or_else : (Buffer → Applied) → Applied → Option Spot → Applied
+or_else next made (Some spot) = made
+or_else next made None = next made.buffer
+
+abbrev pub or_next : (Buffer → Applied) → Applied → Applied
+or_next next made = if is_past made.buffer then made else or_else next made made.next
+
+-- the first of `n` parts from part `i` on that applies
+abbrev pub parts_applied : Lookup → Spot → ℕ → ℕ → Buffer → Applied
+parts_applied l spot zero i b = unapplied b
+parts_applied l spot (suc n) i b = or_next (parts_applied l spot n (suc i)) (part_applied l i spot b)
+
+abbrev pub lookup_applied : Lookup → Spot → Buffer → Applied
+lookup_applied l spot b = parts_applied l spot (subtable_count_of l.table.now l.place) 0 b

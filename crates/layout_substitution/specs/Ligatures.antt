@@ -1,0 +1,137 @@
+-- What a ligature makes of a buffer at a place (kind 4).
+use Rattle.std.specs.Prelude.{ℕ, Bool, true, Option, Some, None, ◌+◌, ◌-◌, ◌*◌, ◌%◌, ◌&&◌, ◌||◌, not, length, min, nat_eq, nat_lt, if◌then◌else◌}
+use Rattle.std.specs.Option.{option_and_then, option_map, option_map_or}
+use Rattle.shape_items.specs.Buffer.{Buffer}
+use Rattle.shape_items.specs.Items.{Item}
+use Rattle.layout_tables.specs.Offsets.{offset16_of}
+use Rattle.layout_matching.specs.Input.{input_matched, is_mark_glyph, seek_input}
+use Rattle.layout_matching.specs.Loops.{times, first_some}
+use Rattle.layout_matching.specs.Rules.{row}
+use Rattle.layout_matching.specs.Seeking.{is_between}
+use Rattle.layout_matching.specs.Skipping.{shares}
+use Rattle.layout_matching.specs.declared.input.Matched.{Matched}
+use Rattle.layout_matching.specs.declared.lookup.Lookup.{Lookup}
+use Rattle.layout_matching.specs.declared.rules.Row.{Row}
+use Rattle.layout_matching.specs.declared.rules.Test.TheVariants.{Glyph}
+use Rattle.layout_substitution.specs.Applied.{Applied, unapplied, put_one, with_as_many_after}
+use Rattle.layout_substitution.specs.Edits.{item_at, is_inside, put_at, taken_out, merged}
+use Rattle.layout_substitution.specs.Replaced.{as_part, as_ligature, parts_of}
+use Rattle.layout_substitution.specs.Substitutes.{set_of, listed_count, ligature_glyph, component_count}
+use Rattle.layout_substitution.specs.declared.apply.Spot.{Spot}
+use Rattle.layout_substitution.specs.declared.ligature.Components.{Components}
+use Rattle.layout_substitution.specs.declared.ligature.Joining.{Joining}
+use Rattle.layout_substitution.specs.declared.ligature.Ligation.{Ligation}
+
+-- the components of a ligature, as a row of glyphs whose count has the first one too
+abbrev pub component_row : Lookup → ℕ → Row
+component_row l ligature = row Glyph 0 (component_count l.table.now ligature) (ligature + 4)
+
+abbrev pub components_at : ℕ → Matched → Components
+components_at ligature m = record { ligature = ligature; last = m.last; all_marks = m.all_marks }
+
+-- a ligature of no component stands nowhere
+abbrev pub ligature_matched : Lookup → Buffer → ℕ → ℕ → Option Components
+ligature_matched l b at ligature = if nat_eq (component_count l.table.now ligature) 0 then None
+    else option_map (components_at ligature) (input_matched l b.items at (component_row l ligature))
+
+abbrev pub ligature_in : Lookup → Buffer → ℕ → ℕ → ℕ → Option Components
+ligature_in l b at set i = option_and_then (ligature_matched l b at) (offset16_of l.table.now set (set + 2 + 2 * i))
+
+-- the first ligature of the set whose components stand there
+abbrev pub ligature_found : Lookup → Buffer → ℕ → ℕ → Option Components
+ligature_found l b at set = first_some (ligature_in l b at set) (listed_count l.table.now set) 0
+
+-- a mark on component `part` of so many, of a ligature that becomes components of another one
+abbrev pub part_among : Joining → Item → ℕ
+part_among s item = let part = item.properties.ligature_component in
+    s.so_far - s.parts + (if nat_eq part 0 then s.parts else min part s.parts)
+
+-- one item after the first component: a component goes, and what stands between is a mark on the ligature
+pub record Joined : Type 0 where
+  pub buffer : Buffer
+  pub walk : Joining
+
+abbrev pub between_stays : Bool → ℕ → Joined → Joined
+between_stays own id s = let item = item_at s.buffer s.walk.at in record {
+  buffer = if own then put_at s.walk.at (as_part id (part_among s.walk item) item) s.buffer else s.buffer;
+  walk = record s.walk { at = s.walk.at + 1 };
+}
+
+abbrev pub component_gone : Joined → Joined
+component_gone s = let item = item_at s.buffer s.walk.at in record {
+  buffer = taken_out s.walk.at s.buffer;
+  walk = record s.walk {
+    left = s.walk.left - 1;
+    id = item.properties.ligature_id;
+    parts = parts_of item;
+    so_far = (s.walk.so_far + parts_of item) % 65536;
+  };
+}
+
+-- the component that is looked for next: number 0 is the one after the first
+abbrev pub looked_for : Ligation → Joining → ℕ
+looked_for made walk = made.seek.row.count - 1 - walk.left
+
+abbrev pub join_step : Lookup → Ligation → Joined → Joined
+join_step l made s =
+    if is_inside s.walk.at s.buffer then
+    (if is_between l made.seek (looked_for made s.walk) (item_at s.buffer s.walk.at) then between_stays made.own made.id s else component_gone s)
+    else s
+
+-- marks after the last component, which stood on its components, stand on the ligature
+abbrev pub follows : Joined → Bool
+follows s = let item = (item_at s.buffer s.walk.at).properties in
+    is_inside s.walk.at s.buffer && nat_eq item.ligature_id s.walk.id && nat_lt 0 item.ligature_component
+
+abbrev pub follow_step : ℕ → Joined → Joined
+follow_step id s = if follows s then between_stays true id s else s
+
+-- of a ligature of marks alone, and if the last component belonged to no ligature, nothing follows
+abbrev pub followed : Ligation → Joined → Joined
+followed made s = if made.marks || nat_eq s.walk.id 0 then s else times (follow_step made.id) (length s.buffer.items) s
+
+-- the number after this one: 1 to 7
+abbrev pub number_after : ℕ → ℕ
+number_after serial = serial % 7 + 1
+
+abbrev pub first_joined : Lookup → Components → ℕ → Buffer → Joined
+first_joined l m at b = let item = item_at b at in record {
+  buffer = merged at (m.last + 1) b;
+  walk = record { at = at + 1; left = component_count l.table.now m.ligature - 1; id = item.properties.ligature_id; parts = parts_of item; so_far = parts_of item };
+}
+
+-- all components in one: their clusters are merged first
+abbrev pub joined : Lookup → Ligation → Components → ℕ → Buffer → Joined
+joined l made m at b = followed made (times (join_step l made) (m.last - at) (first_joined l m at b))
+
+-- a ligature that isn't one of marks, or of a base and marks, has a number of its own
+abbrev pub is_own : Components → Item → Bool
+is_own m first = not (m.all_marks && shares first.properties.glyph_class.0 10)
+
+abbrev pub ligation_of : Lookup → Spot → Buffer → Components → Ligation
+ligation_of l spot b m = let first = item_at b spot.at in record {
+  seek = seek_input l first (component_row l m.ligature);
+  own = is_own m first;
+  marks = m.all_marks && is_mark_glyph first;
+  id = if is_own m first then number_after spot.serial else 0;
+}
+
+abbrev pub ligature_put : Lookup → Spot → Buffer → Components → Applied
+ligature_put l spot b m = let made = ligation_of l spot b m in
+    let s = joined l made m spot.at b in
+    let c = put_at spot.at
+    (as_ligature l made.own made.id s.walk.so_far (ligature_glyph l.table.now m.ligature) (item_at s.buffer spot.at)) s.buffer in
+    record {
+      buffer = c;
+      next = Some (with_as_many_after (length b.items - (m.last + 1)) (record spot { serial = if made.own then made.id else spot.serial }) c);
+    }
+
+-- a ligature of one component replaces it
+abbrev pub ligature_made : Lookup → Spot → Buffer → Components → Applied
+ligature_made l spot b m = if nat_eq (component_count l.table.now m.ligature) 1
+    then put_one l spot b (ligature_glyph l.table.now m.ligature)
+    else ligature_put l spot b m
+
+abbrev pub ligature_applied : Lookup → ℕ → Spot → Buffer → Applied
+ligature_applied l start spot b = option_map_or (ligature_made l spot b)
+    (option_and_then (ligature_found l b spot.at) (set_of l.table.now start (item_at b spot.at).glyph_id)) (unapplied b)

@@ -1,0 +1,353 @@
+//! Parts of lookups, applied at a place of a buffer.
+ghost use Rattle.std.specs.Prelude.{◌≡◌, ◌<◌, ◌-◌, ◌+◌, ◌^◌, length, OnOk, IfOk, IsErrOf, IsTrue};
+ghost use Rattle.shape_items.specs.Buffer.{limit_of};
+ghost use Rattle.shape_buffer.specs.declared.buffer.error.ShapeError.TheVariants.{Length};
+ghost use Rattle.layout_substitution.specs.Applied.{put_one, single_applied, value_of, alternate_applied, cluster_at, is_left_in, is_handed as is_handed_of, Handing, handed_step, handed_back, left_to_neighbours, gone as gone_of, copy_like, copies_put, first_put, several_put, list_put, sequence_put, multiple_applied};
+ghost use Rattle.layout_substitution.specs.Ligatures.{ligature_made, ligature_applied};
+ghost use Rattle.shape_items.specs.Delete.{hand_over};
+ghost use Rattle.layout_matching.specs.Loops.{times};
+ghost use Rattle.layout_substitution.specs.Edits.{item_at, put_at};
+
+use crate::edits::{insert_after, item, merge, next_place, put, take_out};
+use crate::ligature::{Components, found, put_ligature};
+use layout_matching::lookup::Lookup;
+use crate::replaced::{replaced, taken_apart};
+use crate::substitutes::{alternate, components, count, ligature_glyph, listed, set, single};
+use shape_buffer::{ShapeError, hb_buffer_t, hb_glyph_info_t};
+
+/// Where a lookup stands in a buffer, and what it counts.
+#[derive(Clone, Copy, PartialEq, Eq, Debug)]
+pub struct Spot {
+    pub at: usize,
+    /// The number of the last ligature that was made, 0 if there is none.
+    pub serial: u8,
+    /// How many more nested lookups may be applied.
+    pub left: usize,
+    /// How many items there were when the lookup began.
+    pub whole: usize,
+}
+
+/// Puts another glyph at the place. Returns the next one.
+fn replace(lookup: &Lookup<'_>, buffer: &mut hb_buffer_t, spot: Spot, glyph: u32) -> Option<Spot>
+    requires { spot.at < length buffer.old.items }
+    ensures made { buffer.new ≡ (put_one lookup.now spot buffer.old glyph).buffer }
+    ensures next { result ≡ (put_one lookup.now spot buffer.old glyph).next }
+{
+    let count = buffer.len();
+    let there = item(buffer, spot.at);
+    put(buffer, spot.at, replaced(lookup, 0, glyph, there));
+    let mut next = spot;
+    next.at = next_place(count, spot.at);
+    Some(next)
+}
+
+/// One glyph for one.
+pub fn apply_single(
+    lookup: &Lookup<'_>,
+    start: usize,
+    buffer: &mut hb_buffer_t,
+    spot: Spot,
+) -> Option<Spot>
+    requires near { start < 2 ^ 35 }
+    requires inside { spot.at < length buffer.old.items }
+    ensures made { buffer.new ≡ (single_applied lookup.now start spot buffer.old).buffer }
+    ensures next { result ≡ (single_applied lookup.now start spot buffer.old).next }
+{
+    let there = item(buffer, spot.at);
+    match single(lookup.table, start, there.glyph_id) {
+        Some(glyph) => replace(lookup, buffer, spot, glyph),
+        None => None,
+    }
+}
+
+/// The value that a mask has for the lookup.
+fn value(lookup: &Lookup<'_>, there: &hb_glyph_info_t) -> u32
+    ensures { result ≡ value_of lookup.now there.now }
+{
+    if lookup.unit == 0 {
+        0
+    } else {
+        (there.mask & lookup.mask) / lookup.unit
+    }
+}
+
+/// An alternate, by the value of the mask.
+pub fn apply_alternate(
+    lookup: &Lookup<'_>,
+    start: usize,
+    buffer: &mut hb_buffer_t,
+    spot: Spot,
+) -> Option<Spot>
+    requires near { start < 2 ^ 35 }
+    requires inside { spot.at < length buffer.old.items }
+    ensures made { buffer.new ≡ (alternate_applied lookup.now start spot buffer.old).buffer }
+    ensures next { result ≡ (alternate_applied lookup.now start spot buffer.old).next }
+{
+    let there = item(buffer, spot.at);
+    match alternate(lookup.table, start, there.glyph_id, value(lookup, &there)) {
+        Some(glyph) => replace(lookup, buffer, spot, glyph),
+        None => None,
+    }
+}
+
+/// Whether the item after has the cluster of the one at `i`.
+fn is_left(buffer: &hb_buffer_t, i: usize) -> bool
+    ensures { result ≡ is_left_in buffer.now i }
+{
+    i < buffer.len()
+        && i + 1 < buffer.len()
+        && item(buffer, i + 1).cluster == item(buffer, i).cluster
+}
+
+/// Whether the item before `at` stands in the cluster.
+fn is_handed(buffer: &hb_buffer_t, cluster: u32, at: usize) -> bool
+    ensures value { result ≡ is_handed_of cluster (record { buffer = buffer.now; at = at }) }
+    ensures some { IsTrue result → 0 < at }
+{
+    0 < at && item(buffer, at - 1).cluster == cluster
+}
+
+/// The item with the cluster and the defined flags of another one.
+fn handed_over(from: &hb_glyph_info_t, to: hb_glyph_info_t) -> hb_glyph_info_t
+    ensures { result ≡ hand_over from.now to }
+{
+    let mut to = to;
+    to.cluster = from.cluster;
+    to.mask = (to.mask & 0xFFFF_FFF8) | (from.mask & 7);
+    to
+}
+
+/// Hands the cluster and the defined flags of an item to the one before it.
+fn hand_one(buffer: &mut hb_buffer_t, at: usize)
+    requires { 0 < at }
+    ensures { buffer.new ≡ put_at (at - 1) (hand_over (item_at buffer.old at) (item_at buffer.old (at - 1))) buffer.old }
+{
+    let there = handed_over(&item(buffer, at), item(buffer, at - 1));
+    put(buffer, at - 1, there);
+}
+
+/// Hands the cluster and the defined flags of the item at `i` to all items before it that stand in one cluster.
+#[tactic(auto, using(layout_matching::proofs::LoopLemmas::times_step, crate::proofs::CopyLemmas::handed_on, crate::proofs::CopyLemmas::handed_buffer))]
+fn hand_back(buffer: &mut hb_buffer_t, cluster: u32, i: usize)
+    ensures { buffer.new ≡ (times (handed_step cluster) i (record { buffer = buffer.old; at = i })).buffer }
+{
+    let mut at = i;
+    for _k in 0..i {
+        if !is_handed(buffer, cluster, at) {
+            return;
+        }
+        hand_one(buffer, at);
+        at -= 1;
+    }
+}
+
+/// Leaves the cluster of an item that is to go to its neighbours, if it isn't theirs.
+fn leave_to_neighbours(buffer: &mut hb_buffer_t, i: usize)
+    requires { i < length buffer.old.items }
+    ensures { buffer.new ≡ left_to_neighbours i buffer.old }
+{
+    let count = buffer.len();
+    if count <= i || is_left(buffer, i) {
+        return;
+    }
+    if i == 0 {
+        merge(buffer, 0, 2);
+    } else if item(buffer, i).cluster < item(buffer, i - 1).cluster {
+        let cluster = item(buffer, i - 1).cluster;
+        hand_back(buffer, cluster, i);
+    }
+}
+
+/// Takes an item out, whose cluster is left to its neighbours.
+fn delete(buffer: &mut hb_buffer_t, i: usize)
+    requires { i < length buffer.old.items }
+    ensures { buffer.new ≡ gone_of i buffer.old }
+{
+    leave_to_neighbours(buffer, i);
+    take_out(buffer, i);
+}
+
+/// Glyph `k` of a list, in the cluster and with the mask of the item at a place.
+fn copy_of(
+    lookup: &Lookup<'_>,
+    buffer: &hb_buffer_t,
+    list: usize,
+    at: usize,
+    there: &hb_glyph_info_t,
+    k: u32,
+) -> hb_glyph_info_t
+    requires near { list < 2 ^ 36 }
+    ensures { result ≡ copy_like lookup.now list (item_at buffer.now at) there.now k }
+{
+    let now = item(buffer, at);
+    let glyph = u32::from(listed(lookup.table, list, k));
+    let mut copy = taken_apart(lookup, glyph, k, *there);
+    copy.cluster = now.cluster;
+    copy.mask = now.mask;
+    copy
+}
+
+/// Puts the last `n` glyphs of a list, after the first, in after a place.
+#[tactic(auto, using(layout_matching::proofs::LoopLemmas::times_step))]
+fn put_copies(
+    lookup: &Lookup<'_>,
+    buffer: &mut hb_buffer_t,
+    list: usize,
+    at: usize,
+    there: &hb_glyph_info_t,
+    n: u32,
+) -> Result<(), ShapeError>
+    requires near { list < 2 ^ 36 }
+    requires inside { at < length buffer.old.items }
+    ensures ok { OnOk result (buffer.new ≡ copies_put lookup.now list at there.now n buffer.old) }
+    ensures length { IsErrOf result Length → limit_of buffer.old < length buffer.old.items + n }
+{
+    let mut k = n;
+    for _i in 0..n {
+        let copy = copy_of(lookup, buffer, list, at, there, k);
+        insert_after(buffer, at, copy)?;
+        k = k.saturating_sub(1);
+    }
+    Ok(())
+}
+
+/// Puts the first glyph of a list at a place.
+fn put_first(lookup: &Lookup<'_>, buffer: &mut hb_buffer_t, list: usize, at: usize)
+    requires near { list < 2 ^ 36 }
+    ensures { buffer.new ≡ first_put lookup.now list at (item_at buffer.old at) buffer.old }
+{
+    let there = item(buffer, at);
+    let glyph = u32::from(listed(lookup.table, list, 0));
+    put(buffer, at, taken_apart(lookup, glyph, 0, there));
+}
+
+/// Puts the glyphs of a list in place of one.
+#[tactic(auto, using(crate::proofs::CopyLemmas::length_first, crate::proofs::CopyLemmas::limit_first, crate::proofs::CopyLemmas::length_several))]
+fn put_several(
+    lookup: &Lookup<'_>,
+    buffer: &mut hb_buffer_t,
+    list: usize,
+    at: usize,
+) -> Result<(), ShapeError>
+    requires near { list < 2 ^ 36 }
+    requires inside { at < length buffer.old.items }
+    ensures ok { OnOk result (buffer.new ≡ several_put lookup.now list at buffer.old) }
+    ensures length { IsErrOf result Length
+        → limit_of buffer.old < length (several_put lookup.now list at buffer.old).items }
+{
+    let there = item(buffer, at);
+    let n = count(lookup.table, list).saturating_sub(1);
+    put_first(lookup, buffer, list, at);
+    put_copies(lookup, buffer, list, at, &there, n)
+}
+
+/// Puts a list of glyphs in place of one: none deletes it.
+fn put_list(
+    lookup: &Lookup<'_>,
+    buffer: &mut hb_buffer_t,
+    list: usize,
+    at: usize,
+) -> Result<(), ShapeError>
+    requires near { list < 2 ^ 36 }
+    requires inside { at < length buffer.old.items }
+    ensures ok { OnOk result (buffer.new ≡ list_put lookup.now list at buffer.old) }
+    ensures length { IsErrOf result Length
+        → limit_of buffer.old < length (list_put lookup.now list at buffer.old).items }
+{
+    match count(lookup.table, list) {
+        0 => {
+            delete(buffer, at);
+            Ok(())
+        }
+        1 => {
+            let glyph = u32::from(listed(lookup.table, list, 0));
+            let there = item(buffer, at);
+            put(buffer, at, replaced(lookup, 0, glyph, there));
+            Ok(())
+        }
+        _ => put_several(lookup, buffer, list, at),
+    }
+}
+
+/// Puts a list of glyphs in place of one. Returns where the lookup goes on.
+fn put_sequence(
+    lookup: &Lookup<'_>,
+    buffer: &mut hb_buffer_t,
+    spot: Spot,
+    list: usize,
+) -> Result<Option<Spot>, ShapeError>
+    requires near { list < 2 ^ 36 }
+    requires inside { spot.at < length buffer.old.items }
+    ensures made { OnOk result (buffer.new ≡ (sequence_put lookup.now spot buffer.old list).buffer) }
+    ensures next { IfOk result (λ next. next ≡ (sequence_put lookup.now spot buffer.old list).next) }
+    ensures length { IsErrOf result Length
+        → limit_of buffer.old < length (sequence_put lookup.now spot buffer.old list).buffer.items }
+{
+    let after = buffer.len().saturating_sub(spot.at + 1);
+    put_list(lookup, buffer, list, spot.at)?;
+    let mut next = spot;
+    next.at = buffer.len().saturating_sub(after);
+    Ok(Some(next))
+}
+
+/// Several glyphs for one.
+pub fn apply_multiple(
+    lookup: &Lookup<'_>,
+    start: usize,
+    buffer: &mut hb_buffer_t,
+    spot: Spot,
+) -> Result<Option<Spot>, ShapeError>
+    requires near { start < 2 ^ 35 }
+    requires inside { spot.at < length buffer.old.items }
+    ensures made { OnOk result (buffer.new ≡ (multiple_applied lookup.now start spot buffer.old).buffer) }
+    ensures next { IfOk result (λ next. next ≡ (multiple_applied lookup.now start spot buffer.old).next) }
+    ensures length { IsErrOf result Length
+        → limit_of buffer.old < length (multiple_applied lookup.now start spot buffer.old).buffer.items }
+{
+    let there = item(buffer, spot.at);
+    match set(lookup.table, start, there.glyph_id) {
+        Some(list) => put_sequence(lookup, buffer, spot, list),
+        None => Ok(None),
+    }
+}
+
+/// A ligature that was found; one of a single component replaces it.
+fn make_ligature(
+    lookup: &Lookup<'_>,
+    buffer: &mut hb_buffer_t,
+    spot: Spot,
+    one: Components,
+) -> Option<Spot>
+    requires near { one.ligature < 2 ^ 37 }
+    requires last { one.last < length buffer.old.items }
+    requires inside { spot.at < length buffer.old.items }
+    ensures made { buffer.new ≡ (ligature_made lookup.now spot buffer.old one).buffer }
+    ensures next { result ≡ (ligature_made lookup.now spot buffer.old one).next }
+{
+    if components(lookup.table, one.ligature) == 1 {
+        let glyph = u32::from(ligature_glyph(lookup.table, one.ligature));
+        replace(lookup, buffer, spot, glyph)
+    } else {
+        Some(put_ligature(lookup, buffer, spot, one))
+    }
+}
+
+/// One glyph for several.
+pub fn apply_ligature(
+    lookup: &Lookup<'_>,
+    start: usize,
+    buffer: &mut hb_buffer_t,
+    spot: Spot,
+) -> Option<Spot>
+    requires near { start < 2 ^ 35 }
+    requires inside { spot.at < length buffer.old.items }
+    ensures made { buffer.new ≡ (ligature_applied lookup.now start spot buffer.old).buffer }
+    ensures next { result ≡ (ligature_applied lookup.now start spot buffer.old).next }
+{
+    let there = item(buffer, spot.at);
+    let set = set(lookup.table, start, there.glyph_id)?;
+    match found(lookup, buffer, spot.at, set) {
+        Some(one) => make_ligature(lookup, buffer, spot, one),
+        None => None,
+    }
+}

@@ -1,0 +1,79 @@
+//! Edits of a buffer at a place.
+//!
+//! Past the end nothing changes, so that no caller has to show that a place is inside.
+ghost use Rattle.std.specs.Prelude.{◌≡◌, ◌<◌, ◌≤◌, ◌+◌, length, OnOk, IsErrOf};
+ghost use Rattle.shape_items.specs.Buffer.{limit_of};
+ghost use Rattle.shape_buffer.specs.declared.buffer.error.ShapeError.TheVariants.{Length};
+ghost use Rattle.layout_substitution.specs.Edits.{item_at as item_at_of, put_at, put_after, taken_out, merged, broken};
+
+use layout_matching::skipping::item_at;
+use shape_buffer::{ShapeError, hb_buffer_t, hb_glyph_info_t};
+
+/// The item at a place, a new one past the end.
+pub fn item(buffer: &hb_buffer_t, i: usize) -> hb_glyph_info_t
+    ensures { result ≡ item_at_of buffer.now i }
+{
+    item_at(buffer.infos(), i)
+}
+
+/// Replaces the item at a place.
+pub fn put(buffer: &mut hb_buffer_t, i: usize, item: hb_glyph_info_t)
+    ensures { buffer.new ≡ put_at i item buffer.old }
+{
+    if i < buffer.len() {
+        buffer.set_info(i, item);
+    }
+}
+
+/// Puts an item in after a place. Refuses as `insert` does.
+pub fn insert_after(
+    buffer: &mut hb_buffer_t,
+    i: usize,
+    item: hb_glyph_info_t,
+) -> Result<(), ShapeError>
+    ensures ok { OnOk result (buffer.new ≡ put_after i item buffer.old) }
+    ensures length { IsErrOf result Length → limit_of buffer.old ≤ length buffer.old.items }
+    ensures longer { OnOk result (i < length buffer.old.items
+        → length buffer.new.items ≡ length buffer.old.items + 1) }
+    ensures limit { OnOk result (limit_of buffer.new ≡ limit_of buffer.old) }
+{
+    if i < buffer.len() {
+        buffer.insert(i + 1, item)?;
+    }
+    Ok(())
+}
+
+/// Takes the item at a place out.
+pub fn take_out(buffer: &mut hb_buffer_t, i: usize)
+    ensures { buffer.new ≡ taken_out i buffer.old }
+{
+    if i < buffer.len() {
+        buffer.remove(i);
+    }
+}
+
+/// Merges the clusters of a span.
+pub fn merge(buffer: &mut hb_buffer_t, start: usize, end: usize)
+    ensures { buffer.new ≡ merged start end buffer.old }
+{
+    if start <= end && end <= buffer.len() {
+        buffer.merge_clusters(start, end);
+    }
+}
+
+/// Marks a span unsafe to break.
+pub fn break_span(buffer: &mut hb_buffer_t, start: usize, end: usize)
+    ensures { buffer.new ≡ broken start end buffer.old }
+{
+    if start <= end && end <= buffer.len() {
+        buffer.unsafe_to_break(start, end);
+    }
+}
+
+/// The place after one of so many.
+pub fn next_place(count: usize, at: usize) -> usize
+    requires { at < count }
+    ensures { result ≡ at + 1 }
+{
+    at + 1
+}

@@ -1,0 +1,365 @@
+//! Ligatures: one glyph in place of several (kind 4).
+//!
+//! Of the ligatures of a set the first whose components stand in a row is made. The clusters of all its components are merged, and
+//! marks between them, and after the last one, stand on the ligature from then on.
+ghost use Rattle.std.specs.Prelude.{◌≡◌, ◌<◌, ◌-◌, ◌+◌, ◌^◌, Some, length, true, IsTrue};
+ghost use Rattle.std.specs.Option.{IfSome};
+ghost use Rattle.layout_matching.specs.Loops.{times, first_some};
+ghost use Rattle.layout_substitution.specs.Ligatures.{component_row as component_row_of, ligature_matched, ligature_in, ligature_found, part_among, Joined, between_stays, component_gone, looked_for as looked_for_of, join_step, follows as follows_of, follow_step, followed, number_after as number_after_of, first_joined, joined, is_own as is_own_of, ligation_of, ligature_put};
+
+use crate::apply::Spot;
+use crate::edits::{item, merge, next_place, put, take_out};
+use crate::replaced::{as_ligature, as_part, parts_of};
+use crate::substitutes::{components, count, ligature_at, ligature_glyph};
+use layout_matching::input::{is_mark_glyph, match_input, seek_input};
+use layout_matching::lookup::Lookup;
+use layout_matching::rules::{Row, Test};
+use layout_matching::seeking::{Seek, is_between};
+use shape_buffer::{hb_buffer_t, hb_glyph_info_t};
+
+/// A ligature whose components were found: where the last one stands, and whether all after the first are marks.
+#[derive(Clone, Copy, PartialEq, Eq, Debug)]
+pub struct Components {
+    pub ligature: usize,
+    pub last: usize,
+    pub all_marks: bool,
+}
+
+/// How a ligature is made: its components, whether it has a number of its own, whether it is one of marks alone, and its
+/// number.
+#[derive(Clone, Copy, PartialEq, Eq, Debug)]
+pub struct Ligation {
+    pub seek: Seek,
+    pub own: bool,
+    pub marks: bool,
+    pub id: u8,
+}
+
+/// A walk over the items of a ligature: how many components are still to come, the number of the ligature that the last
+/// component belonged to, how many components that had, and how many all had so far.
+#[derive(Clone, Copy, PartialEq, Eq, Debug)]
+pub struct Joining {
+    pub at: usize,
+    pub left: u16,
+    pub id: u8,
+    pub parts: u8,
+    pub so_far: u16,
+}
+
+/// The components of a ligature, as a row of glyphs whose count has the first one too.
+fn component_row(lookup: &Lookup<'_>, ligature: usize) -> Row
+    requires { ligature < 2 ^ 37 }
+    ensures { result ≡ component_row_of lookup.now ligature }
+{
+    Row {
+        test: Test::Glyph,
+        from: 0,
+        count: components(lookup.table, ligature),
+        values: ligature + 4,
+    }
+}
+
+/// The components of the ligature from `at` on, at most 64.
+pub fn matched_at(
+    lookup: &Lookup<'_>,
+    buffer: &hb_buffer_t,
+    at: usize,
+    ligature: usize,
+) -> Option<Components>
+    requires near { ligature < 2 ^ 37 }
+    requires inside { at < length buffer.now.items }
+    ensures value { result ≡ ligature_matched lookup.now buffer.now at ligature }
+    ensures inside { IfSome result (λ m. m.last < length buffer.now.items) }
+    ensures near { IfSome result (λ m. m.ligature < 2 ^ 37) }
+{
+    if components(lookup.table, ligature) == 0 {
+        return None;
+    }
+    match match_input(lookup, buffer.infos(), at, component_row(lookup, ligature)) {
+        Some(found) => Some(Components {
+            ligature,
+            last: found.last,
+            all_marks: found.all_marks,
+        }),
+        None => None,
+    }
+}
+
+/// Ligature `i` of the set, if its components stand at `at`.
+fn matched_in(
+    lookup: &Lookup<'_>,
+    buffer: &hb_buffer_t,
+    at: usize,
+    set: usize,
+    i: u32,
+) -> Option<Components>
+    requires near { set < 2 ^ 36 }
+    requires few { i < 2 ^ 16 }
+    requires inside { at < length buffer.now.items }
+    ensures value { result ≡ ligature_in lookup.now buffer.now at set i }
+    ensures inside { IfSome result (λ m. m.last < length buffer.now.items) }
+    ensures near { IfSome result (λ m. m.ligature < 2 ^ 37) }
+{
+    match ligature_at(lookup.table, set, i) {
+        Some(ligature) => matched_at(lookup, buffer, at, ligature),
+        None => None,
+    }
+}
+
+/// The first ligature of the set whose components stand at `at`.
+#[tactic(auto, using(layout_matching::proofs::LoopLemmas::first_some_next, layout_matching::proofs::LoopLemmas::first_some_found, layout_matching::proofs::LoopLemmas::first_some_end))]
+pub fn found(
+    lookup: &Lookup<'_>,
+    buffer: &hb_buffer_t,
+    at: usize,
+    set: usize,
+) -> Option<Components>
+    requires near { set < 2 ^ 36 }
+    requires inside { at < length buffer.now.items }
+    ensures value { result ≡ ligature_found lookup.now buffer.now at set }
+    ensures inside { IfSome result (λ m. m.last < length buffer.now.items) }
+    ensures near { IfSome result (λ m. m.ligature < 2 ^ 37) }
+{
+    for i in 0..count(lookup.table, set) {
+        if let Some(one) = matched_in(lookup, buffer, at, set, i) {
+            return Some(one);
+        }
+    }
+    None
+}
+
+/// The component of the new ligature that a mark on a component of the last one stands on.
+fn part_of(walk: Joining, there: &hb_glyph_info_t) -> u32
+    ensures { result ≡ part_among walk there.now }
+{
+    let part = there._hb_glyph_info_get_ligature_component();
+    let among = if part == 0 {
+        walk.parts
+    } else {
+        part.min(walk.parts)
+    };
+    u32::from(walk.so_far).saturating_sub(u32::from(walk.parts)) + u32::from(among)
+}
+
+/// Goes over an item that stays; it becomes a mark on the ligature if that has a number of its own.
+fn leave_between(buffer: &mut hb_buffer_t, own: bool, id: u8, walk: Joining) -> Joining
+    requires { walk.at < length buffer.old.items }
+    ensures { record { buffer = buffer.new; walk = result }
+        ≡ between_stays own id (record { buffer = buffer.old; walk = walk }) }
+{
+    let count = buffer.len();
+    if walk.at < count && own {
+        let there = item(buffer, walk.at);
+        put(buffer, walk.at, as_part(id, part_of(walk, &there), there));
+    }
+    let mut walk = walk;
+    walk.at += 1;
+    walk
+}
+
+/// Takes a component out.
+fn drop_component(buffer: &mut hb_buffer_t, walk: Joining) -> Joining
+    ensures { record { buffer = buffer.new; walk = result }
+        ≡ component_gone (record { buffer = buffer.old; walk = walk }) }
+{
+    let there = item(buffer, walk.at);
+    take_out(buffer, walk.at);
+    let parts = parts_of(&there);
+    Joining {
+        at: walk.at,
+        left: walk.left.saturating_sub(1),
+        id: there._hb_glyph_info_get_ligature_id(),
+        parts,
+        so_far: ((u32::from(walk.so_far) + u32::from(parts)) % 65536) as u16,
+    }
+}
+
+/// The component that is looked for next: number 0 is the one after the first.
+fn looked_for(made: &Ligation, walk: Joining) -> u32
+    ensures { result ≡ looked_for_of made.now walk }
+{
+    u32::from(
+        made.seek
+            .row
+            .count
+            .saturating_sub(1)
+            .saturating_sub(walk.left),
+    )
+}
+
+/// Goes over one item after the first component.
+fn join_one(
+    lookup: &Lookup<'_>,
+    buffer: &mut hb_buffer_t,
+    made: &Ligation,
+    walk: Joining,
+) -> Joining
+    ensures { record { buffer = buffer.new; walk = result } ≡ join_step lookup.now made.now
+        (record { buffer = buffer.old; walk = walk }) }
+{
+    if buffer.len() <= walk.at {
+        return walk;
+    }
+    let k = looked_for(made, walk);
+    if is_between(lookup, &made.seek, k, &item(buffer, walk.at)) {
+        leave_between(buffer, made.own, made.id, walk)
+    } else {
+        drop_component(buffer, walk)
+    }
+}
+
+/// Goes over so many items after the first component.
+#[tactic(auto, using(layout_matching::proofs::LoopLemmas::times_step))]
+fn join_all(
+    lookup: &Lookup<'_>,
+    buffer: &mut hb_buffer_t,
+    made: &Ligation,
+    n: usize,
+    walk: Joining,
+) -> Joining
+    ensures { record { buffer = buffer.new; walk = result } ≡ times (join_step lookup.now made.now) n
+        (record { buffer = buffer.old; walk = walk }) }
+{
+    let mut walk = walk;
+    for _i in 0..n {
+        walk = join_one(lookup, buffer, made, walk);
+    }
+    walk
+}
+
+/// Whether the item stands on a component of the ligature that the last component was.
+fn follows(buffer: &hb_buffer_t, walk: Joining) -> bool
+    ensures value { result ≡ follows_of (record { buffer = buffer.now; walk = walk }) }
+    ensures inside { IsTrue result → walk.at < length buffer.now.items }
+{
+    if buffer.len() <= walk.at {
+        return false;
+    }
+    let there = item(buffer, walk.at);
+    there._hb_glyph_info_get_ligature_id() == walk.id
+        && 0 < there._hb_glyph_info_get_ligature_component()
+}
+
+/// Puts the marks that follow onto the ligature.
+#[tactic(auto, using(layout_matching::proofs::LoopLemmas::times_step, crate::proofs::LigatureLemmas::follow_on, crate::proofs::LigatureLemmas::follow_stops))]
+fn follow_all(buffer: &mut hb_buffer_t, id: u8, walk: Joining) -> Joining
+    ensures { record { buffer = buffer.new; walk = result }
+        ≡ times (follow_step id) (length buffer.old.items) (record { buffer = buffer.old; walk = walk }) }
+{
+    let mut walk = walk;
+    for _i in 0..buffer.len() {
+        if !follows(buffer, walk) {
+            return walk;
+        }
+        walk = leave_between(buffer, true, id, walk);
+    }
+    walk
+}
+
+/// The same, unless the ligature is one of marks alone, or the last component belonged to none.
+fn follow(buffer: &mut hb_buffer_t, made: &Ligation, walk: Joining) -> Joining
+    ensures { record { buffer = buffer.new; walk = result }
+        ≡ followed made.now (record { buffer = buffer.old; walk = walk }) }
+{
+    if made.marks || walk.id == 0 {
+        return walk;
+    }
+    follow_all(buffer, made.id, walk)
+}
+
+/// The number of the ligature after the one with this number.
+fn number_after(serial: u8) -> u8
+    ensures { result ≡ number_after_of serial }
+{
+    serial % 7 + 1
+}
+
+/// Puts all components into one cluster, and takes all after the first one out.
+fn join(
+    lookup: &Lookup<'_>,
+    buffer: &mut hb_buffer_t,
+    made: &Ligation,
+    found: Components,
+    at: usize,
+) -> Joining
+    requires near { found.ligature < 2 ^ 37 }
+    requires last { found.last < length buffer.old.items }
+    requires inside { at < length buffer.old.items }
+    ensures { record { buffer = buffer.new; walk = result }
+        ≡ joined lookup.now made.now found at buffer.old }
+{
+    let first = item(buffer, at);
+    let parts = parts_of(&first);
+    let walk = Joining {
+        at: next_place(buffer.len(), at),
+        left: components(lookup.table, found.ligature).saturating_sub(1),
+        id: first._hb_glyph_info_get_ligature_id(),
+        parts,
+        so_far: u16::from(parts),
+    };
+    let end = next_place(buffer.len(), found.last);
+    merge(buffer, at, end);
+    let n = found.last.saturating_sub(at);
+    let walk = join_all(lookup, buffer, made, n, walk);
+    follow(buffer, made, walk)
+}
+
+/// Whether the ligature isn't one of marks, or of a base and marks.
+fn is_own(found: Components, first: &hb_glyph_info_t) -> bool
+    ensures { result ≡ is_own_of found first.now }
+{
+    !(found.all_marks && first._hb_glyph_info_get_glyph_class().0 & 10 != 0)
+}
+
+/// How the ligature is made.
+fn how_to_ligate(
+    lookup: &Lookup<'_>,
+    buffer: &hb_buffer_t,
+    spot: Spot,
+    found: Components,
+) -> Ligation
+    requires near { found.ligature < 2 ^ 37 }
+    ensures { result ≡ ligation_of lookup.now spot buffer.now found }
+{
+    let first = item(buffer, spot.at);
+    let own = is_own(found, &first);
+    Ligation {
+        seek: seek_input(lookup, &first, component_row(lookup, found.ligature)),
+        own,
+        marks: found.all_marks && is_mark_glyph(&first),
+        id: if own { number_after(spot.serial) } else { 0 },
+    }
+}
+
+/// Puts a ligature in place of its components. Returns where the lookup goes on.
+#[tactic(auto, using(crate::proofs::LigatureLemmas::buffer_of, crate::proofs::LigatureLemmas::walk_of))]
+pub fn put_ligature(
+    lookup: &Lookup<'_>,
+    buffer: &mut hb_buffer_t,
+    spot: Spot,
+    found: Components,
+) -> Spot
+    requires near { found.ligature < 2 ^ 37 }
+    requires last { found.last < length buffer.old.items }
+    requires inside { spot.at < length buffer.old.items }
+    ensures made { buffer.new ≡ (ligature_put lookup.now spot buffer.old found).buffer }
+    ensures next { Some result ≡ (ligature_put lookup.now spot buffer.old found).next }
+{
+    let made = how_to_ligate(lookup, buffer, spot, found);
+    let after = buffer
+        .len()
+        .saturating_sub(next_place(buffer.len(), found.last));
+    let walk = join(lookup, buffer, &made, found, spot.at);
+    let glyph = u32::from(ligature_glyph(lookup.table, found.ligature));
+    let now = item(buffer, spot.at);
+    let parts = u32::from(walk.so_far);
+    put(
+        buffer,
+        spot.at,
+        as_ligature(lookup, made.own, made.id, parts, glyph, now),
+    );
+    let mut next = spot;
+    next.at = buffer.len().saturating_sub(after);
+    next.serial = if made.own { made.id } else { spot.serial };
+    next
+}

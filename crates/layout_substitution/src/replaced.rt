@@ -1,0 +1,105 @@
+//! Glyphs put in place of others.
+ghost use Rattle.std.specs.Prelude.{◌≡◌};
+ghost use Rattle.layout_substitution.specs.Replaced.{parts_of as parts_of_item, replaced as replaced_of, as_part as as_part_of, taken_apart as taken_apart_of, with_parts as with_parts_of, as_ligature as as_ligature_of};
+
+use layout_matching::lookup::Lookup;
+use layout_tables::gdef::{glyph_props, has_glyph_classes};
+use shape_buffer::hb_glyph_info_t;
+use shape_common::{GlyphPropsFlags, hb_unicode_general_category_t};
+
+/// Another glyph, of the class that the font says, or else of the one that is guessed, if it isn't 0.
+pub fn replaced(
+    lookup: &Lookup<'_>,
+    guess: u16,
+    glyph: u32,
+    item: hb_glyph_info_t,
+) -> hb_glyph_info_t
+    ensures { result ≡ replaced_of lookup.now guess glyph item }
+{
+    let mut item = item;
+    item.glyph_id = glyph;
+    item._hb_glyph_info_set_substituted(true);
+    if has_glyph_classes(lookup.gdef) {
+        item._hb_glyph_info_set_glyph_class(GlyphPropsFlags(glyph_props(lookup.gdef, glyph)));
+    } else if guess != 0 {
+        item._hb_glyph_info_set_glyph_class(GlyphPropsFlags(guess));
+    }
+    item
+}
+
+/// How many components a glyph has: more than one only if its class is that of ligatures.
+pub fn parts_of(item: &hb_glyph_info_t) -> u8
+    ensures { result ≡ parts_of_item item.now }
+{
+    if item._hb_glyph_info_get_glyph_class().0 & 4 != 0 {
+        item._hb_glyph_info_get_number_of_components()
+    } else {
+        1
+    }
+}
+
+/// A mark on a component of a ligature, or a component of what one glyph was taken apart into.
+pub fn as_part(id: u8, part: u32, item: hb_glyph_info_t) -> hb_glyph_info_t
+    ensures { result ≡ as_part_of id part item }
+{
+    let mut item = item;
+    item._hb_glyph_info_set_ligature_id(id);
+    item._hb_glyph_info_set_ligature_component((part % 16) as u8);
+    item._hb_glyph_info_set_number_of_components(1);
+    item
+}
+
+/// Glyph number `i` of those that one is taken apart into.
+pub fn taken_apart(
+    lookup: &Lookup<'_>,
+    glyph: u32,
+    i: u32,
+    item: hb_glyph_info_t,
+) -> hb_glyph_info_t
+    ensures { result ≡ taken_apart_of lookup.now glyph i item }
+{
+    let guess = if item._hb_glyph_info_get_glyph_class().0 & 4 != 0 {
+        2
+    } else {
+        0
+    };
+    if item._hb_glyph_info_get_ligature_id() == 0 {
+        replaced(lookup, guess, glyph, as_part(0, i, item))
+    } else {
+        replaced(lookup, guess, glyph, item)
+    }
+}
+
+/// A ligature with its number, of so many parts, which isn't a mark any more.
+fn with_parts(id: u8, parts: u32, item: hb_glyph_info_t) -> hb_glyph_info_t
+    ensures { result ≡ with_parts_of id parts item }
+{
+    let mut item = item;
+    item._hb_glyph_info_set_ligature_id(id);
+    item._hb_glyph_info_set_ligature_component(0);
+    item._hb_glyph_info_set_number_of_components((parts % 16) as u8);
+    if item._hb_glyph_info_get_general_category() == hb_unicode_general_category_t::NonspacingMark {
+        item._hb_glyph_info_set_general_category(hb_unicode_general_category_t::OtherLetter);
+    }
+    item
+}
+
+/// The ligature in place of its first component. `own` if it isn't one of marks, or of a base and marks.
+pub fn as_ligature(
+    lookup: &Lookup<'_>,
+    own: bool,
+    id: u8,
+    parts: u32,
+    glyph: u32,
+    item: hb_glyph_info_t,
+) -> hb_glyph_info_t
+    ensures { result ≡ as_ligature_of lookup.now own id parts glyph item }
+{
+    let mut item = if own {
+        replaced(lookup, 4, glyph, with_parts(id, parts, item))
+    } else {
+        replaced(lookup, 0, glyph, item)
+    };
+    item._hb_glyph_info_set_ligated(true);
+    item
+}

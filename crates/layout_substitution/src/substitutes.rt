@@ -1,0 +1,132 @@
+//! What the parts of lookups put in place of glyphs (OpenType, "GSUB", single, multiple, alternate and ligature).
+ghost use Rattle.std.specs.Prelude.{◌≡◌, ◌<◌, ◌+◌, ◌*◌, ◌^◌};
+ghost use Rattle.std.specs.Option.{IfSome};
+ghost use Rattle.layout_tables.specs.Offsets.{offset16_of};
+ghost use Rattle.layout_substitution.specs.Substitutes.{single_by, single_of, set_number, set_of, listed_count, listed_at, alternate_in, alternate_of, ligature_glyph as ligature_glyph_of, component_count};
+
+use layout_matching::found::number_in;
+use layout_tables::offsets::offset16;
+use shape_font::bytes::{records, u16_at};
+
+/// The glyph in place of the one with this number.
+fn single_at(table: &[u8], start: usize, glyph: u32, i: u32) -> Option<u32>
+    requires { start < 2 ^ 35 }
+    ensures { result ≡ single_by table.now start glyph i }
+{
+    if u16_at(table, start) == 1 {
+        let far = u64::from(glyph) + u64::from(u16_at(table, start + 4));
+        return Some((far % 65536) as u32);
+    }
+    if u16_at(table, start) == 2
+        && i < records(table, u32::from(u16_at(table, start + 4)), start + 6, 2)
+    {
+        Some(u32::from(u16_at(table, start + 6 + 2 * i as usize)))
+    } else {
+        None
+    }
+}
+
+/// The one glyph in place of this one.
+pub fn single(table: &[u8], start: usize, glyph: u32) -> Option<u32>
+    requires { start < 2 ^ 35 }
+    ensures { result ≡ single_of table.now start glyph }
+{
+    match number_in(table, start, glyph) {
+        Some(i) => single_at(table, start, glyph, i),
+        None => None,
+    }
+}
+
+/// Where the set of the glyph with this number stands.
+fn set_at(table: &[u8], start: usize, i: u32) -> Option<usize>
+    requires { start < 2 ^ 35 }
+    ensures value { result ≡ set_number table.now start i }
+    ensures near { IfSome result (λ s. s < 2 ^ 36) }
+{
+    if i < records(table, u32::from(u16_at(table, start + 4)), start + 6, 2) {
+        offset16(table, start, start + 6 + 2 * i as usize)
+    } else {
+        None
+    }
+}
+
+/// Where the set of a glyph stands, in a part that has a set for each glyph of its list.
+pub fn set(table: &[u8], start: usize, glyph: u32) -> Option<usize>
+    requires { start < 2 ^ 35 }
+    ensures value { result ≡ set_of table.now start glyph }
+    ensures near { IfSome result (λ s. s < 2 ^ 36) }
+{
+    if u16_at(table, start) != 1 {
+        return None;
+    }
+    match number_in(table, start, glyph) {
+        Some(i) => set_at(table, start, i),
+        None => None,
+    }
+}
+
+/// How many numbers are listed at a place.
+pub fn count(table: &[u8], list: usize) -> u32
+    requires { list < 2 ^ 36 }
+    ensures value { result ≡ listed_count table.now list }
+    ensures few { result < 2 ^ 16 }
+{
+    records(table, u32::from(u16_at(table, list)), list + 2, 2)
+}
+
+/// Number `i` of those listed at a place.
+pub fn listed(table: &[u8], list: usize, i: u32) -> u16
+    requires { list < 2 ^ 36 }
+    ensures { result ≡ listed_at table.now list i }
+{
+    u16_at(table, list + 2 + 2 * i as usize)
+}
+
+/// An alternate of the set, which are counted from 1 on.
+fn alternate_at(table: &[u8], value: u32, set: usize) -> Option<u32>
+    requires { set < 2 ^ 36 }
+    ensures { result ≡ alternate_in table.now value set }
+{
+    if 0 < value && value <= count(table, set) {
+        Some(u32::from(listed(table, set, value - 1)))
+    } else {
+        None
+    }
+}
+
+/// The alternate of a glyph that this value picks.
+pub fn alternate(table: &[u8], start: usize, glyph: u32, value: u32) -> Option<u32>
+    requires { start < 2 ^ 35 }
+    ensures { result ≡ alternate_of table.now start glyph value }
+{
+    match set(table, start, glyph) {
+        Some(set) => alternate_at(table, value, set),
+        None => None,
+    }
+}
+
+/// Where ligature `i` of a set stands.
+pub fn ligature_at(table: &[u8], set: usize, i: u32) -> Option<usize>
+    requires near { set < 2 ^ 36 }
+    requires few { i < 2 ^ 16 }
+    ensures value { result ≡ offset16_of table.now set (set + 2 + 2 * i) }
+    ensures near { IfSome result (λ l. l < 2 ^ 37) }
+{
+    offset16(table, set, set + 2 + 2 * i as usize)
+}
+
+/// The glyph of a ligature.
+pub fn ligature_glyph(table: &[u8], ligature: usize) -> u16
+    requires { ligature < 2 ^ 37 }
+    ensures { result ≡ ligature_glyph_of table.now ligature }
+{
+    u16_at(table, ligature)
+}
+
+/// How many components a ligature has.
+pub fn components(table: &[u8], ligature: usize) -> u16
+    requires { ligature < 2 ^ 37 }
+    ensures { result ≡ component_count table.now ligature }
+{
+    u16_at(table, ligature + 2)
+}
