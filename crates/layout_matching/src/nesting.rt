@@ -22,7 +22,7 @@ pub struct Target<'a> {
 }
 
 /// Another lookup of the table, on for the same glyphs.
-fn with_place<'a>(here: &Lookup<'a>, place: usize) -> Lookup<'a>
+pub fn with_place<'a>(here: &Lookup<'a>, place: usize) -> Lookup<'a>
     requires { place < 2 ^ 17 }
     ensures { result ≡ lookup_with here.now place }
 {
@@ -42,7 +42,8 @@ fn with_place<'a>(here: &Lookup<'a>, place: usize) -> Lookup<'a>
     }
 }
 
-fn record_at(rule: &Rule, r: u32) -> usize
+/// Where record `r` of a rule stands in the table, in bytes.
+pub fn record_at(rule: &Rule, r: u32) -> usize
     ensures value { result ≡ record_at_of rule.now r }
     ensures near { result < 2 ^ 39 }
 {

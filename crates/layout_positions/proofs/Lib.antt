@@ -1,0 +1,10 @@
+pub mod ProductLemmas
+pub mod CountLemmas
+pub mod SettleLemmas
+pub mod TurnLemmas
+pub mod StepLemmas
+pub mod TrialLemmas
+pub mod NestedLemmas
+pub mod NestedSteps
+pub mod KeeperLemmas
+pub mod UncoveredLemmas

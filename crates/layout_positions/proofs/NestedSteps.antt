@@ -1,0 +1,99 @@
+-- what a lookup that names no other keeps, nested lookups and whole walks keep
+use Prim.Native.Nat.{zero}
+use Rattle.std.proofs.Common.{◌≡◌, ℕ, suc, ◌+◌, ◌-◌, Bool, true, false, List, [], ◌∷◌, Option, Some, None, length, nat_eq, nat_lt, if◌then◌else◌}
+use Rattle.std.specs.Option.{option_map_or}
+use Rattle.shape_items.specs.Buffer.{Buffer}
+use Rattle.layout_matching.specs.Found.{found_of, is_context}
+use Rattle.layout_matching.specs.Loops.{times}
+use Rattle.layout_matching.specs.Skipping.{nth, is_on}
+use Rattle.layout_matching.specs.declared.found.Found.{Found}
+use Rattle.layout_matching.specs.declared.lookup.Lookup.{Lookup}
+use Rattle.layout_matching.specs.declared.rules.Rule.{Rule}
+use Rattle.layout_positions.specs.Edits.{broken}
+use Rattle.layout_positions.specs.Nested.{named_place, named_lookup, Nest, skipped, record_at_place, record_for, record_step, rule_placed, level_placed, LEVELS, most_named, nested_placed}
+use Rattle.layout_positions.specs.Trial.{Placing, unplaced, lookup_placed}
+use Rattle.layout_positions.specs.Walk.{Walk, lookup_step, none_seen, lookup_applied, positioned}
+use Rattle.layout_positions.specs.declared.bases.BaseSeen.{BaseSeen}
+
+module _ (P : Buffer → Buffer → Type 0) (same : (b : Buffer) → P b b) (after : (a b c : Buffer) → P a b → P b c → P a c)
+    (by_break : (start end : ℕ) (b : Buffer) → P b (broken start end b))
+    (by_lookup : (l : Lookup) (i left : ℕ) (seen : BaseSeen) (b : Buffer) → P b (lookup_placed l i left seen b).buffer) where
+  -- what is applied next keeps
+  abbrev Keeps : (Lookup → ℕ → ℕ → BaseSeen → Buffer → Placing) → Type 0
+  Keeps next = (l : Lookup) (i left : ℕ) (seen : BaseSeen) (b : Buffer) → P b (next l i left seen b).buffer
+
+  times-step : {S : Type 0} (view : S → Buffer) (f : S → S) → ((s : S) → P (view s) (view (f s)))
+      → (n : ℕ) (s : S) → P (view s) (view (times f n s))
+  times-step view f one zero s = same (view s)
+  times-step view f one (suc n) s =
+      after (view s) (view (times f n s)) (view (f (times f n s))) (times-step view f one n s) (one (times f n s))
+
+  nest-if : (t : Bool) (b : Buffer) (x y : Nest) → P b x.buffer → P b y.buffer → P b (if t then x else y).buffer
+  nest-if true b x y k m = k
+  nest-if false b x y k m = m
+
+  placing-if : (t : Bool) (b : Buffer) (x y : Placing) → P b x.buffer → P b y.buffer → P b (if t then x else y).buffer
+  placing-if true b x y k m = k
+  placing-if false b x y k m = m
+
+  walk-if : (t : Bool) (b : Buffer) (x y : Walk) → P b x.buffer → P b y.buffer → P b (if t then x else y).buffer
+  walk-if true b x y k m = k
+  walk-if false b x y k m = m
+
+  step-place : (next : Lookup → ℕ → ℕ → BaseSeen → Buffer → Placing) → Keeps next → (s : Nest) (other : Lookup) (place : ℕ)
+      → P s.buffer (record_at_place next s other place).buffer
+  step-place next keeps s other place =
+      nest-if (nat_eq s.left 0) s.buffer (skipped s) _ (same s.buffer) (keeps other place (s.left - 1) s.seen s.buffer)
+
+  step-for : (next : Lookup → ℕ → ℕ → BaseSeen → Buffer → Placing) → Keeps next → (s : Nest) (other : Lookup) (o : Option ℕ)
+      → P s.buffer (option_map_or (record_at_place next s other) o (skipped s)).buffer
+  step-for next keeps s other None = same s.buffer
+  step-for next keeps s other (Some place) = step-place next keeps s other place
+
+  step-named : (next : Lookup → ℕ → ℕ → BaseSeen → Buffer → Placing) → Keeps next → (l : Lookup) (at : ℕ) (rule : Rule) (s : Nest)
+      (o : Option Lookup) → P s.buffer (option_map_or (record_for next l at rule s) o (skipped s)).buffer
+  step-named next keeps l at rule s None = same s.buffer
+  step-named next keeps l at rule s (Some other) = step-for next keeps s other (named_place l s.buffer.items at rule s.r)
+
+  step-rule : (next : Lookup → ℕ → ℕ → BaseSeen → Buffer → Placing) → Keeps next → (l : Lookup) (i left : ℕ) (seen : BaseSeen) (b : Buffer)
+      (found : Found) → P b (rule_placed next l i left seen b found).buffer
+  step-rule next keeps l i left seen b found =
+      let marked = broken found.span.start found.span.end b in
+      after b marked (rule_placed next l i left seen b found).buffer (by_break found.span.start found.span.end b)
+      (times-step (λ (s : Nest). s.buffer) (record_step next l i found.rule)
+      (λ s. step-named next keeps l i found.rule s (named_lookup l found.rule s.r)) found.rule.count
+      (record { buffer = marked; seen = seen; left = left; r = 0 }))
+
+  step-found : (next : Lookup → ℕ → ℕ → BaseSeen → Buffer → Placing) → Keeps next → (l : Lookup) (i left : ℕ) (seen : BaseSeen) (b : Buffer)
+      (o : Option Found) → P b (option_map_or (rule_placed next l i left seen b) o (unplaced left seen b)).buffer
+  step-found next keeps l i left seen b None = same b
+  step-found next keeps l i left seen b (Some found) = step-rule next keeps l i left seen b found
+
+  step-level : (next : Lookup → ℕ → ℕ → BaseSeen → Buffer → Placing) → Keeps next → (l : Lookup) (i left : ℕ) (seen : BaseSeen) (b : Buffer)
+      → P b (level_placed next l i left seen b).buffer
+  step-level next keeps l i left seen b =
+      placing-if (is_context l) b _ _
+      (step-found next keeps l i left seen b (found_of l b.items (record { at = i; is_steady = true }))) (by_lookup l i left seen b)
+
+  step-nested : (level : ℕ) (l : Lookup) (i left : ℕ) (seen : BaseSeen) (b : Buffer) → P b (nested_placed level l i left seen b).buffer
+  step-nested zero l i left seen b = same b
+  step-nested (suc level) l i left seen b =
+      placing-if (nat_lt i (length b.items)) b (level_placed (nested_placed level) l i left seen b) (unplaced left seen b)
+      (step-level (nested_placed level) (step-nested level) l i left seen b) (same b)
+
+  step-walk : (l : Lookup) (s : Walk) → P s.buffer (lookup_step l s).buffer
+  step-walk l s =
+      walk-if (nat_lt s.at (length s.buffer.items)) s.buffer _ s
+      (walk-if (is_on l (nth s.buffer.items s.at)) s.buffer _ (record s { at = s.at + 1 })
+      (step-nested LEVELS l s.at s.left s.seen s.buffer) (same s.buffer))
+      (same s.buffer)
+
+  pub step-lookup : (l : Lookup) (b : Buffer) → P b (lookup_applied b l)
+  step-lookup l b =
+      times-step (λ (s : Walk). s.buffer) (lookup_step l) (step-walk l) (length b.items)
+      (record { buffer = b; at = 0; seen = none_seen; left = most_named (length b.items) })
+
+  pub step-positioned : (lookups : List Lookup) (b : Buffer) → P b (positioned lookups b)
+  step-positioned [] b = same b
+  step-positioned (l ∷ lookups) b =
+      after b (lookup_applied b l) (positioned lookups (lookup_applied b l)) (step-lookup l b) (step-positioned lookups (lookup_applied b l))

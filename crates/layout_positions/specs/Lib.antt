@@ -1,0 +1,15 @@
+pub mod Edits
+pub mod Values
+pub mod Anchors
+pub mod Attachment
+pub mod Turning
+pub mod Lookups
+pub mod Pairs
+pub mod Cursive
+pub mod Marks
+pub mod Trial
+pub mod Nested
+pub mod Walk
+pub mod Keeps
+pub mod Uncovered
+pub mod Worked

@@ -1,0 +1,146 @@
+-- Marks attached to bases, to ligatures and to marks (OpenType, `GPOS`, lookup types 4, 5 and 6).
+use Rattle.std.specs.Prelude.{ℕ, Bool, true, false, List, Option, Some, None, ◌+◌, ◌-◌, ◌*◌, ◌&&◌, ◌||◌, not, min, length, nat_eq, nat_lt, nat_le, if◌then◌else◌}
+use Rattle.std.specs.Option.{option_map, option_map_or, option_and_then, option_or}
+use Rattle.std.specs.Int.RustNames.{bit_and}
+use Rattle.shape_common.specs.Wrapping.{◌-ʷ◌}
+use Rattle.shape_common.specs.declared.positions.GlyphPosition.{GlyphPosition}
+use Rattle.shape_font.specs.Bytes.{u16_of, fitting}
+use Rattle.shape_font.specs.Search.{first_at}
+use Rattle.shape_items.specs.Buffer.{Buffer}
+use Rattle.shape_items.specs.Items.{Item}
+use Rattle.layout_tables.specs.Offsets.{offset16_of}
+use Rattle.layout_matching.specs.Skipping.{nth, shares, is_transparent}
+use Rattle.layout_matching.specs.declared.lookup.Lookup.{Lookup}
+use Rattle.layout_positions.specs.Anchors.{number_at, anchor_in, class_of_mark, anchor_of_mark}
+use Rattle.layout_positions.specs.Attachment.{MARK_ATTACHED, chain_to}
+use Rattle.layout_positions.specs.Edits.{position_changed, broken, parted}
+use Rattle.layout_positions.specs.Lookups.{Applied, unapplied, has_lookup_on, glyph_before, start_before}
+use Rattle.layout_positions.specs.declared.anchors.Anchor.{Anchor}
+use Rattle.layout_positions.specs.declared.bases.BaseSeen.{BaseSeen}
+
+-- ---- a mark on a glyph
+
+-- the anchor of the mark comes to stand on that of the glyph
+abbrev pub mark_position : ℕ → ℕ → Anchor → Anchor → GlyphPosition → GlyphPosition
+mark_position i j mark base p = record p {
+  x_offset = base.x -ʷ mark.x;
+  y_offset = base.y -ʷ mark.y;
+  attach_chain = chain_to i j;
+  attach_type = MARK_ATTACHED;
+}
+
+abbrev pub mark_put : ℕ → ℕ → Anchor → Buffer → Anchor → Applied
+mark_put i j mark b base = record {
+  buffer = position_changed (mark_position i j mark base) i (broken j (i + 1) b);
+  next = Some (i + 1);
+}
+
+-- mark number `number` of the subtable on row `row` of a matrix of anchors; not if the row has none for its class
+abbrev pub mark_array : List ℕ → ℕ → Option ℕ
+mark_array t start = offset16_of t start (start + 8)
+
+abbrev pub base_anchor : List ℕ → ℕ → ℕ → ℕ → ℕ → Option Anchor
+base_anchor t start number row matrix =
+    anchor_in t (u16_of t (start + 6)) row (class_of_mark t number (mark_array t start)) matrix
+
+abbrev pub mark_attached : Lookup → ℕ → ℕ → ℕ → ℕ → ℕ → Option ℕ → Buffer → Applied
+mark_attached l start i j number row matrix b =
+    option_map_or (mark_put i j (anchor_of_mark l.table.now number (mark_array l.table.now start)) b)
+    (option_and_then (base_anchor l.table.now start number row) matrix) (unapplied b)
+
+-- ---- bases and ligatures
+
+-- the glyph before a mark that is no mark itself, has the lookup on, and isn't transparent
+abbrev pub is_base_seen : Lookup → Item → Bool
+is_base_seen l item = not (shares item.properties.glyph_class.0 8) && not (is_transparent l true item) && has_lookup_on l item
+
+-- the nearest one, not before place `until`
+abbrev pub nearest_base : Lookup → List Item → ℕ → ℕ → Option ℕ
+nearest_base l items until i = option_map (λ d. i - 1 - d) (first_at (λ d. is_base_seen l (nth items (i - 1 - d))) (i - until) 0)
+
+-- each place is looked at once as long as the lookup goes on: from the place that was looked at last
+abbrev pub base_of : Lookup → List Item → ℕ → BaseSeen → Option ℕ
+base_of l items i seen = if nat_lt i seen.until then nearest_base l items 0 i
+    else option_or (nearest_base l items seen.until i) seen.place
+
+abbrev pub base_seen : Lookup → List Item → ℕ → BaseSeen → BaseSeen
+base_seen l items i seen = record { until = i; place = base_of l items i seen }
+
+-- ---- to a base
+
+abbrev pub mark_number : Lookup → ℕ → ℕ → Buffer → Option ℕ
+mark_number l start i b = number_at l.table.now start (start + 2) (nth b.items i).glyph_id
+
+-- the row of the glyph at place `j`
+abbrev pub row_of : Lookup → ℕ → ℕ → Buffer → Option ℕ
+row_of l start j b = number_at l.table.now start (start + 4) (nth b.items j).glyph_id
+
+abbrev pub mark_on_row : Lookup → ℕ → ℕ → ℕ → ℕ → Buffer → ℕ → Applied
+mark_on_row l start i j number b row = mark_attached l start i j number row (offset16_of l.table.now start (start + 10)) b
+
+abbrev pub mark_on_glyph : Lookup → ℕ → ℕ → ℕ → Buffer → ℕ → Applied
+mark_on_glyph l start i number b j =
+    option_map_or (mark_on_row l start i j number b) (row_of l start j b) (unapplied (parted j (i + 1) b))
+
+abbrev pub mark_base_at : Lookup → ℕ → Option ℕ → ℕ → Buffer → ℕ → Applied
+mark_base_at l start base i b number = option_map_or (mark_on_glyph l start i number b) base (unapplied (parted 0 (i + 1) b))
+
+abbrev pub mark_base_applied : Lookup → ℕ → Option ℕ → ℕ → Buffer → Applied
+mark_base_applied l start base i b = option_map_or (mark_base_at l start base i b) (mark_number l start i b) (unapplied b)
+
+-- ---- to a component of a ligature
+
+-- for each ligature a matrix, with a row for each component
+abbrev pub ligature_in : List ℕ → ℕ → ℕ → Option ℕ
+ligature_in t row array = if nat_lt row (fitting t (u16_of t array) (array + 2) 2) then offset16_of t array (array + 2 + 2 * row) else None
+
+abbrev pub ligature_matrix : List ℕ → ℕ → ℕ → Option ℕ
+ligature_matrix t start row = option_and_then (ligature_in t row) (offset16_of t start (start + 10))
+
+-- the component that the mark was on when the ligature was made, else the last one; a mark's components count from 1
+abbrev pub component_of : ℕ → Item → Item → ℕ
+component_of count ligature mark = let id = ligature.properties.ligature_id in
+    let component = mark.properties.ligature_component in
+    (if nat_lt 0 id && nat_eq id mark.properties.ligature_id && nat_lt 0 component then min count component - 1 else count - 1)
+
+abbrev pub mark_on_matrix : Lookup → ℕ → ℕ → ℕ → ℕ → Buffer → ℕ → Applied
+mark_on_matrix l start i j number b matrix = let count = u16_of l.table.now matrix in
+    (if nat_eq count 0 then unapplied (parted j (i + 1) b)
+    else mark_attached l start i j number (component_of count (nth b.items j) (nth b.items i)) (Some matrix) b)
+
+abbrev pub mark_on_ligature : Lookup → ℕ → ℕ → ℕ → Buffer → ℕ → Applied
+mark_on_ligature l start i number b j = option_map_or (mark_on_matrix l start i j number b)
+    (option_and_then (ligature_matrix l.table.now start) (row_of l start j b)) (unapplied (parted j (i + 1) b))
+
+abbrev pub mark_ligature_at : Lookup → ℕ → Option ℕ → ℕ → Buffer → ℕ → Applied
+mark_ligature_at l start base i b number =
+    option_map_or (mark_on_ligature l start i number b) base (unapplied (parted 0 (i + 1) b))
+
+abbrev pub mark_ligature_applied : Lookup → ℕ → Option ℕ → ℕ → Buffer → Applied
+mark_ligature_applied l start base i b =
+    option_map_or (mark_ligature_at l start base i b) (mark_number l start i b) (unapplied b)
+
+-- ---- to a mark
+
+-- the flags skip no class of glyphs, but marks that are left out
+abbrev pub for_marks : Lookup → Lookup
+for_marks l = record l { flags = bit_and l.flags 0xFFF1 }
+
+-- marks on one base, or on one component of a ligature; or one of them is a ligature itself
+abbrev pub are_together : Item → Item → Bool
+are_together x y = let a = x.properties.ligature_id in
+    let b = y.properties.ligature_id in
+    (if nat_eq a b then nat_eq a 0 || nat_eq x.properties.ligature_component y.properties.ligature_component
+    else (nat_lt 0 a && nat_eq x.properties.ligature_component 0) || (nat_lt 0 b && nat_eq y.properties.ligature_component 0))
+
+abbrev pub mark_on_mark : Lookup → ℕ → ℕ → ℕ → Buffer → ℕ → Applied
+mark_on_mark l start i number b j = let other = nth b.items j in
+    (if shares other.properties.glyph_class.0 8 && are_together (nth b.items i) other then mark_on_glyph l start i number b j
+    else unapplied (parted j (i + 1) b))
+
+abbrev pub mark_mark_at : Lookup → ℕ → ℕ → Buffer → ℕ → Applied
+mark_mark_at l start i b number = option_map_or (mark_on_mark l start i number b) (glyph_before (for_marks l) b.items i)
+    (unapplied (parted (start_before (for_marks l) b.items i) (i + 1) b))
+
+abbrev pub mark_mark_applied : Lookup → ℕ → ℕ → Buffer → Applied
+mark_mark_applied l start i b = option_map_or (mark_mark_at l start i b) (mark_number l start i b) (unapplied b)

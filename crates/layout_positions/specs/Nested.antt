@@ -1,0 +1,84 @@
+-- Lookups of context, which apply others where a rule matches (OpenType, `GPOS`, lookup types 7 and 8).
+use Prim.Native.Nat.{zero}
+use Rattle.std.specs.Prelude.{ℕ, suc, true, List, Option, Some, None, ◌+◌, ◌-◌, ◌*◌, max, min, length, nat_eq, nat_lt, if◌then◌else◌}
+use Rattle.std.specs.Option.{option_map, option_map_or}
+use Rattle.shape_font.specs.Bytes.{u16_of}
+use Rattle.shape_items.specs.Buffer.{Buffer, most_countable}
+use Rattle.shape_items.specs.Items.{Item}
+use Rattle.layout_tables.specs.Lookups.{lookup_of}
+use Rattle.layout_matching.specs.Found.{found_of, is_context}
+use Rattle.layout_matching.specs.Input.{seek_input}
+use Rattle.layout_matching.specs.Loops.{times}
+use Rattle.layout_matching.specs.Nesting.{lookup_with, record_at}
+use Rattle.layout_matching.specs.Seeking.{last_after}
+use Rattle.layout_matching.specs.Skipping.{nth}
+use Rattle.layout_matching.specs.declared.found.Found.{Found}
+use Rattle.layout_matching.specs.declared.lookup.Lookup.{Lookup}
+use Rattle.layout_matching.specs.declared.rules.Rule.{Rule}
+use Rattle.layout_positions.specs.Edits.{broken}
+use Rattle.layout_positions.specs.Trial.{Placing, unplaced, lookup_placed}
+use Rattle.layout_positions.specs.declared.bases.BaseSeen.{BaseSeen}
+
+-- ---- what a record of a rule names
+
+-- where glyph number `index` of those that the rule matches stands, the first one at `at`
+abbrev pub matched_place : Lookup → List Item → ℕ → Rule → ℕ → Option ℕ
+matched_place l items at rule index =
+    if nat_lt index rule.input.count then last_after l (seek_input l (nth items at) rule.input) items index at else None
+
+abbrev pub named_place : Lookup → List Item → ℕ → Rule → ℕ → Option ℕ
+named_place l items at rule r = matched_place l items at rule (u16_of l.table.now (record_at rule r))
+
+abbrev pub named_lookup : Lookup → Rule → ℕ → Option Lookup
+named_lookup l rule r = option_map (lookup_with l) (lookup_of l.table.now (u16_of l.table.now (record_at rule r + 2)))
+
+-- ---- the records of a rule, one after the other
+
+-- a buffer, the base that was seen last, and how many lookups may still be named
+pub record Nest : Type 0 where
+  pub buffer : Buffer
+  pub seen : BaseSeen
+  pub left : ℕ
+  pub r : ℕ
+
+abbrev pub skipped : Nest → Nest
+skipped s = record s { r = s.r + 1 }
+
+abbrev pub nest_of : Nest → Placing → Nest
+nest_of s made = record { buffer = made.buffer; seen = made.seen; left = made.left; r = s.r + 1 }
+
+abbrev pub record_at_place : (Lookup → ℕ → ℕ → BaseSeen → Buffer → Placing) → Nest → Lookup → ℕ → Nest
+record_at_place next s other place = if nat_eq s.left 0 then skipped s else nest_of s (next other place (s.left - 1) s.seen s.buffer)
+
+abbrev pub record_for : (Lookup → ℕ → ℕ → BaseSeen → Buffer → Placing) → Lookup → ℕ → Rule → Nest → Lookup → Nest
+record_for next l at rule s other = option_map_or (record_at_place next s other) (named_place l s.buffer.items at rule s.r) (skipped s)
+
+abbrev pub record_step : (Lookup → ℕ → ℕ → BaseSeen → Buffer → Placing) → Lookup → ℕ → Rule → Nest → Nest
+record_step next l at rule s = option_map_or (record_for next l at rule s) (named_lookup l rule s.r) (skipped s)
+
+-- what the rule matches is unsafe to break with what is around it; it goes on after the last glyph that it matches
+abbrev pub rule_placed : (Lookup → ℕ → ℕ → BaseSeen → Buffer → Placing) → Lookup → ℕ → ℕ → BaseSeen → Buffer → Found → Placing
+rule_placed next l i left seen b found =
+    let s = times (record_step next l i found.rule) found.rule.count
+    (record { buffer = broken found.span.start found.span.end b; seen = seen; left = left; r = 0 }) in
+    record { buffer = s.buffer; next = Some (found.span.last + 1); seen = s.seen; left = s.left }
+
+abbrev pub level_placed : (Lookup → ℕ → ℕ → BaseSeen → Buffer → Placing) → Lookup → ℕ → ℕ → BaseSeen → Buffer → Placing
+level_placed next l i left seen b =
+    if is_context l
+    then option_map_or (rule_placed next l i left seen b) (found_of l b.items (record { at = i; is_steady = true })) (unplaced left seen b)
+    else lookup_placed l i left seen b
+
+-- so many levels of lookups, each named by the one above
+abbrev pub nested_placed : ℕ → Lookup → ℕ → ℕ → BaseSeen → Buffer → Placing
+nested_placed zero l i left seen b = unplaced left seen b
+nested_placed (suc level) l i left seen b =
+    if nat_lt i (length b.items) then level_placed (nested_placed level) l i left seen b else unplaced left seen b
+
+-- 64 levels below a lookup of the plan
+abbrev pub LEVELS : ℕ
+LEVELS = 65
+
+-- so many lookups may be named for each glyph, and so many at least
+abbrev pub most_named : ℕ → ℕ
+most_named count = max (min (count * 1024) most_countable) 16384

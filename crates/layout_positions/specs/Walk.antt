@@ -1,0 +1,40 @@
+-- Lookups over a buffer, one after the other.
+use Rattle.std.specs.Prelude.{ℕ, List, Option, Some, None, ◌+◌, ◌<◌, ◌^◌, length, nat_lt, fold, if◌then◌else◌}
+use Rattle.std.specs.Option.{option_map_or}
+use Rattle.shape_items.specs.Buffer.{Buffer}
+use Rattle.layout_matching.specs.Loops.{times}
+use Rattle.layout_matching.specs.Skipping.{nth, is_on}
+use Rattle.layout_matching.specs.declared.lookup.Lookup.{Lookup}
+use Rattle.layout_positions.specs.Nested.{LEVELS, most_named, nested_placed}
+use Rattle.layout_positions.specs.Trial.{Placing}
+use Rattle.layout_positions.specs.declared.bases.BaseSeen.{BaseSeen}
+
+pub record Walk : Type 0 where
+  pub buffer : Buffer
+  pub at : ℕ
+  pub seen : BaseSeen
+  pub left : ℕ
+
+abbrev pub gone_on : ℕ → Placing → Walk
+gone_on at made = record { buffer = made.buffer; at = option_map_or (λ next. next) made.next (at + 1); seen = made.seen; left = made.left }
+
+-- at each place where the lookup is on it applies, or goes on to the next glyph
+abbrev pub lookup_step : Lookup → Walk → Walk
+lookup_step l s =
+    if nat_lt s.at (length s.buffer.items)
+    then (if is_on l (nth s.buffer.items s.at) then gone_on s.at (nested_placed LEVELS l s.at s.left s.seen s.buffer) else record s { at = s.at + 1 })
+    else s
+
+abbrev pub none_seen : BaseSeen
+none_seen = record { until = 0; place = None }
+
+abbrev pub lookup_applied : Buffer → Lookup → Buffer
+lookup_applied b l = (times (lookup_step l) (length b.items) (record { buffer = b; at = 0; seen = none_seen; left = most_named (length b.items) })).buffer
+
+-- lookups one after the other
+abbrev pub positioned : List Lookup → Buffer → Buffer
+positioned lookups b = fold lookup_applied b lookups
+
+-- a lookup of a list stands near the start of its table
+abbrev pub HasPlace : Lookup → Type 0
+HasPlace l = l.place < 2 ^ 17

@@ -1,0 +1,8 @@
+-- The definitions, computed on tables and buffers that were read by hand.
+pub mod Lines
+pub mod Values
+pub mod Pairs
+pub mod Marks
+pub mod Cursive
+pub mod Attachment
+pub mod Walk

@@ -1,0 +1,61 @@
+-- Cursive attachment, on a subtable that was read by hand.
+use Rattle.std.specs.Prelude.{◌≡◌, ℕ, ℤ, pos, negsuc, List, [], ◌∷◌, map, Some, None, true, false, refl}
+use Rattle.std.specs.Int.{int_wrap}
+use Rattle.shape_common.specs.Wrapping.{◌+ʷ◌, ◌-ʷ◌, neg_w}
+use Rattle.shape_common.specs.Positions.{zero_position}
+use Rattle.shape_common.specs.declared.text_types.Direction.{Direction}
+use Rattle.shape_common.specs.declared.text_types.Direction.TheVariants.{LeftToRight, RightToLeft, TopToBottom, BottomToTop}
+use Rattle.shape_font.specs.Bytes.{i16_of}
+use Rattle.shape_items.specs.Items.{Item}
+use Rattle.layout_matching.specs.declared.lookup.Lookup.{Lookup}
+use Rattle.layout_positions.specs.Cursive.{cursive_applied}
+use Rattle.layout_positions.specs.Lookups.{Applied}
+use Rattle.layout_positions.specs.Worked.Lines.{base, line, advances, offsets, chains, masks}
+use Rattle.layout_positions.specs.Worked.Pairs.{IsLookup}
+
+-- glyph 2 is left at 500, 50, and glyph 3 entered at 20, 80
+abbrev joins : List ℕ
+joins = 0 ∷ 1 ∷ 0 ∷ 14 ∷ 0 ∷ 2 ∷ 0 ∷ 0 ∷ 0 ∷ 22 ∷ 0 ∷ 28 ∷ 0 ∷ 0 ∷ 0 ∷ 1 ∷ 0 ∷ 2 ∷ 0 ∷ 2 ∷ 0 ∷ 3
+    ∷ 0 ∷ 1 ∷ 1 ∷ 244 ∷ 0 ∷ 50 ∷ 0 ∷ 1 ∷ 0 ∷ 20 ∷ 0 ∷ 80 ∷ []
+
+abbrev joined : Lookup → Direction → Applied
+joined l direction = cursive_applied l 0 1 (line direction (base 2 0 ∷ base 3 1 ∷ []))
+
+pub record WorkedCursive : Type 0 where
+  -- the advance of the first glyph reaches to its exit, and the second one begins at its entry
+  pub to_the_right : (l : Lookup) → IsLookup l joins 0 → advances (joined l LeftToRight).buffer ≡ (pos 500, pos 0) ∷ (pos 580, pos 0) ∷ []
+  -- and follows the first one, 30 below it
+  pub second_follows : (l : Lookup) → IsLookup l joins 0 → offsets (joined l LeftToRight).buffer ≡ (pos 0, pos 0) ∷ (negsuc 19, negsuc 29) ∷ []
+  pub linked_back : (l : Lookup) → IsLookup l joins 0 → chains (joined l LeftToRight).buffer ≡ pos 0 ∷ negsuc 0 ∷ []
+  pub goes_on : (l : Lookup) → IsLookup l joins 0 → (joined l LeftToRight).next ≡ Some 2
+  pub unsafe_between : (l : Lookup) → IsLookup l joins 0 → masks (joined l LeftToRight).buffer ≡ 16 ∷ 19 ∷ []
+  pub to_the_left : (l : Lookup) → IsLookup l joins 1 → advances (joined l RightToLeft).buffer ≡ (pos 100, pos 0) ∷ (pos 20, pos 0) ∷ []
+  -- by the flag RIGHT_TO_LEFT the first one follows, 30 above
+  pub first_follows : (l : Lookup) → IsLookup l joins 1 → offsets (joined l RightToLeft).buffer ≡ (negsuc 499, pos 30) ∷ (pos 0, pos 0) ∷ []
+  pub linked_on : (l : Lookup) → IsLookup l joins 1 → chains (joined l RightToLeft).buffer ≡ pos 1 ∷ pos 0 ∷ []
+  -- the flag alone decides that, not the direction
+  pub by_the_flag : (l : Lookup) → IsLookup l joins 1 → chains (joined l LeftToRight).buffer ≡ pos 1 ∷ pos 0 ∷ []
+  pub downwards : (l : Lookup) → IsLookup l joins 0 → advances (joined l TopToBottom).buffer ≡ (pos 600, pos 50) ∷ (pos 600, negsuc 79) ∷ []
+  pub downwards_across : (l : Lookup) → IsLookup l joins 0 → offsets (joined l TopToBottom).buffer ≡ (pos 0, pos 0) ∷ (pos 480, negsuc 79) ∷ []
+  pub upwards : (l : Lookup) → IsLookup l joins 0 → advances (joined l BottomToTop).buffer ≡ (pos 600, negsuc 49) ∷ (pos 600, pos 80) ∷ []
+  pub no_exit : (l : Lookup) → IsLookup l joins 0 → (cursive_applied l 0 1 (line LeftToRight (base 3 0 ∷ base 3 1 ∷ []))).next ≡ None
+  pub no_entry : (l : Lookup) → IsLookup l joins 0 → (cursive_applied l 0 1 (line LeftToRight (base 2 0 ∷ base 2 1 ∷ []))).next ≡ None
+
+pub worked_cursive : WorkedCursive
+unfolding i16_of ◌+ʷ◌ ◌-ʷ◌ neg_w int_wrap
+worked_cursive = record {
+  to_the_right = λ l is. rw (is.table, is.flags, is.mask) refl;
+  second_follows = λ l is. rw (is.table, is.flags, is.mask) refl;
+  linked_back = λ l is. rw (is.table, is.flags, is.mask) refl;
+  goes_on = λ l is. rw (is.table, is.flags, is.mask) refl;
+  unsafe_between = λ l is. rw (is.table, is.flags, is.mask) refl;
+  to_the_left = λ l is. rw (is.table, is.flags, is.mask) refl;
+  first_follows = λ l is. rw (is.table, is.flags, is.mask) refl;
+  linked_on = λ l is. rw (is.table, is.flags, is.mask) refl;
+  by_the_flag = λ l is. rw (is.table, is.flags, is.mask) refl;
+  downwards = λ l is. rw (is.table, is.flags, is.mask) refl;
+  downwards_across = λ l is. rw (is.table, is.flags, is.mask) refl;
+  upwards = λ l is. rw (is.table, is.flags, is.mask) refl;
+  no_exit = λ l is. rw (is.table, is.flags, is.mask) refl;
+  no_entry = λ l is. rw is.table refl;
+}

@@ -1,0 +1,120 @@
+-- Marks attached to bases, ligatures and marks, on subtables that were read by hand.
+use Rattle.std.specs.Prelude.{◌≡◌, ℕ, ℤ, pos, negsuc, List, [], ◌∷◌, Some, None, true, false, refl}
+use Rattle.shape_common.specs.Wrapping.{◌-ʷ◌}
+use Rattle.std.specs.Int.{int_wrap}
+use Rattle.shape_common.specs.declared.text_types.Direction.TheVariants.{LeftToRight}
+use Rattle.shape_font.specs.Bytes.{i16_of}
+use Rattle.shape_items.specs.Items.{Item}
+use Rattle.layout_matching.specs.declared.lookup.Lookup.{Lookup}
+use Rattle.layout_positions.specs.Lookups.{Applied}
+use Rattle.layout_positions.specs.Marks.{base_of, component_of, are_together, mark_base_applied, mark_ligature_applied, mark_mark_applied}
+use Rattle.layout_positions.specs.Walk.{none_seen}
+use Rattle.layout_positions.specs.Worked.Lines.{base, mark, ligature, mark_on, ignorable, line, offsets, chains, masks}
+use Rattle.layout_positions.specs.Worked.Pairs.{IsLookup}
+
+-- mark 8 of class 1, its anchor at 10, 20; glyph 2 with an anchor at 300, 500 for class 1, and none for class 0
+abbrev pub on_bases : List ℕ
+on_bases = 0 ∷ 1 ∷ 0 ∷ 12 ∷ 0 ∷ 18 ∷ 0 ∷ 2 ∷ 0 ∷ 24 ∷ 0 ∷ 30 ∷ 0 ∷ 1 ∷ 0 ∷ 1 ∷ 0 ∷ 8 ∷ 0 ∷ 1 ∷ 0 ∷ 1 ∷ 0 ∷ 2
+    ∷ 0 ∷ 1 ∷ 0 ∷ 1 ∷ 0 ∷ 12 ∷ 0 ∷ 1 ∷ 0 ∷ 0 ∷ 0 ∷ 12 ∷ 0 ∷ 1 ∷ 0 ∷ 10 ∷ 0 ∷ 20 ∷ 0 ∷ 1 ∷ 1 ∷ 44 ∷ 1 ∷ 244 ∷ []
+
+-- mark 8 of class 0, its anchor at 10, 0; ligature 4 of three components with anchors at 100, 200 and 300
+abbrev on_ligatures : List ℕ
+on_ligatures = 0 ∷ 1 ∷ 0 ∷ 12 ∷ 0 ∷ 18 ∷ 0 ∷ 1 ∷ 0 ∷ 24 ∷ 0 ∷ 30 ∷ 0 ∷ 1 ∷ 0 ∷ 1 ∷ 0 ∷ 8 ∷ 0 ∷ 1 ∷ 0 ∷ 1 ∷ 0 ∷ 4
+    ∷ 0 ∷ 1 ∷ 0 ∷ 0 ∷ 0 ∷ 24 ∷ 0 ∷ 1 ∷ 0 ∷ 4 ∷ 0 ∷ 3 ∷ 0 ∷ 8 ∷ 0 ∷ 20 ∷ 0 ∷ 26 ∷ 0 ∷ 1 ∷ 0 ∷ 100 ∷ 0 ∷ 0
+    ∷ 0 ∷ 1 ∷ 0 ∷ 10 ∷ 0 ∷ 0 ∷ 0 ∷ 1 ∷ 0 ∷ 200 ∷ 0 ∷ 0 ∷ 0 ∷ 1 ∷ 1 ∷ 44 ∷ 0 ∷ 0 ∷ []
+
+abbrev on_base : Lookup → List Item → Applied
+on_base l items = mark_base_applied l 0 (Some 0) 1 (line LeftToRight items)
+
+abbrev on_ligature : Lookup → Item → Applied
+on_ligature l x = mark_ligature_applied l 0 (Some 0) 1 (line LeftToRight (ligature 4 5 0 ∷ x ∷ []))
+
+abbrev on_mark : Lookup → Item → Item → Applied
+on_mark l x y = mark_mark_applied l 0 1 (line LeftToRight (x ∷ y ∷ []))
+
+pub record WorkedMarks : Type 0 where
+  pub anchors_meet : (l : Lookup) → IsLookup l on_bases 0
+      → offsets (on_base l (base 2 0 ∷ mark 8 0 ∷ [])).buffer ≡ (pos 0, pos 0) ∷ (pos 290, pos 480) ∷ []
+  pub attached_to_the_base : (l : Lookup) → IsLookup l on_bases 0 → chains (on_base l (base 2 0 ∷ mark 8 0 ∷ [])).buffer ≡ pos 0 ∷ negsuc 0 ∷ []
+  pub goes_on : (l : Lookup) → IsLookup l on_bases 0 → (on_base l (base 2 0 ∷ mark 8 0 ∷ [])).next ≡ Some 2
+  pub unsafe_between : (l : Lookup) → IsLookup l on_bases 0 → masks (on_base l (base 2 0 ∷ mark 8 1 ∷ [])).buffer ≡ 16 ∷ 19 ∷ []
+  pub other_base : (l : Lookup) → IsLookup l on_bases 0 → (on_base l (base 3 0 ∷ mark 8 0 ∷ [])).next ≡ None
+  pub other_mark : (l : Lookup) → IsLookup l on_bases 0 → (on_base l (base 2 0 ∷ mark 7 0 ∷ [])).next ≡ None
+  pub no_base : (l : Lookup) → IsLookup l on_bases 0 → (mark_base_applied l 0 None 0 (line LeftToRight (mark 8 0 ∷ []))).next ≡ None
+
+pub worked_marks : WorkedMarks
+unfolding i16_of ◌-ʷ◌ int_wrap
+worked_marks = record {
+  anchors_meet = λ l is. rw is.table refl;
+  attached_to_the_base = λ l is. rw is.table refl;
+  goes_on = λ l is. rw is.table refl;
+  unsafe_between = λ l is. rw is.table refl;
+  other_base = λ l is. rw is.table refl;
+  other_mark = λ l is. rw is.table refl;
+  no_base = λ l is. rw is.table refl;
+}
+
+-- ---- the base of a mark
+
+pub record WorkedBases : Type 0 where
+  pub before_it : (l : Lookup) → IsLookup l [] 0 → base_of l (base 2 0 ∷ mark 8 0 ∷ []) 1 none_seen ≡ Some 0
+  pub over_marks : (l : Lookup) → IsLookup l [] 0 → base_of l (base 2 0 ∷ mark 8 0 ∷ mark 8 0 ∷ []) 2 none_seen ≡ Some 0
+  pub over_ignorables : (l : Lookup) → IsLookup l [] 0 → base_of l (base 2 0 ∷ ignorable 0 ∷ mark 8 0 ∷ []) 2 none_seen ≡ Some 0
+  pub not_past_another_base : (l : Lookup) → IsLookup l [] 0 → base_of l (base 2 0 ∷ base 3 1 ∷ mark 8 1 ∷ []) 2 none_seen ≡ Some 1
+  pub seen_before : (l : Lookup) → IsLookup l [] 0
+      → base_of l (base 2 0 ∷ mark 8 0 ∷ mark 8 0 ∷ []) 2 (record { until = 1; place = Some 0 }) ≡ Some 0
+  pub another_one_since : (l : Lookup) → IsLookup l [] 0
+      → base_of l (base 2 0 ∷ base 3 1 ∷ mark 8 1 ∷ []) 2 (record { until = 1; place = Some 0 }) ≡ Some 1
+  pub seen_too_far : (l : Lookup) → IsLookup l [] 0
+      → base_of l (base 2 0 ∷ mark 8 0 ∷ base 3 1 ∷ []) 1 (record { until = 3; place = Some 2 }) ≡ Some 0
+  pub none : (l : Lookup) → IsLookup l [] 0 → base_of l (mark 8 0 ∷ mark 8 0 ∷ []) 1 none_seen ≡ None
+
+pub worked_bases : WorkedBases
+worked_bases = record {
+  before_it = λ l is. rw is.mask refl;
+  over_marks = λ l is. rw is.mask refl;
+  over_ignorables = λ l is. rw (is.mask, is.zwj, is.positioning) refl;
+  not_past_another_base = λ l is. rw is.mask refl;
+  seen_before = λ l is. refl;
+  another_one_since = λ l is. rw is.mask refl;
+  seen_too_far = λ l is. rw is.mask refl;
+  none = λ l is. refl;
+}
+
+-- ---- components, and marks on marks
+
+pub record WorkedComponents : Type 0 where
+  pub first : (l : Lookup) → IsLookup l on_ligatures 0 → offsets (on_ligature l (mark_on 8 5 1 0)).buffer ≡ (pos 0, pos 0) ∷ (pos 90, pos 0) ∷ []
+  pub second : (l : Lookup) → IsLookup l on_ligatures 0 → offsets (on_ligature l (mark_on 8 5 2 0)).buffer ≡ (pos 0, pos 0) ∷ (pos 190, pos 0) ∷ []
+  pub third : (l : Lookup) → IsLookup l on_ligatures 0 → offsets (on_ligature l (mark_on 8 5 3 0)).buffer ≡ (pos 0, pos 0) ∷ (pos 290, pos 0) ∷ []
+  -- a mark past the components, of another ligature, or that came after, stands on the last one
+  pub past_them : (l : Lookup) → IsLookup l on_ligatures 0 → offsets (on_ligature l (mark_on 8 5 4 0)).buffer ≡ (pos 0, pos 0) ∷ (pos 290, pos 0) ∷ []
+  pub of_another : (l : Lookup) → IsLookup l on_ligatures 0 → offsets (on_ligature l (mark_on 8 6 1 0)).buffer ≡ (pos 0, pos 0) ∷ (pos 290, pos 0) ∷ []
+  pub after_it : (l : Lookup) → IsLookup l on_ligatures 0 → offsets (on_ligature l (mark 8 0)).buffer ≡ (pos 0, pos 0) ∷ (pos 290, pos 0) ∷ []
+  pub on_the_mark_before : (l : Lookup) → IsLookup l on_bases 0
+      → offsets (on_mark l (mark 2 0) (mark 8 0)).buffer ≡ (pos 0, pos 0) ∷ (pos 290, pos 480) ∷ []
+  pub not_on_a_base : (l : Lookup) → IsLookup l on_bases 0 → (on_mark l (base 2 0) (mark 8 0)).next ≡ None
+  pub same_component : (l : Lookup) → IsLookup l on_bases 0 → (on_mark l (mark_on 2 5 1 0) (mark_on 8 5 1 0)).next ≡ Some 2
+  pub other_component : (l : Lookup) → IsLookup l on_bases 0 → (on_mark l (mark_on 2 5 1 0) (mark_on 8 5 2 0)).next ≡ None
+  pub other_ligature : (l : Lookup) → IsLookup l on_bases 0 → (on_mark l (mark_on 2 5 1 0) (mark_on 8 6 1 0)).next ≡ None
+  pub mark_that_is_a_ligature : (l : Lookup) → IsLookup l on_bases 0 → (on_mark l (mark_on 2 5 0 0) (mark 8 0)).next ≡ Some 2
+  -- marks are seen though the flags skip marks
+  pub whatever_the_flags : (l : Lookup) → IsLookup l on_bases 8 → (on_mark l (mark 2 0) (mark 8 0)).next ≡ Some 2
+
+pub worked_components : WorkedComponents
+unfolding i16_of ◌-ʷ◌ int_wrap
+worked_components = record {
+  first = λ l is. rw is.table refl;
+  second = λ l is. rw is.table refl;
+  third = λ l is. rw is.table refl;
+  past_them = λ l is. rw is.table refl;
+  of_another = λ l is. rw is.table refl;
+  after_it = λ l is. rw is.table refl;
+  on_the_mark_before = λ l is. rw (is.table, is.flags, is.mask) refl;
+  not_on_a_base = λ l is. rw (is.table, is.flags, is.mask) refl;
+  same_component = λ l is. rw (is.table, is.flags, is.mask) refl;
+  other_component = λ l is. rw (is.table, is.flags, is.mask) refl;
+  other_ligature = λ l is. rw (is.table, is.flags, is.mask) refl;
+  mark_that_is_a_ligature = λ l is. rw (is.table, is.flags, is.mask) refl;
+  whatever_the_flags = λ l is. rw (is.table, is.flags, is.mask) refl;
+}

@@ -1,0 +1,145 @@
+-- Single and pair adjustment, on subtables that were read by hand.
+use Rattle.std.specs.Prelude.{◌≡◌, ℕ, ℤ, pos, negsuc, List, [], ◌∷◌, ◌++◌, Some, None, true, false, refl}
+use Rattle.std.specs.Option.{option_map}
+use Rattle.std.specs.Int.{int_wrap}
+use Rattle.std.specs.Int.Count.{ones}
+use Rattle.shape_common.specs.Wrapping.{◌+ʷ◌, ◌-ʷ◌}
+use Rattle.shape_common.specs.declared.text_types.Direction.TheVariants.{LeftToRight, RightToLeft, TopToBottom}
+use Rattle.shape_font.specs.Bytes.{i16_of}
+use Rattle.shape_items.specs.Items.{Item}
+use Rattle.layout_matching.specs.declared.lookup.Lookup.{Lookup}
+use Rattle.layout_positions.specs.Lookups.{Applied}
+use Rattle.layout_positions.specs.Pairs.{single_of, single_applied, pair_of, pair_applied}
+use Rattle.layout_positions.specs.Worked.Lines.{base, mark, ignorable, line, advances, offsets, masks}
+use Rattle.layout_positions.specs.declared.pairs.PairValues.{PairValues}
+use Rattle.layout_positions.specs.declared.values.Adjustment.{Adjustment}
+
+-- a list of glyphs 2 and 3
+abbrev list : List ℕ
+list = 0 ∷ 1 ∷ 0 ∷ 2 ∷ 0 ∷ 2 ∷ 0 ∷ 3 ∷ []
+
+-- both 10 to the right and 50 narrower
+abbrev pub single_one : List ℕ
+single_one = 0 ∷ 1 ∷ 0 ∷ 10 ∷ 0 ∷ 5 ∷ 0 ∷ 10 ∷ 0xFF ∷ 0xCE ∷ list
+
+-- 2 by 10, 3 by 20 upwards; a third glyph of the list would have no record
+abbrev pub single_two : List ℕ
+single_two = 0 ∷ 2 ∷ 0 ∷ 12 ∷ 0 ∷ 2 ∷ 0 ∷ 2 ∷ 0 ∷ 10 ∷ 0 ∷ 20 ∷ 0 ∷ 1 ∷ 0 ∷ 3 ∷ 0 ∷ 2 ∷ 0 ∷ 3 ∷ 0 ∷ 4 ∷ []
+
+abbrev upwards : ℤ → Adjustment
+upwards y = record { x_placement = pos 0; y_placement = y; x_advance = pos 0; y_advance = pos 0 }
+
+abbrev wider : ℤ → Adjustment
+wider w = record { x_placement = pos 0; y_placement = pos 0; x_advance = w; y_advance = pos 0 }
+
+-- format 1: 2 then 3 by -50, 2 then 5 by -60, 3 then 3 by -70, on the advance of the first glyph
+abbrev pub pairs_one : List ℕ
+pairs_one = 0 ∷ 1 ∷ 0 ∷ 14 ∷ 0 ∷ 4 ∷ 0 ∷ 0 ∷ 0 ∷ 2 ∷ 0 ∷ 22 ∷ 0 ∷ 32 ∷ (list
+    ++ (0 ∷ 2 ∷ 0 ∷ 3 ∷ 0xFF ∷ 0xCE ∷ 0 ∷ 5 ∷ 0xFF ∷ 0xC4 ∷ 0 ∷ 1 ∷ 0 ∷ 3 ∷ 0xFF ∷ 0xBA ∷ []))
+
+-- the same for 2 then 3 with a record for the second glyph: 30 to the right
+abbrev pub pairs_both : List ℕ
+pairs_both = 0 ∷ 1 ∷ 0 ∷ 12 ∷ 0 ∷ 4 ∷ 0 ∷ 1 ∷ 0 ∷ 1 ∷ 0 ∷ 20 ∷ (list ++ (0 ∷ 1 ∷ 0 ∷ 3 ∷ 0xFF ∷ 0xCE ∷ 0 ∷ 30 ∷ []))
+
+-- format 2: 2 is of class 0 as a first glyph and 3 of class 1, 5 is of class 1 as a second one; rows 0: 1, 2; 1: 3, 4
+abbrev pairs_two : List ℕ
+pairs_two = 0 ∷ 2 ∷ 0 ∷ 24 ∷ 0 ∷ 4 ∷ 0 ∷ 0 ∷ 0 ∷ 32 ∷ 0 ∷ 40 ∷ 0 ∷ 2 ∷ 0 ∷ 2 ∷ 0 ∷ 1 ∷ 0 ∷ 2 ∷ 0 ∷ 3 ∷ 0 ∷ 4
+    ∷ (list ++ (0 ∷ 1 ∷ 0 ∷ 3 ∷ 0 ∷ 1 ∷ 0 ∷ 1 ∷ 0 ∷ 1 ∷ 0 ∷ 5 ∷ 0 ∷ 1 ∷ 0 ∷ 1 ∷ []))
+
+pub record WorkedTables : Type 0 where
+  pub same_for_all : single_of single_one 0 3 ≡ Some (record { x_placement = pos 10; y_placement = pos 0; x_advance = negsuc 49; y_advance = pos 0 })
+  pub not_covered : single_of single_one 0 4 ≡ None
+  pub one_for_each : single_of single_two 0 3 ≡ Some (upwards (pos 20))
+  pub past_the_records : single_of single_two 0 4 ≡ None
+  pub listed : pair_of pairs_one 0 0 2 3 ≡ Some (record { first = wider (negsuc 49); second = wider (pos 0); has_second = false })
+  pub listed_after_it : pair_of pairs_one 0 0 2 5 ≡ Some (record { first = wider (negsuc 59); second = wider (pos 0); has_second = false })
+  pub listed_in_the_second_set : pair_of pairs_one 0 1 3 3 ≡ Some (record { first = wider (negsuc 69); second = wider (pos 0); has_second = false })
+  pub not_listed : pair_of pairs_one 0 0 2 4 ≡ None
+  pub past_the_sets : pair_of pairs_one 0 2 4 3 ≡ None
+  pub second_record : pair_of pairs_both 0 0 2 3 ≡ Some (record {
+    first = wider (negsuc 49);
+    second = record { x_placement = pos 30; y_placement = pos 0; x_advance = pos 0; y_advance = pos 0 };
+    has_second = true;
+  })
+  pub class_0_of_both : pair_of pairs_two 0 0 2 7 ≡ Some (record { first = wider (pos 1); second = wider (pos 0); has_second = false })
+  pub class_0_then_1 : pair_of pairs_two 0 0 2 5 ≡ Some (record { first = wider (pos 2); second = wider (pos 0); has_second = false })
+  pub class_1_then_0 : pair_of pairs_two 0 1 3 7 ≡ Some (record { first = wider (pos 3); second = wider (pos 0); has_second = false })
+  pub class_1_then_1 : pair_of pairs_two 0 1 3 5 ≡ Some (record { first = wider (pos 4); second = wider (pos 0); has_second = false })
+
+pub worked_tables : WorkedTables
+unfolding i16_of ones
+worked_tables = record {
+  same_for_all = refl;
+  not_covered = refl;
+  one_for_each = refl;
+  past_the_records = refl;
+  listed = refl;
+  listed_after_it = refl;
+  listed_in_the_second_set = refl;
+  not_listed = refl;
+  past_the_sets = refl;
+  second_record = refl;
+  class_0_of_both = refl;
+  class_0_then_1 = refl;
+  class_1_then_0 = refl;
+  class_1_then_1 = refl;
+}
+
+-- ---- over lines, by a lookup for bit 16 that passes over default ignorables
+
+pub record IsLookup (l : Lookup) (t : List ℕ) (f : ℕ) : Type 0 where
+  pub table : l.table.now ≡ t
+  pub flags : l.flags ≡ f
+  pub mask : l.mask ≡ 16
+  pub zwj : l.auto_zwj ≡ true
+  pub positioning : l.positioning ≡ true
+  pub syllables : l.per_syllable ≡ false
+
+abbrev pair_by : Lookup → List Item → Applied
+pair_by l items = pair_applied l 0 0 (line LeftToRight items)
+
+pub record WorkedLines : Type 0 where
+  pub single : (l : Lookup) → IsLookup l single_one 0
+      → offsets (single_applied l 0 1 (line LeftToRight (base 7 0 ∷ base 3 1 ∷ []))).buffer ≡ (pos 0, pos 0) ∷ (pos 10, pos 0) ∷ []
+  pub single_goes_on : (l : Lookup) → IsLookup l single_one 0
+      → (single_applied l 0 1 (line LeftToRight (base 7 0 ∷ base 3 1 ∷ []))).next ≡ Some 2
+  pub first_glyph_narrower : (l : Lookup) → IsLookup l pairs_one 0
+      → advances (pair_by l (base 2 0 ∷ base 3 1 ∷ [])).buffer ≡ (pos 550, pos 0) ∷ (pos 600, pos 0) ∷ []
+  pub goes_on_at_the_second : (l : Lookup) → IsLookup l pairs_one 0 → (pair_by l (base 2 0 ∷ base 3 1 ∷ [])).next ≡ Some 1
+  pub over_an_ignorable : (l : Lookup) → IsLookup l pairs_one 0
+      → advances (pair_by l (base 2 0 ∷ ignorable 0 ∷ base 3 1 ∷ [])).buffer ≡ (pos 550, pos 0) ∷ (pos 600, pos 0) ∷ (pos 600, pos 0) ∷ []
+  pub unsafe_between : (l : Lookup) → IsLookup l pairs_one 0 → masks (pair_by l (base 2 0 ∷ base 3 1 ∷ base 7 2 ∷ [])).buffer ≡ 16 ∷ 19 ∷ 16 ∷ []
+  pub not_over_a_mark : (l : Lookup) → IsLookup l pairs_one 0 → (pair_by l (base 2 0 ∷ mark 8 0 ∷ base 3 1 ∷ [])).next ≡ None
+  pub over_a_mark_by_the_flag : (l : Lookup) → IsLookup l pairs_one 8
+      → (pair_by l (base 2 0 ∷ mark 8 0 ∷ base 3 1 ∷ [])).next ≡ Some 2
+  pub second_glyph_moved : (l : Lookup) → IsLookup l pairs_both 0
+      → offsets (pair_by l (base 2 0 ∷ base 3 1 ∷ [])).buffer ≡ (pos 0, pos 0) ∷ (pos 30, pos 0) ∷ []
+  pub goes_on_after_the_second : (l : Lookup) → IsLookup l pairs_both 0 → (pair_by l (base 2 0 ∷ base 3 1 ∷ [])).next ≡ Some 2
+  pub unsafe_after_the_second : (l : Lookup) → IsLookup l pairs_both 0
+      → masks (pair_by l (base 2 0 ∷ base 3 1 ∷ base 7 2 ∷ [])).buffer ≡ 16 ∷ 19 ∷ 19 ∷ []
+  pub classes : (l : Lookup) → IsLookup l pairs_two 0
+      → advances (pair_by l (base 2 0 ∷ base 7 1 ∷ [])).buffer ≡ (pos 601, pos 0) ∷ (pos 600, pos 0) ∷ []
+  -- the first record has no advance down the line
+  pub not_in_a_vertical_line : (l : Lookup) → IsLookup l pairs_one 0
+      → advances (pair_applied l 0 0 (line TopToBottom (base 2 0 ∷ base 3 1 ∷ []))).buffer ≡ (pos 600, pos 0) ∷ (pos 600, pos 0) ∷ []
+  pub backward : (l : Lookup) → IsLookup l pairs_one 0
+      → advances (pair_applied l 0 0 (line RightToLeft (base 2 0 ∷ base 3 1 ∷ []))).buffer ≡ (pos 550, pos 0) ∷ (pos 600, pos 0) ∷ []
+
+pub worked_lines : WorkedLines
+unfolding i16_of ◌+ʷ◌ ◌-ʷ◌ int_wrap ones
+worked_lines = record {
+  single = λ l is. rw is.table refl;
+  single_goes_on = λ l is. rw is.table refl;
+  first_glyph_narrower = λ l is. rw (is.table, is.flags, is.mask) refl;
+  goes_on_at_the_second = λ l is. rw (is.table, is.flags, is.mask) refl;
+  over_an_ignorable = λ l is. rw (is.table, is.flags, is.mask, is.zwj, is.positioning) refl;
+  unsafe_between = λ l is. rw (is.table, is.flags, is.mask) refl;
+  not_over_a_mark = λ l is. rw (is.table, is.flags, is.mask) refl;
+  over_a_mark_by_the_flag = λ l is. rw (is.table, is.flags, is.mask) refl;
+  second_glyph_moved = λ l is. rw (is.table, is.flags, is.mask) refl;
+  goes_on_after_the_second = λ l is. rw (is.table, is.flags, is.mask) refl;
+  unsafe_after_the_second = λ l is. rw (is.table, is.flags, is.mask) refl;
+  classes = λ l is. rw (is.table, is.flags, is.mask) refl;
+  not_in_a_vertical_line = λ l is. rw (is.table, is.flags, is.mask) refl;
+  backward = λ l is. rw (is.table, is.flags, is.mask) refl;
+}

@@ -1,0 +1,109 @@
+-- Value records and anchors, on bytes that were read by hand.
+use Rattle.std.specs.Prelude.{◌≡◌, ℕ, ℤ, pos, negsuc, List, [], ◌∷◌, Some, None, true, false, refl}
+use Rattle.std.specs.Int.{int_wrap}
+use Rattle.std.specs.Int.Count.{ones}
+use Rattle.shape_common.specs.Positions.{zero_position}
+use Rattle.shape_common.specs.Wrapping.{◌+ʷ◌, ◌-ʷ◌}
+use Rattle.shape_font.specs.Bytes.{i16_of}
+use Rattle.layout_positions.specs.Anchors.{anchor_at, anchor_by, anchor_in, class_of_mark, anchor_of_mark, number_at}
+use Rattle.layout_positions.specs.Values.{value_size, value_at, adjusted, has_effect}
+use Rattle.layout_positions.specs.declared.values.Adjustment.{Adjustment}
+
+abbrev adjustment : ℤ → ℤ → ℤ → ℤ → Adjustment
+adjustment x y w h = record { x_placement = x; y_placement = y; x_advance = w; y_advance = h }
+
+-- 10, -20, 30, -40
+abbrev numbers : List ℕ
+numbers = 0 ∷ 10 ∷ 0xFF ∷ 0xEC ∷ 0 ∷ 30 ∷ 0xFF ∷ 0xD8 ∷ []
+
+pub record WorkedValues : Type 0 where
+  -- two bytes for each bit, whatever it is of: 0x10 to 0x80 are offsets of devices
+  pub sizes : (value_size 0 ∷ value_size 4 ∷ value_size 0xF ∷ value_size 0xFF ∷ value_size 0x50 ∷ []) ≡ 0 ∷ 2 ∷ 8 ∷ 16 ∷ 4 ∷ []
+  pub nothing : value_at numbers 0 0 ≡ adjustment (pos 0) (pos 0) (pos 0) (pos 0)
+  pub all : value_at numbers 15 0 ≡ adjustment (pos 10) (negsuc 19) (pos 30) (negsuc 39)
+  pub advance_alone : value_at numbers 4 0 ≡ adjustment (pos 0) (pos 0) (pos 10) (pos 0)
+  pub lower_bits_first : value_at numbers 10 0 ≡ adjustment (pos 0) (pos 10) (pos 0) (negsuc 19)
+  pub devices_passed_over : value_at numbers 0xF5 0 ≡ adjustment (pos 10) (pos 0) (negsuc 19) (pos 0)
+  pub past_the_end : value_at numbers 3 6 ≡ adjustment (negsuc 39) (pos 0) (pos 0) (pos 0)
+  pub along_a_horizontal_line : adjusted true (adjustment (pos 1) (pos 2) (pos 3) (pos 4)) (record zero_position { x_advance = pos 600; y_advance = pos 7 })
+      ≡ record zero_position { x_advance = pos 603; y_advance = pos 7; x_offset = pos 1; y_offset = pos 2 }
+  -- down a vertical line advances are negative, so that a greater one grows down
+  pub down_a_vertical_line : adjusted false (adjustment (pos 1) (pos 2) (pos 3) (pos 4)) (record zero_position { x_advance = pos 600; y_advance = negsuc 999 })
+      ≡ record zero_position { x_advance = pos 600; y_advance = negsuc 1003; x_offset = pos 1; y_offset = pos 2 }
+  pub sums_wrap : adjusted true (adjustment (pos 0) (pos 0) (pos 1) (pos 0)) (record zero_position { x_advance = pos 2147483647 })
+      ≡ record zero_position { x_advance = negsuc 2147483647 }
+  pub placement_has_effect : has_effect true (adjustment (pos 0) (negsuc 0) (pos 0) (pos 0)) ≡ true
+  pub advance_along_has_effect : has_effect true (adjustment (pos 0) (pos 0) (pos 1) (pos 0)) ≡ true
+  pub advance_across_has_none : has_effect true (adjustment (pos 0) (pos 0) (pos 0) (pos 1)) ≡ false
+  pub vertical_advance_has_effect : has_effect false (adjustment (pos 0) (pos 0) (pos 0) (pos 1)) ≡ true
+  pub zeros_have_none : has_effect true (adjustment (pos 0) (pos 0) (pos 0) (pos 0)) ≡ false
+
+pub worked_values : WorkedValues
+unfolding i16_of ◌+ʷ◌ ◌-ʷ◌ int_wrap ones
+worked_values = record {
+  sizes = refl;
+  nothing = refl;
+  all = refl;
+  advance_alone = refl;
+  lower_bits_first = refl;
+  devices_passed_over = refl;
+  past_the_end = refl;
+  along_a_horizontal_line = refl;
+  down_a_vertical_line = refl;
+  sums_wrap = refl;
+  placement_has_effect = refl;
+  advance_along_has_effect = refl;
+  advance_across_has_none = refl;
+  vertical_advance_has_effect = refl;
+  zeros_have_none = refl;
+}
+
+-- ---- anchors: an anchor of a format at 100, -5
+
+abbrev anchor : ℕ → List ℕ
+anchor format = 0 ∷ format ∷ 0 ∷ 100 ∷ 0xFF ∷ 0xFB ∷ []
+
+-- a matrix of two rows for two classes; row 1 has an anchor for class 1 alone, at 10 from the matrix
+abbrev matrix : List ℕ
+matrix = 0 ∷ 2 ∷ 0 ∷ 0 ∷ 0 ∷ 0 ∷ 0 ∷ 0 ∷ 0 ∷ 10 ∷ 0 ∷ 1 ∷ 0 ∷ 7 ∷ 0 ∷ 8 ∷ []
+
+-- an array of two marks: class 1 with an anchor at 10 from the array, class 3 without one
+abbrev marks : List ℕ
+marks = 0 ∷ 2 ∷ 0 ∷ 1 ∷ 0 ∷ 10 ∷ 0 ∷ 3 ∷ 0 ∷ 0 ∷ 0 ∷ 2 ∷ 0 ∷ 7 ∷ 0 ∷ 8 ∷ 0 ∷ 0 ∷ []
+
+pub record WorkedAnchors : Type 0 where
+  pub format_1 : anchor_at (anchor 1) 0 ≡ record { x = pos 100; y = negsuc 4 }
+  pub format_2 : anchor_at (anchor 2) 0 ≡ record { x = pos 100; y = negsuc 4 }
+  pub format_3 : anchor_at (anchor 3) 0 ≡ record { x = pos 100; y = negsuc 4 }
+  pub other_format : anchor_at (anchor 4) 0 ≡ record { x = pos 0; y = pos 0 }
+  pub no_offset : anchor_by (0 ∷ 0 ∷ anchor 1) 0 0 ≡ None
+  pub in_the_matrix : anchor_in matrix 2 1 1 0 ≡ Some (record { x = pos 7; y = pos 8 })
+  pub none_for_the_class : anchor_in matrix 2 1 0 0 ≡ None
+  pub past_the_rows : anchor_in matrix 2 2 0 0 ≡ None
+  pub past_the_classes : anchor_in matrix 2 0 2 0 ≡ None
+  pub class_of_the_first : class_of_mark marks 0 (Some 0) ≡ 1
+  pub class_of_the_second : class_of_mark marks 1 (Some 0) ≡ 3
+  pub class_past_the_end : class_of_mark marks 2 (Some 0) ≡ 0
+  pub anchor_of_the_first : anchor_of_mark marks 0 (Some 0) ≡ record { x = pos 7; y = pos 8 }
+  pub anchor_of_the_second : anchor_of_mark marks 1 (Some 0) ≡ record { x = pos 0; y = pos 0 }
+  pub without_an_array : class_of_mark marks 0 None ≡ 0
+
+pub worked_anchors : WorkedAnchors
+unfolding i16_of
+worked_anchors = record {
+  format_1 = refl;
+  format_2 = refl;
+  format_3 = refl;
+  other_format = refl;
+  no_offset = refl;
+  in_the_matrix = refl;
+  none_for_the_class = refl;
+  past_the_rows = refl;
+  past_the_classes = refl;
+  class_of_the_first = refl;
+  class_of_the_second = refl;
+  class_past_the_end = refl;
+  anchor_of_the_first = refl;
+  anchor_of_the_second = refl;
+  without_an_array = refl;
+}

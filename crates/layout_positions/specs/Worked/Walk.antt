@@ -1,0 +1,69 @@
+-- Lookups over lines, on tables that were read by hand.
+use Rattle.std.specs.Prelude.{◌≡◌, ℕ, ℤ, pos, negsuc, List, [], ◌∷◌, ◌++◌, Some, None, true, false, refl}
+use Rattle.std.specs.Int.{int_wrap}
+use Rattle.std.specs.Int.Count.{ones}
+use Rattle.shape_common.specs.Wrapping.{◌+ʷ◌, ◌-ʷ◌}
+use Rattle.shape_common.specs.declared.text_types.Direction.TheVariants.{LeftToRight}
+use Rattle.shape_font.specs.Bytes.{i16_of}
+use Rattle.shape_items.specs.Buffer.{Buffer}
+use Rattle.shape_items.specs.Items.{Item}
+use Rattle.layout_matching.specs.declared.lookup.Lookup.{Lookup}
+use Rattle.layout_positions.specs.Walk.{lookup_applied}
+use Rattle.layout_positions.specs.Worked.Lines.{base, mark, line, advances, offsets, chains}
+use Rattle.layout_positions.specs.Worked.Marks.{on_bases}
+use Rattle.layout_positions.specs.Worked.Pairs.{single_one, single_two, pairs_one, pairs_both, IsLookup}
+
+-- a lookup of this type with one subtable, and one with two
+abbrev one_part : ℕ → List ℕ → List ℕ
+one_part kind part = 0 ∷ kind ∷ 0 ∷ 0 ∷ 0 ∷ 1 ∷ 0 ∷ 8 ∷ part
+
+abbrev two_parts : List ℕ
+two_parts = 0 ∷ 1 ∷ 0 ∷ 0 ∷ 0 ∷ 2 ∷ 0 ∷ 10 ∷ 0 ∷ 28 ∷ (single_one ++ single_two)
+
+-- a subtable far away
+abbrev far : List ℕ
+far = one_part 9 (0 ∷ 1 ∷ 0 ∷ 1 ∷ 0 ∷ 0 ∷ 0 ∷ 8 ∷ single_one)
+
+-- a table with two lookups: by the first one, at 16, lookup 1 is applied to the second of two glyphs 2 or 3
+abbrev in_context : List ℕ
+in_context = 0 ∷ 1 ∷ 0 ∷ 0 ∷ 0 ∷ 0 ∷ 0 ∷ 0 ∷ 0 ∷ 10 ∷ 0 ∷ 2 ∷ 0 ∷ 6 ∷ 0 ∷ 36 ∷ one_part 7 (
+    0 ∷ 3 ∷ 0 ∷ 2 ∷ 0 ∷ 1 ∷ 0 ∷ 14 ∷ 0 ∷ 14 ∷ 0 ∷ 1 ∷ 0 ∷ 1 ∷ 0 ∷ 1 ∷ 0 ∷ 2 ∷ 0 ∷ 2 ∷ 0 ∷ 3 ∷ one_part 1 single_one)
+
+abbrev over : Lookup → List Item → Buffer
+over l items = lookup_applied (line LeftToRight items) l
+
+-- the same glyph, for which the lookup is off
+abbrev off : ℕ → ℕ → Item
+off glyph cluster = record (base glyph cluster) { mask = 8 }
+
+abbrev still : ℤ × ℤ
+still = (pos 0, pos 0)
+
+pub record WorkedWalk : Type 0 where
+  pub each_glyph : (l : Lookup) → IsLookup l (one_part 1 single_one) 0 → l.place ≡ 0
+      → offsets (over l (base 2 0 ∷ base 7 1 ∷ base 3 2 ∷ [])) ≡ (pos 10, pos 0) ∷ still ∷ (pos 10, pos 0) ∷ []
+  pub where_it_is_on : (l : Lookup) → IsLookup l (one_part 1 single_one) 0 → l.place ≡ 0
+      → offsets (over l (base 2 0 ∷ off 3 1 ∷ [])) ≡ (pos 10, pos 0) ∷ still ∷ []
+  pub first_subtable_alone : (l : Lookup) → IsLookup l two_parts 0 → l.place ≡ 0 → offsets (over l (base 2 0 ∷ [])) ≡ (pos 10, pos 0) ∷ []
+  pub far_away : (l : Lookup) → IsLookup l far 0 → l.place ≡ 0 → offsets (over l (base 2 0 ∷ [])) ≡ (pos 10, pos 0) ∷ []
+  pub pair_after_pair : (l : Lookup) → IsLookup l (one_part 2 pairs_one) 0 → l.place ≡ 0
+      → advances (over l (base 2 0 ∷ base 3 1 ∷ base 3 2 ∷ [])) ≡ (pos 550, pos 0) ∷ (pos 530, pos 0) ∷ (pos 600, pos 0) ∷ []
+  pub marks_on_one_base : (l : Lookup) → IsLookup l (one_part 4 on_bases) 0 → l.place ≡ 0
+      → chains (over l (base 2 0 ∷ mark 8 0 ∷ mark 8 0 ∷ mark 8 0 ∷ [])) ≡ pos 0 ∷ negsuc 0 ∷ negsuc 1 ∷ negsuc 2 ∷ []
+  pub named_glyph_alone : (l : Lookup) → IsLookup l in_context 0 → l.place ≡ 16
+      → offsets (over l (base 2 0 ∷ base 3 1 ∷ base 7 2 ∷ [])) ≡ still ∷ (pos 10, pos 0) ∷ still ∷ []
+  pub out_of_context : (l : Lookup) → IsLookup l in_context 0 → l.place ≡ 16
+      → offsets (over l (base 2 0 ∷ base 7 1 ∷ base 3 2 ∷ [])) ≡ still ∷ still ∷ still ∷ []
+
+pub worked_walk : WorkedWalk
+unfolding i16_of ◌+ʷ◌ ◌-ʷ◌ int_wrap ones
+worked_walk = record {
+  each_glyph = λ l is p. rw (is.table, is.flags, is.mask, is.positioning, p) refl;
+  where_it_is_on = λ l is p. rw (is.table, is.flags, is.mask, is.positioning, p) refl;
+  first_subtable_alone = λ l is p. rw (is.table, is.flags, is.mask, is.positioning, p) refl;
+  far_away = λ l is p. rw (is.table, is.flags, is.mask, is.positioning, p) refl;
+  pair_after_pair = λ l is p. rw (is.table, is.flags, is.mask, is.positioning, p) refl;
+  marks_on_one_base = λ l is p. rw (is.table, is.flags, is.mask, is.positioning, p) refl;
+  named_glyph_alone = λ l is p. rw (is.table, is.flags, is.mask, is.positioning, is.syllables, p) refl;
+  out_of_context = λ l is p. rw (is.table, is.flags, is.mask, is.positioning, is.syllables, p) refl;
+}

@@ -1,0 +1,183 @@
+//! Single and pair adjustment, applied at a place of a buffer.
+ghost use Rattle.std.specs.Prelude.{◌≡◌, ◌<◌, ◌^◌, length};
+ghost use Rattle.layout_positions.specs.Pairs.{glyph_adjusted, single_put, single_applied, pair_marked, pair_ended, pair_moves, pair_put, pair_with as pair_with_of, pair_at_number, has_pairs as has_pairs_of, pair_applied};
+
+use crate::anchors::number_there;
+use crate::edits::{break_between, part_between, position, put};
+use crate::neighbours::{end_after, glyph_after};
+use crate::pairs::{PairValues, pair, single};
+use crate::places::{after, two_after};
+use crate::values::{Adjustment, adjusted, has_effect};
+use layout_matching::lookup::Lookup;
+use layout_matching::skipping::item_at;
+use shape_buffer::hb_buffer_t;
+use shape_font::bytes::u16_at;
+
+/// Adjusts the glyph at place `i`.
+fn adjust(buffer: &mut hb_buffer_t, i: usize, value: &Adjustment)
+    ensures made { buffer.new ≡ glyph_adjusted value.now i buffer.old }
+    ensures items { buffer.new.items ≡ buffer.old.items }
+{
+    let horizontal = buffer.direction().is_horizontal();
+    let there = position(buffer, i);
+    put(buffer, i, adjusted(horizontal, value, there));
+}
+
+/// Applies single adjustment to the glyph at place `i`. Returns the place where the lookup goes on.
+pub fn apply_single(
+    lookup: &Lookup<'_>,
+    start: usize,
+    buffer: &mut hb_buffer_t,
+    i: usize,
+) -> Option<usize>
+    requires near { start < 2 ^ 34 }
+    requires inside { i < length buffer.old.items }
+    ensures made { buffer.new ≡ (single_applied lookup.now start i buffer.old).buffer }
+    ensures next { result ≡ (single_applied lookup.now start i buffer.old).next }
+{
+    let count = buffer.len();
+    match single(lookup.table, start, item_at(buffer.infos(), i).glyph_id) {
+        Some(value) => {
+            adjust(buffer, i, &value);
+            Some(after(count, i))
+        }
+        None => None,
+    }
+}
+
+/// Whether a pair changes something.
+fn moves(horizontal: bool, values: &PairValues) -> bool
+    ensures { result ≡ pair_moves horizontal values.now }
+{
+    has_effect(horizontal, &values.first) || has_effect(horizontal, &values.second)
+}
+
+/// Marks the two glyphs of a pair, as it moves them or doesn't.
+fn mark(buffer: &mut hb_buffer_t, listed: bool, moved: bool, i: usize, j: usize)
+    requires { j < length buffer.old.items }
+    ensures made { buffer.new ≡ pair_marked listed moved i j buffer.old }
+    ensures len { length buffer.new.items ≡ length buffer.old.items }
+{
+    let count = buffer.len();
+    if moved {
+        break_between(buffer, i, after(count, j));
+    } else if !listed {
+        part_between(buffer, i, after(count, j));
+    }
+}
+
+/// Ends a pair: goes on at its second glyph, or after that one if it has a record.
+fn end_pair(buffer: &mut hb_buffer_t, values: &PairValues, i: usize, j: usize) -> Option<usize>
+    requires { j < length buffer.old.items }
+    ensures made { buffer.new ≡ (pair_ended values.now i j buffer.old).buffer }
+    ensures next { result ≡ (pair_ended values.now i j buffer.old).next }
+{
+    let count = buffer.len();
+    if values.has_second {
+        break_between(buffer, i, two_after(count, j));
+        Some(after(count, j))
+    } else {
+        Some(j)
+    }
+}
+
+/// Adjusts the two glyphs of a pair.
+fn put_pair(
+    buffer: &mut hb_buffer_t,
+    listed: bool,
+    i: usize,
+    j: usize,
+    values: &PairValues,
+) -> Option<usize>
+    requires inside { j < length buffer.old.items }
+    ensures made { buffer.new ≡ (pair_put listed i j buffer.old values.now).buffer }
+    ensures next { result ≡ (pair_put listed i j buffer.old values.now).next }
+{
+    let moved = moves(buffer.direction().is_horizontal(), values);
+    adjust(buffer, i, &values.first);
+    adjust(buffer, j, &values.second);
+    mark(buffer, listed, moved, i, j);
+    end_pair(buffer, values, i, j)
+}
+
+/// Applies pair adjustment to the glyphs at places `i` and `j`; `number` is that of the first one
+/// in its list.
+fn pair_with(
+    lookup: &Lookup<'_>,
+    start: usize,
+    buffer: &mut hb_buffer_t,
+    i: usize,
+    number: u32,
+    j: usize,
+) -> Option<usize>
+    requires start { start < 2 ^ 34 }
+    requires inside { j < length buffer.old.items }
+    ensures made { buffer.new ≡ (pair_with_of lookup.now start i number buffer.old j).buffer }
+    ensures next { result ≡ (pair_with_of lookup.now start i number buffer.old j).next }
+{
+    let count = buffer.len();
+    let left = item_at(buffer.infos(), i).glyph_id;
+    let right = item_at(buffer.infos(), j).glyph_id;
+    match pair(lookup.table, start, number, left, right) {
+        Some(values) => put_pair(buffer, u16_at(lookup.table, start) == 1, i, j, &values),
+        None => {
+            part_between(buffer, i, after(count, j));
+            None
+        }
+    }
+}
+
+/// Applies pair adjustment to the glyph at place `i`, which is glyph number `number` of the list,
+/// and the next one.
+fn pair_from(
+    lookup: &Lookup<'_>,
+    start: usize,
+    buffer: &mut hb_buffer_t,
+    i: usize,
+    number: u32,
+) -> Option<usize>
+    requires start { start < 2 ^ 34 }
+    requires inside { i < length buffer.old.items }
+    ensures made { buffer.new ≡ (pair_at_number lookup.now start i buffer.old number).buffer }
+    ensures next { result ≡ (pair_at_number lookup.now start i buffer.old number).next }
+{
+    match glyph_after(lookup, buffer.infos(), i) {
+        Some(j) => pair_with(lookup, start, buffer, i, number, j),
+        None => {
+            let end = end_after(lookup, buffer.infos(), i);
+            part_between(buffer, i, end);
+            None
+        }
+    }
+}
+
+/// Whether the subtable is of a known format.
+fn has_pairs(table: &[u8], start: usize) -> bool
+    requires { start < 2 ^ 34 }
+    ensures { result ≡ has_pairs_of table.now start }
+{
+    matches!(u16_at(table, start), 1 | 2)
+}
+
+/// Applies pair adjustment to the glyph at place `i` and the next one that the lookup sees. Returns
+/// the place where the lookup goes on.
+pub fn apply_pair(
+    lookup: &Lookup<'_>,
+    start: usize,
+    buffer: &mut hb_buffer_t,
+    i: usize,
+) -> Option<usize>
+    requires near { start < 2 ^ 34 }
+    requires inside { i < length buffer.old.items }
+    ensures made { buffer.new ≡ (pair_applied lookup.now start i buffer.old).buffer }
+    ensures next { result ≡ (pair_applied lookup.now start i buffer.old).next }
+{
+    if !has_pairs(lookup.table, start) {
+        return None;
+    }
+    let glyph = item_at(buffer.infos(), i).glyph_id;
+    match number_there(lookup.table, start, start + 2, glyph) {
+        Some(number) => pair_from(lookup, start, buffer, i, number),
+        None => None,
+    }
+}

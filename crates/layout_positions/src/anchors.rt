@@ -1,0 +1,107 @@
+//! Anchors, the marks that have one, and the glyphs that marks attach to (OpenType, `GPOS`, "Anchor
+//! tables", "Mark array").
+ghost use Rattle.std.specs.Prelude.{◌≡◌, ◌<◌, ◌^◌};
+ghost use Rattle.std.specs.Option.{IfSome};
+ghost use Rattle.layout_positions.specs.Anchors.{anchor_at, anchor_by, anchor_in, is_listed, class_in, mark_anchor_in, class_of_mark, anchor_of_mark, number_at};
+
+use crate::places::cell;
+use layout_tables::coverage::coverage_index;
+use layout_tables::offsets::offset16;
+use shape_font::bytes::{i16_at, records, u16_at};
+
+/// A point of a glyph, in units of the face: x to the right, y upwards.
+#[derive(Clone, Copy, PartialEq, Eq, Debug)]
+pub struct Anchor {
+    pub x: i32,
+    pub y: i32,
+}
+
+/// The anchor at `start`, of format 1, 2 or 3; one of another format is the origin.
+fn anchor_from(table: &[u8], start: usize) -> Anchor
+    requires { start < 2 ^ 39 }
+    ensures { result ≡ anchor_at table.now start }
+{
+    match u16_at(table, start) {
+        1 | 2 | 3 => Anchor {
+            x: i16_at(table, start + 2),
+            y: i16_at(table, start + 4),
+        },
+        _ => Anchor { x: 0, y: 0 },
+    }
+}
+
+/// The anchor whose offset stands at `at` and counts from `start`; none if the offset is 0.
+pub fn anchor_there(table: &[u8], start: usize, at: usize) -> Option<Anchor>
+    requires start { start < 2 ^ 38 }
+    requires at { at < 2 ^ 40 }
+    ensures { result ≡ anchor_by table.now start at }
+{
+    match offset16(table, start, at) {
+        Some(place) => Some(anchor_from(table, place)),
+        None => None,
+    }
+}
+
+/// The anchor for a class of marks in a row of the matrix at `matrix`.
+pub fn anchor_of_class(
+    table: &[u8],
+    matrix: usize,
+    classes: u16,
+    row: u32,
+    class: u16,
+) -> Option<Anchor>
+    requires near { matrix < 2 ^ 37 }
+    ensures { result ≡ anchor_in table.now classes row class matrix }
+{
+    if u32::from(u16_at(table, matrix)) <= row || classes <= class {
+        return None;
+    }
+    let at = cell(row, u32::from(classes), u32::from(class));
+    anchor_there(table, matrix, matrix + 2 + 2 * at)
+}
+
+/// Whether an array of marks has mark number `i`.
+fn has_mark(table: &[u8], array: usize, i: u32) -> bool
+    requires { array < 2 ^ 37 }
+    ensures { result ≡ is_listed table.now i array }
+{
+    i < records(table, u32::from(u16_at(table, array)), array + 2, 4)
+}
+
+/// The class of mark number `i` in an array; 0 past its end, and without one.
+pub fn mark_class(table: &[u8], array: Option<usize>, i: u32) -> u16
+    requires near { IfSome array (λ a. a < 2 ^ 37) }
+    ensures { result ≡ class_of_mark table.now i array }
+{
+    match array {
+        Some(array) if has_mark(table, array, i) => u16_at(table, array + 2 + 4 * i as usize),
+        _ => 0,
+    }
+}
+
+/// The anchor of mark number `i` in an array; the origin past its end, and where there is none.
+pub fn mark_anchor(table: &[u8], array: Option<usize>, i: u32) -> Anchor
+    requires near { IfSome array (λ a. a < 2 ^ 37) }
+    ensures { result ≡ anchor_of_mark table.now i array }
+{
+    let found = match array {
+        Some(array) if has_mark(table, array, i) => {
+            anchor_there(table, array, array + 4 + 4 * i as usize)
+        }
+        _ => None,
+    };
+    match found {
+        Some(anchor) => anchor,
+        None => Anchor { x: 0, y: 0 },
+    }
+}
+
+/// The number of a glyph in the list whose offset stands at `at` and counts from `start`.
+pub fn number_there(table: &[u8], start: usize, at: usize, glyph: u32) -> Option<u32>
+    requires start { start < 2 ^ 38 }
+    requires at { at < 2 ^ 38 }
+    ensures { result ≡ number_at table.now start at glyph }
+{
+    let list = offset16(table, start, at)?;
+    coverage_index(table, list, glyph)
+}

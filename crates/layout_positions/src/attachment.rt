@@ -1,0 +1,202 @@
+//! Glyphs attached to others: how far away, and how they follow them once all lookups are done.
+ghost use Rattle.std.specs.Prelude.{◌≡◌, ◌<◌, ◌+◌, fold, length, nat_lt, pos, if◌then◌else◌};
+ghost use Rattle.std.specs.Option.{IfSome};
+ghost use Rattle.layout_positions.specs.Attachment.{chain_to, place_at as place_at_of, parent_of, freed, pen_on as pen_on_of, no_way, way as way_of, way_between as way_between_of, hung as hung_of, carried, followed, settled, offsets_finished};
+
+use crate::edits::{position, put};
+use crate::places::after;
+use shape_buffer::wrapping::{difference, sum};
+use shape_buffer::{GlyphPosition, hb_buffer_t};
+
+/// The `attach_type` of a mark.
+pub const MARK_ATTACHED: u8 = 1;
+
+/// The `attach_type` of a glyph in a cursive line.
+pub const CURSIVE_ATTACHED: u8 = 2;
+
+/// How many links of a chain a glyph follows.
+const MOST_LINKS: u32 = 64;
+
+/// How far the pen moves over some glyphs, in units of the face.
+#[derive(Clone, Copy, PartialEq, Eq, Debug)]
+pub struct Pen {
+    pub x: i32,
+    pub y: i32,
+}
+
+/// The distance of two places that are no more than 32767 apart, else 0.
+fn near(distance: usize) -> i16
+    ensures { result ≡ (if nat_lt 32767 distance then pos 0 else pos distance) }
+{
+    if 32767 < distance { 0 } else { distance as i16 }
+}
+
+/// The `attach_chain` of the glyph at place `i` that is attached to place `j`; 0, not attached, if
+/// they are more than 32767 apart.
+pub fn chain(i: usize, j: usize) -> i16
+    ensures { result ≡ chain_to i j }
+{
+    if j < i { -near(i - j) } else { near(j - i) }
+}
+
+/// The place that far from place `i` of `count`.
+pub fn place_at(count: usize, i: usize, chain: i16) -> Option<usize>
+    requires { i < count }
+    ensures value { result ≡ place_at_of count i chain }
+    ensures inside { IfSome result (λ j. j < count) }
+{
+    let n = usize::from(chain.unsigned_abs());
+    if chain < 0 {
+        if n <= i { Some(i - n) } else { None }
+    } else if n == 0 || count - i <= n {
+        None
+    } else {
+        Some(i + n)
+    }
+}
+
+/// The place that the glyph at place `i` is attached to.
+pub fn parent(buffer: &hb_buffer_t, i: usize) -> Option<usize>
+    requires { i < length buffer.now.items }
+    ensures value { result ≡ parent_of buffer.now i }
+    ensures inside { IfSome result (λ j. j < length buffer.now.items) }
+{
+    place_at(buffer.len(), i, position(buffer, i).attach_chain)
+}
+
+/// Takes the link of the glyph at place `i` off.
+pub fn free(buffer: &mut hb_buffer_t, i: usize)
+    ensures made { buffer.new ≡ freed i buffer.old }
+    ensures items { buffer.new.items ≡ buffer.old.items }
+{
+    let mut there = position(buffer, i);
+    there.attach_chain = 0;
+    put(buffer, i, there);
+}
+
+/// The pen after one more glyph.
+fn pen_on(pen: Pen, there: GlyphPosition) -> Pen
+    ensures { result ≡ pen_on_of pen there }
+{
+    Pen {
+        x: sum(pen.x, there.x_advance),
+        y: sum(pen.y, there.y_advance),
+    }
+}
+
+/// The way of the pen over these glyphs.
+fn way_over(positions: &[GlyphPosition]) -> Pen
+    ensures { result ≡ fold pen_on_of no_way positions.now }
+{
+    let mut pen = Pen { x: 0, y: 0 };
+    for there in positions {
+        pen = pen_on(pen, *there);
+    }
+    pen
+}
+
+/// The way of the pen from place `from` up to place `to`.
+fn way(buffer: &hb_buffer_t, from: usize, to: usize) -> Pen
+    ensures { result ≡ way_of buffer.now from to }
+{
+    let end = to.min(buffer.len());
+    if from < end {
+        way_over(&buffer.positions()[from..end])
+    } else {
+        Pen { x: 0, y: 0 }
+    }
+}
+
+/// The way of the pen between the glyph at place `j` and the mark at place `i`.
+fn way_between(buffer: &hb_buffer_t, i: usize, j: usize) -> Pen
+    requires i { i < length buffer.now.items }
+    requires j { j < length buffer.now.items }
+    ensures { result ≡ way_between_of buffer.now i j }
+{
+    let count = buffer.len();
+    if buffer.direction().is_forward() {
+        way(buffer, j, i)
+    } else {
+        way(buffer, after(count, j), after(count, i))
+    }
+}
+
+/// The position of a mark that is attached to a glyph, over so long a way of the pen.
+fn hung(forward: bool, way: Pen, there: &GlyphPosition, mark: GlyphPosition) -> GlyphPosition
+    ensures { result ≡ hung_of forward way there.now mark }
+{
+    let mut mark = mark;
+    mark.x_offset = sum(mark.x_offset, there.x_offset);
+    mark.y_offset = sum(mark.y_offset, there.y_offset);
+    if forward {
+        mark.x_offset = difference(mark.x_offset, way.x);
+        mark.y_offset = difference(mark.y_offset, way.y);
+    } else {
+        mark.x_offset = sum(mark.x_offset, way.x);
+        mark.y_offset = sum(mark.y_offset, way.y);
+    }
+    mark
+}
+
+/// A position moved across the line as another one is.
+fn carried_by(horizontal: bool, there: &GlyphPosition, position: GlyphPosition) -> GlyphPosition
+    ensures { result ≡ carried horizontal there.now position }
+{
+    let mut position = position;
+    if horizontal {
+        position.y_offset = sum(position.y_offset, there.y_offset);
+    } else {
+        position.x_offset = sum(position.x_offset, there.x_offset);
+    }
+    position
+}
+
+/// Moves the glyph at place `i` as the one at place `j` that it is attached to.
+fn follow(buffer: &mut hb_buffer_t, i: usize, j: usize)
+    requires i { i < length buffer.old.items }
+    requires j { j < length buffer.old.items }
+    ensures made { buffer.new ≡ followed i j buffer.old }
+    ensures items { buffer.new.items ≡ buffer.old.items }
+{
+    let here = position(buffer, i);
+    let there = position(buffer, j);
+    let direction = buffer.direction();
+    let moved = if here.attach_type == CURSIVE_ATTACHED {
+        carried_by(direction.is_horizontal(), &there, here)
+    } else {
+        let way = way_between(buffer, i, j);
+        hung(direction.is_forward(), way, &there, here)
+    };
+    put(buffer, i, moved);
+}
+
+/// The glyph at place `i` follows the one that it is attached to, after that one has followed its
+/// own, over so many links.
+#[tactic(auto, using(crate::proofs::SettleLemmas::settled_free, crate::proofs::SettleLemmas::settled_out, crate::proofs::SettleLemmas::settled_on))]
+fn settle(buffer: &mut hb_buffer_t, level: u32, i: usize)
+    requires { i < length buffer.old.items }
+    ensures made { buffer.new ≡ settled level i buffer.old }
+    ensures items { buffer.new.items ≡ buffer.old.items }
+{
+    let found = parent(buffer, i);
+    free(buffer, i);
+    match found {
+        Some(j) if level != 0 => {
+            settle(buffer, level - 1, j);
+            follow(buffer, i, j);
+        }
+        _ => {}
+    }
+}
+
+/// Glyphs that are attached follow what they are attached to, and are attached no more. A chain
+/// that goes round or out of the list ends there. Takes no memory.
+#[tactic(auto, using(crate::proofs::SettleLemmas::each_step))]
+pub fn finish_offsets(buffer: &mut hb_buffer_t)
+    ensures made { buffer.new ≡ offsets_finished buffer.old }
+    ensures items { buffer.new.items ≡ buffer.old.items }
+{
+    for i in 0..buffer.len() {
+        settle(buffer, MOST_LINKS, i);
+    }
+}

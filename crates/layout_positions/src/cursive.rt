@@ -1,0 +1,219 @@
+//! Cursive attachment (OpenType, `GPOS`, lookup type 3).
+ghost use Rattle.std.specs.Prelude.{◌≡◌, ◌<◌, ◌+◌, ◌^◌, length, nat_lt};
+ghost use Rattle.shape_font.specs.Bytes.{u16_of, fitting};
+ghost use Rattle.layout_positions.specs.Cursive.{entry_of, exit_of, to_x as to_x_of, to_y as to_y_of, from_x as from_x_of, from_y as from_y_of, left_at as left_at_of, entered_at as entered_at_of, gap_across as gap_across_of, joined_across, joined_along, cursive_put, cursive_with as cursive_with_of, cursive_at, cursive_applied};
+
+use crate::anchors::{Anchor, anchor_there, number_there};
+use crate::edits::{break_between, part_between, position, put};
+use crate::neighbours::{glyph_before, start_before};
+use crate::places::after;
+use crate::turning::attach;
+use layout_matching::lookup::Lookup;
+use layout_matching::skipping::item_at;
+use shape_buffer::buffer::Direction;
+use shape_buffer::wrapping::{difference, sum};
+use shape_buffer::{GlyphPosition, hb_buffer_t};
+use shape_font::bytes::{records, u16_at};
+
+/// Whether the subtable has anchors for glyph number `number`.
+fn has_anchors(table: &[u8], start: usize, number: u32) -> bool
+    requires { start < 2 ^ 34 }
+    ensures { result
+        ≡ nat_lt number (fitting table.now (u16_of table.now (start + 4)) (start + 6) 4) }
+{
+    number < records(table, u32::from(u16_at(table, start + 4)), start + 6, 4)
+}
+
+/// Where a glyph is entered.
+fn entry(table: &[u8], start: usize, glyph: u32) -> Option<Anchor>
+    requires { start < 2 ^ 34 }
+    ensures { result ≡ entry_of table.now start glyph }
+{
+    let number = number_there(table, start, start + 2, glyph)?;
+    if has_anchors(table, start, number) {
+        anchor_there(table, start, start + 6 + 4 * number as usize)
+    } else {
+        None
+    }
+}
+
+/// Where a glyph is left.
+fn exit(table: &[u8], start: usize, glyph: u32) -> Option<Anchor>
+    requires { start < 2 ^ 34 }
+    ensures { result ≡ exit_of table.now start glyph }
+{
+    let number = number_there(table, start, start + 2, glyph)?;
+    if has_anchors(table, start, number) {
+        anchor_there(table, start, start + 8 + 4 * number as usize)
+    } else {
+        None
+    }
+}
+
+/// The advance reaches up to the anchor.
+fn to_x(anchor: Anchor, position: GlyphPosition) -> GlyphPosition
+    ensures { result ≡ to_x_of anchor position }
+{
+    let mut position = position;
+    position.x_advance = sum(anchor.x, position.x_offset);
+    position
+}
+
+fn to_y(anchor: Anchor, position: GlyphPosition) -> GlyphPosition
+    ensures { result ≡ to_y_of anchor position }
+{
+    let mut position = position;
+    position.y_advance = sum(anchor.y, position.y_offset);
+    position
+}
+
+/// The glyph begins at the anchor.
+fn from_x(anchor: Anchor, position: GlyphPosition) -> GlyphPosition
+    ensures { result ≡ from_x_of anchor position }
+{
+    let mut position = position;
+    let before = sum(anchor.x, position.x_offset);
+    position.x_advance = difference(position.x_advance, before);
+    position.x_offset = difference(position.x_offset, before);
+    position
+}
+
+fn from_y(anchor: Anchor, position: GlyphPosition) -> GlyphPosition
+    ensures { result ≡ from_y_of anchor position }
+{
+    let mut position = position;
+    let before = sum(anchor.y, position.y_offset);
+    position.y_advance = difference(position.y_advance, before);
+    position.y_offset = difference(position.y_offset, before);
+    position
+}
+
+/// The position of the first glyph of two, which the pen leaves at its exit.
+fn left_at(direction: Direction, exit: Anchor, position: GlyphPosition) -> GlyphPosition
+    ensures { result ≡ left_at_of direction exit position }
+{
+    match direction {
+        Direction::Invalid => position,
+        Direction::LeftToRight => to_x(exit, position),
+        Direction::RightToLeft => from_x(exit, position),
+        Direction::TopToBottom => to_y(exit, position),
+        Direction::BottomToTop => from_y(exit, position),
+    }
+}
+
+/// The position of the second one, which the pen enters at its entry.
+fn entered_at(direction: Direction, entry: Anchor, position: GlyphPosition) -> GlyphPosition
+    ensures { result ≡ entered_at_of direction entry position }
+{
+    match direction {
+        Direction::Invalid => position,
+        Direction::LeftToRight => from_x(entry, position),
+        Direction::RightToLeft => to_x(entry, position),
+        Direction::TopToBottom => from_y(entry, position),
+        Direction::BottomToTop => {
+            let mut position = position;
+            position.y_advance = entry.y;
+            position
+        }
+    }
+}
+
+fn gap_across(horizontal: bool, a: Anchor, b: Anchor) -> i32
+    ensures { result ≡ gap_across_of horizontal a b }
+{
+    if horizontal {
+        difference(a.y, b.y)
+    } else {
+        difference(a.x, b.x)
+    }
+}
+
+/// Lets one of two glyphs follow the other across the line: the first one the second if `reversed`.
+fn join_across(
+    buffer: &mut hb_buffer_t,
+    reversed: bool,
+    i: usize,
+    j: usize,
+    entry: Anchor,
+    exit: Anchor,
+)
+    requires i { i < length buffer.old.items }
+    requires j { j < length buffer.old.items }
+    ensures { buffer.new ≡ joined_across reversed i j entry exit buffer.old }
+{
+    let horizontal = buffer.direction().is_horizontal();
+    if reversed {
+        attach(buffer, i, j, gap_across(horizontal, entry, exit));
+    } else {
+        attach(buffer, j, i, gap_across(horizontal, exit, entry));
+    }
+}
+
+/// Joins two glyphs along the line.
+fn join_along(buffer: &mut hb_buffer_t, i: usize, j: usize, entry: Anchor, exit: Anchor)
+    requires { j < length buffer.old.items }
+    ensures made { buffer.new ≡ joined_along i j entry exit buffer.old }
+    ensures len { length buffer.new.items ≡ length buffer.old.items }
+{
+    let end = after(buffer.len(), j);
+    break_between(buffer, i, end);
+    let direction = buffer.direction();
+    let first = position(buffer, i);
+    put(buffer, i, left_at(direction, exit, first));
+    let second = position(buffer, j);
+    put(buffer, j, entered_at(direction, entry, second));
+}
+
+/// Joins the glyph at place `j` with the one at place `i` before it.
+fn cursive_with(
+    lookup: &Lookup<'_>,
+    start: usize,
+    buffer: &mut hb_buffer_t,
+    j: usize,
+    entry: Anchor,
+    i: usize,
+) -> Option<usize>
+    requires start { start < 2 ^ 34 }
+    requires i { i < j }
+    requires j { j < length buffer.old.items }
+    ensures made { buffer.new ≡ (cursive_with_of lookup.now start j entry buffer.old i).buffer }
+    ensures next { result ≡ (cursive_with_of lookup.now start j entry buffer.old i).next }
+{
+    let count = buffer.len();
+    match exit(lookup.table, start, item_at(buffer.infos(), i).glyph_id) {
+        Some(exit) => {
+            join_along(buffer, i, j, entry, exit);
+            join_across(buffer, lookup.flags & 1 != 0, i, j, entry, exit);
+            Some(after(count, j))
+        }
+        None => {
+            part_between(buffer, i, after(count, j));
+            None
+        }
+    }
+}
+
+/// Applies cursive attachment to the glyph at place `j` and the one before it that the lookup sees.
+/// Returns the place where the lookup goes on.
+pub fn apply_cursive(
+    lookup: &Lookup<'_>,
+    start: usize,
+    buffer: &mut hb_buffer_t,
+    j: usize,
+) -> Option<usize>
+    requires start { start < 2 ^ 34 }
+    requires inside { j < length buffer.old.items }
+    ensures made { buffer.new ≡ (cursive_applied lookup.now start j buffer.old).buffer }
+    ensures next { result ≡ (cursive_applied lookup.now start j buffer.old).next }
+{
+    let count = buffer.len();
+    let entry = entry(lookup.table, start, item_at(buffer.infos(), j).glyph_id)?;
+    match glyph_before(lookup, buffer.infos(), j) {
+        Some(i) => cursive_with(lookup, start, buffer, j, entry, i),
+        None => {
+            let from = start_before(lookup, buffer.infos(), j);
+            part_between(buffer, from, after(count, j));
+            None
+        }
+    }
+}

@@ -1,0 +1,31 @@
+//! What positioning preserves, for every font and every buffer.
+ghost use Rattle.std.specs.Prelude.{◌≡◌, List, All};
+ghost use Rattle.shape_buffer.specs.Keepers.{IsClusterKeeper, IsFlagKeeper};
+ghost use Rattle.shape_items.specs.Buffer.{Buffer};
+ghost use Rattle.layout_matching.specs.declared.lookup.Lookup.{Lookup as LookupOf};
+ghost use Rattle.layout_positions.specs.Attachment.{offsets_finished};
+ghost use Rattle.layout_positions.specs.Keeps.{Kept};
+ghost use Rattle.layout_positions.specs.Uncovered.{IsUncovered};
+ghost use Rattle.layout_positions.specs.Walk.{positioned};
+
+/// Whatever the bytes of the font are, and whatever the lookups: clusters, the number of items,
+/// direction, level and limit stay, and flags change only by what is unsafe to break or to concat.
+pub fn positions_keep()
+    ensures lookups { (lookups : List LookupOf) (b : Buffer) → Kept b (positioned lookups b) }
+    ensures offsets { (b : Buffer) → Kept b (offsets_finished b) }
+{}
+
+/// The premises of the promises about a run's clusters and flags.
+pub fn positions_are_keepers()
+    ensures clusters { (lookups : List LookupOf) → IsClusterKeeper (positioned lookups) }
+    ensures flags { (lookups : List LookupOf) → IsFlagKeeper (positioned lookups) }
+    ensures finished_clusters { IsClusterKeeper offsets_finished }
+    ensures finished_flags { IsFlagKeeper offsets_finished }
+{}
+
+/// A list that no lookup covers stays as it is: no subtable lists one of its glyphs, and no rule of
+/// context matches.
+pub fn uncovered_lists_stay()
+    ensures { (lookups : List LookupOf) (b : Buffer) → All (IsUncovered b) lookups
+        → positioned lookups b ≡ b }
+{}

@@ -1,0 +1,27 @@
+//! Positioning by the table `GPOS` (OpenType, "Glyph positioning table"): lookups of kinds 1 to 9
+//! over a buffer.
+//!
+//! A lookup moves glyphs, changes advances along the line, and attaches glyphs to others; items,
+//! their number and their clusters stay, and flags change only by what is unsafe to break or to
+//! concat. [`values`] and [`anchors`] read the table, [`edits`] change a buffer at a place. Any
+//! bytes are taken: what lies past the end of the table reads as 0.
+#![tactic(auto)]
+#![allow(non_camel_case_types)]
+
+pub mod adjustment;
+pub mod anchors;
+pub mod attachment;
+pub mod bases;
+pub mod cursive;
+pub mod edits;
+pub mod laws;
+pub mod marks;
+pub mod neighbours;
+pub mod nested;
+pub mod pairs;
+pub mod places;
+pub mod trial;
+pub mod turning;
+pub mod values;
+pub mod walk;
+pub mod worked;

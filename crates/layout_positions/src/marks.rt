@@ -1,0 +1,372 @@
+//! Marks attached to bases, to ligatures and to marks (OpenType, `GPOS`, lookup types 4, 5 and 6).
+ghost use Rattle.std.specs.Prelude.{◌≡◌, ◌<◌, ◌+◌, ◌^◌, length, None};
+ghost use Rattle.std.specs.Option.{IfSome, option_and_then};
+ghost use Rattle.layout_positions.specs.Edits.{parted};
+ghost use Rattle.layout_positions.specs.Marks.{mark_position as mark_position_of, mark_put, mark_array as mark_array_of, base_anchor as base_anchor_of, mark_attached, mark_number as mark_number_of, row_of, mark_on_row, mark_on_glyph, mark_base_at, mark_base_applied, ligature_in, ligature_matrix as ligature_matrix_of, component_of, mark_on_matrix, mark_on_ligature, mark_ligature_at, mark_ligature_applied, for_marks as for_marks_of, are_together as are_together_of, mark_on_mark, mark_mark_at, mark_mark_applied};
+
+use crate::anchors::{Anchor, anchor_of_class, mark_anchor, mark_class, number_there};
+use crate::attachment::{MARK_ATTACHED, chain};
+use crate::edits::{break_between, part_between, position, put};
+use crate::neighbours::{glyph_before, start_before};
+use crate::places::after;
+use layout_matching::lookup::Lookup;
+use layout_matching::skipping::item_at;
+use layout_tables::offsets::offset16;
+use shape_buffer::wrapping::difference;
+use shape_buffer::{GlyphPosition, hb_buffer_t, hb_glyph_info_t};
+use shape_font::bytes::{records, u16_at};
+
+/// A mark, the glyph that it may stand on, and which mark of its subtable it is.
+#[derive(Clone, Copy)]
+pub struct Pairing {
+    pub mark: usize,
+    pub base: usize,
+    pub number: u32,
+}
+
+/// The position of a mark whose anchor stands on that of the glyph at place `base`.
+fn mark_position(at: &Pairing, mark: Anchor, base: Anchor, position: GlyphPosition) -> GlyphPosition
+    ensures { result ≡ mark_position_of at.now.mark at.now.base mark base position }
+{
+    let mut position = position;
+    position.x_offset = difference(base.x, mark.x);
+    position.y_offset = difference(base.y, mark.y);
+    position.attach_chain = chain(at.mark, at.base);
+    position.attach_type = MARK_ATTACHED;
+    position
+}
+
+/// Attaches a mark. Returns the place where the lookup goes on.
+fn put_mark(buffer: &mut hb_buffer_t, at: &Pairing, mark: Anchor, base: Anchor) -> Option<usize>
+    requires { at.now.mark < length buffer.old.items }
+    ensures made { buffer.new ≡ (mark_put at.now.mark at.now.base mark buffer.old base).buffer }
+    ensures next { result ≡ (mark_put at.now.mark at.now.base mark buffer.old base).next }
+{
+    let next = after(buffer.len(), at.mark);
+    break_between(buffer, at.base, next);
+    let there = position(buffer, at.mark);
+    put(buffer, at.mark, mark_position(at, mark, base, there));
+    Some(next)
+}
+
+/// Where the array of marks stands.
+fn mark_array(table: &[u8], start: usize) -> Option<usize>
+    requires { start < 2 ^ 34 }
+    ensures value { result ≡ mark_array_of table.now start }
+    ensures near { IfSome result (λ a. a < 2 ^ 35) }
+{
+    offset16(table, start, start + 8)
+}
+
+/// The anchor for mark number `number` in a row of a matrix.
+fn base_anchor(table: &[u8], start: usize, number: u32, row: u32, matrix: usize) -> Option<Anchor>
+    requires start { start < 2 ^ 34 }
+    requires matrix { matrix < 2 ^ 36 }
+    ensures { result ≡ base_anchor_of table.now start number row matrix }
+{
+    let class = mark_class(table, mark_array(table, start), number);
+    anchor_of_class(table, matrix, u16_at(table, start + 6), row, class)
+}
+
+/// Attaches a mark to a glyph by a row of a matrix, if that has an anchor for the mark's class.
+fn attach_mark(
+    lookup: &Lookup<'_>,
+    start: usize,
+    buffer: &mut hb_buffer_t,
+    at: &Pairing,
+    row: u32,
+    matrix: Option<usize>,
+) -> Option<usize>
+    requires start { start < 2 ^ 34 }
+    requires matrix { IfSome matrix (λ m. m < 2 ^ 36) }
+    requires inside { at.now.mark < length buffer.old.items }
+    ensures made { buffer.new ≡ (mark_attached lookup.now start at.now.mark at.now.base
+        at.now.number row matrix buffer.old).buffer }
+    ensures next { result ≡ (mark_attached lookup.now start at.now.mark at.now.base at.now.number
+        row matrix buffer.old).next }
+{
+    let base = base_anchor(lookup.table, start, at.number, row, matrix?)?;
+    let mark = mark_anchor(lookup.table, mark_array(lookup.table, start), at.number);
+    put_mark(buffer, at, mark, base)
+}
+
+/// The number of the mark at place `i` in the subtable.
+pub fn mark_number(lookup: &Lookup<'_>, start: usize, buffer: &hb_buffer_t, i: usize) -> Option<u32>
+    requires { start < 2 ^ 34 }
+    ensures { result ≡ mark_number_of lookup.now start i buffer.now }
+{
+    let glyph = item_at(buffer.infos(), i).glyph_id;
+    number_there(lookup.table, start, start + 2, glyph)
+}
+
+/// The row of the glyph at place `j` in the subtable.
+fn row(lookup: &Lookup<'_>, start: usize, buffer: &hb_buffer_t, j: usize) -> Option<u32>
+    requires { start < 2 ^ 34 }
+    ensures { result ≡ row_of lookup.now start j buffer.now }
+{
+    let glyph = item_at(buffer.infos(), j).glyph_id;
+    number_there(lookup.table, start, start + 4, glyph)
+}
+
+/// Marks a mark and what is before it, from a place on, unsafe to concat. The lookup doesn't apply.
+fn part_from(buffer: &mut hb_buffer_t, from: usize, mark: usize) -> Option<usize>
+    requires { mark < length buffer.old.items }
+    ensures made { buffer.new ≡ parted from (mark + 1) buffer.old }
+    ensures none { result ≡ None }
+{
+    let end = after(buffer.len(), mark);
+    part_between(buffer, from, end);
+    None
+}
+
+/// Attaches a mark to a glyph of the subtable's list of bases, or of marks.
+fn put_on_glyph(
+    lookup: &Lookup<'_>,
+    start: usize,
+    buffer: &mut hb_buffer_t,
+    at: &Pairing,
+) -> Option<usize>
+    requires start { start < 2 ^ 34 }
+    requires inside { at.now.mark < length buffer.old.items }
+    ensures made { buffer.new ≡ (mark_on_glyph lookup.now start at.now.mark at.now.number buffer.old
+        at.now.base).buffer }
+    ensures next { result ≡ (mark_on_glyph lookup.now start at.now.mark at.now.number buffer.old
+        at.now.base).next }
+{
+    match row(lookup, start, buffer, at.base) {
+        Some(row) => {
+            let matrix = offset16(lookup.table, start, start + 10);
+            attach_mark(lookup, start, buffer, at, row, matrix)
+        }
+        None => part_from(buffer, at.base, at.mark),
+    }
+}
+
+/// Applies attachment to a base to the mark at place `i`, whose base is the glyph at place `base`.
+/// Returns the place where the lookup goes on.
+pub fn apply_mark_base(
+    lookup: &Lookup<'_>,
+    start: usize,
+    base: Option<usize>,
+    buffer: &mut hb_buffer_t,
+    i: usize,
+) -> Option<usize>
+    requires start { start < 2 ^ 34 }
+    requires inside { i < length buffer.old.items }
+    ensures made { buffer.new ≡ (mark_base_applied lookup.now start base i buffer.old).buffer }
+    ensures next { result ≡ (mark_base_applied lookup.now start base i buffer.old).next }
+{
+    let number = mark_number(lookup, start, buffer, i)?;
+    match base {
+        Some(base) => put_on_glyph(
+            lookup,
+            start,
+            buffer,
+            &Pairing {
+                mark: i,
+                base,
+                number,
+            },
+        ),
+        None => part_from(buffer, 0, i),
+    }
+}
+
+/// Where the matrix of the components of a ligature stands, by its row.
+fn ligature_matrix(table: &[u8], start: usize, row: u32) -> Option<usize>
+    requires { start < 2 ^ 34 }
+    ensures value { result ≡ ligature_matrix_of table.now start row }
+    ensures near { IfSome result (λ m. m < 2 ^ 36) }
+{
+    let array = offset16(table, start, start + 10)?;
+    if records(table, u32::from(u16_at(table, array)), array + 2, 2) <= row {
+        return None;
+    }
+    offset16(table, array, array + 2 + 2 * row as usize)
+}
+
+/// The component, from 0 on, of `count` of a ligature that a mark stands on.
+fn component(count: u16, ligature: &hb_glyph_info_t, mark: &hb_glyph_info_t) -> u16
+    requires { 0 < count }
+    ensures { result ≡ component_of count ligature.now mark.now }
+{
+    let id = ligature._hb_glyph_info_get_ligature_id();
+    let there = mark._hb_glyph_info_get_ligature_component();
+    if 0 < id && id == mark._hb_glyph_info_get_ligature_id() && 0 < there {
+        count.min(u16::from(there)).saturating_sub(1)
+    } else {
+        count.saturating_sub(1)
+    }
+}
+
+/// Attaches a mark to a component of a ligature.
+fn put_on_matrix(
+    lookup: &Lookup<'_>,
+    start: usize,
+    buffer: &mut hb_buffer_t,
+    at: &Pairing,
+    matrix: usize,
+) -> Option<usize>
+    requires start { start < 2 ^ 34 }
+    requires matrix { matrix < 2 ^ 36 }
+    requires inside { at.now.mark < length buffer.old.items }
+    ensures made { buffer.new ≡ (mark_on_matrix lookup.now start at.now.mark at.now.base
+        at.now.number buffer.old matrix).buffer }
+    ensures next { result ≡ (mark_on_matrix lookup.now start at.now.mark at.now.base at.now.number
+        buffer.old matrix).next }
+{
+    let count = u16_at(lookup.table, matrix);
+    if count == 0 {
+        return part_from(buffer, at.base, at.mark);
+    }
+    let ligature = item_at(buffer.infos(), at.base);
+    let there = component(count, &ligature, &item_at(buffer.infos(), at.mark));
+    attach_mark(lookup, start, buffer, at, u32::from(there), Some(matrix))
+}
+
+/// The matrix of the ligature at place `j`.
+fn matrix_at(lookup: &Lookup<'_>, start: usize, buffer: &hb_buffer_t, j: usize) -> Option<usize>
+    requires { start < 2 ^ 34 }
+    ensures value { result
+        ≡ option_and_then (ligature_matrix_of lookup.now.table.now start)
+        (row_of lookup.now start j buffer.now) }
+    ensures near { IfSome result (λ m. m < 2 ^ 36) }
+{
+    let row = row(lookup, start, buffer, j)?;
+    ligature_matrix(lookup.table, start, row)
+}
+
+/// Attaches a mark to a ligature of the subtable's list.
+fn put_on_ligature(
+    lookup: &Lookup<'_>,
+    start: usize,
+    buffer: &mut hb_buffer_t,
+    at: &Pairing,
+) -> Option<usize>
+    requires start { start < 2 ^ 34 }
+    requires inside { at.now.mark < length buffer.old.items }
+    ensures made { buffer.new ≡ (mark_on_ligature lookup.now start at.now.mark at.now.number
+        buffer.old at.now.base).buffer }
+    ensures next { result ≡ (mark_on_ligature lookup.now start at.now.mark at.now.number buffer.old
+        at.now.base).next }
+{
+    match matrix_at(lookup, start, buffer, at.base) {
+        Some(matrix) => put_on_matrix(lookup, start, buffer, at, matrix),
+        None => part_from(buffer, at.base, at.mark),
+    }
+}
+
+/// Applies attachment to a ligature to the mark at place `i`, whose ligature is the glyph at place
+/// `base`. Returns the place where the lookup goes on.
+pub fn apply_mark_ligature(
+    lookup: &Lookup<'_>,
+    start: usize,
+    base: Option<usize>,
+    buffer: &mut hb_buffer_t,
+    i: usize,
+) -> Option<usize>
+    requires start { start < 2 ^ 34 }
+    requires inside { i < length buffer.old.items }
+    ensures made { buffer.new ≡ (mark_ligature_applied lookup.now start base i buffer.old).buffer }
+    ensures next { result ≡ (mark_ligature_applied lookup.now start base i buffer.old).next }
+{
+    let number = mark_number(lookup, start, buffer, i)?;
+    match base {
+        Some(base) => put_on_ligature(
+            lookup,
+            start,
+            buffer,
+            &Pairing {
+                mark: i,
+                base,
+                number,
+            },
+        ),
+        None => part_from(buffer, 0, i),
+    }
+}
+
+/// The lookup as it looks for the mark before: its flags skip no class of glyphs.
+fn for_marks<'a>(lookup: &Lookup<'a>) -> Lookup<'a>
+    ensures { result ≡ for_marks_of lookup.now }
+{
+    let mut lookup = *lookup;
+    lookup.flags &= 0xFFF1;
+    lookup
+}
+
+/// Whether two marks stand on one glyph, or on one component of a ligature, or one of them is a
+/// ligature.
+fn are_together(x: &hb_glyph_info_t, y: &hb_glyph_info_t) -> bool
+    ensures { result ≡ are_together_of x.now y.now }
+{
+    let (a, b) = (
+        x._hb_glyph_info_get_ligature_id(),
+        y._hb_glyph_info_get_ligature_id(),
+    );
+    let (c, d) = (
+        x._hb_glyph_info_get_ligature_component(),
+        y._hb_glyph_info_get_ligature_component(),
+    );
+    if a == b {
+        a == 0 || c == d
+    } else {
+        (0 < a && c == 0) || (0 < b && d == 0)
+    }
+}
+
+/// Attaches a mark to the mark before.
+fn put_on_mark(
+    lookup: &Lookup<'_>,
+    start: usize,
+    buffer: &mut hb_buffer_t,
+    at: &Pairing,
+) -> Option<usize>
+    requires start { start < 2 ^ 34 }
+    requires inside { at.now.mark < length buffer.old.items }
+    ensures made { buffer.new ≡ (mark_on_mark lookup.now start at.now.mark at.now.number buffer.old
+        at.now.base).buffer }
+    ensures next { result ≡ (mark_on_mark lookup.now start at.now.mark at.now.number buffer.old
+        at.now.base).next }
+{
+    let other = item_at(buffer.infos(), at.base);
+    let is_mark = other._hb_glyph_info_get_glyph_class().0 & 8 != 0;
+    if is_mark && are_together(&item_at(buffer.infos(), at.mark), &other) {
+        put_on_glyph(lookup, start, buffer, at)
+    } else {
+        part_from(buffer, at.base, at.mark)
+    }
+}
+
+/// Applies attachment to a mark to the mark at place `i`. Returns the place where the lookup goes
+/// on.
+pub fn apply_mark_mark(
+    lookup: &Lookup<'_>,
+    start: usize,
+    buffer: &mut hb_buffer_t,
+    i: usize,
+) -> Option<usize>
+    requires start { start < 2 ^ 34 }
+    requires inside { i < length buffer.old.items }
+    ensures made { buffer.new ≡ (mark_mark_applied lookup.now start i buffer.old).buffer }
+    ensures next { result ≡ (mark_mark_applied lookup.now start i buffer.old).next }
+{
+    let number = mark_number(lookup, start, buffer, i)?;
+    let seen = for_marks(lookup);
+    match glyph_before(&seen, buffer.infos(), i) {
+        Some(base) => put_on_mark(
+            lookup,
+            start,
+            buffer,
+            &Pairing {
+                mark: i,
+                base,
+                number,
+            },
+        ),
+        None => {
+            let from = start_before(&seen, buffer.infos(), i);
+            part_from(buffer, from, i)
+        }
+    }
+}

@@ -1,0 +1,147 @@
+//! The glyphs beside the one at a place, as a lookup sees them: its flags skip some, and default
+//! ignorables are passed over.
+ghost use Rattle.std.specs.Prelude.{◌≡◌, ◌<◌, ◌≤◌, ◌+◌, ◌-◌, length, not};
+ghost use Rattle.std.specs.Option.{IfSome};
+ghost use Rattle.shape_font.specs.Search.{first_at};
+ghost use Rattle.layout_matching.specs.Skipping.{nth};
+ghost use Rattle.layout_positions.specs.Lookups.{is_between as is_between_of, has_lookup_on as has_lookup_on_of, stop_after as stop_after_of, stop_before as stop_before_of, if_on as if_on_of, glyph_after as glyph_after_of, glyph_before as glyph_before_of, end_after as end_after_of, start_before as start_before_of};
+
+use layout_matching::lookup::Lookup;
+use layout_matching::skipping::{is_skipped, is_transparent};
+use shape_buffer::hb_glyph_info_t;
+
+/// Whether a glyph is passed over.
+pub fn is_between(lookup: &Lookup<'_>, item: &hb_glyph_info_t) -> bool
+    ensures { result ≡ is_between_of lookup.now item.now }
+{
+    is_skipped(lookup, item) || is_transparent(lookup, true, item)
+}
+
+/// Whether the lookup is on for a glyph.
+pub fn has_lookup_on(lookup: &Lookup<'_>, item: &hb_glyph_info_t) -> bool
+    ensures { result ≡ has_lookup_on_of lookup.now item.now }
+{
+    item.mask & lookup.mask != 0
+}
+
+/// The first place from `from` on whose glyph isn't passed over.
+#[tactic(auto, using(shape_font::proofs::SearchLemmas::first_at_next, shape_font::proofs::SearchLemmas::first_at_found, shape_font::proofs::SearchLemmas::first_at_end, layout_matching::proofs::LoopLemmas::not_true, layout_matching::proofs::LoopLemmas::not_false))]
+fn stop_from(lookup: &Lookup<'_>, items: &[hb_glyph_info_t], from: usize) -> Option<usize>
+    ensures value { result ≡ first_at (λ j. not (is_between_of lookup.now (nth items.now j)))
+        (length items.now - from) from }
+    ensures inside { IfSome result (λ j. j < length items.now) }
+    ensures behind { IfSome result (λ j. from ≤ j) }
+{
+    for j in from..items.len() {
+        if !is_between(lookup, &items[j]) {
+            return Some(j);
+        }
+    }
+    None
+}
+
+/// The first place after place `i` whose glyph isn't passed over.
+pub fn stop_after(lookup: &Lookup<'_>, items: &[hb_glyph_info_t], i: usize) -> Option<usize>
+    requires { i < length items.now }
+    ensures value { result ≡ stop_after_of lookup.now items.now i }
+    ensures inside { IfSome result (λ j. j < length items.now) }
+    ensures behind { IfSome result (λ j. i < j) }
+{
+    stop_from(lookup, items, i + 1)
+}
+
+/// Whether the glyph at place `j` isn't passed over.
+fn stops(lookup: &Lookup<'_>, items: &[hb_glyph_info_t], j: usize) -> bool
+    requires { j < length items.now }
+    ensures { result ≡ not (is_between_of lookup.now (nth items.now j)) }
+{
+    !is_between(lookup, &items[j])
+}
+
+/// How far before place `i` the first glyph stands that isn't passed over, from 0 on.
+#[tactic(auto, using(shape_font::proofs::SearchLemmas::first_at_next, shape_font::proofs::SearchLemmas::first_at_found, shape_font::proofs::SearchLemmas::first_at_end))]
+fn distance_back(lookup: &Lookup<'_>, items: &[hb_glyph_info_t], i: usize) -> Option<usize>
+    requires { i ≤ length items.now }
+    ensures value { result
+        ≡ first_at (λ d. not (is_between_of lookup.now (nth items.now (i - 1 - d)))) i 0 }
+    ensures inside { IfSome result (λ d. d < i) }
+{
+    for d in 0..i {
+        if stops(lookup, items, i - 1 - d) {
+            return Some(d);
+        }
+    }
+    None
+}
+
+/// The first place before place `i`, backwards, whose glyph isn't passed over.
+pub fn stop_before(lookup: &Lookup<'_>, items: &[hb_glyph_info_t], i: usize) -> Option<usize>
+    requires { i ≤ length items.now }
+    ensures value { result ≡ stop_before_of lookup.now items.now i }
+    ensures inside { IfSome result (λ j. j < i) }
+{
+    match distance_back(lookup, items, i) {
+        Some(d) => Some(i - 1 - d),
+        None => None,
+    }
+}
+
+/// The place, if the lookup is on for its glyph.
+fn if_on(lookup: &Lookup<'_>, items: &[hb_glyph_info_t], j: usize) -> Option<usize>
+    requires { j < length items.now }
+    ensures value { result ≡ if_on_of lookup.now items.now j }
+    ensures same { IfSome result (λ k. k ≡ j) }
+{
+    if has_lookup_on(lookup, &items[j]) {
+        Some(j)
+    } else {
+        None
+    }
+}
+
+/// The next glyph that the lookup sees after place `i`.
+pub fn glyph_after(lookup: &Lookup<'_>, items: &[hb_glyph_info_t], i: usize) -> Option<usize>
+    requires { i < length items.now }
+    ensures value { result ≡ glyph_after_of lookup.now items.now i }
+    ensures inside { IfSome result (λ j. j < length items.now) }
+    ensures behind { IfSome result (λ j. i < j) }
+{
+    match stop_after(lookup, items, i) {
+        Some(j) => if_on(lookup, items, j),
+        None => None,
+    }
+}
+
+/// The nearest glyph that the lookup sees before place `i`.
+pub fn glyph_before(lookup: &Lookup<'_>, items: &[hb_glyph_info_t], i: usize) -> Option<usize>
+    requires { i ≤ length items.now }
+    ensures value { result ≡ glyph_before_of lookup.now items.now i }
+    ensures inside { IfSome result (λ j. j < i) }
+{
+    match stop_before(lookup, items, i) {
+        Some(j) => if_on(lookup, items, j),
+        None => None,
+    }
+}
+
+/// Where a search after place `i` ends that finds nothing.
+pub fn end_after(lookup: &Lookup<'_>, items: &[hb_glyph_info_t], i: usize) -> usize
+    requires { i < length items.now }
+    ensures { result ≡ end_after_of lookup.now items.now i }
+{
+    match stop_after(lookup, items, i) {
+        Some(j) => j + 1,
+        None => items.len(),
+    }
+}
+
+/// Where a search before place `i` begins that finds nothing.
+pub fn start_before(lookup: &Lookup<'_>, items: &[hb_glyph_info_t], i: usize) -> usize
+    requires { i ≤ length items.now }
+    ensures { result ≡ start_before_of lookup.now items.now i }
+{
+    match stop_before(lookup, items, i) {
+        Some(j) => j.saturating_sub(1),
+        None => 0,
+    }
+}

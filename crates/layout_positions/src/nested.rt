@@ -1,0 +1,225 @@
+//! Lookups of context, which apply others where a rule matches (OpenType, `GPOS`, lookup types 7
+//! and 8).
+//!
+//! Positioning leaves the items where they are, so that the place of a matched glyph is looked for
+//! again where a record names it, and no list of places is kept.
+ghost use Rattle.std.specs.Prelude.{◌≡◌, ◌<◌, ◌+◌, ◌^◌, length};
+ghost use Rattle.std.specs.Option.{IfSome};
+ghost use Rattle.layout_positions.specs.Nested.{matched_place as matched_place_of, named_place as named_place_of, named_lookup as named_lookup_of, record_step, rule_placed, level_placed, nested_placed, most_named as most_named_of};
+ghost use Rattle.layout_matching.specs.Loops.{times};
+
+use crate::edits::break_between;
+use crate::places::after;
+use crate::trial::{Carried, Outcome, apply_lookup};
+use layout_matching::found::{Found, find, is_context};
+use layout_matching::input::seek_input;
+use layout_matching::lookup::Lookup;
+use layout_matching::nesting::{record_at, with_place};
+use layout_matching::rules::Rule;
+use layout_matching::seeking::last_after;
+use layout_matching::skipping::item_at;
+use layout_matching::spans::Origin;
+use layout_tables::lookups::lookup;
+use shape_buffer::{hb_buffer_t, hb_glyph_info_t};
+use shape_font::bytes::u16_at;
+
+/// A rule that matches: the lookup that it is of, and the place of its first glyph.
+#[derive(Clone, Copy)]
+pub struct Site<'a> {
+    pub lookup: Lookup<'a>,
+    pub rule: Rule,
+    pub at: usize,
+}
+
+/// How many lookups the rules may name in a list of so many glyphs: a bound on the time that a font
+/// can take.
+pub fn most_named(count: usize) -> usize
+    ensures { result ≡ most_named_of count }
+{
+    count.saturating_mul(1024).max(16384)
+}
+
+/// Where glyph number `index` of those that the rule matches stands.
+fn matched_place(site: &Site<'_>, items: &[hb_glyph_info_t], index: u16) -> Option<usize>
+    requires { site.now.at < length items.now }
+    ensures value { result
+        ≡ matched_place_of site.now.lookup items.now site.now.at site.now.rule index }
+    ensures inside { IfSome result (λ j. j < length items.now) }
+{
+    if site.rule.input.count <= index {
+        return None;
+    }
+    let seek = seek_input(&site.lookup, &item_at(items, site.at), site.rule.input);
+    last_after(&site.lookup, &seek, items, u32::from(index), site.at)
+}
+
+/// Where record `r` of a rule applies its lookup.
+fn named_place(site: &Site<'_>, items: &[hb_glyph_info_t], r: u32) -> Option<usize>
+    requires { site.now.at < length items.now }
+    ensures value { result ≡ named_place_of site.now.lookup items.now site.now.at site.now.rule r }
+    ensures inside { IfSome result (λ j. j < length items.now) }
+{
+    let index = u16_at(site.lookup.table, record_at(&site.rule, r));
+    matched_place(site, items, index)
+}
+
+/// The lookup that record `r` of a rule names.
+fn named_lookup<'a>(site: &Site<'a>, r: u32) -> Option<Lookup<'a>>
+    ensures value { result ≡ named_lookup_of site.now.lookup site.now.rule r }
+    ensures near { IfSome result (λ l. l.place < 2 ^ 17) }
+{
+    let at = record_at(&site.rule, r);
+    match lookup(site.lookup.table, u16_at(site.lookup.table, at + 2)) {
+        Some(place) => Some(with_place(&site.lookup, place)),
+        None => None,
+    }
+}
+
+/// Applies what record `r` of a rule names, at the glyph that it names.
+#[cycle(nesting)]
+fn apply_record(
+    level: u32,
+    site: &Site<'_>,
+    buffer: &mut hb_buffer_t,
+    carried: Carried,
+    r: u32,
+) -> Carried
+    requires inside { site.now.at < length buffer.old.items }
+    ensures made { record { buffer = buffer.new; seen = result.seen; left = result.left; r = r + 1 }
+        ≡ record_step (nested_placed level) site.now.lookup site.now.at site.now.rule
+        (record { buffer = buffer.old; seen = carried.seen; left = carried.left; r = r }) }
+    ensures len { length buffer.new.items ≡ length buffer.old.items }
+{
+    let Some(other) = named_lookup(site, r) else {
+        return carried;
+    };
+    match named_place(site, buffer.infos(), r) {
+        Some(place) if carried.left != 0 => {
+            let fewer = Carried {
+                seen: carried.seen,
+                left: carried.left - 1,
+            };
+            apply_nested(level, &other, buffer, place, fewer).carried
+        }
+        _ => carried,
+    }
+}
+
+/// Applies what the records of a rule name, one after the other.
+#[cycle(nesting)]
+#[tactic(auto, using(layout_matching::proofs::LoopLemmas::times_step))]
+fn apply_records(level: u32, site: &Site<'_>, buffer: &mut hb_buffer_t, carried: Carried) -> Carried
+    requires inside { site.now.at < length buffer.old.items }
+    ensures made { record {
+      buffer = buffer.new;
+      seen = result.seen;
+      left = result.left;
+      r = site.now.rule.count;
+    } ≡ times (record_step (nested_placed level) site.now.lookup site.now.at site.now.rule)
+        site.now.rule.count
+        (record { buffer = buffer.old; seen = carried.seen; left = carried.left; r = 0 }) }
+    ensures len { length buffer.new.items ≡ length buffer.old.items }
+{
+    let mut carried = carried;
+    for r in 0..site.rule.count {
+        carried = apply_record(level, site, buffer, carried, u32::from(r));
+    }
+    carried
+}
+
+/// Applies a rule that matches at place `at`.
+#[cycle(nesting)]
+fn apply_rule(
+    level: u32,
+    here: &Lookup<'_>,
+    buffer: &mut hb_buffer_t,
+    at: usize,
+    carried: Carried,
+    found: Found,
+) -> Outcome
+    requires inside { at < length buffer.old.items }
+    requires last { found.span.last < length buffer.old.items }
+    ensures made { record {
+      buffer = buffer.new;
+      next = result.next;
+      seen = result.carried.seen;
+      left = result.carried.left;
+    } ≡ rule_placed (nested_placed level) here.now at carried.left carried.seen buffer.old found }
+    ensures len { length buffer.new.items ≡ length buffer.old.items }
+{
+    let next = after(buffer.len(), found.span.last);
+    let site = Site {
+        lookup: *here,
+        rule: found.rule,
+        at,
+    };
+    break_between(buffer, found.span.start, found.span.end);
+    Outcome {
+        carried: apply_records(level, &site, buffer, carried),
+        next: Some(next),
+    }
+}
+
+/// Applies a lookup at place `at`, with so many levels of others that it may name, each named by
+/// the one above.
+#[cycle(nesting)]
+#[tactic(auto, using(crate::proofs::NestedLemmas::nested_none, crate::proofs::NestedLemmas::nested_outside, crate::proofs::NestedLemmas::nested_level))]
+pub fn apply_nested(
+    level: u32,
+    here: &Lookup<'_>,
+    buffer: &mut hb_buffer_t,
+    at: usize,
+    carried: Carried,
+) -> Outcome
+    requires place { here.now.place < 2 ^ 17 }
+    ensures made { record {
+      buffer = buffer.new;
+      next = result.next;
+      seen = result.carried.seen;
+      left = result.carried.left;
+    } ≡ nested_placed level here.now at carried.left carried.seen buffer.old }
+    ensures len { length buffer.new.items ≡ length buffer.old.items }
+{
+    if level == 0 || buffer.len() <= at {
+        return Outcome {
+            next: None,
+            carried,
+        };
+    }
+    apply_level(level - 1, here, buffer, at, carried)
+}
+
+/// The same, where a level is left and the place is inside.
+#[cycle(nesting)]
+fn apply_level(
+    level: u32,
+    here: &Lookup<'_>,
+    buffer: &mut hb_buffer_t,
+    at: usize,
+    carried: Carried,
+) -> Outcome
+    requires place { here.now.place < 2 ^ 17 }
+    requires inside { at < length buffer.old.items }
+    ensures made { record {
+      buffer = buffer.new;
+      next = result.next;
+      seen = result.carried.seen;
+      left = result.carried.left;
+    } ≡ level_placed (nested_placed level) here.now at carried.left carried.seen buffer.old }
+    ensures len { length buffer.new.items ≡ length buffer.old.items }
+{
+    if !is_context(here) {
+        return apply_lookup(here, buffer, at, carried);
+    }
+    let origin = Origin {
+        at,
+        is_steady: true,
+    };
+    match find(here, buffer.infos(), origin) {
+        Some(found) => apply_rule(level, here, buffer, at, carried, found),
+        None => Outcome {
+            next: None,
+            carried,
+        },
+    }
+}

@@ -1,0 +1,167 @@
+//! Single and pair adjustment (OpenType, `GPOS`, lookup types 1 and 2): what a subtable has for a
+//! glyph, or for two.
+ghost use Rattle.std.specs.Prelude.{◌≡◌, ◌<◌, ◌≤◌, ◌^◌};
+ghost use Rattle.std.specs.Option.{IfSome};
+ghost use Rattle.layout_positions.specs.Pairs.{single_value, single_of, pair_at as pair_at_of, pair_size as pair_size_of, pair_set as pair_set_of, side_of_second, second_in as second_in_of, pair_in_set, listed_pair as listed_pair_of, class_at as class_at_of, classed_pair as classed_pair_of, pair_of};
+
+use crate::anchors::number_there;
+use crate::places::{cell, record_offset};
+use crate::values::{Adjustment, size, value_record};
+use layout_tables::classes::class;
+use layout_tables::offsets::offset16;
+use shape_font::bytes::{records, u16_at};
+use shape_font::search::{found, side};
+use std::cmp::Ordering;
+
+/// What a pair says of its two glyphs, and whether it has a record for the second one.
+#[derive(Clone, Copy, PartialEq, Eq, Debug)]
+pub struct PairValues {
+    pub first: Adjustment,
+    pub second: Adjustment,
+    pub has_second: bool,
+}
+
+/// The record for glyph number `number` of a subtable of single adjustment.
+fn single_record(table: &[u8], start: usize, number: u32) -> Option<Adjustment>
+    requires { start < 2 ^ 34 }
+    ensures { result ≡ single_value table.now start number }
+{
+    let format = u16_at(table, start + 4);
+    match u16_at(table, start) {
+        1 => Some(value_record(table, format, start + 6)),
+        2 if number < u32::from(u16_at(table, start + 6)) => {
+            let offset = record_offset(number as usize, size(format));
+            Some(value_record(table, format, start + 8 + offset))
+        }
+        _ => None,
+    }
+}
+
+/// What the subtable of single adjustment at `start` has for a glyph.
+pub fn single(table: &[u8], start: usize, glyph: u32) -> Option<Adjustment>
+    requires { start < 2 ^ 34 }
+    ensures { result ≡ single_of table.now start glyph }
+{
+    let number = number_there(table, start, start + 2, glyph)?;
+    single_record(table, start, number)
+}
+
+/// The two records of a pair at `at`, in the formats of the subtable at `start`.
+fn pair_at(table: &[u8], start: usize, at: usize) -> PairValues
+    requires start { start < 2 ^ 34 }
+    requires at { at < 480000000000 }
+    ensures { result ≡ pair_at_of table.now start at }
+{
+    let first = u16_at(table, start + 4);
+    let second = u16_at(table, start + 6);
+    PairValues {
+        first: value_record(table, first, at),
+        second: value_record(table, second, at + size(first)),
+        has_second: second != 0,
+    }
+}
+
+/// How many bytes the two records of a pair have.
+fn pair_size(table: &[u8], start: usize) -> usize
+    requires { start < 2 ^ 34 }
+    ensures value { result ≡ pair_size_of table.now start }
+    ensures small { result ≤ 64 }
+{
+    size(u16_at(table, start + 4)) + size(u16_at(table, start + 6))
+}
+
+/// Where the pairs of glyph number `number` stand.
+fn pair_set(table: &[u8], start: usize, number: u32) -> Option<usize>
+    requires { start < 2 ^ 34 }
+    ensures value { result ≡ pair_set_of table.now start number }
+    ensures near { IfSome result (λ set. set < 2 ^ 35) }
+{
+    if records(table, u32::from(u16_at(table, start + 8)), start + 10, 2) <= number {
+        return None;
+    }
+    offset16(table, start, start + 10 + 2 * number as usize)
+}
+
+/// Where a glyph stands to the second one of pair number `r`.
+fn second_side(table: &[u8], size: usize, set: usize, glyph: u32, r: u32) -> Ordering
+    requires size { size ≤ 66 }
+    requires set { set < 2 ^ 35 }
+    ensures { result ≡ side_of_second table.now size set glyph r }
+{
+    let there = u32::from(u16_at(table, set + 2 + record_offset(r as usize, size)));
+    side(glyph, there, there)
+}
+
+/// The number of the pair with this second glyph.
+fn second_in(table: &[u8], size: usize, set: usize, glyph: u32) -> Option<u32>
+    requires some { 0 < size }
+    requires size { size ≤ 66 }
+    requires set { set < 2 ^ 35 }
+    ensures { result ≡ second_in_of table.now size glyph set }
+{
+    let count = records(table, u32::from(u16_at(table, set)), set + 2, size);
+    found(count, |r| second_side(table, size, set, glyph, r))
+}
+
+/// The pair with this second glyph in a set.
+fn pair_within(table: &[u8], start: usize, set: usize, glyph: u32) -> Option<PairValues>
+    requires start { start < 2 ^ 34 }
+    requires set { set < 2 ^ 35 }
+    ensures { result ≡ pair_in_set table.now start glyph set }
+{
+    let size = 2 + pair_size(table, start);
+    match second_in(table, size, set, glyph) {
+        Some(r) => Some(pair_at(table, start, set + 4 + record_offset(r as usize, size))),
+        None => None,
+    }
+}
+
+/// The pair of glyph number `number` and of this second glyph, by format 1.
+fn listed_pair(table: &[u8], start: usize, number: u32, glyph: u32) -> Option<PairValues>
+    requires { start < 2 ^ 34 }
+    ensures { result ≡ listed_pair_of table.now start number glyph }
+{
+    let set = pair_set(table, start, number)?;
+    pair_within(table, start, set, glyph)
+}
+
+/// The class of a glyph by the classes whose offset stands at `at`, 0 without them.
+fn class_at(table: &[u8], start: usize, at: usize, glyph: u32) -> u16
+    requires start { start < 2 ^ 34 }
+    requires at { at < 2 ^ 35 }
+    ensures { result ≡ class_at_of table.now start at glyph }
+{
+    match offset16(table, start, at) {
+        Some(classes) => class(table, classes, glyph),
+        None => 0,
+    }
+}
+
+/// The pair of the classes of two glyphs, by format 2.
+fn classed_pair(table: &[u8], start: usize, left: u32, right: u32) -> Option<PairValues>
+    requires { start < 2 ^ 34 }
+    ensures { result ≡ classed_pair_of table.now start left right }
+{
+    let first = class_at(table, start, start + 8, left);
+    let second = class_at(table, start, start + 10, right);
+    let columns = u16_at(table, start + 14);
+    if u16_at(table, start + 12) <= first || columns <= second {
+        return None;
+    }
+    let n = cell(u32::from(first), u32::from(columns), u32::from(second));
+    let offset = record_offset(n, pair_size(table, start));
+    Some(pair_at(table, start, start + 16 + offset))
+}
+
+/// What the subtable of pair adjustment at `start` has for two glyphs; `number` is that of the
+/// first one in its list.
+pub fn pair(table: &[u8], start: usize, number: u32, left: u32, right: u32) -> Option<PairValues>
+    requires { start < 2 ^ 34 }
+    ensures { result ≡ pair_of table.now start number left right }
+{
+    match u16_at(table, start) {
+        1 => listed_pair(table, start, number, right),
+        2 => classed_pair(table, start, left, right),
+        _ => None,
+    }
+}

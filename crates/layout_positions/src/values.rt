@@ -1,0 +1,86 @@
+//! Value records: how far a glyph is moved, and its advance changed (OpenType, `GPOS`, "Value
+//! record").
+ghost use Rattle.std.specs.Prelude.{◌≡◌, ◌<◌, ◌≤◌, ◌^◌};
+ghost use Rattle.layout_positions.specs.Values.{value_size, number_for, value_at, adjusted as adjusted_of, advance_along as advance_along_of, has_effect as has_effect_of};
+
+use shape_buffer::GlyphPosition;
+use shape_buffer::wrapping::{difference, sum};
+use shape_font::bytes::i16_at;
+
+/// What a value record says, in units of the face: x to the right, y upwards, except that
+/// `y_advance` grows down the line.
+#[derive(Clone, Copy, PartialEq, Eq, Debug)]
+pub struct Adjustment {
+    pub x_placement: i32,
+    pub y_placement: i32,
+    pub x_advance: i32,
+    pub y_advance: i32,
+}
+
+/// How many bytes a record of this format has.
+pub fn size(format: u16) -> usize
+    ensures value { result ≡ value_size format }
+    ensures small { result ≤ 32 }
+{
+    2 * format.count_ones() as usize
+}
+
+/// The number for one bit of the format, 0 if the format doesn't have it.
+fn number(table: &[u8], format: u16, at: usize, bit: u16) -> i32
+    requires near { at < 2 ^ 39 }
+    requires bit { 0 < bit }
+    ensures { result ≡ number_for table.now format at bit }
+{
+    if format & bit == 0 {
+        return 0;
+    }
+    let before = (format & (bit - 1)).count_ones();
+    i16_at(table, at + 2 * before as usize)
+}
+
+/// The record of this format at `at`. Devices and variations are left out: the face is taken at its
+/// default instance, at no size in pixels.
+pub fn value_record(table: &[u8], format: u16, at: usize) -> Adjustment
+    requires { at < 2 ^ 39 }
+    ensures { result ≡ value_at table.now format at }
+{
+    Adjustment {
+        x_placement: number(table, format, at, 1),
+        y_placement: number(table, format, at, 2),
+        x_advance: number(table, format, at, 4),
+        y_advance: number(table, format, at, 8),
+    }
+}
+
+/// A position after an adjustment, in a horizontal or a vertical line. Sums wrap.
+pub fn adjusted(horizontal: bool, value: &Adjustment, position: GlyphPosition) -> GlyphPosition
+    ensures { result ≡ adjusted_of horizontal value.now position }
+{
+    let mut position = position;
+    position.x_offset = sum(position.x_offset, value.x_placement);
+    position.y_offset = sum(position.y_offset, value.y_placement);
+    if horizontal {
+        position.x_advance = sum(position.x_advance, value.x_advance);
+    } else {
+        position.y_advance = difference(position.y_advance, value.y_advance);
+    }
+    position
+}
+
+/// How far the advance along the line changes.
+fn advance_along(horizontal: bool, value: &Adjustment) -> i32
+    ensures { result ≡ advance_along_of horizontal value.now }
+{
+    if horizontal {
+        value.x_advance
+    } else {
+        value.y_advance
+    }
+}
+
+/// Whether an adjustment changes something.
+pub fn has_effect(horizontal: bool, value: &Adjustment) -> bool
+    ensures { result ≡ has_effect_of horizontal value.now }
+{
+    value.x_placement != 0 || value.y_placement != 0 || advance_along(horizontal, value) != 0
+}

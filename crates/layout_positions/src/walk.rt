@@ -1,0 +1,87 @@
+//! Lookups over a buffer, one after the other.
+ghost use Rattle.std.specs.Prelude.{◌≡◌, ◌<◌, ◌^◌, length, All};
+ghost use Rattle.layout_positions.specs.Walk.{lookup_step, lookup_applied, positioned, HasPlace};
+
+use crate::bases::BaseSeen;
+use crate::nested::{apply_nested, most_named};
+use crate::trial::Carried;
+use layout_matching::lookup::Lookup;
+use layout_matching::skipping::{is_on, item_at};
+use shape_buffer::hb_buffer_t;
+
+/// How many levels of lookups there are: one of the plan, and 64 below it.
+const LEVELS: u32 = 65;
+
+/// Where a walk over a buffer stands, and what is carried on.
+#[derive(Clone, Copy)]
+pub struct Spot {
+    pub at: usize,
+    pub carried: Carried,
+}
+
+/// Applies a lookup at a place of the walk, or goes on to the next glyph.
+fn step_on(lookup: &Lookup<'_>, buffer: &mut hb_buffer_t, spot: Spot) -> Spot
+    requires { lookup.now.place < 2 ^ 17 }
+    ensures { record {
+      buffer = buffer.new;
+      at = result.at;
+      seen = result.carried.seen;
+      left = result.carried.left;
+    } ≡ lookup_step lookup.now (record {
+      buffer = buffer.old;
+      at = spot.at;
+      seen = spot.carried.seen;
+      left = spot.carried.left;
+    }) }
+{
+    if buffer.len() <= spot.at {
+        return spot;
+    }
+    let next = spot.at + 1;
+    if !is_on(lookup, &item_at(buffer.infos(), spot.at)) {
+        return Spot {
+            at: next,
+            carried: spot.carried,
+        };
+    }
+    let outcome = apply_nested(LEVELS, lookup, buffer, spot.at, spot.carried);
+    Spot {
+        at: match outcome.next {
+            Some(there) => there,
+            None => next,
+        },
+        carried: outcome.carried,
+    }
+}
+
+/// Goes over a buffer with a lookup, from its first glyph on.
+#[tactic(auto, using(layout_matching::proofs::LoopLemmas::times_step))]
+pub fn apply_over(lookup: &Lookup<'_>, buffer: &mut hb_buffer_t)
+    requires { lookup.now.place < 2 ^ 17 }
+    ensures { buffer.new ≡ lookup_applied buffer.old lookup.now }
+{
+    let mut spot = Spot {
+        at: 0,
+        carried: Carried {
+            seen: BaseSeen {
+                until: 0,
+                place: None,
+            },
+            left: most_named(buffer.len()),
+        },
+    };
+    for _i in 0..buffer.len() {
+        spot = step_on(lookup, buffer, spot);
+    }
+}
+
+/// Positions the glyphs of a buffer by lookups, one after the other. Takes no memory, and refuses
+/// nothing.
+pub fn position(lookups: &[Lookup<'_>], buffer: &mut hb_buffer_t)
+    requires { All HasPlace lookups.now }
+    ensures { buffer.new ≡ positioned lookups.now buffer.old }
+{
+    for lookup in lookups {
+        apply_over(lookup, buffer);
+    }
+}

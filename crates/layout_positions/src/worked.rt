@@ -1,0 +1,31 @@
+//! The definitions, computed on tables and buffers that were read by hand.
+ghost use Rattle.layout_positions.specs.Worked.Values.{WorkedValues, WorkedAnchors};
+ghost use Rattle.layout_positions.specs.Worked.Pairs.{WorkedTables, WorkedLines};
+ghost use Rattle.layout_positions.specs.Worked.Marks.{WorkedMarks, WorkedBases, WorkedComponents};
+ghost use Rattle.layout_positions.specs.Worked.Cursive.{WorkedCursive};
+ghost use Rattle.layout_positions.specs.Worked.Walk.{WorkedWalk};
+ghost use Rattle.layout_positions.specs.Worked.Attachment.{WorkedAttachment, WorkedTurning};
+
+/// Value records, anchors, single and pair adjustment.
+pub fn adjustment_meets_worked_cases()
+    ensures values { WorkedValues }
+    ensures anchors { WorkedAnchors }
+    ensures tables { WorkedTables }
+    ensures lines { WorkedLines }
+{}
+
+/// Marks on bases, on components of ligatures and on marks; cursive attachment, and what follows
+/// what.
+pub fn attachment_meets_worked_cases()
+    ensures marks { WorkedMarks }
+    ensures bases { WorkedBases }
+    ensures components { WorkedComponents }
+    ensures cursive { WorkedCursive }
+    ensures attachment { WorkedAttachment }
+    ensures turning { WorkedTurning }
+{}
+
+/// Lookups over lines: subtables in order, far away, and in context.
+pub fn walks_meet_worked_cases()
+    ensures { WorkedWalk }
+{}
