@@ -204,11 +204,11 @@ module _ (ps : List Part) (width : ℤ) (cut : ℕ → ℕ → Line) where
   }
 
   -- an end that the walk meets, by the test of the code
-  pub IsWalked-kept : (lines : List Line) (start taken : ℕ) (so_far behind : ℤ) (place : ℕ)
+  pub IsWalked-preserved : (lines : List Line) (start taken : ℕ) (so_far behind : ℤ) (place : ℕ)
       → IsWalked ps width cut lines start taken so_far behind place place → is_end ps place ≡ true → place ≤ length ps
       → (start < taken → (so_far +ℤ least (drop place ps)) ≤ℤ width)
       → IsWalked ps width cut lines start place so_far (pos 0) place (place + 1)
-  IsWalked-kept lines start taken so_far behind place h is within test =
+  IsWalked-preserved lines start taken so_far behind place h is within test =
       elim (cases_lt start taken) [
         | inl some ↦ IsWalked-taken lines start taken so_far behind place h is within (test some)
         | inr none ↦ let order = h.order in IsWalked-begun lines start taken so_far behind place h is within (omega arith)

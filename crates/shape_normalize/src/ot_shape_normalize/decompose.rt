@@ -36,7 +36,7 @@ pub(crate) struct Expansion {
     pub(crate) seconds: Vec<Part>,
 }
 
-/// The split of a character: the hook's if it is given and the plan keeps the shaper, else Unicode's.
+/// The split of a character: the hook's if it is given and the plan uses the shaper, else Unicode's.
 pub(crate) fn split_of<T: ShapingTypes>(
     plan: &PlanOf<'_, T>,
     face: &T::Face,

@@ -134,7 +134,7 @@ pub(crate) fn begin(
     add_tracking(builder)
 }
 
-/// A script's own features, if the shaper is kept and collects some. The builder is no longer simple
+/// A script's own features, if the shaper is used and collects some. The builder is no longer simple
 /// when the hook sees it.
 pub(crate) fn collect<T: ShapingTypes>(
     alloc: Global,

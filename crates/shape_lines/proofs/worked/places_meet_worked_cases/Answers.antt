@@ -2,7 +2,7 @@ use Rattle.std.proofs.Common.{◌≡◌, ◌<◌, ℕ, zero, suc, true, false, r
 use Rattle.std.proofs.lemmas.Bool.{false≢true}
 use Rattle.std.proofs.Common.{[], ◌∷◌}
 use Rattle.shape_lines.specs.Places.{cluster_at, lacks_break_at}
-use Rattle.shape_lines.specs.WorkedPlaces.{worked_text_order, glyph_in}
+use Rattle.shape_lines.specs.Worked.Places.{worked_text_order, glyph_in}
 use Rattle.shape_lines.proofs.worked.places_meet_worked_cases.Goals as goal
 
 pub returns-clause-order : goal.returns-clause-order

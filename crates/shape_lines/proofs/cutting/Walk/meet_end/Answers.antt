@@ -4,7 +4,7 @@ use Rattle.shape_lines.specs.Parts.{parts_of}
 use Rattle.shape_lines.specs.Walked.{line_of}
 use Rattle.shape_lines.proofs.PartLemmas.{length-parts_of}
 use Rattle.shape_lines.proofs.LeastLemmas.{IsSmall-least}
-use Rattle.shape_lines.proofs.WalkedLemmas.{IsWalked-kept, IsWalked-ended, small_sums}
+use Rattle.shape_lines.proofs.WalkedLemmas.{IsWalked-preserved, IsWalked-ended, small_sums}
 use Rattle.shape_lines.proofs.cutting.Walk.meet_end.Goals as goal
 use Rattle.shape_lines.proofs.cutting.Walk.meet_end.Goals.{then-self+then-self-least+in_ok-push, else-self, else-self-via-then-self+else-self-least, else-self-via-else-self}
 use mir.Syntax.{w128}
@@ -46,7 +46,7 @@ returns-clause-walked c =
           (IsWalked-ended ps (pos c.args.width) (line_of b c.args.text_end) _ _ _ _ _ c.args.place c.requires.walked c.requires.may_end within
           w.if-self.true (omega (arith, ints)))
       | else-self w ↦
-          rw w.self-is (IsWalked-kept ps (pos c.args.width) (line_of b c.args.text_end) _ _ _ _ _ c.args.place c.requires.walked c.requires.may_end within
+          rw w.self-is (IsWalked-preserved ps (pos c.args.width) (line_of b c.args.text_end) _ _ _ _ _ c.args.place c.requires.walked c.requires.may_end within
           (λ some. elim w.else-self.branch [
             | else-self-via-then-self+else-self-least w' ↦ omega (arith, ints)
             | else-self-via-else-self w' ↦ absurd (omega arith)
