@@ -163,25 +163,54 @@ NAMES.update((w, w.replace("Keep", "Preserve").replace("keep", "preserve")) for 
 SCOPED = [
     (r"(^|/)kern_table/", "wishes", "kern_requests"),
     (r"(^|/)kern_table/(src/walk\.rt|proofs/walk/)", "behind", "after"),
-    (r"(^|/)run_tests/", "wishes", "preferences"),
-    (r"(^|/)run_tests/", "Wishes", "Preferences"),
-    (r"(^|/)unlawful_search/", "Wish", "HookRequest"),
-    (r"(^|/)unlawful_search/", "Wishes", "HookRequests"),
-    (r"(^|/)unlawful_search/", "wish", "hook_request"),
-    (r"(^|/)unlawful_search/", "wishes", "hook_requests"),
-    (r"(^|/)users_tests/", "Told", "Decided"),
-    (r"(^|/)users_tests/src/words\.rt", "told", "decided"),
+    (r"(^|/)(run_tests|test_runs)/", "wishes", "preferences"),
+    (r"(^|/)(run_tests|test_runs)/", "Wishes", "Preferences"),
+    (r"(^|/)(unlawful_search|test_programs)/", "Wish", "HookRequest"),
+    (r"(^|/)(unlawful_search|test_programs)/", "Wishes", "HookRequests"),
+    (r"(^|/)(unlawful_search|test_programs)/", "wish", "hook_request"),
+    (r"(^|/)(unlawful_search|test_programs)/", "wishes", "hook_requests"),
+    (r"(^|/)layout_\w+/", "Wish", "FeatureRequest"),
+    (r"(^|/)layout_\w+/", "Wishes", "FeatureRequests"),
+    (r"(^|/)layout_\w+/", "wish", "feature_request"),
+    (r"(^|/)layout_\w+/", "wishes", "feature_requests"),
+    (r"(^|/)layout_\w+/", "new_wish", "new_feature_request"),
+    (r"(^|/)layout_\w+/", "wish_given", "feature_request_given"),
+    (r"(^|/)layout_\w+/", "wish_joined", "feature_request_joined"),
+    (r"(^|/)layout_\w+/", "wish_noted", "feature_request_noted"),
+    (r"(^|/)layout_\w+/", "wish_of", "feature_request_of"),
+    (r"(^|/)(users_tests|test_runs/src/users)/", "Told", "Decided"),
+    (r"(^|/)(users_tests/src|test_runs/src/users)/words\.rt", "told", "decided"),
     (r"(^|/)shape_users/(src/words|proofs/words)/", "told", "decided"),
+]
+
+# ---- names by their form, for those that no table has: (part of a name, new)
+
+FORMS = [
+    (r"(?<![a-z])keep(s?)_(?=(clusters|flags|order|equivalence)(?!_apart)(_|$))", r"preserve\1_"),
+    (r"Keep(s?)(?=(Clusters|Flags|Order|Equivalence|All)([A-Z]|$))", r"Preserve\1"),
+    (r"_runs_keep$", "_runs_preserve"),
+    (r"_owe_nothing$", "_have_no_obligations"),
 ]
 
 # ---- words in strings that are names: (part of the path, old, new)
 
 STRINGS = [
-    (r"(^|/)stage_tests/", "wishing", "preferring"),
-    (r"(^|/)run_tests/", "manner", "settings"),
+    (r"(^|/)(stage_tests|test_stages)/", "wishing", "preferring"),
+    (r"(^|/)(run_tests|test_runs)/", "manner", "settings"),
 ]
 
 # ---- phrases of comments
+
+# where a wish is a request: part of the path, and its phrases
+REQUESTS = r"(^|/)(kern_table|unlawful_search|test_programs|layout_\w+)/"
+REQUEST_WORDS = [
+    (r"\bHow many requests a wish is\b", "How many requests it makes"),
+    (r"\bwhat a wish asks for\b", "what the request of a hook asks for"),
+    (r"\bAsks for what is wished\b", "Asks for what is requested"),
+    (r"\bwhat the universe wishes\b", "what the universe draws"),
+    (r"\bwishes\b", "requests"),
+    (r"\bwish\b", "request"),
+]
 
 COMMENTS = [
     # preserves
@@ -220,11 +249,6 @@ COMMENTS = [
     (r"\btold without the table\b", "decided without the table"),
     (r"\b(this )?(can(?:'t)?) be told\b(?! from)", r"\1\2 be decided"),
     # requests and preferences
-    (r"\bof the wishes so far\b", "of the requests so far"),
-    (r"\bHow many requests a wish is\b", "How many requests it makes"),
-    (r"\bwhat a wish asks for\b", "what the request of a hook asks for"),
-    (r"\bAsks for what is wished\b", "Asks for what is requested"),
-    (r"\bwhat the universe wishes\b", "what the universe draws"),
     (r"\bgiven shaper wishes it\b", "given shaper asks for it"),
     (r"\b([Ss]haper) wishes\b", r"\1 prefers"),
     (r"\bwishes\b", "preferences"),
@@ -236,8 +260,7 @@ COMMENTS = [
     (r"\b([Ww])hat every (\w+) owes of its (\w+)",
      lambda m: ("T" if m[1] == "W" else "t") + f"he obligations of every {m[2]} on its {m[3]}"),
     (r"\bWhat decompositions owe by which\b", "What decompositions must provide so that"),
-    (r"\bWhat the engine owes a run\b", "What the engine must provide for a run"),
-    (r"\bWhat it owes a run is\b", "What it must provide for a run is"),
+    (r"\bowes? a run\b", "must provide for a run"),
     (r"\bengine owes that\b", "engine guarantees that"),
     (r"\bas positioning owes\b", "as positioning must"),
     (r"\bA run owes what its shaper's hooks and its engine's lookups do:",
@@ -278,6 +301,7 @@ PLAIN_WORD = re.compile(r"[A-Za-z]?[a-z]*$")
 MODULE = re.compile(r"(Rattle\.(\w+)\.specs\.)Worked([A-Z]\w*|(?=\.\{))")
 CASES_FILE = re.compile(r"(?<![\w/])((?:[\w./-]*/)?(\w+)/specs/)Worked([A-Z]\w*|(?=\.antt))")
 COMMENT_PHRASES = [(re.compile(p), r) for p, r in COMMENTS]
+REQUEST_PHRASES = [(re.compile(p), r) for p, r in REQUEST_WORDS]
 
 RT = re.compile(
     r"(?P<comment>//[^\n]*)|(?P<string>(?<!\w)r(?P<h>#*)\".*?\"(?P=h)|\"(?:\\.|[^\"\\])*\")"
@@ -295,13 +319,17 @@ def names_for(path):
     return names
 
 
+def by_form(part):
+    for form, new in FORMS:
+        part = re.sub(form, new, part)
+    return part
+
+
 def renamed(token, names):
-    """A token by the table: whole, else part by part."""
+    """A token by the table: whole, else part by part, each by the table or by its form."""
     if token in names:
         return names[token]
-    if "-" not in token:
-        return token
-    return "-".join(names.get(part, part) for part in token.split("-"))
+    return "-".join(names.get(part) or by_form(part) for part in token.split("-"))
 
 
 def in_code(text, names):
@@ -319,7 +347,7 @@ def in_prose(text, names):
     )
 
 
-def phrases(text):
+def phrases(path, text):
     """Phrases of a comment, outside of backticks."""
     marks = []
     text = text.replace("LOOK MANNER TEXT", "LOOK SETTINGS TEXT").replace("- `text_settings`: what", "- `settings`: what")
@@ -329,7 +357,8 @@ def phrases(text):
         return f"`\0{len(marks) - 1}\0`" if "answer" not in m.string else m[0]
 
     hidden = re.sub(r"`[^`\n]*`", hide, text)
-    for phrase, new in COMMENT_PHRASES:
+    requests = REQUEST_PHRASES if re.search(REQUESTS, path) else []
+    for phrase, new in requests + COMMENT_PHRASES:
         hidden = phrase.sub(new, hidden)
     return re.sub(r"`\0(\d+)\0`", lambda m: marks[int(m[1])], hidden)
 
@@ -358,7 +387,7 @@ def edited(path, text, comments):
 
     def comment(piece):
         piece = in_prose(piece, names)
-        return phrases(piece) if comments else piece
+        return phrases(path, piece) if comments else piece
 
     if kind == ".md" and re.search(r"(^|/)crates/", path):
         return comment(text)
