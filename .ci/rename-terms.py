@@ -163,6 +163,9 @@ NAMES.update((w, w.replace("Keep", "Preserve").replace("keep", "preserve")) for 
 SCOPED = [
     (r"(^|/)kern_table/", "wishes", "kern_requests"),
     (r"(^|/)kern_table/(src/walk\.rt|proofs/walk/)", "behind", "after"),
+    (r"(^|/)shape_lines/", "behind", "beyond"),
+    (r"(^|/)shape_lines/", "behind_is", "beyond_is"),
+    (r"(^|/)shape_normalize/(src|proofs)/ot_shape_normalize/round_one", "behind", "after"),
     (r"(^|/)(run_tests|test_runs)/", "wishes", "preferences"),
     (r"(^|/)(run_tests|test_runs)/", "Wishes", "Preferences"),
     (r"(^|/)(unlawful_search|test_programs)/", "Wish", "HookRequest"),
@@ -188,7 +191,8 @@ SCOPED = [
 FORMS = [
     (r"(?<![a-z])keep(s?)_(?=(clusters|flags|order|equivalence)(?!_apart)(_|$))", r"preserve\1_"),
     (r"Keep(s?)(?=(Clusters|Flags|Order|Equivalence|All)([A-Z]|$))", r"Preserve\1"),
-    (r"_runs_keep$", "_runs_preserve"),
+    (r"(?<=.)_keeps$", "_preserves"),
+    (r"(?<=runs|ages|kups|ooks|teps)_keep$", "_preserve"),
     (r"_owe_nothing$", "_have_no_obligations"),
 ]
 

@@ -41,7 +41,7 @@ returns-clause-walked c =
     let within : c.args.place ≤ length ps = omega (arith, long, c.requires.within) in
     elim c.if-self.branch [
       | then-self+then-self-least+in_ok-push w ↦
-          let is_far : to_z w128 (of_z w128 c.args.self.now.behind) ≡ c.args.self.now.behind = search rules in
+          let is_far : to_z w128 (of_z w128 c.args.self.now.beyond) ≡ c.args.self.now.beyond = search rules in
           rw (w.self-is, w.in_ok-push.ensures.items, w.line_between.ensures, is_far)
           (IsWalked-ended ps (pos c.args.width) (line_of b c.args.text_end) _ _ _ _ _ c.args.place c.requires.walked c.requires.may_end within
           w.if-self.true (omega (arith, ints)))
