@@ -226,6 +226,12 @@ COMMENTS = [
     (r"\bWhat preparing keeps\b", "What preparing preserves"),
     (r"\bwhat preparing keeps\b", "what preparing preserves"),
     (r"\bWhat keeps the\b", "What preserves the"),
+    (r"\bWhat (positions and the end of a run|the steps|masks and substitution) keep\b", r"What \1 preserve"),
+    (r"\bWhat is positioned keeps its number\b", "What is positioned preserves its number"),
+    (r"\border of clusters, and what keeps it\b", "order of clusters, and what preserves it"),
+    (r"\beach step of kerning keeps, the whole keeps\b", "each step of kerning preserves, the whole preserves"),
+    (r"\border that keeps no clusters\b", "order that preserves no clusters"),
+    (r"\bpauses are asked to keep them\b", "pauses are asked to preserve them"),
     (r"\bkeepers, a monotone\b", "steps that preserve them, a monotone"),
     # a plan uses a shaper
     (r"\b([Pp]lan(?:ner)?)( that)? keeps (?=the shaper|its shaper|its$|no shaper|a shaper|it\b)", r"\1\2 uses "),
@@ -243,6 +249,10 @@ COMMENTS = [
     (r"\b(?<=clusters, that they )keep$", "preserve"),
     (r"(?<=Every one )keeps the$", "preserves the"),
     (r"\bif the plan keeps the\b", "if the plan uses the"),
+    (r"\bif it is kept\b", "if it is used"),
+    (r"\bas if it isn't kept\b", "as if it isn't used"),
+    (r"\bit keeps shaper 5\b", "it uses shaper 5"),
+    (r"\bis kept as such if a shaper is replaced\b", "is used as such if a shaper is replaced"),
     # defined, decided
     (r"\b([Rr]un|[Mm]arks) (is|are) told by\b", r"\1 \2 defined by"),
     (r"\b(is|are) told by\b", r"\1 decided by"),
@@ -284,6 +294,7 @@ COMMENTS = [
     (r"\bface of (tests|tables) answers\b", r"face of \1 returns"),
     (r"; answers whether\b", "; returns whether"),
     (r"\bAnswers (?=`)", "Returns "),
+    (r"(?<=\. )Answers (?=the |whether |a )", "Returns "),
     # settings
     (r"\bone thing more of a manner\b", "one more of the settings"),
     (r"\b(glyph|words?) of a manner\b", r"\1 of the settings"),

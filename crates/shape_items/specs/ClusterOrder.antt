@@ -1,4 +1,4 @@
--- The order of clusters, and what keeps it.
+-- The order of clusters, and what preserves it.
 use Rattle.std.specs.Prelude.{ℕ, ◌<◌, ◌≤◌, ⊤, Bool, true, false, List, length, slice_index_or, Contains}
 use Rattle.std.specs.List.Sorted.{IsNonDecreasing}
 use Rattle.shape_common.specs.declared.text_types.BufferClusterLevel.{BufferClusterLevel}

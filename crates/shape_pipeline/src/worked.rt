@@ -10,7 +10,7 @@ pub fn steps_come_in_order()
 {}
 
 /// The text as it enters, the plan for its language, the origins of a face that is given glyph by glyph, what the
-/// promises on clusters and flags are good for, and which pauses are asked to keep them. Does nothing.
+/// promises on clusters and flags are good for, and which pauses are asked to preserve them. Does nothing.
 pub fn beginnings_meet_worked_cases()
     ensures beginnings { WorkedBeginnings }
     ensures pauses { PausesAreAsked }

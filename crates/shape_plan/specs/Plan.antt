@@ -21,7 +21,7 @@ pub record Plan (S P D : Type 0) : Type 0 where
   pub user_features : List Feature
   pub shaper_data : Option D
 
--- the shaper that was given, if it is kept
+-- the shaper that was given, if it is used
 abbrev pub given_shaper : {S : Type 0} → ChosenShaper S → Option S
 given_shaper (Given shaper) = Some shaper.now
 given_shaper Dumber = None

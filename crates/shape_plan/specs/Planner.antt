@@ -28,7 +28,7 @@ pub record Planner (F S : Type 0) : Type 0 where
   pub apply_morx : Bool
   pub script_zero_marks : Bool
   pub script_fallback_mark_positioning : Bool
-  -- if it is kept
+  -- if it is used
   pub shaper : Option S
 
 -- what planning depends on: the answers of faces and engine, the shaper's constants and those of its hooks that make a
@@ -109,7 +109,7 @@ facts_of planning planner map =
       has_cross_kerning = layout.has_cross_kerning;
     }
 
--- what the shaper makes for a plan, if it is kept and gives the hook
+-- what the shaper makes for a plan, if it is used and gives the hook
 abbrev pub data_for : {S P D : Type 0} → Bool → (S → Plan S P D → D) → Plan S P D → Option D
 data_for given made plan = option_map (λ make. make plan) (hook_of given made plan.shaper)
 

@@ -87,7 +87,7 @@ later_requests direction features = after_script ++ common ++ directed direction
 abbrev pub Collector : Type 0
 Collector = Option (Builder → Direction → Option Script → List MapRequest)
 
--- a hook of a shaper, if it is kept and gives the hook
+-- a hook of a shaper, if it is used and gives the hook
 abbrev pub hook_of : {S H : Type 0} → Bool → (S → H) → Option S → Option H
 hook_of given hook shaper = if given then option_map hook shaper else None
 

@@ -48,7 +48,7 @@ used_compose unicode given hooks a b = option_map_or (λ h. if given then h.comp
 abbrev pub used_reorder : Bool → Option HookMeaning → Option (Buffer → ℕ → ℕ → Buffer)
 used_reorder given hooks = if given then option_map (λ h. h.reorder) hooks else None
 
--- the mode of normalising: the shaper's preference if it is kept, else AUTO
+-- the mode of normalising: the shaper's preference if it is used, else AUTO
 abbrev pub used_mode : {S P D : Type 0} → ℤ → Plan S P D → ℤ
 used_mode preference plan = option_map_or (λ shaper. preference) plan.shaper MODE_AUTO
 

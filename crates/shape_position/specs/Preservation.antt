@@ -1,4 +1,4 @@
--- What positions and the end of a run keep of a buffer, step by step.
+-- What positions and the end of a run preserve of a buffer, step by step.
 use Rattle.std.specs.Prelude.{Bool}
 use Rattle.shape_items.specs.Buffer.{Buffer}
 use Rattle.shape_common.specs.Face.{FaceMeaning}

@@ -1,4 +1,4 @@
--- What masks and substitution keep: clusters and the flags of glyphs.
+-- What masks and substitution preserve: clusters and the flags of glyphs.
 use Rattle.shape_items.specs.Buffer.{Buffer}
 use Rattle.shape_buffer.specs.Preservation.{IsClusterPreserving, IsFlagPreserving, EachStep}
 use Rattle.shape_buffer.specs.Layout.{LawfulMasks, HasNoDefinedFlag}

@@ -382,7 +382,7 @@ impl Dice {
             1 => Premise::Clusters,
             _ => Premise::Flags,
         };
-        // the shapers that give every hook put marks in an order that keeps no clusters
+        // the shapers that give every hook put marks in an order that preserves no clusters
         let shaper = if premise == Premise::Clusters {
             5 + self.below(5)
         } else {

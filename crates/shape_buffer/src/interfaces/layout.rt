@@ -178,6 +178,6 @@ pub trait hb_ot_layout_t<F> {
     /// No mask has a defined flag, and shifts are below 32.
     ghost lawful_masks: { (map : Self.Map) → LawfulMasks (masks map) };
 
-    /// What is positioned keeps its number of items.
+    /// What is positioned preserves its number of items.
     ghost lawful_lookups: { (map : Self.Map) (face : F) → LawfulLookups (lookups map face) };
 }

@@ -55,7 +55,7 @@ telling_lookups map face = record {
   kern = λ mask. marked_by 0;
 }
 
--- a plan of map 30 for a text of script 100 from right to left, with one feature of the user's; it keeps shaper 5, or
+-- a plan of map 30 for a text of script 100 from right to left, with one feature of the user's; it uses shaper 5, or
 -- none
 abbrev pub of_plan : Plan ℕ ℕ ℕ → Option ℕ → Plan ℕ ℕ ℕ
 of_plan plan shaper = record plan {
@@ -101,7 +101,7 @@ pub record RulesOfShapers (plan : Plan ℕ ℕ ℕ) : Type 0 where
   pub short_not_used : (rules_by giving None plan).short false ≡ true
   pub recomposes : (rules_by giving (Some 5) plan).recomposes ≡ false
   pub recomposes_not_used : (rules_by giving None plan).recomposes ≡ true
-  -- without any shaper: as if it isn't kept
+  -- without any shaper: as if it isn't used
   pub without : rules_by giving None plan ≡ rules_without_shaper telling_unicode (telling_face 200)
 
 pub rules_of_shapers : (plan : Plan ℕ ℕ ℕ) → RulesOfShapers plan

@@ -241,7 +241,7 @@ pub(crate) fn widen(
     add_user_features(builder, features)
 }
 
-/// What the shaper asks for last, if it is kept and does.
+/// What the shaper asks for last, if it is used and does.
 pub(crate) fn override_features<T: ShapingTypes>(
     alloc: Global,
     shaper: ChosenShaper<'_, T::Shaper>,

@@ -187,7 +187,7 @@ fn of_a_shaper(rt: HostRuntime) {
     );
 }
 
-/// The shaper that knows no script is kept as such if a shaper is replaced, and else like any other.
+/// The shaper that knows no script is used as such if a shaper is replaced, and else like any other.
 #[test]
 fn dumber(rt: HostRuntime) {
     check(
