@@ -6,8 +6,8 @@ use Rattle.std.proofs.lemmas.List.{drop_more}
 use Rattle.std.specs.Prelude.{IsErrOf, OnOk}
 use Rattle.shape_items.specs.Buffer.{Buffer, limit_of}
 use Rattle.shape_items.specs.Clusters.{clusters}
-use Rattle.shape_items.proofs.Order.DrawsInOrder.{KeepsClusters-from_draws}
-use Rattle.shape_buffer.specs.Keepers.{IsClusterKeeper, IsFlagKeeper}
+use Rattle.shape_items.proofs.Order.DrawsInOrder.{PreservesClusters-from_draws}
+use Rattle.shape_buffer.specs.Preservation.{IsClusterPreserving, IsFlagPreserving}
 use Rattle.shape_buffer.specs.Outcome.{IsWithinLimit, Outcome, step, Ran, Refused, for_length, for_memory}
 use Rattle.shape_buffer.specs.declared.buffer.error.ShapeError.{ShapeError}
 use Rattle.shape_buffer.specs.declared.buffer.error.ShapeError.TheVariants.{Memory, Length}
@@ -127,17 +127,17 @@ outcome_of {T} levels ls b c (Err error) is within past = refused_by {T = T} lev
 
 -- ---- laws
 
-pub stage-order : (ls : List Lookup) → IsClusterKeeper (substituted ls)
+pub stage-order : (ls : List Lookup) → IsClusterPreserving (substituted ls)
 unfolding substituted
 stage-order ls b monotone =
     let kept = stage-preserves 65 ls b in
     record {
-      clusters = KeepsClusters-from_draws (clusters b.items) (clusters (stage_made 65 ls b).items) kept.draws;
+      clusters = PreservesClusters-from_draws (clusters b.items) (clusters (stage_made 65 ls b).items) kept.draws;
       direction = kept.direction;
       flags = kept.flags.flags;
       level = kept.level;
     }
 
-pub stage-flags : (ls : List Lookup) → IsFlagKeeper (substituted ls)
+pub stage-flags : (ls : List Lookup) → IsFlagPreserving (substituted ls)
 unfolding substituted
 stage-flags ls b = (stage-preserves 65 ls b).flags

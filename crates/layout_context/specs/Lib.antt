@@ -3,6 +3,4 @@ pub mod Nested
 pub mod Reverse
 pub mod Stages
 pub mod Covered
-pub mod WorkedPlaces
-pub mod WorkedLookups
-pub mod WorkedContexts
+pub mod Worked

@@ -1,10 +1,10 @@
 //! What lookups and stages of substitution preserve.
 ghost use Rattle.std.specs.Prelude.{◌≡◌, ℕ, List, false};
-ghost use Rattle.shape_buffer.specs.Keepers.{IsClusterKeeper, IsFlagKeeper};
+ghost use Rattle.shape_buffer.specs.Preservation.{IsClusterPreserving, IsFlagPreserving};
 ghost use Rattle.shape_items.specs.Buffer.{Buffer};
-ghost use Rattle.shape_items.specs.ClusterOrder.{KeepsClusters};
+ghost use Rattle.shape_items.specs.ClusterOrder.{PreservesClusters};
 ghost use Rattle.shape_items.specs.Clusters.{clusters};
-ghost use Rattle.shape_items.specs.KeepsFlags.{KeepsFlags};
+ghost use Rattle.shape_items.specs.PreservesFlags.{PreservesFlags};
 ghost use Rattle.layout_matching.specs.declared.lookup.Lookup.{Lookup as LookupOf};
 ghost use Rattle.layout_substitution.specs.declared.apply.Spot.{Spot as SpotOf};
 ghost use Rattle.layout_context.specs.Covered.{CoversNone};
@@ -14,15 +14,15 @@ ghost use Rattle.layout_context.specs.Stages.{Walk, looked_up, substituted};
 /// A lookup preserves clusters and flags with as many levels of nested ones as it may have, whatever the font's bytes are.
 pub fn nested_lookups_preserve()
     ensures clusters { (level : ℕ) (l : LookupOf) (spot : SpotOf) (b : Buffer)
-        → KeepsClusters (clusters b.items) (clusters (nested_applied level l spot b).buffer.items) }
+        → PreservesClusters (clusters b.items) (clusters (nested_applied level l spot b).buffer.items) }
     ensures flags { (level : ℕ) (l : LookupOf) (spot : SpotOf) (b : Buffer)
-        → KeepsFlags b (nested_applied level l spot b).buffer }
+        → PreservesFlags b (nested_applied level l spot b).buffer }
 {}
 
 /// Each stage of substitution preserves clusters and flags, whatever the bytes of the font are and whatever the lookups are.
 pub fn stages_preserve()
-    ensures clusters { (ls : List LookupOf) → IsClusterKeeper (substituted ls) }
-    ensures flags { (ls : List LookupOf) → IsFlagKeeper (substituted ls) }
+    ensures clusters { (ls : List LookupOf) → IsClusterPreserving (substituted ls) }
+    ensures flags { (ls : List LookupOf) → IsFlagPreserving (substituted ls) }
 {}
 
 /// A lookup of `GSUB` that covers no glyph of a list changes nothing.

@@ -1,7 +1,7 @@
 //! The definitions, computed by hand.
-ghost use Rattle.layout_context.specs.WorkedContexts.{WorkedRules, WorkedClasses, WorkedChains, WorkedChainsElsewhere, WorkedMarkSets, WorkedMarkClasses, WorkedSyllables, WorkedComponents};
-ghost use Rattle.layout_context.specs.WorkedLookups.{WorkedLookups};
-ghost use Rattle.layout_context.specs.WorkedPlaces.{WorkedPlaces};
+ghost use Rattle.layout_context.specs.Worked.Contexts.{WorkedRules, WorkedClasses, WorkedChains, WorkedChainsElsewhere, WorkedMarkSets, WorkedMarkClasses, WorkedSyllables, WorkedComponents};
+ghost use Rattle.layout_context.specs.Worked.Lookups.{WorkedLookups};
+ghost use Rattle.layout_context.specs.Worked.Places.{WorkedPlaces};
 
 /// Where the glyphs of a rule stand after a nested lookup that changed how many items there are, and where the rule goes on.
 pub fn places_meet_worked_cases()

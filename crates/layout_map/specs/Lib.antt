@@ -6,6 +6,4 @@ pub mod Stages
 pub mod Tagged
 pub mod Map
 pub mod Laws
-pub mod WorkedSettings
-pub mod WorkedBits
-pub mod WorkedStages
+pub mod Worked

@@ -1,7 +1,7 @@
 //! The definitions, computed by hand.
-ghost use Rattle.layout_map.specs.WorkedSettings.{WorkedSettings};
-ghost use Rattle.layout_map.specs.WorkedBits.{WorkedBits, WorkedAllotment};
-ghost use Rattle.layout_map.specs.WorkedStages.{WorkedLookups, WorkedStages, WorkedMap};
+ghost use Rattle.layout_map.specs.Worked.Settings.{WorkedSettings};
+ghost use Rattle.layout_map.specs.Worked.Bits.{WorkedBits, WorkedAllotment};
+ghost use Rattle.layout_map.specs.Worked.Stages.{WorkedLookups, WorkedStages, WorkedMap};
 
 /// Requests merged to settings, and the bits of features.
 pub fn features_meet_worked_cases()

@@ -1,4 +1,4 @@
--- marking a span keeps the number of items
+-- marking a span preserves the number of items
 use Rattle.std.proofs.Common.{◌≡◌, ℕ, ◌≤◌, ◌==◌, Bool, true, false, min, length, nat_le, nat_lt, slice_set, refl, arith, if◌then◌else◌}
 use Rattle.std.proofs.lemmas.Bool.Decides.{nat_tests}
 use Rattle.std.specs.Int.RustNames.{bit_and}

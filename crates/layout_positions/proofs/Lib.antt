@@ -6,5 +6,5 @@ pub mod StepLemmas
 pub mod TrialLemmas
 pub mod NestedLemmas
 pub mod NestedSteps
-pub mod KeeperLemmas
+pub mod PreservationLemmas
 pub mod UncoveredLemmas

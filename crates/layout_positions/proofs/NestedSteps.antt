@@ -19,8 +19,8 @@ module _ (P : Buffer → Buffer → Type 0) (same : (b : Buffer) → P b b) (aft
     (by_break : (start end : ℕ) (b : Buffer) → P b (broken start end b))
     (by_lookup : (l : Lookup) (i left : ℕ) (seen : BaseSeen) (b : Buffer) → P b (lookup_placed l i left seen b).buffer) where
   -- what is applied next keeps
-  abbrev Keeps : (Lookup → ℕ → ℕ → BaseSeen → Buffer → Placing) → Type 0
-  Keeps next = (l : Lookup) (i left : ℕ) (seen : BaseSeen) (b : Buffer) → P b (next l i left seen b).buffer
+  abbrev Preserves : (Lookup → ℕ → ℕ → BaseSeen → Buffer → Placing) → Type 0
+  Preserves next = (l : Lookup) (i left : ℕ) (seen : BaseSeen) (b : Buffer) → P b (next l i left seen b).buffer
 
   times-step : {S : Type 0} (view : S → Buffer) (f : S → S) → ((s : S) → P (view s) (view (f s)))
       → (n : ℕ) (s : S) → P (view s) (view (times f n s))
@@ -40,40 +40,40 @@ module _ (P : Buffer → Buffer → Type 0) (same : (b : Buffer) → P b b) (aft
   walk-if true b x y k m = k
   walk-if false b x y k m = m
 
-  step-place : (next : Lookup → ℕ → ℕ → BaseSeen → Buffer → Placing) → Keeps next → (s : Nest) (other : Lookup) (place : ℕ)
+  step-place : (next : Lookup → ℕ → ℕ → BaseSeen → Buffer → Placing) → Preserves next → (s : Nest) (other : Lookup) (place : ℕ)
       → P s.buffer (record_at_place next s other place).buffer
-  step-place next keeps s other place =
-      nest-if (nat_eq s.left 0) s.buffer (skipped s) _ (same s.buffer) (keeps other place (s.left - 1) s.seen s.buffer)
+  step-place next preserves s other place =
+      nest-if (nat_eq s.left 0) s.buffer (skipped s) _ (same s.buffer) (preserves other place (s.left - 1) s.seen s.buffer)
 
-  step-for : (next : Lookup → ℕ → ℕ → BaseSeen → Buffer → Placing) → Keeps next → (s : Nest) (other : Lookup) (o : Option ℕ)
+  step-for : (next : Lookup → ℕ → ℕ → BaseSeen → Buffer → Placing) → Preserves next → (s : Nest) (other : Lookup) (o : Option ℕ)
       → P s.buffer (option_map_or (record_at_place next s other) o (skipped s)).buffer
-  step-for next keeps s other None = same s.buffer
-  step-for next keeps s other (Some place) = step-place next keeps s other place
+  step-for next preserves s other None = same s.buffer
+  step-for next preserves s other (Some place) = step-place next preserves s other place
 
-  step-named : (next : Lookup → ℕ → ℕ → BaseSeen → Buffer → Placing) → Keeps next → (l : Lookup) (at : ℕ) (rule : Rule) (s : Nest)
+  step-named : (next : Lookup → ℕ → ℕ → BaseSeen → Buffer → Placing) → Preserves next → (l : Lookup) (at : ℕ) (rule : Rule) (s : Nest)
       (o : Option Lookup) → P s.buffer (option_map_or (record_for next l at rule s) o (skipped s)).buffer
-  step-named next keeps l at rule s None = same s.buffer
-  step-named next keeps l at rule s (Some other) = step-for next keeps s other (named_place l s.buffer.items at rule s.r)
+  step-named next preserves l at rule s None = same s.buffer
+  step-named next preserves l at rule s (Some other) = step-for next preserves s other (named_place l s.buffer.items at rule s.r)
 
-  step-rule : (next : Lookup → ℕ → ℕ → BaseSeen → Buffer → Placing) → Keeps next → (l : Lookup) (i left : ℕ) (seen : BaseSeen) (b : Buffer)
+  step-rule : (next : Lookup → ℕ → ℕ → BaseSeen → Buffer → Placing) → Preserves next → (l : Lookup) (i left : ℕ) (seen : BaseSeen) (b : Buffer)
       (found : Found) → P b (rule_placed next l i left seen b found).buffer
-  step-rule next keeps l i left seen b found =
+  step-rule next preserves l i left seen b found =
       let marked = broken found.span.start found.span.end b in
       after b marked (rule_placed next l i left seen b found).buffer (by_break found.span.start found.span.end b)
       (times-step (λ (s : Nest). s.buffer) (record_step next l i found.rule)
-      (λ s. step-named next keeps l i found.rule s (named_lookup l found.rule s.r)) found.rule.count
+      (λ s. step-named next preserves l i found.rule s (named_lookup l found.rule s.r)) found.rule.count
       (record { buffer = marked; seen = seen; left = left; r = 0 }))
 
-  step-found : (next : Lookup → ℕ → ℕ → BaseSeen → Buffer → Placing) → Keeps next → (l : Lookup) (i left : ℕ) (seen : BaseSeen) (b : Buffer)
+  step-found : (next : Lookup → ℕ → ℕ → BaseSeen → Buffer → Placing) → Preserves next → (l : Lookup) (i left : ℕ) (seen : BaseSeen) (b : Buffer)
       (o : Option Found) → P b (option_map_or (rule_placed next l i left seen b) o (unplaced left seen b)).buffer
-  step-found next keeps l i left seen b None = same b
-  step-found next keeps l i left seen b (Some found) = step-rule next keeps l i left seen b found
+  step-found next preserves l i left seen b None = same b
+  step-found next preserves l i left seen b (Some found) = step-rule next preserves l i left seen b found
 
-  step-level : (next : Lookup → ℕ → ℕ → BaseSeen → Buffer → Placing) → Keeps next → (l : Lookup) (i left : ℕ) (seen : BaseSeen) (b : Buffer)
+  step-level : (next : Lookup → ℕ → ℕ → BaseSeen → Buffer → Placing) → Preserves next → (l : Lookup) (i left : ℕ) (seen : BaseSeen) (b : Buffer)
       → P b (level_placed next l i left seen b).buffer
-  step-level next keeps l i left seen b =
+  step-level next preserves l i left seen b =
       placing-if (is_context l) b _ _
-      (step-found next keeps l i left seen b (found_of l b.items (record { at = i; is_steady = true }))) (by_lookup l i left seen b)
+      (step-found next preserves l i left seen b (found_of l b.items (record { at = i; is_steady = true }))) (by_lookup l i left seen b)
 
   step-nested : (level : ℕ) (l : Lookup) (i left : ℕ) (seen : BaseSeen) (b : Buffer) → P b (nested_placed level l i left seen b).buffer
   step-nested zero l i left seen b = same b

@@ -211,7 +211,7 @@ module _ (P : Buffer → Buffer → Type 0) (same : (b : Buffer) → P b b) (aft
   -- ---- a lookup
 
   step-format : (l : Lookup) (start : ℕ) (b : Buffer) (made : Applied) → P b made.buffer → P b (if_first_format l start b made).buffer
-  step-format l start b made keeps = applied-if (nat_eq (u16_of l.table.now start) 1) b made (unapplied b) keeps (same b)
+  step-format l start b made preserves = applied-if (nat_eq (u16_of l.table.now start) 1) b made (unapplied b) preserves (same b)
 
   step-kind : (l : Lookup) (part : LookupSubtable) (base : Option ℕ) (i : ℕ) (b : Buffer) → P b (kind_applied l part base i b).buffer
   step-kind l part base i b =

@@ -1,4 +1,4 @@
--- a lookup keeps the number of items
+-- a lookup preserves the number of items
 use Rattle.std.proofs.Common.{◌≡◌, ℕ, ◌∙◌, length, refl}
 use Rattle.layout_matching.specs.declared.lookup.Lookup.{Lookup}
 use Rattle.layout_positions.specs.Trial.{Trial, trial_step}

@@ -10,6 +10,6 @@ pub mod Marks
 pub mod Trial
 pub mod Nested
 pub mod Walk
-pub mod Keeps
+pub mod Preserves
 pub mod Uncovered
 pub mod Worked

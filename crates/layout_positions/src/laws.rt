@@ -1,10 +1,10 @@
 //! What positioning preserves, for every font and every buffer.
 ghost use Rattle.std.specs.Prelude.{◌≡◌, List, All};
-ghost use Rattle.shape_buffer.specs.Keepers.{IsClusterKeeper, IsFlagKeeper};
+ghost use Rattle.shape_buffer.specs.Preservation.{IsClusterPreserving, IsFlagPreserving};
 ghost use Rattle.shape_items.specs.Buffer.{Buffer};
 ghost use Rattle.layout_matching.specs.declared.lookup.Lookup.{Lookup as LookupOf};
 ghost use Rattle.layout_positions.specs.Attachment.{offsets_finished};
-ghost use Rattle.layout_positions.specs.Keeps.{Kept};
+ghost use Rattle.layout_positions.specs.Preserves.{Kept};
 ghost use Rattle.layout_positions.specs.Uncovered.{IsUncovered};
 ghost use Rattle.layout_positions.specs.Walk.{positioned};
 
@@ -17,10 +17,10 @@ pub fn positions_keep()
 
 /// The premises of the promises about a run's clusters and flags.
 pub fn positions_are_keepers()
-    ensures clusters { (lookups : List LookupOf) → IsClusterKeeper (positioned lookups) }
-    ensures flags { (lookups : List LookupOf) → IsFlagKeeper (positioned lookups) }
-    ensures finished_clusters { IsClusterKeeper offsets_finished }
-    ensures finished_flags { IsFlagKeeper offsets_finished }
+    ensures clusters { (lookups : List LookupOf) → IsClusterPreserving (positioned lookups) }
+    ensures flags { (lookups : List LookupOf) → IsFlagPreserving (positioned lookups) }
+    ensures finished_clusters { IsClusterPreserving offsets_finished }
+    ensures finished_flags { IsFlagPreserving offsets_finished }
 {}
 
 /// A list that no lookup covers stays as it is: no subtable lists one of its glyphs, and no rule of

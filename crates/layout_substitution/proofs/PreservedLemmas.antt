@@ -10,10 +10,10 @@ use Rattle.shape_items.specs.Buffer.{Buffer, limit_of}
 use Rattle.shape_items.specs.BufferClusters.{merge_clusters, unsafe_to_break}
 use Rattle.shape_items.specs.Clusters.{clusters}
 use Rattle.shape_items.specs.Items.{Item, new_item, feature_bits}
-use Rattle.shape_items.specs.KeepsFlags.{KeepsFlags, IsDefinedFlag, has_flag, some_has}
+use Rattle.shape_items.specs.PreservesFlags.{PreservesFlags, IsDefinedFlag, has_flag, some_has}
 use Rattle.shape_items.specs.Delete.{hand_over}
-use Rattle.shape_items.proofs.Deletion.DeleteKeeps.{Draws, merge_clusters_draws, unsafe_to_break_draws}
-use Rattle.shape_items.proofs.Flags.FlagLemmas.{KeepsFlags-same, KeepsFlags-then, merge_clusters_keeps, unsafe_to_break_keeps, no_flag, defined_flag}
+use Rattle.shape_items.proofs.Deletion.DeletePreserves.{Draws, merge_clusters_draws, unsafe_to_break_draws}
+use Rattle.shape_items.proofs.Flags.FlagLemmas.{PreservesFlags-same, PreservesFlags-then, merge_clusters_preserves, unsafe_to_break_preserves, no_flag, defined_flag}
 use Rattle.shape_items.proofs.Merging.KeyLemmas.{without_items-merge_clusters, without_items-unsafe_to_break}
 use Rattle.shape_items.proofs.Order.DrawsInOrder.{DrawsInOrder, DrawsInOrder-same, DrawsInOrder-then, DrawsInOrder-after, DrawsInOrder-again}
 use Rattle.shape_common.specs.Positions.{zero_position}
@@ -22,18 +22,18 @@ use Rattle.layout_matching.specs.Loops.{times}
 
 pub record Preserves (b c : Buffer) : Type 0 where
   pub draws : DrawsInOrder (clusters b.items) (clusters c.items)
-  pub flags : KeepsFlags b c
+  pub flags : PreservesFlags b c
   pub direction : c.direction ≡ b.direction
   pub level : c.cluster_level ≡ b.cluster_level
   pub limit : c.length_limit ≡ b.length_limit
 
 pub Preserves-same : (b : Buffer) → Preserves b b
-Preserves-same b = record { draws = DrawsInOrder-same (clusters b.items); flags = KeepsFlags-same b; direction = refl; level = refl; limit = refl }
+Preserves-same b = record { draws = DrawsInOrder-same (clusters b.items); flags = PreservesFlags-same b; direction = refl; level = refl; limit = refl }
 
 pub Preserves-then : (a b c : Buffer) → Preserves a b → Preserves b c → Preserves a c
 Preserves-then a b c first later = record {
   draws = DrawsInOrder-then (clusters a.items) (clusters b.items) (clusters c.items) first.draws later.draws;
-  flags = KeepsFlags-then a b c first.flags later.flags;
+  flags = PreservesFlags-then a b c first.flags later.flags;
   direction = later.direction ∙ first.direction;
   level = later.level ∙ first.level;
   limit = later.limit ∙ first.limit;
@@ -254,7 +254,7 @@ merge-preserves start end b within =
     let rest = without_items-merge_clusters start end b in
     record {
       draws = merge_clusters_draws start end b within;
-      flags = merge_clusters_keeps start end b;
+      flags = merge_clusters_preserves start end b;
       direction = ap (λ (c : Buffer). c.direction) rest;
       level = ap (λ (c : Buffer). c.cluster_level) rest;
       limit = ap (λ (c : Buffer). c.length_limit) rest;
@@ -277,7 +277,7 @@ break-preserves start end b =
     let rest = without_items-unsafe_to_break start end b in
     record {
       draws = unsafe_to_break_draws start end b;
-      flags = unsafe_to_break_keeps start end b;
+      flags = unsafe_to_break_preserves start end b;
       direction = ap (λ (c : Buffer). c.direction) rest;
       level = ap (λ (c : Buffer). c.cluster_level) rest;
       limit = ap (λ (c : Buffer). c.length_limit) rest;

@@ -7,7 +7,4 @@ pub mod Variations
 pub mod Lookups
 pub mod Order
 pub mod Gdef
-pub mod WorkedGlyphs
-pub mod WorkedScripts
-pub mod WorkedFeatures
-pub mod WorkedLookups
+pub mod Worked

@@ -1,8 +1,8 @@
 //! The definitions, computed on bytes that were read by hand.
-ghost use Rattle.layout_tables.specs.WorkedGlyphs.{WorkedCoverage, WorkedClasses, WorkedDefinitions};
-ghost use Rattle.layout_tables.specs.WorkedScripts.{WorkedOffsets, WorkedScriptChoice, WorkedLanguageChoice};
-ghost use Rattle.layout_tables.specs.WorkedFeatures.{WorkedFeatureLists, WorkedConditions, WorkedVariations};
-ghost use Rattle.layout_tables.specs.WorkedLookups.{WorkedLookups};
+ghost use Rattle.layout_tables.specs.Worked.Glyphs.{WorkedCoverage, WorkedClasses, WorkedDefinitions};
+ghost use Rattle.layout_tables.specs.Worked.Scripts.{WorkedOffsets, WorkedScriptChoice, WorkedLanguageChoice};
+ghost use Rattle.layout_tables.specs.Worked.Features.{WorkedFeatureLists, WorkedConditions, WorkedVariations};
+ghost use Rattle.layout_tables.specs.Worked.Lookups.{WorkedLookups};
 
 /// Coverage, classes, and what `GDEF` says of glyphs.
 pub fn glyphs_meet_worked_cases()

@@ -1,4 +1,4 @@
-use Rattle.layout_context.specs.WorkedContexts.{worked_rules, worked_classes, worked_chains, worked_chains_elsewhere, worked_mark_sets, worked_mark_classes, worked_syllables, worked_components}
+use Rattle.layout_context.specs.Worked.Contexts.{worked_rules, worked_classes, worked_chains, worked_chains_elsewhere, worked_mark_sets, worked_mark_classes, worked_syllables, worked_components}
 use Rattle.layout_context.proofs.worked.contexts_meet_worked_cases.Goals as goal
 
 pub returns-clause-rules : goal.returns-clause-rules

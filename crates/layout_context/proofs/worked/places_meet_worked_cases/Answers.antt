@@ -1,4 +1,4 @@
-use Rattle.layout_context.specs.WorkedPlaces.{worked_places}
+use Rattle.layout_context.specs.Worked.Places.{worked_places}
 use Rattle.layout_context.proofs.worked.places_meet_worked_cases.Goals as goal
 
 pub returns : goal.returns

@@ -1,5 +1,5 @@
-use Rattle.layout_map.specs.WorkedSettings.{worked_settings}
-use Rattle.layout_map.specs.WorkedBits.{worked_bits, worked_allotment}
+use Rattle.layout_map.specs.Worked.Settings.{worked_settings}
+use Rattle.layout_map.specs.Worked.Bits.{worked_bits, worked_allotment}
 use Rattle.layout_map.proofs.worked.features_meet_worked_cases.Goals as goal
 
 pub returns-clause-settings : goal.returns-clause-settings

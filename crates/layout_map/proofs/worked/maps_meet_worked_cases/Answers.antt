@@ -1,4 +1,4 @@
-use Rattle.layout_map.specs.WorkedStages.{worked_lookups, worked_stages, worked_map}
+use Rattle.layout_map.specs.Worked.Stages.{worked_lookups, worked_stages, worked_map}
 use Rattle.layout_map.proofs.worked.maps_meet_worked_cases.Goals as goal
 
 pub returns-clause-lookups : goal.returns-clause-lookups

@@ -1,4 +1,4 @@
-use Rattle.layout_positions.proofs.KeeperLemmas.{positioned-clusters, positioned-flags, finished-clusters, finished-flags}
+use Rattle.layout_positions.proofs.PreservationLemmas.{positioned-clusters, positioned-flags, finished-clusters, finished-flags}
 use Rattle.layout_positions.proofs.laws.positions_are_keepers.Goals as goal
 
 pub returns-clause-clusters : goal.returns-clause-clusters

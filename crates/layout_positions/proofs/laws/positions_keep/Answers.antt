@@ -1,4 +1,4 @@
-use Rattle.layout_positions.proofs.KeeperLemmas.{positioned-kept, finished-kept}
+use Rattle.layout_positions.proofs.PreservationLemmas.{positioned-kept, finished-kept}
 use Rattle.layout_positions.proofs.laws.positions_keep.Goals as goal
 
 pub returns-clause-lookups : goal.returns-clause-lookups

@@ -1,4 +1,4 @@
-use Rattle.layout_tables.specs.WorkedGlyphs.{worked_coverage, worked_classes, worked_definitions}
+use Rattle.layout_tables.specs.Worked.Glyphs.{worked_coverage, worked_classes, worked_definitions}
 use Rattle.layout_tables.proofs.worked.glyphs_meet_worked_cases.Goals as goal
 
 pub returns-clause-coverage : goal.returns-clause-coverage

@@ -1,5 +1,5 @@
-use Rattle.layout_tables.specs.WorkedFeatures.{worked_feature_lists, worked_conditions, worked_variations}
-use Rattle.layout_tables.specs.WorkedLookups.{worked_lookups}
+use Rattle.layout_tables.specs.Worked.Features.{worked_feature_lists, worked_conditions, worked_variations}
+use Rattle.layout_tables.specs.Worked.Lookups.{worked_lookups}
 use Rattle.layout_tables.proofs.worked.lookups_meet_worked_cases.Goals as goal
 
 pub returns-clause-features : goal.returns-clause-features

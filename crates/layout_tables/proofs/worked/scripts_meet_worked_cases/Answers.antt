@@ -1,4 +1,4 @@
-use Rattle.layout_tables.specs.WorkedScripts.{worked_offsets, worked_script_choice, worked_language_choice}
+use Rattle.layout_tables.specs.Worked.Scripts.{worked_offsets, worked_script_choice, worked_language_choice}
 use Rattle.layout_tables.proofs.worked.scripts_meet_worked_cases.Goals as goal
 
 pub returns-clause-offsets : goal.returns-clause-offsets

@@ -1,0 +1,4 @@
+pub mod Glyphs
+pub mod Scripts
+pub mod Features
+pub mod Lookups

@@ -1,0 +1,152 @@
+-- Features and their variations, on tables that were read by hand.
+use Rattle.std.specs.Prelude.{◌≡◌, ℕ, List, [], ◌∷◌, ◌++◌, Some, None, true, false, refl}
+use Rattle.shape_font.specs.Worked.Glyphs.{words}
+use Rattle.layout_tables.specs.Features.{feature_count_of, feature_tag_of, required_feature_of, feature_index_of, any_feature_of, feature_of, feature_lookup_count_of, feature_lookup_of}
+use Rattle.layout_tables.specs.Variations.{condition_holds, set_holds, substitution_of, varied_feature_of}
+
+-- tags
+abbrev pub KERN : ℕ
+KERN = 0x6B65726E
+
+abbrev pub LIGA : ℕ
+LIGA = 0x6C696761
+
+-- features `kern` at 24 with lookup 5, and `liga` at 30 with lookups 3 and 9; a language system at 38 that requires feature 1
+-- and lists features 1, 0 and 1, and one at 50 that requires none and lists feature 1
+abbrev pub two_features : List ℕ
+two_features = words (1 ∷ 0 ∷ 0 ∷ 10 ∷ 0 ∷ 2 ∷ 0x6B65 ∷ 0x726E ∷ 14 ∷ 0x6C69 ∷ 0x6761 ∷ 20
+    ∷ 0 ∷ 1 ∷ 5
+    ∷ 0 ∷ 2 ∷ 3 ∷ 9
+    ∷ 0 ∷ 1 ∷ 3 ∷ 1 ∷ 0 ∷ 1
+    ∷ 0 ∷ 65535 ∷ 1 ∷ 1 ∷ 0 ∷ [])
+
+-- features `kern` and `kern`, and a language system at 24 that lists features 1 and 0
+abbrev pub same_tags : List ℕ
+same_tags = words (1 ∷ 0 ∷ 0 ∷ 10 ∷ 0 ∷ 2 ∷ 0x6B65 ∷ 0x726E ∷ 14 ∷ 0x6B65 ∷ 0x726E ∷ 14 ∷ 0 ∷ 65535 ∷ 2 ∷ 1 ∷ 0 ∷ [])
+
+pub record WorkedFeatureLists : Type 0 where
+  pub count : feature_count_of two_features ≡ 2
+  pub count_cut : feature_count_of (words (1 ∷ 0 ∷ 0 ∷ 10 ∷ 0 ∷ 9 ∷ 0 ∷ 0 ∷ 0 ∷ 0 ∷ 0 ∷ [])) ≡ 1
+  pub other_version : feature_count_of (words (2 ∷ 0 ∷ 0 ∷ 10 ∷ 0 ∷ 1 ∷ 0 ∷ 0 ∷ 0 ∷ [])) ≡ 0
+  pub first_tag : feature_tag_of two_features 0 ≡ KERN
+  pub second_tag : feature_tag_of two_features 1 ≡ LIGA
+  pub past_the_last : feature_tag_of two_features 2 ≡ 0
+  pub required : required_feature_of two_features 38 ≡ Some 1
+  pub none_required : required_feature_of two_features 50 ≡ None
+  pub listed_first : feature_index_of two_features 38 LIGA ≡ Some 1
+  pub listed_second : feature_index_of two_features 38 KERN ≡ Some 0
+  pub past_the_list : feature_index_of two_features 50 KERN ≡ None
+  pub first_of_two : feature_index_of same_tags 24 KERN ≡ Some 1
+  pub first_of_all : any_feature_of same_tags KERN ≡ Some 0
+  pub of_all : any_feature_of two_features LIGA ≡ Some 1
+  pub nowhere : any_feature_of same_tags LIGA ≡ None
+  pub first_place : feature_of two_features 0 ≡ Some 24
+  pub second_place : feature_of two_features 1 ≡ Some 30
+  pub no_place : feature_of two_features 2 ≡ None
+  pub lookups : feature_lookup_count_of two_features 30 ≡ 2
+  pub first_lookup : feature_lookup_of two_features 30 0 ≡ 3
+  pub second_lookup : feature_lookup_of two_features 30 1 ≡ 9
+  pub lookups_cut : feature_lookup_count_of (words (0 ∷ 9 ∷ 5 ∷ [])) 0 ≡ 1
+
+pub worked_feature_lists : WorkedFeatureLists
+worked_feature_lists = record {
+  count = refl;
+  count_cut = refl;
+  other_version = refl;
+  first_tag = refl;
+  second_tag = refl;
+  past_the_last = refl;
+  required = refl;
+  none_required = refl;
+  listed_first = refl;
+  listed_second = refl;
+  past_the_list = refl;
+  first_of_two = refl;
+  first_of_all = refl;
+  of_all = refl;
+  nowhere = refl;
+  first_place = refl;
+  second_place = refl;
+  no_place = refl;
+  lookups = refl;
+  first_lookup = refl;
+  second_lookup = refl;
+  lookups_cut = refl;
+}
+
+-- the header of a minor version, with one feature whose table is at 22 (in the place of the header of feature variations)
+abbrev pub header : ℕ → List ℕ
+header minor = words (1 ∷ minor ∷ 0 ∷ 14 ∷ 0 ∷ 0 ∷ 26 ∷ 1 ∷ 0x6B65 ∷ 0x726E ∷ 8 ∷ 0 ∷ 0 ∷ [])
+
+-- feature variations at 26 of a major version, with two records: the set of the first is at 50, that of the second is NULL; their
+-- substitutions are at 72 and at 84, of major versions
+abbrev pub two_records : ℕ → ℕ → ℕ → ℕ → ℕ → List ℕ
+two_records major least greatest first second = words (major ∷ 0 ∷ 0 ∷ 2 ∷ 0 ∷ 24 ∷ 0 ∷ 46 ∷ 0 ∷ 0 ∷ 0 ∷ 58
+    ∷ 2 ∷ 0 ∷ 10 ∷ 0 ∷ 10 ∷ 1 ∷ 0 ∷ least ∷ greatest ∷ 0 ∷ 0
+    ∷ first ∷ 0 ∷ 1 ∷ 0 ∷ 0 ∷ 300
+    ∷ second ∷ 0 ∷ 2 ∷ 7 ∷ 0 ∷ 400 ∷ 0 ∷ 0 ∷ 0 ∷ [])
+
+abbrev pub varied : ℕ → ℕ → List ℕ
+varied least greatest = header 1 ++ two_records 1 least greatest 1 1
+
+pub record WorkedConditions : Type 0 where
+  -- F2DOT14: 0xC000 is -1, 0x4000 is 1, 0xFFFF is the greatest below 0
+  pub whole_axis : condition_holds (words (1 ∷ 0 ∷ 0xC000 ∷ 0x4000 ∷ [])) 0 ≡ true
+  pub at_0 : condition_holds (words (1 ∷ 0 ∷ 0 ∷ 0 ∷ [])) 0 ≡ true
+  pub above_0 : condition_holds (words (1 ∷ 0 ∷ 1 ∷ 0x4000 ∷ [])) 0 ≡ false
+  pub below_0 : condition_holds (words (1 ∷ 0 ∷ 0xC000 ∷ 0xFFFF ∷ [])) 0 ≡ false
+  pub positive_value : condition_holds (words (2 ∷ 1 ∷ 0 ∷ 0 ∷ [])) 0 ≡ true
+  pub value_0 : condition_holds (words (2 ∷ 0 ∷ 0 ∷ 0 ∷ [])) 0 ≡ false
+  pub negative_value : condition_holds (words (2 ∷ 0x8000 ∷ 0 ∷ 0 ∷ [])) 0 ≡ false
+  pub other_format : condition_holds (words (3 ∷ 1 ∷ 0 ∷ 0 ∷ [])) 0 ≡ false
+  pub empty_set : set_holds (words (0 ∷ [])) 0 ≡ true
+  pub null_condition : set_holds (words (1 ∷ 0 ∷ 0 ∷ [])) 0 ≡ false
+  pub one_fails : set_holds (words (2 ∷ 0 ∷ 10 ∷ 0 ∷ 18 ∷ 2 ∷ 1 ∷ 0 ∷ 0 ∷ 2 ∷ 0 ∷ [])) 0 ≡ false
+  pub all_hold : set_holds (words (2 ∷ 0 ∷ 10 ∷ 0 ∷ 18 ∷ 2 ∷ 1 ∷ 0 ∷ 0 ∷ 2 ∷ 1 ∷ [])) 0 ≡ true
+
+pub worked_conditions : WorkedConditions
+worked_conditions = record {
+  whole_axis = refl;
+  at_0 = refl;
+  above_0 = refl;
+  below_0 = refl;
+  positive_value = refl;
+  value_0 = refl;
+  negative_value = refl;
+  other_format = refl;
+  empty_set = refl;
+  null_condition = refl;
+  one_fails = refl;
+  all_hold = refl;
+}
+
+pub record WorkedVariations : Type 0 where
+  pub first_record : substitution_of (varied 0 0) ≡ Some 72
+  pub null_set_holds : substitution_of (varied 1 1) ≡ Some 84
+  pub since_1_1 : substitution_of (header 0 ++ two_records 1 0 0 1 1) ≡ None
+  pub other_version : substitution_of (header 1 ++ two_records 2 0 0 1 1) ≡ None
+  pub other_substitution : substitution_of (header 1 ++ two_records 1 0 0 2 1) ≡ None
+  pub no_variations : substitution_of two_features ≡ None
+  pub substitute : varied_feature_of (varied 0 0) (Some 72) 0 ≡ Some 372
+  pub own_feature : varied_feature_of (varied 1 1) (Some 84) 1 ≡ None
+  pub second_substitute : varied_feature_of (varied 1 1) (Some 84) 7 ≡ Some 484
+  -- a substitute whose offset is NULL takes the place of the feature all the same
+  pub null_substitute : varied_feature_of (varied 1 1) (Some 84) 0 ≡ None
+  pub not_substituted : varied_feature_of (words (1 ∷ 1 ∷ 0 ∷ 14 ∷ 0 ∷ 0 ∷ 0 ∷ 1 ∷ 0x6B65 ∷ 0x726E ∷ 8 ∷ 1 ∷ 0 ∷ 1 ∷ 9 ∷ [])) (Some 22) 0 ≡ Some 22
+  pub without_variations : varied_feature_of two_features None 1 ≡ Some 30
+
+pub worked_variations : WorkedVariations
+worked_variations = record {
+  first_record = refl;
+  null_set_holds = refl;
+  since_1_1 = refl;
+  other_version = refl;
+  other_substitution = refl;
+  no_variations = refl;
+  substitute = refl;
+  own_feature = refl;
+  second_substitute = refl;
+  null_substitute = refl;
+  not_substituted = refl;
+  without_variations = refl;
+}
