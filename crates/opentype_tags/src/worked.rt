@@ -1,5 +1,5 @@
 //! The definitions, computed on scripts and names that were worked by hand.
-ghost use Rattle.opentype_tags.specs.Worked.{WorkedScripts, WorkedLanguages};
+ghost use Rattle.opentype_tags.specs.Worked.Cases.{WorkedScripts, WorkedLanguages};
 
 /// Tags of scripts and of languages.
 pub fn tags_meet_worked_cases()
