@@ -27,7 +27,7 @@ fn number_of(argument: Option<String>) -> Option<u64> {
 }
 
 /// What the arguments ask for. None if they can't be read.
-fn asked(rt: &HostRuntime) -> io::Result<Option<Asked>> {
+fn read_arguments(rt: &HostRuntime) -> io::Result<Option<Asked>> {
     let mut arguments = env::args(rt)?.skip(1);
     let mut word = arguments.next();
     let lines = word.as_deref() == Some("lines");
@@ -50,7 +50,7 @@ fn asked(rt: &HostRuntime) -> io::Result<Option<Asked>> {
 }
 
 fn main(rt: HostRuntime) -> io::Result<ExitCode> {
-    let Some(asked) = asked(&rt)? else {
+    let Some(asked) = read_arguments(&rt)? else {
         println!(&rt; "test_programs [lines] [search SEED UNIVERSES]")?;
         return Ok(ExitCode::from(2));
     };
