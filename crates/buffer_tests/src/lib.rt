@@ -14,6 +14,8 @@ mod graphemes;
 #[cfg(test)]
 mod lines;
 #[cfg(test)]
+mod names;
+#[cfg(test)]
 mod no_memory;
 #[cfg(test)]
 mod numbers;
