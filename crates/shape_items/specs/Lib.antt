@@ -15,4 +15,5 @@ pub mod UnicodeProps
 pub mod Flags
 pub mod Prepared
 pub mod GlyphClusters
+pub mod WorkedMarking
 pub mod WorkedWords

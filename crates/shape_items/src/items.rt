@@ -78,9 +78,9 @@ impl hb_glyph_info_t {
     ///
     /// - First word: 0 to 7 category, 8 to 15 ccc, 16 to 23 space type, 24 ignorable, 25 hidden, 26 continuation,
     ///   27 ZWJ, 28 ZWNJ, 29 selector mark; 30 and 31 are 0.
-    /// - Second word: 0 to 3 glyph class, 4 substituted, 5 ligated; 6 to 15 are 0; 16 to 23 ligature id, 24 to 31
-    ///   component, 32 to 39 number of components, 40 to 47 syllable, 48 to 55 the shaper's category, 56 to 63 its
-    ///   auxiliary byte.
+    /// - Second word: 0 to 3 glyph class, 4 substituted, 5 ligated, 6 multiplied; 7 is 0; 8 to 15 mark attachment
+    ///   class, 16 to 23 ligature id, 24 to 31 component, 32 to 39 number of components, 40 to 47 syllable, 48 to
+    ///   55 the shaper's category, 56 to 63 its auxiliary byte.
     ///
     /// A category's number is its place among the variants, from 0.
     pub fn words(&self) -> (u32, u64)

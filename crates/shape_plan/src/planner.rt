@@ -64,7 +64,7 @@ pub struct hb_ot_shape_planner_t<'a, F, S> {
     pub direction: Direction,
     pub script: Option<Script>,
     /// The requests.
-    pub ot_map: hb_ot_map_builder_t,
+    pub ot_map: hb_ot_map_builder_t<'a>,
     /// Whether glyphs are substituted by the table `morx`.
     pub apply_morx: bool,
     /// Whether the given shaper wants marks to lose their advances.
@@ -121,7 +121,7 @@ impl<'a, F, S> hb_ot_shape_planner_t<'a, F, S> {
         shaper: &'a S,
         direction: Direction,
         script: Option<Script>,
-        language: Option<&Language>,
+        language: Option<&'a Language>,
     ) -> Self
     where
         U: hb_unicode_funcs_t,

@@ -10,9 +10,9 @@ use Rattle.std.specs.List.{list_any}
 use Rattle.shape_items.specs.Items.{Item, put_in, feature_bits}
 use Rattle.shape_items.specs.Clusters.{map_range, merge, least_cluster}
 use Rattle.shape_items.specs.Buffer.{Buffer}
-use Rattle.shape_items.specs.BufferClusters.{with_glyph_flags, merge_at, unsafe_to_break, merge_clusters, merge_out_clusters}
+use Rattle.shape_items.specs.BufferClusters.{with_glyph_flags, merge_at, unsafe_to_break, safe_to_insert_tatweel, merge_clusters, merge_out_clusters}
 use Rattle.shape_items.specs.KeepsFlags.{IsDefinedFlag, has_flag, some_has, has_glyph_flags, KeepsFlags}
-use Rattle.shape_items.proofs.Merging.ClusterLemmas.{grown_start, grown_end, merge-cases, unsafe_to_break-cases, merge_clusters-cases, merge_out-cases}
+use Rattle.shape_items.proofs.Merging.ClusterLemmas.{grown_start, grown_end, merge-cases, unsafe_to_break-cases, tatweel-cases, merge_clusters-cases, merge_out-cases}
 
 -- HAS_GLYPH_FLAGS is set
 pub glyph_flags_set : (b : Buffer) → has_glyph_flags (with_glyph_flags b) ≡ true
@@ -127,6 +127,10 @@ merge_at_keeps start end b = KeepsFlags-items b _ (λ flag d some. merge_brings_
 pub unsafe_to_break_keeps : (start end : ℕ) (b : Buffer) → KeepsFlags b (unsafe_to_break start end b)
 unsafe_to_break_keeps start end b =
     unsafe_to_break-cases (KeepsFlags b) start end b (λ long. KeepsFlags-set b _) (KeepsFlags-same b)
+
+pub safe_to_insert_tatweel_keeps : (start end : ℕ) (b : Buffer) → KeepsFlags b (safe_to_insert_tatweel start end b)
+safe_to_insert_tatweel_keeps start end b =
+    tatweel-cases (KeepsFlags b) start end b (λ long. KeepsFlags-set b _) (KeepsFlags-same b) (unsafe_to_break_keeps start end b)
 
 pub merge_clusters_keeps : (start end : ℕ) (b : Buffer) → KeepsFlags b (merge_clusters start end b)
 merge_clusters_keeps start end b =
