@@ -19,9 +19,9 @@ YARD = re.compile(r"^(test|bench)_|_(tests|bench)$|^test_worlds$|^unlawful_searc
 ITEM = re.compile(r"(pub )?(?:const )?(?:unsafe )?(fn|struct|enum|trait|const|static|type|mod) (\w+)")
 HEAD = """# Public items, by library
 
-Made by `tests/api-index.py` from the sources, lowest crate first; the gate checks that it isn't stale. Items stand under
-the module that a caller names, with the first sentence of their documentation and the names of their methods. What each
-promises stands in its contract; [PROMISES](PROMISES.md) is the index of these.
+Made by `tests/api-index.py` from the sources, lowest crate first; the gate checks that it isn't stale. Items stand
+under the module that a caller names, with the first sentence of their documentation and the names of their methods.
+What each promises stands in its contract; [PROMISES](PROMISES.md) is the index of these.
 """
 # The most constants of a module that are listed one by one.
 FEW = 8
