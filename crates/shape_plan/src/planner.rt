@@ -1,4 +1,4 @@
-//! The planner of a run: what it asks of the layout engine, and the plan that it makes of the answers.
+//! The planner of a run: what it asks of the layout engine, and the plan that it makes of the results.
 //!
 //! A plan is made in three steps. `new` asks what is known of the face and the shaper, and whether the
 //! shaper is kept: if `morx` substitutes, the face does a script's work itself. `collect_features` asks

@@ -5,7 +5,7 @@
 //! kit; where shaping differs from the database, as HarfBuzz does, a short table says so, in the module
 //! that its function stands in.
 //!
-//! The contracts say each answer in the words of the database (`specs/Meaning.antt`), and the laws of
+//! The contracts say each result in the words of the database (`specs/Meaning.antt`), and the laws of
 //! [`hb_unicode_funcs_t`](shape_buffer::interfaces::hb_unicode_funcs_t) are proved of all characters:
 //! they are computed over the rows of the database.
 //!

@@ -1,6 +1,6 @@
 //! Placing the marks of a base, one after the other.
 //!
-//! A mark stands beyond the marks of its ccc before it, so each hands on the base's extents, grown by it.
+//! A mark stands beyond the marks of its ccc before it, so each passes on the base's extents, grown by it.
 //! A mark of another ccc begins at the base's own extents again, and one of another component of a ligature
 //! at that component's. The pen has passed the base when it comes to the marks, so in forward text each is
 //! moved back by the advances since.

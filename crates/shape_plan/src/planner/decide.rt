@@ -1,4 +1,4 @@
-//! What a plan decides of what its planner knows and of the answers of face and engine.
+//! What a plan decides by what its planner, the face and the engine know.
 //!
 //! First all that the decisions depend on is asked, once; then each decision is a formula over it. They build
 //! on one another in this order: who positions (`GPOS` or `kerx`), who kerns if that leaves kerning out,
