@@ -1,4 +1,4 @@
-//! The definitions of normalising, computed on small cases whose answers are worked out by hand.
+//! The definitions of normalising, computed on small cases whose results were worked out by hand.
 ghost use Rattle.shape_normalize.specs.WorkedForm.{FormWorked};
 ghost use Rattle.shape_normalize.specs.WorkedHooks.{HooksWorked};
 ghost use Rattle.shape_normalize.specs.WorkedOne.{RoundOneWorked};

@@ -1,4 +1,4 @@
-//! What the steps keep of a buffer, as laws that spare callers proofs.
+//! What the steps preserve of a buffer, as laws that spare callers proofs.
 ghost use Rattle.shape_position.specs.Exact.{ExactAdvances, ExactMarkWidths};
 ghost use Rattle.shape_position.specs.Keepers.{StepsKeep};
 ghost use Rattle.shape_position.specs.OneTable.{EachRunsOneTable};

@@ -1,4 +1,4 @@
-//! What preparing keeps, as laws over all runs.
+//! What preparing preserves, as laws over all runs.
 ghost use Rattle.shape_prepare.specs.ClusterPoint.{PreparingKeepsOrder, PreparingKeepsFirsts};
 ghost use Rattle.shape_prepare.specs.KeptCharacters.{PreparingKeepsCharacters};
 ghost use Rattle.shape_prepare.specs.PreparedPoint.{PreparingPrepares};

@@ -1,4 +1,4 @@
-//! The definitions, computed on small cases whose answers are worked out by hand.
+//! The definitions, computed on small cases whose results were worked out by hand.
 ghost use Rattle.shape_prepare.specs.WorkedBegun.{WorkedBegun};
 ghost use Rattle.shape_prepare.specs.WorkedGraphemes.{WorkedGraphemes};
 ghost use Rattle.shape_prepare.specs.WorkedOrder.{WorkedOrder};
