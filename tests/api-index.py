@@ -15,7 +15,7 @@ from pathlib import Path
 
 ROOT = Path(__file__).resolve().parent.parent
 PAGE = ROOT / "docs" / "API.md"
-YARD = re.compile(r"^(test|bench)_|_(tests|bench)$|^test_worlds$|^unlawful_search$")
+YARD = re.compile(r"^(test|bench)_|_(tests|bench)$|^test_fixtures$|^unlawful_search$")
 ITEM = re.compile(r"(pub )?(?:const )?(?:unsafe )?(fn|struct|enum|trait|const|static|type|mod) (\w+)")
 HEAD = """# Public items, by library
 

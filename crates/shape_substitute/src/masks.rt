@@ -13,7 +13,7 @@ use shape_buffer::interfaces::{hb_font_t, hb_ot_layout_t, hb_unicode_funcs_t};
 use shape_plan::ot_shaper::hb_ot_shaper_t;
 use shape_plan::shaping_types::{Meaning, PlanOf, ShapingTypes};
 
-/// Calls the hook `setup_masks`, if the plan keeps the shaper and it is given.
+/// Calls the hook `setup_masks`, if the plan uses the shaper and it is given.
 pub fn setup_masks_shaper<T: ShapingTypes>(
     plan: &PlanOf<'_, T>,
     face: &T::Face,

@@ -12,7 +12,7 @@ ghost use Rattle.shape_users.specs.PlainGlyphs.{AreGlyphsOf, StringPasses};
 ghost use Rattle.shape_users.specs.Words.{spelled};
 
 use crate::plain_glyphs::text_of_str;
-use shape_pipeline::laws::{glyphs_can_be_cut, plain_runs_owe_nothing};
+use shape_pipeline::laws::{glyphs_can_be_cut, plain_runs_have_no_obligations};
 use shape_pipeline::lines::{Line, cut_lines};
 use shape_pipeline::ot_shaper::Runs;
 use shape_pipeline::{
@@ -55,7 +55,7 @@ where
         face.now DEFAULT_SHAPER [] (spelled text.now)) face.now in
         result ≡ Err ShapeError.Length → StringPasses run text.now }
 {
-    plain_runs_owe_nothing::<U, F>();
+    plain_runs_have_no_obligations::<U, F>();
     glyphs_can_be_cut();
     let text_end = text.len() as u32;
     let buffer = match text_of_str(alloc, text) {
