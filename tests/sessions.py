@@ -3,12 +3,14 @@
 
     tests/sessions.py [FILE ..]
 
-tests/sessions/README.md says how a session is written. If no file is named it takes all, and then runs the program
-with each of its reads failing in turn, and with each of its writes, until a run has no such call. It ends with status
-1 if something isn't as it should be, and says at which case or call.
+tests/sessions/README.md says how a session is written. If no file is named it takes all, then the inputs that fuzzing
+kept, in tests/fuzz, and then runs the program with each of its reads failing in turn, and with each of its writes,
+until a run has no such call. It ends with status 1 if something isn't as it should be, and says at which case, input
+or call.
 """
 import os
 import re
+import resource
 import subprocess
 import sys
 import tempfile
@@ -150,6 +152,27 @@ def run_sessions(files):
     return count > 0 and bad == 0
 
 
+def limit_processor_time():
+    """Ends a run by a signal after a second of processor time."""
+    resource.setrlimit(resource.RLIMIT_CPU, (1, 1))
+
+
+def run_fuzzed():
+    """Runs the inputs that fuzzing kept. Each ends within a second of processor time, never by a signal, and in one
+    of two ways: with status 0 and no error line, or with status 2 and the malformed line's number. Gives whether all do."""
+    inputs = sorted((TESTS / "fuzz").iterdir())
+    for file in inputs:
+        ended = subprocess.run([PROGRAM], input=file.read_bytes(), stdout=subprocess.PIPE, timeout=LIMIT,
+                               preexec_fn=limit_processor_time, check=False)
+        last = (ended.stdout.splitlines() or [b""])[-1]
+        wanted = 2 if last.startswith(b"error: line ") else None if last.startswith(b"error: ") else 0
+        if ended.returncode != wanted:
+            print(f"{file}: status {ended.returncode}, and the last line is {last!r}")
+            return False
+    print(f"fuzzing: {len(inputs)} inputs end as they should")
+    return len(inputs) > 0
+
+
 # Lines that only set something: more than 8 reads take, so that some stand in two of them.
 SET = b"glyph 0041 1 600\nglyph 0302 2 0\nglyph 0301 3 0\nglyph 00C2 4 600\n" * 1100
 
@@ -207,8 +230,8 @@ def main():
             subprocess.run(["rt", "run"], cwd=CRATE, stdin=reader, stdout=subprocess.DEVNULL, check=True)
     named = [Path(name) for name in sys.argv[1:]]
     sessions = run_sessions(named or sorted((TESTS / "sessions").glob("*.txt")))
-    failing = named or run_failing_calls()
-    sys.exit(0 if sessions and failing else 1)
+    others = named or all([run_fuzzed(), run_failing_calls()])
+    sys.exit(0 if sessions and others else 1)
 
 
 if __name__ == "__main__":

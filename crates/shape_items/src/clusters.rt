@@ -3,6 +3,10 @@
 //! A cluster leads from glyphs back to the text: glyphs of one cluster come from one piece of it. If
 //! items of several clusters are mixed they are merged into the least one, and so are the items beside
 //! them that stood in a cluster which is now partly gone.
+//!
+//! Merging depends on clusters alone, and is defined on items: the code counts and writes items,
+//! and a definition on the list of clusters would have to be tied to them. That an item stays
+//! except for its cluster and defined flags is one lemma either way.
 ghost use Rattle.std.specs.Prelude.{◌≡◌, ◌+◌, ◌≤◌, ◌<◌, length, map, slice_range};
 ghost use Rattle.std.specs.List.{prefix_len, suffix_len};
 ghost use Rattle.shape_items.specs.ClusterOrder.{PreservesClusters};

@@ -2,6 +2,9 @@
 //!
 //! The five fields are open to everybody; the named properties are read by `_hb_glyph_info_get_` and
 //! set by `_hb_glyph_info_set_`, each followed by the property's name.
+//!
+//! The ccc keeps rustybuzz's name in accessors, `modified_combining_class`; elsewhere "class" is
+//! a glyph's.
 ghost use Rattle.std.specs.Prelude.{◌≡◌};
 ghost use Rattle.bit_fields.specs.Fields.{fields};
 ghost use Rattle.shape_items.specs.UnicodeProps.{is_hidden_char};

@@ -3,6 +3,10 @@
 //! Contracts see the record `Properties` of `specs/Properties.antt` and never the storage, so the
 //! storage may change without a change of any clause. It is two words, of 32 and of 64 bits, in which each
 //! property has a field of its own (`specs/Words.antt`).
+//!
+//! Bits without use are 0 in every item, by the invariant of the words: only so do the properties
+//! decide the words. The second word is kept in two halves: a u64 is aligned by 8 bytes, and an
+//! item with it would take 40 bytes in place of 32. No field crosses the middle.
 ghost use Rattle.std.specs.Prelude.{◌≡◌, ◌&&◌, false, nat_le};
 ghost use Rattle.std.specs.Int.RustNames.{bit_and};
 ghost use Rattle.bit_fields.specs.Fields.{fields};

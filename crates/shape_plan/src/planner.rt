@@ -1,4 +1,4 @@
-//! The planner of a run: what it asks of the layout engine, and the plan that it makes of the answers.
+//! The planner of a run: what it asks of the layout engine, and the plan that it makes of the results.
 //!
 //! A plan is made in three steps. `new` asks what is known of the face and the shaper, and whether the
 //! shaper is used: if `morx` substitutes, the face does a script's work itself. `collect_features` asks
@@ -7,6 +7,10 @@
 //! overrides, which wins over the user's. `compile` has the engine compile the requests, and then
 //! decides who positions, kerns and places marks. All that depends on no text is decided here, once for
 //! every text that the plan fits.
+//!
+//! Planning takes memory, so `collect_features` and `compile` take the allocator, which they pass
+//! on to hooks and the engine. The planner borrows face and shaper for one lifetime, so a plan's
+//! face lives as long as the plan.
 ghost use Rattle.std.specs.Prelude.{◌≡◌, Option, OnOk, IsOkUnless, IfOk, IfErr, string_bytes};
 ghost use Rattle.std.specs.Option.{option_map};
 ghost use Rattle.shape_plan.specs.Planner.{begun_planner, collected_planner, compiled_plan};

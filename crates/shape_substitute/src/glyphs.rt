@@ -1,4 +1,4 @@
-//! Glyphs, as substitution finds them: the ones that the face returned, with a class each.
+//! Glyphs, as substitution finds them: those that the face returned, with a class each.
 //!
 //! Lookups may skip glyphs of a class. If a face doesn't say which glyphs are marks, the characters
 //! do: a nonspacing mark is one, except for default ignorables, which lookups are to see.

@@ -1,4 +1,8 @@
 //! The list of items that the stages of shaping work on, with its settings.
+//!
+//! Beside the list stands room for deletion, 8 bytes an item, in which it notes where runs of one
+//! cluster begin. The calls that grow the list grow it too, so deletion takes no memory and can't
+//! be refused.
 ghost use Rattle.std.specs.Prelude.{◌≡◌, ◌<◌, ◌↔◌, [], length, slice_set, IsTrue, Some};
 
 mod edits;

@@ -1,4 +1,7 @@
 //! What substitution notes of a glyph: its class, and whether and of what a lookup made it.
+//!
+//! The setter of the class drops bits that `GlyphPropsFlags` doesn't define, so it has no
+//! condition, whatever the storage.
 ghost use Rattle.std.specs.Prelude.{◌≡◌};
 ghost use Rattle.std.specs.Int.RustNames.{bit_and};
 ghost use Rattle.shape_items.specs.Items.{is_ignorable_item};

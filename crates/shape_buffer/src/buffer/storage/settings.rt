@@ -1,4 +1,7 @@
 //! The settings of a buffer: what its text is, what its caller asks of a run, and what the run has seen.
+//!
+//! A setting that may be unset is an `Option` in its setter as in its reader: a caller can unset
+//! what it has set.
 ghost use Rattle.std.specs.Prelude.{◌≡◌, ◌<◌, ◌≤◌, length, string_bytes};
 ghost use Rattle.std.specs.Option.{option_map};
 ghost use Rattle.shape_items.specs.Buffer.{next_ligature_id};
