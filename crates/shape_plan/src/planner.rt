@@ -61,14 +61,15 @@ impl<U: hb_unicode_funcs_t, F: hb_font_t, M: hb_ot_layout_t<F>, S: hb_ot_shaper_
     } };
 }
 
-/// A plan in the making, for one face, direction and script.
+/// A plan in the making, for one face, direction and script. `'a` is the time of face and shaper, which the plan
+/// refers to, and `'t` that of the language, which it doesn't.
 #[derive(Drop)]
-pub struct hb_ot_shape_planner_t<'a, F, S> {
+pub struct hb_ot_shape_planner_t<'a, 't, F, S> {
     pub face: &'a F,
     pub direction: Direction,
     pub script: Option<Script>,
     /// The requests.
-    pub ot_map: hb_ot_map_builder_t<'a>,
+    pub ot_map: hb_ot_map_builder_t<'t>,
     /// Whether glyphs are substituted by the table `morx`.
     pub apply_morx: bool,
     /// Whether the given shaper wants marks to lose their advances.
@@ -78,7 +79,7 @@ pub struct hb_ot_shape_planner_t<'a, F, S> {
     pub shaper: ChosenShaper<'a, S>,
 }
 
-impl<'a, F, S> Model for hb_ot_shape_planner_t<'a, F, S> {
+impl<'a, 't, F, S> Model for hb_ot_shape_planner_t<'a, 't, F, S> {
     ghost use Rattle.shape_plan.specs.Plan.{given_shaper};
     ghost use Rattle.shape_plan.specs.Planner.{Planner};
 
@@ -115,7 +116,7 @@ fn kept<'a, S>(apply_morx: bool, is_default: bool, shaper: &'a S) -> ChosenShape
     }
 }
 
-impl<'a, F, S> hb_ot_shape_planner_t<'a, F, S> {
+impl<'a, 't, F, S> hb_ot_shape_planner_t<'a, 't, F, S> {
     /// A planner without requests. Takes what the given shaper prefers for marks, before the shaper may give
     /// way to the one that knows no script.
     #[tactic(auto, unfolding(crate::specs::Planner::begun_planner))]
@@ -125,7 +126,7 @@ impl<'a, F, S> hb_ot_shape_planner_t<'a, F, S> {
         shaper: &'a S,
         direction: Direction,
         script: Option<Script>,
-        language: Option<&'a Language>,
+        language: Option<&'t Language>,
     ) -> Self
     where
         U: hb_unicode_funcs_t,

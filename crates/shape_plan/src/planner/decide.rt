@@ -63,7 +63,7 @@ fn disables_gpos<S>(
 /// All that the decisions of a planner depend on, with the compiled requests.
 #[tactic(auto, unfolding(crate::specs::Planner::facts_of))]
 pub(crate) fn facts<T: ShapingTypes>(
-    planner: &hb_ot_shape_planner_t<'_, T::Face, T::Shaper>,
+    planner: &hb_ot_shape_planner_t<'_, '_, T::Face, T::Shaper>,
     map: &MapOf<T>,
 ) -> PlanFacts
     ensures { result ≡ facts_of ⟦<T::Shaper as Plans<T::Unicode, T::Face, T::Engine>>⟧.planning
