@@ -2,7 +2,8 @@
 """Writes docs/API.md, the public items of each library, from the sources.
 
     tests/api-index.py            writes the page
-    tests/api-index.py --check    ends with status 1 if the page isn't what it would write
+    tests/api-index.py --check    ends with status 1 if the page isn't what it would write, or if the table of must-fail edits
+                                  in docs/TESTING.md doesn't name exactly those that there are
 
 An item is public if every module on its path is, or if a `pub use` of such a module names it. Crates of tests and of benches
 are left out, and so are programs.
@@ -15,6 +16,7 @@ from pathlib import Path
 
 ROOT = Path(__file__).resolve().parent.parent
 PAGE = ROOT / "docs" / "API.md"
+TESTING = ROOT / "docs" / "TESTING.md"
 YARD = re.compile(r"^(test|bench)_|_(tests|bench)$|^test_fixtures$|^unlawful_search$")
 ITEM = re.compile(r"(pub )?(?:const )?(?:unsafe )?(fn|struct|enum|trait|const|static|type|mod) (\w+)")
 HEAD = """# Public items, by library
@@ -189,13 +191,31 @@ def page():
     return "\n".join(lines).rstrip("\n") + "\n"
 
 
+def edits_of_page():
+    """The must-fail edits that docs/TESTING.md names; a row without a crate goes on with the one above."""
+    named, crate = set(), ""
+    for row in re.finditer(r"^\| (?:`(\w+)` )?\| `(\w+)` \| [^|]* \|$", TESTING.read_text(), re.M):
+        crate = row.group(1) or crate
+        named.add(f"{crate}/{row.group(2)}")
+    return named
+
+
+def check():
+    """What is stale, a line each."""
+    stale = []
+    if not PAGE.exists() or PAGE.read_text() != page():
+        stale.append("docs/API.md: run tests/api-index.py")
+    edits = {f"{edit.parent.parent.name}/{edit.stem}" for edit in ROOT.glob("crates/*/must-fail/*.edit")}
+    stale += [f"docs/TESTING.md lacks the edit {edit}" for edit in sorted(edits - edits_of_page())]
+    stale += [f"docs/TESTING.md names an edit that isn't there: {edit}" for edit in sorted(edits_of_page() - edits)]
+    return stale
+
+
 def main():
     if sys.argv[1:] == ["--check"]:
-        if PAGE.exists() and PAGE.read_text() == page():
-            print("api-index: docs/API.md is up to date")
-            return 0
-        print("api-index: docs/API.md is stale: run tests/api-index.py")
-        return 1
+        stale = check()
+        print("\n".join(stale) if stale else "api-index: the pages are up to date")
+        return 1 if stale else 0
     PAGE.write_text(page())
     return 0
 
