@@ -8,7 +8,7 @@
 ghost use Rattle.std.specs.Prelude.{◌<◌, ◌^◌, pos, length, IfOk};
 ghost use Rattle.shape_lines.specs.RightLines.{AreRightLines};
 
-use shape_pipeline::laws::{glyphs_can_be_cut, plain_runs_owe_nothing};
+use shape_pipeline::laws::{glyphs_can_be_cut, plain_runs_have_no_obligations};
 use shape_pipeline::lines::{Line, cut_lines};
 use shape_pipeline::{
     DEFAULT_SHAPER, GlyphBuffer, NoLookups, ShapeError, UnicodeBuffer, hb_default_shaper_t,
@@ -40,7 +40,7 @@ where
     ensures { IfOk result (λ shaped.
         AreRightLines shaped.glyphs (length text.now) (pos width) shaped.lines.items) }
 {
-    plain_runs_owe_nothing::<U, F>();
+    plain_runs_have_no_obligations::<U, F>();
     glyphs_can_be_cut();
     let text_end = text.len() as u32;
     let mut buffer = UnicodeBuffer::new(alloc);

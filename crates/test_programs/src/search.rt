@@ -7,6 +7,7 @@
 
 mod change;
 mod face;
+mod hook_requests;
 mod layout;
 mod normalising;
 mod planning;
@@ -14,7 +15,6 @@ mod promise;
 mod shaper;
 mod universe;
 mod verdict;
-mod wishes;
 
 use crate::search::promise::Promise;
 use crate::search::universe::Dice;

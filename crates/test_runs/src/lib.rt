@@ -30,6 +30,8 @@ mod normalising;
 #[cfg(test)]
 mod placing;
 #[cfg(test)]
+mod preferences;
+#[cfg(test)]
 mod premises;
 #[cfg(test)]
 mod preparing;
@@ -49,5 +51,3 @@ mod texts;
 mod unlawful;
 #[cfg(test)]
 mod users;
-#[cfg(test)]
-mod wishes;

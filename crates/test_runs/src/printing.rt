@@ -5,7 +5,7 @@
 //! `+` stands after a character that continues a grapheme, if there is one in the answer, and `~` after each that
 //! is hidden. A direction stands before the items if the answer begins with one: `ltr`, `rtl`, `ttb` or `btt`.
 //!
-//! A glyph is printed as `test_worlds` has it, with its advances and offsets, and with its mask if that isn't 0:
+//! A glyph is printed as `test_fixtures` has it, with its advances and offsets, and with its mask if that isn't 0:
 //! `2@1(0,0,-450,112)/1`.
 //!
 //! What is printed is handed over: a function that has to drop a list is slow to prove, and these do it once.
@@ -14,7 +14,7 @@ use crate::cases::cut_off;
 use crate::comparing::position_at;
 use shape_buffer::buffer::{Direction, GlyphBuffer, GlyphPosition, hb_buffer_t, hb_glyph_info_t};
 use std::process::Abort;
-use test_worlds::printing;
+use test_fixtures::printing;
 
 /// The name of a direction.
 fn name_of(direction: Direction) -> &'static str {

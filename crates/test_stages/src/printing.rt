@@ -2,7 +2,7 @@
 
 use shape_buffer::buffer::hb_glyph_info_t;
 use std::alloc::AllocError;
-use test_worlds::printing::{append_glyph, append_mask};
+use test_fixtures::printing::{append_glyph, append_mask};
 
 /// Prints what is asked of each item: see [`print_item`].
 pub fn print_items(

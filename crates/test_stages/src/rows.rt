@@ -1,13 +1,13 @@
 //! What the tests of stages share: what cases are asked of, and the words of cases.
 //!
-//! A row is `CASE -> ANSWER`, as `test_worlds` reads it. A test prints what it found for the case, and compares that with
+//! A row is `CASE -> ANSWER`, as `test_fixtures` reads it. A test prints what it found for the case, and compares that with
 //! the answer as text. Words are separated by one space, and numbers are hexadecimal if nothing else is said. What
 //! can't be read ends the test, and so does a text without rows.
 use shape_buffer::buffer::{Direction, Feature, hb_buffer_t, hb_glyph_info_t, hb_tag_t};
 use std::alloc::{AllocError, Global};
 use std::fmt::Debug;
 use std::process::Abort;
-use test_worlds::cases::case_of;
+use test_fixtures::cases::case_of;
 
 /// What a test is handed: memory, and an end if something isn't as it should be.
 pub trait Host: Abort + Alloc<A = Global> {}

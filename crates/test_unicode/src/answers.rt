@@ -1,11 +1,11 @@
-//! What Unicode functions answer, beside rows of text.
+//! What Unicode functions return, beside rows of text.
 
 use crate::comparing::{assert_row, character, number, parts, rows_of};
 use shape_buffer::buffer::{Direction, Script, hb_tag_t};
 use shape_buffer::interfaces::hb_unicode_funcs_t;
 use shape_buffer::interfaces::space_types::NOT_SPACE;
 use std::process::Abort;
-use test_worlds::cases::case_of;
+use test_fixtures::cases::case_of;
 
 /// A question to Unicode functions: about a character, a script, or two characters with a `+` between them.
 #[derive(Clone, Copy)]
@@ -48,7 +48,7 @@ fn pair(rt: &impl Abort, word: &str) -> (char, char) {
     (character(rt, a), character(rt, b))
 }
 
-/// What the functions answer.
+/// What the functions return.
 fn answer_of<U: hb_unicode_funcs_t>(rt: &impl Abort, question: Question, word: &str) -> Answer {
     match question {
         Question::DirectionOfScript => Answer::Direction(U::script_direction(script_of(rt, word))),

@@ -14,7 +14,7 @@ use shape_users::hebrew::HebrewShaper;
 use shape_users::ligatures::Ligatures;
 use std::alloc::Global;
 use std::process::Abort;
-use test_worlds::printing::append_glyph;
+use test_fixtures::printing::append_glyph;
 
 /// Asserts what no later call of a test relies on. The proof of a test takes a second for each `assert!` of its own,
 /// and next to nothing for a call of this, since it has no contract.

@@ -12,7 +12,7 @@ use std::alloc::Global;
 use std::fmt::Display;
 use std::process::Abort;
 use std::test::Fail;
-use test_worlds::cases::case_of;
+use test_fixtures::cases::case_of;
 
 /// Two letters, a space and a letter: they end at 600, 1100, 1350 and 1650.
 const TEXT: &str = "0/0+600,-601 1/0+500,-501 2/0+250,-251 3/0+300,-301";

@@ -9,7 +9,7 @@ use shape_buffer::buffer::{
 };
 use shape_buffer::cluster_laws::clusters_have_one_set_of_flags;
 use std::process::Abort;
-use test_worlds::cases::case_of;
+use test_fixtures::cases::case_of;
 
 #[test]
 fn numbered_clusters(rt: HostRuntime) {

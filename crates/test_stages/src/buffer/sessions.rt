@@ -22,7 +22,7 @@ use crate::buffer::support::{
 };
 use shape_buffer::buffer::{BufferFlags, GlyphPosition, hb_buffer_t, hb_glyph_info_t};
 use std::process::Abort;
-use test_worlds::cases::case_of;
+use test_fixtures::cases::case_of;
 
 /// Whether no span begins before the one before it, and none ends past the items.
 fn are_in_order(spans: &[(usize, usize)], from: usize, size: usize) -> bool

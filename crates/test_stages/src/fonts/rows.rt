@@ -10,7 +10,7 @@ use shape_buffer::buffer::Feature;
 use shape_font::FontFace;
 use std::alloc::Global;
 use std::process::Abort;
-use test_worlds::cases::case_of;
+use test_fixtures::cases::case_of;
 
 /// What the tests' font is asked by cases. The function that compares the answer says how the two are written.
 #[derive(Clone, Copy)]

@@ -5,7 +5,7 @@ use crate::comparing::{assert_same, number};
 use shape_buffer::interfaces::hb_unicode_funcs_t;
 use shape_unicode::UnicodeDatabase;
 use std::process::Abort;
-use test_worlds::cases::case_of;
+use test_fixtures::cases::case_of;
 use ucd_normal::canonical_combining_class;
 
 #[test]
