@@ -1,6 +1,7 @@
 #!/usr/bin/env python3
-"""Makes the tests' font, seven glyphs of boxes, from nothing: writes it beside itself, as tiny.ttf, and as text to the
-crate `test_stages`. It is under this repository's licence.
+"""Makes the tests' fonts, of seven and eight glyphs of boxes, from nothing. It writes `tiny.ttf` beside itself and, as
+text, to the crate `test_stages`; and to tests/fontshape `tall.ttf`, which has metrics of vertical lines, a dotted circle
+and its kerning in GPOS too, and `two.ttc`, a collection of both. They are under this repository's licence.
 
 Each glyph is a rectangle, except for the space, which is empty, and Aacute, which is made of two others.
 """
@@ -22,6 +23,11 @@ LONG_METRICS = 6
 PLANE_0 = {0x20: 1, 0x41: 2, 0x42: 3, 0xC1: 5, 0x301: 4}
 WHOLE = {**PLANE_0, 0x1F600: 6}
 PAIRS = {(2, 3): -50, (3, 2): -35}  # AB, BA
+# what the tall font has besides: a dotted circle, and for each glyph how far it moves down and the room over its box
+CIRCLE = ("dottedcircle", 610, (50, 0, 550, 500), ())
+DOWN = [(900, 50), (910, 60), (920, 70), (None, 80), (None, 90), (None, 100), (None, 110), (None, 120)]
+LONG_DOWN = 3
+IN_GPOS = (2, 3, -80)  # AB
 # by selector: characters that look as they do alone, and glyphs of their own
 VARIANTS = {0xFE00: ([0x41], {}), 0xFE01: ([], {0x41: 6})}
 
@@ -84,8 +90,8 @@ def sequences(variants):
     return struct.pack(">H2I", 14, at + len(data), len(variants)) + records + data
 
 
-def cmap():
-    tables = [((0, 5), sequences(VARIANTS)), ((3, 1), segments(PLANE_0)), ((3, 10), groups(WHOLE))]
+def cmap(plane_0, whole):
+    tables = [((0, 5), sequences(VARIANTS)), ((3, 1), segments(plane_0)), ((3, 10), groups(whole))]
     records, data, at = b"", b"", 4 + 8 * len(tables)
     for key, table in tables:
         records += struct.pack(">2HI", *key, at + len(data))
@@ -93,12 +99,16 @@ def cmap():
     return struct.pack(">2H", 0, len(tables)) + records + data
 
 
-def hmtx():
+def hmtx(glyphs):
     data = b""
-    for at, (_, advance, box, _) in enumerate(GLYPHS):
+    for at, (_, advance, box, _) in enumerate(glyphs):
         bearing = box[0] if box else 0
         data += struct.pack(">Hh", advance, bearing) if at < LONG_METRICS else struct.pack(">h", bearing)
     return data
+
+
+def vmtx():
+    return b"".join(struct.pack(">h", bearing) if advance is None else struct.pack(">Hh", advance, bearing) for advance, bearing in DOWN)
 
 
 def kern():
@@ -109,34 +119,73 @@ def kern():
     return struct.pack(">2H3H", 0, 1, 0, 14 + len(rows), 1) + head + rows
 
 
-def post():
-    names = b"".join(bytes([len(name)]) + name.encode() for name, _, _, _ in GLYPHS)
-    indexes = struct.pack(">%dH" % len(GLYPHS), *range(258, 258 + len(GLYPHS)))
-    return struct.pack(">2I2h5I", 0x20000, 0, -100, 50, 0, 0, 0, 0, 0) + struct.pack(">H", len(GLYPHS)) + indexes + names
+def gpos():
+    """One lookup of one pair, for the feature `kern` of every script."""
+    left, right, by = IN_GPOS
+    scripts = struct.pack(">H4sH", 1, b"DFLT", 8) + struct.pack(">2H", 4, 0) + struct.pack(">4H", 0, 0xFFFF, 1, 0)
+    features = struct.pack(">H4sH", 1, b"kern", 8) + struct.pack(">3H", 0, 1, 0)
+    coverage, pairs = struct.pack(">3H", 1, 1, left), struct.pack(">2Hh", 1, right, by)
+    subtable = struct.pack(">6H", 1, 12, 4, 0, 1, 12 + len(coverage)) + coverage + pairs
+    lookups = struct.pack(">2H", 1, 4) + struct.pack(">4H", 2, 0, 1, 8) + subtable
+    at = 10 + len(scripts)
+    return struct.pack(">5H", 1, 0, 10, at, at + len(features)) + scripts + features + lookups
 
 
-def font():
-    outlines = [outline(box, parts) for _, _, box, parts in GLYPHS]
+def post(glyphs):
+    names = b"".join(bytes([len(name)]) + name.encode() for name, _, _, _ in glyphs)
+    indexes = struct.pack(">%dH" % len(glyphs), *range(258, 258 + len(glyphs)))
+    return struct.pack(">2I2h5I", 0x20000, 0, -100, 50, 0, 0, 0, 0, 0) + struct.pack(">H", len(glyphs)) + indexes + names
+
+
+def tables_of(glyphs, plane_0, whole):
+    outlines = [outline(box, parts) for _, _, box, parts in glyphs]
     places = [sum(map(len, outlines[:at])) for at in range(len(outlines) + 1)]
-    tables = {
-        b"cmap": cmap(),
+    return {
+        b"cmap": cmap(plane_0, whole),
         b"glyf": b"".join(outlines),
         b"head": struct.pack(">2I2I2H2Q4h2H3h", 0x10000, 0x10000, 0, 0x5F0F3CF5, 3, UNITS_PER_EM, 0, 0,
                              -30, -200, 970, 900, 0, 8, 2, 0, 0),
         b"hhea": struct.pack(">I3hH11hH", 0x10000, 800, -200, 90, 640, -30, 0, 970, 1, 0, 0, 0, 0, 0, 0, 0, LONG_METRICS),
-        b"hmtx": hmtx(),
+        b"hmtx": hmtx(glyphs),
         b"kern": kern(),
         b"loca": struct.pack(">%dH" % len(places), *(place // 2 for place in places)),
-        b"maxp": struct.pack(">I14H", 0x10000, len(GLYPHS), 4, 1, 8, 2, 1, 0, 0, 0, 0, 0, 0, 2, 1),
-        b"post": post(),
+        b"maxp": struct.pack(">I14H", 0x10000, len(glyphs), 4, 1, 8, 2, 1, 0, 0, 0, 0, 0, 0, 2, 1),
+        b"post": post(glyphs),
     }
-    records, data, at = b"", b"", 12 + 16 * len(tables)
+
+
+def tiny():
+    return tables_of(GLYPHS, PLANE_0, WHOLE)
+
+
+def tall():
+    tables = tables_of(GLYPHS + [CIRCLE], {**PLANE_0, 0x25CC: 7}, {**WHOLE, 0x25CC: 7})
+    tables[b"GPOS"] = gpos()
+    tables[b"vhea"] = struct.pack(">I3hH11hH", 0x10000, 500, -500, 0, 920, 50, 0, 970, 0, 0, 0, 0, 0, 0, 0, 0, LONG_DOWN)
+    tables[b"vmtx"] = vmtx()
+    return tables
+
+
+def file_of(tables, begin=0):
+    """A font of these tables that begins at this place of its file."""
+    records, data, at = b"", b"", begin + 12 + 16 * len(tables)
     for tag, table in sorted(tables.items()):
         padded = table + bytes(-len(table) % 4)
         total = sum(struct.unpack(">%dI" % (len(padded) // 4), padded)) % 2**32
         records += struct.pack(">4s3I", tag, total, at + len(data), len(table))
         data += padded
-    return struct.pack(">I4H", 0x10000, len(tables), 128, 3, 16 * len(tables) - 128) + records + data
+    power = 1 << (len(tables).bit_length() - 1)
+    head = struct.pack(">I4H", 0x10000, len(tables), 16 * power, power.bit_length() - 1, 16 * (len(tables) - power))
+    return head + records + data
+
+
+def collection(fonts):
+    begin = 12 + 4 * len(fonts)
+    places, data = [], b""
+    for tables in fonts:
+        places.append(begin + len(data))
+        data += file_of(tables, begin + len(data))
+    return struct.pack(">4s2HI", b"ttcf", 1, 0, len(fonts)) + b"".join(struct.pack(">I", place) for place in places) + data
 
 
 def as_text(data):
@@ -145,14 +194,19 @@ def as_text(data):
 
 
 def main():
-    here = os.path.dirname(os.path.abspath(__file__))
-    data = font()
-    with open(os.path.join(here, "tiny.ttf"), "wb") as file:
-        file.write(data)
-    with open(os.path.join(here, "../../test_stages/src/fonts/tiny.rt"), "w") as file:
+    top = os.path.join(os.path.dirname(os.path.abspath(__file__)), "../../..")
+    files = {
+        "crates/fontshape/data/tiny.ttf": file_of(tiny()),
+        "tests/fontshape/tall.ttf": file_of(tall()),
+        "tests/fontshape/two.ttc": collection([tiny(), tall()]),
+    }
+    for name, data in files.items():
+        with open(os.path.join(top, name), "wb") as file:
+            file.write(data)
+        print(name, len(data), "bytes")
+    with open(os.path.join(top, "crates/test_stages/src/fonts/tiny.rt"), "w") as file:
         file.write("//! The font that crates/fontshape/data/tiny-font.py makes: its bytes, 32 a row, by two digits each.\n\n")
-        file.write('pub const DIGITS: &str = "\\\n%s";\n' % as_text(data))
-    print(len(data), "bytes")
+        file.write('pub const DIGITS: &str = "\\\n%s";\n' % as_text(file_of(tiny())))
 
 
 if __name__ == "__main__":

@@ -81,13 +81,21 @@ fn check_fits<T: ShapingTypes>(rt: &(impl Abort + AllocGlobal), plan: &PlanOf<'_
     assert_fits::<T>(rt, plan, empty(rt, latin(), Direction::RightToLeft), false);
 }
 
-/// Compares what a builder of requests knows before there are any: how many there are, whether it is simple, and
-/// whether it chose a script.
+/// Compares what a builder of requests knows before there are any: how many there are, whether it is simple, whether it
+/// chose a script, and the language.
 fn check_without_requests<T: ShapingTypes>(rt: &(impl Abort + AllocGlobal), face: &T::Face) {
-    let builder = hb_ot_map_builder_t::new::<T::Face, T::Engine>(rt.alloc(), face, latin(), None);
+    let language = Language(String::from_str(rt.alloc(), "en").expect(rt, "error"));
+    let builder = hb_ot_map_builder_t::new::<T::Face, T::Engine>(
+        rt.alloc(),
+        face,
+        latin(),
+        Some(&language),
+    );
     let chosen = builder.chosen_script(TableIndex::GPOS).is_some();
     let found = (builder.requests().len(), builder.is_simple(), chosen);
     assert_same(rt, found, (0, true, false));
+    let kept = builder.language().map(|language| language.0.as_str());
+    assert_same(rt, kept, Some("en"));
 }
 
 /// Compares what a plan in English is for, and that it has a shaper and no data.

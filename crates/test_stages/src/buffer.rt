@@ -6,6 +6,7 @@ mod clusters;
 mod deletion;
 mod graphemes;
 mod lines;
+mod names;
 mod no_memory;
 mod numbers;
 mod reaches;

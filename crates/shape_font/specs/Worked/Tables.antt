@@ -54,6 +54,7 @@ pub record WorkedDirectory : Type 0 where
   pub as_it_is : bytes_of (two_tables 2) 0 0x41412020 ≡ 11 ∷ 12 ∷ []
   pub empty : bytes_of (two_tables 2) 0 0x43432020 ≡ []
   pub whole : part_of (11 ∷ 12 ∷ []) 0 2 ≡ Some (11 ∷ 12 ∷ [])
+  pub cut_off : table_of (header 1 ++ 65 ∷ 65 ∷ 32 ∷ 32 ∷ []) 0 0x41412020 ≡ None
 
 pub worked_directory : WorkedDirectory
 worked_directory = record {
@@ -69,6 +70,7 @@ worked_directory = record {
   as_it_is = refl;
   empty = refl;
   whole = refl;
+  cut_off = refl;
 }
 
 -- a collection of two fonts, at 300 and 65536
@@ -98,9 +100,12 @@ worked_collections = record {
 abbrev pub one_subtable : ℕ → ℕ → List ℕ
 one_subtable platform encoding = 0 ∷ 0 ∷ 0 ∷ 1 ∷ 0 ∷ platform ∷ 0 ∷ encoding ∷ 0 ∷ 0 ∷ 0 ∷ 12 ∷ 77 ∷ []
 
+abbrev pub stated_subtables : ℕ → ℕ → ℕ → ℕ → ℕ → List ℕ
+stated_subtables count platform encoding second_platform second_encoding =
+    0 ∷ 0 ∷ 0 ∷ count ∷ 0 ∷ platform ∷ 0 ∷ encoding ∷ 0 ∷ 0 ∷ 0 ∷ 20 ∷ 0 ∷ second_platform ∷ 0 ∷ second_encoding ∷ 0 ∷ 0 ∷ 0 ∷ 21 ∷ 77 ∷ 78 ∷ []
+
 abbrev pub two_subtables : ℕ → ℕ → ℕ → ℕ → List ℕ
-two_subtables platform encoding second_platform second_encoding =
-    0 ∷ 0 ∷ 0 ∷ 2 ∷ 0 ∷ platform ∷ 0 ∷ encoding ∷ 0 ∷ 0 ∷ 0 ∷ 20 ∷ 0 ∷ second_platform ∷ 0 ∷ second_encoding ∷ 0 ∷ 0 ∷ 0 ∷ 21 ∷ 77 ∷ 78 ∷ []
+two_subtables = stated_subtables 2
 
 pub record WorkedSubtables : Type 0 where
   pub found : subtable_of (one_subtable 3 1) 0x30001 ≡ Some (77 ∷ [])
@@ -121,6 +126,7 @@ pub record WorkedSubtables : Type 0 where
   pub offset_past_the_end : subtable_of (0 ∷ 0 ∷ 0 ∷ 1 ∷ 0 ∷ 3 ∷ 0 ∷ 1 ∷ 0 ∷ 0 ∷ 0 ∷ 99 ∷ 77 ∷ []) 0x30001 ≡ Some []
   pub symbols : symbols_of (two_subtables 3 1 3 0) ≡ true
   pub no_symbols : symbols_of (two_subtables 3 1 3 10) ≡ false
+  pub past_the_count : subtable_of (stated_subtables 1 3 1 3 10) 0x3000A ≡ None
 
 pub worked_subtables : WorkedSubtables
 worked_subtables = record {
@@ -142,4 +148,5 @@ worked_subtables = record {
   offset_past_the_end = refl;
   symbols = refl;
   no_symbols = refl;
+  past_the_count = refl;
 }

@@ -172,11 +172,13 @@ fn properties(rt: HostRuntime) {
         item._hb_glyph_info_get_zwnj(),
         item._hb_glyph_info_get_substituted(),
         item._hb_glyph_info_get_ligated(),
+        item._hb_glyph_info_get_multiplied(),
     ];
-    assert_same(&rt, set, [true; 9]);
+    assert_same(&rt, set, [true; 10]);
     let numbers = [
         item._hb_glyph_info_get_modified_combining_class(),
         item._hb_glyph_info_get_space_type(),
+        item._hb_glyph_info_get_mark_attachment_class(),
         item._hb_glyph_info_get_ligature_id(),
         item._hb_glyph_info_get_ligature_component(),
         item._hb_glyph_info_get_number_of_components(),
@@ -184,7 +186,7 @@ fn properties(rt: HostRuntime) {
         item._hb_glyph_info_get_shaper_category(),
         item._hb_glyph_info_get_shaper_auxiliary(),
     ];
-    assert_same(&rt, numbers, [230, 16, 7, 2, 3, 200, 11, 12]);
+    assert_same(&rt, numbers, [230, 16, 4, 7, 2, 3, 200, 11, 12]);
     assert_same(&rt, item.cluster, 3);
 }
 
@@ -211,4 +213,21 @@ fn items_are_exchanged_with_their_positions(rt: HostRuntime) {
     assert_flags(&rt, 4, (false, false, true));
     assert_flags(&rt, 2, (false, true, false));
     assert_flags(&rt, 1, (true, false, false));
+}
+
+/// Ligature ids go from 1 to 7, and begin again with 1 after 7 and in a run.
+#[test]
+fn ligature_ids_go_round(rt: HostRuntime) {
+    let mut buffer = hb_buffer_t::new(rt.alloc());
+    assert_same(&rt, buffer.serial(), 0);
+    for id in [1, 2, 3, 4, 5, 6, 7, 1, 2] {
+        assert_same(&rt, buffer.allocate_lig_id(), id);
+    }
+    assert_same(&rt, buffer.serial(), 2);
+    buffer.enter();
+    assert_same(&rt, buffer.allocate_lig_id(), 1);
+    buffer.set_serial(6);
+    assert_same(&rt, buffer.allocate_lig_id(), 7);
+    buffer.reset();
+    assert_same(&rt, buffer.serial(), 0);
 }

@@ -70,3 +70,14 @@ fn unsafe_to_concat_where_asked_for(rt: HostRuntime) {
          characters | 4/8 2/4 6/0 6/0 | concat 1..3 -> 4/8 2/4 6/0 6/0",
     );
 }
+
+/// In the first two rows it is asked for; the span of the second one has one item.
+#[test]
+fn safe_to_insert_tatweel_where_asked_for(rt: HostRuntime) {
+    check_rows(
+        &rt,
+        "monotone | 4/8 2/2 6/0 6/0 | elongating, tatweel 0..3 -> 4/12 2/2 6/4 6/0 flags 32
+         characters | 4/8 2/4 6/0 6/0 | elongating, tatweel 2..3 -> 4/8 2/4 6/0 6/0
+         graphemes | 4/8 2/4 6/0 6/0 | asked, tatweel 0..3 -> 4/11 2/4 6/3 6/0 flags 32",
+    );
+}

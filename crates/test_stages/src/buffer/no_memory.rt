@@ -197,6 +197,8 @@ fn count_properties(item: &hb_glyph_info_t) -> usize {
         item._hb_glyph_info_get_glyph_class() != GlyphPropsFlags(0),
         item._hb_glyph_info_get_substituted(),
         item._hb_glyph_info_get_ligated(),
+        item._hb_glyph_info_get_multiplied(),
+        item._hb_glyph_info_get_mark_attachment_class() != 0,
         item._hb_glyph_info_get_ligature_id() != 0,
         item._hb_glyph_info_get_ligature_component() != 0,
         item._hb_glyph_info_get_number_of_components() != 1,
@@ -245,7 +247,7 @@ fn filled_and_used(rt: HostRuntime) {
     buffer.enter();
     set_all(&mut buffer, language);
     assert_same(&rt, count_settings(&buffer), 11);
-    assert_same(&rt, count_properties(&with_every_property()), 19);
+    assert_same(&rt, count_properties(&with_every_property()), 21);
     guess(&rt, &mut buffer);
     merge_and_mark(&mut buffer, BufferClusterLevel::Characters);
     merge_and_mark(&mut buffer, BufferClusterLevel::MonotoneCharacters);

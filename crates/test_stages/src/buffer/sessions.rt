@@ -70,6 +70,7 @@ fn make_on_span(
         "merge_out" => buffer.merge_out_clusters(start, end),
         "break" => buffer.unsafe_to_break(start, end),
         "concat" => buffer.unsafe_to_concat(start, end),
+        "tatweel" => buffer.safe_to_insert_tatweel(start, end),
         _ => panic!(rt; "no call {call}"),
     }
 }
@@ -150,6 +151,7 @@ fn make(rt: &(impl Abort + AllocGlobal), buffer: &mut hb_buffer_t, call: &str) {
         "graphemes" => buffer.merge_graphemes(),
         "delete" => delete(buffer),
         "asked" => buffer.set_flags(BufferFlags::PRODUCE_UNSAFE_TO_CONCAT),
+        "elongating" => buffer.set_flags(BufferFlags::PRODUCE_SAFE_TO_INSERT_TATWEEL),
         "enter" => buffer.enter(),
         "leave" => buffer.leave(),
         "spans" => merge_spans(rt, buffer, operands, false),

@@ -172,6 +172,8 @@ pub fn with_every_property() -> hb_glyph_info_t {
     item._hb_glyph_info_set_glyph_class(GlyphPropsFlags::MARK);
     item._hb_glyph_info_set_substituted(true);
     item._hb_glyph_info_set_ligated(true);
+    item._hb_glyph_info_set_multiplied(true);
+    item._hb_glyph_info_set_mark_attachment_class(4);
     item._hb_glyph_info_set_ligature_id(7);
     item._hb_glyph_info_set_ligature_component(2);
     item._hb_glyph_info_set_number_of_components(3);

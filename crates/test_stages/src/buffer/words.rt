@@ -5,12 +5,12 @@ use shape_buffer::buffer::{GlyphPropsFlags, hb_glyph_info_t, hb_unicode_general_
 use std::test::Fail;
 
 /// The greatest value of each property; the least is 0.
-const GREATEST: [u32; 18] = [
-    29, 255, 255, 1, 1, 1, 1, 1, 1, 14, 1, 1, 255, 255, 255, 255, 255, 255,
+const GREATEST: [u32; 20] = [
+    29, 255, 255, 1, 1, 1, 1, 1, 1, 14, 1, 1, 1, 255, 255, 255, 255, 255, 255, 255,
 ];
 
 /// All properties as numbers, in the order of the words.
-fn values(item: &hb_glyph_info_t) -> [u32; 18] {
+fn values(item: &hb_glyph_info_t) -> [u32; 20] {
     [
         item._hb_glyph_info_get_general_category() as u32,
         u32::from(item._hb_glyph_info_get_modified_combining_class()),
@@ -24,6 +24,8 @@ fn values(item: &hb_glyph_info_t) -> [u32; 18] {
         u32::from(item._hb_glyph_info_get_glyph_class().0),
         u32::from(item._hb_glyph_info_get_substituted()),
         u32::from(item._hb_glyph_info_get_ligated()),
+        u32::from(item._hb_glyph_info_get_multiplied()),
+        u32::from(item._hb_glyph_info_get_mark_attachment_class()),
         u32::from(item._hb_glyph_info_get_ligature_id()),
         u32::from(item._hb_glyph_info_get_ligature_component()),
         u32::from(item._hb_glyph_info_get_number_of_components()),
@@ -62,11 +64,13 @@ fn set_in_second(item: &mut hb_glyph_info_t, property: usize, greatest: bool) {
         9 => item._hb_glyph_info_set_glyph_class(class),
         10 => item._hb_glyph_info_set_substituted(greatest),
         11 => item._hb_glyph_info_set_ligated(greatest),
-        12 => item._hb_glyph_info_set_ligature_id(byte),
-        13 => item._hb_glyph_info_set_ligature_component(byte),
-        14 => item._hb_glyph_info_set_number_of_components(byte),
-        15 => item._hb_glyph_info_set_syllable(byte),
-        16 => item._hb_glyph_info_set_shaper_category(byte),
+        12 => item._hb_glyph_info_set_multiplied(greatest),
+        13 => item._hb_glyph_info_set_mark_attachment_class(byte),
+        14 => item._hb_glyph_info_set_ligature_id(byte),
+        15 => item._hb_glyph_info_set_ligature_component(byte),
+        16 => item._hb_glyph_info_set_number_of_components(byte),
+        17 => item._hb_glyph_info_set_syllable(byte),
+        18 => item._hb_glyph_info_set_shaper_category(byte),
         _ => item._hb_glyph_info_set_shaper_auxiliary(byte),
     }
 }

@@ -1,6 +1,7 @@
-//! Broken fonts: each shapes, with glyphs that the file has.
+//! Broken fonts: each shapes. A glyph past the last one of the file has no advance and no box.
 use crate::fonts::comparing::assert_that;
 use crate::fonts::support::{font_bytes, shaped_by};
+use shape_buffer::{GlyphId, hb_font_t};
 use shape_font::FontFace;
 use shape_pipeline::{DEFAULT_SHAPER, NoLookups, UnicodeBuffer};
 use std::alloc::Global;
@@ -9,7 +10,8 @@ use std::process::Abort;
 /// Six characters, of which the first two compose and the last has no glyph.
 const TEXT: &str = "A\u{301}B \u{1F600}x";
 
-/// Asserts that a font shapes the text into glyphs of its own, one for each character or one less.
+/// Asserts that a font shapes the text into glyphs, one for each character or one less, and says nothing of a glyph that
+/// the file lacks.
 fn assert_shapes(rt: &impl Abort, alloc: Global, face: &FontFace<'_>) {
     let mut text = UnicodeBuffer::new(alloc);
     text.push_str(TEXT).expect(rt, "memory");
@@ -18,7 +20,12 @@ fn assert_shapes(rt: &impl Abort, alloc: Global, face: &FontFace<'_>) {
     );
     let count = u32::from(face.glyph_count());
     for info in glyphs.glyph_infos() {
-        assert_that(rt, info.glyph_id == 0 || info.glyph_id < count);
+        let glyph = GlyphId(info.glyph_id);
+        let (advance, inked) = (face.glyph_h_advance(glyph), face.glyph_extents(glyph));
+        assert_that(
+            rt,
+            info.glyph_id < count || (advance == 0 && inked.is_none()),
+        );
     }
     assert_that(rt, glyphs.len() == 5 || glyphs.len() == 6);
 }

@@ -12,6 +12,7 @@ use std::alloc::{AllocError, Global};
 /// A planner for the types of a run.
 type PlannerOf<'a, T> = hb_ot_shape_planner_t<
     'a,
+    'a,
     <T as ShapingTypes>::Face,
     <T as ShapingTypes>::Shaper,
 >;
@@ -90,7 +91,7 @@ fn chosen<S>(shaper: &ChosenShaper<'_, S>) -> &'static str {
 
 /// Prints the shaper that a planner uses, and its requests.
 pub fn print_planner<F, S>(
-    planner: &hb_ot_shape_planner_t<'_, F, S>,
+    planner: &hb_ot_shape_planner_t<'_, '_, F, S>,
     found: &mut String,
 ) -> Result<(), AllocError> {
     found.push_str(chosen(&planner.shaper))?;
@@ -99,7 +100,7 @@ pub fn print_planner<F, S>(
 
 /// Prints the shaper that is used, and whether the given one wants marks zeroed and placed.
 pub fn print_kept<F, S>(
-    planner: &hb_ot_shape_planner_t<'_, F, S>,
+    planner: &hb_ot_shape_planner_t<'_, '_, F, S>,
     found: &mut String,
 ) -> Result<(), AllocError> {
     let word = chosen(&planner.shaper);
