@@ -20,7 +20,7 @@ else
     echo "skipped: $file is not installed (Debian's package unicode-data)"
     exit 77
 fi
-[ -x "$program" ] || (cd crates/test_programs && rt run < stdin > /dev/null) || exit 1
+[ -x "$program" ] || (cd crates/test_programs && rt run -- lines < stdin > /dev/null) || exit 1
 
 sed 's/#.*//' "$work/file" | grep ';' > "$work/lines"
 "$program" lines < "$work/file" > "$work/lists" || { tail -n 1 "$work/lists"; exit 1; }
