@@ -16,6 +16,8 @@ mod characters;
 #[cfg(test)]
 mod comparing;
 pub mod every_glyph;
+#[cfg(test)]
+mod language_tags;
 pub mod moved_rows;
 pub mod normalising;
 pub mod normalization_rows;
