@@ -1,6 +1,6 @@
 //! The engine.
 ghost use Rattle.shape_font.specs.declared.face.FontFace.{FontFace as Face};
-ghost use Rattle.std.specs.Prelude.{◌≡◌, ⊥, IsOk, MatchResult};
+ghost use Rattle.std.specs.Prelude.{◌≡◌, IsOk, MatchResult};
 ghost use Rattle.shape_buffer.specs.Outcome.{IsWithinLimit, Made, Outcome, step};
 ghost use Rattle.kern_table.specs.Map.{kern_masks};
 ghost use Rattle.kern_table.specs.declared.map.KernMap.{KernMap as Compiled};

@@ -4,7 +4,7 @@
 //!
 //! Each function shapes a text and does nothing else. Its contract is what a user of that clause wants to hear:
 //! so a clause that comes to say less, of one direction or of one level alone, is refused here.
-ghost use Rattle.std.specs.Prelude.{◌≡◌, ◌≢◌, ◌==◌, ◌<◌, ◌≤◌, ◌*◌, ◌^◌, ◌↔◌, ◌⊎◌, ⊥};
+ghost use Rattle.std.specs.Prelude.{◌≡◌, ◌≢◌, ◌==◌, ◌<◌, ◌≤◌, ◌*◌, ◌^◌, ◌↔◌, ◌⊎◌};
 ghost use Rattle.std.specs.Prelude.{ℕ, false, [], length, All, Contains};
 ghost use Rattle.std.specs.Prelude.{IfOk, IfErr, OnOk, OnErr, MatchResult, Err};
 ghost use Rattle.std.specs.Str.{chars};
