@@ -43,8 +43,10 @@ impl<'a> hb_ot_layout_t<FontFace<'a>> for KernTable {
         face: &FontFace<'a>,
         builder: &hb_ot_map_builder_t,
     ) -> Result<KernMap, ShapeError>
-        ensures { MatchResult result
-            (λ map. map ≡ (kern_layout face.now).compiled builder.now) (λ _. ⊥) }
+        ensures made { MatchResult result
+            (λ map. map ≡ (kern_layout face.now).compiled builder.now)
+            (λ e. e ≡ ShapeError.Memory) }
+        ensures ok { IsOk result }
     {
         Ok(map(builder.requests()))
     }

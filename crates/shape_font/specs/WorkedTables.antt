@@ -86,6 +86,7 @@ pub record WorkedCollections : Type 0 where
   pub one_font_only : font_start (two_tables 2) 1 ≡ None
   -- records are found from the font's beginning, tables from the file's
   pub after_a_byte : table_at (99 ∷ header 1 ++ entry 65 29 1 ++ 11 ∷ []) 1 0x41412020 ≡ Some (11 ∷ [])
+  pub count_of_32_bits : font_start (0x74 ∷ 0x74 ∷ 0x63 ∷ 0x66 ∷ 0 ∷ 1 ∷ 0 ∷ 0 ∷ 0 ∷ 1 ∷ 0 ∷ 0 ∷ 0 ∷ 0 ∷ 1 ∷ 44 ∷ []) 0 ≡ Some 300
 
 pub worked_collections : WorkedCollections
 worked_collections = record {
@@ -95,6 +96,7 @@ worked_collections = record {
   one_font = refl;
   one_font_only = refl;
   after_a_byte = refl;
+  count_of_32_bits = refl;
 }
 
 -- a table `cmap` of one subtable or two, each one byte long and at the end

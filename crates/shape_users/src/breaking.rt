@@ -11,13 +11,12 @@ ghost use Rattle.shape_pipeline.specs.Planned.{planned_for};
 ghost use Rattle.shape_users.specs.PlainGlyphs.{AreGlyphsOf, StringPasses};
 ghost use Rattle.shape_users.specs.Words.{spelled};
 
-use crate::plain_glyphs::text_of_str;
-use shape_pipeline::laws::{glyphs_can_be_cut, plain_runs_owe_nothing};
+use crate::plain_glyphs::glyphs_of_str;
 use shape_pipeline::lines::{Line, cut_lines};
 use shape_pipeline::ot_shaper::Runs;
 use shape_pipeline::{
     DEFAULT_SHAPER, GlyphBuffer, NoLookups, ShapeError, hb_default_shaper_t, hb_font_t,
-    hb_unicode_funcs_t, shape,
+    hb_unicode_funcs_t,
 };
 use shape_plan::planner::Plans;
 use std::alloc::Global;
@@ -55,14 +54,8 @@ where
         face.now DEFAULT_SHAPER [] (spelled text.now)) face.now in
         result ≡ Err ShapeError.Length → StringPasses run text.now }
 {
-    plain_runs_owe_nothing::<U, F>();
-    glyphs_can_be_cut();
     let text_end = text.len() as u32;
-    let buffer = match text_of_str(alloc, text) {
-        Ok(buffer) => buffer,
-        Err(fault) => return Err(fault.cause),
-    };
-    match shape::<U, F, NoLookups, hb_default_shaper_t>(alloc, face, &DEFAULT_SHAPER, &[], buffer) {
+    match glyphs_of_str::<U, F>(alloc, face, text) {
         Ok(glyphs) => {
             let lines = cut_lines(alloc, &glyphs, text_end, width)?;
             Ok(ShapedLines { glyphs, lines })
