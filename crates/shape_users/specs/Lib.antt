@@ -1,4 +1,5 @@
 pub mod Arabic
+pub mod Capitals
 pub mod Forms
 pub mod Ligatures
 pub mod Lines
@@ -6,6 +7,7 @@ pub mod Paragraph
 pub mod PlainGlyphs
 pub mod Points
 pub mod WorkedArabic
+pub mod WorkedCapitals
 pub mod WorkedForms
 pub mod WorkedFound
 pub mod WorkedPlain

@@ -8,8 +8,7 @@
 ghost use Rattle.std.specs.Prelude.{◌≡◌, ◌<◌, ◌^◌, pos, [], length, Err, IfOk};
 ghost use Rattle.shape_lines.specs.RightLines.{AreRightLines};
 ghost use Rattle.shape_pipeline.specs.Planned.{planned_for};
-ghost use Rattle.shape_users.specs.PlainGlyphs.{AreGlyphsOf, StringPasses};
-ghost use Rattle.shape_users.specs.Words.{spelled};
+ghost use Rattle.shape_users.specs.PlainGlyphs.{AreGlyphsOf, StringPasses, string_text};
 
 use crate::plain_glyphs::glyphs_of_str;
 use shape_pipeline::lines::{Line, cut_lines};
@@ -45,13 +44,13 @@ where
     requires { length text.now < 2 ^ 32 }
     ensures glyphs { let run = ⟦<hb_default_shaper_t as Runs<U, F, NoLookups>>⟧.run
         (planned_for U.unicode ⟦<hb_default_shaper_t as Plans<U, F, NoLookups>>⟧.planning
-        face.now DEFAULT_SHAPER [] (spelled text.now)) face.now in
+        face.now DEFAULT_SHAPER [] (string_text text.now)) face.now in
         IfOk result (λ shaped. AreGlyphsOf run text.now shaped.glyphs) }
     ensures lines { IfOk result (λ shaped.
         AreRightLines shaped.glyphs (length text.now) (pos width) shaped.lines.items) }
     ensures length { let run = ⟦<hb_default_shaper_t as Runs<U, F, NoLookups>>⟧.run
         (planned_for U.unicode ⟦<hb_default_shaper_t as Plans<U, F, NoLookups>>⟧.planning
-        face.now DEFAULT_SHAPER [] (spelled text.now)) face.now in
+        face.now DEFAULT_SHAPER [] (string_text text.now)) face.now in
         result ≡ Err ShapeError.Length → StringPasses run text.now }
 {
     let text_end = text.len() as u32;

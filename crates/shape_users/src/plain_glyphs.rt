@@ -31,8 +31,7 @@ ghost use Rattle.shape_pipeline.specs.Headline.{prepared_text, normalised_list};
 ghost use Rattle.shape_pipeline.specs.Order.{grapheme_clusters};
 ghost use Rattle.shape_users.specs.PlainGlyphs.{AreOfText, HaveGlyphs, IsGivenBackEmpty};
 ghost use Rattle.shape_users.specs.PlainGlyphs.{NoStepPasses, SomeStepPasses};
-ghost use Rattle.shape_users.specs.PlainGlyphs.{IsTextOf, IsPlaceIn, AreGlyphsOf, StringPasses};
-ghost use Rattle.shape_users.specs.Words.{spelled};
+ghost use Rattle.shape_users.specs.PlainGlyphs.{IsTextOf, IsPlaceIn, AreGlyphsOf, StringPasses, string_text};
 ghost use Rattle.shape_pipeline.specs.Planned.{planned_for};
 ghost use Rattle.shape_users.specs.WorkedPlain.{WorkedPlain};
 
@@ -210,7 +209,7 @@ where
 /// with `Memory` if a growth was refused; the buffer that comes back is new.
 fn text_of_str(alloc: Global, string: &str) -> Result<UnicodeBuffer, ShapeFault>
     ensures ok { IfOk result (λ text. IsTextOf string.now text) }
-    ensures text { IfOk result (λ text. text ≡ spelled string.now) }
+    ensures text { IfOk result (λ text. text ≡ string_text string.now) }
     ensures length { IfErr result (λ fault. fault.cause ≡ ShapeError.Length
         → 2 ^ 32 ≤ length string.now) }
     ensures bytes { 2 ^ 32 ≤ length string.now
@@ -226,10 +225,11 @@ fn text_of_str(alloc: Global, string: &str) -> Result<UnicodeBuffer, ShapeFault>
 }
 
 /// Appends a string to a new buffer, if it has fewer than 2^32 bytes.
+#[tactic(auto, unfolding(crate::specs::PlainGlyphs::string_text))]
 fn append(buffer: &mut UnicodeBuffer, string: &str) -> Result<(), ShapeError>
     requires { buffer.old ≡ new_buffer }
     ensures ok { OnOk result (IsTextOf string.now buffer.new) }
-    ensures text { OnOk result (buffer.new ≡ spelled string.now) }
+    ensures text { OnOk result (buffer.new ≡ string_text string.now) }
     ensures length { (result ≡ Err ShapeError.Length) ↔ (2 ^ 32 ≤ length string.now) }
     ensures refused { OnErr result (buffer.new ≡ new_buffer) }
 {
@@ -251,11 +251,11 @@ where
     F: hb_font_t,
     ensures glyphs { let run = ⟦<hb_default_shaper_t as Runs<U, F, NoLookups>>⟧.run
         (planned_for U.unicode ⟦<hb_default_shaper_t as Plans<U, F, NoLookups>>⟧.planning
-        face.now DEFAULT_SHAPER [] (spelled string.now)) face.now in
+        face.now DEFAULT_SHAPER [] (string_text string.now)) face.now in
         IfOk result (λ glyphs. AreGlyphsOf run string.now glyphs) }
     ensures length { let run = ⟦<hb_default_shaper_t as Runs<U, F, NoLookups>>⟧.run
         (planned_for U.unicode ⟦<hb_default_shaper_t as Plans<U, F, NoLookups>>⟧.planning
-        face.now DEFAULT_SHAPER [] (spelled string.now)) face.now in
+        face.now DEFAULT_SHAPER [] (string_text string.now)) face.now in
         IfErr result (λ fault. fault.cause ≡ ShapeError.Length
         → (2 ^ 32 ≤ length string.now) ⊎ StringPasses run string.now) }
     ensures bytes { 2 ^ 32 ≤ length string.now

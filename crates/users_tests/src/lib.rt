@@ -10,6 +10,8 @@ mod breaking;
 #[cfg(test)]
 mod broken_rows;
 #[cfg(test)]
+mod capitals;
+#[cfg(test)]
 mod cuts;
 #[cfg(test)]
 mod every_form;
