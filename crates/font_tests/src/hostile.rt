@@ -22,7 +22,10 @@ fn assert_shapes(rt: &impl Abort, alloc: Global, face: &FontFace<'_>) {
     for info in glyphs.glyph_infos() {
         let glyph = GlyphId(info.glyph_id);
         let (advance, inked) = (face.glyph_h_advance(glyph), face.glyph_extents(glyph));
-        assert_that(rt, info.glyph_id < count || (advance == 0 && inked.is_none()));
+        assert_that(
+            rt,
+            info.glyph_id < count || (advance == 0 && inked.is_none()),
+        );
     }
     assert_that(rt, glyphs.len() == 5 || glyphs.len() == 6);
 }
