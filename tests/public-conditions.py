@@ -16,7 +16,7 @@ TOP = Path(__file__).resolve().parent.parent
 PAGE = TOP / "docs/SAFE_AND_TOTAL.md"
 
 # Libraries that serve tests, benches and sessions of the program alone.
-LEFT_OUT = {"test_worlds", "test_stages", "shape_sessions", "shape_bench", "unicode_tests"}
+LEFT_OUT = {"test_fixtures", "test_stages", "shape_sessions", "shape_bench", "unicode_tests"}
 
 
 def code_of(file):

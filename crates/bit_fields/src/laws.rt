@@ -5,7 +5,7 @@ ghost use Rattle.bit_fields.specs.FieldLaws.{PutFieldChangesAlone, FieldIsReadAt
 ghost use Rattle.bit_fields.specs.FieldLaws.{WordIsMadeOfItsFields, FieldsAreThoseOfTheirWord};
 ghost use Rattle.bit_fields.specs.FieldLaws.{EqualFieldsEqualWords, FieldsJoin};
 ghost use Rattle.bit_fields.specs.FieldLaws.{PutFieldStaysInWord, MaskPutsField};
-ghost use Rattle.bit_fields.specs.Worked.{FieldsWorked};
+ghost use Rattle.bit_fields.specs.Worked.Fields.{FieldsWorked};
 
 /// A value that is put into a field is there, and all other fields are as they were.
 pub fn a_put_field_changes_alone()

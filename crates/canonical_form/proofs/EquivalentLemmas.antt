@@ -12,7 +12,7 @@ use Rattle.canonical_form.proofs.Ordering.SwapLemmas.{◌⟫◌, no_swap, Passes
 
 -- items of a domain, whose parts have a ccc of their own: those of a mark have its ccc
 module _ {A B : Type 0} (IsItem : A → Type 0) (ccc : A → ℕ) (ccc_of_part : B → ℕ) (parts : A → List B)
-    (keeps : (c : A) → IsItem c → 0 < ccc c → AllByRecursion (λ d. ccc_of_part d ≡ ccc c) (parts c)) where
+    (preserves : (c : A) → IsItem c → 0 < ccc c → AllByRecursion (λ d. ccc_of_part d ≡ ccc c) (parts c)) where
   passes : (m c : ℕ) (xs ys : List B) → 0 < m → 0 < c → m ≢ c → AllByRecursion (λ d. ccc_of_part d ≡ m) xs
       → AllByRecursion (λ d. ccc_of_part d ≡ c) ys → AllByRecursion (λ x. (0 < ccc_of_part x) × Passes ccc_of_part x ys) xs
   passes m c [] ys mark_m mark_c distinct left right = tt
@@ -28,7 +28,7 @@ module _ {A B : Type 0} (IsItem : A → Type 0) (ccc : A → ℕ) (ccc_of_part :
       → Swaps ccc_of_part (parts m ++ parts c) (parts c ++ parts m)
   past_mark m c item_m item_c mark_m mark_c distinct =
       Swaps-blocks ccc_of_part (parts m) (parts c)
-      (passes (ccc m) (ccc c) (parts m) (parts c) mark_m mark_c distinct (keeps m item_m mark_m) (keeps c item_c mark_c))
+      (passes (ccc m) (ccc c) (parts m) (parts c) mark_m mark_c distinct (preserves m item_m mark_m) (preserves c item_c mark_c))
 
   items-swap : {xs ys : List A} → IsSwap ccc xs ys → AllByRecursion IsItem xs → AllByRecursion IsItem ys
   items-swap (here x y rest mark_x mark_y distinct) items = (items.1.0, (items.0, items.1.1))

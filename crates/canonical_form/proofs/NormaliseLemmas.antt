@@ -17,7 +17,7 @@ use Rattle.canonical_form.proofs.Expanding.ChainLemmas.{full-ccc, full-whole}
 use Rattle.canonical_form.proofs.Expanding.ChoiceLemmas.{full_text-expanded, expanded-full}
 use Rattle.canonical_form.proofs.Lists.EveryLemmas.{append_all}
 use Rattle.canonical_form.proofs.EquivalentLemmas.{parts-swaps, canonical_equal}
-use Rattle.canonical_form.proofs.Recomposing.RecomposeLemmas.{ComposesLawfully, swaps_composed, recomposed-keeps}
+use Rattle.canonical_form.proofs.Recomposing.RecomposeLemmas.{ComposesLawfully, swaps_composed, recomposed-preserves}
 use Rattle.canonical_form.proofs.Ordering.RunLemmas.{AreRunsSettled-swaps, AreRunsSettled-ordered}
 use Rattle.canonical_form.proofs.Ordering.SwapLemmas.{◌⟫◌, no_swap, Swaps-sym, all-swaps}
 
@@ -61,7 +61,7 @@ module _ (D : Decompositions) (lawful : SplitsFall D) where
       → IsEquivalent D xs (recomposed D.ccc (is_blocked D.ccc) is_mark compose xs)
   unfolding full_text
   equivalent_recomposed is_mark compose sound xs =
-      recomposed-keeps IsAny D.ccc D.ccc (full D) is_mark compose (composes_lawfully compose sound) xs (all_any xs)
+      recomposed-preserves IsAny D.ccc D.ccc (full D) is_mark compose (composes_lawfully compose sound) xs (all_any xs)
 
   -- a starter and a mark past others that don't block it, and what the two compose to
   pub equivalent_composed : (compose : ℕ → ℕ → Option ℕ) → ComposesSoundly D compose → (s c d : ℕ) (ms rest : List ℕ)

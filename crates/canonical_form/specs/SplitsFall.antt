@@ -1,4 +1,4 @@
--- What decompositions owe by which texts are put into canonical form.
+-- What decompositions must provide so that texts are put into canonical form.
 use Rattle.std.specs.Prelude.{◌≡◌, ◌≢◌, ℕ, ◌⊎◌, Some, None}
 use Rattle.canonical_form.specs.Chain.{FallsAlong}
 use Rattle.canonical_form.specs.Decompositions.{Decompositions}

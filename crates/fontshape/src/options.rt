@@ -283,7 +283,7 @@ impl Options {
         }
     }
 
-    /// Sets how clusters are merged; answers whether the value names a way.
+    /// Sets how clusters are merged; returns whether the value names a way.
     fn set_level(&mut self, value: &str) -> bool {
         self.level = match value {
             "0" => BufferClusterLevel::MonotoneGraphemes,
@@ -294,7 +294,7 @@ impl Options {
         true
     }
 
-    /// Sets how texts are normalised; answers whether the value names a way.
+    /// Sets how texts are normalised; returns whether the value names a way.
     fn set_mode(&mut self, value: &str) -> bool {
         match value.parse::<u32>() {
             Ok(mode) if mode <= 4 => {
@@ -305,7 +305,7 @@ impl Options {
         }
     }
 
-    /// Sets the number of the font; answers whether the value is a number.
+    /// Sets the number of the font; returns whether the value is a number.
     fn set_face_index(&mut self, value: &str) -> bool {
         match value.parse::<u32>() {
             Ok(index) => {

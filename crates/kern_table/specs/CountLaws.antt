@@ -1,4 +1,4 @@
--- kerning keeps the number of items, and the limit
+-- kerning preserves the number of items, and the limit
 use Prim.Native.Nat.{zero}
 use Rattle.std.proofs.Common.{◌≡◌, ℕ, suc, ℤ, ◌+◌, ◌==◌, ◌≤◌, Bool, true, false, if◌then◌else◌, List, map, length, reverse, Option, nat_lt, nat_eq, refl, sym, ap, ◌∙◌, arith}
 use Rattle.std.specs.Int.RustNames.{bit_and}

@@ -1,4 +1,4 @@
--- what the engine answers of a face, and what it makes of a buffer
+-- what the engine returns of a face, and what it makes of a buffer
 use Rattle.std.specs.Prelude.{◌≡◌, ℕ, List, Bool, true, false, None, not, nat_eq, length, refl}
 use Rattle.shape_items.specs.Buffer.{Buffer}
 use Rattle.shape_buffer.specs.Layout.{LayoutMeaning, LookupMeaning, LawfulMasks, LawfulLookups}

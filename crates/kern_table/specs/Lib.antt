@@ -6,5 +6,4 @@ pub mod MaskLaws
 pub mod StepLaws
 pub mod CountLaws
 pub mod Engine
-pub mod WorkedKern
-pub mod WorkedEngine
+pub mod Worked

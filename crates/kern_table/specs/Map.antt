@@ -7,7 +7,7 @@ use Rattle.shape_common.specs.declared.text_types.hb_tag_t.{hb_tag_t}
 use Rattle.shape_buffer.specs.declared.interfaces.map_request.MapRequest.{MapRequest}
 use Rattle.shape_buffer.specs.declared.interfaces.map_request.MapRequest.TheVariants.{Feature, Pause}
 use Rattle.kern_table.specs.declared.map.KernMap.{KernMap}
-use Rattle.kern_table.specs.declared.map.KernWishes.{KernWishes}
+use Rattle.kern_table.specs.declared.map.KernRequests.{KernRequests}
 
 abbrev pub asks : ℕ → ℕ → Bool
 asks flags flag = not (nat_eq (bit_and flags flag) 0)
@@ -16,25 +16,25 @@ abbrev pub is_kern : hb_tag_t → Bool
 is_kern tag = nat_eq tag.0 0x6b65726e
 
 -- one request for the whole text overrides those before it; one for a range keeps what stands outside of it
-abbrev pub wished : KernWishes → ℕ → ℕ → KernWishes
-wished w flags value = record {
+abbrev pub requested : KernRequests → ℕ → ℕ → KernRequests
+requested w flags value = record {
   greatest = if asks flags F_GLOBAL then value else max w.greatest value;
   everywhere = if asks flags F_GLOBAL then value else w.everywhere;
   has_fallback = w.has_fallback || asks flags F_HAS_FALLBACK;
 }
 
-abbrev pub wished_by : KernWishes → MapRequest → KernWishes
-wished_by w (Feature tag flags value) = if is_kern tag then wished w flags value else w
-wished_by w (Pause number) = w
+abbrev pub requested_by : KernRequests → MapRequest → KernRequests
+requested_by w (Feature tag flags value) = if is_kern tag then requested w flags value else w
+requested_by w (Pause number) = w
 
-abbrev pub no_wishes : KernWishes
-no_wishes = record { greatest = 0; everywhere = 0; has_fallback = false }
+abbrev pub no_kern_requests : KernRequests
+no_kern_requests = record { greatest = 0; everywhere = 0; has_fallback = false }
 
-abbrev pub wishes_of : List MapRequest → KernWishes
-wishes_of requests = fold wished_by no_wishes requests
+abbrev pub kern_requests_of : List MapRequest → KernRequests
+kern_requests_of requests = fold requested_by no_kern_requests requests
 
 abbrev pub map_of : List MapRequest → KernMap
-map_of requests = let all = wishes_of requests in
+map_of requests = let all = kern_requests_of requests in
     record { is_on = all.has_fallback && not (nat_eq all.greatest 0); everywhere = all.everywhere % 256 }
 
 -- eight bits of the mask, from bit 4 on, hold the value of the feature

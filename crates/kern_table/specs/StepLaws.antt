@@ -1,4 +1,4 @@
--- what each step of kerning keeps, the whole keeps
+-- what each step of kerning preserves, the whole preserves
 use Prim.Native.Nat.{zero}
 use Rattle.std.proofs.Common.{◌≡◌, ℕ, suc, ℤ, ◌+◌, Bool, true, false, if◌then◌else◌, List, length, Option, Some, None, nat_lt, nat_eq, refl}
 use Rattle.std.specs.Prelude.{pos}

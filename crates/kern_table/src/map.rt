@@ -1,7 +1,7 @@
 //! Where kerning is on, by the requests of a plan.
 ghost use Rattle.std.specs.Prelude.{◌≡◌};
 ghost use Rattle.std.specs.Int.RustNames.{bit_and};
-ghost use Rattle.kern_table.specs.Map.{asks, wished_by, wishes_of, map_of};
+ghost use Rattle.kern_table.specs.Map.{asks, requested_by, kern_requests_of, map_of};
 
 use shape_buffer::buffer::hb_tag_t;
 use shape_buffer::interfaces::{F_GLOBAL, F_HAS_FALLBACK, MapRequest};
@@ -12,7 +12,7 @@ pub const KERN: hb_tag_t = hb_tag_t(0x6b65_726e);
 /// What the requests so far ask of kerning: its greatest value, its value if no range says another one, and
 /// whether a table of its own may do the feature's work.
 #[derive(Clone, Copy, PartialEq, Eq, Debug)]
-pub struct KernWishes {
+pub struct KernRequests {
     pub greatest: u32,
     pub everywhere: u32,
     pub has_fallback: bool,
@@ -35,38 +35,38 @@ fn has(flags: u32, flag: u32) -> bool
 
 /// What is asked after one request more. One for the whole text overrides those before it; one for a range keeps what
 /// stands outside of it.
-fn wished(wishes: KernWishes, request: MapRequest) -> KernWishes
-    ensures { result ≡ wished_by wishes request }
+fn requested(kern_requests: KernRequests, request: MapRequest) -> KernRequests
+    ensures { result ≡ requested_by kern_requests request }
 {
     match request {
-        MapRequest::Feature { tag, flags, value } if tag.0 == KERN.0 => KernWishes {
+        MapRequest::Feature { tag, flags, value } if tag.0 == KERN.0 => KernRequests {
             greatest: if has(flags, F_GLOBAL) {
                 value
             } else {
-                wishes.greatest.max(value)
+                kern_requests.greatest.max(value)
             },
             everywhere: if has(flags, F_GLOBAL) {
                 value
             } else {
-                wishes.everywhere
+                kern_requests.everywhere
             },
-            has_fallback: wishes.has_fallback || has(flags, F_HAS_FALLBACK),
+            has_fallback: kern_requests.has_fallback || has(flags, F_HAS_FALLBACK),
         },
-        _ => wishes,
+        _ => kern_requests,
     }
 }
 
 /// What the requests ask of kerning.
-fn wishes(requests: &[MapRequest]) -> KernWishes
-    ensures { result ≡ wishes_of requests.now }
+fn kern_requests(requests: &[MapRequest]) -> KernRequests
+    ensures { result ≡ kern_requests_of requests.now }
 {
-    let mut all = KernWishes {
+    let mut all = KernRequests {
         greatest: 0,
         everywhere: 0,
         has_fallback: false,
     };
     for request in requests {
-        all = wished(all, *request);
+        all = requested(all, *request);
     }
     all
 }
@@ -75,7 +75,7 @@ fn wishes(requests: &[MapRequest]) -> KernWishes
 pub fn map(requests: &[MapRequest]) -> KernMap
     ensures { result ≡ map_of requests.now }
 {
-    let all = wishes(requests);
+    let all = kern_requests(requests);
     KernMap {
         is_on: all.has_fallback && all.greatest != 0,
         everywhere: all.everywhere % 256,

@@ -71,7 +71,7 @@ fn move_both(buffer: &mut hb_buffer_t, j: usize, along: bool, by: i32)
 /// Moves two glyphs apart: half of the value, downwards, goes to the advance of the first, the rest to the advance of
 /// the second, which is moved by the rest too. What lies between them is unsafe to break. 0 changes nothing.
 fn put_pair(buffer: &mut hb_buffer_t, i: usize, j: usize, by: i32)
-    requires behind { i < j }
+    requires after { i < j }
     requires inside { j < length buffer.old.items }
     requires low { negsuc 32767 ≤ℤ by }
     ensures { buffer.new ≡ pair_moved i j by buffer.old }
@@ -90,7 +90,7 @@ fn put_pair(buffer: &mut hb_buffer_t, i: usize, j: usize, by: i32)
 /// The same; the number of items and the limit stay.
 #[tactic(auto, using(crate::specs::CountLaws::length_pair_moved, crate::specs::CountLaws::limit_pair_moved))]
 fn move_pair(buffer: &mut hb_buffer_t, i: usize, j: usize, by: i32)
-    requires behind { i < j }
+    requires after { i < j }
     requires inside { j < length buffer.old.items }
     requires low { negsuc 32767 ≤ℤ by }
     ensures made { buffer.new ≡ pair_moved i j by buffer.old }
@@ -103,7 +103,7 @@ fn move_pair(buffer: &mut hb_buffer_t, i: usize, j: usize, by: i32)
 /// Moves two glyphs apart by their value in the part that begins at `start`.
 fn kern_pair(kern: &[u8], start: usize, buffer: &mut hb_buffer_t, i: usize, j: usize)
     requires part { start < 2 ^ 34 }
-    requires behind { i < j }
+    requires after { i < j }
     requires inside { j < length buffer.old.items }
     ensures made { buffer.new ≡ pair_kerned kern.now start i j buffer.old }
     ensures len { length buffer.new.items ≡ length buffer.old.items }
@@ -125,7 +125,7 @@ fn kern_at(
 ) -> Option<usize>
     requires part { start < 2 ^ 34 }
     requires inside { j < length buffer.old.items }
-    requires behind { IfSome left (λ i. i < j) }
+    requires after { IfSome left (λ i. i < j) }
     ensures made { buffer.new ≡ kerned_at kern.now start mask j left buffer.old }
     ensures waits { result ≡ left_after mask j left buffer.old.items }
     ensures before { IfSome result (λ i. i < j + 1) }

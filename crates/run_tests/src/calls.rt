@@ -1,6 +1,6 @@
 //! Calls on their happy path whose answers no other test shows.
 
-use crate::cases::{Case, World, character, check};
+use crate::cases::{Case, Fixture, character, check};
 use crate::comparing::assert_same;
 use crate::printing::printed_list;
 use crate::rows::Splits;
@@ -18,7 +18,7 @@ use shape_pipeline::ot_shaper::{DEFAULT_SHAPER, hb_default_shaper_t};
 use shape_plan::shaping_types::{PlanOf, ShapingTypes, TypesOf};
 use shape_unicode::UnicodeDatabase;
 use std::process::Abort;
-use test_worlds::TestFace;
+use test_fixtures::TestFace;
 
 /// A run over a face of some characters, by the default shaper.
 type ByDefault<'a, U> = TypesOf<U, TestFace<'a>, NoLookups, hb_default_shaper_t>;
@@ -162,7 +162,7 @@ fn check_all_plain(rt: &impl Abort, text: &str) {
     }
 }
 
-/// A bracket, a soft hyphen, an accent, an emoji and a variation selector, which Unicode's own functions tell apart.
+/// A bracket, a soft hyphen, an accent, an emoji and a variation selector, which Unicode's own functions distinguish.
 #[test]
 fn plain_characters_are_letters(rt: HostRuntime) {
     check_all_plain(&rt, "( 00AD 0301 1F600 FE0F");
@@ -191,7 +191,7 @@ fn normalised<T: ShapingTypes>(
 /// Lists that are normalised, but not prepared, under a plan that runs to the right. The face has a glyph for `a`.
 struct Unprepared;
 
-impl World for Unprepared {
+impl Fixture for Unprepared {
     fn answer(rt: &(impl Abort + AllocGlobal), case: Case<'_>) -> String {
         let by = (&TestFace::of(&['a']), &DEFAULT_SHAPER);
         let rightward = Direction::LeftToRight;
@@ -217,7 +217,7 @@ fn a_buffer_is_shaped_in_place(rt: HostRuntime) {
         &rt,
         "
         step: in_place
-        manner: rtl
+        settings: rtl
         face: a b
         a b -> 62@1 61@0
         ",

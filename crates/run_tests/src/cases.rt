@@ -5,8 +5,8 @@
 //!
 //! - `face`: the characters that have a glyph or the glyphs of the face, as `faces` has them.
 //! - `units`: those of the em square of a face with widths, 1000 until they are set. No other face heeds them.
-//! - `manner`: what is set in the text, as `texts` has it.
-//! - `shaper`, `tables` and `step`: which ones, by the names that the world of the case has for them.
+//! - `settings`: what is set in the text, as `texts` has it.
+//! - `shaper`, `tables` and `step`: which ones, by the names that the fixture of the case has for them.
 //!
 //! A character is written as itself if it is one of ASCII that can be seen, and by four digits in base 16 or more:
 //! `a`, `0301`, `1F1E6`. In a text `@` isn't a character but stands before a cluster, and in the steps of `steps`
@@ -15,7 +15,7 @@
 //! that can't be read fails its test, and so does a text without cases.
 
 use crate::comparing::assert_that;
-use crate::texts::{Manner, PLAINLY, manner_of};
+use crate::texts::{PLAINLY, TextSettings, text_settings_of};
 use std::fmt::Debug;
 use std::process::Abort;
 use std::str::FromStr;
@@ -28,7 +28,7 @@ pub struct Settings<'a> {
     pub shaper: &'a str,
     pub tables: &'a str,
     pub step: &'a str,
-    pub manner: Manner,
+    pub text_settings: TextSettings,
 }
 
 /// What is set before anything is.
@@ -38,7 +38,7 @@ pub const UNSET: Settings<'static> = Settings {
     shaper: "default",
     tables: "",
     step: "",
-    manner: PLAINLY,
+    text_settings: PLAINLY,
 };
 
 /// A text, and the answer that is wanted.
@@ -49,14 +49,14 @@ pub struct Case<'a> {
     pub wanted: &'a str,
 }
 
-/// A world that cases are run in.
-pub trait World {
+/// A fixture that cases are run in.
+pub trait Fixture {
     /// What becomes of the text of a case, printed as its answer is.
     fn answer(rt: &(impl Abort + AllocGlobal), case: Case<'_>) -> String;
 }
 
-/// Runs cases in a world, and compares their answers. There has to be a case.
-pub fn check<W: World>(rt: &(impl Abort + AllocGlobal), cases: &str) {
+/// Runs cases in a fixture, and compares their answers. There has to be a case.
+pub fn check<W: Fixture>(rt: &(impl Abort + AllocGlobal), cases: &str) {
     let mut settings = UNSET;
     let mut has_case = false;
     for line in cases.lines() {
@@ -66,7 +66,7 @@ pub fn check<W: World>(rt: &(impl Abort + AllocGlobal), cases: &str) {
 }
 
 /// Runs the case that a line is, or sets what the line sets. Gives whether it is a case.
-fn take<'a, W: World>(
+fn take<'a, W: Fixture>(
     rt: &(impl Abort + AllocGlobal),
     settings: &mut Settings<'a>,
     line: &'a str,
@@ -88,7 +88,7 @@ fn without_remark(line: &str) -> &str {
 }
 
 /// Runs a case, and compares its answer.
-fn run<W: World>(
+fn run<W: Fixture>(
     rt: &(impl Abort + AllocGlobal),
     settings: &Settings<'_>,
     (text, wanted): (&str, &str),
@@ -124,7 +124,7 @@ fn set<'a>(rt: &impl Abort, settings: &mut Settings<'a>, line: &'a str) {
         "shaper" => settings.shaper = words,
         "tables" => settings.tables = words,
         "step" => settings.step = words,
-        "manner" => settings.manner = manner_of(rt, words),
+        "settings" => settings.text_settings = text_settings_of(rt, words),
         _ => rt.panic(name),
     }
 }

@@ -64,7 +64,7 @@ fn emoji_in_a_reversed_text(rt: HostRuntime) {
         &rt,
         "
         step: prepare
-        manner: rtl by_character
+        settings: rtl by_character
         a 1F469 200D 1F467 1 20E3 -> 1@12 20E3@12 1F469@1 200D@1 1F467@1 a@0
         ",
     );

@@ -10,7 +10,7 @@ use crate::cases::{Settings, character, cut, number, number_in_hex};
 use shape_buffer::buffer::GlyphId;
 use shape_buffer::interfaces::{MapFace, Metrics, hb_glyph_extents_t};
 use std::process::Abort;
-use test_worlds::TestFace;
+use test_fixtures::TestFace;
 
 /// What stands before the characters of a face with a variant.
 const VARIANT: &str = "variant ";

@@ -30,6 +30,8 @@ mod normalising;
 #[cfg(test)]
 mod placing;
 #[cfg(test)]
+mod preferences;
+#[cfg(test)]
 mod premises;
 #[cfg(test)]
 mod preparing;
@@ -47,5 +49,3 @@ mod steps;
 mod texts;
 #[cfg(test)]
 mod unlawful;
-#[cfg(test)]
-mod wishes;

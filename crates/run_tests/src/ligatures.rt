@@ -1,7 +1,7 @@
 //! Marks round a base, through the two calls for them: the components of ligatures, and the ccc that
 //! marks are placed by. The em square has 1000 units, so that the gap is 62.
 
-use crate::cases::{Case, World, append_word, character, check, cut, number};
+use crate::cases::{Case, Fixture, append_word, character, check, cut, number};
 use crate::faces::face_of;
 use crate::runs::plan_for;
 use crate::texts::buffer_of;
@@ -98,7 +98,7 @@ fn last_offsets(rt: &(impl Abort + AllocGlobal), buffer: hb_buffer_t) -> String 
 /// (`downward`).
 struct Ligatures;
 
-impl World for Ligatures {
+impl Fixture for Ligatures {
     fn answer(rt: &(impl Abort + AllocGlobal), case: Case<'_>) -> String {
         let face = face_of(rt, case.settings);
         offsets::<Plainly>(rt, (&face, &DEFAULT_SHAPER), case)
@@ -244,7 +244,7 @@ fn recategorised<T: ShapingTypes>(
 /// pairs of a ccc and of what it becomes: `13>214`; there has to be one.
 struct Classes;
 
-impl World for Classes {
+impl Fixture for Classes {
     fn answer(rt: &(impl Abort + AllocGlobal), case: Case<'_>) -> String {
         if case.wanted.is_empty() {
             rt.panic(case.text);

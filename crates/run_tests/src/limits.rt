@@ -1,12 +1,12 @@
 //! Positions when the em square is as small or as large as it can be, and when numbers are at their
 //! limits.
 
-use crate::cases::{Case, World, check, cut, number};
+use crate::cases::{Case, Fixture, check, cut, number};
 use crate::lists::{Widths, answer_by_default};
 use shape_buffer::buffer::GlyphId;
 use shape_buffer::interfaces::hb_glyph_extents_t;
 use std::process::Abort;
-use test_worlds::{EVERY_GLYPH, KnownGlyph, TestFace};
+use test_fixtures::{EVERY_GLYPH, KnownGlyph, TestFace};
 
 /// The types of spaces that are a part of the em square, across and down the page, at the least one.
 const LEAST_EM: &str = "
@@ -21,7 +21,7 @@ const LEAST_EM: &str = "
     2006 -> 3@0(0,0,0,0)
     200A -> 3@0(0,0,0,0)
     205F -> 3@0(0,0,0,0)
-    manner: ttb
+    settings: ttb
     2003 -> 3@0(0,-1,-3,-1)
     2002 -> 3@0(0,-1,-3,-1)
     2004 -> 3@0(0,0,-3,-1)
@@ -45,7 +45,7 @@ const GREATEST_EM: &str = "
     2006 -> 3@0(10923,0,0,0)
     200A -> 3@0(4096,0,0,0)
     205F -> 3@0(14563,0,0,0)
-    manner: ttb
+    settings: ttb
     2003 -> 3@0(0,-65535,-3,-65535)
     2002 -> 3@0(0,-32768,-3,-65535)
     2004 -> 3@0(0,-21845,-3,-65535)
@@ -113,7 +113,7 @@ fn deep_face(rt: &impl Abort, numbers: &str) -> TestFace<'static> {
 /// Such faces, by their numbers, and the default shaper.
 struct Deep;
 
-impl World for Deep {
+impl Fixture for Deep {
     fn answer(rt: &(impl Abort + AllocGlobal), case: Case<'_>) -> String {
         answer_by_default(rt, &deep_face(rt, case.settings.face), case)
     }
@@ -127,7 +127,7 @@ fn numbers_down_the_page_wrap(rt: HostRuntime) {
         &rt,
         "
         step: place
-        manner: ttb
+        settings: ttb
         face: -2147483648 -2147483648 -2147483648
         b 0301 -> 62@0(0,-2147483648,-2147483648,-2147483648) 301@0(0,0,-2147483648,-2147483648)
         face: 2147483647 2147483647 2147483647
@@ -143,7 +143,7 @@ fn numbers_down_the_page_that_fit(rt: HostRuntime) {
         &rt,
         "
         step: place
-        manner: ttb
+        settings: ttb
         face: -1000 300 880
         b 0301 -> 62@0(0,-1000,-300,-880) 301@0(0,0,-300,1120)
         ",

@@ -1,6 +1,6 @@
 //! Texts over the whole database of Unicode, by each shaper that needs no tables.
 
-use crate::cases::{Case, World};
+use crate::cases::{Case, Fixture};
 use crate::faces::{characters_of, face_of, face_over};
 use crate::steps::answer_by;
 use shape_buffer::interfaces::{NoLookups, hb_font_t};
@@ -11,14 +11,14 @@ use shape_pipeline::ot_shaper::{
 use shape_plan::shaping_types::TypesOf;
 use shape_unicode::UnicodeDatabase;
 use std::process::Abort;
-use test_worlds::{AbsorbingShaper, ChangingShaper, SwappingShaper};
+use test_fixtures::{AbsorbingShaper, ChangingShaper, SwappingShaper};
 
 /// Faces of some characters. The shapers are `default`, those with a preference for a mode (`decomposed`, `shortest`,
 /// `composed_diacritics`, and `recomposed`, which composes again whatever the face shows), and those with hooks
 /// (`swapping`, `absorbing` and `changing`). The steps are those of `steps`.
 pub struct Lists;
 
-impl World for Lists {
+impl Fixture for Lists {
     fn answer(rt: &(impl Abort + AllocGlobal), case: Case<'_>) -> String {
         let characters = characters_of(rt, case.settings.face);
         answer_over(
@@ -32,7 +32,7 @@ impl World for Lists {
 /// Faces with widths, and the default shaper.
 pub struct Widths;
 
-impl World for Widths {
+impl Fixture for Widths {
     fn answer(rt: &(impl Abort + AllocGlobal), case: Case<'_>) -> String {
         answer_by_default(rt, &face_of(rt, case.settings), case)
     }

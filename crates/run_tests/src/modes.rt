@@ -1,10 +1,10 @@
 //! Normalised lists of texts with marks, selectors and spaces, over hooks and faces of the tests' own.
 
-use crate::cases::{Case, World, check, cut};
+use crate::cases::{Case, Fixture, check, cut};
 use crate::faces::{characters_of, face_over};
 use crate::printing::{append_item, append_mask};
 use crate::runs::{are_alike, normalise, plan_for};
-use crate::texts::{Manner, buffer_of, items_of};
+use crate::texts::{TextSettings, buffer_of, items_of};
 use shape_buffer::buffer::{Direction, ShapeError, hb_buffer_t, hb_glyph_info_t};
 use shape_buffer::interfaces::space_types::{NOT_SPACE, SPACE_EM, SPACE_FIGURE};
 use shape_buffer::interfaces::{NoLookups, hb_font_t, hb_unicode_funcs_t};
@@ -12,7 +12,7 @@ use shape_pipeline::ot_shaper::{DEFAULT_SHAPER, hb_default_shaper_t};
 use shape_plan::shaping_types::{PlanOf, ShapingTypes, TypesOf};
 use shape_prepare::graphemes::set_unicode_props;
 use std::process::Abort;
-use test_worlds::{AbsorbingShaper, DeepShaper, ReversingShaper, SmallUnicode};
+use test_fixtures::{AbsorbingShaper, DeepShaper, ReversingShaper, SmallUnicode};
 
 /// Items over small Unicode functions, each in the cluster of its place, with its mask after a slash, in base 16,
 /// if that isn't 0; and the shapers `default`, `reversing`, `absorbing` and `deep`, which splits 16384 deep.
@@ -23,7 +23,7 @@ use test_worlds::{AbsorbingShaper, DeepShaper, ReversingShaper, SmallUnicode};
 /// `=` between them whether they are normalised alike, or why that was refused and what it left of the two.
 struct Modes;
 
-impl World for Modes {
+impl Fixture for Modes {
     fn answer(rt: &(impl Abort + AllocGlobal), case: Case<'_>) -> String {
         let characters = characters_of(rt, case.settings.face);
         answer_over(
@@ -75,7 +75,7 @@ fn normalised<T: ShapingTypes>(
     face: &T::Face,
     case: Case<'_>,
 ) -> String {
-    let mut list = prepared::<T::Unicode>(rt, &case.settings.manner, case.text);
+    let mut list = prepared::<T::Unicode>(rt, &case.settings.text_settings, case.text);
     normalise::<T>(rt, plan, face, &mut list);
     printed(rt, list)
 }
@@ -83,13 +83,13 @@ fn normalised<T: ShapingTypes>(
 /// A text whose items have the properties of their characters.
 fn prepared<U: hb_unicode_funcs_t>(
     rt: &(impl Abort + AllocGlobal),
-    manner: &Manner,
+    text_settings: &TextSettings,
     text: &str,
 ) -> hb_buffer_t {
     let mut buffer = buffer_of(rt, items_of(rt, text));
     set_unicode_props::<U>(&mut buffer);
-    buffer.set_invisible_glyph(manner.invisible);
-    buffer.set_not_found_variation_selector_glyph(manner.selector);
+    buffer.set_invisible_glyph(text_settings.invisible);
+    buffer.set_not_found_variation_selector_glyph(text_settings.selector);
     buffer
 }
 
@@ -138,10 +138,10 @@ fn printed(rt: &(impl Abort + AllocGlobal), list: hb_buffer_t) -> String {
 /// A prepared text in a direction, whose run has begun.
 fn entered<U: hb_unicode_funcs_t>(
     rt: &(impl Abort + AllocGlobal),
-    manner: &Manner,
+    text_settings: &TextSettings,
     text: &str,
 ) -> hb_buffer_t {
-    let mut buffer = prepared::<U>(rt, manner, text);
+    let mut buffer = prepared::<U>(rt, text_settings, text);
     buffer.set_direction(Direction::LeftToRight);
     buffer.enter();
     buffer
@@ -164,10 +164,10 @@ fn compared<T: ShapingTypes>(
     case: Case<'_>,
 ) -> String {
     let (a, b) = cut(rt, case.text, " = ");
-    let manner = &case.settings.manner;
+    let text_settings = &case.settings.text_settings;
     let (mut a, mut b) = (
-        entered::<T::Unicode>(rt, manner, a),
-        entered::<T::Unicode>(rt, manner, b),
+        entered::<T::Unicode>(rt, text_settings, a),
+        entered::<T::Unicode>(rt, text_settings, b),
     );
     let answer = are_alike::<T>(rt.alloc(), plan, face, (&mut a, &mut b));
     printed_comparison(rt, answer, (is_cleared(a), is_cleared(b)))
@@ -240,7 +240,7 @@ fn a_selector_without_a_variant_is_marked(rt: HostRuntime) {
         &rt,
         "
         face: a
-        manner: selector=9
+        settings: selector=9
         a FE00 FE01 -> a=61@0 FE00=0@1,marked FE01=0@2,ignorable selectors
         ",
     );
@@ -253,11 +253,11 @@ fn spaces_without_a_glyph(rt: HostRuntime) {
         "
         face: 0020
         2003 -> 2003=20@0,em spaces
-        manner: invisible=5
+        settings: invisible=5
         2007 -> 2007=20@0,figure spaces
         face:
         2003 -> 2003=5@0,em spaces
-        manner:
+        settings:
         2003 -> 2003=0@0
         face: 2003
         2003 -> 2003=2003@0

@@ -19,7 +19,7 @@ use shape_plan::shaping_types::TypesOf;
 use shape_prepare::graphemes::set_unicode_props;
 use shape_unicode::UnicodeDatabase;
 use std::process::Abort;
-use test_worlds::{PLAIN_FACE, TestFace, TestLayout};
+use test_fixtures::{PLAIN_FACE, TestFace, TestLayout};
 
 mod steps;
 
@@ -133,7 +133,7 @@ fn say<S>(plan: &PlainPlan<'_, S>) {
     plan.positions_by_one_table();
 }
 
-/// The answers of a plan by a face without tables, an engine without masks, and a shaper with both wishes for
+/// The answers of a plan by a face without tables, an engine without masks, and a shaper with both preferences for
 /// marks.
 fn assert_plain<S>(rt: &impl Abort, plan: &PlainPlan<'_, S>) {
     say(plan);

@@ -61,7 +61,7 @@ fn ordering_merges(rt: HostRuntime) {
         step: normalise
         shaper: decomposed
         face: every
-        manner: by_character
+        settings: by_character
         a 0301 0323 -> a@0 0323@1 0301@1
         a 05BC 05C1 0301 0323 -> a@0 05C1@1 05BC@1 0323@5 0301@5
         ",
@@ -141,7 +141,7 @@ fn merge_grows_right(rt: HostRuntime) {
         step: normalise
         shaper: recomposed
         face: e 0301 0323 1EB9
-        manner: by_character
+        settings: by_character
         e 0301 0323 -> 1EB9@0 0301@0
         ",
     );
@@ -155,7 +155,7 @@ fn merge_grows_left(rt: HostRuntime) {
         step: normalise
         shaper: decomposed
         face: a 0301 0323
-        manner: rtl by_character
+        settings: rtl by_character
         0323 a 0301 -> a@0 0323@0 0301@0
         ",
     );

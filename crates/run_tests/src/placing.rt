@@ -18,9 +18,9 @@ fn hidden_joiner(rt: HostRuntime) {
         a 200C -> 1@0(600,0,0,0) 3@1(0,0,0,0)
         face: a=1(600)
         a 200C -> 1@0(600,0,0,0)
-        manner: ltr
+        settings: ltr
         200C a -> 1@0(600,0,0,0)
-        manner: rtl
+        settings: rtl
         200C a -> 1@0(600,0,0,0)
         ",
     );
@@ -51,7 +51,7 @@ fn marks_above_and_below(rt: HostRuntime) {
         a 0301 -> 1@0(600,0,0,0) 2@0(0,0,-450,112)
         a 0323 -> 1@0(600,0,0,0) 4@0(0,0,-450,-12)
         a 0301 0301 -> 1@0(600,0,0,0) 2@0(0,0,-450,112) 2@0(0,0,-450,324)
-        manner: by_character
+        settings: by_character
         a 0301 -> 1@0(600,0,0,0) 2@1(0,0,-450,112)/1
         ",
     );
@@ -98,7 +98,7 @@ fn selectors_without_a_variant(rt: HostRuntime) {
         step: place
         face: a=1(600) 0020=3(250)
         a FE00 FE01 -> 1@0(600,0,0,0) 3@0(0,0,0,0) 3@0(0,0,0,0)
-        manner: selector=9
+        settings: selector=9
         a FE00 FE01 -> 1@0(600,0,0,0) 9@0(0,0,0,0) 3@0(0,0,0,0)
         ",
     );
@@ -111,7 +111,7 @@ fn down_the_page(rt: HostRuntime) {
         "
         step: place
         face: a=1(600)
-        manner: ttb
+        settings: ttb
         a -> 1@0(0,-1000,-300,-1000)
         ",
     );
@@ -124,7 +124,7 @@ fn from_right_to_left(rt: HostRuntime) {
         "
         step: place
         face: (=1(500) )=2(500) a=3(600)
-        manner: rtl
+        settings: rtl
         ( a -> 3@1(600,0,0,0) 2@0(500,0,0,0)
         ",
     );

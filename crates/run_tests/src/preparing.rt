@@ -10,7 +10,7 @@ fn empty_text(rt: HostRuntime) {
         "
         step: shape
         face: 25CC
-        manner: beginning
+        settings: beginning
         ->
         ",
     );
@@ -34,9 +34,9 @@ fn dotted_circle(rt: HostRuntime) {
         "
         step: normalise
         face: 25CC 0301
-        manner: beginning
+        settings: beginning
         0301 -> 25CC@0 0301@0
-        manner: beginning no_circle
+        settings: beginning no_circle
         0301 -> 0301@0
         ",
     );
@@ -48,7 +48,7 @@ fn bottom_to_top(rt: HostRuntime) {
         &rt,
         "
         face: a 0301 b
-        manner: btt by_character
+        settings: btt by_character
         step: prepare
         a 0301 b -> b@3 a@0 0301@0
         step: shape
@@ -64,7 +64,7 @@ fn mirrored(rt: HostRuntime) {
         "
         step: prepare
         face: ( ) a
-        manner: rtl
+        settings: rtl
         ( a -> a@1 )@0
         ",
     );
@@ -76,7 +76,7 @@ fn a_text_against_its_script_is_reversed(rt: HostRuntime) {
         &rt,
         "
         step: prepare
-        manner: ltr
+        settings: ltr
         05D0 1 -> 1@2 05D0@0
         ",
     );

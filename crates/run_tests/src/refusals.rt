@@ -39,7 +39,7 @@ fn ordering_merges(rt: HostRuntime) {
         step: refuse
         shaper: decomposed
         face: every
-        manner: by_character
+        settings: by_character
         a 0301 0323 -> 61@0(0,0,0,0) 323@1(0,0,0,0)/1 301@1(0,0,0,0)/1
         ",
     );
@@ -67,7 +67,7 @@ fn dotted_circle(rt: HostRuntime) {
         "
         step: refuse
         face: 25CC 0301
-        manner: beginning
+        settings: beginning
         0301 -> 25CC@0(0,0,0,0) 301@0(0,0,0,0)
         ",
     );
@@ -111,7 +111,7 @@ fn a_key(rt: HostRuntime) {
         step: refuse_key
         shaper: decomposed
         face: 05E9 05C1 05BC 0323
-        manner: by_character
+        settings: by_character
         05E9 05BC 05C1 0323 -> 05E9 05C1 05BC 0323
         ",
     );

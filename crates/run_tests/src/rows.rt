@@ -1,6 +1,6 @@
 //! Whole runs with the answers that the rules give.
 
-use crate::cases::{Case, World, character, check, cut, cut_off, number};
+use crate::cases::{Case, Fixture, character, check, cut, cut_off, number};
 use crate::comparing::{assert_same, assert_that};
 use crate::faces::{characters_of, face_over};
 use crate::printing::printed_items;
@@ -12,7 +12,7 @@ use shape_buffer::interfaces::{NoLookups, PlainUnicode, hb_font_t};
 use shape_pipeline::ot_shaper::{DEFAULT_SHAPER, hb_default_shaper_t};
 use shape_plan::shaping_types::{ShapingTypes, TypesOf};
 use std::process::Abort;
-use test_worlds::{DeepShaper, StackedShaper};
+use test_fixtures::{DeepShaper, StackedShaper};
 
 /// Faces of some characters without the database of Unicode, and shapers that split: `stacked`, or `deep` with how
 /// deep it goes, each time into the next character and one of its own. Their glyphs are printed as the items that they
@@ -21,7 +21,7 @@ use test_worlds::{DeepShaper, StackedShaper};
 /// The shaper `default` has the steps of `steps`.
 pub struct Splits;
 
-impl World for Splits {
+impl Fixture for Splits {
     fn answer(rt: &(impl Abort + AllocGlobal), case: Case<'_>) -> String {
         let characters = characters_of(rt, case.settings.face);
         answer_over(

@@ -95,7 +95,7 @@ pub fn text_in<U: hb_unicode_funcs_t>(
     rt: &(impl Abort + AllocGlobal),
     case: Case<'_>,
 ) -> UnicodeBuffer {
-    text_of::<U>(rt, &case.settings.manner, case.text)
+    text_of::<U>(rt, &case.settings.text_settings, case.text)
 }
 
 /// The first one of the two texts of a case.
@@ -103,7 +103,7 @@ pub fn first_in<U: hb_unicode_funcs_t>(
     rt: &(impl Abort + AllocGlobal),
     case: Case<'_>,
 ) -> UnicodeBuffer {
-    text_of::<U>(rt, &case.settings.manner, cut(rt, case.text, "/").0)
+    text_of::<U>(rt, &case.settings.text_settings, cut(rt, case.text, "/").0)
 }
 
 /// The text of a case, with its script set to Hebrew if the step is `hebrew`.
@@ -260,8 +260,8 @@ pub fn spelled<T: ShapingTypes>(
     case: Case<'_>,
 ) -> (hb_buffer_t, hb_buffer_t) {
     let (first, second) = cut(rt, case.text, "/");
-    let first = text_of::<T::Unicode>(rt, &case.settings.manner, first);
-    let second = text_of::<T::Unicode>(rt, &case.settings.manner, second);
+    let first = text_of::<T::Unicode>(rt, &case.settings.text_settings, first);
+    let second = text_of::<T::Unicode>(rt, &case.settings.text_settings, second);
     (
         prepared_under::<T>(rt, plan, face, first),
         prepared_under::<T>(rt, plan, face, second),

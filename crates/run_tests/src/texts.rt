@@ -3,7 +3,7 @@
 //! A character stands in the cluster that is its offset in UTF-8, if no other is written after an `@`: `1EA4@7`. The
 //! characters after it go on from there.
 //!
-//! The words of a manner are a direction (`ltr`, `rtl`, `ttb`, `btt`), `by_character` for clusters of single
+//! The words of the settings are a direction (`ltr`, `rtl`, `ttb`, `btt`), `by_character` for clusters of single
 //! characters, `beginning` and `no_circle` for flags of the text, and glyphs in base 16: `invisible=3` for what isn't
 //! shown, `selector=9` for selectors without a variant.
 
@@ -17,7 +17,7 @@ use std::process::Abort;
 
 /// What is set in a text before it is shaped.
 #[derive(Clone, Copy)]
-pub struct Manner {
+pub struct TextSettings {
     pub direction: Direction,
     pub level: BufferClusterLevel,
     pub flags: BufferFlags,
@@ -26,7 +26,7 @@ pub struct Manner {
 }
 
 /// Nothing is set.
-pub const PLAINLY: Manner = Manner {
+pub const PLAINLY: TextSettings = TextSettings {
     direction: Direction::Invalid,
     level: BufferClusterLevel::MonotoneGraphemes,
     flags: BufferFlags(0),
@@ -34,35 +34,35 @@ pub const PLAINLY: Manner = Manner {
     selector: None,
 };
 
-/// The manner that words name.
-pub fn manner_of(rt: &impl Abort, words: &str) -> Manner {
-    let mut manner = PLAINLY;
+/// The settings that words name.
+pub fn text_settings_of(rt: &impl Abort, words: &str) -> TextSettings {
+    let mut text_settings = PLAINLY;
     for word in words.split_whitespace() {
-        set_word(rt, &mut manner, word);
+        set_word(rt, &mut text_settings, word);
     }
-    manner
+    text_settings
 }
 
-/// Sets one thing more of a manner.
-fn set_word(rt: &impl Abort, manner: &mut Manner, word: &str) {
+/// Sets one more of the settings.
+fn set_word(rt: &impl Abort, text_settings: &mut TextSettings, word: &str) {
     match word {
-        "ltr" => manner.direction = Direction::LeftToRight,
-        "rtl" => manner.direction = Direction::RightToLeft,
-        "ttb" => manner.direction = Direction::TopToBottom,
-        "btt" => manner.direction = Direction::BottomToTop,
-        "by_character" => manner.level = BufferClusterLevel::MonotoneCharacters,
-        "beginning" => manner.flags.0 |= BufferFlags::BEGINNING_OF_TEXT.0,
-        "no_circle" => manner.flags.0 |= BufferFlags::DO_NOT_INSERT_DOTTED_CIRCLE.0,
-        _ => set_glyph(rt, manner, cut(rt, word, "=")),
+        "ltr" => text_settings.direction = Direction::LeftToRight,
+        "rtl" => text_settings.direction = Direction::RightToLeft,
+        "ttb" => text_settings.direction = Direction::TopToBottom,
+        "btt" => text_settings.direction = Direction::BottomToTop,
+        "by_character" => text_settings.level = BufferClusterLevel::MonotoneCharacters,
+        "beginning" => text_settings.flags.0 |= BufferFlags::BEGINNING_OF_TEXT.0,
+        "no_circle" => text_settings.flags.0 |= BufferFlags::DO_NOT_INSERT_DOTTED_CIRCLE.0,
+        _ => set_glyph(rt, text_settings, cut(rt, word, "=")),
     }
 }
 
-/// Sets a glyph of a manner.
-fn set_glyph(rt: &impl Abort, manner: &mut Manner, (name, glyph): (&str, &str)) {
+/// Sets a glyph of the settings.
+fn set_glyph(rt: &impl Abort, text_settings: &mut TextSettings, (name, glyph): (&str, &str)) {
     let glyph = Some(GlyphId(number_in_hex(rt, glyph)));
     match name {
-        "invisible" => manner.invisible = glyph,
-        "selector" => manner.selector = glyph,
+        "invisible" => text_settings.invisible = glyph,
+        "selector" => text_settings.selector = glyph,
         _ => rt.panic(name),
     }
 }
@@ -109,13 +109,13 @@ pub fn push(rt: &(impl Abort + AllocGlobal), text: &mut UnicodeBuffer, words: &s
     push_str(rt, text, spelled_out(rt, words).as_str());
 }
 
-/// Sets a manner of a text. Direction and script are guessed if they aren't set.
-fn set<U: hb_unicode_funcs_t>(text: &mut UnicodeBuffer, manner: &Manner) {
-    text.set_direction(manner.direction);
-    text.set_cluster_level(manner.level);
-    text.set_flags(manner.flags);
-    text.set_invisible_glyph(manner.invisible);
-    text.set_not_found_variation_selector_glyph(manner.selector);
+/// Sets the settings of a text. Direction and script are guessed if they aren't set.
+fn set<U: hb_unicode_funcs_t>(text: &mut UnicodeBuffer, text_settings: &TextSettings) {
+    text.set_direction(text_settings.direction);
+    text.set_cluster_level(text_settings.level);
+    text.set_flags(text_settings.flags);
+    text.set_invisible_glyph(text_settings.invisible);
+    text.set_not_found_variation_selector_glyph(text_settings.selector);
     text.guess_segment_properties::<U>();
 }
 
@@ -126,14 +126,14 @@ pub fn text_with(rt: &(impl Abort + AllocGlobal), words: &str) -> UnicodeBuffer 
     text
 }
 
-/// The text that words write, in a manner.
+/// The text that words write, with settings.
 pub fn text_of<U: hb_unicode_funcs_t>(
     rt: &(impl Abort + AllocGlobal),
-    manner: &Manner,
+    text_settings: &TextSettings,
     words: &str,
 ) -> UnicodeBuffer {
     let mut text = text_with(rt, words);
-    set::<U>(&mut text, manner);
+    set::<U>(&mut text, text_settings);
     text
 }
 

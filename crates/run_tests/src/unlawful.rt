@@ -11,7 +11,7 @@ fn a_variant_takes_its_selector_in(rt: HostRuntime) {
         "
         step: enter
         face: variant a
-        manner: invisible=3
+        settings: invisible=3
         a FE00 FE01 -> 7@0(0,0,0,0) 3@0(0,0,0,0)
         ",
     );

@@ -1,4 +1,4 @@
--- What the tables of a face answer.
+-- What the tables of a face return.
 use Rattle.std.specs.Prelude.{ℕ, ℤ, pos, false, List, Option, Some, None, ◌==◌, ◌&&◌, length, nat_lt, slice_get, slice_index, unwrap_or, if◌then◌else◌}
 use Rattle.shape_common.specs.Face.{FaceMeaning}
 use Rattle.shape_common.specs.declared.text_types.GlyphId.{GlyphId}
@@ -16,7 +16,7 @@ advance_of advances glyph = unwrap_or (slice_get advances glyph.0) (pos 0)
 abbrev pub extents_of : List hb_glyph_extents_t → GlyphId → Option hb_glyph_extents_t
 extents_of boxes glyph = slice_get boxes glyph.0
 
--- what a face of tables answers; U+0061 with U+FE00 after it has glyph 7
+-- what a face of tables returns; U+0061 with U+FE00 after it has glyph 7
 abbrev pub table_face : List ℕ → List ℤ → List hb_glyph_extents_t → FaceMeaning
 table_face glyphs advances boxes = record {
   nominal_glyph = λ c. if nat_lt c (length glyphs) then glyph_of (slice_index glyphs c) else None;

@@ -1,8 +1,8 @@
 //! Runs of the library for a program in C that counts their instructions: `tests/bench`.
 //!
 //! Each export fills one buffer with a text, does its work and clears the buffer, so many times: the
-//! difference between two numbers of times is the cost of one. Functions that are to be told apart by the
-//! count are never inlined. An export answers how many glyphs there are at the end, and 0 if a call was
+//! difference between two numbers of times is the cost of one. Functions that are to be distinguished by the
+//! count are never inlined. An export returns how many glyphs there are at the end, and 0 if a call was
 //! refused.
 #![tactic(auto)]
 #![allow(non_camel_case_types)]

@@ -1,3 +1,3 @@
 -- Lists of steps, and what steps keep.
 pub mod Runs
-pub mod KeeperLemmas
+pub mod PreservationLemmas

@@ -1,4 +1,4 @@
--- What a layout engine answers of a face and of compiled requests, and what its lookups make of a buffer. `Map` is what
+-- What a layout engine returns of a face and of compiled requests, and what its lookups make of a buffer. `Map` is what
 -- requests are compiled to.
 use Rattle.std.specs.Prelude.{◌≡◌, ℕ, ◌<◌, Bool, List, Option, length}
 use Rattle.std.specs.Int.RustNames.{bit_and}
@@ -19,7 +19,7 @@ pub record LayoutMeaning (Map : Type 0) : Type 0 where
   pub has_machine_kerning : Bool
   pub has_cross_kerning : Bool
 
--- what compiled requests answer
+-- what compiled requests return
 pub record MapMeaning : Type 0 where
   pub global_mask : ℕ
   -- the mask of a feature's value 1
@@ -49,7 +49,7 @@ pub record LookupMeaning : Type 0 where
 abbrev pub HasNoDefinedFlag : ℕ → Type 0
 HasNoDefinedFlag mask = bit_and mask DEFINED ≡ 0
 
--- what every engine owes of its masks
+-- the obligations of every engine on its masks
 pub record LawfulMasks (map : MapMeaning) : Type 0 where
   pub global_mask : HasNoDefinedFlag map.global_mask
   pub one_mask : (tag : hb_tag_t) → HasNoDefinedFlag (map.one_mask tag)
@@ -57,15 +57,15 @@ pub record LawfulMasks (map : MapMeaning) : Type 0 where
   pub shift : (tag : hb_tag_t) → (map.mask tag).1 < 32
 
 -- as many items as before
-abbrev pub KeepsCount : (Buffer → Buffer) → Type 0
-KeepsCount f = (b : Buffer) → length (f b).items ≡ length b.items
+abbrev pub PreservesCount : (Buffer → Buffer) → Type 0
+PreservesCount f = (b : Buffer) → length (f b).items ≡ length b.items
 
--- what every engine owes of its lookups: positioning keeps the number of items
+-- the obligations of every engine on its lookups: positioning preserves the number of items
 pub record LawfulLookups (lookups : LookupMeaning) : Type 0 where
-  pub aat_zero_width_deleted : KeepsCount lookups.aat_zero_width_deleted
-  pub position_start : KeepsCount lookups.position_start
-  pub position : KeepsCount lookups.position
-  pub position_finish_advances : KeepsCount lookups.position_finish_advances
-  pub position_finish_offsets : KeepsCount lookups.position_finish_offsets
-  pub aat_position : (mask : ℕ) → KeepsCount (lookups.aat_position mask)
-  pub kern : (mask : ℕ) → KeepsCount (lookups.kern mask)
+  pub aat_zero_width_deleted : PreservesCount lookups.aat_zero_width_deleted
+  pub position_start : PreservesCount lookups.position_start
+  pub position : PreservesCount lookups.position
+  pub position_finish_advances : PreservesCount lookups.position_finish_advances
+  pub position_finish_offsets : PreservesCount lookups.position_finish_offsets
+  pub aat_position : (mask : ℕ) → PreservesCount (lookups.aat_position mask)
+  pub kern : (mask : ℕ) → PreservesCount (lookups.kern mask)

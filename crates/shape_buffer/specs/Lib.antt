@@ -4,7 +4,7 @@ pub mod MapBuilder
 pub mod Layout
 pub mod Outcome
 pub mod Walks
-pub mod Keepers
+pub mod Preservation
 pub mod NoLookups
 pub mod Ranges
 pub mod PositionWalks

@@ -1,4 +1,4 @@
--- What a face answers.
+-- What a face returns.
 use Rattle.std.specs.Prelude.{ℕ, ℤ, Option}
 use Rattle.shape_common.specs.declared.text_types.GlyphId.{GlyphId}
 use Rattle.shape_common.specs.declared.face.hb_glyph_extents_t.{hb_glyph_extents_t}

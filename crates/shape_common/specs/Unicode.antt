@@ -8,7 +8,7 @@ use Rattle.shape_common.specs.declared.general_category.hb_unicode_general_categ
 use Rattle.shape_common.specs.declared.text_types.Direction.{Direction}
 use Rattle.shape_common.specs.declared.text_types.Script.{Script}
 
--- what the functions answer for each character, and a height that falls along splits
+-- what the functions return for each character, and a height that falls along splits
 pub record UnicodeMeaning : Type 0 where
   pub category : ℕ → hb_unicode_general_category_t
   pub ccc : ℕ → ℕ
@@ -42,7 +42,7 @@ pub record IsPlain (unicode : UnicodeMeaning) (c : ℕ) : Type 0 where
 abbrev pub FormsArePlain : UnicodeMeaning → (ℕ → Option ℕ) → Type 0
 FormsArePlain unicode form = (c d : ℕ) → form c ≡ Some d → IsPlain unicode c × IsPlain unicode d
 
--- the laws, over all numbers: of a number that is no character a meaning may answer whatever keeps them
+-- the laws, over all numbers: of a number that is no character a meaning may return whatever keeps them
 pub record LawfulUnicode (unicode : UnicodeMeaning) : Type 0 where
   pub only_marks_have_ccc : (c : ℕ) → unicode.ccc c ≢ 0 → is_mark unicode c ≡ true
   pub ascii_is_no_mark : (c : ℕ) → c < 128 → is_mark unicode c ≡ false

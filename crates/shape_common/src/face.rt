@@ -28,14 +28,14 @@ pub struct hb_tables_t {
 pub trait hb_font_t {
     ghost use Rattle.shape_common.specs.Face.{FaceMeaning};
 
-    /// What a face answers.
+    /// What a face returns.
     ghost face: { Self → FaceMeaning };
 
     /// The glyph that stands for a character if nothing else is known.
     fn get_nominal_glyph(&self, c: char) -> Option<GlyphId>
         ensures { result ≡ (face self.now).nominal_glyph c };
 
-    /// Whether `get_nominal_glyph` answers.
+    /// Whether `get_nominal_glyph` returns.
     fn has_glyph(&self, c: char) -> bool
         ensures { result ≡ is_some ((face self.now).nominal_glyph c) };
 

@@ -8,7 +8,7 @@ use crate::{Direction, Script, hb_unicode_general_category_t};
 /// The functions on characters that shaping is generic over. They have no receiver and are called as
 /// `U::decompose(c)`.
 pub trait hb_unicode_funcs_t {
-    /// What the functions answer.
+    /// What the functions return.
     ghost unicode: { UnicodeMeaning };
 
     /// The general category (The Unicode Standard, section 4.5).

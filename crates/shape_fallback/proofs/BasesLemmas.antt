@@ -18,22 +18,22 @@ marks_of-span : (face : FaceMeaning) (s : MarkFrame) (b : Buffer) (span : Span) 
 unfolding position_span
 marks_of-span face s b span = keys-unsafe_to_break is_mark_item (λ x. refl) span.start span.end b
 
-with_marks_keeps : (face : FaceMeaning) (s : MarkFrame) (i : ℕ) (b : Buffer) (n : ℕ)
+with_marks_preserves : (face : FaceMeaning) (s : MarkFrame) (i : ℕ) (b : Buffer) (n : ℕ)
     → marks_of (fold (position_span face s) b (with_marks i n)) ≡ marks_of b
-with_marks_keeps face s i b zero = refl
-with_marks_keeps face s i b (suc n) = marks_of-span face s b (record { start = i; end = i + 1 + suc n })
+with_marks_preserves face s i b zero = refl
+with_marks_preserves face s i b (suc n) = marks_of-span face s b (record { start = i; end = i + 1 + suc n })
 
-base_at_keeps : (face : FaceMeaning) (s : MarkFrame) (i : ℕ) (b : Buffer) (ms : List Bool)
+base_at_preserves : (face : FaceMeaning) (s : MarkFrame) (i : ℕ) (b : Buffer) (ms : List Bool)
     → marks_of (fold (position_span face s) b (base_at i ms)) ≡ marks_of b
 unfolding base_at
-base_at_keeps face s i b [] = refl
-base_at_keeps face s i b (true ∷ ms) = refl
-base_at_keeps face s i b (false ∷ ms) = with_marks_keeps face s i b (prefix_len (λ mark. mark) ms)
+base_at_preserves face s i b [] = refl
+base_at_preserves face s i b (true ∷ ms) = refl
+base_at_preserves face s i b (false ∷ ms) = with_marks_preserves face s i b (prefix_len (λ mark. mark) ms)
 
 -- placing the marks of a base leaves which items are marks
 pub marks_of-positioned_at : (face : FaceMeaning) (s : MarkFrame) (i : ℕ) (b : Buffer) → marks_of (positioned_at face s i b) ≡ marks_of b
 unfolding positioned_at
-marks_of-positioned_at face s i b = base_at_keeps face s i b (drop i (marks_of b))
+marks_of-positioned_at face s i b = base_at_preserves face s i b (drop i (marks_of b))
 
 -- placing the marks of a span leaves the limit
 limit-with_marks : (face : FaceMeaning) (s : MarkFrame) (i : ℕ) (b : Buffer) (n : ℕ)

@@ -2,5 +2,5 @@ mod PositionsLemmas
 mod SpacesLemmas
 mod MarksLemmas
 mod BasesLemmas
-pub mod KeeperLemmas
+pub mod PreservationLemmas
 mod ExactLemmas

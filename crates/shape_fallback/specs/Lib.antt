@@ -8,11 +8,6 @@ pub mod MarkState
 pub mod Marks
 pub mod Bases
 pub mod DueSteps
-pub mod Keepers
+pub mod Preservation
 pub mod Exact
-pub mod WorkedCcc
-pub mod WorkedSpaces
-pub mod WorkedOneMark
-pub mod WorkedMarks
-pub mod WorkedBuffers
-pub mod WorkedDirections
+pub mod Worked

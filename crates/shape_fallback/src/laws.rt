@@ -1,23 +1,23 @@
 //! Laws of the fallback steps: each function has laws as its contract, and nothing to do.
 ghost use Rattle.std.specs.Prelude.{Option};
 ghost use Rattle.shape_common.specs.Face.{FaceMeaning};
-ghost use Rattle.shape_buffer.specs.Keepers.{IsClusterKeeper, IsFlagKeeper};
+ghost use Rattle.shape_buffer.specs.Preservation.{IsClusterPreserving, IsFlagPreserving};
 ghost use Rattle.shape_common.specs.Unicode.{UnicodeMeaning};
 ghost use Rattle.shape_common.specs.declared.text_types.Direction.{Direction};
 ghost use Rattle.shape_common.specs.declared.text_types.Script.{Script};
 ghost use Rattle.shape_plan.specs.declared.decisions.Decisions.{Decisions};
 ghost use Rattle.shape_fallback.specs.Exact.{ExactMarks, ExactRound, ExactSpaces};
-ghost use Rattle.shape_fallback.specs.Keepers.{EachFallback};
+ghost use Rattle.shape_fallback.specs.Preservation.{EachFallback};
 
-/// Each fallback step keeps the order of clusters, brings no new one, and sets a defined flag only
+/// Each fallback step preserves the order of clusters, brings no new one, and sets a defined flag only
 /// together with the scratch flag that says so.
-pub fn fallback_steps_keep_clusters_and_flags()
+pub fn fallback_steps_preserve_clusters_and_flags()
     ensures clusters { (unicode : UnicodeMeaning) (face : FaceMeaning) (direction : Direction)
         (script : Option Script) (decisions : Decisions)
-        → EachFallback IsClusterKeeper unicode face direction script decisions }
+        → EachFallback IsClusterPreserving unicode face direction script decisions }
     ensures flags { (unicode : UnicodeMeaning) (face : FaceMeaning) (direction : Direction)
         (script : Option Script) (decisions : Decisions)
-        → EachFallback IsFlagKeeper unicode face direction script decisions }
+        → EachFallback IsFlagPreserving unicode face direction script decisions }
 {}
 
 /// The numbers of one mark, and those that the marks of a base hand on, are the exact ones if they fit

@@ -1,10 +1,10 @@
 //! The definitions, computed on cases whose answers are worked out by hand.
-ghost use Rattle.shape_fallback.specs.WorkedBuffers.{WorkedBuffers};
-ghost use Rattle.shape_fallback.specs.WorkedCcc.{WorkedCcc};
-ghost use Rattle.shape_fallback.specs.WorkedMarks.{WorkedMarks};
-ghost use Rattle.shape_fallback.specs.WorkedOneMark.{WorkedOneMark};
-ghost use Rattle.shape_fallback.specs.WorkedSpaces.{WorkedSpaces};
-ghost use Rattle.shape_fallback.specs.WorkedDirections.{WorkedDirections};
+ghost use Rattle.shape_fallback.specs.Worked.Buffers.{WorkedBuffers};
+ghost use Rattle.shape_fallback.specs.Worked.Ccc.{WorkedCcc};
+ghost use Rattle.shape_fallback.specs.Worked.Marks.{WorkedMarks};
+ghost use Rattle.shape_fallback.specs.Worked.OneMark.{WorkedOneMark};
+ghost use Rattle.shape_fallback.specs.Worked.Spaces.{WorkedSpaces};
+ghost use Rattle.shape_fallback.specs.Worked.Directions.{WorkedDirections};
 
 /// The ccc that marks are placed by: each row of the rules for Thai and Lao and for other scripts, the
 /// characters and ccc beside them, and the categories that don't change.

@@ -7,9 +7,4 @@ pub mod Variations
 pub mod Metrics
 pub mod Names
 pub mod Face
-pub mod WorkedTables
-pub mod WorkedGlyphs
-pub mod WorkedLines
-pub mod WorkedSearches
-pub mod WorkedNames
-pub mod WorkedFace
+pub mod Worked

@@ -1,10 +1,10 @@
 //! The definitions, computed on bytes that were read by hand.
-ghost use Rattle.shape_font.specs.WorkedTables.{WorkedNumbers, WorkedDirectory, WorkedCollections, WorkedSubtables, WorkedTags};
-ghost use Rattle.shape_font.specs.WorkedGlyphs.{WorkedLists, WorkedSegments, WorkedGroups, WorkedSymbols, WorkedMetrics};
-ghost use Rattle.shape_font.specs.WorkedLines.{WorkedLines};
-ghost use Rattle.shape_font.specs.WorkedSearches.{WorkedSearches, WorkedVariations};
-ghost use Rattle.shape_font.specs.WorkedNames.{WorkedNames};
-ghost use Rattle.shape_font.specs.WorkedFace.{WorkedFace, WorkedOrigins};
+ghost use Rattle.shape_font.specs.Worked.Tables.{WorkedNumbers, WorkedDirectory, WorkedCollections, WorkedSubtables, WorkedTags};
+ghost use Rattle.shape_font.specs.Worked.Glyphs.{WorkedLists, WorkedSegments, WorkedGroups, WorkedSymbols, WorkedMetrics};
+ghost use Rattle.shape_font.specs.Worked.Lines.{WorkedLines};
+ghost use Rattle.shape_font.specs.Worked.Searches.{WorkedSearches, WorkedVariations};
+ghost use Rattle.shape_font.specs.Worked.Names.{WorkedNames};
+ghost use Rattle.shape_font.specs.Worked.Face.{WorkedFace, WorkedOrigins};
 
 /// Numbers, the directory, collections, the choice of a character map, and the tags of tables.
 pub fn tables_meet_worked_cases()
@@ -25,7 +25,7 @@ pub fn glyphs_meet_worked_cases()
     ensures lines { WorkedLines }
 {}
 
-/// Searches by midpoints, variation sequences, names, and what a face answers.
+/// Searches by midpoints, variation sequences, names, and what a face returns.
 pub fn searches_meet_worked_cases()
     ensures searches { WorkedSearches }
     ensures variations { WorkedVariations }

@@ -1,3 +1,3 @@
 -- Deletion, and what it keeps.
 pub mod DeleteLemmas
-pub mod DeleteKeeps
+pub mod DeletePreserves

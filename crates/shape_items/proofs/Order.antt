@@ -1,4 +1,4 @@
 -- The order of clusters.
 pub mod DrawsInOrder
-pub mod KeepsClusterLemmas
+pub mod PreservesClusterLemmas
 pub mod GraphemeOrderLemmas

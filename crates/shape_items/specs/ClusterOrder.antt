@@ -1,4 +1,4 @@
--- The order of clusters, and what keeps it.
+-- The order of clusters, and what preserves it.
 use Rattle.std.specs.Prelude.{ℕ, ◌<◌, ◌≤◌, ⊤, Bool, true, false, List, length, slice_index_or, Contains}
 use Rattle.std.specs.List.Sorted.{IsNonDecreasing}
 use Rattle.shape_common.specs.declared.text_types.BufferClusterLevel.{BufferClusterLevel}
@@ -20,7 +20,7 @@ IsOrderedFor true xs = IsNonIncreasing xs
 IsOrderedFor false xs = IsNonDecreasing xs
 
 -- order stays order, and no cluster is new
-pub record KeepsClusters (before after : List ℕ) : Type 0 where
+pub record PreservesClusters (before after : List ℕ) : Type 0 where
   pub rising : IsNonDecreasing before → IsNonDecreasing after
   pub falling : IsNonIncreasing before → IsNonIncreasing after
   pub none_new : (k : ℕ) → Contains after k → Contains before k

@@ -5,7 +5,7 @@ use Rattle.std.specs.List.{flat_map, prefix_len}
 use Rattle.shape_items.specs.Buffer.{Buffer}
 use Rattle.canonical_form.specs.Divided.{divided_between}
 use Rattle.shape_items.specs.Items.{Item, has_cluster}
-use Rattle.shape_items.specs.KeepsFlags.{has_glyph_flags}
+use Rattle.shape_items.specs.PreservesFlags.{has_glyph_flags}
 use Rattle.shape_common.specs.declared.flags.BufferFlags.{BufferFlags}
 use Rattle.shape_common.specs.FlagNames.{UNSAFE_TO_BREAK, SAFE_TO_INSERT_TATWEEL, UNSAFE, NOT_FOR_CONCAT, DEFINED, PRODUCE_UNSAFE_TO_CONCAT, PRODUCE_SAFE_TO_INSERT_TATWEEL}
 

@@ -6,7 +6,7 @@ use Rattle.shape_common.specs.Direction.{is_vertical, is_backward}
 use Rattle.shape_common.specs.FlagNames.{UNSAFE_TO_BREAK}
 use Rattle.shape_items.specs.Flags.{cluster_runs}
 use Rattle.shape_items.specs.Items.{Item, has_cluster}
-use Rattle.shape_items.specs.KeepsFlags.{some_has}
+use Rattle.shape_items.specs.PreservesFlags.{some_has}
 use Rattle.shape_common.specs.Wrapping.{◌+ʷ◌}
 use Rattle.shape_items.specs.declared.clusters.glyph_clusters.GlyphCluster.{GlyphCluster}
 use Rattle.shape_common.specs.declared.positions.GlyphPosition.{GlyphPosition}

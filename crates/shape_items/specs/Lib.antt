@@ -9,10 +9,10 @@ pub mod BufferClusters
 pub mod Spans
 pub mod GraphemeSpans
 pub mod Delete
-pub mod KeepsFlags
+pub mod PreservesFlags
 pub mod Unwritten
 pub mod UnicodeProps
 pub mod Flags
 pub mod Prepared
 pub mod GlyphClusters
-pub mod WorkedWords
+pub mod Worked

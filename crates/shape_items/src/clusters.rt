@@ -5,7 +5,7 @@
 //! them that stood in a cluster which is now partly gone.
 ghost use Rattle.std.specs.Prelude.{◌≡◌, ◌+◌, ◌≤◌, ◌<◌, length, map, slice_range};
 ghost use Rattle.std.specs.List.{prefix_len, suffix_len};
-ghost use Rattle.shape_items.specs.ClusterOrder.{KeepsClusters};
+ghost use Rattle.shape_items.specs.ClusterOrder.{PreservesClusters};
 ghost use Rattle.shape_items.specs.Items.{has_cluster, put_in};
 ghost use Rattle.shape_items.specs.Clusters.{clusters, least_cluster as least_cluster_of};
 ghost use Rattle.shape_items.specs.Clusters.{growth_left as growth_left_of};
@@ -96,7 +96,7 @@ pub fn merge_items(infos: &mut [hb_glyph_info_t], start: usize, end: usize)
     requires ordered { start ≤ end }
     requires within { end ≤ length infos.old }
     ensures merged { infos.new ≡ merge start end infos.old }
-    ensures order { KeepsClusters (clusters infos.old) (clusters infos.new) }
+    ensures order { PreservesClusters (clusters infos.old) (clusters infos.new) }
 {
     if end - start < 2 {
         return;

@@ -3,7 +3,7 @@
 //! After a run each glyph of a cluster has the same flags, so those of one glyph tell of its cluster.
 ghost use Rattle.std.specs.Prelude.{◌≡◌};
 ghost use Rattle.shape_common.specs.FlagNames.{UNSAFE_TO_BREAK, UNSAFE_TO_CONCAT, SAFE_TO_INSERT_TATWEEL};
-ghost use Rattle.shape_items.specs.KeepsFlags.{has_flag};
+ghost use Rattle.shape_items.specs.PreservesFlags.{has_flag};
 
 use crate::items::{SAFE_TO_INSERT_TATWEEL, UNSAFE_TO_BREAK, UNSAFE_TO_CONCAT, hb_glyph_info_t};
 

@@ -38,7 +38,7 @@ pub const SAFE_TO_INSERT_TATWEEL: hb_mask_t = 4;
 /// The three flags together; the other bits of a mask are features.
 pub const DEFINED: hb_mask_t = 7;
 
-/// An item: its character, the index that the face answers for it, the glyph that lookups make of it,
+/// An item: its character, the index that the face returns for it, the glyph that lookups make of it,
 /// its mask, and the cluster that leads back to the text.
 #[derive(Clone, Copy, Debug)]
 pub struct hb_glyph_info_t {

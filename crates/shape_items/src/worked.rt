@@ -1,6 +1,6 @@
 //! The definitions, computed on cases that were worked out by hand. Each function has such cases as its
 //! contract, and nothing to do.
-ghost use Rattle.shape_items.specs.WorkedWords.{WordsWorked};
+ghost use Rattle.shape_items.specs.Worked.Words.{WordsWorked};
 
 /// The words of an item: a new one, one with each of its properties, and the numbers of categories.
 pub fn words_meet_worked_cases()

@@ -16,7 +16,7 @@ use Rattle.shape_items.specs.Items.{Item, new_item}
 abbrev pub EachPair : (Item → Item → Bool) → List Item → Type 0
 EachPair test items = AllAdjacentBelow (λ x y. test x y ≡ true) items (length items)
 
--- what `is_sorted_by` answers
+-- what `is_sorted_by` returns
 pub answers : (test : Item → Item → Bool) (items : List Item) (r : Bool) → IsAllAdjacentAnswer (λ x y b. b ≡ test x y) items r
     → (r ≡ true) ↔ EachPair test items
 answers test items true all = (λ e k d lt. sym (all k d lt), λ _. refl)

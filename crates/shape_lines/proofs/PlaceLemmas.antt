@@ -29,7 +29,7 @@ module _ (gs : List Glyph) (rise : ClustersRise gs) (one : HasOneFlag gs) where
         | inr le ↦ let same : cluster_at gs k ≡ cluster_at gs (suc k) = omega arith in absurd (begins.differ (here ∙ same))
       ] in
       record {
-        behind = some;
+        beyond = some;
         before = lt;
         differ = begins.differ;
         safe = λ j within is_greater.
@@ -45,7 +45,7 @@ module _ (gs : List Glyph) (rise : ClustersRise gs) (one : HasOneFlag gs) where
 
   pub begin_from_place : (place : ℕ) → IsPlaceOfCut gs place → BeginsSafely gs place
   begin_from_place place h =
-      let some = h.behind in
+      let some = h.beyond in
       let lt = h.before in
       let up = rise (place - 1) place (omega arith) lt in
       record { differ = h.differ; lacks = h.safe place lt (omega arith) }

@@ -11,7 +11,7 @@ use Rattle.shape_items.specs.Clusters.{clusters}
 use Rattle.shape_common.specs.FlagNames.{UNSAFE_TO_BREAK}
 use Rattle.shape_items.specs.Flags.{flags_of, HasOneSetOfFlags}
 use Rattle.shape_items.specs.Items.{Item, new_item}
-use Rattle.shape_items.specs.KeepsFlags.{has_flag}
+use Rattle.shape_items.specs.PreservesFlags.{has_flag}
 use Rattle.shape_common.specs.declared.positions.GlyphPosition.{GlyphPosition}
 use Rattle.shape_common.specs.declared.text_types.Direction.{Direction}
 use Rattle.shape_lines.specs.CanCut.{IsMonotone}

@@ -51,8 +51,8 @@ module _ (ps : List Part) (width : ℤ) (cut : ℕ → ℕ → Line) where
       subst (AreLines ps width cut 0) (sym (append_assoc lines (cut start taken ∷ []) rest))
       (lines_on (cut start taken ∷ rest) (taken, is_end_of_line, refl, later))
 
-  module _ (lines : List Line) (start taken : ℕ) (so_far behind : ℤ) (place : ℕ)
-      (h : IsWalked ps width cut lines start taken so_far behind place place) (is : is_end ps place ≡ true) (within : place ≤ length ps) where
+  module _ (lines : List Line) (start taken : ℕ) (so_far beyond : ℤ) (place : ℕ)
+      (h : IsWalked ps width cut lines start taken so_far beyond place place) (is : is_end ps place ≡ true) (within : place ≤ length ps) where
     -- nothing ends between what was taken and this place
     later_from : (end : ℕ) → taken < end → is_end ps end ≡ true → place ≤ end
     later_from end longer ends_there =
@@ -85,7 +85,7 @@ module _ (ps : List Part) (width : ℤ) (cut : ℕ → ℕ → Line) where
           within = omega arith;
           none_since = none_new;
           so_far_is = h.so_far_is;
-          behind_is = sym (width-none ps place);
+          beyond_is = sym (width-none ps place);
           line = inr (record {
             may_end = place_ends;
             for = inl (at.end, from, record { after = omega arith; within = at.within; is = at.is }, omega (arith, ints));
@@ -105,7 +105,7 @@ module _ (ps : List Part) (width : ℤ) (cut : ℕ → ℕ → Line) where
           within = omega arith;
           none_since = none_new;
           so_far_is = h.so_far_is;
-          behind_is = sym (width-none ps place);
+          beyond_is = sym (width-none ps place);
           line = inr (record {
             may_end = place_ends;
             for = inr (λ earlier before may_end.
@@ -116,7 +116,7 @@ module _ (ps : List Part) (width : ℤ) (cut : ℕ → ℕ → Line) where
 
     -- else the line ends where it was taken to, and a new one begins there
     pub IsWalked-ended : start < taken → width <ℤ (so_far +ℤ least (drop place ps))
-        → IsWalked ps width cut (lines ++ cut start taken ∷ []) taken place behind (pos 0) place (place + 1)
+        → IsWalked ps width cut (lines ++ cut start taken ∷ []) taken place beyond (pos 0) place (place + 1)
     IsWalked-ended some wide =
         let order = h.order in
         let ahead = h.ahead in
@@ -127,8 +127,8 @@ module _ (ps : List Part) (width : ℤ) (cut : ℕ → ℕ → Line) where
           near = omega arith;
           within = omega arith;
           none_since = none_new;
-          so_far_is = h.behind_is;
-          behind_is = sym (width-none ps place);
+          so_far_is = h.beyond_is;
+          beyond_is = sym (width-none ps place);
           line = inr (record {
             may_end = record { after = omega arith; within = within; is = is };
             for = inr (λ earlier before may_end. false≢true (sym (h.none_since earlier may_end.after before) ∙ may_end.is));
@@ -149,10 +149,10 @@ module _ (ps : List Part) (width : ℤ) (cut : ℕ → ℕ → Line) where
             omega (arith, ints)
 
   -- a place where no line may end
-  pub IsWalked-past : (lines : List Line) (start taken : ℕ) (so_far behind : ℤ) (place : ℕ)
-      → IsWalked ps width cut lines start taken so_far behind place place → is_end ps place ≡ false
-      → IsWalked ps width cut lines start taken so_far behind place (place + 1)
-  IsWalked-past lines start taken so_far behind place h none =
+  pub IsWalked-past : (lines : List Line) (start taken : ℕ) (so_far beyond : ℤ) (place : ℕ)
+      → IsWalked ps width cut lines start taken so_far beyond place place → is_end ps place ≡ false
+      → IsWalked ps width cut lines start taken so_far beyond place (place + 1)
+  IsWalked-past lines start taken so_far beyond place h none =
       let ahead = h.ahead in
       record {
         lines_on = h.lines_on;
@@ -166,15 +166,15 @@ module _ (ps : List Part) (width : ℤ) (cut : ℕ → ℕ → Line) where
               | inr le ↦ let here : place ≡ end = omega arith in ap (is_end ps) (sym here) ∙ none
             ];
         so_far_is = h.so_far_is;
-        behind_is = h.behind_is;
+        beyond_is = h.beyond_is;
         line = h.line;
       }
 
   -- one part more
-  pub IsWalked-more : (lines : List Line) (start taken : ℕ) (so_far behind : ℤ) (place : ℕ) (p : Part) → place < length ps
-      → p ≡ get_or ps place p → IsWalked ps width cut lines start taken so_far behind place (place + 1)
-      → IsWalked ps width cut lines start taken (so_far +ℤ p.width) (behind +ℤ p.width) (place + 1) (place + 1)
-  IsWalked-more lines start taken so_far behind place p lt is h =
+  pub IsWalked-more : (lines : List Line) (start taken : ℕ) (so_far beyond : ℤ) (place : ℕ) (p : Part) → place < length ps
+      → p ≡ get_or ps place p → IsWalked ps width cut lines start taken so_far beyond place (place + 1)
+      → IsWalked ps width cut lines start taken (so_far +ℤ p.width) (beyond +ℤ p.width) (place + 1) (place + 1)
+  IsWalked-more lines start taken so_far beyond place p lt is h =
       let order = h.order in
       let within = h.within in
       record {
@@ -185,7 +185,7 @@ module _ (ps : List Part) (width : ℤ) (cut : ℕ → ℕ → Line) where
         within = omega arith;
         none_since = h.none_since;
         so_far_is = ap (λ w. w +ℤ p.width) h.so_far_is ∙ sym (width-more ps start place p (omega arith) lt is);
-        behind_is = ap (λ w. w +ℤ p.width) h.behind_is ∙ sym (width-more ps taken place p within lt is);
+        beyond_is = ap (λ w. w +ℤ p.width) h.beyond_is ∙ sym (width-more ps taken place p within lt is);
         line = h.line;
       }
 
@@ -199,25 +199,25 @@ module _ (ps : List Part) (width : ℤ) (cut : ℕ → ℕ → Line) where
     within = omega arith;
     none_since = λ end after before. absurd (omega arith);
     so_far_is = sym (width-none ps 0);
-    behind_is = sym (width-none ps 0);
+    beyond_is = sym (width-none ps 0);
     line = inl refl;
   }
 
   -- an end that the walk meets, by the test of the code
-  pub IsWalked-kept : (lines : List Line) (start taken : ℕ) (so_far behind : ℤ) (place : ℕ)
-      → IsWalked ps width cut lines start taken so_far behind place place → is_end ps place ≡ true → place ≤ length ps
+  pub IsWalked-preserved : (lines : List Line) (start taken : ℕ) (so_far beyond : ℤ) (place : ℕ)
+      → IsWalked ps width cut lines start taken so_far beyond place place → is_end ps place ≡ true → place ≤ length ps
       → (start < taken → (so_far +ℤ least (drop place ps)) ≤ℤ width)
       → IsWalked ps width cut lines start place so_far (pos 0) place (place + 1)
-  IsWalked-kept lines start taken so_far behind place h is within test =
+  IsWalked-preserved lines start taken so_far beyond place h is within test =
       elim (cases_lt start taken) [
-        | inl some ↦ IsWalked-taken lines start taken so_far behind place h is within (test some)
-        | inr none ↦ let order = h.order in IsWalked-begun lines start taken so_far behind place h is within (omega arith)
+        | inl some ↦ IsWalked-taken lines start taken so_far beyond place h is within (test some)
+        | inr none ↦ let order = h.order in IsWalked-begun lines start taken so_far beyond place h is within (omega arith)
       ]
 
   -- the walk at the end of the text
-  pub IsWalked-all : (lines : List Line) (start taken : ℕ) (so_far behind : ℤ) (place seen : ℕ) → place ≡ length ps → taken ≡ place → start < place
-      → IsWalked ps width cut lines start taken so_far behind place seen → AreLines ps width cut 0 (lines ++ cut start taken ∷ [])
-  IsWalked-all lines start taken so_far behind place seen all is some h =
+  pub IsWalked-all : (lines : List Line) (start taken : ℕ) (so_far beyond : ℤ) (place seen : ℕ) → place ≡ length ps → taken ≡ place → start < place
+      → IsWalked ps width cut lines start taken so_far beyond place seen → AreLines ps width cut 0 (lines ++ cut start taken ∷ [])
+  IsWalked-all lines start taken so_far beyond place seen all is some h =
       elim h.line [
         | inl none ↦ absurd (omega arith)
         | inr at ↦

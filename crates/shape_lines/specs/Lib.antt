@@ -4,6 +4,4 @@ pub mod Places
 pub mod RightLines
 pub mod Parts
 pub mod Walked
-pub mod WorkedCanCut
-pub mod WorkedPlaces
-pub mod WorkedLines
+pub mod Worked

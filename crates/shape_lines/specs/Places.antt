@@ -17,7 +17,7 @@ lacks_break_at (glyph ∷ glyphs) (suc place) = lacks_break_at glyphs place
 -- Place of a cut: between two neighbouring glyphs of different clusters, if the glyphs of the greater cluster lack
 -- UNSAFE_TO_BREAK
 pub record IsPlaceOfCut (glyphs : List Glyph) (place : ℕ) : Type 0 where
-  pub behind : 0 < place
+  pub beyond : 0 < place
   pub before : place < length glyphs
   pub differ : cluster_at glyphs (place - 1) ≢ cluster_at glyphs place
   pub safe : (k : ℕ) → k < length glyphs

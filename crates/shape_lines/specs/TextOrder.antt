@@ -5,7 +5,7 @@ use Rattle.shape_items.specs.Clusters.{clusters}
 use Rattle.shape_common.specs.Direction.{is_vertical}
 use Rattle.shape_common.specs.FlagNames.{UNSAFE_TO_BREAK}
 use Rattle.shape_items.specs.Items.{Item}
-use Rattle.shape_items.specs.KeepsFlags.{has_flag}
+use Rattle.shape_items.specs.PreservesFlags.{has_flag}
 use Rattle.shape_common.specs.Positions.{zero_position}
 use Rattle.shape_common.specs.declared.positions.GlyphPosition.{GlyphPosition}
 use Rattle.shape_common.specs.declared.text_types.Direction.{Direction}

@@ -50,7 +50,7 @@ pub record IsTaken (parts : List Part) (width : ℤ) (start taken : ℕ) : Type 
 
 -- the ends before `seen` were looked at, and the sums go up to `place`: the lines before `start` stand, a line begins
 -- there, and was taken up to `taken`, or has met no end yet
-pub record IsWalked (parts : List Part) (width : ℤ) (cut : ℕ → ℕ → Line) (lines : List Line) (start taken : ℕ) (so_far behind : ℤ)
+pub record IsWalked (parts : List Part) (width : ℤ) (cut : ℕ → ℕ → Line) (lines : List Line) (start taken : ℕ) (so_far beyond : ℤ)
     (place seen : ℕ) : Type 0 where
   pub lines_on : (rest : List Line) → AreLines parts width cut start rest → AreLines parts width cut 0 (lines ++ rest)
   pub order : start ≤ taken
@@ -59,9 +59,9 @@ pub record IsWalked (parts : List Part) (width : ℤ) (cut : ℕ → ℕ → Lin
   pub within : taken ≤ place
   pub none_since : (end : ℕ) → taken < end → end < seen → is_end parts end ≡ false
   pub so_far_is : so_far ≡ width_between parts start place
-  pub behind_is : behind ≡ width_between parts taken place
+  pub beyond_is : beyond ≡ width_between parts taken place
   pub line : (taken ≡ start) ⊎ IsTaken parts width start taken
 
 abbrev pub HasWalked : Buffer → ℕ → ℤ → ℕ → ℕ → Walk → Type 0
 HasWalked b text_end width place seen walk =
-    IsWalked (parts_of b) width (line_of b text_end) walk.lines.items walk.start walk.taken walk.so_far walk.behind place seen
+    IsWalked (parts_of b) width (line_of b text_end) walk.lines.items walk.start walk.taken walk.so_far walk.beyond place seen

@@ -37,7 +37,7 @@ struct Walk {
     start: usize,
     taken: usize,
     so_far: i128,
-    behind: i128,
+    beyond: i128,
 }
 
 /// The lines of a shaped text that ends at this cluster, in the order of the text, so from the end of the list
@@ -80,7 +80,7 @@ fn walked_lines(
         start: 0,
         taken: 0,
         so_far: 0,
-        behind: 0,
+        beyond: 0,
     };
     walk.add(glyphs, text_end, width, 0);
     for place in 1..glyphs.len() {
@@ -111,13 +111,13 @@ fn least_widths(alloc: Global, glyphs: &GlyphBuffer) -> Result<Vec<i128>, AllocE
 }
 
 /// The least width from a part on, given the least width after it.
-fn least_on(part: Part, behind: i128) -> i128
+fn least_on(part: Part, beyond: i128) -> i128
     requires narrow { IsNarrow part.width }
-    requires small { IsSmall behind }
+    requires small { IsSmall beyond }
     ensures { result
-        ≡ let on = part.width +ℤ behind in if part.cut then int_min (pos 0) on else on }
+        ≡ let on = part.width +ℤ beyond in if part.cut then int_min (pos 0) on else on }
 {
-    let on = i128::from(part.width) + behind;
+    let on = i128::from(part.width) + beyond;
     if part.cut && on > 0 {
         return 0;
     }
@@ -176,10 +176,10 @@ impl Walk {
             self.lines
                 .push(line_between(glyphs, text_end, self.start, self.taken))?;
             self.start = self.taken;
-            self.so_far = self.behind;
+            self.so_far = self.beyond;
         }
         self.taken = place;
-        self.behind = 0;
+        self.beyond = 0;
         Ok(())
     }
 
@@ -192,6 +192,6 @@ impl Walk {
     {
         let width = i128::from(part_at(glyphs, place).width);
         self.so_far += width;
-        self.behind += width;
+        self.beyond += width;
     }
 }

@@ -11,7 +11,7 @@ ghost use Rattle.shape_lines.specs.declared.cutting.Line.{Line};
 /// has `UNSAFE_TO_BREAK`: a place of a cut. In the order of the text, from the end of the list if clusters
 /// fall, one glyph tells: if the glyphs can be cut, exactly the places of a cut are those before a glyph
 /// that begins another cluster and lacks the flag.
-pub fn places_are_told_by_one_glyph()
+pub fn places_are_decided_by_one_glyph()
     ensures { (glyphs : Buffer) (text_end place : ℕ) → CanCut glyphs text_end
         → 0 < place → place < length glyphs.items
         → IsPlaceOfCut (text_order glyphs) place ↔ BeginsSafely (text_order glyphs) place }

@@ -1,7 +1,7 @@
 //! The definitions, computed on small cases whose answers are worked out by hand.
-ghost use Rattle.shape_lines.specs.WorkedCanCut.{WorkedCanCut, WorkedCannotCut};
-ghost use Rattle.shape_lines.specs.WorkedLines.{WorkedLines};
-ghost use Rattle.shape_lines.specs.WorkedPlaces.{WorkedTextOrder, WorkedPlaces};
+ghost use Rattle.shape_lines.specs.Worked.CanCut.{WorkedCanCut, WorkedCannotCut};
+ghost use Rattle.shape_lines.specs.Worked.Lines.{WorkedLines};
+ghost use Rattle.shape_lines.specs.Worked.Places.{WorkedTextOrder, WorkedPlaces};
 
 /// What can be cut into lines, and what can't.
 pub fn cuttable_meets_worked_cases()

@@ -11,9 +11,9 @@ use Rattle.shape_items.specs.UnicodeProps.{is_hidden_char}
 use Rattle.shape_plan.specs.Rules.{Rules, has_glyph}
 use Rattle.shape_normalize.specs.Normalized.{content, hidden_char}
 use Rattle.shape_normalize.specs.RoundTwo.{run_settled}
-use Rattle.shape_normalize.specs.WorkedForm.{GlyphsBroughtIn, GlyphsOfItems, items_compared, placed, with_hidden, HiddenItems, ShortRuns, MarksOfLists, SelectorsAsked, PremisesAsked, FormWorked}
+use Rattle.shape_normalize.specs.Worked.Form.{GlyphsBroughtIn, GlyphsOfItems, items_compared, placed, with_hidden, HiddenItems, ShortRuns, MarksOfLists, SelectorsAsked, PremisesAsked, FormWorked}
 use Rattle.shape_normalize.specs.CanonicalForm.{HasNoSelector}
-use Rattle.shape_normalize.specs.WorkedWorld.{item, rules_in, face_of}
+use Rattle.shape_normalize.specs.Worked.Fixture.{item, rules_in, face_of}
 
 -- what holds of the one element of a list
 of_one : {A : Type 0} (P : A → Type 0) (x : A) → P x → All P (x ∷ [])
@@ -70,14 +70,14 @@ hidden_items : HiddenItems
 hidden_items = record {
   in_sight = λ unseen. of_one (IsHiddenAs (with_hidden true 0x61)) (with_hidden false 0x61) (inl refl);
   as_it_was = λ unseen. of_one (IsHiddenAs (with_hidden true 0x61)) (with_hidden true 0x61) (inr (0, omega arith, refl));
-  of_another = λ keeps. elim (keeps refl 0 (item 0x61 0) (omega arith)) [
+  of_another = λ preserves. elim (preserves refl 0 (item 0x61 0) (omega arith)) [
     | inl is ↦ absurd (let e : true ≡ false = is in cc)
     | inr there ↦
         let same = in_one (hidden_char (with_hidden true 0x62)) (hidden_char (with_hidden true 0x61)) there in
         let e : 0x62 ≡ 0x61 = ap (λ (one : ℕ × Bool). one.0) same in
         omega (arith, e)
   ];
-  hidden_anew = λ keeps. elim (keeps refl 0 (item 0x61 0) (omega arith)) [
+  hidden_anew = λ preserves. elim (preserves refl 0 (item 0x61 0) (omega arith)) [
     | inl is ↦ absurd (let e : true ≡ false = is in cc)
     | inr there ↦
         let same = in_one (hidden_char (with_hidden false 0x61)) (hidden_char (with_hidden true 0x61)) there in

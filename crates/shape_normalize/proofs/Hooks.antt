@@ -1,4 +1,4 @@
--- What hooks owe, and what the rules of a run owe by them.
+-- What hooks must provide, and what the rules of a run must provide by them.
 pub mod LawfulLemmas
 pub mod RulesLemmas
 pub mod ReorderLemmas

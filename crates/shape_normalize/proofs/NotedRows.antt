@@ -3,7 +3,7 @@ use Rattle.std.proofs.Common.{◌≡◌, ℕ, ◌++◌, List, [], ◌∷◌, len
 use Rattle.std.specs.List.{flat_map}
 use Rattle.shape_normalize.specs.RoundTwo.{moved_spans, all_moved_spans}
 use Rattle.shape_normalize.specs.OneWalk.{runs_from}
-use Rattle.shape_normalize.specs.WorkedOneWalk.{falling_then_mark, expanded_marks, NotedRuns, OneWalkWorked}
+use Rattle.shape_normalize.specs.Worked.OneWalk.{falling_then_mark, expanded_marks, NotedRuns, OneWalkWorked}
 use Rattle.shape_normalize.proofs.RoundTwo.RunsLemmas.{runs-walked}
 
 -- the spans of a list are those of the runs that a walk finds

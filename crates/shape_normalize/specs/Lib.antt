@@ -8,11 +8,4 @@ pub mod Normalized
 pub mod Origins
 pub mod CanonicalForm
 pub mod PremiseTest
-pub mod WorkedWorld
-pub mod WorkedOne
-pub mod WorkedTwo
-pub mod WorkedOneWalk
-pub mod WorkedThree
-pub mod WorkedHooks
-pub mod WorkedOrigins
-pub mod WorkedForm
+pub mod Worked

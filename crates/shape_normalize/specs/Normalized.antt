@@ -2,7 +2,7 @@
 use Rattle.std.specs.Prelude.{◌≡◌, ◌⊎◌, ◌&&◌, ℕ, Bool, true, false, if◌then◌else◌, List, map, filter, flat_map, All, Contains, Option, None, Some, is_some}
 use Rattle.shape_items.specs.Buffer.{Buffer}
 use Rattle.shape_items.specs.Clusters.{clusters}
-use Rattle.shape_items.specs.ClusterOrder.{KeepsClusters, IsMonotoneLevel}
+use Rattle.shape_items.specs.ClusterOrder.{PreservesClusters, IsMonotoneLevel}
 use Rattle.shape_items.specs.Items.{Item, ccc_of_item, feature_bits}
 use Rattle.shape_items.specs.UnicodeProps.{is_hidden_char}
 use Rattle.shape_common.specs.declared.text_types.GlyphId.{GlyphId}
@@ -29,13 +29,13 @@ normalized rules b = if has_mark_past_first b.items && rules.recomposes then rou
 abbrev pub BroughtInHaveGlyphs : (ℕ → Option GlyphId) → List ℕ → List ℕ → Type 0
 BroughtInHaveGlyphs glyph before after = All (λ c. (has_glyph glyph c ≡ true) ⊎ Contains before c) after
 
--- the reorder hook keeps clusters at the monotone levels, if one is given: each of its calls, over a run in order,
+-- the reorder hook preserves clusters at the monotone levels, if one is given: each of its calls, over a run in order,
 -- keeps their order and brings no new one
-abbrev pub HookKeepsClusters : Rules → Type 0
-HookKeepsClusters rules =
+abbrev pub HookPreservesClusters : Rules → Type 0
+HookPreservesClusters rules =
     (reorder : Buffer → ℕ → ℕ → Buffer) → rules.reorder ≡ Some reorder
     → (b : Buffer) (start end : ℕ) → IsMonotoneLevel b.cluster_level → IsRunInOrder b.items start end
-    → KeepsClusters (clusters b.items) (clusters (reorder b start end).items)
+    → PreservesClusters (clusters b.items) (clusters (reorder b start end).items)
 
 -- what the sequences that hold a variation selector become in round one
 abbrev pub selector_items : Rules → Buffer → List Item
@@ -91,8 +91,8 @@ abbrev pub features_of : Item → ℕ
 features_of item = feature_bits item.mask
 
 -- each item has the feature bits of an item of the text
-abbrev pub KeepsFeatures : Buffer → Buffer → Type 0
-KeepsFeatures old new = All (λ item. Contains (map features_of old.items) (features_of item)) new.items
+abbrev pub PreservesFeatures : Buffer → Buffer → Type 0
+PreservesFeatures old new = All (λ item. Contains (map features_of old.items) (features_of item)) new.items
 
 -- an item's character and whether it is hidden
 abbrev pub hidden_char : Item → ℕ × Bool
@@ -100,8 +100,8 @@ hidden_char item = (item.codepoint, item.properties.hidden)
 
 -- if no CGJ was seen by the end of round one, each item's hidden bit is that of its character, or the item has the
 -- character and the hidden bit of one of the text
-abbrev pub KeepsHidden : Rules → Buffer → Buffer → Type 0
-KeepsHidden rules old new =
+abbrev pub PreservesHidden : Rules → Buffer → Buffer → Type 0
+PreservesHidden rules old new =
     has_seen_cgj (round_one rules old) ≡ false
     → All (λ item. (item.properties.hidden ≡ is_hidden_char item.codepoint)
     ⊎ Contains (map hidden_char old.items) (hidden_char item)) new.items

@@ -4,7 +4,7 @@ use Rattle.std.specs.Int.RustNames.{bit_or}
 use Rattle.std.specs.List.Sorted.{IsPermutation}
 use Rattle.shape_items.specs.Buffer.{Buffer}
 use Rattle.shape_items.specs.Items.{Item, ccc_of_item, feature_bits}
-use Rattle.shape_items.specs.KeepsFlags.{KeepsFlags}
+use Rattle.shape_items.specs.PreservesFlags.{PreservesFlags}
 use Rattle.shape_common.specs.declared.text_types.BufferClusterLevel.TheVariants.{Characters}
 use Rattle.shape_plan.specs.Reorder.{with_ccc}
 use Rattle.shape_common.specs.FlagNames.{HAS_GLYPH_FLAGS}
@@ -27,5 +27,5 @@ pub record ReordersRun (start end : ℕ) (old new : Buffer) : Type 0 where
   pub behind : map unmerged (drop end new.items) ≡ map unmerged (drop end old.items)
   pub scratch : (new.scratch_flags.0 ≡ old.scratch_flags.0)
       ⊎ ((old.cluster_level ≡ Characters) × (new.scratch_flags.0 ≡ bit_or old.scratch_flags.0 HAS_GLYPH_FLAGS))
-  pub flags : KeepsFlags old new
+  pub flags : PreservesFlags old new
   pub rest : record new { items = old.items; scratch_flags = old.scratch_flags } ≡ old

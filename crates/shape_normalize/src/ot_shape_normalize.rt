@@ -8,14 +8,14 @@
 ghost use Rattle.std.specs.Prelude.{◌≡◌, ◌<◌, ◌≤◌, [], length, map, All, IsOk, OnOk, OnErr, Err};
 ghost use Rattle.shape_items.specs.Buffer.{cleared, limit_of};
 ghost use Rattle.shape_items.specs.Clusters.{clusters};
-ghost use Rattle.shape_items.specs.ClusterOrder.{KeepsClusters, IsMonotoneLevel};
+ghost use Rattle.shape_items.specs.ClusterOrder.{PreservesClusters, IsMonotoneLevel};
 ghost use Rattle.shape_items.specs.Items.{char_of};
 ghost use Rattle.shape_normalize.specs.RoundOne.{round_one};
 ghost use Rattle.shape_normalize.specs.RoundTwo.{has_mark_past_first as has_mark_past_first_of};
 ghost use Rattle.shape_normalize.specs.CanonicalForm.{NormalizesCanonically};
 ghost use Rattle.shape_normalize.specs.Origins.{ComesByPlace};
 ghost use Rattle.shape_normalize.specs.Normalized.{normalized, BroughtInHaveGlyphs, HasItemGlyph};
-ghost use Rattle.shape_normalize.specs.Normalized.{HookKeepsClusters, KeepsFeatures, KeepsHidden};
+ghost use Rattle.shape_normalize.specs.Normalized.{HookPreservesClusters, PreservesFeatures, PreservesHidden};
 ghost use Rattle.shape_normalize.specs.Normalized.{OrdersExpanded, Recomposes};
 
 mod cgj;
@@ -56,7 +56,7 @@ use std::alloc::Global;
 /// prefers: see [`HB_OT_SHAPE_NORMALIZATION_MODE_NONE`] and the others.
 ///
 /// Each item becomes the items of an expansion of its character that the face has glyphs for, the
-/// shortest or the longest one, and takes the glyph that the face answers; a space or a non-breaking
+/// shortest or the longest one, and takes the glyph that the face returns; a space or a non-breaking
 /// hyphen without a glyph takes that of another. A sequence of an item and its marks that holds a
 /// variation selector isn't expanded. If a mark stood past the first item as normalising began, each
 /// run of at most 32 marks is put in the order of their ccc, the clusters of the spans that this
@@ -86,8 +86,8 @@ where
         (map char_of buffer.old.items) (map char_of buffer.new.items)) }
     ensures item_glyphs { OnOk result (All (HasItemGlyph
         (⟦<S as Runs<U, F, M>>⟧.rules plan.now face.now) buffer.old) buffer.new.items) }
-    ensures features { OnOk result (KeepsFeatures buffer.old buffer.new) }
-    ensures cgj { OnOk result (KeepsHidden
+    ensures features { OnOk result (PreservesFeatures buffer.old buffer.new) }
+    ensures cgj { OnOk result (PreservesHidden
         (⟦<S as Runs<U, F, M>>⟧.rules plan.now face.now) buffer.old buffer.new) }
     ensures by_place { OnOk result (ComesByPlace
         (⟦<S as Runs<U, F, M>>⟧.rules plan.now face.now) buffer.old buffer.new) }
@@ -98,8 +98,8 @@ where
     ensures recomposed { OnOk result (Recomposes
         (⟦<S as Runs<U, F, M>>⟧.rules plan.now face.now) buffer.old buffer.new) }
     ensures clusters { OnOk result (IsMonotoneLevel buffer.old.cluster_level
-        → HookKeepsClusters (⟦<S as Runs<U, F, M>>⟧.rules plan.now face.now)
-        → KeepsClusters (clusters buffer.old.items) (clusters buffer.new.items)) }
+        → HookPreservesClusters (⟦<S as Runs<U, F, M>>⟧.rules plan.now face.now)
+        → PreservesClusters (clusters buffer.old.items) (clusters buffer.new.items)) }
     ensures within { OnOk result (length buffer.new.items ≤ limit_of buffer.old) }
     ensures counted { OnOk result (length (round_one
         (⟦<S as Runs<U, F, M>>⟧.rules plan.now face.now) buffer.old).items ≤ limit_of buffer.old) }

@@ -1,11 +1,11 @@
 //! The definitions of normalising, computed on small cases whose answers are worked out by hand.
-ghost use Rattle.shape_normalize.specs.WorkedForm.{FormWorked};
-ghost use Rattle.shape_normalize.specs.WorkedHooks.{HooksWorked};
-ghost use Rattle.shape_normalize.specs.WorkedOne.{RoundOneWorked};
-ghost use Rattle.shape_normalize.specs.WorkedOneWalk.{OneWalkWorked};
-ghost use Rattle.shape_normalize.specs.WorkedOrigins.{OriginsWorked};
-ghost use Rattle.shape_normalize.specs.WorkedThree.{RoundThreeWorked};
-ghost use Rattle.shape_normalize.specs.WorkedTwo.{RoundTwoWorked};
+ghost use Rattle.shape_normalize.specs.Worked.Form.{FormWorked};
+ghost use Rattle.shape_normalize.specs.Worked.Hooks.{HooksWorked};
+ghost use Rattle.shape_normalize.specs.Worked.One.{RoundOneWorked};
+ghost use Rattle.shape_normalize.specs.Worked.OneWalk.{OneWalkWorked};
+ghost use Rattle.shape_normalize.specs.Worked.Origins.{OriginsWorked};
+ghost use Rattle.shape_normalize.specs.Worked.Three.{RoundThreeWorked};
+ghost use Rattle.shape_normalize.specs.Worked.Two.{RoundTwoWorked};
 
 /// Modes, glyphs that replace others, expansions, sequences and variation selectors.
 pub fn round_one_meets_worked_cases()

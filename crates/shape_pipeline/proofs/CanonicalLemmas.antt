@@ -13,21 +13,21 @@ use Rattle.shape_normalize.proofs.Form.CanonicalFormLemmas.{NormalizesCanonicall
 use Rattle.shape_plan.specs.Plan.{Plan}
 use Rattle.shape_plan.specs.Run.{Run, run_of}
 use Rattle.shape_plan.specs.Shaper.{HookMeaning, ShaperConstants}
-use Rattle.shape_pipeline.specs.Canonical.{RunKeepsEquivalence, HasPlainText, HasCanonicalText, HasCanonicalList, ListIsCanonical, LeavesText, HasOwnCharacters, SpellingsMeet, prepared_characters, normalised_characters}
+use Rattle.shape_pipeline.specs.Canonical.{RunPreservesEquivalence, HasPlainText, HasCanonicalText, HasCanonicalList, ListIsCanonical, LeavesText, HasOwnCharacters, SpellingsMeet, prepared_characters, normalised_characters}
 use Rattle.shape_pipeline.specs.Headline.{target_of, prepared_text, normalised_list}
 use Rattle.shape_pipeline.specs.Shaped.{entered}
 use Rattle.shape_pipeline.proofs.PremiseLemmas.{prepared_text-prepared}
 use Rattle.shape_pipeline.proofs.RunLemmas.{prepared_text-cases}
-use Rattle.shape_prepare.proofs.Keeping.CharacterLemmas.{preparing_keeps_characters}
+use Rattle.shape_prepare.proofs.Preservation.CharacterLemmas.{preparing_preserves_characters}
 
 module _ (run : Run) (same : run.rules.unicode ≡ run.unicode) (lawful : LawfulUnicode run.unicode)
-    (keeps : RunKeepsEquivalence run) where
+    (preserves : RunPreservesEquivalence run) where
   is_prepared : (text : Buffer) → IsPrepared run.rules.unicode (prepared_text run text).items
-  is_prepared text = rw same (prepared_text-prepared run text lawful keeps.preprocess)
+  is_prepared text = rw same (prepared_text-prepared run text lawful preserves.preprocess)
 
   equivalence : (text : Buffer) → HasPlainText run text → EquivalencePremises run.rules (prepared_text run text)
   equivalence text plain = record {
-    text = record { lawful_hooks = keeps.lawful_hooks; no_selector = plain; no_reordering = keeps.no_reordering };
+    text = record { lawful_hooks = preserves.lawful_hooks; no_selector = plain; no_reordering = preserves.no_reordering };
     prepared = is_prepared text;
   }
 
@@ -35,7 +35,7 @@ module _ (run : Run) (same : run.rules.unicode ≡ run.unicode) (lawful : Lawful
   canonical_form text canonical = record { equivalence = equivalence text canonical.plain; canonical = canonical.canonical }
 
   plain : (text : Buffer) → HasPlainText run text → PlainPremises run.rules (prepared_text run text)
-  plain text none = record { prepared = is_prepared text; no_selector = none; no_reordering = keeps.no_reordering }
+  plain text none = record { prepared = is_prepared text; no_selector = none; no_reordering = preserves.no_reordering }
 
   normalises : (text : Buffer) → NormalizesCanonically run.rules (prepared_text run text) (normalised_list run text)
   normalises text =
@@ -61,12 +61,12 @@ module _ (run : Run) (same : run.rules.unicode ≡ run.unicode) (lawful : Lawful
     });
   }
 
--- the normalised list of any text is canonical, if the run's hooks keep equivalence
+-- the normalised list of any text is canonical, if the run's hooks preserve equivalence
 pub list_is_canonical : {S P D F : Type 0} (unicode : UnicodeMeaning) (masks : P → MapMeaning) (lookups : P → F → LookupMeaning)
     (constants : ShaperConstants) (hooks : S → Plan S P D → F → HookMeaning) (faces : F → FaceMeaning) (plan : Plan S P D) (face : F)
     → LawfulUnicode unicode → (text : Buffer) → ListIsCanonical (run_of unicode masks lookups constants hooks faces plan face) text
-list_is_canonical unicode masks lookups constants hooks faces plan face lawful text keeps =
-    canonical_list (run_of unicode masks lookups constants hooks faces plan face) refl lawful keeps text
+list_is_canonical unicode masks lookups constants hooks faces plan face lawful text preserves =
+    canonical_list (run_of unicode masks lookups constants hooks faces plan face) refl lawful preserves text
 
 -- ---- texts that preparing leaves
 
@@ -76,10 +76,10 @@ left-prepared run text left =
     let begun = guessed run.unicode text in
     prepared_text-cases (λ b. text_of b ≡ text_of text) run (target_of run text) begun begun.items
     (λ none. refl)
-    (preparing_keeps_characters run (target_of run text) (entered begun) left)
+    (preparing_preserves_characters run (target_of run text) (entered begun) left)
 
 module _ (run : Run) (same : run.rules.unicode ≡ run.unicode) (lawful : LawfulUnicode run.unicode)
-    (keeps : RunKeepsEquivalence run) where
+    (preserves : RunPreservesEquivalence run) where
   own_characters : (text : Buffer) → HasOwnCharacters run text → HasCanonicalText run text
   own_characters text own =
       let e = sym (left-prepared run text own.left) in record {
@@ -89,7 +89,7 @@ module _ (run : Run) (same : run.rules.unicode ≡ run.unicode) (lawful : Lawful
 
   spellings_meet : SpellingsMeet run
   spellings_meet one other own other_own =
-      let meet = (canonical_list run same lawful keeps one).decides other (own_characters one own) (own_characters other other_own) in
+      let meet = (canonical_list run same lawful preserves one).decides other (own_characters one own) (own_characters other other_own) in
       subst (λ (t : List ℕ). (normalised_characters run one ≡ normalised_characters run other) ↔ AreEquivalent run.rules t (text_of other))
       (left-prepared run one own.left)
       (subst (λ (t : List ℕ). (normalised_characters run one ≡ normalised_characters run other)
@@ -97,7 +97,7 @@ module _ (run : Run) (same : run.rules.unicode ≡ run.unicode) (lawful : Lawful
 
 pub spellings_meet-run : {S P D F : Type 0} (unicode : UnicodeMeaning) (masks : P → MapMeaning) (lookups : P → F → LookupMeaning)
     (constants : ShaperConstants) (hooks : S → Plan S P D → F → HookMeaning) (faces : F → FaceMeaning) (plan : Plan S P D) (face : F)
-    → LawfulUnicode unicode → RunKeepsEquivalence (run_of unicode masks lookups constants hooks faces plan face)
+    → LawfulUnicode unicode → RunPreservesEquivalence (run_of unicode masks lookups constants hooks faces plan face)
     → SpellingsMeet (run_of unicode masks lookups constants hooks faces plan face)
-spellings_meet-run unicode masks lookups constants hooks faces plan face lawful keeps =
-    spellings_meet (run_of unicode masks lookups constants hooks faces plan face) refl lawful keeps
+spellings_meet-run unicode masks lookups constants hooks faces plan face lawful preserves =
+    spellings_meet (run_of unicode masks lookups constants hooks faces plan face) refl lawful preserves

@@ -4,5 +4,5 @@ mod OrderLemmas
 mod PartLemmas
 mod PremiseLemmas
 mod RunLemmas
-mod WorkedOwedLemmas
+mod WorkedObligationLemmas
 mod PassRows

@@ -10,28 +10,28 @@ use Rattle.shape_common.specs.Direction.{is_backward, reverse_of}
 use Rattle.shape_items.specs.Flags.{flags_propagated}
 use Rattle.shape_buffer.specs.Guess.{guessed_script, known_or_ltr, script_or_ltr, direction_or}
 use Rattle.shape_items.specs.Items.{Item}
-use Rattle.shape_buffer.specs.Keepers.{KeepsOrder, IsClusterKeeper, EachStep}
+use Rattle.shape_buffer.specs.Preservation.{PreservesOrder, IsClusterPreserving, EachStep}
 use Rattle.shape_buffer.specs.Outcome.{Step, step, run_steps}
 use Rattle.shape_common.specs.Unicode.{UnicodeMeaning}
 use Rattle.shape_common.specs.declared.text_types.Script.{Script}
 use Rattle.shape_common.specs.declared.text_types.BufferClusterLevel.TheVariants.{MonotoneGraphemes}
 use Rattle.shape_common.specs.declared.text_types.Direction.{Direction}
 use Rattle.shape_common.specs.declared.text_types.Direction.TheVariants.{Invalid, LeftToRight, RightToLeft, TopToBottom, BottomToTop}
-use Rattle.shape_buffer.proofs.Steps.KeeperLemmas.{EachStep-append}
-use Rattle.shape_fallback.proofs.KeeperLemmas.{fallback-keeps_clusters}
-use Rattle.shape_normalize.proofs.Normalized.ClusterOrderLemmas.{KeepsOrder-normalized}
+use Rattle.shape_buffer.proofs.Steps.PreservationLemmas.{EachStep-append}
+use Rattle.shape_fallback.proofs.PreservationLemmas.{fallback-preserves_clusters}
+use Rattle.shape_normalize.proofs.Normalized.ClusterOrderLemmas.{PreservesOrder-normalized}
 use Rattle.shape_normalize.proofs.Hooks.ReorderLemmas.{LawfulReorder}
 use Rattle.shape_plan.specs.Run.{Run}
 use Rattle.shape_position.specs.Steps.{show_steps, finish_steps}
 use Rattle.shape_position.specs.Reversal.{reversed}
-use Rattle.shape_position.proofs.StepKeepers.{steps_keep_clusters}
+use Rattle.shape_position.proofs.StepPreservation.{steps_preserve_clusters}
 use Rattle.shape_prepare.specs.ClusterPoint.{InOrderFor, direction_for, is_reversed}
 use Rattle.shape_prepare.specs.PrepareSteps.{prepare_steps}
-use Rattle.shape_prepare.proofs.Keeping.FirstLemmas.{preparing_keeps_firsts}
-use Rattle.shape_prepare.proofs.Keeping.KeeperLemmas.{preparing_keeps_order}
-use Rattle.shape_substitute.proofs.ListKeepers.{substitution-keeps_clusters}
+use Rattle.shape_prepare.proofs.Preservation.FirstLemmas.{preparing_preserves_firsts}
+use Rattle.shape_prepare.proofs.Preservation.PreservationLemmas.{preparing_preserves_order}
+use Rattle.shape_substitute.proofs.ListPreservation.{substitution-preserves_clusters}
 use Rattle.shape_pipeline.specs.Headline.{target_of}
-use Rattle.shape_pipeline.specs.Order.{RunKeepsClusters, ComesInOrder, ClustersComeInOrder, grapheme_clusters}
+use Rattle.shape_pipeline.specs.Order.{RunPreservesClusters, ComesInOrder, ClustersComeInOrder, grapheme_clusters}
 use Rattle.shape_pipeline.specs.Shaped.{normalising, glyph_part, place_part, shaped_steps, all_steps, entered, finished, run_made}
 use Rattle.shape_pipeline.proofs.PartLemmas.{Leads, Leads-then, EachStep-glyph_part, EachStep-place_part}
 
@@ -54,51 +54,51 @@ record IsShown (From : ℕ → Type 0) (target : Direction) (b : Buffer) : Type 
   comes : Comes From b
   ordered : IsOrderedFor (is_backward target) (clusters b.items)
 
--- a state that is kept by every step that keeps clusters
-record IsKept (State : Buffer → Type 0) : Type 0 where
+-- a state that is kept by every step that preserves clusters
+record IsPreserved (State : Buffer → Type 0) : Type 0 where
   monotone : (b : Buffer) → State b → IsMonotoneLevel b.cluster_level
-  kept : (old new : Buffer) → State old → KeepsOrder old new → State new
+  kept : (old new : Buffer) → State old → PreservesOrder old new → State new
 
-comes-kept : {From : ℕ → Type 0} {old new : Buffer} → Comes From old → KeepsOrder old new → Comes From new
-comes-kept comes keeps = record {
-  from = λ k is. comes.from k (keeps.clusters.none_new k is);
-  monotone = subst IsMonotoneLevel (sym keeps.level) comes.monotone;
+comes-preserved : {From : ℕ → Type 0} {old new : Buffer} → Comes From old → PreservesOrder old new → Comes From new
+comes-preserved comes preserves = record {
+  from = λ k is. comes.from k (preserves.clusters.none_new k is);
+  monotone = subst IsMonotoneLevel (sym preserves.level) comes.monotone;
 }
 
-ordered-kept : {old new : Buffer} (backward : Bool) → IsOrderedFor backward (clusters old.items) → KeepsOrder old new
+ordered-preserved : {old new : Buffer} (backward : Bool) → IsOrderedFor backward (clusters old.items) → PreservesOrder old new
     → IsOrderedFor backward (clusters new.items)
-ordered-kept true ordered keeps = keeps.clusters.falling ordered
-ordered-kept false ordered keeps = keeps.clusters.rising ordered
+ordered-preserved true ordered preserves = preserves.clusters.falling ordered
+ordered-preserved false ordered preserves = preserves.clusters.rising ordered
 
-IsKept-facing : (From : ℕ → Type 0) (target : Direction) → IsKept (IsFacing From target)
-IsKept-facing From target = record {
+IsPreserved-facing : (From : ℕ → Type 0) (target : Direction) → IsPreserved (IsFacing From target)
+IsPreserved-facing From target = record {
   monotone = λ b state. state.comes.monotone;
-  kept = λ old new state keeps. record {
-    comes = comes-kept state.comes keeps;
+  kept = λ old new state preserves. record {
+    comes = comes-preserved state.comes preserves;
     reversed = state.reversed;
-    direction = keeps.direction ∙ state.direction;
-    ordered = ordered-kept state.reversed state.ordered keeps;
+    direction = preserves.direction ∙ state.direction;
+    ordered = ordered-preserved state.reversed state.ordered preserves;
   };
 }
 
-IsKept-shown : (From : ℕ → Type 0) (target : Direction) → IsKept (IsShown From target)
-IsKept-shown From target = record {
+IsPreserved-shown : (From : ℕ → Type 0) (target : Direction) → IsPreserved (IsShown From target)
+IsPreserved-shown From target = record {
   monotone = λ b state. state.comes.monotone;
-  kept = λ old new state keeps. record {
-    comes = comes-kept state.comes keeps;
-    ordered = ordered-kept
-        (is_backward target) state.ordered keeps;
+  kept = λ old new state preserves. record {
+    comes = comes-preserved state.comes preserves;
+    ordered = ordered-preserved
+        (is_backward target) state.ordered preserves;
   };
 }
 
-run_keeps : {State : Buffer → Type 0} → IsKept State → (steps : List Step) → EachStep IsClusterKeeper steps → (b : Buffer) → State b
+run_preserves : {State : Buffer → Type 0} → IsPreserved State → (steps : List Step) → EachStep IsClusterPreserving steps → (b : Buffer) → State b
     → State (run_steps steps b)
-run_keeps kept [] keep b state = state
-run_keeps kept (step ∷ steps) keep b state =
-    run_keeps kept steps keep.1 (step.makes b) (kept.kept b (step.makes b) state (keep.0 b (kept.monotone b state)))
+run_preserves kept [] keep b state = state
+run_preserves kept (step ∷ steps) keep b state =
+    run_preserves kept steps keep.1 (step.makes b) (kept.kept b (step.makes b) state (keep.0 b (kept.monotone b state)))
 
-Leads-keepers : {State : Buffer → Type 0} → IsKept State → (steps : List Step) → EachStep IsClusterKeeper steps → Leads State steps State
-Leads-keepers kept steps keep = record { leads = run_keeps kept steps keep }
+Leads-preserving : {State : Buffer → Type 0} → IsPreserved State → (steps : List Step) → EachStep IsClusterPreserving steps → Leads State steps State
+Leads-preserving kept steps keep = record { leads = run_preserves kept steps keep }
 
 -- ---- the two reversals: if the text was reversed against the target once, it is reversed back, and only then
 
@@ -112,7 +112,7 @@ back_again BottomToTop valid = refl
 shown-reversed : {From : ℕ → Type 0} (target : Direction) → target ≢ Invalid → (b : Buffer) → IsFacing From target b
     → IsShown From target (reversed b)
 shown-reversed {From} target valid b state =
-    let reverses = steps_keep_clusters.reversal b in
+    let reverses = steps_preserve_clusters.reversal b in
     record {
       comes = record {
         from = λ k is. state.comes.from k (reverses.none_new k is);
@@ -125,14 +125,14 @@ shown-reversed {From} target valid b state =
         → IsOrderedFor (is_backward target) (clusters (reversed b).items)
     by_reversal true is falls =
         subst (λ (t : Bool). IsOrderedFor t (clusters (reversed b).items)) (ap (λ d. not (is_backward d)) is ∙ back_again target valid)
-        ((steps_keep_clusters.reversal b).falling falls)
+        ((steps_preserve_clusters.reversal b).falling falls)
     by_reversal false is rises =
-        subst (λ (t : Bool). IsOrderedFor t (clusters (reversed b).items)) (ap is_backward is) ((steps_keep_clusters.reversal b).rising rises)
+        subst (λ (t : Bool). IsOrderedFor t (clusters (reversed b).items)) (ap is_backward is) ((steps_preserve_clusters.reversal b).rising rises)
 
 -- ---- the parts
 
 module _ (run : Run) (target : Direction) (valid : target ≢ Invalid) (From : ℕ → Type 0)
-    (lawful : LawfulReorder run.rules.reorder) (keeps : RunKeepsClusters run) where
+    (lawful : LawfulReorder run.rules.reorder) (preserves : RunPreservesClusters run) where
   -- a text as preparing leaves it
   facing-prepared : (reversed : Bool) (old new : Buffer) → InOrderFor reversed old new → old.direction ≡ target
       → IsMonotoneLevel old.cluster_level
@@ -145,27 +145,27 @@ module _ (run : Run) (target : Direction) (valid : target ≢ Invalid) (From : �
   }
 
   facing-normalised : Leads (IsFacing From target) (normalising run.rules ∷ []) (IsFacing From target)
-  facing-normalised = Leads-keepers (IsKept-facing From target) (normalising run.rules ∷ [])
-      (KeepsOrder-normalized run.rules lawful keeps.reordering, tt)
+  facing-normalised = Leads-preserving (IsPreserved-facing From target) (normalising run.rules ∷ [])
+      (PreservesOrder-normalized run.rules lawful preserves.reordering, tt)
 
   facing-glyphs : Leads (IsFacing From target) (glyph_part run) (IsFacing From target)
-  facing-glyphs = Leads-keepers (IsKept-facing From target) (glyph_part run)
-      (EachStep-glyph_part IsClusterKeeper run (fallback-keeps_clusters run.unicode run.face run.direction run.script run.decisions)
-      (substitution-keeps_clusters run keeps.calls))
+  facing-glyphs = Leads-preserving (IsPreserved-facing From target) (glyph_part run)
+      (EachStep-glyph_part IsClusterPreserving run (fallback-preserves_clusters run.unicode run.face run.direction run.script run.decisions)
+      (substitution-preserves_clusters run preserves.calls))
 
   facing-placed : Leads (IsFacing From target) (place_part run) (IsFacing From target)
-  facing-placed = Leads-keepers (IsKept-facing From target) (place_part run)
-      (EachStep-place_part IsClusterKeeper run (fallback-keeps_clusters run.unicode run.face run.direction run.script run.decisions)
-      (steps_keep_clusters.advances run) (steps_keep_clusters.tables run keeps.calls))
+  facing-placed = Leads-preserving (IsPreserved-facing From target) (place_part run)
+      (EachStep-place_part IsClusterPreserving run (fallback-preserves_clusters run.unicode run.face run.direction run.script run.decisions)
+      (steps_preserve_clusters.advances run) (steps_preserve_clusters.tables run preserves.calls))
 
   shown-finished : Leads (IsFacing From target) (finish_steps run) (IsShown From target)
   shown-finished =
       let reversal : Leads (IsFacing From target) (step reversed ∷ [])
       (IsShown From target) = record { leads = λ b state. shown-reversed target valid b state } in
-      let flags : EachStep IsClusterKeeper (step flags_propagated ∷ []) = (steps_keep_clusters.flags, tt) in
+      let flags : EachStep IsClusterPreserving (step flags_propagated ∷ []) = (steps_preserve_clusters.flags, tt) in
       Leads-then {steps = step reversed ∷ []} {more = show_steps run ++ step flags_propagated ∷ []} reversal
-      (Leads-keepers (IsKept-shown From target) (show_steps run ++ step flags_propagated ∷ [])
-      (EachStep-append IsClusterKeeper (show_steps run) (step flags_propagated ∷ []) (steps_keep_clusters.showing run keeps.calls) flags))
+      (Leads-preserving (IsPreserved-shown From target) (show_steps run ++ step flags_propagated ∷ [])
+      (EachStep-append IsClusterPreserving (show_steps run) (step flags_propagated ∷ []) (steps_preserve_clusters.showing run preserves.calls) flags))
 
   shown-normalised : Leads (IsFacing From target) (normalising run.rules ∷ shaped_steps run) (IsShown From target)
   shown-normalised = Leads-then {steps = normalising run.rules ∷ []} {more = shaped_steps run} facing-normalised
@@ -179,7 +179,7 @@ module _ (run : Run) (target : Direction) (valid : target ≢ Invalid) (From : �
   shown-all b is monotone rising from =
       let prepares : Leads (λ c. c ≡ b) (prepare_steps run target) (IsFacing From target) = record {
         leads = λ c same. rw same (facing-prepared (is_reversed run b) b (run_steps (prepare_steps run target) b)
-            (preparing_keeps_order run target b keeps.calls monotone rising) is monotone from);
+            (preparing_preserves_order run target b preserves.calls monotone rising) is monotone from);
       } in
       (Leads-then {steps = prepare_steps run target} {more = normalising run.rules
       ∷ shaped_steps run} prepares shown-normalised).leads b refl
@@ -223,21 +223,21 @@ none_in xs k none is = omega (arith, is.1, ap length none)
 pub clusters-run_made : (run : Run) (target : Direction) → target ≢ Invalid → LawfulReorder run.rules.reorder → (text : Buffer)
     → text.direction ≡ target
     → ClustersComeInOrder run target text (run_made run target text)
-clusters-run_made run target valid lawful text towards keeps monotone rising = from text.items refl
+clusters-run_made run target valid lawful text towards preserves monotone rising = from text.items refl
   where
     -- a whole run, with each cluster from where preparing takes it
     shown : (From : ℕ → Type 0) → ((k : ℕ) → Contains (clusters (run_steps (prepare_steps run target) (entered text)).items) k → From k)
         → IsShown From target (run_steps (all_steps run target) (entered text))
-    shown From taken = shown-all run target valid From lawful keeps (entered text) towards monotone rising taken
+    shown From taken = shown-all run target valid From lawful preserves (entered text) towards monotone rising taken
 
     of_text : IsShown (λ k. Contains (clusters text.items) k) target (run_steps (all_steps run target) (entered text))
     of_text =
-        shown (λ k. Contains (clusters text.items) k) (preparing_keeps_order run target (entered text) keeps.calls monotone rising).none_new
+        shown (λ k. Contains (clusters text.items) k) (preparing_preserves_order run target (entered text) preserves.calls monotone rising).none_new
 
     of_firsts : text.cluster_level ≡ MonotoneGraphemes
         → IsShown (λ k. Contains (grapheme_clusters run text) k) target (run_steps (all_steps run target) (entered text))
     of_firsts level =
-        shown (λ k. Contains (grapheme_clusters run text) k) (preparing_keeps_firsts run target (entered text) keeps.calls level rising)
+        shown (λ k. Contains (grapheme_clusters run text) k) (preparing_preserves_firsts run target (entered text) preserves.calls level rising)
 
     from : (items : List Item) → text.items ≡ items
         → ComesInOrder run target text (elim items [

@@ -1,15 +1,15 @@
 -- A property of each step of a run's parts, from the parts' own lists.
 use Rattle.std.proofs.Common.{List, [], ◌∷◌, ◌++◌, subst, sym}
 use Rattle.shape_items.specs.Buffer.{Buffer}
-use Rattle.shape_buffer.specs.Keepers.{EachStep}
+use Rattle.shape_buffer.specs.Preservation.{EachStep}
 use Rattle.shape_buffer.specs.Outcome.{Step, step, run_steps}
-use Rattle.shape_buffer.proofs.Steps.KeeperLemmas.{EachStep-append}
+use Rattle.shape_buffer.proofs.Steps.PreservationLemmas.{EachStep-append}
 use Rattle.shape_buffer.proofs.Steps.Runs.{run_steps-append}
-use Rattle.shape_fallback.specs.Keepers.{EachFallback}
+use Rattle.shape_fallback.specs.Preservation.{EachFallback}
 use Rattle.shape_fallback.specs.DueSteps.{recategorize_step, spaces_step, marks_step}
 use Rattle.shape_plan.specs.Run.{Run}
 use Rattle.shape_position.specs.Steps.{advance_steps, table_steps}
-use Rattle.shape_substitute.specs.Keepers.{EachSubstitutionStep}
+use Rattle.shape_substitute.specs.Preservation.{EachSubstitutionStep}
 use Rattle.shape_substitute.specs.Substitution.{mask_steps, glyph_steps, substitute_steps}
 use Rattle.shape_pipeline.specs.Shaped.{glyph_start, glyph_part, place_start, place_part}
 
@@ -23,20 +23,20 @@ Leads-then {After = After} {steps = steps} {more = more} first second = record {
   leads = λ b state. subst After (sym (run_steps-append steps more b)) (second.leads (run_steps steps b) (first.leads b state));
 }
 
-module _ (Keeps : (Buffer → Buffer) → Type 0) (run : Run)
-    (fallback : EachFallback Keeps run.unicode run.face run.direction run.script run.decisions) where
-  pub EachStep-glyph_part : EachSubstitutionStep Keeps run → EachStep Keeps (glyph_part run)
+module _ (Preserves : (Buffer → Buffer) → Type 0) (run : Run)
+    (fallback : EachFallback Preserves run.unicode run.face run.direction run.script run.decisions) where
+  pub EachStep-glyph_part : EachSubstitutionStep Preserves run → EachStep Preserves (glyph_part run)
   EachStep-glyph_part each =
-      let behind : EachStep Keeps (step (recategorize_step run.decisions) ∷ glyph_steps run) = (fallback.recategorize, each.glyphs) in
-      EachStep-append Keeps (glyph_start run) (substitute_steps run)
-      (EachStep-append Keeps (mask_steps run) (step (recategorize_step run.decisions) ∷ glyph_steps run) each.masks behind)
+      let behind : EachStep Preserves (step (recategorize_step run.decisions) ∷ glyph_steps run) = (fallback.recategorize, each.glyphs) in
+      EachStep-append Preserves (glyph_start run) (substitute_steps run)
+      (EachStep-append Preserves (mask_steps run) (step (recategorize_step run.decisions) ∷ glyph_steps run) each.masks behind)
       each.lookups
 
-  pub EachStep-place_part : EachStep Keeps (advance_steps run) → EachStep Keeps (table_steps run) → EachStep Keeps (place_part run)
+  pub EachStep-place_part : EachStep Preserves (advance_steps run) → EachStep Preserves (table_steps run) → EachStep Preserves (place_part run)
   EachStep-place_part advances tables =
-      let spaces : EachStep Keeps (step (spaces_step run.face) ∷ []) = (fallback.spaces, tt) in
+      let spaces : EachStep Preserves (step (spaces_step run.face) ∷ []) = (fallback.spaces, tt) in
       let placing : List Step = step (marks_step run.unicode run.face run.direction run.script run.decisions) ∷ [] in
-      let marks : EachStep Keeps placing = (fallback.marks, tt) in
-      EachStep-append Keeps (place_start run) (table_steps run ++ placing)
-      (EachStep-append Keeps (advance_steps run) (step (spaces_step run.face) ∷ []) advances spaces)
-      (EachStep-append Keeps (table_steps run) placing tables marks)
+      let marks : EachStep Preserves placing = (fallback.marks, tt) in
+      EachStep-append Preserves (place_start run) (table_steps run ++ placing)
+      (EachStep-append Preserves (advance_steps run) (step (spaces_step run.face) ∷ []) advances spaces)
+      (EachStep-append Preserves (table_steps run) placing tables marks)

@@ -4,7 +4,7 @@ use Rattle.shape_items.specs.Buffer.{new_buffer}
 use Rattle.shape_common.specs.declared.text_types.Direction.{Direction}
 use Rattle.shape_plan.specs.Run.{Run}
 use Rattle.shape_pipeline.specs.Shaped.{HasItems}
-use Rattle.shape_pipeline.specs.WorkedPasses.{one_item, TextsPrepared, TextsShaped, ListsOfGlyphs, LimitsPassed, data_of_texts, WorkedPasses}
+use Rattle.shape_pipeline.specs.Worked.Passes.{one_item, TextsPrepared, TextsShaped, ListsOfGlyphs, LimitsPassed, data_of_texts, WorkedPasses}
 
 some_items : HasItems one_item
 some_items e = let no : 1 ≡ 0 = ap length e in omega (arith, no)

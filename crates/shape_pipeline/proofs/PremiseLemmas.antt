@@ -1,4 +1,4 @@
--- If the hooks do nothing of their own and the lookups keep clusters and flags, a run's premises hold.
+-- If the hooks do nothing of their own and the lookups preserve clusters and flags, a run's premises hold.
 use Rattle.std.proofs.Common.{◌≡◌, ◌⊎◌, inl, inr, ℕ, Bool, true, false, ◌||◌, List, Option, Some, None, refl, sym, subst, ◌∙◌, arith}
 use Rattle.std.specs.Option.{option_map}
 use Rattle.canonical_form.specs.Equivalent.{ComposesSoundly}
@@ -7,42 +7,42 @@ use Rattle.shape_items.specs.Buffer.{Buffer}
 use Rattle.shape_common.specs.Face.{FaceMeaning}
 use Rattle.shape_buffer.specs.Guess.{guessed}
 use Rattle.shape_items.specs.Items.{Item}
-use Rattle.shape_buffer.specs.Keepers.{EachLookup, IsClusterKeeper, IsFlagKeeper, LookupsKeepClusters, LookupsKeepFlags}
+use Rattle.shape_buffer.specs.Preservation.{EachLookup, IsClusterPreserving, IsFlagPreserving, LookupsPreserveClusters, LookupsPreserveFlags}
 use Rattle.shape_buffer.specs.Layout.{LookupMeaning, MapMeaning}
 use Rattle.shape_buffer.specs.NoLookups.{no_lookups}
 use Rattle.shape_common.specs.Unicode.{UnicodeMeaning, LawfulUnicode}
-use Rattle.shape_items.proofs.Flags.FlagLemmas.{KeepsFlags-same}
+use Rattle.shape_items.proofs.Flags.FlagLemmas.{PreservesFlags-same}
 use Rattle.shape_normalize.specs.CanonicalForm.{HasLawfulHooks, TextPremises, HasNoSelector}
-use Rattle.shape_normalize.specs.Normalized.{HookKeepsClusters}
+use Rattle.shape_normalize.specs.Normalized.{HookPreservesClusters}
 use Rattle.shape_items.specs.Prepared.{IsPrepared}
-use Rattle.shape_plan.specs.Keepers.{EachHook, EachCall, RunKeepsFlags, has_steps}
+use Rattle.shape_plan.specs.Preservation.{EachHook, EachCall, RunPreservesFlags, has_steps}
 use Rattle.shape_plan.specs.Plan.{Plan, hooks_of}
 use Rattle.shape_plan.specs.Rules.{Rules, rules_of, used_decompositions, used_compose}
 use Rattle.shape_plan.specs.Run.{Run, run_of}
 use Rattle.shape_plan.specs.Shaper.{HookMeaning, ShaperConstants}
 use Rattle.shape_plan.specs.Shapers.{no_hooks}
-use Rattle.shape_plan.proofs.KeeperLemmas.{called}
-use Rattle.shape_pipeline.specs.Canonical.{RunKeepsEquivalence}
+use Rattle.shape_plan.proofs.PreservationLemmas.{called}
+use Rattle.shape_pipeline.specs.Canonical.{RunPreservesEquivalence}
 use Rattle.shape_pipeline.specs.Headline.{prepared_text}
 use Rattle.shape_pipeline.specs.Headline.{target_of}
-use Rattle.shape_pipeline.specs.Order.{RunKeepsClusters}
-use Rattle.shape_pipeline.specs.Premises.{LeavesBuffers, HookByHook, OwesNothing}
+use Rattle.shape_pipeline.specs.Order.{RunPreservesClusters}
+use Rattle.shape_pipeline.specs.Premises.{LeavesBuffers, HookByHook, HasNoObligations}
 use Rattle.shape_pipeline.specs.Shaped.{entered}
 use Rattle.shape_pipeline.proofs.RunLemmas.{prepared_text-cases}
 use Rattle.shape_normalize.proofs.Hooks.LawfulLemmas.{lawful-unasked, reorder-unasked}
-use Rattle.shape_prepare.specs.PreparedPoint.{KeepsPrepared}
-use Rattle.shape_buffer.proofs.Steps.KeeperLemmas.{KeepsOrder-same}
-use Rattle.shape_prepare.proofs.Keeping.PreparedLemmas.{preparing_prepares}
+use Rattle.shape_prepare.specs.PreparedPoint.{PreservesPrepared}
+use Rattle.shape_buffer.proofs.Steps.PreservationLemmas.{PreservesOrder-same}
+use Rattle.shape_prepare.proofs.Preservation.PreparedLemmas.{preparing_prepares}
 
--- what leaves a buffer as it is keeps clusters and flags
-pub clusters-left : IsClusterKeeper (λ b. b)
-clusters-left b monotone = KeepsOrder-same b
+-- what leaves a buffer as it is preserves clusters and flags
+pub clusters-left : IsClusterPreserving (λ b. b)
+clusters-left b monotone = PreservesOrder-same b
 
-pub flags-left : IsFlagKeeper (λ b. b)
-flags-left b = KeepsFlags-same b
+pub flags-left : IsFlagPreserving (λ b. b)
+flags-left b = PreservesFlags-same b
 
-EachLookup-none : (Keeps : (Buffer → Buffer) → Type 0) → Keeps (λ b. b) → EachLookup Keeps no_lookups
-EachLookup-none Keeps left = record {
+EachLookup-none : (Preserves : (Buffer → Buffer) → Type 0) → Preserves (λ b. b) → EachLookup Preserves no_lookups
+EachLookup-none Preserves left = record {
   substitute_start = left;
   stage = λ i. left;
   aat_substitute = λ features. left;
@@ -56,15 +56,15 @@ EachLookup-none Keeps left = record {
   kern = λ mask. left;
 }
 
-pub clusters-no_lookups : LookupsKeepClusters no_lookups
-clusters-no_lookups = EachLookup-none IsClusterKeeper clusters-left
+pub clusters-no_lookups : LookupsPreserveClusters no_lookups
+clusters-no_lookups = EachLookup-none IsClusterPreserving clusters-left
 
-pub flags-no_lookups : LookupsKeepFlags no_lookups
-flags-no_lookups = EachLookup-none IsFlagKeeper flags-left
+pub flags-no_lookups : LookupsPreserveFlags no_lookups
+flags-no_lookups = EachLookup-none IsFlagPreserving flags-left
 
-EachHook-none : (Keeps : (Buffer → Buffer) → Type 0) → Keeps (λ b. b) → (unicode : UnicodeMeaning) (run : Run)
-    → EachHook Keeps run (no_hooks unicode)
-EachHook-none Keeps left unicode run = record {
+EachHook-none : (Preserves : (Buffer → Buffer) → Type 0) → Preserves (λ b. b) → (unicode : UnicodeMeaning) (run : Run)
+    → EachHook Preserves run (no_hooks unicode)
+EachHook-none Preserves left unicode run = record {
   preprocess = λ given. left;
   setup_masks = λ given. left;
   postprocess = λ given. left;
@@ -79,9 +79,9 @@ none_given false false true pause none = cc
 none_given false true postprocess pause none = cc
 none_given true setup_masks postprocess pause none = cc
 
-EachHook-not_given : (Keeps : (Buffer → Buffer) → Type 0) (run : Run) → has_steps run.constants ≡ false
-    → (hooks : HookMeaning) → EachHook Keeps run hooks
-EachHook-not_given Keeps run none hooks =
+EachHook-not_given : (Preserves : (Buffer → Buffer) → Type 0) (run : Run) → has_steps run.constants ≡ false
+    → (hooks : HookMeaning) → EachHook Preserves run hooks
+EachHook-not_given Preserves run none hooks =
     let each = none_given run.constants.has_preprocess_text run.constants.has_setup_masks run.constants.has_postprocess_glyphs
     run.constants.has_pause none in
     record {
@@ -91,27 +91,27 @@ EachHook-not_given Keeps run none hooks =
       pause = λ given. absurd (let e : true ≡ false = sym given ∙ each.3 in cc);
     }
 
-EachHook-left : (Keeps : (Buffer → Buffer) → Type 0) → Keeps (λ b. b) → (run : Run) (hooks : HookMeaning)
-    → LeavesBuffers hooks → EachHook Keeps run hooks
-EachHook-left Keeps left run hooks leaves = record {
-  preprocess = λ given. subst Keeps (sym leaves.preprocess) left;
-  setup_masks = λ given. subst Keeps (sym leaves.setup_masks) left;
-  postprocess = λ given. subst Keeps (sym leaves.postprocess) left;
-  pause = λ given staged i n within asked. subst (λ pause. Keeps (pause n)) (sym leaves.pause) left;
+EachHook-left : (Preserves : (Buffer → Buffer) → Type 0) → Preserves (λ b. b) → (run : Run) (hooks : HookMeaning)
+    → LeavesBuffers hooks → EachHook Preserves run hooks
+EachHook-left Preserves left run hooks leaves = record {
+  preprocess = λ given. subst Preserves (sym leaves.preprocess) left;
+  setup_masks = λ given. subst Preserves (sym leaves.setup_masks) left;
+  postprocess = λ given. subst Preserves (sym leaves.postprocess) left;
+  pause = λ given staged i n within asked. subst (λ pause. Preserves (pause n)) (sym leaves.pause) left;
 }
 
 -- a hook that is given is one that keeps
-given-keeps : {Owed : Type 0} (given : Bool) → (given ≡ false) ⊎ Owed → given ≡ true → Owed
-given-keeps given (inl not_given) is = absurd (let e : true ≡ false = sym is ∙ not_given in cc)
-given-keeps given (inr keeps) is = keeps
+given-preserves : {Obligations : Type 0} (given : Bool) → (given ≡ false) ⊎ Obligations → given ≡ true → Obligations
+given-preserves given (inl not_given) is = absurd (let e : true ≡ false = sym is ∙ not_given in cc)
+given-preserves given (inr preserves) is = preserves
 
-EachHook-by_hook : (Keeps : (Buffer → Buffer) → Type 0) (run : Run) (hooks : HookMeaning)
-    → HookByHook Keeps run hooks → EachHook Keeps run hooks
-EachHook-by_hook Keeps run hooks each = record {
-  preprocess = given-keeps run.constants.has_preprocess_text each.preprocess;
-  setup_masks = given-keeps run.constants.has_setup_masks each.setup_masks;
-  postprocess = given-keeps run.constants.has_postprocess_glyphs each.postprocess;
-  pause = given-keeps run.constants.has_pause each.pause;
+EachHook-by_hook : (Preserves : (Buffer → Buffer) → Type 0) (run : Run) (hooks : HookMeaning)
+    → HookByHook Preserves run hooks → EachHook Preserves run hooks
+EachHook-by_hook Preserves run hooks each = record {
+  preprocess = given-preserves run.constants.has_preprocess_text each.preprocess;
+  setup_masks = given-preserves run.constants.has_setup_masks each.setup_masks;
+  postprocess = given-preserves run.constants.has_postprocess_glyphs each.postprocess;
+  pause = given-preserves run.constants.has_pause each.pause;
 }
 
 -- what holds of the shaper's hooks holds of those that the plan keeps
@@ -153,17 +153,17 @@ module _ {S : Type 0} (unicode : UnicodeMeaning) (lawful : LawfulUnicode unicode
 -- each item's mark and ccc are those of its character as normalising begins, if the shaper's hook leaves them so
 pub prepared_text-prepared : (run : Run) (text : Buffer) → LawfulUnicode run.unicode
     → ((hooks : HookMeaning) → run.hooks ≡ Some hooks → run.constants.has_preprocess_text ≡ true
-    → KeepsPrepared run.unicode hooks.preprocess)
+    → PreservesPrepared run.unicode hooks.preprocess)
     → IsPrepared run.unicode (prepared_text run text).items
-prepared_text-prepared run text lawful keeps =
+prepared_text-prepared run text lawful preserves =
     let begun = guessed run.unicode text in
     prepared_text-cases (λ b. IsPrepared run.unicode b.items) run (target_of run text) begun begun.items
     (λ none. subst (λ (items : List Item). IsPrepared run.unicode items) (sym none) (λ k d within. absurd (omega (arith, within))))
-    (preparing_prepares run (target_of run text) (entered begun) lawful keeps)
+    (preparing_prepares run (target_of run text) (entered begun) lawful preserves)
 
--- a hook that reorders marks keeps clusters if it isn't given
-no_reorder-keeps : (rules : Rules) → rules.reorder ≡ None → HookKeepsClusters rules
-no_reorder-keeps rules no_reorder reorder is = absurd (let e : None ≡ Some reorder = sym no_reorder ∙ is in cc)
+-- a hook that reorders marks preserves clusters if it isn't given
+no_reorder-preserves : (rules : Rules) → rules.reorder ≡ None → HookPreservesClusters rules
+no_reorder-preserves rules no_reorder reorder is = absurd (let e : None ≡ Some reorder = sym no_reorder ∙ is in cc)
 
 module _ {S P D F : Type 0} (unicode : UnicodeMeaning) (masks : P → MapMeaning) (lookups : P → F → LookupMeaning)
     (constants : ShaperConstants)
@@ -176,66 +176,66 @@ module _ {S P D F : Type 0} (unicode : UnicodeMeaning) (masks : P → MapMeaning
   abbrev LeavesAll : Type 0
   LeavesAll = (has_steps constants ≡ false) ⊎ ((s : S) → LeavesBuffers (hooks s plan face))
 
-  calls-not_given : (Keeps : (Buffer → Buffer) → Type 0) → Keeps (λ b. b) → LeavesAll → EachLookup Keeps (lookups plan.ot_map face)
-      → EachCall Keeps this_run
-  calls-not_given Keeps left (inl none) keep = record {
-    lookups = called Keeps this_run keep;
-    hooks = λ h is. EachHook-not_given Keeps this_run none h;
+  calls-not_given : (Preserves : (Buffer → Buffer) → Type 0) → Preserves (λ b. b) → LeavesAll → EachLookup Preserves (lookups plan.ot_map face)
+      → EachCall Preserves this_run
+  calls-not_given Preserves left (inl none) keep = record {
+    lookups = called Preserves this_run keep;
+    hooks = λ h is. EachHook-not_given Preserves this_run none h;
   }
-  calls-not_given Keeps left (inr leaves) keep = record {
-    lookups = called Keeps this_run keep;
-    hooks = of_kept (λ s. hooks s plan face) (EachHook Keeps this_run)
-        (λ s. EachHook-left Keeps left this_run (hooks s plan face) (leaves s)) plan.shaper;
-  }
-
-  calls-by_hook : (Keeps : (Buffer → Buffer) → Type 0) → ((s : S) → HookByHook Keeps this_run (hooks s plan face))
-      → EachLookup Keeps (lookups plan.ot_map face) → EachCall Keeps this_run
-  calls-by_hook Keeps each keep = record {
-    lookups = called Keeps this_run keep;
-    hooks = of_kept (λ s. hooks s plan face) (EachHook Keeps this_run)
-        (λ s. EachHook-by_hook Keeps this_run (hooks s plan face) (each s)) plan.shaper;
+  calls-not_given Preserves left (inr leaves) keep = record {
+    lookups = called Preserves this_run keep;
+    hooks = of_kept (λ s. hooks s plan face) (EachHook Preserves this_run)
+        (λ s. EachHook-left Preserves left this_run (hooks s plan face) (leaves s)) plan.shaper;
   }
 
-  pub flags-by_hook : ((s : S) → HookByHook IsFlagKeeper this_run (hooks s plan face)) → LookupsKeepFlags (lookups plan.ot_map face)
-      → RunKeepsFlags this_run
-  flags-by_hook = calls-by_hook IsFlagKeeper
+  calls-by_hook : (Preserves : (Buffer → Buffer) → Type 0) → ((s : S) → HookByHook Preserves this_run (hooks s plan face))
+      → EachLookup Preserves (lookups plan.ot_map face) → EachCall Preserves this_run
+  calls-by_hook Preserves each keep = record {
+    lookups = called Preserves this_run keep;
+    hooks = of_kept (λ s. hooks s plan face) (EachHook Preserves this_run)
+        (λ s. EachHook-by_hook Preserves this_run (hooks s plan face) (each s)) plan.shaper;
+  }
 
-  pub clusters-by_hook : ((s : S) → HookByHook IsClusterKeeper this_run (hooks s plan face))
-      → LookupsKeepClusters (lookups plan.ot_map face) → HookKeepsClusters (rules_of unicode constants hooks faces plan face)
-      → RunKeepsClusters this_run
-  clusters-by_hook each keep reordering = record { calls = calls-by_hook IsClusterKeeper each keep; reordering = reordering }
+  pub flags-by_hook : ((s : S) → HookByHook IsFlagPreserving this_run (hooks s plan face)) → LookupsPreserveFlags (lookups plan.ot_map face)
+      → RunPreservesFlags this_run
+  flags-by_hook = calls-by_hook IsFlagPreserving
+
+  pub clusters-by_hook : ((s : S) → HookByHook IsClusterPreserving this_run (hooks s plan face))
+      → LookupsPreserveClusters (lookups plan.ot_map face) → HookPreservesClusters (rules_of unicode constants hooks faces plan face)
+      → RunPreservesClusters this_run
+  clusters-by_hook each keep reordering = record { calls = calls-by_hook IsClusterPreserving each keep; reordering = reordering }
 
   pub equivalence-by_hook : LawfulUnicode unicode → constants.has_decompose ≡ false → constants.has_compose ≡ false
       → constants.has_reorder_marks ≡ false
-      → (constants.has_preprocess_text ≡ false) ⊎ ((s : S) → KeepsPrepared unicode (hooks s plan face).preprocess)
-      → RunKeepsEquivalence this_run
+      → (constants.has_preprocess_text ≡ false) ⊎ ((s : S) → PreservesPrepared unicode (hooks s plan face).preprocess)
+      → RunPreservesEquivalence this_run
   equivalence-by_hook lawful no_split no_compose no_reorder preprocess = record {
     lawful_hooks = lawful-unasked unicode constants hooks faces plan face lawful no_split no_compose;
     no_reordering = reorder-unasked unicode constants hooks faces plan face no_reorder;
-    preprocess = λ h is given. of_kept (λ s. hooks s plan face) (λ h. KeepsPrepared unicode h.preprocess)
-        (given-keeps constants.has_preprocess_text preprocess given) plan.shaper h is;
+    preprocess = λ h is given. of_kept (λ s. hooks s plan face) (λ h. PreservesPrepared unicode h.preprocess)
+        (given-preserves constants.has_preprocess_text preprocess given) plan.shaper h is;
   }
 
-  pub flags-not_given : LeavesAll → LookupsKeepFlags (lookups plan.ot_map face)
-      → RunKeepsFlags this_run
-  flags-not_given = calls-not_given IsFlagKeeper flags-left
+  pub flags-not_given : LeavesAll → LookupsPreserveFlags (lookups plan.ot_map face)
+      → RunPreservesFlags this_run
+  flags-not_given = calls-not_given IsFlagPreserving flags-left
 
-  pub clusters-not_given : LeavesAll → LookupsKeepClusters (lookups plan.ot_map face)
-      → HookKeepsClusters (rules_of unicode constants hooks faces plan face)
-      → RunKeepsClusters this_run
+  pub clusters-not_given : LeavesAll → LookupsPreserveClusters (lookups plan.ot_map face)
+      → HookPreservesClusters (rules_of unicode constants hooks faces plan face)
+      → RunPreservesClusters this_run
   clusters-not_given not_given keep reordering = record {
-    calls = calls-not_given IsClusterKeeper clusters-left not_given keep;
+    calls = calls-not_given IsClusterPreserving clusters-left not_given keep;
     reordering = reordering;
   }
 
   module _ (lawful : LawfulUnicode unicode) (no_reorder : constants.has_reorder_marks ≡ false)
       (none : (s : S) → hooks s plan face ≡ no_hooks unicode) where
-    calls-none : (Keeps : (Buffer → Buffer) → Type 0) → Keeps (λ b. b) → EachLookup Keeps (lookups plan.ot_map face)
-        → EachCall Keeps this_run
-    calls-none Keeps left keep = record {
-      lookups = called Keeps this_run keep;
-      hooks = of_kept (λ s. hooks s plan face) (EachHook Keeps this_run)
-          (λ s. subst (EachHook Keeps this_run) (sym (none s)) (EachHook-none Keeps left unicode this_run)) plan.shaper;
+    calls-none : (Preserves : (Buffer → Buffer) → Type 0) → Preserves (λ b. b) → EachLookup Preserves (lookups plan.ot_map face)
+        → EachCall Preserves this_run
+    calls-none Preserves left keep = record {
+      lookups = called Preserves this_run keep;
+      hooks = of_kept (λ s. hooks s plan face) (EachHook Preserves this_run)
+          (λ s. subst (EachHook Preserves this_run) (sym (none s)) (EachHook-none Preserves left unicode this_run)) plan.shaper;
     }
 
     lawful-none : HasLawfulHooks (rules_of unicode constants hooks faces plan face)
@@ -246,10 +246,10 @@ module _ {S P D F : Type 0} (unicode : UnicodeMeaning) (masks : P → MapMeaning
     }
 
     preprocess-none : (h : HookMeaning) → hooks_of hooks plan face ≡ Some h → constants.has_preprocess_text ≡ true
-        → KeepsPrepared unicode h.preprocess
+        → PreservesPrepared unicode h.preprocess
     preprocess-none h is given =
-        of_kept (λ s. hooks s plan face) (λ h. KeepsPrepared unicode h.preprocess)
-        (λ s. subst (λ (h : HookMeaning). KeepsPrepared unicode h.preprocess) (sym (none s)) (λ b all. all)) plan.shaper h is
+        of_kept (λ s. hooks s plan face) (λ h. PreservesPrepared unicode h.preprocess)
+        (λ s. subst (λ (h : HookMeaning). PreservesPrepared unicode h.preprocess) (sym (none s)) (λ b all. all)) plan.shaper h is
 
     prepared-none : (text : Buffer)
         → IsPrepared unicode (prepared_text this_run text).items
@@ -257,18 +257,18 @@ module _ {S P D F : Type 0} (unicode : UnicodeMeaning) (masks : P → MapMeaning
         let run = run_of unicode masks lookups constants hooks faces plan face in
         prepared_text-prepared run text lawful preprocess-none
 
-    pub owes_nothing : LookupsKeepClusters (lookups plan.ot_map face) → LookupsKeepFlags (lookups plan.ot_map face)
-        → OwesNothing this_run
-    owes_nothing clusters flags =
+    pub has_no_obligations : LookupsPreserveClusters (lookups plan.ot_map face) → LookupsPreserveFlags (lookups plan.ot_map face)
+        → HasNoObligations this_run
+    has_no_obligations clusters flags =
         let unordered = reorder-unasked unicode constants hooks faces plan face no_reorder in
         let asked : (text : List ℕ) → HasNoSelector (rules_of unicode constants hooks faces plan face) text
         → TextPremises (rules_of unicode constants hooks faces plan face) text = λ text plain. record { lawful_hooks = lawful-none; no_selector = plain; no_reordering = unordered } in
         record {
           clusters = record {
-            calls = calls-none IsClusterKeeper clusters-left clusters;
-            reordering = no_reorder-keeps (rules_of unicode constants hooks faces plan face) unordered;
+            calls = calls-none IsClusterPreserving clusters-left clusters;
+            reordering = no_reorder-preserves (rules_of unicode constants hooks faces plan face) unordered;
           };
-          flags = calls-none IsFlagKeeper flags-left flags;
+          flags = calls-none IsFlagPreserving flags-left flags;
           canonical = record { lawful_hooks = lawful-none; no_reordering = unordered; preprocess = preprocess-none };
           hooks = lawful-none;
           no_reordering = unordered;

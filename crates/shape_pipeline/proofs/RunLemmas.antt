@@ -20,9 +20,9 @@ use Rattle.shape_normalize.proofs.Normalized.SettingLemmas.{limit_of-ordered}
 use Rattle.shape_plan.specs.Rules.{Rules}
 use Rattle.shape_common.specs.Unicode.{LawfulUnicode}
 use Rattle.shape_normalize.proofs.Form.CanonicalFormLemmas.{NormalizesCanonically-normalized}
-use Rattle.shape_normalize.proofs.Normalized.ClusterOrderLemmas.{normalized_keeps}
+use Rattle.shape_normalize.proofs.Normalized.ClusterOrderLemmas.{normalized_preserves}
 use Rattle.shape_normalize.proofs.Places.ByPlaceLemmas.{normalized_by_place}
-use Rattle.shape_normalize.proofs.Normalized.FeatureLemmas.{normalized_keeps_features}
+use Rattle.shape_normalize.proofs.Normalized.FeatureLemmas.{normalized_preserves_features}
 use Rattle.shape_normalize.proofs.Normalized.ItemGlyphLemmas.{normalized_has_glyphs}
 use Rattle.shape_normalize.proofs.Normalized.NormalizedLemmas.{normalized_brings_in}
 use Rattle.shape_pipeline.specs.Headline.{IsMadeOfNormalisedList, NormalForm, target_of}
@@ -157,9 +157,9 @@ pub normal_form : (rules : Rules) → LawfulReorder rules.reorder → LawfulUnic
 normal_form rules lawful unicode b = record {
   brought_in = normalized_brings_in rules lawful b (normalized rules b) refl;
   item_glyphs = normalized_has_glyphs rules lawful b (normalized rules b) refl;
-  features = normalized_keeps_features rules lawful b (normalized rules b) refl;
+  features = normalized_preserves_features rules lawful b (normalized rules b) refl;
   by_place = normalized_by_place rules lawful b (normalized rules b) refl;
-  clusters = normalized_keeps rules lawful b (normalized rules b) refl;
+  clusters = normalized_preserves rules lawful b (normalized rules b) refl;
   canonical_form = NormalizesCanonically-normalized rules unicode b (normalized rules b) refl;
   recomposed = normalized_recomposes rules b (normalized rules b) refl;
 }

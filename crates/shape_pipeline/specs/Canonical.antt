@@ -10,8 +10,8 @@ use Rattle.shape_normalize.specs.RoundOne.{round_one}
 use Rattle.shape_normalize.specs.RoundTwo.{has_mark_past_first}
 use Rattle.shape_plan.specs.Run.{Run}
 use Rattle.shape_plan.specs.Shaper.{HookMeaning}
-use Rattle.shape_prepare.specs.KeptCharacters.{LeavesCharacters}
-use Rattle.shape_prepare.specs.PreparedPoint.{KeepsPrepared}
+use Rattle.shape_prepare.specs.PreservedCharacters.{LeavesCharacters}
+use Rattle.shape_prepare.specs.PreparedPoint.{PreservesPrepared}
 use Rattle.shape_pipeline.specs.Shaped.{entered}
 use Rattle.shape_pipeline.specs.Headline.{target_of, prepared_text, normalised_list}
 
@@ -25,11 +25,11 @@ normalised_characters run text = text_of (normalised_list run text)
 
 -- the equivalence premises on hooks: they are lawful, none reorders marks, and a given `preprocess_text` leaves the
 -- mark and the ccc of each item those of its character
-pub record RunKeepsEquivalence (run : Run) : Type 0 where
+pub record RunPreservesEquivalence (run : Run) : Type 0 where
   pub lawful_hooks : HasLawfulHooks run.rules
   pub no_reordering : run.rules.reorder ≡ None
   pub preprocess : (hooks : HookMeaning) → run.hooks ≡ Some hooks → run.constants.has_preprocess_text ≡ true
-      → KeepsPrepared run.unicode hooks.preprocess
+      → PreservesPrepared run.unicode hooks.preprocess
 
 -- the text as normalising begins has no variation selector
 abbrev pub HasPlainText : Run → Buffer → Type 0
@@ -69,9 +69,9 @@ pub record HasCanonicalList (run : Run) (text : Buffer) : Type 0 where
   pub cuts : (front back : Buffer) → IsCutInTwo run text front back
       → normalised_characters run text ≡ normalised_characters run front ++ normalised_characters run back
 
--- so it is if hooks keep equivalence
+-- so it is if hooks preserve equivalence
 abbrev pub ListIsCanonical : Run → Buffer → Type 0
-ListIsCanonical run text = RunKeepsEquivalence run → HasCanonicalList run text
+ListIsCanonical run text = RunPreservesEquivalence run → HasCanonicalList run text
 
 -- preparing leaves the characters of a text, with script and direction guessed: no dotted circle goes in, nothing is
 -- reversed, mirrored or taken in its vertical form, and a given `preprocess_text` leaves characters

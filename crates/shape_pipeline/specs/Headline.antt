@@ -2,17 +2,17 @@
 use Rattle.std.specs.Prelude.{◌≡◌, ◌==◌, false, All}
 use Rattle.std.specs.Int.RustNames.{bit_and}
 use Rattle.shape_items.specs.Buffer.{Buffer}
-use Rattle.shape_items.specs.ClusterOrder.{IsMonotoneLevel, KeepsClusters}
+use Rattle.shape_items.specs.ClusterOrder.{IsMonotoneLevel, PreservesClusters}
 use Rattle.shape_items.specs.Clusters.{clusters}
 use Rattle.shape_items.specs.Flags.{HasOneSetOfFlags}
 use Rattle.shape_buffer.specs.Guess.{guessed, guessed_direction}
-use Rattle.shape_items.specs.KeepsFlags.{some_has}
+use Rattle.shape_items.specs.PreservesFlags.{some_has}
 use Rattle.shape_buffer.specs.Outcome.{run_steps}
 use Rattle.shape_common.specs.declared.text_types.Direction.{Direction}
 use Rattle.shape_normalize.specs.CanonicalForm.{text_of, NormalizesCanonically}
-use Rattle.shape_normalize.specs.Normalized.{normalized, BroughtInHaveGlyphs, HasItemGlyph, HookKeepsClusters, KeepsFeatures, Recomposes}
+use Rattle.shape_normalize.specs.Normalized.{normalized, BroughtInHaveGlyphs, HasItemGlyph, HookPreservesClusters, PreservesFeatures, Recomposes}
 use Rattle.shape_normalize.specs.Origins.{ComesByPlace}
-use Rattle.shape_plan.specs.Keepers.{RunKeepsFlags}
+use Rattle.shape_plan.specs.Preservation.{RunPreservesFlags}
 use Rattle.shape_plan.specs.Rules.{Rules}
 use Rattle.shape_plan.specs.Run.{Run}
 use Rattle.shape_pipeline.specs.Shaped.{HasItems, text_made, shaped_steps, finished}
@@ -41,9 +41,9 @@ IsMadeOfNormalisedList run text glyphs =
 pub record NormalForm (rules : Rules) (text list : Buffer) : Type 0 where
   pub brought_in : BroughtInHaveGlyphs rules.face.nominal_glyph (text_of text) (text_of list)
   pub item_glyphs : All (HasItemGlyph rules text) list.items
-  pub features : KeepsFeatures text list
+  pub features : PreservesFeatures text list
   pub by_place : ComesByPlace rules text list
-  pub clusters : IsMonotoneLevel text.cluster_level → HookKeepsClusters rules → KeepsClusters (clusters text.items) (clusters list.items)
+  pub clusters : IsMonotoneLevel text.cluster_level → HookPreservesClusters rules → PreservesClusters (clusters text.items) (clusters list.items)
   pub canonical_form : NormalizesCanonically rules text list
   pub recomposed : Recomposes rules text list
 
@@ -55,6 +55,6 @@ pub record HasFlagsByCluster (text glyphs : Buffer) : Type 0 where
   pub concat : (bit_and text.flags.0 PRODUCE_UNSAFE_TO_CONCAT == PRODUCE_UNSAFE_TO_CONCAT) ≡ false
       → some_has UNSAFE_TO_CONCAT glyphs.items ≡ false
 
--- so it is if lookups and hooks keep flags
+-- so it is if lookups and hooks preserve flags
 abbrev pub FlagsAreByCluster : Run → Buffer → Buffer → Type 0
-FlagsAreByCluster run text glyphs = RunKeepsFlags run → HasFlagsByCluster text glyphs
+FlagsAreByCluster run text glyphs = RunPreservesFlags run → HasFlagsByCluster text glyphs

@@ -5,7 +5,4 @@ pub mod Headline
 pub mod Canonical
 pub mod Planned
 pub mod Premises
-pub mod WorkedPasses
-pub mod WorkedRun
-pub mod WorkedBeginnings
-pub mod WorkedOwed
+pub mod Worked

@@ -13,6 +13,6 @@ abbrev pub planned_for : {F S P D : Type 0} → UnicodeMeaning → Planning F S 
 planned_for unicode planning face shaper features text =
     planned planning face shaper (guessed_direction unicode text) (guessed_script unicode text) text.language features
 
--- what the shaper makes of that plan as it is without such data, if it is kept and gives the hook
+-- what the shaper makes of that plan as it is without such data, if it is used and gives the hook
 abbrev pub data_for_text : {F S P D : Type 0} → UnicodeMeaning → Planning F S P D → F → S → List Feature → Buffer → Option D
 data_for_text unicode planning face shaper features text = own_data planning (planned_for unicode planning face shaper features text)

@@ -1,14 +1,14 @@
--- What a run owes, if its shaper gives no hook and its engine has no lookups: nothing.
+-- The obligations of a run, if its shaper gives no hook and its engine has no lookups: nothing.
 use Rattle.std.specs.Prelude.{◌≡◌, ◌⊎◌, false, None}
 use Rattle.shape_items.specs.Buffer.{Buffer}
 use Rattle.shape_items.specs.Prepared.{IsPrepared}
 use Rattle.shape_normalize.specs.CanonicalForm.{text_of, HasLawfulHooks, CanonicalTextPremises, EquivalencePremises, CanonicalFormPremises, PlainPremises}
-use Rattle.shape_plan.specs.Keepers.{RunKeepsFlags, EachCalledPause}
+use Rattle.shape_plan.specs.Preservation.{RunPreservesFlags, EachCalledPause}
 use Rattle.shape_plan.specs.Run.{Run}
 use Rattle.shape_plan.specs.Shaper.{HookMeaning}
-use Rattle.shape_pipeline.specs.Canonical.{HasPlainText, RunKeepsEquivalence}
+use Rattle.shape_pipeline.specs.Canonical.{HasPlainText, RunPreservesEquivalence}
 use Rattle.shape_pipeline.specs.Headline.{prepared_text}
-use Rattle.shape_pipeline.specs.Order.{RunKeepsClusters}
+use Rattle.shape_pipeline.specs.Order.{RunPreservesClusters}
 
 -- hooks that leave every buffer as it is, except for the one that reorders marks
 pub record LeavesBuffers (hooks : HookMeaning) : Type 0 where
@@ -19,18 +19,18 @@ pub record LeavesBuffers (hooks : HookMeaning) : Type 0 where
 
 -- hook by hook: each of the four that change a buffer isn't given, or keeps what is asked of it; of pauses, those that
 -- the run calls
-pub record HookByHook (Keeps : (Buffer → Buffer) → Type 0) (run : Run) (hooks : HookMeaning) : Type 0 where
-  pub preprocess : (run.constants.has_preprocess_text ≡ false) ⊎ Keeps hooks.preprocess
-  pub setup_masks : (run.constants.has_setup_masks ≡ false) ⊎ Keeps hooks.setup_masks
-  pub postprocess : (run.constants.has_postprocess_glyphs ≡ false) ⊎ Keeps hooks.postprocess
-  pub pause : (run.constants.has_pause ≡ false) ⊎ EachCalledPause Keeps run hooks
+pub record HookByHook (Preserves : (Buffer → Buffer) → Type 0) (run : Run) (hooks : HookMeaning) : Type 0 where
+  pub preprocess : (run.constants.has_preprocess_text ≡ false) ⊎ Preserves hooks.preprocess
+  pub setup_masks : (run.constants.has_setup_masks ≡ false) ⊎ Preserves hooks.setup_masks
+  pub postprocess : (run.constants.has_postprocess_glyphs ≡ false) ⊎ Preserves hooks.postprocess
+  pub pause : (run.constants.has_pause ≡ false) ⊎ EachCalledPause Preserves run hooks
 
 -- the cluster premises, the flag premises, the equivalence premises on hooks, and what normalising by itself asks
 -- besides: it finds each text prepared, so what is left to ask is asked of the text alone
-pub record OwesNothing (run : Run) : Type 0 where
-  pub clusters : RunKeepsClusters run
-  pub flags : RunKeepsFlags run
-  pub canonical : RunKeepsEquivalence run
+pub record HasNoObligations (run : Run) : Type 0 where
+  pub clusters : RunPreservesClusters run
+  pub flags : RunPreservesFlags run
+  pub canonical : RunPreservesEquivalence run
   pub hooks : HasLawfulHooks run.rules
   pub no_reordering : run.rules.reorder ≡ None
   pub prepared : (text : Buffer) → IsPrepared run.rules.unicode (prepared_text run text).items

@@ -24,7 +24,7 @@ use std::alloc::Global;
 /// step would leave a list past the run's limit (in normalising the expanded list counts), and with
 /// `Memory` if a growth was refused; the fault holds the cleared buffer. An empty text gives an empty
 /// result and takes no memory. `form` is a law of the list that the run normalises, `canonical` says that it
-/// is equivalent to the text if hooks keep equivalence, and `made` that the glyphs are made of that list.
+/// is equivalent to the text if hooks preserve equivalence, and `made` that the glyphs are made of that list.
 pub fn shape_with_plan<U, F, M, S>(
     alloc: Global,
     face: &F,
@@ -87,7 +87,7 @@ where
 /// for an empty text too. Refuses with `Length` if a step would leave a list past the run's limit, and
 /// with `Memory` if a growth was refused, planning included; the fault holds the cleared buffer. `form` is
 /// a law of the list that the run normalises, `canonical` says that it is equivalent to the text if hooks
-/// keep equivalence, `made` that the glyphs are made of that list, and `data` what the shaper's data is
+/// preserve equivalence, `made` that the glyphs are made of that list, and `data` what the shaper's data is
 /// in the plan.
 pub fn shape<U, F, M, S>(
     alloc: Global,

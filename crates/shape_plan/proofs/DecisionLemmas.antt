@@ -33,7 +33,7 @@ tables-decided f = record {
   one_table = first_without_second (apply_gpos f) (apply_kerx f);
 }
 
--- the masks are those of features: the engine owes that they lack the defined bits
+-- the masks are those of features: the engine guarantees that they lack the defined bits
 pub masks-decided : {F S P D : Type 0} (planning : Planning F S P D) (planner : Planner F S) (map : MapMeaning) → LawfulMasks map
     → MasksAreFeatures (decided (facts_of planning planner map))
 unfolding decided facts_of

@@ -1,3 +1,3 @@
 mod DecisionLemmas
-pub mod KeeperLemmas
+pub mod PreservationLemmas
 pub mod PlannedLemmas

@@ -46,7 +46,7 @@ apply_kern f = lacks_kerning f && (not f.tables.kerx && f.has_kerning)
 abbrev pub apply_fallback_kern : PlanFacts → Bool
 apply_fallback_kern f = not (apply_gpos f || (apply_kerx f || apply_kern f))
 
--- as the given shaper wishes; but marks keep their advances under kerx, and under kern with a state machine
+-- as the given shaper prefers; but marks keep their advances under kerx, and under kern with a state machine
 abbrev pub zero_marks : PlanFacts → Bool
 zero_marks f = f.script_zero_marks && (not (apply_kerx f) && (not (apply_kern f) || not f.has_machine_kerning))
 
@@ -54,7 +54,7 @@ zero_marks f = f.script_zero_marks && (not (apply_kerx f) && (not (apply_kern f)
 abbrev pub adjusts : PlanFacts → Bool
 adjusts f = not (apply_gpos f) && (not (apply_kerx f) && (not (apply_kern f) || not f.has_cross_kerning))
 
--- if nothing places them and the given shaper wishes it
+-- if nothing places them and the given shaper asks for it
 abbrev pub fallback_mark_positioning : PlanFacts → Bool
 fallback_mark_positioning f = adjusts f && f.script_fallback_mark_positioning
 

@@ -5,14 +5,9 @@ pub mod Reorder
 pub mod Shapers
 pub mod Rules
 pub mod Run
-pub mod Keepers
+pub mod Preservation
 pub mod Tags
 pub mod Requests
 pub mod Decisions
 pub mod Planner
-pub mod WorkedRequests
-pub mod WorkedDecisions
-pub mod WorkedPlans
-pub mod WorkedFaces
-pub mod WorkedTexts
-pub mod WorkedRuns
+pub mod Worked

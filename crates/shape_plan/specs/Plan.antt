@@ -21,12 +21,12 @@ pub record Plan (S P D : Type 0) : Type 0 where
   pub user_features : List Feature
   pub shaper_data : Option D
 
--- the shaper that was given, if it is kept
+-- the shaper that was given, if it is used
 abbrev pub given_shaper : {S : Type 0} → ChosenShaper S → Option S
 given_shaper (Given shaper) = Some shaper.now
 given_shaper Dumber = None
 
--- what the hooks of the plan's shaper do over a face, if the shaper is kept
+-- what the hooks of the plan's shaper do over a face, if the shaper is used
 abbrev pub hooks_of : {S P D F H : Type 0} → (S → Plan S P D → F → H) → Plan S P D → F → Option H
 hooks_of hooks plan face = option_map (λ shaper. hooks shaper plan face) plan.shaper
 

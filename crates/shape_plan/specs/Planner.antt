@@ -28,7 +28,7 @@ pub record Planner (F S : Type 0) : Type 0 where
   pub apply_morx : Bool
   pub script_zero_marks : Bool
   pub script_fallback_mark_positioning : Bool
-  -- if it is kept
+  -- if it is used
   pub shaper : Option S
 
 -- what planning depends on: the answers of faces and engine, the shaper's constants and those of its hooks that make a
@@ -47,10 +47,10 @@ abbrev pub uses_morx : hb_tables_t → Direction → Bool
 uses_morx tables direction = tables.morx && (is_horizontal direction || not tables.gsub)
 
 -- under morx a shaper that isn't the default gives way to the one that knows no script
-abbrev pub kept_shaper : {S : Type 0} → Bool → Bool → S → Option S
-kept_shaper apply_morx is_default shaper = if apply_morx && not is_default then None else Some shaper
+abbrev pub used_shaper : {S : Type 0} → Bool → Bool → S → Option S
+used_shaper apply_morx is_default shaper = if apply_morx && not is_default then None else Some shaper
 
--- a planner begins without requests; what the given shaper wishes for marks counts even if it gives way
+-- a planner begins without requests; what the given shaper prefers for marks counts even if it gives way
 unfoldable pub begun_planner : {F S P D : Type 0} → Planning F S P D → F → S → Direction → Option Script → Option (List ℕ) → Planner F S
 begun_planner planning face shaper direction script language =
     let morx = uses_morx (planning.faces face).tables direction in record {
@@ -61,7 +61,7 @@ begun_planner planning face shaper direction script language =
       apply_morx = morx;
       script_zero_marks = not (planning.constants.zero_width_marks == 0);
       script_fallback_mark_positioning = planning.constants.fallback_position;
-      shaper = kept_shaper morx planning.constants.is_default shaper;
+      shaper = used_shaper morx planning.constants.is_default shaper;
     }
 
 -- a planner with all requests made
@@ -109,7 +109,7 @@ facts_of planning planner map =
       has_cross_kerning = layout.has_cross_kerning;
     }
 
--- what the shaper makes for a plan, if it is kept and gives the hook
+-- what the shaper makes for a plan, if it is used and gives the hook
 abbrev pub data_for : {S P D : Type 0} → Bool → (S → Plan S P D → D) → Plan S P D → Option D
 data_for given made plan = option_map (λ make. make plan) (hook_of given made plan.shaper)
 

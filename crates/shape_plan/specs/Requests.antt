@@ -83,11 +83,11 @@ user_request f = feature f.tag (if is_global f then F_GLOBAL else F_NONE) f.valu
 abbrev pub later_requests : Direction → List Feature → List MapRequest
 later_requests direction features = after_script ++ common ++ directed direction ++ map user_request features
 
--- what a hook asks for, by the builder as it stands; none if the shaper is not kept or does not give the hook
+-- what a hook asks for, by the builder as it stands; none if the shaper is not used or does not give the hook
 abbrev pub Collector : Type 0
 Collector = Option (Builder → Direction → Option Script → List MapRequest)
 
--- a hook of a shaper, if it is kept and gives the hook
+-- a hook of a shaper, if it is used and gives the hook
 abbrev pub hook_of : {S H : Type 0} → Bool → (S → H) → Option S → Option H
 hook_of given hook shaper = if given then option_map hook shaper else None
 

@@ -25,7 +25,7 @@ pub record Rules : Type 0 where
   -- whether marks are composed with their starters again
   pub recomposes : Bool
 
--- the split is the hook's if it is given and the shaper kept, else Unicode's
+-- the split is the hook's if it is given and the shaper used, else Unicode's
 abbrev pub used_split : UnicodeMeaning → Bool → Option HookMeaning → ℕ → Option (ℕ × ℕ)
 used_split unicode given hooks c = option_map_or (λ h. if given then h.split c else unicode.split c) hooks (unicode.split c)
 
@@ -48,7 +48,7 @@ used_compose unicode given hooks a b = option_map_or (λ h. if given then h.comp
 abbrev pub used_reorder : Bool → Option HookMeaning → Option (Buffer → ℕ → ℕ → Buffer)
 used_reorder given hooks = if given then option_map (λ h. h.reorder) hooks else None
 
--- the mode of normalising: the shaper's preference if it is kept, else AUTO
+-- the mode of normalising: the shaper's preference if it is used, else AUTO
 abbrev pub used_mode : {S P D : Type 0} → ℤ → Plan S P D → ℤ
 used_mode preference plan = option_map_or (λ shaper. preference) plan.shaper MODE_AUTO
 
@@ -79,7 +79,7 @@ rules_of unicode constants hooks faces plan face = record {
   recomposes = mode_recomposes (used_mode constants.preference plan);
 }
 
--- the rules if no shaper is kept: those of Unicode and a face alone
+-- the rules if no shaper is used: those of Unicode and a face alone
 abbrev pub rules_without_shaper : UnicodeMeaning → FaceMeaning → Rules
 rules_without_shaper unicode face = record {
   unicode = unicode;

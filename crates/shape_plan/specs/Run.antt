@@ -20,7 +20,7 @@ pub record Run : Type 0 where
   pub map : MapMeaning
   pub lookups : LookupMeaning
   pub constants : ShaperConstants
-  -- if the plan keeps the shaper
+  -- if the plan uses the shaper
   pub hooks : Option HookMeaning
   pub direction : Direction
   pub script : Option Script
@@ -49,6 +49,6 @@ run_of unicode masks lookups constants hooks faces plan face = record {
 abbrev pub step_if : Bool → (Buffer → Buffer) → Buffer → Buffer
 step_if test f = if test then f else (λ b. b)
 
--- a hook if it is given and the plan keeps the shaper, else none
+-- a hook if it is given and the plan uses the shaper, else none
 abbrev pub hook_if : Bool → Option HookMeaning → (HookMeaning → Buffer → Buffer) → Buffer → Buffer
 hook_if given hooks pick = option_map_or (λ h. step_if given (pick h)) hooks (λ b. b)

@@ -1,4 +1,4 @@
--- What the constants and hooks of a shaper mean, and what every shaper owes.
+-- What the constants and hooks of a shaper mean, and what every shaper must provide.
 use Rattle.std.specs.Prelude.{◌≡◌, ℕ, ℤ, ◌⊎◌, Bool, true, ◌&&◌, nat_le, int_le, Option, map}
 use Rattle.std.specs.Int.RustNames.{bit_or}
 use Rattle.shape_items.specs.Buffer.{Buffer}
@@ -49,7 +49,7 @@ is_preference preference = int_le MODE_NONE preference && int_le preference MODE
 abbrev pub is_zero_width_type : ℕ → Bool
 is_zero_width_type zero_width_marks = nat_le zero_width_marks 2
 
--- what every shaper owes of its constants
+-- the obligations of every shaper on its constants
 pub record LawfulConstants (constants : ShaperConstants) : Type 0 where
   pub preference : is_preference constants.preference ≡ true
   pub zero_width : is_zero_width_type constants.zero_width_marks ≡ true
@@ -64,8 +64,8 @@ pub record ChangesMasksAlone (before after : Buffer) : Type 0 where
   pub scratch : (after.scratch_flags.0 ≡ before.scratch_flags.0) ⊎ (after.scratch_flags.0 ≡ bit_or before.scratch_flags.0 HAS_GLYPH_FLAGS)
   pub rest : record after { items = before.items; scratch_flags = before.scratch_flags } ≡ before
 
--- what every shaper owes of its hooks, whether they are given or not
-pub record OwedHooks (hooks : HookMeaning) : Type 0 where
+-- the obligations of every shaper on its hooks, whether they are given or not
+pub record HookObligations (hooks : HookMeaning) : Type 0 where
   pub height_falls : FallsAlong hooks.split hooks.height
   pub reorders : ReordersRanges hooks.reorder
   pub masks_alone : (b : Buffer) → ChangesMasksAlone b (hooks.setup_masks b)

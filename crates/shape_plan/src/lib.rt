@@ -1,4 +1,4 @@
-//! What a run is planned by: a shaper's hooks, and the plan that keeps it.
+//! What a run is planned by: a shaper's hooks, and the plan that uses it.
 //!
 //! [`ot_shaper`] has the trait of script shapers, [`ot_shape_plan`] the plan.
 #![tactic(auto)]

@@ -20,6 +20,6 @@ pub const HB_OT_SHAPE_NORMALIZATION_MODE_COMPOSED_DIACRITICS_NO_SHORT_CIRCUIT: h
 /// As [`HB_OT_SHAPE_NORMALIZATION_MODE_COMPOSED_DIACRITICS`].
 pub const HB_OT_SHAPE_NORMALIZATION_MODE_AUTO: hb_ot_shape_normalization_mode_t = 4;
 
-/// The mode of a shaper without wishes of its own.
+/// The mode of a shaper without preferences of its own.
 pub const HB_OT_SHAPE_NORMALIZATION_MODE_DEFAULT: hb_ot_shape_normalization_mode_t =
     HB_OT_SHAPE_NORMALIZATION_MODE_AUTO;

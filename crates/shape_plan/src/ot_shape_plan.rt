@@ -20,7 +20,7 @@ use shape_buffer::interfaces::{hb_font_t, hb_ot_layout_t, hb_unicode_funcs_t};
 use std::alloc::Global;
 use std::marker::Model;
 
-/// The shaper that a plan keeps: the one that was given, or the one that knows no script.
+/// The shaper that a plan uses: the one that was given, or the one that knows no script.
 #[derive_where(Clone, Copy)]
 pub enum ChosenShaper<'a, S> {
     Given(&'a S),
@@ -59,7 +59,7 @@ impl<'a, S, P, D> Model for hb_ot_shape_plan_t<'a, S, P, D> {
     ghost invariant = { λ p. AreLawful p.decisions };
 }
 
-/// What a shaper makes for a plan, if the plan keeps it and it gives the hook. Refuses with `Memory`
+/// What a shaper makes for a plan, if the plan uses it and it gives the hook. Refuses with `Memory`
 /// alone.
 fn data_of<T: ShapingTypes>(
     alloc: Global,
@@ -198,7 +198,7 @@ impl<'a, S, P, D> hb_ot_shape_plan_t<'a, S, P, D> {
         self.script
     }
 
-    /// The given shaper, if the plan keeps it; else hooks are never called.
+    /// The given shaper, if the plan uses it; else hooks are never called.
     pub fn shaper(&self) -> Option<&'a S>
         ensures { option_copied result ≡ self.now.shaper }
     {

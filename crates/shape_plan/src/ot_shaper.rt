@@ -1,7 +1,7 @@
 //! What a script shaper changes in a run, and the two shapers that change nothing.
 //!
 //! A shaper says by constants which hooks it gives; one that isn't given is never called. What the hooks
-//! mean is one record of functions, and what every shaper owes is a law of the trait. Its author writes a
+//! mean is one record of functions, and what every shaper must provide is a law of the trait. Its author writes a
 //! [`script_shaper`] and the hooks that it gives, each by the trait of [`hooks`].
 ghost use Rattle.std.specs.Prelude.{◌≡◌, ◌<◌, ◌≤◌, ℕ, ℤ, Bool, Option, List, length, MatchResult};
 ghost use Rattle.std.specs.Prelude.{OnOk, IfErr};
@@ -15,7 +15,7 @@ ghost use Rattle.shape_plan.specs.Plan.{Plan};
 ghost use Rattle.shape_plan.specs.Reorder.{IsRunInOrder};
 ghost use Rattle.shape_plan.specs.Rules.{Rules, rules_of};
 ghost use Rattle.shape_plan.specs.Run.{Run, run_of};
-ghost use Rattle.shape_plan.specs.Shaper.{ShaperConstants, HookMeaning, LawfulConstants, OwedHooks};
+ghost use Rattle.shape_plan.specs.Shaper.{ShaperConstants, HookMeaning, LawfulConstants, HookObligations};
 
 mod every_shaper;
 pub mod hooks;
@@ -291,9 +291,9 @@ pub trait hb_ot_shaper_t<U: hb_unicode_funcs_t, F: hb_font_t, M: hb_ot_layout_t<
     /// The preference and the zero width type are in their ranges.
     ghost lawful_constants: { LawfulConstants constants };
 
-    /// What the author of each hook owes.
+    /// What the author of each hook must provide.
     ghost lawful_hooks: { (shaper : Self) (plan : Plan Self M.Map Self.Data) (face : F)
-        → OwedHooks (hooks shaper plan face) };
+        → HookObligations (hooks shaper plan face) };
 }
 
 /// What a run depends on under a plan and over a face: the meanings that its four type parameters bring, in plain

@@ -1,7 +1,7 @@
 //! The planner of a run: what it asks of the layout engine, and the plan that it makes of the answers.
 //!
 //! A plan is made in three steps. `new` asks what is known of the face and the shaper, and whether the
-//! shaper is kept: if `morx` substitutes, the face does a script's work itself. `collect_features` asks
+//! shaper is used: if `morx` substitutes, the face does a script's work itself. `collect_features` asks
 //! for features in the order in which their lookups are to run: a shaper's stand between those that come
 //! early and late in every text, then come the user's, which win over these, and last what a shaper
 //! overrides, which wins over the user's. `compile` has the engine compile the requests, and then
@@ -10,7 +10,7 @@
 ghost use Rattle.std.specs.Prelude.{◌≡◌, Option, OnOk, IsOkUnless, IfOk, IfErr, string_bytes};
 ghost use Rattle.std.specs.Option.{option_map};
 ghost use Rattle.shape_plan.specs.Planner.{begun_planner, collected_planner, compiled_plan};
-ghost use Rattle.shape_plan.specs.Planner.{kept_shaper, uses_morx as uses_morx_of};
+ghost use Rattle.shape_plan.specs.Planner.{used_shaper, uses_morx as uses_morx_of};
 ghost use Rattle.shape_plan.specs.Plan.{given_shaper};
 ghost use Rattle.shape_plan.specs.Decisions.{MasksAreFeatures, PositionsByOneTable};
 
@@ -100,9 +100,9 @@ fn uses_morx(tables: hb_tables_t, direction: Direction) -> bool
     tables.morx && (direction.is_horizontal() || !tables.gsub)
 }
 
-/// The shaper that is kept: under `morx` one that isn't the default gives way.
+/// The shaper that is used: under `morx` one that isn't the default gives way.
 fn kept<'a, S>(apply_morx: bool, is_default: bool, shaper: &'a S) -> ChosenShaper<'a, S>
-    ensures { given_shaper result ≡ kept_shaper apply_morx is_default shaper.now }
+    ensures { given_shaper result ≡ used_shaper apply_morx is_default shaper.now }
 {
     if apply_morx && !is_default {
         ChosenShaper::Dumber
@@ -112,7 +112,7 @@ fn kept<'a, S>(apply_morx: bool, is_default: bool, shaper: &'a S) -> ChosenShape
 }
 
 impl<'a, F, S> hb_ot_shape_planner_t<'a, F, S> {
-    /// A planner without requests. Takes what the given shaper wishes for marks, before the shaper may give
+    /// A planner without requests. Takes what the given shaper prefers for marks, before the shaper may give
     /// way to the one that knows no script.
     #[tactic(auto, unfolding(crate::specs::Planner::begun_planner))]
     pub fn new<U, M>(
@@ -174,7 +174,7 @@ impl<'a, F, S> hb_ot_shape_planner_t<'a, F, S> {
     }
 
     /// The plan: has the engine compile the requests, decides all that depends on no text, copies the
-    /// user's features and, last, has a kept shaper make its data. Refuses with `Memory` alone, and hands
+    /// user's features and, last, has a used shaper make its data. Refuses with `Memory` alone, and hands
     /// nothing back then. What is said of the masks and of who positions holds of every plan; it stands
     /// here for the reader. That `GPOS` alone runs if `kerx` is applied too is the rule of the steps.
     #[tactic(auto, unfolding(crate::specs::Planner::compiled_plan))]

@@ -1,14 +1,14 @@
 //! The definitions of planning, computed on small cases whose answers are worked out by hand.
 ghost use Rattle.std.specs.Prelude.{ℕ};
 ghost use Rattle.shape_plan.specs.Plan.{Plan};
-ghost use Rattle.shape_plan.specs.WorkedRequests.{RequestsOfDirections, RequestsOfUsers};
-ghost use Rattle.shape_plan.specs.WorkedRequests.{RequestsOfHooks, TextsOfHooks};
-ghost use Rattle.shape_plan.specs.WorkedDecisions.{ChoicesOfFaces, ChoicesForMarks};
-ghost use Rattle.shape_plan.specs.WorkedDecisions.{DecisionsOfMasks};
-ghost use Rattle.shape_plan.specs.WorkedPlans.{KeptShapers, PlansOfFaces, MasksOfPlans};
-ghost use Rattle.shape_plan.specs.WorkedPlans.{ScriptsOfShapers};
-ghost use Rattle.shape_plan.specs.WorkedRuns.{RulesOfShapers, RunsOfPlans, ConstantsOfShapers};
-ghost use Rattle.shape_plan.specs.WorkedTexts.{ScriptsOfTexts, TagsOfFacts, ScriptsThatFit};
+ghost use Rattle.shape_plan.specs.Worked.Requests.{RequestsOfDirections, RequestsOfUsers};
+ghost use Rattle.shape_plan.specs.Worked.Requests.{RequestsOfHooks, TextsOfHooks};
+ghost use Rattle.shape_plan.specs.Worked.Decisions.{ChoicesOfFaces, ChoicesForMarks};
+ghost use Rattle.shape_plan.specs.Worked.Decisions.{DecisionsOfMasks};
+ghost use Rattle.shape_plan.specs.Worked.Plans.{UsedShapers, PlansOfFaces, MasksOfPlans};
+ghost use Rattle.shape_plan.specs.Worked.Plans.{ScriptsOfShapers};
+ghost use Rattle.shape_plan.specs.Worked.Runs.{RulesOfShapers, RunsOfPlans, ConstantsOfShapers};
+ghost use Rattle.shape_plan.specs.Worked.Texts.{ScriptsOfTexts, TagsOfFacts, ScriptsThatFit};
 
 /// What is asked for in each direction, for the user and by hooks, and what hooks are told of the text.
 pub fn requests_meet_worked_cases()
@@ -25,9 +25,9 @@ pub fn decisions_meet_worked_cases()
     ensures masks { DecisionsOfMasks }
 {}
 
-/// Which shapers are kept, whose masks and scripts count, and what plans are made of.
+/// Which shapers are used, whose masks and scripts count, and what plans are made of.
 pub fn plans_meet_worked_cases()
-    ensures shapers { KeptShapers }
+    ensures shapers { UsedShapers }
     ensures faces { PlansOfFaces }
     ensures masks { MasksOfPlans }
     ensures scripts { ScriptsOfShapers }

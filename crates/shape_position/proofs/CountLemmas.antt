@@ -10,15 +10,15 @@ use Rattle.shape_items.specs.Delete.{hand_over, give_to_kept, hand_on, delete_fr
 use Rattle.shape_common.specs.Face.{FaceMeaning}
 use Rattle.shape_items.specs.Flags.{flags_propagated, flagged_from, mask_after}
 use Rattle.shape_items.specs.Items.{Item, has_cluster, is_ignorable_item}
-use Rattle.shape_items.specs.KeepsFlags.{has_glyph_flags}
+use Rattle.shape_items.specs.PreservesFlags.{has_glyph_flags}
 use Rattle.shape_buffer.specs.Walks.{items_mapped}
 use Rattle.shape_common.specs.declared.flags.BufferFlags.{BufferFlags}
 use Rattle.shape_common.specs.declared.text_types.GlyphId.{GlyphId}
 use Rattle.shape_items.proofs.Flags.ClusterRunLemmas.{flagged-runs}
-use Rattle.shape_items.proofs.Deletion.DeleteLemmas.{hand_on-cases, kept_by_deletion}
+use Rattle.shape_items.proofs.Deletion.DeleteLemmas.{hand_on-cases, preserved_by_deletion}
 use Rattle.shape_items.proofs.Merging.KeyLemmas.{length-map_range, length-merge_clusters, without_items-merge_clusters}
 use Rattle.shape_position.specs.Ignorables.{ignorables_hidden, shown_as, replaced_or_deleted, hides_ignorables, removes_ignorables, unseen_glyph}
-use Rattle.shape_position.specs.StepEffects.{KeepsAsMany}
+use Rattle.shape_position.specs.StepEffects.{PreservesLengths}
 
 -- ---- deletion
 
@@ -31,7 +31,7 @@ length-give_to_kept kept x xs =
       | inr not_below ↦ rw not_below refl
     ]
 
-as_many-hand_on : (k : ℕ) (x : Item) (rest : List Item) → KeepsAsMany (hand_on k x rest)
+as_many-hand_on : (k : ℕ) (x : Item) (rest : List Item) → PreservesLengths (hand_on k x rest)
 as_many-hand_on k x rest b as_many =
     let positions = ap (λ (c : Buffer). length c.positions) (without_items-merge_clusters 0 2 b) in
     hand_on-cases (λ c. length c.positions ≡ length c.items) k x rest b as_many (as_many ∙ sym (length-give_to_kept k x b.items))
@@ -49,21 +49,21 @@ length-remove_both k xs ys same =
     let both' = length-append (take k ys) (drop (suc k) ys) in
     omega (arith, same)
 
-as_many-delete_from : (p : Item → Bool) (n k : ℕ) → KeepsAsMany (delete_from p n k)
+as_many-delete_from : (p : Item → Bool) (n k : ℕ) → PreservesLengths (delete_from p n k)
 as_many-delete_from p n k =
-    kept_by_deletion (λ b. length b.positions ≡ length b.items)
+    preserved_by_deletion (λ b. length b.positions ≡ length b.items)
     (λ k x rest b e as_many.
     let handed = hand_on k x rest b in
     length-remove_both k handed.positions handed.items (as_many-hand_on k x rest b as_many)) p n k
 
 -- ---- hiding
 
-as_many-replaced_or_deleted : (glyph : Option GlyphId) → KeepsAsMany (replaced_or_deleted glyph)
+as_many-replaced_or_deleted : (glyph : Option GlyphId) → PreservesLengths (replaced_or_deleted glyph)
 unfolding items_mapped
 as_many-replaced_or_deleted None b as_many = as_many-delete_from is_ignorable_item (length b.items) 0 b as_many
 as_many-replaced_or_deleted (Some glyph) b as_many = as_many ∙ sym (length-map b.items (shown_as glyph))
 
-pub as_many-hidden : (face : FaceMeaning) → KeepsAsMany (ignorables_hidden face)
+pub as_many-hidden : (face : FaceMeaning) → PreservesLengths (ignorables_hidden face)
 unfolding ignorables_hidden
 as_many-hidden face b as_many = elim (cases_Bool (hides_ignorables b)) [
   | inl due ↦ rw due (as_many-replaced_or_deleted (if removes_ignorables b then None else unseen_glyph face b) b as_many)
@@ -78,7 +78,7 @@ unfolding flagged_from
 length-flagged flags before [] = refl
 length-flagged flags before (x ∷ items) = ap suc (length-flagged flags (Some (x.cluster, mask_after flags before x (x ∷ items))) items)
 
-pub as_many-flags : KeepsAsMany flags_propagated
+pub as_many-flags : PreservesLengths flags_propagated
 unfolding flags_propagated
 as_many-flags b as_many = elim (cases_Bool (has_glyph_flags b)) [
   | inl seen ↦ rw seen (as_many ∙ sym (ap length (sym (flagged-runs b.flags b.items)) ∙ length-flagged b.flags None b.items))

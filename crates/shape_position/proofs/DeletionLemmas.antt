@@ -4,7 +4,7 @@ use Rattle.shape_items.specs.Buffer.{Buffer}
 use Rattle.shape_items.specs.BufferClusters.{merge_clusters}
 use Rattle.shape_items.specs.Delete.{give_to_kept, deleted}
 use Rattle.shape_items.specs.Items.{Item}
-use Rattle.shape_items.proofs.Deletion.DeleteLemmas.{hand_on-cases, IsKeptByLoss, kept_by_deletion}
+use Rattle.shape_items.proofs.Deletion.DeleteLemmas.{hand_on-cases, IsPreservedByLoss, preserved_by_deletion}
 use Rattle.shape_items.proofs.Merging.KeyLemmas.{without_items-merge_clusters}
 
 -- direction and level are the same
@@ -20,7 +20,7 @@ settings-merged start end b c so_far =
       level = ap (λ (d : Buffer). d.cluster_level) rest ∙ so_far.level;
     }
 
-settings-lost : (b : Buffer) → IsKeptByLoss (SameSettings b)
+settings-lost : (b : Buffer) → IsPreservedByLoss (SameSettings b)
 settings-lost b k x rest c e so_far =
     let given : SameSettings b (record c { items = give_to_kept k x c.items }) =
     record { direction = so_far.direction; level = so_far.level } in
@@ -29,4 +29,4 @@ settings-lost b k x rest c e so_far =
 
 pub settings-deleted : (p : Item → Bool) (b : Buffer) → SameSettings b (deleted p b)
 settings-deleted p b =
-    kept_by_deletion (SameSettings b) (settings-lost b) p (length b.items) 0 b (record { direction = refl; level = refl })
+    preserved_by_deletion (SameSettings b) (settings-lost b) p (length b.items) 0 b (record { direction = refl; level = refl })

@@ -1,10 +1,10 @@
 mod StepLemmas
 mod ClearingLemmas
 mod FlagWalkLemmas
-mod KeeperLemmas
+mod PreservationLemmas
 mod DeletionLemmas
 mod CountLemmas
 mod ExactLemmas
 mod ReversalLemmas
-pub mod StepKeepers
+pub mod StepPreservation
 mod OneTableLemmas

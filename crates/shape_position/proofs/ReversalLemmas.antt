@@ -8,10 +8,10 @@ use Rattle.shape_items.specs.ClusterOrder.{IsNonIncreasing, IsOrderedFor}
 use Rattle.shape_items.specs.Clusters.{clusters}
 use Rattle.shape_common.specs.Direction.{is_backward}
 use Rattle.shape_items.specs.Items.{Item}
-use Rattle.shape_buffer.specs.Keepers.{IsFlagKeeper}
-use Rattle.shape_items.specs.KeepsFlags.{KeepsFlags, has_flag, some_has}
-use Rattle.shape_items.proofs.Flags.FlagLemmas.{append-cases, KeepsFlags-same}
-use Rattle.shape_position.specs.StepEffects.{ReversesOrder, KeepsAsMany}
+use Rattle.shape_buffer.specs.Preservation.{IsFlagPreserving}
+use Rattle.shape_items.specs.PreservesFlags.{PreservesFlags, has_flag, some_has}
+use Rattle.shape_items.proofs.Flags.FlagLemmas.{append-cases, PreservesFlags-same}
+use Rattle.shape_position.specs.StepEffects.{ReversesOrder, PreservesLengths}
 use Rattle.shape_position.specs.Reversal.{reversed}
 
 clusters-reverse : (xs : List Item) → clusters (reverse xs) ≡ reverse (clusters xs)
@@ -109,12 +109,12 @@ reversal-reverses b = record {
     reversed_level true = refl
     reversed_level false = refl
 
-flags-reversed_if : (backward : Bool) (b : Buffer) → KeepsFlags b (reversed_if backward b)
+flags-reversed_if : (backward : Bool) (b : Buffer) → PreservesFlags b (reversed_if backward b)
 flags-reversed_if true b =
     record { flags = refl; stays_set = λ set. set; none_new = λ flag defined some. inl (some_has-reverse flag b.items some) }
-flags-reversed_if false b = KeepsFlags-same b
+flags-reversed_if false b = PreservesFlags-same b
 
-pub flags-reversed : IsFlagKeeper reversed
+pub flags-reversed : IsFlagPreserving reversed
 unfolding reversed
 flags-reversed b = flags-reversed_if (is_backward b.direction) b
 
@@ -123,6 +123,6 @@ as_many-reversed_if : (backward : Bool) (b : Buffer) → length b.positions ≡ 
 as_many-reversed_if true b as_many = length-reverse b.positions ∙ as_many ∙ sym (length-reverse b.items)
 as_many-reversed_if false b as_many = as_many
 
-pub as_many-reversed : KeepsAsMany reversed
+pub as_many-reversed : PreservesLengths reversed
 unfolding reversed
 as_many-reversed b as_many = as_many-reversed_if (is_backward b.direction) b as_many

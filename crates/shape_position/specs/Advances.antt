@@ -30,7 +30,7 @@ advanced_position face horizontal item position =
       y_offset = position.y_offset -ʷ face.v_origin (glyph_of item);
     }
 
--- the advances and origins that the face answers
+-- the advances and origins that the face returns
 unfoldable pub advanced : FaceMeaning → Buffer → Buffer
 advanced face b = positions_mapped (advanced_position face (is_horizontal b.direction)) b
 

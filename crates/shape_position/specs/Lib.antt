@@ -8,8 +8,6 @@ pub mod Reversal
 pub mod FlagWalk
 pub mod Steps
 pub mod StepEffects
-pub mod Keepers
+pub mod Preservation
 pub mod OneTable
-pub mod WorkedPositions
-pub mod WorkedGlyphs
-pub mod WorkedSteps
+pub mod Worked

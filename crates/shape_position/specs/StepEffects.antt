@@ -7,8 +7,8 @@ use Rattle.shape_items.specs.Clusters.{clusters}
 use Rattle.shape_common.specs.Direction.{is_backward}
 
 -- as many positions as items, if there were before
-abbrev pub KeepsAsMany : (Buffer → Buffer) → Type 0
-KeepsAsMany f = (b : Buffer) → length b.positions ≡ length b.items → length (f b).positions ≡ length (f b).items
+abbrev pub PreservesLengths : (Buffer → Buffer) → Type 0
+PreservesLengths f = (b : Buffer) → length b.positions ≡ length b.items → length (f b).positions ≡ length (f b).items
 
 -- what the reversal does: clusters are in the other order if the text runs backward, none is new, and direction, flags
 -- and level stay

@@ -46,7 +46,7 @@ ZERO_WIDTH_MARKS_BY_GDEF_EARLY = 1
 abbrev pub ZERO_WIDTH_MARKS_BY_GDEF_LATE : ℕ
 ZERO_WIDTH_MARKS_BY_GDEF_LATE = 2
 
--- when marks lose their advances: by the constant of the shaper that the plan keeps, never if it keeps none
+-- when marks lose their advances: by the constant of the shaper that the plan uses, never if it uses none
 abbrev pub zero_width_time : ShaperConstants → Option HookMeaning → ℕ
 zero_width_time constants hooks = option_map_or (λ _. constants.zero_width_marks) hooks ZERO_WIDTH_MARKS_NONE
 

@@ -1,4 +1,4 @@
-//! Positions before any table: zeros, then the advances and origins that the face answers.
+//! Positions before any table: zeros, then the advances and origins that the face returns.
 //!
 //! A glyph is drawn at its offset from the pen, and the pen then moves on by its advance. Faces measure
 //! from the origin of horizontal lines, so along a vertical line each glyph is first moved back by where

@@ -28,7 +28,7 @@ pub fn reverse_backward(buffer: &mut hb_buffer_t)
     }
 }
 
-/// Runs the hook on the glyphs that are handed out, if the plan keeps a shaper that gives it. Refuses as
+/// Runs the hook on the glyphs that are handed out, if the plan uses a shaper that gives it. Refuses as
 /// the hook does.
 pub fn postprocess_glyphs<T: ShapingTypes>(
     alloc: Global,

@@ -12,7 +12,7 @@ ghost use Rattle.shape_items.specs.Flags.{flags_propagated};
 ghost use Rattle.shape_position.specs.FlagWalk.{handed_by, handed_by_run};
 ghost use Rattle.shape_common.specs.FlagNames.{PRODUCE_UNSAFE_TO_CONCAT, UNSAFE_TO_CONCAT};
 ghost use Rattle.shape_items.specs.Flags.{HasOneSetOfFlags};
-ghost use Rattle.shape_items.specs.KeepsFlags.{some_has};
+ghost use Rattle.shape_items.specs.PreservesFlags.{some_has};
 ghost use Rattle.shape_items.specs.Items.{has_cluster};
 ghost use Rattle.shape_buffer.specs.Outcome.{Made};
 ghost use Rattle.shape_buffer.specs.Honest.{IsHonest};

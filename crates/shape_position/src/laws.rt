@@ -1,14 +1,14 @@
-//! What the steps keep of a buffer, as laws that spare callers proofs.
+//! What the steps preserve of a buffer, as laws that spare callers proofs.
 ghost use Rattle.shape_position.specs.Exact.{ExactAdvances, ExactMarkWidths};
-ghost use Rattle.shape_position.specs.Keepers.{StepsKeep};
+ghost use Rattle.shape_position.specs.Preservation.{StepsPreserve};
 ghost use Rattle.shape_position.specs.OneTable.{EachRunsOneTable};
 
-/// Each step of positions and of the end of a run keeps the order of clusters and the flags of glyphs,
+/// Each step of positions and of the end of a run preserves the order of clusters and the flags of glyphs,
 /// if the lookups and hooks of the run do. The reversal inverts the order of clusters if the buffer's
 /// direction is backward. Each of them that asks neither lookups nor hooks leaves as many positions as items,
 /// if there were before. Does nothing: a caller's proof cites it.
-pub fn steps_keep_clusters_and_flags()
-    ensures { StepsKeep }
+pub fn steps_preserve_clusters_and_flags()
+    ensures { StepsPreserve }
 {}
 
 /// Of `GPOS` and `kerx` the steps of positioning call the one that the plan's decisions say, and no other:
@@ -17,7 +17,7 @@ pub fn one_table_runs()
     ensures { EachRunsOneTable }
 {}
 
-/// Advances are those that the face answers, and down a line each offset is the exact difference to
+/// Advances are those that the face returns, and down a line each offset is the exact difference to
 /// the origin of vertical lines if that fits an i32. Does nothing.
 pub fn advances_are_exact_where_they_fit()
     ensures { ExactAdvances }

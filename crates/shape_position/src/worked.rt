@@ -1,7 +1,7 @@
 //! The definitions, computed on small cases whose answers are worked out by hand.
-ghost use Rattle.shape_position.specs.WorkedGlyphs.{WorkedGlyphs};
-ghost use Rattle.shape_position.specs.WorkedPositions.{WorkedPositions};
-ghost use Rattle.shape_position.specs.WorkedSteps.{WorkedSteps};
+ghost use Rattle.shape_position.specs.Worked.Glyphs.{WorkedGlyphs};
+ghost use Rattle.shape_position.specs.Worked.Positions.{WorkedPositions};
+ghost use Rattle.shape_position.specs.Worked.Steps.{WorkedSteps};
 
 /// Advances in each direction, marks that are zeroed, tables that a plan chooses, the reversal, ignorables,
 /// selectors and flags of some glyphs, as the definitions have them.

@@ -101,7 +101,7 @@ pub fn zero_mark_widths_by_gdef(buffer: &mut hb_buffer_t, adjust_offsets: bool)
     zero_marks(adjust, buffer);
 }
 
-/// When marks lose their advances: by the shaper that the plan keeps, never if it keeps none.
+/// When marks lose their advances: by the shaper that the plan uses, never if it uses none.
 fn zero_width_time<T: ShapingTypes>(
     plan: &PlanOf<'_, T>,
     face: &T::Face,

@@ -1,4 +1,4 @@
 mod Spans
-pub mod Keeping
+pub mod Preservation
 mod StepLemmas
 mod GraphemeLemmas

@@ -64,13 +64,13 @@ rotated-idle unicode face decisions target b idle =
 -- ---- a walk over graphemes, and the steps that take one
 
 -- what each call of a walk keeps, the walk keeps
-pub over_graphemes-kept : (P : Buffer → Type 0) (f : ℕ → ℕ → Buffer → Buffer) → ((start end : ℕ) (b : Buffer) → P b → P (f start end b))
+pub over_graphemes-preserved : (P : Buffer → Type 0) (f : ℕ → ℕ → Buffer → Buffer) → ((start end : ℕ) (b : Buffer) → P b → P (f start end b))
     → (b : Buffer) → P b → P (over_graphemes f b)
-over_graphemes-kept P f keeps b = over_spans (grapheme_spans b.items) b
+over_graphemes-preserved P f preserves b = over_spans (grapheme_spans b.items) b
   where
     over_spans : (spans : List (ℕ × ℕ)) (b : Buffer) → P b → P (fold (λ b span. f span.0 span.1 b) b spans)
     over_spans [] b holds = holds
-    over_spans (span ∷ spans) b holds = over_spans spans (f span.0 span.1 b) (keeps span.0 span.1 b holds)
+    over_spans (span ∷ spans) b holds = over_spans spans (f span.0 span.1 b) (preserves span.0 span.1 b holds)
 
 pub clusters_formed-cases : (P : Buffer → Type 0) (b : Buffer) → P (over_graphemes merge_clusters b) → P (over_graphemes unsafe_to_break b)
     → P b → P (clusters_formed b)

@@ -13,7 +13,7 @@ use Rattle.shape_items.specs.ClusterOrder.{IsMonotoneLevel, IsOrderedFor}
 use Rattle.shape_common.specs.Direction.{reverse_of}
 use Rattle.shape_buffer.specs.Outcome.{run_steps}
 use Rattle.shape_common.specs.declared.text_types.Direction.{Direction}
-use Rattle.shape_plan.specs.Keepers.{CallsKeepClusters}
+use Rattle.shape_plan.specs.Preservation.{CallsPreserveClusters}
 use Rattle.shape_plan.specs.Run.{Run}
 use Rattle.shape_prepare.specs.NativeOrder.{is_against, native_direction}
 use Rattle.shape_prepare.specs.PrepareSteps.{grapheme_steps, prepare_steps}
@@ -36,10 +36,10 @@ pub record InOrderFor (reversed : Bool) (old new : Buffer) : Type 0 where
   pub flags : new.flags ≡ old.flags
   pub level : new.cluster_level ≡ old.cluster_level
 
--- at the monotone levels, if the hooks keep clusters, a text whose clusters never fall is prepared in order
-abbrev pub PreparingKeepsOrder : Type 0
-PreparingKeepsOrder =
-    (run : Run) (target : Direction) (b : Buffer) → CallsKeepClusters run → IsMonotoneLevel b.cluster_level
+-- at the monotone levels, if the hooks preserve clusters, a text whose clusters never fall is prepared in order
+abbrev pub PreparingPreservesOrder : Type 0
+PreparingPreservesOrder =
+    (run : Run) (target : Direction) (b : Buffer) → CallsPreserveClusters run → IsMonotoneLevel b.cluster_level
     → IsNonDecreasing (clusters b.items)
     → InOrderFor (is_reversed run b) b (run_steps (prepare_steps run target) b)
 
@@ -52,8 +52,8 @@ abbrev pub marked_text : Run → Buffer → Buffer
 marked_text run b = graphemes_marked run.unicode (begun run.map.global_mask b)
 
 -- at level MONOTONE_GRAPHEMES each cluster of the prepared text is that of the first character of a grapheme
-abbrev pub PreparingKeepsFirsts : Type 0
-PreparingKeepsFirsts =
-    (run : Run) (target : Direction) (b : Buffer) → CallsKeepClusters run → b.cluster_level ≡ MonotoneGraphemes
+abbrev pub PreparingPreservesFirsts : Type 0
+PreparingPreservesFirsts =
+    (run : Run) (target : Direction) (b : Buffer) → CallsPreserveClusters run → b.cluster_level ≡ MonotoneGraphemes
     → IsNonDecreasing (clusters b.items)
     → (k : ℕ) → Contains (clusters (run_steps (prepare_steps run target) b).items) k → Contains (first_clusters (marked_text run b).items) k

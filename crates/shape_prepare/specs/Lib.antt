@@ -6,11 +6,8 @@ pub mod ClustersFormed
 pub mod NativeOrder
 pub mod Rotated
 pub mod PrepareSteps
-pub mod WorkedUnicode
-pub mod WorkedBegun
-pub mod WorkedGraphemes
-pub mod WorkedOrder
-pub mod Keepers
+pub mod Worked
+pub mod Preservation
 pub mod ClusterPoint
 pub mod PreparedPoint
-pub mod KeptCharacters
+pub mod PreservedCharacters

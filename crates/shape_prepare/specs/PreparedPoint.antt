@@ -10,12 +10,12 @@ use Rattle.shape_plan.specs.Shaper.{HookMeaning}
 use Rattle.shape_prepare.specs.PrepareSteps.{prepare_steps}
 
 -- a step that leaves a prepared text prepared
-abbrev pub KeepsPrepared : UnicodeMeaning → (Buffer → Buffer) → Type 0
-KeepsPrepared unicode f = (b : Buffer) → IsPrepared unicode b.items → IsPrepared unicode (f b).items
+abbrev pub PreservesPrepared : UnicodeMeaning → (Buffer → Buffer) → Type 0
+PreservesPrepared unicode f = (b : Buffer) → IsPrepared unicode b.items → IsPrepared unicode (f b).items
 
 -- any text is prepared, if the shaper's hook leaves it so
 abbrev pub PreparingPrepares : Type 0
 PreparingPrepares = (run : Run) (target : Direction) (b : Buffer) → LawfulUnicode run.unicode
     → ((hooks : HookMeaning) → run.hooks ≡ Some hooks → run.constants.has_preprocess_text ≡ true
-    → KeepsPrepared run.unicode hooks.preprocess)
+    → PreservesPrepared run.unicode hooks.preprocess)
     → IsPrepared run.unicode (run_steps (prepare_steps run target) b).items

@@ -1,7 +1,7 @@
 //! The definitions, computed on small cases whose answers are worked out by hand.
-ghost use Rattle.shape_prepare.specs.WorkedBegun.{WorkedBegun};
-ghost use Rattle.shape_prepare.specs.WorkedGraphemes.{WorkedGraphemes};
-ghost use Rattle.shape_prepare.specs.WorkedOrder.{WorkedOrder};
+ghost use Rattle.shape_prepare.specs.Worked.Begun.{WorkedBegun};
+ghost use Rattle.shape_prepare.specs.Worked.Graphemes.{WorkedGraphemes};
+ghost use Rattle.shape_prepare.specs.Worked.Order.{WorkedOrder};
 
 /// The masks and positions that a run begins with, as the definition has them.
 pub fn beginnings_meet_worked_cases()

@@ -18,7 +18,7 @@ all_bits : known_bits flag_rows ≡ ALL_FLAGS
 unfolding bitflags_on_literals
 all_bits = refl
 
--- what `from_bits` answers for the number that was read
+-- what `from_bits` returns for the number that was read
 pub flags_read : {Good : Type 0} (flags : Option BufferFlags) (bits number : ℕ) → Good → bits ≡ number → IfSome flags (λ f. f.0 ≡ bits)
     → IsSome flags ↔ (bit_and bits (known_bits flag_rows) ≡ bits)
     → SomeIff flags (Good × (bit_and number ALL_FLAGS ≡ number)) (record { 0 = number })

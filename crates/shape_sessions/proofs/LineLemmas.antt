@@ -25,7 +25,7 @@ without_end-other end (b ∷ []) other = ⊎_elim
 without_end-other end (b ∷ c ∷ cs) other =
     ap (λ text. b ∷ text) (without_end-other end (c ∷ cs) (λ front is. other (b ∷ front) (ap (λ text. b ∷ text) is)))
 
--- what `strip_suffix` answers, or else the whole text
+-- what `strip_suffix` returns, or else the whole text
 pub without_end-stripped : (end : ℕ) (text : List ℕ) (stripped : Option (Bor (List ℕ))) (whole : Bor (List ℕ))
     → MatchOption stripped (FindsCharSuffix end text None) (λ x. StripsSuffix (FindsCharSuffix end) text x.now) → end < 128
     → whole.now ≡ text → (unwrap_or stripped whole).now ≡ without_end end text

@@ -19,4 +19,4 @@ pub mod Settings
 pub mod State
 pub mod Lines
 pub mod Printing
-pub mod WorkedPrinting
+pub mod Worked

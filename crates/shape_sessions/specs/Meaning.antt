@@ -1,4 +1,4 @@
--- What the program's Unicode functions answer.
+-- What the program's Unicode functions return.
 use Rattle.shape_common.specs.Unicode.{UnicodeMeaning}
 use Rattle.shape_sessions.specs.Category.{category_of}
 use Rattle.shape_sessions.specs.Ccc.{ccc_of}

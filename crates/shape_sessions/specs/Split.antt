@@ -10,12 +10,12 @@ abbrev pub split_in_table : ℕ → Option (ℕ × ℕ)
 split_in_table c = option_map (λ entry. (entry.1, entry.2)) (find (λ entry. entry.0 == c) SPLITS)
 
 -- a mark has only marks as parts, U+0000 aside
-abbrev pub keeps_marks : ℕ → ℕ × ℕ → Bool
-keeps_marks c parts = (is_marked parts.0 && (parts.1 == 0 || is_marked parts.1)) || not (is_marked c)
+abbrev pub preserves_marks : ℕ → ℕ × ℕ → Bool
+preserves_marks c parts = (is_marked parts.0 && (parts.1 == 0 || is_marked parts.1)) || not (is_marked c)
 
 -- the parts of c: those of the table, if they keep marks
 abbrev pub split_of : ℕ → Option (ℕ × ℕ)
-split_of c = option_and_then (λ parts. if keeps_marks c parts then Some parts else None) (split_in_table c)
+split_of c = option_and_then (λ parts. if preserves_marks c parts then Some parts else None) (split_in_table c)
 
 -- how often the table splits a character and then its first parts, up to a limit
 abbrev pub splits_within : ℕ → ℕ → ℕ

@@ -19,7 +19,7 @@ use Rattle.shape_common.specs.declared.general_category.hb_unicode_general_categ
 use Rattle.shape_unicode.specs.Category.{category_from}
 use Rattle.shape_sessions.specs.Category.{category_of, is_marked}
 use Rattle.shape_sessions.specs.Ccc.{ccc_in_table, ccc_of}
-use Rattle.shape_sessions.specs.Split.{split_in_table, split_of, height_of, keeps_marks}
+use Rattle.shape_sessions.specs.Split.{split_in_table, split_of, height_of, preserves_marks}
 use Rattle.shape_sessions.specs.Plain.{is_plain, plain_form}
 use Rattle.shape_sessions.specs.Mirror.{mirror_in_table}
 use Rattle.shape_sessions.specs.Vertical.{vertical_in_table}
@@ -55,8 +55,8 @@ abbrev ends : Entry → Bool
 ends e = e.2 == 0 || is_none (split_in_table e.2)
 
 -- the parts have the ccc of the whole, if that isn't 0; U+0000 has none
-abbrev keeps_ccc : Entry → Bool
-keeps_ccc e = ccc_in_table e.0 == 0 || (ccc_in_table e.1 == ccc_in_table e.0 && (e.2 == 0 || ccc_in_table e.2 == ccc_in_table e.0))
+abbrev preserves_ccc : Entry → Bool
+preserves_ccc e = ccc_in_table e.0 == 0 || (ccc_in_table e.1 == ccc_in_table e.0 && (e.2 == 0 || ccc_in_table e.2 == ccc_in_table e.0))
 
 -- each split of the table passes a test that the whole table passes
 split_passes : (test : Entry → Bool) → list_all test SPLITS ≡ true → (c a b : ℕ) → split_in_table c ≡ Some (a, b) → test (c, a, b) ≡ true
@@ -76,17 +76,17 @@ split_passes test all c a b splits =
     cases refl splits
 
 -- a split of the functions is one of the table, and keeps marks
-split_of_cases : (c a b : ℕ) → split_of c ≡ Some (a, b) → (split_in_table c ≡ Some (a, b)) × (keeps_marks c (a, b) ≡ true)
+split_of_cases : (c a b : ℕ) → split_of c ≡ Some (a, b) → (split_in_table c ≡ Some (a, b)) × (preserves_marks c (a, b) ≡ true)
 split_of_cases c a b splits =
-    let P : Option (ℕ × ℕ) → Type 0 = λ v. option_and_then (λ parts. cond (keeps_marks c parts) (Some parts) None) v ≡ Some (a, b)
-    → (v ≡ Some (a, b)) × (keeps_marks c (a, b) ≡ true) in
+    let P : Option (ℕ × ℕ) → Type 0 = λ v. option_and_then (λ parts. cond (preserves_marks c parts) (Some parts) None) v ≡ Some (a, b)
+    → (v ≡ Some (a, b)) × (preserves_marks c (a, b) ≡ true) in
     let cases : P (split_in_table c) = elim (split_in_table c) as P [
       | None ↦ λ h. cc
       | Some parts ↦ λ h.
-          let Q : Bool → Type 0 = λ t. keeps_marks c parts ≡ t → cond t (Some parts) None ≡ Some (a, b)
-          → (Some parts ≡ Some (a, b)) × (keeps_marks c (a, b) ≡ true) in
-          let inner : Q (keeps_marks c parts) = elim (keeps_marks c parts) as Q [
-            | true ↦ λ e k. let into : parts ≡ (a, b) = cc in (k, subst (λ z. keeps_marks c z ≡ true) into e)
+          let Q : Bool → Type 0 = λ t. preserves_marks c parts ≡ t → cond t (Some parts) None ≡ Some (a, b)
+          → (Some parts ≡ Some (a, b)) × (preserves_marks c (a, b) ≡ true) in
+          let inner : Q (preserves_marks c parts) = elim (preserves_marks c parts) as Q [
+            | true ↦ λ e k. let into : parts ≡ (a, b) = cc in (k, subst (λ z. preserves_marks c z ≡ true) into e)
             | false ↦ λ e k. cc
           ] in
           inner refl h
@@ -103,7 +103,7 @@ none_is None h = refl
 none_is (Some x) h = cc
 
 unsplit : (c : ℕ) → split_in_table c ≡ None → split_of c ≡ None
-unsplit c whole = ap (λ v. option_and_then (λ parts. cond (keeps_marks c parts) (Some parts) None) v) whole
+unsplit c whole = ap (λ v. option_and_then (λ parts. cond (preserves_marks c parts) (Some parts) None) v) whole
 
 second_is_last : list_all ends SPLITS ≡ true → (c a b : ℕ) → split_of c ≡ Some (a, b) → (b ≡ 0) ⊎ (split_of b ≡ None)
 second_is_last all c a b splits =
@@ -122,7 +122,7 @@ ccc_of_mark : (c : ℕ) → is_marked c ≡ true → ccc_of c ≡ ccc_in_table c
 ccc_of_mark c marked = ap (λ t. cond t (ccc_in_table c) 0) marked
 
 -- the parts of a mark with a ccc have that ccc
-ccc_of_parts : list_all keeps_ccc SPLITS ≡ true → (c a b : ℕ) → ccc_of c ≢ 0 → split_of c ≡ Some (a, b)
+ccc_of_parts : list_all preserves_ccc SPLITS ≡ true → (c a b : ℕ) → ccc_of c ≢ 0 → split_of c ≡ Some (a, b)
     → (ccc_of a ≡ ccc_of c) × ((b ≡ 0) ⊎ (ccc_of b ≡ ccc_of c))
 ccc_of_parts all c a b nonzero splits =
     let was = cond_nonzero (is_marked c) (ccc_in_table c) nonzero in
@@ -134,7 +134,7 @@ ccc_of_parts all c a b nonzero splits =
           ≡ true = was.0 in absurd (grind (arith, nat_tests, h, e))
     ] in
     let marks = and_parts (is_marked a) (b == 0 || is_marked b) kept_marks in
-    let test = split_passes keeps_ccc all c a b cases.0 in
+    let test = split_passes preserves_ccc all c a b cases.0 in
     let same_cccs : (ccc_in_table a == ccc_in_table c && (b == 0 || ccc_in_table b == ccc_in_table c)) ≡ true =
     elim (or_cases (ccc_in_table c == 0) (ccc_in_table a == ccc_in_table c
     && (b == 0 || ccc_in_table b == ccc_in_table c)) test) [
@@ -167,12 +167,12 @@ ascii_is_no_mark true k h =
 abbrev by_tables : Decompositions
 by_tables = decompositions_of unicode_tables
 
-splits_fall : list_all falls SPLITS ≡ true → list_all ends SPLITS ≡ true → list_all keeps_ccc SPLITS ≡ true → SplitsFall by_tables
-splits_fall all_fall all_end all_keep = record {
+splits_fall : list_all falls SPLITS ≡ true → list_all ends SPLITS ≡ true → list_all preserves_ccc SPLITS ≡ true → SplitsFall by_tables
+splits_fall all_fall all_end all_preserve = record {
   height_falls = record { falls = height_of-falls all_fall };
   second_is_last = second_is_last all_end;
-  first_ccc = λ c a b h e. (ccc_of_parts all_keep c a b h e).0;
-  second_ccc = λ c a b h e. (ccc_of_parts all_keep c a b h e).1;
+  first_ccc = λ c a b h e. (ccc_of_parts all_preserve c a b h e).0;
+  second_ccc = λ c a b h e. (ccc_of_parts all_preserve c a b h e).1;
 }
 
 -- what the functions compose is in the table, and splits into the two again

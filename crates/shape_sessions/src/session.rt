@@ -24,7 +24,7 @@ const UNITS_PER_EM: u16 = 1000;
 
 /// How texts are shaped, as lines have set it. The direction is Invalid if it is to be guessed.
 #[derive(Clone, Copy)]
-pub struct Manner {
+pub struct TextSettings {
     pub mode: Mode,
     pub level: BufferClusterLevel,
     pub direction: Direction,
@@ -35,7 +35,7 @@ pub struct Manner {
 #[derive(Drop)]
 pub struct Session {
     face: MapFace,
-    manner: Manner,
+    text_settings: TextSettings,
 }
 
 impl Model for Session {
@@ -47,10 +47,10 @@ impl Model for Session {
       units_per_em = s.face.units_per_em;
       glyphs = s.face.glyphs.entries;
       metrics = s.face.metrics.entries;
-      mode = s.manner.mode;
-      level = s.manner.level;
-      direction = s.manner.direction;
-      flags = s.manner.flags;
+      mode = s.text_settings.mode;
+      level = s.text_settings.level;
+      direction = s.text_settings.direction;
+      flags = s.text_settings.flags;
     } };
 }
 
@@ -76,7 +76,7 @@ impl Session {
     {
         Session {
             face: MapFace::new(alloc, UNITS_PER_EM),
-            manner: Manner {
+            text_settings: TextSettings {
                 mode: Mode::Auto,
                 level: BufferClusterLevel::MonotoneGraphemes,
                 direction: Direction::Invalid,
@@ -95,7 +95,7 @@ impl Session {
     }
 
     /// How texts are shaped, as lines have set it.
-    pub fn manner(&self) -> Manner
+    pub fn text_settings(&self) -> TextSettings
         ensures { result ≡ record {
           mode = self.now.mode;
           level = self.now.level;
@@ -103,7 +103,7 @@ impl Session {
           flags = self.now.flags;
         } }
     {
-        self.manner
+        self.text_settings
     }
 
     /// `face U`: an empty face of U units per em.
@@ -144,7 +144,7 @@ impl Session {
         let Some(mode) = settings::mode(words) else {
             return Outcome::Malformed;
         };
-        self.manner.mode = mode;
+        self.text_settings.mode = mode;
         Outcome::Done
     }
 
@@ -157,7 +157,7 @@ impl Session {
         let Some(level) = settings::level(words) else {
             return Outcome::Malformed;
         };
-        self.manner.level = level;
+        self.text_settings.level = level;
         Outcome::Done
     }
 
@@ -170,7 +170,7 @@ impl Session {
         let Some(direction) = settings::direction(words) else {
             return Outcome::Malformed;
         };
-        self.manner.direction = direction;
+        self.text_settings.direction = direction;
         Outcome::Done
     }
 
@@ -183,7 +183,7 @@ impl Session {
         let Some(flags) = settings::flags(words) else {
             return Outcome::Malformed;
         };
-        self.manner.flags = flags;
+        self.text_settings.flags = flags;
         Outcome::Done
     }
 }

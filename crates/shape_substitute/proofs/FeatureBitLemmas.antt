@@ -2,7 +2,7 @@
 use Rattle.std.proofs.Common.{◌≡◌, ℕ, ◌-◌, ◌≤◌, ap, sym, ◌∙◌, arith, bit_and, bit_or}
 use Rattle.std.proofs.lemmas.Nat.{and_assoc, and_comm, and_le_l, and_or_apart}
 use Rattle.std.specs.Int.Bits.{and_zero_r}
-use Rattle.shape_items.specs.KeepsFlags.{IsDefinedFlag}
+use Rattle.shape_items.specs.PreservesFlags.{IsDefinedFlag}
 use Rattle.shape_buffer.specs.Layout.{HasNoDefinedFlag}
 use Rattle.shape_items.proofs.Flags.FlagLemmas.{defined_flag}
 use Rattle.shape_substitute.specs.Ranges.{with_value}

@@ -3,6 +3,6 @@ mod MaskLemmas
 mod SlashLemmas
 mod StageRuns
 mod FeatureBitLemmas
-mod KeeperLemmas
-mod StepKeepers
-pub mod ListKeepers
+mod PreservationLemmas
+mod StepPreservation
+pub mod ListPreservation

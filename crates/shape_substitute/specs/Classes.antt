@@ -7,7 +7,7 @@ use Rattle.shape_buffer.specs.Walks.{items_mapped}
 use Rattle.shape_common.specs.declared.flags.GlyphPropsFlags.{GlyphPropsFlags}
 use Rattle.shape_common.specs.FlagNames.{MARK, BASE_GLYPH}
 
--- the glyph of an item becomes the one that the face answered for its character
+-- the glyph of an item becomes the one that the face returned for its character
 abbrev pub with_nominal_glyph : Item → Item
 with_nominal_glyph item = record item { glyph_id = item.glyph_index }
 

@@ -2,8 +2,5 @@ pub mod Fractions
 pub mod Ranges
 pub mod Classes
 pub mod Substitution
-pub mod Keepers
-pub mod WorkedFractions
-pub mod WorkedRanges
-pub mod WorkedSteps
-pub mod WorkedLookups
+pub mod Preservation
+pub mod Worked

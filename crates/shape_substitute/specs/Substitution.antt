@@ -24,7 +24,7 @@ glyph_steps run =
     ∷ step (step_if run.decisions.fallback_glyph_classes classes_synthesised)
     ∷ []
 
--- the pause after stage i, if it has one, the plan keeps the shaper, and the shaper gives pauses
+-- the pause after stage i, if it has one, the plan uses the shaper, and the shaper gives pauses
 abbrev pub paused : Run → ℕ → Buffer → Buffer
 paused run i = option_map_or (λ n. hook_if run.constants.has_pause run.hooks (λ hooks. hooks.pause n)) (run.map.pause_after i) (λ b. b)
 

@@ -1,4 +1,4 @@
-//! Glyphs, as substitution finds them: the ones that the face answered, with a class each.
+//! Glyphs, as substitution finds them: the ones that the face returned, with a class each.
 //!
 //! Lookups may skip glyphs of a class. If a face doesn't say which glyphs are marks, the characters
 //! do: a nonspacing mark is one, except for default ignorables, which lookups are to see.
@@ -20,7 +20,7 @@ use shape_plan::ot_shape_plan::hb_ot_shape_plan_t;
 use shape_plan::ot_shaper::hb_ot_shaper_t;
 use shape_plan::shaping_types::{Meaning, PlanOf, ShapingTypes};
 
-/// An item with the glyph that the face answered for its character.
+/// An item with the glyph that the face returned for its character.
 fn with_nominal_glyph(info: &hb_glyph_info_t) -> hb_glyph_info_t
     ensures { result ≡ with_nominal_glyph_of info.now }
 {
@@ -29,7 +29,7 @@ fn with_nominal_glyph(info: &hb_glyph_info_t) -> hb_glyph_info_t
     info
 }
 
-/// Makes the glyph of each item the one that the face answered for its character. Takes no memory.
+/// Makes the glyph of each item the one that the face returned for its character. Takes no memory.
 pub fn map_glyphs_fast(buffer: &mut hb_buffer_t)
     ensures { Made glyphs_mapped buffer.old buffer.new }
 {

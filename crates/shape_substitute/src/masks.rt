@@ -1,6 +1,6 @@
 //! Masks that depend on the text: fractions, what the shaper sets, what the user asks for.
 //!
-//! Each later one sees what the earlier ones have set, so the user's wish stands over the shaper's.
+//! Each later one sees what the earlier ones have set, so the user's preference stands over the shaper's.
 ghost use Rattle.std.specs.Prelude.{◌≡◌};
 ghost use Rattle.shape_buffer.specs.Outcome.{IsWithinLimit, Made, Ran};
 ghost use Rattle.shape_plan.specs.Run.{hook_if};
@@ -13,7 +13,7 @@ use shape_buffer::interfaces::{hb_font_t, hb_ot_layout_t, hb_unicode_funcs_t};
 use shape_plan::ot_shaper::hb_ot_shaper_t;
 use shape_plan::shaping_types::{Meaning, PlanOf, ShapingTypes};
 
-/// Calls the hook `setup_masks`, if the plan keeps the shaper and it is given.
+/// Calls the hook `setup_masks`, if the plan uses the shaper and it is given.
 pub fn setup_masks_shaper<T: ShapingTypes>(
     plan: &PlanOf<'_, T>,
     face: &T::Face,

@@ -35,7 +35,7 @@ fn run_lookups<T: ShapingTypes>(
     T::Engine::substitute_stage(alloc, plan.ot_map(), i, face, buffer)
 }
 
-/// Runs the pause after stage `i`, if it has one, the plan keeps the shaper, and the shaper gives
+/// Runs the pause after stage `i`, if it has one, the plan uses the shaper, and the shaper gives
 /// pauses.
 fn pause_after<T: ShapingTypes>(
     alloc: Global,

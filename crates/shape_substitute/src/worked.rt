@@ -1,8 +1,8 @@
 //! The definitions, computed on small cases whose answers are worked out by hand.
-ghost use Rattle.shape_substitute.specs.WorkedFractions.{WorkedFractions};
-ghost use Rattle.shape_substitute.specs.WorkedLookups.{WorkedLookups};
-ghost use Rattle.shape_substitute.specs.WorkedRanges.{WorkedRanges};
-ghost use Rattle.shape_substitute.specs.WorkedSteps.{WorkedSteps};
+ghost use Rattle.shape_substitute.specs.Worked.Fractions.{WorkedFractions};
+ghost use Rattle.shape_substitute.specs.Worked.Lookups.{WorkedLookups};
+ghost use Rattle.shape_substitute.specs.Worked.Ranges.{WorkedRanges};
+ghost use Rattle.shape_substitute.specs.Worked.Steps.{WorkedSteps};
 
 /// Masks of fractions, features of the user, classes of glyphs, and the lists of steps run on an engine
 /// that adds numbers to glyphs and on one with single, ligature and multiple substitutions, as the

@@ -2,5 +2,4 @@ pub mod Scan
 pub mod Feature
 pub mod Names
 pub mod Serialize
-pub mod WorkedFeatures
-pub mod WorkedTexts
+pub mod Worked

@@ -1,6 +1,6 @@
 //! The definitions, computed on texts that were read by hand.
-ghost use Rattle.shape_text_forms.specs.WorkedFeatures.{WorkedFeatures, WorkedRefusals};
-ghost use Rattle.shape_text_forms.specs.WorkedTexts.{WorkedNames, WorkedTexts};
+ghost use Rattle.shape_text_forms.specs.Worked.Features.{WorkedFeatures, WorkedRefusals};
+ghost use Rattle.shape_text_forms.specs.Worked.Texts.{WorkedNames, WorkedTexts};
 
 /// Features, and texts that are none.
 pub fn features_meet_worked_cases()

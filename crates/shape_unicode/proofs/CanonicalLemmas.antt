@@ -18,13 +18,13 @@ abbrev original : ℕ → ℕ
 original ccc = unwrap_or (option_map (λ entry. entry.0) (find (λ entry. entry.1 == ccc) MODIFIED_CCC)) ccc
 
 -- a character of combining class n has a ccc that n can be read from, or moves otherwise
-abbrev told_apart : ℕ → ℕ → Bool
-told_apart c n = moves_otherwise c || (not (modified_ccc_from n c == 0) && original (modified_ccc_from n c) == n)
+abbrev distinguished : ℕ → ℕ → Bool
+distinguished c n = moves_otherwise c || (not (modified_ccc_from n c == 0) && original (modified_ccc_from n c) == n)
 
 -- computed over the rows of the database
-told_apart_ok : (c : ℕ) → (ccc c == 0) ≡ false → told_apart c (ccc c) ≡ true
+distinguished_ok : (c : ℕ) → (ccc c == 0) ≡ false → distinguished c (ccc c) ≡ true
 unfolding by_trees
-told_apart_ok = Stepped-at_points ccc canonical_combining_class_stepped (λ n. n == 0) told_apart refl
+distinguished_ok = Stepped-at_points ccc canonical_combining_class_stepped (λ n. n == 0) distinguished refl
 
 -- a mark that moves as usual
 abbrev usual : ℕ → Bool
@@ -43,7 +43,7 @@ has_combining_class c positive =
 
 module _ (c : ℕ) (as_usual : usual c ≡ true) (positive : 0 < ccc c) where
   apart : (not (modified_ccc_of c == 0) && original (modified_ccc_of c) == ccc c) ≡ true
-  apart = elim (or_cases _ _ (told_apart_ok c (nonzero (ccc c) positive))) [
+  apart = elim (or_cases _ _ (distinguished_ok c (nonzero (ccc c) positive))) [
     | inl moves ↦ true_is_false (sym moves ∙ not_true _ as_usual)
     | inr told ↦ told
   ]

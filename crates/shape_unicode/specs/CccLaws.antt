@@ -6,7 +6,7 @@ use Rattle.ucd_normal.specs.Decomposition.{canonical_mapping}
 use Rattle.unicode_normalization.specs.Hangul.{is_syllable}
 use Rattle.shape_unicode.specs.Ccc.{modified_ccc_of}
 use Rattle.shape_unicode.specs.Split.{parts_of, split_of}
-use Rattle.shape_unicode.specs.TableFacts.{parts_keep, CccPass}
+use Rattle.shape_unicode.specs.TableFacts.{parts_preserve, CccPass}
 use Rattle.shape_common.specs.Unicode.{is_mark}
 use Rattle.shape_unicode.specs.Meaning.{unicode_database}
 use Rattle.shape_unicode.specs.SplitLaws.{not_true}
@@ -26,9 +26,9 @@ ccc_of_parts pass c a b nonzero splits =
     let ok = and_parts _ _ (pass c (has_ccc c nonzero)) in
     let apart : is_syllable c ≡ false = not_true _ (and_parts _ _ ok.0).1 in
     let into : parts_of (canonical_mapping c) ≡ Some (a, b) = sym (cond-false (is_syllable c) _ _ apart) ∙ splits in
-    let keeps : parts_keep modified_ccc_of (modified_ccc_of c) (Some (a, b))
-    ≡ true = ap (parts_keep modified_ccc_of (modified_ccc_of c)) (sym into) ∙ ok.1 in
-    let both = and_parts _ _ keeps in (
+    let preserves : parts_preserve modified_ccc_of (modified_ccc_of c) (Some (a, b))
+    ≡ true = ap (parts_preserve modified_ccc_of (modified_ccc_of c)) (sym into) ∙ ok.1 in
+    let both = and_parts _ _ preserves in (
       eqb-true _ _ both.0,
       elim (or_cases _ _ both.1) [ inl h ↦ inl (eqb-true b 0 h) | inr h ↦ inr (eqb-true _ _ h) ],
     )

@@ -1,4 +1,4 @@
--- What two characters compose to splits into these two again, so that composing keeps equivalence.
+-- What two characters compose to splits into these two again, so that composing preserves equivalence.
 use Rattle.std.proofs.Common.{◌≡◌, ◌≢◌, ℕ, ◌+◌, ◌-◌, ◌/◌, ◌%◌, ◌⊎◌, true, false, not, ◌==◌, List, [], ◌∷◌, ◌++◌, Some, None, sym, ap, ap₂, subst, ◌∙◌, arith, inl, inr, eq-eqb, ne_eqb}
 use Rattle.std.proofs.lemmas.Bool.{and_parts, cond-true, cond-false}
 use Rattle.ucd_normal.specs.Composition.{composite}

@@ -1,4 +1,4 @@
--- What the Unicode functions answer: the character database, and where shaping differs from it.
+-- What the Unicode functions return: the character database, and where shaping differs from it.
 use Rattle.ucd_emoji.specs.Binary.{is_extended_pictographic}
 use Rattle.ucd_script.specs.Script.{script}
 use Rattle.unicode_normalization.specs.Compose.{primary_composite}

@@ -28,15 +28,15 @@ is_mark_by t c = is_mark_category (category_from (t.category c))
 -- ---- characters with a combining class
 
 -- the parts of a split have the ccc n, U+0000 aside
-abbrev pub parts_keep : (ℕ → ℕ) → ℕ → Option (ℕ × ℕ) → Bool
-parts_keep ccc n None = true
-parts_keep ccc n (Some parts) = ccc parts.0 == n && (parts.1 == 0 || ccc parts.1 == n)
+abbrev pub parts_preserve : (ℕ → ℕ) → ℕ → Option (ℕ × ℕ) → Bool
+parts_preserve ccc n None = true
+parts_preserve ccc n (Some parts) = ccc parts.0 == n && (parts.1 == 0 || ccc parts.1 == n)
 
 -- c, whose combining class is n, is a mark and no syllable, and its parts have its ccc
 abbrev pub ccc_ok : Tables → ℕ → ℕ → Bool
 ccc_ok t c n =
     (is_mark_by t c && not (is_syllable c))
-    && parts_keep (λ x. modified_ccc_from (t.ccc x) x) (modified_ccc_from n c) (parts_of (mapping t c))
+    && parts_preserve (λ x. modified_ccc_from (t.ccc x) x) (modified_ccc_from n c) (parts_of (mapping t c))
 
 -- so it is with each character that has a combining class
 abbrev pub CccPass : Type 0

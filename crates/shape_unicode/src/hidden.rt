@@ -15,7 +15,7 @@ fn is_seen_though_ignorable(c: char) -> bool
 }
 
 /// Whether `c` stands before U+061C and is neither U+00AD nor U+034F: no such character is ignorable. So
-/// most letters of Europe, their marks and all of Hebrew are told without the table.
+/// most letters of Europe, their marks and all of Hebrew are decided without the table.
 fn is_seen_early(c: char) -> bool
     ensures { result ≡ is_seen_early c }
 {

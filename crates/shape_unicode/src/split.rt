@@ -73,7 +73,7 @@ fn split_by(c: char, full: &[char]) -> Option<(char, char)>
 }
 
 /// Whether `c` stands where no character splits: up to the signs of Latin-1, among the first marks, in Hebrew and
-/// the first letters of Arabic, or in General Punctuation. So most marks and joiners are told without the table.
+/// the first letters of Arabic, or in General Punctuation. So most marks and joiners are decided without the table.
 fn is_whole_early(c: char) -> bool
     ensures { result ≡ is_whole_early c }
 {

@@ -6,8 +6,8 @@ use Rattle.shape_common.specs.Unicode.{UnicodeMeaning}
 use Rattle.shape_plan.specs.Plan.{Plan, Fits}
 use Rattle.shape_plan.specs.Run.{Run}
 use Rattle.shape_users.specs.Words.{IsTooLong, IsTooLongToPrepare, IsTooLongToShape, IsNowhere, FindsTooLong, KeepsTooLong, NoneFits}
-use Rattle.shape_users.specs.WorkedFound.{IsLike, WordsFound, TooLong, NotTooLong, FoundTooLong, PlansFound, WorkedFound}
-use Rattle.shape_users.specs.WorkedWords.{bytes_of}
+use Rattle.shape_users.specs.Worked.Found.{IsLike, WordsFound, TooLong, NotTooLong, FoundTooLong, PlansFound, WorkedFound}
+use Rattle.shape_users.specs.Worked.Words.{bytes_of}
 use Rattle.shape_users.specs.declared.words.Word.{Word}
 
 module _ (run : Run) (a b : Word) (spelling : List ℕ) where

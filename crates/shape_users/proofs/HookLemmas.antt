@@ -7,7 +7,7 @@ use Rattle.std.specs.List.{swap}
 use Rattle.std.specs.Option.{option_map}
 use Rattle.shape_items.specs.Buffer.{Buffer}
 use Rattle.shape_items.specs.Clusters.{clusters}
-use Rattle.shape_items.specs.ClusterOrder.{KeepsClusters, IsMonotoneLevel}
+use Rattle.shape_items.specs.ClusterOrder.{PreservesClusters, IsMonotoneLevel}
 use Rattle.shape_items.specs.Items.{Item, new_item}
 use Rattle.shape_items.proofs.Merging.JoinLemmas.{cluster_at}
 use Rattle.shape_plan.specs.Reorder.{IsRunInOrder}
@@ -27,26 +27,26 @@ clusters_swapped xs i j first second apart joined =
     let outer : map key (set (set xs i b) j a) ≡ map key (set xs i b) = map-set_same key (set xs i b) j a d (same ∙ ap key (sym other)) in
     ap (map key) (sym (swap_is xs i j d first second)) ∙ outer ∙ inner
 
--- a reordering keeps the clusters of each run in order
-abbrev pub KeepsRuns : (Buffer → ℕ → ℕ → Buffer) → Type 0
-KeepsRuns reorder = (b : Buffer) (start end : ℕ) → IsMonotoneLevel b.cluster_level → IsRunInOrder b.items start end
-    → KeepsClusters (clusters b.items) (clusters (reorder b start end).items)
+-- a reordering preserves the clusters of each run in order
+abbrev pub PreservesRuns : (Buffer → ℕ → ℕ → Buffer) → Type 0
+PreservesRuns reorder = (b : Buffer) (start end : ℕ) → IsMonotoneLevel b.cluster_level → IsRunInOrder b.items start end
+    → PreservesClusters (clusters b.items) (clusters (reorder b start end).items)
 
--- so it does under every plan, if the plan keeps the shaper
-reordering-keeps : (own : Buffer → ℕ → ℕ → Buffer) → KeepsRuns own → (hooks : Option HookMeaning)
+-- so it does under every plan, if the plan uses the shaper
+reordering-preserves : (own : Buffer → ℕ → ℕ → Buffer) → PreservesRuns own → (hooks : Option HookMeaning)
     → ((h : HookMeaning) → hooks ≡ Some h → h.reorder ≡ own)
-    → (reorder : Buffer → ℕ → ℕ → Buffer) → option_map (λ (h : HookMeaning). h.reorder) hooks ≡ Some reorder → KeepsRuns reorder
-reordering-keeps own keeps None is reorder given = cc
-reordering-keeps own keeps (Some hooks) is reorder given =
+    → (reorder : Buffer → ℕ → ℕ → Buffer) → option_map (λ (h : HookMeaning). h.reorder) hooks ≡ Some reorder → PreservesRuns reorder
+reordering-preserves own preserves None is reorder given = cc
+reordering-preserves own preserves (Some hooks) is reorder given =
     let same : own ≡ reorder = sym (is hooks refl) ∙ (let e : hooks.reorder ≡ reorder = cc in e) in
-    subst KeepsRuns same keeps
+    subst PreservesRuns same preserves
 
 -- of a shaper whose hook this is
-pub shaper-keeps : {S : Type 0} (own : Buffer → ℕ → ℕ → Buffer) → KeepsRuns own → (hooks : S → HookMeaning)
+pub shaper-preserves : {S : Type 0} (own : Buffer → ℕ → ℕ → Buffer) → PreservesRuns own → (hooks : S → HookMeaning)
     → ((s : S) → (hooks s).reorder ≡ own) → (shaper : Option S)
     → (reorder : Buffer → ℕ → ℕ → Buffer) → option_map (λ (h : HookMeaning). h.reorder) (option_map hooks shaper) ≡ Some reorder
-    → KeepsRuns reorder
-shaper-keeps own keeps hooks is None = reordering-keeps own keeps None (λ h e. cc)
-shaper-keeps own keeps hooks is (Some s) =
-    reordering-keeps own keeps (Some (hooks s))
+    → PreservesRuns reorder
+shaper-preserves own preserves hooks is None = reordering-preserves own preserves None (λ h e. cc)
+shaper-preserves own preserves hooks is (Some s) =
+    reordering-preserves own preserves (Some (hooks s))
     (λ h e. let same : hooks s ≡ h = cc in sym (ap (λ (x : HookMeaning). x.reorder) same) ∙ is s)

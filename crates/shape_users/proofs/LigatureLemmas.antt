@@ -1,4 +1,4 @@
--- Substituting keeps clusters and flags: what is taken out was in the cluster of its neighbour.
+-- Substituting preserves clusters and flags: what is taken out was in the cluster of its neighbour.
 use Rattle.std.proofs.Common.{◌≡◌, ℕ, zero, suc, ◌+◌, ◌≤◌, ◌==◌, ◌||◌, Bool, true, false, List, [], ◌∷◌, length, map, nat_lt, refl, ap, sym, ◌∙◌, inl, subst, arith, if◌then◌else◌}
 use Rattle.std.proofs.lemmas.Bool.Decides.{nat_tests}
 use Rattle.std.proofs.Math.ListN.{get_or-eq_default}
@@ -9,13 +9,13 @@ use Rattle.shape_items.specs.BufferClusters.{merge_clusters, merge_at}
 use Rattle.shape_items.specs.Clusters.{clusters}
 use Rattle.shape_items.specs.ClusterOrder.{IsMonotoneLevel}
 use Rattle.shape_items.specs.Items.{Item, new_item}
-use Rattle.shape_buffer.specs.Keepers.{KeepsOrder, IsClusterKeeper, IsFlagKeeper, LookupsKeepClusters, LookupsKeepFlags}
-use Rattle.shape_items.specs.KeepsFlags.{KeepsFlags, has_flag, some_has}
+use Rattle.shape_buffer.specs.Preservation.{PreservesOrder, IsClusterPreserving, IsFlagPreserving, LookupsPreserveClusters, LookupsPreserveFlags}
+use Rattle.shape_items.specs.PreservesFlags.{PreservesFlags, has_flag, some_has}
 use Rattle.shape_items.proofs.Merging.ClusterLemmas.{merge_clusters-monotone}
-use Rattle.shape_items.proofs.Deletion.DeleteKeeps.{merged_keeps}
-use Rattle.shape_items.proofs.Order.DrawsInOrder.{DrawsInOrder, DrawsInOrder-same, DrawsInOrder-after, DrawsInOrder-again, KeepsClusters-from_draws}
-use Rattle.shape_items.proofs.Flags.FlagLemmas.{KeepsFlags-same, KeepsFlags-then}
-use Rattle.shape_buffer.proofs.Steps.KeeperLemmas.{KeepsClusters-equal, KeepsClusters-then, KeepsOrder-same, KeepsOrder-then, clusters-map}
+use Rattle.shape_items.proofs.Deletion.DeletePreserves.{merged_preserves}
+use Rattle.shape_items.proofs.Order.DrawsInOrder.{DrawsInOrder, DrawsInOrder-same, DrawsInOrder-after, DrawsInOrder-again, PreservesClusters-from_draws}
+use Rattle.shape_items.proofs.Flags.FlagLemmas.{PreservesFlags-same, PreservesFlags-then}
+use Rattle.shape_buffer.proofs.Steps.PreservationLemmas.{PreservesClusters-equal, PreservesClusters-then, PreservesOrder-same, PreservesOrder-then, clusters-map}
 use Rattle.shape_users.specs.Ligatures.{with_glyph, single, singled, nth_item, is_pair, glyph_put, taken_out, ligated_at, ligated, substituted, ligature_lookups}
 use Rattle.shape_users.specs.declared.ligatures.substitution.TheConstants.{SINGLE, LIGATURE}
 use Rattle.shape_users.proofs.AuthorLemmas.{flags-same_masks, EachLookup-one_stage}
@@ -58,11 +58,11 @@ masks-singled [] = refl
 masks-singled (x ∷ xs) =
     ap (λ m. m ∷ map (λ (x : Item). x.mask) (map single xs)) (single-mask x) ∙ ap (λ ms. x.mask ∷ ms) (masks-singled xs)
 
-singled-order : IsClusterKeeper singled
+singled-order : IsClusterPreserving singled
 singled-order b monotone =
-    record { clusters = KeepsClusters-equal _ _ (clusters-map single single-cluster b.items); direction = refl; flags = refl; level = refl }
+    record { clusters = PreservesClusters-equal _ _ (clusters-map single single-cluster b.items); direction = refl; flags = refl; level = refl }
 
-singled-flags : IsFlagKeeper singled
+singled-flags : IsFlagPreserving singled
 singled-flags b = flags-same_masks b (map single b.items) (masks-singled b.items)
 
 -- ---- ligatures
@@ -81,75 +81,75 @@ pair-within xs i pair =
     ] in
     cases refl
 
-ligated_at-order : (i : ℕ) → IsClusterKeeper (ligated_at i)
+ligated_at-order : (i : ℕ) → IsClusterPreserving (ligated_at i)
 ligated_at-order i b monotone =
     let merged = merge_clusters i (i + 2) b in
-    let P : Bool → Type 0 = λ t. is_pair b.items i ≡ t → KeepsOrder b (if t then taken_out (i + 1) (glyph_put i LIGATURE.2 merged) else b) in
+    let P : Bool → Type 0 = λ t. is_pair b.items i ≡ t → PreservesOrder b (if t then taken_out (i + 1) (glyph_put i LIGATURE.2 merged) else b) in
     let cases : P (is_pair b.items i) = elim (is_pair b.items i) as P [
       | true ↦ λ e.
           let put = glyph_put i LIGATURE.2 merged in
-          let first = (merged_keeps i (i + 2) b merged (pair-within b.items i e) refl).0 in
+          let first = (merged_preserves i (i + 2) b merged (pair-within b.items i e) refl).0 in
           let second : clusters put.items
           ≡ clusters merged.items = map-set_same (λ (x : Item). x.cluster) merged.items i (with_glyph LIGATURE.2 (nth_item merged.items i))
           (new_item 0 0) refl in
-          let third = KeepsClusters-from_draws (clusters put.items) (clusters (remove put.items (i + 1)))
+          let third = PreservesClusters-from_draws (clusters put.items) (clusters (remove put.items (i + 1)))
           (taken_out-draws put.items (i + 1)) in
           let at : merged ≡ merge_at i (i + 2) b = merge_clusters-monotone i (i + 2) b monotone in
           record {
-            clusters = KeepsClusters-then _ _ _ first
-                (KeepsClusters-then _ _ _ (KeepsClusters-equal (clusters merged.items) (clusters put.items) second) third);
+            clusters = PreservesClusters-then _ _ _ first
+                (PreservesClusters-then _ _ _ (PreservesClusters-equal (clusters merged.items) (clusters put.items) second) third);
             direction = ap (λ (m : Buffer). m.direction) at;
             flags = ap (λ (m : Buffer). m.flags) at;
             level = ap (λ (m : Buffer). m.cluster_level) at;
           }
-      | false ↦ λ e. KeepsOrder-same b
+      | false ↦ λ e. PreservesOrder-same b
     ] in
     cases refl
 
-ligated_at-flags : (i : ℕ) → IsFlagKeeper (ligated_at i)
+ligated_at-flags : (i : ℕ) → IsFlagPreserving (ligated_at i)
 ligated_at-flags i b =
     let merged = merge_clusters i (i + 2) b in
-    let P : Bool → Type 0 = λ t. is_pair b.items i ≡ t → KeepsFlags b (if t then taken_out (i + 1) (glyph_put i LIGATURE.2 merged) else b) in
+    let P : Bool → Type 0 = λ t. is_pair b.items i ≡ t → PreservesFlags b (if t then taken_out (i + 1) (glyph_put i LIGATURE.2 merged) else b) in
     let cases : P (is_pair b.items i) = elim (is_pair b.items i) as P [
       | true ↦ λ e.
           let put = glyph_put i LIGATURE.2 merged in
-          let first = (merged_keeps i (i + 2) b merged (pair-within b.items i e) refl).1 in
+          let first = (merged_preserves i (i + 2) b merged (pair-within b.items i e) refl).1 in
           let same = map-set_same (λ (x : Item). x.mask) merged.items i (with_glyph LIGATURE.2 (nth_item merged.items i)) (new_item 0 0) refl in
-          let second : KeepsFlags merged put = flags-same_masks merged put.items same in
-          let third : KeepsFlags put (taken_out (i + 1) put) = record {
+          let second : PreservesFlags merged put = flags-same_masks merged put.items same in
+          let third : PreservesFlags put (taken_out (i + 1) put) = record {
             flags = refl;
             stays_set = λ e. e;
             none_new = λ flag is some. inl
                 (taken_out-some flag put.items (i + 1) some);
           } in
-          KeepsFlags-then b merged (taken_out (i + 1) put) first (KeepsFlags-then merged put (taken_out (i + 1) put) second third)
-      | false ↦ λ e. KeepsFlags-same b
+          PreservesFlags-then b merged (taken_out (i + 1) put) first (PreservesFlags-then merged put (taken_out (i + 1) put) second third)
+      | false ↦ λ e. PreservesFlags-same b
     ] in
     cases refl
 
-ligated-order : (n : ℕ) → IsClusterKeeper (ligated n)
-ligated-order zero b monotone = KeepsOrder-same b
+ligated-order : (n : ℕ) → IsClusterPreserving (ligated n)
+ligated-order zero b monotone = PreservesOrder-same b
 ligated-order (suc n) b monotone =
     let before = ligated-order n b monotone in
-    KeepsOrder-then b (ligated n b) (ligated_at n (ligated n b)) before
+    PreservesOrder-then b (ligated n b) (ligated_at n (ligated n b)) before
     (ligated_at-order n (ligated n b) (subst IsMonotoneLevel (sym before.level) monotone))
 
-ligated-flags : (n : ℕ) → IsFlagKeeper (ligated n)
-ligated-flags zero b = KeepsFlags-same b
+ligated-flags : (n : ℕ) → IsFlagPreserving (ligated n)
+ligated-flags zero b = PreservesFlags-same b
 ligated-flags (suc n) b =
-    KeepsFlags-then b (ligated n b) (ligated_at n (ligated n b)) (ligated-flags n b) (ligated_at-flags n (ligated n b))
+    PreservesFlags-then b (ligated n b) (ligated_at n (ligated n b)) (ligated-flags n b) (ligated_at-flags n (ligated n b))
 
-substituted-order : IsClusterKeeper substituted
+substituted-order : IsClusterPreserving substituted
 substituted-order b monotone =
-    KeepsOrder-then b (singled b) (substituted b) (singled-order b monotone) (ligated-order (length b.items) (singled b) monotone)
+    PreservesOrder-then b (singled b) (substituted b) (singled-order b monotone) (ligated-order (length b.items) (singled b) monotone)
 
-substituted-flags : IsFlagKeeper substituted
-substituted-flags b = KeepsFlags-then b (singled b) (substituted b) (singled-flags b) (ligated-flags (length b.items) (singled b))
+substituted-flags : IsFlagPreserving substituted
+substituted-flags b = PreservesFlags-then b (singled b) (substituted b) (singled-flags b) (ligated-flags (length b.items) (singled b))
 
 -- ---- the engine
 
-pub clusters-ligatures : LookupsKeepClusters ligature_lookups
-clusters-ligatures = EachLookup-one_stage IsClusterKeeper (λ i. substituted) (λ b monotone. KeepsOrder-same b) (λ i. substituted-order)
+pub clusters-ligatures : LookupsPreserveClusters ligature_lookups
+clusters-ligatures = EachLookup-one_stage IsClusterPreserving (λ i. substituted) (λ b monotone. PreservesOrder-same b) (λ i. substituted-order)
 
-pub flags-ligatures : LookupsKeepFlags ligature_lookups
-flags-ligatures = EachLookup-one_stage IsFlagKeeper (λ i. substituted) (λ b. KeepsFlags-same b) (λ i. substituted-flags)
+pub flags-ligatures : LookupsPreserveFlags ligature_lookups
+flags-ligatures = EachLookup-one_stage IsFlagPreserving (λ i. substituted) (λ b. PreservesFlags-same b) (λ i. substituted-flags)

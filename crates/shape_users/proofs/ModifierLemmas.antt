@@ -1,4 +1,4 @@
--- The hook that reorders modifier marks keeps clusters at the monotone levels: what it moves shares a cluster by then.
+-- The hook that reorders modifier marks preserves clusters at the monotone levels: what it moves shares a cluster by then.
 use Rattle.std.proofs.Common.{◌≡◌, ◌==◌, ℕ, zero, suc, ◌+◌, ◌<◌, ◌≤◌, true, false, List, length, get_or, slice_range, refl, sym, ap, ◌∙◌, arith, subst, cond}
 use Rattle.std.proofs.lemmas.List.Edits.{length-swap}
 use Rattle.std.proofs.Math.Seq.{map-set_same}
@@ -6,15 +6,15 @@ use Rattle.std.specs.List.{swap}
 use Rattle.shape_items.specs.Buffer.{Buffer}
 use Rattle.shape_items.specs.BufferClusters.{merge_clusters}
 use Rattle.shape_items.specs.Clusters.{clusters, merge}
-use Rattle.shape_items.specs.ClusterOrder.{KeepsClusters, IsMonotoneLevel}
+use Rattle.shape_items.specs.ClusterOrder.{PreservesClusters, IsMonotoneLevel}
 use Rattle.shape_items.specs.Items.{new_item}
 use Rattle.shape_items.proofs.Merging.ClusterLemmas.{merge_clusters-monotone}
 use Rattle.shape_items.proofs.Merging.JoinLemmas.{merge_joins}
 use Rattle.shape_items.proofs.Merging.KeyLemmas.{length-merge_clusters}
-use Rattle.shape_items.proofs.Deletion.DeleteKeeps.{merged_keeps}
-use Rattle.shape_buffer.proofs.Steps.KeeperLemmas.{KeepsClusters-same, KeepsClusters-then}
+use Rattle.shape_items.proofs.Deletion.DeletePreserves.{merged_preserves}
+use Rattle.shape_buffer.proofs.Steps.PreservationLemmas.{PreservesClusters-same, PreservesClusters-then}
 use Rattle.shape_plan.specs.Reorder.{exchanged}
-use Rattle.shape_users.proofs.HookLemmas.{KeepsRuns, clusters_swapped}
+use Rattle.shape_users.proofs.HookLemmas.{PreservesRuns, clusters_swapped}
 use Rattle.shape_users.specs.Arabic.{count_below, count_modifiers, stepped_before, reclassed, brought_before, modifiers_moved, modifiers_reordered, length-stepped_before, length-reclassed, length-modifiers_moved, counts_within}
 
 -- neighbours between two places share a cluster
@@ -59,11 +59,11 @@ brought_before-level ccc (suc count) n place b =
     brought_before-level ccc count n (place + 1) (reclassed ccc place (stepped_before place n b)) ∙ stepped_before-level place n b
 
 -- the clusters stay in order, and the level stays
-modifiers_moved-keeps : (ccc other : ℕ) (b : Buffer) (start end : ℕ) → IsMonotoneLevel b.cluster_level → start ≤ end
+modifiers_moved-preserves : (ccc other : ℕ) (b : Buffer) (start end : ℕ) → IsMonotoneLevel b.cluster_level → start ≤ end
     → end ≤ length b.items
-    → KeepsClusters (clusters b.items) (clusters (modifiers_moved ccc other b start end).items)
+    → PreservesClusters (clusters b.items) (clusters (modifiers_moved ccc other b start end).items)
     × ((modifiers_moved ccc other b start end).cluster_level ≡ b.cluster_level)
-modifiers_moved-keeps ccc other b start end monotone ordered within =
+modifiers_moved-preserves ccc other b start end monotone ordered within =
     let run = slice_range b.items start end in
     let n = count_below ccc run in
     let count = count_modifiers ccc run in
@@ -78,25 +78,25 @@ modifiers_moved-keeps ccc other b start end monotone ordered within =
     let stays : clusters (brought_before other count n start merged).items
     ≡ clusters merged.items = brought_before-clusters start to other count n start merged (omega arith) (omega arith)
     (omega (arith, kept, inside, within)) joined in
-    let merging = (merged_keeps start to b merged (omega (arith, inside, within)) refl).0 in
-    elim (count == 0) as (λ t. KeepsClusters (clusters b.items) (clusters (cond t b (brought_before other count n start merged)).items)
+    let merging = (merged_preserves start to b merged (omega (arith, inside, within)) refl).0 in
+    elim (count == 0) as (λ t. PreservesClusters (clusters b.items) (clusters (cond t b (brought_before other count n start merged)).items)
     × ((cond t b (brought_before other count n start merged)).cluster_level ≡ b.cluster_level)) [
-      | true ↦ (KeepsClusters-same (clusters b.items), refl)
+      | true ↦ (PreservesClusters-same (clusters b.items), refl)
       | false ↦ (
-        subst (KeepsClusters (clusters b.items)) (sym stays) merging,
+        subst (PreservesClusters (clusters b.items)) (sym stays) merging,
         brought_before-level other count n start merged ∙ ap (λ m. m.cluster_level) is,
       )
     ]
 
-pub modifiers_keep_runs : KeepsRuns modifiers_reordered
-modifiers_keep_runs = λ b start end monotone run.
+pub modifiers_preserve_runs : PreservesRuns modifiers_reordered
+modifiers_preserve_runs = λ b start end monotone run.
     let ordered : start ≤ end = (let some = run.some in omega arith) in
     let below = modifiers_moved 220 25 b start end in
     let count = count_modifiers 220 (slice_range b.items start end) in
     let inside = counts_within 220 b.items start end ordered run.within in
     let kept : length below.items ≡ length b.items = length-modifiers_moved 220 25 b start end in
-    let first = modifiers_moved-keeps 220 25 b start end monotone ordered run.within in
+    let first = modifiers_moved-preserves 220 25 b start end monotone ordered run.within in
     let within : end ≤ length below.items = (let long = run.within in omega (arith, kept, long)) in
-    let second = modifiers_moved-keeps 230 26 below (start + count) end (subst IsMonotoneLevel (sym first.1) monotone)
+    let second = modifiers_moved-preserves 230 26 below (start + count) end (subst IsMonotoneLevel (sym first.1) monotone)
     (omega (arith, inside)) within in
-    KeepsClusters-then (clusters b.items) (clusters below.items) _ first.0 second.0
+    PreservesClusters-then (clusters b.items) (clusters below.items) _ first.0 second.0

@@ -23,7 +23,7 @@ use Rattle.shape_common.specs.declared.text_types.Direction.{Direction}
 use Rattle.shape_common.specs.declared.text_types.Direction.TheVariants.{Invalid, LeftToRight, RightToLeft, TopToBottom, BottomToTop}
 use Rattle.shape_buffer.specs.Guess.{direction_or, guessed_direction, guessed_script, script_or, first_script, script_or_ltr}
 use Rattle.shape_pipeline.specs.Headline.{target_of}
-use Rattle.shape_pipeline.specs.Order.{ClustersComeInOrder, ComesInOrder, RunKeepsClusters}
+use Rattle.shape_pipeline.specs.Order.{ClustersComeInOrder, ComesInOrder, RunPreservesClusters}
 use Rattle.shape_pipeline.specs.Shaped.{all_steps, entered}
 use Rattle.shape_plan.specs.Plan.{Plan}
 use Rattle.shape_plan.specs.Run.{Run}
@@ -176,9 +176,9 @@ module _ (bytes : List ℕ) (text : Buffer) (is : IsTextOf bytes text) where
 
   -- what is said of clusters of glyphs of such a text
   pub string-come : (run : Run) (target : Direction) (glyphs : Buffer)
-      → ClustersComeInOrder run target (guessed run.unicode text) glyphs → RunKeepsClusters run
+      → ClustersComeInOrder run target (guessed run.unicode text) glyphs → RunPreservesClusters run
       → ComesInOrder run target (guessed run.unicode text) glyphs
-  string-come run target glyphs come keeps = come keeps string-level is.rising
+  string-come run target glyphs come preserves = come preserves string-level is.rising
 
   pub string-few : (n : ℕ) → length (chars bytes) ≤ 256 → n ≤ run_limit (length text.items) → n ≤ 16384
   string-few n few within =

@@ -10,11 +10,11 @@ use Rattle.shape_buffer.specs.Outcome.{Step, run_steps}
 use Rattle.shape_common.specs.Face.{FaceMeaning}
 use Rattle.shape_common.specs.declared.flags.BufferFlags.{BufferFlags}
 use Rattle.shape_common.specs.declared.text_types.GlyphId.{GlyphId}
-use Rattle.shape_lines.specs.WorkedCanCut.{in_clusters}
+use Rattle.shape_lines.specs.Worked.CanCut.{in_clusters}
 use Rattle.shape_plan.specs.Rules.{has_glyph}
 use Rattle.shape_plan.specs.Run.{Run}
 use Rattle.shape_users.specs.PlainGlyphs.{AreOfText, HaveGlyphs, OneStep, SomeStepPasses, IsPlaceIn, IsTextOf}
-use Rattle.shape_users.specs.WorkedPlain.{ClustersOfTexts, HasOneOfTwo, CharactersWithGlyphs, begun_text, HasSteps, FirstPasses, SecondPasses, StepsOfRuns, WhatIsLeft, euro_string, euro_text, PlacesOfStrings, TextsOfStrings, WorkedPlain}
+use Rattle.shape_users.specs.Worked.Plain.{ClustersOfTexts, HasOneOfTwo, CharactersWithGlyphs, begun_text, HasSteps, FirstPasses, SecondPasses, StepsOfRuns, WhatIsLeft, euro_string, euro_text, PlacesOfStrings, TextsOfStrings, WorkedPlain}
 
 -- ---- clusters and characters
 

@@ -2,7 +2,7 @@
 use Rattle.std.proofs.Common.{◌≡◌, ◌⊎◌, ℕ, zero, suc, ◌-◌, ◌<◌, ◌≤◌, List, [], length, inl, inr, refl, arith}
 use Rattle.shape_items.specs.Items.{Item}
 use Rattle.shape_users.specs.Paragraph.{cluster_at, EndsIn, ShowsExactly}
-use Rattle.shape_users.specs.WorkedShown.{rising, falling, WorkedEnds, WorkedTextOfGlyphs, WorkedGlyphsOfText, WorkedShown}
+use Rattle.shape_users.specs.Worked.Shown.{rising, falling, WorkedEnds, WorkedTextOfGlyphs, WorkedGlyphsOfText, WorkedShown}
 
 -- what holds of the first four places holds of each below four
 each_of_four : (P : ℕ → Type 0) → P 0 → P 1 → P 2 → P 3 → (k : ℕ) → k < 4 → P k

@@ -113,7 +113,7 @@ not_nowhere run (word ∷ words) spelling place here nowhere = nowhere place wor
 -- if the search meets nothing too long, neither does keeping the word: it was found, or it isn't too long to shape
 pub found_fine : (run : Run) (xs ys : List Word) → xs ≡ ys → (spelling : List ℕ) → (FindsTooLong run xs spelling → ⊥)
     → (o : Option ℕ) (place : ℕ) → o ≡ Some place → IfSome o (λ k. IsPlaceOf run xs k spelling) → KeepsTooLong run ys spelling → ⊥
-found_fine run xs ys same spelling none o place is found keeps = elim keeps [
+found_fine run xs ys same spelling none o place is found preserves = elim preserves [
   | inl finds ↦ none (subst (λ (words : List Word). FindsTooLong run words spelling) (sym same) finds)
   | inr shaping ↦
       let here = place_of run xs ys same o place spelling is found in
@@ -122,7 +122,7 @@ found_fine run xs ys same spelling none o place is found keeps = elim keeps [
 
 pub none_fine : (run : Run) (xs ys : List Word) → xs ≡ ys → (spelling : List ℕ) → (FindsTooLong run xs spelling → ⊥)
     → (IsTooLongToShape run spelling → ⊥) → KeepsTooLong run ys spelling → ⊥
-none_fine run xs ys same spelling none fits keeps = elim keeps [
+none_fine run xs ys same spelling none fits preserves = elim preserves [
   | inl finds ↦ none (subst (λ (words : List Word). FindsTooLong run words spelling) (sym same) finds)
   | inr shaping ↦ fits shaping.1
 ]

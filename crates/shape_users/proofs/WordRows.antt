@@ -2,7 +2,7 @@
 use Rattle.std.proofs.Common.{◌≡◌, ◌≢◌, ℕ, ◌<◌, List, [], ◌∷◌, length, get_or, refl, inl, inr, ap, sym, ◌∙◌, subst, arith}
 use Rattle.shape_plan.specs.Run.{Run}
 use Rattle.shape_users.specs.Words.{AreSpelledAlike, IsOneWordMore, KeepsWords}
-use Rattle.shape_users.specs.WorkedWords.{bytes_of, own_glyphs, WordsTaken, WorkedWords}
+use Rattle.shape_users.specs.Worked.Words.{bytes_of, own_glyphs, WordsTaken, WorkedWords}
 use Rattle.shape_users.specs.declared.words.Word.{Word}
 
 words_taken : WordsTaken

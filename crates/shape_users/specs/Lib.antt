@@ -6,12 +6,5 @@ pub mod Lines
 pub mod Paragraph
 pub mod PlainGlyphs
 pub mod Points
-pub mod WorkedArabic
-pub mod WorkedCapitals
-pub mod WorkedForms
-pub mod WorkedFound
-pub mod WorkedPlain
-pub mod WorkedPoints
-pub mod WorkedShown
+pub mod Worked
 pub mod Words
-pub mod WorkedWords

@@ -2,24 +2,24 @@
 //! a hamza above, are put before every other mark of their letter, since they are read as a part of it
 //! (UTR 53); at the levels that merge, in one cluster with those that they move past.
 //!
-//! The shaper gives one of the ten hooks; `no_hook` stands for the others. What a run by it owes is what its
-//! engine's lookups owe, and no more: [`arabic_runs_keep`]. It asks for no features of joining letters: these
+//! The shaper gives one of the ten hooks; `no_hook` stands for the others. What a run by it must provide is what its
+//! engine's lookups must provide, and no more: [`arabic_runs_preserve`]. It asks for no features of joining letters: these
 //! are the caller's.
 ghost use Rattle.std.specs.Prelude.{◌≡◌, true, false, None, pos, refl};
-ghost use Rattle.shape_buffer.specs.Keepers.{LookupsKeepClusters, LookupsKeepFlags};
-ghost use Rattle.shape_plan.specs.Keepers.{RunKeepsFlags};
+ghost use Rattle.shape_buffer.specs.Preservation.{LookupsPreserveClusters, LookupsPreserveFlags};
+ghost use Rattle.shape_plan.specs.Preservation.{RunPreservesFlags};
 ghost use Rattle.shape_plan.specs.Plan.{Plan};
 ghost use Rattle.shape_users.specs.Arabic.{modifiers_reordered, modifiers_reordered-reorders};
-ghost use Rattle.shape_users.specs.WorkedArabic.{WorkedModifiers};
+ghost use Rattle.shape_users.specs.Worked.Arabic.{WorkedModifiers};
 ghost use Rattle.shape_users.specs.declared.arabic.ArabicShaper.{ArabicShaper as AnyShaper};
-ghost use Rattle.shape_pipeline.specs.Order.{RunKeepsClusters};
+ghost use Rattle.shape_pipeline.specs.Order.{RunPreservesClusters};
 
 mod modifiers;
 
 use modifiers::reorder_modifiers;
 use shape_buffer::buffer::{hb_buffer_t, hb_tag_t};
 use shape_buffer::interfaces::{hb_font_t, hb_ot_layout_t, hb_unicode_funcs_t};
-use shape_pipeline::laws::given_hooks_keep;
+use shape_pipeline::laws::given_hooks_preserve;
 use shape_pipeline::ot_shape_normalize::HB_OT_SHAPE_NORMALIZATION_MODE_AUTO;
 use shape_pipeline::ot_shape_plan::hb_ot_shape_plan_t;
 use shape_pipeline::ot_shaper::hooks::reorder_marks_hook;
@@ -101,17 +101,17 @@ impl<U: hb_unicode_funcs_t, F, M: hb_ot_layout_t<F>> reorder_marks_hook<ArabicSh
     ghost reorders = { λ _ _. modifiers_reordered-reorders };
 }
 
-/// A run by this shaper keeps clusters if its engine's lookups do, and flags if they do, whatever the
+/// A run by this shaper preserves clusters if its engine's lookups do, and flags if they do, whatever the
 /// Unicode functions, the plan and the face.
-pub fn arabic_runs_keep<U: hb_unicode_funcs_t, F: hb_font_t, M: hb_ot_layout_t<F>>()
+pub fn arabic_runs_preserve<U: hb_unicode_funcs_t, F: hb_font_t, M: hb_ot_layout_t<F>>()
     ensures clusters { (plan : Plan AnyShaper M.Map Unit) (face : F)
         → let run = ⟦<ArabicShaper as Runs<U, F, M>>⟧.run plan face in
-        LookupsKeepClusters run.lookups → RunKeepsClusters run }
+        LookupsPreserveClusters run.lookups → RunPreservesClusters run }
     ensures flags { (plan : Plan AnyShaper M.Map Unit) (face : F)
         → let run = ⟦<ArabicShaper as Runs<U, F, M>>⟧.run plan face in
-        LookupsKeepFlags run.lookups → RunKeepsFlags run }
+        LookupsPreserveFlags run.lookups → RunPreservesFlags run }
 {
-    given_hooks_keep::<U, F, M, ArabicShaper>();
+    given_hooks_preserve::<U, F, M, ArabicShaper>();
 }
 
 /// Which marks step to the front of a run, which don't, and their clusters, on runs worked out by hand.

@@ -3,15 +3,15 @@
 //!
 //! It gives two of the ten hooks, those that a shaper gives which joins letters or finds syllables. `collect_features`
 //! requests the feature, which is off then; `setup_masks` asks the plan's map for the bits that switch it on, and
-//! sets them. That masks alone change is the law of its trait, and clusters are kept by it: [`capitals_keep_clusters`].
+//! sets them. That masks alone change is the law of its trait, and clusters are kept by it: [`capitals_preserve_clusters`].
 ghost use Rattle.std.specs.Prelude.{◌≡◌, ◌∷◌, [], true, false, None, pos, refl};
-ghost use Rattle.shape_buffer.specs.Keepers.{LookupsKeepClusters};
+ghost use Rattle.shape_buffer.specs.Preservation.{LookupsPreserveClusters};
 ghost use Rattle.shape_buffer.specs.MapBuilder.{feature};
 ghost use Rattle.shape_buffer.specs.Outcome.{Made};
 ghost use Rattle.shape_plan.specs.Plan.{Plan};
-ghost use Rattle.shape_pipeline.specs.Order.{RunKeepsClusters};
+ghost use Rattle.shape_pipeline.specs.Order.{RunPreservesClusters};
 ghost use Rattle.shape_users.specs.Capitals.{capital_marked, capitals_marked, capitals_marked-alone};
-ghost use Rattle.shape_users.specs.WorkedCapitals.{WorkedCapitals};
+ghost use Rattle.shape_users.specs.Worked.Capitals.{WorkedCapitals};
 ghost use Rattle.shape_users.specs.declared.capitals.TheConstants.{C2SC};
 ghost use Rattle.shape_users.specs.declared.capitals.CapitalsShaper.{CapitalsShaper as AnyShaper};
 
@@ -22,7 +22,7 @@ use shape_buffer::interfaces::{
     F_NONE, hb_font_t, hb_ot_layout_t, hb_ot_map_builder_t, hb_unicode_funcs_t,
 };
 use shape_buffer::walks::update_items;
-use shape_pipeline::laws::given_hooks_keep;
+use shape_pipeline::laws::given_hooks_preserve;
 use shape_pipeline::ot_shape_normalize::HB_OT_SHAPE_NORMALIZATION_MODE_AUTO;
 use shape_pipeline::ot_shape_plan::hb_ot_shape_plan_t;
 use shape_pipeline::ot_shaper::hooks::{collect_features_hook, setup_masks_hook};
@@ -143,14 +143,14 @@ impl<U: hb_unicode_funcs_t, F, M: hb_ot_layout_t<F>> setup_masks_hook<CapitalsSh
     ghost masks_alone = { λ _ plan _. capitals_marked-alone ((M.masks plan.ot_map).one_mask C2SC) };
 }
 
-/// A run by this shaper keeps clusters if its engine's lookups do, whatever the Unicode functions, the plan and the
+/// A run by this shaper preserves clusters if its engine's lookups do, whatever the Unicode functions, the plan and the
 /// face.
-pub fn capitals_keep_clusters<U: hb_unicode_funcs_t, F: hb_font_t, M: hb_ot_layout_t<F>>()
+pub fn capitals_preserve_clusters<U: hb_unicode_funcs_t, F: hb_font_t, M: hb_ot_layout_t<F>>()
     ensures { (plan : Plan AnyShaper M.Map Unit) (face : F)
         → let run = ⟦<CapitalsShaper as Runs<U, F, M>>⟧.run plan face in
-        LookupsKeepClusters run.lookups → RunKeepsClusters run }
+        LookupsPreserveClusters run.lookups → RunPreservesClusters run }
 {
-    given_hooks_keep::<U, F, M, CapitalsShaper>();
+    given_hooks_preserve::<U, F, M, CapitalsShaper>();
 }
 
 /// Which items get the bits, and what is requested, worked out by hand.

@@ -1,19 +1,19 @@
 //! A script shaper for Hebrew: points are composed with their letters if the face has a glyph for the two
 //! as one character, and a mark below steps before the point that it stands beside.
 //!
-//! The shaper gives two of the ten hooks; `no_hook` stands for the others. What a run by it owes is what
-//! its engine's lookups owe, and no more: [`hebrew_runs_keep`].
+//! The shaper gives two of the ten hooks; `no_hook` stands for the others. What a run by it must provide is what
+//! its engine's lookups must provide, and no more: [`hebrew_runs_preserve`].
 ghost use Rattle.std.specs.Prelude.{◌≡◌, true, false, None, pos, refl};
 ghost use Rattle.std.specs.Option.{option_or};
-ghost use Rattle.shape_buffer.specs.Keepers.{LookupsKeepClusters, LookupsKeepFlags};
-ghost use Rattle.shape_plan.specs.Keepers.{RunKeepsFlags};
+ghost use Rattle.shape_buffer.specs.Preservation.{LookupsPreserveClusters, LookupsPreserveFlags};
+ghost use Rattle.shape_plan.specs.Preservation.{RunPreservesFlags};
 ghost use Rattle.shape_plan.specs.Plan.{Plan};
 ghost use Rattle.shape_users.specs.declared.hebrew.HebrewShaper.{HebrewShaper as AnyShaper};
-ghost use Rattle.shape_pipeline.specs.Order.{RunKeepsClusters};
+ghost use Rattle.shape_pipeline.specs.Order.{RunPreservesClusters};
 ghost use Rattle.shape_users.specs.Forms.{form_of};
-ghost use Rattle.shape_users.specs.WorkedForms.{WorkedForms};
+ghost use Rattle.shape_users.specs.Worked.Forms.{WorkedForms};
 ghost use Rattle.shape_users.specs.Points.{points_reordered, points_reordered-reorders};
-ghost use Rattle.shape_users.specs.WorkedPoints.{WorkedPoints};
+ghost use Rattle.shape_users.specs.Worked.Points.{WorkedPoints};
 
 pub mod forms;
 mod points;
@@ -22,7 +22,7 @@ use forms::form;
 use points::reorder_points;
 use shape_buffer::buffer::{hb_buffer_t, hb_tag_t};
 use shape_buffer::interfaces::{hb_font_t, hb_ot_layout_t, hb_unicode_funcs_t};
-use shape_pipeline::laws::hooks_not_given_keep;
+use shape_pipeline::laws::hooks_not_given_preserve;
 use shape_pipeline::ot_shape_normalize::HB_OT_SHAPE_NORMALIZATION_MODE_AUTO;
 use shape_pipeline::ot_shape_plan::hb_ot_shape_plan_t;
 use shape_pipeline::ot_shaper::hooks::{compose_hook, reorder_marks_hook};
@@ -123,17 +123,17 @@ impl<U: hb_unicode_funcs_t, F, M: hb_ot_layout_t<F>> reorder_marks_hook<HebrewSh
     ghost reorders = { λ _ _. points_reordered-reorders };
 }
 
-/// A run by this shaper keeps clusters if its engine's lookups do, and flags if they do, whatever the
+/// A run by this shaper preserves clusters if its engine's lookups do, and flags if they do, whatever the
 /// Unicode functions, the plan and the face.
-pub fn hebrew_runs_keep<U: hb_unicode_funcs_t, F: hb_font_t, M: hb_ot_layout_t<F>>()
+pub fn hebrew_runs_preserve<U: hb_unicode_funcs_t, F: hb_font_t, M: hb_ot_layout_t<F>>()
     ensures clusters { (plan : Plan AnyShaper M.Map Unit) (face : F)
         → let run = ⟦<HebrewShaper as Runs<U, F, M>>⟧.run plan face in
-        LookupsKeepClusters run.lookups → RunKeepsClusters run }
+        LookupsPreserveClusters run.lookups → RunPreservesClusters run }
     ensures flags { (plan : Plan AnyShaper M.Map Unit) (face : F)
         → let run = ⟦<HebrewShaper as Runs<U, F, M>>⟧.run plan face in
-        LookupsKeepFlags run.lookups → RunKeepsFlags run }
+        LookupsPreserveFlags run.lookups → RunPreservesFlags run }
 {
-    hooks_not_given_keep::<U, F, M, HebrewShaper>();
+    hooks_not_given_preserve::<U, F, M, HebrewShaper>();
 }
 
 /// What letters and points make, on pairs worked out by hand.

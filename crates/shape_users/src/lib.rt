@@ -1,8 +1,8 @@
 //! Users of the layer at work, each on public contracts alone.
 //!
-//! [`arabic`] and [`hebrew`] are script shapers with hooks, which owe no more than their engine does; [`capitals`] requests a
+//! [`arabic`] and [`hebrew`] are script shapers with hooks, which have no more obligations than their engine; [`capitals`] requests a
 //! feature and sets its masks.
-//! [`ligatures`] is a small engine with single and ligature substitutions, which keeps clusters and flags.
+//! [`ligatures`] is a small engine with single and ligature substitutions, which preserves clusters and flags.
 //! [`breaking`] goes from a string to its lines, and [`lines`] answers a line breaker: may the text be
 //! cut here? [`paragraph`] leads from glyphs to the text that they show, and back. [`plain_glyphs`] says
 //! what is known of glyphs without hooks and lookups.

@@ -1,16 +1,16 @@
 //! A small layout engine: one stage of substitution, which puts a glyph in place of another one and a
 //! ligature in place of two, whatever the face.
 //!
-//! What it owes a run is that its one stage keeps clusters and flags, which [`ligatures_keep`] says of all its
-//! calls; what a run by it owes then is nothing, if the shaper gives no hook: [`ligature_runs_owe_nothing`].
-ghost use Rattle.shape_buffer.specs.Keepers.{LookupsKeepClusters, LookupsKeepFlags};
+//! What it must provide for a run is that its one stage preserves clusters and flags, which [`ligatures_preserve`] says of all its
+//! calls; a run by it then has no obligations, if the shaper gives no hook: [`ligature_runs_have_no_obligations`].
+ghost use Rattle.shape_buffer.specs.Preservation.{LookupsPreserveClusters, LookupsPreserveFlags};
 ghost use Rattle.shape_buffer.specs.NoLookups.{no_layout};
 ghost use Rattle.shape_plan.specs.Plan.{Plan};
 ghost use Rattle.shape_plan.specs.declared.ot_shaper.shapers.hb_default_shaper_t.{hb_default_shaper_t as DefaultShaper};
-ghost use Rattle.shape_pipeline.specs.Premises.{OwesNothing};
+ghost use Rattle.shape_pipeline.specs.Premises.{HasNoObligations};
 ghost use Rattle.shape_users.specs.Ligatures.{ligature_masks, ligature_lookups};
 ghost use Rattle.shape_users.specs.Ligatures.{ligature_masks-lawful, ligature_lookups-lawful};
-ghost use Rattle.shape_users.specs.WorkedPoints.{WorkedLigatures};
+ghost use Rattle.shape_users.specs.Worked.Points.{WorkedLigatures};
 
 mod substitution;
 
@@ -20,7 +20,7 @@ use shape_buffer::buffer::{
 use shape_buffer::interfaces::{
     TableIndex, hb_font_t, hb_ot_layout_t, hb_ot_map_builder_t, hb_unicode_funcs_t,
 };
-use shape_pipeline::laws::runs_without_hooks_owe_nothing;
+use shape_pipeline::laws::runs_without_hooks_have_no_obligations;
 use shape_pipeline::ot_shaper::{Runs, hb_default_shaper_t};
 use std::alloc::Global;
 pub use substitution::{LIGATURE, SINGLE, substitute};
@@ -160,21 +160,21 @@ impl<F> hb_ot_layout_t<F> for Ligatures {
     ghost lawful_lookups = { λ _ _. ligature_lookups-lawful };
 }
 
-/// Each call of the engine keeps clusters, and each keeps flags.
-pub fn ligatures_keep<F: hb_font_t>()
+/// Each call of the engine preserves clusters, and each preserves flags.
+pub fn ligatures_preserve<F: hb_font_t>()
     ensures clusters { (map : Unit) (face : F)
-        → LookupsKeepClusters (⟦<Ligatures as hb_ot_layout_t<F>>⟧.lookups map face) }
+        → LookupsPreserveClusters (⟦<Ligatures as hb_ot_layout_t<F>>⟧.lookups map face) }
     ensures flags { (map : Unit) (face : F)
-        → LookupsKeepFlags (⟦<Ligatures as hb_ot_layout_t<F>>⟧.lookups map face) }
+        → LookupsPreserveFlags (⟦<Ligatures as hb_ot_layout_t<F>>⟧.lookups map face) }
 {}
 
-/// A run of the default shaper with this engine owes nothing.
-pub fn ligature_runs_owe_nothing<U: hb_unicode_funcs_t, F: hb_font_t>()
+/// A run of the default shaper with this engine has no obligations.
+pub fn ligature_runs_have_no_obligations<U: hb_unicode_funcs_t, F: hb_font_t>()
     ensures { (plan : Plan DefaultShaper Unit Unit) (face : F)
-        → OwesNothing (⟦<hb_default_shaper_t as Runs<U, F, Ligatures>>⟧.run plan face) }
+        → HasNoObligations (⟦<hb_default_shaper_t as Runs<U, F, Ligatures>>⟧.run plan face) }
 {
-    ligatures_keep::<F>();
-    runs_without_hooks_owe_nothing::<U, F, Ligatures, hb_default_shaper_t>();
+    ligatures_preserve::<F>();
+    runs_without_hooks_have_no_obligations::<U, F, Ligatures, hb_default_shaper_t>();
 }
 
 /// What the stage substitutes, on glyphs worked out by hand.

@@ -15,7 +15,7 @@ ghost use Rattle.shape_common.specs.Direction.{is_backward};
 ghost use Rattle.shape_items.specs.Flags.{HasOneSetOfFlags};
 ghost use Rattle.shape_items.specs.ClusterOrder.{IsOrderedFor};
 ghost use Rattle.shape_users.specs.Lines.{cut_at, lacks_break};
-ghost use Rattle.shape_users.specs.WorkedShown.{WorkedCuts};
+ghost use Rattle.shape_users.specs.Worked.Shown.{WorkedCuts};
 
 use shape_buffer::{GlyphBuffer, UNSAFE_TO_BREAK, hb_glyph_info_t};
 

@@ -8,7 +8,7 @@ ghost use Rattle.shape_items.specs.Clusters.{clusters};
 ghost use Rattle.shape_common.specs.Direction.{is_backward};
 ghost use Rattle.shape_items.specs.ClusterOrder.{IsOrderedFor};
 ghost use Rattle.shape_users.specs.Paragraph.{cluster_at, EndsIn, FirstToLast, ShowsExactly};
-ghost use Rattle.shape_users.specs.WorkedShown.{WorkedShown};
+ghost use Rattle.shape_users.specs.Worked.Shown.{WorkedShown};
 
 use shape_buffer::buffer::{GlyphBuffer, hb_glyph_info_t};
 

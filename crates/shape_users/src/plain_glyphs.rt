@@ -1,6 +1,6 @@
 //! What a caller with the default shaper and no lookups knows of glyphs: the clauses of `shape_with_plan` in
 //! plain words, with nothing left to ask of hooks and lookups. One function has a hook and lookups, which
-//! keep clusters and flags; one takes a string, of which nothing is left to ask either.
+//! preserve clusters and flags; one takes a string, of which nothing is left to ask either.
 //!
 //! Each function shapes a text and does nothing else. Its contract is what a user of that clause wants to hear:
 //! so a clause that comes to say less, of one direction or of one level alone, is refused here.
@@ -17,12 +17,12 @@ ghost use Rattle.shape_common.specs.Direction.{is_backward};
 ghost use Rattle.shape_common.specs.FlagNames.{UNSAFE_TO_CONCAT};
 ghost use Rattle.shape_items.specs.Flags.{HasOneSetOfFlags};
 ghost use Rattle.shape_buffer.specs.Guess.{guessed, first_script, script_or_ltr};
-ghost use Rattle.shape_items.specs.KeepsFlags.{some_has};
+ghost use Rattle.shape_items.specs.PreservesFlags.{some_has};
 ghost use Rattle.shape_common.specs.declared.text_types.BufferClusterLevel.{BufferClusterLevel};
 ghost use Rattle.shape_common.specs.declared.text_types.Direction.{Direction};
 ghost use Rattle.shape_buffer.specs.Text.{text_items};
 ghost use Rattle.shape_normalize.specs.CanonicalForm.{AreEquivalent};
-ghost use Rattle.shape_normalize.specs.Normalized.{HasItemGlyph, KeepsFeatures, Recomposes};
+ghost use Rattle.shape_normalize.specs.Normalized.{HasItemGlyph, PreservesFeatures, Recomposes};
 ghost use Rattle.shape_normalize.specs.Origins.{ComesByPlace};
 ghost use Rattle.shape_plan.specs.Plan.{Fits};
 ghost use Rattle.shape_pipeline.specs.Canonical.{prepared_characters, normalised_characters};
@@ -33,15 +33,15 @@ ghost use Rattle.shape_users.specs.PlainGlyphs.{AreOfText, HaveGlyphs, IsGivenBa
 ghost use Rattle.shape_users.specs.PlainGlyphs.{NoStepPasses, SomeStepPasses};
 ghost use Rattle.shape_users.specs.PlainGlyphs.{IsTextOf, IsPlaceIn, AreGlyphsOf, StringPasses, string_text};
 ghost use Rattle.shape_pipeline.specs.Planned.{planned_for};
-ghost use Rattle.shape_users.specs.WorkedPlain.{WorkedPlain};
+ghost use Rattle.shape_users.specs.Worked.Plain.{WorkedPlain};
 
 pub mod by_shape;
 
-use crate::arabic::{ArabicShaper, arabic_runs_keep};
-use crate::ligatures::{Ligatures, ligatures_keep};
+use crate::arabic::{ArabicShaper, arabic_runs_preserve};
+use crate::ligatures::{Ligatures, ligatures_preserve};
 use shape_buffer::buffer::{GlyphBuffer, ShapeError, ShapeFault, UnicodeBuffer};
 use shape_buffer::interfaces::{NoLookups, hb_font_t, hb_unicode_funcs_t};
-use shape_pipeline::laws::plain_runs_owe_nothing;
+use shape_pipeline::laws::plain_runs_have_no_obligations;
 use shape_pipeline::ot_shape_plan::hb_ot_shape_plan_t;
 use shape_pipeline::ot_shaper::{DEFAULT_SHAPER, Runs, hb_default_shaper_t};
 use shape_pipeline::{shape, shape_with_plan};
@@ -76,7 +76,7 @@ where
         → IfOk result (λ glyphs. length glyphs.items ≤ length text.items * 64) }
     ensures refused { IfErr result (λ fault. IsGivenBackEmpty text fault.buffer) }
 {
-    plain_runs_owe_nothing::<U, F>();
+    plain_runs_have_no_obligations::<U, F>();
     shape_with_plan::<U, F, NoLookups, hb_default_shaper_t>(alloc, face, plan, text)
 }
 
@@ -104,7 +104,7 @@ where
     ensures ordered { IfOk result (λ glyphs.
         IsOrderedFor (is_backward glyphs.direction) (clusters glyphs.items)) }
 {
-    plain_runs_owe_nothing::<U, F>();
+    plain_runs_have_no_obligations::<U, F>();
     shape_with_plan::<U, F, NoLookups, hb_default_shaper_t>(alloc, face, plan, text)
 }
 
@@ -155,7 +155,7 @@ where
         (normalised_list run text).items) }
     ensures features { let run =
         ⟦<hb_default_shaper_t as Runs<U, F, NoLookups>>⟧.run plan.now face.now in
-        IfOk result (λ _. KeepsFeatures (prepared_text run text) (normalised_list run text)) }
+        IfOk result (λ _. PreservesFeatures (prepared_text run text) (normalised_list run text)) }
     ensures places { let run =
         ⟦<hb_default_shaper_t as Runs<U, F, NoLookups>>⟧.run plan.now face.now in
         IfOk result (λ _. ComesByPlace run.rules
@@ -174,11 +174,11 @@ where
         → IfOk result (λ _. (normalised_characters run text ≡ normalised_characters run other)
         ↔ AreEquivalent run.rules (prepared_characters run text) (prepared_characters run other)) }
 {
-    plain_runs_owe_nothing::<U, F>();
+    plain_runs_have_no_obligations::<U, F>();
     shape_with_plan::<U, F, NoLookups, hb_default_shaper_t>(alloc, face, plan, text)
 }
 
-/// The glyphs of a text by a shaper that reorders marks and an engine with ligatures. Both keep clusters and
+/// The glyphs of a text by a shaper that reorders marks and an engine with ligatures. Both preserve clusters and
 /// flags, so for a text whose clusters never fall, at a monotone level, the same holds as without them:
 /// clusters are the text's and stand in the order in which the glyphs run, and neighbours in one cluster have
 /// the same flags.
@@ -199,8 +199,8 @@ where
         IsOrderedFor (is_backward glyphs.direction) (clusters glyphs.items)) }
     ensures one_set { IfOk result (λ glyphs. HasOneSetOfFlags glyphs.items) }
 {
-    ligatures_keep::<F>();
-    arabic_runs_keep::<U, F, Ligatures>();
+    ligatures_preserve::<F>();
+    arabic_runs_preserve::<U, F, Ligatures>();
     shape_with_plan::<U, F, Ligatures, ArabicShaper>(alloc, face, plan, text)
 }
 
@@ -274,7 +274,7 @@ where
         → IfOk result (λ glyphs. length glyphs.items ≤ length (chars string.now) * 64) }
     ensures refused { IfErr result (λ fault. fault.buffer ≡ new_buffer) }
 {
-    plain_runs_owe_nothing::<U, F>();
+    plain_runs_have_no_obligations::<U, F>();
     match text_of_str(alloc, string) {
         Ok(text) => shape::<U, F, NoLookups, hb_default_shaper_t>(
             alloc,

@@ -8,8 +8,8 @@ ghost use Rattle.std.specs.Prelude.{◌≡◌, [], length, Err, IsOk, IsErr, IfO
 ghost use Rattle.shape_plan.specs.Plan.{Fits};
 ghost use Rattle.shape_users.specs.Words.{spelled as text_spelled, FitsAt, IsPlaceOf, IsNowhere};
 ghost use Rattle.shape_users.specs.Words.{NoneFits, KeepsWords, FindsTooLong, KeepsTooLong};
-ghost use Rattle.shape_users.specs.WorkedFound.{WorkedFound};
-ghost use Rattle.shape_users.specs.WorkedWords.{WorkedWords};
+ghost use Rattle.shape_users.specs.Worked.Found.{WorkedFound};
+ghost use Rattle.shape_users.specs.Worked.Words.{WorkedWords};
 
 mod spellings;
 

@@ -115,8 +115,26 @@ fn execute<W: Write>(
         Command::Level => session.set_level(words),
         Command::Dir => session.set_direction(words),
         Command::Flags => session.set_flags(words),
-        Command::Text => text::answer(alloc, session.face(), session.manner(), words, writer),
-        Command::Same => same::answer(alloc, session.face(), session.manner(), words, writer),
-        Command::Lines => lines::answer(alloc, session.face(), session.manner(), words, writer),
+        Command::Text => text::answer(
+            alloc,
+            session.face(),
+            session.text_settings(),
+            words,
+            writer,
+        ),
+        Command::Same => same::answer(
+            alloc,
+            session.face(),
+            session.text_settings(),
+            words,
+            writer,
+        ),
+        Command::Lines => lines::answer(
+            alloc,
+            session.face(),
+            session.text_settings(),
+            words,
+            writer,
+        ),
     }
 }

@@ -1,7 +1,7 @@
 //! Faces, of which words say what they have.
 
 use crate::rows::{Host, hex, unknown};
-use test_worlds::TestFace;
+use test_fixtures::TestFace;
 
 /// Sets in a face what a word says: a table, lookups, classes of glyphs, masks of every feature, or `pause=N`, a pause
 /// after the first stage. The word `plain` says nothing.

@@ -14,7 +14,7 @@ use shape_position::flags::propagate_flags;
 use shape_position::ignorables::{hide_default_ignorables, zero_width_default_ignorables};
 use shape_position::selectors::deal_with_variation_selectors;
 use shape_position::zeroing::zero_mark_widths_by_gdef;
-use test_worlds::{KnownGlyph, PLAIN_FACE, TestFace};
+use test_fixtures::{KnownGlyph, PLAIN_FACE, TestFace};
 
 /// The glyph of a mark.
 const MARK: u32 = 2;

@@ -3,6 +3,7 @@
 
 mod answers;
 mod classes;
+mod fixtures;
 mod fractions;
 mod lengths;
 mod looks;
@@ -11,4 +12,3 @@ mod ranges;
 mod refusals;
 mod runs;
 mod stages;
-mod worlds;

@@ -1,4 +1,4 @@
-//! What Unicode functions answer, beside rows of text.
+//! What Unicode functions return, beside rows of text.
 
 use crate::comparing::{assert_row, character, number, parts, rows_of};
 use shape_buffer::buffer::{Direction, Script, hb_tag_t};
@@ -47,7 +47,7 @@ fn pair(rt: &impl Abort, word: &str) -> (char, char) {
     (character(rt, a), character(rt, b))
 }
 
-/// What the functions answer.
+/// What the functions return.
 fn answer_of<U: hb_unicode_funcs_t>(rt: &impl Abort, question: Question, word: &str) -> Answer {
     match question {
         Question::DirectionOfScript => Answer::Direction(U::script_direction(script_of(rt, word))),

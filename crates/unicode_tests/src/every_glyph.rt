@@ -1,5 +1,5 @@
 //! A face that has a glyph for every character.
-use test_worlds::{PLAIN_FACE, TestFace};
+use test_fixtures::{PLAIN_FACE, TestFace};
 
 /// How wide each glyph is, in units of the face.
 pub const ADVANCE: i32 = 600;

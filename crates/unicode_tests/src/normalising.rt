@@ -9,7 +9,7 @@ use shape_pipeline::ot_shape_plan::hb_ot_shape_plan_t;
 use shape_pipeline::ot_shaper::hb_ot_shaper_t;
 use shape_unicode::UnicodeDatabase;
 use std::alloc::Global;
-use test_worlds::TestFace;
+use test_fixtures::TestFace;
 
 /// A base and a mark to stand before a text, so that a mark stands past the first character whatever the
 /// text is, and all its marks are put in order. The two compose with nothing, and the mark has the lowest

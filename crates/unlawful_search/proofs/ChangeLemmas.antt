@@ -1,4 +1,4 @@
--- Changes keep the number of items and the limit.
+-- Changes preserve the number of items and the limit.
 use Rattle.std.proofs.Common.{◌≡◌, length, refl, ap, ◌∙◌, arith}
 use Rattle.shape_items.specs.Buffer.{Buffer, limit_of}
 use Rattle.shape_buffer.specs.Outcome.{Made}
@@ -6,7 +6,7 @@ use Rattle.shape_buffer.specs.PositionWalks.{positions_mapped}
 use Rattle.shape_buffer.specs.Walks.{items_mapped}
 use Rattle.shape_items.proofs.Merging.KeyLemmas.{without_items-merge_clusters, without_items-unsafe_to_break}
 use Rattle.unlawful_search.specs.Changes.{kept}
-use Rattle.unlawful_search.specs.KeptCounts.{length-kept}
+use Rattle.unlawful_search.specs.PreservedCounts.{length-kept}
 use Rattle.unlawful_search.specs.declared.change.Change.{Change}
 use Rattle.unlawful_search.specs.declared.change.Change.TheVariants as changes
 

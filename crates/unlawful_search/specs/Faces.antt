@@ -1,4 +1,4 @@
--- What an odd face answers.
+-- What an odd face returns.
 use Rattle.std.specs.Prelude.{ℕ, ◌==◌, ◌||◌, ◌&&◌, Option, Some, None, if◌then◌else◌}
 use Rattle.shape_common.specs.Face.{FaceMeaning}
 use Rattle.shape_common.specs.declared.text_types.GlyphId.{GlyphId}

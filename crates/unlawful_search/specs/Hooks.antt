@@ -9,8 +9,8 @@ use Rattle.shape_items.specs.Items.{Item}
 use Rattle.shape_buffer.specs.Walks.{items_mapped}
 use Rattle.shape_buffer.specs.MapBuilder.{feature, pause}
 use Rattle.shape_buffer.specs.declared.interfaces.map_request.MapRequest.{MapRequest}
-use Rattle.unlawful_search.specs.declared.wishes.Wish.{Wish}
-use Rattle.unlawful_search.specs.declared.wishes.Wish.TheVariants as wishes
+use Rattle.unlawful_search.specs.declared.hook_requests.HookRequest.{HookRequest}
+use Rattle.unlawful_search.specs.declared.hook_requests.HookRequest.TheVariants as hook_requests
 use Rattle.shape_plan.specs.Reorder.{exchanged, Reorders, done, exchange, IsRunInOrder, ReordersRanges}
 use Rattle.shape_plan.specs.Shaper.{ChangesMasksAlone, without_mask}
 
@@ -55,9 +55,9 @@ exchange_ends b start end run =
 pub ends_exchanged-reorders : ReordersRanges ends_exchanged
 ends_exchanged-reorders = record { reorders = exchange_ends }
 
--- what a wish asks for
-abbrev pub wished : Wish → List MapRequest
-wished wishes.Nothing = []
-wished (wishes.Feature tag flags value) = feature tag flags value ∷ []
-wished (wishes.Pause number) = pause number ∷ []
-wished wishes.Refuse = []
+-- what the request of a hook asks for
+abbrev pub requested : HookRequest → List MapRequest
+requested hook_requests.Nothing = []
+requested (hook_requests.Feature tag flags value) = feature tag flags value ∷ []
+requested (hook_requests.Pause number) = pause number ∷ []
+requested hook_requests.Refuse = []

@@ -1,4 +1,4 @@
--- What the engine of odd faces answers and does.
+-- What the engine of odd faces returns and does.
 use Rattle.std.specs.Prelude.{◌==◌, pos, Bool, true, false, Some, None, length, refl, if◌then◌else◌}
 use Rattle.std.proofs.Common.{rules}
 use Rattle.shape_items.specs.Delete.{deleted}

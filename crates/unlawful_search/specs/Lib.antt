@@ -2,4 +2,4 @@ pub mod Changes
 pub mod Faces
 pub mod Layouts
 pub mod Hooks
-pub mod KeptCounts
+pub mod PreservedCounts

@@ -125,7 +125,7 @@ pub(crate) fn keep(what: Change, buffer: &mut hb_buffer_t)
     make_change(what, buffer);
 }
 
-/// Makes a change, or says that memory was refused, as a call that keeps the number of items.
+/// Makes a change, or says that memory was refused, as a call that preserves the number of items.
 pub(crate) fn place(what: Option<Change>, buffer: &mut hb_buffer_t) -> Result<(), ShapeError>
     requires { IsWithinLimit buffer.old }
     ensures { Outcome (step (placed what)) buffer.old buffer.new result }

@@ -29,7 +29,7 @@ pub struct Calls {
     pub second_part: char,
 }
 
-/// What the engine answers of the face.
+/// What the engine returns of the face.
 #[derive(Clone, Copy)]
 pub struct Answers {
     pub gpos_script: Option<hb_tag_t>,

@@ -2,7 +2,7 @@
 ghost use Rattle.std.specs.Prelude.{◌≡◌, None};
 ghost use Rattle.unlawful_search.specs.Layouts.{odd_layout, odd_masks, odd_masks-lawful};
 ghost use Rattle.unlawful_search.specs.Layouts.{odd_lookups, is_struck as is_struck_of};
-ghost use Rattle.unlawful_search.specs.KeptCounts.{odd_lookups-lawful};
+ghost use Rattle.unlawful_search.specs.PreservedCounts.{odd_lookups-lawful};
 
 use crate::change::{Change, keep, make, place};
 use crate::face::OddFace;

@@ -9,6 +9,7 @@
 
 mod change;
 mod face;
+mod hook_requests;
 mod layout;
 mod marking;
 mod normalising;
@@ -17,7 +18,6 @@ mod promise;
 mod shaper;
 mod universe;
 mod verdict;
-mod wishes;
 
 use crate::promise::Promise;
 use crate::universe::Dice;

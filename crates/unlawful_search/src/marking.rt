@@ -7,7 +7,7 @@ use shape_plan::ot_shaper::{
     HB_OT_SHAPE_ZERO_WIDTH_MARKS_BY_GDEF_EARLY, HB_OT_SHAPE_ZERO_WIDTH_MARKS_BY_GDEF_LATE,
     HB_OT_SHAPE_ZERO_WIDTH_MARKS_NONE,
 };
-use test_worlds::Marking;
+use test_fixtures::Marking;
 
 /// Marks lose their advances late, and are placed by their extents.
 pub struct Late;

@@ -1,15 +1,15 @@
 //! Looks for a promise that planning breaks.
 //!
-//! A shaper that is kept adds its requests to those of every text, and its data is kept with the
+//! A shaper that is used adds its requests to those of every text, and its data is kept with the
 //! plan; one that gives way to `morx` adds nothing. A refusal of a hook or of the engine is handed
 //! on.
 ghost use Rattle.std.specs.Prelude.{◌≢◌};
 
 use crate::face::OddFace;
+use crate::hook_requests::{HookRequest, HookRequests};
 use crate::layout::OddMap;
 use crate::promise::Promise;
 use crate::universe::Universe;
-use crate::wishes::{Wish, Wishes};
 use shape_buffer::buffer::{Direction, Script, ShapeError};
 use shape_buffer::interfaces::{hb_font_t, hb_ot_layout_t};
 use shape_pipeline::ot_shape_plan::hb_ot_shape_plan_t;
@@ -18,21 +18,21 @@ use shape_pipeline::ot_shaper::{
 };
 use shape_unicode::UnicodeDatabase;
 use std::alloc::Global;
-use test_worlds::Marking;
+use test_fixtures::Marking;
 
-/// How many requests a wish is.
-fn requests_of(wish: Wish) -> usize {
-    match wish {
-        Wish::Nothing | Wish::Refuse => 0,
-        Wish::Feature(_, _, _) | Wish::Pause(_) => 1,
+/// How many requests it makes.
+fn requests_of(hook_request: HookRequest) -> usize {
+    match hook_request {
+        HookRequest::Nothing | HookRequest::Refuse => 0,
+        HookRequest::Feature(_, _, _) | HookRequest::Pause(_) => 1,
     }
 }
 
 /// Whether a hook of planning refuses.
-fn refuses(wishes: Wishes) -> bool {
-    let asks = matches!(wishes.collected, Wish::Refuse)
-        || matches!(wishes.overriding, Wish::Refuse);
-    asks || wishes.refuses_kept
+fn refuses(hook_requests: HookRequests) -> bool {
+    let asks = matches!(hook_requests.collected, HookRequest::Refuse)
+        || matches!(hook_requests.overriding, HookRequest::Refuse);
+    asks || hook_requests.refuses_kept
 }
 
 /// The plan by a shaper for a text of a script that runs in a direction.
@@ -97,13 +97,13 @@ where
     default_map::<OddFace, M>(alloc, &face, universe.text.script, direction)
 }
 
-/// The map with the requests of a shaper that is kept, or of one that isn't.
-fn wanted_map(plain: OddMap, wishes: Wishes, is_kept: bool) -> OddMap {
+/// The map with the requests of a shaper that is used, or of one that isn't.
+fn wanted_map(plain: OddMap, hook_requests: HookRequests, is_kept: bool) -> OddMap {
     let mut requests = plain.requests;
     if is_kept {
         requests = requests
-            .saturating_add(requests_of(wishes.collected))
-            .saturating_add(requests_of(wishes.overriding));
+            .saturating_add(requests_of(hook_requests.collected))
+            .saturating_add(requests_of(hook_requests.overriding));
     }
     OddMap {
         requests,
@@ -134,13 +134,13 @@ struct Wanted {
     data: Option<u32>,
 }
 
-/// What planning is to answer by a shaper that is kept, or one that isn't, if the default one has this map.
+/// What planning is to answer by a shaper that is used, or one that isn't, if the default one has this map.
 fn wanted_of(universe: &Universe, plain: OddMap, is_kept: bool) -> Wanted {
-    let wishes = universe.wishes;
+    let hook_requests = universe.hook_requests;
     Wanted {
-        refused: universe.face.answers.refuses_map || (is_kept && refuses(wishes)),
-        map: wanted_map(plain, wishes, is_kept),
-        data: is_kept.then_some(wishes.kept),
+        refused: universe.face.answers.refuses_map || (is_kept && refuses(hook_requests)),
+        map: wanted_map(plain, hook_requests, is_kept),
+        data: is_kept.then_some(hook_requests.kept),
     }
 }
 

@@ -39,9 +39,9 @@ pub enum Promise {
     MarksPlaced,
     /// No two tables kern.
     OneKerning,
-    /// A plan has the requests of a shaper that is kept.
+    /// A plan has the requests of a shaper that is used.
     Requests,
-    /// A plan has the data of a shaper that is kept.
+    /// A plan has the data of a shaper that is used.
     Data,
     /// A run is refused if planning is.
     RunAfterRefusal,

@@ -1,6 +1,6 @@
 //! Shapers whose hooks do what a universe draws for them: it is the face that tells them.
 //!
-//! One gives every hook; those of planning stand in `wishes`. The other one leaves planning alone,
+//! One gives every hook; those of planning stand in `hook_requests`. The other one leaves planning alone,
 //! and splits, composites and the order of marks to Unicode, so that its runs of marks are put in
 //! order as they are met.
 ghost use Rattle.std.specs.Prelude.{◌≡◌, true, false};
@@ -11,7 +11,7 @@ ghost use Rattle.unlawful_search.specs.Hooks.{ends_exchanged-reorders, masked as
 
 use crate::change::make;
 use crate::face::OddFace;
-use crate::wishes::Wishes;
+use crate::hook_requests::HookRequests;
 use shape_buffer::buffer::{ShapeError, hb_buffer_t, hb_glyph_info_t, hb_mask_t, hb_tag_t};
 use shape_buffer::interfaces::{hb_ot_layout_t, hb_unicode_funcs_t};
 use shape_buffer::walks::update_items;
@@ -23,7 +23,7 @@ use shape_plan::ot_shaper::hooks::{
 use shape_plan::ot_shaper::{Preference, no_hook, script_shaper};
 use std::alloc::Global;
 use std::marker::PhantomData;
-use test_worlds::Marking;
+use test_fixtures::Marking;
 
 /// Gives the hooks that a face tells of, whatever the shaper.
 pub struct odd_hooks;
@@ -213,16 +213,16 @@ impl<S, D, U: hb_unicode_funcs_t, M: hb_ot_layout_t<OddFace>> pause_hook<S, D, U
 pub struct OddShaper<T, W> {
     preference: PhantomData<T>,
     marking: PhantomData<W>,
-    pub wishes: Wishes,
+    pub hook_requests: HookRequests,
 }
 
 impl<T, W> OddShaper<T, W> {
     /// The shaper of a preference and of what is wanted for marks.
-    pub fn new(wishes: Wishes) -> OddShaper<T, W> {
+    pub fn new(hook_requests: HookRequests) -> OddShaper<T, W> {
         OddShaper {
             preference: PhantomData,
             marking: PhantomData,
-            wishes,
+            hook_requests,
         }
     }
 }

@@ -3,7 +3,7 @@ ghost use Rattle.std.specs.Prelude.{◌<◌, length};
 
 use crate::change::{Call, Change, Edit};
 use crate::face::{Answers, Calls, OddFace};
-use crate::wishes::Wishes;
+use crate::hook_requests::HookRequests;
 use rand_core::Rng;
 use rand_pcg::Pcg32;
 use shape_buffer::buffer::{
@@ -44,7 +44,7 @@ pub struct Universe {
     /// Which shaper: 0 to 4 give every hook, 5 to 9 leave planning and characters alone.
     pub shaper: u32,
     /// What the shapers that give every hook ask of the planner.
-    pub wishes: Wishes,
+    pub hook_requests: HookRequests,
     pub text: Text,
     pub face: OddFace,
 }
@@ -178,7 +178,7 @@ impl Dice {
         }
     }
 
-    /// What keeps clusters and flags alike.
+    /// What preserves clusters and flags alike.
     fn harmless(&mut self) -> Change {
         let character = self.character();
         match self.below(8) {
@@ -196,8 +196,8 @@ impl Dice {
         }
     }
 
-    /// What keeps clusters, and may break flags.
-    fn cluster_keeper(&mut self) -> Change {
+    /// What preserves clusters, and may break flags.
+    fn cluster_preserving(&mut self) -> Change {
         let character = self.character();
         match self.below(3) {
             0 => Change::Items(character, Edit::Mask(self.words.next_u32())),
@@ -206,8 +206,8 @@ impl Dice {
         }
     }
 
-    /// What keeps flags, and may break the order of clusters.
-    fn flag_keeper(&mut self) -> Change {
+    /// What preserves flags, and may break the order of clusters.
+    fn flag_preserving(&mut self) -> Change {
         let character = self.character();
         match self.below(5) {
             0 => Change::Items(character, Edit::Cluster(self.below(8))),
@@ -223,11 +223,11 @@ impl Dice {
         match (self.below(6), premise) {
             (0 | 1, _) => Change::Nothing,
             (2 | 3, _) => self.harmless(),
-            (4, Premise::Clusters) => self.cluster_keeper(),
-            (4, Premise::Flags) => self.flag_keeper(),
+            (4, Premise::Clusters) => self.cluster_preserving(),
+            (4, Premise::Flags) => self.flag_preserving(),
             (4, Premise::Nothing) => Change::Flags(BufferFlags(self.below(256))),
-            (_, Premise::Flags) => self.flag_keeper(),
-            (_, Premise::Clusters) => self.cluster_keeper(),
+            (_, Premise::Flags) => self.flag_preserving(),
+            (_, Premise::Clusters) => self.cluster_preserving(),
             (_, Premise::Nothing) => self.breaker(),
         }
     }
@@ -235,9 +235,9 @@ impl Dice {
     /// What may break either.
     fn breaker(&mut self) -> Change {
         if self.once_in(2) {
-            self.cluster_keeper()
+            self.cluster_preserving()
         } else {
-            self.flag_keeper()
+            self.flag_preserving()
         }
     }
 
@@ -251,7 +251,7 @@ impl Dice {
         }
     }
 
-    /// The same of a call that keeps the number of items.
+    /// The same of a call that preserves the number of items.
     fn placing(&mut self, premise: Premise) -> Option<Change> {
         if self.once_in(64) {
             None
@@ -291,7 +291,7 @@ impl Dice {
         }
     }
 
-    /// What the engine answers of a face.
+    /// What the engine returns of a face.
     fn answers(&mut self) -> Answers {
         Answers {
             gpos_script: if self.once_in(2) {
@@ -382,7 +382,7 @@ impl Dice {
             1 => Premise::Clusters,
             _ => Premise::Flags,
         };
-        // the shapers that give every hook put marks in an order that keeps no clusters
+        // the shapers that give every hook put marks in an order that preserves no clusters
         let shaper = if premise == Premise::Clusters {
             5 + self.below(5)
         } else {
@@ -391,7 +391,7 @@ impl Dice {
         Ok(Universe {
             premise,
             shaper,
-            wishes: self.wishes(),
+            hook_requests: self.hook_requests(),
             text: self.text(alloc, premise)?,
             face: self.face(premise),
         })

@@ -24,7 +24,7 @@ use shape_pipeline::ot_shaper::{
 use shape_pipeline::shape;
 use shape_unicode::UnicodeDatabase;
 use std::alloc::Global;
-use test_worlds::{Automatic, Marking};
+use test_fixtures::{Automatic, Marking};
 
 /// What a run answers, and the promise that it breaks.
 #[derive(Clone, Copy)]
@@ -57,7 +57,7 @@ where
     T: Preference,
     W: Marking,
 {
-    let shaper = OddShaper::<T, W>::new(universe.wishes);
+    let shaper = OddShaper::<T, W>::new(universe.hook_requests);
     judged_with_plan::<M, OddShaper<T, W>, W>(alloc, universe, &shaper)
 }
 
@@ -71,7 +71,7 @@ where
     judged_with::<M, PlainShaper<T, W>>(alloc, universe, &PlainShaper::new())
 }
 
-/// The verdict on a shaper whose hooks of planning do what the universe wishes.
+/// The verdict on a shaper whose hooks of planning do what the universe draws.
 fn judged_with_plan<M, S, W>(
     alloc: Global,
     universe: &Universe,

@@ -48,7 +48,7 @@ fn assert_lines(rt: &impl Abort, alloc: Global, how: Shaping<'_>, text: &str, wi
 }
 
 /// Asserts this in both directions of a line, at the two levels that keep clusters in order.
-fn assert_manners(rt: &impl Abort, alloc: Global, how: Shaping<'_>, text: &str, width: u32) {
+fn assert_settings(rt: &impl Abort, alloc: Global, how: Shaping<'_>, text: &str, width: u32) {
     for direction in [Direction::LeftToRight, Direction::RightToLeft] {
         for level in IN_ORDER {
             assert_lines(rt, alloc, towards(how, direction, level), text, width);
@@ -71,7 +71,7 @@ fn assert_text(
         ..by_graphemes(&face, shaper)
     };
     for width in widths {
-        assert_manners(rt, alloc, how, text, *width);
+        assert_settings(rt, alloc, how, text, *width);
     }
 }
 

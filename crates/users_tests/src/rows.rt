@@ -3,7 +3,7 @@ use crate::broken_rows::{Known, print_lines};
 use crate::paragraph::print_spans;
 use crate::plain_glyphs::print_string;
 use crate::shaping::{Shaper, assert_that, print_shaped};
-use crate::words::print_told;
+use crate::words::print_decided;
 use shape_pipeline::{BufferClusterLevel, Direction};
 use std::alloc::Global;
 use std::process::Abort;
@@ -18,7 +18,7 @@ pub enum Asked {
     /// Two places of glyphs of a text that runs in a direction: what the glyphs between them show.
     Spans(Direction),
     /// Two spellings: whether they are equivalent.
-    Told,
+    Decided,
     /// A text and a width: the lines of the text.
     Lines(Known, Direction, BufferClusterLevel),
 }
@@ -40,7 +40,7 @@ fn print_answer(
         Asked::Shaped(shaper) => print_shaped(rt, alloc, printed, shaper, first, second),
         Asked::OfString => print_string(rt, alloc, printed, first, second),
         Asked::Spans(direction) => print_spans(rt, alloc, printed, direction, first, second),
-        Asked::Told => print_told(rt, alloc, printed, first, second),
+        Asked::Decided => print_decided(rt, alloc, printed, first, second),
         Asked::Lines(known, direction, level) => {
             print_lines(rt, alloc, printed, (known, direction, level), first, second);
         }

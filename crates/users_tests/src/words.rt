@@ -96,8 +96,14 @@ fn equivalent_spellings_are_one_word(rt: HostRuntime) {
     assert_kept(&rt, rt.alloc(), spellings, wanted);
 }
 
-/// Whether two spellings are equivalent, if this can be told.
-fn told(rt: &impl Abort, alloc: Global, face: &MapFace, first: &str, second: &str) -> Option<bool> {
+/// Whether two spellings are equivalent, if this can be decided.
+fn decided(
+    rt: &impl Abort,
+    alloc: Global,
+    face: &MapFace,
+    first: &str,
+    second: &str,
+) -> Option<bool> {
     let shaper = Preferring::<Decomposed>::new();
     let plan = planned(rt, alloc, face, &shaper, Direction::LeftToRight, b"Latn");
     equivalent_spellings::<UnicodeDatabase, MapFace, NoLookups, _>(
@@ -105,10 +111,16 @@ fn told(rt: &impl Abort, alloc: Global, face: &MapFace, first: &str, second: &st
     ).expect(rt, "memory")
 }
 
-/// Prints whether two spellings are equivalent: ` yes`, ` no`, or ` open` if this can't be told.
-pub fn print_told(rt: &impl Abort, alloc: Global, printed: &mut String, first: &str, second: &str) {
+/// Prints whether two spellings are equivalent: ` yes`, ` no`, or ` open` if this can't be decided.
+pub fn print_decided(
+    rt: &impl Abort,
+    alloc: Global,
+    printed: &mut String,
+    first: &str,
+    second: &str,
+) {
     let face = face_of(rt, alloc, "qe\u{301}\u{FE00}");
-    let answer = match told(rt, alloc, &face, first, second) {
+    let answer = match decided(rt, alloc, &face, first, second) {
         Some(true) => " yes",
         Some(false) => " no",
         None => " open",
@@ -119,11 +131,11 @@ pub fn print_told(rt: &impl Abort, alloc: Global, printed: &mut String, first: &
 /// What the face's glyphs and the text leave open isn't answered: no mark past the first character, no glyph for x, a
 /// variation selector.
 #[test]
-fn spellings_that_can_be_told(rt: HostRuntime) {
+fn spellings_that_can_be_decided(rt: HostRuntime) {
     let rows = "q\u{301}\u{E9} | q\u{301}e\u{301} -> yes
         q\u{301}\u{E9} | q\u{301}e -> no
         qe | q\u{301}e -> open
         q\u{301}x | q\u{301}e -> open
         q\u{301}e | q\u{301}e\u{FE00} -> open";
-    assert_rows(&rt, rt.alloc(), Asked::Told, rows);
+    assert_rows(&rt, rt.alloc(), Asked::Decided, rows);
 }

@@ -21,16 +21,16 @@ module _ {A B : Type 0} (is_mark : A → Bool) (become : Bool → A → List B) 
   expanded_from-parts : {C : Type 0} (parts : B → List C) (whole : A → List C)
       → ((with_marks : Bool) (x : A) → flat_map parts (become with_marks x) ≡ whole x) → (first : Bool) (xs : List A)
       → flat_map parts (expanded_from is_mark become first xs) ≡ flat_map whole xs
-  expanded_from-parts parts whole keeps first [] = refl
-  expanded_from-parts parts whole keeps first (x ∷ xs) =
+  expanded_from-parts parts whole preserves first [] = refl
+  expanded_from-parts parts whole preserves first (x ∷ xs) =
       let flag = (is_mark x && not first) || begins_with_mark is_mark xs in
       flat_map-append parts (become flag x) (expanded_from is_mark become false xs)
-      ∙ ap₂ ◌++◌ (keeps flag x) (expanded_from-parts parts whole keeps false xs)
+      ∙ ap₂ ◌++◌ (preserves flag x) (expanded_from-parts parts whole preserves false xs)
 
   pub expanded-parts : {C : Type 0} (parts : B → List C) (whole : A → List C)
       → ((with_marks : Bool) (x : A) → flat_map parts (become with_marks x) ≡ whole x) → (xs : List A)
       → flat_map parts (expanded_in_sequences is_mark become xs) ≡ flat_map whole xs
-  expanded-parts parts whole keeps xs = expanded_from-parts parts whole keeps true xs
+  expanded-parts parts whole preserves xs = expanded_from-parts parts whole preserves true xs
 
   -- if the first item is no mark, it makes no difference whether it counts as the first of the list
   first_alike : (xs : List A) → begins_with_mark is_mark xs ≡ false → (first : Bool)

@@ -46,7 +46,7 @@ module _ {A : Type 0} (ccc : A → ℕ) (blocks : List A → A → Bool) (is_mar
 
   -- what each step keeps: it is said of a starter, the marks that were emitted since, what is still to come,
   -- and what is emitted of these
-  pub record IsKeptByEachStep (P : A → List A → List A → List A → Type 0) : Type 0 where
+  pub record IsPreservedByEachStep (P : A → List A → List A → List A → Type 0) : Type 0 where
     pub ends : (s : A) (ms : List A) → P s ms [] (s ∷ ms)
     pub composes : (s : A) (ms : List A) (c d : A) (rest out : List A) → composed ccc blocks is_mark compose s ms c ≡ Some d
         → blocks ms c ≡ false → compose s c ≡ Some d → P d ms rest out → P s ms (c ∷ rest) out
@@ -56,7 +56,7 @@ module _ {A : Type 0} (ccc : A → ℕ) (blocks : List A → A → Bool) (is_mar
         → (ccc c == 0) ≡ false → P s (ms ++ c ∷ []) rest out → P s ms (c ∷ rest) out
 
   -- holds of all that recomposing emits: the one induction on its walk
-  pub by_steps : (P : A → List A → List A → List A → Type 0) → IsKeptByEachStep P → (s : A) (ms rest : List A)
+  pub by_steps : (P : A → List A → List A → List A → Type 0) → IsPreservedByEachStep P → (s : A) (ms rest : List A)
       → P s ms rest (recomposed_from ccc blocks is_mark compose s ms rest)
   by_steps P kept s ms [] = kept.ends s ms
   by_steps P kept s ms (c ∷ rest) =
@@ -147,9 +147,9 @@ module _ {A B : Type 0} (IsItem : A → Type 0) (ccc : A → ℕ) (ccc_of_part :
       ⟫ Swaps-before (Fulls ms ++ Fulls rest) (Swaps-sym (lawful.composes s c d item_s item_c composes))
       ⟫ no_swap (ap (λ l. full d ++ l) (sym (flat_map-append full ms rest)))
 
-  recomposed_from-keeps : (s : A) (ms rest : List A) → IsItem s → AllByRecursion IsItem ms → AllByRecursion IsItem rest
+  recomposed_from-preserves : (s : A) (ms rest : List A) → IsItem s → AllByRecursion IsItem ms → AllByRecursion IsItem rest
       → Swaps ccc_of_part (Fulls (s ∷ ms ++ rest)) (Fulls (recomposed_from ccc (is_blocked ccc) is_mark compose s ms rest))
-  recomposed_from-keeps =
+  recomposed_from-preserves =
       by_steps ccc (is_blocked ccc) is_mark compose (λ s ms rest out. IsItem s → AllByRecursion IsItem ms
       → AllByRecursion IsItem rest
       → Swaps ccc_of_part (Fulls (s ∷ ms ++ rest)) (Fulls out)) (record {
@@ -167,7 +167,7 @@ module _ {A B : Type 0} (IsItem : A → Type 0) (ccc : A → ℕ) (ccc_of_part :
       })
 
   -- recomposing leaves a text equivalent to the one that went in
-  pub recomposed-keeps : (xs : List A) → AllByRecursion IsItem xs
+  pub recomposed-preserves : (xs : List A) → AllByRecursion IsItem xs
       → Swaps ccc_of_part (Fulls xs) (Fulls (recomposed ccc (is_blocked ccc) is_mark compose xs))
-  recomposed-keeps [] items = done
-  recomposed-keeps (x ∷ xs) items = recomposed_from-keeps x [] xs items.0 tt items.1
+  recomposed-preserves [] items = done
+  recomposed-preserves (x ∷ xs) items = recomposed_from-preserves x [] xs items.0 tt items.1

@@ -5,7 +5,7 @@ use crate::comparing::{assert_same, assert_that};
 use crate::printing::{append_character, append_space, printed_glyphs, printed_list};
 use crate::runs::{are_alike, glyphs_of, planned, prepared_under};
 use crate::steps::{first_in, spelled, text_in};
-use crate::texts::{Manner, add};
+use crate::texts::{TextSettings, add};
 use shape_buffer::buffer::{
     BufferFlags, Direction, GlyphId, Language, ShapeError, ShapeFault, UnicodeBuffer, hb_buffer_t,
 };
@@ -36,13 +36,13 @@ fn set_context(text: &mut UnicodeBuffer, flags: BufferFlags) {
 /// A text with every setting, except for a context before the beginning of one.
 fn with_all_set(
     rt: &(impl Abort + AllocGlobal),
-    manner: &Manner,
+    text_settings: &TextSettings,
     mut text: UnicodeBuffer,
 ) -> UnicodeBuffer {
     let language = Language(String::from_str(rt.alloc(), "fr").expect(rt, "error"));
     text.set_language(Some(language));
     set_glyphs(&mut text);
-    set_context(&mut text, manner.flags);
+    set_context(&mut text, text_settings.flags);
     text
 }
 
@@ -58,11 +58,11 @@ fn taken_away(text: &UnicodeBuffer) -> [bool; 5] {
 }
 
 /// Compares what is left of a text with what clearing leaves: flags, level and the two glyphs.
-fn assert_cleared(rt: &impl Abort, manner: &Manner, text: &UnicodeBuffer) {
+fn assert_cleared(rt: &impl Abort, text_settings: &TextSettings, text: &UnicodeBuffer) {
     assert_same(rt, taken_away(text), [true, false, false, true, true]);
     assert_same(rt, text.direction(), Direction::Invalid);
-    assert_same(rt, text.flags(), manner.flags);
-    assert_same(rt, text.cluster_level(), manner.level);
+    assert_same(rt, text.flags(), text_settings.flags);
+    assert_same(rt, text.cluster_level(), text_settings.level);
     assert_same(rt, text.invisible_glyph(), Some(GlyphId(3)));
     let not_found = text.not_found_variation_selector_glyph();
     assert_same(rt, not_found, Some(GlyphId(4)));
@@ -71,7 +71,7 @@ fn assert_cleared(rt: &impl Abort, manner: &Manner, text: &UnicodeBuffer) {
 /// Compares what a refusal for memory leaves of the text of a case, and gives that text in the buffer that is left.
 fn filled_again(rt: &impl Abort, case: Case<'_>, fault: ShapeFault) -> UnicodeBuffer {
     assert_same(rt, fault.cause, ShapeError::Memory);
-    assert_cleared(rt, &case.settings.manner, &fault.buffer);
+    assert_cleared(rt, &case.settings.text_settings, &fault.buffer);
     let mut text = fault.buffer;
     add(rt, &mut text, case.text);
     text
@@ -84,7 +84,11 @@ pub fn run_again<T: ShapingTypes>(
     by: (&T::Face, &T::Shaper),
     case: Case<'_>,
 ) -> String {
-    let text = with_all_set(rt, &case.settings.manner, text_in::<T::Unicode>(rt, case));
+    let text = with_all_set(
+        rt,
+        &case.settings.text_settings,
+        text_in::<T::Unicode>(rt, case),
+    );
     match glyphs_of::<T>(rt.alloc(), by, text) {
         Ok(glyphs) => printed_glyphs(rt, glyphs),
         Err(fault) => {
@@ -142,7 +146,7 @@ pub fn key_again<T: ShapingTypes>(
 ) -> String {
     let text = text_in::<T::Unicode>(rt, case);
     let plan = planned::<T>(rt, (face, shaper), &text);
-    let text = with_all_set(rt, &case.settings.manner, text);
+    let text = with_all_set(rt, &case.settings.text_settings, text);
     match key_of::<T>(rt, &plan, face, text) {
         Ok(key) => key,
         Err(fault) => {

@@ -5,19 +5,19 @@ use Rattle.std.proofs.lemmas.Bool.Decides.{nat_tests}
 use Rattle.std.proofs.lemmas.Nat.{and_assoc, and_le_r}
 use Rattle.shape_items.specs.Buffer.{Buffer}
 use Rattle.shape_items.specs.Items.{Item}
-use Rattle.shape_buffer.specs.Keepers.{IsFlagKeeper, EachStep}
-use Rattle.shape_items.specs.KeepsFlags.{IsDefinedFlag, has_flag, some_has, has_glyph_flags, KeepsFlags}
+use Rattle.shape_buffer.specs.Preservation.{IsFlagPreserving, EachStep}
+use Rattle.shape_items.specs.PreservesFlags.{IsDefinedFlag, has_flag, some_has, has_glyph_flags, PreservesFlags}
 pub use Rattle.shape_buffer.specs.Honest.{IsHonest}
 use Rattle.shape_items.specs.Flags.{flags_of, flags_propagated, HasOneSetOfFlags}
 use Rattle.shape_buffer.specs.Outcome.{Step, run_steps}
 use Rattle.shape_items.proofs.Flags.ClusterRunLemmas.{flagged-runs, one_set-flagged, concat-flagged}
 
-pub honest-kept : {old new : Buffer} → KeepsFlags old new → IsHonest old → IsHonest new
-honest-kept {old} {new} keeps before = record {
+pub honest-preserved : {old new : Buffer} → PreservesFlags old new → IsHonest old → IsHonest new
+honest-preserved {old} {new} preserves before = record {
   honest = λ unseen flag defined. elim (cases_Bool (has_glyph_flags old)) [
-    | inl seen ↦ let stays = keeps.stays_set seen in cc
+    | inl seen ↦ let stays = preserves.stays_set seen in cc
     | inr none ↦ elim (cases_Bool (some_has flag new.items)) [
-      | inl has ↦ elim (keeps.none_new flag defined has) [
+      | inl has ↦ elim (preserves.none_new flag defined has) [
         | inl had ↦ let had_none = before.honest none flag defined in cc
         | inr now ↦ cc
       ]
@@ -26,9 +26,9 @@ honest-kept {old} {new} keeps before = record {
   ];
 }
 
-pub honest-run : (steps : List Step) (b : Buffer) → EachStep IsFlagKeeper steps → IsHonest b → IsHonest (run_steps steps b)
+pub honest-run : (steps : List Step) (b : Buffer) → EachStep IsFlagPreserving steps → IsHonest b → IsHonest (run_steps steps b)
 honest-run [] b keep honest = honest
-honest-run (step ∷ steps) b keep honest = honest-run steps (step.makes b) keep.1 (honest-kept (keep.0 b) honest)
+honest-run (step ∷ steps) b keep honest = honest-run steps (step.makes b) keep.1 (honest-preserved (keep.0 b) honest)
 
 -- without any of the three flags the defined ones are 0
 no_flags : (m : ℕ) → bit_and m 1 ≡ 0 → bit_and m 2 ≡ 0 → bit_and m 4 ≡ 0 → bit_and m 7 ≡ 0

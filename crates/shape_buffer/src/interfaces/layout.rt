@@ -13,14 +13,14 @@ use std::alloc::Global;
 /// The lookups of faces of type `F`. Its functions have no receiver.
 ///
 /// A call that changes a buffer stands for its meaning, a function from buffer to buffer; what it may be
-/// depends on the map and the face. A call that answers a `Result` refuses with `Length` if the list
+/// depends on the map and the face. A call that returns a `Result` refuses with `Length` if the list
 /// that it would leave passes the buffer's limit, and with `Memory` if a growth was refused; nothing is
 /// said of the buffer then. No other call is refused, and none of these makes the list longer.
 pub trait hb_ot_layout_t<F> {
     /// What the requests of a plan are compiled to.
     type Map: Drop;
 
-    /// What the engine answers of a face.
+    /// What the engine returns of a face.
     ghost layout: { F → LayoutMeaning Self.Map };
 
     /// What it answers of compiled requests.
@@ -178,6 +178,6 @@ pub trait hb_ot_layout_t<F> {
     /// No mask has a defined flag, and shifts are below 32.
     ghost lawful_masks: { (map : Self.Map) → LawfulMasks (masks map) };
 
-    /// What is positioned keeps its number of items.
+    /// What is positioned preserves its number of items.
     ghost lawful_lookups: { (map : Self.Map) (face : F) → LawfulLookups (lookups map face) };
 }

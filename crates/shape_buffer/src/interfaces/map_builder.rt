@@ -74,7 +74,7 @@ impl hb_ot_map_builder_t {
         self.is_simple
     }
 
-    /// Sets what `is_simple` answers.
+    /// Sets what `is_simple` returns.
     pub fn set_simple(&mut self, is_simple: bool)
         ensures { self.new ≡ record self.old { is_simple = is_simple } }
     {

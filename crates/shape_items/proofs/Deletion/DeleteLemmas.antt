@@ -165,22 +165,22 @@ hand_on-cases P k x rest b same given merged = elim (cases_Bool (begins_in x.clu
 -- ---- what deletion keeps
 
 -- what stays when the glyph at a place goes
-abbrev pub IsKeptByLoss : (Buffer → Type 0) → Type 0
-IsKeptByLoss P = (k : ℕ) (x : Item) (rest : List Item) (b : Buffer) → drop k b.items ≡ x ∷ rest → P b → P (lose k (hand_on k x rest b))
+abbrev pub IsPreservedByLoss : (Buffer → Type 0) → Type 0
+IsPreservedByLoss P = (k : ℕ) (x : Item) (rest : List Item) (b : Buffer) → drop k b.items ≡ x ∷ rest → P b → P (lose k (hand_on k x rest b))
 
-kept_by_visit : (P : Buffer → Type 0) → IsKeptByLoss P → (p : Item → Bool) (k : ℕ) (next : ℕ → Buffer → Buffer) (b : Buffer)
+preserved_by_visit : (P : Buffer → Type 0) → IsPreservedByLoss P → (p : Item → Bool) (k : ℕ) (next : ℕ → Buffer → Buffer) (b : Buffer)
     (xs : List Item) → drop k b.items ≡ xs → ((j : ℕ) (c : Buffer) → P c → P (next j c)) → P b → P (visit p k next b xs)
-kept_by_visit P keeps p k next b [] e later holds = holds
-kept_by_visit P keeps p k next b (x ∷ rest) e later holds = elim (cases_Bool (p x)) [
-  | inl picked ↦ rw (visit_lost p k next b x rest picked) (later k (lose k (hand_on k x rest b)) (keeps k x rest b e holds))
+preserved_by_visit P preserves p k next b [] e later holds = holds
+preserved_by_visit P preserves p k next b (x ∷ rest) e later holds = elim (cases_Bool (p x)) [
+  | inl picked ↦ rw (visit_lost p k next b x rest picked) (later k (lose k (hand_on k x rest b)) (preserves k x rest b e holds))
   | inr stays ↦ rw (visit_kept p k next b x rest stays) (later (k + 1) b holds)
 ]
 
-pub kept_by_deletion : (P : Buffer → Type 0) → IsKeptByLoss P → (p : Item → Bool) (n k : ℕ) (b : Buffer) → P b → P (delete_from p n k b)
-kept_by_deletion P keeps p zero k b holds = rw (delete_from-zero p k b) holds
-kept_by_deletion P keeps p (suc n) k b holds =
+pub preserved_by_deletion : (P : Buffer → Type 0) → IsPreservedByLoss P → (p : Item → Bool) (n k : ℕ) (b : Buffer) → P b → P (delete_from p n k b)
+preserved_by_deletion P preserves p zero k b holds = rw (delete_from-zero p k b) holds
+preserved_by_deletion P preserves p (suc n) k b holds =
     rw (delete_from-suc p n k b)
-    (kept_by_visit P keeps p k (delete_from p n) b (drop k b.items) refl (λ j c. kept_by_deletion P keeps p n j c) holds)
+    (preserved_by_visit P preserves p k (delete_from p n) b (drop k b.items) refl (λ j c. preserved_by_deletion P preserves p n j c) holds)
 
 -- ---- the walk of the code
 

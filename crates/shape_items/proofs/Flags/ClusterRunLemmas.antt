@@ -2,7 +2,7 @@
 use Rattle.std.proofs.Common.{◌≡◌, ◌==◌, ℕ, suc, ◌+◌, Bool, true, false, List, [], ◌∷◌, ◌++◌, map, take, if◌then◌else◌, refl, ap, sym, ◌∙◌, arith, inl, inr, Option, Some, None, IfSome, bit_and, nat_lt}
 use Rattle.std.proofs.lemmas.Nat.{and_assoc}
 use Rattle.std.specs.Int.Bits.{and_zero_r}
-use Rattle.shape_items.specs.KeepsFlags.{some_has}
+use Rattle.shape_items.specs.PreservesFlags.{some_has}
 use Rattle.std.proofs.lemmas.Bool.{cases_Bool}
 use Rattle.std.proofs.lemmas.Bool.Decides.{nat_tests}
 use Rattle.std.specs.List.{flat_map, prefix_len}

@@ -1,4 +1,4 @@
--- Merging, marking and deletion keep the flags of glyphs.
+-- Merging, marking and deletion preserve the flags of glyphs.
 use Rattle.std.proofs.Common.{◌≡◌, ℕ, ◌-◌, Bool, true, false, List, [], ◌∷◌, ◌++◌, take, drop, map, refl, ap, sym, ◌∙◌, arith, slice_range, inl, inr, ◌⊎◌, bit_and}
 use Rattle.std.proofs.lemmas.Bool.{or_cases, or_right}
 use Rattle.std.proofs.lemmas.Bool.Decides.{nat_tests}
@@ -11,7 +11,7 @@ use Rattle.shape_items.specs.Items.{Item, put_in, feature_bits}
 use Rattle.shape_items.specs.Clusters.{map_range, merge, least_cluster}
 use Rattle.shape_items.specs.Buffer.{Buffer}
 use Rattle.shape_items.specs.BufferClusters.{with_glyph_flags, merge_at, unsafe_to_break, merge_clusters, merge_out_clusters}
-use Rattle.shape_items.specs.KeepsFlags.{IsDefinedFlag, has_flag, some_has, has_glyph_flags, KeepsFlags}
+use Rattle.shape_items.specs.PreservesFlags.{IsDefinedFlag, has_flag, some_has, has_glyph_flags, PreservesFlags}
 use Rattle.shape_items.proofs.Merging.ClusterLemmas.{grown_start, grown_end, merge-cases, unsafe_to_break-cases, merge_clusters-cases, merge_out-cases}
 
 -- HAS_GLYPH_FLAGS is set
@@ -96,20 +96,20 @@ merge_brings_none start end flag d xs =
     (λ long some. the_first _ (brings (grown_start start end xs) (grown_end start end xs) xs some)) (λ some. some)
 
 -- a buffer that only has other items, and no new flag on them
-pub KeepsFlags-items : (b : Buffer) (ys : List Item)
+pub PreservesFlags-items : (b : Buffer) (ys : List Item)
     → ((flag : ℕ) → IsDefinedFlag flag → some_has flag ys ≡ true → some_has flag b.items ≡ true)
-    → KeepsFlags b (record b { items = ys })
-KeepsFlags-items b ys h = record { flags = refl; stays_set = λ e. e; none_new = λ flag d some. inl (h flag d some) }
+    → PreservesFlags b (record b { items = ys })
+PreservesFlags-items b ys h = record { flags = refl; stays_set = λ e. e; none_new = λ flag d some. inl (h flag d some) }
 
 -- one with HAS_GLYPH_FLAGS may have any flag
-KeepsFlags-set : (b : Buffer) (ys : List Item) → KeepsFlags b (record (with_glyph_flags b) { items = ys })
-KeepsFlags-set b ys = record { flags = refl; stays_set = λ e. glyph_flags_set b; none_new = λ flag d some. inr (glyph_flags_set b) }
+PreservesFlags-set : (b : Buffer) (ys : List Item) → PreservesFlags b (record (with_glyph_flags b) { items = ys })
+PreservesFlags-set b ys = record { flags = refl; stays_set = λ e. glyph_flags_set b; none_new = λ flag d some. inr (glyph_flags_set b) }
 
-pub KeepsFlags-same : (b : Buffer) → KeepsFlags b b
-KeepsFlags-same b = record { flags = refl; stays_set = λ e. e; none_new = λ flag d some. inl some }
+pub PreservesFlags-same : (b : Buffer) → PreservesFlags b b
+PreservesFlags-same b = record { flags = refl; stays_set = λ e. e; none_new = λ flag d some. inl some }
 
-pub KeepsFlags-then : (a b c : Buffer) → KeepsFlags a b → KeepsFlags b c → KeepsFlags a c
-KeepsFlags-then a b c f g = record {
+pub PreservesFlags-then : (a b c : Buffer) → PreservesFlags a b → PreservesFlags b c → PreservesFlags a c
+PreservesFlags-then a b c f g = record {
   flags = g.flags ∙ f.flags;
   stays_set = λ e. g.stays_set (f.stays_set e);
   none_new = λ flag d some. elim (g.none_new flag d some) [
@@ -121,16 +121,16 @@ KeepsFlags-then a b c f g = record {
   ];
 }
 
-merge_at_keeps : (start end : ℕ) (b : Buffer) → KeepsFlags b (merge_at start end b)
-merge_at_keeps start end b = KeepsFlags-items b _ (λ flag d some. merge_brings_none start end flag d b.items some)
+merge_at_preserves : (start end : ℕ) (b : Buffer) → PreservesFlags b (merge_at start end b)
+merge_at_preserves start end b = PreservesFlags-items b _ (λ flag d some. merge_brings_none start end flag d b.items some)
 
-pub unsafe_to_break_keeps : (start end : ℕ) (b : Buffer) → KeepsFlags b (unsafe_to_break start end b)
-unsafe_to_break_keeps start end b =
-    unsafe_to_break-cases (KeepsFlags b) start end b (λ long. KeepsFlags-set b _) (KeepsFlags-same b)
+pub unsafe_to_break_preserves : (start end : ℕ) (b : Buffer) → PreservesFlags b (unsafe_to_break start end b)
+unsafe_to_break_preserves start end b =
+    unsafe_to_break-cases (PreservesFlags b) start end b (λ long. PreservesFlags-set b _) (PreservesFlags-same b)
 
-pub merge_clusters_keeps : (start end : ℕ) (b : Buffer) → KeepsFlags b (merge_clusters start end b)
-merge_clusters_keeps start end b =
-    merge_clusters-cases (KeepsFlags b) start end b (λ monotone. merge_at_keeps start end b) (λ is. unsafe_to_break_keeps start end b)
+pub merge_clusters_preserves : (start end : ℕ) (b : Buffer) → PreservesFlags b (merge_clusters start end b)
+merge_clusters_preserves start end b =
+    merge_clusters-cases (PreservesFlags b) start end b (λ monotone. merge_at_preserves start end b) (λ is. unsafe_to_break_preserves start end b)
 
-pub merge_out_clusters_keeps : (start end : ℕ) (b : Buffer) → KeepsFlags b (merge_out_clusters start end b)
-merge_out_clusters_keeps start end b = merge_out-cases (KeepsFlags b) start end b (merge_at_keeps start end b) (KeepsFlags-same b)
+pub merge_out_clusters_preserves : (start end : ℕ) (b : Buffer) → PreservesFlags b (merge_out_clusters start end b)
+merge_out_clusters_preserves start end b = merge_out-cases (PreservesFlags b) start end b (merge_at_preserves start end b) (PreservesFlags-same b)

@@ -84,9 +84,9 @@ merge_joins start end xs k from to within =
     ∙ sym (put_range_inside a b least xs (k + 1) (omega arith) total (omega arith)))
 
 -- neighbours before the span still share theirs
-pub merge_keeps_joined : (start end : ℕ) (xs : List Item) (k : ℕ) → k + 1 < start → end ≤ length xs → Joined xs k
+pub merge_preserves_joined : (start end : ℕ) (xs : List Item) (k : ℕ) → k + 1 < start → end ≤ length xs → Joined xs k
     → Joined (merge start end xs) k
-merge_keeps_joined start end xs k before within joined =
+merge_preserves_joined start end xs k before within joined =
     elim (cases_Bool (nat_lt (start + 1) end)) [
       | inr short ↦ rw (merge_short start end xs short) joined
       | inl long ↦

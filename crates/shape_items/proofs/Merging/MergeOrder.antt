@@ -1,4 +1,4 @@
--- Merging keeps the order of clusters, and brings no new one.
+-- Merging preserves the order of clusters, and brings no new one.
 use Rattle.std.proofs.Common.{◌≡◌, ℕ, ◌+◌, ◌-◌, ◌<◌, ◌≤◌, cond, nat_lt, List, [], ◌∷◌, ◌++◌, length, get_or, take, drop, map, min, refl, sym, ◌∙◌, arith, add-one, replicate, slice_range, inl, inr, ◌⊎◌}
 use Rattle.std.proofs.lemmas.Bool.Decides.{nat_tests}
 use Rattle.std.specs.List.{fold}
@@ -6,9 +6,9 @@ use Rattle.std.proofs.lemmas.List.{places, map-append, length-map, length-append
 use Rattle.std.proofs.lemmas.List.Sums.{prefix_len-le-length}
 use Rattle.shape_items.specs.Items.{Item, put_in}
 use Rattle.shape_items.specs.Clusters.{clusters, put_range, merge, least_cluster, growth_left, growth_right}
-use Rattle.shape_items.specs.ClusterOrder.{KeepsClusters}
+use Rattle.shape_items.specs.ClusterOrder.{PreservesClusters}
 use Rattle.shape_items.proofs.Merging.ClusterLemmas.{merge-cases, merged_span}
-use Rattle.shape_items.proofs.Order.DrawsInOrder.{DrawsInOrder, DrawsInOrder-same, KeepsClusters-from_draws}
+use Rattle.shape_items.proofs.Order.DrawsInOrder.{DrawsInOrder, DrawsInOrder-same, PreservesClusters-from_draws}
 
 min_cases : (a b : ℕ) → (min a b ≡ a) ⊎ (min a b ≡ b)
 min_cases a b = grind (arith, nat_tests)
@@ -165,7 +165,7 @@ merge_draws start end xs within =
     merge-cases (λ ys. DrawsInOrder (clusters xs) (clusters ys)) start end xs
     (λ long. merged_span_draws start end xs long within) (DrawsInOrder-same (clusters xs))
 
--- what `merge` leaves keeps the order of clusters, and has no new one
-pub merge_keeps : (start end : ℕ) (xs ys : List Item) → end ≤ length xs → ys ≡ merge start end xs
-    → KeepsClusters (clusters xs) (clusters ys)
-merge_keeps start end xs ys within e = rw e (KeepsClusters-from_draws _ _ (merge_draws start end xs within))
+-- what `merge` leaves preserves the order of clusters, and has no new one
+pub merge_preserves : (start end : ℕ) (xs ys : List Item) → end ≤ length xs → ys ≡ merge start end xs
+    → PreservesClusters (clusters xs) (clusters ys)
+merge_preserves start end xs ys within e = rw e (PreservesClusters-from_draws _ _ (merge_draws start end xs within))

@@ -4,15 +4,15 @@ use Rattle.shape_items.specs.Items.{Item}
 use Rattle.shape_items.specs.Buffer.{Buffer}
 use Rattle.shape_items.specs.BufferClusters.{merge_at, merge_clusters, merge_out_clusters}
 use Rattle.shape_items.specs.Clusters.{clusters, merge}
-use Rattle.shape_items.specs.ClusterOrder.{IsMonotoneLevel, KeepsClusters}
-use Rattle.shape_items.specs.KeepsFlags.{KeepsFlags}
+use Rattle.shape_items.specs.ClusterOrder.{IsMonotoneLevel, PreservesClusters}
+use Rattle.shape_items.specs.PreservesFlags.{PreservesFlags}
 use Rattle.shape_items.specs.Spans.{AreSpansInOrder, merge_each, all_merged, spans_merged_out}
 use Rattle.shape_common.specs.declared.text_types.BufferClusterLevel.TheVariants.{Characters}
-use Rattle.shape_items.proofs.Deletion.DeleteKeeps.{merged_keeps, merged_out_keeps}
-use Rattle.shape_items.proofs.Flags.FlagLemmas.{KeepsFlags-same, KeepsFlags-then}
+use Rattle.shape_items.proofs.Deletion.DeletePreserves.{merged_preserves, merged_out_preserves}
+use Rattle.shape_items.proofs.Flags.FlagLemmas.{PreservesFlags-same, PreservesFlags-then}
 use Rattle.shape_items.proofs.Merging.ClusterLemmas.{merge_out-cases, merge_clusters-monotone, merge_out-monotone, level_cases}
 use Rattle.shape_items.proofs.Merging.KeyLemmas.{IsKey, keys-merge_clusters, without_items, without_items-merge_clusters, length-merge, length-merge_clusters, length-merge_out}
-use Rattle.shape_items.proofs.Order.KeepsClusterLemmas.{KeepsClusters-same, KeepsClusters-then}
+use Rattle.shape_items.proofs.Order.PreservesClusterLemmas.{PreservesClusters-same, PreservesClusters-then}
 
 -- ---- spans in order
 
@@ -96,34 +96,34 @@ spans_merged_out_is (span ∷ spans) b =
 -- ---- the order of clusters, and the flags
 
 -- the order of clusters and the flags are kept
-abbrev KeepsBoth : Buffer → Buffer → Type 0
-KeepsBoth b c = KeepsClusters (clusters b.items) (clusters c.items) × KeepsFlags b c
+abbrev PreservesBoth : Buffer → Buffer → Type 0
+PreservesBoth b c = PreservesClusters (clusters b.items) (clusters c.items) × PreservesFlags b c
 
-KeepsBoth-then : (a b c : Buffer) → KeepsBoth a b → KeepsBoth b c → KeepsBoth a c
-KeepsBoth-then a b c first later =
-    (KeepsClusters-then _ _ _ first.0 later.0, KeepsFlags-then a b c first.1 later.1)
+PreservesBoth-then : (a b c : Buffer) → PreservesBoth a b → PreservesBoth b c → PreservesBoth a c
+PreservesBoth-then a b c first later =
+    (PreservesClusters-then _ _ _ first.0 later.0, PreservesFlags-then a b c first.1 later.1)
 
-pub all_merged_keep : (from : ℕ) (spans : List (ℕ × ℕ)) (b c : Buffer) → AreSpansInOrder from (length b.items) spans
+pub all_merged_preserve : (from : ℕ) (spans : List (ℕ × ℕ)) (b c : Buffer) → AreSpansInOrder from (length b.items) spans
     → c ≡ all_merged spans b
-    → KeepsClusters (clusters b.items) (clusters c.items) × KeepsFlags b c
-all_merged_keep from spans b c in_order e = rw e (each from spans b in_order) where
-  each : (from : ℕ) (spans : List (ℕ × ℕ)) (b : Buffer) → AreSpansInOrder from (length b.items) spans → KeepsBoth b (all_merged spans b)
-  each from [] b in_order = (KeepsClusters-same (clusters b.items), KeepsFlags-same b)
+    → PreservesClusters (clusters b.items) (clusters c.items) × PreservesFlags b c
+all_merged_preserve from spans b c in_order e = rw e (each from spans b in_order) where
+  each : (from : ℕ) (spans : List (ℕ × ℕ)) (b : Buffer) → AreSpansInOrder from (length b.items) spans → PreservesBoth b (all_merged spans b)
+  each from [] b in_order = (PreservesClusters-same (clusters b.items), PreservesFlags-same b)
   each from (span ∷ spans) b in_order =
       let merged = merge_clusters span.0 span.1 b in
-      KeepsBoth-then b merged _ (merged_keeps span.0 span.1 b merged in_order.2 refl)
+      PreservesBoth-then b merged _ (merged_preserves span.0 span.1 b merged in_order.2 refl)
       (each span.0 spans merged (rw (length-merge_clusters span.0 span.1 b) in_order.3))
 
-pub spans_merged_out_keep : (from : ℕ) (spans : List (ℕ × ℕ)) (b c : Buffer) → AreSpansInOrder from (length b.items) spans
+pub spans_merged_out_preserve : (from : ℕ) (spans : List (ℕ × ℕ)) (b c : Buffer) → AreSpansInOrder from (length b.items) spans
     → c ≡ spans_merged_out spans b
-    → KeepsClusters (clusters b.items) (clusters c.items) × KeepsFlags b c
-spans_merged_out_keep from spans b c in_order e = rw e (each from spans b in_order) where
+    → PreservesClusters (clusters b.items) (clusters c.items) × PreservesFlags b c
+spans_merged_out_preserve from spans b c in_order e = rw e (each from spans b in_order) where
   each : (from : ℕ) (spans : List (ℕ × ℕ)) (b : Buffer) → AreSpansInOrder from (length b.items) spans
-      → KeepsBoth b (spans_merged_out spans b)
-  each from [] b in_order = (KeepsClusters-same (clusters b.items), KeepsFlags-same b)
+      → PreservesBoth b (spans_merged_out spans b)
+  each from [] b in_order = (PreservesClusters-same (clusters b.items), PreservesFlags-same b)
   each from (span ∷ spans) b in_order =
       let merged = merge_out_clusters span.0 span.1 b in
-      KeepsBoth-then b merged _ (merged_out_keeps span.0 span.1 b merged in_order.2 refl)
+      PreservesBoth-then b merged _ (merged_out_preserves span.0 span.1 b merged in_order.2 refl)
       (each span.0 spans merged (rw (length-merge_out span.0 span.1 b) in_order.3))
 
 -- ---- at each level

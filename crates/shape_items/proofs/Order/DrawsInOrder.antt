@@ -3,7 +3,7 @@ use Rattle.std.proofs.Common.{◌≡◌, ℕ, zero, suc, ◌<◌, ◌≤◌, Lis
 use Rattle.std.proofs.lemmas.List.{get_or_default}
 use Rattle.std.specs.Prelude.{Contains}
 use Rattle.std.specs.List.Sorted.{IsNonDecreasing}
-use Rattle.shape_items.specs.ClusterOrder.{IsNonIncreasing, KeepsClusters}
+use Rattle.shape_items.specs.ClusterOrder.{IsNonIncreasing, PreservesClusters}
 
 -- each cluster of the second list is one of the first, and they come in the order of their places there
 pub record DrawsInOrder (before after : List ℕ) : Type 0 where
@@ -32,8 +32,8 @@ pub draws_none_new : (before after : List ℕ) → DrawsInOrder before after →
 draws_none_new before after h x (k, lt, e) =
     (h.place k, h.within k lt, sym (drawn before after h k x lt) ∙ e)
 
-pub KeepsClusters-from_draws : (before after : List ℕ) → DrawsInOrder before after → KeepsClusters before after
-KeepsClusters-from_draws before after h = record {
+pub PreservesClusters-from_draws : (before after : List ℕ) → DrawsInOrder before after → PreservesClusters before after
+PreservesClusters-from_draws before after h = record {
   rising = draws_rising before after h;
   falling = draws_falling before after h;
   none_new = draws_none_new before after h;

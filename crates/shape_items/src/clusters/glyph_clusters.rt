@@ -6,7 +6,7 @@ ghost use Rattle.shape_items.specs.GlyphClusters.{advance_along as advance_along
 ghost use Rattle.shape_items.specs.GlyphClusters.{advance_over as advance_over_of, cluster_of};
 ghost use Rattle.shape_items.specs.GlyphClusters.{first_cluster as first_cluster_of};
 ghost use Rattle.shape_items.specs.GlyphClusters.{run_length as run_length_of};
-ghost use Rattle.shape_items.specs.KeepsFlags.{some_has};
+ghost use Rattle.shape_items.specs.PreservesFlags.{some_has};
 
 use crate::clusters::count_at_start;
 use crate::items::hb_glyph_info_t;

@@ -50,9 +50,9 @@ module _ (ccc : ℕ → ℕ) (glyph : ℕ → Bool) where
     within : row ≤ max_run
     fits : HasNoLongerRun ccc max_run xs
 
-  abbrev RowTells : List ℕ → Option ℕ → Type 0
-  RowTells xs (Some row) = BeginsWith xs row
-  RowTells xs None = list_all glyph xs ≡ true → HasNoLongerRun ccc max_run xs → ⊥
+  abbrev RowDecides : List ℕ → Option ℕ → Type 0
+  RowDecides xs (Some row) = BeginsWith xs row
+  RowDecides xs None = list_all glyph xs ≡ true → HasNoLongerRun ccc max_run xs → ⊥
 
   -- a run that is found in a list with one more character begins with it, or lies after it
   fits-more : (x : ℕ) (xs : List ℕ) (row : ℕ)
@@ -122,9 +122,9 @@ module _ (ccc : ℕ → ℕ) (glyph : ℕ → Bool) where
       let short = fits [] (x ∷ found.run) found.after (ap (λ l. x ∷ l) found.is) marks in
       omega (arith, short, long, found.long)
 
-  one_more_tells : (x : ℕ) (xs : List ℕ) (row : Option ℕ) → RowTells xs row → RowTells (x ∷ xs) (row_with ccc glyph x row)
-  one_more_tells x xs None none = λ glyphs fits. none (and_parts (glyph x) (list_all glyph xs) glyphs).1 (fits-rest x xs fits)
-  one_more_tells x xs (Some row) found =
+  one_more_decides : (x : ℕ) (xs : List ℕ) (row : Option ℕ) → RowDecides xs row → RowDecides (x ∷ xs) (row_with ccc glyph x row)
+  one_more_decides x xs None none = λ glyphs fits. none (and_parts (glyph x) (list_all glyph xs) glyphs).1 (fits-rest x xs fits)
+  one_more_decides x xs (Some row) found =
       elim (cases_Bool (glyph x)) [
         | inr lacks ↦ rw lacks (λ glyphs fits. both_ways _ lacks (and_parts (glyph x) (list_all glyph xs) glyphs).0)
         | inl has ↦
@@ -138,8 +138,8 @@ module _ (ccc : ℕ → ℕ) (glyph : ℕ → Bool) where
             ]
       ]
 
-  row_tells : (xs : List ℕ) → RowTells xs (row_before ccc glyph xs (Some 0))
-  row_tells [] = record {
+  row_decides : (xs : List ℕ) → RowDecides xs (row_before ccc glyph xs (Some 0))
+  row_decides [] = record {
     glyphs = refl;
     run = [];
     after = [];
@@ -159,14 +159,14 @@ module _ (ccc : ℕ → ℕ) (glyph : ℕ → Bool) where
       empty [] [] after is = lit≤ tt
       empty [] (y ∷ run) after is = cc
       empty (y ∷ before) run after is = cc
-  row_tells (x ∷ xs) = one_more_tells x xs (row_before ccc glyph xs (Some 0)) (row_tells xs)
+  row_decides (x ∷ xs) = one_more_decides x xs (row_before ccc glyph xs (Some 0)) (row_decides xs)
 
-  supported_by : (xs : List ℕ) (row : Option ℕ) → RowTells xs row → is_some row ≡ true
+  supported_by : (xs : List ℕ) (row : Option ℕ) → RowDecides xs row → is_some row ≡ true
       → (list_all glyph xs ≡ true) × HasNoLongerRun ccc max_run xs
   supported_by xs (Some row) found some = (found.glyphs, found.fits)
   supported_by xs None none some = cc
 
-  some_where_supported : (xs : List ℕ) (row : Option ℕ) → RowTells xs row → list_all glyph xs ≡ true → HasNoLongerRun ccc max_run xs
+  some_where_supported : (xs : List ℕ) (row : Option ℕ) → RowDecides xs row → list_all glyph xs ≡ true → HasNoLongerRun ccc max_run xs
       → is_some row ≡ true
   some_where_supported xs (Some row) found glyphs fits = refl
   some_where_supported xs None none glyphs fits = absurd (none glyphs fits)
@@ -320,8 +320,8 @@ module _ (rules : Rules) (lawful : HasLawfulHooks rules) (b : Buffer) where
   abbrev supported_test : Bool
   supported_test = is_supported_text rules b.items
 
-  tells : RowTells rules.unicode.ccc glyph full_of_text (row_before rules.unicode.ccc glyph full_of_text (Some 0))
-  tells = row_tells rules.unicode.ccc glyph full_of_text
+  tells : RowDecides rules.unicode.ccc glyph full_of_text (row_before rules.unicode.ccc glyph full_of_text (Some 0))
+  tells = row_decides rules.unicode.ccc glyph full_of_text
 
   premises_where_met : meets_premises rules b.items ≡ true → CanonicalFormPremises rules b
   premises_where_met met =
@@ -360,5 +360,5 @@ module _ (rules : Rules) (lawful : HasLawfulHooks rules) (b : Buffer) where
       and_from (mode && order && plain && marked) supported_test fourth
       (some_where_supported rules.unicode.ccc glyph full_of_text _ tells supported.glyphs supported.fits)
 
-  pub test_tells : (meets_premises rules b.items ≡ true) ↔ CanonicalFormPremises rules b
-  test_tells = (premises_where_met, met_where_premises)
+  pub test_decides : (meets_premises rules b.items ≡ true) ↔ CanonicalFormPremises rules b
+  test_decides = (premises_where_met, met_where_premises)

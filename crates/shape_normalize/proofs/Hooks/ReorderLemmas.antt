@@ -13,7 +13,7 @@ use Rattle.shape_items.proofs.Merging.KeyLemmas.{IsKey, keys-merge_clusters, wit
 use Rattle.shape_plan.specs.Reorder.{exchanged, with_ccc, ccc_set, Reorders, done, exchange, merge, set_ccc, ReordersRanges}
 use Rattle.shape_normalize.proofs.RoundTwo.SpanLemmas.{map-slice_range}
 
--- what `reorder_marks` owes, if it is given
+-- what `reorder_marks` must provide, if it is given
 abbrev pub LawfulReorder : Option (Buffer → ℕ → ℕ → Buffer) → Type 0
 LawfulReorder reorder = (f : Buffer → ℕ → ℕ → Buffer) → reorder ≡ Some f → ReordersRanges f
 
@@ -117,14 +117,14 @@ module _ (start end : ℕ) (P : Buffer → Type 0)
     → P (merge_clusters from to b))
     (by_set_ccc : (b : Buffer) (i : ℕ) (item : Item) (ccc : ℕ) → start ≤ i → i < end → end ≤ length b.items → item ≡ get_or b.items i item
     → 0 < ccc → P b → P (ccc_set i item ccc b)) where
-  pub kept_by_steps : {b c : Buffer} → Reorders start end b c → end ≤ length b.items → P b → P c
-  kept_by_steps done within h = h
-  kept_by_steps {b} (exchange i j low_i high_i low_j high_j rest) within h =
-      kept_by_steps rest (rw (length-swap b.items i j) within) (by_exchange b i j low_i high_i low_j high_j within h)
-  kept_by_steps {b} (merge from to low ordered high rest) within h =
-      kept_by_steps rest (rw (length-merge_clusters from to b) within) (by_merge b from to low ordered high within h)
-  kept_by_steps {b} (set_ccc i item ccc low high is mark byte rest) within h =
-      kept_by_steps rest (rw (length-set b.items i (with_ccc ccc item)) within) (by_set_ccc b i item ccc low high within is mark h)
+  pub preserved_by_steps : {b c : Buffer} → Reorders start end b c → end ≤ length b.items → P b → P c
+  preserved_by_steps done within h = h
+  preserved_by_steps {b} (exchange i j low_i high_i low_j high_j rest) within h =
+      preserved_by_steps rest (rw (length-swap b.items i j) within) (by_exchange b i j low_i high_i low_j high_j within h)
+  preserved_by_steps {b} (merge from to low ordered high rest) within h =
+      preserved_by_steps rest (rw (length-merge_clusters from to b) within) (by_merge b from to low ordered high within h)
+  preserved_by_steps {b} (set_ccc i item ccc low high is mark byte rest) within h =
+      preserved_by_steps rest (rw (length-set b.items i (with_ccc ccc item)) within) (by_set_ccc b i item ccc low high within is mark h)
 
 -- what depends on no ccc, if a hook is given that may set ccc
 abbrev pub GoesByNoCcc : {B : Type 0} → Option (Buffer → ℕ → ℕ → Buffer) → (Item → B) → Type 0
@@ -138,7 +138,7 @@ keys-ccc_set key free i item ccc b is = map-set_same key b.items i (with_ccc ccc
 module _ (start end : ℕ) (b : Buffer) (within : end ≤ length b.items) where
   pub length-Reorders : {c : Buffer} → Reorders start end b c → length c.items ≡ length b.items
   length-Reorders steps =
-      kept_by_steps start end (λ x. length x.items ≡ length b.items)
+      preserved_by_steps start end (λ x. length x.items ≡ length b.items)
       (λ x i j low_i high_i low_j high_j inside so_far. length-swap x.items i j ∙ so_far)
       (λ x from to low ordered high inside so_far. length-merge_clusters from to x ∙ so_far)
       (λ x i item ccc low high inside is mark so_far. length-set x.items i (with_ccc ccc item) ∙ so_far) steps within refl
@@ -146,7 +146,7 @@ module _ (start end : ℕ) (b : Buffer) (within : end ≤ length b.items) where
   -- all stays except the items and the scratch flags
   pub without_items-Reorders : {c : Buffer} → Reorders start end b c → without_items c ≡ without_items b
   without_items-Reorders steps =
-      kept_by_steps start end (λ x. without_items x ≡ without_items b)
+      preserved_by_steps start end (λ x. without_items x ≡ without_items b)
       (λ x i j low_i high_i low_j high_j inside so_far. so_far)
       (λ x from to low ordered high inside so_far. without_items-merge_clusters from to x ∙ so_far)
       (λ x i item ccc low high inside is mark so_far. so_far) steps within refl
@@ -155,7 +155,7 @@ module _ (start end : ℕ) (b : Buffer) (within : end ≤ length b.items) where
   pub Reorders-after : {B : Type 0} (key : Item → B) → IsKey key → {c : Buffer} → Reorders start end b c
       → drop end (map key c.items) ≡ drop end (map key b.items)
   Reorders-after key is_key steps =
-      kept_by_steps start end (λ x. drop end (map key x.items) ≡ drop end (map key b.items))
+      preserved_by_steps start end (λ x. drop end (map key x.items) ≡ drop end (map key b.items))
       (λ x i j low_i high_i low_j high_j inside so_far.
       drop-map key end (swap x.items i j) ∙ ap (map key) (after_swap x.items end i j high_i high_j) ∙ sym (drop-map key end x.items)
       ∙ so_far)
@@ -168,7 +168,7 @@ module _ (start end : ℕ) (b : Buffer) (within : end ≤ length b.items) where
   pub Reorders-before : {B : Type 0} (key : Item → B) → IsKey key → {c : Buffer} → Reorders start end b c
       → take start (map key c.items) ≡ take start (map key b.items)
   Reorders-before key is_key steps =
-      kept_by_steps start end (λ x. take start (map key x.items) ≡ take start (map key b.items))
+      preserved_by_steps start end (λ x. take start (map key x.items) ≡ take start (map key b.items))
       (λ x i j low_i high_i low_j high_j inside so_far.
       take-map key start (swap x.items i j) ∙ ap (map key) (before_swap x.items start i j low_i low_j) ∙ sym (take-map key start x.items)
       ∙ so_far)
@@ -181,7 +181,7 @@ module _ (start end : ℕ) (b : Buffer) (within : end ≤ length b.items) where
   pub Reorders-permutes : {B : Type 0} (key : Item → B) → IsKey key → ((item : Item) (ccc : ℕ) → key (with_ccc ccc item) ≡ key item)
       → {c : Buffer} → Reorders start end b c → PermutesRange start end (map key b.items) (map key c.items)
   Reorders-permutes key is_key free steps =
-      kept_by_steps start end (λ x. PermutesRange start end (map key b.items) (map key x.items))
+      preserved_by_steps start end (λ x. PermutesRange start end (map key b.items) (map key x.items))
       (λ x i j low_i high_i low_j high_j inside so_far.
       PermutesRange-trans start end (map key b.items) (map key x.items) (map key (swap x.items i j)) so_far
       (PermutesRange-map start end key x.items (swap x.items i j) (swap_permutes x.items start end i j low_i high_i low_j high_j inside)))

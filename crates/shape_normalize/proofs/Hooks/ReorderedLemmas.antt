@@ -15,7 +15,7 @@ use Rattle.shape_items.proofs.Merging.KeyLemmas.{IsKey, IsKey-ccc, IsKey-unflagg
 use Rattle.shape_plan.specs.Reorder.{IsRunInOrder, with_ccc, ccc_set, exchanged, Reorders}
 use Rattle.shape_normalize.specs.Reordered.{unmerged, without_ccc, ReordersRun}
 use Rattle.shape_normalize.proofs.Normalized.NormalFlagLemmas.{flags-Reorders}
-use Rattle.shape_normalize.proofs.Hooks.ReorderLemmas.{PermutesRange-map, swap_permutes, kept_by_steps, without_items-Reorders, Reorders-before, Reorders-after, Reorders-permutes, range_set}
+use Rattle.shape_normalize.proofs.Hooks.ReorderLemmas.{PermutesRange-map, swap_permutes, preserved_by_steps, without_items-Reorders, Reorders-before, Reorders-after, Reorders-permutes, range_set}
 use Rattle.shape_normalize.proofs.RoundTwo.RunMarkLemmas.{All_unmapped}
 use Rattle.shape_normalize.proofs.RoundTwo.SpanLemmas.{map-slice_range}
 
@@ -57,7 +57,7 @@ flags_come-then b c d level (inr first) (inr second) =
 module _ (start end : ℕ) (b : Buffer) (ordered : start ≤ end) (within : end ≤ length b.items) where
   flags_come-steps : {c : Buffer} → Reorders start end b c → FlagsCome b c
   flags_come-steps steps =
-      (kept_by_steps start end (λ x. (x.cluster_level ≡ b.cluster_level) × FlagsCome b x)
+      (preserved_by_steps start end (λ x. (x.cluster_level ≡ b.cluster_level) × FlagsCome b x)
       (λ x i j low_i high_i low_j high_j inside so_far. so_far)
       (λ x from to low up high inside so_far. (
         ap (λ (c : Buffer). c.cluster_level) (without_items-merge_clusters from to x)
@@ -93,7 +93,7 @@ module _ (start end : ℕ) (b : Buffer) (ordered : start ≤ end) (within : end 
 
   marks-steps : {c : Buffer} → Reorders start end b c → HasMarks b → HasMarks c
   marks-steps steps =
-      kept_by_steps start end HasMarks marks-exchanged
+      preserved_by_steps start end HasMarks marks-exchanged
       (λ x from to low up high inside marks. rw (keys-merge_clusters ccc_of_item IsKey-ccc from to x) marks)
       (λ x i item ccc low high inside is mark marks. marks-ccc_set x i item ccc low high mark marks) steps within
 

@@ -1,29 +1,29 @@
--- Normalising keeps the order of clusters at the monotone levels, and brings no new one.
+-- Normalising preserves the order of clusters at the monotone levels, and brings no new one.
 use Rattle.std.proofs.Common.{◌≡◌, ℕ, Bool, true, false, if◌then◌else◌, List, [], ◌∷◌, ◌++◌, map, Option, None, Some, refl, sym, ap, subst}
 use Rattle.std.proofs.lemmas.List.Concat.{flat_map_single}
 use Rattle.std.specs.List.{flat_map}
 use Rattle.std.specs.Option.{option_map_or}
 use Rattle.shape_items.specs.Buffer.{Buffer}
 use Rattle.shape_items.specs.Clusters.{clusters}
-use Rattle.shape_items.specs.ClusterOrder.{KeepsClusters, IsMonotoneLevel}
-use Rattle.shape_buffer.specs.Keepers.{IsClusterKeeper}
+use Rattle.shape_items.specs.ClusterOrder.{PreservesClusters, IsMonotoneLevel}
+use Rattle.shape_buffer.specs.Preservation.{IsClusterPreserving}
 use Rattle.shape_items.specs.Items.{Item, is_mark_item}
 use Rattle.shape_common.specs.declared.text_types.GlyphId.{GlyphId}
 use Rattle.canonical_form.proofs.Lists.DividedLemmas.{values-divided}
-use Rattle.shape_items.proofs.Order.DrawsInOrder.{DrawsInOrder, DrawsInOrder-after, DrawsInOrder-again, KeepsClusters-from_draws}
-use Rattle.shape_buffer.proofs.Steps.KeeperLemmas.{KeepsClusters-then}
-use Rattle.shape_items.proofs.MergingInOrder.EachSpanLemmas.{all_merged_keep}
+use Rattle.shape_items.proofs.Order.DrawsInOrder.{DrawsInOrder, DrawsInOrder-after, DrawsInOrder-again, PreservesClusters-from_draws}
+use Rattle.shape_buffer.proofs.Steps.PreservationLemmas.{PreservesClusters-then}
+use Rattle.shape_items.proofs.MergingInOrder.EachSpanLemmas.{all_merged_preserve}
 use Rattle.shape_plan.specs.Rules.{Rules}
 use Rattle.shape_normalize.proofs.RoundOne.SelectorLemmas.{variation_sequences_in_order}
 use Rattle.shape_normalize.specs.Part.{part_item}
 use Rattle.shape_normalize.specs.RoundOne.{whole_item, expansion_of, expanded_item, skipped_item, marked_selector, variant_items, variants, is_selector_item, is_selector_sequence, is_with_marks, variation_sequences_from, variation_sequences_merged, sequences, sequence_items, expanded, round_one}
 use Rattle.shape_normalize.specs.RoundTwo.{cgj_unhidden_where_seen}
-use Rattle.shape_normalize.specs.Normalized.{normalized, HookKeepsClusters}
+use Rattle.shape_normalize.specs.Normalized.{normalized, HookPreservesClusters}
 use Rattle.shape_normalize.proofs.RoundOne.DrawnLemmas.{DrawsBefore, DrawsBefore-same, draws_whole, draws_pieces}
 use Rattle.shape_normalize.proofs.RoundTwo.CgjLemmas.{keys-cgj_unhidden_where_seen}
-use Rattle.shape_normalize.proofs.Normalized.NormalizedLemmas.{kept_by_rounds}
-use Rattle.shape_normalize.proofs.RoundTwo.OrderedClusterLemmas.{marks_ordered_keeps}
-use Rattle.shape_normalize.proofs.RoundThree.RecomposedClusterLemmas.{round_three_keeps}
+use Rattle.shape_normalize.proofs.Normalized.NormalizedLemmas.{preserved_by_rounds}
+use Rattle.shape_normalize.proofs.RoundTwo.OrderedClusterLemmas.{marks_ordered_preserves}
+use Rattle.shape_normalize.proofs.RoundThree.RecomposedClusterLemmas.{round_three_preserves}
 use Rattle.shape_normalize.proofs.Hooks.ReorderLemmas.{LawfulReorder}
 use Rattle.shape_normalize.proofs.RoundOne.RoundOneLemmas.{whole_item_is}
 use Rattle.shape_normalize.proofs.Normalized.SettingLemmas.{level-round_one, settings-normalized}
@@ -105,15 +105,15 @@ module _ (rules : Rules) where
 -- ---- round one: the variation sequences that are merged
 
 module _ (rules : Rules) where
-  variation_sequences_merged_keeps : (b : Buffer) → KeepsClusters (clusters b.items) (clusters (variation_sequences_merged rules b).items)
-  variation_sequences_merged_keeps b =
-      (all_merged_keep 0 (variation_sequences_from rules.unicode rules.face 0 (sequences b.items)) b _
+  variation_sequences_merged_preserves : (b : Buffer) → PreservesClusters (clusters b.items) (clusters (variation_sequences_merged rules b).items)
+  variation_sequences_merged_preserves b =
+      (all_merged_preserve 0 (variation_sequences_from rules.unicode rules.face 0 (sequences b.items)) b _
       (variation_sequences_in_order rules.unicode rules.face b.items) refl).0
 
-  -- expanding keeps the order of clusters
-  pub round_one_keeps : (b : Buffer) → KeepsClusters (clusters b.items) (clusters (round_one rules b).items)
-  round_one_keeps b =
-      KeepsClusters-then _ _ _ (variation_sequences_merged_keeps b) (KeepsClusters-from_draws _ _
+  -- expanding preserves the order of clusters
+  pub round_one_preserves : (b : Buffer) → PreservesClusters (clusters b.items) (clusters (round_one rules b).items)
+  round_one_preserves b =
+      PreservesClusters-then _ _ _ (variation_sequences_merged_preserves b) (PreservesClusters-from_draws _ _
       (expanded_draws rules b.invisible_glyph b.not_found_variation_selector_glyph (variation_sequences_merged rules b).items))
 
 -- ---- the rounds together
@@ -123,24 +123,24 @@ pub cgj_unhidden_where_seen_clusters : (b : Buffer) → clusters (cgj_unhidden_w
 cgj_unhidden_where_seen_clusters b = keys-cgj_unhidden_where_seen (λ item. item.cluster) (λ item. refl) b
 
 module _ (rules : Rules) (lawful : LawfulReorder rules.reorder) where
-  -- normalising keeps the order of clusters at the monotone levels, and brings no new one, if the reorder hook does
-  pub normalized_keeps : (b new : Buffer) → new ≡ normalized rules b → IsMonotoneLevel b.cluster_level → HookKeepsClusters rules
-      → KeepsClusters (clusters b.items) (clusters new.items)
-  normalized_keeps b new is monotone hook =
+  -- normalising preserves the order of clusters at the monotone levels, and brings no new one, if the reorder hook does
+  pub normalized_preserves : (b new : Buffer) → new ≡ normalized rules b → IsMonotoneLevel b.cluster_level → HookPreservesClusters rules
+      → PreservesClusters (clusters b.items) (clusters new.items)
+  normalized_preserves b new is monotone hook =
       let one : Buffer = round_one rules b in
-      rw is (kept_by_rounds rules (λ c. KeepsClusters (clusters b.items) (clusters c.items)) b
-      (λ so_far. KeepsClusters-then _ _ _ so_far (marks_ordered_keeps rules.reorder lawful hook one
+      rw is (preserved_by_rounds rules (λ c. PreservesClusters (clusters b.items) (clusters c.items)) b
+      (λ so_far. PreservesClusters-then _ _ _ so_far (marks_ordered_preserves rules.reorder lawful hook one
       (subst IsMonotoneLevel (sym (level-round_one rules b)) monotone)))
       (λ c so_far. rw (cgj_unhidden_where_seen_clusters c) so_far)
-      (λ c so_far. KeepsClusters-then _ _ _ so_far (round_three_keeps rules c))
-      (round_one_keeps rules b))
+      (λ c so_far. PreservesClusters-then _ _ _ so_far (round_three_preserves rules c))
+      (round_one_preserves rules b))
 
-  -- so normalising keeps clusters as a step of a run
-  pub KeepsOrder-normalized : HookKeepsClusters rules → IsClusterKeeper (normalized rules)
-  KeepsOrder-normalized hook b monotone =
+  -- so normalising preserves clusters as a step of a run
+  pub PreservesOrder-normalized : HookPreservesClusters rules → IsClusterPreserving (normalized rules)
+  PreservesOrder-normalized hook b monotone =
       let same = settings-normalized rules lawful b in
       record {
-        clusters = normalized_keeps b (normalized rules b) refl monotone hook;
+        clusters = normalized_preserves b (normalized rules b) refl monotone hook;
         direction = ap (λ (c : Buffer). c.direction) same;
         flags = ap (λ (c : Buffer). c.flags) same;
         level = ap (λ (c : Buffer). c.cluster_level) same;

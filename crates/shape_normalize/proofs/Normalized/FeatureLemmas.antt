@@ -1,4 +1,4 @@
--- Normalising keeps feature bits: each item of the normalised list has those of an item of the text.
+-- Normalising preserves feature bits: each item of the normalised list has those of an item of the text.
 use Rattle.std.proofs.Common.{◌≡◌, ℕ, zero, suc, List, [], ◌∷◌, map, get_or, Option, None, Some, refl, sym, subst, ◌∙◌}
 use Rattle.std.specs.List.{AllByRecursion, Contains}
 use Rattle.std.specs.Option.{option_map_or}
@@ -9,7 +9,7 @@ use Rattle.shape_items.specs.BufferClusters.{merge_out_clusters}
 use Rattle.shape_items.specs.Items.{Item}
 use Rattle.shape_common.specs.declared.text_types.GlyphId.{GlyphId}
 use Rattle.shape_items.proofs.Merging.KeyLemmas.{IsKey, keys-merge_out}
-use Rattle.shape_normalize.specs.Normalized.{normalized, features_of, KeepsFeatures}
+use Rattle.shape_normalize.specs.Normalized.{normalized, features_of, PreservesFeatures}
 use Rattle.shape_normalize.specs.Part.{part_item}
 use Rattle.shape_normalize.specs.RoundOne.{whole_item, expansion_of, variation_sequences_merged, round_one}
 use Rattle.shape_items.specs.Spans.{spans_merged_out}
@@ -17,7 +17,7 @@ use Rattle.shape_normalize.specs.RoundThree.{Placed, recomposed_items, absorbed_
 use Rattle.shape_normalize.specs.RoundTwo.{marks_ordered, cgj_unhidden_where_seen}
 use Rattle.shape_plan.specs.Rules.{Rules}
 use Rattle.shape_normalize.proofs.RoundTwo.CgjLemmas.{keys-cgj_unhidden_where_seen}
-use Rattle.shape_normalize.proofs.Normalized.NormalizedLemmas.{kept_by_rounds}
+use Rattle.shape_normalize.proofs.Normalized.NormalizedLemmas.{preserved_by_rounds}
 use Rattle.shape_normalize.proofs.RoundThree.RecomposedItemLemmas.{each_recomposed}
 use Rattle.shape_normalize.proofs.Hooks.ReorderLemmas.{LawfulReorder}
 use Rattle.shape_normalize.proofs.RoundOne.RoundOneLemmas.{keys-variation_sequences_merged, whole_item_is, expanded_all}
@@ -92,7 +92,7 @@ module _ (rules : Rules) (P : ℕ → Type 0) where
   normalized_has : LawfulReorder rules.reorder → (b : Buffer) → Has b.items → Has (normalized rules b).items
   normalized_has lawful b each =
       let one : Buffer = round_one rules b in
-      kept_by_rounds rules (λ c. Has c.items) b
+      preserved_by_rounds rules (λ c. Has c.items) b
       (λ of. each_of_values features_of P (marks_ordered rules.reorder one).items
       (keys-marks_ordered rules.reorder lawful features_of IsKey-features (λ f is item ccc. refl) P one
       (each_value features_of P one.items of)))
@@ -100,9 +100,9 @@ module _ (rules : Rules) (P : ℕ → Type 0) where
       round_three_has (round_one_has b each)
 
 -- each item of the normalised list has the feature bits of an item of the text
-pub normalized_keeps_features : (rules : Rules) → LawfulReorder rules.reorder → (b new : Buffer) → new ≡ normalized rules b
-    → KeepsFeatures b new
-normalized_keeps_features rules lawful b new is =
+pub normalized_preserves_features : (rules : Rules) → LawfulReorder rules.reorder → (b new : Buffer) → new ≡ normalized rules b
+    → PreservesFeatures b new
+normalized_preserves_features rules lawful b new is =
     let those : List ℕ = map features_of b.items in
     let all : List Item = (normalized rules b).items in
     rw is (All-from_recursion (λ item. Contains those (features_of item)) all

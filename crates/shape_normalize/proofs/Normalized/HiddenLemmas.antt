@@ -12,18 +12,18 @@ use Rattle.shape_items.specs.UnicodeProps.{is_hidden_char}
 use Rattle.shape_common.specs.declared.text_types.GlyphId.{GlyphId}
 use Rattle.shape_items.proofs.Merging.ClusterLemmas.{unsafe_to_break-cases, merge_clusters-cases}
 use Rattle.shape_items.proofs.Merging.KeyLemmas.{IsKey}
-use Rattle.shape_normalize.specs.Normalized.{ordered, normalized, hidden_char, KeepsHidden}
+use Rattle.shape_normalize.specs.Normalized.{ordered, normalized, hidden_char, PreservesHidden}
 use Rattle.shape_normalize.specs.Part.{part_item}
 use Rattle.shape_normalize.specs.RoundOne.{whole_item, expansion_of, variation_sequences_merged, round_one}
 use Rattle.shape_normalize.specs.RoundThree.{round_three}
 use Rattle.shape_normalize.specs.RoundTwo.{spans, run_cccs, run_settled, marks_ordered, has_mark_past_first, has_seen_cgj, cgj_unhidden, cgj_unhidden_where_seen}
 use Rattle.shape_plan.specs.Rules.{Rules}
 use Rattle.shape_normalize.proofs.RoundThree.RecomposedItemLemmas.{round_three_all}
-use Rattle.shape_normalize.proofs.Hooks.ReorderLemmas.{LawfulReorder, kept_by_steps}
+use Rattle.shape_normalize.proofs.Hooks.ReorderLemmas.{LawfulReorder, preserved_by_steps}
 use Rattle.shape_normalize.proofs.RoundOne.RoundOneLemmas.{keys-variation_sequences_merged, whole_item_is, expanded_all}
 use Rattle.shape_normalize.proofs.RoundOne.SequenceLemmas.{each_of_values, each_value}
 use Rattle.shape_normalize.proofs.RoundTwo.RunMarkLemmas.{AreMarks}
-use Rattle.shape_normalize.proofs.RoundTwo.SettleLemmas.{run_placed, run_placed-in_order, length-run_placed, settled_cases, Reorders-run_reordered, kept_by_marks_ordered, keys-marks_ordered}
+use Rattle.shape_normalize.proofs.RoundTwo.SettleLemmas.{run_placed, run_placed-in_order, length-run_placed, settled_cases, Reorders-run_reordered, preserved_by_marks_ordered, keys-marks_ordered}
 
 -- ---- ordering sees no CGJ
 
@@ -50,7 +50,7 @@ module _ (reorder : Option (Buffer → ℕ → ℕ → Buffer)) (lawful : Lawful
       let placed : Buffer = run_placed start end b in
       let inside : end ≤ length placed.items = rw (length-run_placed start end b rising) within in
       settled_cases reorder start end b (λ c. cgj_flag c ≡ cgj_flag b)
-      (λ few. kept_by_steps start end (λ x. cgj_flag x ≡ cgj_flag b)
+      (λ few. preserved_by_steps start end (λ x. cgj_flag x ≡ cgj_flag b)
       (λ x i j low_i high_i low_j high_j long so_far. so_far) (λ x from to low up high long so_far. flag-merge_clusters from to x ∙ so_far)
       (λ x i item ccc low high long is mark so_far. so_far)
       (Reorders-run_reordered reorder lawful start end placed (run_placed-in_order start end b rising within marks few)) inside
@@ -58,7 +58,7 @@ module _ (reorder : Option (Buffer → ℕ → ℕ → Buffer)) (lawful : Lawful
 
   pub flag-marks_ordered : (b : Buffer) → cgj_flag (marks_ordered reorder b) ≡ cgj_flag b
   flag-marks_ordered b =
-      kept_by_marks_ordered reorder lawful b (λ c. cgj_flag c ≡ cgj_flag b)
+      preserved_by_marks_ordered reorder lawful b (λ c. cgj_flag c ≡ cgj_flag b)
       (λ start end c run within marks so_far. flag-run_settled start end c run.ordered within marks ∙ so_far) refl
 
 -- if no CGJ was seen, none is unhidden
@@ -120,9 +120,9 @@ module _ (rules : Rules) (those : List (ℕ × Bool)) where
         (ordered_hides (round_one rules b) (has_mark_past_first b.items) unseen (round_one_hides b each))
 
 -- if no CGJ was seen, hidden bits are those of characters, or of the text
-pub normalized_keeps_hidden : (rules : Rules) → LawfulReorder rules.reorder → (b new : Buffer) → new ≡ normalized rules b
-    → KeepsHidden rules b new
-normalized_keeps_hidden rules lawful b new is = λ unseen.
+pub normalized_preserves_hidden : (rules : Rules) → LawfulReorder rules.reorder → (b new : Buffer) → new ≡ normalized rules b
+    → PreservesHidden rules b new
+normalized_preserves_hidden rules lawful b new is = λ unseen.
     let those : List (ℕ × Bool) = map hidden_char b.items in
     let all : List Item = (normalized rules b).items in
     rw is (All-from_recursion (λ item. (item.properties.hidden ≡ is_hidden_char item.codepoint) ⊎ Contains those (hidden_char item)) all

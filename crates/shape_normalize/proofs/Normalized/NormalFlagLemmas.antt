@@ -1,4 +1,4 @@
--- Normalising keeps flags: it copies items, and merges.
+-- Normalising preserves flags: it copies items, and merges.
 use Rattle.std.proofs.Common.{◌≡◌, ◌==◌, ℕ, ◌+◌, ◌-◌, ◌<◌, ◌≤◌, Bool, true, false, if◌then◌else◌, ◌||◌, ◌&&◌, List, [], ◌∷◌, map, take, drop, length, get_or, zero, suc, slice_range, Option, None, Some, refl, sym, ap, subst, is_some, arith, ◌∙◌, inl, inr, bit_and, nat_lt}
 use Rattle.std.specs.List.{AllByRecursion, fold}
 use Rattle.std.specs.Option.{option_map_or}
@@ -9,14 +9,14 @@ use Rattle.std.specs.List.{swap}
 use Rattle.shape_items.specs.Buffer.{Buffer}
 use Rattle.shape_items.specs.BufferClusters.{merge_clusters, merge_out_clusters}
 use Rattle.shape_items.specs.Items.{Item, ccc_of_item}
-use Rattle.shape_items.specs.KeepsFlags.{has_flag, some_has, KeepsFlags}
+use Rattle.shape_items.specs.PreservesFlags.{has_flag, some_has, PreservesFlags}
 use Rattle.canonical_form.specs.Order.{in_order}
 use Rattle.shape_items.specs.UnicodeProps.{with_scratch_of, flag_if, beyond_ascii}
 use Rattle.shape_common.specs.Unicode.{UnicodeMeaning}
 use Rattle.shape_common.specs.Face.{FaceMeaning}
 use Rattle.shape_common.specs.declared.flags.ScratchFlags.{ScratchFlags}
 use Rattle.shape_common.specs.declared.text_types.GlyphId.{GlyphId}
-use Rattle.shape_items.proofs.Flags.FlagLemmas.{append-cases, take_in, drop_in, KeepsFlags-items, KeepsFlags-same, KeepsFlags-then, merge_clusters_keeps, merge_out_clusters_keeps}
+use Rattle.shape_items.proofs.Flags.FlagLemmas.{append-cases, take_in, drop_in, PreservesFlags-items, PreservesFlags-same, PreservesFlags-then, merge_clusters_preserves, merge_out_clusters_preserves}
 use Rattle.canonical_form.proofs.Ordering.OrderLemmas.{Swaps-in_order}
 use Rattle.canonical_form.proofs.Ordering.SwapLemmas.{all-swaps}
 use Rattle.shape_normalize.specs.Normalized.{normalized}
@@ -28,15 +28,15 @@ use Rattle.shape_normalize.specs.RoundThree.{Placed, recomposed_items, absorbed_
 use Rattle.shape_normalize.specs.RoundTwo.{spans, run_cccs, spans_merged, run_in_order, run_reordered, run_settled, marks_ordered, cgj_unhidden_where_seen, cgj_unhidden}
 use Rattle.shape_plan.specs.Rules.{Rules}
 use Rattle.shape_normalize.proofs.RoundTwo.CgjLemmas.{keys-cgj_unhidden_where_seen}
-use Rattle.shape_normalize.proofs.Normalized.NormalizedLemmas.{kept_by_rounds}
+use Rattle.shape_normalize.proofs.Normalized.NormalizedLemmas.{preserved_by_rounds}
 use Rattle.shape_normalize.proofs.RoundThree.RecomposedItemLemmas.{each_recomposed}
-use Rattle.shape_normalize.proofs.Hooks.ReorderLemmas.{LawfulReorder, kept_by_steps, keys-ccc_set}
+use Rattle.shape_normalize.proofs.Hooks.ReorderLemmas.{LawfulReorder, preserved_by_steps, keys-ccc_set}
 use Rattle.shape_normalize.proofs.RoundOne.RoundOneLemmas.{whole_item_is, expanded_all}
 use Rattle.shape_normalize.proofs.RoundOne.SelectorLemmas.{variation_sequences_in_order}
-use Rattle.shape_items.proofs.MergingInOrder.EachSpanLemmas.{all_merged_keep, spans_merged_out_is}
+use Rattle.shape_items.proofs.MergingInOrder.EachSpanLemmas.{all_merged_preserve, spans_merged_out_is}
 use Rattle.shape_normalize.proofs.RoundTwo.RunMarkLemmas.{AreMarks}
 use Rattle.shape_normalize.proofs.RoundOne.SequenceLemmas.{each_of_values, each_value}
-use Rattle.shape_normalize.proofs.RoundTwo.SettleLemmas.{run_placed, run_placed-in_order, length-run_placed, settled_cases, kept_by_marks_ordered, Reorders-run_reordered}
+use Rattle.shape_normalize.proofs.RoundTwo.SettleLemmas.{run_placed, run_placed-in_order, length-run_placed, settled_cases, preserved_by_marks_ordered, Reorders-run_reordered}
 
 -- no item of a list has the flag
 abbrev pub Bare : ℕ → List Item → Type 0
@@ -65,9 +65,9 @@ brings flag xs ys h some = elim (cases_Bool (some_has flag xs)) [
   | inr none ↦ let bare = none_of flag ys (h (bare_of flag xs none)) in cc
 ]
 
-KeepsFlags-bare : (b c : Buffer) → c.flags ≡ b.flags → bit_and c.scratch_flags.0 32 ≡ bit_and b.scratch_flags.0 32
-    → ((flag : ℕ) → Bare flag b.items → Bare flag c.items) → KeepsFlags b c
-KeepsFlags-bare b c flags seen h = record {
+PreservesFlags-bare : (b c : Buffer) → c.flags ≡ b.flags → bit_and c.scratch_flags.0 32 ≡ bit_and b.scratch_flags.0 32
+    → ((flag : ℕ) → Bare flag b.items → Bare flag c.items) → PreservesFlags b c
+PreservesFlags-bare b c flags seen h = record {
   flags = flags;
   stays_set = λ set. ap (λ n. n == 32) seen ∙ set;
   none_new = λ flag d some. inl (brings flag b.items c.items (h flag) some);
@@ -140,17 +140,17 @@ module _ (rules : Rules) (invisible : Option GlyphId) where
 -- ---- merging many spans
 
 flags-spans : (start : ℕ) (parts : List (ℕ × ℕ)) (b : Buffer)
-    → KeepsFlags b (fold (λ b span. merge_clusters (start + span.0) (start + span.1) b) b parts)
-flags-spans start [] b = KeepsFlags-same b
+    → PreservesFlags b (fold (λ b span. merge_clusters (start + span.0) (start + span.1) b) b parts)
+flags-spans start [] b = PreservesFlags-same b
 flags-spans start (span ∷ parts) b =
     let next = merge_clusters (start + span.0) (start + span.1) b in
-    KeepsFlags-then b next _ (merge_clusters_keeps (start + span.0) (start + span.1) b) (flags-spans start parts next)
+    PreservesFlags-then b next _ (merge_clusters_preserves (start + span.0) (start + span.1) b) (flags-spans start parts next)
 
-flags-spans_out : (parts : List (ℕ × ℕ)) (b : Buffer) → KeepsFlags b (spans_merged_out parts b)
-flags-spans_out [] b = KeepsFlags-same b
+flags-spans_out : (parts : List (ℕ × ℕ)) (b : Buffer) → PreservesFlags b (spans_merged_out parts b)
+flags-spans_out [] b = PreservesFlags-same b
 flags-spans_out (span ∷ parts) b =
     let next = merge_out_clusters span.0 span.1 b in
-    KeepsFlags-then b next (spans_merged_out parts next) (merge_out_clusters_keeps span.0 span.1 b) (flags-spans_out parts next)
+    PreservesFlags-then b next (spans_merged_out parts next) (merge_out_clusters_preserves span.0 span.1 b) (flags-spans_out parts next)
 
 -- ---- round one
 
@@ -166,13 +166,13 @@ module _ (rules : Rules) (flag : ℕ) where
       (whole_item_is rules invisible (λ whole. has_flag flag whole ≡ false) item (λ glyph. h) (λ glyph space. h), tt)
   found_bare invisible item h (Some cs) = parts_bare item h cs
 
-flags-round_one : (rules : Rules) (b : Buffer) → KeepsFlags b (round_one rules b)
+flags-round_one : (rules : Rules) (b : Buffer) → PreservesFlags b (round_one rules b)
 flags-round_one rules b =
     let merged = variation_sequences_merged rules b in
     let spans = variation_sequences_from rules.unicode rules.face 0 (sequences b.items) in
-    KeepsFlags-then b merged (round_one rules b)
-    (all_merged_keep 0 spans b merged (variation_sequences_in_order rules.unicode rules.face b.items) refl).1
-    (KeepsFlags-bare merged (round_one rules b) refl
+    PreservesFlags-then b merged (round_one rules b)
+    (all_merged_preserve 0 spans b merged (variation_sequences_in_order rules.unicode rules.face b.items) refl).1
+    (PreservesFlags-bare merged (round_one rules b) refl
     (seen-fold (seen_sequence rules b.invisible_glyph) (seen-sequence rules b.invisible_glyph)
     (sequences merged.items) merged.scratch_flags)
     (λ flag. expanded_all rules b.invisible_glyph b.not_found_variation_selector_glyph (λ item. has_flag flag item ≡ false)
@@ -182,10 +182,10 @@ flags-round_one rules b =
 
 -- ---- round two
 
-flags-in_order : (start end : ℕ) (b : Buffer) → KeepsFlags b (run_in_order start end b)
+flags-in_order : (start end : ℕ) (b : Buffer) → PreservesFlags b (run_in_order start end b)
 flags-in_order start end b =
     let run = slice_range b.items start end in
-    KeepsFlags-items b _ (λ flag d some.
+    PreservesFlags-items b _ (λ flag d some.
     elim (append-cases (has_flag flag) (take start b.items) _ some) [
       | inl before ↦ take_in (has_flag flag) start b.items before
       | inr rest ↦ elim (append-cases (has_flag flag) (in_order ccc_of_item run) (drop end b.items) rest) [
@@ -196,51 +196,51 @@ flags-in_order start end b =
       ]
     ])
 
-flags-exchanged : (i j : ℕ) (b : Buffer) → i < length b.items → j < length b.items → KeepsFlags b (exchanged i j b)
+flags-exchanged : (i j : ℕ) (b : Buffer) → i < length b.items → j < length b.items → PreservesFlags b (exchanged i j b)
 flags-exchanged i j b first second =
-    KeepsFlags-items b (swap b.items i j) (λ flag d some. list_any-IsPermutation (has_flag flag) b.items (swap b.items i j)
+    PreservesFlags-items b (swap b.items i j) (λ flag d some. list_any-IsPermutation (has_flag flag) b.items (swap b.items i j)
     (IsPermutation-swap b.items (swap b.items i j) i j first second refl) ∙ some)
 
-flags-ccc_set : (i : ℕ) (item : Item) (ccc : ℕ) (b : Buffer) → item ≡ get_or b.items i item → KeepsFlags b (ccc_set i item ccc b)
+flags-ccc_set : (i : ℕ) (item : Item) (ccc : ℕ) (b : Buffer) → item ≡ get_or b.items i item → PreservesFlags b (ccc_set i item ccc b)
 flags-ccc_set i item ccc b is =
-    KeepsFlags-bare b (ccc_set i item ccc b) refl refl
+    PreservesFlags-bare b (ccc_set i item ccc b) refl refl
     (λ flag. bare_same flag b.items (ccc_set i item ccc b).items
     (keys-ccc_set (λ (item : Item). item.mask) (λ item ccc. refl) i item ccc b is))
 
 -- what a reorder hook may do
-pub flags-Reorders : (start end : ℕ) (b : Buffer) {c : Buffer} → end ≤ length b.items → Reorders start end b c → KeepsFlags b c
+pub flags-Reorders : (start end : ℕ) (b : Buffer) {c : Buffer} → end ≤ length b.items → Reorders start end b c → PreservesFlags b c
 flags-Reorders start end b within steps =
-    kept_by_steps start end (λ x. KeepsFlags b x)
-    (λ x i j low_i high_i low_j high_j inside so_far. KeepsFlags-then b x (exchanged i j x) so_far
+    preserved_by_steps start end (λ x. PreservesFlags b x)
+    (λ x i j low_i high_i low_j high_j inside so_far. PreservesFlags-then b x (exchanged i j x) so_far
     (flags-exchanged i j x (omega arith) (omega arith)))
-    (λ x from to low ordered high inside so_far. KeepsFlags-then b x (merge_clusters from to x) so_far (merge_clusters_keeps from to x))
-    (λ x i item ccc low high inside is mark so_far. KeepsFlags-then b x (ccc_set i item ccc x) so_far
-    (flags-ccc_set i item ccc x is)) steps within (KeepsFlags-same b)
+    (λ x from to low ordered high inside so_far. PreservesFlags-then b x (merge_clusters from to x) so_far (merge_clusters_preserves from to x))
+    (λ x i item ccc low high inside is mark so_far. PreservesFlags-then b x (ccc_set i item ccc x) so_far
+    (flags-ccc_set i item ccc x is)) steps within (PreservesFlags-same b)
 
 module _ (reorder : Option (Buffer → ℕ → ℕ → Buffer)) (lawful : LawfulReorder reorder) where
   flags-run_settled : (start end : ℕ) (b : Buffer) → start ≤ end → end ≤ length b.items → AreMarks (slice_range b.items start end)
-      → KeepsFlags b (run_settled reorder b (start, end))
+      → PreservesFlags b (run_settled reorder b (start, end))
   flags-run_settled start end b ordered within marks =
       let merged = spans_merged start end b in
       let placed = run_placed start end b in
       let there : end ≤ length placed.items = rw (length-run_placed start end b ordered) within in
-      settled_cases reorder start end b (λ x. KeepsFlags b x)
-      (λ few. KeepsFlags-then b placed (run_reordered reorder start end placed)
-      (KeepsFlags-then b merged placed (flags-spans start (spans (run_cccs start end b)) b) (flags-in_order start end merged))
+      settled_cases reorder start end b (λ x. PreservesFlags b x)
+      (λ few. PreservesFlags-then b placed (run_reordered reorder start end placed)
+      (PreservesFlags-then b merged placed (flags-spans start (spans (run_cccs start end b)) b) (flags-in_order start end merged))
       (flags-Reorders start end placed there (Reorders-run_reordered reorder lawful start end placed
       (run_placed-in_order start end b ordered within marks few))))
-      (KeepsFlags-same b)
+      (PreservesFlags-same b)
 
-  flags-marks_ordered : (b : Buffer) → KeepsFlags b (marks_ordered reorder b)
+  flags-marks_ordered : (b : Buffer) → PreservesFlags b (marks_ordered reorder b)
   flags-marks_ordered b =
-      kept_by_marks_ordered reorder lawful b (λ c. KeepsFlags b c)
-      (λ start end c run within marks so_far. KeepsFlags-then b c (run_settled reorder c (start, end)) so_far
+      preserved_by_marks_ordered reorder lawful b (λ c. PreservesFlags b c)
+      (λ start end c run within marks so_far. PreservesFlags-then b c (run_settled reorder c (start, end)) so_far
       (flags-run_settled start end c run.ordered within marks))
-      (KeepsFlags-same b)
+      (PreservesFlags-same b)
 
-flags-cgj : (b : Buffer) → KeepsFlags b (cgj_unhidden_where_seen b)
+flags-cgj : (b : Buffer) → PreservesFlags b (cgj_unhidden_where_seen b)
 flags-cgj b =
-    KeepsFlags-bare b (cgj_unhidden_where_seen b) (by_flags (bit_and b.scratch_flags.0 8 == 8)) (by_seen (bit_and b.scratch_flags.0 8 == 8))
+    PreservesFlags-bare b (cgj_unhidden_where_seen b) (by_flags (bit_and b.scratch_flags.0 8 == 8)) (by_seen (bit_and b.scratch_flags.0 8 == 8))
     (λ flag. bare_same flag b.items (cgj_unhidden_where_seen b).items (keys-cgj_unhidden_where_seen (λ (item : Item). item.mask) (λ item. refl) b))
   where
     by_flags : (test : Bool) → (if test then record b { items = cgj_unhidden b.items } else b).flags ≡ b.flags
@@ -269,19 +269,19 @@ module _ (flag : ℕ) where
   put_out_bare items bare [] each = tt
   put_out_bare items bare (p ∷ out) each = (bare_at items p.place p.item bare each.0, put_out_bare items bare out each.1)
 
-flags-round_three : (rules : Rules) (b : Buffer) → KeepsFlags b (round_three rules b)
+flags-round_three : (rules : Rules) (b : Buffer) → PreservesFlags b (round_three rules b)
 flags-round_three rules b =
     let out = recomposed_items rules b.items in
     let merged = spans_merged_out (absorbed_spans out) b in
-    let keeps = flags-spans_out (absorbed_spans out) b in
+    let preserves = flags-spans_out (absorbed_spans out) b in
     let chars = seen-chars rules.unicode (composed_chars out) b.scratch_flags in
     record {
-      flags = keeps.flags;
+      flags = preserves.flags;
       stays_set = λ set. ap (λ n. n == 32) chars ∙ set;
       none_new = λ flag d some. elim (cases_Bool (some_has flag b.items)) [
         | inl there ↦ inl there
         | inr none ↦ elim (cases_Bool (some_has flag merged.items)) [
-          | inl came ↦ elim (keeps.none_new flag d came) [
+          | inl came ↦ elim (preserves.none_new flag d came) [
             | inl there ↦ inl there
             | inr set ↦ inr (ap (λ n. n == 32)
                 (chars ∙ ap (λ (s : ScratchFlags). bit_and s.0 32) (sym (scratch-spans_out (absorbed_spans out) b))) ∙ set)
@@ -297,11 +297,11 @@ flags-round_three rules b =
 
 -- ---- the rounds
 
-pub KeepsFlags-normalized : (rules : Rules) → LawfulReorder rules.reorder → (b : Buffer) → KeepsFlags b (normalized rules b)
-KeepsFlags-normalized rules lawful b =
+pub PreservesFlags-normalized : (rules : Rules) → LawfulReorder rules.reorder → (b : Buffer) → PreservesFlags b (normalized rules b)
+PreservesFlags-normalized rules lawful b =
     let one : Buffer = round_one rules b in
-    kept_by_rounds rules (λ c. KeepsFlags b c) b
-    (λ so_far. KeepsFlags-then b one (marks_ordered rules.reorder one) so_far (flags-marks_ordered rules.reorder lawful one))
-    (λ c so_far. KeepsFlags-then b c (cgj_unhidden_where_seen c) so_far (flags-cgj c))
-    (λ c so_far. KeepsFlags-then b c (round_three rules c) so_far (flags-round_three rules c))
+    preserved_by_rounds rules (λ c. PreservesFlags b c) b
+    (λ so_far. PreservesFlags-then b one (marks_ordered rules.reorder one) so_far (flags-marks_ordered rules.reorder lawful one))
+    (λ c so_far. PreservesFlags-then b c (cgj_unhidden_where_seen c) so_far (flags-cgj c))
+    (λ c so_far. PreservesFlags-then b c (round_three rules c) so_far (flags-round_three rules c))
     (flags-round_one rules b)

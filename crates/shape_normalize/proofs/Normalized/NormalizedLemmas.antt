@@ -33,10 +33,10 @@ module _ (rules : Rules) where
   recomposed_where test b = if test then round_three rules b else b
 
   -- what holds after round one, and what ordering, unhiding CGJ and recomposing keep, holds of the normalised list
-  pub kept_by_rounds : (P : Buffer → Type 0) (b : Buffer) → (P (round_one rules b) → P (marks_ordered rules.reorder (round_one rules b)))
+  pub preserved_by_rounds : (P : Buffer → Type 0) (b : Buffer) → (P (round_one rules b) → P (marks_ordered rules.reorder (round_one rules b)))
       → ((c : Buffer) → P c → P (cgj_unhidden_where_seen c)) → ((c : Buffer) → P c → P (round_three rules c))
       → P (round_one rules b) → P (normalized rules b)
-  kept_by_rounds P b orders unhides recomposes of_one =
+  preserved_by_rounds P b orders unhides recomposes of_one =
       let test = has_mark_past_first b.items in
       recomposed_cases (test && rules.recomposes) (ordered rules b) (unhides (ordered_where test (round_one rules b)) (ordered_cases test))
     where
@@ -58,7 +58,7 @@ module _ (rules : Rules) (lawful : LawfulReorder rules.reorder) where
   -- the later rounds bring in no item
   pub length-normalized : (b : Buffer) → length (normalized rules b).items ≤ length (round_one rules b).items
   length-normalized b =
-      kept_by_rounds rules (λ c. length c.items ≤ length (round_one rules b).items) b
+      preserved_by_rounds rules (λ c. length c.items ≤ length (round_one rules b).items) b
       (λ below. omega (arith, length-marks_ordered rules.reorder lawful (round_one rules b)))
       (λ c below. omega (arith, length-cgj_unhidden_where_seen c)) (λ c below. omega (arith, length-round_three rules c)) (omega arith)
 
@@ -86,7 +86,7 @@ module _ (rules : Rules) (lawful : LawfulReorder rules.reorder) (P : Item → Ty
       → AllByRecursion (λ item. P (content rules item)) (normalized rules b).items
   normalized_all b each =
       let one : Buffer = round_one rules b in
-      kept_by_rounds rules (λ c. AllByRecursion (λ item. P (content rules item)) c.items) b
+      preserved_by_rounds rules (λ c. AllByRecursion (λ item. P (content rules item)) c.items) b
       (λ of. each_of_values (content rules) P (marks_ordered rules.reorder one).items
       (keys-marks_ordered rules.reorder lawful (content rules) (IsKey-content rules) (content-without_ccc rules) P one
       (each_value (content rules) P one.items of)))

@@ -1,4 +1,4 @@
--- Normalising keeps the cluster level and the limit.
+-- Normalising preserves the cluster level and the limit.
 use Rattle.std.proofs.Common.{◌≡◌, ◌==◌, Bool, true, false, [], if◌then◌else◌, bit_and, refl, ap, ◌∙◌}
 use Rattle.shape_items.specs.Buffer.{Buffer, limit_of}
 use Rattle.shape_plan.specs.Rules.{Rules}
@@ -6,7 +6,7 @@ use Rattle.shape_normalize.specs.RoundOne.{sequences, variation_sequences_from, 
 use Rattle.shape_normalize.specs.RoundThree.{absorbed_spans, recomposed_items}
 use Rattle.shape_normalize.specs.RoundTwo.{marks_ordered, cgj_unhidden_where_seen, cgj_unhidden, has_mark_past_first}
 use Rattle.shape_normalize.specs.Normalized.{normalized, ordered}
-use Rattle.shape_normalize.proofs.Normalized.NormalizedLemmas.{kept_by_rounds}
+use Rattle.shape_normalize.proofs.Normalized.NormalizedLemmas.{preserved_by_rounds}
 use Rattle.shape_normalize.proofs.Hooks.ReorderLemmas.{LawfulReorder}
 use Rattle.shape_items.proofs.MergingInOrder.EachSpanLemmas.{spans_merged_out_is, without_items-all_merged}
 use Rattle.shape_normalize.proofs.RoundTwo.SettleLemmas.{without_items-marks_ordered}
@@ -55,7 +55,7 @@ settings-cgj b = elim (bit_and b.scratch_flags.0 8 == 8)
 pub settings-normalized : (rules : Rules) → LawfulReorder rules.reorder → (b : Buffer) → settings_of (normalized rules b) ≡ settings_of b
 settings-normalized rules lawful b =
     let one : Buffer = round_one rules b in
-    kept_by_rounds rules (λ c. settings_of c ≡ settings_of b) b
+    preserved_by_rounds rules (λ c. settings_of c ≡ settings_of b) b
     (λ so_far. ap settings_of (without_items-marks_ordered rules.reorder lawful one) ∙ so_far)
     (λ c so_far. settings-cgj c ∙ so_far)
     (λ c so_far. ap settings_of (spans_merged_out_is (absorbed_spans (recomposed_items rules c.items)) c) ∙ so_far)

@@ -22,7 +22,7 @@ use Rattle.shape_normalize.proofs.Hooks.ReorderLemmas.{LawfulReorder, PermutesRa
 use Rattle.shape_normalize.proofs.Hooks.ReorderedLemmas.{IsKey-without_ccc}
 use Rattle.shape_normalize.proofs.RoundTwo.RunMarkLemmas.{AreMarks, written_part}
 use Rattle.shape_normalize.proofs.RoundTwo.RunsLemmas.{IsRun}
-use Rattle.shape_normalize.proofs.RoundTwo.SettleLemmas.{drop_after, run_placed, merged_length, length-run_placed, settled_cases, kept_by_marks_ordered, Reorders-run_reordered, run_placed-in_order}
+use Rattle.shape_normalize.proofs.RoundTwo.SettleLemmas.{drop_after, run_placed, merged_length, length-run_placed, settled_cases, preserved_by_marks_ordered, Reorders-run_reordered, run_placed-in_order}
 use Rattle.shape_normalize.proofs.RoundTwo.SpanLemmas.{keys-spans_merged, map-slice_range}
 
 -- ---- permutations
@@ -233,7 +233,7 @@ module _ (f : Buffer → ℕ → ℕ → Buffer) (lawful : LawfulReorder (Some f
 
   pub marks_placed : IsPlaced (marks_ordered (Some f) one)
   marks_placed =
-      kept_by_marks_ordered (Some f) lawful one IsPlaced
+      preserved_by_marks_ordered (Some f) lawful one IsPlaced
       (λ start end c run within marks so_far. settled_place start end c run.ordered within marks run so_far)
       (record {
         places = all_places one.items;

@@ -13,8 +13,8 @@ use Rattle.shape_normalize.specs.Normalized.{features_of}
 use Rattle.shape_normalize.specs.Origins.{item_at, HasOfOrigin, all_places, AreInOneRun, PermutesRuns, IsOrderOf, new_origins, ComesByPlace}
 use Rattle.shape_normalize.specs.RoundOne.{round_one}
 use Rattle.shape_normalize.specs.RoundTwo.{run_settled, has_seen_cgj}
-use Rattle.shape_normalize.specs.WorkedWorld.{rules_in, item}
-use Rattle.shape_normalize.specs.WorkedOrigins.{letters, PlacesWorked, NewPlacesWorked, WholeWorked, OfOriginWorked, runs_of_marks, with_marks, OrderWorked, FromPlaceWorked, FromStarterWorked, OriginsWorked}
+use Rattle.shape_normalize.specs.Worked.Fixture.{rules_in, item}
+use Rattle.shape_normalize.specs.Worked.Origins.{letters, PlacesWorked, NewPlacesWorked, WholeWorked, OfOriginWorked, runs_of_marks, with_marks, OrderWorked, FromPlaceWorked, FromStarterWorked, OriginsWorked}
 
 places_worked : PlacesWorked
 unfolding merge

@@ -85,7 +85,7 @@ module _ (rules : Rules) (b merged : Buffer) (is_merged : merged ≡ variation_s
   settings : without_items merged ≡ without_items b
   settings = ap without_items is_merged ∙ without_items-all_merged (variation_sequences_from rules.unicode rules.face 0 (sequences b.items)) b
 
-  -- merging keeps the limit, and what clearing keeps
+  -- merging preserves the limit, and what clearing keeps
   pub limit-merged : limit_of merged ≡ limit_of b
   limit-merged = ap limit_of settings
 

@@ -13,9 +13,9 @@ use Rattle.shape_normalize.specs.RoundOne.{sequences, is_with_marks}
 -- what holds of all that each item becomes holds of all that the list becomes
 pub flat_map_all : {A B : Type 0} (P : A → Type 0) (Q : B → Type 0) (become : A → List B) → ((x : A) → P x → AllByRecursion Q (become x))
     → (items : List A) → AllByRecursion P items → AllByRecursion Q (flat_map become items)
-flat_map_all P Q become keeps [] each = tt
-flat_map_all P Q become keeps (x ∷ items) each =
-    append_all Q (become x) (flat_map become items) (keeps x each.0) (flat_map_all P Q become keeps items each.1)
+flat_map_all P Q become preserves [] each = tt
+flat_map_all P Q become preserves (x ∷ items) each =
+    append_all Q (become x) (flat_map become items) (preserves x each.0) (flat_map_all P Q become preserves items each.1)
 
 -- items that become alike make lists that become alike
 pub flat_map_same : {A B : Type 0} (f g : A → List B) (items : List A) → AllByRecursion (λ x. f x ≡ g x) items
@@ -62,8 +62,8 @@ module _ {A : Type 0} (belongs : A → Bool) where
   pub flat_map_parts_all : {B : Type 0} (P : A → Type 0) (Q : B → Type 0) (become : List A → List B)
       → ((part : List A) → AllByRecursion P part → AllByRecursion Q (become part)) → (items : List A) → AllByRecursion P items
       → AllByRecursion Q (flat_map become (divided belongs items))
-  flat_map_parts_all P Q become keeps items each =
-      flat_map_all (λ part. AllByRecursion P part) Q become keeps (divided belongs items) (each_part P items each)
+  flat_map_parts_all P Q become preserves items each =
+      flat_map_all (λ part. AllByRecursion P part) Q become preserves (divided belongs items) (each_part P items each)
 
 -- ---- sequences
 

@@ -4,7 +4,7 @@ use Rattle.std.specs.List.{AllByRecursion}
 use Rattle.std.proofs.lemmas.List.Sums.{fold-append}
 use Rattle.shape_items.specs.Buffer.{Buffer}
 use Rattle.shape_items.specs.Clusters.{clusters, merge}
-use Rattle.shape_items.specs.ClusterOrder.{KeepsClusters}
+use Rattle.shape_items.specs.ClusterOrder.{PreservesClusters}
 use Rattle.shape_items.specs.Items.{Item}
 use Rattle.shape_items.specs.Spans.{AreSpansInOrder, merge_each, spans_merged_out}
 use Rattle.canonical_form.specs.Recompose.{is_blocked}
@@ -13,7 +13,7 @@ use Rattle.canonical_form.proofs.Recomposing.RecomposeLemmas.{by_steps}
 use Rattle.shape_items.proofs.Merging.KeyLemmas.{length-merge}
 use Rattle.shape_items.proofs.Merging.JoinLemmas.{Joined as SharesCluster, merge_joins}
 use Rattle.shape_items.proofs.Merging.NestedMergeLemmas.{merge-from_later}
-use Rattle.shape_items.proofs.MergingInOrder.EachSpanLemmas.{AreSpansInOrder-lower, length-merge_each, spans_merged_out-equal, spans_merged_out_keep}
+use Rattle.shape_items.proofs.MergingInOrder.EachSpanLemmas.{AreSpansInOrder-lower, length-merge_each, spans_merged_out-equal, spans_merged_out_preserve}
 use Rattle.shape_normalize.specs.RoundThree.{Absorbed, Placed, placed, ccc_of_placed, is_mark_placed, compose_placed, recomposed_items, absorbed_spans, spans_between, chained_spans}
 use Rattle.shape_plan.specs.Rules.{Rules}
 use Rattle.shape_normalize.proofs.RoundThree.RoundThreePlaceLemmas.{AreAbsorbedInOrder, InOrder, AreFrom, AreFrom-placed, in_order-higher, in_order-push, absorbed_is, recomposed_placed}
@@ -137,9 +137,9 @@ chained_merged rules b =
     spans_merged_out-equal (chained_spans out) (absorbed_spans out) b
     (sym (all_chained (length b.items) out b.items refl (recomposed_placed rules b.items).in_order))
 
--- merging them keeps the order of clusters, and brings no new one
-pub recomposed_spans_keep : (rules : Rules) (b : Buffer)
-    → KeepsClusters (clusters b.items) (clusters (spans_merged_out (absorbed_spans (recomposed_items rules b.items)) b).items)
-recomposed_spans_keep rules b =
-    (spans_merged_out_keep 0 (chained_spans (recomposed_items rules b.items)) b _ (chained_in_order rules b.items)
+-- merging them preserves the order of clusters, and brings no new one
+pub recomposed_spans_preserve : (rules : Rules) (b : Buffer)
+    → PreservesClusters (clusters b.items) (clusters (spans_merged_out (absorbed_spans (recomposed_items rules b.items)) b).items)
+recomposed_spans_preserve rules b =
+    (spans_merged_out_preserve 0 (chained_spans (recomposed_items rules b.items)) b _ (chained_in_order rules b.items)
     (sym (chained_merged rules b))).0

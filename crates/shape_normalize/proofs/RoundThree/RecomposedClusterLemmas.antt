@@ -1,21 +1,21 @@
--- Recomposing keeps the order of clusters, and brings no new one.
+-- Recomposing preserves the order of clusters, and brings no new one.
 use Rattle.std.proofs.Common.{◌≡◌, ℕ, suc, ◌+◌, Bool, List, [], ◌∷◌, ◌++◌, map, length, drop, get_or, Option, Some, refl, sym, ap, ap₂, subst, ◌∙◌, arith, append_assoc, append-nil, drop-cons}
 use Rattle.std.proofs.Math.ListN.{get_or-map}
 use Rattle.std.proofs.lemmas.List.{map-append, length-map, drop_all}
 use Rattle.shape_items.specs.Buffer.{Buffer}
 use Rattle.shape_items.specs.Clusters.{clusters}
-use Rattle.shape_items.specs.ClusterOrder.{KeepsClusters}
+use Rattle.shape_items.specs.ClusterOrder.{PreservesClusters}
 use Rattle.shape_items.specs.Items.{Item}
 use Rattle.canonical_form.specs.Recompose.{recomposed_from, recomposed, is_blocked}
-use Rattle.shape_items.proofs.Order.DrawsInOrder.{DrawsInOrder, DrawsInOrder-same, DrawsInOrder-then, KeepsClusters-from_draws}
-use Rattle.shape_buffer.proofs.Steps.KeeperLemmas.{KeepsClusters-then}
+use Rattle.shape_items.proofs.Order.DrawsInOrder.{DrawsInOrder, DrawsInOrder-same, DrawsInOrder-then, PreservesClusters-from_draws}
+use Rattle.shape_buffer.proofs.Steps.PreservationLemmas.{PreservesClusters-then}
 use Rattle.shape_items.proofs.MergingInOrder.EachSpanLemmas.{length-spans_merged_out}
 use Rattle.canonical_form.proofs.Recomposing.RecomposeLemmas.{by_steps}
 use Rattle.shape_plan.specs.Rules.{Rules}
 use Rattle.shape_items.specs.Spans.{spans_merged_out}
 use Rattle.shape_normalize.specs.RoundThree.{Placed, placed, ccc_of_placed, is_mark_placed, compose_placed, recomposed_items, absorbed_spans, with_cluster_at, round_three}
 use Rattle.shape_normalize.proofs.RoundThree.RoundThreePlaceLemmas.{absorbed_is}
-use Rattle.shape_normalize.proofs.RoundThree.ChainedSpanLemmas.{recomposed_spans_keep}
+use Rattle.shape_normalize.proofs.RoundThree.ChainedSpanLemmas.{recomposed_spans_preserve}
 use Rattle.shape_normalize.proofs.RoundOne.DrawnLemmas.{DrawsBefore-same, draws_without}
 
 -- ---- recomposing, of anything
@@ -76,11 +76,11 @@ module _ (rules : Rules) where
       (cluster_at_place cs)
       (λ starter mark made is. ap (cluster_at_place cs) (absorbed_is rules starter mark made is).2) (placed 0 items)))
 
-  -- recomposing keeps the order of clusters, and brings no new one
-  pub round_three_keeps : (b : Buffer) → KeepsClusters (clusters b.items) (clusters (round_three rules b).items)
-  round_three_keeps b =
+  -- recomposing preserves the order of clusters, and brings no new one
+  pub round_three_preserves : (b : Buffer) → PreservesClusters (clusters b.items) (clusters (round_three rules b).items)
+  round_three_preserves b =
       let out = recomposed_items rules b.items in
       let merged = spans_merged_out (absorbed_spans out) b in
-      KeepsClusters-then _ _ _
-      (recomposed_spans_keep rules b)
-      (KeepsClusters-from_draws _ _ (put_out_draws b.items merged.items (length-spans_merged_out (absorbed_spans out) b)))
+      PreservesClusters-then _ _ _
+      (recomposed_spans_preserve rules b)
+      (PreservesClusters-from_draws _ _ (put_out_draws b.items merged.items (length-spans_merged_out (absorbed_spans out) b)))

@@ -36,7 +36,7 @@ pub(crate) struct Expansion {
     pub(crate) seconds: Vec<Part>,
 }
 
-/// The split of a character: the hook's if it is given and the plan keeps the shaper, else Unicode's.
+/// The split of a character: the hook's if it is given and the plan uses the shaper, else Unicode's.
 pub(crate) fn split_of<T: ShapingTypes>(
     plan: &PlanOf<'_, T>,
     face: &T::Face,
@@ -68,7 +68,7 @@ fn keep_second<F: hb_font_t>(face: &F, b: char, seconds: &mut Vec<Part>) -> Resu
     Ok(true)
 }
 
-/// Walks along the chain of a character and keeps its second parts. Answers the last point that has a
+/// Walks along the chain of a character and keeps its second parts. Returns the last point that has a
 /// glyph and after which every second part has one, and how many these are; if the shortest expansion
 /// is asked for, of a character without a glyph, the first such point.
 fn walk_chain<T: ShapingTypes>(

@@ -1,7 +1,7 @@
 //! The modes of normalising, by what they choose and whether they compose.
 //!
 //! AUTO leaves the choice to this layer, which may depend on what the plan can place; today that is the mode with
-//! composed diacritics in every case. A plan that keeps no shaper has no preference to ask, so it takes AUTO.
+//! composed diacritics in every case. A plan that uses no shaper has no preference to ask, so it takes AUTO.
 ghost use Rattle.std.specs.Prelude.{◌≡◌, Bool};
 ghost use Rattle.shape_plan.specs.Rules.{used_mode, goes_short as goes_short_in, mode_recomposes};
 ghost use Rattle.shape_normalize.specs.OneWalk.{shortest_of};
@@ -15,7 +15,7 @@ use shape_plan::normalization_mode::{
 use shape_plan::ot_shaper::hb_ot_shaper_t;
 use shape_plan::shaping_types::{PlanOf, ShapingTypes};
 
-/// The mode of a plan: the shaper's preference if the plan keeps it, else AUTO.
+/// The mode of a plan: the shaper's preference if the plan uses it, else AUTO.
 fn mode_of<T: ShapingTypes>(plan: &PlanOf<'_, T>) -> hb_ot_shape_normalization_mode_t
     ensures { result ≡ used_mode T.Shaper.constants.preference plan.now }
 {

@@ -117,7 +117,7 @@ fn is_full<T: ShapingTypes>(plan: &PlanOf<'_, T>) -> bool
 }
 
 /// Whether a text, prepared for normalising, meets the premises of canonical form, except for those that a
-/// shaper's hooks owe ([`crate::laws::hooks_not_given_are_lawful`] has them of hooks that aren't given):
+/// shaper's hooks must provide ([`crate::laws::hooks_not_given_are_lawful`] has them of hooks that aren't given):
 /// the mode decomposes fully, no hook reorders marks, items are as they were prepared, there is no
 /// variation selector, a mark stands past the first character, and in the full decomposition each
 /// character has a glyph and no run of marks is longer than 32.

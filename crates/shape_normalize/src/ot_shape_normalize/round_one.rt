@@ -115,9 +115,9 @@ fn expand_all<T: ShapingTypes>(
         expansion: Expansion::new(alloc),
     };
     let mut rest = buffer.infos();
-    'sequences: while let Some((sequence, behind)) = first_sequence(rest) {
+    'sequences: while let Some((sequence, after)) = first_sequence(rest) {
         out.put_sequence::<T>(plan, face, buffer, sequence)?;
-        rest = behind;
+        rest = after;
     }
     Ok(out)
 }

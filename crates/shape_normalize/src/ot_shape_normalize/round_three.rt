@@ -29,7 +29,7 @@ use shape_plan::ot_shaper::hb_ot_shaper_t;
 use shape_plan::shaping_types::{Meaning, PlanOf, ShapingTypes};
 use std::alloc::{AllocError, Global};
 
-/// What two characters compose to: the hook's if it is given and the plan keeps the shaper, else Unicode's.
+/// What two characters compose to: the hook's if it is given and the plan uses the shaper, else Unicode's.
 fn compose_of<T: ShapingTypes>(
     plan: &PlanOf<'_, T>,
     face: &T::Face,

@@ -1,4 +1,4 @@
-//! The hooks of a script shaper: what each is called for, what it means and what its author owes.
+//! The hooks of a script shaper: what each is called for, what it means and what its author must provide.
 //!
 //! A hook is a trait of its own, implemented for a type that the shaper names: the shaper itself as a rule,
 //! or [`no_hook`](crate::ot_shaper::no_hook) if it gives none. `S` is the shaper, `D` what it keeps in

@@ -44,7 +44,7 @@ fn kern_tag(direction: Direction) -> hb_tag_t
     }
 }
 
-/// Whether the kept shaper is made for another script than the one chosen for `GPOS`.
+/// Whether the used shaper is made for another script than the one chosen for `GPOS`.
 fn disables_gpos<S>(
     gpos_tag: Option<hb_tag_t>,
     shaper: ChosenShaper<'_, S>,
@@ -167,7 +167,7 @@ impl PlanFacts {
         !(self.apply_gpos() || (self.apply_kerx() || self.apply_kern()))
     }
 
-    /// As the given shaper wishes; but `kerx`, and `kern` with a state machine, see to marks themselves.
+    /// As the given shaper prefers; but `kerx`, and `kern` with a state machine, see to marks themselves.
     fn zero_marks(&self) -> bool
         ensures { result ≡ zero_marks_of self.now }
     {

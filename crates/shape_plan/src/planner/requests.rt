@@ -134,7 +134,7 @@ pub(crate) fn begin(
     add_tracking(builder)
 }
 
-/// A script's own features, if the shaper is kept and collects some. The builder is no longer simple
+/// A script's own features, if the shaper is used and collects some. The builder is no longer simple
 /// when the hook sees it.
 pub(crate) fn collect<T: ShapingTypes>(
     alloc: Global,
@@ -241,7 +241,7 @@ pub(crate) fn widen(
     add_user_features(builder, features)
 }
 
-/// What the shaper asks for last, if it is kept and does.
+/// What the shaper asks for last, if it is used and does.
 pub(crate) fn override_features<T: ShapingTypes>(
     alloc: Global,
     shaper: ChosenShaper<'_, T::Shaper>,

@@ -10,7 +10,7 @@ use Rattle.shape_items.proofs.Merging.ClusterLemmas.{merge_short, merge_long}
 use Rattle.shape_items.proofs.Order.GraphemeOrderLemmas.{AreOneCluster}
 use Rattle.shape_items.proofs.Merging.JoinLemmas.{cluster_at}
 use Rattle.shape_items.proofs.Merging.KeyLemmas.{length-merge}
-use Rattle.shape_items.proofs.Merging.MergeOrder.{least_of_span_reached, put_range_below, put_range_inside, put_range_above, growth_right-within, place_cases, merge_keeps}
+use Rattle.shape_items.proofs.Merging.MergeOrder.{least_of_span_reached, put_range_below, put_range_inside, put_range_above, growth_right-within, place_cases, merge_preserves}
 use Rattle.shape_items.specs.GraphemeSpans.{spans_from}
 use Rattle.shape_prepare.specs.NativeOrder.{parted}
 use Rattle.shape_prepare.proofs.Spans.ReversalLemmas.{total}
@@ -140,7 +140,7 @@ parts-merged start (size ∷ sizes) xs rising some within =
     let le : start ≤ end = omega arith in
     let spread = merge-spreads start end xs rising le inside in
     let many : length next ≡ length xs = length-merge start end xs in
-    let goes_on : IsNonDecreasing (clusters next) = (merge_keeps start end xs next inside refl).rising rising in
+    let goes_on : IsNonDecreasing (clusters next) = (merge_preserves start end xs next inside refl).rising rising in
     let rest = parts-merged end sizes next goes_on some.1 (omega arith) in
     let last = all_merged (spans_from end sizes) next in
     let here : start < end = omega (arith, some.0) in

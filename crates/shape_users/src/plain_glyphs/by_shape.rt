@@ -3,7 +3,7 @@
 //! [`plain_glyphs_formed`](super::plain_glyphs_formed) have those of `shape_with_plan`. Nothing is asked of the text.
 ghost use Rattle.std.specs.Prelude.{◌≡◌, ◌≢◌, [], All, IfOk, IfErr};
 ghost use Rattle.shape_normalize.specs.CanonicalForm.{AreEquivalent};
-ghost use Rattle.shape_normalize.specs.Normalized.{HasItemGlyph, KeepsFeatures, Recomposes};
+ghost use Rattle.shape_normalize.specs.Normalized.{HasItemGlyph, PreservesFeatures, Recomposes};
 ghost use Rattle.shape_normalize.specs.Origins.{ComesByPlace};
 ghost use Rattle.shape_pipeline.specs.Canonical.{prepared_characters, normalised_characters};
 ghost use Rattle.shape_pipeline.specs.Canonical.{HasPlainText};
@@ -13,7 +13,7 @@ ghost use Rattle.shape_users.specs.PlainGlyphs.{HaveGlyphs, NoStepPasses, SomeSt
 
 use shape_buffer::buffer::{GlyphBuffer, ShapeError, ShapeFault, UnicodeBuffer};
 use shape_buffer::interfaces::{NoLookups, hb_font_t, hb_unicode_funcs_t};
-use shape_pipeline::laws::plain_runs_owe_nothing;
+use shape_pipeline::laws::plain_runs_have_no_obligations;
 use shape_pipeline::ot_shaper::{Runs, hb_default_shaper_t};
 use shape_pipeline::shape;
 use shape_plan::planner::Plans;
@@ -68,7 +68,7 @@ where
     ensures features { let run = ⟦<hb_default_shaper_t as Runs<U, F, NoLookups>>⟧.run
         (planned_for U.unicode ⟦<hb_default_shaper_t as Plans<U, F, NoLookups>>⟧.planning
         face.now shaper.now [] text) face.now in
-        IfOk result (λ _. KeepsFeatures (prepared_text run text) (normalised_list run text)) }
+        IfOk result (λ _. PreservesFeatures (prepared_text run text) (normalised_list run text)) }
     ensures places { let run = ⟦<hb_default_shaper_t as Runs<U, F, NoLookups>>⟧.run
         (planned_for U.unicode ⟦<hb_default_shaper_t as Plans<U, F, NoLookups>>⟧.planning
         face.now shaper.now [] text) face.now in
@@ -85,6 +85,6 @@ where
         HasPlainText run text → IfOk result (λ _. AreEquivalent run.rules
         (prepared_characters run text) (normalised_characters run text)) }
 {
-    plain_runs_owe_nothing::<U, F>();
+    plain_runs_have_no_obligations::<U, F>();
     shape::<U, F, NoLookups, hb_default_shaper_t>(alloc, face, shaper, &[], text)
 }

@@ -97,11 +97,11 @@ where
     Ok(same)
 }
 
-/// Whether two spellings are canonically equivalent. Answers `None` if this can't be told by their
+/// Whether two spellings are canonically equivalent. Returns `None` if this can't be decided by their
 /// normalised characters: for one of them a premise of canonical form doesn't hold, as for a text without a
 /// mark past its first character (so most words without accents), with a variation selector, with a
 /// character that the face has no glyph for, or with too many marks in a row. Refuses as `same_word` does,
-/// but spellings that are too long to normalise only if this can be told.
+/// but spellings that are too long to normalise only if this can be decided.
 pub fn equivalent_spellings<U, F, M, S>(
     alloc: Global,
     face: &F,
@@ -114,22 +114,22 @@ where
     F: hb_font_t,
     M: hb_ot_layout_t<F>,
     S: hb_ot_shaper_t<U, F, M>,
-    ensures told { let run = ⟦<S as Runs<U, F, M>>⟧.run plan.now face.now in
+    ensures decided { let run = ⟦<S as Runs<U, F, M>>⟧.run plan.now face.now in
         let a = prepared_text run (text_spelled first.now) in
         let b = prepared_text run (text_spelled second.now) in
-        HasLawfulHooks run.rules → IfOk result (λ told. IsSome told
+        HasLawfulHooks run.rules → IfOk result (λ decided. IsSome decided
         ↔ (CanonicalFormPremises run.rules a × CanonicalFormPremises run.rules b)) }
     ensures equivalent { let run = ⟦<S as Runs<U, F, M>>⟧.run plan.now face.now in
         let a = text_of (prepared_text run (text_spelled first.now)) in
         let b = text_of (prepared_text run (text_spelled second.now)) in
-        HasLawfulHooks run.rules → IfOk result (λ told.
-        IfSome told (λ same. IsTrue same ↔ AreEquivalent run.rules a b)) }
+        HasLawfulHooks run.rules → IfOk result (λ decided.
+        IfSome decided (λ same. IsTrue same ↔ AreEquivalent run.rules a b)) }
     ensures length { let run = ⟦<S as Runs<U, F, M>>⟧.run plan.now face.now in
         result ≡ Err ShapeError.Length → IsTooLong run first.now ⊎ IsTooLong run second.now }
     ensures too_long { let run = ⟦<S as Runs<U, F, M>>⟧.run plan.now face.now in
         IsTooLongToPrepare run first.now ⊎ IsTooLongToPrepare run second.now → IsErr result }
     ensures counted { let run = ⟦<S as Runs<U, F, M>>⟧.run plan.now face.now in
-        IfOk result (λ told. IsSome told → IsTooLong run first.now ⊎ IsTooLong run second.now → ⊥) }
+        IfOk result (λ decided. IsSome decided → IsTooLong run first.now ⊎ IsTooLong run second.now → ⊥) }
     ensures bytes { 2 ^ 32 ≤ length first.now → result ≡ Err ShapeError.Length }
 {
     let mut a = prepared::<TypesOf<U, F, M, S>>(alloc, face, plan, first)?;

@@ -14,7 +14,7 @@ use shape_pipeline::ot_shaper::hb_ot_shaper_t;
 use shape_sessions::outcome::Outcome;
 use shape_sessions::parse::{Words, natural};
 use shape_sessions::printing::append_line;
-use shape_sessions::session::Manner;
+use shape_sessions::session::TextSettings;
 use shape_sessions::unicode_tables::UnicodeTables;
 use std::alloc::Global;
 use std::io::Write;
@@ -25,7 +25,7 @@ use std::io::Write;
 pub fn answer<W: Write>(
     alloc: Global,
     face: &MapFace,
-    manner: Manner,
+    text_settings: TextSettings,
     mut words: Words,
     writer: &mut W,
 ) -> Outcome
@@ -40,7 +40,7 @@ pub fn answer<W: Write>(
     let Some(text_end) = text_len(words) else {
         return Outcome::Malformed;
     };
-    let written = match lines(alloc, face, manner, words, text_end, width) {
+    let written = match lines(alloc, face, text_settings, words, text_end, width) {
         Ok(lines) => writer.write_all(lines.as_bytes()),
         Err(cause) => write_refusal(cause, writer),
     };
@@ -54,16 +54,16 @@ pub fn answer<W: Write>(
 fn lines(
     alloc: Global,
     face: &MapFace,
-    manner: Manner,
+    text_settings: TextSettings,
     words: Words,
     text_end: u32,
     width: u32,
 ) -> Result<String, ShapeError>
     requires { IsText (words_of words.rest.now) }
 {
-    let text = filled(alloc, manner, words)?;
+    let text = filled(alloc, text_settings, words)?;
     with_shaper(
-        manner.mode,
+        text_settings.mode,
         Cutting {
             alloc,
             face,

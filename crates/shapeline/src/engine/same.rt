@@ -11,7 +11,7 @@ use shape_buffer::interfaces::{MapFace, NoLookups};
 use shape_pipeline::ot_shaper::hb_ot_shaper_t;
 use shape_sessions::outcome::Outcome;
 use shape_sessions::parse::Words;
-use shape_sessions::session::Manner;
+use shape_sessions::session::TextSettings;
 use shape_sessions::unicode_tables::UnicodeTables;
 use std::alloc::Global;
 use std::io::Write;
@@ -21,7 +21,7 @@ use std::io::Write;
 pub fn answer<W: Write>(
     alloc: Global,
     face: &MapFace,
-    manner: Manner,
+    text_settings: TextSettings,
     words: Words,
     writer: &mut W,
 ) -> Outcome
@@ -33,7 +33,7 @@ pub fn answer<W: Write>(
     if text_len(first).is_none() || text_len(second).is_none() {
         return Outcome::Malformed;
     }
-    let written = match are_same(alloc, face, manner, first, second) {
+    let written = match are_same(alloc, face, text_settings, first, second) {
         Ok(true) => writer.write_all(b"same yes\n"),
         Ok(false) => writer.write_all(b"same no\n"),
         Err(cause) => write_refusal(cause, writer),
@@ -48,23 +48,27 @@ pub fn answer<W: Write>(
 fn are_same(
     alloc: Global,
     face: &MapFace,
-    manner: Manner,
+    text_settings: TextSettings,
     first: Words,
     second: Words,
 ) -> Result<bool, ShapeError>
     requires first { IsText (words_of first.rest.now) }
     requires second { IsText (words_of second.rest.now) }
 {
-    let a = in_common(alloc, manner, first)?;
-    let b = in_common(alloc, manner, second)?;
-    with_shaper(manner.mode, Comparing { alloc, face, a, b })
+    let a = in_common(alloc, text_settings, first)?;
+    let b = in_common(alloc, text_settings, second)?;
+    with_shaper(text_settings.mode, Comparing { alloc, face, a, b })
 }
 
 /// A buffer with a text in the script Common, which runs from left to right if lines have left it open.
-fn in_common(alloc: Global, manner: Manner, words: Words) -> Result<UnicodeBuffer, ShapeError>
+fn in_common(
+    alloc: Global,
+    text_settings: TextSettings,
+    words: Words,
+) -> Result<UnicodeBuffer, ShapeError>
     requires { IsText (words_of words.rest.now) }
 {
-    let mut text = filled(alloc, manner, words)?;
+    let mut text = filled(alloc, text_settings, words)?;
     if text.direction() == Direction::Invalid {
         text.set_direction(Direction::LeftToRight);
     }

@@ -16,7 +16,7 @@ use shape_pipeline::ot_shaper::hb_ot_shaper_t;
 use shape_sessions::outcome::Outcome;
 use shape_sessions::parse::{Words, character};
 use shape_sessions::printing::{append_glyphs, append_items};
-use shape_sessions::session::Manner;
+use shape_sessions::session::TextSettings;
 use shape_sessions::unicode_tables::UnicodeTables;
 use std::alloc::Global;
 use std::io;
@@ -27,7 +27,7 @@ use std::io::Write;
 pub fn answer<W: Write>(
     alloc: Global,
     face: &MapFace,
-    manner: Manner,
+    text_settings: TextSettings,
     words: Words,
     writer: &mut W,
 ) -> Outcome
@@ -36,7 +36,7 @@ pub fn answer<W: Write>(
     if text_len(words).is_none() {
         return Outcome::Malformed;
     }
-    let written = match lines(alloc, face, manner, words) {
+    let written = match lines(alloc, face, text_settings, words) {
         Ok(lines) => writer.write_all(lines.as_bytes()),
         Err(cause) => write_refusal(cause, writer),
     };
@@ -71,7 +71,7 @@ pub(super) fn text_len(words: Words) -> Option<u32>
 /// with `Memory` if a growth was refused.
 pub(super) fn filled(
     alloc: Global,
-    manner: Manner,
+    text_settings: TextSettings,
     words: Words,
 ) -> Result<UnicodeBuffer, ShapeError>
     requires { IsText (words_of words.rest.now) }
@@ -79,9 +79,9 @@ pub(super) fn filled(
         ≡ items_from 0 (characters (words_of words.entry.rest.now))) }
     ensures settings { IfOk result (λ buffer. record buffer { items = []; positions = [] }
         ≡ record new_buffer {
-          direction = manner.direction;
-          flags = manner.flags;
-          cluster_level = manner.level;
+          direction = text_settings.direction;
+          flags = text_settings.flags;
+          cluster_level = text_settings.level;
         }) }
     ensures memory { IsOkUnless result ShapeError.Memory }
 {
@@ -93,20 +93,25 @@ pub(super) fn filled(
             offset = offset.saturating_add(c.len_utf8() as u32);
         }
     }
-    buffer.set_direction(manner.direction);
-    buffer.set_flags(manner.flags);
-    buffer.set_cluster_level(manner.level);
+    buffer.set_direction(text_settings.direction);
+    buffer.set_flags(text_settings.flags);
+    buffer.set_cluster_level(text_settings.level);
     Ok(buffer)
 }
 
 /// The lines that answer a text.
-fn lines(alloc: Global, face: &MapFace, manner: Manner, words: Words) -> Result<String, ShapeError>
+fn lines(
+    alloc: Global,
+    face: &MapFace,
+    text_settings: TextSettings,
+    words: Words,
+) -> Result<String, ShapeError>
     requires { IsText (words_of words.rest.now) }
 {
-    let text = filled(alloc, manner, words)?;
-    let again = filled(alloc, manner, words)?;
+    let text = filled(alloc, text_settings, words)?;
+    let again = filled(alloc, text_settings, words)?;
     with_shaper(
-        manner.mode,
+        text_settings.mode,
         Answering {
             alloc,
             face,

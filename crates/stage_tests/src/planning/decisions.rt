@@ -9,7 +9,7 @@ use shape_buffer::buffer::{Direction, Script, UnicodeBuffer, hb_tag_t};
 use shape_buffer::interfaces::PlainUnicode;
 use shape_plan::ot_shape_plan::hb_ot_shape_plan_t;
 use std::alloc::AllocError;
-use test_worlds::TestFace;
+use test_fixtures::TestFace;
 
 /// Who positions and kerns.
 #[derive(Clone, Copy)]
@@ -167,7 +167,7 @@ const DEFAULT_BRINGS: Brings = Brings {
     makes_data: false,
 };
 
-const WISHING_BRINGS: Brings = Brings {
+const PREFERRING_BRINGS: Brings = Brings {
     is_default: false,
     ..DEFAULT_BRINGS
 };
@@ -184,7 +184,7 @@ const SCRIPT_BRINGS: Brings = Brings {
 fn brings_of(rt: &impl Host, shaper: &str) -> Brings {
     match shaper {
         "default" => DEFAULT_BRINGS,
-        "wishing" => WISHING_BRINGS,
+        "preferring" => PREFERRING_BRINGS,
         "script" => SCRIPT_BRINGS,
         _ => unknown(rt, shaper),
     }
@@ -241,11 +241,11 @@ fn by_the_default_shaper(rt: HostRuntime) {
 }
 
 #[test]
-fn by_a_shaper_with_wishes(rt: HostRuntime) {
+fn by_a_shaper_with_preferences(rt: HostRuntime) {
     check(
         &rt,
-        "table wishing plain rtl -> 1024 plans agree\n\
-         table wishing plain ttb -> 1024 plans agree",
+        "table preferring plain rtl -> 1024 plans agree\n\
+         table preferring plain ttb -> 1024 plans agree",
     );
 }
 
@@ -266,14 +266,14 @@ fn gpos_then_kerx(rt: HostRuntime) {
     );
 }
 
-/// The wishes are those of the given shaper, though it gives way; in vertical text of a face with `GSUB`
+/// The preferences are those of the given shaper, though it gives way; in vertical text of a face with `GSUB`
 /// it stays.
 #[test]
-fn wishes_of_a_replaced_shaper(rt: HostRuntime) {
+fn preferences_of_a_replaced_shaper(rt: HostRuntime) {
     check(
         &rt,
-        "plan wishing morx ltr -> nobody zeroes places morx makes-classes\n\
-         plan wishing morx+gsub ttb -> nobody zeroes places moves-back makes-classes shaper",
+        "plan preferring morx ltr -> nobody zeroes places morx makes-classes\n\
+         plan preferring morx+gsub ttb -> nobody zeroes places moves-back makes-classes shaper",
     );
 }
 

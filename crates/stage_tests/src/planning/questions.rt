@@ -1,4 +1,4 @@
-//! Rows of planning: `QUESTION SHAPER FACE DIRECTION FEATURES.. -> ANSWER`. The shaper is `default`, `wishing`,
+//! Rows of planning: `QUESTION SHAPER FACE DIRECTION FEATURES.. -> ANSWER`. The shaper is `default`, `preferring`,
 //! `script` or `dumber`; the face is `plain` or what it has, separated by `+`; `rows` says how features are written.
 //!
 //! | question | answer |
@@ -10,13 +10,13 @@
 //! | `data` | the data of its shaper |
 //! | `requests` | what is requested |
 //! | `compiled` | direction and features of the plan that a planner compiles, whether there is a shaper and `GPOS` |
-//! | `kept` | the shaper that is kept, whether it wants marks zeroed, and placed |
+//! | `kept` | the shaper that is used, whether it wants marks zeroed, and placed |
 //! | `builder` | what a builder is asked for by each of its calls |
 use super::decisions::{
     compare_with_table, decided, latin, print_decided, print_masks, print_parts,
 };
 use super::requests::{begun, collected, compiled, print_called, print_kept, print_planner};
-use super::shapers::{ScriptShaper, WishingShaper};
+use super::shapers::{PreferringShaper, ScriptShaper};
 use super::support::face_of;
 use crate::plans::planned;
 use crate::rows::{Answers, Host, check_rows, cut, cut_or, direction_of, features_of, unknown};
@@ -29,7 +29,7 @@ use shape_plan::ot_shaper::{
 use shape_plan::shaping_types::{DataOf, PlanOf, ShapingTypes, TypesOf};
 use std::alloc::AllocError;
 use std::fmt::Debug;
-use test_worlds::{TestFace, TestLayout};
+use test_fixtures::{TestFace, TestLayout};
 
 /// A question about plans for a face.
 #[derive(Drop)]
@@ -110,8 +110,8 @@ fn ask_by_name<U: hb_unicode_funcs_t, F: hb_font_t, M: hb_ot_layout_t<F>>(
 ) -> Result<(), AllocError> {
     match shaper {
         "default" => ask::<TypesOf<U, F, M, hb_default_shaper_t>>(rt, case, &DEFAULT_SHAPER, found),
-        "wishing" => {
-            ask::<TypesOf<U, F, M, WishingShaper>>(rt, case, &WishingShaper::new(), found)
+        "preferring" => {
+            ask::<TypesOf<U, F, M, PreferringShaper>>(rt, case, &PreferringShaper::new(), found)
         }
         "script" => ask::<TypesOf<U, F, M, ScriptShaper>>(rt, case, &ScriptShaper, found),
         "dumber" => ask::<TypesOf<U, F, M, hb_dumber_shaper_t>>(rt, case, &DUMBER_SHAPER, found),

@@ -1,4 +1,4 @@
-//! The requests, as the builder of a planner shows them: the shaper that is kept, how many requests there are, whether
+//! The requests, as the builder of a planner shows them: the shaper that is used, how many requests there are, whether
 //! the builder is simple, and the requests in order: `TAG/FLAGS=VALUE`, `pause`, or `pause=N` with the number of a
 //! shaper's pause, in decimal.
 use super::questions::{Case, check};
@@ -80,7 +80,7 @@ fn print_requests(builder: &hb_ot_map_builder_t, found: &mut String) -> Result<(
     Ok(())
 }
 
-/// The word for the shaper that is kept.
+/// The word for the shaper that is used.
 fn chosen<S>(shaper: &ChosenShaper<'_, S>) -> &'static str {
     match shaper {
         ChosenShaper::Given(_) => " given",
@@ -88,7 +88,7 @@ fn chosen<S>(shaper: &ChosenShaper<'_, S>) -> &'static str {
     }
 }
 
-/// Prints the shaper that a planner keeps, and its requests.
+/// Prints the shaper that a planner uses, and its requests.
 pub fn print_planner<F, S>(
     planner: &hb_ot_shape_planner_t<'_, F, S>,
     found: &mut String,
@@ -97,7 +97,7 @@ pub fn print_planner<F, S>(
     print_requests(&planner.ot_map, found)
 }
 
-/// Prints the shaper that is kept, and whether the given one wants marks zeroed and placed.
+/// Prints the shaper that is used, and whether the given one wants marks zeroed and placed.
 pub fn print_kept<F, S>(
     planner: &hb_ot_shape_planner_t<'_, F, S>,
     found: &mut String,
@@ -187,7 +187,7 @@ fn of_a_shaper(rt: HostRuntime) {
     );
 }
 
-/// The shaper that knows no script is kept as such if a shaper is replaced, and else like any other.
+/// The shaper that knows no script is used as such if a shaper is replaced, and else like any other.
 #[test]
 fn dumber(rt: HostRuntime) {
     check(

@@ -1,4 +1,4 @@
-//! Shapers of the tests: one with wishes alone, and one of a script, with hooks.
+//! Shapers of the tests: one with preferences alone, and one of a script, with hooks.
 ghost use Rattle.std.specs.Prelude.{◌≡◌, [], ◌∷◌, true, false, Some, None, pos, refl, length};
 ghost use Rattle.shape_buffer.specs.MapBuilder.{feature, feature_on, pause};
 ghost use Rattle.shape_plan.specs.Tags.{tag};
@@ -14,10 +14,10 @@ use shape_plan::ot_shaper::hooks::{
 };
 use shape_plan::ot_shaper::{HB_OT_SHAPE_ZERO_WIDTH_MARKS_NONE, no_hook, script_shaper};
 use std::alloc::Global;
-use test_worlds::{Automatic, EarlyHanging};
+use test_fixtures::{Automatic, EarlyHanging};
 
 /// Wants marks zeroed early and placed by their extents; gives no hook.
-pub type WishingShaper = test_worlds::WishingShaper<Automatic, EarlyHanging>;
+pub type PreferringShaper = test_fixtures::PreferringShaper<Automatic, EarlyHanging>;
 
 /// Is made for script 2, wants nothing for marks, asks for feature 3 and pause 9 after it, switches feature 4
 /// on for each syllable at last, and keeps how many features the user asks for.

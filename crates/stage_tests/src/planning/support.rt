@@ -3,7 +3,7 @@ use crate::faces::describe;
 use crate::rows::Host;
 use shape_buffer::buffer::hb_tag_t;
 use shape_buffer::interfaces::hb_tables_t;
-use test_worlds::{PLAIN_FACE, TestFace};
+use test_fixtures::{PLAIN_FACE, TestFace};
 
 pub const GSUB: u32 = 1;
 

@@ -1,4 +1,4 @@
-//! Rows of substitution: `LOOK MANNER TEXT FEATURES.. -> ANSWER` over a world. `worlds` says how a world, a manner and
+//! Rows of substitution: `LOOK SETTINGS TEXT FEATURES.. -> ANSWER` over a fixture. `fixtures` says how a fixture, settings and
 //! a text are written, `rows` how a feature is. `LOOK/doubling` looks at runs by the shaper with the hooks
 //! `setup_masks` and `pause`, all others at runs by the default one.
 //!
@@ -13,14 +13,14 @@
 //! | `marks` | what becomes of two marks of its own; `classes` says of what kind |
 //! | `length` | how many glyphs there are, in decimal, or why the run was refused and what it left |
 //! | `stages`, `run` | `substituted` as a number and `shaped`, which may be refused; `looks` says more |
+use super::fixtures::{face_of, stages_of};
 use super::looks::{Case, look};
-use super::worlds::{face_of, stages_of};
 use crate::rows::{Answers, Host, check_rows, cut, cut_or, features_of, unknown};
 use shape_buffer::buffer::ShapeError;
 use shape_buffer::interfaces::{hb_font_t, hb_ot_layout_t, hb_unicode_funcs_t};
 use shape_plan::ot_shaper::{DEFAULT_SHAPER, hb_default_shaper_t};
 use shape_plan::shaping_types::TypesOf;
-use test_worlds::{DoublingShaper, SmallUnicode, TestFace, TestLayout};
+use test_fixtures::{DoublingShaper, SmallUnicode, TestFace, TestLayout};
 
 /// Shows what a case looks at by a shaper's name. The shapers are named here and the other types of a run in `shown`:
 /// a function that names all four takes long to prove, whatever it does.
@@ -39,7 +39,7 @@ fn look_by_name<U: hb_unicode_funcs_t, F: hb_font_t, M: hb_ot_layout_t<F>>(
     }
 }
 
-/// Shows what a case over a world looks at, and tells whether it wasn't refused.
+/// Shows what a case over a fixture looks at, and tells whether it wasn't refused.
 pub fn shown(
     rt: &impl Host,
     face: &TestFace<'_>,
@@ -49,14 +49,14 @@ pub fn shown(
 ) -> Result<bool, ShapeError> {
     let (look, case) = cut(rt, case, " ");
     let (look, shaper) = cut_or(look, "/", "default");
-    let (manner, case) = cut(rt, case, " ");
+    let (text_settings, case) = cut(rt, case, " ");
     let (text, features) = cut_or(case, " ", "");
     let features = features_of(rt, features)?;
     let case = Case {
         look,
         face,
         features: features.as_slice(),
-        manner,
+        text_settings,
         text,
         wanted,
     };
@@ -72,8 +72,8 @@ impl Answers for TestFace<'_> {
     }
 }
 
-/// Compares what cases over a world show.
-pub fn check(rt: &impl Host, world: &str, rows: &str) {
-    let stages = stages_of(rt, world).expect(rt, "memory");
-    check_rows(rt, rows, &face_of(rt, world, stages.as_slice()));
+/// Compares what cases over a fixture show.
+pub fn check(rt: &impl Host, fixture: &str, rows: &str) {
+    let stages = stages_of(rt, fixture).expect(rt, "memory");
+    check_rows(rt, rows, &face_of(rt, fixture, stages.as_slice()));
 }

@@ -3,8 +3,8 @@
 //! A look tells whether there was something to see: a stage or a run that was refused leaves nothing to print, but what
 //! it leaves is compared here. An error says that a call was refused before, for memory or for length.
 use super::classes::put_marks;
+use super::fixtures::{fill, text_of};
 use super::runs::{mask, set_glyphs, set_masks, shaped, substitute_text};
-use super::worlds::{fill, text_of};
 use crate::plans::planned;
 use crate::printing::print_items;
 use crate::rows::{Host, assert_answer, assert_same, unknown};
@@ -22,7 +22,7 @@ pub struct Case<'a, F> {
     pub look: &'a str,
     pub face: &'a F,
     pub features: &'a [Feature],
-    pub manner: &'a str,
+    pub text_settings: &'a str,
     pub text: &'a str,
     /// What a run shows that isn't refused, for the look `run`.
     pub wanted: &'a str,
@@ -35,7 +35,7 @@ pub fn look<T: ShapingTypes>(
     shaper: &T::Shaper,
     found: &mut String,
 ) -> Result<bool, ShapeError> {
-    let text = text_of(rt, case.manner, case.text)?;
+    let text = text_of(rt, case.text_settings, case.text)?;
     if is_of_a_run(case.look) {
         return look_at_run::<T>(rt, case, shaper, text, found);
     }

@@ -1,5 +1,5 @@
 //! Substitution by the table `morx` in place of the stages: it deletes x, or the glyph that the value of the
-//! user's first feature names. The worlds have stages that are seen if they run.
+//! user's first feature names. The fixtures have stages that are seen if they run.
 
 use super::answers::check;
 

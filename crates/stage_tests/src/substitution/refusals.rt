@@ -3,14 +3,14 @@
 //! gate's script refuses one growth after the other, and reads that it was so.
 
 use super::answers::shown;
-use super::worlds::{face_of, stages_of};
+use super::fixtures::{face_of, stages_of};
 use crate::rows::{Host, assert_answer};
 use std::test::Fail;
 
-/// Compares what a case over a world shows.
-fn shown_or_refused(rt: &impl Host, world: &str, case: &str, wanted: &str) -> Result<(), Fail> {
-    let stages = stages_of(rt, world)?;
-    let face = face_of(rt, world, stages.as_slice());
+/// Compares what a case over a fixture shows.
+fn shown_or_refused(rt: &impl Host, fixture: &str, case: &str, wanted: &str) -> Result<(), Fail> {
+    let stages = stages_of(rt, fixture)?;
+    let face = face_of(rt, fixture, stages.as_slice());
     let mut found = String::new(rt.alloc());
     if shown(rt, &face, case, wanted, &mut found)? {
         assert_answer(rt, case, found.as_str(), wanted);

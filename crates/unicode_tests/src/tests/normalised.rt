@@ -48,30 +48,30 @@ fn forms_of<'a>(rt: &(impl Abort + AllocGlobal), way: Way, rows: &'a str) -> Vec
 }
 
 /// Asserts that two forms have one list exactly when they are one.
-fn assert_told_from(rt: &impl Abort, one: &Listed<'_>, other: &Listed<'_>) {
+fn assert_distinguished_from(rt: &impl Abort, one: &Listed<'_>, other: &Listed<'_>) {
     let is_one = one.list.as_slice() == other.list.as_slice();
     assert_row(rt, one.form, is_one, one.form == other.form);
 }
 
 /// Compares a form with each.
-fn assert_told(rt: &impl Abort, form: &Listed<'_>, forms: &[Listed<'_>]) {
+fn assert_distinguished(rt: &impl Abort, form: &Listed<'_>, forms: &[Listed<'_>]) {
     for other in forms {
-        assert_told_from(rt, form, other);
+        assert_distinguished_from(rt, form, other);
     }
 }
 
 /// Compares each form with each.
-fn check_told_apart(rt: &(impl Abort + AllocGlobal), way: Way, rows: &str) {
+fn check_distinguished(rt: &(impl Abort + AllocGlobal), way: Way, rows: &str) {
     let forms = forms_of(rt, way, rows);
     for form in forms.as_slice() {
-        assert_told(rt, form, forms.as_slice());
+        assert_distinguished(rt, form, forms.as_slice());
     }
 }
 
 #[test]
 fn other_forms_have_other_lists(rt: HostRuntime) {
     for way in [Way::Splits, Way::Composes] {
-        check_told_apart(&rt, way, NORMALIZATION_ROWS);
+        check_distinguished(&rt, way, NORMALIZATION_ROWS);
     }
 }
 

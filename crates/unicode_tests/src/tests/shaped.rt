@@ -13,7 +13,7 @@ use shape_pipeline::ot_shaper::{DEFAULT_SHAPER, hb_default_shaper_t};
 use shape_pipeline::shape_with_plan;
 use shape_unicode::UnicodeDatabase;
 use std::process::Abort;
-use test_worlds::TestFace;
+use test_fixtures::TestFace;
 
 /// A plan of the default shaper.
 type Plan<'a> = hb_ot_shape_plan_t<'a, hb_default_shaper_t, (), ()>;

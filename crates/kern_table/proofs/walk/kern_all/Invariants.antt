@@ -10,7 +10,7 @@ abbrev pub invariant-loop-j : goal.invariant-loop-j
 invariant-loop-j l = record {
   made : l.buffer ≡ (kerned_to l.kern l.start l.mask l.j (unsafe_to_concat 0 (length l.fn.buffer.items) l.fn.buffer)).buffer;
   waits : l.left ≡ (kerned_to l.kern l.start l.mask l.j (unsafe_to_concat 0 (length l.fn.buffer.items) l.fn.buffer)).left;
-  behind : IfSome l.left (λ i. i < l.j);
+  after : IfSome l.left (λ i. i < l.j);
   len : length l.buffer.items ≡ length l.fn.buffer.items;
   limit : limit_of l.buffer ≡ limit_of l.fn.buffer;
 }

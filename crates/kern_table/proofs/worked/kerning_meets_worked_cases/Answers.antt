@@ -1,5 +1,5 @@
-use Rattle.kern_table.specs.WorkedEngine.{worked_engine}
-use Rattle.kern_table.specs.WorkedKern.{worked_values, worked_lines, worked_maps}
+use Rattle.kern_table.specs.Worked.Engine.{worked_engine}
+use Rattle.kern_table.specs.Worked.Kern.{worked_values, worked_lines, worked_maps}
 use Rattle.kern_table.proofs.worked.kerning_meets_worked_cases.Goals as goal
 
 pub returns-clause-values : goal.returns-clause-values

@@ -5,12 +5,12 @@ ghost use Rattle.shape_items.specs.BufferClusters.{merge_clusters as merge_clust
 ghost use Rattle.shape_items.specs.BufferClusters.{merge_out_clusters as merge_out_clusters_of};
 ghost use Rattle.shape_items.specs.BufferClusters.{unsafe_to_break as unsafe_to_break_of};
 ghost use Rattle.shape_items.specs.BufferClusters.{unsafe_to_concat as unsafe_to_concat_of};
-ghost use Rattle.shape_items.specs.ClusterOrder.{KeepsClusters};
+ghost use Rattle.shape_items.specs.ClusterOrder.{PreservesClusters};
 ghost use Rattle.shape_items.specs.Clusters.{clusters};
 ghost use Rattle.shape_items.specs.Delete.{deleted};
 ghost use Rattle.shape_items.specs.GraphemeSpans.{grapheme_spans};
 ghost use Rattle.shape_items.specs.Items.{Item};
-ghost use Rattle.shape_items.specs.KeepsFlags.{KeepsFlags};
+ghost use Rattle.shape_items.specs.PreservesFlags.{PreservesFlags};
 ghost use Rattle.shape_items.specs.Spans.{AreSpansInOrder, all_merged};
 ghost use Rattle.shape_items.specs.Spans.{merge_each as merge_each_of};
 ghost use Rattle.shape_items.specs.Spans.{spans_merged_out as spans_merged_out_of};
@@ -37,8 +37,8 @@ impl hb_buffer_t {
         requires within { end ≤ length self.old.items }
         ensures merged { self.new ≡ merge_clusters_of start end self.old }
         ensures len { length self.new.items ≡ length self.old.items }
-        ensures keeps { KeepsClusters (clusters self.old.items) (clusters self.new.items)
-            × KeepsFlags self.old self.new }
+        ensures preserves { PreservesClusters (clusters self.old.items) (clusters self.new.items)
+            × PreservesFlags self.old self.new }
     {
         if self.cluster_level == BufferClusterLevel::Characters {
             self.unsafe_to_break(start, end);
@@ -53,8 +53,8 @@ impl hb_buffer_t {
         requires within { end ≤ length self.old.items }
         ensures merged { self.new ≡ merge_out_clusters_of start end self.old }
         ensures len { length self.new.items ≡ length self.old.items }
-        ensures keeps { KeepsClusters (clusters self.old.items) (clusters self.new.items)
-            × KeepsFlags self.old self.new }
+        ensures preserves { PreservesClusters (clusters self.old.items) (clusters self.new.items)
+            × PreservesFlags self.old self.new }
     {
         if self.cluster_level != BufferClusterLevel::Characters {
             merge_items(self.infos.as_mut_slice(), start, end);
@@ -69,8 +69,8 @@ impl hb_buffer_t {
         requires in_order { AreSpansInOrder 0 (length self.old.items) spans.now }
         ensures merged { self.new ≡ all_merged spans.now self.old }
         ensures len { length self.new.items ≡ length self.old.items }
-        ensures keeps { KeepsClusters (clusters self.old.items) (clusters self.new.items)
-            × KeepsFlags self.old self.new }
+        ensures preserves { PreservesClusters (clusters self.old.items) (clusters self.new.items)
+            × PreservesFlags self.old self.new }
     {
         if spans.len() <= FEW_SPANS {
             self.merge_one_by_one(spans);
@@ -88,8 +88,8 @@ impl hb_buffer_t {
         requires in_order { AreSpansInOrder 0 (length self.old.items) spans.now }
         ensures merged { self.new ≡ spans_merged_out_of spans.now self.old }
         ensures len { length self.new.items ≡ length self.old.items }
-        ensures keeps { KeepsClusters (clusters self.old.items) (clusters self.new.items)
-            × KeepsFlags self.old self.new }
+        ensures preserves { PreservesClusters (clusters self.old.items) (clusters self.new.items)
+            × PreservesFlags self.old self.new }
     {
         if self.cluster_level == BufferClusterLevel::Characters {
             return;
@@ -104,8 +104,8 @@ impl hb_buffer_t {
         ensures merged { self.new
             ≡ spans_merged_out_of (grapheme_spans self.old.items) self.old }
         ensures len { length self.new.items ≡ length self.old.items }
-        ensures keeps { KeepsClusters (clusters self.old.items) (clusters self.new.items)
-            × KeepsFlags self.old self.new }
+        ensures preserves { PreservesClusters (clusters self.old.items) (clusters self.new.items)
+            × PreservesFlags self.old self.new }
     {
         if self.cluster_level == BufferClusterLevel::Characters {
             return;
@@ -149,7 +149,7 @@ impl hb_buffer_t {
         requires ordered { start ≤ end }
         requires within { end ≤ length self.old.items }
         ensures marked { self.new ≡ unsafe_to_break_of start end self.old }
-        ensures keeps { KeepsFlags self.old self.new }
+        ensures preserves { PreservesFlags self.old self.new }
     {
         if end - start < 2 {
             return;
@@ -164,7 +164,7 @@ impl hb_buffer_t {
         requires ordered { start ≤ end }
         requires within { end ≤ length self.old.items }
         ensures marked { self.new ≡ unsafe_to_concat_of start end self.old }
-        ensures keeps { KeepsFlags self.old self.new }
+        ensures preserves { PreservesFlags self.old self.new }
     {
         if !self.flags.contains(BufferFlags::PRODUCE_UNSAFE_TO_CONCAT) {
             return;
@@ -187,10 +187,10 @@ impl hb_buffer_t {
         ensures deleted { (picks : Item → Bool)
             → ((x : Item) (b : Bool) → FnReturnsAt F.Fn test x b → b ≡ picks x)
             → self.new ≡ deleted picks self.old }
-        ensures keeps { (picks : Item → Bool)
+        ensures preserves { (picks : Item → Bool)
             → ((x : Item) (b : Bool) → FnReturnsAt F.Fn test x b → b ≡ picks x)
-            → KeepsClusters (clusters self.old.items) (clusters self.new.items)
-            × KeepsFlags self.old self.new }
+            → PreservesClusters (clusters self.old.items) (clusters self.new.items)
+            × PreservesFlags self.old self.new }
         ensures fewer { length self.new.items ≤ length self.old.items }
         ensures as_many { length self.new.positions ≡ length self.new.items }
         ensures rest { record self.new

@@ -1,6 +1,6 @@
 use Rattle.std.proofs.Common.{ap, ◌∙◌}
 use Rattle.shape_fallback.specs.Bases.{without_positions}
-use Rattle.shape_fallback.proofs.KeeperLemmas.{bases-marked}
+use Rattle.shape_fallback.proofs.PreservationLemmas.{bases-marked}
 use Rattle.shape_fallback.proofs.ot_shape_fallback.position_marks.Goals as goal
 
 pub returns-clause-marked : goal.returns-clause-marked

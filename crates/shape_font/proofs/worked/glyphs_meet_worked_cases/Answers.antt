@@ -1,5 +1,5 @@
-use Rattle.shape_font.specs.WorkedGlyphs.{worked_lists, worked_segments, worked_groups, worked_symbols, worked_metrics}
-use Rattle.shape_font.specs.WorkedLines.{worked_lines}
+use Rattle.shape_font.specs.Worked.Glyphs.{worked_lists, worked_segments, worked_groups, worked_symbols, worked_metrics}
+use Rattle.shape_font.specs.Worked.Lines.{worked_lines}
 use Rattle.shape_font.proofs.worked.glyphs_meet_worked_cases.Goals as goal
 
 pub returns-clause-lists : goal.returns-clause-lists

@@ -1,6 +1,6 @@
-use Rattle.shape_font.specs.WorkedSearches.{worked_searches, worked_variations}
-use Rattle.shape_font.specs.WorkedNames.{worked_names}
-use Rattle.shape_font.specs.WorkedFace.{worked_face, worked_origins}
+use Rattle.shape_font.specs.Worked.Searches.{worked_searches, worked_variations}
+use Rattle.shape_font.specs.Worked.Names.{worked_names}
+use Rattle.shape_font.specs.Worked.Face.{worked_face, worked_origins}
 use Rattle.shape_font.proofs.worked.searches_meet_worked_cases.Goals as goal
 
 pub returns-clause-searches : goal.returns-clause-searches

@@ -1,4 +1,4 @@
-use Rattle.shape_font.specs.WorkedTables.{worked_numbers, worked_directory, worked_collections, worked_subtables, worked_tags}
+use Rattle.shape_font.specs.Worked.Tables.{worked_numbers, worked_directory, worked_collections, worked_subtables, worked_tags}
 use Rattle.shape_font.proofs.worked.tables_meet_worked_cases.Goals as goal
 
 pub returns-clause-numbers : goal.returns-clause-numbers

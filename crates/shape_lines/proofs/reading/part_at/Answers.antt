@@ -2,7 +2,7 @@ use Rattle.std.proofs.Common.{◌≡◌, ◌∙◌, ◌-◌, ◌==◌, ◌&&◌,
 use Rattle.shape_items.specs.Clusters.{clusters}
 use Rattle.shape_common.specs.FlagNames.{UNSAFE_TO_BREAK}
 use Rattle.shape_items.specs.Items.{new_item}
-use Rattle.shape_items.specs.KeepsFlags.{has_flag}
+use Rattle.shape_items.specs.PreservesFlags.{has_flag}
 use Rattle.shape_lines.specs.Places.{cluster_at}
 use Rattle.shape_lines.specs.TextOrder.{falls, place_in, text_order, width_of}
 use Rattle.shape_lines.proofs.PartLemmas.{part, part-listed}

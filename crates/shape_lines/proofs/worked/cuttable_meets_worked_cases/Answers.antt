@@ -5,7 +5,7 @@ use Rattle.std.specs.List.Sorted.{IsNonDecreasing}
 use Rattle.shape_items.specs.ClusterOrder.{IsNonIncreasing}
 use Rattle.shape_items.specs.Clusters.{clusters}
 use Rattle.shape_items.specs.Items.{Item}
-use Rattle.shape_lines.specs.WorkedCanCut.{marked, in_clusters}
+use Rattle.shape_lines.specs.Worked.CanCut.{marked, in_clusters}
 use Rattle.shape_lines.proofs.NeighbourLemmas.{EachPair, rises_to, falls_to, rises-pairs, falls-pairs, below_end}
 use Rattle.shape_lines.proofs.worked.cuttable_meets_worked_cases.Goals as goal
 

@@ -1,6 +1,6 @@
 use Rattle.std.proofs.Common.{pos, [], ◌∷◌, refl}
 use Rattle.shape_common.specs.declared.text_types.Direction.TheVariants.{LeftToRight}
-use Rattle.shape_lines.specs.WorkedLines.{laid, text, reversed, downward, joined, joined_reversed, wide_then_narrow, one_cluster}
+use Rattle.shape_lines.specs.Worked.Lines.{laid, text, reversed, downward, joined, joined_reversed, wide_then_narrow, one_cluster}
 use Rattle.shape_lines.proofs.DecideLemmas.{right_rising, right_falling}
 use Rattle.shape_lines.proofs.worked.lines_meet_worked_cases.Goals as goal
 

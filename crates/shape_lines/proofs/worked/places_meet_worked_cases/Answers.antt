@@ -2,7 +2,7 @@ use Rattle.std.proofs.Common.{◌≡◌, ◌<◌, ℕ, zero, suc, true, false, r
 use Rattle.std.proofs.lemmas.Bool.{false≢true}
 use Rattle.std.proofs.Common.{[], ◌∷◌}
 use Rattle.shape_lines.specs.Places.{cluster_at, lacks_break_at}
-use Rattle.shape_lines.specs.WorkedPlaces.{worked_text_order, glyph_in}
+use Rattle.shape_lines.specs.Worked.Places.{worked_text_order, glyph_in}
 use Rattle.shape_lines.proofs.worked.places_meet_worked_cases.Goals as goal
 
 pub returns-clause-order : goal.returns-clause-order
@@ -11,18 +11,18 @@ returns-clause-order c = worked_text_order
 pub returns-clause-places : goal.returns-clause-places
 returns-clause-places c = record {
   before_a_safe_cluster = record {
-    behind = omega arith;
+    beyond = omega arith;
     before = omega arith;
     differ = λ e. let same : 0 ≡ 1 = e in absurd (omega arith);
     safe = rising;
   };
   falling = record {
-    behind = omega arith;
+    beyond = omega arith;
     before = omega arith;
     differ = λ e. let same : 1 ≡ 0 = e in absurd (omega arith);
     safe = reversed;
   };
-  before_the_text = λ is. let some = is.behind in absurd (omega arith);
+  before_the_text = λ is. let some = is.beyond in absurd (omega arith);
   after_the_text = λ is. let lt : 2 < 2 = is.before in absurd (omega arith);
   inside_a_cluster = λ is. is.differ refl;
   before_an_unsafe_cluster = λ is. absurd (false≢true (is.safe 1 (omega arith) refl));

@@ -3,9 +3,9 @@ use Rattle.shape_plan.specs.Rules.{rules_of}
 use Rattle.shape_normalize.proofs.RoundThree.ByAllLemmas.{normalized_recomposes}
 use Rattle.shape_normalize.proofs.Places.ByPlaceLemmas.{normalized_by_place}
 use Rattle.shape_normalize.proofs.Form.CanonicalFormLemmas.{NormalizesCanonically-normalized}
-use Rattle.shape_normalize.proofs.Normalized.ClusterOrderLemmas.{normalized_keeps}
-use Rattle.shape_normalize.proofs.Normalized.FeatureLemmas.{normalized_keeps_features}
-use Rattle.shape_normalize.proofs.Normalized.HiddenLemmas.{normalized_keeps_hidden}
+use Rattle.shape_normalize.proofs.Normalized.ClusterOrderLemmas.{normalized_preserves}
+use Rattle.shape_normalize.proofs.Normalized.FeatureLemmas.{normalized_preserves_features}
+use Rattle.shape_normalize.proofs.Normalized.HiddenLemmas.{normalized_preserves_hidden}
 use Rattle.shape_normalize.proofs.Normalized.ItemGlyphLemmas.{normalized_has_glyphs}
 use Rattle.shape_normalize.proofs.Normalized.NormalizedLemmas.{normalized_brings_in, normalized_orders, within_normalized}
 use Rattle.shape_normalize.proofs.Hooks.RulesLemmas.{used_reorder-lawful}
@@ -42,7 +42,7 @@ returns-else-is_err-clause-clusters g c =
     let shaper = g.S.hb_ot_shaper_t in
     let rules = rules_of g.U.hb_unicode_funcs_t.unicode shaper.constants shaper.hooks g.F.hb_font_t.face c.args.plan.now c.args.face.now in
     let lawful = used_reorder-lawful shaper.hooks g.met.S.hb_ot_shaper_t.lawful_hooks shaper.constants.has_reorder_marks c.args.plan.now c.args.face.now in
-    on_ok_weaker c.run_rounds-outcome.result (normalized_keeps rules lawful c.args.buffer.now c.run_rounds-outcome.new.buffer) c.run_rounds-outcome.ensures.ok
+    on_ok_weaker c.run_rounds-outcome.result (normalized_preserves rules lawful c.args.buffer.now c.run_rounds-outcome.new.buffer) c.run_rounds-outcome.ensures.ok
 
 pub returns-else-is_err-clause-within : goal.returns-else-is_err-clause-within
 returns-else-is_err-clause-within g c =
@@ -56,14 +56,14 @@ returns-else-is_err-clause-features g c =
     let shaper = g.S.hb_ot_shaper_t in
     let rules = rules_of g.U.hb_unicode_funcs_t.unicode shaper.constants shaper.hooks g.F.hb_font_t.face c.args.plan.now c.args.face.now in
     let lawful = used_reorder-lawful shaper.hooks g.met.S.hb_ot_shaper_t.lawful_hooks shaper.constants.has_reorder_marks c.args.plan.now c.args.face.now in
-    on_ok_weaker c.run_rounds-outcome.result (normalized_keeps_features rules lawful c.args.buffer.now c.run_rounds-outcome.new.buffer) c.run_rounds-outcome.ensures.ok
+    on_ok_weaker c.run_rounds-outcome.result (normalized_preserves_features rules lawful c.args.buffer.now c.run_rounds-outcome.new.buffer) c.run_rounds-outcome.ensures.ok
 
 pub returns-else-is_err-clause-cgj : goal.returns-else-is_err-clause-cgj
 returns-else-is_err-clause-cgj g c =
     let shaper = g.S.hb_ot_shaper_t in
     let rules = rules_of g.U.hb_unicode_funcs_t.unicode shaper.constants shaper.hooks g.F.hb_font_t.face c.args.plan.now c.args.face.now in
     let lawful = used_reorder-lawful shaper.hooks g.met.S.hb_ot_shaper_t.lawful_hooks shaper.constants.has_reorder_marks c.args.plan.now c.args.face.now in
-    on_ok_weaker c.run_rounds-outcome.result (normalized_keeps_hidden rules lawful c.args.buffer.now c.run_rounds-outcome.new.buffer) c.run_rounds-outcome.ensures.ok
+    on_ok_weaker c.run_rounds-outcome.result (normalized_preserves_hidden rules lawful c.args.buffer.now c.run_rounds-outcome.new.buffer) c.run_rounds-outcome.ensures.ok
 
 pub returns-else-is_err-clause-recomposed : goal.returns-else-is_err-clause-recomposed
 returns-else-is_err-clause-recomposed g c =

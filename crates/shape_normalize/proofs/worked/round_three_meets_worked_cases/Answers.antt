@@ -1,4 +1,4 @@
-use Rattle.shape_normalize.specs.WorkedThree.{round_three_worked}
+use Rattle.shape_normalize.specs.Worked.Three.{round_three_worked}
 use Rattle.shape_normalize.proofs.worked.round_three_meets_worked_cases.Goals as goal
 
 pub returns : goal.returns

@@ -159,9 +159,9 @@ impl Expanded {
         let not_found = buffer.not_found_variation_selector_glyph();
         let limit = buffer.length_limit();
         let mut rest = sequence;
-        'parts: while let Some((part, behind)) = first_variant::<U>(rest) {
+        'parts: while let Some((part, after)) = first_variant::<U>(rest) {
             self.put_variant(face, part, not_found, limit)?;
-            rest = behind;
+            rest = after;
         }
         Ok(())
     }

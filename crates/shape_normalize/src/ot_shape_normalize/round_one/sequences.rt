@@ -40,8 +40,8 @@ pub(super) fn first_sequence(
     ensures { MatchOption result (infos.now ≡ [])
         (λ p. IsFirstPart is_mark_item infos.now p.0.now p.1.now) }
 {
-    let (_, behind) = infos.split_first()?;
-    Some(infos.split_at(1 + count_marks(behind)))
+    let (_, after) = infos.split_first()?;
+    Some(infos.split_at(1 + count_marks(after)))
 }
 
 /// The first item with the variation selectors directly after it, and the items after them; nothing if
@@ -52,8 +52,8 @@ pub(super) fn first_variant<U: hb_unicode_funcs_t>(
     ensures { MatchOption result (infos.now ≡ [])
         (λ p. IsFirstPart (is_selector_item U.unicode) infos.now p.0.now p.1.now) }
 {
-    let (_, behind) = infos.split_first()?;
-    Some(infos.split_at(1 + count_selectors::<U>(behind)))
+    let (_, after) = infos.split_first()?;
+    Some(infos.split_at(1 + count_selectors::<U>(after)))
 }
 
 /// Whether an item of a sequence stands with marks.

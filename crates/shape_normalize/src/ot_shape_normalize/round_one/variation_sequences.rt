@@ -16,8 +16,8 @@ use std::alloc::{AllocError, Global};
 fn variation_sequence_glyph<F: hb_font_t>(face: &F, part: &[hb_glyph_info_t]) -> Option<GlyphId>
     ensures { result ≡ variation_sequence_glyph_of (F.face face.now) part.now }
 {
-    let (info, behind) = part.split_first()?;
-    let (selector, _) = behind.split_first()?;
+    let (info, after) = part.split_first()?;
+    let (selector, _) = after.split_first()?;
     face.glyph_variation_index(info.codepoint, selector.codepoint)
 }
 
@@ -34,12 +34,12 @@ fn push_variation_sequences<U: hb_unicode_funcs_t, F: hb_font_t>(
 {
     let mut place = start;
     let mut rest = sequence;
-    'parts: while let Some((part, behind)) = first_variant::<U>(rest) {
+    'parts: while let Some((part, after)) = first_variant::<U>(rest) {
         if variation_sequence_glyph(face, part).is_some() {
             spans.push((place, place + 2))?;
         }
         place += part.len();
-        rest = behind;
+        rest = after;
     }
     Ok(())
 }
@@ -57,12 +57,12 @@ fn variation_sequences<U: hb_unicode_funcs_t, F: hb_font_t>(
     let mut spans = Vec::new(alloc);
     let mut place = 0;
     let mut rest = infos;
-    'sequences: while let Some((sequence, behind)) = first_sequence(rest) {
+    'sequences: while let Some((sequence, after)) = first_sequence(rest) {
         if is_selector_sequence::<U>(sequence) {
             push_variation_sequences::<U, F>(face, place, sequence, &mut spans)?;
         }
         place += sequence.len();
-        rest = behind;
+        rest = after;
     }
     Ok(spans)
 }

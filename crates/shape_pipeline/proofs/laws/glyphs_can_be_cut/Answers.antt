@@ -20,11 +20,11 @@ clusters_below items end below i d lt =
     subst (λ k. k < end) (sym (get_or-map (λ (item : Item). item.cluster) items i (new_item 0 0) d here)) (below i (new_item 0 0) here)
 
 pub returns : goal.returns
-returns c = λ run target text glyphs text_end come flagged keeps keeps_flags level rising below.
-    let order = come keeps level rising in
+returns c = λ run target text glyphs text_end come flagged preserves preserves_flags level rising below.
+    let order = come preserves level rising in
     record {
       monotone = monotone (is_backward target) (clusters glyphs.items) order.ordered;
-      one_set = (flagged keeps_flags).one_set;
+      one_set = (flagged preserves_flags).one_set;
       below = λ i d lt. All-contains (λ k. k < text_end) (clusters text.items) _ (clusters_below text.items text_end below)
           (order.from_text _ (Contains-get_or (clusters glyphs.items) i d lt));
     }

@@ -54,7 +54,7 @@ returns-in-Ok-clause-clusters g c =
     (clusters-run_made run target (target_of-known run c.args.buffer) lawful text refl)
 
 pub returns-in-Ok-clause-flags : goal.returns-in-Ok-clause-flags
-returns-in-Ok-clause-flags g c = λ keeps.
+returns-in-Ok-clause-flags g c = λ preserves.
     let shaper = g.S.hb_ot_shaper_t in
     let unicode = g.U.hb_unicode_funcs_t.unicode in
     let run = run_of unicode g.M.hb_ot_layout_t.masks g.M.hb_ot_layout_t.lookups g.S.hb_ot_shaper_t.constants g.S.hb_ot_shaper_t.hooks g.F.hb_font_t.face c.args.plan.now c.args.face.now in
@@ -62,7 +62,7 @@ returns-in-Ok-clause-flags g c = λ keeps.
     let masks = g.met.M.hb_ot_layout_t.lawful_masks c.args.plan.now.ot_map in
     let made : c.into_glyphs.result ≡ shaped run c.args.buffer = search rules in
     subst (λ (glyphs : Buffer). HasFlagsByCluster c.args.buffer glyphs) (sym made)
-    (flags-run_made run (guessed_direction unicode c.args.buffer) lawful masks c.masks_are_features.ensures keeps c.args.buffer
+    (flags-run_made run (guessed_direction unicode c.args.buffer) lawful masks c.masks_are_features.ensures preserves c.args.buffer
     (guessed unicode c.args.buffer) refl)
 
 pub returns-in-Err-clause-length : goal.returns-in-Err-clause-length

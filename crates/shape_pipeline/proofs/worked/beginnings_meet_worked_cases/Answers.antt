@@ -1,5 +1,5 @@
-use Rattle.shape_pipeline.specs.WorkedBeginnings.{worked_beginnings}
-use Rattle.shape_pipeline.proofs.WorkedOwedLemmas.{pauses_are_asked}
+use Rattle.shape_pipeline.specs.Worked.Beginnings.{worked_beginnings}
+use Rattle.shape_pipeline.proofs.WorkedObligationLemmas.{pauses_are_asked}
 use Rattle.shape_pipeline.proofs.worked.beginnings_meet_worked_cases.Goals as goal
 
 pub returns-clause-beginnings : goal.returns-clause-beginnings

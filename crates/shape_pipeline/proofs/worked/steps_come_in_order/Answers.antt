@@ -1,7 +1,7 @@
 use Rattle.std.proofs.Common.{List, ◌∷◌, [], ◌++◌, ◌&&◌, ap, append_assoc}
 use Rattle.shape_buffer.specs.Outcome.{Step, step}
 use Rattle.shape_plan.specs.Run.{step_if}
-use Rattle.shape_pipeline.specs.WorkedRun.{steps_to_lookups}
+use Rattle.shape_pipeline.specs.Worked.Run.{steps_to_lookups}
 use Rattle.shape_pipeline.specs.Shaped.{place_part}
 use Rattle.shape_position.specs.Steps.{finish_steps}
 use Rattle.shape_substitute.specs.Substitution.{lookup_steps}

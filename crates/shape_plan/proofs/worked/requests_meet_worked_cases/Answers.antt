@@ -1,4 +1,4 @@
-use Rattle.shape_plan.specs.WorkedRequests.{requests_of_directions, requests_of_users, requests_of_hooks, texts_of_hooks}
+use Rattle.shape_plan.specs.Worked.Requests.{requests_of_directions, requests_of_users, requests_of_hooks, texts_of_hooks}
 use Rattle.shape_plan.proofs.worked.requests_meet_worked_cases.Goals as goal
 
 pub returns : goal.returns

@@ -1,4 +1,4 @@
-use Rattle.shape_plan.specs.WorkedRuns.{rules_of_shapers, runs_of_plans, constants_of_shapers}
+use Rattle.shape_plan.specs.Worked.Runs.{rules_of_shapers, runs_of_plans, constants_of_shapers}
 use Rattle.shape_plan.proofs.worked.runs_meet_worked_cases.Goals as goal
 
 pub returns : goal.returns

@@ -1,4 +1,4 @@
-use Rattle.shape_plan.specs.WorkedTexts.{scripts_of_texts, tags_of_facts, scripts_that_fit}
+use Rattle.shape_plan.specs.Worked.Texts.{scripts_of_texts, tags_of_facts, scripts_that_fit}
 use Rattle.shape_plan.proofs.worked.texts_meet_worked_cases.Goals as goal
 
 pub returns : goal.returns

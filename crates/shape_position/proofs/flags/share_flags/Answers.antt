@@ -3,7 +3,7 @@ use Rattle.std.proofs.lemmas.Grind.{common_steps}
 use Rattle.std.proofs.lemmas.List.{drop_more}
 use Rattle.shape_items.specs.Buffer.{limit_of}
 use Rattle.shape_items.specs.Items.{Item}
-use Rattle.shape_items.specs.KeepsFlags.{has_glyph_flags}
+use Rattle.shape_items.specs.PreservesFlags.{has_glyph_flags}
 use Rattle.shape_common.specs.declared.flags.BufferFlags.{BufferFlags}
 use Rattle.shape_items.specs.Flags.{flagged_from, with_mask, flags_propagated}
 use Rattle.shape_items.proofs.Flags.ClusterRunLemmas.{flagged-runs}

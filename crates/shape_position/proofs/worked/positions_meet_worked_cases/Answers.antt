@@ -1,5 +1,5 @@
-use Rattle.shape_position.specs.WorkedGlyphs.{worked_glyphs}
-use Rattle.shape_position.specs.WorkedPositions.{worked_positions}
+use Rattle.shape_position.specs.Worked.Glyphs.{worked_glyphs}
+use Rattle.shape_position.specs.Worked.Positions.{worked_positions}
 use Rattle.shape_position.proofs.worked.positions_meet_worked_cases.Goals as goal
 
 pub returns-clause-positions : goal.returns-clause-positions

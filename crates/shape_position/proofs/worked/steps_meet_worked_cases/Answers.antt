@@ -1,4 +1,4 @@
-use Rattle.shape_position.specs.WorkedSteps.{worked_steps}
+use Rattle.shape_position.specs.Worked.Steps.{worked_steps}
 use Rattle.shape_position.proofs.worked.steps_meet_worked_cases.Goals as goal
 
 pub returns : goal.returns

@@ -1,4 +1,4 @@
-use Rattle.shape_prepare.proofs.Keeping.PreparedLemmas.{preparing_prepares}
+use Rattle.shape_prepare.proofs.Preservation.PreparedLemmas.{preparing_prepares}
 use Rattle.shape_prepare.proofs.laws.preparing_prepares.Goals as goal
 
 pub returns : goal.returns

@@ -1,4 +1,4 @@
-use Rattle.shape_prepare.specs.WorkedOrder.{worked_order}
+use Rattle.shape_prepare.specs.Worked.Order.{worked_order}
 use Rattle.shape_prepare.proofs.worked.orders_meet_worked_cases.Goals as goal
 
 pub returns : goal.returns

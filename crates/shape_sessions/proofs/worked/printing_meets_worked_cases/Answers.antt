@@ -1,4 +1,4 @@
-use Rattle.shape_sessions.specs.WorkedPrinting.{worked_printing}
+use Rattle.shape_sessions.specs.Worked.Printing.{worked_printing}
 use Rattle.shape_sessions.proofs.worked.printing_meets_worked_cases.Goals as goal
 
 pub returns : goal.returns

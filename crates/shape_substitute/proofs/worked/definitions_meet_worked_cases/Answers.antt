@@ -1,7 +1,7 @@
-use Rattle.shape_substitute.specs.WorkedFractions.{worked_fractions}
-use Rattle.shape_substitute.specs.WorkedLookups.{worked_lookups}
-use Rattle.shape_substitute.specs.WorkedRanges.{worked_ranges}
-use Rattle.shape_substitute.specs.WorkedSteps.{worked_steps}
+use Rattle.shape_substitute.specs.Worked.Fractions.{worked_fractions}
+use Rattle.shape_substitute.specs.Worked.Lookups.{worked_lookups}
+use Rattle.shape_substitute.specs.Worked.Ranges.{worked_ranges}
+use Rattle.shape_substitute.specs.Worked.Steps.{worked_steps}
 use Rattle.shape_substitute.proofs.worked.definitions_meet_worked_cases.Goals as goal
 
 pub returns : goal.returns

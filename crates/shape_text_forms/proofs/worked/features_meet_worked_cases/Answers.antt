@@ -1,4 +1,4 @@
-use Rattle.shape_text_forms.specs.WorkedFeatures.{worked_features, worked_refusals}
+use Rattle.shape_text_forms.specs.Worked.Features.{worked_features, worked_refusals}
 use Rattle.shape_text_forms.proofs.worked.features_meet_worked_cases.Goals as goal
 
 pub returns-clause-features : goal.returns-clause-features

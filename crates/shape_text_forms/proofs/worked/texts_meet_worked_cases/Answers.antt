@@ -1,4 +1,4 @@
-use Rattle.shape_text_forms.specs.WorkedTexts.{worked_names, worked_texts}
+use Rattle.shape_text_forms.specs.Worked.Texts.{worked_names, worked_texts}
 use Rattle.shape_text_forms.proofs.worked.texts_meet_worked_cases.Goals as goal
 
 pub returns-clause-names : goal.returns-clause-names

@@ -20,30 +20,30 @@ returns-in-Ok-clause-direction g c =
 
 pub returns-in-Ok-clause-places : goal.returns-in-Ok-clause-places
 returns-in-Ok-clause-places g c =
-    let owes = c.plain_runs_owe_nothing.ensures (plan_of _ _ _ _ _) c.args.face.now in
+    let obligations = c.plain_runs_have_no_obligations.ensures (plan_of _ _ _ _ _) c.args.face.now in
     if_ok-then c.shape.result
     (λ glyphs come k has. c.in-Ok.ensures.ok.places k
-    ((string-come c.args.string.now c.in-Ok.text c.in-Ok.ensures.ok _ _ glyphs come owes.clusters).from_text k has))
+    ((string-come c.args.string.now c.in-Ok.text c.in-Ok.ensures.ok _ _ glyphs come obligations.clusters).from_text k has))
     c.shape.ensures.clusters
 
 pub returns-in-Ok-clause-ordered : goal.returns-in-Ok-clause-ordered
 returns-in-Ok-clause-ordered g c =
-    let owes = c.plain_runs_owe_nothing.ensures (plan_of _ _ _ _ _) c.args.face.now in
+    let obligations = c.plain_runs_have_no_obligations.ensures (plan_of _ _ _ _ _) c.args.face.now in
     if_ok-both c.shape.result
     (λ glyphs come is. subst (λ (d : Direction). IsOrderedFor (is_backward d) (clusters glyphs.items)) (sym is)
-    (string-come c.args.string.now c.in-Ok.text c.in-Ok.ensures.ok _ _ glyphs come owes.clusters).ordered)
+    (string-come c.args.string.now c.in-Ok.text c.in-Ok.ensures.ok _ _ glyphs come obligations.clusters).ordered)
     c.shape.ensures.clusters c.shape.ensures.direction
 
 pub returns-in-Ok-clause-one_set : goal.returns-in-Ok-clause-one_set
 returns-in-Ok-clause-one_set g c =
-    let owes = c.plain_runs_owe_nothing.ensures (plan_of _ _ _ _ _) c.args.face.now in
-    if_ok-then c.shape.result (λ glyphs flagged. (flagged owes.flags).one_set) c.shape.ensures.flags
+    let obligations = c.plain_runs_have_no_obligations.ensures (plan_of _ _ _ _ _) c.args.face.now in
+    if_ok-then c.shape.result (λ glyphs flagged. (flagged obligations.flags).one_set) c.shape.ensures.flags
 
 pub returns-in-Ok-clause-concat : goal.returns-in-Ok-clause-concat
 returns-in-Ok-clause-concat g c =
-    let owes = c.plain_runs_owe_nothing.ensures (plan_of _ _ _ _ _) c.args.face.now in
+    let obligations = c.plain_runs_have_no_obligations.ensures (plan_of _ _ _ _ _) c.args.face.now in
     if_ok-then c.shape.result
-    (λ glyphs flagged. (flagged owes.flags).concat (string-without_concat c.args.string.now c.in-Ok.text c.in-Ok.ensures.ok))
+    (λ glyphs flagged. (flagged obligations.flags).concat (string-without_concat c.args.string.now c.in-Ok.text c.in-Ok.ensures.ok))
     c.shape.ensures.flags
 
 pub returns-in-Ok-clause-few : goal.returns-in-Ok-clause-few

@@ -10,23 +10,23 @@ pub returns-clause-of_text : goal.returns-clause-of_text
 returns-clause-of_text g c =
     let plan = c.args.plan.now in
     let face = c.args.face.now in
-    let keeps = c.arabic_runs_keep.ensures.clusters plan face (c.ligatures_keep.ensures.clusters plan.ot_map face) in
-    if_ok-then c.shape_with_plan.result (λ glyphs come. (come keeps c.requires.monotone c.requires.rising).from_text)
+    let preserves = c.arabic_runs_preserve.ensures.clusters plan face (c.ligatures_preserve.ensures.clusters plan.ot_map face) in
+    if_ok-then c.shape_with_plan.result (λ glyphs come. (come preserves c.requires.monotone c.requires.rising).from_text)
     c.shape_with_plan.ensures.clusters
 
 pub returns-clause-ordered : goal.returns-clause-ordered
 returns-clause-ordered g c =
     let plan = c.args.plan.now in
     let face = c.args.face.now in
-    let keeps = c.arabic_runs_keep.ensures.clusters plan face (c.ligatures_keep.ensures.clusters plan.ot_map face) in
+    let preserves = c.arabic_runs_preserve.ensures.clusters plan face (c.ligatures_preserve.ensures.clusters plan.ot_map face) in
     if_ok-both c.shape_with_plan.result
     (λ glyphs come is. subst (λ (d : Direction). IsOrderedFor (is_backward d) (clusters glyphs.items)) (sym is)
-    (come keeps c.requires.monotone c.requires.rising).ordered)
+    (come preserves c.requires.monotone c.requires.rising).ordered)
     c.shape_with_plan.ensures.clusters c.shape_with_plan.ensures.direction
 
 pub returns-clause-one_set : goal.returns-clause-one_set
 returns-clause-one_set g c =
     let plan = c.args.plan.now in
     let face = c.args.face.now in
-    let keeps = c.arabic_runs_keep.ensures.flags plan face (c.ligatures_keep.ensures.flags plan.ot_map face) in
-    if_ok-then c.shape_with_plan.result (λ glyphs flagged. (flagged keeps).one_set) c.shape_with_plan.ensures.flags
+    let preserves = c.arabic_runs_preserve.ensures.flags plan face (c.ligatures_preserve.ensures.flags plan.ot_map face) in
+    if_ok-then c.shape_with_plan.result (λ glyphs flagged. (flagged preserves).one_set) c.shape_with_plan.ensures.flags

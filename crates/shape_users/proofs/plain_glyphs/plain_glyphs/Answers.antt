@@ -8,13 +8,13 @@ returns-clause-direction g c = λ known.
 
 pub returns-clause-one_set : goal.returns-clause-one_set
 returns-clause-one_set g c =
-    let owes = c.plain_runs_owe_nothing.ensures c.args.plan.now c.args.face.now in
-    if_ok-then c.shape_with_plan.result (λ glyphs flagged. (flagged owes.flags).one_set) c.shape_with_plan.ensures.flags
+    let obligations = c.plain_runs_have_no_obligations.ensures c.args.plan.now c.args.face.now in
+    if_ok-then c.shape_with_plan.result (λ glyphs flagged. (flagged obligations.flags).one_set) c.shape_with_plan.ensures.flags
 
 pub returns-clause-concat : goal.returns-clause-concat
 returns-clause-concat g c = λ off.
-    let owes = c.plain_runs_owe_nothing.ensures c.args.plan.now c.args.face.now in
-    if_ok-then c.shape_with_plan.result (λ glyphs flagged. (flagged owes.flags).concat off) c.shape_with_plan.ensures.flags
+    let obligations = c.plain_runs_have_no_obligations.ensures c.args.plan.now c.args.face.now in
+    if_ok-then c.shape_with_plan.result (λ glyphs flagged. (flagged obligations.flags).concat off) c.shape_with_plan.ensures.flags
 
 pub returns-clause-few : goal.returns-clause-few
 returns-clause-few g c = λ few.

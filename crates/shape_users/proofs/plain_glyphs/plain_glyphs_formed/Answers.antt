@@ -18,11 +18,11 @@ returns-clause-recomposed g c = if_ok-then c.shape_with_plan.result (λ glyphs f
 
 pub returns-clause-equivalent : goal.returns-clause-equivalent
 returns-clause-equivalent g c = λ plain.
-    let owes = c.plain_runs_owe_nothing.ensures c.args.plan.now c.args.face.now in
-    if_ok-then c.shape_with_plan.result (λ glyphs canonical. (canonical owes.canonical).equivalent plain) c.shape_with_plan.ensures.canonical
+    let obligations = c.plain_runs_have_no_obligations.ensures c.args.plan.now c.args.face.now in
+    if_ok-then c.shape_with_plan.result (λ glyphs canonical. (canonical obligations.canonical).equivalent plain) c.shape_with_plan.ensures.canonical
 
 pub returns-clause-decided : goal.returns-clause-decided
 returns-clause-decided g c = λ other is other_is.
-    let owes = c.plain_runs_owe_nothing.ensures c.args.plan.now c.args.face.now in
-    if_ok-then c.shape_with_plan.result (λ glyphs canonical. (canonical owes.canonical).decides other is other_is)
+    let obligations = c.plain_runs_have_no_obligations.ensures c.args.plan.now c.args.face.now in
+    if_ok-then c.shape_with_plan.result (λ glyphs canonical. (canonical obligations.canonical).decides other is other_is)
     c.shape_with_plan.ensures.canonical

@@ -8,20 +8,20 @@ use Rattle.shape_users.proofs.plain_glyphs.plain_glyphs_in_order.Goals as goal
 
 pub returns-clause-of_text : goal.returns-clause-of_text
 returns-clause-of_text g c =
-    let owes = c.plain_runs_owe_nothing.ensures c.args.plan.now c.args.face.now in
-    if_ok-then c.shape_with_plan.result (λ glyphs come. (come owes.clusters c.requires.monotone c.requires.rising).from_text)
+    let obligations = c.plain_runs_have_no_obligations.ensures c.args.plan.now c.args.face.now in
+    if_ok-then c.shape_with_plan.result (λ glyphs come. (come obligations.clusters c.requires.monotone c.requires.rising).from_text)
     c.shape_with_plan.ensures.clusters
 
 pub returns-clause-of_firsts : goal.returns-clause-of_firsts
 returns-clause-of_firsts g c = λ level.
-    let owes = c.plain_runs_owe_nothing.ensures c.args.plan.now c.args.face.now in
-    if_ok-then c.shape_with_plan.result (λ glyphs come. (come owes.clusters c.requires.monotone c.requires.rising).from_firsts level)
+    let obligations = c.plain_runs_have_no_obligations.ensures c.args.plan.now c.args.face.now in
+    if_ok-then c.shape_with_plan.result (λ glyphs come. (come obligations.clusters c.requires.monotone c.requires.rising).from_firsts level)
     c.shape_with_plan.ensures.clusters
 
 pub returns-clause-ordered : goal.returns-clause-ordered
 returns-clause-ordered g c =
-    let owes = c.plain_runs_owe_nothing.ensures c.args.plan.now c.args.face.now in
+    let obligations = c.plain_runs_have_no_obligations.ensures c.args.plan.now c.args.face.now in
     if_ok-both c.shape_with_plan.result
     (λ glyphs come is. subst (λ (d : Direction). IsOrderedFor (is_backward d) (clusters glyphs.items)) (sym is)
-    (come owes.clusters c.requires.monotone c.requires.rising).ordered)
+    (come obligations.clusters c.requires.monotone c.requires.rising).ordered)
     c.shape_with_plan.ensures.clusters c.shape_with_plan.ensures.direction

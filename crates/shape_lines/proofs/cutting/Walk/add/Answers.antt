@@ -32,7 +32,7 @@ overflow_add-self-2 c =
     let small = small_sums ps c.args.self.now.taken c.args.place (omega arith) c.requires.summable.narrow in
     let low = small.above in
     let high = small.below in
-    let sum = c.requires.walked.behind_is in
+    let sum = c.requires.walked.beyond_is in
     record { sfits = grind (arith, ints) }
 
 pub returns : goal.returns
@@ -52,11 +52,11 @@ returns c =
     let small2 = small_sums ps c.args.self.now.taken c.args.place (omega arith) c.requires.summable.narrow in
     let low2 = small2.above in
     let high2 = small2.below in
-    let sum2 = c.requires.walked.behind_is in
+    let sum2 = c.requires.walked.beyond_is in
     let so_far : to_z w128 (of_z w128 (to_z w128 (of_z w128 c.args.self.now.so_far) +ℤ to_z w128 (of_z w128 c.from-width.result)))
     ≡ c.args.self.now.so_far +ℤ p.width = omega (arith, ints) in
-    let behind : to_z w128 (of_z w128 (to_z w128 (of_z w128 c.args.self.now.behind) +ℤ to_z w128 (of_z w128 c.from-width.result)))
-    ≡ c.args.self.now.behind +ℤ p.width = omega (arith, ints) in
-    rw (so_far, behind)
+    let beyond : to_z w128 (of_z w128 (to_z w128 (of_z w128 c.args.self.now.beyond) +ℤ to_z w128 (of_z w128 c.from-width.result)))
+    ≡ c.args.self.now.beyond +ℤ p.width = omega (arith, ints) in
+    rw (so_far, beyond)
     (IsWalked-more ps (pos c.args.width) (line_of b c.args.text_end) _ _ _ _ _ c.args.place p (omega (arith, long, c.requires.within))
     c.part_at.ensures.value c.requires.walked)

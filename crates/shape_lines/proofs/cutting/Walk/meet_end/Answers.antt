@@ -4,7 +4,7 @@ use Rattle.shape_lines.specs.Parts.{parts_of}
 use Rattle.shape_lines.specs.Walked.{line_of}
 use Rattle.shape_lines.proofs.PartLemmas.{length-parts_of}
 use Rattle.shape_lines.proofs.LeastLemmas.{IsSmall-least}
-use Rattle.shape_lines.proofs.WalkedLemmas.{IsWalked-kept, IsWalked-ended, small_sums}
+use Rattle.shape_lines.proofs.WalkedLemmas.{IsWalked-preserved, IsWalked-ended, small_sums}
 use Rattle.shape_lines.proofs.cutting.Walk.meet_end.Goals as goal
 use Rattle.shape_lines.proofs.cutting.Walk.meet_end.Goals.{then-self+then-self-least+in_ok-push, else-self, else-self-via-then-self+else-self-least, else-self-via-else-self}
 use mir.Syntax.{w128}
@@ -41,12 +41,12 @@ returns-clause-walked c =
     let within : c.args.place ≤ length ps = omega (arith, long, c.requires.within) in
     elim c.if-self.branch [
       | then-self+then-self-least+in_ok-push w ↦
-          let is_far : to_z w128 (of_z w128 c.args.self.now.behind) ≡ c.args.self.now.behind = search rules in
+          let is_far : to_z w128 (of_z w128 c.args.self.now.beyond) ≡ c.args.self.now.beyond = search rules in
           rw (w.self-is, w.in_ok-push.ensures.items, w.line_between.ensures, is_far)
           (IsWalked-ended ps (pos c.args.width) (line_of b c.args.text_end) _ _ _ _ _ c.args.place c.requires.walked c.requires.may_end within
           w.if-self.true (omega (arith, ints)))
       | else-self w ↦
-          rw w.self-is (IsWalked-kept ps (pos c.args.width) (line_of b c.args.text_end) _ _ _ _ _ c.args.place c.requires.walked c.requires.may_end within
+          rw w.self-is (IsWalked-preserved ps (pos c.args.width) (line_of b c.args.text_end) _ _ _ _ _ c.args.place c.requires.walked c.requires.may_end within
           (λ some. elim w.else-self.branch [
             | else-self-via-then-self+else-self-least w' ↦ omega (arith, ints)
             | else-self-via-else-self w' ↦ absurd (omega arith)

@@ -18,5 +18,5 @@ returns-clause-recomposed g c = if_ok-then c.shape.result (λ glyphs form. form.
 
 pub returns-clause-equivalent : goal.returns-clause-equivalent
 returns-clause-equivalent g c = λ plain.
-    let owes = c.plain_runs_owe_nothing.ensures (plan_of _ _ _ _ _) c.args.face.now in
-    if_ok-then c.shape.result (λ glyphs canonical. (canonical owes.canonical).equivalent plain) c.shape.ensures.canonical
+    let obligations = c.plain_runs_have_no_obligations.ensures (plan_of _ _ _ _ _) c.args.face.now in
+    if_ok-then c.shape.result (λ glyphs canonical. (canonical obligations.canonical).equivalent plain) c.shape.ensures.canonical

@@ -2,7 +2,7 @@ use Rattle.std.proofs.Common.{◌≡◌, ◌≢◌, length, ap, sym, ◌∙◌, 
 use Rattle.shape_items.specs.Buffer.{Buffer}
 use Rattle.shape_items.specs.GraphemeSpans.{grapheme_spans}
 use Rattle.shape_common.specs.declared.text_types.BufferClusterLevel.TheVariants.{Characters}
-use Rattle.shape_items.proofs.MergingInOrder.EachSpanLemmas.{length-merge_each, spans_merged_out_keep, spans_merged_out-characters, merged_out_at_once}
+use Rattle.shape_items.proofs.MergingInOrder.EachSpanLemmas.{length-merge_each, spans_merged_out_preserve, spans_merged_out-characters, merged_out_at_once}
 use Rattle.shape_items.proofs.MergingInOrder.GraphemeWalkLemmas.{grapheme_spans-in_order}
 use Rattle.shape_buffer.proofs.buffer.storage.hb_buffer_t.merge_graphemes.Goals as goal
 
@@ -22,5 +22,5 @@ pub returns-clause-len : goal.returns-clause-len
 returns-clause-len c =
     ap (λ (b : Buffer). length b.items) c.merge_graphemes_at_once.ensures ∙ length-merge_each (grapheme_spans c.args.self.now.items) c.args.self.now.items
 
-pub returns-clause-keeps : goal.returns-clause-keeps
-returns-clause-keeps c = spans_merged_out_keep 0 (grapheme_spans c.args.self.now.items) c.args.self.now _ (grapheme_spans-in_order c.args.self.now.items) (returns-clause-merged c)
+pub returns-clause-preserves : goal.returns-clause-preserves
+returns-clause-preserves c = spans_merged_out_preserve 0 (grapheme_spans c.args.self.now.items) c.args.self.now _ (grapheme_spans-in_order c.args.self.now.items) (returns-clause-merged c)

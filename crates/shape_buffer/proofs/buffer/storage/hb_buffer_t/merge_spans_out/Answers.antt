@@ -1,7 +1,7 @@
 use Rattle.std.proofs.Common.{◌≡◌, ◌≢◌, length, ap, sym, ◌∙◌, rules}
 use Rattle.shape_items.specs.Buffer.{Buffer}
 use Rattle.shape_common.specs.declared.text_types.BufferClusterLevel.TheVariants.{Characters}
-use Rattle.shape_items.proofs.MergingInOrder.EachSpanLemmas.{length-merge_each, spans_merged_out_keep, spans_merged_out-characters, merged_out_at_once}
+use Rattle.shape_items.proofs.MergingInOrder.EachSpanLemmas.{length-merge_each, spans_merged_out_preserve, spans_merged_out-characters, merged_out_at_once}
 use Rattle.shape_buffer.proofs.buffer.storage.hb_buffer_t.merge_spans_out.Goals as goal
 
 pub returns-then-eq-clause-merged : goal.returns-then-eq-clause-merged
@@ -20,5 +20,5 @@ pub returns-clause-len : goal.returns-clause-len
 returns-clause-len c =
     ap (λ (b : Buffer). length b.items) c.merge_at_once.ensures ∙ length-merge_each c.args.spans.now c.args.self.now.items
 
-pub returns-clause-keeps : goal.returns-clause-keeps
-returns-clause-keeps c = spans_merged_out_keep 0 c.args.spans.now c.args.self.now _ c.requires.in_order (returns-clause-merged c)
+pub returns-clause-preserves : goal.returns-clause-preserves
+returns-clause-preserves c = spans_merged_out_preserve 0 c.args.spans.now c.args.self.now _ c.requires.in_order (returns-clause-merged c)

@@ -5,5 +5,5 @@ use Rattle.shape_normalize.proofs.ot_shape_normalize.round_one.sequences.first_s
 
 pub returns : goal.returns
 returns c =
-    IsFirstPart-at is_mark_item c.args.infos.now c.in_ok-behind.field-0-0.now c.in_ok-behind.behind.now _ _ c.count_marks.result
+    IsFirstPart-at is_mark_item c.args.infos.now c.in_ok-after.field-0-0.now c.in_ok-after.after.now _ _ c.count_marks.result
     (search rules) c.count_marks.ensures.value c.split_at.ensures.front c.split_at.ensures.back

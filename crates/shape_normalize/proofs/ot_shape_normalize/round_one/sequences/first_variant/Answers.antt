@@ -6,5 +6,5 @@ use Rattle.shape_normalize.proofs.ot_shape_normalize.round_one.sequences.first_v
 pub returns : goal.returns
 returns g c =
     let belongs = is_selector_item g.U.hb_unicode_funcs_t.unicode in
-    IsFirstPart-at belongs c.args.infos.now c.in_ok-behind.field-0-0.now c.in_ok-behind.behind.now _ _ c.count_selectors.result
+    IsFirstPart-at belongs c.args.infos.now c.in_ok-after.field-0-0.now c.in_ok-after.after.now _ _ c.count_selectors.result
     (search rules) c.count_selectors.ensures.value c.split_at.ensures.front c.split_at.ensures.back

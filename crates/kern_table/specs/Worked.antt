@@ -1,0 +1,2 @@
+pub mod Kern
+pub mod Engine

@@ -1,0 +1,31 @@
+-- What the engine returns of a face, by the table that the face has.
+use Rattle.std.specs.Prelude.{◌≡◌, pos, negsuc, [], ◌∷◌, true, false, refl}
+use Rattle.std.specs.Int.{int_wrap}
+use Rattle.shape_buffer.specs.MapBuilder.{Builder}
+use Rattle.shape_common.specs.Wrapping.{◌+ʷ◌, ◌-ʷ◌}
+use Rattle.shape_common.specs.declared.text_types.Direction.TheVariants.{LeftToRight}
+use Rattle.shape_font.specs.Bytes.{i16_of}
+use Rattle.shape_font.specs.declared.face.FontFace.{FontFace}
+use Rattle.kern_table.specs.Engine.{kern_layout, kern_lookups}
+use Rattle.kern_table.specs.Worked.Kern.{table, on, line, along, whole}
+
+pub record WorkedEngine : Type 0 where
+  pub kerns : (f : FontFace) → f.kern.now ≡ table 1 1 → (kern_layout f).has_kerning ≡ true
+  pub no_parts : (f : FontFace) → f.kern.now ≡ table 0 1 → (kern_layout f).has_kerning ≡ false
+  pub other_version : (f : FontFace) → f.kern.now ≡ 0 ∷ 1 ∷ 0 ∷ 0 ∷ 0 ∷ 0 ∷ 0 ∷ 1 ∷ [] → (kern_layout f).has_kerning ≡ false
+  pub compiled : (f : FontFace) (b : Builder) → b.requests ≡ whole 1 ∷ []
+      → (kern_layout f).compiled b ≡ record { is_on = true; everywhere = 1 }
+  pub kerned : (f : FontFace) → f.kern.now ≡ table 1 1
+      → along ((kern_lookups f).kern 16 (line LeftToRight (on 2 0 ∷ on 3 1 ∷ []))) ≡ (pos 575, pos 0) ∷ (pos 575, negsuc 24) ∷ []
+  pub no_machine : (f : FontFace) → f.kern.now ≡ table 1 1 → (kern_layout f).has_machine_kerning ≡ false
+
+pub worked_engine : WorkedEngine
+unfolding i16_of ◌+ʷ◌ ◌-ʷ◌ int_wrap
+worked_engine = record {
+  kerns = λ f e. rw e refl;
+  no_parts = λ f e. rw e refl;
+  other_version = λ f e. rw e refl;
+  compiled = λ f b e. rw e refl;
+  kerned = λ f e. rw e refl;
+  no_machine = λ f e. refl;
+}

@@ -1,0 +1,6 @@
+pub mod Tables
+pub mod Glyphs
+pub mod Lines
+pub mod Searches
+pub mod Names
+pub mod Face

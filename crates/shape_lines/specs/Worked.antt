@@ -1,0 +1,3 @@
+pub mod CanCut
+pub mod Places
+pub mod Lines

@@ -1,0 +1,146 @@
+-- What is promised of a normalised list, and what canonical form asks, on lists that are worked out by hand.
+use Rattle.std.specs.Prelude.{◌≡◌, ◌++◌, ℕ, Bool, true, false, List, [], ◌∷◌, map, drop, replicate, Some, None, refl}
+use Rattle.std.specs.List.{list_any}
+use Rattle.canonical_form.specs.Expanded.{begins_with_mark}
+use Rattle.shape_items.specs.Buffer.{Buffer}
+use Rattle.shape_items.specs.Items.{Item, char_of, is_mark_item}
+use Rattle.shape_items.specs.Prepared.{IsPrepared}
+use Rattle.shape_common.specs.Unicode.{is_mark}
+use Rattle.shape_plan.specs.Rules.{Rules}
+use Rattle.shape_normalize.specs.CanonicalForm.{text_of, HasNoSelector, HasLawfulHooks, IsSupported, TextPremises, EquivalencePremises, CanonicalTextPremises, CanonicalFormPremises, PlainPremises, CutPremises}
+use Rattle.shape_normalize.specs.Normalized.{BroughtInHaveGlyphs, content, without_cluster, HasItemGlyph, HasShortRuns, PreservesHidden, OrdersExpanded, Recomposes}
+use Rattle.shape_normalize.specs.RoundOne.{round_one}
+use Rattle.shape_normalize.specs.RoundTwo.{has_mark_past_first, OrdersMarks}
+use Rattle.shape_normalize.specs.Worked.Fixture.{face_of, rules_in, item, buffer_of}
+
+-- ---- glyphs
+
+-- the characters after are in the text before, or have one of these glyphs
+abbrev pub BroughtIn : List ℕ → List ℕ → List ℕ → Type 0
+BroughtIn glyphs before after = BroughtInHaveGlyphs (face_of glyphs).nominal_glyph before after
+
+pub record GlyphsBroughtIn : Type 0 where
+  pub with_glyph : BroughtIn (0x61 ∷ []) [] (0x61 ∷ [])
+  pub of_the_text : BroughtIn [] (0x62 ∷ 0x61 ∷ []) (0x61 ∷ [])
+  pub without_glyph : BroughtIn (0x61 ∷ []) (0x63 ∷ []) (0x62 ∷ []) → ⊥
+
+-- an item with this glyph index, in another cluster and with another mask than the text's
+abbrev pub placed : ℕ → ℕ → Item
+placed c index = record (item c 5) { glyph_index = index; mask = 8 }
+
+abbrev pub variant_text : Buffer
+variant_text = buffer_of (item 0x61 0 ∷ item 0xFE00 1 ∷ [])
+
+abbrev pub HasGlyph : List ℕ → Buffer → Item → Type 0
+HasGlyph glyphs text one = HasItemGlyph (rules_in 4 glyphs) text one
+
+pub record GlyphsOfItems : Type 0 where
+  pub own : HasGlyph (0x61 ∷ []) (buffer_of (item 0x61 0 ∷ [])) (placed 0x61 0x61)
+  pub none : HasGlyph [] (buffer_of (item 0x61 0 ∷ [])) (placed 0x61 0)
+  pub of_another : HasGlyph (0x61 ∷ 0x62 ∷ []) (buffer_of (item 0x61 0 ∷ [])) (placed 0x61 0x62) → ⊥
+  -- glyph 7, of U+0061 with its selector
+  pub of_the_sequence : HasGlyph (0x61 ∷ 0xFE00 ∷ []) variant_text (placed 0x61 7)
+  pub not_of_the_sequence : HasGlyph (0x61 ∷ 0xFE00 ∷ []) variant_text (placed 0x61 8) → ⊥
+
+-- ---- what items have in common
+
+abbrev pub all_set : Item
+all_set =
+    let one = placed 0x301 9 in
+    record one { glyph_id = 3; properties = record one.properties { hidden = true; ligature_id = 4; syllable = 2 } }
+
+abbrev pub with_reordering : Rules
+with_reordering = record (rules_in 4 []) { reorder = Some (λ b _ _. b) }
+
+pub record ItemsCompared : Type 0 where
+  pub content_of : content (rules_in 4 []) all_set ≡ record all_set {
+    cluster = 0;
+    mask = 0;
+    glyph_id = 0;
+    properties = record all_set.properties { hidden = false };
+  }
+  -- a reorder hook may set ccc
+  pub under_reordering : content with_reordering all_set ≡ record all_set {
+    cluster = 0;
+    mask = 0;
+    glyph_id = 0;
+    properties = record all_set.properties { hidden = false; modified_ccc = 0 };
+  }
+  pub cluster_aside : without_cluster all_set ≡ record all_set { cluster = 0; mask = 0 }
+
+pub items_compared : ItemsCompared
+items_compared = record { content_of = refl; under_reordering = refl; cluster_aside = refl }
+
+-- ---- hidden items
+
+abbrev pub with_hidden : Bool → ℕ → Item
+with_hidden hidden c =
+    let one = item c 0 in
+    record one { properties = record one.properties { hidden = hidden } }
+
+abbrev pub PreservesHiddenOf : Item → Item → Type 0
+PreservesHiddenOf old new = PreservesHidden (rules_in 4 (0x61 ∷ 0x34F ∷ [])) (buffer_of (old ∷ [])) (buffer_of (new ∷ []))
+
+pub record HiddenItems : Type 0 where
+  pub in_sight : PreservesHiddenOf (with_hidden true 0x61) (with_hidden false 0x61)
+  pub as_it_was : PreservesHiddenOf (with_hidden true 0x61) (with_hidden true 0x61)
+  pub of_another : PreservesHiddenOf (with_hidden true 0x62) (with_hidden true 0x61) → ⊥
+  pub hidden_anew : PreservesHiddenOf (with_hidden false 0x61) (with_hidden true 0x61) → ⊥
+
+-- ---- runs, order and what recomposing leaves
+
+pub record ShortRuns : Type 0 where
+  pub longest : HasShortRuns (replicate 32 (item 0x301 0))
+  pub one_more : HasShortRuns (replicate 33 (item 0x301 0)) → ⊥
+
+-- U+0061 with an acute, and with a dot below after it
+abbrev pub acute : Buffer
+acute = buffer_of (item 0x61 0 ∷ item 0x301 1 ∷ [])
+
+abbrev pub acute_and_dot : Buffer
+acute_and_dot = buffer_of (item 0x61 0 ∷ item 0x301 1 ∷ item 0x323 2 ∷ [])
+
+abbrev pub all_glyphs : List ℕ
+all_glyphs = 0x61 ∷ 0x301 ∷ 0x323 ∷ 0xE1 ∷ 0x1EA1 ∷ []
+
+-- the characters of a list, clusters and masks aside
+abbrev pub chars_in : Buffer → List ℕ
+chars_in b = map char_of (map without_cluster b.items)
+
+pub record MarksOfLists : Type 0 where
+  pub composed : (new : Buffer) → Recomposes (rules_in 2 all_glyphs) acute new → chars_in new ≡ 0xE1 ∷ []
+  pub first_in_order : (new : Buffer) → Recomposes (rules_in 2 all_glyphs) acute_and_dot new → chars_in new ≡ 0x1EA1 ∷ 0x301 ∷ []
+  pub without_glyph : (new : Buffer) → Recomposes (rules_in 2 (0x61 ∷ [])) acute new → chars_in new ≡ 0x61 ∷ 0x301 ∷ []
+  pub in_order : (new : Buffer) → OrdersExpanded (rules_in 1 all_glyphs) acute_and_dot new
+      → OrdersMarks (round_one (rules_in 1 all_glyphs) acute_and_dot).items new.items
+
+-- ---- premises
+
+pub record SelectorsAsked : Type 0 where
+  pub none : HasNoSelector (rules_in 4 []) (0x61 ∷ 0x301 ∷ [])
+  pub one : HasNoSelector (rules_in 4 []) (0x61 ∷ 0xFE00 ∷ []) → ⊥
+
+-- canonical form asks no more than this
+pub record PremisesAsked (rules : Rules) : Type 0 where
+  pub of_a_text : (text : List ℕ) → HasLawfulHooks rules → HasNoSelector rules text → rules.reorder ≡ None → TextPremises rules text
+  pub of_a_buffer : (b : Buffer) → TextPremises rules (text_of b) → IsPrepared rules.unicode b.items → EquivalencePremises rules b
+  pub of_characters : (text : List ℕ) → ((with_marks : Bool) → rules.short with_marks ≡ false) → IsSupported rules text
+      → list_any (is_mark rules.unicode) (drop 1 text) ≡ true → CanonicalTextPremises rules text
+  pub of_both : (b : Buffer) → EquivalencePremises rules b → CanonicalTextPremises rules (text_of b) → CanonicalFormPremises rules b
+  pub of_a_plain_text : (b : Buffer) → IsPrepared rules.unicode b.items → HasNoSelector rules (text_of b) → rules.reorder ≡ None
+      → PlainPremises rules b
+  pub of_a_cut : (old front back : Buffer) → text_of old ≡ text_of front ++ text_of back
+      → PlainPremises rules old → PlainPremises rules front → PlainPremises rules back
+      → begins_with_mark is_mark_item back.items ≡ false
+      → begins_with_mark (is_mark rules.unicode) (text_of (round_one rules back)) ≡ false
+      → has_mark_past_first front.items ≡ true → has_mark_past_first back.items ≡ true → CutPremises rules old front back
+
+pub record FormWorked : Type 0 where
+  pub brought_in : GlyphsBroughtIn
+  pub item_glyphs : GlyphsOfItems
+  pub compared : ItemsCompared
+  pub hidden : HiddenItems
+  pub short_runs : ShortRuns
+  pub marks : MarksOfLists
+  pub selectors : SelectorsAsked
+  pub premises : (rules : Rules) → PremisesAsked rules

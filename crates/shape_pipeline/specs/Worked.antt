@@ -1,0 +1,4 @@
+pub mod Passes
+pub mod Run
+pub mod Beginnings
+pub mod Obligations

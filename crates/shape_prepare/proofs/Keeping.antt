@@ -1,6 +1,0 @@
--- What preparing keeps.
-pub mod StepKeepers
-pub mod KeeperLemmas
-pub mod FirstLemmas
-pub mod PreparedLemmas
-pub mod CharacterLemmas

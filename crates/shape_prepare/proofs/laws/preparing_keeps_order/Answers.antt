@@ -1,5 +1,0 @@
-use Rattle.shape_prepare.proofs.Keeping.KeeperLemmas.{preparing_keeps_order}
-use Rattle.shape_prepare.proofs.laws.preparing_keeps_order.Goals as goal
-
-pub returns : goal.returns
-returns c = preparing_keeps_order

@@ -1,0 +1,4 @@
+pub mod Unicode
+pub mod Begun
+pub mod Graphemes
+pub mod Order

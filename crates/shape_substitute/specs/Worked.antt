@@ -1,0 +1,4 @@
+pub mod Fractions
+pub mod Ranges
+pub mod Steps
+pub mod Lookups

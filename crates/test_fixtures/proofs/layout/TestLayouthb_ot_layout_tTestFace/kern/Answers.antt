@@ -1,0 +1,7 @@
+use Rattle.std.proofs.Common.{rules}
+use Rattle.shape_buffer.proofs.Steps.Runs.{Ran-made}
+use Rattle.test_fixtures.specs.Layouts.{wider_by}
+use Rattle.test_fixtures.proofs.layout.TestLayouthb_ot_layout_tTestFace.kern.Goals as goal
+
+pub returns : goal.returns
+returns c map = Ran-made (search rules) (c.update_positions.ensures (wider_by c.args.face.now.kern_adds) (λ x p q said. search rules))

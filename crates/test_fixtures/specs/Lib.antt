@@ -1,0 +1,10 @@
+pub mod SmallUnicode
+pub mod Faces
+pub mod Splitting
+pub mod Reversing
+pub mod Swapping
+pub mod Worked
+pub mod Changing
+pub mod Rules
+pub mod Layouts
+pub mod Doubling

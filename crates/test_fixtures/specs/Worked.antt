@@ -1,0 +1,9 @@
+pub mod Definitions
+pub mod Clusters
+pub mod Fits
+pub mod Outcomes
+pub mod Parts
+pub mod Premises
+pub mod Characters
+pub mod Texts
+pub mod Results

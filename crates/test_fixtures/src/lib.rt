@@ -1,0 +1,33 @@
+//! What tests bring to shaping: small Unicode functions, a face that is plain data, an engine that does what the
+//! face says, and shapers that split, compose, reorder, change or double characters, or have preferences for marks.
+//! And definitions computed on cases over them.
+#![tactic(auto)]
+#![allow(non_camel_case_types)]
+
+mod absorbing;
+mod changing;
+mod doubling;
+mod face;
+mod layout;
+mod lookups;
+mod marking;
+mod preferring;
+mod reversing;
+mod rules;
+mod small_unicode;
+mod splitting;
+mod swapping;
+pub mod worked;
+
+pub use absorbing::AbsorbingShaper;
+pub use changing::ChangingShaper;
+pub use doubling::DoublingShaper;
+pub use face::{EVERY_GLYPH, KnownGlyph, PLAIN_FACE, TestFace};
+pub use layout::{TestLayout, TestMap};
+pub use marking::{EarlyHanging, Marking};
+pub use preferring::{Automatic, EarlyShaper, HangingShaper, LateShaper, PreferringShaper};
+pub use reversing::ReversingShaper;
+pub use rules::{Ligature, Multiple, Single, Stage};
+pub use small_unicode::SmallUnicode;
+pub use splitting::{DeepShaper, StackedShaper};
+pub use swapping::SwappingShaper;

@@ -1,5 +1,0 @@
-use Rattle.test_worlds.proofs.OutcomeRows.{worked_outcomes}
-use Rattle.test_worlds.proofs.worked.outcomes_meet_worked_cases.Goals as goal
-
-pub returns : goal.returns
-returns c = worked_outcomes

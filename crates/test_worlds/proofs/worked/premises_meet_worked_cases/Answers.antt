@@ -1,5 +1,0 @@
-use Rattle.test_worlds.proofs.PremiseRows.{worked_premises}
-use Rattle.test_worlds.proofs.worked.premises_meet_worked_cases.Goals as goal
-
-pub returns : goal.returns
-returns c = worked_premises

@@ -1,5 +1,0 @@
-use Rattle.test_worlds.proofs.PromiseRows.{worked_promises}
-use Rattle.test_worlds.proofs.worked.promises_meet_worked_cases.Goals as goal
-
-pub returns : goal.returns
-returns c = worked_promises
