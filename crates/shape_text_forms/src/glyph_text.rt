@@ -2,6 +2,8 @@
 //!
 //! A glyph is its name or number, `=` and its cluster, `@` and where it is moved to, `+` and how far the pen moves
 //! on; if they are asked for, also `#` and its flags, and its box.
+//!
+//! A name is asked of a `glyph_names` beside the face: shaping asks no face for names.
 ghost use Rattle.std.specs.Prelude.{◌≡◌, ◌++◌, true, pos, [], length, string_bytes, IfOk, IsOk};
 ghost use Rattle.std.specs.Option.{option_map};
 ghost use Rattle.shape_text_forms.specs.Serialize.{asks, cluster_word, offset_word, advance_word};

@@ -1,7 +1,7 @@
 //! From a string to its lines: a paragraph is shaped once, and its glyphs are cut where lines end.
 //!
 //! A line is laid out by the glyphs of the whole text; or its piece of the text is shaped again,
-//! with what stands before and after it as context, told to begin the text if it is the first
+//! with what stands before and after it as context, with the flag that it begins the text if it is the first
 //! and to end it if it is the last. That a piece shaped alone looks as it does in the whole is
 //! tested, not promised: no law speaks of two runs. The tests compare the two over marks, ligatures
 //! and two script shapers, in both directions.

@@ -1,6 +1,6 @@
 //! What a caller with the default shaper and no lookups knows of glyphs: the clauses of `shape_with_plan` in
 //! plain words, with nothing left to ask of hooks and lookups. One function has a hook and lookups, which
-//! preserve clusters and flags; one takes a string, of which nothing is left to ask either.
+//! preserve clusters and flags; one takes a string, with no premise left.
 //!
 //! Each function shapes a text and does nothing else. Its contract is what a user of that clause wants to hear:
 //! so a clause that comes to say less, of one direction or of one level alone, is refused here.
