@@ -3,7 +3,8 @@
 
     tests/api-index.py            writes the page
     tests/api-index.py --check    ends with status 1 if the page isn't what it would write, or if the table of must-fail edits
-                                  in docs/TESTING.md doesn't name exactly those that there are
+                                  in docs/TESTING.md doesn't name exactly those that there are, or if
+                                  docs/SAFE_AND_TOTAL.md lacks a public function that requires something
 
 An item is public if every module on its path is, or if a `pub use` of such a module names it. Crates of tests and of benches
 are left out, and so are programs.
@@ -17,6 +18,7 @@ from pathlib import Path
 ROOT = Path(__file__).resolve().parent.parent
 PAGE = ROOT / "docs" / "API.md"
 TESTING = ROOT / "docs" / "TESTING.md"
+SAFE_AND_TOTAL = ROOT / "docs" / "SAFE_AND_TOTAL.md"
 YARD = re.compile(r"^(test|bench)_|_(tests|bench)$|^test_fixtures$|^unlawful_search$")
 ITEM = re.compile(r"(pub )?(?:const )?(?:unsafe )?(fn|struct|enum|trait|const|static|type|mod) (\w+)")
 HEAD = """# Public items, by library
@@ -200,6 +202,91 @@ def edits_of_page():
     return named
 
 
+# A library that serves a program of trials alone.
+LEFT_OUT = {"shape_sessions"}
+
+
+def code_of(file):
+    """The lines of a file without comments and without modules of tests."""
+    return [line.split("//")[0] for line in file.read_text().splitlines()]
+
+
+def modules_with_files(root, path=()):
+    """Each module of a crate: its path, its file, and whether all on the way to it are public."""
+    found = [(path, root, True)]
+    lines = code_of(root)
+    base = root.parent if root.name in ("lib.rt", "main.rt") else root.parent / root.stem
+    for before, line in zip([""] + lines, lines):
+        match = re.match(r"(pub(?:\([^)]*\))? )?mod (\w+);", line)
+        if match and "cfg(test)" not in before:
+            file = base / f"{match[2]}.rt"
+            if file.exists():
+                public = match[1] == "pub "
+                for inner, inner_file, inner_public in modules_with_files(file, path + (match[2],)):
+                    found.append((inner, inner_file, public and inner_public))
+    return found
+
+
+def reexported(files):
+    """The names that some `pub use` of the crate brings out."""
+    names = set()
+    for file in files:
+        for clause in re.findall(r"^pub use ([^;]+);", "\n".join(code_of(file)), re.M):
+            names |= set(re.findall(r"\w+", clause))
+    return names
+
+
+def contract_of(lines, at):
+    """What stands between a function's name and its body."""
+    text = ""
+    for line in lines[at:]:
+        if re.match(r"^ *(\{|\{\}|\}) *$", line) or (line.rstrip().endswith("{") and "requires" not in line and "ensures" not in line):
+            return text
+        text += line + "\n"
+        if line.rstrip().endswith(";"):
+            return text
+    return text
+
+
+def conditions(crate):
+    """The public functions of a crate that ask something: module, name, first condition."""
+    root = ROOT / "crates" / crate / "src/lib.rt"
+    all_modules = modules_with_files(root)
+    names = reexported([file for _, file, _ in all_modules])
+    for path, file, public in all_modules:
+        lines, inside = code_of(file), None
+        for at, line in enumerate(lines):
+            if re.match(r"(pub )?(trait|impl)\b", line):
+                inside = line
+            elif line.startswith("}"):
+                inside = None
+            match = re.match(r"^( *)(pub )?fn (\w+)", line)
+            if not match or not (match[2] or (inside and re.match(r"pub trait\b", inside))):
+                continue
+            name = match[3]
+            reached = public or name in names or bool(inside and names & set(re.findall(r"\w+", inside)))
+            text = contract_of(lines, at)
+            asked = re.search(r"\brequires\b ?(\w+)? ?\{ ?(.*)", text)
+            if reached and asked:
+                yield path, name, asked[2].removesuffix("}").strip()
+
+
+def lacking_conditions():
+    """The public functions with a `requires` that docs/SAFE_AND_TOTAL.md doesn't name, in a code span by themselves, with their
+    path, or as `module::*`."""
+    spans = re.findall(r"`([^`]+)`", SAFE_AND_TOTAL.read_text())
+    named = {span.split("::")[-1].split("(")[0] for span in spans}
+    wholes = {span.split("::")[-2] for span in spans if span.endswith("::*")}
+    lines = (ROOT / "crates.txt").read_text().splitlines()
+    crates = sorted(line.split(":")[0].split()[0] for line in lines if line.strip() and not line.startswith("#"))
+    for crate in crates:
+        if YARD.search(crate) or crate in LEFT_OUT or not (ROOT / "crates" / crate / "src/lib.rt").exists():
+            continue
+        for path, name, asked in conditions(crate):
+            if name not in named and not wholes & ({crate} | set(path)):
+                yield f"{'::'.join((crate,) + path)}::{name}: {asked}"
+
+
 def check():
     """What is stale, a line each."""
     stale = []
@@ -208,6 +295,7 @@ def check():
     edits = {f"{edit.parent.parent.name}/{edit.stem}" for edit in ROOT.glob("crates/*/must-fail/*.edit")}
     stale += [f"docs/TESTING.md lacks the edit {edit}" for edit in sorted(edits - edits_of_page())]
     stale += [f"docs/TESTING.md names an edit that isn't there: {edit}" for edit in sorted(edits_of_page() - edits)]
+    stale += [f"docs/SAFE_AND_TOTAL.md lacks {line}" for line in lacking_conditions()]
     return stale
 
 

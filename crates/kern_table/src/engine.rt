@@ -1,6 +1,6 @@
 //! The engine.
 ghost use Rattle.shape_font.specs.declared.face.FontFace.{FontFace as Face};
-ghost use Rattle.std.specs.Prelude.{◌≡◌, ⊥, IsOk, MatchResult};
+ghost use Rattle.std.specs.Prelude.{◌≡◌, IsOk, MatchResult};
 ghost use Rattle.shape_buffer.specs.Outcome.{IsWithinLimit, Made, Outcome, step};
 ghost use Rattle.kern_table.specs.Map.{kern_masks};
 ghost use Rattle.kern_table.specs.declared.map.KernMap.{KernMap as Compiled};
@@ -43,8 +43,10 @@ impl<'a> hb_ot_layout_t<FontFace<'a>> for KernTable {
         face: &FontFace<'a>,
         builder: &hb_ot_map_builder_t,
     ) -> Result<KernMap, ShapeError>
-        ensures { MatchResult result
-            (λ map. map ≡ (kern_layout face.now).compiled builder.now) (λ _. ⊥) }
+        ensures made { MatchResult result
+            (λ map. map ≡ (kern_layout face.now).compiled builder.now)
+            (λ e. e ≡ ShapeError.Memory) }
+        ensures ok { IsOk result }
     {
         Ok(map(builder.requests()))
     }

@@ -8,16 +8,14 @@
 ghost use Rattle.std.specs.Prelude.{◌≡◌, ◌<◌, ◌^◌, pos, [], length, Err, IfOk};
 ghost use Rattle.shape_lines.specs.RightLines.{AreRightLines};
 ghost use Rattle.shape_pipeline.specs.Planned.{planned_for};
-ghost use Rattle.shape_users.specs.PlainGlyphs.{AreGlyphsOf, StringPasses};
-ghost use Rattle.shape_users.specs.Words.{spelled};
+ghost use Rattle.shape_users.specs.PlainGlyphs.{AreGlyphsOf, StringPasses, string_text};
 
-use crate::plain_glyphs::text_of_str;
-use shape_pipeline::laws::{glyphs_can_be_cut, plain_runs_have_no_obligations};
+use crate::plain_glyphs::glyphs_of_str;
 use shape_pipeline::lines::{Line, cut_lines};
 use shape_pipeline::ot_shaper::Runs;
 use shape_pipeline::{
     DEFAULT_SHAPER, GlyphBuffer, NoLookups, ShapeError, hb_default_shaper_t, hb_font_t,
-    hb_unicode_funcs_t, shape,
+    hb_unicode_funcs_t,
 };
 use shape_plan::planner::Plans;
 use std::alloc::Global;
@@ -46,23 +44,17 @@ where
     requires { length text.now < 2 ^ 32 }
     ensures glyphs { let run = ⟦<hb_default_shaper_t as Runs<U, F, NoLookups>>⟧.run
         (planned_for U.unicode ⟦<hb_default_shaper_t as Plans<U, F, NoLookups>>⟧.planning
-        face.now DEFAULT_SHAPER [] (spelled text.now)) face.now in
+        face.now DEFAULT_SHAPER [] (string_text text.now)) face.now in
         IfOk result (λ shaped. AreGlyphsOf run text.now shaped.glyphs) }
     ensures lines { IfOk result (λ shaped.
         AreRightLines shaped.glyphs (length text.now) (pos width) shaped.lines.items) }
     ensures length { let run = ⟦<hb_default_shaper_t as Runs<U, F, NoLookups>>⟧.run
         (planned_for U.unicode ⟦<hb_default_shaper_t as Plans<U, F, NoLookups>>⟧.planning
-        face.now DEFAULT_SHAPER [] (spelled text.now)) face.now in
+        face.now DEFAULT_SHAPER [] (string_text text.now)) face.now in
         result ≡ Err ShapeError.Length → StringPasses run text.now }
 {
-    plain_runs_have_no_obligations::<U, F>();
-    glyphs_can_be_cut();
     let text_end = text.len() as u32;
-    let buffer = match text_of_str(alloc, text) {
-        Ok(buffer) => buffer,
-        Err(fault) => return Err(fault.cause),
-    };
-    match shape::<U, F, NoLookups, hb_default_shaper_t>(alloc, face, &DEFAULT_SHAPER, &[], buffer) {
+    match glyphs_of_str::<U, F>(alloc, face, text) {
         Ok(glyphs) => {
             let lines = cut_lines(alloc, &glyphs, text_end, width)?;
             Ok(ShapedLines { glyphs, lines })

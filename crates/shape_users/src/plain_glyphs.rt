@@ -4,7 +4,7 @@
 //!
 //! Each function shapes a text and does nothing else. Its contract is what a user of that clause wants to hear:
 //! so a clause that comes to say less, of one direction or of one level alone, is refused here.
-ghost use Rattle.std.specs.Prelude.{◌≡◌, ◌≢◌, ◌==◌, ◌<◌, ◌≤◌, ◌*◌, ◌^◌, ◌↔◌, ◌⊎◌, ⊥};
+ghost use Rattle.std.specs.Prelude.{◌≡◌, ◌≢◌, ◌==◌, ◌<◌, ◌≤◌, ◌*◌, ◌^◌, ◌↔◌, ◌⊎◌};
 ghost use Rattle.std.specs.Prelude.{ℕ, false, [], length, All, Contains};
 ghost use Rattle.std.specs.Prelude.{IfOk, IfErr, OnOk, OnErr, MatchResult, Err};
 ghost use Rattle.std.specs.Str.{chars};
@@ -31,8 +31,7 @@ ghost use Rattle.shape_pipeline.specs.Headline.{prepared_text, normalised_list};
 ghost use Rattle.shape_pipeline.specs.Order.{grapheme_clusters};
 ghost use Rattle.shape_users.specs.PlainGlyphs.{AreOfText, HaveGlyphs, IsGivenBackEmpty};
 ghost use Rattle.shape_users.specs.PlainGlyphs.{NoStepPasses, SomeStepPasses};
-ghost use Rattle.shape_users.specs.PlainGlyphs.{IsTextOf, IsPlaceIn, AreGlyphsOf, StringPasses};
-ghost use Rattle.shape_users.specs.Words.{spelled};
+ghost use Rattle.shape_users.specs.PlainGlyphs.{IsTextOf, IsPlaceIn, AreGlyphsOf, StringPasses, string_text};
 ghost use Rattle.shape_pipeline.specs.Planned.{planned_for};
 ghost use Rattle.shape_users.specs.Worked.Plain.{WorkedPlain};
 
@@ -208,9 +207,9 @@ where
 /// The text of a string: its characters in the clusters of their first bytes, by the settings of a
 /// new buffer. Refuses with `Length` a string of 2^32 bytes and more, since clusters are 32 bits, and
 /// with `Memory` if a growth was refused; the buffer that comes back is new.
-pub(crate) fn text_of_str(alloc: Global, string: &str) -> Result<UnicodeBuffer, ShapeFault>
+fn text_of_str(alloc: Global, string: &str) -> Result<UnicodeBuffer, ShapeFault>
     ensures ok { IfOk result (λ text. IsTextOf string.now text) }
-    ensures text { IfOk result (λ text. text ≡ spelled string.now) }
+    ensures text { IfOk result (λ text. text ≡ string_text string.now) }
     ensures length { IfErr result (λ fault. fault.cause ≡ ShapeError.Length
         → 2 ^ 32 ≤ length string.now) }
     ensures bytes { 2 ^ 32 ≤ length string.now
@@ -226,10 +225,11 @@ pub(crate) fn text_of_str(alloc: Global, string: &str) -> Result<UnicodeBuffer, 
 }
 
 /// Appends a string to a new buffer, if it has fewer than 2^32 bytes.
+#[tactic(auto, unfolding(crate::specs::PlainGlyphs::string_text))]
 fn append(buffer: &mut UnicodeBuffer, string: &str) -> Result<(), ShapeError>
     requires { buffer.old ≡ new_buffer }
     ensures ok { OnOk result (IsTextOf string.now buffer.new) }
-    ensures text { OnOk result (buffer.new ≡ spelled string.now) }
+    ensures text { OnOk result (buffer.new ≡ string_text string.now) }
     ensures length { (result ≡ Err ShapeError.Length) ↔ (2 ^ 32 ≤ length string.now) }
     ensures refused { OnErr result (buffer.new ≡ new_buffer) }
 {
@@ -251,11 +251,11 @@ where
     F: hb_font_t,
     ensures glyphs { let run = ⟦<hb_default_shaper_t as Runs<U, F, NoLookups>>⟧.run
         (planned_for U.unicode ⟦<hb_default_shaper_t as Plans<U, F, NoLookups>>⟧.planning
-        face.now DEFAULT_SHAPER [] (spelled string.now)) face.now in
+        face.now DEFAULT_SHAPER [] (string_text string.now)) face.now in
         IfOk result (λ glyphs. AreGlyphsOf run string.now glyphs) }
     ensures length { let run = ⟦<hb_default_shaper_t as Runs<U, F, NoLookups>>⟧.run
         (planned_for U.unicode ⟦<hb_default_shaper_t as Plans<U, F, NoLookups>>⟧.planning
-        face.now DEFAULT_SHAPER [] (spelled string.now)) face.now in
+        face.now DEFAULT_SHAPER [] (string_text string.now)) face.now in
         IfErr result (λ fault. fault.cause ≡ ShapeError.Length
         → (2 ^ 32 ≤ length string.now) ⊎ StringPasses run string.now) }
     ensures bytes { 2 ^ 32 ≤ length string.now

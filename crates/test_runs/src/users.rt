@@ -4,6 +4,7 @@
 mod arabic;
 mod breaking;
 mod broken_rows;
+mod capitals;
 mod cuts;
 mod every_form;
 mod hebrew;

@@ -43,6 +43,8 @@ pub record WorkedValues : Type 0 where
   pub parts : parts_of (table 3 1) ≡ 3
   pub other_version : parts_of (0 ∷ 1 ∷ 0 ∷ 0 ∷ 0 ∷ 0 ∷ 0 ∷ 1 ∷ []) ≡ 0
   pub minimum_too : is_read (table 1 3) 4 true ≡ true
+  -- 65536 more than the right glyph of (2, 3) if the left one is 1
+  pub right_past_all_glyphs : value_of (table 1 1) 4 1 65539 ≡ pos 0
 
 pub worked_values : WorkedValues
 unfolding i16_of
@@ -62,6 +64,7 @@ worked_values = record {
   parts = refl;
   other_version = refl;
   minimum_too = refl;
+  right_past_all_glyphs = refl;
 }
 
 -- an item with a glyph, for which kerning is on (bit 4) or off
@@ -199,6 +202,8 @@ pub record WorkedMaps : Type 0 where
   pub no_bits_for_others : (kern_masks (record { is_on = true; everywhere = 1 })).mask (record { 0 = 1 }) ≡ (0, 4)
   pub eight_bits : map_of (whole 257 ∷ []) ≡ record { is_on = true; everywhere = 1 }
   pub one_off : (kern_masks (record { is_on = false; everywhere = 1 })).one_mask KERN ≡ 0
+  pub by_value_for_all : (kern_masks (record { is_on = true; everywhere = 2 })).global_mask ≡ 32
+  pub no_one_for_others : (kern_masks (record { is_on = true; everywhere = 1 })).one_mask (record { 0 = 1 }) ≡ 0
 
 pub worked_maps : WorkedMaps
 worked_maps = record {
@@ -216,4 +221,6 @@ worked_maps = record {
   no_bits_for_others = refl;
   eight_bits = refl;
   one_off = refl;
+  by_value_for_all = refl;
+  no_one_for_others = refl;
 }

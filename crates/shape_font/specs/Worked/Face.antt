@@ -93,6 +93,8 @@ pub record WorkedOrigins : Type 0 where
   -- 1005 high: -5 is left, and half of that is -3
   pub higher_than_the_line : (f : FontFace) → f.v_count ≡ 0 → f.os2.now ≡ [] → f.hhea.now ≡ plain_line
       → origin_over f 1 (record box { height = negsuc 1004 }) ≡ pos 697
+  pub listed_by_a_minor_version : (f : FontFace) → f.vorg.now ≡ words (0 ∷ 1 ∷ 880 ∷ 0 ∷ [])
+      → (font_face f).v_origin (record { 0 = 3 }) ≡ pos 880
 
 pub worked_origins : WorkedOrigins
 unfolding i16_of ◌+ʷ◌ int_wrap
@@ -111,4 +113,5 @@ worked_origins = record {
   no_box = λ f o. rw o refl;
   em = λ f u. u;
   higher_than_the_line = λ f v o h. rw (v, o, h) refl;
+  listed_by_a_minor_version = λ f v. rw v refl;
 }

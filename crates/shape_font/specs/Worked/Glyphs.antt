@@ -28,6 +28,8 @@ pub record WorkedSegments : Type 0 where
   pub past_plane_0 : cmap_glyph three_segments 0x10041 ≡ 0
   pub other_format : cmap_glyph (words (5 ∷ 44 ∷ [])) 0x41 ≡ 0
   pub listed_delta_wraps : cmap_glyph (listed_with 65533) 0x61 ≡ 6
+  -- 9 to 3, and 5 to 5: the end decides first
+  pub after_a_segment_that_ends_before_it_starts : cmap_glyph (words (4 ∷ 32 ∷ 0 ∷ 4 ∷ 0 ∷ 0 ∷ 0 ∷ 3 ∷ 5 ∷ 0 ∷ 9 ∷ 5 ∷ 0 ∷ 2 ∷ 0 ∷ 0 ∷ [])) 5 ≡ 7
 
 pub worked_segments : WorkedSegments
 worked_segments = record {
@@ -41,6 +43,7 @@ worked_segments = record {
   past_plane_0 = refl;
   other_format = refl;
   listed_delta_wraps = refl;
+  after_a_segment_that_ends_before_it_starts = refl;
 }
 
 -- format 0: glyphs 5, 6 and 7 for U+0000..0002, and no more bytes
@@ -134,6 +137,9 @@ pub record WorkedGroups : Type 0 where
   pub past_the_groups_for_all : cmap_glyph (groups_in 13 2) 0x43 ≡ 0
   pub no_more_than_there_is_room_for : groups_of (two_groups 65535) ≡ 2
   pub glyph_of_32_bits : cmap_glyph (words (12 ∷ 0 ∷ 0 ∷ 28 ∷ 0 ∷ 0 ∷ 0 ∷ 1 ∷ 0 ∷ 0x41 ∷ 0 ∷ 0x41 ∷ 1 ∷ 7 ∷ [])) 0x41 ≡ 65543
+  -- 9 to 3, and 5 to 5: the start decides first
+  pub before_a_group_that_ends_before_it_starts : cmap_glyph (words (12 ∷ 0 ∷ 0 ∷ 40 ∷ 0 ∷ 0 ∷ 0 ∷ 2 ∷ 0 ∷ 9 ∷ 0 ∷ 3 ∷ 0 ∷ 7 ∷ 0 ∷ 5 ∷ 0 ∷ 5 ∷ 0 ∷ 8 ∷ [])) 5
+      ≡ 0
 
 pub worked_groups : WorkedGroups
 worked_groups = record {
@@ -148,6 +154,7 @@ worked_groups = record {
   past_the_groups_for_all = refl;
   no_more_than_there_is_room_for = refl;
   glyph_of_32_bits = refl;
+  before_a_group_that_ends_before_it_starts = refl;
 }
 
 -- two long metrics, 500 and 600 wide, then the bearings of glyphs 2 and 3

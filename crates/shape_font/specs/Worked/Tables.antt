@@ -1,8 +1,9 @@
 -- Numbers and tables, on bytes that were read by hand.
-use Rattle.std.specs.Prelude.{◌≡◌, ℕ, pos, negsuc, List, [], ◌∷◌, ◌++◌, Some, None, true, false, refl}
+use Rattle.std.specs.Prelude.{◌≡◌, ℕ, pos, negsuc, List, [], ◌∷◌, ◌++◌, Some, None, true, false, codes, refl}
 use Rattle.shape_font.specs.Bytes.{u16_of, u32_of, i16_of, fitting}
 use Rattle.shape_font.specs.Directory.{font_start, part_of, table_at, table_of, has_table, bytes_of}
 use Rattle.shape_font.specs.Subtables.{subtable_of, chosen_subtable, symbols_of}
+use Rattle.shape_font.specs.declared.face.TheConstants.{HEAD, HHEA, MAXP, HMTX, VHEA, VMTX, VORG, OS2, CMAP, LOCA, GLYF, GSUB, GPOS, MORX, KERX, TRAK, KERN, POST}
 
 pub record WorkedNumbers : Type 0 where
   pub two_bytes : u16_of (7 ∷ 1 ∷ 2 ∷ []) 1 ≡ 258
@@ -85,6 +86,7 @@ pub record WorkedCollections : Type 0 where
   pub one_font_only : font_start (two_tables 2) 1 ≡ None
   -- records are found from the font's beginning, tables from the file's
   pub after_a_byte : table_at (99 ∷ header 1 ++ entry 65 29 1 ++ 11 ∷ []) 1 0x41412020 ≡ Some (11 ∷ [])
+  pub count_of_32_bits : font_start (0x74 ∷ 0x74 ∷ 0x63 ∷ 0x66 ∷ 0 ∷ 1 ∷ 0 ∷ 0 ∷ 0 ∷ 1 ∷ 0 ∷ 0 ∷ 0 ∷ 0 ∷ 1 ∷ 44 ∷ []) 0 ≡ Some 300
 
 pub worked_collections : WorkedCollections
 worked_collections = record {
@@ -94,6 +96,7 @@ worked_collections = record {
   one_font = refl;
   one_font_only = refl;
   after_a_byte = refl;
+  count_of_32_bits = refl;
 }
 
 -- a table `cmap` of one subtable or two, each one byte long and at the end
@@ -149,4 +152,47 @@ worked_subtables = record {
   symbols = refl;
   no_symbols = refl;
   past_the_count = refl;
+}
+
+-- the tables by their tags
+pub record WorkedTags : Type 0 where
+  pub head : HEAD ≡ u32_of (codes "head") 0
+  pub hhea : HHEA ≡ u32_of (codes "hhea") 0
+  pub maxp : MAXP ≡ u32_of (codes "maxp") 0
+  pub hmtx : HMTX ≡ u32_of (codes "hmtx") 0
+  pub vhea : VHEA ≡ u32_of (codes "vhea") 0
+  pub vmtx : VMTX ≡ u32_of (codes "vmtx") 0
+  pub vorg : VORG ≡ u32_of (codes "VORG") 0
+  pub os2 : OS2 ≡ u32_of (codes "OS/2") 0
+  pub cmap : CMAP ≡ u32_of (codes "cmap") 0
+  pub loca : LOCA ≡ u32_of (codes "loca") 0
+  pub glyf : GLYF ≡ u32_of (codes "glyf") 0
+  pub gsub : GSUB ≡ u32_of (codes "GSUB") 0
+  pub gpos : GPOS ≡ u32_of (codes "GPOS") 0
+  pub morx : MORX ≡ u32_of (codes "morx") 0
+  pub kerx : KERX ≡ u32_of (codes "kerx") 0
+  pub trak : TRAK ≡ u32_of (codes "trak") 0
+  pub kern : KERN ≡ u32_of (codes "kern") 0
+  pub post : POST ≡ u32_of (codes "post") 0
+
+pub worked_tags : WorkedTags
+worked_tags = record {
+  head = refl;
+  hhea = refl;
+  maxp = refl;
+  hmtx = refl;
+  vhea = refl;
+  vmtx = refl;
+  vorg = refl;
+  os2 = refl;
+  cmap = refl;
+  loca = refl;
+  glyf = refl;
+  gsub = refl;
+  gpos = refl;
+  morx = refl;
+  kerx = refl;
+  trak = refl;
+  kern = refl;
+  post = refl;
 }

@@ -45,6 +45,8 @@ pub record WorkedFeatures : Type 0 where
   pub plus_of_a_number : feature_of (codes "kern=+2") ≡ kern 2 0 4294967295
   pub space_before_the_sign : feature_of (codes " -kern") ≡ kern 0 0 4294967295
   pub word_after_equals : feature_of (codes "kern=off") ≡ kern 0 0 4294967295
+  pub space_before_quotes : feature_of (codes " 'kern'") ≡ kern 1 0 4294967295
+  pub quote_in_a_tag : feature_of (codes "ke'n") ≡ of 0x6B65276E 1 0 4294967295
 
 pub worked_features : WorkedFeatures
 worked_features = record {
@@ -79,6 +81,8 @@ worked_features = record {
   plus_of_a_number = refl;
   space_before_the_sign = refl;
   word_after_equals = refl;
+  space_before_quotes = refl;
+  quote_in_a_tag = refl;
 }
 
 pub record WorkedRefusals : Type 0 where
@@ -99,6 +103,7 @@ pub record WorkedRefusals : Type 0 where
   pub byte_0 : feature_of (107 ∷ 101 ∷ 0 ∷ []) ≡ None
   pub space_in_quotes : feature_of (39 ∷ 97 ∷ 98 ∷ 32 ∷ 32 ∷ 39 ∷ []) ≡ None
   pub space_after_minus : feature_of (codes "kern=- 1") ≡ None
+  pub past_64_bits : feature_of (codes "kern=18446744073709551617") ≡ None
 
 pub worked_refusals : WorkedRefusals
 worked_refusals = record {
@@ -117,4 +122,5 @@ worked_refusals = record {
   byte_0 = refl;
   space_in_quotes = refl;
   space_after_minus = refl;
+  past_64_bits = refl;
 }

@@ -10,6 +10,7 @@ use shape_pipeline::{
 };
 use shape_unicode::UnicodeDatabase;
 use shape_users::arabic::ArabicShaper;
+use shape_users::capitals::CapitalsShaper;
 use shape_users::hebrew::HebrewShaper;
 use shape_users::ligatures::Ligatures;
 use std::alloc::Global;
@@ -74,6 +75,8 @@ pub enum Shaper {
     Decomposed,
     Hebrew,
     Arabic,
+    /// The shaper that asks for a feature of capitals; no engine here has it.
+    Capitals,
 }
 
 /// The two levels that keep clusters in order.
@@ -170,6 +173,7 @@ pub fn glyphs_of(rt: &impl Abort, alloc: Global, how: Shaping<'_>, text: &str) -
         }
         Shaper::Hebrew => shaped_by::<NoLookups, _>(rt, alloc, how, &HebrewShaper, text),
         Shaper::Arabic => shaped_by::<NoLookups, _>(rt, alloc, how, &ArabicShaper, text),
+        Shaper::Capitals => shaped_by::<NoLookups, _>(rt, alloc, how, &CapitalsShaper, text),
     }
 }
 
